@@ -1,0 +1,42 @@
+-- A test that passes at every element passes at each: one computed test proves a table's rule.
+-- Assumes nothing.
+use mathlib.Core.Path.{_≡_, refl, sym, _∙_, ap, subst}
+use mathlib.Core.Bool.{Bool, true, false, _&&_, _||_}
+use mathlib.Core.List.{List, [], _∷_}
+use mathlib.Core.Logic.{_⊎_, inl, inr, ⊎-elim}
+use Prim.Native.Nat.{ℕ, zero, suc, _+_, _-_, _<_, _≤_}
+use native.Mathlib.Nat.{add-zero, zero-add, add-suc, suc-add, le-of-suc-le-suc, not-suc-le-zero}
+use native.Mathlib.Omega.{arith}
+use lib.Dec.{T, eqb, eqb→eq}
+use lib.ListN.{length, getD}
+use Rattle.base.specs.Every.{every, has, upFrom}
+use Rattle.base.proofs.Choice.{and-left, and-right, or-elim}
+
+-- what passes at every element, and at the default, passes at each index
+pub every-getD : {A : Type 0} (f : A → Bool) (d : A) (xs : List A) → T (every f xs) → T (f d) → (k : ℕ) → T (f (getD xs k d))
+every-getD f d [] t td k = td
+every-getD f d (x ∷ xs) t td zero = and-left (f x) (every f xs) t
+every-getD f d (x ∷ xs) t td (suc k) = every-getD f d xs (and-right (f x) (every f xs) t) td k
+
+-- what passes at every number of a list passes at each number that the list has
+pub every-has : (f : ℕ → Bool) (ks : List ℕ) → T (every f ks) → (x : ℕ) → T (has ks x) → T (f x)
+every-has f [] t x h = absurd h
+every-has f (k ∷ ks) t x h =
+    ⊎-elim
+    (λ e. subst (λ (n : ℕ). T (f n)) (eqb→eq k x e) (and-left (f k) (every f ks) t))
+    (λ r. every-has f ks (and-right (f k) (every f ks) t) x r)
+    (or-elim (eqb k x) (has ks x) h)
+
+every-from : (f : ℕ → Bool) (lo n : ℕ) → T (every f (upFrom lo n)) → (k : ℕ) → k < n → T (f (lo + k))
+unfolding upFrom
+every-from f lo zero t k h = absurd (not-suc-le-zero h)
+every-from f lo (suc n) t zero h = rw add-zero (and-left (f lo) (every f (upFrom (suc lo) n)) t)
+every-from f lo (suc n) t (suc k) h =
+    subst (λ (m : ℕ). T (f m)) (suc-add lo k ∙ sym (add-suc lo k))
+    (every-from f (suc lo) n (and-right (f lo) (every f (upFrom (suc lo) n)) t) k (le-of-suc-le-suc h))
+
+-- what passes at each of the n numbers from lo on passes at each number between
+pub every-between : (f : ℕ → Bool) (lo n : ℕ) → T (every f (upFrom lo n)) → (x : ℕ) → lo ≤ x → x < lo + n → T (f x)
+every-between f lo n t x a b =
+    let e : lo + (x - lo) ≡ x = omega arith in
+    subst (λ (m : ℕ). T (f m)) e (every-from f lo n t (x - lo) (omega arith))

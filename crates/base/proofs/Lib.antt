@@ -1,0 +1,4 @@
+-- The laws of base's definitions, a file to a subject.
+pub mod Choice
+pub mod Every
+pub mod Part

@@ -1,0 +1,4 @@
+-- Definitions that say nothing of ionograms: parts of a list and lists with places overwritten (Part), a test at each element of a
+-- list (Every).
+pub mod Every
+pub mod Part
