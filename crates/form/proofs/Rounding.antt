@@ -4,9 +4,19 @@ use mathlib.Core.Path.{_≡_, refl, sym, _∙_, ap}
 use mathlib.Core.Logic.{_↔_, ⊎-elim}
 use Prim.Native.Nat.{ℕ, zero, suc, _+_, _-_, _*_, _/_, _%_, _<_, _≤_}
 use native.Mathlib.Omega.{arith}
-use native.Mathlib.Nat.{div-add-mod', div-lt-iff-lt-mul, lt-div-mul-add, mod-lt, suc-mul, mul-le-mul-right, add-mul, one-mul, div-mul-le-self}
+use native.Mathlib.Nat.{div-add-mod', div-lt-iff-lt-mul, lt-div-mul-add, mod-lt, suc-mul, mul-le-mul-right, add-mul, one-mul, div-mul-le-self, div-zero, div-eq-of-lt}
 use Rattle.base.proofs.Order.{le-or-lt}
 use Rattle.form.specs.Count.{roundedUp, Takes, Leaves}
+
+-- nothing takes no lines, however many go on one
+pub rounded-none : (p : ℕ) → roundedUp 0 p ≡ 0
+unfolding roundedUp
+rounded-none zero = refl
+rounded-none (suc p) = div-eq-of-lt (omega arith)
+
+pub rounded-by-zero : (n : ℕ) → roundedUp n 0 ≡ 0
+unfolding roundedUp
+rounded-by-zero n = div-zero (n + (0 - 1))
 
 module _ (n p : ℕ) (some : 0 < p) where
   pub lines-enough : n ≤ roundedUp n p * p
@@ -40,7 +50,7 @@ module _ (n p : ℕ) (some : 0 < p) where
 
   -- the last line of some elements holds what the others, all full, leave: at least one element, and no more than a full line
   module _ (more : 0 < n) where
-    quotient : roundedUp n p ≡ (n - 1) / p + 1
+    pub quotient : roundedUp n p ≡ (n - 1) / p + 1
     quotient = lines-exact ((n - 1) / p + 1) record {
       enough = omega (arith, lt-div-mul-add {a = n - 1} some, add-mul ((n - 1) / p) 1 p, one-mul p);
       needed = λ h. before-one (omega (arith, div-mul-le-self (n - 1) p));

@@ -2,7 +2,7 @@
 ghost use mathlib.Core.Path.{_≡_};
 ghost use Prim.Native.Nat.{_<_};
 ghost use Rattle.form.specs.Table.{numberOf, rowOf, formOf};
-ghost use Rattle.form.specs.Count.{elementsOf, linesOf, cellsOf, lastOf};
+ghost use Rattle.form.specs.Count.{elementsOf, roundedUp, linesOf, cellsOf, lastOf};
 
 // A form is named by its letter and its width; the number of decimals follows from these.
 pub enum Form {
@@ -121,7 +121,8 @@ pub fn form_of(group: usize) -> GroupForm
     }
 }
 
-// A form's row number, from 0. A loop that asks for many rows copies ROWS before it begins and takes its rows by this number.
+// A form's row number, from 0. A constant table is built anew where it is indexed, so a loop that asks for many rows copies ROWS before it
+// begins, and takes its rows by this number.
 pub fn number(form: Form) -> usize
     ensures { λ r. ⌜ r ≡ numberOf form ⌝ }
 {
@@ -153,14 +154,26 @@ pub fn elements(form: Form, count: u16) -> usize
     count as usize
 }
 
+// n divided by p, rounded up; 0 where p is 0.
+pub fn rounded_up(n: usize, p: usize) -> usize
+    ensures { λ r. ⌜ r ≡ roundedUp n p ⌝ }
+{
+    if n == 0 {
+        return 0;
+    }
+    if p == 0 {
+        return 0;
+    }
+    (n - 1) / p + 1
+}
+
 // Its lines: rounded up, none for no elements.
 pub fn lines(form: Form, count: u16) -> usize
     ensures { λ r. ⌜ r ≡ linesOf form count ⌝ }
 {
     let n = elements(form, count);
     let row = row_of(form);
-    let per_line = row.per_line;
-    (n + (per_line - 1)) / per_line
+    rounded_up(n, row.per_line)
 }
 
 // Its cells.
