@@ -45,3 +45,10 @@ T-true false t = absurd t
 pub not-T-false : (a : Bool) → (T a → ⊥) → a ≡ false
 not-T-false true n = absurd (n tt)
 not-T-false false n = refl
+
+-- two tests that pass together are equal
+pub same-test : (a b : Bool) → (T a → T b) → (T b → T a) → a ≡ b
+same-test true true f g = refl
+same-test true false f g = absurd (f tt)
+same-test false true f g = absurd (g tt)
+same-test false false f g = refl

@@ -4,3 +4,5 @@ pub mod Every
 pub mod Index
 pub mod Order
 pub mod Part
+pub mod Sum
+pub mod UpFrom
