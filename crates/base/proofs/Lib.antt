@@ -2,3 +2,4 @@
 pub mod Choice
 pub mod Every
 pub mod Part
+pub mod Tests
