@@ -3,3 +3,4 @@ pub mod Choice
 pub mod Every
 pub mod Part
 pub mod Tests
+pub mod Middle

@@ -72,5 +72,9 @@ firstBlamed [] s given = given
 firstBlamed (f ∷ fs) s given = cond (fails (digitsOf f s)) (Wrong (f .first)) (firstBlamed fs s given)
 
 -- "if none, 7 for a mismatch"
+abbrev pub judged : Date → Dated
+judged d = cond (namesOneDay d) (Right d) (Wrong 7)
+
+-- the date that the letters of group 3 tell, or the position blamed
 unfoldable pub datedOf : List ℕ → Dated
-datedOf s = firstBlamed fields s (cond (namesOneDay (dateOf s)) (Right (dateOf s)) (Wrong 7))
+datedOf s = firstBlamed fields s (judged (dateOf s))

@@ -2,8 +2,8 @@
 -- "All digits, zero filled": each of its bytes is a digit, so a number that needs fewer digits has zeros before it.
 use mathlib.Core.Path.{_≡_}
 use mathlib.Core.Bool.{Bool, cond, _&&_}
-use mathlib.Core.List.{List, [], _∷_, map}
-use Prim.Native.Nat.{ℕ, _+_, _-_, _*_, _<_, _≤_}
+use mathlib.Core.List.{List, [], _∷_, _++_, map}
+use Prim.Native.Nat.{ℕ, _+_, _-_, _*_, _^_, _<_, _≤_}
 use lib.Dec.{leb}
 use lib.ListN.{length, take, drop}
 use Rattle.base.specs.Every.{every}
@@ -42,3 +42,29 @@ bytesAt f s = part (f .first - 1) (f .first - 1 + f .length) s
 -- what a field reads as in a text
 unfoldable pub digitsOf : DigitField → List ℕ → Digits
 digitsOf f s = cond (hasPositions f s) (numberOf (f .least) (f .greatest) (bytesAt f s)) Fails
+
+-- ---- the same as a statement on the text (proofs/Grammar.antt)
+
+-- each is a digit, as a number
+abbrev pub EachDigit : List ℕ → Type 0
+EachDigit [] = Unit {0}
+EachDigit (d ∷ ds) = (d < 10) × EachDigit ds
+
+-- a digit counts ten to the number of digits behind it
+unfoldable pub placeValue : List ℕ → ℕ
+placeValue [] = 0
+placeValue (d ∷ ds) = d * 10 ^ length ds + placeValue ds
+
+-- the text has `before`, then as many digits as the field is long, then `behind`; the first digit's position is the field's, and the digits'
+-- value is v, from the least to the greatest
+pub record Reads (f : DigitField) (s : List ℕ) (v : ℕ) : Type 0 where
+  pub before : List ℕ
+  pub digits : List ℕ
+  pub behind : List ℕ
+  pub text : s ≡ before ++ (map (λ d. 48 + d) digits ++ behind)
+  pub each : EachDigit digits
+  pub many : length digits ≡ f .length
+  pub position : length before + 1 ≡ f .first
+  pub value : v ≡ placeValue digits
+  pub enough : f .least ≤ v
+  pub notMore : v ≤ f .greatest
