@@ -4,8 +4,8 @@
 use mathlib.Core.Path.{_≡_, refl, sym, ap, _∙_}
 use mathlib.Core.Bool.{Bool, true, false, cond, _&&_}
 use mathlib.Core.List.{List, [], _∷_, _++_, map}
-use Prim.Native.Nat.{ℕ, _+_, _-_, _*_, _^_, _<_, _≤_}
-use native.Mathlib.Nat.{zero-mul, zero-add, add-mul, mul-assoc, add-assoc, pow-succ', mul-le-mul-right}
+use Prim.Native.Nat.{ℕ, suc, _+_, _-_, _*_, _^_, _<_, _≤_}
+use native.Mathlib.Nat.{zero-mul, zero-add, add-mul, mul-assoc, add-assoc, pow-succ', suc-mul, mul-le-mul-right}
 use native.Mathlib.Omega.{arith}
 use borrow.Author.Tests.{leb-true, le-leb, ltb-true, ltb-false}
 use lib.Dec.{leb, ltb, lit<}
@@ -107,5 +107,51 @@ module _ (f : DigitField) (s : List ℕ) (v : ℕ) where
   is-read r =
       let b = reads-bytes r in
       let q : valueFrom 0 (bytesAt f s) ≡ v = ap (valueFrom 0) b ∙ value-place (shown (r .digits)) ∙ ap placeValue (shown-lessened (r .digits)) ∙ sym (r .value) in
-      let room : f .first - 1 + f .length ≤ length s = ? in
-      rw (le-leb 1 (f .first) (omega (arith, r .position)), le-leb (f .first - 1 + f .length) (length s) room, q) ?
+      let room : f .first - 1 + f .length ≤ length s = omega (arith, r .position, r .many, simp (length-append, length-map) at (ap length (r .text))) in
+      let a : every isDigit (bytesAt f s) ≡ true = ap (every isDigit) b ∙ shown-digits (r .digits) (r .each) in
+      rw (
+        le-leb 1 (f .first) (omega (arith, r .position)),
+        le-leb (f .first - 1 + f .length) (length s) room,
+        q,
+        a,
+        le-leb (f .least) v (r .enough),
+        le-leb v (f .greatest) (r .notMore),
+      )
+
+-- ---- a number has one text
+
+place-below : (ds : List ℕ) → EachDigit ds → placeValue ds < 10 ^ length ds
+unfolding placeValue
+place-below [] a = lit< tt
+place-below (d ∷ ds) a =
+    let k = 10 ^ length ds in
+    let h : suc d * k ≤ 10 * k = mul-le-mul-right k (a .0) in
+    rw (pow-succ' 10 (length ds)) (omega (arith, suc-mul d k, place-below ds (a .1), h))
+
+-- a greater first digit makes a greater number, whatever follows
+first-greater : (d e k p q : ℕ) → p < k → d * k + p ≡ e * k + q → (t : Bool) → ltb d e ≡ t → e ≤ d
+first-greater d e k p q h s true l =
+    let g : suc d * k ≤ e * k = mul-le-mul-right k (ltb-true d e l) in
+    absurd (omega (arith, suc-mul d k))
+first-greater d e k p q h s false l = ltb-false d e l
+
+place-once : (ds es : List ℕ) → EachDigit ds → EachDigit es → length ds ≡ length es → placeValue ds ≡ placeValue es → ds ≡ es
+unfolding placeValue
+place-once [] [] a b n v = refl
+place-once [] (e ∷ es) a b n v = absurd (omega arith)
+place-once (d ∷ ds) [] a b n v = absurd (omega arith)
+place-once (d ∷ ds) (e ∷ es) a b n v =
+    let k = 10 ^ length ds in
+    let n′ : length ds ≡ length es = omega arith in
+    let w : d * k + placeValue ds ≡ e * k + placeValue es = v ∙ ap (λ j. e * 10 ^ j + placeValue es) (sym n′) in
+    let p = place-below ds (a .1) in
+    let q : placeValue es < k = rw n′ (place-below es (b .1)) in
+    let f : d ≡ e = omega (arith, first-greater d e k _ _ p w (ltb d e) refl, first-greater e d k _ _ q (sym w) (ltb e d) refl) in
+    let r : placeValue ds ≡ placeValue es = omega (arith, w, ap (λ j. j * k) f) in
+    ap (λ j. j ∷ ds) f ∙ ap (λ l. e ∷ l) (place-once ds es (a .1) (b .1) n′ r)
+
+pub reads-once : (f : DigitField) (s t : List ℕ) (v : ℕ) → Reads f s v → Reads f t v → bytesAt f s ≡ bytesAt f t
+reads-once f s t v r q =
+    reads-bytes f s v r
+    ∙ ap shown (place-once (r .digits) (q .digits) (r .each) (q .each) (r .many ∙ sym (q .many)) (sym (r .value) ∙ q .value))
+    ∙ sym (reads-bytes f t v q)

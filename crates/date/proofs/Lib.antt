@@ -4,3 +4,5 @@ pub mod Grammar
 pub mod Months
 pub mod Days
 pub mod Blame
+pub mod Counting
+pub mod Due

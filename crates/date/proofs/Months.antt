@@ -29,12 +29,19 @@ table-rule m h = eqb→eq _ _ (every-between rule 0 12 tt m (omega arith) (omega
 
 -- ---- months and their days
 
-pub length-bound : (leap : Bool) (m : ℕ) → monthLength leap m ≤ 31
+-- a month has 28, 29, 30 or 31 days
+pub length-one-of : (P : ℕ → Type 0) → P 28 → P 29 → P 30 → P 31 → (leap : Bool) (m : ℕ) → P (monthLength leap m)
 unfolding monthLength
-length-bound leap m =
-    cond-elim (λ n. n ≤ 31) (eqb m 2)
-    (λ _. cond-elim (λ n. n ≤ 31) leap (λ _. omega arith) (λ _. omega arith))
-    (λ _. cond-elim (λ n. n ≤ 31) (has (9 ∷ 4 ∷ 6 ∷ 11 ∷ []) m) (λ _. omega arith) (λ _. omega arith))
+length-one-of P a b c d leap m =
+    cond-elim P (eqb m 2)
+    (λ _. cond-elim P leap (λ _. b) (λ _. a))
+    (λ _. cond-elim P (has (9 ∷ 4 ∷ 6 ∷ 11 ∷ []) m) (λ _. c) (λ _. d))
+
+pub length-least : (leap : Bool) (m : ℕ) → 28 ≤ monthLength leap m
+length-least = length-one-of (λ n. 28 ≤ n) (lit≤ tt) (lit≤ tt) (lit≤ tt) (lit≤ tt)
+
+pub length-greatest : (leap : Bool) (m : ℕ) → monthLength leap m ≤ 31
+length-greatest = length-one-of (λ n. n ≤ 31) (lit≤ tt) (lit≤ tt) (lit≤ tt) (lit≤ tt)
 
 pub days-more : (leap : Bool) (m : ℕ) → daysTo leap (m + 1) ≡ daysTo leap m + monthLength leap (m + 1)
 unfolding daysTo
@@ -43,7 +50,7 @@ days-more leap m = rw add-one
 pub days-bound : (leap : Bool) (m : ℕ) → daysTo leap m ≤ 31 * m
 unfolding daysTo
 days-bound leap zero = omega arith
-days-bound leap (suc m) = omega (arith, days-bound leap m, length-bound leap (suc m))
+days-bound leap (suc m) = omega (arith, days-bound leap m, length-greatest leap (suc m))
 
 -- one month more of the table
 pub table-more : (m : ℕ) → m < 12 → daysTo false m + getD months m 0 ≡ daysTo false (m + 1)

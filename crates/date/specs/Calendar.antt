@@ -43,16 +43,16 @@ pub record MonthDay : Type 0 where
   pub month : ℕ
   pub day : ℕ
 
+abbrev pub monthDay : ℕ → ℕ → MonthDay
+monthDay m d = record { month = m; day = d }
+
 -- the next day: the next of the month, or the first of the next month
 abbrev pub dayAfter : Bool → MonthDay → MonthDay
-dayAfter leap x =
-    cond (ltb (x .day) (monthLength leap (x .month)))
-    (record { month = x .month; day = x .day + 1 })
-    (record { month = x .month + 1; day = 1 })
+dayAfter leap x = cond (ltb (x .day) (monthLength leap (x .month))) (monthDay (x .month) (x .day + 1)) (monthDay (x .month + 1) 1)
 
 -- k days after 1 January
 unfoldable pub daysAfter : Bool → ℕ → MonthDay
-daysAfter leap zero = record { month = 1; day = 1 }
+daysAfter leap zero = monthDay 1 1
 daysAfter leap (suc k) = dayAfter leap (daysAfter leap k)
 
 -- the days of a year

@@ -142,19 +142,54 @@ pub enum Dated {
 }
 
 impl Date {
-    pub const YEAR: DigitField = DigitField { first: 3, length: 4, least: 0, greatest: 9999 };
+    pub const YEAR: DigitField = DigitField {
+        first: 3,
+        length: 4,
+        least: 0,
+        greatest: 9999,
+    };
 
-    pub const DAY_OF_YEAR: DigitField = DigitField { first: 7, length: 3, least: 1, greatest: 366 };
+    pub const DAY_OF_YEAR: DigitField = DigitField {
+        first: 7,
+        length: 3,
+        least: 1,
+        greatest: 366,
+    };
 
-    pub const MONTH: DigitField = DigitField { first: 10, length: 2, least: 1, greatest: 12 };
+    pub const MONTH: DigitField = DigitField {
+        first: 10,
+        length: 2,
+        least: 1,
+        greatest: 12,
+    };
 
-    pub const DAY: DigitField = DigitField { first: 12, length: 2, least: 1, greatest: 31 };
+    pub const DAY: DigitField = DigitField {
+        first: 12,
+        length: 2,
+        least: 1,
+        greatest: 31,
+    };
 
-    pub const HOUR: DigitField = DigitField { first: 14, length: 2, least: 0, greatest: 23 };
+    pub const HOUR: DigitField = DigitField {
+        first: 14,
+        length: 2,
+        least: 0,
+        greatest: 23,
+    };
 
-    pub const MINUTE: DigitField = DigitField { first: 16, length: 2, least: 0, greatest: 59 };
+    pub const MINUTE: DigitField = DigitField {
+        first: 16,
+        length: 2,
+        least: 0,
+        greatest: 59,
+    };
 
-    pub const SECOND: DigitField = DigitField { first: 18, length: 2, least: 0, greatest: 59 };
+    pub const SECOND: DigitField = DigitField {
+        first: 18,
+        length: 2,
+        least: 0,
+        greatest: 59,
+    };
 
     // The date that the letters of group 3 tell, or the first position of the field that is blamed.
     pub fn new(letters: &[u8]) -> Dated

@@ -91,7 +91,7 @@ loop-again c =
     let d = getD (a .digits .now) (l .i) 0 in (
       omega arith,
       number-more (a .least) (a .greatest) (a .digits .now) (l .i) (l .value) (omega arith) (digit-is d (c .before .before .before .if1 .left) (c .before .before .if2 .left))
-      ∙ l .inv .1,
+          ∙ l .inv .1,
     )
 
 -- src/lib.rt:49:9
