@@ -1,23 +1,15 @@
 -- Which field is blamed: a field that holds passes the question on, one that fails answers it, and behind the seven fields stands the
 -- calendar.
 -- Assumes nothing.
-use mathlib.Core.Path.{_≡_, refl, sym, ap, _∙_}
-use mathlib.Core.Bool.{true, false, cond}
+use mathlib.Core.Path.{_≡_, refl, ap, _∙_}
+use mathlib.Core.Bool.{true, false}
 use mathlib.Core.List.{List, [], _∷_}
-use Prim.Native.Nat.{ℕ, _≤_}
-use borrow.Author.Tests.{leb-true}
-use lib.Dec.{leb}
-use lib.ListN.{drop}
-use Rattle.base.specs.Every.{every}
-use Rattle.base.proofs.Choice.{cond-elim}
-use Rattle.base.proofs.Tests.{and-first, and-second}
+use Prim.Native.Nat.{ℕ}
 use Rattle.date.specs.declared.DigitField.{DigitField}
-use Rattle.date.specs.declared.Digits.{Digits}
 use Rattle.date.specs.declared.Digits.the-variants.{Number, Fails}
 use Rattle.date.specs.declared.Date.{Date}
-use Rattle.date.specs.declared.Dated.{Dated}
 use Rattle.date.specs.declared.Dated.the-variants.{Right, Wrong}
-use Rattle.date.specs.Digits.{digitsOf, valueFrom, isDigit, within, bytesAt, hasPositions}
+use Rattle.date.specs.Digits.{digitsOf}
 use Rattle.date.specs.Date.{fields, firstBlamed, datedOf, dateOf, namesOneDay, judged}
 
 -- the answer is that of the fields fs, the earlier ones hold

@@ -1,69 +1,51 @@
--- A digit field reads as v exactly if the text has, at its positions, as many digits as the field is long, whose value is v and lies from
+-- A digit field reads as v exactly if the text has, at its positions, as many digits as the field is long, whose number is v and lies from
 -- the least to the greatest (`Reads`). A number has one such text.
 -- Assumes nothing.
 use mathlib.Core.Path.{_≡_, refl, sym, ap, _∙_}
 use mathlib.Core.Bool.{Bool, true, false, cond, _&&_}
-use mathlib.Core.List.{List, [], _∷_, _++_, map}
-use Prim.Native.Nat.{ℕ, suc, _+_, _-_, _*_, _^_, _<_, _≤_}
-use native.Mathlib.Nat.{zero-mul, zero-add, add-mul, mul-assoc, add-assoc, pow-succ', suc-mul, mul-le-mul-right}
+use mathlib.Core.List.{List, [], _∷_, _++_}
+use Prim.Native.Nat.{ℕ, _+_, _-_, _≤_}
 use native.Mathlib.Omega.{arith}
-use borrow.Author.Tests.{leb-true, le-leb, ltb-true, ltb-false}
-use lib.Dec.{leb, ltb, lit<}
+use borrow.Author.Tests.{leb-true, le-leb}
+use lib.Dec.{leb}
 use lib.ListN.{length, take, drop, length-map, length-append}
 use lib.Seq.{length-take-le}
+use Rattle.base.specs.Digits.{AllDigits, numberOf, digitText}
 use Rattle.base.specs.Every.{every}
-use Rattle.base.specs.Part.{part}
-use Rattle.base.proofs.Part.{part-length}
 use Rattle.base.proofs.Middle.{part-cut, part-middle}
+use Rattle.base.proofs.Part.{part-length}
+use Rattle.base.proofs.SameDigits.{same-digits}
 use Rattle.base.proofs.Tests.{and-first, and-second}
 use Rattle.date.specs.declared.DigitField.{DigitField}
 use Rattle.date.specs.declared.Digits.{Digits}
 use Rattle.date.specs.declared.Digits.the-variants.{Number, Fails}
-use Rattle.date.specs.Digits.{isDigit, valueFrom, within, numberOf, hasPositions, bytesAt, digitsOf, EachDigit, placeValue, Reads}
+use Rattle.date.specs.Digits.{isDigit, digitsIn, within, readDigits, hasPositions, bytesAt, digitsOf, Reads}
 use Rattle.date.proofs.Numbers.{digit-is}
 
--- ---- bytes and digits
+-- ---- bytes that are digits, and the digits that they show
 
-abbrev lessened : List ℕ → List ℕ
-lessened = map (λ b. b - 48)
-
-abbrev shown : List ℕ → List ℕ
-shown = map (λ d. 48 + d)
-
-digits-shown : (bs : List ℕ) → every isDigit bs ≡ true → bs ≡ shown (lessened bs)
-digits-shown [] e = refl
-digits-shown (b ∷ bs) e =
+bytes-text : (bs : List ℕ) → every isDigit bs ≡ true → bs ≡ digitText (digitsIn bs)
+bytes-text [] e = refl
+bytes-text (b ∷ bs) e =
     let h = leb-true 48 b (and-first (leb 48 b) (leb b 57) (and-first (isDigit b) (every isDigit bs) e)) in
     let q : b ≡ 48 + (b - 48) = omega arith in
-    ap (λ n. n ∷ bs) q ∙ ap (λ l. (48 + (b - 48)) ∷ l) (digits-shown bs (and-second (isDigit b) (every isDigit bs) e))
+    ap (λ n. n ∷ bs) q ∙ ap (λ l. (48 + (b - 48)) ∷ l) (bytes-text bs (and-second (isDigit b) (every isDigit bs) e))
 
-digits-each : (bs : List ℕ) → every isDigit bs ≡ true → EachDigit (lessened bs)
-digits-each [] e = tt
-digits-each (b ∷ bs) e =
+bytes-digits : (bs : List ℕ) → every isDigit bs ≡ true → AllDigits (digitsIn bs)
+bytes-digits [] e = tt
+bytes-digits (b ∷ bs) e =
     let h = leb-true b 57 (and-second (leb 48 b) (leb b 57) (and-first (isDigit b) (every isDigit bs) e)) in
-    (omega arith, digits-each bs (and-second (isDigit b) (every isDigit bs) e))
+    (omega arith, bytes-digits bs (and-second (isDigit b) (every isDigit bs) e))
 
-shown-digits : (ds : List ℕ) → EachDigit ds → every isDigit (shown ds) ≡ true
-shown-digits [] a = refl
-shown-digits (d ∷ ds) a = rw (digit-is (48 + d) (omega arith) (omega (arith, a .0))) (shown-digits ds (a .1))
+text-passes : (ds : List ℕ) → AllDigits ds → every isDigit (digitText ds) ≡ true
+text-passes [] a = refl
+text-passes (d ∷ ds) a = rw (digit-is (48 + d) (omega arith) (omega (arith, a .0))) (text-passes ds (a .1))
 
-shown-lessened : (ds : List ℕ) → lessened (shown ds) ≡ ds
-shown-lessened [] = refl
-shown-lessened (d ∷ ds) = let e : 48 + d - 48 ≡ d = omega arith in rw e (ap (λ l. d ∷ l) (shown-lessened ds))
+text-digits : (ds : List ℕ) → digitsIn (digitText ds) ≡ ds
+text-digits [] = refl
+text-digits (d ∷ ds) = let e : 48 + d - 48 ≡ d = omega arith in rw e (ap (λ l. d ∷ l) (text-digits ds))
 
--- read digit by digit, digits have their place value
-value-placed : (m : ℕ) (bs : List ℕ) → valueFrom m bs ≡ m * 10 ^ length bs + placeValue (lessened bs)
-unfolding valueFrom placeValue
-value-placed m [] = omega arith
-value-placed m (b ∷ bs) =
-    value-placed (m * 10 + (b - 48)) bs
-    ∙ rw (add-mul (m * 10) (b - 48) (10 ^ length bs), mul-assoc m 10 (10 ^ length bs), ← pow-succ' 10 (length bs), length-map bs (λ b. b - 48))
-    (add-assoc (m * 10 ^ length (b ∷ bs)) ((b - 48) * 10 ^ length bs) (placeValue (lessened bs)))
-
-value-place : (bs : List ℕ) → valueFrom 0 bs ≡ placeValue (lessened bs)
-value-place bs = value-placed 0 bs ∙ rw (zero-mul (10 ^ length bs)) (zero-add _)
-
--- ---- what is read
+-- ---- both directions
 
 number-only : (t : Bool) (x : Digits) (v : ℕ) → cond t x Fails ≡ Number v → (t ≡ true) × (x ≡ Number v)
 number-only true x v e = (refl, e)
@@ -75,83 +57,53 @@ module _ (f : DigitField) (s : List ℕ) (v : ℕ) where
   read-is e =
       let at = f .first - 1 in
       let bs = bytesAt f s in
-      let has = number-only (hasPositions f s) (numberOf (f .least) (f .greatest) bs) v e in
-      let one = leb-true 1 (f .first) (and-first (leb 1 (f .first)) (leb (at + f .length) (length s)) (has .0)) in
-      let room = leb-true (at + f .length) (length s) (and-second (leb 1 (f .first)) (leb (at + f .length) (length s)) (has .0)) in
-      let is = number-only (every isDigit bs && within (f .least) (f .greatest) (valueFrom 0 bs)) (Number (valueFrom 0 bs)) v (has .1) in
-      let ds = and-first (every isDigit bs) (within (f .least) (f .greatest) (valueFrom 0 bs)) (is .0) in
-      let in-range = and-second (every isDigit bs) (within (f .least) (f .greatest) (valueFrom 0 bs)) (is .0) in
-      let q : valueFrom 0 bs ≡ v = cc in
+      let n = numberOf (digitsIn bs) in
+      let placed = number-only (hasPositions f s) (readDigits (f .least) (f .greatest) bs) v e in
+      let one = leb-true 1 (f .first) (and-first (leb 1 (f .first)) (leb (at + f .length) (length s)) (placed .0)) in
+      let room = leb-true (at + f .length) (length s) (and-second (leb 1 (f .first)) (leb (at + f .length) (length s)) (placed .0)) in
+      let is = number-only (every isDigit bs && within (f .least) (f .greatest) n) (Number n) v (placed .1) in
+      let digits = and-first (every isDigit bs) (within (f .least) (f .greatest) n) (is .0) in
+      let ranged = and-second (every isDigit bs) (within (f .least) (f .greatest) n) (is .0) in
+      let q : n ≡ v = cc in
       record {
         before = take at s;
-        digits = lessened bs;
+        digits = digitsIn bs;
         behind = drop (f .length) (drop at s);
-        text = part-cut s at (f .length) ∙ ap (λ l. take at s ++ (l ++ drop (f .length) (drop at s))) (digits-shown bs ds);
-        each = digits-each bs ds;
+        text = part-cut s at (f .length) ∙ ap (λ l. take at s ++ (l ++ drop (f .length) (drop at s))) (bytes-text bs digits);
+        each = bytes-digits bs digits;
         many = length-map bs (λ b. b - 48) ∙ part-length s at (f .length) room;
         position = rw (length-take-le at s (omega arith)) (omega arith);
-        value = sym q ∙ value-place bs;
-        enough = rw q at (leb-true (f .least) (valueFrom 0 bs) (and-first _ (leb (valueFrom 0 bs) (f .greatest)) in-range));
-        notMore = rw q at (leb-true (valueFrom 0 bs) (f .greatest) (and-second (leb (f .least) (valueFrom 0 bs)) _ in-range));
+        value = sym q;
+        enough = rw q at (leb-true (f .least) n (and-first (leb (f .least) n) (leb n (f .greatest)) ranged));
+        notMore = rw q at (leb-true n (f .greatest) (and-second (leb (f .least) n) (leb n (f .greatest)) ranged));
       }
 
-  -- its bytes are the digits
-  pub reads-bytes : (r : Reads f s v) → bytesAt f s ≡ shown (r .digits)
+  reads-bytes : (r : Reads f s v) → bytesAt f s ≡ digitText (r .digits)
   reads-bytes r =
       let e : f .first - 1 ≡ length (r .before) = omega (arith, r .position) in
-      let k : f .length ≡ length (shown (r .digits)) = sym (r .many) ∙ sym (length-map (r .digits) (λ d. 48 + d)) in
-      rw (e, k, r .text) (part-middle (r .before) (shown (r .digits)) (r .behind))
+      let k : f .length ≡ length (digitText (r .digits)) = sym (r .many) ∙ sym (length-map (r .digits) (λ d. 48 + d)) in
+      rw (e, k, r .text) (part-middle (r .before) (digitText (r .digits)) (r .behind))
 
   pub is-read : Reads f s v → digitsOf f s ≡ Number v
   unfolding digitsOf
   is-read r =
       let b = reads-bytes r in
-      let q : valueFrom 0 (bytesAt f s) ≡ v = ap (valueFrom 0) b ∙ value-place (shown (r .digits)) ∙ ap placeValue (shown-lessened (r .digits)) ∙ sym (r .value) in
+      let q : numberOf (digitsIn (bytesAt f s)) ≡ v = ap (λ l. numberOf (digitsIn l)) b ∙ ap numberOf (text-digits (r .digits)) ∙ sym (r .value) in
       let room : f .first - 1 + f .length ≤ length s = omega (arith, r .position, r .many, simp (length-append, length-map) at (ap length (r .text))) in
-      let a : every isDigit (bytesAt f s) ≡ true = ap (every isDigit) b ∙ shown-digits (r .digits) (r .each) in
+      let digits : every isDigit (bytesAt f s) ≡ true = ap (every isDigit) b ∙ text-passes (r .digits) (r .each) in
       rw (
         le-leb 1 (f .first) (omega (arith, r .position)),
         le-leb (f .first - 1 + f .length) (length s) room,
         q,
-        a,
+        digits,
         le-leb (f .least) v (r .enough),
         le-leb v (f .greatest) (r .notMore),
       )
 
 -- ---- a number has one text
 
-place-below : (ds : List ℕ) → EachDigit ds → placeValue ds < 10 ^ length ds
-unfolding placeValue
-place-below [] a = lit< tt
-place-below (d ∷ ds) a =
-    let k = 10 ^ length ds in
-    let h : suc d * k ≤ 10 * k = mul-le-mul-right k (a .0) in
-    rw (pow-succ' 10 (length ds)) (omega (arith, suc-mul d k, place-below ds (a .1), h))
-
--- a greater first digit makes a greater number, whatever follows
-first-greater : (d e k p q : ℕ) → p < k → d * k + p ≡ e * k + q → (t : Bool) → ltb d e ≡ t → e ≤ d
-first-greater d e k p q h s true l =
-    let g : suc d * k ≤ e * k = mul-le-mul-right k (ltb-true d e l) in
-    absurd (omega (arith, suc-mul d k))
-first-greater d e k p q h s false l = ltb-false d e l
-
-place-once : (ds es : List ℕ) → EachDigit ds → EachDigit es → length ds ≡ length es → placeValue ds ≡ placeValue es → ds ≡ es
-unfolding placeValue
-place-once [] [] a b n v = refl
-place-once [] (e ∷ es) a b n v = absurd (omega arith)
-place-once (d ∷ ds) [] a b n v = absurd (omega arith)
-place-once (d ∷ ds) (e ∷ es) a b n v =
-    let k = 10 ^ length ds in
-    let n′ : length ds ≡ length es = omega arith in
-    let w : d * k + placeValue ds ≡ e * k + placeValue es = v ∙ ap (λ j. e * 10 ^ j + placeValue es) (sym n′) in
-    let p = place-below ds (a .1) in
-    let q : placeValue es < k = rw n′ (place-below es (b .1)) in
-    let f : d ≡ e = omega (arith, first-greater d e k _ _ p w (ltb d e) refl, first-greater e d k _ _ q (sym w) (ltb e d) refl) in
-    let r : placeValue ds ≡ placeValue es = omega (arith, w, ap (λ j. j * k) f) in
-    ap (λ j. j ∷ ds) f ∙ ap (λ l. e ∷ l) (place-once ds es (a .1) (b .1) n′ r)
-
 pub reads-once : (f : DigitField) (s t : List ℕ) (v : ℕ) → Reads f s v → Reads f t v → bytesAt f s ≡ bytesAt f t
 reads-once f s t v r q =
     reads-bytes f s v r
-    ∙ ap shown (place-once (r .digits) (q .digits) (r .each) (q .each) (r .many ∙ sym (q .many)) (sym (r .value) ∙ q .value))
+    ∙ ap digitText (same-digits (r .digits) (q .digits) (r .each) (q .each) (r .many ∙ sym (q .many)) (sym (r .value) ∙ q .value))
     ∙ sym (reads-bytes f t v q)

@@ -1,7 +1,7 @@
 // The date in group 3: digit fields, the calendar, and a date type whose constructor checks. specs/ says what is right.
 ghost use mathlib.Core.Path.{_≡_};
 ghost use Prim.Native.Nat.{_≤_};
-ghost use Rattle.date.specs.Digits.{numberOf, digitsOf};
+ghost use Rattle.date.specs.Digits.{readDigits, digitsOf};
 ghost use Rattle.date.specs.Calendar.{isLeap, daysTo, nameDay};
 ghost use Rattle.date.specs.Date.{datedOf};
 
@@ -21,7 +21,7 @@ pub enum Digits {
 
 // The number that digits make. It fails if a byte is no digit, or if the number is less than `least` or greater than `greatest`.
 fn number(digits: &[u8], least: usize, greatest: usize) -> Digits
-    ensures { λ r. ⌜ r ≡ numberOf least greatest (now (digits .entry)) ⌝ }
+    ensures { λ r. ⌜ r ≡ readDigits least greatest (now (digits .entry)) ⌝ }
 {
     let most = greatest / 10;
     let mut value: usize = 0;

@@ -1,112 +1,95 @@
-use mathlib.Core.Path.{_≡_, refl, sym, _∙_, ap}
-use Prim.Native.Nat.{_+_, _*_, _-_, _≤_}
-use lib.ListN.{length, drop, getD}
-use borrow.Author.Tests.{lt-leb, le-leb}
-use Rattle.date.specs.Digits.{numberFrom, numberOf, within, isDigit}
-use Rattle.date.proofs.Numbers.{digit-is, digit-low, digit-high, number-more, number-none, number-great, number-done}
-use borrow.Author.Needs.{needs}
+-- What the bytes read as is what those from i on read as behind the digits passed, whose number is not greater than the greatest value.
+use mathlib.Core.Path.{_≡_, sym, _∙_}
+use Prim.Native.Nat.{_-_, _≤_}
 use native.Mathlib.Omega.{arith}
+use borrow.Author.Needs.{needs}
+use borrow.Author.Tests.{lt-leb, le-leb}
+use lib.ListN.{length, drop}
+use Rattle.date.specs.Digits.{readDigits}
+use Rattle.date.proofs.Numbers.{readFrom, digit-is, digit-low, digit-high, number-more, number-none, number-over, number-done}
 use Rattle.date.proofs.number.Statement.{statement}
 use Rattle.date.proofs.number.Tie as tie
-use Rattle.date.proofs.number.Reads as reads
-use Rattle.date.proofs.number.Lts as lts
 
 abbrev Inv-loop : tie.InvT-loop
-Inv-loop digits least greatest most value₀ i₀ value i = (value ≤ greatest) × (numberFrom value least greatest (drop i digits) ≡ numberOf least greatest digits)
+Inv-loop digits least greatest most value₀ i₀ value i =
+    (value ≤ greatest) × (readFrom value least greatest (drop i digits) ≡ readDigits least greatest digits)
 
 abbrev μ-loop : tie.MeasureT-loop
 μ-loop digits least greatest most value₀ i₀ value i = length digits - i
 
--- src/lib.rt:29:5
 loop-holds : tie.Need-loop-holds Inv-loop μ-loop
 loop-holds c = search needs
 
--- src/lib.rt:30:21
 shared-slice-read-digit : tie.Need-shared-slice-read-digit Inv-loop μ-loop
 shared-slice-read-digit c = search needs
 
--- src/lib.rt:32:13
+-- no digit
 returns : tie.Need-returns Inv-loop μ-loop
 returns c =
     let l = c .before .before .before .loop in
     let a = c .before .before .before .before .args in
     sym (number-none (a .least) (a .greatest) (a .digits .now) (l .i) (l .value) (omega arith) (digit-low _ (c .if1 .taken))) ∙ l .inv .1
 
--- src/lib.rt:35:13
 returns-2 : tie.Need-returns-2 Inv-loop μ-loop
 returns-2 c =
     let l = c .before .before .before .before .loop in
     let a = c .before .before .before .before .before .args in
     sym (number-none (a .least) (a .greatest) (a .digits .now) (l .i) (l .value) (omega arith) (digit-high _ (c .if2 .taken))) ∙ l .inv .1
 
--- src/lib.rt:38:13
+-- too great with this digit
 returns-3 : tie.Need-returns-3 Inv-loop μ-loop
 returns-3 c =
     let l = c .before .before .before .before .before .loop in
     let a = c .before .before .before .before .before .before .args in
-    let d = getD (a .digits .now) (l .i) 0 in
-    sym (number-great (a .least) (a .greatest) (drop (l .i + 1) (a .digits .now)) (l .value * 10 + (d - 48)) (omega arith))
-    ∙ number-more (a .least) (a .greatest) (a .digits .now) (l .i) (l .value) (omega arith) (digit-is d (c .before .before .if1 .left) (c .before .if2 .left))
-    ∙ l .inv .1
+    let d = digit-is _ (c .before .before .if1 .left) (c .before .if2 .left) in
+    sym (number-over (a .least) (a .greatest) (a .digits .now) (l .i) (l .value) (omega arith) d (omega arith)) ∙ l .inv .1
 
--- src/lib.rt:40:20
 mul-tens : tie.Need-mul-tens Inv-loop μ-loop
 mul-tens c = search needs
 
--- src/lib.rt:41:20
 cast-ones : tie.Need-cast-ones Inv-loop μ-loop
 cast-ones c = search needs
 
--- src/lib.rt:42:12
 sub-if4 : tie.Need-sub-if4 Inv-loop μ-loop
 sub-if4 c = search needs
 
--- src/lib.rt:43:13
 returns-4 : tie.Need-returns-4 Inv-loop μ-loop
 returns-4 c =
     let l = c .before .before .before .before .before .before .loop in
     let a = c .before .before .before .before .before .before .before .args in
-    let d = getD (a .digits .now) (l .i) 0 in
-    sym (number-great (a .least) (a .greatest) (drop (l .i + 1) (a .digits .now)) (l .value * 10 + (d - 48)) (omega arith))
-    ∙ number-more (a .least) (a .greatest) (a .digits .now) (l .i) (l .value) (omega arith) (digit-is d (c .before .before .before .if1 .left) (c .before .before .if2 .left))
-    ∙ l .inv .1
+    let d = digit-is _ (c .before .before .before .if1 .left) (c .before .before .if2 .left) in
+    sym (number-over (a .least) (a .greatest) (a .digits .now) (l .i) (l .value) (omega arith) d (omega arith)) ∙ l .inv .1
 
--- src/lib.rt:45:17
 add-value : tie.Need-add-value Inv-loop μ-loop
 add-value c = search needs
 
--- src/lib.rt:46:9
 add-i : tie.Need-add-i Inv-loop μ-loop
 add-i c = search needs
 
--- src/lib.rt:29:5
 loop-less : tie.Need-loop-less Inv-loop μ-loop
 loop-less c = search needs
 
--- src/lib.rt:29:5
 loop-again : tie.Need-loop-again Inv-loop μ-loop
 loop-again c =
     let l = c .before .before .before .before .before .before .loop in
     let a = c .before .before .before .before .before .before .before .args in
-    let d = getD (a .digits .now) (l .i) 0 in (
-      omega arith,
-      number-more (a .least) (a .greatest) (a .digits .now) (l .i) (l .value) (omega arith) (digit-is d (c .before .before .before .if1 .left) (c .before .before .if2 .left))
-          ∙ l .inv .1,
-    )
+    let d = digit-is _ (c .before .before .before .if1 .left) (c .before .before .if2 .left) in
+    (omega arith, number-more (a .least) (a .greatest) (a .digits .now) (l .i) (l .value) (omega arith) d ∙ l .inv .1)
 
--- src/lib.rt:49:9
+-- all bytes passed
 returns-5 : tie.Need-returns-5 Inv-loop μ-loop
 returns-5 c =
     let l = c .before .before .loop in
     let a = c .before .before .before .args in
-    rw (lt-leb (a .least) (l .value) (c .if5 .taken)) at (sym (number-done (a .least) (a .greatest) (a .digits .now) (l .i) (l .value) (omega arith)) ∙ l .inv .1)
+    rw (lt-leb (a .least) (l .value) (c .if5 .taken)) at
+    (sym (number-done (a .least) (a .greatest) (a .digits .now) (l .i) (l .value) (omega arith)) ∙ l .inv .1)
 
--- src/lib.rt:23:1
 returns-6 : tie.Need-returns-6 Inv-loop μ-loop
 returns-6 c =
     let l = c .before .before .loop in
     let a = c .before .before .before .args in
-    rw (le-leb (a .least) (l .value) (c .if5 .left), le-leb (l .value) (a .greatest) (l .inv .0)) at (sym (number-done (a .least) (a .greatest) (a .digits .now) (l .i) (l .value) (omega arith)) ∙ l .inv .1)
+    rw (le-leb (a .least) (l .value) (c .if5 .left), le-leb (l .value) (a .greatest) (l .inv .0)) at
+    (sym (number-done (a .least) (a .greatest) (a .digits .now) (l .i) (l .value) (omega arith)) ∙ l .inv .1)
 
 pub number-spec : {M : Type 1} → statement M
 number-spec =
