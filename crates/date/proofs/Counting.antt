@@ -1,8 +1,8 @@
 -- The calendar by counting: day n of a year is n - 1 days after 1 January, each day followed by the next of its month or by the first of the
 -- next month. A year has 365 or 366 days, each named by exactly one month and day, and 31 December is the last.
 -- Assumes nothing.
-use mathlib.Core.Path.{_≡_, refl, sym, ap, _∙_}
-use mathlib.Core.Bool.{Bool, true, false, cond}
+use mathlib.Core.Path.{_≡_, refl, ap, _∙_}
+use mathlib.Core.Bool.{Bool, true, false}
 use Prim.Native.Nat.{ℕ, zero, suc, _+_, _-_, _<_, _≤_}
 use native.Mathlib.Numerals.{add-one}
 use native.Mathlib.Omega.{arith}

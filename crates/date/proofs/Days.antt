@@ -1,7 +1,7 @@
 -- Days of a year: the test `nameDay` passes exactly at the days, a day number lies between its month's first and last, and no day number
 -- belongs to two days.
 -- Assumes nothing.
-use mathlib.Core.Path.{_≡_, refl, sym, ap, _∙_}
+use mathlib.Core.Path.{_≡_, refl, ap}
 use mathlib.Core.Bool.{Bool, true, false, _&&_}
 use Prim.Native.Nat.{ℕ, zero, suc, _+_, _-_, _<_, _≤_}
 use native.Mathlib.Nat.{add-zero, add-suc}
@@ -9,7 +9,7 @@ use native.Mathlib.Omega.{arith}
 use borrow.Author.Tests.{leb-true, eqb-true, le-leb, eq-eqb, ltb-true, ltb-false}
 use lib.Dec.{leb, ltb, eqb}
 use Rattle.base.proofs.Tests.{test-same, and-first, and-second}
-use Rattle.base.proofs.Choice.{not-T-false, T-true, true-T}
+use Rattle.base.proofs.Choice.{not-T-false, T-true}
 use Rattle.date.specs.Calendar.{monthLength, daysTo, nameDay, IsDay}
 use Rattle.date.proofs.Months.{days-more}
 

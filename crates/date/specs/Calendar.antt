@@ -1,7 +1,8 @@
--- "The Gregorian calendar, whose leap year rule is used for all years 0000 to 9999 (0000 is a leap year)."
+-- "Day of year, month and day must name one day of that year in the Gregorian calendar, whose leap year rule is used for all years 0000 to
+-- 9999 (0000 is a leap year)."
 use mathlib.Core.Path.{_≡_}
 use mathlib.Core.Bool.{Bool, cond, not, _&&_, _||_}
-use mathlib.Core.List.{List, [], _∷_}
+use mathlib.Core.List.{[], _∷_}
 use Prim.Native.Nat.{ℕ, zero, suc, _+_, _-_, _%_, _≤_}
 use lib.Dec.{leb, ltb, eqb}
 use Rattle.base.specs.Every.{has}
@@ -15,16 +16,19 @@ isLeap y = divisible y 4 && (not (divisible y 100) || divisible y 400)
 
 -- Thirty days have September, April, June and November; all the rest have thirty-one, but February alone, which has twenty-eight, and
 -- twenty-nine in a leap year. Months count from 1.
+abbrev pub hasThirty : ℕ → Bool
+hasThirty m = has (9 ∷ 4 ∷ 6 ∷ 11 ∷ []) m
+
 unfoldable pub monthLength : Bool → ℕ → ℕ
-monthLength leap m = cond (eqb m 2) (cond leap 29 28) (cond (has (9 ∷ 4 ∷ 6 ∷ 11 ∷ []) m) 30 31)
+monthLength leap m = cond (eqb m 2) (cond leap 29 28) (cond (hasThirty m) 30 31)
 
 -- the days of the months from January to month m
 unfoldable pub daysTo : Bool → ℕ → ℕ
 daysTo leap zero = 0
 daysTo leap (suc m) = daysTo leap m + monthLength leap (suc m)
 
--- "Day of year, month and day must name one day of that year": there is such a month, it has such a day, and the day of the year counts the
--- days of the earlier months and those of its own month up to it
+-- day of year n, month m and day d name one day: there is such a month, it has such a day, and n counts the days of the earlier months and
+-- those of its own month up to it
 pub record IsDay (leap : Bool) (n m d : ℕ) : Type 0 where
   pub january : 1 ≤ m
   pub december : m ≤ 12

@@ -50,7 +50,7 @@ abbrev pub number : Digits → ℕ
 number (Number v) = v
 number Fails = 0
 
--- "Day of year, month and day must name one day of that year"
+-- "Day of year, month and day must name one day of that year in the Gregorian calendar"
 abbrev pub namesOneDay : Date → Bool
 namesOneDay d = nameDay (isLeap (d .year)) (d .«day_of_year») (d .month) (d .day)
 

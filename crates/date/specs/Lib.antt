@@ -1,4 +1,4 @@
--- The section "Date" of the paper: what a digit field reads as (Digits), what a day of a year is (Calendar), and what group 3's letters tell
+-- The section "Date" of 01: what a digit field reads as (Digits), what a day of a year is (Calendar), and what group 3's letters tell
 -- (Date).
 pub mod Digits
 pub mod Calendar

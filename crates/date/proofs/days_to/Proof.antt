@@ -1,11 +1,12 @@
 -- The loop adds up the table, whose lengths are those of a year that is no leap year; the leap day is added behind it.
 use mathlib.Core.Path.{_≡_, refl, sym, _∙_, ap}
-use mathlib.Core.Bool.{true, false}
-use Prim.Native.Nat.{_+_, _*_, _-_, _≤_}
+use mathlib.Core.Bool.{false}
+use Prim.Native.Nat.{_+_, _-_, _≤_}
 use native.Mathlib.Omega.{arith}
 use borrow.Author.Needs.{needs}
 use Rattle.date.specs.Calendar.{daysTo}
-use Rattle.date.proofs.Months.{table-more, days-bound, leap-day, no-leap-day}
+use Rattle.date.proofs.Months.{days-bound, leap-day, no-leap-day}
+use Rattle.date.proofs.Table.{table-more}
 use Rattle.date.proofs.days_to.Statement.{statement}
 use Rattle.date.proofs.days_to.Tie as tie
 

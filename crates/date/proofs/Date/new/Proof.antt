@@ -6,7 +6,7 @@ use borrow.Author.Needs.{needs}
 use lib.ListN.{drop}
 use Rattle.date.specs.declared.Date.{Date}
 use Rattle.date.specs.Date.{year, dayOfYear, month, day, hour, minute, second, fields, dateOf}
-use Rattle.date.proofs.Blame.{Remain, Held, all-remain, field-holds, field-fails, date-right, date-mismatched}
+use Rattle.date.proofs.Blame.{Held, all-remain, field-holds, field-fails, date-right, date-mismatched}
 use Rattle.date.proofs.Grammar.{read-is}
 use Rattle.date.proofs.Date.new.Statement.{statement}
 use Rattle.date.proofs.Date.new.Tie as tie
