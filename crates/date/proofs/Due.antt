@@ -115,6 +115,9 @@ holds-reads f s e = read-is f s (number (digitsOf f s)) (held (digitsOf f s) e)
 pub reads-holds : (f : DigitField) (s : List ℕ) (v : ℕ) → Reads f s v → fails (digitsOf f s) ≡ false
 reads-holds f s v r = rw (is-read f s v r)
 
--- the contract leaves one outcome
+-- each contract leaves one outcome
 pub dated-once : (s : List ℕ) (a b : Dated) → a ≡ datedOf s → b ≡ datedOf s → a ≡ b
 dated-once s a b p q = p ∙ sym q
+
+pub digits-once : (f : DigitField) (s : List ℕ) (a b : Digits) → a ≡ digitsOf f s → b ≡ digitsOf f s → a ≡ b
+digits-once f s a b p q = p ∙ sym q
