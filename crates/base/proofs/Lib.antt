@@ -1,4 +1,7 @@
 -- The laws of base's definitions, a file to a subject.
+pub mod Agree
 pub mod Choice
 pub mod Every
+pub mod Mapped
+pub mod Order
 pub mod Part
