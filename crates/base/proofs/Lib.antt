@@ -2,6 +2,7 @@
 pub mod Agree
 pub mod Choice
 pub mod Every
+pub mod Index
 pub mod Mapped
 pub mod Order
 pub mod Part
