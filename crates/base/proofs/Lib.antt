@@ -1,8 +1,12 @@
 -- The laws of base's definitions, a file to a subject.
 pub mod Agree
 pub mod Choice
+pub mod Columns
+pub mod Digits
 pub mod Every
+pub mod FromLast
 pub mod Index
 pub mod Mapped
 pub mod Order
 pub mod Part
+pub mod Sign

@@ -1,5 +1,9 @@
 -- Definitions that say nothing of ionograms: parts of a list and lists with places overwritten (Part), a test at each element of a
--- list (Every), lists that agree outside some places (Agree).
+-- list (Every), lists that agree outside some places (Agree), sign and size of a number (Sign), columns from the last to the first
+-- (Columns), decimal digits (Digits).
 pub mod Agree
+pub mod Columns
+pub mod Digits
 pub mod Every
 pub mod Part
+pub mod Sign
