@@ -1,13 +1,13 @@
 -- How long numerals are: no longer than k digits exactly if the number is below 10 ^ k; so at most 20 digits for a u64.
 -- Assumes nothing.
-use mathlib.Core.Path.{_≡_, refl, sym, _∙_, ap}
-use mathlib.Core.List.{List, [], _∷_, _++_}
+use mathlib.Core.Path.{_≡_, sym, _∙_, ap}
+use mathlib.Core.List.{[], _∷_, _++_}
 use mathlib.Core.Logic.{_⊎_, ⊎-elim}
 use Prim.Native.Nat.{ℕ, zero, suc, _+_, _*_, _-_, _/_, _%_, _^_, _<_, _≤_}
 use native.Mathlib.Omega.{arith}
 use native.Mathlib.Nat.{pow-suc, pow-le-pow-right, div-add-mod'}
 use native.Mathlib.Numerals.{add-one}
-use lib.Dec.{lit<, lit≤}
+use lib.Dec.{lit<}
 use lib.ListN.{length, length-append, length-map}
 use Rattle.base.specs.Columns.{columns}
 use Rattle.base.specs.Digits.{digitText}

@@ -1,16 +1,16 @@
 -- The numeral of n is digits without needless zeros whose value is n, and it is the only such text; so it reads back as n.
 -- Assumes nothing.
-use mathlib.Core.Path.{_≡_, refl, sym, _∙_, ap, subst}
+use mathlib.Core.Path.{_≡_, refl, sym, _∙_, ap}
 use mathlib.Core.Bool.{Bool, true, false, cond}
 use mathlib.Core.List.{List, [], _∷_, _++_, map}
 use mathlib.Core.Logic.{_⊎_, ⊎-elim}
 use Prim.Native.Nat.{ℕ, zero, suc, _+_, _*_, _-_, _/_, _%_, _<_, _≤_}
 use native.Mathlib.Omega.{arith}
-use native.Mathlib.Nat.{div-lt-self, div-add-mod', mod-lt, mod-eq-of-lt, zero-add}
+use native.Mathlib.Nat.{div-lt-self, div-add-mod', mod-lt, zero-add}
 use lib.Arith.{digits-div, digits-mod}
 use lib.Dec.{ltb, lit<}
 use lib.ListN.{length, getD}
-use borrow.Author.Tests.{lt-ltb, le-ltb, ltb-true, ltb-false}
+use borrow.Author.Tests.{lt-ltb, le-ltb, ltb-false}
 use Rattle.base.specs.Digits.{AllDigits, numberFrom, numberOf, Lean, digitText}
 use Rattle.base.proofs.Digits.{digits-append, number-append, text-append, lean-more}
 use Rattle.base.proofs.FromLast.{from-last}

@@ -3,7 +3,7 @@
 -- Assumes nothing.
 use mathlib.Core.Path.{_≡_, refl, sym, _∙_, ap}
 use mathlib.Core.Bool.{Bool, true, false, cond}
-use mathlib.Core.List.{List, [], _∷_, _++_}
+use mathlib.Core.List.{List, [], _∷_}
 use mathlib.Core.Logic.{_⊎_, ⊎-elim}
 use Prim.Native.Nat.{ℕ, zero, suc, _+_, _-_, _<_, _≤_}
 use native.Mathlib.Omega.{arith}
@@ -12,7 +12,7 @@ use lib.Seq.{getD-take, getD-drop, length-take-le, take-take}
 use borrow.Author.Tests.{eqb-true}
 use Rattle.base.proofs.Order.{le-or-lt}
 use Rattle.line.specs.Lines.{isFeed, feeds, reach, lines, behind, Whole, Plain}
-use Rattle.line.proofs.Feeds.{feeds-cut, feeds-le, plain-only-if}
+use Rattle.line.proofs.Feeds.{feeds-cut, plain-only-if}
 use Rattle.line.proofs.Reach.{reach-zero, reach-le, reach-append, reach-least, feeds-behind, feeds-lines, length-lines}
 use Rattle.line.proofs.Whole.{reach-whole}
 

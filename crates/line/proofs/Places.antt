@@ -3,23 +3,22 @@
 -- Assumes nothing.
 use mathlib.Core.Path.{_≡_, refl, sym, _∙_, ap}
 use mathlib.Core.Bool.{Bool, true, false, cond}
-use mathlib.Core.List.{List, [], _∷_, _++_, map}
+use mathlib.Core.List.{List, [], _++_, map}
 use mathlib.Core.Logic.{_⊎_, ⊎-elim}
 use Prim.Native.Nat.{compare·suc-suc, ℕ, zero, suc, _+_, _-_, _<_, _≤_}
 use native.Mathlib.Omega.{arith}
 use native.Mathlib.Nat.{add-suc, suc-add}
 use native.Mathlib.Numerals.{add-one}
 use lib.Dec.{leb}
-use lib.ListN.{length, take, drop, getD, length-append, length-drop, take-append-drop, drop-of-length-le}
+use lib.ListN.{length, take, drop, getD, length-drop, take-append-drop, drop-of-length-le}
 use lib.Seq.{drop-drop, drop-append-add, drop-append-le, drop-append-seam}
 use borrow.Author.Tests.{le-leb, lt-leb, leb-true, leb-false}
 use Rattle.base.specs.Part.{part}
 use Rattle.base.proofs.Mapped.{map-length}
 use Rattle.base.proofs.Order.{le-or-lt}
-use Rattle.line.specs.Lines.{isFeed, feeds, reach, lines, behind, Whole}
+use Rattle.line.specs.Lines.{isFeed, feeds, reach, behind, Whole}
 use Rattle.line.specs.Places.{behindAt}
 use Rattle.line.specs.Texts.{SameLines}
-use Rattle.line.specs.declared.Behind.{Behind}
 use Rattle.line.specs.declared.Behind.the-variants.{At, TooFew}
 use Rattle.line.proofs.Feeds.{feeds-append, feeds-nil, feeds-drop-feed, feeds-drop-other}
 use Rattle.line.proofs.Reach.{reach-zero, reach-le, reach-add, reach-append, reach-drop-feed, reach-drop-other, feeds-behind, length-lines}

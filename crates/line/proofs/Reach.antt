@@ -6,8 +6,8 @@ use mathlib.Core.List.{List, [], _∷_, _++_, map}
 use Prim.Native.Nat.{ℕ, zero, suc, _+_, _-_, _<_, _≤_}
 use native.Mathlib.Omega.{arith}
 use native.Mathlib.Nat.{suc-add, zero-add}
-use lib.ListN.{length, take, drop, getD, length-take, length-drop, take-append-drop, drop-of-length-le}
-use lib.Seq.{drop-cons, drop-drop, length-take-le, take-append-le, drop-append-le, take-take}
+use lib.ListN.{length, drop, getD, take-append-drop}
+use lib.Seq.{drop-cons, drop-drop, length-take-le, take-append-le, drop-append-le}
 use borrow.Author.Tests.{eq-eqb, ne-eqb}
 use Rattle.line.specs.Lines.{isFeed, feeds, reach, lines, behind}
 use Rattle.line.proofs.Feeds.{feeds-append, feeds-le}

@@ -2,7 +2,7 @@
 -- The carriage return is the byte directly before the line feed, and only that one: an earlier one is part of the content. Without it a
 -- line has no content, and neither has what doesn't end in a line feed.
 use mathlib.Core.Path.{_≡_}
-use mathlib.Core.Bool.{Bool, true, false, cond, _&&_}
+use mathlib.Core.Bool.{Bool, false, cond, _&&_}
 use mathlib.Core.List.{List, [], _∷_, _++_}
 use Prim.Native.Nat.{ℕ, _-_}
 use lib.Dec.{eqb}

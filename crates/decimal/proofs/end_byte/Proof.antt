@@ -1,8 +1,7 @@
 -- `decimal::end_byte` meets its contract: by whether more follow.
 -- Assumes nothing.
-use mathlib.Core.Path.{_≡_, refl, sym, ap}
+use mathlib.Core.Path.{_≡_, refl}
 use Prim.Native.Nat.{ℕ, zero, suc}
-use native.Mathlib.Omega.{arith}
 use borrow.Author.Needs.{needs}
 use Rattle.decimal.specs.Rows.{endByte}
 use Rattle.decimal.proofs.end_byte.Statement.{statement}
