@@ -8,7 +8,7 @@ use Prim.Native.Nat.{ℕ, _+_, _-_, _<_, _≤_}
 use native.Mathlib.Numerals.{add-one}
 use native.Mathlib.Omega.{arith}
 use lib.Dec.{leb}
-use lib.ListN.{length, take, getD, set, length-append}
+use lib.ListN.{length, take, getD, set, length-append, length-set}
 use lib.Seq.{length-take-le, take-suc}
 use borrow.Author.Tests.{le-leb, lt-leb, leb-true, leb-false}
 use Rattle.base.proofs.Order.{le-or-lt}
@@ -41,6 +41,11 @@ over-last xs ys a at k b e h p =
 
 pub over-first : (xs zs a : List ℕ) (at b : ℕ) → at < length xs → zs ≡ over (at + 1) a (set xs at b) → zs ≡ over at (b ∷ a) xs
 over-first xs zs a at b h p = over-then xs (set xs at b) zs (b ∷ []) a at (at + 1) refl (omega arith) (over-one xs at b h) p
+
+pub first-length : (xs zs a : List ℕ) (at b : ℕ) → at + 1 + length a ≤ length xs → zs ≡ over (at + 1) a (set xs at b) → length zs ≡ length xs
+first-length xs zs a at b h p =
+    let l = length-set xs at b in
+    ap length p ∙ over-length (set xs at b) a (at + 1) (omega arith) ∙ l
 
 -- a text copied byte by byte: one byte more
 pub copy-turn : (xs out text : List ℕ) (at i : ℕ) → i < length text → at + length text ≤ length xs → out ≡ over at (take i text) xs → set out (at + i) (getD text i 0) ≡ over at (take (i + 1) text) xs

@@ -7,7 +7,7 @@ use lib.ListN.{length, set, length-set}
 use borrow.Author.Needs.{needs}
 use Rattle.base.proofs.Part.{over-length}
 use Rattle.decimal.specs.Numerals.{numeral}
-use Rattle.decimal.proofs.Writing.{over-first}
+use Rattle.decimal.proofs.Writing.{over-first, first-length}
 use Rattle.decimal.proofs.put_minus.Statement.{statement}
 use Rattle.decimal.proofs.put_minus.Tie as tie
 
@@ -25,10 +25,7 @@ put-numeral-requires c κs =
 same-length : tie.Need-same-length
 same-length c =
     let o = c .before .before .before .before .before in
-    let s : length (set (o .args .out .now) (o .args .at) 45) ≡ length (o .args .out .now) = length-set (o .args .out .now) (o .args .at) 45 in
-    ap length (c .before .before .put-numeral .ensures)
-    ∙ over-length (set (o .args .out .now) (o .args .at) 45) (numeral (o .args .n)) (o .args .at + 1) (omega (arith, o .pre .0, o .pre .1))
-    ∙ s
+    first-length (o .args .out .now) _ (numeral (o .args .n)) (o .args .at) _ (omega (arith, o .pre .0, o .pre .1)) (c .before .before .put-numeral .ensures)
 
 returns : tie.Need-returns
 returns c =

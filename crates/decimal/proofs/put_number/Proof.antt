@@ -10,10 +10,10 @@ use Rattle.decimal.proofs.Writing.{puts-done, puts-none}
 use Rattle.decimal.proofs.put_number.Statement.{statement}
 use Rattle.decimal.proofs.put_number.Tie as tie
 
-room : (c : tie.Then1) → c .before .before .before .before .args .at + c .before .before .digits .result ≤ length (c .before .before .before .before .args .out .now)
+room : (c : tie.Then1) → (let a = c .before .before .before .before .args in a .at + c .before .before .digits .result ≤ length (a .out .now))
 room c = leb-true _ _ (sym (c .before .has-room .ensures) ∙ c .if1 .taken)
 
-no-room : (c : tie.Else1) → length (c .before .before .before .before .args .out .now) < c .before .before .before .before .args .at + c .before .before .digits .result
+no-room : (c : tie.Else1) → (let a = c .before .before .before .before .args in length (a .out .now) < a .at + c .before .before .digits .result)
 no-room c = leb-false _ _ (sym (c .before .has-room .ensures) ∙ c .if1 .left)
 
 digits-requires : tie.Need-digits-requires

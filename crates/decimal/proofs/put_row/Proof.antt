@@ -13,19 +13,19 @@ use Rattle.decimal.proofs.put_row.Statement.{statement}
 use Rattle.decimal.proofs.put_row.Tie as tie
 
 -- the first bytes have room; and the row behind them
-room : (c : tie.Then1) → c .before .before .before .before .before .args .at + length (c .before .before .before .before .before .args .first .now) ≤ length (c .before .before .before .before .before .args .out .now)
+room : (c : tie.Then1) → (let a = c .before .before .before .before .before .args in a .at + length (a .first .now) ≤ length (a .out .now))
 room c = leb-true _ _ (sym (c .before .has-room .ensures) ∙ c .if1 .taken)
 
-row-room : (c : tie.Then2) → length (rowText (c .before .before .before .before .before .before .before .args .numbers .now)) ≤ length (c .before .before .before .before .before .before .before .args .out .now) - (c .before .before .before .before .before .before .before .args .at + length (c .before .before .before .before .before .before .before .args .first .now))
+row-room : (c : tie.Then2) → (let a = c .before .before .before .before .before .before .before .args in length (rowText (a .numbers .now)) ≤ length (a .out .now) - (a .at + length (a .first .now)))
 row-room c = leb-true _ _ (sym (c .before .row-fits .ensures) ∙ c .if2 .taken)
 
-no-room : (c : tie.Else1) → length (c .before .before .before .before .before .args .out .now) < c .before .before .before .before .before .args .at + length (c .before .before .before .before .before .args .first .now)
+no-room : (c : tie.Else1) → (let a = c .before .before .before .before .before .args in length (a .out .now) < a .at + length (a .first .now))
 no-room c = leb-false _ _ (sym (c .before .has-room .ensures) ∙ c .if1 .left)
 
-no-row-room : (c : tie.Else2) → length (c .before .before .before .before .before .before .before .args .out .now) - (c .before .before .before .before .before .before .before .args .at + length (c .before .before .before .before .before .before .before .args .first .now)) < length (rowText (c .before .before .before .before .before .before .before .args .numbers .now))
+no-row-room : (c : tie.Else2) → (let a = c .before .before .before .before .before .before .before .args in length (a .out .now) - (a .at + length (a .first .now)) < length (rowText (a .numbers .now)))
 no-row-room c = leb-false _ _ (sym (c .before .row-fits .ensures) ∙ c .if2 .left)
 
-whole : (c : tie.Then2) → c .before .before .before .before .before .before .before .args .at + length (c .before .before .before .before .before .before .before .args .first .now) + length (rowText (c .before .before .before .before .before .before .before .args .numbers .now)) ≤ length (c .before .before .before .before .before .before .before .args .out .now)
+whole : (c : tie.Then2) → (let a = c .before .before .before .before .before .before .before .args in a .at + length (a .first .now) + length (rowText (a .numbers .now)) ≤ length (a .out .now))
 whole c = omega (arith, room (c .before .before), row-room c)
 
 has-room-requires : tie.Need-has-room-requires

@@ -33,10 +33,10 @@ plain c =
 digits-few : (c : tie.After-digits) → c .digits .result ≤ 20
 digits-few c = omega (arith, c .digits .ensures, length-u64 (c .before .before .size .result) (omega arith))
 
-room : (c : tie.Then2) → c .before .before .before .before .before .before .args .at + (c .before .before .digits .result + 1) ≤ length (c .before .before .before .before .before .before .args .out .now)
+room : (c : tie.Then2) → (let a = c .before .before .before .before .before .before .args in a .at + (c .before .before .digits .result + 1) ≤ length (a .out .now))
 room c = leb-true _ _ (sym (c .before .has-room .ensures) ∙ c .if2 .taken)
 
-no-room : (c : tie.Else2) → length (c .before .before .before .before .before .before .args .out .now) < c .before .before .before .before .before .before .args .at + (c .before .before .digits .result + 1)
+no-room : (c : tie.Else2) → (let a = c .before .before .before .before .before .before .args in length (a .out .now) < a .at + (c .before .before .digits .result + 1))
 no-room c = leb-false _ _ (sym (c .before .has-room .ensures) ∙ c .if2 .left)
 
 size-requires : tie.Need-size-requires

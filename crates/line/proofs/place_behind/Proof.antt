@@ -7,7 +7,7 @@ use native.Mathlib.Omega.{arith}
 use lib.ListN.{length}
 use borrow.Author.Needs.{needs}
 use Rattle.line.specs.Places.{behindAt}
-use Rattle.line.proofs.Places.{behind-none, behind-out, behind-feed, behind-last, behind-other}
+use Rattle.line.proofs.Places.{behindAt-none, behindAt-out, behindAt-feed, behindAt-last, behindAt-other}
 use Rattle.line.proofs.place_behind.Statement.{statement}
 use Rattle.line.proofs.place_behind.Tie as tie
 
@@ -18,7 +18,7 @@ abbrev μ-loop : tie.MeasureT-loop
 μ-loop text at lines left₀ i₀ left i = length text - i
 
 returns : tie.Need-returns Inv-loop μ-loop
-returns c = let z = c .if1 .taken in rw z (sym (behind-none _ _))
+returns c = let z = c .if1 .taken in rw z (sym (behindAt-none _ _))
 
 loop-holds : tie.Need-loop-holds Inv-loop μ-loop
 loop-holds c = (omega arith, refl)
@@ -32,7 +32,7 @@ add-t12 c = search needs
 returns-2 : tie.Need-returns-2 Inv-loop μ-loop
 returns-2 c =
     let d = c .before .before .before in
-    sym (behind-last _ _ _ (d .loop-test .taken) (c .if3 .taken) (c .before .if2 .taken)) ∙ d .before .loop .inv .1
+    sym (behindAt-last _ _ _ (d .loop-test .taken) (c .if3 .taken) (c .before .if2 .taken)) ∙ d .before .loop .inv .1
 
 sub-left : tie.Need-sub-left Inv-loop μ-loop
 sub-left c = search needs
@@ -47,14 +47,14 @@ loop-again : tie.Need-loop-again Inv-loop μ-loop
 loop-again c =
     let d = c .before .before in
     ⊎-elim
-    (λ w. rw (w .2) (omega arith, sym (behind-feed _ _ _ (d .loop-test .taken) (d .before .loop .inv .0) (w .0 .taken)) ∙ d .before .loop .inv .1))
-    (λ w. rw (w .1) (omega arith, sym (behind-other _ _ _ (d .loop-test .taken) (d .before .loop .inv .0) (w .0 .left)) ∙ d .before .loop .inv .1))
+    (λ w. rw (w .2) (omega arith, sym (behindAt-feed _ _ _ (d .loop-test .taken) (d .before .loop .inv .0) (w .0 .taken)) ∙ d .before .loop .inv .1))
+    (λ w. rw (w .1) (omega arith, sym (behindAt-other _ _ _ (d .loop-test .taken) (d .before .loop .inv .0) (w .0 .left)) ∙ d .before .loop .inv .1))
     (c .if2 .came)
 
 returns-3 : tie.Need-returns-3 Inv-loop μ-loop
 returns-3 c =
     let i = c .before .loop .inv in
-    sym (behind-out _ _ _ (c .loop-test .left) (i .0)) ∙ i .1
+    sym (behindAt-out _ _ _ (c .loop-test .left) (i .0)) ∙ i .1
 
 pub place-behind-spec : {M : Type 1} → statement M
 place-behind-spec =
