@@ -19,6 +19,7 @@ use Rattle.base.proofs.Order.{le-or-lt}
 use Rattle.line.specs.Lines.{isFeed, feeds, reach, lines, behind, Whole}
 use Rattle.line.specs.Places.{behindAt}
 use Rattle.line.specs.Texts.{SameLines}
+use Rattle.line.specs.declared.Behind.{Behind}
 use Rattle.line.specs.declared.Behind.the-variants.{At, TooFew}
 use Rattle.line.proofs.Feeds.{feeds-append, feeds-nil, feeds-drop-feed, feeds-drop-other}
 use Rattle.line.proofs.Reach.{reach-zero, reach-le, reach-add, reach-append, reach-drop-feed, reach-drop-other, feeds-behind, length-lines}
@@ -189,3 +190,8 @@ behindAt-lines {k} {a} p b u =
       many = rw d (omega (arith, feeds-whole b u));
       place = rw d (ap (λ n. length p + n) (sym (reach-whole b u)));
     }
+
+-- ---- any two answers are equal
+
+pub behindAt-once : (s : List ℕ) (at k : ℕ) (r q : Behind) → r ≡ behindAt s at k → q ≡ behindAt s at k → r ≡ q
+behindAt-once s at k r q g h = g ∙ sym h

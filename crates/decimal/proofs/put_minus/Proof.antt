@@ -1,11 +1,8 @@
 -- `decimal::put_minus` meets its contract: a byte before a numeral.
 -- Assumes nothing.
-use mathlib.Core.Path.{_≡_, ap, _∙_}
-use Prim.Native.Nat.{_+_}
 use native.Mathlib.Omega.{arith}
-use lib.ListN.{length, set, length-set}
+use lib.ListN.{length-set}
 use borrow.Author.Needs.{needs}
-use Rattle.base.proofs.Part.{over-length}
 use Rattle.decimal.specs.Numerals.{numeral}
 use Rattle.decimal.proofs.Writing.{over-first, first-length}
 use Rattle.decimal.proofs.put_minus.Statement.{statement}
