@@ -1,7 +1,11 @@
 -- Definitions that say nothing of ionograms: parts of a list and lists with places overwritten (Part), a test at each element of a
--- list (Every), sums (Sum), decimal digits (Digits), the bytes of a quoted text (Quoted).
+-- list (Every), sums (Sum), lists that agree outside some places (Agree), sign and size of a number (Sign), columns from the last to the
+-- first (Columns), decimal digits (Digits), the bytes of a quoted text (Quoted).
+pub mod Agree
+pub mod Columns
 pub mod Digits
 pub mod Every
 pub mod Part
 pub mod Quoted
+pub mod Sign
 pub mod Sum
