@@ -126,3 +126,8 @@ all-lines ns = tally-all 2 (linesIn ns) 61 (omega arith)
 pub all-cells : (ns : List ℕ) → cellsBefore ns 61 ≡ recordCells ns
 unfolding cellsBefore cellTally
 all-cells ns = tally-all 0 (cellsIn ns) 61 (omega arith)
+
+-- the index lines are among them
+pub record-two : (ns : List ℕ) → 2 ≤ recordLines ns
+unfolding Sum.sum lineTally
+record-two ns = omega arith

@@ -1,0 +1,3 @@
+-- The laws of place's definitions.
+pub mod Entries
+pub mod Steps
