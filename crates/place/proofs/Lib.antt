@@ -1,3 +1,4 @@
 -- The laws of place's definitions.
 pub mod Entries
 pub mod Steps
+pub mod Placed
