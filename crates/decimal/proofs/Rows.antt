@@ -1,22 +1,22 @@
 -- A row of numbers: one number more, as a loop writes it; how long it is.
 -- Assumes nothing.
 use mathlib.Core.Path.{_≡_, refl, sym, _∙_, ap}
-use mathlib.Core.Bool.{true, false}
 use mathlib.Core.List.{List, [], _∷_, _++_, append-assoc, append-nil}
 use Prim.Native.Nat.{ℕ, suc, _+_, _*_, _-_, _<_, _≤_}
 use native.Mathlib.Nat.{add-zero, suc-mul}
 use native.Mathlib.Omega.{arith}
 use native.Mathlib.Numerals.{add-one}
-use lib.Dec.{leb, ltb}
 use lib.ListN.{length, drop, set, getD, length-append, length-drop, drop-of-length-le}
 use lib.Seq.{drop-cons}
 use Rattle.decimal.specs.Numerals.{numeral}
-use borrow.Author.Tests.{le-leb, lt-leb}
+use borrow.Author.Tests.{le-leb}
 use Rattle.decimal.specs.Rows.{rowText, endByte, rowSize}
+use Rattle.decimal.specs.Writing.{endIn}
+use Rattle.decimal.specs.declared.Put.the-variants.{Next, NoRoom}
 use Rattle.base.specs.Part.{over}
 use Rattle.base.proofs.Part.{over-none, over-one, over-length}
 use Rattle.decimal.proofs.Lengths.{length-mono}
-use Rattle.decimal.proofs.Writing.{room-leb, over-rest}
+use Rattle.decimal.proofs.Writing.{end-none, over-rest}
 
 -- the numbers from some on, each with the byte behind it: the row, but nothing where there are none
 abbrev pub rest : List ℕ → List ℕ
@@ -55,30 +55,28 @@ rest-length ns i h =
     ∙ length-append (t ++ (e ∷ [])) (rest (drop (i + 1) ns))
     ∙ ap (λ k. k + length (rest (drop (i + 1) ns))) (length-append t (e ∷ []))
 
--- ---- whether a row fits, number by number
+-- ---- where a row ends, number by number
 
-pub fit-empty : (ns : List ℕ) (room : ℕ) → length ns ≡ 0 → ltb 0 room ≡ leb (length (rowText ns)) room
-fit-empty ns room h = rw (row-nil ns h)
+pub end-empty : (ns : List ℕ) (at size : ℕ) → length ns ≡ 0 → endIn at 1 size ≡ endIn at (length (rowText ns)) size
+end-empty ns at size h = rw (row-nil ns h)
 
-pub fit-whole : (ns : List ℕ) (room : ℕ) → (length ns ≡ 0 → ⊥) → leb (length (rest ns)) room ≡ leb (length (rowText ns)) room
-fit-whole ns room h = rw (rest-row ns (omega arith))
+pub end-whole : (ns : List ℕ) (at size : ℕ) → (length ns ≡ 0 → ⊥) → endIn at (length (rest ns)) size ≡ endIn at (length (rowText ns)) size
+end-whole ns at size h = rw (rest-row ns (omega arith))
 
-module _ (ns : List ℕ) (i k left : ℕ) (h : i < length ns) (e : k ≡ length (numeral (getD ns i 0))) where
-  pub fit-over : left ≤ k → false ≡ leb (length (rest (drop i ns))) left
-  fit-over l = sym (lt-leb (length (rest (drop i ns))) left (omega (arith, rest-length ns i h)))
+module _ (ns : List ℕ) (i k a size : ℕ) (h : i < length ns) (e : k ≡ length (numeral (getD ns i 0))) where
+  pub end-over : size ≤ a + k → NoRoom ≡ endIn a (length (rest (drop i ns))) size
+  end-over l = sym (end-none a (length (rest (drop i ns))) size (omega (arith, rest-length ns i h)))
 
-  pub fit-turn : k < left → leb (length (rest (drop (i + 1) ns))) (left - (k + 1)) ≡ leb (length (rest (drop i ns))) left
-  fit-turn l =
-      let m : k + 1 + length (rest (drop (i + 1) ns)) ≡ length (rest (drop i ns)) = omega (arith, rest-length ns i h) in
-      room-leb left (k + 1) (length (rest (drop (i + 1) ns))) (omega arith) ∙ ap (λ n. leb n left) m
+  pub end-turn : endIn (a + (k + 1)) (length (rest (drop (i + 1) ns))) size ≡ endIn a (length (rest (drop i ns))) size
+  end-turn = let m : a + (k + 1) + length (rest (drop (i + 1) ns)) ≡ a + length (rest (drop i ns)) = omega (arith, rest-length ns i h) in rw m
 
-pub fit-end : (ns : List ℕ) (i left : ℕ) → length ns ≤ i → true ≡ leb (length (rest (drop i ns))) left
-fit-end ns i left h = rw (rest-end ns i h) (sym (le-leb 0 left (omega arith)))
+pub end-last : (ns : List ℕ) (i a size : ℕ) → length ns ≤ i → a ≤ size → Next a ≡ endIn a (length (rest (drop i ns))) size
+end-last ns i a size h l = rw (rest-end ns i h, add-zero a, le-leb a size l)
 
 -- ---- a row put into bytes, number by number
 
-pub put-nil : (ns out : List ℕ) (at : ℕ) → length ns ≡ 0 → at < length out → (at + 1 ≡ at + length (rowText ns)) × (set out at 10 ≡ over at (rowText ns) out)
-put-nil ns out at h l = rw (row-nil ns h) (refl, over-one out at 10 l)
+pub put-nil : (ns out : List ℕ) (at : ℕ) → length ns ≡ 0 → at < length out → set out at 10 ≡ over at (rowText ns) out
+put-nil ns out at h l = rw (row-nil ns h) (over-one out at 10 l)
 
 pub row-some : (ns : List ℕ) → 0 < length (rowText ns)
 unfolding rowText
@@ -102,8 +100,8 @@ module _ (ns out new : List ℕ) (i a b e : ℕ) (h : i < length ns) (r : a + le
       over-rest out new (numeral (getD ns i 0) ++ (e ∷ [])) (rest (drop (i + 1) ns)) a b (omega (arith, size)) (omega (arith, rest-length ns i h)) o
       ∙ ap (λ t. over a t out) (ap (λ d. (numeral (getD ns i 0) ++ (d ∷ [])) ++ rest (drop (i + 1) ns)) q ∙ sym (rest-turn ns i h))
 
-pub put-end : (ns out : List ℕ) (i a : ℕ) → length ns ≤ i → (a + length (rest (drop i ns)) ≡ a) × (over a (rest (drop i ns)) out ≡ out)
-put-end ns out i a h = rw (rest-end ns i h) (add-zero a, sym (over-none out a))
+pub put-end : (ns out : List ℕ) (i a : ℕ) → length ns ≤ i → over a (rest (drop i ns)) out ≡ out
+put-end ns out i a h = rw (rest-end ns i h) (sym (over-none out a))
 
 -- ---- how long a row is
 

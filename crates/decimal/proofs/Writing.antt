@@ -14,7 +14,7 @@ use borrow.Author.Tests.{le-leb, lt-leb, leb-true, leb-false}
 use Rattle.base.proofs.Order.{le-or-lt}
 use Rattle.base.specs.Part.{over}
 use Rattle.base.proofs.Part.{over-length, over-one, over-then}
-use Rattle.decimal.specs.Writing.{fits, putAnswer, putBytes, Puts}
+use Rattle.decimal.specs.Writing.{endIn, fits, putAnswer, putBytes, Puts}
 use Rattle.decimal.specs.declared.Put.{Put}
 use Rattle.decimal.specs.declared.Put.the-variants.{Next, NoRoom}
 
@@ -26,6 +26,36 @@ room-leb n at k h =
     (λ (l : at + k ≤ n). le-leb k (n - at) (omega arith) ∙ sym (le-leb (at + k) n l))
     (λ (l : n < at + k). lt-leb k (n - at) (omega arith) ∙ sym (lt-leb (at + k) n l))
     (le-or-lt (at + k) n)
+
+-- where k bytes end: there is room, there is none; one text behind another
+pub end-done : (at k size : ℕ) → at + k ≤ size → endIn at k size ≡ Next (at + k)
+end-done at k size h = rw (le-leb (at + k) size h)
+
+pub end-none : (at k size : ℕ) → size < at + k → endIn at k size ≡ NoRoom
+end-none at k size h = rw (lt-leb (at + k) size h)
+
+pub end-then : (at n size : ℕ) (a b : List ℕ) → n ≡ at + length a → endIn n (length b) size ≡ endIn at (length (a ++ b)) size
+end-then at n size a b e = let m : n + length b ≡ at + length (a ++ b) = omega (arith, length-append a b) in rw m
+
+pub end-first : (at size : ℕ) (a b : List ℕ) → size < at + length a → endIn at (length (a ++ b)) size ≡ NoRoom
+end-first at size a b h = end-none at (length (a ++ b)) size (omega (arith, length-append a b))
+
+-- and what the answers mean
+pub end-next : (at k n size : ℕ) → endIn at k size ≡ Next n → (n ≡ at + k) × (n ≤ size)
+end-next at k n size e = by (leb (at + k) size) refl e
+  where
+    by : (c : Bool) → leb (at + k) size ≡ c → cond c (Next (at + k)) NoRoom ≡ Next n → (n ≡ at + k) × (n ≤ size)
+    by true u f =
+        let p : n ≡ at + k = cc in
+        (p, omega (arith, leb-true (at + k) size u))
+    by false u f = let z : _≡_ {A = ℕ} 0 1 = cc in absurd (omega arith)
+
+pub end-full : (at k size : ℕ) → endIn at k size ≡ NoRoom → size < at + k
+end-full at k size e = by (leb (at + k) size) refl e
+  where
+    by : (c : Bool) → leb (at + k) size ≡ c → cond c (Next (at + k)) NoRoom ≡ NoRoom → size < at + k
+    by true u f = let z : _≡_ {A = ℕ} 0 1 = cc in absurd (omega arith)
+    by false u f = leb-false (at + k) size u
 
 -- ---- texts behind one another
 

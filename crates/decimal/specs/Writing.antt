@@ -13,8 +13,12 @@ use Rattle.decimal.specs.declared.Put.the-variants.{Next, NoRoom}
 abbrev pub fits : ℕ → List ℕ → List ℕ → Bool
 fits at text out = leb (at + length text) (length out)
 
+-- where k bytes end that are put into so many bytes from the place on
+abbrev pub endIn : ℕ → ℕ → ℕ → Put
+endIn at k size = cond (leb (at + k) size) (Next (at + k)) NoRoom
+
 unfoldable pub putAnswer : ℕ → List ℕ → List ℕ → Put
-putAnswer at text out = cond (fits at text out) (Next (at + length text)) NoRoom
+putAnswer at text out = endIn at (length text) (length out)
 
 unfoldable pub putBytes : ℕ → List ℕ → List ℕ → List ℕ
 putBytes at text out = cond (fits at text out) (over at text out) out

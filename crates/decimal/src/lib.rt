@@ -10,7 +10,7 @@ ghost use Rattle.base.specs.Sign.{sizeOf};
 ghost use Rattle.decimal.specs.Numerals.{lastByte, tenth, numeral};
 ghost use Rattle.decimal.specs.Signed.{signedNumeral};
 ghost use Rattle.decimal.specs.Rows.{rowText, endByte};
-ghost use Rattle.decimal.specs.Writing.{Puts};
+ghost use Rattle.decimal.specs.Writing.{endIn, Puts};
 
 // The place behind what was put, or that it has no room: then nothing is altered.
 pub enum Put {
@@ -122,24 +122,38 @@ pub fn put_signed(out: &mut [u8], at: usize, v: i64) -> Put
 
 // ---- Rows
 
-// Whether the row of these numbers takes no more bytes than there is room.
-fn row_fits(numbers: &[u64], room: usize) -> bool
-    ensures { λ r. ⌜ r ≡ leb (length (rowText (now (numbers .entry)))) room ⌝ }
+// Where the row of these numbers ends that is put into so many bytes from a place on.
+fn numbers_end(size: usize, at: usize, numbers: &[u64]) -> Put
+    requires { ⌜ at ≤ size ⌝ }
+    ensures { λ r. ⌜ r ≡ endIn at (length (rowText (now (numbers .entry)))) size ⌝ }
 {
     if numbers.len() == 0 {
-        return 0 < room;
+        if at < size {
+            return Put::Next(at + 1);
+        }
+        return Put::NoRoom;
     }
-    let mut left = room;
+    let mut a = at;
     let mut i = 0;
     while i < numbers.len() {
         let k = digits(numbers[i]);
-        if left <= k {
-            return false;
+        if size - a <= k {
+            return Put::NoRoom;
         }
-        left -= k + 1;
+        a += k + 1;
         i += 1;
     }
-    true
+    Put::Next(a)
+}
+
+// Where a row ends that begins with these bytes and is put into so many bytes from a place on: what `put_row` answers, with nothing put.
+pub fn row_end(size: usize, at: usize, first: &[u8], numbers: &[u64]) -> Put
+    ensures { λ r. ⌜ r ≡ endIn at (length (now (first .entry) ++ rowText (now (numbers .entry)))) size ⌝ }
+{
+    if has_room(size, at, first.len()) {
+        return numbers_end(size, at + first.len(), numbers);
+    }
+    Put::NoRoom
 }
 
 // The byte behind a number that so many follow: a space before the next one, or the line feed.
@@ -163,14 +177,14 @@ fn put_ended(out: &mut [u8], at: usize, n: u64, end: u8) -> usize
     at + (k + 1)
 }
 
-// Puts the row of these numbers; the place behind it.
-fn put_numbers(out: &mut [u8], at: usize, numbers: &[u64]) -> usize
+// Puts the row of these numbers.
+fn put_numbers(out: &mut [u8], at: usize, numbers: &[u64])
     requires { ⌜ at + length (rowText (now numbers)) ≤ length (now out) ⌝ }
-    ensures { λ r. ⌜ (r ≡ at + length (rowText (now (numbers .entry)))) × (now (out .exit) ≡ over at (rowText (now (numbers .entry))) (now (out .entry))) ⌝ }
+    ensures { λ _. ⌜ now (out .exit) ≡ over at (rowText (now (numbers .entry))) (now (out .entry)) ⌝ }
 {
     if numbers.len() == 0 {
         out[at] = b'\n';
-        return at + 1;
+        return;
     }
     let mut a = at;
     let mut i = 0;
@@ -179,7 +193,6 @@ fn put_numbers(out: &mut [u8], at: usize, numbers: &[u64]) -> usize
         a = put_ended(out, a, numbers[i], end);
         i += 1;
     }
-    a
 }
 
 // Puts the bytes of a text.
@@ -198,12 +211,10 @@ fn put_text(out: &mut [u8], at: usize, text: &[u8])
 pub fn put_row(out: &mut [u8], at: usize, first: &[u8], numbers: &[u64]) -> Put
     ensures { λ r. ⌜ Puts at (now (first .entry) ++ rowText (now (numbers .entry))) (now (out .entry)) r (now (out .exit)) ⌝ }
 {
-    if has_room(out.len(), at, first.len()) {
-        let a = at + first.len();
-        if row_fits(numbers, out.len() - a) {
-            put_text(out, at, first);
-            return Put::Next(put_numbers(out, a, numbers));
-        }
-    }
-    Put::NoRoom
+    let Put::Next(end) = row_end(out.len(), at, first, numbers) else {
+        return Put::NoRoom;
+    };
+    put_text(out, at, first);
+    put_numbers(out, at + first.len(), numbers);
+    Put::Next(end)
 }

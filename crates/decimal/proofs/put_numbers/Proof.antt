@@ -23,16 +23,13 @@ abbrev μ-loop : tie.MeasureT-loop
 slice-write-out : tie.Need-slice-write-out Inv-loop μ-loop
 slice-write-out c = omega (arith, row-some (c .before .before .before .args .numbers .now), c .before .before .before .pre)
 
-add-result : tie.Need-add-result Inv-loop μ-loop
-add-result c = search needs
-
 same-length : tie.Need-same-length Inv-loop μ-loop
 same-length c = search needs
 
 returns : tie.Need-returns Inv-loop μ-loop
 returns c =
     let o = c .before .before .before in
-    put-nil _ _ _ (c .if1 .taken) (omega (arith, row-some (o .args .numbers .now), o .pre))
+    put-nil (o .args .numbers .now) (o .args .out .now) (o .args .at) (c .if1 .taken) (omega (arith, row-some (o .args .numbers .now), o .pre))
 
 loop-holds : tie.Need-loop-holds Inv-loop μ-loop
 loop-holds c =
@@ -87,7 +84,7 @@ returns-2 : tie.Need-returns-2 Inv-loop μ-loop
 returns-2 c =
     let l = c .before .loop in
     let e = put-end (c .before .before .before .before .before .args .numbers .now) (l .out) (l .i) (l .a) (c .loop-test .left) in
-    (sym (e .0) ∙ l .inv .1, sym (e .1) ∙ l .inv .2)
+    sym e ∙ l .inv .2
 
 pub put-numbers-spec : {M : Type 1} → statement M
 put-numbers-spec =
@@ -96,7 +93,6 @@ put-numbers-spec =
     Inv-loop
     μ-loop
     slice-write-out
-    add-result
     same-length
     returns
     loop-holds

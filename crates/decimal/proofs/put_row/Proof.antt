@@ -1,84 +1,67 @@
--- `decimal::put_row` meets its contract: the row has room behind its first bytes exactly if both have room together.
+-- `decimal::put_row` meets its contract: where the row has an end, its first bytes and its numbers have room.
 -- Assumes nothing.
-use mathlib.Core.Path.{refl, sym, _∙_, ap}
-use Prim.Native.Nat.{_+_, _-_, _≤_, _<_}
-use native.Mathlib.Omega.{arith}
-use lib.ListN.{length, length-append}
 use borrow.Author.Needs.{needs}
-use borrow.Author.Tests.{leb-true, leb-false}
+use native.Mathlib.Omega.{arith}
+use mathlib.Core.Path.{_≡_, refl, sym, _∙_, ap}
+use mathlib.Core.List.{_++_}
+use Prim.Native.Nat.{_+_, _≤_}
+use lib.ListN.{length, length-append}
 use Rattle.base.proofs.Part.{over-length}
 use Rattle.decimal.specs.Rows.{rowText}
-use Rattle.decimal.proofs.Writing.{puts-joined, puts-none}
+use Rattle.decimal.proofs.Writing.{end-next, end-full, puts-joined, puts-none}
 use Rattle.decimal.proofs.put_row.Statement.{statement}
 use Rattle.decimal.proofs.put_row.Tie as tie
 
--- the first bytes have room; and the row behind them
-room : (c : tie.Then1) → (let a = c .before .before .before .before .before .args in a .at + length (a .first .now) ≤ length (a .out .now))
-room c = leb-true _ _ (sym (c .before .has-room .ensures) ∙ c .if1 .taken)
+row-end-requires : tie.Need-row-end-requires
+row-end-requires c κs = search needs
 
-row-room : (c : tie.Then2) → (let a = c .before .before .before .before .before .before .before .args in length (rowText (a .numbers .now)) ≤ length (a .out .now) - (a .at + length (a .first .now)))
-row-room c = leb-true _ _ (sym (c .before .row-fits .ensures) ∙ c .if2 .taken)
+enum-known-end : tie.Need-enum-known-end
+enum-known-end c = search needs
 
-no-room : (c : tie.Else1) → (let a = c .before .before .before .before .before .args in length (a .out .now) < a .at + length (a .first .now))
-no-room c = leb-false _ _ (sym (c .before .has-room .ensures) ∙ c .if1 .left)
+enum-told : tie.Need-enum-told
+enum-told c = search needs
 
-no-row-room : (c : tie.Else2) → (let a = c .before .before .before .before .before .before .before .args in length (a .out .now) - (a .at + length (a .first .now)) < length (rowText (a .numbers .now)))
-no-row-room c = leb-false _ _ (sym (c .before .row-fits .ensures) ∙ c .if2 .left)
+returns : tie.Need-returns
+returns c = puts-none _ _ _ (end-full _ _ _ (sym (c .before .before .row-end .ensures) ∙ c .enum-told .given .1))
 
-whole : (c : tie.Then2) → (let a = c .before .before .before .before .before .before .before .args in a .at + length (a .first .now) + length (rowText (a .numbers .now)) ≤ length (a .out .now))
-whole c = omega (arith, room (c .before .before), row-room c)
-
-has-room-requires : tie.Need-has-room-requires
-has-room-requires c κs = search needs
-
-add-a : tie.Need-add-a
-add-a c = omega (arith, room c)
-
-sub-row-fits : tie.Need-sub-row-fits
-sub-row-fits c = room c
-
-row-fits-requires : tie.Need-row-fits-requires
-row-fits-requires c κs = search needs
+room : (c : tie.After-known-told) → (let a = c .before .before .before .before .before .before .before .args in let n = c .before .end .given .0 .0 in (n ≡ a .at + length (a .first .now) + length (rowText (a .numbers .now))) × (n ≤ length (a .out .now)))
+room c =
+    let a = c .before .before .before .before .before .before .before .args in
+    let e = end-next (a .at) (length (a .first .now ++ rowText (a .numbers .now))) (c .before .end .given .0 .0) (length (a .out .now)) (sym (c .before .before .before .row-end .ensures) ∙ c .before .end .given .1) in
+    (omega (arith, e .0, length-append (a .first .now) (rowText (a .numbers .now))), e .1)
 
 put-text-requires : tie.Need-put-text-requires
-put-text-requires c κs = room (c .before .before .before)
+put-text-requires c κs = let r = room (c .before) in omega (arith, r .0, r .1)
+
+add-put-numbers : tie.Need-add-put-numbers
+add-put-numbers c = let r = room (c .before .before .before .before .before) in omega (arith, r .0, r .1)
 
 put-numbers-requires : tie.Need-put-numbers-requires
 put-numbers-requires c κs =
-    let o = c .before .before .before .before .before .before .before .before .before .before .before .before in
-    let l = over-length (o .args .out .now) (o .args .first .now) (o .args .at) (room (c .before .before .before .before .before .before .before)) in
-    omega (arith, ap length (c .before .before .before .put-text .ensures), l, whole (c .before .before .before .before .before))
+    let a = c .before .before .before .before .before .before .before .before .before .before .before .before .args in
+    let r = room (c .before .before .before .before .before) in
+    let l = over-length (a .out .now) (a .first .now) (a .at) (omega (arith, r .0, r .1)) in
+    omega (arith, ap length (c .before .before .before .put-text .ensures), l, r .0, r .1)
 
 same-length : tie.Need-same-length
 same-length c = search needs
 
-returns : tie.Need-returns
-returns c =
-    let a = c .before .before .before .before .before .before .before .before .before .before .before .before .before .before .before .args in
-    let p = c .before .before .put-numbers .ensures in
-    puts-joined _ _ _ (a .first .now) (rowText (a .numbers .now)) _ _ _ refl (p .0) (whole (c .before .before .before .before .before .before .before .before)) (c .before .before .before .before .before .before .put-text .ensures) (p .1)
-
 returns-2 : tie.Need-returns-2
 returns-2 c =
-    let a = c .before .before .before .before .before .before .before .args in
-    puts-none _ _ _ (omega (arith, no-row-room c, room (c .before .before), length-append (a .first .now) (rowText (a .numbers .now))))
-
-returns-3 : tie.Need-returns-3
-returns-3 c =
-    let a = c .before .before .before .before .before .args in
-    puts-none _ _ _ (omega (arith, no-room c, length-append (a .first .now) (rowText (a .numbers .now))))
+    let a = c .before .before .before .before .before .before .before .before .before .before .before .before .before .before .before .args in
+    let r = room (c .before .before .before .before .before .before .before .before) in
+    puts-joined _ _ _ (a .first .now) (rowText (a .numbers .now)) _ _ _ refl (omega (arith, r .0)) (omega (arith, r .0, r .1)) (c .before .before .before .before .before .before .put-text .ensures) (c .before .before .put-numbers .ensures)
 
 pub put-row-spec : {M : Type 1} → statement M
 put-row-spec =
     tie.close
     (tie.spec
-    has-room-requires
-    add-a
-    sub-row-fits
-    row-fits-requires
+    row-end-requires
+    enum-known-end
+    enum-told
+    returns
     put-text-requires
+    add-put-numbers
     put-numbers-requires
     same-length
-    returns
-    returns-2
-    returns-3)
+    returns-2)
