@@ -1,0 +1,163 @@
+-- The walk: a step on, a step that stays, spots that go forward; and that every text has one number of records at which the walk stops.
+-- Assumes nothing.
+use mathlib.Core.Path.{_≡_, refl, sym, _∙_, ap, subst}
+use mathlib.Core.Bool.{Bool, true, false, cond}
+use mathlib.Core.List.{List}
+use mathlib.Core.Logic.{_⊎_, inl, inr, ⊎-elim}
+use Prim.Native.Nat.{ℕ, zero, suc, _+_, _*_, _<_, _≤_}
+use native.Mathlib.Omega.{arith}
+use lib.Dec.{leb, ltb, eqb}
+use lib.ListN.{length, drop}
+use Rattle.base.proofs.Order.{le-or-lt}
+use Rattle.line.specs.Lines.{feeds, reach}
+use Rattle.count.specs.Tally.{recordLines}
+use Rattle.count.specs.Rules.{releaseOf, rulingOf}
+use Rattle.count.specs.declared.Release.{Release}
+use Rattle.count.specs.declared.Release.the-variants.{Five, Other, Filled}
+use Rattle.count.specs.declared.Ruling.{Ruling}
+use Rattle.count.specs.declared.Ruling.the-variants.{Kept, Broken}
+use Rattle.place.specs.declared.Placing.{Placing}
+use Rattle.place.specs.declared.Placing.the-variants.{Placed, End, Beyond, TooFewLines, Misformed, OtherRelease, FilledVacant, BrokenRule}
+use Rattle.place.specs.Index.{Indexed, counts, misformed, readIndex}
+use Rattle.place.specs.Placing.{Located, located, refused, locate, locateIndex, locateRelease, placingOf, countsAt}
+use Rattle.place.specs.Walk.{onward, spot, IsRecord, Stops}
+use Rattle.place.proofs.Placed.{located-range, located-long}
+
+-- ---- what is refused is neither 0 nor 7, and the group that 6 names is the lowest one that some counts fill
+
+pub record Fills (g : ℕ) : Type 0 where
+  pub ns : List ℕ
+  pub release : releaseOf ns ≡ Filled g
+
+abbrev pub Stopping : Placing → Type 0
+Stopping (Placed n) = ⊥
+Stopping End = Unit {0}
+Stopping Beyond = Unit {0}
+Stopping TooFewLines = Unit {0}
+Stopping Misformed = Unit {0}
+Stopping OtherRelease = Unit {0}
+Stopping (FilledVacant g) = Fills g
+Stopping (BrokenRule g n) = ⊥
+
+no-record : {A : Type 0} {p : Placing} {n : ℕ} {ns : List ℕ} → located n ns ≡ refused p → A
+no-record e = let z : _≡_ {A = ℕ} 0 1 = cc in absurd (omega arith)
+
+same-refusal : (p q : Placing) → refused q ≡ refused p → Stopping q → Stopping p
+same-refusal p q e h = let f : q ≡ p = cc in subst Stopping f h
+
+module _ (s : List ℕ) (at : ℕ) (p : Placing) where
+  xs : List ℕ
+  xs = drop at s
+
+  by-lines : (ns : List ℕ) (t : Bool) → cond t (located (at + reach xs (recordLines ns)) ns) (refused TooFewLines) ≡ refused p → Stopping p
+  by-lines ns true e = no-record e
+  by-lines ns false e = same-refusal p TooFewLines e tt
+
+  by-release : (ns : List ℕ) (r : Release) → releaseOf ns ≡ r → locateRelease xs at ns r ≡ refused p → Stopping p
+  by-release ns Five f e = by-lines ns (leb (recordLines ns) (feeds xs)) e
+  by-release ns Other f e = same-refusal p OtherRelease e tt
+  by-release ns (Filled g) f e = same-refusal p (FilledVacant g) e record { ns = ns; release = f }
+
+  by-index : (i : Indexed) → locateIndex xs at i ≡ refused p → Stopping p
+  by-index (counts ns) e = by-release ns (releaseOf ns) refl e
+  by-index misformed e = same-refusal p Misformed e tt
+
+  pub refused-stopping : locate s at ≡ refused p → Stopping p
+  unfolding locate xs
+  refused-stopping e = by (ltb (length s) at) (eqb (length s) at) (leb 2 (feeds xs)) e
+    where
+      by : (a b c : Bool) → cond a (refused Beyond) (cond b (refused End) (cond c (locateIndex xs at (readIndex xs)) (refused TooFewLines))) ≡ refused p → Stopping p
+      by true b c e = same-refusal p Beyond e tt
+      by false true c e = same-refusal p End e tt
+      by false false true e = by-index (readIndex xs) e
+      by false false false e = same-refusal p TooFewLines e tt
+
+-- ---- steps
+
+module _ (s : List ℕ) where
+  pub spot-more : (k n : ℕ) (ns : List ℕ) → locate s (spot s k) ≡ located n ns → spot s (suc k) ≡ n
+  unfolding spot
+  spot-more k n ns e = rw e
+
+  pub spot-stays : (k : ℕ) (p : Placing) → locate s (spot s k) ≡ refused p → spot s (suc k) ≡ spot s k
+  unfolding spot
+  spot-stays k p e = rw e
+
+  pub spot-forward : (k : ℕ) → spot s k ≤ spot s (suc k)
+  spot-forward k = by (locate s (spot s k)) refl
+    where
+      by : (l : Located) → locate s (spot s k) ≡ l → spot s k ≤ spot s (suc k)
+      by (located n ns) e = omega (arith, spot-more k n ns e, located-long s (spot s k) n ns e)
+      by (refused p) e = omega (arith, spot-stays k p e)
+
+  pub spot-inside : (k : ℕ) → spot s k ≤ length s
+  unfolding spot
+  spot-inside zero = omega arith
+  spot-inside (suc k) = by (locate s (spot s k)) refl (spot-inside k)
+    where
+      by : (l : Located) → locate s (spot s k) ≡ l → spot s k ≤ length s → onward (spot s k) l ≤ length s
+      by (located n ns) e h = located-range s (spot s k) n ns e
+      by (refused p) e h = h
+
+  -- ---- so many records take 244 bytes each at least
+
+  abbrev Records : ℕ → Type 0
+  Records many = (k : ℕ) → k < many → IsRecord s (spot s k)
+
+  pub records-long : (many : ℕ) → Records many → 244 * many ≤ spot s many
+  records-long zero h = omega arith
+  records-long (suc k) h =
+      let r = h k (omega arith) in
+      omega (arith, records-long k (λ j l. h j (omega arith)), spot-more k (r .next) (r .ns) (r .is), located-long s (spot s k) (r .next) (r .ns) (r .is))
+
+  pub records-few : (many : ℕ) → Records many → 244 * many ≤ length s
+  records-few many h = omega (arith, records-long many h, spot-inside many)
+
+  pub stops-few : (many : ℕ) (p : Placing) → Stops s many p → 244 * many ≤ length s
+  stops-few many p h = records-few many (h .each)
+
+  -- ---- where the walk stops, by what stands at a spot
+
+  module _ (many : ℕ) (p : Placing) (h : Stops s many p) (k : ℕ) (l : k ≤ many) where
+    pub stops-later : (n : ℕ) (ns : List ℕ) → locate s (spot s k) ≡ located n ns → k < many
+    stops-later n ns e = ⊎-elim (λ (m : many ≤ k). absurd (here (omega arith))) (λ (m : k < many). m) (le-or-lt many k)
+      where
+        here : k ≡ many → ⊥
+        here f = no-record (sym (rw f at e) ∙ h .last)
+
+    pub stops-here : (q : Placing) → locate s (spot s k) ≡ refused q → k ≡ many
+    stops-here q e = ⊎-elim (λ (m : many ≤ k). omega arith) (λ (m : k < many). absurd (no-record (sym (h .each k m .is) ∙ e))) (le-or-lt many k)
+
+  -- ---- there is one such number
+
+  pub stops-once : (m n : ℕ) (p q : Placing) → Stops s m p → Stops s n q → (m ≡ n) × (p ≡ q)
+  stops-once m n p q g h = (same, answer same)
+    where
+      same : m ≡ n
+      same = ⊎-elim (λ (l : m ≤ n). stops-here n q h m l p (g .last)) (λ (l : n < m). absurd (omega (arith, stops-here m p g n (omega arith) q (h .last)))) (le-or-lt m n)
+
+      answer : m ≡ n → p ≡ q
+      answer e = let f : refused p ≡ refused q = sym (g .last) ∙ rw e (h .last) in cc
+
+pub record HasStop (s : List ℕ) : Type 0 where
+  pub many : ℕ
+  pub answer : Placing
+  pub stops : Stops s many answer
+
+-- from k records on: the next spot is where it stops, or one record more
+stop-from : (s : List ℕ) (left k : ℕ) → length s < k + left → ((j : ℕ) → j < k → IsRecord s (spot s j)) → HasStop s
+stop-from s zero k h r = absurd (omega (arith, records-few s k r))
+stop-from s (suc left) k h r = by (locate s (spot s k)) refl (stop-from s left (suc k) (omega arith))
+  where
+    more : (n : ℕ) (ns : List ℕ) → locate s (spot s k) ≡ located n ns → (j : ℕ) → j < suc k → IsRecord s (spot s j)
+    more n ns e j l = ⊎-elim (λ (m : k ≤ j). here (omega arith)) (λ (m : j < k). r j m) (le-or-lt k j)
+      where
+        here : k ≡ j → IsRecord s (spot s j)
+        here f = let q : IsRecord s (spot s k) = record { next = n; ns = ns; is = e } in rw f at q
+
+    by : (l : Located) → locate s (spot s k) ≡ l → (((j : ℕ) → j < suc k → IsRecord s (spot s j)) → HasStop s) → HasStop s
+    by (located n ns) e go = go (more n ns e)
+    by (refused p) e go = record { many = k; answer = p; stops = record { each = r; last = e } }
+
+pub stops-some : (s : List ℕ) → HasStop s
+stops-some s = stop-from s (suc (length s)) 0 (omega arith) (λ j l. absurd (omega arith))
