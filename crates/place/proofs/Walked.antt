@@ -75,6 +75,10 @@ module _ (s : List ℕ) (at : ℕ) (p : Placing) where
 -- ---- steps
 
 module _ (s : List ℕ) where
+  pub spot-start : 0 ≡ spot s 0
+  unfolding spot
+  spot-start = refl
+
   pub spot-more : (k n : ℕ) (ns : List ℕ) → locate s (spot s k) ≡ located n ns → spot s (suc k) ≡ n
   unfolding spot
   spot-more k n ns e = rw e

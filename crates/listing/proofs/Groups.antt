@@ -1,0 +1,96 @@
+-- The groups with a nonzero count, group by group, and how many they may be; and how large the groups are that replies name.
+-- Assumes nothing.
+use mathlib.Core.Path.{_≡_, refl, sym, _∙_, ap}
+use mathlib.Core.Bool.{Bool, true, false, cond}
+use mathlib.Core.List.{List, [], _∷_, map}
+use mathlib.Core.Logic.{_⊎_, ⊎-elim}
+use Prim.Native.Nat.{ℕ, zero, suc, _+_, _-_, _<_, _≤_}
+use native.Mathlib.Omega.{arith}
+use native.Mathlib.Nat.{zero-add, add-zero}
+use lib.ListN.{length}
+use lib.Dec.{T, eqb, leb, leb→le}
+use borrow.Author.Tests.{eq-eqb, ne-eqb}
+use Rattle.base.specs.Every.{every, upFrom}
+use Rattle.base.specs.Every
+use Rattle.base.specs.Sum
+use Rattle.base.specs.Sum.{sum}
+use Rattle.base.proofs.Choice.{and-left, and-right}
+use Rattle.base.proofs.UpFrom.{length-up, up-more, up-done}
+use Rattle.count.specs.Tally.{countOf}
+use Rattle.count.specs.Rules
+use Rattle.count.specs.Rules.{Rule, rules, rulingOf, releaseOf, filledAmong}
+use Rattle.count.specs.declared.Release.{Release}
+use Rattle.count.specs.declared.Release.the-variants.{Five, Other, Filled}
+use Rattle.count.specs.declared.Ruling.the-variants.{Broken}
+use Rattle.count.proofs.Rulings
+use Rattle.count.proofs.Rulings.{Breaks, ruling-says}
+use Rattle.listing.specs.Rows.{filled, filledGroups}
+
+module _ (ns : List ℕ) where
+  -- the groups from g on
+  abbrev pub filledFrom : ℕ → ℕ
+  filledFrom g = sum (map (filled ns) (upFrom g (61 - g)))
+
+  pub filled-all : filledFrom 1 ≡ filledGroups ns
+  unfolding filledGroups
+  filled-all = refl
+
+  filled-step : (g : ℕ) → g ≤ 60 → filledFrom g ≡ filled ns g + filledFrom (g + 1)
+  unfolding Sum.sum
+  filled-step g h = rw (up-more g 60 h)
+
+  pub filled-more : (g many : ℕ) → g ≤ 60 → (countOf ns g ≡ 0 → ⊥) → many + filledFrom g ≡ many + 1 + filledFrom (g + 1)
+  filled-more g many h n = let e : filled ns g ≡ 1 = rw (ne-eqb (countOf ns g) 0 n) in omega (arith, filled-step g h)
+
+  pub filled-passed : (g many : ℕ) → g ≤ 60 → countOf ns g ≡ 0 → many + filledFrom g ≡ many + filledFrom (g + 1)
+  filled-passed g many h n = let e : filled ns g ≡ 0 = rw (eq-eqb (countOf ns g) 0 n) in omega (arith, filled-step g h)
+
+  pub filled-done : (g many : ℕ) → 60 < g → many + filledFrom g ≡ many
+  unfolding Sum.sum
+  filled-done g many h = rw (up-done g 60 h) (add-zero many)
+
+  -- no more than there are groups
+  among : (gs : List ℕ) → sum (map (filled ns) gs) ≤ length gs
+  unfolding Sum.sum
+  among [] = omega arith
+  among (g ∷ gs) = by (eqb (countOf ns g) 0) (among gs)
+    where
+      by : (b : Bool) → sum (map (filled ns) gs) ≤ length gs → cond b 0 1 + sum (map (filled ns) gs) ≤ suc (length gs)
+      by true h = omega arith
+      by false h = omega arith
+
+  pub filled-within : filledGroups ns ≤ 60
+  unfolding filledGroups
+  filled-within = omega (arith, among (upFrom 1 60), length-up 1 60)
+
+-- ---- the group that reply 7 blames is at most 60, the group that reply 6 names at most 79
+
+breaks-within : (rs : List Rule) (m g : ℕ) → T (every (λ r. leb (r .blamed) m) rs) → Breaks rs g → g ≤ m
+unfolding Rulings.Breaks
+breaks-within [] m g t b = absurd b
+breaks-within (r ∷ rs) m g t b =
+    ⊎-elim
+    (λ h. omega (arith, h .1, leb→le (r .blamed) m (and-left (leb (r .blamed) m) (every (λ r. leb (r .blamed) m) rs) t)))
+    (λ h. breaks-within rs m g (and-right (leb (r .blamed) m) (every (λ r. leb (r .blamed) m) rs) t) h)
+    b
+
+pub blamed-within : (ns : List ℕ) (g : ℕ) → rulingOf ns ≡ Broken g → g ≤ 60
+unfolding Rules.headRules Rules.sets Rules.letterRules
+blamed-within ns g e = breaks-within (rules ns) 60 g tt (ruling-says ns (Broken g) .0 e .0)
+
+filled-among : (ns gs : List ℕ) (m g : ℕ) → T (every (λ h. leb h m) gs) → filledAmong ns gs ≡ Filled g → g ≤ m
+unfolding Rules.filledAmong
+filled-among ns [] m g t e = let z : _≡_ {A = ℕ} 0 1 = cc in absurd (omega arith)
+filled-among ns (h ∷ gs) m g t e = by (eqb (countOf ns h) 0) e (filled-among ns gs m g (and-right (leb h m) (every (λ h. leb h m) gs) t))
+  where
+    by : (b : Bool) → cond b (filledAmong ns gs) (Filled h) ≡ Filled g → (filledAmong ns gs ≡ Filled g → g ≤ m) → g ≤ m
+    by true f go = go f
+    by false f go = let p : h ≡ g = cc in omega (arith, leb→le h m (and-left (leb h m) (every (λ h. leb h m) gs) t))
+
+pub vacant-within : (ns : List ℕ) (g : ℕ) → releaseOf ns ≡ Filled g → g ≤ 79
+unfolding Rules.releaseOf Every.upFrom
+vacant-within ns g e = by (eqb (countOf ns 80) 5) e
+  where
+    by : (b : Bool) → cond b (filledAmong ns (upFrom 61 19)) Other ≡ Filled g → g ≤ 79
+    by true f = filled-among ns (upFrom 61 19) 79 g tt f
+    by false f = let z : _≡_ {A = ℕ} 0 1 = cc in absurd (omega arith)

@@ -1,0 +1,16 @@
+-- `listing::end_row` meets its contract.
+-- Assumes nothing.
+use borrow.Author.Needs.{needs}
+use Rattle.listing.specs.Rows.{endRow}
+use Rattle.listing.proofs.end_row.Statement.{statement}
+use Rattle.listing.proofs.end_row.Tie as tie
+
+reply-of-requires : tie.Need-reply-of-requires
+reply-of-requires c κs = search needs
+
+returns : tie.Need-returns
+unfolding endRow
+returns c = rw (c .reply-of .ensures .0, c .reply-of .ensures .2)
+
+pub end-row-spec : {M : Type 1} → statement M
+end-row-spec = tie.close (tie.spec reply-of-requires returns)

@@ -1,0 +1,25 @@
+-- `listing::record_row` meets its contract: each number by the function that gives it.
+-- Assumes nothing.
+use borrow.Author.Needs.{needs}
+use mathlib.Core.Path.{_∙_}
+use Rattle.count.proofs.Tallied.{all-lines}
+use Rattle.listing.specs.Rows.{recordRow}
+use Rattle.listing.proofs.record_row.Statement.{statement}
+use Rattle.listing.proofs.record_row.Tie as tie
+
+reply-of-requires : tie.Need-reply-of-requires
+reply-of-requires c κs = search needs
+
+filled-groups-requires : tie.Need-filled-groups-requires
+filled-groups-requires c κs = search needs
+
+add-up-requires : tie.Need-add-up-requires
+add-up-requires c κs = search needs
+
+returns : tie.Need-returns
+unfolding recordRow
+returns c = rw (c .before .before .reply-of .ensures .1, c .before .before .reply-of .ensures .0, c .before .before .reply-of .ensures .2, c .before .filled-groups .ensures, c .add-up .ensures .lines-are ∙ all-lines _)
+
+pub record-row-spec : {M : Type 1} → statement M
+record-row-spec =
+    tie.close (tie.spec reply-of-requires filled-groups-requires add-up-requires returns)

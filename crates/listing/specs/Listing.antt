@@ -1,0 +1,37 @@
+-- The listing of a text: the rows of its records, one behind the other, and then the end row. "Numbers are decimal, one space stands
+-- between two, and a line feed ends each line" is decimal's `rowText`.
+use mathlib.Core.Bool.{cond}
+use mathlib.Core.List.{List, [], _∷_, _++_}
+use Prim.Native.Nat.{ℕ, zero, suc}
+use lib.Dec.{leb}
+use lib.ListN.{length}
+use Rattle.base.specs.Quoted.{bytes}
+use Rattle.decimal.specs.Rows.{rowText}
+use Rattle.place.specs.Placing.{placingOf, countsAt}
+use Rattle.place.specs.Walk.{spot}
+use Rattle.listing.specs.Rows.{recordRow, endRow}
+use Rattle.listing.specs.Records.{recordsIn}
+
+-- the line of the record at the k-th spot, whose number is one more: spots count from 0
+unfoldable pub rowAt : List ℕ → ℕ → List ℕ
+rowAt s k = rowText (recordRow (suc k) (spot s k) (placingOf s (spot s k)) (countsAt s (spot s k)))
+
+-- so many lines, from that of the k-th spot on
+unfoldable pub rowsFrom : List ℕ → ℕ → ℕ → List ℕ
+rowsFrom s k zero = []
+rowsFrom s k (suc left) = rowAt s k ++ rowsFrom s (suc k) left
+
+-- the last line, behind so many records
+unfoldable pub endAt : List ℕ → ℕ → List ℕ
+endAt s many = bytes "end " ++ rowText (endRow many (spot s many) (placingOf s (spot s many)))
+
+-- the listing of a walk of so many records
+unfoldable pub listingOf : List ℕ → ℕ → List ℕ
+listingOf s many = rowsFrom s 0 many ++ endAt s many
+
+unfoldable pub listing : List ℕ → List ℕ
+listing s = listingOf s (recordsIn s)
+
+-- "The listing program reads standard input, at most 65,536 bytes .. Longer input gives only `end 0 0 11 0`."
+unfoldable pub printed : List ℕ → List ℕ
+printed s = cond (leb (length s) 65536) (listing s) (bytes "end " ++ rowText (0 ∷ 0 ∷ 11 ∷ 0 ∷ []))

@@ -1,0 +1,63 @@
+-- "a line per placed record: record number, place, next place, reply, blamed group, groups with a nonzero count, lines with the index.
+-- Last comes `end`, records listed, the place where it stopped, the reply there, the group given with it or 0."
+use mathlib.Core.Path.{_≡_}
+use mathlib.Core.Bool.{Bool, cond, _||_}
+use mathlib.Core.List.{List, [], _∷_, map}
+use Prim.Native.Nat.{ℕ}
+use lib.Dec.{eqb}
+use Rattle.base.specs.Every.{upFrom}
+use Rattle.base.specs.Sum.{sum}
+use Rattle.count.specs.Tally.{countOf, recordLines}
+use Rattle.place.specs.declared.Placing.{Placing}
+use Rattle.place.specs.declared.Placing.the-variants.{Placed, End, Beyond, TooFewLines, Misformed, OtherRelease, FilledVacant, BrokenRule}
+
+-- the reply's number in 01's table, and the next place and the group given besides. "Numbers not named in a row are 0."
+abbrev pub replyOf : Placing → ℕ
+replyOf (Placed n) = 0
+replyOf End = 1
+replyOf Beyond = 2
+replyOf TooFewLines = 3
+replyOf Misformed = 4
+replyOf OtherRelease = 5
+replyOf (FilledVacant g) = 6
+replyOf (BrokenRule g n) = 7
+
+abbrev pub nextOf : Placing → ℕ
+nextOf (Placed n) = n
+nextOf End = 0
+nextOf Beyond = 0
+nextOf TooFewLines = 0
+nextOf Misformed = 0
+nextOf OtherRelease = 0
+nextOf (FilledVacant g) = 0
+nextOf (BrokenRule g n) = n
+
+abbrev pub groupOf : Placing → ℕ
+groupOf (Placed n) = 0
+groupOf End = 0
+groupOf Beyond = 0
+groupOf TooFewLines = 0
+groupOf Misformed = 0
+groupOf OtherRelease = 0
+groupOf (FilledVacant g) = g
+groupOf (BrokenRule g n) = g
+
+-- "A record is placed where the reply is 0 or 7."
+abbrev pub isPlaced : ℕ → Bool
+isPlaced reply = eqb reply 0 || eqb reply 7
+
+-- "groups with a nonzero count", among 1 to 60: 1 for each of them
+abbrev pub filled : List ℕ → ℕ → ℕ
+filled ns g = cond (eqb (countOf ns g) 0) 0 1
+
+unfoldable pub filledGroups : List ℕ → ℕ
+filledGroups ns = sum (map (filled ns) (upFrom 1 60))
+
+-- a record of this number at a place, where placing gave this answer and these counts
+unfoldable pub recordRow : ℕ → ℕ → Placing → List ℕ → List ℕ
+recordRow number at p ns =
+    number ∷ at ∷ nextOf p ∷ replyOf p ∷ groupOf p ∷ filledGroups ns ∷ recordLines ns ∷ []
+
+-- so many records were listed, and the walk stopped at a place with this answer
+unfoldable pub endRow : ℕ → ℕ → Placing → List ℕ
+endRow many at p = many ∷ at ∷ replyOf p ∷ groupOf p ∷ []
