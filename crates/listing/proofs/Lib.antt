@@ -4,3 +4,4 @@ pub mod Groups
 pub mod Counted
 pub mod Lines
 pub mod Turns
+pub mod Bound

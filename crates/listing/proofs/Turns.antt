@@ -13,14 +13,14 @@ use Rattle.decimal.specs.Rows.{rowText}
 use Rattle.decimal.specs.Writing.{endIn, Puts}
 use Rattle.decimal.specs.declared.Put.{Put}
 use Rattle.decimal.specs.declared.Put.the-variants.{Next, NoRoom}
-use Rattle.decimal.proofs.Writing.{end-then, end-first, end-next, end-full, over-rest, next-means, none-means, puts-length}
+use Rattle.decimal.proofs.Writing.{end-then, end-first, end-next, end-full, over-rest, next-means, none-means, puts-done, puts-length}
 use Rattle.place.specs.declared.Placing.{Placing}
 use Rattle.place.specs.Placing.{placingOf, countsAt}
 use Rattle.place.specs.Walk.{spot}
 use Rattle.listing.specs.Rows.{replyOf, nextOf, isPlaced, recordRow, endRow}
 use Rattle.listing.specs.Records.{recordsIn}
 use Rattle.listing.specs.Listing.{listing}
-use Rattle.listing.proofs.Lines.{linesFrom, row-here, end-here, more-few, more-spot, more-bytes, more-inside, more-lines, last-line}
+use Rattle.listing.proofs.Lines.{linesFrom, lines-all, row-here, end-here, more-few, more-spot, more-bytes, more-inside, more-lines, last-line}
 
 -- at a place that is the k-th spot, placing answered this with these counts; its next place, and whether it is 0 or 7
 pub record Met (s : List ℕ) (k at : ℕ) (answer : Placing) (ns : List ℕ) (next : ℕ) (placed : Bool) : Type 0 where
@@ -92,6 +92,11 @@ pub record Putting (s : List ℕ) (k a : ℕ) (out old : List ℕ) : Type 0 wher
   pub room : a + length (linesFrom s k) ≤ length old
   pub makes : over a (linesFrom s k) out ≡ over 0 (listing s) old
 
+pub put-starts : (s old : List ℕ) → length (listing s) ≤ length old → Putting s 0 0 old old
+put-starts s old h =
+    let e = lines-all s in
+    record { same = refl; room = omega (arith, ap length e); makes = ap (λ t. over 0 t old) e }
+
 module _ (s : List ℕ) (k a : ℕ) (out old new : List ℕ) (inv : Putting s k a out old) where
   pub put-stops : (last : List ℕ) (r : Put) → linesFrom s k ≡ bytes "end " ++ rowText last → Puts a (bytes "end " ++ rowText last) out r new → new ≡ over 0 (listing s) old
   put-stops last (Next n) l p = next-means a n (bytes "end " ++ rowText last) out new p .2 ∙ ap (λ t. over a t out) (sym l) ∙ inv .makes
@@ -112,3 +117,12 @@ module _ (s : List ℕ) (k a : ℕ) (out old new : List ℕ) (inv : Putting s k 
 
     pub put-has-room : Puts a (rowText row) out NoRoom new → ⊥
     put-has-room p = omega (arith, none-means a (rowText row) out new p .0, split, inv .same, inv .room)
+
+-- there is room for all of it, and all of it was put
+pub put-room : (text : List ℕ) (size n : ℕ) → endIn 0 (length text) size ≡ Next n → length text ≤ size
+put-room text size n e = let r = end-next 0 (length text) n size e in omega (arith, r .0, r .1)
+
+pub put-whole : (text old new : List ℕ) (n : ℕ) → endIn 0 (length text) (length old) ≡ Next n → new ≡ over 0 text old → Puts 0 text old (Next n) new
+put-whole text old new n e p =
+    let r = end-next 0 (length text) n (length old) e in
+    rw (r .0) (puts-done 0 (length text) text old new refl (omega (arith, r .0, r .1)) p)

@@ -109,3 +109,54 @@ fn listing_end(text: &[u8], size: usize) -> Put
         k += 1;
     }
 }
+
+// Puts the listing, which has room: a second walk.
+fn put_listing(text: &[u8], out: &mut [u8])
+    requires { ⌜ length (listing (now text)) ≤ length (now out) ⌝ }
+    ensures { λ _. ⌜ now (out .exit) ≡ over 0 (listing (now (text .entry))) (now (out .entry)) ⌝ }
+{
+    let mut a: usize = 0;
+    let mut at: usize = 0;
+    let mut k: usize = 0;
+    loop {
+        let here = place::place(text, at);
+        let answer = here.answer;
+        let r = reply_of(answer);
+        if !is_placed(r.number) {
+            let last = end_row(k, at, answer);
+            decimal::put_row(out, a, b"end ", &last);
+            return;
+        }
+        let counts = here.counts;
+        let row = record_row(k + 1, at, answer, &counts);
+        // there is room, so this is never taken
+        let Put::Next(end) = decimal::put_row(out, a, b"", &row) else {
+            return;
+        };
+        a = end;
+        at = r.next as usize;
+        k += 1;
+    }
+}
+
+// Puts the listing of a text into the bytes from their start on: the number of bytes written (0), or that there is no room (11), and then
+// nothing is altered. So that nothing is, the text is walked twice: first for where the listing ends, then to put it.
+pub fn render(text: &[u8], out: &mut [u8]) -> Put
+    ensures { λ r. ⌜ Puts 0 (listing (now (text .entry))) (now (out .entry)) r (now (out .exit)) ⌝ }
+{
+    let Put::Next(end) = listing_end(text, out.len()) else {
+        return Put::NoRoom;
+    };
+    put_listing(text, out);
+    Put::Next(end)
+}
+
+// What the program prints for its input: the listing, or for input longer than 65,536 bytes only `end 0 0 11 0`.
+pub fn print(input: &[u8], out: &mut [u8]) -> Put
+    ensures { λ r. ⌜ Puts 0 (printed (now (input .entry))) (now (out .entry)) r (now (out .exit)) ⌝ }
+{
+    if 65536 < input.len() {
+        return decimal::put_row(out, 0, b"end ", &[0, 0, 11, 0]);
+    }
+    render(input, out)
+}

@@ -1,0 +1,183 @@
+-- What is printed is shorter than 8,192 bytes. A text of at most 65,536 bytes has at most 268 records, since a record has at least 244
+-- bytes. Its row has at most 30 bytes: 3 digits for the number, 5 for each place, 1 for the reply, 2 for the blamed group, 2 for the
+-- groups with a count, 5 for the lines, and a byte behind each. The end row has at most 19.
+-- Assumes nothing.
+use mathlib.Core.Path.{_≡_, refl, sym, _∙_, ap}
+use mathlib.Core.Bool.{Bool, true, false}
+use mathlib.Core.List.{List, [], _∷_, _++_}
+use mathlib.Core.Logic.{_⊎_, ⊎-elim}
+use Prim.Native.Nat.{ℕ, zero, suc, _+_, _*_, _-_, _<_, _≤_}
+use native.Mathlib.Omega.{arith}
+use native.Mathlib.Nat.{zero-add}
+use borrow.Author.Tests.{le-leb, lt-leb}
+use lib.ListN.{length, drop, length-append, length-drop}
+use lib.Dec.{lit<}
+use Rattle.base.specs.Quoted.{bytes}
+use Rattle.base.proofs.Order.{le-or-lt}
+use Rattle.line.specs.Lines.{feeds}
+use Rattle.line.proofs.Feeds.{feeds-le}
+use Rattle.count.specs.Tally.{recordLines}
+use Rattle.count.specs.Rules.{rulingOf}
+use Rattle.count.specs.declared.Ruling.{Ruling}
+use Rattle.count.specs.declared.Ruling.the-variants.{Kept, Broken}
+use Rattle.decimal.specs.Numerals
+use Rattle.decimal.specs.Numerals.{numeral}
+use Rattle.decimal.specs.Rows
+use Rattle.decimal.specs.Rows.{rowText, rowSize}
+use Rattle.decimal.specs.Writing
+use Rattle.decimal.specs.Writing.{putAnswer}
+use Rattle.decimal.specs.declared.Put.the-variants.{Next}
+use Rattle.decimal.proofs.Lengths.{length-within}
+use Rattle.decimal.proofs.Rows.{row-size}
+use Rattle.decimal.proofs.Writing.{end-done}
+use Rattle.place.specs.declared.Placing.{Placing}
+use Rattle.place.specs.declared.Placing.the-variants.{Placed, End, Beyond, TooFewLines, Misformed, OtherRelease, FilledVacant, BrokenRule}
+use Rattle.place.specs.Placing
+use Rattle.place.specs.Placing.{Located, located, refused, locate, ruledAt, placingBy, countsBy, placingOf, countsAt}
+use Rattle.place.specs.Walk.{spot, IsRecord}
+use Rattle.place.proofs.Placed.{located-is, located-range}
+use Rattle.place.proofs.Walked.{Stopping, refused-stopping, spot-inside, stops-some}
+use Rattle.listing.specs.Rows.{replyOf, nextOf, groupOf, filledGroups, recordRow, endRow}
+use Rattle.listing.specs.Records.{recordsIn}
+use Rattle.listing.specs.Listing.{rowAt, rowsFrom, endAt, listingOf, listing, printed}
+use Rattle.listing.proofs.Groups.{blamed-within, vacant-within, filled-within}
+use Rattle.listing.proofs.Counted.{records-stop, records-bytes}
+
+-- ---- the two cases of what is printed
+
+pub printed-short : (s : List ℕ) → length s ≤ 65536 → listing s ≡ printed s
+unfolding printed
+printed-short s h = rw (le-leb (length s) 65536 h)
+
+pub printed-long : (s : List ℕ) → 65536 < length s → bytes "end " ++ rowText (0 ∷ 0 ∷ 11 ∷ 0 ∷ []) ≡ printed s
+unfolding printed
+printed-long s h = rw (lt-leb (length s) 65536 h)
+
+-- ---- numbers of a row
+
+pub record Small (p : Placing) : Type 0 where
+  pub reply : replyOf p ≤ 7
+  pub group : groupOf p ≤ 79
+
+ruled-small : (n : ℕ) (r : Ruling) → ((g : ℕ) → r ≡ Broken g → g ≤ 60) → Small (ruledAt n r)
+ruled-small n Kept h = record { reply = omega arith; group = omega arith }
+ruled-small n (Broken g) h = record { reply = omega arith; group = omega (arith, h g refl) }
+
+stopping-small : (p : Placing) → Stopping p → Small p
+stopping-small (Placed n) h = absurd h
+stopping-small End h = record { reply = omega arith; group = omega arith }
+stopping-small Beyond h = record { reply = omega arith; group = omega arith }
+stopping-small TooFewLines h = record { reply = omega arith; group = omega arith }
+stopping-small Misformed h = record { reply = omega arith; group = omega arith }
+stopping-small OtherRelease h = record { reply = omega arith; group = omega arith }
+stopping-small (FilledVacant g) h = record { reply = omega arith; group = vacant-within (h .ns) g (h .release) }
+stopping-small (BrokenRule g n) h = absurd h
+
+pub answer-small : (s : List ℕ) (at : ℕ) → Small (placingOf s at)
+unfolding Placing.placingOf
+answer-small s at = by (locate s at) refl
+  where
+    by : (l : Located) → locate s at ≡ l → Small (placingBy l)
+    by (located n ns) e = ruled-small n (rulingOf ns) (blamed-within ns)
+    by (refused p) e = stopping-small p (refused-stopping s at p e)
+
+-- what placing answers for a record
+placing-is : (s : List ℕ) (at n : ℕ) (ns : List ℕ) → locate s at ≡ located n ns → placingOf s at ≡ ruledAt n (rulingOf ns)
+unfolding Placing.placingOf
+placing-is s at n ns e = rw e
+
+counts-are : (s : List ℕ) (at n : ℕ) (ns : List ℕ) → locate s at ≡ located n ns → countsAt s at ≡ ns
+unfolding Placing.countsAt
+counts-are s at n ns e = rw e
+
+-- the next place and the lines of a record
+pub record Within (s : List ℕ) (at : ℕ) : Type 0 where
+  pub next : nextOf (placingOf s at) ≤ length s
+  pub lines : recordLines (countsAt s at) ≤ length s
+
+located-lines : (s : List ℕ) (at n : ℕ) (ns : List ℕ) → locate s at ≡ located n ns → recordLines ns ≤ length s
+located-lines s at n ns e =
+    let p = located-is s at n ns e in
+    omega (arith, p .many, feeds-le (drop at s), length-drop at s)
+
+pub record-within : (s : List ℕ) (at : ℕ) → IsRecord s at → Within s at
+record-within s at r = record { next = next (r .next) (r .ns) (r .is); lines = lines (r .next) (r .ns) (r .is) }
+  where
+    ruled : (n : ℕ) (u : Ruling) → n ≤ length s → nextOf (ruledAt n u) ≤ length s
+    ruled n Kept h = h
+    ruled n (Broken g) h = h
+
+    next : (n : ℕ) (ns : List ℕ) → locate s at ≡ located n ns → nextOf (placingOf s at) ≤ length s
+    next n ns e = rw (placing-is s at n ns e) (ruled n (rulingOf ns) (located-range s at n ns e))
+
+    lines : (n : ℕ) (ns : List ℕ) → locate s at ≡ located n ns → recordLines (countsAt s at) ≤ length s
+    lines n ns e = rw (counts-are s at n ns e) (located-lines s at n ns e)
+
+-- ---- lines
+
+module _ (s : List ℕ) (short : length s ≤ 65536) where
+  row-within : (k : ℕ) → k < recordsIn s → length (rowAt s k) ≤ 30
+  unfolding rowAt recordRow Rows.rowSize
+  row-within k h =
+      let at = spot s k in
+      let p = placingOf s at in
+      let ns = countsAt s at in
+      let a = answer-small s at in
+      let w = record-within s at (records-stop s .each k h) in
+      rw (row-size (recordRow (suc k) at p ns) (lit< tt))
+      (omega (
+        arith,
+        length-within 2 (suc k) (omega (arith, records-bytes s)),
+        length-within 4 at (omega (arith, spot-inside s k)),
+        length-within 4 (nextOf p) (omega (arith, w .next)),
+        length-within 0 (replyOf p) (omega (arith, a .reply)),
+        length-within 1 (groupOf p) (omega (arith, a .group)),
+        length-within 1 (filledGroups ns) (omega (arith, filled-within ns)),
+        length-within 4 (recordLines ns) (omega (arith, w .lines)),
+      ))
+
+  end-within : length (endAt s (recordsIn s)) ≤ 19
+  unfolding endAt endRow Rows.rowSize
+  end-within =
+      let many = recordsIn s in
+      let at = spot s many in
+      let p = placingOf s at in
+      let a = answer-small s at in
+      rw (length-append (bytes "end ") (rowText (endRow many at p)), row-size (endRow many at p) (lit< tt))
+      (omega (
+        arith,
+        length-within 2 many (omega (arith, records-bytes s)),
+        length-within 4 at (omega (arith, spot-inside s many)),
+        length-within 0 (replyOf p) (omega (arith, a .reply)),
+        length-within 1 (groupOf p) (omega (arith, a .group)),
+      ))
+
+  rows-within : (left k : ℕ) → k + left ≤ recordsIn s → length (rowsFrom s k left) ≤ 30 * left
+  unfolding rowsFrom
+  rows-within zero k h = omega arith
+  rows-within (suc left) k h =
+      rw (length-append (rowAt s k) (rowsFrom s (suc k) left))
+      (omega (arith, row-within k (omega arith), rows-within left (suc k) (omega arith)))
+
+  pub listing-short : length (listing s) < 8192
+  unfolding listing listingOf
+  listing-short =
+      rw (length-append (rowsFrom s 0 (recordsIn s)) (endAt s (recordsIn s)))
+      (omega (arith, rows-within (recordsIn s) 0 (omega arith), end-within, records-bytes s))
+
+-- `end 0 0 11 0` and its line feed
+long-bytes : length (bytes "end " ++ rowText (0 ∷ 0 ∷ 11 ∷ 0 ∷ [])) ≡ 13
+unfolding Rows.rowText Numerals.numeral Numerals.digitsOf Numerals.digitsIn
+long-bytes = refl
+
+pub printed-within : (s : List ℕ) → length (printed s) < 8192
+printed-within s =
+    ⊎-elim
+    (λ (h : length s ≤ 65536). rw (← printed-short s h) (listing-short s h))
+    (λ (h : 65536 < length s). rw (← printed-long s h, long-bytes) (lit< tt))
+    (le-or-lt (length s) 65536)
+
+-- so the program's 8,192 bytes have room for whatever it is given
+pub print-has-room : (s out : List ℕ) → length out ≡ 8192 → putAnswer 0 (printed s) out ≡ Next (length (printed s))
+unfolding Writing.putAnswer
+print-has-room s out h = end-done 0 (length (printed s)) (length out) (omega (arith, printed-within s)) ∙ ap Next (zero-add (length (printed s)))

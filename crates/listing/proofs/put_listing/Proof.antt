@@ -1,0 +1,145 @@
+-- `listing::put_listing` meets its contract. The invariant: the lines from the k-th spot on have room, and put from a on make the listing.
+-- Assumes nothing.
+use borrow.Author.Needs.{needs}
+use native.Mathlib.Omega.{arith}
+use mathlib.Core.Path.{_≡_, refl, sym, _∙_, ap}
+use Prim.Native.Nat.{_-_, _+_, _≤_}
+use borrow.Author.Tests.{not-true, not-false}
+use lib.ListN.{length}
+use Rattle.place.specs.Walk.{spot}
+use Rattle.place.proofs.Walked.{spot-start}
+use Rattle.listing.specs.Rows.{isPlaced}
+use Rattle.listing.specs.Records.{recordsIn}
+use Rattle.listing.proofs.Counted.{records-bytes}
+use Rattle.listing.proofs.Turns.{Met, More, Putting, met-more, met-last, put-starts, put-stops, put-more, put-has-room}
+use Rattle.listing.proofs.put_listing.Statement.{statement}
+use Rattle.listing.proofs.put_listing.Tie as tie
+
+abbrev Inv-loop : tie.InvT-loop
+Inv-loop text out₀ a₀ at₀ k₀ t13 t14 out a at k = (k ≤ recordsIn text) × (at ≡ spot text k) × Putting text k a out out₀
+
+abbrev μ-loop : tie.MeasureT-loop
+μ-loop text out₀ a₀ at₀ k₀ t13 t14 out a at k = length text - at
+
+loop-holds : tie.Need-loop-holds Inv-loop μ-loop
+loop-holds c = (omega arith, spot-start _, put-starts _ _ (c .before .before .pre))
+
+place-requires : tie.Need-place-requires Inv-loop μ-loop
+place-requires c κs = search needs
+
+reply-of-requires : tie.Need-reply-of-requires Inv-loop μ-loop
+reply-of-requires c κs = search needs
+
+is-placed-requires : tie.Need-is-placed-requires Inv-loop μ-loop
+is-placed-requires c κs = search needs
+
+met : (c : tie.After-is-placed Inv-loop μ-loop) → (let s = c .before .before .before .before .before .before .args .text .now in let l = c .before .before .before .loop in let p = c .before .before .place .result in Met s (l .k) (l .at) (p .answer) (p .counts) (c .before .reply-of .result .next) (c .is-placed .result))
+met c =
+    let l = c .before .before .before .loop in
+    let p = c .before .before .place in
+    let r = c .before .reply-of in
+    record {
+      few = l .inv .0;
+      here = l .inv .1;
+      placing = p .ensures .0;
+      beside = p .ensures .1;
+      next-is = r .ensures .1;
+      told = c .is-placed .ensures ∙ ap isPlaced (r .ensures .0);
+    }
+
+end-row-requires : tie.Need-end-row-requires Inv-loop μ-loop
+end-row-requires c κs = search needs
+
+slice-aggregate-put-row : tie.Need-slice-aggregate-put-row Inv-loop μ-loop
+slice-aggregate-put-row c = search needs
+
+slice-aggregate-put-row-2 : tie.Need-slice-aggregate-put-row-2 Inv-loop μ-loop
+slice-aggregate-put-row-2 c = search needs
+
+put-row-requires : tie.Need-put-row-requires Inv-loop μ-loop
+put-row-requires c κs = search needs
+
+same-length : tie.Need-same-length Inv-loop μ-loop
+same-length c = search needs
+
+returns : tie.Need-returns Inv-loop μ-loop
+returns c =
+    let l = c .before .before .before .before .before .before .before .before .before .before .before .loop in
+    put-stops _ (l .k) (l .a) _ _ _ (l .inv .2) _ _ (met-last (met (c .before .before .before .before .before .before .before .before)) (not-true _ (c .before .before .before .before .before .before .before .if1 .taken)) (c .before .before .before .before .before .before .end-row .ensures)) (c .before .before .put-row .ensures)
+
+add-record-row : tie.Need-add-record-row Inv-loop μ-loop
+add-record-row c = omega (arith, c .before .before .before .before .before .loop .inv .0, records-bytes (c .before .before .before .before .before .before .before .before .args .text .now))
+
+slice-aggregate-record-row : tie.Need-slice-aggregate-record-row Inv-loop μ-loop
+slice-aggregate-record-row c = search needs
+
+record-row-requires : tie.Need-record-row-requires Inv-loop μ-loop
+record-row-requires c κs = search needs
+
+more : (c : tie.After-record-row Inv-loop μ-loop) → (let l = c .before .before .before .before .before .before .before .loop in More (c .before .before .before .before .before .before .before .before .before .before .args .text .now) (l .k) (l .at) (c .record-row .result) (c .before .before .before .before .before .reply-of .result .next))
+more c = met-more (met (c .before .before .before .before)) (not-false _ (c .before .before .before .if1 .left)) (c .record-row .ensures)
+
+slice-aggregate-put-row-3 : tie.Need-slice-aggregate-put-row-3 Inv-loop μ-loop
+slice-aggregate-put-row-3 c = search needs
+
+slice-aggregate-put-row-4 : tie.Need-slice-aggregate-put-row-4 Inv-loop μ-loop
+slice-aggregate-put-row-4 c = search needs
+
+put-row-requires-2 : tie.Need-put-row-requires-2 Inv-loop μ-loop
+put-row-requires-2 c κs = search needs
+
+enum-known-end : tie.Need-enum-known-end Inv-loop μ-loop
+enum-known-end c = search needs
+
+enum-told : tie.Need-enum-told Inv-loop μ-loop
+enum-told c = search needs
+
+same-length-2 : tie.Need-same-length-2 Inv-loop μ-loop
+same-length-2 c = search needs
+
+returns-2 : tie.Need-returns-2 Inv-loop μ-loop
+returns-2 c =
+    let l = c .before .before .before .before .before .before .before .before .before .before .before .before .before .before .before .loop in
+    absurd (put-has-room _ (l .k) (l .a) _ _ _ (l .inv .2) _ (more (c .before .before .before .before .before .before .before .before) .lines) (rw (c .enum-told .given .1) at (c .before .before .before .before .put-row2 .ensures)))
+
+add-k : tie.Need-add-k Inv-loop μ-loop
+add-k c = let m = more (c .before .before .before .before .before .before .before .before .before) in omega (arith, m .forward, m .inside, m .few, records-bytes (c .before .before .before .before .before .before .before .before .before .before .before .before .before .before .before .before .before .before .before .args .text .now))
+
+loop-less : tie.Need-loop-less Inv-loop μ-loop
+loop-less c = let m = more (c .before .before .before .before .before .before .before .before .before) in omega (arith, m .forward, m .inside)
+
+loop-again : tie.Need-loop-again Inv-loop μ-loop
+loop-again c =
+    let l = c .before .before .before .before .before .before .before .before .before .before .before .before .before .before .before .before .loop in
+    let m = more (c .before .before .before .before .before .before .before .before .before) in
+    (m .few, m .here, put-more _ (l .k) (l .a) _ _ _ (l .inv .2) _ (m .lines) _ (rw (c .before .end .given .1) at (c .before .before .before .before .before .put-row2 .ensures)))
+
+pub put-listing-spec : {M : Type 1} → statement M
+put-listing-spec =
+    tie.close
+    (tie.spec
+    Inv-loop
+    μ-loop
+    loop-holds
+    place-requires
+    reply-of-requires
+    is-placed-requires
+    end-row-requires
+    slice-aggregate-put-row
+    slice-aggregate-put-row-2
+    put-row-requires
+    same-length
+    returns
+    add-record-row
+    slice-aggregate-record-row
+    record-row-requires
+    slice-aggregate-put-row-3
+    slice-aggregate-put-row-4
+    put-row-requires-2
+    enum-known-end
+    enum-told
+    same-length-2
+    returns-2
+    add-k
+    loop-less
+    loop-again)
