@@ -25,11 +25,11 @@ use Rattle.decimal.specs.Numerals.{numeral}
 use Rattle.decimal.specs.Rows
 use Rattle.decimal.specs.Rows.{rowText, rowSize}
 use Rattle.decimal.specs.Writing
-use Rattle.decimal.specs.Writing.{putAnswer}
-use Rattle.decimal.specs.declared.Put.the-variants.{Next}
+use Rattle.decimal.specs.Writing.{putAnswer, Puts}
+use Rattle.decimal.specs.declared.Put.the-variants.{Next, NoRoom}
 use Rattle.decimal.proofs.Lengths.{length-within}
 use Rattle.decimal.proofs.Rows.{row-size}
-use Rattle.decimal.proofs.Writing.{end-done}
+use Rattle.decimal.proofs.Writing.{end-done, none-means}
 use Rattle.place.specs.declared.Placing.{Placing}
 use Rattle.place.specs.declared.Placing.the-variants.{Placed, End, Beyond, TooFewLines, Misformed, OtherRelease, FilledVacant, BrokenRule}
 use Rattle.place.specs.Placing
@@ -181,3 +181,6 @@ printed-within s =
 pub print-has-room : (s out : List ℕ) → length out ≡ 8192 → putAnswer 0 (printed s) out ≡ Next (length (printed s))
 unfolding Writing.putAnswer
 print-has-room s out h = end-done 0 (length (printed s)) (length out) (omega (arith, printed-within s)) ∙ ap Next (zero-add (length (printed s)))
+
+pub print-no-refusal : (s out new : List ℕ) → length out ≡ 8192 → Puts 0 (printed s) out NoRoom new → ⊥
+print-no-refusal s out new h p = omega (arith, none-means 0 (printed s) out new p .0, printed-within s)

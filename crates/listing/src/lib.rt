@@ -73,7 +73,15 @@ pub fn record_row(number: usize, at: usize, answer: Placing, counts: &[u16]) -> 
     let r = reply_of(answer);
     let groups = filled_groups(counts);
     let lines = count::add_up(counts, 61).lines;
-    [number as u64, at as u64, r.next, r.number, r.group, groups, lines as u64]
+    [
+        number as u64,
+        at as u64,
+        r.next,
+        r.number,
+        r.group,
+        groups,
+        lines as u64,
+    ]
 }
 
 // The end row behind so many records, where the walk stopped at a place with this answer.
