@@ -2,3 +2,6 @@
 pub mod Choice
 pub mod Every
 pub mod Part
+pub mod Columns
+pub mod Digits
+pub mod Sign

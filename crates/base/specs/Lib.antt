@@ -1,4 +1,7 @@
 -- Definitions that say nothing of ionograms: parts of a list and lists with places overwritten (Part), a test at each element of a
--- list (Every).
+-- list (Every), sign and size of a number (Sign), columns from the last to the first (Columns), decimal digits (Digits).
 pub mod Every
 pub mod Part
+pub mod Sign
+pub mod Columns
+pub mod Digits

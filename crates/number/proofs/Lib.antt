@@ -1,0 +1,2 @@
+-- The laws that the proofs of `number` share, and the theorems on I, F and E fields, over every width.
+pub mod Scanning

@@ -1,0 +1,39 @@
+use native.Mathlib.Omega.{arith}
+use borrow.Author.Needs.{needs}
+use Rattle.number.proofs.put_at.Statement.{statement}
+use Rattle.number.proofs.put_at.Tie as tie
+use Rattle.number.proofs.put_at.Reads as reads
+use Rattle.number.proofs.put_at.Lts as lts
+use Rattle.number.proofs.put.Reads as put-reads
+
+-- src/lib.rt:305:13
+add-e : tie.Need-add-e
+add-e c = search needs
+
+-- src/lib.rt:306:9
+sub-put : tie.Need-sub-put
+sub-put c = search needs
+
+-- src/lib.rt:306:9
+part-put-start : tie.Need-part-put-start
+part-put-start c = search needs
+
+-- src/lib.rt:306:9
+part-put-end : tie.Need-part-put-end
+part-put-end c = search needs
+
+-- src/lib.rt:306:5
+put-requires : tie.Need-put-requires
+put-requires c κs = search needs
+
+-- src/lib.rt:301:1
+same-length : tie.Need-same-length
+same-length c = search needs
+
+-- src/lib.rt:301:1
+returns : tie.Need-returns
+returns c = search needs
+
+pub put-at-spec : {M : Type 1} → statement M
+put-at-spec =
+    tie.close (tie.spec add-e sub-put part-put-start part-put-end put-requires same-length returns)
