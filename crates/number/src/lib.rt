@@ -390,17 +390,22 @@ pub fn sign_byte(neg: bool) -> u8
     b'+'
 }
 
-// Digits with their sign, and an exponent with its own: c columns, a point, d digits, `E`, a sign, x digits.
+// Digits with their sign, and an exponent with its own: c columns, a point, d digits, `E`, a sign, x digits, from the last to the first.
 pub fn put_e(out: &mut [u8], at: usize, c: usize, d: usize, x: usize, v: i64, e: i64)
     requires { ⌜ at + (c + d + x + 3) ≤ length (now out) ⌝ }
     ensures { λ _. ⌜ now (out .exit) ≡ over at (textE c d x v e) (now (out .entry)) ⌝ }
 {
     let m = signed(v);
     let k = signed(e);
+    let point = at + c;
+    let first = point + 1;
+    let letter = first + d;
+    let sign = letter + 1;
+    let second = sign + 1;
+    put_at(out, second, x, true, Scan::Digits(k.neg, k.size));
+    put_byte(out, sign, sign_byte(k.neg));
+    put_byte(out, letter, b'E');
+    put_at(out, first, d, true, Scan::Digits(m.neg, m.size));
+    put_byte(out, point, b'.');
     put_at(out, at, c, false, lead_state(c, m.neg));
-    put_byte(out, at + c, b'.');
-    put_at(out, at + c + 1, d, true, Scan::Digits(m.neg, m.size));
-    put_byte(out, at + c + 1 + d, b'E');
-    put_byte(out, at + c + 2 + d, sign_byte(k.neg));
-    put_at(out, at + c + 3 + d, x, true, Scan::Digits(k.neg, k.size));
 }

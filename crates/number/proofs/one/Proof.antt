@@ -7,45 +7,33 @@ use Rattle.number.specs.Scan.{Below}
 use borrow.Author.Needs.{needs, sfits-of}
 use Rattle.number.proofs.one.Statement.{statement}
 use Rattle.number.proofs.one.Tie as tie
-use Rattle.number.proofs.one.Reads as reads
-use Rattle.number.proofs.one.Lts as lts
-use Rattle.number.proofs.cell.Reads as cell-reads
 
--- src/lib.rt:106:25
 enum-told : tie.Need-enum-told
 enum-told c = search needs
 
--- src/lib.rt:107:25
 enum-told-2 : tie.Need-enum-told-2
 enum-told-2 c = search needs
 
--- src/lib.rt:108:22
 enum-known-st : tie.Need-enum-known-st
 enum-known-st c = search needs
 
--- src/lib.rt:108:46
 cell-requires : tie.Need-cell-requires
 cell-requires c κs =
     let h = subst (Below 1000000000000000000) (c .before .st .given .1) (c .before .before .before .pre) in
     omega arith
 
--- src/lib.rt:109:22
 enum-told-3 : tie.Need-enum-told-3
 enum-told-3 c = search needs
 
--- src/lib.rt:101:1
 returns : tie.Need-returns
 returns c = search needs
 
--- src/lib.rt:101:1
 returns-2 : tie.Need-returns-2
 returns-2 c = search needs
 
--- src/lib.rt:101:1
 returns-3 : tie.Need-returns-3
 returns-3 c = rw (c .before .before .st .given .1) (ap One (toZ-ofZ (sfits-of {w = w64} (c .cell .ok)) ∙ c .cell .ensures))
 
--- src/lib.rt:101:1
 returns-4 : tie.Need-returns-4
 returns-4 c = search needs
 

@@ -1,7 +1,6 @@
 -- `number::pair` meets its contract: the two variants choose the case.
 use native.Mathlib.Omega.{arith}
 use borrow.Author.Needs.{needs}
-use mathlib.Core.Path.{ap₂, _∙_}
 use Rattle.number.proofs.pair.Statement.{statement}
 use Rattle.number.proofs.pair.Tie as tie
 
@@ -24,7 +23,7 @@ enum-told-4 : tie.Need-enum-told-4
 enum-told-4 c = search needs
 
 returns : tie.Need-returns
-returns c = simp (c .before .before .before .before .a .given .1, c .before .b .given .1)
+returns c = rw (c .before .before .before .before .a .given .1, c .before .b .given .1) (search needs)
 
 returns-2 : tie.Need-returns-2
 returns-2 c = search needs

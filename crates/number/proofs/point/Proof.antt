@@ -1,38 +1,28 @@
 use borrow.Author.Needs.{needs}
 use Rattle.number.proofs.point.Statement.{statement}
 use Rattle.number.proofs.point.Tie as tie
-use Rattle.number.proofs.point.Reads as reads
-use Rattle.number.proofs.point.Lts as lts
 
--- src/lib.rt:253:25
 enum-told : tie.Need-enum-told
 enum-told c = search needs
 
--- src/lib.rt:254:25
 enum-told-2 : tie.Need-enum-told-2
 enum-told-2 c = search needs
 
--- src/lib.rt:255:22
 enum-known-st : tie.Need-enum-known-st
 enum-known-st c = search needs
 
--- src/lib.rt:256:22
 enum-told-3 : tie.Need-enum-told-3
 enum-told-3 c = search needs
 
--- src/lib.rt:249:1
 returns : tie.Need-returns
 returns c = search needs
 
--- src/lib.rt:249:1
 returns-2 : tie.Need-returns-2
 returns-2 c = search needs
 
--- src/lib.rt:249:1
 returns-3 : tie.Need-returns-3
 returns-3 c = simp (c .before .st .given .1)
 
--- src/lib.rt:249:1
 returns-4 : tie.Need-returns-4
 returns-4 c = search needs
 

@@ -1,38 +1,39 @@
+-- `number::put_at` meets its contract: the part that was lent comes back with the columns in it.
 use native.Mathlib.Omega.{arith}
 use borrow.Author.Needs.{needs}
+use mathlib.Core.Path.{ap, _∙_}
+use Rattle.base.proofs.Columns.{columns-lent}
+use Rattle.base.proofs.Part.{part-length}
+use Rattle.number.specs.Write.{lastOf, backOf, restOf}
 use Rattle.number.proofs.put_at.Statement.{statement}
 use Rattle.number.proofs.put_at.Tie as tie
-use Rattle.number.proofs.put_at.Reads as reads
-use Rattle.number.proofs.put_at.Lts as lts
-use Rattle.number.proofs.put.Reads as put-reads
 
--- src/lib.rt:305:13
 add-e : tie.Need-add-e
 add-e c = search needs
 
--- src/lib.rt:306:9
 sub-put : tie.Need-sub-put
 sub-put c = search needs
 
--- src/lib.rt:306:9
 part-put-start : tie.Need-part-put-start
 part-put-start c = search needs
 
--- src/lib.rt:306:9
 part-put-end : tie.Need-part-put-end
 part-put-end c = search needs
 
--- src/lib.rt:306:5
 put-requires : tie.Need-put-requires
 put-requires c κs = search needs
 
--- src/lib.rt:301:1
 same-length : tie.Need-same-length
 same-length c = search needs
 
--- src/lib.rt:301:1
 returns : tie.Need-returns
-returns c = search needs
+returns c =
+    let o = c .before .before .before .before .before in
+    let a = o .args in
+    let p = c .before .before .put in (
+      columns-lent lastOf (backOf (a .filled)) (a .out .now) (p .last .0) (a .at) (a .w) (a .what) (o .pre) (p .ensures .0),
+      p .ensures .1 ∙ ap (λ n. restOf (a .filled) n (a .what)) (part-length (a .out .now) (a .at) (a .w) (o .pre)),
+    )
 
 pub put-at-spec : {M : Type 1} → statement M
 put-at-spec =

@@ -2,18 +2,13 @@ use borrow.Author.Needs.{needs}
 use Rattle.base.proofs.Part.{over-one}
 use Rattle.number.proofs.put_byte.Statement.{statement}
 use Rattle.number.proofs.put_byte.Tie as tie
-use Rattle.number.proofs.put_byte.Reads as reads
-use Rattle.number.proofs.put_byte.Lts as lts
 
--- src/lib.rt:300:5
 slice-write-out : tie.Need-slice-write-out
 slice-write-out c = search needs
 
--- src/lib.rt:296:1
 same-length : tie.Need-same-length
 same-length c = search needs
 
--- src/lib.rt:296:1
 returns : tie.Need-returns
 returns c = over-one (c .args .out .now) (c .args .at) (c .args .b) (c .pre)
 

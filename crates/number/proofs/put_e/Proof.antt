@@ -1,110 +1,102 @@
+-- `number::put_e` meets its contract: six writes that meet.
 use native.Mathlib.Omega.{arith}
 use borrow.Author.Needs.{needs}
+use mathlib.Core.Path.{_≡_, sym, ap, ap₂, _∙_}
+use mathlib.Core.Bool.{true, false}
+use mathlib.Core.List.{_∷_, []}
+use Prim.Native.Nat.{_+_}
+use mir.Syntax.{w64}
+use mir.Facts.{toZ-ofZ}
+use Rattle.base.specs.Part.{over}
+use Rattle.base.specs.Sign.{negative, sizeOf}
+use Rattle.base.proofs.Columns.{columns-length}
+use Rattle.number.specs.declared.Scan.{Scan}
+use Rattle.number.specs.declared.Scan.the-variants.{Digits}
+use Rattle.number.specs.Write.{lastOf, backOf, textOf, leadState, stateOf}
+use Rattle.number.specs.Grammar.{signByte}
+use Rattle.number.proofs.Pieces.{put-power}
 use Rattle.number.proofs.put_e.Statement.{statement}
 use Rattle.number.proofs.put_e.Tie as tie
-use Rattle.number.proofs.put_e.Reads as reads
-use Rattle.number.proofs.put_e.Lts as lts
-use Rattle.number.proofs.lead_state.Reads as lead-state-reads
-use Rattle.number.proofs.put_at.Reads as put-at-reads
-use Rattle.number.proofs.put_byte.Reads as put-byte-reads
-use Rattle.number.proofs.sign_byte.Reads as sign-byte-reads
-use Rattle.number.proofs.signed.Reads as signed-reads
 
--- src/lib.rt:398:9
 signed-requires : tie.Need-signed-requires
 signed-requires c κs = search needs
 
--- src/lib.rt:399:9
 signed-requires-2 : tie.Need-signed-requires-2
 signed-requires-2 c κs = search needs
 
--- src/lib.rt:400:31
-lead-state-requires : tie.Need-lead-state-requires
-lead-state-requires c κs = search needs
+add-point : tie.Need-add-point
+add-point c = search needs
 
--- src/lib.rt:400:5
+add-first : tie.Need-add-first
+add-first c = search needs
+
+add-letter : tie.Need-add-letter
+add-letter c = search needs
+
+add-sign : tie.Need-add-sign
+add-sign c = search needs
+
+add-second : tie.Need-add-second
+add-second c = search needs
+
 put-at-requires : tie.Need-put-at-requires
 put-at-requires c κs = search needs
 
--- src/lib.rt:401:19
-add-put-byte : tie.Need-add-put-byte
-add-put-byte c = search needs
-
--- src/lib.rt:401:5
-put-byte-requires : tie.Need-put-byte-requires
-put-byte-requires c κs = search needs
-
--- src/lib.rt:402:17
-add-put-at : tie.Need-add-put-at
-add-put-at c = search needs
-
--- src/lib.rt:402:17
-add-put-at-2 : tie.Need-add-put-at-2
-add-put-at-2 c = search needs
-
--- src/lib.rt:402:5
-put-at-requires-2 : tie.Need-put-at-requires-2
-put-at-requires-2 c κs = search needs
-
--- src/lib.rt:403:19
-add-put-byte-2 : tie.Need-add-put-byte-2
-add-put-byte-2 c = search needs
-
--- src/lib.rt:403:19
-add-put-byte-3 : tie.Need-add-put-byte-3
-add-put-byte-3 c = search needs
-
--- src/lib.rt:403:19
-add-put-byte-4 : tie.Need-add-put-byte-4
-add-put-byte-4 c = search needs
-
--- src/lib.rt:403:5
-put-byte-requires-2 : tie.Need-put-byte-requires-2
-put-byte-requires-2 c κs = search needs
-
--- src/lib.rt:404:19
-add-put-byte-5 : tie.Need-add-put-byte-5
-add-put-byte-5 c = search needs
-
--- src/lib.rt:404:19
-add-put-byte-6 : tie.Need-add-put-byte-6
-add-put-byte-6 c = search needs
-
--- src/lib.rt:404:19
-add-put-byte-7 : tie.Need-add-put-byte-7
-add-put-byte-7 c = search needs
-
--- src/lib.rt:404:35
 sign-byte-requires : tie.Need-sign-byte-requires
 sign-byte-requires c κs = search needs
 
--- src/lib.rt:404:5
+put-byte-requires : tie.Need-put-byte-requires
+put-byte-requires c κs = search needs
+
+put-byte-requires-2 : tie.Need-put-byte-requires-2
+put-byte-requires-2 c κs = search needs
+
+put-at-requires-2 : tie.Need-put-at-requires-2
+put-at-requires-2 c κs = search needs
+
 put-byte-requires-3 : tie.Need-put-byte-requires-3
 put-byte-requires-3 c κs = search needs
 
--- src/lib.rt:405:17
-add-put-at-3 : tie.Need-add-put-at-3
-add-put-at-3 c = search needs
+lead-state-requires : tie.Need-lead-state-requires
+lead-state-requires c κs = search needs
 
--- src/lib.rt:405:17
-add-put-at-4 : tie.Need-add-put-at-4
-add-put-at-4 c = search needs
-
--- src/lib.rt:405:17
-add-put-at-5 : tie.Need-add-put-at-5
-add-put-at-5 c = search needs
-
--- src/lib.rt:405:5
 put-at-requires-3 : tie.Need-put-at-requires-3
 put-at-requires-3 c κs = search needs
 
--- src/lib.rt:394:1
 same-length : tie.Need-same-length
 same-length c = search needs
 
--- src/lib.rt:394:1
 returns : tie.Need-returns
-returns c = search needs
+returns c =
+    let o = c .before .before .before .before .before .before .before .before .before .before .before .before .before .before .before .before .before .before .before .before .before .before .before .before .before .before .before .before .before in
+    let a = o .args in
+    let xs = a .out .now in
+    let f = toZ-ofZ {w = w64} (o .fits .v) in
+    let g = toZ-ofZ {w = w64} (o .fits .e) in
+    let m = c .before .before .before .before .before .before .before .before .before .before .before .before .before .before .before .before .before .before .before .before .before .before .before .before .before .before .before .signed in
+    let k = c .before .before .before .before .before .before .before .before .before .before .before .before .before .before .before .before .before .before .before .before .before .before .before .before .before .before .signed2 in
+    let y : _≡_ {A = Scan} (Digits (m .result .neg) (m .result .size)) (stateOf (a .v)) = ap₂ Digits (m .ensures .0 ∙ ap negative f) (m .ensures .1 ∙ ap sizeOf f) in
+    let z : _≡_ {A = Scan} (Digits (k .result .neg) (k .result .size)) (stateOf (a .e)) = ap₂ Digits (k .ensures .0 ∙ ap negative g) (k .ensures .1 ∙ ap sizeOf g) in
+    let p₁ = c .before .before .before .before .before .before .before .before .before .before .before .before .before .before .before .before .before .before .before .before .before .before .before .before .put-at in
+    let p₂ = c .before .before .before .before .before .before .before .before .before .before .before .before .before .before .before .before .before .before .before .put-byte in
+    let p₃ = c .before .before .before .before .before .before .before .before .before .before .before .before .before .before .before .put-byte2 in
+    let p₄ = c .before .before .before .before .before .before .before .before .before .before .before .put-at2 in
+    let p₅ = c .before .before .before .before .before .before .before .put-byte3 in
+    let p₆ = c .before .before .put-at3 in
+    let s : c .before .before .before .before .before .before .before .before .before .before .before .before .before .before .before .before .before .before .before .before .sign-byte .result ≡ signByte (negative (a .e)) = c .before .before .before .before .before .before .before .before .before .before .before .before .before .before .before .before .before .before .before .before .sign-byte .ensures ∙ ap signByte (k .ensures .0 ∙ ap negative g) in
+    let l : c .before .before .before .lead-state .result ≡ leadState (a .c) (negative (a .v)) = c .before .before .before .lead-state .ensures ∙ ap (leadState (a .c)) (m .ensures .0 ∙ ap negative f) in
+    put-power xs (p₁ .last .0) (p₂ .last .0) (p₃ .last .0) (p₄ .last .0) (p₅ .last .0) (p₆ .last .0)
+    (textOf false (a .c) (leadState (a .c) (negative (a .v)))) (textOf true (a .d) (stateOf (a .v))) (textOf true (a .x) (stateOf (a .e)))
+    (signByte (negative (a .e))) (a .at) (a .c) (a .d)
+    (columns-length lastOf (backOf false) (a .c) (leadState (a .c) (negative (a .v))))
+    (columns-length lastOf (backOf true) (a .d) (stateOf (a .v)))
+    (omega (arith, o .pre))
+    (p₁ .ensures .0 ∙ ap (λ t. over (a .at + a .c + 1 + a .d + 1 + 1) (textOf true (a .x) t) xs) z)
+    (p₂ .ensures ∙ ap (λ u. over (a .at + a .c + 1 + a .d + 1) (u ∷ []) (p₁ .last .0)) s)
+    (p₃ .ensures)
+    (p₄ .ensures .0 ∙ ap (λ t. over (a .at + a .c + 1) (textOf true (a .d) t) (p₃ .last .0)) y)
+    (p₅ .ensures)
+    (p₆ .ensures .0 ∙ ap (λ t. over (a .at) (textOf false (a .c) t) (p₅ .last .0)) l)
 
 pub put-e-spec : {M : Type 1} → statement M
 put-e-spec =
@@ -112,25 +104,18 @@ put-e-spec =
     (tie.spec
     signed-requires
     signed-requires-2
-    lead-state-requires
+    add-point
+    add-first
+    add-letter
+    add-sign
+    add-second
     put-at-requires
-    add-put-byte
-    put-byte-requires
-    add-put-at
-    add-put-at-2
-    put-at-requires-2
-    add-put-byte-2
-    add-put-byte-3
-    add-put-byte-4
-    put-byte-requires-2
-    add-put-byte-5
-    add-put-byte-6
-    add-put-byte-7
     sign-byte-requires
+    put-byte-requires
+    put-byte-requires-2
+    put-at-requires-2
     put-byte-requires-3
-    add-put-at-3
-    add-put-at-4
-    add-put-at-5
+    lead-state-requires
     put-at-requires-3
     same-length
     returns)

@@ -1,52 +1,68 @@
+-- `number::put_f` meets its contract: three writes that meet, and what is left of the number after three digits are its thousands.
 use native.Mathlib.Omega.{arith}
 use borrow.Author.Needs.{needs}
+use mathlib.Core.Path.{_≡_, sym, ap, ap₂, _∙_}
+use mathlib.Core.Bool.{Bool, true, false}
+use Prim.Native.Nat.{ℕ, _+_, _/_, _-_}
+use mir.Syntax.{w64}
+use mir.Facts.{toZ-ofZ}
+use Rattle.base.specs.Part.{over}
+use Rattle.base.specs.Sign.{negative, sizeOf}
+use Rattle.base.proofs.Columns.{columns-length}
+use Rattle.number.specs.declared.Scan.{Scan}
+use Rattle.number.specs.declared.Scan.the-variants.{Digits}
+use Rattle.number.specs.Write.{lastOf, backOf, textOf, restOf, stateOf}
+use Rattle.number.proofs.Pieces.{put-point}
 use Rattle.number.proofs.put_f.Statement.{statement}
 use Rattle.number.proofs.put_f.Tie as tie
-use Rattle.number.proofs.put_f.Reads as reads
-use Rattle.number.proofs.put_f.Lts as lts
-use Rattle.number.proofs.put_at.Reads as put-at-reads
-use Rattle.number.proofs.put_byte.Reads as put-byte-reads
-use Rattle.number.proofs.signed.Reads as signed-reads
 
--- src/lib.rt:364:9
+-- what three digits leave
+thousands : (g : Bool) (n : ℕ) → _≡_ {A = Scan} (restOf true 3 (Digits g n)) (Digits g (n / 1000))
+thousands g n = ap (Digits g) (omega arith)
+
 signed-requires : tie.Need-signed-requires
 signed-requires c κs = search needs
 
--- src/lib.rt:365:13
 sub-h : tie.Need-sub-h
 sub-h c = search needs
 
--- src/lib.rt:366:28
 add-put-at : tie.Need-add-put-at
 add-put-at c = search needs
 
--- src/lib.rt:366:28
 add-put-at-2 : tie.Need-add-put-at-2
 add-put-at-2 c = search needs
 
--- src/lib.rt:366:9
 put-at-requires : tie.Need-put-at-requires
 put-at-requires c κs = search needs
 
--- src/lib.rt:367:19
 add-put-byte : tie.Need-add-put-byte
 add-put-byte c = search needs
 
--- src/lib.rt:367:5
 put-byte-requires : tie.Need-put-byte-requires
 put-byte-requires c κs = search needs
 
--- src/lib.rt:368:5
 put-at-requires-2 : tie.Need-put-at-requires-2
 put-at-requires-2 c κs = search needs
 
--- src/lib.rt:360:1
 same-length : tie.Need-same-length
 same-length c = search needs
 
--- src/lib.rt:360:1
 returns : tie.Need-returns
-returns c = search needs
+returns c =
+    let o = c .before .before .before .before .before .before .before .before .before .before .before .before .before .before in
+    let a = o .args in
+    let e = toZ-ofZ {w = w64} (o .fits .v) in
+    let m = c .before .before .before .before .before .before .before .before .before .before .before .before .signed in
+    let z : _≡_ {A = Scan} (Digits (m .result .neg) (m .result .size)) (stateOf (a .v)) = ap₂ Digits (m .ensures .0 ∙ ap negative e) (m .ensures .1 ∙ ap sizeOf e) in
+    let t = c .before .before .before .before .before .before .before .before .before .before .put-at in
+    let r : t .result ≡ Digits (negative (a .v)) (sizeOf (a .v) / 1000) = t .ensures .1 ∙ ap (restOf true 3) z ∙ thousands (negative (a .v)) (sizeOf (a .v)) in
+    put-point (a .out .now) (t .last .0) (c .before .before .before .before .before .before .put-byte .last .0) (c .before .before .put-at2 .last .0)
+    (textOf false (a .w - 4) (Digits (negative (a .v)) (sizeOf (a .v) / 1000))) (textOf true 3 (stateOf (a .v))) (a .at) (a .w - 4)
+    (columns-length lastOf (backOf false) (a .w - 4) (Digits (negative (a .v)) (sizeOf (a .v) / 1000)))
+    (omega (arith, o .pre .0, o .pre .1))
+    (t .ensures .0 ∙ ap (λ s. over (a .at + (a .w - 4) + 1) (textOf true 3 s) (a .out .now)) z)
+    (c .before .before .before .before .before .before .put-byte .ensures)
+    (c .before .before .put-at2 .ensures .0 ∙ ap (λ s. over (a .at) (textOf false (a .w - 4) s) (c .before .before .before .before .before .before .put-byte .last .0)) r)
 
 pub put-f-spec : {M : Type 1} → statement M
 put-f-spec =

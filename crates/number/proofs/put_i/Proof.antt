@@ -1,27 +1,33 @@
+-- `number::put_i` meets its contract: the columns are those of the number's sign and size.
 use native.Mathlib.Omega.{arith}
 use borrow.Author.Needs.{needs}
+use mathlib.Core.Path.{ap, ap₂, _∙_}
+use mathlib.Core.Bool.{false}
+use mir.Syntax.{w64}
+use mir.Facts.{toZ-ofZ}
+use Rattle.base.specs.Part.{over}
+use Rattle.base.specs.Sign.{negative, sizeOf}
+use Rattle.number.specs.declared.Scan.the-variants.{Digits}
+use Rattle.number.specs.Write.{textOf}
 use Rattle.number.proofs.put_i.Statement.{statement}
 use Rattle.number.proofs.put_i.Tie as tie
-use Rattle.number.proofs.put_i.Reads as reads
-use Rattle.number.proofs.put_i.Lts as lts
-use Rattle.number.proofs.put_at.Reads as put-at-reads
-use Rattle.number.proofs.signed.Reads as signed-reads
 
--- src/lib.rt:355:9
 signed-requires : tie.Need-signed-requires
 signed-requires c κs = search needs
 
--- src/lib.rt:356:5
 put-at-requires : tie.Need-put-at-requires
 put-at-requires c κs = search needs
 
--- src/lib.rt:351:1
 same-length : tie.Need-same-length
 same-length c = search needs
 
--- src/lib.rt:351:1
 returns : tie.Need-returns
-returns c = search needs
+returns c =
+    let o = c .before .before .before .before .before .before in
+    let e = toZ-ofZ {w = w64} (o .fits .v) in
+    let m = c .before .before .before .before .signed in
+    c .before .before .put-at .ensures .0
+    ∙ ap₂ (λ g n. over (o .args .at) (textOf false (o .args .w) (Digits g n)) (o .args .out .now)) (m .ensures .0 ∙ ap negative e) (m .ensures .1 ∙ ap sizeOf e)
 
 pub put-i-spec : {M : Type 1} → statement M
 put-i-spec = tie.close (tie.spec signed-requires put-at-requires same-length returns)

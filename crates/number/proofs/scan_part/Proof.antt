@@ -9,10 +9,6 @@ use Rattle.number.specs.Scan.{classOf, stepOf, scanOf, Below, Small}
 use Rattle.number.proofs.Scanning.{class-small, below-room, below-turn, scan-turn, scan-done}
 use Rattle.number.proofs.scan_part.Statement.{statement}
 use Rattle.number.proofs.scan_part.Tie as tie
-use Rattle.number.proofs.scan_part.Reads as reads
-use Rattle.number.proofs.scan_part.Lts as lts
-use Rattle.number.proofs.class.Reads as class-reads
-use Rattle.number.proofs.step.Reads as step-reads
 
 abbrev Inv-loop : tie.InvT-loop
 Inv-loop s st₀ i₀ st i = (i ≤ length s) × (scanOf st (drop i s) ≡ scanOf st₀ s) × Below (10 ^ (6 + i)) st
