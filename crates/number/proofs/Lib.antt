@@ -2,3 +2,5 @@
 pub mod Scanning
 pub mod Pieces
 pub mod Grammar
+pub mod GrammarF
+pub mod GrammarE
