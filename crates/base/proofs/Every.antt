@@ -2,7 +2,7 @@
 -- Assumes nothing.
 use mathlib.Core.Path.{_≡_, refl, sym, _∙_, ap, subst}
 use mathlib.Core.Bool.{Bool, true, false, _&&_, _||_}
-use mathlib.Core.List.{List, [], _∷_}
+use mathlib.Core.List.{List, [], _∷_, _++_}
 use mathlib.Core.Logic.{_⊎_, inl, inr, ⊎-elim}
 use Prim.Native.Nat.{ℕ, zero, suc, _+_, _-_, _<_, _≤_}
 use native.Mathlib.Nat.{add-zero, zero-add, add-suc, suc-add, le-of-suc-le-suc, not-suc-le-zero}
@@ -10,7 +10,7 @@ use native.Mathlib.Omega.{arith}
 use lib.Dec.{T, eqb, eqb→eq}
 use lib.ListN.{length, getD}
 use Rattle.base.specs.Every.{every, has, upFrom}
-use Rattle.base.proofs.Choice.{and-left, and-right, or-elim}
+use Rattle.base.proofs.Choice.{and-left, and-right, and-both, or-elim}
 
 -- what passes at every element, and at the default, passes at each index
 pub every-getD : {A : Type 0} (f : A → Bool) (d : A) (xs : List A) → T (every f xs) → T (f d) → (k : ℕ) → T (f (getD xs k d))
@@ -40,3 +40,15 @@ pub every-between : (f : ℕ → Bool) (lo n : ℕ) → T (every f (upFrom lo n)
 every-between f lo n t x a b =
     let e : lo + (x - lo) ≡ x = omega arith in
     subst (λ (m : ℕ). T (f m)) e (every-from f lo n t (x - lo) (omega arith))
+
+-- a test that passes in two lists passes in both together
+pub every-append : {A : Type 0} (f : A → Bool) (xs ys : List A) → T (every f xs) → T (every f ys) → T (every f (xs ++ ys))
+every-append f [] ys s t = t
+every-append f (x ∷ xs) ys s t =
+    and-both (f x) (every f (xs ++ ys)) (and-left (f x) (every f xs) s) (every-append f xs ys (and-right (f x) (every f xs) s) t)
+
+-- what implies another test does so in a list
+pub every-imply : {A : Type 0} (f g : A → Bool) (xs : List A) → ((x : A) → T (f x) → T (g x)) → T (every f xs) → T (every g xs)
+every-imply f g [] h t = tt
+every-imply f g (x ∷ xs) h t =
+    and-both (g x) (every g xs) (h x (and-left (f x) (every f xs) t)) (every-imply f g xs h (and-right (f x) (every f xs) t))

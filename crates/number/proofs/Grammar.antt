@@ -18,8 +18,9 @@ use Rattle.number.specs.declared.Scan.the-variants.{Blanks, Signed, Digi
 use Rattle.number.specs.declared.Number.{Number}
 use Rattle.number.specs.declared.Number.the-variants.{One, Two, Misformed}
 use Rattle.number.specs.Scan.{classOf, stepOf, scanOf}
-use Rattle.number.specs.Read.{oneOf, readI, pointOf, partsF}
-use Rattle.number.specs.Grammar.{IsI, IsF, minusOf}
+use Rattle.number.specs.Read.{oneOf, readI, pointOf}
+use Rattle.number.specs.Write.{begun}
+use Rattle.number.specs.Grammar.{IsI, minusOf}
 use Rattle.number.proofs.Scanning.{Says, class-says, digit-class, scan-append, scan-fold}
 
 -- ---- what the sentences have is read
@@ -33,11 +34,6 @@ digits-read g m (d ∷ ds) a =
 pub blanks-read : (k : ℕ) → scanOf Blanks (replicate k 32) ≡ Blanks
 blanks-read zero = refl
 blanks-read (suc k) = blanks-read k
-
--- the state after blanks and at most one minus
-abbrev pub begun : Bool → Scan
-begun true = Signed
-begun false = Blanks
 
 minus-read : (g : Bool) → scanOf Blanks (minusOf g) ≡ begun g
 minus-read true = refl

@@ -4,3 +4,5 @@ pub mod Pieces
 pub mod Grammar
 pub mod GrammarF
 pub mod GrammarE
+pub mod Unique
+pub mod Fits

@@ -17,12 +17,17 @@ lastOf Signed = 45
 lastOf (Digits g n) = 48 + n % 10
 lastOf Broken = 32
 
+-- what stands before a number's first digit
+abbrev pub begun : Bool → Scan
+begun true = Signed
+begun false = Blanks
+
 -- what the columns before the last hold: the other digits, or where there are none the minus, or blanks. Filled columns hold digits only
 abbrev pub backOf : Bool → Scan → Scan
 backOf filled Blanks = Blanks
 backOf filled Signed = Blanks
 backOf true (Digits g n) = Digits g (n / 10)
-backOf false (Digits g n) = cond (leb 10 n) (Digits g (n / 10)) (cond g Signed Blanks)
+backOf false (Digits g n) = cond (leb 10 n) (Digits g (n / 10)) (begun g)
 backOf filled Broken = Broken
 
 -- w columns with it
