@@ -79,9 +79,9 @@ right-more g n t h i =
       each = digits-append (i .digits) (n % 10 ∷ []) (i .each) (omega arith, tt);
       lean = lean-more (i .digits) (n % 10) (i .lean) (omega (arith, i .value));
       text =
-        ap (λ (l : List ℕ). l ++ ((48 + n % 10) ∷ [])) (i .text)
-        ∙ append-assoc (replicate (i .blanks) 32) (minusOf g ++ digitText (i .digits)) ((48 + n % 10) ∷ [])
-        ∙ ap (λ (l : List ℕ). replicate (i .blanks) 32 ++ l) (append-assoc (minusOf g) (digitText (i .digits)) ((48 + n % 10) ∷ []) ∙ ap (λ (l : List ℕ). minusOf g ++ l) (sym (text-append (i .digits) (n % 10 ∷ []))));
+          ap (λ (l : List ℕ). l ++ ((48 + n % 10) ∷ [])) (i .text)
+          ∙ append-assoc (replicate (i .blanks) 32) (minusOf g ++ digitText (i .digits)) ((48 + n % 10) ∷ [])
+          ∙ ap (λ (l : List ℕ). replicate (i .blanks) 32 ++ l) (append-assoc (minusOf g) (digitText (i .digits)) ((48 + n % 10) ∷ []) ∙ ap (λ (l : List ℕ). minusOf g ++ l) (sym (text-append (i .digits) (n % 10 ∷ []))));
       value = number-append 0 (i .digits) (n % 10 ∷ []) ∙ ap (λ m. m * 10 + n % 10) (i .value) ∙ omega arith;
     }
 
@@ -113,10 +113,10 @@ padded (suc k) g n =
       many = length-append (i .digits) (n % 10 ∷ []) ∙ ap (λ j. j + 1) (i .many) ∙ add-one k;
       text = ap (λ (l : List ℕ). l ++ ((48 + n % 10) ∷ [])) (i .text) ∙ sym (text-append (i .digits) (n % 10 ∷ []));
       value =
-        ap (λ m. numberFrom m (i .digits ++ (n % 10 ∷ []))) q
-        ∙ number-append (n / 10 / 10 ^ k) (i .digits) (n % 10 ∷ [])
-        ∙ ap (λ m. m * 10 + n % 10) (i .value)
-        ∙ omega arith;
+          ap (λ m. numberFrom m (i .digits ++ (n % 10 ∷ []))) q
+          ∙ number-append (n / 10 / 10 ^ k) (i .digits) (n % 10 ∷ [])
+          ∙ ap (λ m. m * 10 + n % 10) (i .value)
+          ∙ omega arith;
     }
 
 -- a number that its columns hold
@@ -201,9 +201,9 @@ module _ (h low high : ℕ) (l : suc low ≡ 10 ^ (h + 4)) (u : suc high ≡ 10 
       let v : numberOf (r .digits ++ p .digits) ≡ n = number-append 0 (r .digits) (p .digits) ∙ ap (λ m. numberFrom m (p .digits)) (r .value) ∙ p .value in
       record {
         width =
-          length-append (textOf false (h + 6 - 4) (Digits g (n / 1000))) (46 ∷ textOf true 3 (stateOf z))
-          ∙ ap (λ k. k + 4) (columns-length lastOf (backOf false) (h + 6 - 4) (Digits g (n / 1000)))
-          ∙ omega arith;
+            length-append (textOf false (h + 6 - 4) (Digits g (n / 1000))) (46 ∷ textOf true 3 (stateOf z))
+            ∙ ap (λ k. k + 4) (columns-length lastOf (backOf false) (h + 6 - 4) (Digits g (n / 1000)))
+            ∙ omega arith;
         blanks = r .blanks;
         sign = g;
         units = r .digits;

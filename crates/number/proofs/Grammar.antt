@@ -127,9 +127,9 @@ more-digit g n t b d h p q =
       each = digits-append (h .digits) (d ∷ []) (h .each) (q, tt);
       some = simp length-append (omega arith);
       text =
-        ap₂ (λ u x. u ++ (x ∷ [])) (h .text) p
-        ∙ append-assoc (replicate (h .blanks) 32) (minusOf g ++ digitText (h .digits)) ((48 + d) ∷ [])
-        ∙ ap (λ l. replicate (h .blanks) 32 ++ l) (append-assoc (minusOf g) (digitText (h .digits)) ((48 + d) ∷ []) ∙ ap (λ l. minusOf g ++ l) (sym (text-append (h .digits) (d ∷ []))));
+          ap₂ (λ u x. u ++ (x ∷ [])) (h .text) p
+          ∙ append-assoc (replicate (h .blanks) 32) (minusOf g ++ digitText (h .digits)) ((48 + d) ∷ [])
+          ∙ ap (λ l. replicate (h .blanks) 32 ++ l) (append-assoc (minusOf g) (digitText (h .digits)) ((48 + d) ∷ []) ∙ ap (λ l. minusOf g ++ l) (sym (text-append (h .digits) (d ∷ []))));
       value = number-append 0 (h .digits) (d ∷ []) ∙ ap (λ m. m * 10 + d) (h .value);
     }
 

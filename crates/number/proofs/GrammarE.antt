@@ -245,10 +245,10 @@ module _ {c d x : ℕ} {s : List ℕ} (p : Parts c d x s) (m e : ℤ) (h : 1 ≤
         every = b .each;
         places = simp length-map at (sym (ap length (b .text)) ∙ p .lengths .2);
         text =
-          p .is
-          ∙ sym (append-assoc (p .front) (p .last ∷ []) (p .point ∷ (p .digits ++ (p .letter ∷ p .sign ∷ p .exponent))))
-          ∙ ap₂ (λ t u. t ++ u) (l .text)
-          (ap₂ (λ y t. y ∷ t) f (ap₂ (λ t u. t ++ u) (a .text) (ap₂ (λ y t. y ∷ t) g (ap₂ (λ y t. y ∷ t) (k .text) (b .text)))));
+            p .is
+            ∙ sym (append-assoc (p .front) (p .last ∷ []) (p .point ∷ (p .digits ++ (p .letter ∷ p .sign ∷ p .exponent))))
+            ∙ ap₂ (λ t u. t ++ u) (l .text)
+            (ap₂ (λ y t. y ∷ t) f (ap₂ (λ t u. t ++ u) (a .text) (ap₂ (λ y t. y ∷ t) g (ap₂ (λ y t. y ∷ t) (k .text) (b .text)))));
         first = a .value;
         second = b .value;
       }

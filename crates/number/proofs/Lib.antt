@@ -6,3 +6,5 @@ pub mod GrammarF
 pub mod GrammarE
 pub mod Unique
 pub mod Fits
+pub mod Leads
+pub mod Text

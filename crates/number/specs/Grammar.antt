@@ -2,9 +2,12 @@
 use mathlib.Core.Path.{_≡_}
 use mathlib.Core.Bool.{Bool, true, false}
 use mathlib.Core.List.{List, [], _∷_, _++_}
+use mathlib.Core.Logic.{_⊎_}
 use Prim.Native.Nat.{ℕ, _<_}
+use Prim.Native.String.{String}
 use lib.IntN.{ℤ}
 use lib.ListN.{length, replicate}
+use Rattle.base.specs.Ascii.{bytes}
 use Rattle.base.specs.Sign.{ofSign}
 use Rattle.base.specs.Digits.{AllDigits, numberOf, digitText}
 
@@ -35,8 +38,8 @@ pub record IsF (s : List ℕ) (z : ℤ) : Type 0 where
   pub text : s ≡ replicate blanks 32 ++ (minusOf minus ++ (digitText units ++ (46 ∷ digitText thousandths)))
   pub value : z ≡ ofSign minus (numberOf (units ++ thousandths))
 
--- What the columns before E's point end in, behind blanks: `0`, minus and `0`, a blank, or a minus. In one column these are "`0`, blank or
--- minus", in three "two blanks and `0`, blank minus `0`, three blanks, or two blanks and minus".
+-- What the columns before E's point end in, behind blanks: `0`, minus and `0`, a blank, or a minus. In one column these are the three texts
+-- of `oneColumn`, in three columns the four of `threeColumns` (proofs/Leads).
 pub data Lead : Type 0 where
   nought minusNought bare minus : Lead
 
@@ -51,6 +54,29 @@ leadMinus nought = false
 leadMinus minusNought = true
 leadMinus bare = false
 leadMinus minus = true
+
+-- a text before the point, with its sign
+pub record Shape : Type 0 where
+  pub minus : Bool
+  pub text : String
+
+-- E11.6E1, E8.3E1: "first column `0`, blank or minus"
+abbrev pub oneColumn : List Shape
+oneColumn = record { minus = false; text = "0" } ∷ record { minus = false; text = " " } ∷ record { minus = true; text = "-" } ∷ []
+
+-- E20.12E2: "the first three columns are two blanks and `0`, blank minus `0`, three blanks, or two blanks and minus"
+abbrev pub threeColumns : List Shape
+threeColumns =
+    record { minus = false; text = "  0" }
+    ∷ record { minus = true; text = " -0" }
+    ∷ record { minus = false; text = "   " }
+    ∷ record { minus = true; text = "  -" }
+    ∷ []
+
+-- the text is one of these, with that sign
+abbrev pub AnyOf : List Shape → Bool → List ℕ → Type 0
+AnyOf [] g t = ⊥
+AnyOf (s ∷ ss) g t = ((g ≡ s .minus) × (t ≡ bytes (s .text))) ⊎ AnyOf ss g t
 
 -- the exponent's sign: "plus or minus"
 abbrev pub signByte : Bool → ℕ

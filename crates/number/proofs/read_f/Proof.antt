@@ -54,7 +54,7 @@ finish-requires c κs =
     let s = c .before .before .before .before .before .before .before .before .args .s .now in (
       simp (length-take, length-drop) (omega arith),
       rw (c .point .ensures, c .before .before .scan-part .ensures)
-      (point-below 999999 (scanOf Blanks (part 0 (length s - 4) s)) (scan-bound (part 0 (length s - 4) s) 0 6 Blanks (simp (length-take, length-drop) (omega arith)) tt)),
+          (point-below 999999 (scanOf Blanks (part 0 (length s - 4) s)) (scan-bound (part 0 (length s - 4) s) 0 6 Blanks (simp (length-take, length-drop) (omega arith)) tt)),
     )
 
 returns-3 : tie.Need-returns-3
