@@ -1,6 +1,8 @@
 -- The laws of base's definitions, a file to a subject.
 pub mod Choice
 pub mod Every
+pub mod Index
+pub mod Order
 pub mod Part
 pub mod Columns
 pub mod Digits

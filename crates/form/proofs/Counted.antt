@@ -1,0 +1,27 @@
+-- What a reader may hold a group's lines to: k lines are enough for its elements and k - 1 are not; the last line has what the full
+-- lines before it leave, at least one element and no more than a full line.
+-- Assumes nothing.
+use mathlib.Core.Path.{_≡_, refl}
+use mathlib.Core.List.{[], _∷_, map}
+use mathlib.Core.Logic.{_↔_}
+use Prim.Native.Nat.{ℕ, _<_}
+use Rattle.form.specs.declared.Form.{Form}
+use Rattle.form.specs.declared.Form.the-variants.{F8}
+use Rattle.form.specs.Table.{entryOf, rowOf}
+use Rattle.form.specs.Count.{elementsOf, roundedUp, linesOf, lastOf, Takes, Leaves}
+use Rattle.form.proofs.Rows.{row-fits}
+use Rattle.form.proofs.Rounding.{lines-are, last-line}
+
+-- both directions: so many lines, and no other number, are what the elements need
+pub lines-needed : (f : Form) (n k : ℕ) → linesOf f n ≡ k ↔ Takes (elementsOf f n) (rowOf f .«per_line») k
+unfolding linesOf
+lines-needed f n k = lines-are (elementsOf f n) (rowOf f .«per_line») (row-fits f .some) k
+
+pub last-left : (f : Form) (n : ℕ) → 0 < elementsOf f n → Leaves (elementsOf f n) (rowOf f .«per_line») (linesOf f n) (lastOf f n)
+unfolding lastOf linesOf
+last-left f n more = last-line (elementsOf f n) (rowOf f .«per_line») (row-fits f .some) more
+
+-- Marked case 8: "F8.3 counts 0, 15, 16 have 0, 1, 2 lines."
+pub marked-lines : map (linesOf F8) (0 ∷ 15 ∷ 16 ∷ []) ≡ 0 ∷ 1 ∷ 2 ∷ []
+unfolding linesOf roundedUp elementsOf rowOf entryOf
+marked-lines = refl

@@ -1,0 +1,28 @@
+-- `form::cells` meets its contract: a row's cells are at most 120, so the product fits.
+-- Assumes nothing.
+use Prim.Native.Nat.{_≤_}
+use native.Mathlib.Nat.{mul-le-mul}
+use native.Mathlib.Omega.{arith}
+use borrow.Author.Needs.{needs}
+use Rattle.form.specs.Count.{elementsOf, cellsOf}
+use Rattle.form.proofs.Rows.{fits-by, elements-few}
+use Rattle.form.proofs.cells.Statement.{statement}
+use Rattle.form.proofs.cells.Tie as tie
+
+elements-requires : tie.Need-elements-requires
+elements-requires c κs = search needs
+
+row-of-requires : tie.Need-row-of-requires
+row-of-requires c κs = search needs
+
+mul-result : tie.Need-mul-result
+mul-result c =
+    let few : c .before .before .elements .result ≤ 65535 = omega (arith, elements-few (c .before .before .before .args .form) (c .before .before .before .args .count) (omega arith), c .before .before .elements .ensures) in
+    record { fits = omega (arith, mul-le-mul few (fits-by (c .before .before .before .args .form) (c .before .row-of .ensures) .few-cells)) }
+
+returns : tie.Need-returns
+unfolding cellsOf
+returns c = rw (c .before .before .elements .ensures, c .before .row-of .ensures)
+
+pub cells-spec : {M : Type 1} → statement M
+cells-spec = tie.close (tie.spec elements-requires row-of-requires mul-result returns)

@@ -1,0 +1,198 @@
+// The ten field forms: which group has which, what each takes, and the lines, elements and cells of a group's count.
+ghost use mathlib.Core.Path.{_≡_};
+ghost use Prim.Native.Nat.{_<_};
+ghost use Rattle.form.specs.Table.{numberOf, rowOf, formOf};
+ghost use Rattle.form.specs.Count.{elementsOf, roundedUp, linesOf, cellsOf, lastOf};
+
+// A form is named by its letter and its width; the number of decimals follows from these.
+pub enum Form {
+    F7,
+    A120,
+    A1,
+    F8,
+    I2,
+    I3,
+    I1,
+    E11,
+    E20,
+    E8,
+}
+
+// What stands under a group number.
+pub enum GroupForm {
+    Has(Form),
+    NoGroup,
+}
+
+// A form's field has `width` columns and gives `cells` cells; a full line has `per_line` elements.
+pub struct Row {
+    pub width: usize,
+    pub per_line: usize,
+    pub cells: usize,
+}
+
+// "Each field form has its width, its elements per line and its cells", in the order of the enum.
+pub const ROWS: [Row; 10] = [
+    Row {
+        width: 7,
+        per_line: 16,
+        cells: 1,
+    },
+    Row {
+        width: 120,
+        per_line: 1,
+        cells: 120,
+    },
+    Row {
+        width: 1,
+        per_line: 120,
+        cells: 1,
+    },
+    Row {
+        width: 8,
+        per_line: 15,
+        cells: 1,
+    },
+    Row {
+        width: 2,
+        per_line: 60,
+        cells: 1,
+    },
+    Row {
+        width: 3,
+        per_line: 40,
+        cells: 1,
+    },
+    Row {
+        width: 1,
+        per_line: 120,
+        cells: 1,
+    },
+    Row {
+        width: 11,
+        per_line: 10,
+        cells: 2,
+    },
+    Row {
+        width: 20,
+        per_line: 6,
+        cells: 2,
+    },
+    Row {
+        width: 8,
+        per_line: 15,
+        cells: 2,
+    },
+];
+
+// "The form follows from the group number by ranges and single numbers."
+pub fn form_of(group: usize) -> GroupForm
+    ensures { λ r. ⌜ r ≡ formOf group ⌝ }
+{
+    match group {
+        1 | 6 => GroupForm::Has(Form::F7),
+        2 => GroupForm::Has(Form::A120),
+        3 | 54 | 55 => GroupForm::Has(Form::A1),
+        4
+        | 7
+        | 8
+        | 11..=13
+        | 16..=18
+        | 21
+        | 22
+        | 25
+        | 26
+        | 29
+        | 30
+        | 33
+        | 43
+        | 46
+        | 47
+        | 50..=52
+        | 58
+        | 59 => GroupForm::Has(Form::F8),
+        5 => GroupForm::Has(Form::I2),
+        9 | 14 | 19 | 23 | 27 | 31 | 34..=36 | 44 | 48 => GroupForm::Has(Form::I3),
+        10 | 15 | 20 | 24 | 28 | 32 | 41 | 45 | 49 | 56 => GroupForm::Has(Form::I1),
+        37..=39 | 42 | 57 => GroupForm::Has(Form::E11),
+        40 => GroupForm::Has(Form::E20),
+        53 | 60 => GroupForm::Has(Form::E8),
+        _ => GroupForm::NoGroup,
+    }
+}
+
+// A form's row number, from 0. A constant table is built anew where it is indexed, so a loop that asks for many rows copies ROWS before it
+// begins, and takes its rows by this number.
+pub fn number(form: Form) -> usize
+    ensures { λ r. ⌜ r ≡ numberOf form ⌝ }
+{
+    match form {
+        Form::F7 => 0,
+        Form::A120 => 1,
+        Form::A1 => 2,
+        Form::F8 => 3,
+        Form::I2 => 4,
+        Form::I3 => 5,
+        Form::I1 => 6,
+        Form::E11 => 7,
+        Form::E20 => 8,
+        Form::E8 => 9,
+    }
+}
+
+pub fn row_of(form: Form) -> Row
+    ensures { λ r. ⌜ r ≡ rowOf form ⌝ }
+{
+    let k = number(form);
+    ROWS[k]
+}
+
+// The elements of a group of this form and count.
+pub fn elements(form: Form, count: u16) -> usize
+    ensures { λ r. ⌜ r ≡ elementsOf form count ⌝ }
+{
+    count as usize
+}
+
+// n divided by p, rounded up; 0 where p is 0.
+pub fn rounded_up(n: usize, p: usize) -> usize
+    ensures { λ r. ⌜ r ≡ roundedUp n p ⌝ }
+{
+    if n == 0 {
+        return 0;
+    }
+    if p == 0 {
+        return 0;
+    }
+    (n - 1) / p + 1
+}
+
+// Its lines: rounded up, none for no elements.
+pub fn lines(form: Form, count: u16) -> usize
+    ensures { λ r. ⌜ r ≡ linesOf form count ⌝ }
+{
+    let n = elements(form, count);
+    let row = row_of(form);
+    rounded_up(n, row.per_line)
+}
+
+// Its cells.
+pub fn cells(form: Form, count: u16) -> usize
+    ensures { λ r. ⌜ r ≡ cellsOf form count ⌝ }
+{
+    let n = elements(form, count);
+    let row = row_of(form);
+    n * row.cells
+}
+
+// The elements on its last line; 0 where it has no line.
+pub fn last(form: Form, count: u16) -> usize
+    ensures { λ r. ⌜ r ≡ lastOf form count ⌝ }
+{
+    let n = elements(form, count);
+    if n == 0 {
+        return 0;
+    }
+    let row = row_of(form);
+    (n - 1) % row.per_line + 1
+}
