@@ -6,9 +6,11 @@ use mathlib.Core.List.{List, [], _∷_, _++_}
 use mathlib.Core.Logic.{_⊎_, inl, inr, ⊎-elim}
 use Prim.Native.Nat.{ℕ, zero, suc, _+_, _-_, _<_, _≤_}
 use native.Mathlib.Nat.{add-zero, zero-add, add-suc, suc-add, le-of-suc-le-suc, not-suc-le-zero}
+use native.Mathlib.Numerals.{add-one}
 use native.Mathlib.Omega.{arith}
 use lib.Dec.{T, eqb, eqb→eq}
-use lib.ListN.{length, getD}
+use lib.ListN.{length, drop, getD, drop-of-length-le}
+use lib.Seq.{drop-cons}
 use Rattle.base.specs.Every.{every, has, upFrom}
 use Rattle.base.proofs.Choice.{and-left, and-right, and-both, or-elim}
 
@@ -52,3 +54,19 @@ pub every-imply : {A : Type 0} (f g : A → Bool) (xs : List A) → ((x : A) →
 every-imply f g [] h t = tt
 every-imply f g (x ∷ xs) h t =
     and-both (g x) (every g xs) (h x (and-left (f x) (every f xs) t)) (every-imply f g xs h (and-right (f x) (every f xs) t))
+
+-- a loop that looks for an element at which the test fails: a turn, where it stops, where it ends
+pub every-turn : {A : Type 0} (f : A → Bool) (xs : List A) (i : ℕ) (d : A) → i < length xs → f (getD xs i d) ≡ true → every f (drop (i + 1) xs) ≡ every f (drop i xs)
+every-turn f xs i d h e = rw (add-one i, drop-cons xs i d h, e)
+
+pub every-stop : {A : Type 0} (f : A → Bool) (xs : List A) (i : ℕ) (d : A) → i < length xs → f (getD xs i d) ≡ false → every f (drop i xs) ≡ false
+every-stop f xs i d h e = rw (drop-cons xs i d h, e)
+
+pub every-done : {A : Type 0} (f : A → Bool) (xs : List A) (i : ℕ) → length xs ≤ i → every f (drop i xs) ≡ true
+every-done f xs i h = rw (drop-of-length-le xs h)
+
+-- what passes at every element passes at each index
+pub every-at : {A : Type 0} (f : A → Bool) (d : A) (xs : List A) → T (every f xs) → (k : ℕ) → k < length xs → T (f (getD xs k d))
+every-at f d [] t k h = absurd (not-suc-le-zero h)
+every-at f d (x ∷ xs) t zero h = and-left (f x) (every f xs) t
+every-at f d (x ∷ xs) t (suc k) h = every-at f d xs (and-right (f x) (every f xs) t) k (le-of-suc-le-suc h)

@@ -6,8 +6,8 @@ use Prim.Native.Nat.{ℕ, _+_, _-_, _<_, _≤_}
 use native.Mathlib.Nat.{add-assoc, zero-add, add-zero}
 use native.Mathlib.Numerals.{add-one}
 use native.Mathlib.Omega.{arith}
-use lib.ListN.{length, take, drop, set, take-append-drop, length-append, length-take, length-drop, drop-of-length-le}
-use lib.Seq.{take-at, drop-at, drop-drop, length-take-le, set-split, take-append-le, take-take}
+use lib.ListN.{length, take, drop, set, getD, take-append-drop, length-append, length-take, length-drop, drop-of-length-le}
+use lib.Seq.{take-at, drop-at, drop-drop, length-take-le, set-split, take-append-le, take-take, take-suc}
 use Rattle.base.specs.Part.{part, over}
 
 pub part-length : {A : Type 0} (xs : List A) (at w : ℕ) → at + w ≤ length xs → length (part at (at + w) xs) ≡ w
@@ -57,3 +57,11 @@ over-before xs ys zs a b at k e h p q =
 -- a part that was lent as `&mut xs[at..at + k]`, as it comes back
 pub over-lent : {A : Type 0} (xs ys : List A) (at k : ℕ) → length ys ≡ k → take at xs ++ (ys ++ drop k (drop at xs)) ≡ over at ys xs
 over-lent xs ys at k e = rw (drop-drop k at xs, e)
+
+-- a loop that stores the elements of ys one behind the other
+pub over-turn : {A : Type 0} (xs ys zs : List A) (at i : ℕ) (d : A) → i < length ys → at + length ys ≤ length xs → zs ≡ over at (take i ys) xs → set zs (at + i) (getD ys i d) ≡ over at (take (i + 1) ys) xs
+over-turn xs ys zs at i d h r e =
+    let l : length (take i ys) ≡ i = length-take-le i ys (omega arith) in
+    let m : length zs ≡ length xs = ap length e ∙ over-length xs (take i ys) at (omega arith) in
+    rw (add-one i, take-suc ys i d h)
+    (over-then xs zs (set zs (at + i) (getD ys i d)) (take i ys) (getD ys i d ∷ []) at (at + i) (omega arith) (omega arith) e (over-one zs (at + i) (getD ys i d) (omega arith)))

@@ -20,7 +20,7 @@ kindOf E20 = Power 3 12 2 999999999999 99
 kindOf A1 = OneLetter
 kindOf A120 = AllLetters 120
 
--- the width and the number of cells, which are the form's row (`kind-row` in proofs/Kinds)
+-- the width and the number of cells, which are the form's row (`kind-row` in proofs/Forms)
 abbrev pub widthOf : Kind → ℕ
 widthOf (Whole w low high) = w
 widthOf (Fixed w low high) = w
@@ -43,3 +43,11 @@ Tens (Fixed w low high) = (6 ≤ w) × (suc low ≡ 10 ^ (w - 2)) × (suc high �
 Tens (Power c d x p q) = (1 ≤ c) × (suc p ≡ 10 ^ d) × (suc q ≡ 10 ^ x)
 Tens OneLetter = Unit {0}
 Tens (AllLetters w) = Unit {0}
+
+-- widths that an i64 and the machine's sums hold
+abbrev pub Small : Kind → Type 0
+Small (Whole w low high) = w ≤ 10
+Small (Fixed w low high) = (6 ≤ w) × (w ≤ 10)
+Small (Power c d x p q) = (1 ≤ c) × (c ≤ 12) × (d ≤ 12) × (1 ≤ x) × (x ≤ 12)
+Small OneLetter = Unit {0}
+Small (AllLetters w) = w ≤ 120

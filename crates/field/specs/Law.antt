@@ -1,8 +1,7 @@
 -- What callers know of every form: the laws of its field, in one record.
 use mathlib.Core.Path.{_≡_}
-use mathlib.Core.Bool.{Bool}
 use mathlib.Core.List.{List}
-use Prim.Native.Nat.{ℕ, _≤_}
+use Prim.Native.Nat.{ℕ}
 use lib.Dec.{T}
 use lib.IntN.{ℤ}
 use lib.ListN.{length}
@@ -10,20 +9,10 @@ use Rattle.base.specs.Ascii.{printable}
 use Rattle.base.specs.Every.{every}
 use Rattle.form.specs.declared.Form.{Form}
 use Rattle.form.specs.Table.{rowOf}
-use Rattle.field.specs.declared.Kind.{Kind}
-use Rattle.field.specs.declared.Kind.the-variants.{Whole, Fixed, Power, OneLetter, AllLetters}
 use Rattle.field.specs.Read.{Reads}
 use Rattle.field.specs.Write.{fitsOf, fieldText}
 use Rattle.field.specs.Grammar.{IsField}
 use Rattle.field.specs.Canonical.{IsCanonical}
-
--- widths that an i64 and the machine's sums hold
-abbrev pub Small : Kind → Type 0
-Small (Whole w low high) = w ≤ 10
-Small (Fixed w low high) = (6 ≤ w) × (w ≤ 10)
-Small (Power c d x p q) = (1 ≤ c) × (c ≤ 12) × (d ≤ 12) × (1 ≤ x) × (x ≤ 12)
-Small OneLetter = Unit {0}
-Small (AllLetters w) = w ≤ 120
 
 pub record Lawful (f : Form) : Type 0 where
   -- a field is what 01's sentences say, both ways

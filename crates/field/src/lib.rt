@@ -13,11 +13,11 @@ ghost use Rattle.base.specs.Every.{every};
 ghost use Rattle.base.specs.Part.{over};
 ghost use Rattle.base.specs.Sign.{sizeOf};
 ghost use Rattle.form.specs.Table.{rowOf};
-ghost use Rattle.field.specs.Kind.{kindOf, widthOf, countOf};
+ghost use Rattle.number.specs.Scan.{Below};
+ghost use Rattle.field.specs.Kind.{kindOf, widthOf, countOf, Small};
 ghost use Rattle.field.specs.Read.{valueOf, readAs, fieldOf};
 ghost use Rattle.field.specs.Write.{isLetter, rangeOf, fitsOf, textAs, fieldText, writtenBy, outBy};
 ghost use Rattle.field.specs.Entry.{countIn, entryOf, entryText, entryFits};
-ghost use Rattle.field.specs.Law.{Small};
 
 // What a field reads as: a cell; the two cells of an E field; letters, whose cells are the bytes themselves.
 pub enum Value {
@@ -417,7 +417,7 @@ pub fn write(form: Form, cells: &[i64], out: &mut [u8], at: usize) -> Written
 // ---- Index entries.
 
 fn count_in(st: Scan) -> Entry
-    requires { ⌜ Below 1000000000000000000 st ⌝ }
+    requires { ⌜ Below 1000 st ⌝ }
     ensures { λ r. ⌜ r ≡ countIn st ⌝ }
 {
     match st {

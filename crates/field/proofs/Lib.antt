@@ -1,0 +1,4 @@
+-- What the proofs of `field` share, and the theorems on fields of the ten forms.
+pub mod Forms
+pub mod Letters
+pub mod Room

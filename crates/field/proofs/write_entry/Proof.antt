@@ -1,0 +1,43 @@
+-- `field::write_entry` meets its contract: the tests that led to each return choose the answer.
+use native.Mathlib.Omega.{arith}
+use borrow.Author.Needs.{needs}
+use mathlib.Core.Path.{_≡_, sym, ap, _∙_}
+use borrow.Author.Tests.{le-leb, lt-leb, leb-true}
+use Prim.Native.Nat.{_+_}
+use lib.ListN.{length}
+use Rattle.field.proofs.write_entry.Statement.{statement}
+use Rattle.field.proofs.write_entry.Tie as tie
+use Rattle.field.proofs.write_entry.Reads as reads
+use Rattle.field.proofs.write_entry.Lts as lts
+use Rattle.field.proofs.has_room.Reads as has-room-reads
+use Rattle.number.proofs.put_at.Reads as put-at-reads
+
+-- src/lib.rt:451:9
+returns : tie.Need-returns
+returns c = (simp (lt-leb _ _ (c .if1 .taken)), search needs)
+
+-- src/lib.rt:453:8
+has-room-requires : tie.Need-has-room-requires
+has-room-requires c κs = search needs
+
+-- src/lib.rt:454:9
+put-at-requires : tie.Need-put-at-requires
+put-at-requires c κs = omega (arith, leb-true (c .before .before .before .before .before .args .at + 3) (length (c .before .before .before .before .before .args .out .now)) (sym (c .before .before .has-room .ensures) ∙ c .before .if2 .taken))
+
+-- src/lib.rt:455:9
+same-length : tie.Need-same-length
+same-length c = search needs
+
+-- src/lib.rt:455:9
+returns-2 : tie.Need-returns-2
+returns-2 c =
+    let a = c .before .before .before .before .before .before .before .before .args in
+    (simp (le-leb _ _ (c .before .before .before .before .before .before .if1 .left), sym (c .before .before .before .before .before .has-room .ensures) ∙ c .before .before .before .before .if2 .taken), c .before .before .put-at .ensures .0)
+
+-- src/lib.rt:447:1
+returns-3 : tie.Need-returns-3
+returns-3 c = (simp (le-leb _ _ (c .before .before .if1 .left), sym (c .before .has-room .ensures) ∙ c .if2 .left), search needs)
+
+pub write-entry-spec : {M : Type 1} → statement M
+write-entry-spec =
+    tie.close (tie.spec returns has-room-requires put-at-requires same-length returns-2 returns-3)
