@@ -1,7 +1,7 @@
 // One field of a form: read, asked whether cells have one at all, and written canonically; and index entries.
 use form::Form;
-use number::{Number, Scan};
-
+use number::Number;
+use number::Scan;
 ghost use mathlib.Core.Path.{_≡_};
 ghost use mathlib.Core.Bool.{Bool};
 ghost use Prim.Native.Nat.{ℕ, _+_, _<_, _≤_};

@@ -1,32 +1,35 @@
+-- `field::read` meets its contract: the kind's width is that of the form's row.
 use native.Mathlib.Omega.{arith}
 use borrow.Author.Needs.{needs}
+use mathlib.Core.Path.{_≡_, sym, ap, _∙_}
+use borrow.Author.Tests.{eq-eqb, ne-eqb}
+use lib.ListN.{length}
+use Rattle.form.specs.Table.{rowOf}
+use Rattle.field.specs.Kind.{widthOf}
+use Rattle.field.specs.Read.{readAs, fieldOf}
+use Rattle.field.proofs.Forms.{kind-width, kind-small}
 use Rattle.field.proofs.read.Statement.{statement}
 use Rattle.field.proofs.read.Tie as tie
-use Rattle.field.proofs.read.Reads as reads
-use Rattle.field.proofs.read.Lts as lts
-use Rattle.field.proofs.kind_of.Reads as kind-of-reads
-use Rattle.field.proofs.read_as.Reads as read-as-reads
-use Rattle.field.proofs.width_of.Reads as width-of-reads
 
--- src/lib.rt:265:9
+width : (c : tie.After-width-of) → c .width-of .result ≡ rowOf (c .before .before .before .args .form) .width
+width c = c .width-of .ensures ∙ ap widthOf (c .before .kind-of .ensures) ∙ kind-width (c .before .before .before .args .form)
+
 kind-of-requires : tie.Need-kind-of-requires
 kind-of-requires c κs = search needs
 
--- src/lib.rt:266:23
 width-of-requires : tie.Need-width-of-requires
-width-of-requires c κs = search needs
+width-of-requires c κs = rw (c .kind-of .ensures) (kind-small (c .before .before .args .form))
 
--- src/lib.rt:267:9
 returns : tie.Need-returns
-returns c = search needs
+unfolding fieldOf
+returns c = rw (ne-eqb (length (c .before .before .before .before .args .field .now)) (rowOf (c .before .before .before .before .args .form) .width) (λ e. c .if1 .taken (e ∙ sym (width (c .before)))))
 
--- src/lib.rt:269:5
 read-as-requires : tie.Need-read-as-requires
-read-as-requires c κs = search needs
+read-as-requires c κs = (c .if1 .left ∙ c .before .width-of .ensures, rw (c .before .before .kind-of .ensures) (kind-small (c .before .before .before .before .args .form)))
 
--- src/lib.rt:262:1
 returns-2 : tie.Need-returns-2
-returns-2 c = search needs
+unfolding fieldOf
+returns-2 c = rw (eq-eqb (length (c .before .before .before .before .before .args .field .now)) (rowOf (c .before .before .before .before .before .args .form) .width) (c .before .if1 .left ∙ width (c .before .before))) (c .read-as .ensures ∙ ap (λ k. readAs k (c .before .before .before .before .before .args .field .now)) (c .before .before .before .kind-of .ensures))
 
 pub read-spec : {M : Type 1} → statement M
 read-spec =

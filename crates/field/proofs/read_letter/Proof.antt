@@ -1,33 +1,28 @@
+-- `field::read_letter` meets its contract: the one byte's code is the cell.
+use borrow.Author.Needs.{needs, sfits-of}
+use mathlib.Core.Path.{sym, ap, _∙_}
 use native.Mathlib.Omega.{arith}
-use borrow.Author.Needs.{needs}
+use mir.Syntax.{w64}
+use mir.Facts.{toZ-ofZ}
+use Rattle.field.specs.declared.Value.the-variants.{Cell}
 use Rattle.field.proofs.read_letter.Statement.{statement}
 use Rattle.field.proofs.read_letter.Tie as tie
-use Rattle.field.proofs.read_letter.Reads as reads
-use Rattle.field.proofs.read_letter.Lts as lts
-use Rattle.field.proofs.all_printable.Reads as all-printable-reads
-use Rattle.number.proofs.cell.Reads as cell-reads
 
--- src/lib.rt:219:8
 all-printable-requires : tie.Need-all-printable-requires
 all-printable-requires c κs = search needs
 
--- src/lib.rt:220:48
 shared-slice-read-cell : tie.Need-shared-slice-read-cell
 shared-slice-read-cell c = search needs
 
--- src/lib.rt:220:48
 cast-cell : tie.Need-cast-cell
-cast-cell c = search needs
+cast-cell c = omega (arith, c .shared-slice-known2 .given 0)
 
--- src/lib.rt:220:28
 cell-requires : tie.Need-cell-requires
-cell-requires c κs = search needs
+cell-requires c κs = omega (arith, c .shared-slice-known2 .given 0)
 
--- src/lib.rt:220:9
 returns : tie.Need-returns
-returns c = search needs
+returns c = simp (sym (c .before .before .before .all-printable .ensures) ∙ c .before .before .if1 .taken) (ap Cell (toZ-ofZ (sfits-of {w = w64} (c .cell .ok)) ∙ c .cell .ensures))
 
--- src/lib.rt:215:1
 returns-2 : tie.Need-returns-2
 returns-2 c = search needs
 
