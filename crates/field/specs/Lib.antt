@@ -7,3 +7,4 @@ pub mod Read
 pub mod Write
 pub mod Entry
 pub mod Law
+pub mod Cases
