@@ -7,3 +7,4 @@ pub mod Part
 pub mod Columns
 pub mod Digits
 pub mod Sign
+pub mod Ascii

@@ -1,7 +1,7 @@
 -- Codes of characters.
 use mathlib.Core.Bool.{Bool, _&&_}
 use mathlib.Core.List.{List, [], _∷_}
-use Prim.Native.Char.{Char, code}
+use Prim.Native.Char.{code}
 use Prim.Native.Nat.{ℕ}
 use Prim.Native.String.{String}
 use Prim.Native.String as Str

@@ -1,17 +1,17 @@
 -- Index entries: reading is 01's grammar, what reads is 0 to 999, and each such count has one canonical text, which is written.
 -- Assumes nothing.
-use mathlib.Core.Path.{_≡_, refl, sym, ap, _∙_, subst}
-use mathlib.Core.Bool.{Bool, true, false, cond}
-use mathlib.Core.List.{List, [], _∷_, _++_}
-use Prim.Native.Nat.{ℕ, zero, suc, _+_, _^_, _<_, _≤_}
+use mathlib.Core.Path.{_≡_, refl, sym, ap, _∙_}
+use mathlib.Core.Bool.{true, false}
+use mathlib.Core.List.{List, _++_}
+use Prim.Native.Nat.{ℕ, zero, _≤_}
 use native.Mathlib.Omega.{arith}
-use borrow.Author.Tests.{eq-eqb, eqb-true, le-leb}
-use lib.Dec.{T, leb, eqb, leb→le, le→leb}
+use borrow.Author.Tests.{eq-eqb, eqb-true}
+use lib.Dec.{T, eqb, le→leb}
 use lib.IntN.{pos}
-use lib.ListN.{length, replicate, length-append, length-map, length-replicate}
+use lib.ListN.{length, replicate, length-append, length-map}
 use Rattle.base.specs.Ascii.{printable}
 use Rattle.base.specs.Every.{every}
-use Rattle.base.specs.Digits.{AllDigits, numberOf, digitText, Lean}
+use Rattle.base.specs.Digits.{numberOf, digitText}
 use Rattle.base.specs.Sign.{negative, sizeOf}
 use Rattle.base.proofs.Choice.{cond-taken, cond-kept}
 use Rattle.base.proofs.Sign.{negative-of, size-of}
@@ -24,7 +24,6 @@ use Rattle.number.proofs.Grammar.{columns-read, Held, held}
 use Rattle.number.proofs.Unique.{lean-text}
 use Rattle.number.proofs.Fits.{i-canonical}
 use Rattle.number.proofs.Text.{i-length, i-printable}
-use Rattle.field.specs.declared.Entry.{Entry}
 use Rattle.field.specs.declared.Entry.the-variants.{Count, Misformed}
 use Rattle.field.specs.Entry.{IsEntry, CanonicalEntry, countIn, entryOf, entryText, entryFits}
 

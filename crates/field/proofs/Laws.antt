@@ -2,19 +2,20 @@
 -- is written and reads back.
 -- Assumes nothing.
 use mathlib.Core.Path.{_≡_, refl, sym, ap, _∙_, subst}
-use mathlib.Core.Bool.{Bool, true, false, cond, _&&_}
+use mathlib.Core.Bool.{Bool, true, false, cond}
 use mathlib.Core.List.{List, [], _∷_, map}
-use Prim.Native.Nat.{ℕ, zero, suc, _+_, _-_, _^_, _<_, _≤_}
+use Prim.Native.Nat.{ℕ, zero, suc, _+_, _-_, _^_}
 use native.Mathlib.Omega.{arith}
-use borrow.Author.Tests.{eq-eqb, eqb-true, leb-true}
-use lib.Dec.{T, leb, eqb}
+use borrow.Author.Tests.{eq-eqb, eqb-true}
+use lib.Dec.{T, leb, eqb, lit<}
 use lib.IntN.{ℤ, pos}
 use lib.ListN.{length, getD, length-map}
 use Rattle.base.specs.Ascii.{printable}
 use Rattle.base.specs.Every.{every}
 use Rattle.base.specs.Part.{part}
 use Rattle.base.specs.Sign.{holds, sizeOf}
-use Rattle.base.proofs.Choice.{cond-elim, cond-taken, cond-kept, and-left, and-right, and-both, true-T, T-true}
+use Rattle.base.proofs.Choice.{cond-elim, and-left, and-right, and-both, true-T, T-true}
+use Rattle.base.proofs.Ascii.{printable-without}
 use Rattle.form.specs.declared.Form.{Form}
 use Rattle.form.specs.Table.{rowOf}
 use Rattle.number.specs.declared.Scan.{Scan}
@@ -308,6 +309,7 @@ lawful f =
       back = back f;
       wide = wide f;
       plain = plain f;
+      unbroken = λ cs t. printable-without 10 (fieldText f cs) (lit< tt) (plain f cs t);
       canonical = canonical f;
       one = one f;
     }

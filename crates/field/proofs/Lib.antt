@@ -6,3 +6,4 @@ pub mod Room
 pub mod Laws
 pub mod Cases
 pub mod Entries
+pub mod Ranges

@@ -1,10 +1,10 @@
 -- 01's marked cases on fields, in its order: a field's text and what it reads as; cells and their text, or that they have none.
 use mathlib.Core.Path.{_≡_}
-use mathlib.Core.Bool.{Bool, true, false}
+use mathlib.Core.Bool.{true, false}
 use mathlib.Core.List.{List, [], _∷_}
 use Prim.Native.Nat.{ℕ}
 use Prim.Native.String.{String}
-use lib.IntN.{ℤ, pos, negsuc, negℤ}
+use lib.IntN.{ℤ, pos, negℤ}
 use Rattle.base.specs.Ascii.{bytes}
 use Rattle.form.specs.declared.Form.{Form}
 use Rattle.form.specs.declared.Form.the-variants.{F8, I3, E20, E8}

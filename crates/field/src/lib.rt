@@ -16,8 +16,9 @@ ghost use Rattle.form.specs.Table.{rowOf};
 ghost use Rattle.number.specs.Scan.{Below};
 ghost use Rattle.field.specs.Kind.{kindOf, widthOf, countOf, Small};
 ghost use Rattle.field.specs.Read.{valueOf, readAs, fieldOf};
-ghost use Rattle.field.specs.Write.{isLetter, rangeOf, fitsOf, textAs, fieldText, writtenBy, outBy};
+ghost use Rattle.field.specs.Write.{isLetter, rangeOf, fitsOf, textAs, fieldText};
 ghost use Rattle.field.specs.Entry.{countIn, entryOf, entryText, entryFits};
+ghost use Rattle.field.specs.Law.{Wrote};
 
 // What a field reads as: a cell; the two cells of an E field; letters, whose cells are the bytes themselves.
 pub enum Value {
@@ -401,7 +402,7 @@ fn has_room(at: usize, w: usize, n: usize) -> bool
 
 // Writes the canonical text of the cells at a place, or nothing: first where no field of the form reads as them, then where there is no room.
 pub fn write(form: Form, cells: &[i64], out: &mut [u8], at: usize) -> Written
-    ensures { λ r. ⌜ (r ≡ writtenBy (fitsOf form (now (cells .entry))) at (rowOf form .width) (length (now (out .entry)))) × (now (out .exit) ≡ outBy r at (fieldText form (now (cells .entry))) (now (out .entry))) ⌝ }
+    ensures { λ r. ⌜ Wrote (fitsOf form (now (cells .entry))) (fieldText form (now (cells .entry))) at (rowOf form .width) (now (out .entry)) r (now (out .exit)) ⌝ }
 {
     let kind = kind_of(form);
     if fits(form, cells) {
@@ -445,7 +446,7 @@ pub fn read_entry(entry: &[u8]) -> Entry
 
 // Writes the canonical text of a count at a place, or nothing.
 pub fn write_entry(count: u16, out: &mut [u8], at: usize) -> Written
-    ensures { λ r. ⌜ (r ≡ writtenBy (entryFits count) at 3 (length (now (out .entry)))) × (now (out .exit) ≡ outBy r at (entryText count) (now (out .entry))) ⌝ }
+    ensures { λ r. ⌜ Wrote (entryFits count) (entryText count) at 3 (now (out .entry)) r (now (out .exit)) ⌝ }
 {
     if 999 < count {
         return Written::NoField;

@@ -4,24 +4,23 @@ use mathlib.Core.Path.{_≡_, refl, sym, ap, ap₂, _∙_, subst}
 use mathlib.Core.Bool.{Bool, true, false, cond}
 use mathlib.Core.List.{List, [], _∷_, _++_, append-assoc, append-nil}
 use Prim.Native.Nat.{ℕ, zero, suc, _+_, _*_, _-_, _/_, _%_, _^_, _<_, _≤_}
-use native.Mathlib.Nat.{pow-zero, pow-suc, pow-succ', div-one, div-div-eq-div-mul, div-eq-of-lt, pow-le-pow-right}
+use native.Mathlib.Nat.{pow-zero, pow-suc, pow-succ', div-one, div-div-eq-div-mul, div-eq-of-lt}
 use native.Mathlib.Numerals.{add-one}
 use native.Mathlib.Omega.{arith}
 use borrow.Author.Tests.{leb-true, leb-false, ne-eqb}
-use lib.Dec.{T, leb, eqb, lit<}
+use lib.Dec.{T, leb}
 use lib.IntN.{ℤ}
 use lib.Pow.{pow-add}
 use lib.ListN.{length, replicate, length-append, length-map, length-replicate}
 use Rattle.base.specs.Sign.{ofSign, negative, sizeOf, holds}
 use Rattle.base.specs.Digits.{AllDigits, numberFrom, numberOf, digitText, Lean}
 use Rattle.base.proofs.Columns.{columns-length}
-use Rattle.base.proofs.Digits.{digits-append, number-append, text-append, number-within, lean-more, lean-some}
+use Rattle.base.proofs.Digits.{digits-append, number-append, text-append, number-within, lean-more}
 use Rattle.base.proofs.Sign.{sign-size, negative-some, holds-of, holds-high, holds-low}
-use Rattle.number.specs.declared.Scan.{Scan}
-use Rattle.number.specs.declared.Scan.the-variants.{Blanks, Signed, Digits, Broken}
+use Rattle.number.specs.declared.Scan.the-variants.{Digits}
 use Rattle.number.specs.Write.{lastOf, begun, backOf, textOf, stateOf, leadState, textI, textF, textE}
-use Rattle.number.specs.Grammar.{IsI, IsF, IsE, minusOf, Lead, leadText, leadMinus, signByte}
-use Rattle.number.specs.Grammar.Lead.{nought, minusNought, minus}
+use Rattle.number.specs.Grammar.{IsI, IsF, IsE, minusOf, leadText, leadMinus, signByte}
+use Rattle.number.specs.Grammar.Lead.{minus}
 use Rattle.number.specs.Canonical.{CanonicalI, CanonicalF, CanonicalE, dueLead}
 use Rattle.number.proofs.Grammar.{Behind}
 use Rattle.number.proofs.Unique.{blanks-text}

@@ -1,11 +1,10 @@
 -- I, F and E fields: what reads as a number is exactly what 01's sentences have, with that value.
 -- Assumes nothing.
-use mathlib.Core.Path.{_≡_, refl, sym, ap, ap₂, _∙_, subst}
-use mathlib.Core.Bool.{Bool, true, false, cond}
+use mathlib.Core.Path.{_≡_, refl, sym, ap, ap₂, _∙_}
+use mathlib.Core.Bool.{Bool, true, false}
 use mathlib.Core.List.{List, [], _∷_, _++_, append-assoc, append-nil}
-use Prim.Native.Nat.{ℕ, zero, suc, _+_, _*_, _-_, _<_, _≤_}
+use Prim.Native.Nat.{ℕ, zero, suc, _+_, _*_, _<_}
 use native.Mathlib.Omega.{arith}
-use lib.Dec.{eqb}
 use lib.IntN.{ℤ}
 use lib.ListN.{length, replicate, length-append}
 use Rattle.base.specs.Sign.{ofSign}
@@ -15,8 +14,7 @@ use Rattle.number.specs.declared.Byte.{Byte}
 use Rattle.number.specs.declared.Byte.the-variants.{Blank, Minus, Digit, Other}
 use Rattle.number.specs.declared.Scan.{Scan}
 use Rattle.number.specs.declared.Scan.the-variants.{Blanks, Signed, Digits, Broken}
-use Rattle.number.specs.declared.Number.{Number}
-use Rattle.number.specs.declared.Number.the-variants.{One, Two, Misformed}
+use Rattle.number.specs.declared.Number.the-variants.{One}
 use Rattle.number.specs.Scan.{classOf, stepOf, scanOf}
 use Rattle.number.specs.Read.{oneOf, readI, pointOf}
 use Rattle.number.specs.Write.{begun}

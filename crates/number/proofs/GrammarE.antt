@@ -1,20 +1,18 @@
 -- E fields: what reads as two numbers is exactly what 01's sentence has, with these values; and the shapes before the point of E11 and
 -- E8, and of E20.
 -- Assumes nothing.
-use mathlib.Core.Path.{_≡_, refl, sym, ap, ap₂, _∙_, subst}
+use mathlib.Core.Path.{_≡_, refl, sym, ap, ap₂, _∙_}
 use mathlib.Core.Bool.{Bool, true, false, cond}
 use mathlib.Core.List.{List, [], _∷_, _++_, append-assoc, append-nil}
-use Prim.Native.Nat.{ℕ, zero, suc, _+_, _-_, _<_, _≤_}
-use native.Mathlib.Nat.{sub-zero}
+use Prim.Native.Nat.{ℕ, _+_, _-_, _≤_}
 use native.Mathlib.Omega.{arith}
 use borrow.Author.Tests.{eq-eqb, eqb-true}
 use lib.Dec.{eqb}
 use lib.IntN.{ℤ}
-use lib.ListN.{length, take, drop, getD, replicate, length-append, length-take, length-drop, length-map, length-replicate, take-append-drop}
-use lib.Seq.{getD-at, take-at, drop-at, take-all}
+use lib.ListN.{length, take, drop, getD, replicate, length-append, length-take, length-drop, length-map, take-append-drop}
+use lib.Seq.{getD-at, take-at, drop-at}
 use Rattle.base.specs.Part.{part}
-use Rattle.base.specs.Sign.{ofSign}
-use Rattle.base.specs.Digits.{AllDigits, numberOf, digitText}
+use Rattle.base.specs.Digits.{digitText}
 use Rattle.base.proofs.Choice.{cond-elim, cond-taken, cond-kept}
 use Rattle.number.specs.declared.Scan.{Scan}
 use Rattle.number.specs.declared.Scan.the-variants.{Blanks, Signed, Digits, Broken}
@@ -25,7 +23,7 @@ use Rattle.number.specs.Read.{oneOf, leadOf, signOf, pairOf, readE}
 use Rattle.number.specs.Grammar.{IsE, Lead, leadText, leadMinus, signByte}
 use Rattle.number.specs.Grammar.Lead.{nought, minusNought, bare, minus}
 use Rattle.number.proofs.Scanning.{scan-append, scan-broken}
-use Rattle.number.proofs.Grammar.{blanks-read, digits-read, Held, held, Ends, ends}
+use Rattle.number.proofs.Grammar.{blanks-read, digits-read, Held, held, ends}
 
 -- ---- a text by its parts
 
@@ -36,37 +34,46 @@ worth a u ds v es = pairOf (oneOf (scanOf (leadOf (scanOf Blanks a) u) ds)) (one
 parts-at : (s a ds es : List ℕ) (u p q v c d x : ℕ) → length s ≡ c + d + x + 3 → getD s c 0 ≡ p → getD s (c + 1 + d) 0 ≡ q → part 0 (c - 1) s ≡ a → getD s (c - 1) 0 ≡ u → part (c + 1) (c + 1 + d) s ≡ ds → getD s (c + 2 + d) 0 ≡ v → part (c + 3 + d) (length s) s ≡ es → readE c d x s ≡ cond (eqb p 46) (cond (eqb q 69) (worth a u ds v es) Misformed) Misformed
 parts-at s a ds es u p q v c d x l e₁ e₂ e₃ e₄ e₅ e₆ e₇ = rw (eq-eqb (length s) (c + d + x + 3) l, e₁, e₂, e₃, e₄, e₅, e₆, e₇)
 
+-- the byte behind p, and the part behind p
+byte-behind : (s p ys : List ℕ) (y n : ℕ) → s ≡ p ++ (y ∷ ys) → length p ≡ n → getD s n 0 ≡ y
+byte-behind s p ys y n e l = rw e (getD-at p y ys 0 n l)
+
+part-behind : (s p m q : List ℕ) (a b : ℕ) → s ≡ p ++ (m ++ q) → length p ≡ a → length m ≡ b - a → part a b s ≡ m
+part-behind s p m q a b e l k = rw (e, drop-at p (m ++ q) a l) (take-at m q (b - a) k)
+
 -- c - 1 columns, the last before the point, the point, d digits, `E`, the sign, x digits
-pub e-at : (a ds es : List ℕ) (u p q v c d x : ℕ) → 1 ≤ c → length a ≡ c - 1 → length ds ≡ d → length es ≡ x → readE c d x (a ++ (u ∷ p ∷ (ds ++ (q ∷ v ∷ es)))) ≡ cond (eqb p 46) (cond (eqb q 69) (worth a u ds v es) Misformed) Misformed
-e-at a ds es u p q v c d x h la ld lx =
-    let r = ds ++ (q ∷ v ∷ es) in
-    let s = a ++ (u ∷ p ∷ r) in
-    let p₁ = a ++ (u ∷ []) in
-    let p₂ = p₁ ++ (p ∷ []) in
-    let p₃ = p₂ ++ ds in
-    let p₄ = p₃ ++ (q ∷ []) in
-    let p₅ = p₄ ++ (v ∷ []) in
-    let l₁ : length p₁ ≡ c = length-append a (u ∷ []) ∙ omega arith in
-    let l₂ : length p₂ ≡ c + 1 = length-append p₁ (p ∷ []) ∙ omega arith in
-    let l₃ : length p₃ ≡ c + 1 + d = length-append p₂ ds ∙ omega arith in
-    let l₄ : length p₄ ≡ c + 2 + d = length-append p₃ (q ∷ []) ∙ omega arith in
-    let l₅ : length p₅ ≡ c + 3 + d = length-append p₄ (v ∷ []) ∙ omega arith in
-    let e₁ : s ≡ p₁ ++ (p ∷ r) = sym (append-assoc a (u ∷ []) (p ∷ r)) in
-    let e₂ : s ≡ p₂ ++ r = e₁ ∙ sym (append-assoc p₁ (p ∷ []) r) in
-    let e₃ : s ≡ p₃ ++ (q ∷ v ∷ es) = e₂ ∙ sym (append-assoc p₂ ds (q ∷ v ∷ es)) in
-    let e₄ : s ≡ p₄ ++ (v ∷ es) = e₃ ∙ sym (append-assoc p₃ (q ∷ []) (v ∷ es)) in
-    let e₅ : s ≡ p₅ ++ es = e₄ ∙ sym (append-assoc p₄ (v ∷ []) es) in
-    let ls : length s ≡ c + d + x + 3 = ap length e₅ ∙ length-append p₅ es ∙ omega arith in
-    let w₁ : c + 1 + d - (c + 1) ≡ d = omega arith in
-    let w₂ : length s - (c + 3 + d) ≡ x = omega arith in
-    parts-at s a ds es u p q v c d x ls
-    (ap (λ t. getD t c 0) e₁ ∙ getD-at p₁ p r 0 c l₁)
-    (ap (λ t. getD t (c + 1 + d) 0) e₃ ∙ getD-at p₃ q (v ∷ es) 0 (c + 1 + d) l₃)
-    (rw (sub-zero (c - 1)) (take-at a (u ∷ p ∷ r) (c - 1) la))
-    (getD-at a u (p ∷ r) 0 (c - 1) la)
-    (rw w₁ (ap (λ t. take d (drop (c + 1) t)) e₂ ∙ ap (take d) (drop-at p₂ r (c + 1) l₂) ∙ take-at ds (q ∷ v ∷ es) d ld))
-    (ap (λ t. getD t (c + 2 + d) 0) e₄ ∙ getD-at p₄ v es 0 (c + 2 + d) l₄)
-    (rw w₂ (ap (λ t. take x (drop (c + 3 + d) t)) e₅ ∙ ap (take x) (drop-at p₅ es (c + 3 + d) l₅) ∙ take-all x es (omega arith)))
+module _ (a ds es : List ℕ) (u p q v c d x : ℕ) (h : 1 ≤ c) (la : length a ≡ c - 1) (ld : length ds ≡ d) (lx : length es ≡ x) where
+  abbrev whole : List ℕ
+  whole = a ++ (u ∷ p ∷ (ds ++ (q ∷ v ∷ es)))
+
+  p₁ : length (a ++ (u ∷ [])) ≡ c
+  p₁ = length-append a (u ∷ []) ∙ omega arith
+
+  p₂ : length (a ++ (u ∷ p ∷ [])) ≡ c + 1
+  p₂ = length-append a (u ∷ p ∷ []) ∙ omega arith
+
+  p₃ : length (a ++ (u ∷ p ∷ ds)) ≡ c + 1 + d
+  p₃ = length-append a (u ∷ p ∷ ds) ∙ omega arith
+
+  p₄ : length (a ++ (u ∷ p ∷ (ds ++ (q ∷ [])))) ≡ c + 2 + d
+  p₄ = length-append a (u ∷ p ∷ (ds ++ (q ∷ []))) ∙ omega (arith, length-append ds (q ∷ []))
+
+  p₅ : length (a ++ (u ∷ p ∷ (ds ++ (q ∷ v ∷ [])))) ≡ c + 3 + d
+  p₅ = length-append a (u ∷ p ∷ (ds ++ (q ∷ v ∷ []))) ∙ omega (arith, length-append ds (q ∷ v ∷ []))
+
+  all : length whole ≡ c + d + x + 3
+  all = length-append a (u ∷ p ∷ (ds ++ (q ∷ v ∷ es))) ∙ omega (arith, length-append ds (q ∷ v ∷ es))
+
+  pub e-at : readE c d x whole ≡ cond (eqb p 46) (cond (eqb q 69) (worth a u ds v es) Misformed) Misformed
+  e-at =
+      parts-at whole a ds es u p q v c d x all
+      (byte-behind whole (a ++ (u ∷ [])) (ds ++ (q ∷ v ∷ es)) p c (simp append-assoc) p₁)
+      (byte-behind whole (a ++ (u ∷ p ∷ ds)) (v ∷ es) q (c + 1 + d) (simp append-assoc) p₃)
+      (part-behind whole [] a (u ∷ p ∷ (ds ++ (q ∷ v ∷ es))) 0 (c - 1) refl refl (omega arith))
+      (byte-behind whole a (p ∷ (ds ++ (q ∷ v ∷ es))) u (c - 1) refl la)
+      (part-behind whole (a ++ (u ∷ p ∷ [])) ds (q ∷ v ∷ es) (c + 1) (c + 1 + d) (simp append-assoc) p₂ (omega arith))
+      (byte-behind whole (a ++ (u ∷ p ∷ (ds ++ (q ∷ [])))) es v (c + 2 + d) (simp append-assoc) p₄)
+      (part-behind whole (a ++ (u ∷ p ∷ (ds ++ (q ∷ v ∷ [])))) es [] (c + 3 + d) (length whole) (simp (append-assoc, append-nil)) p₅ (omega (arith, all)))
 
 record Two-more (l : List ℕ) (n : ℕ) : Type 0 where
   one : ℕ
@@ -92,22 +99,26 @@ record Parts (c d x : ℕ) (s : List ℕ) : Type 0 where
   lengths : (length front ≡ c - 1) × (length digits ≡ d) × (length exponent ≡ x)
   is : s ≡ front ++ (last ∷ point ∷ (digits ++ (letter ∷ sign ∷ exponent)))
 
+rejoined : (k d : ℕ) (s r es : List ℕ) (u p q v : ℕ) → drop k s ≡ u ∷ p ∷ r → drop d r ≡ q ∷ v ∷ es → s ≡ take k s ++ (u ∷ p ∷ (take d r ++ (q ∷ v ∷ es)))
+rejoined k d s r es u p q v e f =
+    let g : s ≡ take k s ++ drop k s = sym (take-append-drop k s) in
+    let h : r ≡ take d r ++ drop d r = sym (take-append-drop d r) in
+    g ∙ ap (λ l. take k s ++ l) (e ∙ ap (λ l. u ∷ p ∷ l) (h ∙ ap (λ l. take d r ++ l) f))
+
 parts : (c d x : ℕ) (s : List ℕ) → 1 ≤ c → length s ≡ c + d + x + 3 → Parts c d x s
 parts c d x s h l =
-    let k = c - 1 in
-    let t₁ = two-more (drop k s) (d + (x + 2)) (simp length-drop (omega arith)) in
-    let r = t₁ .rest in
-    let t₂ = two-more (drop d r) x (simp length-drop (omega (arith, t₁ .left))) in
+    let t₁ = two-more (drop (c - 1) s) (d + (x + 2)) (simp length-drop (omega arith)) in
+    let t₂ = two-more (drop d (t₁ .rest)) x (simp length-drop (omega (arith, t₁ .left))) in
     record {
-      front = take k s;
+      front = take (c - 1) s;
       last = t₁ .one;
       point = t₁ .other;
-      digits = take d r;
+      digits = take d (t₁ .rest);
       letter = t₂ .one;
       sign = t₂ .other;
       exponent = t₂ .rest;
       lengths = (simp length-take (omega arith), simp length-take (omega (arith, t₁ .left)), t₂ .left);
-      is = sym (take-append-drop k s) ∙ ap (λ l. take k s ++ l) (t₁ .is ∙ ap (λ l. t₁ .one ∷ t₁ .other ∷ l) (sym (take-append-drop d r) ∙ ap (λ l. take d r ++ l) (t₂ .is)));
+      is = rejoined (c - 1) d s (t₁ .rest) (t₂ .rest) (t₁ .one) (t₁ .other) (t₂ .one) (t₂ .other) (t₁ .is) (t₂ .is);
     }
 
 -- ---- the columns before the point

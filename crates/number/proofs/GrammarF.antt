@@ -2,8 +2,8 @@
 -- Assumes nothing.
 use mathlib.Core.Path.{_≡_, refl, sym, ap, ap₂, _∙_, subst}
 use mathlib.Core.Bool.{Bool, true, false, cond}
-use mathlib.Core.List.{List, [], _∷_, _++_, append-assoc, append-nil}
-use Prim.Native.Nat.{ℕ, zero, suc, _+_, _-_, _<_, _≤_}
+use mathlib.Core.List.{List, [], _∷_, _++_, append-assoc}
+use Prim.Native.Nat.{ℕ, suc, _+_, _-_, _≤_}
 use native.Mathlib.Nat.{sub-zero}
 use native.Mathlib.Omega.{arith}
 use borrow.Author.Tests.{le-leb, leb-true, eqb-true}
@@ -18,13 +18,12 @@ use Rattle.base.proofs.Choice.{cond-taken, cond-kept}
 use Rattle.base.proofs.Digits.{number-append}
 use Rattle.number.specs.declared.Scan.{Scan}
 use Rattle.number.specs.declared.Scan.the-variants.{Blanks, Signed, Digits, Broken}
-use Rattle.number.specs.declared.Number.{Number}
 use Rattle.number.specs.declared.Number.the-variants.{One, Misformed}
 use Rattle.number.specs.Scan.{scanOf}
 use Rattle.number.specs.Read.{oneOf, pointOf, partsF, readF}
 use Rattle.number.specs.Grammar.{IsF, minusOf}
 use Rattle.number.proofs.Scanning.{scan-broken}
-use Rattle.number.proofs.Grammar.{head-read, digits-read, Held, held, Ends, ends}
+use Rattle.number.proofs.Grammar.{head-read, digits-read, Held, held, ends}
 
 -- a text that is a head, a column and three columns
 pub f-at : (a t : List ℕ) (p : ℕ) → length t ≡ 3 → readF (a ++ (p ∷ t)) ≡ cond (eqb p 46) (partsF a t) Misformed

@@ -1,9 +1,8 @@
 -- Columns read byte by byte, over every list: one byte more, two parts, and the bound on what has been read.
 -- Assumes nothing.
-use mathlib.Core.Path.{_≡_, refl, sym, ap, _∙_}
-use mathlib.Core.Bool.{Bool, true, false}
+use mathlib.Core.Path.{_≡_, refl, ap, _∙_}
 use mathlib.Core.List.{List, [], _∷_, _++_, append-assoc, append-nil}
-use Prim.Native.Nat.{ℕ, zero, suc, _+_, _*_, _-_, _^_, _<_, _≤_}
+use Prim.Native.Nat.{ℕ, suc, _+_, _*_, _^_, _<_, _≤_}
 use native.Mathlib.Nat.{pow-zero, pow-suc, pow-succ', pow-le-pow-right, add-suc, mul-one, mul-assoc, mul-le-mul-left}
 use lib.Pow.{pow-add}
 use native.Mathlib.Numerals.{add-one}

@@ -3,7 +3,7 @@
 use mathlib.Core.Path.{_≡_, refl, sym, ap, ap₂, _∙_, subst}
 use mathlib.Core.Bool.{Bool, true, false, cond}
 use mathlib.Core.List.{List, [], _∷_, _++_, append-assoc}
-use Prim.Native.Nat.{ℕ, zero, suc, _+_, _*_, _-_, _/_, _%_, _^_, _<_, _≤_}
+use Prim.Native.Nat.{ℕ, zero, suc, _+_, _*_, _-_, _/_, _%_, _^_, _<_}
 use native.Mathlib.Omega.{arith}
 use borrow.Author.Tests.{le-leb, lt-leb}
 use lib.Dec.{eqb}
@@ -15,13 +15,13 @@ use Rattle.base.proofs.Columns.{columns-front, backs-more}
 use Rattle.base.proofs.Digits.{lean-some, number-append, number-div}
 use Rattle.base.proofs.Sign.{negative-of, size-of}
 use Rattle.number.specs.declared.Scan.{Scan}
-use Rattle.number.specs.declared.Scan.the-variants.{Blanks, Signed, Digits, Broken}
+use Rattle.number.specs.declared.Scan.the-variants.{Blanks, Signed, Digits}
 use Rattle.number.specs.Scan.{classOf, stepOf, scanOf}
 use Rattle.number.specs.Write.{lastOf, begun, backOf, textOf, restOf, stateOf, leadState, textI, textF, textE}
 use Rattle.number.specs.Grammar.{minusOf, leadText, signByte}
 use Rattle.number.specs.Grammar.Lead.{minus, minusNought}
 use Rattle.number.specs.Canonical.{CanonicalI, CanonicalF, CanonicalE, dueLead}
-use Rattle.number.proofs.Scanning.{digit-class, scan-append}
+use Rattle.number.proofs.Scanning.{digit-class}
 use Rattle.number.proofs.Grammar.{columns-read, digits-read, blanks-read}
 
 -- ---- steps that are undone
@@ -122,6 +122,9 @@ i-unique w s z c =
     ∙ lean-text (c .blanks) (c .sign) (c .digits) w (c .each) (c .lean) (sym (ap length (c .text)) ∙ c .width)
     ∙ ap (textOf false w) (state-is (c .sign) (numberOf (c .digits)) z (c .value) (c .zero))
 
+with-point : (s a b c d : List ℕ) → s ≡ a ++ (46 ∷ c) → a ≡ b → c ≡ d → s ≡ b ++ (46 ∷ d)
+with-point s a b c d e f g = e ∙ ap₂ (λ x y. x ++ (46 ∷ y)) f g
+
 pub f-unique : (w : ℕ) (s : List ℕ) (z : ℤ) → CanonicalF w s z → s ≡ textF w z
 f-unique w s z c =
     let head = replicate (c .blanks) 32 ++ (minusOf (c .sign) ++ digitText (c .units)) in
@@ -134,10 +137,9 @@ f-unique w s z c =
     let q : n / 1000 ≡ numberOf (c .units) = ap (λ y. y / 1000) p ∙ subst (λ (j : ℕ). numberFrom (numberOf (c .units)) (c .thousandths) / 10 ^ j ≡ numberOf (c .units)) (c .three) (number-div (numberOf (c .units)) (c .thousandths) (c .every)) in
     let g : c .sign ≡ negative z = sym (ap negative (c .value) ∙ negative-of (c .sign) n (c .zero)) in
     let k : n ≡ sizeOf z = sym (ap sizeOf (c .value) ∙ size-of (c .sign) n) in
-    e
-    ∙ ap₂ (λ a b. a ++ (46 ∷ b))
-    (lean-text (c .blanks) (c .sign) (c .units) (w - 4) (c .each) (c .lean) h ∙ ap₂ (λ f m. textOf false (w - 4) (Digits f m)) g (sym q ∙ ap (λ y. y / 1000) k))
-    (filled-text (c .sign) (numberOf (c .units)) (c .thousandths) 3 (c .every) (c .three) ∙ ap₂ (λ f m. textOf true 3 (Digits f m)) g (sym p ∙ k))
+    let u : head ≡ textOf false (w - 4) (Digits (negative z) (sizeOf z / 1000)) = lean-text (c .blanks) (c .sign) (c .units) (w - 4) (c .each) (c .lean) h ∙ ap₂ (λ f m. textOf false (w - 4) (Digits f m)) g (sym q ∙ ap (λ y. y / 1000) k) in
+    let v : tail ≡ textOf true 3 (stateOf z) = filled-text (c .sign) (numberOf (c .units)) (c .thousandths) 3 (c .every) (c .three) ∙ ap₂ (λ f m. textOf true 3 (Digits f m)) g (sym p ∙ k) in
+    with-point s head (textOf false (w - 4) (Digits (negative z) (sizeOf z / 1000))) tail (textOf true 3 (stateOf z)) e u v
 
 -- ---- what stands before E's point
 

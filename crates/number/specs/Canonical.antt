@@ -3,14 +3,14 @@
 -- (E20) in negative ones. Zero has no minus, and exponent zero has a plus."
 use mathlib.Core.Path.{_≡_}
 use mathlib.Core.Bool.{Bool, true, false, cond}
-use mathlib.Core.List.{List, [], _∷_, _++_}
+use mathlib.Core.List.{List, _∷_, _++_}
 use Prim.Native.Nat.{ℕ, _<_}
 use lib.Dec.{eqb}
 use lib.IntN.{ℤ}
 use lib.ListN.{length, replicate}
 use Rattle.base.specs.Sign.{ofSign}
 use Rattle.base.specs.Digits.{AllDigits, numberOf, digitText, Lean}
-use Rattle.number.specs.Grammar.{minusOf, Lead, leadText, leadMinus, signByte}
+use Rattle.number.specs.Grammar.{minusOf, Lead, leadText, signByte}
 use Rattle.number.specs.Grammar.Lead.{nought, minusNought, minus}
 
 -- the text of z in w columns of an I field

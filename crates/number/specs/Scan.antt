@@ -1,6 +1,5 @@
 -- What a byte is in a number's columns, and how columns are read, byte by byte: blanks, at most one minus, digits.
-use mathlib.Core.Path.{_≡_}
-use mathlib.Core.Bool.{Bool, true, false, cond}
+use mathlib.Core.Bool.{true, false, cond}
 use mathlib.Core.List.{List, [], _∷_}
 use Prim.Native.Nat.{ℕ, _+_, _*_, _-_, _<_}
 use lib.Dec.{ltb, eqb}

@@ -1,7 +1,7 @@
 -- `field::all_letters` meets its contract. The invariant: the cells from i on pass the test where all of them do.
 use borrow.Author.Needs.{needs, sfits-of}
 use native.Mathlib.Omega.{arith}
-use mathlib.Core.Path.{_≡_, refl, sym, ap, _∙_}
+use mathlib.Core.Path.{_≡_, sym, ap, _∙_}
 use Prim.Native.Nat.{_≤_, _-_}
 use lib.ListN.{length, drop, getD}
 use Rattle.base.specs.Every.{every}

@@ -1,7 +1,7 @@
 -- `field::all_printable` meets its contract. The invariant: the bytes from i on pass the test where all of them do.
 use borrow.Author.Needs.{needs}
 use native.Mathlib.Omega.{arith}
-use mathlib.Core.Path.{_≡_, refl, sym, _∙_}
+use mathlib.Core.Path.{_≡_, sym, _∙_}
 use Prim.Native.Nat.{_≤_, _-_}
 use lib.ListN.{length, drop}
 use Rattle.base.specs.Ascii.{printable}

@@ -1,5 +1,4 @@
 -- `field::fits` meets its contract: the kind's cells are those of the form's row.
-use native.Mathlib.Omega.{arith}
 use borrow.Author.Needs.{needs}
 use mathlib.Core.Path.{_≡_, sym, ap, _∙_}
 use borrow.Author.Tests.{eq-eqb, ne-eqb}

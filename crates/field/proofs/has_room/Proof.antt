@@ -1,5 +1,4 @@
 -- `field::has_room` meets its contract: a difference that the test before it allows.
-use borrow.Author.Needs.{needs}
 use mathlib.Core.Path.{sym}
 use Prim.Native.Nat.{_+_}
 use native.Mathlib.Omega.{arith}

@@ -1,11 +1,9 @@
 -- `field::in_range` meets its contract: the variant chooses the range.
 use borrow.Author.Needs.{needs, sfits-of}
-use mathlib.Core.Path.{_≡_, sym, ap, _∙_}
-use mathlib.Core.Bool.{true, false}
+use mathlib.Core.Path.{sym, ap, _∙_}
 use native.Mathlib.Omega.{arith}
 use mir.Syntax.{w64}
 use mir.Facts.{toZ-ofZ}
-use Rattle.base.specs.Sign.{holds}
 use Rattle.field.specs.Kind.{countOf}
 use Rattle.field.specs.Write.{cellAt}
 use Rattle.field.proofs.in_range.Statement.{statement}

@@ -1,6 +1,4 @@
 -- `field::is_printable` meets its contract: the tests choose the case.
-use borrow.Author.Needs.{needs}
-use native.Mathlib.Omega.{arith}
 use borrow.Author.Tests.{le-leb, lt-leb}
 use Rattle.field.proofs.is_printable.Statement.{statement}
 use Rattle.field.proofs.is_printable.Tie as tie

@@ -1,12 +1,11 @@
 -- `field::put_as` meets its contract: the variant chooses the writer.
 use borrow.Author.Needs.{needs, sfits-of}
-use mathlib.Core.Path.{_≡_, sym, ap, ap₂, _∙_, subst}
+use mathlib.Core.Path.{ap, subst}
 use native.Mathlib.Omega.{arith}
-use lib.Dec.{T}
 use mir.Syntax.{w64}
 use mir.Facts.{toZ-ofZ}
 use Rattle.field.specs.Kind.{widthOf, countOf, Small}
-use Rattle.field.specs.Write.{cellAt, rangeOf}
+use Rattle.field.specs.Write.{cellAt}
 use Rattle.field.proofs.put_as.Statement.{statement}
 use Rattle.field.proofs.put_as.Tie as tie
 

@@ -1,5 +1,4 @@
 -- `field::value_of` meets its contract: the variant chooses the case.
-use native.Mathlib.Omega.{arith}
 use borrow.Author.Needs.{needs}
 use Rattle.field.proofs.value_of.Statement.{statement}
 use Rattle.field.proofs.value_of.Tie as tie

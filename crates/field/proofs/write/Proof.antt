@@ -1,11 +1,11 @@
 -- `field::write` meets its contract: the tests that led to each return choose the answer, and only the last way writes.
 use borrow.Author.Needs.{needs}
 use mathlib.Core.Path.{_≡_, sym, ap, _∙_}
-use mathlib.Core.Bool.{true, false}
+use mathlib.Core.Bool.{true}
 use Prim.Native.Nat.{_+_}
 use native.Mathlib.Omega.{arith}
 use borrow.Author.Tests.{leb-true}
-use lib.Dec.{T, leb}
+use lib.Dec.{leb}
 use lib.ListN.{length}
 use Rattle.base.specs.Part.{over}
 use Rattle.base.proofs.Choice.{true-T}
@@ -56,16 +56,18 @@ same-length c = search needs
 returns : tie.Need-returns
 unfolding fieldText
 returns c =
-    let a = c .before .before .before .before .before .before .before .before .before .before .before .args in (
-      rw (fit (c .before .before .before .before .before .before .before), sym (room (c .before .before .before .before .before)) ∙ c .before .before .before .before .if2 .taken),
-      c .before .before .put-as .ensures ∙ ap (λ k. over (a .at) (textAs k (a .cells .now)) (a .out .now)) (c .before .before .before .before .before .before .before .before .before .kind-of .ensures),
-    )
+    let a = c .before .before .before .before .before .before .before .before .before .before .before .args in
+    let k = c .before .before .before .before .before .before .before .before .before .kind-of .ensures in
+    record {
+      answer = rw (fit (c .before .before .before .before .before .before .before), sym (room (c .before .before .before .before .before)) ∙ c .before .before .before .before .if2 .taken);
+      memory = c .before .before .put-as .ensures ∙ ap (λ k. over (a .at) (textAs k (a .cells .now)) (a .out .now)) k;
+    }
 
 returns-2 : tie.Need-returns-2
-returns-2 c = (rw (fit (c .before .before .before), sym (room (c .before)) ∙ c .if2 .left), search needs)
+returns-2 c = record { answer = rw (fit (c .before .before .before), sym (room (c .before)) ∙ c .if2 .left); memory = search needs }
 
 returns-3 : tie.Need-returns-3
-returns-3 c = (rw (sym (c .before .fits2 .ensures) ∙ c .if1 .left), search needs)
+returns-3 c = record { answer = rw (sym (c .before .fits2 .ensures) ∙ c .if1 .left); memory = search needs }
 
 pub write-spec : {M : Type 1} → statement M
 write-spec =

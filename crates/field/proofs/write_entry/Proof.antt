@@ -1,7 +1,7 @@
 -- `field::write_entry` meets its contract: the tests that led to each return choose the answer.
 use native.Mathlib.Omega.{arith}
 use borrow.Author.Needs.{needs}
-use mathlib.Core.Path.{_≡_, sym, ap, _∙_}
+use mathlib.Core.Path.{sym, _∙_}
 use borrow.Author.Tests.{le-leb, lt-leb, leb-true}
 use Prim.Native.Nat.{_+_}
 use lib.ListN.{length}
@@ -14,7 +14,7 @@ use Rattle.number.proofs.put_at.Reads as put-at-reads
 
 -- src/lib.rt:451:9
 returns : tie.Need-returns
-returns c = (simp (lt-leb _ _ (c .if1 .taken)), search needs)
+returns c = record { answer = simp (lt-leb _ _ (c .if1 .taken)); memory = search needs }
 
 -- src/lib.rt:453:8
 has-room-requires : tie.Need-has-room-requires
@@ -31,12 +31,13 @@ same-length c = search needs
 -- src/lib.rt:455:9
 returns-2 : tie.Need-returns-2
 returns-2 c =
-    let a = c .before .before .before .before .before .before .before .before .args in
-    (simp (le-leb _ _ (c .before .before .before .before .before .before .if1 .left), sym (c .before .before .before .before .before .has-room .ensures) ∙ c .before .before .before .before .if2 .taken), c .before .before .put-at .ensures .0)
+    record {
+      answer = simp (le-leb _ _ (c .before .before .before .before .before .before .if1 .left), sym (c .before .before .before .before .before .has-room .ensures) ∙ c .before .before .before .before .if2 .taken);
+      memory = c .before .before .put-at .ensures .0;
+    }
 
--- src/lib.rt:447:1
 returns-3 : tie.Need-returns-3
-returns-3 c = (simp (le-leb _ _ (c .before .before .if1 .left), sym (c .before .has-room .ensures) ∙ c .if2 .left), search needs)
+returns-3 c = record { answer = simp (le-leb _ _ (c .before .before .if1 .left), sym (c .before .has-room .ensures) ∙ c .if2 .left); memory = search needs }
 
 pub write-entry-spec : {M : Type 1} → statement M
 write-entry-spec =

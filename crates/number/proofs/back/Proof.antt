@@ -1,5 +1,4 @@
 -- `number::back` meets its contract: at each return the tests that led there choose the case.
-use native.Mathlib.Omega.{arith}
 use borrow.Author.Needs.{needs}
 use borrow.Author.Tests.{le-leb, lt-leb}
 use Rattle.number.proofs.back.Statement.{statement}

@@ -1,11 +1,9 @@
 -- `number::cell` meets its contract: the arm says the sign, and what the machine computes on the bits is `ofSign`'s (`Signed`).
-use mathlib.Core.Path.{_≡_, sym, ap, _∙_, subst}
+use mathlib.Core.Path.{_∙_}
 use mathlib.Core.Bool.{true}
 use borrow.Author.Needs.{needs}
 use mir.Syntax.{w64}
-use mir.Val.{SFits, toZ, ofZ}
 use mir.Facts.{toZ-ofZ, toZ-pos}
-use Rattle.base.specs.Sign.{ofSign}
 use Rattle.base.proofs.Sign.{fits-sign, minus}
 use Rattle.number.proofs.cell.Statement.{statement}
 use Rattle.number.proofs.cell.Tie as tie

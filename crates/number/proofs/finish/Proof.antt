@@ -1,5 +1,4 @@
 -- `number::finish` meets its contract: the state that the bytes leave, and its number, which 18 digits bound.
-use native.Mathlib.Omega.{arith}
 use borrow.Author.Needs.{needs}
 use mathlib.Core.Path.{ap, _∙_}
 use Rattle.number.specs.Read.{oneOf}

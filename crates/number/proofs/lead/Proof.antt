@@ -1,5 +1,4 @@
 -- `number::lead` meets its contract: at each return the state and the tests that led there choose the case.
-use native.Mathlib.Omega.{arith}
 use borrow.Author.Needs.{needs}
 use borrow.Author.Tests.{eq-eqb, ne-eqb}
 use Rattle.number.proofs.lead.Statement.{statement}

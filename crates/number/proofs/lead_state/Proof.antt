@@ -1,6 +1,4 @@
 -- `number::lead_state` meets its contract: at each return the tests that led there choose the case.
-use native.Mathlib.Omega.{arith}
-use borrow.Author.Needs.{needs}
 use borrow.Author.Tests.{eq-eqb, ne-eqb}
 use Rattle.number.proofs.lead_state.Statement.{statement}
 use Rattle.number.proofs.lead_state.Tie as tie

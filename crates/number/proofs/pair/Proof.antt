@@ -1,5 +1,4 @@
 -- `number::pair` meets its contract: the two variants choose the case.
-use native.Mathlib.Omega.{arith}
 use borrow.Author.Needs.{needs}
 use Rattle.number.proofs.pair.Statement.{statement}
 use Rattle.number.proofs.pair.Tie as tie

@@ -1,5 +1,4 @@
 -- `number::put_at` meets its contract: the part that was lent comes back with the columns in it.
-use native.Mathlib.Omega.{arith}
 use borrow.Author.Needs.{needs}
 use mathlib.Core.Path.{ap, _∙_}
 use Rattle.base.proofs.Columns.{columns-lent}

@@ -1,13 +1,10 @@
 -- `number::put_e` meets its contract: six writes that meet.
 use native.Mathlib.Omega.{arith}
 use borrow.Author.Needs.{needs}
-use mathlib.Core.Path.{_≡_, sym, ap, ap₂, _∙_}
+use mathlib.Core.Path.{_≡_, ap, ap₂, _∙_}
 use mathlib.Core.Bool.{true, false}
-use mathlib.Core.List.{_∷_, []}
-use Prim.Native.Nat.{_+_}
 use mir.Syntax.{w64}
 use mir.Facts.{toZ-ofZ}
-use Rattle.base.specs.Part.{over}
 use Rattle.base.specs.Sign.{negative, sizeOf}
 use Rattle.base.proofs.Columns.{columns-length}
 use Rattle.number.specs.declared.Scan.{Scan}
@@ -91,12 +88,12 @@ returns c =
     (columns-length lastOf (backOf false) (a .c) (leadState (a .c) (negative (a .v))))
     (columns-length lastOf (backOf true) (a .d) (stateOf (a .v)))
     (omega (arith, o .pre))
-    (p₁ .ensures .0 ∙ ap (λ t. over (a .at + a .c + 1 + a .d + 1 + 1) (textOf true (a .x) t) xs) z)
-    (p₂ .ensures ∙ ap (λ u. over (a .at + a .c + 1 + a .d + 1) (u ∷ []) (p₁ .last .0)) s)
+    (rw z at (p₁ .ensures .0))
+    (rw s at (p₂ .ensures))
     (p₃ .ensures)
-    (p₄ .ensures .0 ∙ ap (λ t. over (a .at + a .c + 1) (textOf true (a .d) t) (p₃ .last .0)) y)
+    (rw y at (p₄ .ensures .0))
     (p₅ .ensures)
-    (p₆ .ensures .0 ∙ ap (λ t. over (a .at) (textOf false (a .c) t) (p₅ .last .0)) l)
+    (rw l at (p₆ .ensures .0))
 
 pub put-e-spec : {M : Type 1} → statement M
 put-e-spec =

@@ -1,12 +1,11 @@
 -- `number::put_f` meets its contract: three writes that meet, and what is left of the number after three digits are its thousands.
 use native.Mathlib.Omega.{arith}
 use borrow.Author.Needs.{needs}
-use mathlib.Core.Path.{_≡_, sym, ap, ap₂, _∙_}
+use mathlib.Core.Path.{_≡_, ap, ap₂, _∙_}
 use mathlib.Core.Bool.{Bool, true, false}
-use Prim.Native.Nat.{ℕ, _+_, _/_, _-_}
+use Prim.Native.Nat.{ℕ, _/_, _-_}
 use mir.Syntax.{w64}
 use mir.Facts.{toZ-ofZ}
-use Rattle.base.specs.Part.{over}
 use Rattle.base.specs.Sign.{negative, sizeOf}
 use Rattle.base.proofs.Columns.{columns-length}
 use Rattle.number.specs.declared.Scan.{Scan}
@@ -60,9 +59,9 @@ returns c =
     (textOf false (a .w - 4) (Digits (negative (a .v)) (sizeOf (a .v) / 1000))) (textOf true 3 (stateOf (a .v))) (a .at) (a .w - 4)
     (columns-length lastOf (backOf false) (a .w - 4) (Digits (negative (a .v)) (sizeOf (a .v) / 1000)))
     (omega (arith, o .pre .0, o .pre .1))
-    (t .ensures .0 ∙ ap (λ s. over (a .at + (a .w - 4) + 1) (textOf true 3 s) (a .out .now)) z)
+    (rw (m .ensures .1 ∙ ap sizeOf e) at (t .ensures .0))
     (c .before .before .before .before .before .before .put-byte .ensures)
-    (c .before .before .put-at2 .ensures .0 ∙ ap (λ s. over (a .at) (textOf false (a .w - 4) s) (c .before .before .before .before .before .before .put-byte .last .0)) r)
+    (rw r at (c .before .before .put-at2 .ensures .0))
 
 pub put-f-spec : {M : Type 1} → statement M
 put-f-spec =

@@ -1,14 +1,9 @@
 -- `number::put_i` meets its contract: the columns are those of the number's sign and size.
-use native.Mathlib.Omega.{arith}
 use borrow.Author.Needs.{needs}
-use mathlib.Core.Path.{ap, ap₂, _∙_}
-use mathlib.Core.Bool.{false}
+use mathlib.Core.Path.{ap, _∙_}
 use mir.Syntax.{w64}
 use mir.Facts.{toZ-ofZ}
-use Rattle.base.specs.Part.{over}
 use Rattle.base.specs.Sign.{negative, sizeOf}
-use Rattle.number.specs.declared.Scan.the-variants.{Digits}
-use Rattle.number.specs.Write.{textOf}
 use Rattle.number.proofs.put_i.Statement.{statement}
 use Rattle.number.proofs.put_i.Tie as tie
 
@@ -26,8 +21,7 @@ returns c =
     let o = c .before .before .before .before .before .before in
     let e = toZ-ofZ {w = w64} (o .fits .v) in
     let m = c .before .before .before .before .signed in
-    c .before .before .put-at .ensures .0
-    ∙ ap₂ (λ g n. over (o .args .at) (textOf false (o .args .w) (Digits g n)) (o .args .out .now)) (m .ensures .0 ∙ ap negative e) (m .ensures .1 ∙ ap sizeOf e)
+    rw (m .ensures .0 ∙ ap negative e, m .ensures .1 ∙ ap sizeOf e) at (c .before .before .put-at .ensures .0)
 
 pub put-i-spec : {M : Type 1} → statement M
 put-i-spec = tie.close (tie.spec signed-requires put-at-requires same-length returns)

@@ -1,11 +1,11 @@
 -- `number::scan_part` meets its contract. The invariant: what is left, read from the state, is what the whole reads as; and the number is
 -- below a power of ten that grows with each byte.
-use mathlib.Core.Path.{_≡_, refl, sym, ap, _∙_, subst}
+use mathlib.Core.Path.{_≡_, refl, sym, ap, _∙_}
 use Prim.Native.Nat.{_+_, _-_, _^_, _≤_}
 use native.Mathlib.Omega.{arith}
 use borrow.Author.Needs.{needs}
 use lib.ListN.{length, drop, getD}
-use Rattle.number.specs.Scan.{classOf, stepOf, scanOf, Below, Small}
+use Rattle.number.specs.Scan.{stepOf, scanOf, Below}
 use Rattle.number.proofs.Scanning.{class-small, below-room, below-turn, scan-turn, scan-done}
 use Rattle.number.proofs.scan_part.Statement.{statement}
 use Rattle.number.proofs.scan_part.Tie as tie

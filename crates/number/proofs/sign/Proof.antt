@@ -1,4 +1,3 @@
-use borrow.Author.Needs.{needs}
 use borrow.Author.Tests.{eq-eqb, ne-eqb}
 use Rattle.number.proofs.sign.Statement.{statement}
 use Rattle.number.proofs.sign.Tie as tie

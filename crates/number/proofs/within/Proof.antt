@@ -1,5 +1,4 @@
 -- `number::within` meets its contract: the sign chooses the bound.
-use native.Mathlib.Omega.{arith}
 use borrow.Author.Needs.{needs}
 use mathlib.Core.Path.{_≡_, sym, ap, _∙_}
 use mathlib.Core.Bool.{true, false}
