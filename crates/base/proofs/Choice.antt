@@ -46,11 +46,9 @@ pub not-T-false : (a : Bool) → (T a → ⊥) → a ≡ false
 not-T-false true n = absurd (n tt)
 not-T-false false n = refl
 
--- a choice that is not what the second way gives was the first
-pub cond-taken : {A : Type 0} (t : Bool) (a b v : A) → (b ≡ v → ⊥) → cond t a b ≡ v → t ≡ true
-cond-taken true a b v n e = refl
-cond-taken false a b v n e = absurd (n e)
-
-pub cond-kept : {A : Type 0} (t : Bool) (a b v : A) → (b ≡ v → ⊥) → cond t a b ≡ v → a ≡ v
-cond-kept true a b v n e = e
-cond-kept false a b v n e = absurd (n e)
+-- two tests that pass together are equal
+pub same-test : (a b : Bool) → (T a → T b) → (T b → T a) → a ≡ b
+same-test true true f g = refl
+same-test true false f g = absurd (f tt)
+same-test false true f g = absurd (g tt)
+same-test false false f g = refl

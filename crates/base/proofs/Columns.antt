@@ -1,18 +1,13 @@
 -- Columns from the last to the first: as a loop stores them, in two stretches, and as they come back from a part that was lent.
 -- Assumes nothing.
-use mathlib.Core.Path.{_≡_, refl, ap, _∙_}
-use mathlib.Core.Bool.{Bool, true}
+use mathlib.Core.Path.{_≡_, refl, sym, ap, _∙_}
 use mathlib.Core.List.{List, [], _∷_, _++_, append-assoc, append-nil}
 use Prim.Native.Nat.{ℕ, zero, suc, _+_, _-_, _<_, _≤_}
 use native.Mathlib.Omega.{arith}
-use lib.Dec.{T}
 use lib.ListN.{length, take, drop, set, length-set, drop-of-length-le, length-append}
 use lib.Seq.{drop-cons, getD-set-same, drop-set-lt}
 use Rattle.base.specs.Columns.{columns, backs}
-use Rattle.base.specs.Every.{every}
 use Rattle.base.specs.Part.{part, over}
-use Rattle.base.proofs.Choice.{and-both}
-use Rattle.base.proofs.Every.{every-append}
 use Rattle.base.proofs.Part.{part-length, over-lent}
 
 before-last : (k : ℕ) → suc k - 1 ≡ k
@@ -61,9 +56,3 @@ module _ {S : Type 0} (last : S → ℕ) (back : S → S) where
       let d : at + w - at ≡ w = omega arith in
       let f : ys ≡ columns last back w s = e ∙ ap (λ n. columns last back n s) (part-length xs at w h) in
       rw (f, d) (over-lent xs (columns last back w s) at w (columns-length w s))
-
-  -- what passes at each byte that `last` gives passes at each column
-  pub columns-every : (f : ℕ → Bool) → ((s : S) → T (f (last s))) → (w : ℕ) (s : S) → T (every f (columns last back w s))
-  columns-every f h zero s = tt
-  columns-every f h (suc k) s =
-      every-append f (columns last back k (back s)) (last s ∷ []) (columns-every f h k (back s)) (and-both (f (last s)) true (h s) tt)

@@ -2,23 +2,33 @@
 -- Assumes nothing.
 use mathlib.Core.Path.{_≡_, refl, sym, _∙_, ap, subst}
 use mathlib.Core.Bool.{Bool, true, false, _&&_, _||_}
-use mathlib.Core.List.{List, [], _∷_, _++_}
+use mathlib.Core.List.{List, [], _∷_}
 use mathlib.Core.Logic.{_⊎_, inl, inr, ⊎-elim}
 use Prim.Native.Nat.{ℕ, zero, suc, _+_, _-_, _<_, _≤_}
 use native.Mathlib.Nat.{add-zero, zero-add, add-suc, suc-add, le-of-suc-le-suc, not-suc-le-zero}
-use native.Mathlib.Numerals.{add-one}
 use native.Mathlib.Omega.{arith}
-use lib.Dec.{T, eqb, eqb→eq}
-use lib.ListN.{length, drop, getD, drop-of-length-le}
+use lib.Dec.{T, eqb, eqb→eq, eqb-refl}
+use lib.ListN.{length, getD, drop, drop-of-length-le}
 use lib.Seq.{drop-cons}
+use native.Mathlib.Numerals.{add-one}
 use Rattle.base.specs.Every.{every, has, upFrom}
-use Rattle.base.proofs.Choice.{and-left, and-right, and-both, or-elim}
+use Rattle.base.proofs.Choice.{and-left, and-right, and-both, or-elim, or-left, or-right}
 
 -- what passes at every element, and at the default, passes at each index
 pub every-getD : {A : Type 0} (f : A → Bool) (d : A) (xs : List A) → T (every f xs) → T (f d) → (k : ℕ) → T (f (getD xs k d))
 every-getD f d [] t td k = td
 every-getD f d (x ∷ xs) t td zero = and-left (f x) (every f xs) t
 every-getD f d (x ∷ xs) t td (suc k) = every-getD f d xs (and-right (f x) (every f xs) t) td k
+
+-- one element more, as a loop meets it: it passes, it fails, there is none
+pub every-passed : {A : Type 0} (f : A → Bool) (d : A) (xs : List A) (i : ℕ) → i < length xs → f (getD xs i d) ≡ true → every f (drop (i + 1) xs) ≡ every f (drop i xs)
+every-passed f d xs i h e = rw (add-one i, drop-cons xs i d h, e)
+
+pub every-failed : {A : Type 0} (f : A → Bool) (d : A) (xs : List A) (i : ℕ) → i < length xs → f (getD xs i d) ≡ false → every f (drop i xs) ≡ false
+every-failed f d xs i h e = rw (drop-cons xs i d h, e)
+
+pub every-done : {A : Type 0} (f : A → Bool) (xs : List A) (i : ℕ) → length xs ≤ i → every f (drop i xs) ≡ true
+every-done f xs i h = rw (drop-of-length-le xs h)
 
 -- what passes at every number of a list passes at each number that the list has
 pub every-has : (f : ℕ → Bool) (ks : List ℕ) → T (every f ks) → (x : ℕ) → T (has ks x) → T (f x)
@@ -28,6 +38,13 @@ every-has f (k ∷ ks) t x h =
     (λ e. subst (λ (n : ℕ). T (f n)) (eqb→eq k x e) (and-left (f k) (every f ks) t))
     (λ r. every-has f ks (and-right (f k) (every f ks) t) x r)
     (or-elim (eqb k x) (has ks x) h)
+
+-- and back: what passes at each number that a list has passes at every one
+pub has-every : (f : ℕ → Bool) (ks : List ℕ) → ((x : ℕ) → T (has ks x) → T (f x)) → T (every f ks)
+has-every f [] h = tt
+has-every f (k ∷ ks) h =
+    and-both (f k) (every f ks) (h k (or-left (eqb k k) (has ks k) (eqb-refl k)))
+    (has-every f ks (λ x t. h x (or-right (eqb k x) (has ks x) t)))
 
 every-from : (f : ℕ → Bool) (lo n : ℕ) → T (every f (upFrom lo n)) → (k : ℕ) → k < n → T (f (lo + k))
 unfolding upFrom
@@ -42,31 +59,3 @@ pub every-between : (f : ℕ → Bool) (lo n : ℕ) → T (every f (upFrom lo n)
 every-between f lo n t x a b =
     let e : lo + (x - lo) ≡ x = omega arith in
     subst (λ (m : ℕ). T (f m)) e (every-from f lo n t (x - lo) (omega arith))
-
--- a test that passes in two lists passes in both together
-pub every-append : {A : Type 0} (f : A → Bool) (xs ys : List A) → T (every f xs) → T (every f ys) → T (every f (xs ++ ys))
-every-append f [] ys s t = t
-every-append f (x ∷ xs) ys s t =
-    and-both (f x) (every f (xs ++ ys)) (and-left (f x) (every f xs) s) (every-append f xs ys (and-right (f x) (every f xs) s) t)
-
--- what implies another test does so in a list
-pub every-imply : {A : Type 0} (f g : A → Bool) (xs : List A) → ((x : A) → T (f x) → T (g x)) → T (every f xs) → T (every g xs)
-every-imply f g [] h t = tt
-every-imply f g (x ∷ xs) h t =
-    and-both (g x) (every g xs) (h x (and-left (f x) (every f xs) t)) (every-imply f g xs h (and-right (f x) (every f xs) t))
-
--- a loop that looks for an element at which the test fails: a turn, where it stops, where it ends
-pub every-turn : {A : Type 0} (f : A → Bool) (xs : List A) (i : ℕ) (d : A) → i < length xs → f (getD xs i d) ≡ true → every f (drop (i + 1) xs) ≡ every f (drop i xs)
-every-turn f xs i d h e = rw (add-one i, drop-cons xs i d h, e)
-
-pub every-stop : {A : Type 0} (f : A → Bool) (xs : List A) (i : ℕ) (d : A) → i < length xs → f (getD xs i d) ≡ false → every f (drop i xs) ≡ false
-every-stop f xs i d h e = rw (drop-cons xs i d h, e)
-
-pub every-done : {A : Type 0} (f : A → Bool) (xs : List A) (i : ℕ) → length xs ≤ i → every f (drop i xs) ≡ true
-every-done f xs i h = rw (drop-of-length-le xs h)
-
--- what passes at every element passes at each index
-pub every-at : {A : Type 0} (f : A → Bool) (d : A) (xs : List A) → T (every f xs) → (k : ℕ) → k < length xs → T (f (getD xs k d))
-every-at f d [] t k h = absurd (not-suc-le-zero h)
-every-at f d (x ∷ xs) t zero h = and-left (f x) (every f xs) t
-every-at f d (x ∷ xs) t (suc k) h = every-at f d xs (and-right (f x) (every f xs) t) k (le-of-suc-le-suc h)

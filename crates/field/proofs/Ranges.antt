@@ -1,13 +1,17 @@
 -- 01's ten ranges are those of the ten kinds; and a write's contract allows one outcome.
 -- Assumes nothing.
 use mathlib.Core.Path.{_≡_, refl, sym, ap, _∙_}
-use mathlib.Core.Bool.{Bool}
+use mathlib.Core.Bool.{Bool, true, false, _&&_}
 use mathlib.Core.List.{List}
 use Prim.Native.Nat.{ℕ}
 use Rattle.form.specs.Table
 use Rattle.field.specs.declared.Written.{Written}
-use Rattle.field.specs.Write.{fitsOf, outBy}
+use Rattle.field.specs.Write.{isLetter, fitsOf, outBy}
 use Rattle.field.specs.Law.{Ranges, Wrote}
+
+and-true : (b : Bool) → (b && true) ≡ b
+and-true true = refl
+and-true false = refl
 
 pub ranges : Ranges
 unfolding fitsOf Table.rowOf Table.entryOf
@@ -21,7 +25,7 @@ ranges =
       e11 = λ m e. refl;
       e8 = λ m e. refl;
       e20 = λ m e. refl;
-      a1 = λ n. refl;
+      a1 = λ z. and-true (isLetter z);
       a120 = λ cs. refl;
     }
 

@@ -5,7 +5,7 @@ use mathlib.Core.List.{List, [], _∷_}
 use Prim.Native.Nat.{ℕ}
 use Prim.Native.String.{String}
 use lib.IntN.{ℤ, pos, negℤ}
-use Rattle.base.specs.Ascii.{bytes}
+use Rattle.base.specs.Quoted.{bytes}
 use Rattle.form.specs.declared.Form.{Form}
 use Rattle.form.specs.declared.Form.the-variants.{F8, I3, E20, E8}
 use Rattle.field.specs.declared.Value.{Value}

@@ -1,10 +1,10 @@
 -- What callers know of every form: the laws of its field, in one record.
 use mathlib.Core.Path.{_≡_}
-use mathlib.Core.Bool.{Bool, true, not, _&&_}
+use mathlib.Core.Bool.{Bool, not, _&&_}
 use mathlib.Core.List.{List, [], _∷_}
 use Prim.Native.Nat.{ℕ}
-use lib.Dec.{T, leb, eqb}
-use lib.IntN.{ℤ, pos}
+use lib.Dec.{T, eqb}
+use lib.IntN.{ℤ}
 use lib.ListN.{length}
 use Rattle.base.specs.Ascii.{printable}
 use Rattle.base.specs.Every.{every}
@@ -48,7 +48,7 @@ pub record Ranges : Type 0 where
   pub e8 : (m e : ℤ) → fitsOf E8 (m ∷ e ∷ []) ≡ (holds 999 999 m && holds 9 9 e)
   pub e20 : (m e : ℤ) → fitsOf E20 (m ∷ e ∷ []) ≡ (holds 999999999999 999999999999 m && holds 99 99 e)
   -- A: "32 to 126"
-  pub a1 : (n : ℕ) → fitsOf A1 (pos n ∷ []) ≡ (leb 32 n && leb n 126 && true)
+  pub a1 : (z : ℤ) → fitsOf A1 (z ∷ []) ≡ isLetter z
   pub a120 : (cs : List ℤ) → fitsOf A120 cs ≡ (eqb (length cs) 120 && every isLetter cs)
 
 -- ---- one outcome: what a contract allows for given inputs is one answer and one content of the lent memory

@@ -4,13 +4,15 @@
 use mathlib.Core.Path.{_≡_, refl}
 use mathlib.Core.List.{[], _∷_, map}
 use mathlib.Core.Logic.{_↔_}
-use Prim.Native.Nat.{ℕ, _<_}
+use Prim.Native.Nat.{ℕ, _<_, _≤_}
+use native.Mathlib.Nat.{mul-le-mul, le-mul-of-pos-right}
+use native.Mathlib.Omega.{arith}
 use Rattle.form.specs.declared.Form.{Form}
 use Rattle.form.specs.declared.Form.the-variants.{F8}
 use Rattle.form.specs.Table.{entryOf, rowOf}
-use Rattle.form.specs.Count.{elementsOf, roundedUp, linesOf, lastOf, Takes, Leaves}
-use Rattle.form.proofs.Rows.{row-fits}
-use Rattle.form.proofs.Rounding.{lines-are, last-line}
+use Rattle.form.specs.Count.{elementsOf, roundedUp, linesOf, cellsOf, lastOf, Takes, Leaves}
+use Rattle.form.proofs.Rows.{row-fits, elements-few}
+use Rattle.form.proofs.Rounding.{lines-are, lines-least, last-line}
 
 -- both directions: so many lines, and no other number, are what the elements need
 pub lines-needed : (f : Form) (n k : ℕ) → linesOf f n ≡ k ↔ Takes (elementsOf f n) (rowOf f .«per_line») k
@@ -20,6 +22,17 @@ lines-needed f n k = lines-are (elementsOf f n) (rowOf f .«per_line») (row-fit
 pub last-left : (f : Form) (n : ℕ) → 0 < elementsOf f n → Leaves (elementsOf f n) (rowOf f .«per_line») (linesOf f n) (lastOf f n)
 unfolding lastOf linesOf
 last-left f n more = last-line (elementsOf f n) (rowOf f .«per_line») (row-fits f .some) more
+
+-- bounds for callers that add them up
+pub lines-few : (f : Form) (n : ℕ) → n ≤ 65535 → linesOf f n ≤ 65535
+unfolding linesOf
+lines-few f n h =
+    let e = elements-few f n h in
+    omega (arith, lines-least (elementsOf f n) (rowOf f .«per_line») (row-fits f .some) (elementsOf f n) (le-mul-of-pos-right (elementsOf f n) (row-fits f .some)))
+
+pub cells-few : (f : Form) (n : ℕ) → n ≤ 65535 → cellsOf f n ≤ 7864200
+unfolding cellsOf
+cells-few f n h = mul-le-mul (elements-few f n h) (row-fits f .few-cells)
 
 -- Marked case 8: "F8.3 counts 0, 15, 16 have 0, 1, 2 lines."
 pub marked-lines : map (linesOf F8) (0 ∷ 15 ∷ 16 ∷ []) ≡ 0 ∷ 1 ∷ 2 ∷ []

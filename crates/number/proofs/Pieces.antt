@@ -6,7 +6,7 @@ use Prim.Native.Nat.{ℕ, _+_, _≤_}
 use native.Mathlib.Omega.{arith}
 use lib.ListN.{length}
 use Rattle.base.specs.Part.{over}
-use Rattle.base.proofs.Part.{over-before}
+use Rattle.base.proofs.Overwritten.{over-before}
 
 -- what stands before the point in h columns, the point, and the columns behind it
 pub put-point : (xs x₁ x₂ x₃ head tail : List ℕ) (at h : ℕ) → length head ≡ h → at + h + 1 ≤ length xs → x₁ ≡ over (at + h + 1) tail xs → x₂ ≡ over (at + h) (46 ∷ []) x₁ → x₃ ≡ over at head x₂ → x₃ ≡ over at (head ++ (46 ∷ tail)) xs

@@ -13,9 +13,9 @@ use Rattle.base.specs.Every.{every}
 use Rattle.base.specs.Sign.{ofSign, negative, sizeOf}
 use Rattle.base.specs.Digits.{numberOf}
 use Rattle.base.proofs.Choice.{and-both}
-use Rattle.base.proofs.Columns.{columns-length, columns-every}
+use Rattle.base.proofs.Columns.{columns-length}
 use Rattle.base.proofs.Digits.{lean-some}
-use Rattle.base.proofs.Every.{every-append}
+use Rattle.base.proofs.Everywhere.{every-append, columns-every}
 use Rattle.number.specs.declared.Scan.{Scan}
 use Rattle.number.specs.declared.Scan.the-variants.{Blanks, Signed, Digits, Broken}
 use Rattle.number.specs.Write.{lastOf, backOf, textOf, stateOf, leadState, textI, textF, textE}

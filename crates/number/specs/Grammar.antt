@@ -7,7 +7,7 @@ use Prim.Native.Nat.{ℕ, _<_}
 use Prim.Native.String.{String}
 use lib.IntN.{ℤ}
 use lib.ListN.{length, replicate}
-use Rattle.base.specs.Ascii.{bytes}
+use Rattle.base.specs.Quoted.{bytes}
 use Rattle.base.specs.Sign.{ofSign}
 use Rattle.base.specs.Digits.{AllDigits, numberOf, digitText}
 

@@ -1,3 +1,4 @@
+// Numbers in columns: I, F and E fields of any width, read in one pass and written from the last column to the first.
 ghost use mathlib.Core.Path.{_≡_};
 ghost use mathlib.Core.List.{_∷_, []};
 ghost use Prim.Native.Nat.{ℕ, _+_, _<_, _≤_, _^_};

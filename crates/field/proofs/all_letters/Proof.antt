@@ -5,7 +5,7 @@ use mathlib.Core.Path.{_≡_, sym, ap, _∙_}
 use Prim.Native.Nat.{_≤_, _-_}
 use lib.ListN.{length, drop, getD}
 use Rattle.base.specs.Every.{every}
-use Rattle.base.proofs.Every.{every-turn, every-stop, every-done}
+use Rattle.base.proofs.Every.{every-passed, every-failed, every-done}
 use Rattle.field.specs.Write.{isLetter}
 use lib.IntN.{pos}
 use mir.Syntax.{w64}
@@ -51,14 +51,14 @@ loop-again : tie.Need-loop-again Inv-loop μ-loop
 loop-again c =
     let l = c .before .before .before .before .loop in
     let e = toZ-ofZ {w = w64} {z = getD (c .before .before .before .before .before .args .cells .now) (l .i) (pos 0)} (sfits-of {w = w64} (c .before .before .is-letter-arg .given)) in
-    (omega arith, every-turn isLetter (c .before .before .before .before .before .args .cells .now) (l .i) (pos 0) (c .before .before .before .loop-test .taken) (sym (c .before .is-letter .ensures ∙ ap isLetter e) ∙ c .if1 .taken) ∙ l .inv .1)
+    (omega arith, every-passed isLetter (pos 0) (c .before .before .before .before .before .args .cells .now) (l .i) (c .before .before .before .loop-test .taken) (sym (c .before .is-letter .ensures ∙ ap isLetter e) ∙ c .if1 .taken) ∙ l .inv .1)
 
 -- src/lib.rt:295:13
 returns : tie.Need-returns Inv-loop μ-loop
 returns c =
     let l = c .before .before .before .before .loop in
     let e = toZ-ofZ {w = w64} {z = getD (c .before .before .before .before .before .args .cells .now) (l .i) (pos 0)} (sfits-of {w = w64} (c .before .before .is-letter-arg .given)) in
-    sym (every-stop isLetter (c .before .before .before .before .before .args .cells .now) (l .i) (pos 0) (c .before .before .before .loop-test .taken) (sym (c .before .is-letter .ensures ∙ ap isLetter e) ∙ c .if1 .left)) ∙ l .inv .1
+    sym (every-failed isLetter (pos 0) (c .before .before .before .before .before .args .cells .now) (l .i) (c .before .before .before .loop-test .taken) (sym (c .before .is-letter .ensures ∙ ap isLetter e) ∙ c .if1 .left)) ∙ l .inv .1
 
 -- src/lib.rt:287:1
 returns-2 : tie.Need-returns-2 Inv-loop μ-loop

@@ -6,7 +6,7 @@ use Prim.Native.Nat.{_≤_, _-_}
 use lib.ListN.{length, drop}
 use Rattle.base.specs.Ascii.{printable}
 use Rattle.base.specs.Every.{every}
-use Rattle.base.proofs.Every.{every-turn, every-stop, every-done}
+use Rattle.base.proofs.Every.{every-passed, every-failed, every-done}
 use Rattle.field.proofs.all_printable.Statement.{statement}
 use Rattle.field.proofs.all_printable.Tie as tie
 
@@ -34,12 +34,12 @@ loop-less c = search needs
 loop-again : tie.Need-loop-again Inv-loop μ-loop
 loop-again c =
     let l = c .before .before .before .before .loop in
-    (omega arith, every-turn printable (c .before .before .before .before .before .before .args .s .now) (l .i) 0 (c .before .before .before .loop-test .taken) (sym (c .before .is-printable .ensures) ∙ c .if1 .taken) ∙ l .inv .1)
+    (omega arith, every-passed printable 0 (c .before .before .before .before .before .before .args .s .now) (l .i) (c .before .before .before .loop-test .taken) (sym (c .before .is-printable .ensures) ∙ c .if1 .taken) ∙ l .inv .1)
 
 returns : tie.Need-returns Inv-loop μ-loop
 returns c =
     let l = c .before .before .before .before .loop in
-    sym (every-stop printable (c .before .before .before .before .before .before .args .s .now) (l .i) 0 (c .before .before .before .loop-test .taken) (sym (c .before .is-printable .ensures) ∙ c .if1 .left)) ∙ l .inv .1
+    sym (every-failed printable 0 (c .before .before .before .before .before .before .args .s .now) (l .i) (c .before .before .before .loop-test .taken) (sym (c .before .is-printable .ensures) ∙ c .if1 .left)) ∙ l .inv .1
 
 returns-2 : tie.Need-returns-2 Inv-loop μ-loop
 returns-2 c =

@@ -1,0 +1,43 @@
+-- Sums of the first entries of a list.
+-- Assumes nothing.
+use mathlib.Core.Path.{_≡_, refl, sym, _∙_, ap}
+use mathlib.Core.List.{List, [], _∷_, _++_}
+use Prim.Native.Nat.{ℕ, zero, suc, _+_, _<_, _≤_}
+use native.Mathlib.Omega.{arith}
+use native.Mathlib.Nat.{add-assoc, zero-add}
+use lib.ListN.{length, take, drop, getD}
+use Rattle.base.specs.Sum.{sum}
+
+pub sum-append : (a b : List ℕ) → sum (a ++ b) ≡ sum a + sum b
+unfolding sum
+sum-append [] b = sym (zero-add (sum b))
+sum-append (x ∷ a) b = ap (λ n. x + n) (sum-append a b) ∙ sym (add-assoc x (sum a) (sum b))
+
+-- one entry more
+pub sum-take-more : (ns : List ℕ) (g : ℕ) → g < length ns → sum (take (suc g) ns) ≡ sum (take g ns) + getD ns g 0
+unfolding sum
+sum-take-more [] g h = absurd (omega arith)
+sum-take-more (n ∷ ns) zero h = omega (arith, sum-none ns)
+  where
+    sum-none : (ns : List ℕ) → sum (take 0 ns) ≡ 0
+    sum-none [] = refl
+    sum-none (n ∷ ns) = refl
+sum-take-more (n ∷ ns) (suc g) h = omega (arith, sum-take-more ns g (omega arith))
+
+-- fewer entries sum to no more, and neither do any to more than all
+pub sum-take-mono : (ns : List ℕ) (g h : ℕ) → g ≤ h → sum (take g ns) ≤ sum (take h ns)
+unfolding sum
+sum-take-mono [] zero zero l = omega arith
+sum-take-mono [] zero (suc h) l = omega arith
+sum-take-mono [] (suc g) zero l = absurd (omega arith)
+sum-take-mono [] (suc g) (suc h) l = omega arith
+sum-take-mono (n ∷ ns) zero h l = omega arith
+sum-take-mono (n ∷ ns) (suc g) zero l = absurd (omega arith)
+sum-take-mono (n ∷ ns) (suc g) (suc h) l = omega (arith, sum-take-mono ns g h (omega arith))
+
+pub sum-take-all : (ns : List ℕ) (g : ℕ) → sum (take g ns) ≤ sum ns
+unfolding sum
+sum-take-all [] zero = omega arith
+sum-take-all [] (suc g) = omega arith
+sum-take-all (n ∷ ns) zero = omega arith
+sum-take-all (n ∷ ns) (suc g) = omega (arith, sum-take-all ns g)

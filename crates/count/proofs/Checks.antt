@@ -1,0 +1,43 @@
+-- The whole check, each answer by what led to it, in the order 4, 5, 6, 7, 14.
+-- Assumes nothing.
+use mathlib.Core.Path.{_≡_, sym, _∙_, ap}
+use mathlib.Core.Bool.{Bool, true, false}
+use mathlib.Core.List.{List}
+use Prim.Native.Nat.{ℕ}
+use native.Mathlib.Omega.{arith}
+use borrow.Author.Tests.{eq-eqb, ne-eqb}
+use Rattle.count.specs.Tally.{cellsBefore, recordCells, cellTally}
+use Rattle.count.specs.Rules.{releaseOf, rulingOf}
+use Rattle.count.specs.Check.{wellFormed, byRelease, byRules, byLength, checkedOf}
+use Rattle.count.specs.declared.Release.the-variants.{Five, Other, Filled}
+use Rattle.count.specs.declared.Ruling.the-variants.{Kept, Broken}
+use Rattle.count.specs.declared.Checked.the-variants.{Right, Misformed, OtherRelease, FilledVacant, BrokenRule, OtherLength}
+use Rattle.count.proofs.Tallied.{all-cells}
+
+module _ (ns : List ℕ) (cells : ℕ) where
+  pub checked-misformed : wellFormed ns ≡ false → checkedOf ns cells ≡ Misformed
+  unfolding checkedOf
+  checked-misformed w = rw w
+
+  module _ (w : wellFormed ns ≡ true) where
+    pub checked-release : releaseOf ns ≡ Other → checkedOf ns cells ≡ OtherRelease
+    unfolding checkedOf
+    checked-release r = rw (w, r)
+
+    pub checked-filled : {g : ℕ} → releaseOf ns ≡ Filled g → checkedOf ns cells ≡ FilledVacant g
+    unfolding checkedOf
+    checked-filled r = rw (w, r)
+
+    module _ (r : releaseOf ns ≡ Five) where
+      pub checked-broken : {g : ℕ} → rulingOf ns ≡ Broken g → checkedOf ns cells ≡ BrokenRule g
+      unfolding checkedOf
+      checked-broken k = rw (w, r, k)
+
+      module _ (k : rulingOf ns ≡ Kept) where
+        pub checked-right : cells ≡ cellsBefore ns 61 → checkedOf ns cells ≡ Right
+        unfolding checkedOf
+        checked-right e = rw (w, r, k, eq-eqb cells (recordCells ns) (e ∙ all-cells ns))
+
+        pub checked-length : (cells ≡ cellsBefore ns 61 → ⊥) → checkedOf ns cells ≡ OtherLength
+        unfolding checkedOf
+        checked-length n = rw (w, r, k, ne-eqb cells (recordCells ns) (λ e. n (e ∙ sym (all-cells ns))))

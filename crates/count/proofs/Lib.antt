@@ -1,0 +1,6 @@
+-- The laws of count's definitions.
+pub mod Rulings
+pub mod Sets
+pub mod Tallied
+pub mod Vacant
+pub mod Checks

@@ -1,0 +1,128 @@
+-- The tallies, a group more: what a loop over the groups adds up.
+-- Assumes nothing.
+use mathlib.Core.Path.{_≡_, refl, sym, _∙_, ap}
+use mathlib.Core.List.{List, [], _∷_, map}
+use mathlib.Core.Logic.{⊎-elim}
+use Prim.Native.Nat.{ℕ, zero, suc, _+_, _-_, _<_, _≤_, min}
+use native.Mathlib.Nat.{zero-add, suc-add}
+use native.Mathlib.Numerals.{add-one}
+use native.Mathlib.Omega.{arith}
+use lib.ListN.{length, getD, take, length-map, List·getD-eq-default}
+use lib.Seq.{take-all, take-nil}
+use Rattle.base.specs.Sum
+use Rattle.base.specs.Sum.{sum}
+use Rattle.base.specs.Every.{upFrom}
+use Rattle.base.proofs.Sum.{sum-take-more, sum-take-mono, sum-take-all}
+use Rattle.base.proofs.Order.{le-or-lt}
+use Rattle.base.proofs.UpFrom.{length-up, getD-map-up}
+use Rattle.form.specs.Table.{formOf}
+use Rattle.form.specs.Count.{linesOf, cellsOf}
+use Rattle.form.specs.declared.Form.{Form}
+use Rattle.form.specs.declared.GroupForm.the-variants.{Has, NoGroup}
+use Rattle.form.proofs.Table.{no-group}
+use Rattle.count.specs.Tally.{countOf, linesIn, cellsIn, lineTally, cellTally, linesBefore, cellsBefore, recordLines, recordCells, Before}
+
+-- ---- a count by its place in the list
+
+pub count-at : (ns : List ℕ) (g : ℕ) → 0 < g → countOf ns g ≡ getD ns (g - 1) 0
+count-at ns zero h = absurd (omega arith)
+count-at ns (suc g) h = let e : suc g - 1 ≡ g = omega arith in rw e
+
+pub count-beyond : (ns : List ℕ) (g : ℕ) → length ns < g → countOf ns g ≡ 0
+count-beyond ns g h = List·getD-eq-default (0 ∷ ns) 0 {n = g} h
+
+-- ---- a tally: a first entry, then one for each group 1 to 60
+
+abbrev tally : ℕ → (ℕ → ℕ) → List ℕ
+tally first f = first ∷ map f (upFrom 1 60)
+
+module _ (first : ℕ) (f : ℕ → ℕ) where
+  pub tally-length : length (tally first f) ≡ 61
+  tally-length = ap suc (length-map (upFrom 1 60) f ∙ length-up 1 60)
+
+  pub tally-none : sum (take 0 (tally first f)) ≡ 0
+  unfolding Sum.sum
+  tally-none = refl
+
+  pub tally-one : sum (take 1 (tally first f)) ≡ first
+  unfolding Sum.sum
+  tally-one = omega (arith, none (map f (upFrom 1 60)))
+    where
+      none : (xs : List ℕ) → sum (take 0 xs) ≡ 0
+      none [] = refl
+      none (x ∷ xs) = refl
+
+  pub tally-at : (g : ℕ) → 0 < g → g < 61 → getD (tally first f) g 0 ≡ f g
+  tally-at zero h k = absurd (omega arith)
+  tally-at (suc g) h k = getD-map-up f 1 60 g 0 (omega arith) ∙ ap f (omega arith)
+
+  pub tally-more : (g : ℕ) → 0 < g → g < 61 → sum (take (g + 1) (tally first f)) ≡ sum (take g (tally first f)) + f g
+  tally-more g h k =
+      rw (add-one g) (sum-take-more (tally first f) g (omega (arith, tally-length)) ∙ ap (λ n. sum (take g (tally first f)) + n) (tally-at g h k))
+
+  -- behind the last group there is no more
+  pub tally-all : (g : ℕ) → 61 ≤ g → sum (take g (tally first f)) ≡ sum (tally first f)
+  tally-all g h = ap sum (take-all g (tally first f) (omega (arith, tally-length)))
+
+  pub tally-end : (g : ℕ) → sum (take (min g 61) (tally first f)) ≡ sum (take g (tally first f))
+  tally-end g =
+      ⊎-elim
+      (λ (l : g ≤ 61). ap (λ k. sum (take k (tally first f))) (lesser l))
+      (λ (l : 61 < g). ap (λ k. sum (take k (tally first f))) (least l) ∙ tally-all 61 (omega arith) ∙ sym (tally-all g (omega arith)))
+      (le-or-lt g 61)
+    where
+      lesser : g ≤ 61 → min g 61 ≡ g
+      lesser l = omega arith
+
+      least : 61 < g → min g 61 ≡ 61
+      least l = omega arith
+
+-- ---- the lines and the cells before a group, a group more
+
+module _ (ns : List ℕ) where
+  pub before-none : Before ns 0 0 0
+  unfolding linesBefore cellsBefore lineTally cellTally
+  before-none = record { lines-are = sym (tally-none 2 (linesIn ns)); cells-are = sym (tally-none 0 (cellsIn ns)) }
+
+  pub before-groups : Before ns 1 2 0
+  unfolding linesBefore cellsBefore lineTally cellTally
+  before-groups = record { lines-are = sym (tally-one 2 (linesIn ns)); cells-are = sym (tally-one 0 (cellsIn ns)) }
+
+  pub before-end : (g l c : ℕ) → Before ns (min g 61) l c → Before ns g l c
+  unfolding linesBefore cellsBefore lineTally cellTally
+  before-end g l c b =
+      record { lines-are = b .lines-are ∙ tally-end 2 (linesIn ns) g; cells-are = b .cells-are ∙ tally-end 0 (cellsIn ns) g }
+
+  module _ (g l c : ℕ) (some : 0 < g) (few : g < 61) (b : Before ns g l c) where
+    more : Before ns (g + 1) (l + linesIn ns g) (c + cellsIn ns g)
+    unfolding linesBefore cellsBefore lineTally cellTally
+    more = record {
+      lines-are = rw (b .lines-are) (sym (tally-more 2 (linesIn ns) g some few));
+      cells-are = rw (b .cells-are) (sym (tally-more 0 (cellsIn ns) g some few));
+    }
+
+    pub before-more : (f : Form) → formOf g ≡ Has f → Before ns (g + 1) (l + linesOf f (countOf ns g)) (c + cellsOf f (countOf ns g))
+    unfolding linesIn cellsIn
+    before-more f e =
+        let p : linesIn ns g ≡ linesOf f (countOf ns g) = lines-by f e in
+        let q : cellsIn ns g ≡ cellsOf f (countOf ns g) = cells-by f e in
+        rw (← p, ← q) more
+      where
+        lines-by : (f : Form) → formOf g ≡ Has f → linesIn ns g ≡ linesOf f (countOf ns g)
+        lines-by f e = rw e
+
+        cells-by : (f : Form) → formOf g ≡ Has f → cellsIn ns g ≡ cellsOf f (countOf ns g)
+        cells-by f e = rw e
+
+-- each of 1 to 60 has a form
+pub has-form : (g : ℕ) → 0 < g → g < 61 → formOf g ≡ NoGroup → ⊥
+has-form g some few e = no-group g .0 e record { low = some; high = omega arith }
+
+-- before 61 is the whole record
+pub all-lines : (ns : List ℕ) → linesBefore ns 61 ≡ recordLines ns
+unfolding linesBefore lineTally
+all-lines ns = tally-all 2 (linesIn ns) 61 (omega arith)
+
+pub all-cells : (ns : List ℕ) → cellsBefore ns 61 ≡ recordCells ns
+unfolding cellsBefore cellTally
+all-cells ns = tally-all 0 (cellsIn ns) 61 (omega arith)

@@ -1,0 +1,106 @@
+-- `count::add_up` meets its contract. The invariant: the totals are those before group g.
+-- Assumes nothing.
+use borrow.Author.Needs.{needs}
+use native.Mathlib.Omega.{arith}
+use mathlib.Core.Path.{_≡_, refl, sym, _∙_, ap}
+use mathlib.Core.List.{map}
+use Prim.Native.Nat.{_*_, _+_, _-_, _≤_, min}
+use lib.ListN.{getD}
+use Rattle.form.specs.Table
+use Rattle.form.specs.Table.{rowOf, forms, formOf}
+use Rattle.form.specs.declared.GroupForm.the-variants.{Has}
+use Rattle.form.proofs.Table.{number-below}
+use Rattle.form.proofs.Rows.{row-at}
+use Rattle.form.proofs.Counted.{lines-few, cells-few}
+use Rattle.count.specs.Tally.{countOf, Before}
+use Rattle.count.proofs.Tallied.{before-none, before-groups, before-end, before-more, has-form}
+use Rattle.count.proofs.add_up.Statement.{statement}
+use Rattle.count.proofs.add_up.Tie as tie
+
+abbrev Inv-loop : tie.InvT-loop
+Inv-loop counts group end rows totals₀ g₀ totals g = (1 ≤ g) × (g ≤ end) × (totals .lines ≤ 65537 * g) × (totals .cells ≤ 7864200 * g) × Before counts g (totals .lines) (totals .cells)
+
+abbrev μ-loop : tie.MeasureT-loop
+μ-loop counts group end rows totals₀ g₀ totals g = end - g
+
+returns : tie.Need-returns Inv-loop μ-loop
+returns c = rw (c .if1 .taken) (before-none _)
+
+lesser-requires : tie.Need-lesser-requires Inv-loop μ-loop
+lesser-requires c κs = search needs
+
+loop-holds : tie.Need-loop-holds Inv-loop μ-loop
+loop-holds c = (omega arith, omega arith, omega arith, omega arith, before-groups _)
+
+form-of-requires : tie.Need-form-of-requires Inv-loop μ-loop
+form-of-requires c κs = search needs
+
+enum-known-found : tie.Need-enum-known-found Inv-loop μ-loop
+enum-known-found c = search needs
+
+enum-told : tie.Need-enum-told Inv-loop μ-loop
+enum-told c = search needs
+
+returns-2 : tie.Need-returns-2 Inv-loop μ-loop
+returns-2 c = absurd (has-form (c .before .before .before .before .loop .g) (omega arith) (omega arith) (sym (c .before .before .form-of .ensures) ∙ c .enum-told .given .1))
+
+number-requires : tie.Need-number-requires Inv-loop μ-loop
+number-requires c κs = search needs
+
+mul-with-group : tie.Need-mul-with-group Inv-loop μ-loop
+mul-with-group c = record { fits = omega (arith, c .number .ensures, number-below (c .before .before .found .given .0 .0)) }
+
+array-copy-out-with-group : tie.Need-array-copy-out-with-group Inv-loop μ-loop
+array-copy-out-with-group c = omega (arith, c .number .ensures, number-below (c .before .before .found .given .0 .0))
+
+count-of-requires : tie.Need-count-of-requires Inv-loop μ-loop
+count-of-requires c κs = search needs
+
+with-group-requires : tie.Need-with-group-requires Inv-loop μ-loop
+unfolding Table.rowOf Table.entryOf
+with-group-requires c κs = (ap (λ k. getD (map rowOf forms) k _) (c .before .before .number .ensures) ∙ row-at (c .before .before .before .before .found .given .0 .0) _, omega arith, omega arith)
+
+add-g : tie.Need-add-g Inv-loop μ-loop
+add-g c = search needs
+
+loop-less : tie.Need-loop-less Inv-loop μ-loop
+loop-less c = search needs
+
+loop-again : tie.Need-loop-again Inv-loop μ-loop
+loop-again c =
+    let l = c .before .before .before .before .before .before .before .before .before .loop in
+    let f = c .before .before .before .before .before .found .given .0 .0 in
+    let ns = c .before .before .before .before .before .before .before .before .before .before .before .before .before .args .counts .now in
+    let n : countOf ns (l .g) ≤ 65535 = omega (arith, c .before .count-of .ensures) in
+    let e : formOf (l .g) ≡ Has f = sym (c .before .before .before .before .before .before .before .form-of .ensures) ∙ c .before .before .before .before .before .found .given .1 in
+    let more = before-more ns (l .g) (l .totals .lines) (l .totals .cells) (omega arith) (omega arith) (l .inv .4) f e in
+    rw (c .with-group .ensures .0, c .with-group .ensures .1, c .before .count-of .ensures)
+    (omega arith, omega arith, omega (arith, lines-few f (countOf ns (l .g)) n), omega (arith, cells-few f (countOf ns (l .g)) n), more)
+
+returns-3 : tie.Need-returns-3 Inv-loop μ-loop
+returns-3 c =
+    let e : c .before .loop .g ≡ min (c .before .before .before .before .before .args .group) 61 = omega (arith, c .before .before .lesser .ensures) in
+    before-end _ _ _ _ (rw e at (c .before .loop .inv .4))
+
+pub add-up-spec : {M : Type 1} → statement M
+add-up-spec =
+    tie.close
+    (tie.spec
+    Inv-loop
+    μ-loop
+    returns
+    lesser-requires
+    loop-holds
+    form-of-requires
+    enum-known-found
+    enum-told
+    returns-2
+    number-requires
+    mul-with-group
+    array-copy-out-with-group
+    count-of-requires
+    with-group-requires
+    add-g
+    loop-less
+    loop-again
+    returns-3)

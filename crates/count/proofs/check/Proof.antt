@@ -1,0 +1,73 @@
+-- `count::check` meets its contract by cases, in the order of the replies.
+-- Assumes nothing.
+use borrow.Author.Needs.{needs}
+use mathlib.Core.Path.{sym, _∙_}
+use borrow.Author.Tests.{not-true, not-false}
+use Rattle.count.proofs.Checks.{checked-misformed, checked-release, checked-filled, checked-broken, checked-length, checked-right}
+use Rattle.count.proofs.check.Statement.{statement}
+use Rattle.count.proofs.check.Tie as tie
+
+well-formed-requires : tie.Need-well-formed-requires
+well-formed-requires c κs = search needs
+
+returns : tie.Need-returns
+returns c = sym (checked-misformed (c .before .before .before .args .counts .now) (c .before .before .before .args .cells) (sym (c .before .well-formed .ensures) ∙ not-true _ (c .if1 .taken)))
+
+release-of-requires : tie.Need-release-of-requires
+release-of-requires c κs = search needs
+
+enum-told : tie.Need-enum-told
+enum-told c = search needs
+
+enum-known-g : tie.Need-enum-known-g
+enum-known-g c = search needs
+
+enum-told-2 : tie.Need-enum-told-2
+enum-told-2 c = search needs
+
+ruling-of-requires : tie.Need-ruling-of-requires
+ruling-of-requires c κs = search needs
+
+enum-known-g-2 : tie.Need-enum-known-g-2
+enum-known-g-2 c = search needs
+
+enum-told-3 : tie.Need-enum-told-3
+enum-told-3 c = search needs
+
+add-up-requires : tie.Need-add-up-requires
+add-up-requires c κs = search needs
+
+returns-2 : tie.Need-returns-2
+returns-2 c = sym (checked-right (c .before .before .before .before .before .before .before .before .before .before .before .before .args .counts .now) (c .before .before .before .before .before .before .before .before .before .before .before .before .args .cells) (sym (c .before .before .before .before .before .before .before .before .before .before .well-formed .ensures) ∙ not-false _ (c .before .before .before .before .before .before .before .before .before .if1 .left)) (sym (c .before .before .before .before .before .before .before .before .release-of .ensures) ∙ c .before .before .before .before .before .before .enum-told2 .given .1) (sym (c .before .before .before .before .before .ruling-of .ensures) ∙ c .before .before .before .enum-told3 .given .1) (c .if2 .taken ∙ c .before .before .add-up .ensures .cells-are))
+
+returns-3 : tie.Need-returns-3
+returns-3 c = sym (checked-release (c .before .before .before .before .before .before .args .counts .now) (c .before .before .before .before .before .before .args .cells) (sym (c .before .before .before .before .well-formed .ensures) ∙ not-false _ (c .before .before .before .if1 .left)) (sym (c .before .before .release-of .ensures) ∙ c .enum-told .given .1))
+
+returns-4 : tie.Need-returns-4
+returns-4 c = sym (checked-filled (c .before .before .before .before .before .before .before .args .counts .now) (c .before .before .before .before .before .before .before .args .cells) (sym (c .before .before .before .before .before .well-formed .ensures) ∙ not-false _ (c .before .before .before .before .if1 .left)) (sym (c .before .before .before .release-of .ensures) ∙ c .before .g .given .1))
+
+returns-5 : tie.Need-returns-5
+returns-5 c = sym (checked-broken (c .before .before .before .before .before .before .before .before .before .before .args .counts .now) (c .before .before .before .before .before .before .before .before .before .before .args .cells) (sym (c .before .before .before .before .before .before .before .before .well-formed .ensures) ∙ not-false _ (c .before .before .before .before .before .before .before .if1 .left)) (sym (c .before .before .before .before .before .before .release-of .ensures) ∙ c .before .before .before .before .enum-told2 .given .1) (sym (c .before .before .before .ruling-of .ensures) ∙ c .before .g2 .given .1))
+
+returns-6 : tie.Need-returns-6
+returns-6 c = sym (checked-length (c .before .before .before .before .before .before .before .before .before .before .before .before .args .counts .now) (c .before .before .before .before .before .before .before .before .before .before .before .before .args .cells) (sym (c .before .before .before .before .before .before .before .before .before .before .well-formed .ensures) ∙ not-false _ (c .before .before .before .before .before .before .before .before .before .if1 .left)) (sym (c .before .before .before .before .before .before .before .before .release-of .ensures) ∙ c .before .before .before .before .before .before .enum-told2 .given .1) (sym (c .before .before .before .before .before .ruling-of .ensures) ∙ c .before .before .before .enum-told3 .given .1) (λ e. c .if2 .left (e ∙ sym (c .before .before .add-up .ensures .cells-are))))
+
+pub check-spec : {M : Type 1} → statement M
+check-spec =
+    tie.close
+    (tie.spec
+    well-formed-requires
+    returns
+    release-of-requires
+    enum-told
+    enum-known-g
+    enum-told-2
+    ruling-of-requires
+    enum-known-g-2
+    enum-told-3
+    add-up-requires
+    returns-2
+    returns-3
+    returns-4
+    returns-5
+    returns-6)

@@ -1,0 +1,30 @@
+-- `count::count_of` meets its contract: a number that is not in the list is 0.
+-- Assumes nothing.
+use borrow.Author.Needs.{needs}
+use native.Mathlib.Omega.{arith}
+use mathlib.Core.Path.{_≡_, refl, sym, _∙_, ap}
+use Rattle.count.proofs.Tallied.{count-at, count-beyond}
+use Rattle.count.proofs.count_of.Statement.{statement}
+use Rattle.count.proofs.count_of.Tie as tie
+
+returns : tie.Need-returns
+returns c = sym (rw (c .if1 .taken))
+
+returns-2 : tie.Need-returns-2
+returns-2 c = sym (count-beyond (c .before .before .args .counts .now) _ (c .if2 .taken))
+
+sub-result : tie.Need-sub-result
+sub-result c = search needs
+
+mul-result : tie.Need-mul-result
+mul-result c = search needs
+
+shared-slice-read-result : tie.Need-shared-slice-read-result
+shared-slice-read-result c = search needs
+
+returns-3 : tie.Need-returns-3
+returns-3 c = sym (count-at (c .before .before .before .args .counts .now) (c .before .before .before .args .group) (omega arith))
+
+pub count-of-spec : {M : Type 1} → statement M
+count-of-spec =
+    tie.close (tie.spec returns returns-2 sub-result mul-result shared-slice-read-result returns-3)

@@ -1,0 +1,36 @@
+-- The whole check of counts and a table's length, in the order 4, 5, 6, 7, 14, as writing makes it, and whatever else is lent counts and
+-- cells without a text.
+use mathlib.Core.Bool.{Bool, true, false, cond, _&&_}
+use mathlib.Core.List.{List}
+use Prim.Native.Nat.{ℕ}
+use lib.Dec.{eqb, leb}
+use lib.ListN.{length}
+use Rattle.base.specs.Every.{every}
+use Rattle.count.specs.Tally.{recordCells}
+use Rattle.count.specs.Rules.{releaseOf, rulingOf}
+use Rattle.count.specs.declared.Release.{Release}
+use Rattle.count.specs.declared.Release.the-variants.{Five, Other, Filled}
+use Rattle.count.specs.declared.Ruling.{Ruling}
+use Rattle.count.specs.declared.Ruling.the-variants.{Kept, Broken}
+use Rattle.count.specs.declared.Checked.{Checked}
+use Rattle.count.specs.declared.Checked.the-variants.{Right, Misformed, OtherRelease, FilledVacant, BrokenRule, OtherLength}
+
+-- "in writing, not 80 counts or a count outside 0 to 999" (4)
+unfoldable pub wellFormed : List ℕ → Bool
+wellFormed ns = eqb (length ns) 80 && every (λ n. leb n 999) ns
+
+-- "table's length differs from the cells that the counts need" (14)
+abbrev pub byLength : List ℕ → ℕ → Checked
+byLength ns cells = cond (eqb cells (recordCells ns)) Right OtherLength
+
+abbrev pub byRules : List ℕ → ℕ → Ruling → Checked
+byRules ns cells Kept = byLength ns cells
+byRules ns cells (Broken g) = BrokenRule g
+
+abbrev pub byRelease : List ℕ → ℕ → Release → Checked
+byRelease ns cells Five = byRules ns cells (rulingOf ns)
+byRelease ns cells Other = OtherRelease
+byRelease ns cells (Filled g) = FilledVacant g
+
+unfoldable pub checkedOf : List ℕ → ℕ → Checked
+checkedOf ns cells = cond (wellFormed ns) (byRelease ns cells (releaseOf ns)) Misformed

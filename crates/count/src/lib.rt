@@ -1,0 +1,359 @@
+// Counts: the lines and cells that they stand for, the rules that 01 lays on them, and the whole check before they are used. Counts are
+// lent as a slice of any length; a count that is not there is 0.
+ghost use mathlib.Core.Path.{_≡_};
+ghost use mathlib.Core.Bool.{_&&_};
+ghost use mathlib.Core.List.{map};
+ghost use lib.Dec.{leb};
+ghost use Prim.Native.Nat.{_+_, _^_, _<_, _≤_, min};
+ghost use Rattle.form.specs.Table.{rowOf};
+ghost use Rattle.form.specs.Count.{linesOf, cellsOf};
+ghost use Rattle.count.specs.Tally.{countOf, Before};
+ghost use Rattle.count.specs.Rules.{releaseOf, lower, one, rule, differ, settle, keeps, lowest, headRules, letterRules, setRule, sets, zeroOr, rulingOf};
+ghost use Rattle.count.specs.Check.{wellFormed, checkedOf};
+
+// What is under number 80 and the vacant groups: release 5 and nothing, another release, or the lowest vacant group with a count.
+pub enum Release {
+    Five,
+    Other,
+    Filled(usize),
+}
+
+// Whether the rules on counts are kept, or the lowest group blamed.
+pub enum Ruling {
+    Kept,
+    Broken(usize),
+}
+
+// The whole check: right, or the first reply due, 4, 5, 6, 7 or 14.
+pub enum Checked {
+    Right,
+    Misformed,
+    OtherRelease,
+    FilledVacant(usize),
+    BrokenRule(usize),
+    OtherLength,
+}
+
+// A set of groups whose nonzero counts are equal; where `ends` is true, its first and last are there if any is.
+pub struct Set {
+    pub first: usize,
+    pub last: usize,
+    pub ends: bool,
+}
+
+// "Trace sets .. and profile sets .."
+pub const SETS: [Set; 10] = [
+    Set {
+        first: 7,
+        last: 11,
+        ends: true,
+    },
+    Set {
+        first: 12,
+        last: 16,
+        ends: true,
+    },
+    Set {
+        first: 17,
+        last: 21,
+        ends: true,
+    },
+    Set {
+        first: 22,
+        last: 25,
+        ends: false,
+    },
+    Set {
+        first: 26,
+        last: 29,
+        ends: false,
+    },
+    Set {
+        first: 30,
+        last: 33,
+        ends: false,
+    },
+    Set {
+        first: 43,
+        last: 46,
+        ends: false,
+    },
+    Set {
+        first: 47,
+        last: 50,
+        ends: false,
+    },
+    Set {
+        first: 51,
+        last: 53,
+        ends: false,
+    },
+    Set {
+        first: 58,
+        last: 60,
+        ends: false,
+    },
+];
+
+// Lines and cells.
+pub struct Totals {
+    pub lines: usize,
+    pub cells: usize,
+}
+
+// The count of a group.
+pub fn count_of(counts: &[u16], group: usize) -> u16
+    ensures { λ r. ⌜ r ≡ countOf (now (counts .entry)) group ⌝ }
+{
+    if group == 0 {
+        return 0;
+    }
+    if counts.len() < group {
+        return 0;
+    }
+    counts[group - 1]
+}
+
+fn lesser(a: usize, b: usize) -> usize
+    ensures { λ r. ⌜ r ≡ min a b ⌝ }
+{
+    if a < b {
+        return a;
+    }
+    b
+}
+
+// Totals with those of a group more, whose row is given.
+fn with_group(totals: Totals, form: form::Form, row: form::Row, count: u16) -> Totals
+    requires { ⌜ (row ≡ rowOf form) × (totals .lines < 2 ^ 32) × (totals .cells < 2 ^ 32) ⌝ }
+    ensures { λ r. ⌜ (r .lines ≡ totals .lines + linesOf form count) × (r .cells ≡ totals .cells + cellsOf form count) ⌝ }
+{
+    let n = form::elements(form, count);
+    Totals {
+        lines: totals.lines + form::rounded_up(n, row.per_line),
+        cells: totals.cells + n * row.cells,
+    }
+}
+
+// The lines, the index among them, and the cells before those of a group; before 61: of the whole record.
+pub fn add_up(counts: &[u16], group: usize) -> Totals
+    ensures { λ r. ⌜ Before (now (counts .entry)) group (r .lines) (r .cells) ⌝ }
+{
+    if group == 0 {
+        return Totals { lines: 0, cells: 0 };
+    }
+    let end = lesser(group, 61);
+    let rows = form::ROWS;
+    let mut totals = Totals { lines: 2, cells: 0 };
+    let mut g: usize = 1;
+    while g < end {
+        let found = form::form_of(g);
+        // each of 1 to 60 has a form, so this is never taken
+        let form::GroupForm::Has(f) = found else {
+            return totals;
+        };
+        let k = form::number(f);
+        totals = with_group(totals, f, rows[k], count_of(counts, g));
+        g += 1;
+    }
+    totals
+}
+
+// Replies 5 and 6.
+pub fn release_of(counts: &[u16]) -> Release
+    ensures { λ r. ⌜ r ≡ releaseOf (now (counts .entry)) ⌝ }
+{
+    if count_of(counts, 80) != 5 {
+        return Release::Other;
+    }
+    let mut g: usize = 61;
+    while g < 80 {
+        if count_of(counts, g) != 0 {
+            return Release::Filled(g);
+        }
+        g += 1;
+    }
+    Release::Five
+}
+
+// The lower of two answers' groups.
+pub fn lower_of(a: Ruling, b: Ruling) -> Ruling
+    ensures { λ r. ⌜ r ≡ lower a b ⌝ }
+{
+    match a {
+        Ruling::Kept => b,
+        Ruling::Broken(g) => match b {
+            Ruling::Kept => Ruling::Broken(g),
+            Ruling::Broken(h) => Ruling::Broken(lesser(g, h)),
+        },
+    }
+}
+
+// One rule: kept, or its group blamed.
+fn ruled(group: usize, kept: bool) -> Ruling
+    ensures { λ r. ⌜ r ≡ one (rule group kept) ⌝ }
+{
+    if kept {
+        return Ruling::Kept;
+    }
+    Ruling::Broken(group)
+}
+
+fn within(n: u16, low: u16, high: u16) -> bool
+    ensures { λ r. ⌜ r ≡ leb low n && leb n high ⌝ }
+{
+    if n < low {
+        return false;
+    }
+    n <= high
+}
+
+// "Group 1 at least 4; group 2 at most 2; group 3 at least 19; group 4 from 1 to 49."
+fn head_ruling(counts: &[u16]) -> Ruling
+    ensures { λ r. ⌜ r ≡ lowest (headRules (now (counts .entry))) ⌝ }
+{
+    let one = ruled(1, 4 <= count_of(counts, 1));
+    let two = ruled(2, count_of(counts, 2) <= 2);
+    let three = ruled(3, 19 <= count_of(counts, 3));
+    let four = ruled(4, within(count_of(counts, 4), 1, 49));
+    lower_of(one, lower_of(two, lower_of(three, four)))
+}
+
+// Whether a count differs from the one nonzero count seen so far; 0 is no count, and 0 as what was seen is none yet.
+fn differs(seen: u16, n: u16) -> bool
+    ensures { λ r. ⌜ r ≡ differ seen n ⌝ }
+{
+    if n == 0 {
+        return false;
+    }
+    if seen == 0 {
+        return false;
+    }
+    n != seen
+}
+
+// What has been seen behind a count.
+fn settled(seen: u16, n: u16) -> u16
+    ensures { λ r. ⌜ r ≡ settle seen n ⌝ }
+{
+    if n == 0 {
+        return seen;
+    }
+    if seen == 0 {
+        return n;
+    }
+    seen
+}
+
+// Whether a set keeps its rules.
+fn kept_by(counts: &[u16], set: Set) -> bool
+    requires { ⌜ set .last ≤ 79 ⌝ }
+    ensures { λ r. ⌜ r ≡ keeps (now (counts .entry)) set ⌝ }
+{
+    let first = set.first;
+    let last = set.last;
+    let mut seen: u16 = 0;
+    let mut g = first;
+    while g <= last {
+        let n = count_of(counts, g);
+        if differs(seen, n) {
+            return false;
+        }
+        seen = settled(seen, n);
+        g += 1;
+    }
+    if !set.ends {
+        return true;
+    }
+    if seen == 0 {
+        return true;
+    }
+    if count_of(counts, first) == 0 {
+        return false;
+    }
+    count_of(counts, last) != 0
+}
+
+// The sets' rules.
+fn set_ruling(counts: &[u16]) -> Ruling
+    ensures { λ r. ⌜ r ≡ lowest (map (setRule (now (counts .entry))) sets) ⌝ }
+{
+    let table = SETS;
+    let mut low = Ruling::Kept;
+    let mut k: usize = 0;
+    while k < 10 {
+        let set = table[k];
+        low = lower_of(low, ruled(set.first, kept_by(counts, set)));
+        k += 1;
+    }
+    low
+}
+
+fn zero_or(x: u16, n: u16) -> bool
+    ensures { λ r. ⌜ r ≡ zeroOr x n ⌝ }
+{
+    if x == 0 {
+        return true;
+    }
+    x == n
+}
+
+// "Groups 54 and 55: zero or group 4's count."
+fn letter_ruling(counts: &[u16]) -> Ruling
+    ensures { λ r. ⌜ r ≡ lowest (letterRules (now (counts .entry))) ⌝ }
+{
+    let n = count_of(counts, 4);
+    let first = ruled(54, zero_or(count_of(counts, 54), n));
+    let second = ruled(55, zero_or(count_of(counts, 55), n));
+    lower_of(first, second)
+}
+
+// Reply 7.
+pub fn ruling_of(counts: &[u16]) -> Ruling
+    ensures { λ r. ⌜ r ≡ rulingOf (now (counts .entry)) ⌝ }
+{
+    lower_of(
+        head_ruling(counts),
+        lower_of(set_ruling(counts), letter_ruling(counts)),
+    )
+}
+
+// Whether there are 80 counts, each 0 to 999.
+fn well_formed(counts: &[u16]) -> bool
+    ensures { λ r. ⌜ r ≡ wellFormed (now (counts .entry)) ⌝ }
+{
+    if counts.len() != 80 {
+        return false;
+    }
+    let mut i: usize = 0;
+    while i < counts.len() {
+        if 999 < counts[i] {
+            return false;
+        }
+        i += 1;
+    }
+    true
+}
+
+// The whole check of counts and the length of the table of all cells: 4, 5, 6, 7, 14.
+pub fn check(counts: &[u16], cells: usize) -> Checked
+    ensures { λ r. ⌜ r ≡ checkedOf (now (counts .entry)) cells ⌝ }
+{
+    if !well_formed(counts) {
+        return Checked::Misformed;
+    }
+    match release_of(counts) {
+        Release::Other => Checked::OtherRelease,
+        Release::Filled(g) => Checked::FilledVacant(g),
+        Release::Five => match ruling_of(counts) {
+            Ruling::Broken(g) => Checked::BrokenRule(g),
+            Ruling::Kept => {
+                let all = add_up(counts, 61);
+                if cells == all.cells {
+                    return Checked::Right;
+                }
+                Checked::OtherLength
+            }
+        },
+    }
+}

@@ -1,0 +1,66 @@
+-- The text has no such positions, or the field's digits are read from the part that holds them.
+use native.Mathlib.Omega.{arith}
+use borrow.Author.Needs.{needs}
+use Prim.Native.Nat.{_+_, _-_}
+use lib.ListN.{length}
+use borrow.Author.Tests.{lt-leb, le-leb}
+use Rattle.base.proofs.Tests.{and-false}
+use Rattle.date.specs.Digits.{digitsOf}
+use Rattle.date.proofs.DigitField.read.Statement.{statement}
+use Rattle.date.proofs.DigitField.read.Tie as tie
+
+returns : tie.Need-returns
+unfolding digitsOf
+returns c = rw (lt-leb 1 _ (c .if1 .taken))
+
+returns-2 : tie.Need-returns-2
+unfolding digitsOf
+returns-2 c =
+    let a = c .before .before .before .args in
+    rw (lt-leb (a .self .first - 1 + a .self .length) (length (a .text .now)) (omega arith), and-false _)
+
+sub-if3 : tie.Need-sub-if3
+sub-if3 c = search needs
+
+returns-3 : tie.Need-returns-3
+unfolding digitsOf
+returns-3 c =
+    let a = c .before .before .before .before .args in
+    rw (lt-leb (a .self .first - 1 + a .self .length) (length (a .text .now)) (omega arith), and-false _)
+
+add-to : tie.Need-add-to
+add-to c = search needs
+
+sub-number : tie.Need-sub-number
+sub-number c = search needs
+
+part-number-start : tie.Need-part-number-start
+part-number-start c = search needs
+
+part-number-end : tie.Need-part-number-end
+part-number-end c = search needs
+
+number-requires : tie.Need-number-requires
+number-requires c κs = search needs
+
+returns-4 : tie.Need-returns-4
+unfolding digitsOf
+returns-4 c =
+    let a = c .before .before .before .before .before .before .args in
+    rw (le-leb 1 (a .self .first) (omega arith), le-leb (a .self .first - 1 + a .self .length) (length (a .text .now)) (omega arith))
+    (c .number .ensures)
+
+pub read-spec : {M : Type 1} → statement M
+read-spec =
+    tie.close
+    (tie.spec
+    returns
+    returns-2
+    sub-if3
+    returns-3
+    add-to
+    sub-number
+    part-number-start
+    part-number-end
+    number-requires
+    returns-4)

@@ -1,0 +1,110 @@
+-- "Group 3, positions 3-6 year, 7-9 day of year, 10-11 month, 12-13 day, 14-15 hour, 16-17 minute, 18-19 second. All digits, zero filled; day
+-- of year 1-366, month 1-12, day 1-31, hour 0-23, minute and second 0-59."
+use mathlib.Core.Path.{_≡_}
+use mathlib.Core.Bool.{Bool, true, false, cond}
+use mathlib.Core.List.{List, [], _∷_, _++_}
+use Prim.Native.Nat.{ℕ, suc, _-_}
+use Rattle.date.specs.declared.DigitField.{DigitField}
+use Rattle.date.specs.declared.Digits.{Digits}
+use Rattle.date.specs.declared.Digits.the-variants.{Number, Fails}
+use Rattle.date.specs.declared.Date.{Date}
+use Rattle.date.specs.declared.Dated.{Dated}
+use Rattle.date.specs.declared.Dated.the-variants.{Right, Wrong}
+use Rattle.date.specs.Digits.{digitsOf}
+use Rattle.date.specs.Calendar.{isLeap, nameDay}
+
+-- positions from .. to, and values from .. to
+abbrev pub positions : ℕ → ℕ → ℕ → ℕ → DigitField
+positions from to least greatest = record { first = from; length = suc to - from; least = least; greatest = greatest }
+
+abbrev pub year : DigitField
+year = positions 3 6 0 9999
+
+abbrev pub dayOfYear : DigitField
+dayOfYear = positions 7 9 1 366
+
+abbrev pub month : DigitField
+month = positions 10 11 1 12
+
+abbrev pub day : DigitField
+day = positions 12 13 1 31
+
+abbrev pub hour : DigitField
+hour = positions 14 15 0 23
+
+abbrev pub minute : DigitField
+minute = positions 16 17 0 59
+
+abbrev pub second : DigitField
+second = positions 18 19 0 59
+
+abbrev pub fields : List DigitField
+fields = year ∷ dayOfYear ∷ month ∷ day ∷ hour ∷ minute ∷ second ∷ []
+
+-- a field that fails alone, and the number that it reads as otherwise
+abbrev pub fails : Digits → Bool
+fails (Number v) = false
+fails Fails = true
+
+abbrev pub number : Digits → ℕ
+number (Number v) = v
+number Fails = 0
+
+-- "Day of year, month and day must name one day of that year in the Gregorian calendar"
+abbrev pub namesOneDay : Date → Bool
+namesOneDay d = nameDay (isLeap (d .year)) (d .«day_of_year») (d .month) (d .day)
+
+-- the numbers of the seven fields
+abbrev pub dateOf : List ℕ → Date
+dateOf s =
+    record {
+      year = number (digitsOf year s);
+      «day_of_year» = number (digitsOf dayOfYear s);
+      month = number (digitsOf month s);
+      day = number (digitsOf day s);
+      hour = number (digitsOf hour s);
+      minute = number (digitsOf minute s);
+      second = number (digitsOf second s);
+    }
+
+-- "Blamed is the first position of the first field that fails alone": of these fields; if none of them does, it is as given
+unfoldable pub firstBlamed : List DigitField → List ℕ → Dated → Dated
+firstBlamed [] s given = given
+firstBlamed (f ∷ fs) s given = cond (fails (digitsOf f s)) (Wrong (f .first)) (firstBlamed fs s given)
+
+-- "if none, 7 for a mismatch"
+abbrev pub judged : Date → Dated
+judged d = cond (namesOneDay d) (Right d) (Wrong 7)
+
+-- the date that the letters of group 3 tell, or the position blamed
+unfoldable pub datedOf : List ℕ → Dated
+datedOf s = firstBlamed fields s (judged (dateOf s))
+
+-- ---- who is blamed, as a statement (proofs/Due.antt)
+
+-- each of these fields reads as a number
+abbrev pub AllHold : List DigitField → List ℕ → Type 0
+AllHold [] s = Unit {0}
+AllHold (f ∷ fs) s = (fails (digitsOf f s) ≡ false) × AllHold fs s
+
+-- one of the fields fails alone, none before it does, and p is its first position
+pub record FirstFails (fs : List DigitField) (s : List ℕ) (p : ℕ) : Type 0 where
+  pub before : List DigitField
+  pub field : DigitField
+  pub behind : List DigitField
+  pub order : fs ≡ before ++ (field ∷ behind)
+  pub hold : AllHold before s
+  pub failing : fails (digitsOf field s) ≡ true
+  pub position : p ≡ field .first
+
+-- no field fails alone, but day of year, month and day name no day of that year
+pub record Mismatched (s : List ℕ) (p : ℕ) : Type 0 where
+  pub hold : AllHold fields s
+  pub no-day : namesOneDay (dateOf s) ≡ false
+  pub position : p ≡ 7
+
+-- no field fails alone, the three name one day, and d has the seven numbers
+pub record IsDate (s : List ℕ) (d : Date) : Type 0 where
+  pub hold : AllHold fields s
+  pub one-day : namesOneDay (dateOf s) ≡ true
+  pub numbers : d ≡ dateOf s

@@ -1,0 +1,5 @@
+-- The section "Date" of 01: what a digit field reads as (Digits), what a day of a year is (Calendar), and what group 3's letters tell
+-- (Date).
+pub mod Digits
+pub mod Calendar
+pub mod Date
