@@ -2,37 +2,22 @@
 -- Assumes nothing.
 use mathlib.Core.Path.{_≡_, refl}
 use native.Mathlib.Omega.{arith}
+use lib.Dec.{eqb, eqb→eq}
 use Rattle.form.specs.declared.Form.{Form}
 use Rattle.form.specs.declared.Form.the-variants.{F7, A120, A1, F8, I2, I3, I1, E11, E20, E8}
 use Rattle.form.specs.Table
 use Rattle.form.specs.Table.{rowOf}
+use Rattle.form.proofs.Table.{each-form}
 use Rattle.field.specs.Kind.{kindOf, widthOf, countOf, Tens, Small}
 
+-- one computed test over the ten forms for each of the first two
 pub kind-width : (f : Form) → widthOf (kindOf f) ≡ rowOf f .width
 unfolding Table.rowOf Table.entryOf
-kind-width F7 = refl
-kind-width A120 = refl
-kind-width A1 = refl
-kind-width F8 = refl
-kind-width I2 = refl
-kind-width I3 = refl
-kind-width I1 = refl
-kind-width E11 = refl
-kind-width E20 = refl
-kind-width E8 = refl
+kind-width f = eqb→eq (widthOf (kindOf f)) (rowOf f .width) (each-form (λ f. eqb (widthOf (kindOf f)) (rowOf f .width)) tt f)
 
 pub kind-cells : (f : Form) → countOf (kindOf f) ≡ rowOf f .cells
 unfolding Table.rowOf Table.entryOf
-kind-cells F7 = refl
-kind-cells A120 = refl
-kind-cells A1 = refl
-kind-cells F8 = refl
-kind-cells I2 = refl
-kind-cells I3 = refl
-kind-cells I1 = refl
-kind-cells E11 = refl
-kind-cells E20 = refl
-kind-cells E8 = refl
+kind-cells f = eqb→eq (countOf (kindOf f)) (rowOf f .cells) (each-form (λ f. eqb (countOf (kindOf f)) (rowOf f .cells)) tt f)
 
 pub kind-tens : (f : Form) → Tens (kindOf f)
 kind-tens F7 = (omega arith, refl, refl)

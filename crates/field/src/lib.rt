@@ -224,7 +224,7 @@ fn read_letter(s: &[u8]) -> Value
 }
 
 fn read_letters(s: &[u8]) -> Value
-    ensures { λ r. ⌜ r ≡ readAs (Kind.AllLetters 120) (now (s .entry)) ⌝ }
+    ensures { λ r. ⌜ r ≡ readAs (Kind.AllLetters (length (now (s .entry)))) (now (s .entry)) ⌝ }
 {
     if all_printable(s) {
         return Value::Letters;

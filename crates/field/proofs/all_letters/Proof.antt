@@ -12,9 +12,6 @@ use mir.Syntax.{w64}
 use mir.Facts.{toZ-ofZ}
 use Rattle.field.proofs.all_letters.Statement.{statement}
 use Rattle.field.proofs.all_letters.Tie as tie
-use Rattle.field.proofs.all_letters.Reads as reads
-use Rattle.field.proofs.all_letters.Lts as lts
-use Rattle.field.proofs.is_letter.Reads as is-letter-reads
 
 abbrev Inv-loop : tie.InvT-loop
 Inv-loop cells i₀ i = (i ≤ length cells) × (every isLetter (drop i cells) ≡ every isLetter cells)
@@ -22,45 +19,36 @@ Inv-loop cells i₀ i = (i ≤ length cells) × (every isLetter (drop i cells) �
 abbrev μ-loop : tie.MeasureT-loop
 μ-loop cells i₀ i = length cells - i
 
--- src/lib.rt:291:5
 loop-holds : tie.Need-loop-holds Inv-loop μ-loop
 loop-holds c = search needs
 
--- src/lib.rt:292:22
 mul-is-letter : tie.Need-mul-is-letter Inv-loop μ-loop
 mul-is-letter c = search needs
 
--- src/lib.rt:292:22
 shared-slice-copy-out-is-letter : tie.Need-shared-slice-copy-out-is-letter Inv-loop μ-loop
 shared-slice-copy-out-is-letter c = search needs
 
--- src/lib.rt:292:12
 is-letter-requires : tie.Need-is-letter-requires Inv-loop μ-loop
 is-letter-requires c κs = search needs
 
--- src/lib.rt:293:13
 add-i : tie.Need-add-i Inv-loop μ-loop
 add-i c = search needs
 
--- src/lib.rt:291:5
 loop-less : tie.Need-loop-less Inv-loop μ-loop
 loop-less c = search needs
 
--- src/lib.rt:291:5
 loop-again : tie.Need-loop-again Inv-loop μ-loop
 loop-again c =
     let l = c .before .before .before .before .loop in
     let e = toZ-ofZ {w = w64} {z = getD (c .before .before .before .before .before .args .cells .now) (l .i) (pos 0)} (sfits-of {w = w64} (c .before .before .is-letter-arg .given)) in
     (omega arith, every-passed isLetter (pos 0) (c .before .before .before .before .before .args .cells .now) (l .i) (c .before .before .before .loop-test .taken) (sym (c .before .is-letter .ensures ∙ ap isLetter e) ∙ c .if1 .taken) ∙ l .inv .1)
 
--- src/lib.rt:295:13
 returns : tie.Need-returns Inv-loop μ-loop
 returns c =
     let l = c .before .before .before .before .loop in
     let e = toZ-ofZ {w = w64} {z = getD (c .before .before .before .before .before .args .cells .now) (l .i) (pos 0)} (sfits-of {w = w64} (c .before .before .is-letter-arg .given)) in
     sym (every-failed isLetter (pos 0) (c .before .before .before .before .before .args .cells .now) (l .i) (c .before .before .before .loop-test .taken) (sym (c .before .is-letter .ensures ∙ ap isLetter e) ∙ c .if1 .left)) ∙ l .inv .1
 
--- src/lib.rt:287:1
 returns-2 : tie.Need-returns-2 Inv-loop μ-loop
 returns-2 c =
     let l = c .before .loop in

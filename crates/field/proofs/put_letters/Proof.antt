@@ -17,9 +17,6 @@ use lib.Seq.{take-all}
 use Rattle.base.proofs.Everywhere.{every-at}
 use Rattle.field.proofs.put_letters.Statement.{statement}
 use Rattle.field.proofs.put_letters.Tie as tie
-use Rattle.field.proofs.put_letters.Reads as reads
-use Rattle.field.proofs.put_letters.Lts as lts
-use Rattle.field.proofs.letter.Reads as letter-reads
 
 abbrev Inv-loop : tie.InvT-loop
 Inv-loop cells out₀ at i₀ out i = (i ≤ length cells) × (length out ≡ length out₀) × (out ≡ over at (take i (map sizeOf cells)) out₀)
@@ -27,42 +24,33 @@ Inv-loop cells out₀ at i₀ out i = (i ≤ length cells) × (length out ≡ le
 abbrev μ-loop : tie.MeasureT-loop
 μ-loop cells out₀ at i₀ out i = length cells - i
 
--- src/lib.rt:359:5
 loop-holds : tie.Need-loop-holds Inv-loop μ-loop
 loop-holds c = (omega arith, refl, over-none (c .before .args .out .now) (c .before .args .at))
 
--- src/lib.rt:360:30
 mul-letter : tie.Need-mul-letter Inv-loop μ-loop
 mul-letter c = search needs
 
--- src/lib.rt:360:30
 shared-slice-copy-out-letter : tie.Need-shared-slice-copy-out-letter Inv-loop μ-loop
 shared-slice-copy-out-letter c = search needs
 
--- src/lib.rt:360:23
 letter-requires : tie.Need-letter-requires Inv-loop μ-loop
 letter-requires c κs =
     let a = c .before .before .before .before .args in
     let e = toZ-ofZ {w = w64} {z = getD (a .cells .now) (c .before .before .loop .i) (pos 0)} (sfits-of {w = w64} (c .letter-arg .given)) in
     rw e (every-at isLetter (pos 0) (a .cells .now) (c .before .before .before .before .pre .1) (c .before .before .loop .i) (c .before .loop-test .taken))
 
--- src/lib.rt:360:13
 add-out : tie.Need-add-out Inv-loop μ-loop
 add-out c = search needs
 
--- src/lib.rt:360:9
 slice-write-out : tie.Need-slice-write-out Inv-loop μ-loop
 slice-write-out c = search needs
 
--- src/lib.rt:361:9
 add-i : tie.Need-add-i Inv-loop μ-loop
 add-i c = search needs
 
--- src/lib.rt:359:5
 loop-less : tie.Need-loop-less Inv-loop μ-loop
 loop-less c = search needs
 
--- src/lib.rt:359:5
 loop-again : tie.Need-loop-again Inv-loop μ-loop
 loop-again c =
     let a = c .before .before .before .before .before .args in
@@ -77,11 +65,9 @@ loop-again c =
           ∙ over-turn (a .out .now) (map sizeOf cs) (l .out) (a .at) (l .i) 0 (omega (arith, c .before .before .loop-test .taken)) (omega (arith, c .before .before .before .before .before .pre .0)) (l .inv .2),
     )
 
--- src/lib.rt:354:1
 same-length : tie.Need-same-length Inv-loop μ-loop
 same-length c = search needs
 
--- src/lib.rt:354:1
 returns : tie.Need-returns Inv-loop μ-loop
 returns c =
     let a = c .before .before .before .args in

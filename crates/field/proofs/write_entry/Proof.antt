@@ -7,28 +7,19 @@ use Prim.Native.Nat.{_+_}
 use lib.ListN.{length}
 use Rattle.field.proofs.write_entry.Statement.{statement}
 use Rattle.field.proofs.write_entry.Tie as tie
-use Rattle.field.proofs.write_entry.Reads as reads
-use Rattle.field.proofs.write_entry.Lts as lts
-use Rattle.field.proofs.has_room.Reads as has-room-reads
-use Rattle.number.proofs.put_at.Reads as put-at-reads
 
--- src/lib.rt:451:9
 returns : tie.Need-returns
 returns c = record { answer = simp (lt-leb _ _ (c .if1 .taken)); memory = search needs }
 
--- src/lib.rt:453:8
 has-room-requires : tie.Need-has-room-requires
 has-room-requires c κs = search needs
 
--- src/lib.rt:454:9
 put-at-requires : tie.Need-put-at-requires
 put-at-requires c κs = omega (arith, leb-true (c .before .before .before .before .before .args .at + 3) (length (c .before .before .before .before .before .args .out .now)) (sym (c .before .before .has-room .ensures) ∙ c .before .if2 .taken))
 
--- src/lib.rt:455:9
 same-length : tie.Need-same-length
 same-length c = search needs
 
--- src/lib.rt:455:9
 returns-2 : tie.Need-returns-2
 returns-2 c =
     record {

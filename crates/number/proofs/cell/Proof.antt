@@ -1,4 +1,4 @@
--- `number::cell` meets its contract: the arm says the sign, and what the machine computes on the bits is `ofSign`'s (`Signed`).
+-- `number::cell` meets its contract: the test says the sign, and what the machine computes on the bits is `ofSign`'s (base's Sign).
 use mathlib.Core.Path.{_∙_}
 use mathlib.Core.Bool.{true}
 use borrow.Author.Needs.{needs}

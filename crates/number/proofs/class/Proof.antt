@@ -1,4 +1,4 @@
--- `number::class` meets its contract: at each return the tests that led there pick the case.
+-- `number::class` meets its contract: at each return the tests that led there choose the case.
 use borrow.Author.Needs.{needs}
 use borrow.Author.Tests.{lt-ltb, le-ltb, eq-eqb, ne-eqb}
 use Rattle.number.proofs.class.Statement.{statement}

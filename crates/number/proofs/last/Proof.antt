@@ -1,3 +1,4 @@
+-- `number::last` meets its contract: the state chooses the byte.
 use borrow.Author.Needs.{needs}
 use Rattle.number.proofs.last.Statement.{statement}
 use Rattle.number.proofs.last.Tie as tie

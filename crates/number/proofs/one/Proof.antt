@@ -1,3 +1,4 @@
+-- `number::one` meets its contract: the state chooses the case, and 18 digits fit an i64.
 use mathlib.Core.Path.{ap, _∙_, subst}
 use native.Mathlib.Omega.{arith}
 use mir.Syntax.{w64}

@@ -1,3 +1,4 @@
+-- `number::point` meets its contract: the state chooses the case.
 use borrow.Author.Needs.{needs}
 use Rattle.number.proofs.point.Statement.{statement}
 use Rattle.number.proofs.point.Tie as tie

@@ -1,3 +1,4 @@
+-- `number::put_byte` meets its contract: one place is overwritten.
 use borrow.Author.Needs.{needs}
 use Rattle.base.proofs.Part.{over-one}
 use Rattle.number.proofs.put_byte.Statement.{statement}

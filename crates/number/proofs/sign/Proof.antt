@@ -1,3 +1,4 @@
+-- `number::sign` meets its contract: the tests that led to each return choose the case.
 use borrow.Author.Tests.{eq-eqb, ne-eqb}
 use Rattle.number.proofs.sign.Statement.{statement}
 use Rattle.number.proofs.sign.Tie as tie

@@ -1,3 +1,4 @@
+-- `number::step` meets its contract: byte and state choose the case, and a number below 10 ^ 17 has room for a digit more.
 use mathlib.Core.Path.{subst}
 use native.Mathlib.Omega.{arith}
 use Rattle.number.specs.Scan.{Below, Small}
