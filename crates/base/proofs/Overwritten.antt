@@ -10,14 +10,20 @@ use lib.Seq.{drop-at, length-take-le, take-append-le, take-take, take-suc}
 use Rattle.base.specs.Part.{over}
 use Rattle.base.proofs.Part.{over-length, over-one, over-then}
 
+-- ys is xs with t from a place of it on
+pub record Put {A : Type 0} (xs : List A) (at : ℕ) (t ys : List A) : Type 0 where
+  pub room : at ≤ length xs
+  pub is : ys ≡ over at t xs
+
 -- a write that ends where the last one began
-pub over-before : {A : Type 0} (xs ys zs a b : List A) (at k : ℕ) → k ≡ at + length a → k ≤ length xs → ys ≡ over k b xs → zs ≡ over at a ys → zs ≡ over at (a ++ b) xs
-over-before xs ys zs a b at k e h p q =
-    let l : length (take k xs) ≡ k = length-take-le k xs h in
-    let u : take at ys ≡ take at xs = ap (take at) p ∙ take-append-le at (take k xs) (b ++ drop (k + length b) xs) (omega arith) ∙ take-take at k xs (omega arith) in
-    let v : drop (at + length a) ys ≡ b ++ drop (k + length b) xs = ap (λ n. drop n ys) (sym e) ∙ ap (drop k) p ∙ drop-at (take k xs) (b ++ drop (k + length b) xs) k l in
-    let w : at + length (a ++ b) ≡ k + length b = ap (λ n. at + n) (length-append a b) ∙ omega arith in
-    q ∙ rw (u, v, append-assoc a b (drop (at + length (a ++ b)) xs), w)
+pub put-before : {A : Type 0} {xs ys t : List A} {k : ℕ} → Put xs k t ys → (a zs : List A) (at : ℕ) → k ≡ at + length a → zs ≡ over at a ys → Put xs at (a ++ t) zs
+put-before {xs = xs} {ys = ys} {t = t} {k = k} p a zs at e q =
+    let l : length (take k xs) ≡ k = length-take-le k xs (p .room) in
+    let rest = t ++ drop (k + length t) xs in
+    let u : take at ys ≡ take at xs = ap (take at) (p .is) ∙ take-append-le at (take k xs) rest (omega arith) ∙ take-take at k xs (omega arith) in
+    let v : drop (at + length a) ys ≡ rest = ap (λ n. drop n ys) (sym e) ∙ ap (drop k) (p .is) ∙ drop-at (take k xs) rest k l in
+    let w : at + length (a ++ t) ≡ k + length t = ap (λ n. at + n) (length-append a t) ∙ omega arith in
+    record { room = omega (arith, p .room); is = q ∙ rw (u, v, append-assoc a t (drop (at + length (a ++ t)) xs), w) }
 
 -- a loop that stores the elements of ys
 pub over-turn : {A : Type 0} (xs ys zs : List A) (at i : ℕ) (d : A) → i < length ys → at + length ys ≤ length xs → zs ≡ over at (take i ys) xs → set zs (at + i) (getD ys i d) ≡ over at (take (i + 1) ys) xs

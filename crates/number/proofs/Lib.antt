@@ -1,6 +1,5 @@
 -- The laws that the proofs of `number` share, and the theorems on I, F and E fields, over every width.
 pub mod Scanning
-pub mod Pieces
 pub mod Grammar
 pub mod GrammarF
 pub mod GrammarE

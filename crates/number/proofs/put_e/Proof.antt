@@ -1,17 +1,19 @@
 -- `number::put_e` meets its contract: six writes that meet.
 use native.Mathlib.Omega.{arith}
 use borrow.Author.Needs.{needs}
-use mathlib.Core.Path.{_≡_, ap, ap₂, _∙_}
+use mathlib.Core.Path.{_≡_, refl, ap, ap₂, _∙_}
+use Prim.Native.Nat.{_+_}
+use mathlib.Core.List.{[], _∷_}
 use mathlib.Core.Bool.{true, false}
 use mir.Syntax.{w64}
 use mir.Facts.{toZ-ofZ}
 use Rattle.base.specs.Sign.{negative, sizeOf}
 use Rattle.base.proofs.Columns.{columns-length}
+use Rattle.base.proofs.Overwritten.{Put, put-before}
 use Rattle.number.specs.declared.Scan.{Scan}
 use Rattle.number.specs.declared.Scan.the-variants.{Digits}
 use Rattle.number.specs.Write.{lastOf, backOf, textOf, leadState, stateOf}
 use Rattle.number.specs.Grammar.{signByte}
-use Rattle.number.proofs.Pieces.{put-power}
 use Rattle.number.proofs.put_e.Statement.{statement}
 use Rattle.number.proofs.put_e.Tie as tie
 
@@ -82,18 +84,19 @@ returns c =
     let p₆ = c .before .before .put-at3 in
     let s : c .before .before .before .before .before .before .before .before .before .before .before .before .before .before .before .before .before .before .before .before .sign-byte .result ≡ signByte (negative (a .e)) = c .before .before .before .before .before .before .before .before .before .before .before .before .before .before .before .before .before .before .before .before .sign-byte .ensures ∙ ap signByte (k .ensures .0 ∙ ap negative g) in
     let l : c .before .before .before .lead-state .result ≡ leadState (a .c) (negative (a .v)) = c .before .before .before .lead-state .ensures ∙ ap (leadState (a .c)) (m .ensures .0 ∙ ap negative f) in
-    put-power xs (p₁ .last .0) (p₂ .last .0) (p₃ .last .0) (p₄ .last .0) (p₅ .last .0) (p₆ .last .0)
-    (textOf false (a .c) (leadState (a .c) (negative (a .v)))) (textOf true (a .d) (stateOf (a .v))) (textOf true (a .x) (stateOf (a .e)))
-    (signByte (negative (a .e))) (a .at) (a .c) (a .d)
-    (columns-length lastOf (backOf false) (a .c) (leadState (a .c) (negative (a .v))))
-    (columns-length lastOf (backOf true) (a .d) (stateOf (a .v)))
-    (omega (arith, o .pre))
-    (rw z at (p₁ .ensures .0))
-    (rw s at (p₂ .ensures))
-    (p₃ .ensures)
-    (rw y at (p₄ .ensures .0))
-    (p₅ .ensures)
-    (rw l at (p₆ .ensures .0))
+    let head = textOf false (a .c) (leadState (a .c) (negative (a .v))) in
+    let digits = textOf true (a .d) (stateOf (a .v)) in
+    let exponent = textOf true (a .x) (stateOf (a .e)) in
+    let hl = columns-length lastOf (backOf false) (a .c) (leadState (a .c) (negative (a .v))) in
+    let dl = columns-length lastOf (backOf true) (a .d) (stateOf (a .v)) in
+    let point = a .at + a .c in
+    let letter = point + 1 + a .d in
+    let q₁ : Put xs (letter + 1 + 1) exponent (p₁ .last .0) = record { room = omega (arith, o .pre); is = rw z at (p₁ .ensures .0) } in
+    let q₂ = put-before q₁ (signByte (negative (a .e)) ∷ []) (p₂ .last .0) (letter + 1) refl (rw s at (p₂ .ensures)) in
+    let q₃ = put-before q₂ (69 ∷ []) (p₃ .last .0) letter refl (p₃ .ensures) in
+    let q₄ = put-before q₃ digits (p₄ .last .0) (point + 1) (omega arith) (rw y at (p₄ .ensures .0)) in
+    let q₅ = put-before q₄ (46 ∷ []) (p₅ .last .0) point refl (p₅ .ensures) in
+    put-before q₅ head (p₆ .last .0) (a .at) (omega arith) (rw l at (p₆ .ensures .0)) .is
 
 pub put-e-spec : {M : Type 1} → statement M
 put-e-spec =

@@ -1,17 +1,18 @@
 -- `number::put_f` meets its contract: three writes that meet, and what is left of the number after three digits are its thousands.
 use native.Mathlib.Omega.{arith}
 use borrow.Author.Needs.{needs}
-use mathlib.Core.Path.{_≡_, ap, ap₂, _∙_}
+use mathlib.Core.Path.{_≡_, refl, ap, ap₂, _∙_}
+use mathlib.Core.List.{[], _∷_}
 use mathlib.Core.Bool.{Bool, true, false}
-use Prim.Native.Nat.{ℕ, _/_, _-_}
+use Prim.Native.Nat.{ℕ, _+_, _/_, _-_}
 use mir.Syntax.{w64}
 use mir.Facts.{toZ-ofZ}
 use Rattle.base.specs.Sign.{negative, sizeOf}
 use Rattle.base.proofs.Columns.{columns-length}
+use Rattle.base.proofs.Overwritten.{Put, put-before}
 use Rattle.number.specs.declared.Scan.{Scan}
 use Rattle.number.specs.declared.Scan.the-variants.{Digits}
 use Rattle.number.specs.Write.{lastOf, backOf, textOf, restOf, stateOf}
-use Rattle.number.proofs.Pieces.{put-point}
 use Rattle.number.proofs.put_f.Statement.{statement}
 use Rattle.number.proofs.put_f.Tie as tie
 
@@ -55,13 +56,14 @@ returns c =
     let z : _≡_ {A = Scan} (Digits (m .result .neg) (m .result .size)) (stateOf (a .v)) = ap₂ Digits (m .ensures .0 ∙ ap negative e) (m .ensures .1 ∙ ap sizeOf e) in
     let t = c .before .before .before .before .before .before .before .before .before .before .put-at in
     let r : t .result ≡ Digits (negative (a .v)) (sizeOf (a .v) / 1000) = t .ensures .1 ∙ ap (restOf true 3) z ∙ thousands (negative (a .v)) (sizeOf (a .v)) in
-    put-point (a .out .now) (t .last .0) (c .before .before .before .before .before .before .put-byte .last .0) (c .before .before .put-at2 .last .0)
-    (textOf false (a .w - 4) (Digits (negative (a .v)) (sizeOf (a .v) / 1000))) (textOf true 3 (stateOf (a .v))) (a .at) (a .w - 4)
-    (columns-length lastOf (backOf false) (a .w - 4) (Digits (negative (a .v)) (sizeOf (a .v) / 1000)))
-    (omega (arith, o .pre .0, o .pre .1))
-    (rw (m .ensures .1 ∙ ap sizeOf e) at (t .ensures .0))
-    (c .before .before .before .before .before .before .put-byte .ensures)
-    (rw r at (c .before .before .put-at2 .ensures .0))
+    let head = textOf false (a .w - 4) (Digits (negative (a .v)) (sizeOf (a .v) / 1000)) in
+    let hl = columns-length lastOf (backOf false) (a .w - 4) (Digits (negative (a .v)) (sizeOf (a .v) / 1000)) in
+    let point = a .at + (a .w - 4) in
+    let p₂ = c .before .before .before .before .before .before .put-byte in
+    let p₃ = c .before .before .put-at2 in
+    let q₁ : Put (a .out .now) (point + 1) (textOf true 3 (stateOf (a .v))) (t .last .0) = record { room = omega (arith, o .pre .0, o .pre .1); is = rw (m .ensures .1 ∙ ap sizeOf e) at (t .ensures .0) } in
+    let q₂ = put-before q₁ (46 ∷ []) (p₂ .last .0) point refl (p₂ .ensures) in
+    put-before q₂ head (p₃ .last .0) (a .at) (omega arith) (rw r at (p₃ .ensures .0)) .is
 
 pub put-f-spec : {M : Type 1} → statement M
 put-f-spec =
