@@ -53,7 +53,10 @@ abbrev pub leadState : ℕ → Bool → Scan
 leadState c false = Digits false 0
 leadState c true = cond (eqb c 1) Signed (Digits true 0)
 
+-- `E`, plus or minus, x digits
+abbrev pub exponentText : ℕ → ℤ → List ℕ
+exponentText x e = 69 ∷ signByte (negative e) ∷ textOf true x (stateOf e)
+
 abbrev pub textE : ℕ → ℕ → ℕ → ℤ → ℤ → List ℕ
 textE c d x m e =
-    textOf false c (leadState c (negative m))
-    ++ (46 ∷ (textOf true d (stateOf m) ++ (69 ∷ signByte (negative e) ∷ textOf true x (stateOf e))))
+    textOf false c (leadState c (negative m)) ++ (46 ∷ (textOf true d (stateOf m) ++ exponentText x e))

@@ -8,7 +8,7 @@ ghost use Rattle.base.specs.Sign.{ofSign, negative, sizeOf, holds};
 ghost use Rattle.number.specs.Grammar.{signByte};
 ghost use Rattle.number.specs.Scan.{classOf, stepOf, scanOf, Small, Below};
 ghost use Rattle.number.specs.Read.{oneOf, pointOf, leadOf, signOf, pairOf, readI, readF, readE};
-ghost use Rattle.number.specs.Write.{lastOf, backOf, textOf, restOf, leadState, textI, textF, textE};
+ghost use Rattle.number.specs.Write.{lastOf, backOf, textOf, restOf, leadState, exponentText, textI, textF, textE};
 
 // ---- Reading: one pass over the columns.
 
@@ -391,21 +391,27 @@ pub fn sign_byte(neg: bool) -> u8
     b'+'
 }
 
-// Digits with their sign, and an exponent with its own: c columns, a point, d digits, `E`, a sign, x digits, from the last to the first.
+// `E`, the exponent's sign and its x digits.
+pub fn put_exponent(out: &mut [u8], at: usize, x: usize, e: i64)
+    requires { ⌜ at + (x + 2) ≤ length (now out) ⌝ }
+    ensures { λ _. ⌜ now (out .exit) ≡ over at (exponentText x e) (now (out .entry)) ⌝ }
+{
+    let m = signed(e);
+    let sign = at + 1;
+    put_at(out, sign + 1, x, true, Scan::Digits(m.neg, m.size));
+    put_byte(out, sign, sign_byte(m.neg));
+    put_byte(out, at, b'E');
+}
+
+// c columns, a point, d digits and the exponent, from the last to the first.
 pub fn put_e(out: &mut [u8], at: usize, c: usize, d: usize, x: usize, v: i64, e: i64)
     requires { ⌜ at + (c + d + x + 3) ≤ length (now out) ⌝ }
     ensures { λ _. ⌜ now (out .exit) ≡ over at (textE c d x v e) (now (out .entry)) ⌝ }
 {
     let m = signed(v);
-    let k = signed(e);
     let point = at + c;
     let first = point + 1;
-    let letter = first + d;
-    let sign = letter + 1;
-    let second = sign + 1;
-    put_at(out, second, x, true, Scan::Digits(k.neg, k.size));
-    put_byte(out, sign, sign_byte(k.neg));
-    put_byte(out, letter, b'E');
+    put_exponent(out, first + d, x, e);
     put_at(out, first, d, true, Scan::Digits(m.neg, m.size));
     put_byte(out, point, b'.');
     put_at(out, at, c, false, lead_state(c, m.neg));

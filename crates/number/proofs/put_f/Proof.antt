@@ -49,21 +49,22 @@ same-length c = search needs
 
 returns : tie.Need-returns
 returns c =
-    let o = c .before .before .before .before .before .before .before .before .before .before .before .before .before .before in
+    let c₃ = c .before .before in
+    let c₂ = c₃ .before .before .before .before in
+    let c₁ = c₂ .before .before .before .before in
+    let m = c₁ .before .before .signed in
+    let o = c₁ .before .before .before .before in
     let a = o .args in
-    let e = toZ-ofZ {w = w64} (o .fits .v) in
-    let m = c .before .before .before .before .before .before .before .before .before .before .before .before .signed in
-    let z : _≡_ {A = Scan} (Digits (m .result .neg) (m .result .size)) (stateOf (a .v)) = ap₂ Digits (m .ensures .0 ∙ ap negative e) (m .ensures .1 ∙ ap sizeOf e) in
-    let t = c .before .before .before .before .before .before .before .before .before .before .put-at in
-    let r : t .result ≡ Digits (negative (a .v)) (sizeOf (a .v) / 1000) = t .ensures .1 ∙ ap (restOf true 3) z ∙ thousands (negative (a .v)) (sizeOf (a .v)) in
-    let head = textOf false (a .w - 4) (Digits (negative (a .v)) (sizeOf (a .v) / 1000)) in
-    let hl = columns-length lastOf (backOf false) (a .w - 4) (Digits (negative (a .v)) (sizeOf (a .v) / 1000)) in
+    let f = toZ-ofZ {w = w64} (o .fits .v) in
+    let k = m .ensures .1 ∙ ap sizeOf f in
+    let z : _≡_ {A = Scan} (Digits (m .result .neg) (m .result .size)) (stateOf (a .v)) = ap₂ Digits (m .ensures .0 ∙ ap negative f) k in
+    let head = Digits (negative (a .v)) (sizeOf (a .v) / 1000) in
+    let r : c₁ .put-at .result ≡ head = c₁ .put-at .ensures .1 ∙ ap (restOf true 3) z ∙ thousands (negative (a .v)) (sizeOf (a .v)) in
+    let hl = columns-length lastOf (backOf false) (a .w - 4) head in
     let point = a .at + (a .w - 4) in
-    let p₂ = c .before .before .before .before .before .before .put-byte in
-    let p₃ = c .before .before .put-at2 in
-    let q₁ : Put (a .out .now) (point + 1) (textOf true 3 (stateOf (a .v))) (t .last .0) = record { room = omega (arith, o .pre .0, o .pre .1); is = rw (m .ensures .1 ∙ ap sizeOf e) at (t .ensures .0) } in
-    let q₂ = put-before q₁ (46 ∷ []) (p₂ .last .0) point refl (p₂ .ensures) in
-    put-before q₂ head (p₃ .last .0) (a .at) (omega arith) (rw r at (p₃ .ensures .0)) .is
+    let q₁ : Put (a .out .now) (point + 1) (textOf true 3 (stateOf (a .v))) (c₁ .put-at .last .0) = record { room = omega (arith, o .pre .0, o .pre .1); is = rw k at (c₁ .put-at .ensures .0) } in
+    let q₂ = put-before q₁ (46 ∷ []) (c₂ .put-byte .last .0) point refl (c₂ .put-byte .ensures) in
+    put-before q₂ (textOf false (a .w - 4) head) (c₃ .put-at2 .last .0) (a .at) (omega arith) (rw r at (c₃ .put-at2 .ensures .0)) .is
 
 pub put-f-spec : {M : Type 1} → statement M
 put-f-spec =

@@ -117,13 +117,19 @@ pair-requires c κs = search needs
 
 returns-4 : tie.Need-returns-4
 returns-4 c =
-    let a = c .before .before .before .before .before .before .before .before .before .before .before .before .before .before .before .before .before .args in
+    let r = c .before in
+    let l = r .before .before .before .before in
+    let n = l .before .before .before .before in
+    let t₃ = n .before .before in
+    let t₂ = t₃ .before .before in
+    let t₁ = t₂ .before .before in
+    let a = t₁ .before .before .args in
     let s = a .s .now in
-    simp (eq-eqb _ _ (c .before .before .before .before .before .before .before .before .before .before .before .before .before .before .before .if1 .left), eq-eqb _ _ (c .before .before .before .before .before .before .before .before .before .before .before .before .before .if2 .left), eq-eqb _ _ (c .before .before .before .before .before .before .before .before .before .before .before .if3 .left))
+    simp (eq-eqb _ _ (t₁ .if1 .left), eq-eqb _ _ (t₂ .if2 .left), eq-eqb _ _ (t₃ .if3 .left))
     (c .pair .ensures
     ∙ ap₂ pairOf
-    (c .before .before .before .before .before .finish .ensures ∙ ap (λ t. oneOf (scanOf t (part (a .c + 1) (a .c + 1 + a .d) s))) (c .before .before .before .before .before .before .lead .ensures ∙ ap (λ t. leadOf t (getD s (a .c - 1) 0)) (c .before .before .before .before .before .before .before .before .before .scan-part .ensures)))
-    (c .before .finish2 .ensures ∙ ap (λ t. oneOf (scanOf t (part (a .c + 3 + a .d) (length s) s))) (c .before .before .sign .ensures)))
+    (l .finish .ensures ∙ ap (λ t. oneOf (scanOf t (part (a .c + 1) (a .c + 1 + a .d) s))) (l .before .lead .ensures ∙ ap (λ t. leadOf t (getD s (a .c - 1) 0)) (n .scan-part .ensures)))
+    (r .finish2 .ensures ∙ ap (λ t. oneOf (scanOf t (part (a .c + 3 + a .d) (length s) s))) (r .before .sign .ensures)))
 
 pub read-e-spec : {M : Type 1} → statement M
 read-e-spec =
