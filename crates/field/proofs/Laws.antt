@@ -312,4 +312,5 @@ lawful f =
       unbroken = λ cs t. printable-without 10 (fieldText f cs) (lit< tt) (plain f cs t);
       canonical = canonical f;
       one = one f;
+      again = λ s cs c. is-reads f s cs (canonical-is f s cs c);
     }

@@ -6,8 +6,8 @@ use mathlib.Core.List.{List}
 use Prim.Native.Nat.{ℕ}
 use Rattle.form.specs.Table
 use Rattle.field.specs.declared.Written.{Written}
-use Rattle.field.specs.Write.{isLetter, fitsOf, outBy}
-use Rattle.field.specs.Law.{Ranges, Wrote}
+use Rattle.field.specs.Write.{isLetter, fitsOf, outBy, Wrote}
+use Rattle.field.specs.Law.{Ranges}
 
 and-true : (b : Bool) → (b && true) ≡ b
 and-true true = refl

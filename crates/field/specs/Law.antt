@@ -1,6 +1,6 @@
 -- What callers know of every form: the laws of its field, in one record.
 use mathlib.Core.Path.{_≡_}
-use mathlib.Core.Bool.{Bool, not, _&&_}
+use mathlib.Core.Bool.{not, _&&_}
 use mathlib.Core.List.{List, [], _∷_}
 use Prim.Native.Nat.{ℕ}
 use lib.Dec.{T, eqb}
@@ -13,8 +13,7 @@ use Rattle.form.specs.declared.Form.{Form}
 use Rattle.form.specs.declared.Form.the-variants.{F7, A120, A1, F8, I2, I3, I1, E11, E20, E8}
 use Rattle.form.specs.Table.{rowOf}
 use Rattle.field.specs.Read.{Reads}
-use Rattle.field.specs.declared.Written.{Written}
-use Rattle.field.specs.Write.{isLetter, fitsOf, fieldText, writtenBy, outBy}
+use Rattle.field.specs.Write.{isLetter, fitsOf, fieldText}
 use Rattle.field.specs.Grammar.{IsField}
 use Rattle.field.specs.Canonical.{IsCanonical}
 
@@ -30,9 +29,10 @@ pub record Lawful (f : Form) : Type 0 where
   pub wide : (cs : List ℤ) → T (fitsOf f cs) → length (fieldText f cs) ≡ rowOf f .width
   pub plain : (cs : List ℤ) → T (fitsOf f cs) → T (every printable (fieldText f cs))
   pub unbroken : (cs : List ℤ) → T (fitsOf f cs) → T (every (λ b. not (eqb b 10)) (fieldText f cs))
-  -- it is canonical, and no other text is
+  -- it is canonical, and no other text is; a canonical text reads as its cells
   pub canonical : (cs : List ℤ) → T (fitsOf f cs) → IsCanonical f (fieldText f cs) cs
   pub one : (s : List ℕ) (cs : List ℤ) → IsCanonical f s cs → s ≡ fieldText f cs
+  pub again : (s : List ℕ) (cs : List ℤ) → IsCanonical f s cs → Reads f s cs
 
 -- 01's ranges, form by form: from minus the first number to the second
 pub record Ranges : Type 0 where
@@ -50,9 +50,3 @@ pub record Ranges : Type 0 where
   -- A: "32 to 126"
   pub a1 : (z : ℤ) → fitsOf A1 (z ∷ []) ≡ isLetter z
   pub a120 : (cs : List ℤ) → fitsOf A120 cs ≡ (eqb (length cs) 120 && every isLetter cs)
-
--- ---- one outcome: what a contract allows for given inputs is one answer and one content of the lent memory
-
-pub record Wrote (fits : Bool) (text : List ℕ) (at w : ℕ) (before : List ℕ) (r : Written) (after : List ℕ) : Type 0 where
-  pub answer : r ≡ writtenBy fits at w (length before)
-  pub memory : after ≡ outBy r at text before

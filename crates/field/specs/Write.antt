@@ -1,4 +1,5 @@
 -- Which cells have a field, and the text that is written for them.
+use mathlib.Core.Path.{_≡_}
 use mathlib.Core.Bool.{Bool, false, cond, _&&_}
 use mathlib.Core.List.{List, map}
 use Prim.Native.Nat.{ℕ, _+_}
@@ -56,3 +57,8 @@ abbrev pub outBy : Written → ℕ → List ℕ → List ℕ → List ℕ
 outBy Done at t xs = over at t xs
 outBy NoField at t xs = xs
 outBy NoRoom at t xs = xs
+
+-- what a write of a text of w bytes at a place comes to: the answer, and the whole output afterwards
+pub record Wrote (fits : Bool) (text : List ℕ) (at w : ℕ) (before : List ℕ) (r : Written) (after : List ℕ) : Type 0 where
+  pub answer : r ≡ writtenBy fits at w (length before)
+  pub memory : after ≡ outBy r at text before

@@ -16,9 +16,8 @@ ghost use Rattle.form.specs.Table.{rowOf};
 ghost use Rattle.number.specs.Scan.{Below};
 ghost use Rattle.field.specs.Kind.{kindOf, widthOf, countOf, Small};
 ghost use Rattle.field.specs.Read.{valueOf, readAs, fieldOf};
-ghost use Rattle.field.specs.Write.{isLetter, rangeOf, fitsOf, textAs, fieldText};
+ghost use Rattle.field.specs.Write.{isLetter, rangeOf, fitsOf, textAs, fieldText, Wrote};
 ghost use Rattle.field.specs.Entry.{countIn, entryOf, entryText, entryFits};
-ghost use Rattle.field.specs.Law.{Wrote};
 
 // What a field reads as: a cell; the two cells of an E field; letters, whose cells are the bytes themselves.
 pub enum Value {
