@@ -2,3 +2,4 @@
 pub mod Entries
 pub mod Steps
 pub mod Placed
+pub mod Due
