@@ -3,3 +3,7 @@ pub mod Entries
 pub mod Steps
 pub mod Placed
 pub mod Due
+pub mod Tiling
+pub mod Local
+pub mod SameWalk
+pub mod Numbered
