@@ -1,4 +1,5 @@
 -- The laws of base's definitions, a file to a subject.
+pub mod Agree
 pub mod Ascii
 pub mod Choice
 pub mod Chosen
@@ -6,7 +7,9 @@ pub mod Columns
 pub mod Digits
 pub mod Every
 pub mod Everywhere
+pub mod FromLast
 pub mod Index
+pub mod Mapped
 pub mod Middle
 pub mod Order
 pub mod Overwritten

@@ -1,0 +1,7 @@
+-- Numbers as decimal text. "Numbers are decimal, one space stands between two, and a line feed ends each line."
+-- Numerals has the text of a number, Signed that of a signed one, Rows a row of numbers. Writing says what writing a text into lent
+-- bytes answers and leaves.
+pub mod Numerals
+pub mod Rows
+pub mod Signed
+pub mod Writing

@@ -1,0 +1,209 @@
+// Numbers as decimal text, into bytes that the caller lends.
+ghost use mathlib.Core.Path.{_≡_};
+ghost use mathlib.Core.List.{_∷_, [], _++_};
+ghost use Prim.Native.Nat.{_+_, _≤_};
+ghost use lib.Dec.{leb};
+ghost use lib.ListN.{length};
+ghost use Rattle.base.specs.Columns.{columns};
+ghost use Rattle.base.specs.Part.{over};
+ghost use Rattle.base.specs.Sign.{sizeOf};
+ghost use Rattle.decimal.specs.Numerals.{lastByte, tenth, numeral};
+ghost use Rattle.decimal.specs.Signed.{signedNumeral};
+ghost use Rattle.decimal.specs.Rows.{rowText, endByte};
+ghost use Rattle.decimal.specs.Writing.{Puts};
+
+// The place behind what was put, or that it has no room: then nothing is altered.
+pub enum Put {
+    Next(usize),
+    NoRoom,
+}
+
+// ---- Numbers
+
+// How many digits n has: the first power of ten above it tells. 10 to the 20th is no u64.
+fn digits(n: u64) -> usize
+    ensures { λ r. ⌜ r ≡ length (numeral n) ⌝ }
+{
+    let mut k: usize = 1;
+    let mut power: u64 = 10;
+    while power <= n {
+        k += 1;
+        if k == 20 {
+            return 20;
+        }
+        power = power * 10;
+    }
+    k
+}
+
+// Fills the bytes with the last digits of n.
+fn put_digits(out: &mut [u8], n: u64)
+    ensures { λ _. ⌜ now (out .exit) ≡ columns lastByte tenth (length (now (out .entry))) n ⌝ }
+{
+    let mut m = n;
+    let mut i = out.len();
+    while 0 < i {
+        i -= 1;
+        out[i] = b'0' + (m % 10) as u8;
+        m = m / 10;
+    }
+}
+
+// Puts n, which has k digits.
+fn put_numeral(out: &mut [u8], at: usize, k: usize, n: u64)
+    requires { ⌜ (k ≡ length (numeral n)) × (at + k ≤ length (now out)) ⌝ }
+    ensures { λ _. ⌜ now (out .exit) ≡ over at (numeral n) (now (out .entry)) ⌝ }
+{
+    let e = at + k;
+    put_digits(&mut out[at..e], n);
+}
+
+// Whether k bytes have room from a place on.
+fn has_room(size: usize, at: usize, k: usize) -> bool
+    ensures { λ r. ⌜ r ≡ leb (at + k) size ⌝ }
+{
+    if size < at {
+        return false;
+    }
+    k <= size - at
+}
+
+// Puts the decimal numeral of n into the bytes from a place on.
+pub fn put_number(out: &mut [u8], at: usize, n: u64) -> Put
+    ensures { λ r. ⌜ Puts at (numeral n) (now (out .entry)) r (now (out .exit)) ⌝ }
+{
+    let k = digits(n);
+    if has_room(out.len(), at, k) {
+        put_numeral(out, at, k, n);
+        return Put::Next(at + k);
+    }
+    Put::NoRoom
+}
+
+// ---- Signed numbers
+
+// How far v is from 0, also where v is the least number.
+fn size(v: i64) -> u64
+    ensures { λ r. ⌜ r ≡ sizeOf v ⌝ }
+{
+    if v < 0 {
+        let w = v + 1;
+        let m = 0 - w;
+        m as u64 + 1
+    } else {
+        v as u64
+    }
+}
+
+// Puts a minus and n, which has k digits.
+fn put_minus(out: &mut [u8], at: usize, k: usize, n: u64)
+    requires { ⌜ (k ≡ length (numeral n)) × (at + (k + 1) ≤ length (now out)) ⌝ }
+    ensures { λ _. ⌜ now (out .exit) ≡ over at (45 ∷ numeral n) (now (out .entry)) ⌝ }
+{
+    out[at] = b'-';
+    put_numeral(out, at + 1, k, n);
+}
+
+// Puts the decimal numeral of v, with a minus where it is negative, into the bytes from a place on.
+pub fn put_signed(out: &mut [u8], at: usize, v: i64) -> Put
+    ensures { λ r. ⌜ Puts at (signedNumeral v) (now (out .entry)) r (now (out .exit)) ⌝ }
+{
+    let n = size(v);
+    if v < 0 {
+        let k = digits(n);
+        if has_room(out.len(), at, k + 1) {
+            put_minus(out, at, k, n);
+            return Put::Next(at + (k + 1));
+        }
+        return Put::NoRoom;
+    }
+    put_number(out, at, n)
+}
+
+// ---- Rows
+
+// Whether the row of these numbers takes no more bytes than there is room.
+fn row_fits(numbers: &[u64], room: usize) -> bool
+    ensures { λ r. ⌜ r ≡ leb (length (rowText (now (numbers .entry)))) room ⌝ }
+{
+    if numbers.len() == 0 {
+        return 0 < room;
+    }
+    let mut left = room;
+    let mut i = 0;
+    while i < numbers.len() {
+        let k = digits(numbers[i]);
+        if left <= k {
+            return false;
+        }
+        left -= k + 1;
+        i += 1;
+    }
+    true
+}
+
+// The byte behind a number that so many follow: a space before the next one, or the line feed.
+fn end_byte(more: usize) -> u8
+    ensures { λ r. ⌜ r ≡ endByte more ⌝ }
+{
+    if more == 0 {
+        return b'\n';
+    }
+    b' '
+}
+
+// Puts n and the byte behind it; the place behind both.
+fn put_ended(out: &mut [u8], at: usize, n: u64, end: u8) -> usize
+    requires { ⌜ at + (length (numeral n) + 1) ≤ length (now out) ⌝ }
+    ensures { λ r. ⌜ (r ≡ at + (length (numeral n) + 1)) × (now (out .exit) ≡ over at (numeral n ++ (end ∷ [])) (now (out .entry))) ⌝ }
+{
+    let k = digits(n);
+    put_numeral(out, at, k, n);
+    out[at + k] = end;
+    at + (k + 1)
+}
+
+// Puts the row of these numbers; the place behind it.
+fn put_numbers(out: &mut [u8], at: usize, numbers: &[u64]) -> usize
+    requires { ⌜ at + length (rowText (now numbers)) ≤ length (now out) ⌝ }
+    ensures { λ r. ⌜ (r ≡ at + length (rowText (now (numbers .entry)))) × (now (out .exit) ≡ over at (rowText (now (numbers .entry))) (now (out .entry))) ⌝ }
+{
+    if numbers.len() == 0 {
+        out[at] = b'\n';
+        return at + 1;
+    }
+    let mut a = at;
+    let mut i = 0;
+    while i < numbers.len() {
+        let end = end_byte(numbers.len() - (i + 1));
+        a = put_ended(out, a, numbers[i], end);
+        i += 1;
+    }
+    a
+}
+
+// Puts the bytes of a text.
+fn put_text(out: &mut [u8], at: usize, text: &[u8])
+    requires { ⌜ at + length (now text) ≤ length (now out) ⌝ }
+    ensures { λ _. ⌜ now (out .exit) ≡ over at (now (text .entry)) (now (out .entry)) ⌝ }
+{
+    let mut i = 0;
+    while i < text.len() {
+        out[at + i] = text[i];
+        i += 1;
+    }
+}
+
+// Puts a row of numbers with the bytes that it begins with, such as `end `, into the bytes from a place on.
+pub fn put_row(out: &mut [u8], at: usize, first: &[u8], numbers: &[u64]) -> Put
+    ensures { λ r. ⌜ Puts at (now (first .entry) ++ rowText (now (numbers .entry))) (now (out .entry)) r (now (out .exit)) ⌝ }
+{
+    if has_room(out.len(), at, first.len()) {
+        let a = at + first.len();
+        if row_fits(numbers, out.len() - a) {
+            put_text(out, at, first);
+            return Put::Next(put_numbers(out, a, numbers));
+        }
+    }
+    Put::NoRoom
+}

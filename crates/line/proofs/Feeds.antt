@@ -1,0 +1,94 @@
+-- The number of line feeds: of texts behind one another, of one byte more, of equal line feeds.
+-- Assumes nothing.
+use mathlib.Core.Path.{_≡_, refl, sym, _∙_, ap}
+use mathlib.Core.Bool.{Bool, true, false, cond}
+use mathlib.Core.List.{List, [], _∷_, _++_, map}
+use Prim.Native.Nat.{ℕ, suc, _+_, _≤_, _<_}
+use native.Mathlib.Omega.{arith}
+use native.Mathlib.Nat.{zero-add}
+use lib.ListN.{length, take, drop, getD, take-append-drop}
+use lib.Seq.{drop-cons}
+use borrow.Author.Tests.{eq-eqb, ne-eqb}
+use Rattle.line.specs.Lines.{isFeed, feeds, Plain}
+
+pub feeds-append : (a b : List ℕ) → feeds (a ++ b) ≡ feeds a + feeds b
+unfolding feeds
+feeds-append [] b = sym (zero-add (feeds b))
+feeds-append (x ∷ a) b = one (isFeed x) (feeds-append a b)
+  where
+    one : (c : Bool) → feeds (a ++ b) ≡ feeds a + feeds b → cond c (suc (feeds (a ++ b))) (feeds (a ++ b)) ≡ cond c (suc (feeds a)) (feeds a) + feeds b
+    one true e = omega arith
+    one false e = e
+
+-- a line feed takes a byte
+pub feeds-le : (a : List ℕ) → feeds a ≤ length a
+unfolding feeds
+feeds-le [] = omega arith
+feeds-le (x ∷ a) = one (isFeed x) (feeds-le a)
+  where
+    one : (c : Bool) → feeds a ≤ length a → cond c (suc (feeds a)) (feeds a) ≤ suc (length a)
+    one true h = omega arith
+    one false h = omega arith
+
+-- up to a place and from it on
+pub feeds-cut : (n : ℕ) (xs : List ℕ) → feeds xs ≡ feeds (take n xs) + feeds (drop n xs)
+feeds-cut n xs = ap feeds (sym (take-append-drop n xs)) ∙ feeds-append (take n xs) (drop n xs)
+
+-- from a place on, by the byte there
+pub feeds-drop-feed : (s : List ℕ) (i : ℕ) → i < length s → getD s i 0 ≡ 10 → feeds (drop i s) ≡ suc (feeds (drop (suc i) s))
+unfolding feeds
+feeds-drop-feed s i h e = rw (drop-cons s i 0 h, eq-eqb (getD s i 0) 10 e)
+
+pub feeds-drop-other : (s : List ℕ) (i : ℕ) → i < length s → (getD s i 0 ≡ 10 → ⊥) → feeds (drop i s) ≡ feeds (drop (suc i) s)
+unfolding feeds
+feeds-drop-other s i h n = rw (drop-cons s i 0 h, ne-eqb (getD s i 0) 10 n)
+
+pub feeds-nil : feeds [] ≡ 0
+unfolding feeds
+feeds-nil = refl
+
+pub feeds-one : feeds (10 ∷ []) ≡ 1
+unfolding feeds
+feeds-one = refl
+
+-- only which bytes are line feeds matters
+pub feeds-same : (s t : List ℕ) → map isFeed s ≡ map isFeed t → feeds s ≡ feeds t
+unfolding feeds
+feeds-same [] [] e = refl
+feeds-same [] (y ∷ t) e = let z : _≡_ {A = ℕ} 0 1 = cc in absurd (omega arith)
+feeds-same (x ∷ s) [] e = let z : _≡_ {A = ℕ} 0 1 = cc in absurd (omega arith)
+feeds-same (x ∷ s) (y ∷ t) e =
+    let b : isFeed x ≡ isFeed y = cc in
+    let r : map isFeed s ≡ map isFeed t = cc in
+    rw (b, feeds-same s t r)
+
+-- ---- no line feed
+
+pub plain-nil : Plain []
+unfolding Plain
+plain-nil = feeds-nil
+
+pub plain-cons : (x : ℕ) (a : List ℕ) → (x ≡ 10 → ⊥) → Plain a → Plain (x ∷ a)
+unfolding Plain feeds
+plain-cons x a n p = rw (ne-eqb x 10 n) p
+
+pub plain-append : (a b : List ℕ) → Plain a → Plain b → Plain (a ++ b)
+unfolding Plain
+plain-append a b p q = feeds-append a b ∙ omega arith
+
+pub plain-left : (a b : List ℕ) → Plain (a ++ b) → Plain a
+unfolding Plain
+plain-left a b p = omega (arith, feeds-append a b)
+
+pub plain-right : (a b : List ℕ) → Plain (a ++ b) → Plain b
+unfolding Plain
+plain-right a b p = omega (arith, feeds-append a b)
+
+-- told by its bytes, both ways
+pub plain-if : (a : List ℕ) → ((i : ℕ) → i < length a → getD a i 0 ≡ 10 → ⊥) → Plain a
+plain-if [] n = plain-nil
+plain-if (x ∷ a) n = plain-cons x a (n 0 (omega arith)) (plain-if a (λ i l. n (suc i) (omega arith)))
+
+pub plain-only-if : (a : List ℕ) (i : ℕ) → Plain a → i < length a → getD a i 0 ≡ 10 → ⊥
+unfolding Plain
+plain-only-if a i p h e = omega (arith, feeds-cut i a, feeds-drop-feed a i h e)

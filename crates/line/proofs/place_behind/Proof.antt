@@ -1,0 +1,74 @@
+-- `line::place_behind` meets its contract. The invariant: from here on, the place behind the lines that are left is the one asked for.
+-- Assumes nothing.
+use mathlib.Core.Path.{_≡_, refl, sym, _∙_}
+use mathlib.Core.Logic.{⊎-elim}
+use Prim.Native.Nat.{_-_, _<_}
+use native.Mathlib.Omega.{arith}
+use lib.ListN.{length}
+use borrow.Author.Needs.{needs}
+use Rattle.line.specs.Places.{behindAt}
+use Rattle.line.proofs.Places.{behindAt-none, behindAt-out, behindAt-feed, behindAt-last, behindAt-other}
+use Rattle.line.proofs.place_behind.Statement.{statement}
+use Rattle.line.proofs.place_behind.Tie as tie
+
+abbrev Inv-loop : tie.InvT-loop
+Inv-loop text at lines left₀ i₀ left i = (0 < left) × (behindAt text i left ≡ behindAt text at lines)
+
+abbrev μ-loop : tie.MeasureT-loop
+μ-loop text at lines left₀ i₀ left i = length text - i
+
+returns : tie.Need-returns Inv-loop μ-loop
+returns c = let z = c .if1 .taken in rw z (sym (behindAt-none _ _))
+
+loop-holds : tie.Need-loop-holds Inv-loop μ-loop
+loop-holds c = (omega arith, refl)
+
+shared-slice-read-if2 : tie.Need-shared-slice-read-if2 Inv-loop μ-loop
+shared-slice-read-if2 c = search needs
+
+add-t12 : tie.Need-add-t12 Inv-loop μ-loop
+add-t12 c = search needs
+
+returns-2 : tie.Need-returns-2 Inv-loop μ-loop
+returns-2 c =
+    let d = c .before .before .before in
+    sym (behindAt-last _ _ _ (d .loop-test .taken) (c .if3 .taken) (c .before .if2 .taken)) ∙ d .before .loop .inv .1
+
+sub-left : tie.Need-sub-left Inv-loop μ-loop
+sub-left c = search needs
+
+add-i : tie.Need-add-i Inv-loop μ-loop
+add-i c = search needs
+
+loop-less : tie.Need-loop-less Inv-loop μ-loop
+loop-less c = search needs
+
+loop-again : tie.Need-loop-again Inv-loop μ-loop
+loop-again c =
+    let d = c .before .before in
+    ⊎-elim
+    (λ w. rw (w .2) (omega arith, sym (behindAt-feed _ _ _ (d .loop-test .taken) (d .before .loop .inv .0) (w .0 .taken)) ∙ d .before .loop .inv .1))
+    (λ w. rw (w .1) (omega arith, sym (behindAt-other _ _ _ (d .loop-test .taken) (d .before .loop .inv .0) (w .0 .left)) ∙ d .before .loop .inv .1))
+    (c .if2 .came)
+
+returns-3 : tie.Need-returns-3 Inv-loop μ-loop
+returns-3 c =
+    let i = c .before .loop .inv in
+    sym (behindAt-out _ _ _ (c .loop-test .left) (i .0)) ∙ i .1
+
+pub place-behind-spec : {M : Type 1} → statement M
+place-behind-spec =
+    tie.close
+    (tie.spec
+    Inv-loop
+    μ-loop
+    returns
+    loop-holds
+    shared-slice-read-if2
+    add-t12
+    returns-2
+    sub-left
+    add-i
+    loop-less
+    loop-again
+    returns-3)

@@ -1,0 +1,53 @@
+// Lines of a text: where so many of them end, and what the content of one is.
+ghost use mathlib.Core.Path.{_≡_};
+ghost use Rattle.line.specs.Places.{behindAt};
+ghost use Rattle.line.specs.Contents.{contentOf};
+
+// The place behind so many lines, or that fewer line feeds are left.
+pub enum Behind {
+    At(usize),
+    TooFew,
+}
+
+// Asks for the place behind so many lines from a place of a text. Any place may be asked about, also one beyond the text's end.
+pub fn place_behind(text: &[u8], at: usize, lines: usize) -> Behind
+    ensures { λ r. ⌜ r ≡ behindAt (now (text .entry)) at lines ⌝ }
+{
+    if lines == 0 {
+        return Behind::At(at);
+    }
+    let mut left = lines;
+    let mut i = at;
+    while i < text.len() {
+        if text[i] == 10 {
+            if left == 1 {
+                return Behind::At(i + 1);
+            }
+            left -= 1;
+        }
+        i += 1;
+    }
+    Behind::TooFew
+}
+
+// How many bytes of a line are its content, or that no carriage return stands before its line feed.
+pub enum Content {
+    Length(usize),
+    NoReturn,
+}
+
+// Asks for the content of a line, which is given with its line feed. What doesn't end in a line feed has none.
+pub fn content_length(line: &[u8]) -> Content
+    ensures { λ r. ⌜ r ≡ contentOf (now (line .entry)) ⌝ }
+{
+    let n = line.len();
+    if n < 2 {
+        return Content::NoReturn;
+    }
+    if line[n - 2] == 13 {
+        if line[n - 1] == 10 {
+            return Content::Length(n - 2);
+        }
+    }
+    Content::NoReturn
+}

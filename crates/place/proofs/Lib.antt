@@ -1,0 +1,9 @@
+-- The laws of place's definitions.
+pub mod Entries
+pub mod Steps
+pub mod Placed
+pub mod Due
+pub mod Tiling
+pub mod Local
+pub mod SameWalk
+pub mod Numbered

@@ -1,0 +1,127 @@
+-- What it means that a record is located, as one record of facts, both ways; where it lies; and that its index lines are 122 bytes each.
+-- Assumes nothing.
+use mathlib.Core.Path.{_≡_, refl, sym, _∙_, ap, subst}
+use mathlib.Core.Bool.{Bool, true, false, cond}
+use mathlib.Core.List.{List, [], _∷_, _++_}
+use Prim.Native.Nat.{ℕ, suc, _+_, _-_, _<_, _≤_}
+use native.Mathlib.Omega.{arith}
+use borrow.Author.Tests.{ltb-true, ltb-false, eqb-true, eqb-false, leb-true, leb-false, eq-eqb, ne-eqb, le-leb, lt-leb, eq-eqb}
+use lib.Dec.{leb, ltb, eqb}
+use lib.ListN.{length, take, drop, length-drop}
+use Rattle.line.specs.Lines.{feeds, reach, lines, behind}
+use Rattle.line.specs.Contents.{contentOf}
+use Rattle.line.specs.declared.Content.{Content}
+use Rattle.line.specs.declared.Content.the-variants.{Length, NoReturn}
+use Rattle.line.proofs.Feeds.{feeds-le}
+use Rattle.line.proofs.Reach.{reach-le, reach-mono, reach-add, length-lines}
+use Rattle.line.proofs.Contents.{content-two}
+use Rattle.count.specs.Tally.{recordLines}
+use Rattle.count.specs.Rules.{releaseOf, rulingOf}
+use Rattle.count.specs.declared.Release.{Release}
+use Rattle.count.specs.declared.Release.the-variants.{Five, Other, Filled}
+use Rattle.count.proofs.Tallied.{record-two}
+use Rattle.place.specs.declared.Placing.{Placing}
+use Rattle.place.specs.declared.Placing.the-variants.{End, Beyond, TooFewLines, Misformed, OtherRelease, FilledVacant}
+use Rattle.place.specs.Index.{Indexed, counts, misformed, readContent, readEntries, readIndexLine, joined, readIndex}
+use Rattle.place.specs.Placing.{Located, located, refused, locate, locateHere, locateIndex, locateRelease, locateLines}
+use Rattle.place.proofs.Steps.{locate-beyond, locate-end, locate-few, locate-index}
+
+-- the facts of a located record
+pub record IsLocated (s : List ℕ) (at n : ℕ) (ns : List ℕ) : Type 0 where
+  pub inside : at < length s
+  pub head : 2 ≤ feeds (drop at s)
+  pub index : readIndex (drop at s) ≡ counts ns
+  pub release : releaseOf ns ≡ Five
+  pub many : recordLines ns ≤ feeds (drop at s)
+  pub next : n ≡ at + reach (drop at s) (recordLines ns)
+
+pub is-located : (s : List ℕ) (at n : ℕ) (ns : List ℕ) → IsLocated s at n ns → locate s at ≡ located n ns
+is-located s at n ns p =
+    locate-index s at (p .inside) (p .head)
+    ∙ rw (p .index, p .release, le-leb (recordLines ns) (feeds (drop at s)) (p .many))
+    (ap (λ m. located m ns) (sym (p .next)))
+
+-- no answer is two
+no-refusal : {A : Type 0} {p : Placing} {n : ℕ} {ns : List ℕ} → refused p ≡ located n ns → A
+no-refusal e = let z : _≡_ {A = ℕ} 0 1 = cc in absurd (omega arith)
+
+module _ (s : List ℕ) (at n : ℕ) (ns : List ℕ) where
+  xs : List ℕ
+  xs = drop at s
+
+  by-lines : (ms : List ℕ) (t : Bool) → at < length s → 2 ≤ feeds xs → readIndex xs ≡ counts ms → releaseOf ms ≡ Five → leb (recordLines ms) (feeds xs) ≡ t → cond t (located (at + reach xs (recordLines ms)) ms) (refused TooFewLines) ≡ located n ns → IsLocated s at n ns
+  unfolding xs
+  by-lines ms true i h r f u e =
+      let p : ms ≡ ns = cc in
+      let m = leb-true (recordLines ms) (feeds xs) u in
+      record { inside = i; head = h; index = r ∙ ap counts p; release = rw p at f; many = rw p at m; next = cc }
+  by-lines ms false i h r f u e = no-refusal e
+
+  by-release : (ms : List ℕ) (r : Release) → at < length s → 2 ≤ feeds xs → readIndex xs ≡ counts ms → releaseOf ms ≡ r → locateRelease xs at ms r ≡ located n ns → IsLocated s at n ns
+  unfolding xs
+  by-release ms Five i h x f e = by-lines ms (leb (recordLines ms) (feeds xs)) i h x f refl e
+  by-release ms Other i h x f e = no-refusal e
+  by-release ms (Filled g) i h x f e = no-refusal e
+
+  by-index : (q : Indexed) → at < length s → 2 ≤ feeds xs → readIndex xs ≡ q → locateIndex xs at q ≡ located n ns → IsLocated s at n ns
+  by-index (counts ms) i h x e = by-release ms (releaseOf ms) i h x refl e
+  by-index misformed i h x e = no-refusal e
+
+  pub located-is : locate s at ≡ located n ns → IsLocated s at n ns
+  unfolding locate xs
+  located-is e = by (ltb (length s) at) (eqb (length s) at) (leb 2 (feeds xs)) refl refl refl e
+    where
+      by : (a b c : Bool) → ltb (length s) at ≡ a → eqb (length s) at ≡ b → leb 2 (feeds xs) ≡ c → cond a (refused Beyond) (cond b (refused End) (cond c (locateIndex xs at (readIndex xs)) (refused TooFewLines))) ≡ located n ns → IsLocated s at n ns
+      by true b c u v w e = no-refusal e
+      by false true c u v w e = no-refusal e
+      by false false false u v w e = no-refusal e
+      by false false true u v w e =
+          let h = leb-true 2 (feeds xs) w in
+          by-index (readIndex xs) (omega (arith, h, feeds-le xs, length-drop at s)) h refl e
+
+-- ---- where it lies
+
+pub located-range : (s : List ℕ) (at n : ℕ) (ns : List ℕ) → locate s at ≡ located n ns → n ≤ length s
+located-range s at n ns e =
+    let p = located-is s at n ns e in
+    omega (arith, p .next, p .inside, reach-le (drop at s) (recordLines ns), length-drop at s)
+
+-- ---- the index is two lines of 122 bytes
+
+line-bytes : (x ns : List ℕ) → readIndexLine x ≡ counts ns → length x ≡ 122
+unfolding readIndexLine
+line-bytes x ns e = by (contentOf x) refl e
+  where
+    whole : (n : ℕ) (t : Bool) → contentOf x ≡ Length n → eqb n 120 ≡ t → cond t (readEntries 40 (take (n - 0) (drop 0 x))) misformed ≡ counts ns → length x ≡ 122
+    whole n true f u g = content-two x n f ∙ omega (arith, eqb-true n 120 u)
+    whole n false f u g = let z : _≡_ {A = ℕ} 0 1 = cc in absurd (omega arith)
+
+    by : (c : Content) → contentOf x ≡ c → readContent x c ≡ counts ns → length x ≡ 122
+    by (Length n) f g = whole n (eqb n 120) f refl g
+    by NoReturn f g = let z : _≡_ {A = ℕ} 0 1 = cc in absurd (omega arith)
+
+-- both lines of an index are well formed
+pub record TwoLines (a b : Indexed) (ns : List ℕ) : Type 0 where
+  pub first : List ℕ
+  pub second : List ℕ
+  pub first-is : a ≡ counts first
+  pub second-is : b ≡ counts second
+  pub all : ns ≡ first ++ second
+
+pub two-lines : (a b : Indexed) (ns : List ℕ) → joined a b ≡ counts ns → TwoLines a b ns
+two-lines (counts x) (counts y) ns e = record { first = x; second = y; first-is = refl; second-is = refl; all = cc }
+two-lines (counts x) misformed ns e = let z : _≡_ {A = ℕ} 0 1 = cc in absurd (omega arith)
+two-lines misformed b ns e = let z : _≡_ {A = ℕ} 0 1 = cc in absurd (omega arith)
+
+pub index-bytes : (xs ns : List ℕ) → readIndex xs ≡ counts ns → reach xs 2 ≡ 244
+unfolding readIndex
+index-bytes xs ns e =
+    let t = two-lines (readIndexLine (lines 1 xs)) (readIndexLine (lines 1 (behind 1 xs))) ns e in
+    reach-add xs 1 1
+    ∙ omega (arith, length-lines xs 1, line-bytes (lines 1 xs) (t .first) (t .first-is), length-lines (behind 1 xs) 1, line-bytes (lines 1 (behind 1 xs)) (t .second) (t .second-is))
+
+-- so a record has at least 244 bytes
+pub located-long : (s : List ℕ) (at n : ℕ) (ns : List ℕ) → locate s at ≡ located n ns → at + 244 ≤ n
+located-long s at n ns e =
+    let p = located-is s at n ns e in
+    omega (arith, p .next, index-bytes (drop at s) ns (p .index), reach-mono (drop at s) 2 (recordLines ns) (record-two ns))

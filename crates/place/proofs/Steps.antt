@@ -1,0 +1,140 @@
+-- Placing step by step, as the code goes: each answer by what led to it.
+-- Assumes nothing.
+use mathlib.Core.Path.{_≡_, refl, sym, _∙_, ap, subst}
+use mathlib.Core.Bool.{Bool, true, false, cond}
+use mathlib.Core.List.{List, [], _∷_, _++_}
+use Prim.Native.Nat.{ℕ, suc, _+_, _-_, _<_, _≤_}
+use native.Mathlib.Omega.{arith}
+use borrow.Author.Tests.{lt-ltb, le-ltb, eq-eqb, ne-eqb, le-leb, lt-leb}
+use lib.Dec.{leb}
+use lib.Seq.{drop-drop}
+use lib.ListN.{length, take, drop, replicate}
+use Rattle.base.specs.Part.{part}
+use Rattle.line.specs.Lines.{feeds, reach, lines, behind}
+use Rattle.line.specs.Places
+use Rattle.line.specs.Places.{behindAt}
+use Rattle.line.specs.Contents.{contentOf}
+use Rattle.line.specs.declared.Content.the-variants.{Length, NoReturn}
+use Rattle.line.specs.declared.Behind.{Behind}
+use Rattle.line.specs.declared.Behind.the-variants.{At, TooFew}
+use Rattle.line.proofs.Places.{at-is, few-is, is-few, behindAt-then, lines-at}
+use Rattle.count.specs.Tally.{recordLines}
+use Rattle.count.proofs.Tallied.{record-two}
+use Rattle.count.specs.Rules.{releaseOf, rulingOf}
+use Rattle.count.specs.declared.Release.{Release}
+use Rattle.count.specs.declared.Release.the-variants.{Five, Other, Filled}
+use Rattle.place.specs.declared.Placing.{Placing}
+use Rattle.place.specs.declared.Placing.the-variants.{End, Beyond, TooFewLines, Misformed, OtherRelease, FilledVacant}
+use Rattle.place.specs.Index.{Indexed, counts, misformed, readEntries, readIndexLine, joined, readIndex, Stored}
+use Rattle.place.specs.Placing.{Located, located, refused, locate, locateIndex, locateRelease, locateLines, locateLinesFrom, locateFrom, locateFive, locatedBehind, Answers, placingOf, countsAt}
+
+-- ---- an index line
+
+module _ (x : List ℕ) where
+  pub line-no-return : contentOf x ≡ NoReturn → readIndexLine x ≡ misformed
+  unfolding readIndexLine
+  line-no-return e = rw e
+
+  pub line-other-length : (n : ℕ) → contentOf x ≡ Length n → (n ≡ 120 → ⊥) → readIndexLine x ≡ misformed
+  unfolding readIndexLine
+  line-other-length n e k = rw (e, ne-eqb n 120 k)
+
+  pub line-entries : (n : ℕ) → contentOf x ≡ Length n → n ≡ 120 → readIndexLine x ≡ readEntries 40 (part 0 n x)
+  unfolding readIndexLine
+  line-entries n e k = rw (e, eq-eqb n 120 k)
+
+-- ---- a place in a text
+
+module _ (s : List ℕ) (at : ℕ) where
+  pub locate-beyond : length s < at → locate s at ≡ refused Beyond
+  unfolding locate
+  locate-beyond h = rw (lt-ltb (length s) at h)
+
+  pub locate-end : length s ≡ at → locate s at ≡ refused End
+  unfolding locate
+  locate-end e = rw (le-ltb (length s) at (omega arith), eq-eqb (length s) at e)
+
+  module _ (inside : at < length s) where
+    pub locate-few : feeds (drop at s) < 2 → locate s at ≡ refused TooFewLines
+    unfolding locate
+    locate-few h = rw (le-ltb (length s) at (omega arith), ne-eqb (length s) at (λ e. omega arith), lt-leb 2 (feeds (drop at s)) h)
+
+    pub locate-index : 2 ≤ feeds (drop at s) → locate s at ≡ locateIndex (drop at s) at (readIndex (drop at s))
+    unfolding locate
+    locate-index h = rw (le-ltb (length s) at (omega arith), ne-eqb (length s) at (λ e. omega arith), le-leb 2 (feeds (drop at s)) h)
+
+-- ---- from the data lines on
+
+module _ (s : List ℕ) (from : ℕ) (ns : List ℕ) where
+  pub from-lines : {l : ℕ} {b : Behind} → l ≡ recordLines ns → behindAt s from (l - 2) ≡ b → locateLinesFrom s from ns ≡ locatedBehind ns b
+  unfolding locateLinesFrom
+  from-lines e f = rw (← e, f)
+
+  pub from-release : {r : Release} → releaseOf ns ≡ r → locateFrom s from ns ≡ locateFive s from ns r
+  unfolding locateFrom
+  from-release e = rw e
+
+-- an answer that refuses, with its zeros
+pub refuses : {l : Located} {p answer : Placing} {ns : List ℕ} → l ≡ refused p → (answer ≡ p) × (ns ≡ replicate 80 0) → Answers l answer ns
+refuses e a = rw e record { placing = a .0; beside = a .1 }
+
+-- ---- the two index lines, one after the other
+
+-- located lines, by the place behind them
+lines-behind : (s : List ℕ) (at : ℕ) (ns : List ℕ) → locateLines (drop at s) at ns ≡ locatedBehind ns (behindAt s at (recordLines ns))
+unfolding Places.behindAt
+lines-behind s at ns = by (leb (recordLines ns) (feeds (drop at s)))
+  where
+    n : ℕ
+    n = at + reach (drop at s) (recordLines ns)
+
+    by : (t : Bool) → cond t (located n ns) (refused TooFewLines) ≡ locatedBehind ns (cond t (At n) TooFew)
+    by true = refl
+    by false = refl
+
+module _ (s : List ℕ) (at : ℕ) (inside : at < length s) where
+  pub first-few : behindAt s at 1 ≡ TooFew → locate s at ≡ refused TooFewLines
+  first-few e = locate-few s at inside (omega (arith, few-is s at 1 e))
+
+  module _ (second : ℕ) (f : behindAt s at 1 ≡ At second) where
+    pub second-few : behindAt s second 1 ≡ TooFew → locate s at ≡ refused TooFewLines
+    second-few e = locate-few s at inside (few-is s at 2 (behindAt-then s at 1 1 second f ∙ e))
+
+    module _ (end : ℕ) (g : behindAt s second 1 ≡ At end) where
+      both : behindAt s at 2 ≡ At end
+      both = behindAt-then s at 1 1 second f ∙ g
+
+      second-from : behind 1 (drop at s) ≡ drop second s
+      second-from = drop-drop (reach (drop at s) 1) at s ∙ ap (λ n. drop n s) (sym (at-is s at 1 second f .place))
+
+      index-lines : readIndex (drop at s) ≡ joined (readIndexLine (part at second s)) (readIndexLine (part second end s))
+      unfolding readIndex
+      index-lines = rw (lines-at s at 1 second f, second-from, lines-at s second 1 end g)
+
+      here : locate s at ≡ locateIndex (drop at s) at (joined (readIndexLine (part at second s)) (readIndexLine (part second end s)))
+      here = locate-index s at inside (at-is s at 2 end both .many) ∙ ap (locateIndex (drop at s) at) index-lines
+
+      pub first-misformed : readIndexLine (part at second s) ≡ misformed → locate s at ≡ refused Misformed
+      first-misformed e = here ∙ rw e
+
+      pub second-misformed : (a : List ℕ) → readIndexLine (part at second s) ≡ counts a → readIndexLine (part second end s) ≡ misformed → locate s at ≡ refused Misformed
+      second-misformed a e k = here ∙ rw (e, k)
+
+      by-release : (ns : List ℕ) (r : Release) → locateRelease (drop at s) at ns r ≡ locateFive s end ns r
+      unfolding locateLinesFrom
+      by-release ns Five = lines-behind s at ns ∙ ap (locatedBehind ns) (ap (behindAt s at) (two ns) ∙ behindAt-then s at 2 (recordLines ns - 2) end both)
+        where
+          two : (ns : List ℕ) → recordLines ns ≡ 2 + (recordLines ns - 2)
+          two ns = omega (arith, record-two ns)
+      by-release ns Other = refl
+      by-release ns (Filled g) = refl
+
+      pub with-index : (a b : List ℕ) → readIndexLine (part at second s) ≡ counts a → readIndexLine (part second end s) ≡ counts b → locate s at ≡ locateFrom s end (a ++ b)
+      unfolding locateFrom
+      with-index a b e k = here ∙ rw (e, k) (by-release (a ++ b) (releaseOf (a ++ b)))
+
+-- ---- the answer
+
+pub answers-at : (s : List ℕ) (at : ℕ) {l : Located} {answer : Placing} {ns : List ℕ} → locate s at ≡ l → Answers l answer ns → (answer ≡ placingOf s at) × (ns ≡ countsAt s at)
+unfolding placingOf countsAt
+answers-at s at e a = rw e (a .placing, a .beside)

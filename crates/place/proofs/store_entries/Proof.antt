@@ -1,0 +1,106 @@
+-- `place::store_entries` meets its contract. The invariant: the first k entries are stored, and all give what these and the others give.
+-- Assumes nothing.
+use borrow.Author.Needs.{needs}
+use native.Mathlib.Omega.{arith}
+use mathlib.Core.Path.{_≡_, refl, sym, _∙_}
+use Prim.Native.Nat.{_-_, _≤_}
+use lib.ListN.{length, length-set}
+use Rattle.place.proofs.Entries.{Storing, storing-none, storing-more, storing-bad, storing-done}
+use Rattle.place.proofs.store_entries.Statement.{statement}
+use Rattle.place.proofs.store_entries.Tie as tie
+
+abbrev Inv-loop : tie.InvT-loop
+Inv-loop content counts₀ from k₀ counts k = (k ≤ 40) × (length counts ≡ length counts₀) × Storing content from counts₀ k counts
+
+abbrev μ-loop : tie.MeasureT-loop
+μ-loop content counts₀ from k₀ counts k = 40 - k
+
+loop-holds : tie.Need-loop-holds Inv-loop μ-loop
+loop-holds c = (omega arith, refl, storing-none _ _ _)
+
+mul-a : tie.Need-mul-a Inv-loop μ-loop
+mul-a c = search needs
+
+add-e : tie.Need-add-e Inv-loop μ-loop
+add-e c = search needs
+
+sub-read-entry : tie.Need-sub-read-entry Inv-loop μ-loop
+sub-read-entry c = search needs
+
+part-read-entry-start : tie.Need-part-read-entry-start Inv-loop μ-loop
+part-read-entry-start c = search needs
+
+part-read-entry-end : tie.Need-part-read-entry-end Inv-loop μ-loop
+part-read-entry-end c = search needs
+
+read-entry-requires : tie.Need-read-entry-requires Inv-loop μ-loop
+read-entry-requires c κs = search needs
+
+enum-known-n : tie.Need-enum-known-n Inv-loop μ-loop
+enum-known-n c = search needs
+
+enum-told : tie.Need-enum-told Inv-loop μ-loop
+enum-told c = search needs
+
+same-length : tie.Need-same-length Inv-loop μ-loop
+same-length c = c .before .before .before .before .before .loop .inv .1
+
+returns : tie.Need-returns Inv-loop μ-loop
+returns c =
+    let l = c .before .before .before .before .before .loop in
+    storing-bad (c .before .before .before .before .before .before .before .before .args .content .now) (c .before .before .before .before .before .before .before .before .args .from) (c .before .before .before .before .before .before .before .before .args .counts .now) (l .k) (l .counts) (c .before .before .before .before .loop-test .taken) (l .inv .2) (sym (c .before .before .read-entry .ensures) ∙ c .enum-told .given .1)
+
+add-counts : tie.Need-add-counts Inv-loop μ-loop
+add-counts c = search needs
+
+mul-counts : tie.Need-mul-counts Inv-loop μ-loop
+mul-counts c = search needs
+
+slice-write-counts : tie.Need-slice-write-counts Inv-loop μ-loop
+slice-write-counts c = omega (arith, c .before .before .before .before .before .before .loop .inv .1)
+
+add-k : tie.Need-add-k Inv-loop μ-loop
+add-k c = search needs
+
+loop-less : tie.Need-loop-less Inv-loop μ-loop
+loop-less c = search needs
+
+loop-again : tie.Need-loop-again Inv-loop μ-loop
+loop-again c =
+    let l = c .before .before .before .before .before .before .loop in (
+      omega arith,
+      simp length-set (l .inv .1),
+      storing-more (c .before .before .before .before .before .before .before .before .before .args .content .now) (c .before .before .before .before .before .before .before .before .before .args .from) (c .before .before .before .before .before .before .before .before .before .args .counts .now) (l .k) (l .counts) (c .before .before .before .before .before .loop-test .taken) (l .inv .2) (c .before .n .given .0 .0) (omega arith) (sym (c .before .before .before .read-entry .ensures) ∙ c .before .n .given .1),
+    )
+
+same-length-2 : tie.Need-same-length-2 Inv-loop μ-loop
+same-length-2 c = c .before .loop .inv .1
+
+returns-2 : tie.Need-returns-2 Inv-loop μ-loop
+returns-2 c = storing-done (c .before .before .before .before .args .content .now) (c .before .before .before .before .args .from) (c .before .before .before .before .args .counts .now) (c .before .loop .k) (c .before .loop .counts) (omega arith) (omega arith) (c .before .loop .inv .2)
+
+pub store-entries-spec : {M : Type 1} → statement M
+store-entries-spec =
+    tie.close
+    (tie.spec
+    Inv-loop
+    μ-loop
+    loop-holds
+    mul-a
+    add-e
+    sub-read-entry
+    part-read-entry-start
+    part-read-entry-end
+    read-entry-requires
+    enum-known-n
+    enum-told
+    same-length
+    returns
+    add-counts
+    mul-counts
+    slice-write-counts
+    add-k
+    loop-less
+    loop-again
+    same-length-2
+    returns-2)

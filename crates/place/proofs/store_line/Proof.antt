@@ -1,0 +1,64 @@
+-- `place::store_line` meets its contract: the content is what stands before the last two bytes.
+-- Assumes nothing.
+use borrow.Author.Needs.{needs}
+use native.Mathlib.Omega.{arith}
+use mathlib.Core.Path.{_≡_, refl, sym, _∙_, ap}
+use Prim.Native.Nat.{_+_, _-_}
+use lib.ListN.{length, length-take}
+use Rattle.line.proofs.Contents.{content-two}
+use Rattle.place.specs.Index.{Stored}
+use Rattle.place.proofs.Steps.{line-no-return, line-other-length, line-entries}
+use Rattle.place.proofs.store_line.Statement.{statement}
+use Rattle.place.proofs.store_line.Tie as tie
+
+content-length-requires : tie.Need-content-length-requires
+content-length-requires c κs = search needs
+
+enum-known-n : tie.Need-enum-known-n
+enum-known-n c = search needs
+
+enum-told : tie.Need-enum-told
+enum-told c = search needs
+
+returns : tie.Need-returns
+returns c = rw (line-no-return (c .before .before .before .before .before .args .line .now) (sym (c .before .before .content-length .ensures) ∙ c .enum-told .given .1)) refl
+
+returns-2 : tie.Need-returns-2
+returns-2 c = rw (line-other-length (c .before .before .before .before .before .before .before .args .line .now) (c .before .before .n .given .0 .0) (sym (c .before .before .before .before .content-length .ensures) ∙ c .before .before .n .given .1) (c .if1 .taken)) refl
+
+long : (c : tie.Else1) → length (c .before .before .before .before .before .before .before .args .line .now) ≡ c .before .before .n .given .0 .0 + 2
+long c = content-two (c .before .before .before .before .before .before .before .args .line .now) (c .before .before .n .given .0 .0) (sym (c .before .before .before .before .content-length .ensures) ∙ c .before .before .n .given .1)
+
+sub-store-entries : tie.Need-sub-store-entries
+sub-store-entries c = omega arith
+
+part-store-entries-start : tie.Need-part-store-entries-start
+part-store-entries-start c = omega arith
+
+part-store-entries-end : tie.Need-part-store-entries-end
+part-store-entries-end c = omega (arith, long c)
+
+store-entries-requires : tie.Need-store-entries-requires
+store-entries-requires c κs = (length-take (c .before .before .before .before .n .given .0 .0 - 0) _ ∙ omega (arith, long (c .before .before), c .before .before .if1 .left), omega arith)
+
+same-length : tie.Need-same-length
+same-length c = search needs
+
+returns-3 : tie.Need-returns-3
+returns-3 c = rw (line-entries (c .before .before .before .before .before .before .before .before .before .before .before .before .args .line .now) (c .before .before .before .before .before .before .before .n .given .0 .0) (sym (c .before .before .before .before .before .before .before .before .before .content-length .ensures) ∙ c .before .before .before .before .before .before .before .n .given .1) (c .before .before .before .before .before .if1 .left)) (c .before .before .store-entries .ensures)
+
+pub store-line-spec : {M : Type 1} → statement M
+store-line-spec =
+    tie.close
+    (tie.spec
+    content-length-requires
+    enum-known-n
+    enum-told
+    returns
+    returns-2
+    sub-store-entries
+    part-store-entries-start
+    part-store-entries-end
+    store-entries-requires
+    same-length
+    returns-3)

@@ -1,0 +1,56 @@
+-- `place::with_counts` meets its contract by cases.
+-- Assumes nothing.
+use borrow.Author.Needs.{needs}
+use mathlib.Core.Path.{sym, _∙_}
+use Rattle.place.proofs.Steps.{from-release, refuses}
+use Rattle.place.proofs.with_counts.Statement.{statement}
+use Rattle.place.proofs.with_counts.Tie as tie
+
+slice-aggregate-release-of : tie.Need-slice-aggregate-release-of
+slice-aggregate-release-of c = search needs
+
+release-of-requires : tie.Need-release-of-requires
+release-of-requires c κs = search needs
+
+enum-told : tie.Need-enum-told
+enum-told c = search needs
+
+nothing-requires : tie.Need-nothing-requires
+nothing-requires c κs = search needs
+
+enum-known-g : tie.Need-enum-known-g
+enum-known-g c = search needs
+
+nothing-requires-2 : tie.Need-nothing-requires-2
+nothing-requires-2 c κs = search needs
+
+enum-told-2 : tie.Need-enum-told-2
+enum-told-2 c = search needs
+
+with-lines-requires : tie.Need-with-lines-requires
+with-lines-requires c κs = search needs
+
+returns : tie.Need-returns
+returns c = refuses (from-release (c .before .before .before .before .before .before .args .text .now) (c .before .before .before .before .before .before .args .from) (c .before .before .before .before .before .before .args .t3) (sym (c .before .before .before .release-of .ensures) ∙ c .before .enum-told .given .1)) (c .nothing .ensures)
+
+returns-2 : tie.Need-returns-2
+returns-2 c = refuses (from-release (c .before .before .before .before .before .before .before .args .text .now) (c .before .before .before .before .before .before .before .args .from) (c .before .before .before .before .before .before .before .args .t3) (sym (c .before .before .before .before .release-of .ensures) ∙ c .before .before .g .given .1)) (c .nothing2 .ensures)
+
+returns-3 : tie.Need-returns-3
+returns-3 c = rw (from-release (c .before .before .before .before .before .before .args .text .now) (c .before .before .before .before .before .before .args .from) (c .before .before .before .before .before .before .args .t3) (sym (c .before .before .before .release-of .ensures) ∙ c .before .enum-told2 .given .1)) (c .with-lines .ensures)
+
+pub with-counts-spec : {M : Type 1} → statement M
+with-counts-spec =
+    tie.close
+    (tie.spec
+    slice-aggregate-release-of
+    release-of-requires
+    enum-told
+    nothing-requires
+    enum-known-g
+    nothing-requires-2
+    enum-told-2
+    with-lines-requires
+    returns
+    returns-2
+    returns-3)

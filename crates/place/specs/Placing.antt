@@ -1,0 +1,94 @@
+-- "Placing tries 2, 1, 3 (index lines), 4, 5, 6, 3 (data lines), 7." In two steps: first whether a record can be located, then the rules on
+-- its counts.
+use mathlib.Core.Bool.{cond}
+use mathlib.Core.List.{List}
+use Prim.Native.Nat.{ℕ, _+_, _-_}
+use lib.Dec.{eqb, leb, ltb}
+use lib.ListN.{length, drop, replicate}
+use mathlib.Core.Path.{_≡_}
+use Rattle.line.specs.Places.{behindAt}
+use Rattle.line.specs.declared.Behind.{Behind}
+use Rattle.line.specs.declared.Behind.the-variants.{At, TooFew}
+use Rattle.line.specs.Lines.{feeds, reach}
+use Rattle.count.specs.Tally.{recordLines}
+use Rattle.count.specs.Rules.{releaseOf, rulingOf}
+use Rattle.count.specs.declared.Release.{Release}
+use Rattle.count.specs.declared.Release.the-variants.{Five, Other, Filled}
+use Rattle.count.specs.declared.Ruling.{Ruling}
+use Rattle.count.specs.declared.Ruling.the-variants.{Kept, Broken}
+use Rattle.place.specs.Index.{Indexed, counts, misformed, readIndex}
+use Rattle.place.specs.declared.Placing.{Placing}
+use Rattle.place.specs.declared.Placing.the-variants.{Placed, End, Beyond, TooFewLines, Misformed, OtherRelease, FilledVacant, BrokenRule}
+
+-- the next place and the counts, or the answer
+pub data Located : Type 0 where
+  located : ℕ → List ℕ → Located
+  refused : Placing → Located
+
+-- xs is the text from the place `at` on
+
+-- 3: "fewer line feeds left than .. the data lines need"
+abbrev pub locateLines : List ℕ → ℕ → List ℕ → Located
+locateLines xs at ns = cond (leb (recordLines ns) (feeds xs)) (located (at + reach xs (recordLines ns)) ns) (refused TooFewLines)
+
+-- 5 and 6
+abbrev pub locateRelease : List ℕ → ℕ → List ℕ → Release → Located
+locateRelease xs at ns Five = locateLines xs at ns
+locateRelease xs at ns Other = refused OtherRelease
+locateRelease xs at ns (Filled g) = refused (FilledVacant g)
+
+-- 4: "index line or entry misformed"
+abbrev pub locateIndex : List ℕ → ℕ → Indexed → Located
+locateIndex xs at (counts ns) = locateRelease xs at ns (releaseOf ns)
+locateIndex xs at misformed = refused Misformed
+
+-- 3: "fewer line feeds left than the two index lines .. need"
+abbrev pub locateHere : List ℕ → ℕ → Located
+locateHere xs at = cond (leb 2 (feeds xs)) (locateIndex xs at (readIndex xs)) (refused TooFewLines)
+
+-- 2: "place beyond the end"; 1: "place is the text's end"
+unfoldable pub locate : List ℕ → ℕ → Located
+locate s at =
+    cond (ltb (length s) at) (refused Beyond) (cond (eqb (length s) at) (refused End) (locateHere (drop at s) at))
+
+-- 7: "rule on counts broken", with the next place
+abbrev pub ruledAt : ℕ → Ruling → Placing
+ruledAt n Kept = Placed n
+ruledAt n (Broken g) = BrokenRule g n
+
+abbrev pub placingBy : Located → Placing
+placingBy (located n ns) = ruledAt n (rulingOf ns)
+placingBy (refused p) = p
+
+-- zeros where nothing is placed
+abbrev pub countsBy : Located → List ℕ
+countsBy (located n ns) = ns
+countsBy (refused p) = replicate 80 0
+
+-- what placing answers, and the counts beside it
+unfoldable pub placingOf : List ℕ → ℕ → Placing
+placingOf s at = placingBy (locate s at)
+
+unfoldable pub countsAt : List ℕ → ℕ → List ℕ
+countsAt s at = countsBy (locate s at)
+
+pub record Answers (l : Located) (answer : Placing) (ns : List ℕ) : Type 0 where
+  pub placing : answer ≡ placingBy l
+  pub beside : ns ≡ countsBy l
+
+-- ---- the same from the data lines on, as the code goes (proofs/Steps.antt)
+
+abbrev pub locatedBehind : List ℕ → Behind → Located
+locatedBehind ns (At n) = located n ns
+locatedBehind ns TooFew = refused TooFewLines
+
+unfoldable pub locateLinesFrom : List ℕ → ℕ → List ℕ → Located
+locateLinesFrom s from ns = locatedBehind ns (behindAt s from (recordLines ns - 2))
+
+abbrev pub locateFive : List ℕ → ℕ → List ℕ → Release → Located
+locateFive s from ns Five = locateLinesFrom s from ns
+locateFive s from ns Other = refused OtherRelease
+locateFive s from ns (Filled g) = refused (FilledVacant g)
+
+unfoldable pub locateFrom : List ℕ → ℕ → List ℕ → Located
+locateFrom s from ns = locateFive s from ns (releaseOf ns)

@@ -1,0 +1,26 @@
+-- "A record is placed where the reply is 0 or 7; a walk goes on from its next place, and stops at any other reply."
+use mathlib.Core.Path.{_≡_}
+use mathlib.Core.List.{List}
+use Prim.Native.Nat.{ℕ, zero, suc, _<_}
+use Rattle.place.specs.declared.Placing.{Placing}
+use Rattle.place.specs.Placing.{Located, located, refused, locate}
+
+abbrev pub onward : ℕ → Located → ℕ
+onward at (located n ns) = n
+onward at (refused p) = at
+
+-- where the walk stands after k steps from the text's start; once it has stopped it stays
+unfoldable pub spot : List ℕ → ℕ → ℕ
+spot s zero = 0
+spot s (suc k) = onward (spot s k) (locate s (spot s k))
+
+-- a record stands at a place
+pub record IsRecord (s : List ℕ) (at : ℕ) : Type 0 where
+  pub next : ℕ
+  pub ns : List ℕ
+  pub is : locate s at ≡ located next ns
+
+-- the walk has so many records, and stops behind them with this answer
+pub record Stops (s : List ℕ) (many : ℕ) (p : Placing) : Type 0 where
+  pub each : (k : ℕ) → k < many → IsRecord s (spot s k)
+  pub last : locate s (spot s many) ≡ refused p

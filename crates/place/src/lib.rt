@@ -1,0 +1,134 @@
+// Records in a text: placing one at a place.
+ghost use mathlib.Core.Path.{_≡_};
+ghost use Prim.Native.Nat.{_+_, _≤_};
+ghost use lib.ListN.{length, replicate};
+ghost use Rattle.place.specs.Index.{readEntries, readIndexLine, Stored};
+ghost use Rattle.place.specs.Placing.{Answers, placingOf, countsAt, ruledAt, locateLinesFrom, locateFrom};
+
+// What placing answers; each variant is one of 01's replies.
+pub enum Placing {
+    // 0, with the next place
+    Placed(usize),
+    // 1
+    End,
+    // 2
+    Beyond,
+    // 3
+    TooFewLines,
+    // 4
+    Misformed,
+    // 5
+    OtherRelease,
+    // 6, with the lowest vacant group that has a count
+    FilledVacant(usize),
+    // 7, with the blamed group and the next place
+    BrokenRule(usize, usize),
+}
+
+// The answer, with the 80 counts of a record that is placed (0 or 7), else zeros.
+pub struct Record {
+    pub answer: Placing,
+    pub counts: [u16; 80],
+}
+
+// The 40 entries of an index line's content, stored from an index on; whether all are well formed.
+fn store_entries(content: &[u8], counts: &mut [u16], from: usize) -> bool
+    requires { ⌜ (length (now content) ≡ 120) × (from + 40 ≤ length (now counts)) ⌝ }
+    ensures { λ r. ⌜ Stored (readEntries 40 (now (content .entry))) from (now (counts .entry)) r (now (counts .exit)) ⌝ }
+{
+    let mut k: usize = 0;
+    while k < 40 {
+        let a = k * 3;
+        let e = a + 3;
+        let field::Entry::Count(n) = field::read_entry(&content[a..e]) else {
+            return false;
+        };
+        counts[from + k] = n;
+        k += 1;
+    }
+    true
+}
+
+// An index line's counts, stored from an index on; whether the line and its entries are well formed.
+fn store_line(line: &[u8], counts: &mut [u16], from: usize) -> bool
+    requires { ⌜ from + 40 ≤ length (now counts) ⌝ }
+    ensures { λ r. ⌜ Stored (readIndexLine (now (line .entry))) from (now (counts .entry)) r (now (counts .exit)) ⌝ }
+{
+    let line::Content::Length(n) = line::content_length(line) else {
+        return false;
+    };
+    if n != 120 {
+        return false;
+    }
+    store_entries(&line[0..n], counts, from)
+}
+
+// The answer where nothing is placed.
+fn nothing(answer: Placing) -> Record
+    ensures { λ r. ⌜ (r .answer ≡ answer) × (r .counts ≡ replicate 80 0) ⌝ }
+{
+    Record {
+        answer,
+        counts: [0u16; 80],
+    }
+}
+
+// A record of release 5 whose data lines begin at a place: data lines, then rules.
+fn with_lines(text: &[u8], from: usize, counts: [u16; 80]) -> Record
+    ensures { λ r. ⌜ Answers (locateLinesFrom (now (text .entry)) from counts) (r .answer) (r .counts) ⌝ }
+{
+    let all = count::add_up(&counts, 61);
+    let line::Behind::At(next) = line::place_behind(text, from, all.lines - 2) else {
+        return nothing(Placing::TooFewLines);
+    };
+    Record {
+        answer: ruled_at(next, count::ruling_of(&counts)),
+        counts,
+    }
+}
+
+// A record whose data lines begin at a place: the release and the vacant groups first.
+fn with_counts(text: &[u8], from: usize, counts: [u16; 80]) -> Record
+    ensures { λ r. ⌜ Answers (locateFrom (now (text .entry)) from counts) (r .answer) (r .counts) ⌝ }
+{
+    match count::release_of(&counts) {
+        count::Release::Other => nothing(Placing::OtherRelease),
+        count::Release::Filled(g) => nothing(Placing::FilledVacant(g)),
+        count::Release::Five => with_lines(text, from, counts),
+    }
+}
+
+fn ruled_at(next: usize, ruling: count::Ruling) -> Placing
+    ensures { λ r. ⌜ r ≡ ruledAt next ruling ⌝ }
+{
+    match ruling {
+        count::Ruling::Kept => Placing::Placed(next),
+        count::Ruling::Broken(g) => Placing::BrokenRule(g, next),
+    }
+}
+
+// The record at a place of a text.
+pub fn place(text: &[u8], at: usize) -> Record
+    ensures { λ r. ⌜ (r .answer ≡ placingOf (now (text .entry)) at) × (r .counts ≡ countsAt (now (text .entry)) at) ⌝ }
+{
+    if text.len() < at {
+        return nothing(Placing::Beyond);
+    }
+    if text.len() == at {
+        return nothing(Placing::End);
+    }
+    let line::Behind::At(second) = line::place_behind(text, at, 1) else {
+        return nothing(Placing::TooFewLines);
+    };
+    let line::Behind::At(end) = line::place_behind(text, second, 1) else {
+        return nothing(Placing::TooFewLines);
+    };
+    let mut counts = [0u16; 80];
+    if !store_line(&text[at..second], &mut counts, 0) {
+        return nothing(Placing::Misformed);
+    }
+    if !store_line(&text[second..end], &mut counts, 40) {
+        return nothing(Placing::Misformed);
+    }
+    with_counts(text, end, counts)
+}
