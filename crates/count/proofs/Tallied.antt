@@ -145,3 +145,7 @@ lines-more ns g h = sum-take-more (lineTally ns) g (omega (arith, tally-length 2
 pub lines-below : (ns : List ℕ) (g h : ℕ) → g ≤ h → linesBefore ns g ≤ linesBefore ns h
 unfolding linesBefore
 lines-below ns g h l = sum-take-mono (lineTally ns) g h l
+
+pub lines-all : (ns : List ℕ) (g : ℕ) → 61 ≤ g → linesBefore ns g ≡ recordLines ns
+unfolding linesBefore lineTally
+lines-all ns g h = tally-all 2 (linesIn ns) g h

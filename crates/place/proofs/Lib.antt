@@ -4,6 +4,7 @@ pub mod Steps
 pub mod Placed
 pub mod Due
 pub mod Tiling
+pub mod Spans
 pub mod Local
 pub mod SameWalk
 pub mod Numbered
