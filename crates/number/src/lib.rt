@@ -35,7 +35,7 @@ pub enum Number {
     Misformed,
 }
 
-pub fn class(b: u8) -> Byte
+fn class(b: u8) -> Byte
     ensures { λ r. ⌜ r ≡ classOf b ⌝ }
 {
     if b == b' ' {
@@ -54,7 +54,7 @@ pub fn class(b: u8) -> Byte
 }
 
 // One byte more.
-pub fn step(c: Byte, st: Scan) -> Scan
+fn step(c: Byte, st: Scan) -> Scan
     requires { ⌜ Small c × Below 100000000000000000 st ⌝ }
     ensures { λ r. ⌜ r ≡ stepOf c st ⌝ }
 {
@@ -107,7 +107,7 @@ pub fn cell(neg: bool, n: u64) -> i64
 }
 
 // The number that a state is worth.
-pub fn one(st: Scan) -> Number
+fn one(st: Scan) -> Number
     requires { ⌜ Below 1000000000000000000 st ⌝ }
     ensures { λ r. ⌜ r ≡ oneOf st ⌝ }
 {
@@ -120,7 +120,7 @@ pub fn one(st: Scan) -> Number
 }
 
 // The number that the bytes of a part end, from a state on.
-pub fn finish(s: &[u8], from: Scan) -> Number
+fn finish(s: &[u8], from: Scan) -> Number
     requires { ⌜ (length (now s) ≤ 12) × Below 1000000 from ⌝ }
     ensures { λ r. ⌜ r ≡ oneOf (scanOf from (now (s .entry))) ⌝ }
 {
@@ -136,7 +136,7 @@ pub fn read_i(s: &[u8]) -> Number
 }
 
 // What a point leaves.
-pub fn point(st: Scan) -> Scan
+fn point(st: Scan) -> Scan
     ensures { λ r. ⌜ r ≡ pointOf st ⌝ }
 {
     match st {
@@ -166,7 +166,7 @@ pub fn read_f(s: &[u8]) -> Number
 }
 
 // The last column before E's point.
-pub fn lead(st: Scan, b: u8) -> Scan
+fn lead(st: Scan, b: u8) -> Scan
     ensures { λ r. ⌜ r ≡ leadOf st b ⌝ }
 {
     match st {
@@ -194,7 +194,7 @@ pub fn lead(st: Scan, b: u8) -> Scan
 }
 
 // The exponent's sign.
-pub fn sign(b: u8) -> Scan
+fn sign(b: u8) -> Scan
     ensures { λ r. ⌜ r ≡ signOf b ⌝ }
 {
     if b == b'+' {
@@ -206,7 +206,7 @@ pub fn sign(b: u8) -> Scan
     Scan::Broken
 }
 
-pub fn pair(a: Number, b: Number) -> Number
+fn pair(a: Number, b: Number) -> Number
     ensures { λ r. ⌜ r ≡ pairOf a b ⌝ }
 {
     match a {
@@ -249,7 +249,7 @@ pub fn read_e(s: &[u8], c: usize, d: usize, x: usize) -> Number
 // ---- Writing: from the last column to the first, one division for each digit.
 
 // The byte in the last column.
-pub fn last(st: Scan) -> u8
+fn last(st: Scan) -> u8
     ensures { λ r. ⌜ r ≡ lastOf st ⌝ }
 {
     match st {
@@ -261,7 +261,7 @@ pub fn last(st: Scan) -> u8
 }
 
 // What the columns before the last hold; filled columns hold digits only.
-pub fn back(filled: bool, st: Scan) -> Scan
+fn back(filled: bool, st: Scan) -> Scan
     ensures { λ r. ⌜ r ≡ backOf filled st ⌝ }
 {
     match st {
@@ -284,7 +284,7 @@ pub fn back(filled: bool, st: Scan) -> Scan
 }
 
 // Fills the columns with it, and gives back what would stand before them.
-pub fn put(out: &mut [u8], filled: bool, what: Scan) -> Scan
+fn put(out: &mut [u8], filled: bool, what: Scan) -> Scan
     ensures { λ r. ⌜ (now (out .exit) ≡ textOf filled (length (now (out .entry))) what) × (r ≡ restOf filled (length (now (out .entry))) what) ⌝ }
 {
     let mut st = what;
@@ -307,7 +307,7 @@ pub fn put_at(out: &mut [u8], at: usize, w: usize, filled: bool, what: Scan) -> 
     put(&mut out[at..e], filled, what)
 }
 
-pub fn put_byte(out: &mut [u8], at: usize, b: u8)
+fn put_byte(out: &mut [u8], at: usize, b: u8)
     requires { ⌜ at < length (now out) ⌝ }
     ensures { λ _. ⌜ now (out .exit) ≡ over at (b ∷ []) (now (out .entry)) ⌝ }
 {
@@ -370,7 +370,7 @@ pub fn put_f(out: &mut [u8], at: usize, w: usize, v: i64)
 }
 
 // What stands before E's point in c columns.
-pub fn lead_state(c: usize, neg: bool) -> Scan
+fn lead_state(c: usize, neg: bool) -> Scan
     ensures { λ r. ⌜ r ≡ leadState c neg ⌝ }
 {
     if neg {
@@ -382,7 +382,7 @@ pub fn lead_state(c: usize, neg: bool) -> Scan
     Scan::Digits(false, 0)
 }
 
-pub fn sign_byte(neg: bool) -> u8
+fn sign_byte(neg: bool) -> u8
     ensures { λ r. ⌜ r ≡ signByte neg ⌝ }
 {
     if neg {
@@ -392,7 +392,7 @@ pub fn sign_byte(neg: bool) -> u8
 }
 
 // `E`, the exponent's sign and its x digits.
-pub fn put_exponent(out: &mut [u8], at: usize, x: usize, e: i64)
+fn put_exponent(out: &mut [u8], at: usize, x: usize, e: i64)
     requires { ⌜ at + (x + 2) ≤ length (now out) ⌝ }
     ensures { λ _. ⌜ now (out .exit) ≡ over at (exponentText x e) (now (out .entry)) ⌝ }
 {
