@@ -1,14 +1,18 @@
 -- The laws of base's definitions, a file to a subject.
 pub mod Agree
+pub mod Ascii
 pub mod Choice
+pub mod Chosen
 pub mod Columns
 pub mod Digits
 pub mod Every
+pub mod Everywhere
 pub mod FromLast
 pub mod Index
 pub mod Mapped
 pub mod Middle
 pub mod Order
+pub mod Overwritten
 pub mod Part
 pub mod SameDigits
 pub mod Sign

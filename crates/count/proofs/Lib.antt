@@ -4,3 +4,5 @@ pub mod Sets
 pub mod Tallied
 pub mod Vacant
 pub mod Checks
+pub mod Replies
+pub mod Releases

@@ -131,3 +131,21 @@ all-cells ns = tally-all 0 (cellsIn ns) 61 (omega arith)
 pub record-two : (ns : List ℕ) → 2 ≤ recordLines ns
 unfolding Sum.sum lineTally
 record-two ns = omega arith
+
+-- ---- the lines before a group, as the places of groups need them
+
+pub line-entry : (ns : List ℕ) (g : ℕ) → 0 < g → g < 61 → getD (lineTally ns) g 0 ≡ linesIn ns g
+unfolding lineTally
+line-entry ns g some few = tally-at 2 (linesIn ns) g some few
+
+pub lines-more : (ns : List ℕ) (g : ℕ) → g < 61 → linesBefore ns (suc g) ≡ linesBefore ns g + getD (lineTally ns) g 0
+unfolding linesBefore lineTally
+lines-more ns g h = sum-take-more (lineTally ns) g (omega (arith, tally-length 2 (linesIn ns)))
+
+pub lines-below : (ns : List ℕ) (g h : ℕ) → g ≤ h → linesBefore ns g ≤ linesBefore ns h
+unfolding linesBefore
+lines-below ns g h l = sum-take-mono (lineTally ns) g h l
+
+pub lines-all : (ns : List ℕ) (g : ℕ) → 61 ≤ g → linesBefore ns g ≡ recordLines ns
+unfolding linesBefore lineTally
+lines-all ns g h = tally-all 2 (linesIn ns) g h

@@ -177,7 +177,7 @@ pub fn release_of(counts: &[u16]) -> Release
 }
 
 // The lower of two answers' groups.
-pub fn lower_of(a: Ruling, b: Ruling) -> Ruling
+fn lower_of(a: Ruling, b: Ruling) -> Ruling
     ensures { λ r. ⌜ r ≡ lower a b ⌝ }
 {
     match a {

@@ -11,17 +11,16 @@ use lib.ListN.{length}
 use lib.Dec.{T, eqb, leb, leb→le}
 use borrow.Author.Tests.{eq-eqb, ne-eqb}
 use Rattle.base.specs.Every.{every, upFrom}
-use Rattle.base.specs.Every
 use Rattle.base.specs.Sum
 use Rattle.base.specs.Sum.{sum}
 use Rattle.base.proofs.Choice.{and-left, and-right}
 use Rattle.base.proofs.UpFrom.{length-up, up-more, up-done}
 use Rattle.count.specs.Tally.{countOf}
 use Rattle.count.specs.Rules
-use Rattle.count.specs.Rules.{Rule, rules, rulingOf, releaseOf, filledAmong}
-use Rattle.count.specs.declared.Release.{Release}
-use Rattle.count.specs.declared.Release.the-variants.{Five, Other, Filled}
+use Rattle.count.specs.Rules.{Rule, rules, rulingOf, releaseOf}
+use Rattle.count.specs.declared.Release.the-variants.{Filled}
 use Rattle.count.specs.declared.Ruling.the-variants.{Broken}
+use Rattle.count.proofs.Releases.{FilledIs, release-is}
 use Rattle.count.proofs.Rulings
 use Rattle.count.proofs.Rulings.{Breaks, ruling-says}
 use Rattle.listing.specs.Rows.{filled, filledGroups}
@@ -78,19 +77,5 @@ pub blamed-within : (ns : List ℕ) (g : ℕ) → rulingOf ns ≡ Broken g → g
 unfolding Rules.headRules Rules.sets Rules.letterRules
 blamed-within ns g e = breaks-within (rules ns) 60 g tt (ruling-says ns (Broken g) .0 e .0)
 
-filled-among : (ns gs : List ℕ) (m g : ℕ) → T (every (λ h. leb h m) gs) → filledAmong ns gs ≡ Filled g → g ≤ m
-unfolding Rules.filledAmong
-filled-among ns [] m g t e = let z : _≡_ {A = ℕ} 0 1 = cc in absurd (omega arith)
-filled-among ns (h ∷ gs) m g t e = by (eqb (countOf ns h) 0) e (filled-among ns gs m g (and-right (leb h m) (every (λ h. leb h m) gs) t))
-  where
-    by : (b : Bool) → cond b (filledAmong ns gs) (Filled h) ≡ Filled g → (filledAmong ns gs ≡ Filled g → g ≤ m) → g ≤ m
-    by true f go = go f
-    by false f go = let p : h ≡ g = cc in omega (arith, leb→le h m (and-left (leb h m) (every (λ h. leb h m) gs) t))
-
 pub vacant-within : (ns : List ℕ) (g : ℕ) → releaseOf ns ≡ Filled g → g ≤ 79
-unfolding Rules.releaseOf Every.upFrom
-vacant-within ns g e = by (eqb (countOf ns 80) 5) e
-  where
-    by : (b : Bool) → cond b (filledAmong ns (upFrom 61 19)) Other ≡ Filled g → g ≤ 79
-    by true f = filled-among ns (upFrom 61 19) 79 g tt f
-    by false f = let z : _≡_ {A = ℕ} 0 1 = cc in absurd (omega arith)
+vacant-within ns g e = let p : FilledIs ns g = rw e at (release-is ns) in omega (arith, p .group .high)

@@ -9,38 +9,17 @@ use Rattle.base.specs.Every.{upFrom}
 use Rattle.base.specs.Sum.{sum}
 use Rattle.count.specs.Tally.{countOf, recordLines}
 use Rattle.place.specs.declared.Placing.{Placing}
-use Rattle.place.specs.declared.Placing.the-variants.{Placed, End, Beyond, TooFewLines, Misformed, OtherRelease, FilledVacant, BrokenRule}
+use Rattle.place.specs.Numbered.{placingReply}
 
--- the reply's number in 01's table, and the next place and the group given besides. "Numbers not named in a row are 0."
+-- the reply's number in 01's table, and the next place and the group given besides
 abbrev pub replyOf : Placing → ℕ
-replyOf (Placed n) = 0
-replyOf End = 1
-replyOf Beyond = 2
-replyOf TooFewLines = 3
-replyOf Misformed = 4
-replyOf OtherRelease = 5
-replyOf (FilledVacant g) = 6
-replyOf (BrokenRule g n) = 7
+replyOf p = placingReply p .number
 
 abbrev pub nextOf : Placing → ℕ
-nextOf (Placed n) = n
-nextOf End = 0
-nextOf Beyond = 0
-nextOf TooFewLines = 0
-nextOf Misformed = 0
-nextOf OtherRelease = 0
-nextOf (FilledVacant g) = 0
-nextOf (BrokenRule g n) = n
+nextOf p = placingReply p .next
 
 abbrev pub groupOf : Placing → ℕ
-groupOf (Placed n) = 0
-groupOf End = 0
-groupOf Beyond = 0
-groupOf TooFewLines = 0
-groupOf Misformed = 0
-groupOf OtherRelease = 0
-groupOf (FilledVacant g) = g
-groupOf (BrokenRule g n) = g
+groupOf p = placingReply p .group
 
 -- "A record is placed where the reply is 0 or 7."
 abbrev pub isPlaced : ℕ → Bool

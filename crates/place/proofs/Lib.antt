@@ -3,3 +3,9 @@ pub mod Entries
 pub mod Steps
 pub mod Placed
 pub mod Walked
+pub mod Due
+pub mod Tiling
+pub mod Spans
+pub mod Local
+pub mod SameWalk
+pub mod Numbered

@@ -1,0 +1,88 @@
+-- When each reply of placing is due: its condition in 01's table, and none that "Placing tries" earlier.
+use mathlib.Core.Path.{_≡_}
+use mathlib.Core.List.{List}
+use mathlib.Core.Logic.{_⊎_}
+use Prim.Native.Nat.{ℕ, _+_, _<_, _≤_}
+use lib.ListN.{length, drop}
+use Rattle.line.specs.Lines.{feeds, reach}
+use Rattle.count.specs.Tally.{countOf, recordLines}
+use Rattle.count.specs.Rules.{rulingOf}
+use Rattle.count.specs.declared.Ruling.the-variants.{Kept, Broken}
+use Rattle.place.specs.declared.Placing.{Placing}
+use Rattle.place.specs.declared.Placing.the-variants.{Placed, End, Beyond, TooFewLines, Misformed, OtherRelease, FilledVacant, BrokenRule}
+use Rattle.place.specs.Index.{Indexed, counts, misformed, readIndex}
+
+module _ (s : List ℕ) (at : ℕ) where
+  -- neither 2, 1 nor 3 for the index lines: the place is inside, and two line feeds are left
+  pub record HasIndex : Type 0 where
+    pub inside : at < length s
+    pub lines : 2 ≤ feeds (drop at s)
+
+  -- nor 4: the index gives these counts
+  pub record HasCounts (ns : List ℕ) : Type 0 where
+    pub place : HasIndex
+    pub read : readIndex (drop at s) ≡ counts ns
+
+  -- nor 5 and 6: the release is 5, and no vacant group has a count
+  pub record HasRelease (ns : List ℕ) : Type 0 where
+    pub index : HasCounts ns
+    pub five : countOf ns 80 ≡ 5
+    pub vacant : (g : ℕ) → 61 ≤ g → g ≤ 79 → countOf ns g ≡ 0
+
+  -- nor 3 for the data lines: so many line feeds are left, and n is the place behind them
+  pub record HasLines (ns : List ℕ) (n : ℕ) : Type 0 where
+    pub head : HasRelease ns
+    pub enough : recordLines ns ≤ feeds (drop at s)
+    pub next : n ≡ at + reach (drop at s) (recordLines ns)
+
+  -- 3: fewer line feeds left than the two index lines need, or than the record's lines need
+  pub record FewForIndex : Type 0 where
+    pub inside : at < length s
+    pub few : feeds (drop at s) < 2
+
+  pub record FewForData : Type 0 where
+    pub ns : List ℕ
+    pub head : HasRelease ns
+    pub few : feeds (drop at s) < recordLines ns
+
+  -- 4
+  pub record BadIndex : Type 0 where
+    pub place : HasIndex
+    pub bad : readIndex (drop at s) ≡ misformed
+
+  -- 5
+  pub record BadRelease : Type 0 where
+    pub ns : List ℕ
+    pub index : HasCounts ns
+    pub other : countOf ns 80 ≡ 5 → ⊥
+
+  -- 6: the lowest of 61 to 79 with a nonzero count
+  pub record LowestFilled (g : ℕ) : Type 0 where
+    pub ns : List ℕ
+    pub index : HasCounts ns
+    pub five : countOf ns 80 ≡ 5
+    pub low : 61 ≤ g
+    pub high : g ≤ 79
+    pub filled : countOf ns g ≡ 0 → ⊥
+    pub lowest : (h : ℕ) → 61 ≤ h → h < g → countOf ns h ≡ 0
+
+  -- 7 and 0
+  pub record Breaks (g n : ℕ) : Type 0 where
+    pub ns : List ℕ
+    pub lines : HasLines ns n
+    pub broken : rulingOf ns ≡ Broken g
+
+  pub record Stands (n : ℕ) : Type 0 where
+    pub ns : List ℕ
+    pub lines : HasLines ns n
+    pub kept : rulingOf ns ≡ Kept
+
+  abbrev pub Due : Placing → Type 0
+  Due Beyond = length s < at
+  Due End = length s ≡ at
+  Due TooFewLines = FewForIndex ⊎ FewForData
+  Due Misformed = BadIndex
+  Due OtherRelease = BadRelease
+  Due (FilledVacant g) = LowestFilled g
+  Due (BrokenRule g n) = Breaks g n
+  Due (Placed n) = Stands n

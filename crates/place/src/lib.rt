@@ -1,7 +1,9 @@
 // Records in a text: placing one at a place.
 ghost use mathlib.Core.Path.{_≡_};
 ghost use Prim.Native.Nat.{_+_, _≤_};
-ghost use lib.ListN.{length, replicate};
+ghost use lib.ListN.{length, drop, replicate};
+ghost use Rattle.line.specs.Lines.{reach};
+ghost use Rattle.place.specs.Parts.{start};
 ghost use Rattle.place.specs.Index.{readEntries, readIndexLine, Stored};
 ghost use Rattle.place.specs.Placing.{Answers, placingOf, countsAt, ruledAt, locateLinesFrom, locateFrom};
 
@@ -131,4 +133,40 @@ pub fn place(text: &[u8], at: usize) -> Record
         return nothing(Placing::Misformed);
     }
     with_counts(text, end, counts)
+}
+
+// The place behind so many lines from a place, or the text's end where there are fewer.
+fn behind_or_end(text: &[u8], at: usize, lines: usize) -> usize
+    ensures { λ r. ⌜ r ≡ at + reach (drop at (now (text .entry))) lines ⌝ }
+{
+    if text.len() < at {
+        return at;
+    }
+    let line::Behind::At(n) = line::place_behind(text, at, lines) else {
+        return text.len();
+    };
+    n
+}
+
+// From where to where the lines of a group stand.
+pub struct Span {
+    pub from: usize,
+    pub to: usize,
+}
+
+// The lines of a group in a record at a place with these counts; group 0 is the index, and behind group 60 there are none. Where the text
+// has too few lines, they end where it does.
+pub fn span_of(text: &[u8], at: usize, counts: &[u16], group: usize) -> Span
+    ensures { λ r. ⌜ (r .from ≡ start (now (text .entry)) at (now (counts .entry)) group) × (r .to ≡ start (now (text .entry)) at (now (counts .entry)) (group + 1)) ⌝ }
+{
+    let before = count::add_up(counts, group);
+    let from = behind_or_end(text, at, before.lines);
+    if 60 < group {
+        return Span { from, to: from };
+    }
+    let with = count::add_up(counts, group + 1);
+    Span {
+        from,
+        to: behind_or_end(text, from, with.lines - before.lines),
+    }
 }

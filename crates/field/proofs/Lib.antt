@@ -1,0 +1,9 @@
+-- What the proofs of `field` share, and the theorems on fields of the ten forms.
+pub mod Forms
+pub mod Fitting
+pub mod Letters
+pub mod Room
+pub mod Laws
+pub mod Cases
+pub mod Entries
+pub mod Ranges

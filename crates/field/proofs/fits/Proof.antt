@@ -1,0 +1,35 @@
+-- `field::fits` meets its contract: the kind's cells are those of the form's row.
+use borrow.Author.Needs.{needs}
+use mathlib.Core.Path.{_≡_, sym, ap, _∙_}
+use borrow.Author.Tests.{eq-eqb, ne-eqb}
+use lib.ListN.{length}
+use Rattle.form.specs.Table.{rowOf}
+use Rattle.field.specs.Kind.{countOf}
+use Rattle.field.specs.Write.{rangeOf, fitsOf}
+use Rattle.field.proofs.Forms.{kind-cells}
+use Rattle.field.proofs.fits.Statement.{statement}
+use Rattle.field.proofs.fits.Tie as tie
+
+count : (c : tie.After-count-of) → c .count-of .result ≡ rowOf (c .before .before .args .form) .cells
+count c = c .count-of .ensures ∙ ap countOf (c .before .kind-of .ensures) ∙ kind-cells (c .before .before .args .form)
+
+kind-of-requires : tie.Need-kind-of-requires
+kind-of-requires c κs = search needs
+
+count-of-requires : tie.Need-count-of-requires
+count-of-requires c κs = search needs
+
+returns : tie.Need-returns
+unfolding fitsOf
+returns c = rw (ne-eqb (length (c .before .before .before .args .cells .now)) (rowOf (c .before .before .before .args .form) .cells) (λ e. c .if1 .taken (e ∙ sym (count (c .before)))))
+
+in-range-requires : tie.Need-in-range-requires
+in-range-requires c κs = search needs
+
+returns-2 : tie.Need-returns-2
+unfolding fitsOf
+returns-2 c = rw (eq-eqb (length (c .before .before .before .before .args .cells .now)) (rowOf (c .before .before .before .before .args .form) .cells) (c .before .if1 .left ∙ count (c .before .before))) (c .in-range .ensures ∙ ap (λ k. rangeOf k (c .before .before .before .before .args .cells .now)) (c .before .before .before .kind-of .ensures))
+
+pub fits-spec : {M : Type 1} → statement M
+fits-spec =
+    tie.close (tie.spec kind-of-requires count-of-requires returns in-range-requires returns-2)

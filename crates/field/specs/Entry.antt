@@ -1,0 +1,52 @@
+-- Index entries: "Index entries are I3 without a minus, so ` -0` is misformed there."
+use mathlib.Core.Path.{_≡_}
+use mathlib.Core.Bool.{Bool, true, false, cond}
+use mathlib.Core.List.{List, _++_}
+use Prim.Native.Nat.{ℕ, _<_}
+use lib.Dec.{leb, eqb}
+use lib.ListN.{length, replicate}
+use Rattle.base.specs.Digits.{AllDigits, numberOf, digitText, Lean}
+use Rattle.number.specs.declared.Scan.{Scan}
+use Rattle.number.specs.declared.Scan.the-variants.{Blanks, Signed, Digits, Broken}
+use Rattle.number.specs.Scan.{scanOf}
+use Rattle.number.specs.Write.{textOf}
+use Rattle.field.specs.declared.Entry.{Entry}
+use Rattle.field.specs.declared.Entry.the-variants.{Count, Misformed}
+
+-- blanks and one or more digits in three columns, and the count that the digits make
+pub record IsEntry (s : List ℕ) (n : ℕ) : Type 0 where
+  pub width : length s ≡ 3
+  pub blanks : ℕ
+  pub digits : List ℕ
+  pub each : AllDigits digits
+  pub some : 0 < length digits
+  pub text : s ≡ replicate blanks 32 ++ digitText digits
+  pub value : n ≡ numberOf digits
+
+-- without needless zeros
+pub record CanonicalEntry (s : List ℕ) (n : ℕ) : Type 0 where
+  pub width : length s ≡ 3
+  pub blanks : ℕ
+  pub digits : List ℕ
+  pub each : AllDigits digits
+  pub lean : Lean digits
+  pub text : s ≡ replicate blanks 32 ++ digitText digits
+  pub value : n ≡ numberOf digits
+
+-- digits without a minus are a count
+abbrev pub countIn : Scan → Entry
+countIn Blanks = Misformed
+countIn Signed = Misformed
+countIn (Digits true n) = Misformed
+countIn (Digits false n) = Count n
+countIn Broken = Misformed
+
+unfoldable pub entryOf : List ℕ → Entry
+entryOf s = cond (eqb (length s) 3) (countIn (scanOf Blanks s)) Misformed
+
+abbrev pub entryText : ℕ → List ℕ
+entryText n = textOf false 3 (Digits false n)
+
+-- "a count outside 0 to 999"
+abbrev pub entryFits : ℕ → Bool
+entryFits n = leb n 999

@@ -1,0 +1,46 @@
+-- A field of each form as 01's sentences have it: which bytes it is, and its cells.
+use mathlib.Core.Path.{_≡_}
+use mathlib.Core.List.{List, [], _∷_, map}
+use Prim.Native.Nat.{ℕ, _≤_}
+use lib.IntN.{ℤ, pos}
+use lib.ListN.{length}
+use Rattle.form.specs.declared.Form.{Form}
+use Rattle.form.specs.Table.{rowOf}
+use Rattle.number.specs.Grammar.{IsI, IsF, IsE}
+use Rattle.field.specs.declared.Kind.{Kind}
+use Rattle.field.specs.declared.Kind.the-variants.{Whole, Fixed, Power, OneLetter, AllLetters}
+use Rattle.field.specs.Kind.{kindOf}
+
+-- "each byte 32 to 126"
+abbrev pub Letters : List ℕ → Type 0
+Letters [] = Unit {0}
+Letters (b ∷ bs) = ((32 ≤ b) × (b ≤ 126)) × Letters bs
+
+-- "A: each byte 32 to 126; the cell is its code."
+pub record IsA (s : List ℕ) (cs : List ℤ) : Type 0 where
+  pub letters : Letters s
+  pub cells : cs ≡ map pos s
+
+-- one cell, or two, of which a statement holds
+pub record One (P : ℤ → Type 0) (cs : List ℤ) : Type 0 where
+  pub cell : ℤ
+  pub cells : cs ≡ cell ∷ []
+  pub holds : P cell
+
+pub record Two (P : ℤ → ℤ → Type 0) (cs : List ℤ) : Type 0 where
+  pub first : ℤ
+  pub second : ℤ
+  pub cells : cs ≡ first ∷ second ∷ []
+  pub holds : P first second
+
+abbrev pub ShapeOf : Kind → List ℕ → List ℤ → Type 0
+ShapeOf (Whole w low high) s cs = One (IsI s) cs
+ShapeOf (Fixed w low high) s cs = One (IsF s) cs
+ShapeOf (Power c d x p q) s cs = Two (IsE c d x s) cs
+ShapeOf OneLetter s cs = IsA s cs
+ShapeOf (AllLetters w) s cs = IsA s cs
+
+-- s is a field of the form, with these cells
+pub record IsField (f : Form) (s : List ℕ) (cs : List ℤ) : Type 0 where
+  pub width : length s ≡ rowOf f .width
+  pub shape : ShapeOf (kindOf f) s cs

@@ -1,0 +1,458 @@
+// One field of a form: read, asked whether cells have one at all, and written canonically; and index entries.
+use form::Form;
+use number::Number;
+use number::Scan;
+ghost use mathlib.Core.Path.{_≡_};
+ghost use mathlib.Core.Bool.{Bool};
+ghost use Prim.Native.Nat.{ℕ, _+_, _<_, _≤_};
+ghost use lib.Dec.{T, leb};
+ghost use lib.ListN.{length};
+ghost use mathlib.Core.List.{map};
+ghost use Rattle.base.specs.Ascii.{printable};
+ghost use Rattle.base.specs.Every.{every};
+ghost use Rattle.base.specs.Part.{over};
+ghost use Rattle.base.specs.Sign.{sizeOf};
+ghost use Rattle.form.specs.Table.{rowOf};
+ghost use Rattle.number.specs.Scan.{Below};
+ghost use Rattle.field.specs.Kind.{kindOf, widthOf, countOf, Small};
+ghost use Rattle.field.specs.Read.{valueOf, readAs, fieldOf};
+ghost use Rattle.field.specs.Write.{isLetter, rangeOf, fitsOf, textAs, fieldText, Wrote};
+ghost use Rattle.field.specs.Entry.{countIn, entryOf, entryText, entryFits};
+
+// What a field reads as: a cell; the two cells of an E field; letters, whose cells are the bytes themselves.
+pub enum Value {
+    Cell(i64),
+    Pair(i64, i64),
+    Letters,
+    Misformed,
+}
+
+// What became of a write: the text stands there; no field of the form reads as the cells; no room behind the place. The last two altered
+// nothing.
+pub enum Written {
+    Done,
+    NoField,
+    NoRoom,
+}
+
+// What an index entry reads as.
+pub enum Entry {
+    Count(u16),
+    Misformed,
+}
+
+// What a form's field holds: a whole number or thousandths, from minus `low` to `high`; a number with an exponent; a letter, or a line of
+// letters.
+pub enum Kind {
+    Whole {
+        width: usize,
+        low: u64,
+        high: u64,
+    },
+    Fixed {
+        width: usize,
+        low: u64,
+        high: u64,
+    },
+    Power {
+        columns: usize,
+        digits: usize,
+        places: usize,
+        far: u64,
+        most: u64,
+    },
+    OneLetter,
+    AllLetters {
+        width: usize,
+    },
+}
+
+// The ten forms. The widths are those of the form's row, which a constant table would build anew for each field.
+fn kind_of(form: Form) -> Kind
+    ensures { λ r. ⌜ r ≡ kindOf form ⌝ }
+{
+    match form {
+        Form::F7 => Kind::Fixed {
+            width: 7,
+            low: 99999,
+            high: 999999,
+        },
+        Form::A120 => Kind::AllLetters { width: 120 },
+        Form::A1 => Kind::OneLetter,
+        Form::F8 => Kind::Fixed {
+            width: 8,
+            low: 999999,
+            high: 9999999,
+        },
+        Form::I2 => Kind::Whole {
+            width: 2,
+            low: 9,
+            high: 99,
+        },
+        Form::I3 => Kind::Whole {
+            width: 3,
+            low: 99,
+            high: 999,
+        },
+        Form::I1 => Kind::Whole {
+            width: 1,
+            low: 0,
+            high: 9,
+        },
+        Form::E11 => Kind::Power {
+            columns: 1,
+            digits: 6,
+            places: 1,
+            far: 999999,
+            most: 9,
+        },
+        Form::E20 => Kind::Power {
+            columns: 3,
+            digits: 12,
+            places: 2,
+            far: 999999999999,
+            most: 99,
+        },
+        Form::E8 => Kind::Power {
+            columns: 1,
+            digits: 3,
+            places: 1,
+            far: 999,
+            most: 9,
+        },
+    }
+}
+
+fn width_of(kind: Kind) -> usize
+    requires { ⌜ Small kind ⌝ }
+    ensures { λ r. ⌜ r ≡ widthOf kind ⌝ }
+{
+    match kind {
+        Kind::Whole {
+            width,
+            low: _,
+            high: _,
+        } => width,
+        Kind::Fixed {
+            width,
+            low: _,
+            high: _,
+        } => width,
+        Kind::Power {
+            columns,
+            digits,
+            places,
+            far: _,
+            most: _,
+        } => columns + digits + places + 3,
+        Kind::OneLetter => 1,
+        Kind::AllLetters { width } => width,
+    }
+}
+
+fn count_of(kind: Kind) -> usize
+    ensures { λ r. ⌜ r ≡ countOf kind ⌝ }
+{
+    match kind {
+        Kind::Whole {
+            width: _,
+            low: _,
+            high: _,
+        } => 1,
+        Kind::Fixed {
+            width: _,
+            low: _,
+            high: _,
+        } => 1,
+        Kind::Power {
+            columns: _,
+            digits: _,
+            places: _,
+            far: _,
+            most: _,
+        } => 2,
+        Kind::OneLetter => 1,
+        Kind::AllLetters { width } => width,
+    }
+}
+
+// ---- Reading.
+
+fn is_printable(b: u8) -> bool
+    ensures { λ r. ⌜ r ≡ printable b ⌝ }
+{
+    if b < 32 {
+        return false;
+    }
+    b <= 126
+}
+
+// Whether each byte is 32 to 126.
+fn all_printable(s: &[u8]) -> bool
+    ensures { λ r. ⌜ r ≡ every printable (now (s .entry)) ⌝ }
+{
+    let mut i = 0;
+    while i < s.len() {
+        if is_printable(s[i]) {
+            i += 1;
+        } else {
+            return false;
+        }
+    }
+    true
+}
+
+fn value_of(n: Number) -> Value
+    ensures { λ r. ⌜ r ≡ valueOf n ⌝ }
+{
+    match n {
+        Number::One(z) => Value::Cell(z),
+        Number::Two(a, b) => Value::Pair(a, b),
+        Number::Misformed => Value::Misformed,
+    }
+}
+
+fn read_letter(s: &[u8]) -> Value
+    requires { ⌜ length (now s) ≡ 1 ⌝ }
+    ensures { λ r. ⌜ r ≡ readAs Kind.OneLetter (now (s .entry)) ⌝ }
+{
+    if all_printable(s) {
+        return Value::Cell(number::cell(false, s[0] as u64));
+    }
+    Value::Misformed
+}
+
+fn read_letters(s: &[u8]) -> Value
+    ensures { λ r. ⌜ r ≡ readAs (Kind.AllLetters (length (now (s .entry)))) (now (s .entry)) ⌝ }
+{
+    if all_printable(s) {
+        return Value::Letters;
+    }
+    Value::Misformed
+}
+
+fn read_as(kind: Kind, field: &[u8]) -> Value
+    requires { ⌜ (length (now field) ≡ widthOf kind) × Small kind ⌝ }
+    ensures { λ r. ⌜ r ≡ readAs kind (now (field .entry)) ⌝ }
+{
+    match kind {
+        Kind::Whole {
+            width: _,
+            low: _,
+            high: _,
+        } => value_of(number::read_i(field)),
+        Kind::Fixed {
+            width: _,
+            low: _,
+            high: _,
+        } => value_of(number::read_f(field)),
+        Kind::Power {
+            columns,
+            digits,
+            places,
+            far: _,
+            most: _,
+        } => value_of(number::read_e(field, columns, digits, places)),
+        Kind::OneLetter => read_letter(field),
+        Kind::AllLetters { width: _ } => read_letters(field),
+    }
+}
+
+// What the field reads as; a slice of another length than the form's width is misformed.
+pub fn read(form: Form, field: &[u8]) -> Value
+    ensures { λ r. ⌜ r ≡ fieldOf form (now (field .entry)) ⌝ }
+{
+    let kind = kind_of(form);
+    if field.len() != width_of(kind) {
+        return Value::Misformed;
+    }
+    read_as(kind, field)
+}
+
+// ---- Which cells have a field.
+
+fn is_letter(v: i64) -> bool
+    ensures { λ r. ⌜ r ≡ isLetter v ⌝ }
+{
+    let m = number::signed(v);
+    if m.neg {
+        return false;
+    }
+    if m.size < 32 {
+        return false;
+    }
+    m.size <= 126
+}
+
+fn all_letters(cells: &[i64]) -> bool
+    ensures { λ r. ⌜ r ≡ every isLetter (now (cells .entry)) ⌝ }
+{
+    let mut i = 0;
+    while i < cells.len() {
+        if is_letter(cells[i]) {
+            i += 1;
+        } else {
+            return false;
+        }
+    }
+    true
+}
+
+fn in_range(kind: Kind, cells: &[i64]) -> bool
+    requires { ⌜ length (now cells) ≡ countOf kind ⌝ }
+    ensures { λ r. ⌜ r ≡ rangeOf kind (now (cells .entry)) ⌝ }
+{
+    match kind {
+        Kind::Whole {
+            width: _,
+            low,
+            high,
+        } => number::within(cells[0], low, high),
+        Kind::Fixed {
+            width: _,
+            low,
+            high,
+        } => number::within(cells[0], low, high),
+        Kind::Power {
+            columns: _,
+            digits: _,
+            places: _,
+            far,
+            most,
+        } => {
+            if number::within(cells[0], far, far) {
+                return number::within(cells[1], most, most);
+            }
+            false
+        }
+        Kind::OneLetter => all_letters(cells),
+        Kind::AllLetters { width: _ } => all_letters(cells),
+    }
+}
+
+// Whether some field of the form reads as these cells; another number of cells than the form has fits none.
+pub fn fits(form: Form, cells: &[i64]) -> bool
+    ensures { λ r. ⌜ r ≡ fitsOf form (now (cells .entry)) ⌝ }
+{
+    let kind = kind_of(form);
+    if cells.len() != count_of(kind) {
+        return false;
+    }
+    in_range(kind, cells)
+}
+
+// ---- Writing.
+
+fn letter(v: i64) -> u8
+    requires { ⌜ T (isLetter v) ⌝ }
+    ensures { λ r. ⌜ r ≡ sizeOf v ⌝ }
+{
+    let m = number::signed(v);
+    m.size as u8
+}
+
+fn put_letters(cells: &[i64], out: &mut [u8], at: usize)
+    requires { ⌜ (at + length (now cells) ≤ length (now out)) × T (every isLetter (now cells)) ⌝ }
+    ensures { λ _. ⌜ now (out .exit) ≡ over at (map sizeOf (now (cells .entry))) (now (out .entry)) ⌝ }
+{
+    let mut i = 0;
+    while i < cells.len() {
+        out[at + i] = letter(cells[i]);
+        i += 1;
+    }
+}
+
+fn put_as(kind: Kind, cells: &[i64], out: &mut [u8], at: usize)
+    requires { ⌜ (length (now cells) ≡ countOf kind) × T (rangeOf kind (now cells)) × (at + widthOf kind ≤ length (now out)) × Small kind ⌝ }
+    ensures { λ _. ⌜ now (out .exit) ≡ over at (textAs kind (now (cells .entry))) (now (out .entry)) ⌝ }
+{
+    match kind {
+        Kind::Whole {
+            width,
+            low: _,
+            high: _,
+        } => number::put_i(out, at, width, cells[0]),
+        Kind::Fixed {
+            width,
+            low: _,
+            high: _,
+        } => number::put_f(out, at, width, cells[0]),
+        Kind::Power {
+            columns,
+            digits,
+            places,
+            far: _,
+            most: _,
+        } => number::put_e(out, at, columns, digits, places, cells[0], cells[1]),
+        Kind::OneLetter => put_letters(cells, out, at),
+        Kind::AllLetters { width: _ } => put_letters(cells, out, at),
+    }
+}
+
+// Whether w bytes fit behind a place of n.
+fn has_room(at: usize, w: usize, n: usize) -> bool
+    ensures { λ r. ⌜ r ≡ leb (at + w) n ⌝ }
+{
+    if n < w {
+        return false;
+    }
+    at <= n - w
+}
+
+// Writes the canonical text of the cells at a place, or nothing: first where no field of the form reads as them, then where there is no room.
+pub fn write(form: Form, cells: &[i64], out: &mut [u8], at: usize) -> Written
+    ensures { λ r. ⌜ Wrote (fitsOf form (now (cells .entry))) (fieldText form (now (cells .entry))) at (rowOf form .width) (now (out .entry)) r (now (out .exit)) ⌝ }
+{
+    let kind = kind_of(form);
+    if fits(form, cells) {
+        if has_room(at, width_of(kind), out.len()) {
+            put_as(kind, cells, out, at);
+            return Written::Done;
+        }
+        return Written::NoRoom;
+    }
+    Written::NoField
+}
+
+// ---- Index entries.
+
+fn count_in(st: Scan) -> Entry
+    requires { ⌜ Below 1000 st ⌝ }
+    ensures { λ r. ⌜ r ≡ countIn st ⌝ }
+{
+    match st {
+        Scan::Blanks => Entry::Misformed,
+        Scan::Signed => Entry::Misformed,
+        Scan::Digits(neg, n) => {
+            if neg {
+                return Entry::Misformed;
+            }
+            Entry::Count(n as u16)
+        }
+        Scan::Broken => Entry::Misformed,
+    }
+}
+
+// The count that an index entry reads as; a slice of another length than three is misformed.
+pub fn read_entry(entry: &[u8]) -> Entry
+    ensures { λ r. ⌜ r ≡ entryOf (now (entry .entry)) ⌝ }
+{
+    if entry.len() != 3 {
+        return Entry::Misformed;
+    }
+    count_in(number::scan_part(entry, Scan::Blanks))
+}
+
+// Writes the canonical text of a count at a place, or nothing.
+pub fn write_entry(count: u16, out: &mut [u8], at: usize) -> Written
+    ensures { λ r. ⌜ Wrote (entryFits count) (entryText count) at 3 (now (out .entry)) r (now (out .exit)) ⌝ }
+{
+    if 999 < count {
+        return Written::NoField;
+    }
+    if has_room(at, 3, out.len()) {
+        number::put_at(out, at, 3, false, Scan::Digits(false, count as u64));
+        return Written::Done;
+    }
+    Written::NoRoom
+}

@@ -1,0 +1,286 @@
+-- E fields: what reads as two numbers is exactly what 01's sentence has, with these values; and the shapes before the point of E11 and
+-- E8, and of E20.
+-- Assumes nothing.
+use mathlib.Core.Path.{_≡_, refl, sym, ap, ap₂, _∙_}
+use mathlib.Core.Bool.{Bool, true, false, cond}
+use mathlib.Core.List.{List, [], _∷_, _++_, append-assoc, append-nil}
+use Prim.Native.Nat.{ℕ, _+_, _-_, _≤_}
+use native.Mathlib.Omega.{arith}
+use borrow.Author.Tests.{eq-eqb, eqb-true}
+use lib.Dec.{eqb}
+use lib.IntN.{ℤ}
+use lib.ListN.{length, take, drop, getD, replicate, length-append, length-take, length-drop, length-map, take-append-drop}
+use lib.Seq.{getD-at, take-at, drop-at}
+use Rattle.base.specs.Part.{part}
+use Rattle.base.specs.Digits.{digitText}
+use Rattle.base.proofs.Choice.{cond-elim}
+use Rattle.base.proofs.Chosen.{cond-taken, cond-kept}
+use Rattle.number.specs.declared.Scan.{Scan}
+use Rattle.number.specs.declared.Scan.the-variants.{Blanks, Signed, Digits, Broken}
+use Rattle.number.specs.declared.Number.{Number}
+use Rattle.number.specs.declared.Number.the-variants.{One, Two, Misformed}
+use Rattle.number.specs.Scan.{scanOf}
+use Rattle.number.specs.Read.{oneOf, leadOf, signOf, pairOf, readE}
+use Rattle.number.specs.Grammar.{IsE, Lead, leadText, leadMinus, signByte}
+use Rattle.number.specs.Grammar.Lead.{nought, minusNought, bare, minus}
+use Rattle.number.proofs.Scanning.{scan-append, scan-broken}
+use Rattle.number.proofs.Grammar.{blanks-read, digits-read, Held, held, ends}
+
+-- ---- a text by its parts
+
+-- what the parts are worth
+abbrev worth : List ℕ → ℕ → List ℕ → ℕ → List ℕ → Number
+worth a u ds v es = pairOf (oneOf (scanOf (leadOf (scanOf Blanks a) u) ds)) (oneOf (scanOf (signOf v) es))
+
+parts-at : (s a ds es : List ℕ) (u p q v c d x : ℕ) → length s ≡ c + d + x + 3 → getD s c 0 ≡ p → getD s (c + 1 + d) 0 ≡ q → part 0 (c - 1) s ≡ a → getD s (c - 1) 0 ≡ u → part (c + 1) (c + 1 + d) s ≡ ds → getD s (c + 2 + d) 0 ≡ v → part (c + 3 + d) (length s) s ≡ es → readE c d x s ≡ cond (eqb p 46) (cond (eqb q 69) (worth a u ds v es) Misformed) Misformed
+parts-at s a ds es u p q v c d x l e₁ e₂ e₃ e₄ e₅ e₆ e₇ = rw (eq-eqb (length s) (c + d + x + 3) l, e₁, e₂, e₃, e₄, e₅, e₆, e₇)
+
+-- the byte behind p, and the part behind p
+byte-behind : (s p ys : List ℕ) (y n : ℕ) → s ≡ p ++ (y ∷ ys) → length p ≡ n → getD s n 0 ≡ y
+byte-behind s p ys y n e l = rw e (getD-at p y ys 0 n l)
+
+part-behind : (s p m q : List ℕ) (a b : ℕ) → s ≡ p ++ (m ++ q) → length p ≡ a → length m ≡ b - a → part a b s ≡ m
+part-behind s p m q a b e l k = rw (e, drop-at p (m ++ q) a l) (take-at m q (b - a) k)
+
+-- c - 1 columns, the last before the point, the point, d digits, `E`, the sign, x digits
+module _ (a ds es : List ℕ) (u p q v c d x : ℕ) (h : 1 ≤ c) (la : length a ≡ c - 1) (ld : length ds ≡ d) (lx : length es ≡ x) where
+  abbrev whole : List ℕ
+  whole = a ++ (u ∷ p ∷ (ds ++ (q ∷ v ∷ es)))
+
+  p₁ : length (a ++ (u ∷ [])) ≡ c
+  p₁ = length-append a (u ∷ []) ∙ omega arith
+
+  p₂ : length (a ++ (u ∷ p ∷ [])) ≡ c + 1
+  p₂ = length-append a (u ∷ p ∷ []) ∙ omega arith
+
+  p₃ : length (a ++ (u ∷ p ∷ ds)) ≡ c + 1 + d
+  p₃ = length-append a (u ∷ p ∷ ds) ∙ omega arith
+
+  p₄ : length (a ++ (u ∷ p ∷ (ds ++ (q ∷ [])))) ≡ c + 2 + d
+  p₄ = length-append a (u ∷ p ∷ (ds ++ (q ∷ []))) ∙ omega (arith, length-append ds (q ∷ []))
+
+  p₅ : length (a ++ (u ∷ p ∷ (ds ++ (q ∷ v ∷ [])))) ≡ c + 3 + d
+  p₅ = length-append a (u ∷ p ∷ (ds ++ (q ∷ v ∷ []))) ∙ omega (arith, length-append ds (q ∷ v ∷ []))
+
+  all : length whole ≡ c + d + x + 3
+  all = length-append a (u ∷ p ∷ (ds ++ (q ∷ v ∷ es))) ∙ omega (arith, length-append ds (q ∷ v ∷ es))
+
+  pub e-at : readE c d x whole ≡ cond (eqb p 46) (cond (eqb q 69) (worth a u ds v es) Misformed) Misformed
+  e-at =
+      parts-at whole a ds es u p q v c d x all
+      (byte-behind whole (a ++ (u ∷ [])) (ds ++ (q ∷ v ∷ es)) p c (simp append-assoc) p₁)
+      (byte-behind whole (a ++ (u ∷ p ∷ ds)) (v ∷ es) q (c + 1 + d) (simp append-assoc) p₃)
+      (part-behind whole [] a (u ∷ p ∷ (ds ++ (q ∷ v ∷ es))) 0 (c - 1) refl refl (omega arith))
+      (byte-behind whole a (p ∷ (ds ++ (q ∷ v ∷ es))) u (c - 1) refl la)
+      (part-behind whole (a ++ (u ∷ p ∷ [])) ds (q ∷ v ∷ es) (c + 1) (c + 1 + d) (simp append-assoc) p₂ (omega arith))
+      (byte-behind whole (a ++ (u ∷ p ∷ (ds ++ (q ∷ [])))) es v (c + 2 + d) (simp append-assoc) p₄)
+      (part-behind whole (a ++ (u ∷ p ∷ (ds ++ (q ∷ v ∷ [])))) es [] (c + 3 + d) (length whole) (simp (append-assoc, append-nil)) p₅ (omega (arith, all)))
+
+record Two-more (l : List ℕ) (n : ℕ) : Type 0 where
+  one : ℕ
+  other : ℕ
+  rest : List ℕ
+  left : length rest ≡ n
+  is : l ≡ one ∷ other ∷ rest
+
+two-more : (l : List ℕ) (n : ℕ) → length l ≡ n + 2 → Two-more l n
+two-more [] n e = absurd (omega arith)
+two-more (a ∷ []) n e = absurd (omega arith)
+two-more (a ∷ b ∷ r) n e = record { one = a; other = b; rest = r; left = omega arith; is = refl }
+
+-- any text of the width has these parts
+record Parts (c d x : ℕ) (s : List ℕ) : Type 0 where
+  front : List ℕ
+  last : ℕ
+  point : ℕ
+  digits : List ℕ
+  letter : ℕ
+  sign : ℕ
+  exponent : List ℕ
+  lengths : (length front ≡ c - 1) × (length digits ≡ d) × (length exponent ≡ x)
+  is : s ≡ front ++ (last ∷ point ∷ (digits ++ (letter ∷ sign ∷ exponent)))
+
+rejoined : (k d : ℕ) (s r es : List ℕ) (u p q v : ℕ) → drop k s ≡ u ∷ p ∷ r → drop d r ≡ q ∷ v ∷ es → s ≡ take k s ++ (u ∷ p ∷ (take d r ++ (q ∷ v ∷ es)))
+rejoined k d s r es u p q v e f =
+    let g : s ≡ take k s ++ drop k s = sym (take-append-drop k s) in
+    let h : r ≡ take d r ++ drop d r = sym (take-append-drop d r) in
+    g ∙ ap (λ l. take k s ++ l) (e ∙ ap (λ l. u ∷ p ∷ l) (h ∙ ap (λ l. take d r ++ l) f))
+
+parts : (c d x : ℕ) (s : List ℕ) → 1 ≤ c → length s ≡ c + d + x + 3 → Parts c d x s
+parts c d x s h l =
+    let t₁ = two-more (drop (c - 1) s) (d + (x + 2)) (simp length-drop (omega arith)) in
+    let t₂ = two-more (drop d (t₁ .rest)) x (simp length-drop (omega (arith, t₁ .left))) in
+    record {
+      front = take (c - 1) s;
+      last = t₁ .one;
+      point = t₁ .other;
+      digits = take d (t₁ .rest);
+      letter = t₂ .one;
+      sign = t₂ .other;
+      exponent = t₂ .rest;
+      lengths = (simp length-take (omega arith), simp length-take (omega (arith, t₁ .left)), t₂ .left);
+      is = rejoined (c - 1) d s (t₁ .rest) (t₂ .rest) (t₁ .one) (t₁ .other) (t₂ .one) (t₂ .other) (t₁ .is) (t₂ .is);
+    }
+
+-- ---- the columns before the point
+
+-- the columns but the last, and the last one
+abbrev frontOf : ℕ → Lead → List ℕ
+frontOf k nought = replicate k 32
+frontOf k minusNought = replicate k 32 ++ (45 ∷ [])
+frontOf k bare = replicate k 32
+frontOf k minus = replicate k 32
+
+abbrev lastByte : Lead → ℕ
+lastByte nought = 48
+lastByte minusNought = 48
+lastByte bare = 32
+lastByte minus = 45
+
+lead-cut : (k : ℕ) (l : Lead) → replicate k 32 ++ leadText l ≡ frontOf k l ++ (lastByte l ∷ [])
+lead-cut k nought = refl
+lead-cut k minusNought = sym (append-assoc (replicate k 32) (45 ∷ []) (48 ∷ []))
+lead-cut k bare = refl
+lead-cut k minus = refl
+
+lead-read : (k : ℕ) (l : Lead) → leadOf (scanOf Blanks (frontOf k l)) (lastByte l) ≡ Digits (leadMinus l) 0
+lead-read k nought = ap (λ st. leadOf st 48) (blanks-read k)
+lead-read k minusNought = ap (λ st. leadOf st 48) (scan-append (replicate k 32) (45 ∷ []) Blanks ∙ ap (λ st. scanOf st (45 ∷ [])) (blanks-read k))
+lead-read k bare = ap (λ st. leadOf st 32) (blanks-read k)
+lead-read k minus = ap (λ st. leadOf st 45) (blanks-read k)
+
+sign-read : (g : Bool) → signOf (signByte g) ≡ Digits g 0
+sign-read true = refl
+sign-read false = refl
+
+pub e-read : (c d x : ℕ) (s : List ℕ) (m e : ℤ) → IsE c d x s m e → readE c d x s ≡ Two m e
+e-read c d x s m e i =
+    let a = frontOf (i .blanks) (i .lead) in
+    let u = lastByte (i .lead) in
+    let ds = digitText (i .digits) in
+    let es = digitText (i .exponent) in
+    let v = signByte (i .down) in
+    let f : s ≡ a ++ (u ∷ 46 ∷ (ds ++ (69 ∷ v ∷ es))) = i .text ∙ ap (λ l. l ++ (46 ∷ (ds ++ (69 ∷ v ∷ es)))) (lead-cut (i .blanks) (i .lead)) ∙ append-assoc a (u ∷ []) (46 ∷ (ds ++ (69 ∷ v ∷ es))) in
+    let la : length a + 1 ≡ c = sym (length-append a (u ∷ [])) ∙ sym (ap length (lead-cut (i .blanks) (i .lead))) ∙ i .columns in
+    ap (readE c d x) f
+    ∙ e-at a ds es u 46 69 v c d x (omega arith) (omega arith) (simp length-map (i .many)) (simp length-map (i .places))
+    ∙ ap₂ (λ p q. pairOf (oneOf p) (oneOf q))
+    (ap (λ st. scanOf st ds) (lead-read (i .blanks) (i .lead)) ∙ digits-read (leadMinus (i .lead)) 0 (i .digits) (i .each))
+    (ap (λ st. scanOf st es) (sign-read (i .down)) ∙ digits-read (i .down) 0 (i .exponent) (i .every))
+    ∙ ap₂ Two (sym (i .first)) (sym (i .second))
+
+-- what a state before the point says of the columns
+record Led (a : List ℕ) (u : ℕ) (st : Scan) : Type 0 where
+  blanks : ℕ
+  lead : Lead
+  text : a ++ (u ∷ []) ≡ replicate blanks 32 ++ leadText lead
+  is : st ≡ Digits (leadMinus lead) 0
+
+record Broke (st : Scan) : Type 0 where
+  is : st ≡ Broken
+
+data Before (a : List ℕ) (u : ℕ) (st : Scan) : Type 0 where
+  led : Led a u st → Before a u st
+  broke : Broke st → Before a u st
+
+led-blank : (a : List ℕ) (u : ℕ) → Held a Blanks → Before a u (leadOf Blanks u)
+led-blank a u h =
+    let t = h .text ∙ append-nil (replicate (h .blanks) 32) in
+    cond-elim (Before a u) (eqb u 48) (λ e. led (record { blanks = h .blanks; lead = nought; text = ap₂ (λ l y. l ++ (y ∷ [])) t (eqb-true u 48 e); is = refl })) λ _.
+    cond-elim (Before a u) (eqb u 32) (λ e. led (record { blanks = h .blanks; lead = bare; text = ap₂ (λ l y. l ++ (y ∷ [])) t (eqb-true u 32 e); is = refl })) λ _.
+    cond-elim (Before a u) (eqb u 45) (λ e. led (record { blanks = h .blanks; lead = minus; text = ap₂ (λ l y. l ++ (y ∷ [])) t (eqb-true u 45 e); is = refl })) λ _.
+    broke (record { is = refl })
+
+led-signed : (a : List ℕ) (u : ℕ) → Held a Signed → Before a u (leadOf Signed u)
+led-signed a u h =
+    cond-elim (Before a u) (eqb u 48) (λ e. led (record { blanks = h .blanks; lead = minusNought; text = ap₂ (λ l y. l ++ (y ∷ [])) (h .text) (eqb-true u 48 e) ∙ append-assoc (replicate (h .blanks) 32) (45 ∷ []) (48 ∷ []); is = refl })) λ _.
+    broke (record { is = refl })
+
+lead-is : (a : List ℕ) (u : ℕ) (st : Scan) → Held a st → Before a u (leadOf st u)
+lead-is a u Blanks h = led-blank a u h
+lead-is a u Signed h = led-signed a u h
+lead-is a u (Digits g n) h = broke (record { is = refl })
+lead-is a u Broken h = broke (record { is = refl })
+
+record Sign (v : ℕ) (st : Scan) : Type 0 where
+  down : Bool
+  text : v ≡ signByte down
+  is : st ≡ Digits down 0
+
+data Signs (v : ℕ) (st : Scan) : Type 0 where
+  given : Sign v st → Signs v st
+  none : Broke st → Signs v st
+
+sign-is : (v : ℕ) → Signs v (signOf v)
+sign-is v =
+    cond-elim (Signs v) (eqb v 43) (λ e. given (record { down = false; text = eqb-true v 43 e; is = refl })) λ _.
+    cond-elim (Signs v) (eqb v 45) (λ e. given (record { down = true; text = eqb-true v 45 e; is = refl })) λ _.
+    none (record { is = refl })
+
+-- ---- what is read is in the sentence
+
+record Pair (a b : Number) (m e : ℤ) : Type 0 where
+  first : a ≡ One m
+  second : b ≡ One e
+
+pair-is : (a b : Number) (m e : ℤ) → pairOf a b ≡ Two m e → Pair a b m e
+pair-is (One a) (One b) m e p = record { first = cc; second = cc }
+pair-is (One a) (Two b c) m e p = let y : _≡_ {A = ℕ} 0 1 = cc in absurd (omega arith)
+pair-is (One a) Misformed m e p = let y : _≡_ {A = ℕ} 0 1 = cc in absurd (omega arith)
+pair-is (Two a c) b m e p = let y : _≡_ {A = ℕ} 0 1 = cc in absurd (omega arith)
+pair-is Misformed b m e p = let y : _≡_ {A = ℕ} 0 1 = cc in absurd (omega arith)
+
+no-number : {A : Type 0} (t : List ℕ) (st : Scan) (z : ℤ) → Broke st → oneOf (scanOf st t) ≡ One z → A
+no-number t st z b e =
+    let f : Misformed ≡ One z = sym (ap oneOf (ap (λ u. scanOf u t) (b .is) ∙ scan-broken t)) ∙ e in
+    let y : _≡_ {A = ℕ} 0 1 = cc in
+    absurd (omega arith)
+
+misformed-two : (m e : ℤ) → Misformed ≡ Two m e → ⊥
+misformed-two m e p = let y : _≡_ {A = ℕ} 0 1 = cc in omega arith
+
+module _ {c d x : ℕ} {s : List ℕ} (p : Parts c d x s) (m e : ℤ) (h : 1 ≤ c) where
+  joined : p .point ≡ 46 → p .letter ≡ 69 → Led (p .front) (p .last) (leadOf (scanOf Blanks (p .front)) (p .last)) → Sign (p .sign) (signOf (p .sign)) → oneOf (scanOf (leadOf (scanOf Blanks (p .front)) (p .last)) (p .digits)) ≡ One m → oneOf (scanOf (signOf (p .sign)) (p .exponent)) ≡ One e → IsE c d x s m e
+  joined f g l k q r =
+      let a = ends (leadMinus (l .lead)) 0 (p .digits) m (sym (ap (λ st. oneOf (scanOf st (p .digits))) (l .is)) ∙ q) in
+      let b = ends (k .down) 0 (p .exponent) e (sym (ap (λ st. oneOf (scanOf st (p .exponent))) (k .is)) ∙ r) in
+      let w : length (p .front ++ (p .last ∷ [])) ≡ c = length-append (p .front) (p .last ∷ []) ∙ omega (arith, p .lengths .0) in
+      record {
+        blanks = l .blanks;
+        lead = l .lead;
+        columns = sym (ap length (l .text)) ∙ w;
+        digits = a .digits;
+        each = a .each;
+        many = simp length-map at (sym (ap length (a .text)) ∙ p .lengths .1);
+        down = k .down;
+        exponent = b .digits;
+        every = b .each;
+        places = simp length-map at (sym (ap length (b .text)) ∙ p .lengths .2);
+        text =
+            p .is
+            ∙ sym (append-assoc (p .front) (p .last ∷ []) (p .point ∷ (p .digits ++ (p .letter ∷ p .sign ∷ p .exponent))))
+            ∙ ap₂ (λ t u. t ++ u) (l .text)
+            (ap₂ (λ y t. y ∷ t) f (ap₂ (λ t u. t ++ u) (a .text) (ap₂ (λ y t. y ∷ t) g (ap₂ (λ y t. y ∷ t) (k .text) (b .text)))));
+        first = a .value;
+        second = b .value;
+      }
+
+  chosen : p .point ≡ 46 → p .letter ≡ 69 → Before (p .front) (p .last) (leadOf (scanOf Blanks (p .front)) (p .last)) → Signs (p .sign) (signOf (p .sign)) → oneOf (scanOf (leadOf (scanOf Blanks (p .front)) (p .last)) (p .digits)) ≡ One m → oneOf (scanOf (signOf (p .sign)) (p .exponent)) ≡ One e → IsE c d x s m e
+  chosen f g (led l) (given k) q r = joined f g l k q r
+  chosen f g (led l) (none b) q r = no-number (p .exponent) (signOf (p .sign)) e b r
+  chosen f g (broke b) k q r = no-number (p .digits) (leadOf (scanOf Blanks (p .front)) (p .last)) m b q
+
+  parts-is : readE c d x s ≡ Two m e → IsE c d x s m e
+  parts-is r =
+      let w = worth (p .front) (p .last) (p .digits) (p .sign) (p .exponent) in
+      let r₁ : cond (eqb (p .point) 46) (cond (eqb (p .letter) 69) w Misformed) Misformed ≡ Two m e = sym (ap (readE c d x) (p .is) ∙ e-at (p .front) (p .digits) (p .exponent) (p .last) (p .point) (p .letter) (p .sign) c d x h (p .lengths .0) (p .lengths .1) (p .lengths .2)) ∙ r in
+      let f : p .point ≡ 46 = eqb-true (p .point) 46 (cond-taken (eqb (p .point) 46) _ Misformed (Two m e) (misformed-two m e) r₁) in
+      let r₂ : cond (eqb (p .letter) 69) w Misformed ≡ Two m e = cond-kept (eqb (p .point) 46) _ Misformed (Two m e) (misformed-two m e) r₁ in
+      let g : p .letter ≡ 69 = eqb-true (p .letter) 69 (cond-taken (eqb (p .letter) 69) _ Misformed (Two m e) (misformed-two m e) r₂) in
+      let q = pair-is (oneOf (scanOf (leadOf (scanOf Blanks (p .front)) (p .last)) (p .digits))) (oneOf (scanOf (signOf (p .sign)) (p .exponent))) m e (cond-kept (eqb (p .letter) 69) w Misformed (Two m e) (misformed-two m e) r₂) in
+      chosen f g (lead-is (p .front) (p .last) (scanOf Blanks (p .front)) (held (p .front))) (sign-is (p .sign)) (q .first) (q .second)
+
+pub read-e : (c d x : ℕ) (s : List ℕ) (m e : ℤ) → 1 ≤ c → readE c d x s ≡ Two m e → IsE c d x s m e
+read-e c d x s m e h r =
+    let l : length s ≡ c + d + x + 3 = eqb-true (length s) (c + d + x + 3) (cond-taken (eqb (length s) (c + d + x + 3)) _ Misformed (Two m e) (misformed-two m e) r) in
+    parts-is (parts c d x s h l) m e h r

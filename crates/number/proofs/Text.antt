@@ -1,0 +1,118 @@
+-- The text that is written: its length, its bytes, and that a canonical text is a field.
+-- Assumes nothing.
+use mathlib.Core.Path.{_≡_, refl, sym, ap, ap₂, _∙_}
+use mathlib.Core.Bool.{Bool, true, false, cond}
+use mathlib.Core.List.{List, _∷_, _++_}
+use Prim.Native.Nat.{ℕ, suc, _+_, _-_, _/_, _%_, _≤_}
+use native.Mathlib.Omega.{arith}
+use lib.Dec.{T, leb, eqb, le→leb}
+use lib.IntN.{ℤ}
+use lib.ListN.{length, length-append}
+use Rattle.base.specs.Ascii.{printable}
+use Rattle.base.specs.Every.{every}
+use Rattle.base.specs.Sign.{ofSign, negative, sizeOf}
+use Rattle.base.specs.Digits.{numberOf}
+use Rattle.base.proofs.Choice.{and-both}
+use Rattle.base.proofs.Columns.{columns-length}
+use Rattle.base.proofs.Digits.{lean-some}
+use Rattle.base.proofs.Everywhere.{every-append, columns-every}
+use Rattle.number.specs.declared.Scan.{Scan}
+use Rattle.number.specs.declared.Scan.the-variants.{Blanks, Signed, Digits, Broken}
+use Rattle.number.specs.Write.{lastOf, backOf, textOf, stateOf, leadState, textI, textF, textE}
+use Rattle.number.specs.Grammar.{IsI, IsF, IsE, leadMinus, signByte}
+use Rattle.number.specs.Grammar.Lead.{minus, minusNought}
+use Rattle.number.specs.Canonical.{CanonicalI, CanonicalF, CanonicalE, dueLead}
+
+-- ---- lengths
+
+pub i-length : (w : ℕ) (z : ℤ) → length (textI w z) ≡ w
+i-length w z = columns-length lastOf (backOf false) w (stateOf z)
+
+pub f-length : (w : ℕ) (z : ℤ) → 4 ≤ w → length (textF w z) ≡ w
+f-length w z h =
+    length-append (textOf false (w - 4) (Digits (negative z) (sizeOf z / 1000))) (46 ∷ textOf true 3 (stateOf z))
+    ∙ ap (λ k. k + 4) (columns-length lastOf (backOf false) (w - 4) (Digits (negative z) (sizeOf z / 1000)))
+    ∙ omega arith
+
+pub e-length : (c d x : ℕ) (m e : ℤ) → length (textE c d x m e) ≡ c + d + x + 3
+e-length c d x m e =
+    let a = textOf false c (leadState c (negative m)) in
+    let b = textOf true d (stateOf m) in
+    let f = textOf true x (stateOf e) in
+    let l = columns-length lastOf (backOf false) c (leadState c (negative m)) in
+    let k = columns-length lastOf (backOf true) d (stateOf m) in
+    let n = columns-length lastOf (backOf true) x (stateOf e) in
+    length-append a (46 ∷ (b ++ (69 ∷ signByte (negative e) ∷ f)))
+    ∙ ap₂ (λ i j. i + suc j) l (length-append b (69 ∷ signByte (negative e) ∷ f) ∙ ap₂ (λ i j. i + suc (suc j)) k n)
+    ∙ omega arith
+
+-- ---- bytes
+
+between : (b : ℕ) → 32 ≤ b → b ≤ 126 → T (printable b)
+between b h k = and-both (leb 32 b) (leb b 126) (le→leb 32 b h) (le→leb b 126 k)
+
+last-printable : (st : Scan) → T (printable (lastOf st))
+last-printable Blanks = tt
+last-printable Signed = tt
+last-printable (Digits g n) = between (48 + n % 10) (omega arith) (omega arith)
+last-printable Broken = tt
+
+text-printable : (k : Bool) (w : ℕ) (st : Scan) → T (every printable (textOf k w st))
+text-printable k w st = columns-every lastOf (backOf k) printable last-printable w st
+
+sign-printable : (g : Bool) → T (printable (signByte g))
+sign-printable true = tt
+sign-printable false = tt
+
+pub i-printable : (w : ℕ) (z : ℤ) → T (every printable (textI w z))
+i-printable w z = text-printable false w (stateOf z)
+
+pub f-printable : (w : ℕ) (z : ℤ) → T (every printable (textF w z))
+f-printable w z =
+    every-append printable (textOf false (w - 4) (Digits (negative z) (sizeOf z / 1000))) (46 ∷ textOf true 3 (stateOf z))
+    (text-printable false (w - 4) (Digits (negative z) (sizeOf z / 1000)))
+    (text-printable true 3 (stateOf z))
+
+pub e-printable : (c d x : ℕ) (m e : ℤ) → T (every printable (textE c d x m e))
+e-printable c d x m e =
+    let f = textOf true x (stateOf e) in
+    let u = signByte (negative e) in
+    every-append printable (textOf false c (leadState c (negative m))) (46 ∷ (textOf true d (stateOf m) ++ (69 ∷ u ∷ f)))
+    (text-printable false c (leadState c (negative m)))
+    (every-append printable (textOf true d (stateOf m)) (69 ∷ u ∷ f) (text-printable true d (stateOf m)) (and-both (printable u) (every printable f) (sign-printable (negative e)) (text-printable true x (stateOf e))))
+
+-- ---- a canonical text is a field of its value
+
+pub canonical-i : (w : ℕ) (s : List ℕ) (z : ℤ) → CanonicalI w s z → IsI s z
+canonical-i w s z c =
+    record { blanks = c .blanks; minus = c .sign; digits = c .digits; each = c .each; some = lean-some (c .digits) (c .lean); text = c .text; value = c .value }
+
+pub canonical-f : (w : ℕ) (s : List ℕ) (z : ℤ) → CanonicalF w s z → IsF s z
+canonical-f w s z c =
+    record { blanks = c .blanks; minus = c .sign; units = c .units; thousandths = c .thousandths; each = c .each; every = c .every; three = c .three; text = c .text; value = c .value }
+
+due-minus : (c : ℕ) (g : Bool) → leadMinus (dueLead c g) ≡ g
+due-minus c false = refl
+due-minus c true = by (eqb c 1)
+  where
+    by : (t : Bool) → leadMinus (cond t minus minusNought) ≡ true
+    by true = refl
+    by false = refl
+
+pub canonical-e : (c d x : ℕ) (s : List ℕ) (m e : ℤ) → CanonicalE c d x s m e → IsE c d x s m e
+canonical-e c d x s m e i =
+    record {
+      blanks = i .blanks;
+      lead = dueLead c (i .sign);
+      columns = i .columns;
+      digits = i .digits;
+      each = i .each;
+      many = i .many;
+      down = i .down;
+      exponent = i .exponent;
+      every = i .every;
+      places = i .places;
+      text = i .text;
+      first = i .first ∙ ap (λ g. ofSign g (numberOf (i .digits))) (sym (due-minus c (i .sign)));
+      second = i .second;
+    }

@@ -1,0 +1,38 @@
+-- `number::class` meets its contract: at each return the tests that led there choose the case.
+use borrow.Author.Needs.{needs}
+use borrow.Author.Tests.{lt-ltb, le-ltb, eq-eqb, ne-eqb}
+use Rattle.number.proofs.class.Statement.{statement}
+use Rattle.number.proofs.class.Tie as tie
+
+returns : tie.Need-returns
+returns c = simp (eq-eqb _ _ (c .if1 .taken))
+
+returns-2 : tie.Need-returns-2
+returns-2 c = simp (ne-eqb _ _ (c .before .if1 .left), eq-eqb _ _ (c .if2 .taken))
+
+returns-3 : tie.Need-returns-3
+returns-3 c = simp (ne-eqb _ _ (c .before .before .if1 .left), ne-eqb _ _ (c .before .if2 .left), lt-ltb _ _ (c .if3 .taken))
+
+returns-4 : tie.Need-returns-4
+returns-4 c =
+    simp (
+      ne-eqb _ _ (c .before .before .before .if1 .left),
+      ne-eqb _ _ (c .before .before .if2 .left),
+      le-ltb _ _ (c .before .if3 .left),
+      lt-ltb _ _ (c .if4 .taken),
+    )
+
+cast-t4 : tie.Need-cast-t4
+cast-t4 c = search needs
+
+returns-5 : tie.Need-returns-5
+returns-5 c =
+    simp (
+      ne-eqb _ _ (c .before .before .before .if1 .left),
+      ne-eqb _ _ (c .before .before .if2 .left),
+      le-ltb _ _ (c .before .if3 .left),
+      le-ltb _ _ (c .if4 .left),
+    )
+
+pub class-spec : {M : Type 1} → statement M
+class-spec = tie.close (tie.spec returns returns-2 returns-3 returns-4 cast-t4 returns-5)

@@ -1,0 +1,101 @@
+-- I, F and E fields as 01's sentences have them, over every width: which bytes they are, and the value.
+use mathlib.Core.Path.{_≡_}
+use mathlib.Core.Bool.{Bool, true, false}
+use mathlib.Core.List.{List, [], _∷_, _++_}
+use mathlib.Core.Logic.{_⊎_}
+use Prim.Native.Nat.{ℕ, _<_}
+use Prim.Native.String.{String}
+use lib.IntN.{ℤ}
+use lib.ListN.{length, replicate}
+use Rattle.base.specs.Quoted.{bytes}
+use Rattle.base.specs.Sign.{ofSign}
+use Rattle.base.specs.Digits.{AllDigits, numberOf, digitText}
+
+-- at most one minus
+abbrev pub minusOf : Bool → List ℕ
+minusOf true = 45 ∷ []
+minusOf false = []
+
+-- "I: blanks, at most one minus, one or more digits, ending in the last column."
+pub record IsI (s : List ℕ) (z : ℤ) : Type 0 where
+  pub blanks : ℕ
+  pub minus : Bool
+  pub digits : List ℕ
+  pub each : AllDigits digits
+  pub some : 0 < length digits
+  pub text : s ≡ replicate blanks 32 ++ (minusOf minus ++ digitText digits)
+  pub value : z ≡ ofSign minus (numberOf digits)
+
+-- "F: blanks, at most one minus, no or more digits, a point, exactly three digits ending in the last column. The cell holds thousandths"
+pub record IsF (s : List ℕ) (z : ℤ) : Type 0 where
+  pub blanks : ℕ
+  pub minus : Bool
+  pub units : List ℕ
+  pub thousandths : List ℕ
+  pub each : AllDigits units
+  pub every : AllDigits thousandths
+  pub three : length thousandths ≡ 3
+  pub text : s ≡ replicate blanks 32 ++ (minusOf minus ++ (digitText units ++ (46 ∷ digitText thousandths)))
+  pub value : z ≡ ofSign minus (numberOf (units ++ thousandths))
+
+-- What the columns before E's point end in, behind blanks: `0`, minus and `0`, a blank, or a minus. In one column these are the three texts
+-- of `oneColumn`, in three columns the four of `threeColumns` (proofs/Leads).
+pub data Lead : Type 0 where
+  nought minusNought bare minus : Lead
+
+abbrev pub leadText : Lead → List ℕ
+leadText nought = 48 ∷ []
+leadText minusNought = 45 ∷ 48 ∷ []
+leadText bare = 32 ∷ []
+leadText minus = 45 ∷ []
+
+abbrev pub leadMinus : Lead → Bool
+leadMinus nought = false
+leadMinus minusNought = true
+leadMinus bare = false
+leadMinus minus = true
+
+-- a text before the point, with its sign
+pub record Shape : Type 0 where
+  pub minus : Bool
+  pub text : String
+
+-- E11.6E1, E8.3E1: "first column `0`, blank or minus"
+abbrev pub oneColumn : List Shape
+oneColumn = record { minus = false; text = "0" } ∷ record { minus = false; text = " " } ∷ record { minus = true; text = "-" } ∷ []
+
+-- E20.12E2: "the first three columns are two blanks and `0`, blank minus `0`, three blanks, or two blanks and minus"
+abbrev pub threeColumns : List Shape
+threeColumns =
+    record { minus = false; text = "  0" }
+    ∷ record { minus = true; text = " -0" }
+    ∷ record { minus = false; text = "   " }
+    ∷ record { minus = true; text = "  -" }
+    ∷ []
+
+-- the text is one of these, with that sign
+abbrev pub AnyOf : List Shape → Bool → List ℕ → Type 0
+AnyOf [] g t = ⊥
+AnyOf (s ∷ ss) g t = ((g ≡ s .minus) × (t ≡ bytes (s .text))) ⊎ AnyOf ss g t
+
+-- the exponent's sign: "plus or minus"
+abbrev pub signByte : Bool → ℕ
+signByte true = 45
+signByte false = 43
+
+-- "first column `0`, blank or minus; point; 6 or 3 digits; `E`; plus or minus; one digit. .. The cells are the digits as a signed whole
+-- number, then the exponent": c columns before the point, d digits behind it, an exponent of x digits
+pub record IsE (c d x : ℕ) (s : List ℕ) (m e : ℤ) : Type 0 where
+  pub blanks : ℕ
+  pub lead : Lead
+  pub columns : length (replicate blanks 32 ++ leadText lead) ≡ c
+  pub digits : List ℕ
+  pub each : AllDigits digits
+  pub many : length digits ≡ d
+  pub down : Bool
+  pub exponent : List ℕ
+  pub every : AllDigits exponent
+  pub places : length exponent ≡ x
+  pub text : s ≡ (replicate blanks 32 ++ leadText lead) ++ (46 ∷ (digitText digits ++ (69 ∷ signByte down ∷ digitText exponent)))
+  pub first : m ≡ ofSign (leadMinus lead) (numberOf digits)
+  pub second : e ≡ ofSign down (numberOf exponent)

@@ -1,0 +1,53 @@
+-- What a byte is in a number's columns, and how columns are read, byte by byte: blanks, at most one minus, digits.
+use mathlib.Core.Bool.{true, false, cond}
+use mathlib.Core.List.{List, [], _∷_}
+use Prim.Native.Nat.{ℕ, _+_, _*_, _-_, _<_}
+use lib.Dec.{ltb, eqb}
+use Rattle.number.specs.declared.Byte.{Byte}
+use Rattle.number.specs.declared.Byte.the-variants.{Blank, Minus, Digit, Other}
+use Rattle.number.specs.declared.Scan.{Scan}
+use Rattle.number.specs.declared.Scan.the-variants.{Blanks, Signed, Digits, Broken}
+
+-- 32 is a blank, 45 a minus, 48 to 57 the digits
+abbrev pub classOf : ℕ → Byte
+classOf b =
+    cond (eqb b 32) Blank
+    (cond (eqb b 45) Minus
+    (cond (ltb b 48) Other
+    (cond (ltb 57 b) Other
+    (Digit (b - 48)))))
+
+-- one byte more
+abbrev pub stepOf : Byte → Scan → Scan
+stepOf Blank Blanks = Blanks
+stepOf Blank Signed = Broken
+stepOf Blank (Digits g n) = Broken
+stepOf Blank Broken = Broken
+stepOf Minus Blanks = Signed
+stepOf Minus Signed = Broken
+stepOf Minus (Digits g n) = Broken
+stepOf Minus Broken = Broken
+stepOf (Digit d) Blanks = Digits false d
+stepOf (Digit d) Signed = Digits true d
+stepOf (Digit d) (Digits g n) = Digits g (n * 10 + d)
+stepOf (Digit d) Broken = Broken
+stepOf Other st = Broken
+
+-- all bytes of a part, from a state on
+abbrev pub scanOf : Scan → List ℕ → Scan
+scanOf st [] = st
+scanOf st (b ∷ bs) = scanOf (stepOf (classOf b) st) bs
+
+-- a digit is below 10
+abbrev pub Small : Byte → Type 0
+Small Blank = Unit {0}
+Small Minus = Unit {0}
+Small (Digit d) = d < 10
+Small Other = Unit {0}
+
+-- the number that has been read is below m
+abbrev pub Below : ℕ → Scan → Type 0
+Below m Blanks = Unit {0}
+Below m Signed = Unit {0}
+Below m (Digits g n) = n < m
+Below m Broken = Unit {0}

@@ -1,0 +1,105 @@
+-- First due: placing gives a reply exactly if that reply is due (specs/Due.antt).
+-- Assumes nothing.
+use mathlib.Core.Path.{_≡_, refl, sym, _∙_, ap, subst}
+use mathlib.Core.Bool.{Bool, true, false, cond}
+use mathlib.Core.List.{List}
+use mathlib.Core.Logic.{_↔_, _⊎_, inl, inr, ⊎-elim}
+use Prim.Native.Nat.{ℕ, _+_, _<_, _≤_}
+use native.Mathlib.Nat.{eq-or-lt-of-le}
+use native.Mathlib.Omega.{arith}
+use borrow.Author.Tests.{ltb-true, ltb-false, eqb-true, eqb-false, leb-true, leb-false, le-leb, lt-leb}
+use lib.Dec.{leb, ltb, eqb}
+use lib.ListN.{length, drop, length-drop}
+use Rattle.line.specs.Lines.{feeds, reach}
+use Rattle.count.specs.Tally.{recordLines}
+use Rattle.count.specs.Rules.{releaseOf, rulingOf}
+use Rattle.count.specs.declared.Release.{Release}
+use Rattle.count.specs.declared.Release.the-variants.{Five, Other, Filled}
+use Rattle.count.specs.declared.Ruling.{Ruling}
+use Rattle.count.specs.declared.Ruling.the-variants.{Kept, Broken}
+use Rattle.count.proofs.Releases.{release-other, release-five, release-filled, ReleaseIs, release-is}
+use Rattle.place.specs.declared.Placing.{Placing}
+use Rattle.place.specs.declared.Placing.the-variants.{Placed, End, Beyond, TooFewLines, Misformed, OtherRelease, FilledVacant, BrokenRule}
+use Rattle.place.specs.Index.{Indexed, counts, misformed, readIndex}
+use Rattle.place.specs.Placing.{Located, located, refused, locate, locateHere, locateIndex, locateRelease, locateLines, placingBy, ruledAt, placingOf}
+use Rattle.place.specs.Due.{HasIndex, HasCounts, HasRelease, HasLines, FewForIndex, FewForData, BadIndex, BadRelease, LowestFilled, Breaks, Stands, Due}
+use Rattle.place.proofs.Steps.{locate-beyond, locate-end, locate-few, locate-index}
+use Rattle.place.proofs.Placed.{is-located}
+
+module _ (s : List ℕ) (at : ℕ) where
+  -- ---- what is due is given
+
+  to-counts : (ns : List ℕ) → HasCounts s at ns → locate s at ≡ locateRelease (drop at s) at ns (releaseOf ns)
+  to-counts ns h = locate-index s at (h .place .inside) (h .place .lines) ∙ rw (h .read)
+
+  to-lines : (ns : List ℕ) → HasRelease s at ns → locate s at ≡ locateLines (drop at s) at ns
+  to-lines ns h = to-counts ns (h .index) ∙ rw (release-five ns (h .five) (h .vacant))
+
+  to-located : (ns : List ℕ) (n : ℕ) → HasLines s at ns n → locate s at ≡ located n ns
+  to-located ns n h =
+      to-lines ns (h .head)
+      ∙ rw (le-leb (recordLines ns) (feeds (drop at s)) (h .enough)) (ap (λ m. located m ns) (sym (h .next)))
+
+  given : (p : Placing) → Due s at p → placingBy (locate s at) ≡ p
+  given Beyond d = rw (locate-beyond s at d)
+  given End d = rw (locate-end s at d)
+  given TooFewLines d =
+      ⊎-elim
+      (λ (f : FewForIndex s at). ap placingBy (locate-few s at (f .inside) (f .few)))
+      (λ (f : FewForData s at). ap placingBy (to-lines (f .ns) (f .head)) ∙ rw (lt-leb (recordLines (f .ns)) (feeds (drop at s)) (f .few)))
+      d
+  given Misformed d = ap placingBy (locate-index s at (d .place .inside) (d .place .lines)) ∙ rw (d .bad)
+  given OtherRelease d = ap placingBy (to-counts (d .ns) (d .index)) ∙ rw (release-other (d .ns) (d .other))
+  given (FilledVacant g) d =
+      ap placingBy (to-counts (d .ns) (d .index))
+      ∙ rw (release-filled (d .ns) g (d .five) record { low = d .low; high = omega (arith, d .high); filled = d .filled; lowest = d .lowest })
+  given (BrokenRule g n) d = ap placingBy (to-located (d .ns) n (d .lines)) ∙ rw (d .broken)
+  given (Placed n) d = ap placingBy (to-located (d .ns) n (d .lines)) ∙ rw (d .kept)
+
+  -- ---- what is given is due
+
+  from-ruling : (ns : List ℕ) (n : ℕ) (k : Ruling) → HasLines s at ns n → rulingOf ns ≡ k → Due s at (ruledAt n k)
+  from-ruling ns n Kept h e = record { ns = ns; lines = h; kept = e }
+  from-ruling ns n (Broken g) h e = record { ns = ns; lines = h; broken = e }
+
+  from-lines : (ns : List ℕ) (t : Bool) → HasRelease s at ns → leb (recordLines ns) (feeds (drop at s)) ≡ t → Due s at (placingBy (cond t (located (at + reach (drop at s) (recordLines ns)) ns) (refused TooFewLines)))
+  from-lines ns true h e =
+      from-ruling ns (at + reach (drop at s) (recordLines ns)) (rulingOf ns) record { head = h; enough = leb-true (recordLines ns) (feeds (drop at s)) e; next = refl } refl
+  from-lines ns false h e = inr record { ns = ns; head = h; few = leb-false (recordLines ns) (feeds (drop at s)) e }
+
+  from-release : (ns : List ℕ) (r : Release) → HasCounts s at ns → ReleaseIs ns r → Due s at (placingBy (locateRelease (drop at s) at ns r))
+  from-release ns Five h f =
+      from-lines ns (leb (recordLines ns) (feeds (drop at s))) record { index = h; five = f .five; vacant = f .vacant } refl
+  from-release ns Other h f = record { ns = ns; index = h; other = f }
+  from-release ns (Filled g) h f =
+      record {
+        ns = ns;
+        index = h;
+        five = f .five;
+        low = f .group .low;
+        high = omega (arith, f .group .high);
+        filled = f .group .filled;
+        lowest = f .group .lowest;
+      }
+
+  from-index : (q : Indexed) → HasIndex s at → readIndex (drop at s) ≡ q → Due s at (placingBy (locateIndex (drop at s) at q))
+  from-index (counts ns) h e = from-release ns (releaseOf ns) record { place = h; read = e } (release-is ns)
+  from-index misformed h e = record { place = h; bad = e }
+
+  is-due : Due s at (placingBy (locate s at))
+  unfolding locate
+  is-due = by (ltb (length s) at) (eqb (length s) at) (leb 2 (feeds (drop at s))) refl refl refl
+    where
+      inner : ltb (length s) at ≡ false → eqb (length s) at ≡ false → at < length s
+      inner u v = ⊎-elim (λ (e : at ≡ length s). absurd (eqb-false (length s) at v (sym e))) (λ l. l) (eq-or-lt-of-le (ltb-false (length s) at u))
+
+      by : (a b c : Bool) → ltb (length s) at ≡ a → eqb (length s) at ≡ b → leb 2 (feeds (drop at s)) ≡ c → Due s at (placingBy (cond a (refused Beyond) (cond b (refused End) (cond c (locateIndex (drop at s) at (readIndex (drop at s))) (refused TooFewLines)))))
+      by true b c u v w = ltb-true (length s) at u
+      by false true c u v w = eqb-true (length s) at v
+      by false false false u v w = inl record { inside = inner u v; few = leb-false 2 (feeds (drop at s)) w }
+      by false false true u v w = from-index (readIndex (drop at s)) record { inside = inner u v; lines = leb-true 2 (feeds (drop at s)) w } refl
+
+  -- the reply that is given is the one that is due, and no other is
+  pub first-due : (p : Placing) → placingOf s at ≡ p ↔ Due s at p
+  unfolding placingOf
+  first-due p = (λ e. subst (Due s at) e is-due, given p)

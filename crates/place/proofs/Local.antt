@@ -1,0 +1,144 @@
+-- Placing is local. What is answered at a place depends on nothing before it; 4, 5 and 6 only on the bytes up to the second line feed; 0 and
+-- 7, with all their numbers, only on these and on where the line feeds are up to the next place.
+-- Assumes nothing.
+use mathlib.Core.Path.{_≡_, refl, sym, _∙_, ap, subst}
+use mathlib.Core.Bool.{Bool, true, false, cond}
+use mathlib.Core.List.{List, [], _∷_, _++_, map}
+use Prim.Native.Nat.{ℕ, zero, suc, _+_, _-_, _<_, _≤_}
+use native.Mathlib.Omega.{arith}
+use lib.ListN.{length, take, drop, getD, length-drop, length-append, take-append-drop}
+use borrow.Author.Tests.{le-ltb, ne-eqb, leb-true}
+use lib.Dec.{leb, ltb, eqb}
+use Rattle.base.specs.Part.{part}
+use Rattle.line.specs.Lines.{isFeed, feeds, reach, lines, behind}
+use Rattle.line.specs.Places.{behindAt}
+use Rattle.line.specs.declared.Behind.the-variants.{At}
+use Rattle.line.proofs.Feeds.{feeds-append, feeds-le}
+use Rattle.line.proofs.Reach.{lines-append, behind-append, feeds-lines, feeds-behind}
+use Rattle.line.proofs.Places.{is-at, at-is, behindAt-local}
+use Rattle.count.specs.Tally.{recordLines}
+use Rattle.count.specs.Rules.{releaseOf}
+use Rattle.count.specs.declared.Release.{Release}
+use Rattle.count.specs.declared.Release.the-variants.{Five, Other, Filled}
+use Rattle.place.specs.declared.Placing.{Placing}
+use Rattle.place.specs.declared.Placing.the-variants.{Placed, End, Beyond, TooFewLines, Misformed, OtherRelease, FilledVacant, BrokenRule}
+use Rattle.place.specs.Index.{Indexed, counts, misformed, readIndexLine, joined, readIndex}
+use Rattle.place.specs.Placing.{Located, located, refused, locate, locateIndex, locateRelease, locateLines, placingBy, placingOf, countsBy, countsAt}
+use Rattle.place.proofs.Steps.{locate-beyond, locate-end, locate-few, locate-index}
+use Rattle.place.proofs.Placed.{IsLocated, is-located, located-is}
+
+-- ---- nothing before the place
+
+inside : (xs : List ℕ) (at : ℕ) (s : List ℕ) → drop at s ≡ xs → 0 < length xs → at < length s
+inside xs at s e h = omega (arith, length-drop at s, ap length e)
+
+-- two texts that are the same from the place on, and have something there
+pub locate-from : (s t : List ℕ) (at : ℕ) → drop at s ≡ drop at t → at < length s → locate s at ≡ locate t at
+unfolding locate
+locate-from s t at e h =
+    let k : at < length t = omega (arith, length-drop at s, length-drop at t, ap length e) in
+    rw (le-ltb (length s) at (omega arith), ne-eqb (length s) at (λ x. omega arith), le-ltb (length t) at (omega arith), ne-eqb (length t) at (λ x. omega arith), e)
+
+-- ---- the index lines alone decide the index
+
+pub index-lines : (xs : List ℕ) → 2 ≤ feeds xs → readIndex xs ≡ readIndex (lines 2 xs)
+unfolding readIndex
+index-lines xs h =
+    let a = lines 2 xs in
+    let b = behind 2 xs in
+    let e : a ++ b ≡ xs = take-append-drop (reach xs 2) xs in
+    let f : feeds a ≡ 2 = feeds-lines xs 2 h in
+    let one : lines 1 xs ≡ lines 1 a = ap (lines 1) (sym e) ∙ lines-append a b 1 (omega arith) in
+    let g : feeds (behind 1 a) + 1 ≡ feeds a = feeds-behind a 1 (omega arith) in
+    let two : lines 1 (behind 1 xs) ≡ lines 1 (behind 1 a) = ap (λ x. lines 1 (behind 1 x)) (sym e) ∙ ap (lines 1) (behind-append a b 1 (omega arith)) ∙ lines-append (behind 1 a) b 1 (omega arith) in
+    rw (one, two)
+
+-- the second text has the two lines too
+has-two : (xs ys : List ℕ) → 2 ≤ feeds xs → lines 2 xs ≡ lines 2 ys → 2 ≤ feeds ys
+has-two xs ys h e =
+    omega (arith, feeds-lines xs 2 h, ap feeds e, feeds-append (lines 2 ys) (behind 2 ys), ap feeds (take-append-drop (reach ys 2) ys))
+
+pub index-local : (xs ys : List ℕ) → 2 ≤ feeds xs → lines 2 xs ≡ lines 2 ys → readIndex xs ≡ readIndex ys
+index-local xs ys h e = index-lines xs h ∙ ap readIndex e ∙ sym (index-lines ys (has-two xs ys h e))
+
+-- ---- replies 4, 5 and 6: the bytes up to the second line feed
+
+-- 4, 5 or 6
+abbrev pub ByIndex : Placing → Type 0
+ByIndex (Placed n) = ⊥
+ByIndex End = ⊥
+ByIndex Beyond = ⊥
+ByIndex TooFewLines = ⊥
+ByIndex Misformed = Unit {0}
+ByIndex OtherRelease = Unit {0}
+ByIndex (FilledVacant g) = Unit {0}
+ByIndex (BrokenRule g n) = ⊥
+
+not-by : {A : Type 0} {p q : Placing} → refused p ≡ refused q → (ByIndex p → ⊥) → ByIndex q → A
+not-by {p = p} {q = q} e n b =
+    let f : p ≡ q = cc in
+    absurd (n (subst ByIndex (sym f) b))
+
+no-place : {A : Type 0} {n : ℕ} {ns : List ℕ} {p : Placing} → located n ns ≡ refused p → A
+no-place e = let z : _≡_ {A = ℕ} 0 1 = cc in absurd (omega arith)
+
+module _ (at : ℕ) (p : Placing) (b : ByIndex p) where
+  -- it was answered from the index, so there is one
+  pub record FromIndex (s : List ℕ) : Type 0 where
+    pub inner : at < length s
+    pub two : 2 ≤ feeds (drop at s)
+    pub by : locateIndex (drop at s) at (readIndex (drop at s)) ≡ refused p
+
+  from-index : (s : List ℕ) → locate s at ≡ refused p → FromIndex s
+  unfolding locate
+  from-index s e = by (ltb (length s) at) (eqb (length s) at) (leb 2 (feeds (drop at s))) refl e
+    where
+      by : (x y z : Bool) → leb 2 (feeds (drop at s)) ≡ z → cond x (refused Beyond) (cond y (refused End) (cond z (locateIndex (drop at s) at (readIndex (drop at s))) (refused TooFewLines))) ≡ refused p → FromIndex s
+      by true y z u f = not-by f (λ w. w) b
+      by false true z u f = not-by f (λ w. w) b
+      by false false false u f = not-by f (λ w. w) b
+      by false false true u f =
+          let h = leb-true 2 (feeds (drop at s)) u in
+          record { inner = omega (arith, h, feeds-le (drop at s), length-drop at s); two = h; by = f }
+
+  by-lines : (xs ys ns : List ℕ) (t : Bool) → cond t (located (at + reach xs (recordLines ns)) ns) (refused TooFewLines) ≡ refused p → locateLines ys at ns ≡ refused p
+  by-lines xs ys ns true e = no-place e
+  by-lines xs ys ns false e = not-by e (λ w. w) b
+
+  by-release : (xs ys ns : List ℕ) (r : Release) → locateRelease xs at ns r ≡ refused p → locateRelease ys at ns r ≡ refused p
+  by-release xs ys ns Five e = by-lines xs ys ns (leb (recordLines ns) (feeds xs)) e
+  by-release xs ys ns Other e = e
+  by-release xs ys ns (Filled g) e = e
+
+  by-index : (xs ys : List ℕ) (q : Indexed) → locateIndex xs at q ≡ refused p → locateIndex ys at q ≡ refused p
+  by-index xs ys (counts ns) e = by-release xs ys ns (releaseOf ns) e
+  by-index xs ys misformed e = e
+
+  pub refused-local : (s t : List ℕ) → lines 2 (drop at s) ≡ lines 2 (drop at t) → locate s at ≡ refused p → locate t at ≡ refused p
+  refused-local s t e f =
+      let x = from-index s f in
+      let two = has-two (drop at s) (drop at t) (x .two) e in
+      locate-index t at (omega (arith, two, feeds-le (drop at t), length-drop at t)) two
+      ∙ by-index (drop at s) (drop at t) (readIndex (drop at t)) (ap (locateIndex (drop at s) at) (sym (index-local (drop at s) (drop at t) (x .two) e)) ∙ x .by)
+
+-- ---- replies 0 and 7: these bytes, and where the line feeds are up to the next place
+
+pub located-local : (s t : List ℕ) (at n : ℕ) (ns : List ℕ) → lines 2 (drop at s) ≡ lines 2 (drop at t) → map isFeed (part at n s) ≡ map isFeed (part at n t) → locate s at ≡ located n ns → locate t at ≡ located n ns
+located-local s t at n ns e m f =
+    let p = located-is s at n ns f in
+    let two = has-two (drop at s) (drop at t) (p .head) e in
+    let a = behindAt-local s t at (recordLines ns) n m (is-at s at (recordLines ns) n record { many = p .many; place = p .next }) in
+    let q = at-is t at (recordLines ns) n a in
+    is-located t at n ns record {
+      inside = omega (arith, two, feeds-le (drop at t), length-drop at t);
+      head = two;
+      index = sym (index-local (drop at s) (drop at t) (p .head) e) ∙ p .index;
+      release = p .release;
+      many = q .many;
+      next = q .place;
+    }
+
+-- the answers and the counts, which follow from what is located
+pub placing-same : (s t : List ℕ) (at : ℕ) → locate s at ≡ locate t at → (placingOf s at ≡ placingOf t at) × (countsAt s at ≡ countsAt t at)
+unfolding placingOf countsAt
+placing-same s t at e = (ap placingBy e, ap countsBy e)

@@ -1,0 +1,91 @@
+-- Two texts with their lines at the same places that agree on the index lines of the walk's records: each record is at the same place, with
+-- the same answer and the same counts, and the walk stops at the same place with the same answer.
+-- Assumes nothing.
+use mathlib.Core.Path.{_≡_, refl, sym, _∙_, ap, subst}
+use mathlib.Core.Bool.{Bool, true, false, cond}
+use mathlib.Core.List.{List}
+use Prim.Native.Nat.{ℕ, zero, suc, _+_, _-_, _<_, _≤_}
+use native.Mathlib.Omega.{arith}
+use borrow.Author.Tests.{leb-true}
+use lib.Dec.{leb, ltb, eqb}
+use lib.ListN.{length, drop}
+use Rattle.base.specs.Part.{part}
+use Rattle.base.specs.Agree.{Agree, Misses}
+use Rattle.base.proofs.Agree.{part-agree}
+use Rattle.line.specs.Lines.{feeds, reach, lines}
+use Rattle.line.specs.Texts.{SameLines}
+use Rattle.line.proofs.Texts.{feeds-from, reach-from}
+use Rattle.count.specs.Tally.{recordLines}
+use Rattle.count.specs.Rules.{releaseOf}
+use Rattle.count.specs.declared.Release.{Release}
+use Rattle.count.specs.declared.Release.the-variants.{Five, Other, Filled}
+use Rattle.place.specs.declared.Placing.{Placing}
+use Rattle.place.specs.declared.Placing.the-variants.{End, Beyond, TooFewLines}
+use Rattle.place.specs.Index.{Indexed, counts, misformed, readIndex}
+use Rattle.place.specs.Placing.{Located, located, refused, locate, locateIndex, locateRelease}
+use Rattle.place.specs.Parts.{start}
+use Rattle.place.specs.Walk.{onward, spot, IsRecord, Stops}
+use Rattle.place.proofs.Local.{index-local}
+
+-- ---- at one place
+
+module _ (s t : List ℕ) (h : SameLines s t) where
+  same-release : (at : ℕ) (ns : List ℕ) (r : Release) → locateRelease (drop at s) at ns r ≡ locateRelease (drop at t) at ns r
+  same-release at ns Five = rw (feeds-from s t at h, reach-from s t at (recordLines ns) h)
+  same-release at ns Other = refl
+  same-release at ns (Filled g) = refl
+
+  same-index : (at : ℕ) (q : Indexed) → locateIndex (drop at s) at q ≡ locateIndex (drop at t) at q
+  same-index at (counts ns) = same-release at ns (releaseOf ns)
+  same-index at misformed = refl
+
+  pub locate-same : (at : ℕ) → lines 2 (drop at s) ≡ lines 2 (drop at t) → locate s at ≡ locate t at
+  unfolding locate
+  locate-same at e =
+      rw (← h .long, ← feeds-from s t at h) (by (ltb (length s) at) (eqb (length s) at) (leb 2 (feeds (drop at s))) refl)
+    where
+      by : (a b c : Bool) → leb 2 (feeds (drop at s)) ≡ c → cond a (refused Beyond) (cond b (refused End) (cond c (locateIndex (drop at s) at (readIndex (drop at s))) (refused TooFewLines))) ≡ cond a (refused Beyond) (cond b (refused End) (cond c (locateIndex (drop at t) at (readIndex (drop at t))) (refused TooFewLines)))
+      by true b c u = refl
+      by false true c u = refl
+      by false false true u =
+          ap (locateIndex (drop at s) at) (index-local (drop at s) (drop at t) (leb-true 2 (feeds (drop at s)) u) e)
+          ∙ same-index at (readIndex (drop at t))
+      by false false false u = refl
+
+  -- the two index lines are the same where the texts agree there
+  head-same : {D : ℕ → Type 0} (at : ℕ) → Agree D s t → Misses D at (at + reach (drop at s) 2) → lines 2 (drop at s) ≡ lines 2 (drop at t)
+  head-same at a m =
+      let n = reach (drop at s) 2 in
+      let d : at + n - at ≡ n = omega arith in
+      let e : part at (at + n) s ≡ part at (at + n) t = part-agree s t at (at + n) a m in
+      (rw d at e) ∙ rw (reach-from s t at 2 h)
+
+  -- places of groups depend on line feeds alone
+  pub start-same : (at : ℕ) (ns : List ℕ) (g : ℕ) → start s at ns g ≡ start t at ns g
+  unfolding start
+  start-same at ns g = rw (reach-from s t at _ h)
+
+  -- ---- along the walk
+
+  -- where the index of record k of the walk ends
+  abbrev pub headEnd : ℕ → ℕ
+  headEnd k = spot s k + reach (drop (spot s k) s) 2
+
+  module _ {D : ℕ → Type 0} (a : Agree D s t) (m : (k : ℕ) → Misses D (spot s k) (headEnd k)) where
+    pub same-located : (k : ℕ) → locate s (spot s k) ≡ locate t (spot s k)
+    same-located k = locate-same (spot s k) (head-same (spot s k) a (m k))
+
+    pub same-spot : (k : ℕ) → spot s k ≡ spot t k
+    unfolding spot
+    same-spot zero = refl
+    same-spot (suc k) = ap (onward (spot s k)) (same-located k) ∙ ap (λ p. onward p (locate t p)) (same-spot k)
+
+    pub same-answer : (k : ℕ) → locate s (spot s k) ≡ locate t (spot t k)
+    same-answer k = same-located k ∙ ap (locate t) (same-spot k)
+
+    pub same-stops : (many : ℕ) (p : Placing) → Stops s many p → Stops t many p
+    same-stops many p w =
+        record {
+          each = λ k l. let r = w .each k l in record { next = r .next; ns = r .ns; is = sym (same-answer k) ∙ r .is };
+          last = sym (same-answer many) ∙ w .last;
+        }

@@ -1,0 +1,54 @@
+-- `place::span_of` meets its contract: a group's lines begin behind those before it, and end as many lines on.
+-- Assumes nothing.
+use borrow.Author.Needs.{needs}
+use native.Mathlib.Omega.{arith}
+use mathlib.Core.Path.{_≡_, sym, _∙_, ap}
+use Prim.Native.Nat.{_+_}
+use lib.ListN.{drop}
+use Rattle.line.specs.Lines.{reach}
+use Rattle.count.proofs.Tallied.{lines-below}
+use Rattle.place.specs.Parts.{start}
+use Rattle.place.proofs.Spans.{start-done, start-next}
+use Rattle.place.proofs.span_of.Statement.{statement}
+use Rattle.place.proofs.span_of.Tie as tie
+
+add-up-requires : tie.Need-add-up-requires
+add-up-requires c κs = search needs
+
+behind-or-end-requires : tie.Need-behind-or-end-requires
+behind-or-end-requires c κs = search needs
+
+begins : (c : tie.After-behind-or-end) → c .behind-or-end .result ≡ start (c .before .before .before .before .args .text .now) (c .before .before .before .before .args .at) (c .before .before .before .before .args .counts .now) (c .before .before .before .before .args .group)
+unfolding start
+begins c = c .behind-or-end .ensures ∙ ap (λ k. c .before .before .before .before .args .at + reach (drop (c .before .before .before .before .args .at) (c .before .before .before .before .args .text .now)) k) (c .before .add-up .ensures .lines-are)
+
+returns : tie.Need-returns
+returns c = (begins (c .before), begins (c .before) ∙ sym (start-done (c .before .before .before .before .before .args .text .now) (c .before .before .before .before .before .args .at) (c .before .before .before .before .before .args .counts .now) (c .before .before .before .before .before .args .group) (c .if1 .taken)))
+
+add-add-up : tie.Need-add-add-up
+add-add-up c = search needs
+
+add-up-requires-2 : tie.Need-add-up-requires-2
+add-up-requires-2 c κs = search needs
+
+sub-behind-or-end : tie.Need-sub-behind-or-end
+sub-behind-or-end c = omega (arith, c .before .before .before .before .before .add-up .ensures .lines-are, c .before .before .add-up2 .ensures .lines-are, lines-below (c .before .before .before .before .before .before .before .before .args .counts .now) (c .before .before .before .before .before .before .before .before .args .group) (c .before .before .before .before .before .before .before .before .args .group + 1) (omega arith))
+
+behind-or-end-requires-2 : tie.Need-behind-or-end-requires-2
+behind-or-end-requires-2 c κs = search needs
+
+returns-2 : tie.Need-returns-2
+returns-2 c = (begins (c .before .before .before .before .before), c .behind-or-end2 .ensures ∙ start-next (c .before .before .before .before .before .before .before .before .before .args .text .now) (c .before .before .before .before .before .before .before .before .before .args .at) (c .before .before .before .before .before .before .before .before .before .args .counts .now) (c .before .before .before .before .before .before .before .before .before .args .group) (begins (c .before .before .before .before .before)) (c .before .before .before .before .before .before .add-up .ensures .lines-are) (c .before .before .before .add-up2 .ensures .lines-are))
+
+pub span-of-spec : {M : Type 1} → statement M
+span-of-spec =
+    tie.close
+    (tie.spec
+    add-up-requires
+    behind-or-end-requires
+    returns
+    add-add-up
+    add-up-requires-2
+    sub-behind-or-end
+    behind-or-end-requires-2
+    returns-2)
