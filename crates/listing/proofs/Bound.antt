@@ -2,8 +2,7 @@
 -- bytes. Its row has at most 30 bytes: 3 digits for the number, 5 for each place, 1 for the reply, 2 for the blamed group, 2 for the
 -- groups with a count, 5 for the lines, and a byte behind each. The end row has at most 19.
 -- Assumes nothing.
-use mathlib.Core.Path.{_≡_, refl, sym, _∙_, ap}
-use mathlib.Core.Bool.{Bool, true, false}
+use mathlib.Core.Path.{_≡_, refl, _∙_, ap}
 use mathlib.Core.List.{List, [], _∷_, _++_}
 use mathlib.Core.Logic.{_⊎_, ⊎-elim}
 use Prim.Native.Nat.{ℕ, zero, suc, _+_, _*_, _-_, _<_, _≤_}
@@ -14,7 +13,6 @@ use lib.ListN.{length, drop, length-append, length-drop}
 use lib.Dec.{lit<}
 use Rattle.base.specs.Quoted.{bytes}
 use Rattle.base.proofs.Order.{le-or-lt}
-use Rattle.line.specs.Lines.{feeds}
 use Rattle.line.proofs.Feeds.{feeds-le}
 use Rattle.count.specs.Tally.{recordLines}
 use Rattle.count.specs.Rules.{rulingOf}
@@ -33,10 +31,10 @@ use Rattle.decimal.proofs.Writing.{end-done, none-means}
 use Rattle.place.specs.declared.Placing.{Placing}
 use Rattle.place.specs.declared.Placing.the-variants.{Placed, End, Beyond, TooFewLines, Misformed, OtherRelease, FilledVacant, BrokenRule}
 use Rattle.place.specs.Placing
-use Rattle.place.specs.Placing.{Located, located, refused, locate, ruledAt, placingBy, countsBy, placingOf, countsAt}
+use Rattle.place.specs.Placing.{Located, located, refused, locate, ruledAt, placingBy, placingOf, countsAt}
 use Rattle.place.specs.Walk.{spot, IsRecord}
 use Rattle.place.proofs.Placed.{located-is, located-range}
-use Rattle.place.proofs.Walked.{Stopping, refused-stopping, spot-inside, stops-some}
+use Rattle.place.proofs.Walked.{Stopping, refused-stopping, spot-inside}
 use Rattle.listing.specs.Rows.{replyOf, nextOf, groupOf, filledGroups, recordRow, endRow}
 use Rattle.listing.specs.Records.{recordsIn}
 use Rattle.listing.specs.Listing.{rowAt, rowsFrom, endAt, listingOf, listing, printed}

@@ -1,9 +1,9 @@
 -- The number of a text's records: it is the number at which the walk stops. What an answer of placing says of the walk.
 -- Assumes nothing.
 use mathlib.Core.Path.{_≡_, refl, sym, _∙_, ap}
-use mathlib.Core.Bool.{Bool, true, false}
+use mathlib.Core.Bool.{true, false}
 use mathlib.Core.List.{List}
-use Prim.Native.Nat.{ℕ, zero, suc, _+_, _*_, _-_, _<_, _≤_}
+use Prim.Native.Nat.{ℕ, zero, suc, _+_, _*_, _-_, _≤_}
 use native.Mathlib.Omega.{arith}
 use lib.ListN.{length}
 use Rattle.count.specs.Rules.{rulingOf}
@@ -13,9 +13,9 @@ use Rattle.place.specs.declared.Placing.{Placing}
 use Rattle.place.specs.declared.Placing.the-variants.{Placed, End, Beyond, TooFewLines, Misformed, OtherRelease, FilledVacant, BrokenRule}
 use Rattle.place.specs.Placing
 use Rattle.place.specs.Placing.{Located, located, refused, locate, ruledAt, placingBy, countsBy, placingOf, countsAt}
-use Rattle.place.specs.Walk.{spot, IsRecord, Stops}
+use Rattle.place.specs.Walk.{spot, Stops}
 use Rattle.place.proofs.Walked.{Stopping, refused-stopping, stops-some, stops-few}
-use Rattle.listing.specs.Rows.{replyOf, nextOf, groupOf, isPlaced}
+use Rattle.listing.specs.Rows.{replyOf, nextOf, isPlaced}
 use Rattle.listing.specs.Records.{oneMore, recordsFrom, recordsIn}
 
 -- ---- the number of records

@@ -1,19 +1,15 @@
 -- The lines of the listing from a record on, as a loop goes through them: one line more where a record is placed, the last one where the
 -- walk stops.
 -- Assumes nothing.
-use mathlib.Core.Path.{_≡_, refl, sym, _∙_, ap}
+use mathlib.Core.Path.{_≡_, sym, _∙_, ap}
 use mathlib.Core.Bool.{true, false}
-use mathlib.Core.List.{List, [], _∷_, _++_, append-assoc}
+use mathlib.Core.List.{List, _++_, append-assoc}
 use Prim.Native.Nat.{ℕ, suc, _+_, _-_, _<_, _≤_}
 use native.Mathlib.Omega.{arith}
 use native.Mathlib.Numerals.{add-one}
-use lib.ListN.{length, length-append}
-use Rattle.base.specs.Part.{over}
+use lib.ListN.{length}
 use Rattle.base.specs.Quoted.{bytes}
 use Rattle.decimal.specs.Rows.{rowText}
-use Rattle.decimal.specs.Writing.{endIn}
-use Rattle.decimal.specs.declared.Put.the-variants.{Next, NoRoom}
-use Rattle.decimal.proofs.Writing.{end-then, end-first}
 use Rattle.place.specs.Placing.{located, refused, locate, placingOf, countsAt}
 use Rattle.place.specs.Walk.{spot}
 use Rattle.place.proofs.Walked.{spot-more, stops-some, stops-later, stops-here}
@@ -21,7 +17,7 @@ use Rattle.place.proofs.Placed.{located-range, located-long}
 use Rattle.listing.specs.Rows.{replyOf, nextOf, isPlaced, recordRow, endRow}
 use Rattle.listing.specs.Records.{recordsIn}
 use Rattle.listing.specs.Listing.{rowAt, rowsFrom, endAt, listingOf, listing}
-use Rattle.listing.proofs.Counted.{records-stop, records-are, placed-goes, placed-halts}
+use Rattle.listing.proofs.Counted.{records-stop, placed-goes, placed-halts}
 
 -- the listing from the k-th spot on
 unfoldable pub linesFrom : List ℕ → ℕ → List ℕ

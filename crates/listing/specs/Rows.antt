@@ -1,6 +1,5 @@
 -- "a line per placed record: record number, place, next place, reply, blamed group, groups with a nonzero count, lines with the index.
 -- Last comes `end`, records listed, the place where it stopped, the reply there, the group given with it or 0."
-use mathlib.Core.Path.{_≡_}
 use mathlib.Core.Bool.{Bool, cond, _||_}
 use mathlib.Core.List.{List, [], _∷_, map}
 use Prim.Native.Nat.{ℕ}

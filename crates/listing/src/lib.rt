@@ -127,15 +127,15 @@ fn put_listing(text: &[u8], out: &mut [u8])
     let mut at: usize = 0;
     let mut k: usize = 0;
     loop {
-        let here = place::place(text, at);
-        let answer = here.answer;
+        let found = place::place(text, at);
+        let answer = found.answer;
         let r = reply_of(answer);
         if !is_placed(r.number) {
             let last = end_row(k, at, answer);
             decimal::put_row(out, a, b"end ", &last);
             return;
         }
-        let counts = here.counts;
+        let counts = found.counts;
         let row = record_row(k + 1, at, answer, &counts);
         // there is room, so this is never taken
         let Put::Next(end) = decimal::put_row(out, a, b"", &row) else {

@@ -1,9 +1,9 @@
 -- The walk: a step on, a step that stays, spots that go forward; and that every text has one number of records at which the walk stops.
 -- Assumes nothing.
-use mathlib.Core.Path.{_≡_, refl, sym, _∙_, ap, subst}
+use mathlib.Core.Path.{_≡_, refl, sym, _∙_, subst}
 use mathlib.Core.Bool.{Bool, true, false, cond}
 use mathlib.Core.List.{List}
-use mathlib.Core.Logic.{_⊎_, inl, inr, ⊎-elim}
+use mathlib.Core.Logic.{_⊎_, ⊎-elim}
 use Prim.Native.Nat.{ℕ, zero, suc, _+_, _*_, _<_, _≤_}
 use native.Mathlib.Omega.{arith}
 use lib.Dec.{leb, ltb, eqb}
@@ -11,15 +11,13 @@ use lib.ListN.{length, drop}
 use Rattle.base.proofs.Order.{le-or-lt}
 use Rattle.line.specs.Lines.{feeds, reach}
 use Rattle.count.specs.Tally.{recordLines}
-use Rattle.count.specs.Rules.{releaseOf, rulingOf}
+use Rattle.count.specs.Rules.{releaseOf}
 use Rattle.count.specs.declared.Release.{Release}
 use Rattle.count.specs.declared.Release.the-variants.{Five, Other, Filled}
-use Rattle.count.specs.declared.Ruling.{Ruling}
-use Rattle.count.specs.declared.Ruling.the-variants.{Kept, Broken}
 use Rattle.place.specs.declared.Placing.{Placing}
 use Rattle.place.specs.declared.Placing.the-variants.{Placed, End, Beyond, TooFewLines, Misformed, OtherRelease, FilledVacant, BrokenRule}
 use Rattle.place.specs.Index.{Indexed, counts, misformed, readIndex}
-use Rattle.place.specs.Placing.{Located, located, refused, locate, locateIndex, locateRelease, placingOf, countsAt}
+use Rattle.place.specs.Placing.{Located, located, refused, locate, locateIndex, locateRelease}
 use Rattle.place.specs.Walk.{onward, spot, IsRecord, Stops}
 use Rattle.place.proofs.Placed.{located-range, located-long}
 

@@ -2,7 +2,7 @@
 -- Assumes nothing.
 use borrow.Author.Needs.{needs}
 use native.Mathlib.Omega.{arith}
-use mathlib.Core.Path.{_≡_, refl, sym, _∙_, ap}
+use mathlib.Core.Path.{refl}
 use Rattle.decimal.proofs.Writing.{next-means, puts-length}
 use Rattle.listing.proofs.Bound.{print-no-refusal}
 use Rattle.list.proofs.main.Statement.{statement}

@@ -1,7 +1,6 @@
 -- `listing::is_placed` meets its contract.
 -- Assumes nothing.
-use mathlib.Core.Path.{_≡_, refl, sym, _∙_, ap}
-use lib.Dec.{eqb}
+use mathlib.Core.Path.{sym}
 use borrow.Author.Tests.{eq-eqb, ne-eqb}
 use Rattle.listing.proofs.is_placed.Statement.{statement}
 use Rattle.listing.proofs.is_placed.Tie as tie

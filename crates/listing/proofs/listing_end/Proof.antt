@@ -2,8 +2,8 @@
 -- Assumes nothing.
 use borrow.Author.Needs.{needs}
 use native.Mathlib.Omega.{arith}
-use mathlib.Core.Path.{_≡_, refl, sym, _∙_, ap}
-use Prim.Native.Nat.{_-_, _+_, _≤_}
+use mathlib.Core.Path.{_≡_, sym, _∙_, ap}
+use Prim.Native.Nat.{suc, _-_, _≤_}
 use borrow.Author.Tests.{not-true, not-false}
 use lib.ListN.{length}
 use Rattle.decimal.specs.Writing.{endIn}
@@ -22,7 +22,7 @@ abbrev Inv-loop : tie.InvT-loop
 Inv-loop text size a₀ at₀ k₀ t13 t14 a at k = (k ≤ recordsIn text) × (at ≡ spot text k) × (endIn a (length (linesFrom text k)) size ≡ endIn 0 (length (listing text)) size)
 
 abbrev μ-loop : tie.MeasureT-loop
-μ-loop text size a₀ at₀ k₀ t13 t14 a at k = length text - at
+μ-loop text size a₀ at₀ k₀ t13 t14 a at k = suc (recordsIn text) - k
 
 loop-holds : tie.Need-loop-holds Inv-loop μ-loop
 loop-holds c = (omega arith, spot-start _, ap (λ t. endIn 0 (length t) (c .before .args .size)) (lines-all (c .before .args .text .now)))
@@ -104,7 +104,7 @@ add-k : tie.Need-add-k Inv-loop μ-loop
 add-k c = let m = more (c .before .before .before .before .before .before) in omega (arith, m .forward, m .inside, m .few, records-bytes (c .before .before .before .before .before .before .before .before .before .before .before .before .before .before .before .args .text .now))
 
 loop-less : tie.Need-loop-less Inv-loop μ-loop
-loop-less c = let m = more (c .before .before .before .before .before .before) in omega (arith, m .forward, m .inside)
+loop-less c = omega (arith, c .before .before .before .before .before .before .before .before .before .before .before .before .before .loop .inv .0)
 
 loop-again : tie.Need-loop-again Inv-loop μ-loop
 loop-again c =

@@ -1,8 +1,6 @@
 -- `listing::print` meets its contract: the two cases of what is printed.
 -- Assumes nothing.
 use borrow.Author.Needs.{needs}
-use mathlib.Core.Path.{_≡_, sym, _∙_, ap}
-use Rattle.decimal.specs.Writing.{Puts}
 use Rattle.listing.proofs.Bound.{printed-long, printed-short}
 use Rattle.listing.proofs.print.Statement.{statement}
 use Rattle.listing.proofs.print.Tie as tie

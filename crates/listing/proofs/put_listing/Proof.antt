@@ -2,10 +2,9 @@
 -- Assumes nothing.
 use borrow.Author.Needs.{needs}
 use native.Mathlib.Omega.{arith}
-use mathlib.Core.Path.{_≡_, refl, sym, _∙_, ap}
-use Prim.Native.Nat.{_-_, _+_, _≤_}
+use mathlib.Core.Path.{_≡_, _∙_, ap}
+use Prim.Native.Nat.{suc, _-_, _≤_}
 use borrow.Author.Tests.{not-true, not-false}
-use lib.ListN.{length}
 use Rattle.place.specs.Walk.{spot}
 use Rattle.place.proofs.Walked.{spot-start}
 use Rattle.listing.specs.Rows.{isPlaced}
@@ -19,7 +18,7 @@ abbrev Inv-loop : tie.InvT-loop
 Inv-loop text out₀ a₀ at₀ k₀ t13 t14 out a at k = (k ≤ recordsIn text) × (at ≡ spot text k) × Putting text k a out out₀
 
 abbrev μ-loop : tie.MeasureT-loop
-μ-loop text out₀ a₀ at₀ k₀ t13 t14 out a at k = length text - at
+μ-loop text out₀ a₀ at₀ k₀ t13 t14 out a at k = suc (recordsIn text) - k
 
 loop-holds : tie.Need-loop-holds Inv-loop μ-loop
 loop-holds c = (omega arith, spot-start _, put-starts _ _ (c .before .before .pre))
@@ -106,7 +105,7 @@ add-k : tie.Need-add-k Inv-loop μ-loop
 add-k c = let m = more (c .before .before .before .before .before .before .before .before .before) in omega (arith, m .forward, m .inside, m .few, records-bytes (c .before .before .before .before .before .before .before .before .before .before .before .before .before .before .before .before .before .before .before .args .text .now))
 
 loop-less : tie.Need-loop-less Inv-loop μ-loop
-loop-less c = let m = more (c .before .before .before .before .before .before .before .before .before) in omega (arith, m .forward, m .inside)
+loop-less c = omega (arith, c .before .before .before .before .before .before .before .before .before .before .before .before .before .before .before .before .loop .inv .0)
 
 loop-again : tie.Need-loop-again Inv-loop μ-loop
 loop-again c =

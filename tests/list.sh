@@ -1,0 +1,140 @@
+#!/bin/sh
+# The listing program: record S and its neighbours as 01 lists them, inputs at the limit of 65,536 bytes, and every text of tests/vectors.
+# Expected lines come from 01, from its arithmetic, or from the vectors. Prints each case that fails, and how many passed.
+set -u
+cd "$(dirname "$0")/.." || exit 2
+work=$(mktemp -d) || exit 2
+trap 'rm -rf "$work"' EXIT
+passed=0
+failed=0
+
+compared() { # CASE EXPECTED: what was listed, with what is expected
+    if cmp -s "$work/got" "$2"; then
+        passed=$((passed + 1))
+    else
+        failed=$((failed + 1))
+        echo "FAILED: list: $1"
+        diff "$2" "$work/got" | head -n 6
+    fi
+}
+
+listed() { # CASE EXPECTED, with the input on standard input
+    ./run list >"$work/got"
+    compared "$1" "$2"
+}
+
+lines() { # the arguments as lines, in a file of its own
+    printf '%s\n' "$@" >"$work/want"
+}
+
+bytes() { # FILE FROM COUNT
+    dd if="$1" bs=1 skip="$2" count="$3" 2>/dev/null
+}
+
+filled() { # COUNT: as many bytes `x`
+    awk -v n="$1" 'BEGIN { for (i = 0; i < n; i++) printf "x" }'
+}
+
+repeated() { # COUNT FILE: the file as many times
+    i=0
+    while [ "$i" -lt "$1" ]; do
+        cat "$2"
+        i=$((i + 1))
+    done
+}
+
+rows() { # COUNT SIZE REST: the rows of so many records of that size, REST their last four numbers
+    awk -v n="$1" -v size="$2" -v rest="$3" 'BEGIN { for (k = 1; k <= n; k++) print k, (k - 1) * size, k * size, rest }'
+}
+
+slowly() { # FILE: in four pieces, a second between two
+    for piece in 0 1 2 3; do
+        dd if="$1" bs=16385 skip="$piece" count=1 2>/dev/null
+        [ "$piece" = 3 ] || sleep 1
+    done
+}
+
+s=examples/s.sao
+
+# record S, and S twice, as 01 lists them
+lines '1 0 305 0 0 3 5' 'end 1 305 1 0'
+listed 'record S' "$work/want" <"$s"
+cat "$s" "$s" >"$work/in"
+lines '1 0 305 0 0 3 5' '2 305 610 0 0 3 5' 'end 2 610 1 0'
+listed 'S twice' "$work/want" <"$work/in"
+
+# the run-only cases, as far as they are of placing
+bytes "$s" 0 304 >"$work/in"
+lines 'end 0 0 3 0'
+listed 'S without its last byte' "$work/want" <"$work/in"
+{
+    bytes "$s" 0 30
+    printf '  3'
+    bytes "$s" 33 272
+    printf '   1.000   2.000   3.000\r\n'
+} >"$work/in"
+lines '1 0 331 7 7 4 6' 'end 1 331 1 0'
+listed 'S with group 11 alone of its trace set' "$work/want" <"$work/in"
+for blanks in 112 113; do
+    {
+        bytes "$s" 0 303
+        printf "%${blanks}s\r\n" ''
+    } >"$work/in"
+    lines "1 0 $((305 + blanks)) 0 0 3 5" "end 1 $((305 + blanks)) 1 0"
+    listed "S with its last line followed by $blanks blanks" "$work/want" <"$work/in"
+done
+{
+    bytes "$s" 0 303
+    printf ' \n'
+} >"$work/in"
+lines '1 0 305 0 0 3 5' 'end 1 305 1 0'
+listed 'S with a blank in place of its last carriage return' "$work/want" <"$work/in"
+
+# short inputs
+lines 'end 0 0 1 0'
+listed 'an empty input' "$work/want" </dev/null
+printf 'x' >"$work/in"
+lines 'end 0 0 3 0'
+listed 'one byte' "$work/want" <"$work/in"
+printf '\n' >"$work/in"
+listed 'one line feed' "$work/want" <"$work/in"
+
+# 65,536 bytes: 214 records S, and 266 bytes without a line feed behind them
+{
+    repeated 214 "$s"
+    filled 266
+} >"$work/in"
+{
+    rows 214 305 '0 0 3 5'
+    echo 'end 214 65270 3 0'
+} >"$work/want"
+listed '65,536 bytes, from a file' "$work/want" <"$work/in"
+slowly "$work/in" | ./run list >"$work/got"
+compared '65,536 bytes, from a slow pipe' "$work/want"
+
+# and one byte more
+printf 'x' >>"$work/in"
+lines 'end 0 0 11 0'
+listed '65,537 bytes, from a file' "$work/want" <"$work/in"
+slowly "$work/in" | ./run list >"$work/got"
+compared '65,537 bytes, from a slow pipe' "$work/want"
+
+# as many records as 65,536 bytes hold: 268 of two index lines alone, which break rule 1
+awk 'BEGIN { for (i = 0; i < 40; i++) printf "  0"; printf "\r\n"; for (i = 0; i < 39; i++) printf "  0"; printf "  5\r\n" }' >"$work/index"
+{
+    repeated 268 "$work/index"
+    filled 144
+} >"$work/in"
+{
+    rows 268 244 '7 1 0 2'
+    echo 'end 268 65392 3 0'
+} >"$work/want"
+listed '268 records' "$work/want" <"$work/in"
+
+# every text of the vectors
+for text in tests/vectors/*.sao; do
+    listed "$text" "${text%.sao}.list" <"$text"
+done
+
+echo "list: $passed passed, $failed failed"
+[ "$failed" = 0 ]
