@@ -1,7 +1,8 @@
--- The laws of the listing: groups with a count (Groups), the records of a walk (Counted), the lines from a record on, as a loop goes
--- (Lines), and how long a listing is (Bound).
+-- The laws of the listing: groups with a count and the groups that replies name (Groups), the records of a walk (Counted), the lines from
+-- a record on (Lines), a turn of the walks that list (Turns), the answer's reply (Replies), how long a listing is (Bound).
 pub mod Groups
 pub mod Counted
 pub mod Lines
 pub mod Turns
+pub mod Replies
 pub mod Bound

@@ -11,13 +11,19 @@ use lib.ListN.{length}
 use Rattle.base.specs.Quoted.{bytes}
 use Rattle.decimal.specs.Rows.{rowText}
 use Rattle.place.specs.Placing.{located, refused, locate, placingOf, countsAt}
-use Rattle.place.specs.Walk.{spot}
+use Rattle.place.specs.declared.Placing.{Placing}
+use Rattle.place.specs.Walk.{spot, Stops}
 use Rattle.place.proofs.Walked.{spot-more, stops-some, stops-later, stops-here}
 use Rattle.place.proofs.Placed.{located-range, located-long}
 use Rattle.listing.specs.Rows.{replyOf, nextOf, isPlaced, recordRow, endRow}
 use Rattle.listing.specs.Records.{recordsIn}
 use Rattle.listing.specs.Listing.{rowAt, rowsFrom, endAt, listingOf, listing}
-use Rattle.listing.proofs.Counted.{records-stop, placed-goes, placed-halts}
+use Rattle.listing.proofs.Counted.{records-are, records-stop, placed-goes, placed-halts}
+
+-- for a walk that has so many records the listing has their rows
+pub listing-is : (s : List ℕ) (many : ℕ) (p : Placing) → Stops s many p → listing s ≡ listingOf s many
+unfolding listing
+listing-is s many p h = ap (listingOf s) (records-are s many p h)
 
 -- the listing from the k-th spot on
 unfoldable pub linesFrom : List ℕ → ℕ → List ℕ

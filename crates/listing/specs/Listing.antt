@@ -6,7 +6,10 @@ use Prim.Native.Nat.{ℕ, zero, suc}
 use lib.Dec.{leb}
 use lib.ListN.{length}
 use Rattle.base.specs.Quoted.{bytes}
+use Rattle.count.specs.Reply.{Reply, reply}
 use Rattle.decimal.specs.Rows.{rowText}
+use Rattle.decimal.specs.declared.Put.{Put}
+use Rattle.decimal.specs.declared.Put.the-variants.{Next, NoRoom}
 use Rattle.place.specs.Placing.{placingOf, countsAt}
 use Rattle.place.specs.Walk.{spot}
 use Rattle.listing.specs.Rows.{recordRow, endRow}
@@ -35,3 +38,8 @@ listing s = listingOf s (recordsIn s)
 -- "The listing program reads standard input, at most 65,536 bytes .. Longer input gives only `end 0 0 11 0`."
 unfoldable pub printed : List ℕ → List ℕ
 printed s = cond (leb (length s) 65536) (listing s) (bytes "end " ++ rowText (0 ∷ 0 ∷ 11 ∷ 0 ∷ []))
+
+-- 01's reply: 0 with the bytes written, or 11
+abbrev pub listedReply : Put → Reply
+listedReply (Next n) = record { number = 0; next = 0; written = n; group = 0; line = 0; element = 0; position = 0 }
+listedReply NoRoom = reply 11
