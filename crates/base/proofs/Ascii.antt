@@ -10,7 +10,7 @@ use lib.Dec.{T, leb, eqb, leb→le}
 use Rattle.base.specs.Ascii.{printable}
 use Rattle.base.specs.Every.{every}
 use Rattle.base.proofs.Choice.{and-left}
-use Rattle.base.proofs.Everywhere.{every-imply}
+use Rattle.base.proofs.Every.{every-imply}
 
 -- no byte of a printable text is a given code below the blank, as the line feed or the carriage return
 pub printable-without : (c : ℕ) (s : List ℕ) → c < 32 → T (every printable s) → T (every (λ b. not (eqb b c)) s)

@@ -1,6 +1,7 @@
--- Choices by a Bool: what holds of both ways holds of the choice; tests that both hold, or one of them.
+-- Choices by a Bool and tests: what holds of both ways holds of the choice; what a choice gave tells which way it went; tests of which both
+-- hold, or one; tests that pass together are the same.
 -- Assumes nothing.
-use mathlib.Core.Path.{_≡_, refl}
+use mathlib.Core.Path.{_≡_, refl, sym}
 use mathlib.Core.Bool.{Bool, true, false, cond, _&&_, _||_, false≢true}
 use mathlib.Core.Logic.{_⊎_, inl, inr}
 use lib.Dec.{T}
@@ -46,9 +47,32 @@ pub not-T-false : (a : Bool) → (T a → ⊥) → a ≡ false
 not-T-false true n = absurd (n tt)
 not-T-false false n = refl
 
--- two tests that pass together are equal
+pub cond-taken : {A : Type 0} (t : Bool) (a b v : A) → (b ≡ v → ⊥) → cond t a b ≡ v → t ≡ true
+cond-taken true a b v n e = refl
+cond-taken false a b v n e = absurd (n e)
+
+pub cond-kept : {A : Type 0} (t : Bool) (a b v : A) → (b ≡ v → ⊥) → cond t a b ≡ v → a ≡ v
+cond-kept true a b v n e = e
+cond-kept false a b v n e = absurd (n e)
+
+pub test-same : (a b : Bool) → (a ≡ true → b ≡ true) → (b ≡ true → a ≡ true) → a ≡ b
+test-same true b f g = sym (f refl)
+test-same false true f g = g refl
+test-same false false f g = refl
+
+pub and-false : (a : Bool) → (a && false) ≡ false
+and-false true = refl
+and-false false = refl
+
+-- what a test of two parts says of each
+pub and-first : (a b : Bool) → (a && b) ≡ true → a ≡ true
+and-first true b e = refl
+and-first false b e = e
+
+pub and-second : (a b : Bool) → (a && b) ≡ true → b ≡ true
+and-second true b e = e
+and-second false true e = refl
+and-second false false e = e
+
 pub same-test : (a b : Bool) → (T a → T b) → (T b → T a) → a ≡ b
-same-test true true f g = refl
-same-test true false f g = absurd (f tt)
-same-test false true f g = absurd (g tt)
-same-test false false f g = refl
+same-test a b f g = test-same a b (λ e. T-true b (f (true-T a e))) (λ e. T-true a (g (true-T b e)))

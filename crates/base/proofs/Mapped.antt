@@ -1,10 +1,11 @@
--- A list with a function put to each of its elements: its beginning, its rest, and when two of them are equal.
+-- A list with a function put to each of its elements: its beginning, its rest, an element of it, and when two of them are equal.
 -- Assumes nothing.
 use mathlib.Core.Path.{_≡_, refl, sym, _∙_, ap}
 use mathlib.Core.List.{List, [], _∷_, map}
 use Prim.Native.Nat.{ℕ, zero, suc, _<_}
 use lib.ListN.{length, take, drop, getD, length-map, List·getD-map}
 use lib.Seq.{ext-getD}
+use native.Mathlib.Nat.{le-of-suc-le-suc, not-suc-le-zero}
 
 pub map-take : {A B : Type 0} (f : A → B) (n : ℕ) (s : List A) → map f (take n s) ≡ take n (map f s)
 map-take f zero [] = refl
@@ -27,3 +28,9 @@ map-ext f d s t e h =
 
 pub map-length : {A B : Type 0} (f : A → B) (s t : List A) → map f s ≡ map f t → length s ≡ length t
 map-length f s t e = sym (length-map s f) ∙ ap length e ∙ length-map t f
+
+-- within the list no default is met, so any two will do
+pub getD-map-within : {A B : Type 0} (f : A → B) (xs : List A) (k : ℕ) (d : A) (e : B) → k < length xs → getD (map f xs) k e ≡ f (getD xs k d)
+getD-map-within f [] k d e h = absurd (not-suc-le-zero h)
+getD-map-within f (x ∷ xs) zero d e h = refl
+getD-map-within f (x ∷ xs) (suc k) d e h = getD-map-within f xs k d e (le-of-suc-le-suc h)

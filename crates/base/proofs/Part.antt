@@ -1,4 +1,5 @@
--- Parts and overwritten places: two writes that meet are one, a part that was lent comes back as `over`.
+-- Parts and overwritten places: a part is what stands in the middle; two writes that meet are one; a part that was lent comes back as `over`;
+-- places overwritten from the last to the first, and by a loop that stores one element behind the other.
 -- Assumes nothing.
 use mathlib.Core.Path.{_≡_, refl, sym, ap, _∙_}
 use mathlib.Core.List.{List, [], _∷_, _++_, append-assoc, append-nil}
@@ -6,8 +7,8 @@ use Prim.Native.Nat.{ℕ, _+_, _-_, _<_, _≤_}
 use native.Mathlib.Nat.{add-assoc, zero-add, add-zero}
 use native.Mathlib.Numerals.{add-one}
 use native.Mathlib.Omega.{arith}
-use lib.ListN.{length, take, drop, set, take-append-drop, length-append, length-take, length-drop, drop-of-length-le}
-use lib.Seq.{take-at, drop-at, drop-drop, length-take-le, set-split}
+use lib.ListN.{length, take, drop, set, take-append-drop, length-append, length-take, length-drop, drop-of-length-le, getD}
+use lib.Seq.{take-at, drop-at, drop-drop, length-take-le, set-split, take-append-le, take-take, take-suc}
 use Rattle.base.specs.Part.{part, over}
 
 pub part-length : {A : Type 0} (xs : List A) (at w : ℕ) → at + w ≤ length xs → length (part at (at + w) xs) ≡ w
@@ -48,3 +49,36 @@ over-then xs ys zs a b at k e h p q = q ∙ rw (p, e) (over-over xs a b at (omeg
 -- a part that was lent as `&mut xs[at..at + k]`, as it comes back
 pub over-lent : {A : Type 0} (xs ys : List A) (at k : ℕ) → length ys ≡ k → take at xs ++ (ys ++ drop k (drop at xs)) ≡ over at ys xs
 over-lent xs ys at k e = rw (drop-drop k at xs, e)
+
+pub part-cut : {A : Type 0} (xs : List A) (at k : ℕ) → xs ≡ take at xs ++ (part at (at + k) xs ++ drop k (drop at xs))
+part-cut xs at k =
+    let e : at + k - at ≡ k = omega arith in
+    sym (take-append-drop at xs) ∙ rw e (ap (λ l. take at xs ++ l) (sym (take-append-drop k (drop at xs))))
+
+pub part-middle : {A : Type 0} (a b c : List A) → part (length a) (length a + length b) (a ++ (b ++ c)) ≡ b
+part-middle a b c =
+    let e : length a + length b - length a ≡ length b = omega arith in
+    rw (drop-at a (b ++ c) (length a) refl, e) (take-at b c (length b) refl)
+
+-- ys is xs with t from a place of it on
+pub record Put {A : Type 0} (xs : List A) (at : ℕ) (t ys : List A) : Type 0 where
+  pub room : at ≤ length xs
+  pub is : ys ≡ over at t xs
+
+-- a write that ends where the last one began
+pub put-before : {A : Type 0} {xs ys t : List A} {k : ℕ} → Put xs k t ys → (a zs : List A) (at : ℕ) → k ≡ at + length a → zs ≡ over at a ys → Put xs at (a ++ t) zs
+put-before {xs = xs} {ys = ys} {t = t} {k = k} p a zs at e q =
+    let l : length (take k xs) ≡ k = length-take-le k xs (p .room) in
+    let rest = t ++ drop (k + length t) xs in
+    let u : take at ys ≡ take at xs = ap (take at) (p .is) ∙ take-append-le at (take k xs) rest (omega arith) ∙ take-take at k xs (omega arith) in
+    let v : drop (at + length a) ys ≡ rest = ap (λ n. drop n ys) (sym e) ∙ ap (drop k) (p .is) ∙ drop-at (take k xs) rest k l in
+    let w : at + length (a ++ t) ≡ k + length t = ap (λ n. at + n) (length-append a t) ∙ omega arith in
+    record { room = omega (arith, p .room); is = q ∙ rw (u, v, append-assoc a t (drop (at + length (a ++ t)) xs), w) }
+
+-- a loop that stores the elements of ys
+pub over-turn : {A : Type 0} (xs ys zs : List A) (at i : ℕ) (d : A) → i < length ys → at + length ys ≤ length xs → zs ≡ over at (take i ys) xs → set zs (at + i) (getD ys i d) ≡ over at (take (i + 1) ys) xs
+over-turn xs ys zs at i d h r e =
+    let l : length (take i ys) ≡ i = length-take-le i ys (omega arith) in
+    let m : length zs ≡ length xs = ap length e ∙ over-length xs (take i ys) at (omega arith) in
+    rw (add-one i, take-suc ys i d h)
+    (over-then xs zs (set zs (at + i) (getD ys i d)) (take i ys) (getD ys i d ∷ []) at (at + i) (omega arith) (omega arith) e (over-one zs (at + i) (getD ys i d) (omega arith)))

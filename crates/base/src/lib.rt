@@ -1,1 +1,14 @@
-// Definitions and laws that every layer needs. There is no code here: specs/ has the definitions, proofs/ their laws.
+// What every layer needs. specs/ has the definitions, proofs/ their laws.
+ghost use mathlib.Core.Path.{_≡_};
+ghost use Prim.Native.Nat.{_+_};
+ghost use lib.Dec.{leb};
+
+// Whether k bytes fit behind a place of n. No sum is made, so any numbers may be given.
+pub fn has_room(at: usize, k: usize, n: usize) -> bool
+    ensures { λ r. ⌜ r ≡ leb (at + k) n ⌝ }
+{
+    if n < at {
+        return false;
+    }
+    k <= n - at
+}

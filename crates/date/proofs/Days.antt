@@ -8,8 +8,7 @@ use native.Mathlib.Nat.{add-zero, add-suc}
 use native.Mathlib.Omega.{arith}
 use borrow.Author.Tests.{leb-true, eqb-true, le-leb, eq-eqb, ltb-true, ltb-false}
 use lib.Dec.{leb, ltb, eqb}
-use Rattle.base.proofs.Tests.{test-same, and-first, and-second}
-use Rattle.base.proofs.Choice.{not-T-false, T-true}
+use Rattle.base.proofs.Choice.{test-same, and-first, and-second, not-T-false, T-true}
 use Rattle.date.specs.Calendar.{monthLength, daysTo, nameDay, IsDay}
 use Rattle.date.proofs.Months.{days-more}
 

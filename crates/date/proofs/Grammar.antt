@@ -12,10 +12,9 @@ use lib.ListN.{length, take, drop, length-map, length-append}
 use lib.Seq.{length-take-le}
 use Rattle.base.specs.Digits.{AllDigits, numberOf, digitText}
 use Rattle.base.specs.Every.{every}
-use Rattle.base.proofs.Middle.{part-cut, part-middle}
-use Rattle.base.proofs.Part.{part-length}
-use Rattle.base.proofs.SameDigits.{same-digits}
-use Rattle.base.proofs.Tests.{and-first, and-second}
+use Rattle.base.proofs.Part.{part-cut, part-middle, part-length}
+use Rattle.base.proofs.Digits.{same-digits}
+use Rattle.base.proofs.Choice.{and-first, and-second}
 use Rattle.date.specs.declared.DigitField.{DigitField}
 use Rattle.date.specs.declared.Digits.{Digits}
 use Rattle.date.specs.declared.Digits.the-variants.{Number, Fails}

@@ -13,7 +13,7 @@ use lib.ListN.{length, drop, getD, drop-of-length-le}
 use lib.Seq.{drop-cons}
 use Rattle.base.specs.Digits.{numberFrom}
 use Rattle.base.specs.Every.{every}
-use Rattle.base.proofs.Tests.{and-false}
+use Rattle.base.proofs.Choice.{and-false}
 use Rattle.date.specs.declared.Digits.{Digits}
 use Rattle.date.specs.declared.Digits.the-variants.{Number, Fails}
 use Rattle.date.specs.Digits.{isDigit, digitsIn, within}

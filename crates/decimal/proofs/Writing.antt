@@ -11,7 +11,6 @@ use lib.Dec.{leb}
 use lib.ListN.{length, take, getD, set, length-append, length-set}
 use lib.Seq.{length-take-le, take-suc}
 use borrow.Author.Tests.{le-leb, lt-leb, leb-true, leb-false}
-use Rattle.base.proofs.Order.{le-or-lt}
 use Rattle.base.specs.Part.{over}
 use Rattle.base.proofs.Part.{over-length, over-one, over-then}
 use Rattle.decimal.specs.Writing.{endIn, fits, putAnswer, putBytes, Puts}
@@ -19,13 +18,6 @@ use Rattle.decimal.specs.declared.Put.{Put}
 use Rattle.decimal.specs.declared.Put.the-variants.{Next, NoRoom}
 
 -- ---- room
-
-pub room-leb : (n at k : ℕ) → at ≤ n → leb k (n - at) ≡ leb (at + k) n
-room-leb n at k h =
-    ⊎-elim
-    (λ (l : at + k ≤ n). le-leb k (n - at) (omega arith) ∙ sym (le-leb (at + k) n l))
-    (λ (l : n < at + k). lt-leb k (n - at) (omega arith) ∙ sym (lt-leb (at + k) n l))
-    (le-or-lt (at + k) n)
 
 -- where k bytes end: there is room, there is none; one text behind another
 pub end-done : (at k size : ℕ) → at + k ≤ size → endIn at k size ≡ Next (at + k)

@@ -58,22 +58,12 @@ fn put_numeral(out: &mut [u8], at: usize, k: usize, n: u64)
     put_digits(&mut out[at..e], n);
 }
 
-// Whether k bytes have room from a place on.
-fn has_room(size: usize, at: usize, k: usize) -> bool
-    ensures { λ r. ⌜ r ≡ leb (at + k) size ⌝ }
-{
-    if size < at {
-        return false;
-    }
-    k <= size - at
-}
-
 // Puts the decimal numeral of n into the bytes from a place on.
 pub fn put_number(out: &mut [u8], at: usize, n: u64) -> Put
     ensures { λ r. ⌜ Puts at (numeral n) (now (out .entry)) r (now (out .exit)) ⌝ }
 {
     let k = digits(n);
-    if has_room(out.len(), at, k) {
+    if base::has_room(at, k, out.len()) {
         put_numeral(out, at, k, n);
         return Put::Next(at + k);
     }
@@ -111,7 +101,7 @@ pub fn put_signed(out: &mut [u8], at: usize, v: i64) -> Put
     let n = size(v);
     if v < 0 {
         let k = digits(n);
-        if has_room(out.len(), at, k + 1) {
+        if base::has_room(at, k + 1, out.len()) {
             put_minus(out, at, k, n);
             return Put::Next(at + (k + 1));
         }
@@ -150,7 +140,7 @@ fn numbers_end(size: usize, at: usize, numbers: &[u64]) -> Put
 pub fn row_end(size: usize, at: usize, first: &[u8], numbers: &[u64]) -> Put
     ensures { λ r. ⌜ r ≡ endIn at (length (now (first .entry) ++ rowText (now (numbers .entry)))) size ⌝ }
 {
-    if has_room(size, at, first.len()) {
+    if base::has_room(at, first.len(), size) {
         return numbers_end(size, at + first.len(), numbers);
     }
     Put::NoRoom

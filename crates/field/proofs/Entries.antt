@@ -13,7 +13,7 @@ use Rattle.base.specs.Ascii.{printable}
 use Rattle.base.specs.Every.{every}
 use Rattle.base.specs.Digits.{numberOf, digitText}
 use Rattle.base.specs.Sign.{negative, sizeOf}
-use Rattle.base.proofs.Chosen.{cond-taken, cond-kept}
+use Rattle.base.proofs.Choice.{cond-taken, cond-kept}
 use Rattle.base.proofs.Sign.{negative-of, size-of}
 use Rattle.base.proofs.Digits.{number-within, lean-some}
 use Rattle.number.specs.declared.Scan.{Scan}

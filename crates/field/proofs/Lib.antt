@@ -2,7 +2,6 @@
 pub mod Forms
 pub mod Fitting
 pub mod Letters
-pub mod Room
 pub mod Laws
 pub mod Cases
 pub mod Entries

@@ -389,23 +389,13 @@ fn put_as(kind: Kind, cells: &[i64], out: &mut [u8], at: usize)
     }
 }
 
-// Whether w bytes fit behind a place of n.
-fn has_room(at: usize, w: usize, n: usize) -> bool
-    ensures { λ r. ⌜ r ≡ leb (at + w) n ⌝ }
-{
-    if n < w {
-        return false;
-    }
-    at <= n - w
-}
-
 // Writes the canonical text of the cells at a place, or nothing: first where no field of the form reads as them, then where there is no room.
 pub fn write(form: Form, cells: &[i64], out: &mut [u8], at: usize) -> Written
     ensures { λ r. ⌜ Wrote (fitsOf form (now (cells .entry))) (fieldText form (now (cells .entry))) at (rowOf form .width) (now (out .entry)) r (now (out .exit)) ⌝ }
 {
     let kind = kind_of(form);
     if fits(form, cells) {
-        if has_room(at, width_of(kind), out.len()) {
+        if base::has_room(at, width_of(kind), out.len()) {
             put_as(kind, cells, out, at);
             return Written::Done;
         }
@@ -450,7 +440,7 @@ pub fn write_entry(count: u16, out: &mut [u8], at: usize) -> Written
     if 999 < count {
         return Written::NoField;
     }
-    if has_room(at, 3, out.len()) {
+    if base::has_room(at, 3, out.len()) {
         number::put_at(out, at, 3, false, Scan::Digits(false, count as u64));
         return Written::Done;
     }

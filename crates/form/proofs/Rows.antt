@@ -8,7 +8,7 @@ use Prim.Native.Nat.{ℕ, _*_, _<_, _≤_}
 use lib.Dec.{T, leb, leb→le}
 use lib.ListN.{getD}
 use Rattle.base.specs.Every.{every}
-use Rattle.base.proofs.Index.{getD-map-within}
+use Rattle.base.proofs.Mapped.{getD-map-within}
 use Rattle.base.proofs.Choice.{and-left, and-right}
 use Rattle.form.specs.declared.Row.{Row}
 use Rattle.form.specs.declared.Form.{Form}

@@ -13,8 +13,7 @@ use lib.ListN.{length, take, drop, getD, replicate, length-append, length-take, 
 use lib.Seq.{getD-at, take-at, drop-at}
 use Rattle.base.specs.Part.{part}
 use Rattle.base.specs.Digits.{digitText}
-use Rattle.base.proofs.Choice.{cond-elim}
-use Rattle.base.proofs.Chosen.{cond-taken, cond-kept}
+use Rattle.base.proofs.Choice.{cond-elim, cond-taken, cond-kept}
 use Rattle.number.specs.declared.Scan.{Scan}
 use Rattle.number.specs.declared.Scan.the-variants.{Blanks, Signed, Digits, Broken}
 use Rattle.number.specs.declared.Number.{Number}

@@ -14,7 +14,7 @@ use lib.Seq.{getD-at, take-at, drop-at, take-all, split-at}
 use Rattle.base.specs.Part.{part}
 use Rattle.base.specs.Sign.{ofSign}
 use Rattle.base.specs.Digits.{AllDigits, numberOf, digitText}
-use Rattle.base.proofs.Chosen.{cond-taken, cond-kept}
+use Rattle.base.proofs.Choice.{cond-taken, cond-kept}
 use Rattle.base.proofs.Digits.{number-append}
 use Rattle.number.specs.declared.Scan.{Scan}
 use Rattle.number.specs.declared.Scan.the-variants.{Blanks, Signed, Digits, Broken}

@@ -15,7 +15,7 @@ use Rattle.base.specs.Digits.{numberOf}
 use Rattle.base.proofs.Choice.{and-both}
 use Rattle.base.proofs.Columns.{columns-length}
 use Rattle.base.proofs.Digits.{lean-some}
-use Rattle.base.proofs.Everywhere.{every-append, columns-every}
+use Rattle.base.proofs.Every.{every-append, columns-every}
 use Rattle.number.specs.declared.Scan.{Scan}
 use Rattle.number.specs.declared.Scan.the-variants.{Blanks, Signed, Digits, Broken}
 use Rattle.number.specs.Write.{lastOf, backOf, textOf, stateOf, leadState, textI, textF, textE}

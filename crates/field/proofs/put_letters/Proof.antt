@@ -7,14 +7,13 @@ use Prim.Native.Nat.{_+_, _≤_, _-_}
 use lib.ListN.{length, take, set, getD, length-map, length-set, List·getD-map}
 use Rattle.base.specs.Part.{over}
 use Rattle.base.specs.Sign.{sizeOf}
-use Rattle.base.proofs.Part.{over-none}
-use Rattle.base.proofs.Overwritten.{over-turn}
+use Rattle.base.proofs.Part.{over-none, over-turn}
 use Rattle.field.specs.Write.{isLetter}
 use lib.IntN.{pos}
 use mir.Syntax.{w64}
 use mir.Facts.{toZ-ofZ}
 use lib.Seq.{take-all}
-use Rattle.base.proofs.Everywhere.{every-at}
+use Rattle.base.proofs.Every.{every-at}
 use Rattle.field.proofs.put_letters.Statement.{statement}
 use Rattle.field.proofs.put_letters.Tie as tie
 

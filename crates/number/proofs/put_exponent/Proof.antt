@@ -8,7 +8,7 @@ use native.Mathlib.Omega.{arith}
 use mir.Syntax.{w64}
 use mir.Facts.{toZ-ofZ}
 use Rattle.base.specs.Sign.{negative, sizeOf}
-use Rattle.base.proofs.Overwritten.{Put, put-before}
+use Rattle.base.proofs.Part.{Put, put-before}
 use Rattle.number.specs.declared.Scan.{Scan}
 use Rattle.number.specs.declared.Scan.the-variants.{Digits}
 use Rattle.number.specs.Write.{textOf, stateOf}

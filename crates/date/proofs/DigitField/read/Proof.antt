@@ -4,7 +4,7 @@ use borrow.Author.Needs.{needs}
 use Prim.Native.Nat.{_+_, _-_}
 use lib.ListN.{length}
 use borrow.Author.Tests.{lt-leb, le-leb}
-use Rattle.base.proofs.Tests.{and-false}
+use Rattle.base.proofs.Choice.{and-false}
 use Rattle.date.specs.Digits.{digitsOf}
 use Rattle.date.proofs.DigitField.read.Statement.{statement}
 use Rattle.date.proofs.DigitField.read.Tie as tie

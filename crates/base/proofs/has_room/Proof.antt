@@ -1,17 +1,17 @@
--- `decimal::has_room` meets its contract: a place beyond the end has no room, and behind any other the rest is what is left.
+-- `base::has_room` meets its contract: a place beyond the end has no room, and behind any other the rest is what is left.
 -- Assumes nothing.
 use mathlib.Core.Path.{sym}
 use Prim.Native.Nat.{_+_}
 use native.Mathlib.Omega.{arith}
 use borrow.Author.Tests.{lt-leb}
-use Rattle.decimal.proofs.Writing.{room-leb}
-use Rattle.decimal.proofs.has_room.Statement.{statement}
-use Rattle.decimal.proofs.has_room.Tie as tie
+use Rattle.base.proofs.Order.{room-leb}
+use Rattle.base.proofs.has_room.Statement.{statement}
+use Rattle.base.proofs.has_room.Tie as tie
 
 returns : tie.Need-returns
 returns c =
     let a = c .before .args in
-    sym (lt-leb (a .at + a .k) (a .size) (omega arith))
+    sym (lt-leb (a .at + a .k) (a .n) (omega arith))
 
 returns-2 : tie.Need-returns-2
 returns-2 c = room-leb _ _ _ (c .if1 .left)
