@@ -14,8 +14,10 @@ pub mod Middle
 pub mod Order
 pub mod Overwritten
 pub mod Part
+pub mod Pieces
 pub mod SameDigits
 pub mod Sign
 pub mod Sum
+pub mod Taken
 pub mod Tests
 pub mod UpFrom
