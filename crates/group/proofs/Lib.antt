@@ -3,3 +3,9 @@ pub mod Blanks
 pub mod Lines
 pub mod Fields
 pub mod Checking
+pub mod Sizes
+pub mod Putting
+pub mod Filling
+pub mod Dates
+pub mod Steps
+pub mod Texts

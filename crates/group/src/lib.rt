@@ -1,5 +1,6 @@
 // Reading a group of a record: its lines are checked first, and the table is filled only when all of them are clean.
 use form::Form;
+use form::GroupForm;
 ghost use mathlib.Core.Path.{_≡_};
 ghost use mathlib.Core.Bool.{Bool};
 ghost use mathlib.Core.List.{map};
@@ -13,7 +14,10 @@ ghost use Rattle.base.specs.Pieces.{cellsGot};
 ghost use Rattle.form.specs.Table.{rowOf, formOf};
 ghost use Rattle.form.specs.Count.{elementsOf, cellsOf};
 ghost use Rattle.field.specs.Read.{fieldOf, formed, cellsIn};
+ghost use Rattle.line.specs.Contents.{contentOf};
 ghost use Rattle.line.specs.Lines.{reach};
+ghost use Rattle.place.specs.Parts.{start};
+ghost use Rattle.group.specs.Text.{refusalOf, readAt};
 ghost use Rattle.group.specs.Blanks.{blank, mayBeShort, shortest, filledTo, isRight, rightContent, Fits};
 ghost use Rattle.group.specs.Read.{verdictOf, readFields, readLines, dated, readForm, readGroup, readingOf, tableBy};
 
@@ -231,4 +235,233 @@ fn check_lines(form: Form, count: u16, lines: &[u8]) -> Verdict
         j += 1;
     }
     verdict
+}
+
+// The letters of a date stand in the first line of group 3: the rule on its count puts 19 there at least.
+fn check_date(count: u16, lines: &[u8]) -> Verdict
+    requires { ⌜ (19 ≤ count) × (verdictOf (readLines Form.A1 count (now lines)) ≡ Verdict.Clean) ⌝ }
+    ensures { λ r. ⌜ r ≡ verdictOf (dated 3 (readLines Form.A1 count (now (lines .entry)))) ⌝ }
+{
+    let n = form::elements(Form::A1, count);
+    let row = form::row_of(Form::A1);
+    let k = lesser(row.per_line, n);
+    match date::Date::new(&lines[0..k]) {
+        date::Dated::Right(_) => Verdict::Clean,
+        date::Dated::Wrong(position) => Verdict::Bad(Refusal::BadDate(position)),
+    }
+}
+
+// Lines, and then the date of group 3.
+fn check(form: Form, group: usize, count: u16, lines: &[u8]) -> Verdict
+    requires { ⌜ (formOf group ≡ GroupForm.Has form) × (group ≡ 3 → 19 ≤ count) ⌝ }
+    ensures { λ r. ⌜ r ≡ verdictOf (dated group (readLines form count (now (lines .entry)))) ⌝ }
+{
+    match check_lines(form, count, lines) {
+        Verdict::Bad(r) => Verdict::Bad(r),
+        Verdict::Clean => {
+            if group == 3 {
+                return check_date(count, lines);
+            }
+            Verdict::Clean
+        }
+    }
+}
+
+// ---- Filling.
+
+// A byte, or a blank behind the last.
+fn byte_or_blank(bytes: &[u8], i: usize) -> u8
+    ensures { λ r. ⌜ r ≡ getD (now (bytes .entry)) i 32 ⌝ }
+{
+    if i < bytes.len() {
+        return bytes[i];
+    }
+    32
+}
+
+// Letters, and blanks behind them up to the width.
+fn put_letters(bytes: &[u8], width: usize, table: &mut [i64], at: usize)
+    requires { ⌜ (length (now bytes) ≤ width) × (at + width ≤ length (now table)) ⌝ }
+    ensures { λ _. ⌜ now (table .exit) ≡ over at (map pos (filledTo width (now (bytes .entry)))) (now (table .entry)) ⌝ }
+{
+    let mut i: usize = 0;
+    while i < width {
+        table[at + i] = number::cell(false, byte_or_blank(bytes, i) as u64);
+        i += 1;
+    }
+}
+
+// The cells of a field.
+fn put_field(form: Form, width: usize, bytes: &[u8], table: &mut [i64], at: usize)
+    requires { ⌜ (width ≡ rowOf form .width) × Fits form (length (now bytes)) × T (formed (fieldOf form (filledTo width (now bytes)))) × (at + rowOf form .cells ≤ length (now table)) ⌝ }
+    ensures { λ _. ⌜ now (table .exit) ≡ over at (cellsIn (filledTo width (now (bytes .entry))) (fieldOf form (filledTo width (now (bytes .entry))))) (now (table .entry)) ⌝ }
+{
+    if may_be_short(form) {
+        put_letters(bytes, width, table, at);
+        return;
+    }
+    match field::read(form, bytes) {
+        field::Value::Cell(z) => {
+            table[at] = z;
+        }
+        field::Value::Pair(m, x) => {
+            table[at] = m;
+            table[at + 1] = x;
+        }
+        field::Value::Letters => put_letters(bytes, width, table, at),
+        // the lines were found clean
+        field::Value::Misformed => {}
+    }
+}
+
+fn put_field_at(
+    form: Form,
+    width: usize,
+    lines: &[u8],
+    from: usize,
+    to: usize,
+    table: &mut [i64],
+    at: usize,
+)
+    requires { ⌜ (from ≤ to) × (to ≤ length (now lines)) × (width ≡ rowOf form .width) × Fits form (to - from) × T (formed (fieldOf form (filledTo width (part from to (now lines))))) × (at + rowOf form .cells ≤ length (now table)) ⌝ }
+    ensures { λ _. ⌜ now (table .exit) ≡ over at (cellsIn (filledTo width (part from to (now (lines .entry)))) (fieldOf form (filledTo width (part from to (now (lines .entry)))))) (now (table .entry)) ⌝ }
+{
+    put_field(form, width, &lines[from..to], table, at);
+}
+
+fn content_at(lines: &[u8], from: usize, to: usize) -> line::Content
+    requires { ⌜ (from ≤ to) × (to ≤ length (now lines)) ⌝ }
+    ensures { λ r. ⌜ r ≡ contentOf (part from to (now (lines .entry))) ⌝ }
+{
+    line::content_length(&lines[from..to])
+}
+
+// The second pass: the cells of lines that were found clean.
+fn fill_lines(form: Form, count: u16, lines: &[u8], table: &mut [i64])
+    requires { ⌜ (verdictOf (readLines form count (now lines)) ≡ Verdict.Clean) × (cellsOf form count ≤ length (now table)) ⌝ }
+    ensures { λ _. ⌜ now (table .exit) ≡ over 0 (cellsGot (readLines form count (now (lines .entry)))) (now (table .entry)) ⌝ }
+{
+    let row = form::row_of(form);
+    let width = row.width;
+    let per_line = row.per_line;
+    let cells = row.cells;
+    let many = form::lines(form, count);
+    let mut left = form::elements(form, count);
+    let mut at: usize = 0;
+    let mut cell: usize = 0;
+    let mut j: usize = 0;
+    while j < many {
+        let k = lesser(per_line, left);
+        let end = line_end(lines, at);
+        // a clean line has a content, so this is never taken
+        let line::Content::Length(n) = content_at(lines, at, end) else {
+            return;
+        };
+        let stop = at + n;
+        let mut from = at;
+        let mut i: usize = 0;
+        while i < k {
+            put_field_at(
+                form,
+                width,
+                lines,
+                from,
+                lesser(from + width, stop),
+                table,
+                cell,
+            );
+            from += width;
+            cell += cells;
+            i += 1;
+        }
+        at = end;
+        left -= k;
+        j += 1;
+    }
+}
+
+// ---- Reading a group's lines.
+
+// A group of a form, whose rules on counts are kept: 11, then the lines and the date, and only then the table.
+fn read_form(form: Form, group: usize, count: u16, lines: &[u8], table: &mut [i64]) -> Reading
+    requires { ⌜ (formOf group ≡ GroupForm.Has form) × (group ≡ 3 → 19 ≤ count) ⌝ }
+    ensures { λ r. ⌜ (r ≡ readingOf (readForm form group count (now (lines .entry)) (length (now (table .entry))))) × (now (table .exit) ≡ tableBy (readForm form group count (now (lines .entry)) (length (now (table .entry)))) (now (table .entry))) ⌝ }
+{
+    let cells = form::cells(form, count);
+    if table.len() < cells {
+        return Reading::Refused(Refusal::NoRoom);
+    }
+    match check(form, group, count, lines) {
+        Verdict::Bad(r) => Reading::Refused(r),
+        Verdict::Clean => {
+            fill_lines(form, count, lines, table);
+            Reading::Done(cells)
+        }
+    }
+}
+
+// Reads a group of a record with these counts, whose lines these are, into a table. It is altered only if all is clean, and then only as
+// far as the group's cells go.
+pub fn read_lines(counts: &[u16], group: usize, lines: &[u8], table: &mut [i64]) -> Reading
+    ensures { λ r. ⌜ (r ≡ readingOf (readGroup (now (counts .entry)) group (now (lines .entry)) (length (now (table .entry))))) × (now (table .exit) ≡ tableBy (readGroup (now (counts .entry)) group (now (lines .entry)) (length (now (table .entry)))) (now (table .entry))) ⌝ }
+{
+    let form::GroupForm::Has(form) = form::form_of(group) else {
+        return Reading::Refused(Refusal::NoGroup);
+    };
+    match count::ruling_of(counts) {
+        count::Ruling::Broken(g) => Reading::Refused(Refusal::BrokenRule(g)),
+        count::Ruling::Kept => {
+            let count = count::count_of(counts, group);
+            read_form(form, group, count, lines, table)
+        }
+    }
+}
+
+// ---- At a place of a text.
+
+// A placing reply but 0, as a refusal.
+fn not_placed(answer: place::Placing) -> Refusal
+    ensures { λ r. ⌜ r ≡ refusalOf answer ⌝ }
+{
+    match answer {
+        place::Placing::Placed(_) => Refusal::NoGroup,
+        place::Placing::End => Refusal::End,
+        place::Placing::Beyond => Refusal::Beyond,
+        place::Placing::TooFewLines => Refusal::TooFewLines,
+        place::Placing::Misformed => Refusal::Misformed,
+        place::Placing::OtherRelease => Refusal::OtherRelease,
+        place::Placing::FilledVacant(g) => Refusal::FilledVacant(g),
+        place::Placing::BrokenRule(g, _) => Refusal::BrokenRule(g),
+    }
+}
+
+// Where the lines of a group begin, in a record that was placed with these counts; the end of the text where it was not.
+fn start_of(text: &[u8], at: usize, counts: &[u16], group: usize) -> usize
+    requires { ⌜ at ≤ length (now text) ⌝ }
+    ensures { λ r. ⌜ r ≡ start (now (text .entry)) at (now (counts .entry)) group ⌝ }
+{
+    let before = count::add_up(counts, group);
+    match line::place_behind(text, at, before.lines) {
+        line::Behind::At(place) => place,
+        line::Behind::TooFew => text.len(),
+    }
+}
+
+// Reads a group of the record at a place of a text into a table: 12, then any placing reply but 0, and then by the record's counts and the
+// group's own lines. A refusal alters nothing.
+pub fn read_group(text: &[u8], at: usize, group: usize, table: &mut [i64]) -> Reading
+    ensures { λ r. ⌜ (r ≡ readingOf (readAt (now (text .entry)) at group (length (now (table .entry))))) × (now (table .exit) ≡ tableBy (readAt (now (text .entry)) at group (length (now (table .entry)))) (now (table .entry))) ⌝ }
+{
+    let form::GroupForm::Has(_) = form::form_of(group) else {
+        return Reading::Refused(Refusal::NoGroup);
+    };
+    let record = place::place(text, at);
+    let answer = record.answer;
+    let place::Placing::Placed(_) = answer else {
+        return Reading::Refused(not_placed(answer));
+    };
+    let counts = record.counts;
+    let from = start_of(text, at, &counts, group);
+    let to = start_of(text, at, &counts, group + 1);
+    read_lines(&counts, group, &text[from..to], table)
 }
