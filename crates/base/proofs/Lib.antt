@@ -9,6 +9,8 @@ pub mod FromLast
 pub mod Mapped
 pub mod Order
 pub mod Part
+pub mod Pieces
 pub mod Sign
 pub mod Sum
+pub mod Taken
 pub mod UpFrom

@@ -188,7 +188,7 @@ fn is_printable(b: u8) -> bool
 }
 
 // Whether each byte is 32 to 126.
-fn all_printable(s: &[u8]) -> bool
+pub fn all_printable(s: &[u8]) -> bool
     ensures { λ r. ⌜ r ≡ every printable (now (s .entry)) ⌝ }
 {
     let mut i = 0;

@@ -1,0 +1,25 @@
+-- Texts in pieces, one behind the other: what is read from them, up to the first that is bad. B is what is told of a bad piece, C a cell.
+use mathlib.Core.List.{List, [], _∷_, _++_}
+use Prim.Native.Nat.{ℕ}
+use lib.ListN.{take, drop}
+
+-- the cells that were read, or what was told of the first bad piece
+pub data Got (B C : Type 0) : Type 0 where
+  done : List C → Got B C
+  bad : B → Got B C
+
+-- one piece and then another
+abbrev pub both : {B C : Type 0} → Got B C → Got B C → Got B C
+both (done a) (done b) = done (a ++ b)
+both (done a) (bad r) = bad r
+both (bad r) y = bad r
+
+-- each piece takes as many bytes as `wide` says of what is left
+unfoldable pub gather : {A B C : Type 0} → (A → List ℕ → ℕ) → (A → List ℕ → Got B C) → List A → List ℕ → Got B C
+gather wide read [] s = done []
+gather wide read (a ∷ bs) s = both (read a (take (wide a s) s)) (gather wide read bs (drop (wide a s) s))
+
+-- the cells, none where a piece was bad
+abbrev pub cellsGot : {B C : Type 0} → Got B C → List C
+cellsGot (done cs) = cs
+cellsGot (bad r) = []

@@ -1,0 +1,29 @@
+-- Which elements stand in which line of a group. Only this says so: nobody else divides or multiplies to know what a line holds.
+use mathlib.Core.List.{List, map}
+use Prim.Native.Nat.{ℕ, _+_, _-_, _*_, min}
+use Rattle.base.specs.Every.{upFrom}
+use Rattle.form.specs.declared.Form.{Form}
+use Rattle.form.specs.Table.{rowOf}
+use Rattle.form.specs.Count.{elementsOf, linesOf}
+
+-- a line of a group: its number, its first element's number, and how many elements it has. "Lines and elements count from 1."
+pub record Line : Type 0 where
+  pub number : ℕ
+  pub first : ℕ
+  pub many : ℕ
+
+-- the line with j lines before it, of n elements that stand p to a line
+abbrev pub lineAt : (p n j : ℕ) → Line
+lineAt p n j = record { number = j + 1; first = j * p + 1; many = min p (n - j * p) }
+
+-- k lines of them, the first with j before it
+unfoldable pub planFrom : (p n j k : ℕ) → List Line
+planFrom p n j k = map (lineAt p n) (upFrom j k)
+
+-- the lines of a group of this form and count
+unfoldable pub planOf : Form → ℕ → List Line
+planOf f count = planFrom (rowOf f .«per_line») (elementsOf f count) 0 (linesOf f count)
+
+-- the numbers of a line's elements, through the group
+abbrev pub elementsIn : Line → List ℕ
+elementsIn l = upFrom (l .first) (l .many)
