@@ -5,3 +5,4 @@ pub mod Blanks
 pub mod Plan
 pub mod Read
 pub mod Text
+pub mod Numbered
