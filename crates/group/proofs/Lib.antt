@@ -10,3 +10,5 @@ pub mod Dates
 pub mod Steps
 pub mod Texts
 pub mod Promises
+pub mod Holding
+pub mod Reported

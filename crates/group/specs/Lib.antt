@@ -6,3 +6,5 @@ pub mod Plan
 pub mod Read
 pub mod Text
 pub mod Numbered
+pub mod Held
+pub mod Characteristics

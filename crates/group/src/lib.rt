@@ -17,6 +17,8 @@ ghost use Rattle.field.specs.Read.{fieldOf, formed, cellsIn};
 ghost use Rattle.line.specs.Contents.{contentOf};
 ghost use Rattle.line.specs.Lines.{reach};
 ghost use Rattle.place.specs.Parts.{start};
+ghost use Rattle.group.specs.Characteristics.{isNoReading, told, characteristicAt};
+ghost use Rattle.group.specs.Held.{foundAt, partStart, partAt, moved};
 ghost use Rattle.group.specs.Text.{refusalOf, readAt};
 ghost use Rattle.group.specs.Blanks.{blank, mayBeShort, shortest, filledTo, isRight, rightContent, Fits};
 ghost use Rattle.group.specs.Read.{verdictOf, readFields, readLines, dated, readForm, readGroup, readingOf, tableBy};
@@ -464,4 +466,95 @@ pub fn read_group(text: &[u8], at: usize, group: usize, table: &mut [i64]) -> Re
     let from = start_of(text, at, &counts, group);
     let to = start_of(text, at, &counts, group + 1);
     read_lines(&counts, group, &text[from..to], table)
+}
+
+// ---- The lines of a group.
+
+// Whether the lines of a group can be given.
+pub enum Found {
+    // 0
+    Given,
+    // 12, or any placing reply but 0
+    Missing(Refusal),
+}
+
+// Asks whether the lines of a group of the record at a place can be given: 12, then any placing reply but 0.
+pub fn lines_reply(text: &[u8], at: usize, group: usize) -> Found
+    ensures { λ r. ⌜ r ≡ foundAt (now (text .entry)) at group ⌝ }
+{
+    let form::GroupForm::Has(_) = form::form_of(group) else {
+        return Found::Missing(Refusal::NoGroup);
+    };
+    let record = place::place(text, at);
+    let answer = record.answer;
+    let place::Placing::Placed(_) = answer else {
+        return Found::Missing(not_placed(answer));
+    };
+    Found::Given
+}
+
+// The lines of a group as the part of the caller's own text that holds them, with their line ends. A count of 0 gives the empty part where
+// they would begin, and a refusal the empty part at the text's start.
+pub fn lines_part<'a>(text: &'a [u8], at: usize, group: usize) -> &'a [u8]
+    ensures { λ r. ⌜ (now r ≡ partAt (now (text .entry)) at group) × (r .ptr ≡ moved (text .entry .ptr) (partStart (now (text .entry)) at group)) ⌝ }
+{
+    let Found::Given = lines_reply(text, at, group) else {
+        return &text[0..0];
+    };
+    let record = place::place(text, at);
+    let counts = record.counts;
+    let from = start_of(text, at, &counts, group);
+    let to = start_of(text, at, &counts, group + 1);
+    &text[from..to]
+}
+
+// ---- A characteristic.
+
+// A value in thousandths; no reading; not reported; or why group 4 was not read.
+pub enum Characteristic {
+    Value(i64),
+    NoReading,
+    NotReported,
+    Unread(Refusal),
+}
+
+fn is_no_reading(v: i64) -> bool
+    ensures { λ r. ⌜ r ≡ isNoReading v ⌝ }
+{
+    let m = number::signed(v);
+    if m.neg {
+        return false;
+    }
+    m.size == 9999000
+}
+
+fn told_by(v: i64) -> Characteristic
+    ensures { λ r. ⌜ r ≡ told v ⌝ }
+{
+    if is_no_reading(v) {
+        return Characteristic::NoReading;
+    }
+    Characteristic::Value(v)
+}
+
+// Asks for a characteristic, 1 to 49, of the record at a place of a text.
+pub fn characteristic_at(text: &[u8], at: usize, number: usize) -> Characteristic
+    ensures { λ r. ⌜ r ≡ characteristicAt (now (text .entry)) at number ⌝ }
+{
+    if number < 1 {
+        return Characteristic::Unread(Refusal::NoGroup);
+    }
+    if 49 < number {
+        return Characteristic::Unread(Refusal::NoGroup);
+    }
+    let mut table = [0i64; 49];
+    match read_group(text, at, 4, &mut table) {
+        Reading::Refused(r) => Characteristic::Unread(r),
+        Reading::Done(n) => {
+            if n < number {
+                return Characteristic::NotReported;
+            }
+            told_by(table[number - 1])
+        }
+    }
 }

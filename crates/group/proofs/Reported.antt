@@ -1,0 +1,102 @@
+-- A characteristic: by its number, by what group 4 reads as, and by its cell; and 49 cells have room for group 4.
+-- Assumes nothing.
+use mathlib.Core.Path.{_≡_, refl, sym, _∙_, ap, subst}
+use mathlib.Core.Bool.{Bool, true, false, cond, not, _&&_}
+use mathlib.Core.List.{List, [], _∷_, _++_}
+use Prim.Native.Nat.{ℕ, zero, suc, _+_, _-_, _<_, _≤_}
+use native.Mathlib.Nat.{zero-add}
+use native.Mathlib.Omega.{arith}
+use borrow.Author.Tests.{le-leb, lt-leb}
+use lib.Dec.{eqb, leb}
+use lib.IntN.{ℤ, pos}
+use lib.ListN.{length, take, drop, getD}
+use Rattle.base.specs.Part.{over}
+use Rattle.base.specs.Pieces.{Got, done, bad}
+use Rattle.base.specs.Sign.{negative, sizeOf}
+use Rattle.count.specs.Reply.{Numbered}
+use Rattle.count.proofs.Replies.{numbered-plain}
+use Rattle.group.specs.declared.Refusal.{Refusal}
+use Rattle.group.specs.declared.Refusal.the-variants.{NoGroup}
+use Rattle.group.specs.declared.Reading.{Reading}
+use Rattle.group.specs.declared.Reading.the-variants.{Done, Refused}
+use Rattle.group.specs.declared.Characteristic.{Characteristic}
+use Rattle.group.specs.declared.Characteristic.the-variants.{Value, NoReading, NotReported, Unread}
+use Rattle.group.specs.Read.{Cells, readingOf, tableBy}
+use Rattle.group.specs.Text.{readAt}
+use Rattle.group.specs.Characteristics.{isNoReading, told, reported, characteristicAt, characteristicReply}
+use Rattle.group.proofs.Promises.{refusal-numbered}
+
+-- ---- no reading
+
+pub negative-reads : (z : ℤ) → negative z ≡ true → isNoReading z ≡ false
+unfolding isNoReading
+negative-reads z e = rw e
+
+pub natural-reads : (z : ℤ) → negative z ≡ false → isNoReading z ≡ eqb (sizeOf z) 9999000
+unfolding isNoReading
+natural-reads z e = rw e
+
+-- "999,900 is a value"
+pub unscaled-value : told (pos 999900) ≡ Value (pos 999900)
+unfolding isNoReading
+unscaled-value = refl
+
+pub no-reading-cell : told (pos 9999000) ≡ NoReading
+unfolding isNoReading
+no-reading-cell = refl
+
+-- ---- by the number
+
+getD-append : (a b : List ℤ) (i : ℕ) (d : ℤ) → i < length a → getD (a ++ b) i d ≡ getD a i d
+getD-append [] b i d h = absurd (omega arith)
+getD-append (x ∷ a) b zero d h = refl
+getD-append (x ∷ a) b (suc i) d h = getD-append a b i d (omega arith)
+
+module _ (s : List ℕ) (at k : ℕ) where
+  pub number-low : k < 1 → Unread NoGroup ≡ characteristicAt s at k
+  unfolding characteristicAt
+  number-low h = rw (lt-leb 1 k h)
+
+  module _ (low : 1 ≤ k) where
+    pub number-high : 49 < k → Unread NoGroup ≡ characteristicAt s at k
+    unfolding characteristicAt
+    number-high h = rw (le-leb 1 k low, lt-leb k 49 h)
+
+    module _ (high : k ≤ 49) where
+      inside : {g : Cells} → readAt s at 4 49 ≡ g → characteristicAt s at k ≡ reported k g
+      unfolding characteristicAt
+      inside e = rw (le-leb 1 k low, le-leb k 49 high, e)
+
+      pub four-refused : {r : Refusal} → Refused r ≡ readingOf (readAt s at 4 49) → Unread r ≡ characteristicAt s at k
+      four-refused {r = r} e = by (readAt s at 4 49) refl e
+        where
+          by : (g : Cells) → readAt s at 4 49 ≡ g → Refused r ≡ readingOf g → Unread r ≡ characteristicAt s at k
+          by (done cs) u v = let z : _≡_ {A = ℕ} 0 1 = cc in absurd (omega arith)
+          by (bad q) u v = let p : r ≡ q = cc in ap Unread p ∙ sym (inside u)
+
+      module _ {n : ℕ} (e : Done n ≡ readingOf (readAt s at 4 49)) where
+        pub four-few : n < k → NotReported ≡ characteristicAt s at k
+        four-few h = by (readAt s at 4 49) refl e
+          where
+            by : (g : Cells) → readAt s at 4 49 ≡ g → Done n ≡ readingOf g → NotReported ≡ characteristicAt s at k
+            by (done cs) u v =
+                let m : n ≡ length cs = cc in
+                let t : leb k (length cs) ≡ false = lt-leb k (length cs) (omega arith) in
+                sym (inside u ∙ rw t)
+            by (bad q) u v = let z : _≡_ {A = ℕ} 0 1 = cc in absurd (omega arith)
+
+        pub four-told : k ≤ n → (new old : List ℤ) → new ≡ tableBy (readAt s at 4 49) old → told (getD new (k - 1) (pos 0)) ≡ characteristicAt s at k
+        four-told h new old t = by (readAt s at 4 49) refl e t
+          where
+            by : (g : Cells) → readAt s at 4 49 ≡ g → Done n ≡ readingOf g → new ≡ tableBy g old → told (getD new (k - 1) (pos 0)) ≡ characteristicAt s at k
+            by (done cs) u v w =
+                let m : n ≡ length cs = cc in
+                let t : leb k (length cs) ≡ true = le-leb k (length cs) (omega arith) in
+                ap (λ l. told (getD l (k - 1) (pos 0))) w ∙ ap told (getD-append cs (drop (0 + length cs) old) (k - 1) (pos 0) (omega arith)) ∙ sym (inside u ∙ rw t)
+            by (bad q) u v w = let z : _≡_ {A = ℕ} 0 1 = cc in absurd (omega arith)
+
+pub characteristic-numbered : (c : Characteristic) → Numbered (characteristicReply c)
+characteristic-numbered (Value z) = numbered-plain 0 tt
+characteristic-numbered NoReading = numbered-plain 0 tt
+characteristic-numbered NotReported = numbered-plain 0 tt
+characteristic-numbered (Unread r) = refusal-numbered r

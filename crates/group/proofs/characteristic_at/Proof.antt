@@ -1,0 +1,66 @@
+-- `group::characteristic_at` meets its contract: its number, then group 4's reply, then its cell.
+-- Assumes nothing.
+use borrow.Author.Needs.{needs}
+use mathlib.Core.Path.{_≡_, sym, ap, _∙_}
+use borrow.Author.Needs.{sfits-of}
+use mir.Syntax.{w64}
+use mir.Facts.{toZ-ofZ}
+use lib.IntN.{pos}
+use lib.ListN.{getD}
+use Rattle.group.specs.Characteristics.{told}
+use Rattle.group.proofs.Reported.{number-low, number-high, four-refused, four-few, four-told}
+use Rattle.group.proofs.characteristic_at.Statement.{statement}
+use Rattle.group.proofs.characteristic_at.Tie as tie
+
+returns : tie.Need-returns
+returns c = number-low (c .before .before .args .text .now) (c .before .before .args .at) (c .before .before .args .number) (c .if1 .taken)
+
+returns-2 : tie.Need-returns-2
+returns-2 c = number-high (c .before .before .before .args .text .now) (c .before .before .before .args .at) (c .before .before .before .args .number) (c .before .if1 .left) (c .if2 .taken)
+
+slice-aggregate-read-group : tie.Need-slice-aggregate-read-group
+slice-aggregate-read-group c = search needs
+
+read-group-requires : tie.Need-read-group-requires
+read-group-requires c κs = search needs
+
+enum-known-r : tie.Need-enum-known-r
+enum-known-r c = search needs
+
+enum-known-n : tie.Need-enum-known-n
+enum-known-n c = search needs
+
+returns-3 : tie.Need-returns-3
+returns-3 c = four-few (c .before .before .before .before .before .before .before .before .before .before .args .text .now) (c .before .before .before .before .before .before .before .before .before .before .args .at) (c .before .before .before .before .before .before .before .before .before .before .args .number) (c .before .before .before .before .before .before .before .before .if1 .left) (c .before .before .before .before .before .before .before .if2 .left) (sym (c .before .before .n .given .1) ∙ c .before .before .before .before .before .read-group .ensures .0) (c .if3 .taken)
+
+mul-told-by : tie.Need-mul-told-by
+mul-told-by c = search needs
+
+array-copy-out-told-by : tie.Need-array-copy-out-told-by
+array-copy-out-told-by c = search needs
+
+told-by-requires : tie.Need-told-by-requires
+told-by-requires c κs = search needs
+
+returns-4 : tie.Need-returns-4
+returns-4 c = four-refused (c .before .before .before .before .before .before .before .before .before .args .text .now) (c .before .before .before .before .before .before .before .before .before .args .at) (c .before .before .before .before .before .before .before .before .before .args .number) (c .before .before .before .before .before .before .before .if1 .left) (c .before .before .before .before .before .before .if2 .left) (sym (c .before .r .given .1) ∙ c .before .before .before .before .read-group .ensures .0)
+
+returns-5 : tie.Need-returns-5
+returns-5 c = c .told-by .ensures ∙ ap told (toZ-ofZ {w = w64} (sfits-of {w = w64} (c .before .told-by-arg .given))) ∙ four-told (c .before .before .before .before .before .before .before .before .before .before .before .before .args .text .now) (c .before .before .before .before .before .before .before .before .before .before .before .before .args .at) (c .before .before .before .before .before .before .before .before .before .before .before .before .args .number) (c .before .before .before .before .before .before .before .before .before .before .if1 .left) (c .before .before .before .before .before .before .before .before .before .if2 .left) (sym (c .before .before .before .before .n .given .1) ∙ c .before .before .before .before .before .before .before .read-group .ensures .0) (c .before .before .if3 .left) _ _ (c .before .before .before .before .before .before .before .read-group .ensures .1)
+
+pub characteristic-at-spec : {M : Type 1} → statement M
+characteristic-at-spec =
+    tie.close
+    (tie.spec
+    returns
+    returns-2
+    slice-aggregate-read-group
+    read-group-requires
+    enum-known-r
+    enum-known-n
+    returns-3
+    mul-told-by
+    array-copy-out-told-by
+    told-by-requires
+    returns-4
+    returns-5)

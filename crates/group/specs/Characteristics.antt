@@ -1,0 +1,41 @@
+-- "A characteristic (1-49) of a record is, each under reply 0, a value in thousandths, or no reading (cell 9,999,000), or not reported (number
+-- above group 4's count); otherwise it is 12 or group 4's reply. 12 comes first, then group 4's reply with its numbers, as if read into a
+-- table with room, then not reported. .. 999,900 is a value."
+use mathlib.Core.Bool.{Bool, cond, not, _&&_}
+use mathlib.Core.List.{List}
+use Prim.Native.Nat.{ℕ, _-_}
+use lib.Dec.{eqb, leb}
+use lib.IntN.{ℤ, pos}
+use lib.ListN.{length, getD}
+use Rattle.base.specs.Pieces.{Got, done, bad}
+use Rattle.base.specs.Sign.{negative, sizeOf}
+use Rattle.count.specs.Reply.{Reply, reply}
+use Rattle.group.specs.declared.Refusal.the-variants.{NoGroup}
+use Rattle.group.specs.declared.Characteristic.{Characteristic}
+use Rattle.group.specs.declared.Characteristic.the-variants.{Value, NoReading, NotReported, Unread}
+use Rattle.group.specs.Numbered.{refusalReply}
+use Rattle.group.specs.Read.{Cells}
+use Rattle.group.specs.Text.{readAt}
+
+-- no reading: the cell is 9,999,000
+unfoldable pub isNoReading : ℤ → Bool
+isNoReading z = not (negative z) && eqb (sizeOf z) 9999000
+
+abbrev pub told : ℤ → Characteristic
+told z = cond (isNoReading z) NoReading (Value z)
+
+-- number k, from 1, of the cells of group 4
+abbrev pub reported : ℕ → Cells → Characteristic
+reported k (done cs) = cond (leb k (length cs)) (told (getD cs (k - 1) (pos 0))) NotReported
+reported k (bad r) = Unread r
+
+-- a table of 49 cells has room, since group 4 has at most 49 elements of one cell (proofs/Reported.antt)
+unfoldable pub characteristicAt : List ℕ → ℕ → ℕ → Characteristic
+characteristicAt s at k = cond (leb 1 k && leb k 49) (reported k (readAt s at 4 49)) (Unread NoGroup)
+
+-- the number in 01's table
+abbrev pub characteristicReply : Characteristic → Reply
+characteristicReply (Value z) = reply 0
+characteristicReply NoReading = reply 0
+characteristicReply NotReported = reply 0
+characteristicReply (Unread r) = refusalReply r
