@@ -1,4 +1,4 @@
--- A characteristic: by its number, by what group 4 reads as, and by its cell; and 49 cells have room for group 4.
+-- A characteristic: by its number, by what group 4 reads as, and by its cell.
 -- Assumes nothing.
 use mathlib.Core.Path.{_≡_, refl, sym, _∙_, ap, subst}
 use mathlib.Core.Bool.{Bool, true, false, cond, not, _&&_}

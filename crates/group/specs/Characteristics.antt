@@ -29,7 +29,7 @@ abbrev pub reported : ℕ → Cells → Characteristic
 reported k (done cs) = cond (leb k (length cs)) (told (getD cs (k - 1) (pos 0))) NotReported
 reported k (bad r) = Unread r
 
--- a table of 49 cells has room, since group 4 has at most 49 elements of one cell (proofs/Reported.antt)
+-- a table of 49 cells: the rules on counts let group 4 have at most 49 elements, of one cell each
 unfoldable pub characteristicAt : List ℕ → ℕ → ℕ → Characteristic
 characteristicAt s at k = cond (leb 1 k && leb k 49) (reported k (readAt s at 4 49)) (Unread NoGroup)
 
