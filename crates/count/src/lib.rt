@@ -114,15 +114,6 @@ pub fn count_of(counts: &[u16], group: usize) -> u16
     counts[group - 1]
 }
 
-fn lesser(a: usize, b: usize) -> usize
-    ensures { λ r. ⌜ r ≡ min a b ⌝ }
-{
-    if a < b {
-        return a;
-    }
-    b
-}
-
 // Totals with those of a group more, whose row is given.
 fn with_group(totals: Totals, form: form::Form, row: form::Row, count: u16) -> Totals
     requires { ⌜ (row ≡ rowOf form) × (totals .lines < 2 ^ 32) × (totals .cells < 2 ^ 32) ⌝ }
@@ -142,7 +133,7 @@ pub fn add_up(counts: &[u16], group: usize) -> Totals
     if group == 0 {
         return Totals { lines: 0, cells: 0 };
     }
-    let end = lesser(group, 61);
+    let end = base::lesser(group, 61);
     let rows = form::ROWS;
     let mut totals = Totals { lines: 2, cells: 0 };
     let mut g: usize = 1;
@@ -184,7 +175,7 @@ fn lower_of(a: Ruling, b: Ruling) -> Ruling
         Ruling::Kept => b,
         Ruling::Broken(g) => match b {
             Ruling::Kept => Ruling::Broken(g),
-            Ruling::Broken(h) => Ruling::Broken(lesser(g, h)),
+            Ruling::Broken(h) => Ruling::Broken(base::lesser(g, h)),
         },
     }
 }

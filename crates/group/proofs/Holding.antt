@@ -1,52 +1,55 @@
--- The lines of a group as a part of the text: when they can be given, where they begin, and that they are the group's lines.
+-- Whether a group can be asked about at a place, the counts of its record, and its lines as a part of the text: when they can be given, where
+-- they begin, and that they are the group's lines.
 -- Assumes nothing.
-use mathlib.Core.Path.{_≡_, refl, sym, _∙_, ap, subst}
+use mathlib.Core.Path.{_≡_, refl, sym, _∙_, ap}
 use mathlib.Core.List.{List, []}
-use Prim.Native.Nat.{ℕ, suc, _+_, _≤_}
+use mathlib.Core.Logic.{_⊎_, inl, inr}
+use Prim.Native.Nat.{ℕ, suc, _+_, _<_, _≤_}
 use native.Mathlib.Nat.{add-comm}
 use native.Mathlib.Numerals.{add-one}
 use native.Mathlib.Omega.{arith}
-use lib.ListN.{length, getD}
+use lib.ListN.{length, getD, replicate}
 use Rattle.base.specs.Part.{part}
+use Rattle.base.proofs.Order.{le-or-lt}
 use Rattle.form.specs.declared.Form.{Form}
 use Rattle.form.specs.declared.GroupForm.{GroupForm}
 use Rattle.form.specs.declared.GroupForm.the-variants.{Has, NoGroup as NoForm}
 use Rattle.form.specs.Table.{formOf}
+use Rattle.form.proofs.Table.{no-group}
 use Rattle.line.specs.Lines.{Whole}
 use Rattle.count.specs.Tally.{lineTally}
 use Rattle.count.specs.Reply.{Numbered}
 use Rattle.count.proofs.Replies.{numbered-plain}
 use Rattle.place.specs.declared.Placing.{Placing}
 use Rattle.place.specs.declared.Placing.the-variants.{Placed, End, Beyond, TooFewLines, Misformed, OtherRelease, FilledVacant, BrokenRule}
-use Rattle.place.specs.Placing.{placingOf, countsAt, located}
+use Rattle.place.specs.Placing.{placingOf, countsAt}
 use Rattle.place.specs.Parts
 use Rattle.place.specs.Parts.{start, groupPart}
-use Rattle.place.proofs.Tiling.{part-whole}
-use Rattle.group.specs.declared.Refusal.the-variants.{NoGroup}
+use Rattle.place.proofs.Placed.{located-range}
+use Rattle.place.proofs.Tiling.{part-whole, start-mono, start-within}
+use Rattle.place.proofs.Zero.{is-placed}
+use Rattle.reading.specs.declared.Refusal.{Refusal}
+use Rattle.reading.specs.declared.Refusal.the-variants.{NoGroup}
+use Rattle.reading.proofs.Promises.{refusal-numbered}
 use Rattle.group.specs.declared.Found.{Found}
 use Rattle.group.specs.declared.Found.the-variants.{Given, Missing}
-use Rattle.group.specs.Held.{foundBy, foundIn, foundAt, startBy, partStart, partAt, moved, foundReply}
-use Rattle.group.specs.Text.{refusalOf}
-use Rattle.group.proofs.Promises.{refusal-numbered}
-use Rattle.group.proofs.Texts.{is-placed, place-inside, group-small, part-range}
+use Rattle.group.specs.Held.{refusalOf, foundBy, foundIn, foundAt, countsHeld, partStart, partAt, moved, foundReply}
 
 module _ (s : List ℕ) (at g : ℕ) where
-  pub found-none : formOf g ≡ NoForm → Missing NoGroup ≡ foundAt s at g
-  unfolding foundAt
-  found-none e = rw e
+  pub held-none : formOf g ≡ NoForm → (foundAt s at g ≡ Missing NoGroup) × (countsHeld s at g ≡ replicate 80 0)
+  unfolding foundAt countsHeld
+  held-none e = rw e (refl, refl)
 
   module _ (f : Form) (e : formOf g ≡ Has f) where
-    by-place : {p : Placing} → placingOf s at ≡ p → foundAt s at g ≡ foundBy p
-    unfolding foundAt
-    by-place u = rw (e, u)
+    pub held-placed : {n : ℕ} → placingOf s at ≡ Placed n → (foundAt s at g ≡ Given) × (countsHeld s at g ≡ countsAt s at)
+    unfolding foundAt countsHeld
+    held-placed u = rw (e, u) (refl, refl)
 
-    pub found-placed : {n : ℕ} → placingOf s at ≡ Placed n → Given ≡ foundAt s at g
-    found-placed u = sym (by-place u)
-
-    pub found-refused : (p : Placing) → placingOf s at ≡ p → ((n : ℕ) → p ≡ Placed n → ⊥) → Missing (refusalOf p) ≡ foundAt s at g
-    found-refused p u never = missing p never ∙ sym (by-place u)
+    pub held-refused : (p : Placing) → placingOf s at ≡ p → ((n : ℕ) → p ≡ Placed n → ⊥) → (foundAt s at g ≡ Missing (refusalOf p)) × (countsHeld s at g ≡ replicate 80 0)
+    unfolding foundAt countsHeld
+    held-refused p u never = rw (e, u, missing p never) (refl, refl)
       where
-        missing : (p : Placing) → ((n : ℕ) → p ≡ Placed n → ⊥) → Missing (refusalOf p) ≡ foundBy p
+        missing : (p : Placing) → ((n : ℕ) → p ≡ Placed n → ⊥) → foundBy p ≡ Missing (refusalOf p)
         missing (Placed n) never = absurd (never n refl)
         missing End never = refl
         missing Beyond never = refl
@@ -62,16 +65,17 @@ module _ (s : List ℕ) (at g : ℕ) where
     pub has : formOf g ≡ Has form
     pub next : ℕ
     pub placed : placingOf s at ≡ Placed next
+    pub counts : countsHeld s at g ≡ countsAt s at
 
   pub given-is : foundAt s at g ≡ Given → IsGiven
   unfolding foundAt
   given-is e = by (formOf g) refl e
     where
-      no-given : {A : Type 0} {r : _} → Missing r ≡ Given → A
+      no-given : {A : Type 0} {r : Refusal} → Missing r ≡ Given → A
       no-given e = let z : _≡_ {A = ℕ} 0 1 = cc in absurd (omega arith)
 
       place : (f : Form) (p : Placing) → formOf g ≡ Has f → placingOf s at ≡ p → foundBy p ≡ Given → IsGiven
-      place f (Placed n) h u v = record { form = f; has = h; next = n; placed = u }
+      place f (Placed n) h u v = record { form = f; has = h; next = n; placed = u; counts = held-placed f h u .1 }
       place f End h u v = no-given v
       place f Beyond h u v = no-given v
       place f TooFewLines h u v = no-given v
@@ -84,37 +88,61 @@ module _ (s : List ℕ) (at g : ℕ) where
       by (Has f) h v = place f (placingOf s at) h refl v
       by NoForm h v = no-given v
 
-  module _ (e : foundAt s at g ≡ Given) (ns : List ℕ) (c : ns ≡ countsAt s at) where
+  -- a group that has a form is one of 60
+  group-few : {f : Form} → formOf g ≡ Has f → g ≤ 60
+  group-few {f} e = by (le-or-lt g 60)
+    where
+      no-form : {A : Type 0} → NoForm ≡ Has f → A
+      no-form e = let z : _≡_ {A = ℕ} 0 1 = cc in absurd (omega arith)
+
+      by : (g ≤ 60) ⊎ (60 < g) → g ≤ 60
+      by (inl h) = h
+      by (inr h) = no-form (sym (no-group g .1 (λ i. omega (arith, i .high))) ∙ e)
+
+  -- the lines, from where to where they stand in the record that was placed
+  module _ (e : foundAt s at g ≡ Given) (ns : List ℕ) (c : ns ≡ countsHeld s at g) where
     i : IsGiven
     i = given-is e
 
-    pub given-inside : at ≤ length s
-    given-inside = place-inside s at g [] (i .form) (i .has) (i .next) (i .placed) ns c
+    pub held-counts : ns ≡ countsAt s at
+    held-counts = c ∙ i .counts
 
-    pub given-small : g + 1 ≤ 61
-    given-small = group-small s at g [] (i .form) (i .has) (i .next) (i .placed) ns c
+    pub held-range : (from to : ℕ) → (from ≡ start s at ns g) × (to ≡ start s at ns (g + 1)) → (from ≤ to) × (to ≤ length s)
+    held-range from to a =
+        let n = countsAt s at in
+        let l = is-placed s at (i .next) (i .placed) .located-at in
+        let x : from ≡ start s at n g = a .0 ∙ ap (λ y. start s at y g) held-counts in
+        let y : to ≡ start s at n (g + 1) = a .1 ∙ ap (λ y. start s at y (g + 1)) held-counts in
+        let few = group-few (i .has) in
+        (omega (arith, x, y, start-mono s at n g (g + 1) (omega arith)), omega (arith, y, start-within s at (i .next) n l (g + 1) (omega (arith, few)), located-range s at (i .next) n l))
 
-    pub given-range : (from to : ℕ) → from ≡ start s at ns g → to ≡ start s at ns (g + 1) → (from ≤ to) × (to ≤ length s)
-    given-range from to a z = part-range s at g [] (i .form) (i .has) (i .next) (i .placed) ns c from to a z
+    pub held-part : (from to : ℕ) → (from ≡ start s at ns g) × (to ≡ start s at ns (g + 1)) → (part from to s ≡ partAt s at g) × (from ≡ partStart s at g)
+    unfolding partAt partStart
+    held-part from to a =
+        let x : from ≡ start s at (countsAt s at) g = a .0 ∙ ap (λ y. start s at y g) held-counts in
+        let y : to ≡ start s at (countsAt s at) (suc g) = a .1 ∙ ap (λ y. start s at y (g + 1)) held-counts ∙ ap (start s at (countsAt s at)) (add-one g) in
+        rw (e, x, y) (refl, refl)
 
-  -- the part that is given, and the one that is not
-  pub part-given : (e : foundAt s at g ≡ Given) (ns : List ℕ) → ns ≡ countsAt s at → (from to : ℕ) → from ≡ start s at ns g → to ≡ start s at ns (g + 1) → (part from to s ≡ partAt s at g) × (from ≡ partStart s at g)
+  pub missing-part : {r : Refusal} → foundAt s at g ≡ Missing r → (part 0 0 s ≡ partAt s at g) × (0 ≡ partStart s at g)
   unfolding partAt partStart
-  part-given e ns c from to a z =
-      let x : from ≡ start s at (countsAt s at) g = a ∙ ap (λ y. start s at y g) c in
-      let y : to ≡ start s at (countsAt s at) (suc g) = z ∙ ap (λ y. start s at y (g + 1)) c ∙ ap (start s at (countsAt s at)) (add-one g) in
-      rw (e, x, y) (refl, refl)
+  missing-part e = rw e (refl, refl)
 
-  pub part-missing : {r : _} → foundAt s at g ≡ Missing r → (part 0 0 s ≡ partAt s at g) × (0 ≡ partStart s at g)
-  unfolding partAt partStart
-  part-missing e = rw e (refl, refl)
-
-  -- the part holds exactly the group's lines
-  pub given-lines : g ≤ 60 → foundAt s at g ≡ Given → Whole (getD (lineTally (countsAt s at)) g 0) (partAt s at g)
+  -- the part is the group's part of the record, and holds exactly the group's lines
+  pub given-part : foundAt s at g ≡ Given → partAt s at g ≡ groupPart s at (countsAt s at) g
   unfolding partAt Parts.groupPart
-  given-lines few e =
+  given-part e = rw e refl
+
+  pub given-lines : foundAt s at g ≡ Given → Whole (getD (lineTally (countsAt s at)) g 0) (partAt s at g)
+  given-lines e =
       let i = given-is e in
-      rw e (part-whole s at (i .next) (countsAt s at) (is-placed s at (i .next) (i .placed) .located-at) g (omega arith))
+      rw (given-part e) (part-whole s at (i .next) (countsAt s at) (is-placed s at (i .next) (i .placed) .located-at) g (omega (arith, group-few (i .has))))
+
+  -- any two answers are equal
+  pub found-once : (r q : Found) → r ≡ foundAt s at g → q ≡ foundAt s at g → r ≡ q
+  found-once r q a b = a ∙ sym b
+
+  pub part-once : (p : ℕ × ℕ) (x y : List ℕ) (a b : ℕ × ℕ) → (x ≡ partAt s at g) × (a ≡ moved p (partStart s at g)) → (y ≡ partAt s at g) × (b ≡ moved p (partStart s at g)) → (x ≡ y) × (a ≡ b)
+  part-once p x y a b h k = (h .0 ∙ sym (k .0), h .1 ∙ sym (k .1))
 
 pub found-numbered : (r : Found) → Numbered (foundReply r)
 found-numbered Given = numbered-plain 0 tt

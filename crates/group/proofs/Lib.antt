@@ -1,14 +1,5 @@
 -- The laws of group's definitions.
-pub mod Blanks
-pub mod Lines
-pub mod Fields
-pub mod Checking
-pub mod Sizes
-pub mod Putting
-pub mod Filling
-pub mod Dates
-pub mod Steps
+pub mod Holding
 pub mod Texts
 pub mod Promises
-pub mod Holding
 pub mod Reported

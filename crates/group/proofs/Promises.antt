@@ -1,94 +1,14 @@
--- What is promised of reading a group: each answer is a reply of 01's table; a refusal keeps the table, and 0 keeps what stands behind the
--- cells; there is one outcome; a group is read from its counts and its own lines alone; a count of 0 gives 0 and no cells.
+-- What is promised of reading a group at a place: it is read from its record's counts and its own lines alone, wherever they stand.
 -- Assumes nothing.
-use mathlib.Core.Path.{_≡_, refl, sym, _∙_, ap, subst}
-use mathlib.Core.Bool.{Bool, true, false, cond, true≢false}
-use mathlib.Core.List.{List, [], _∷_, _++_}
-use Prim.Native.Nat.{ℕ, zero, suc, _+_, _-_, _*_, _<_, _≤_}
-use native.Mathlib.Nat.{zero-add, zero-mul}
-use native.Mathlib.Omega.{arith}
-use borrow.Author.Tests.{le-leb, ne-eqb}
-use lib.Dec.{T, leb, leb→le}
-use lib.IntN.{ℤ}
-use lib.ListN.{length, take, drop}
-use lib.Seq.{drop-at}
-use Rattle.base.specs.Every
-use Rattle.base.specs.Part.{part, over}
-use Rattle.base.specs.Pieces
-use Rattle.base.specs.Pieces.{Got, done, bad}
-use Rattle.form.specs.declared.Form.{Form}
+use mathlib.Core.Path.{_≡_, refl}
+use mathlib.Core.List.{List}
+use Prim.Native.Nat.{ℕ}
 use Rattle.form.specs.declared.GroupForm.{GroupForm}
 use Rattle.form.specs.declared.GroupForm.the-variants.{Has, NoGroup as NoForm}
-use Rattle.form.specs.Table.{rowOf, formOf}
-use Rattle.form.specs.Count
-use Rattle.form.specs.Count.{elementsOf, linesOf, cellsOf}
-use Rattle.form.proofs.Rounding.{rounded-none}
-use Rattle.count.specs.Reply.{Reply, replyOn, Numbered, namesWritten, namesLine, namesElement, namesPosition}
-use Rattle.count.proofs.Replies.{numbered-on, numbered-plain}
-use Rattle.count.specs.Tally.{countOf}
-use Rattle.count.specs.Rules.{rulingOf}
-use Rattle.count.specs.declared.Ruling.the-variants.{Kept, Broken}
+use Rattle.form.specs.Table.{formOf}
 use Rattle.place.specs.Placing.{Located, located, refused, locate}
 use Rattle.place.specs.Parts.{groupPart}
-use Rattle.group.specs.declared.Refusal.{Refusal}
-use Rattle.group.specs.declared.Refusal.the-variants.{NoGroup, End, Beyond, TooFewLines, Misformed, OtherRelease, FilledVacant, BrokenRule, NoRoom, BadLine, BadField, BadDate}
-use Rattle.group.specs.declared.Reading.{Reading}
-use Rattle.group.specs.declared.Reading.the-variants.{Done, Refused}
-use Rattle.group.specs.Numbered.{replyIn, refusalReply, readingReply}
-use Rattle.group.specs.Plan.{planFrom, planOf}
-use Rattle.group.specs.Read.{Cells, readLinesOf, readLines, dated, readForm, readGroup, readingOf, tableBy}
 use Rattle.group.specs.Text.{readAtBy, readAt}
-use Rattle.group.proofs.Steps.{kept-letters}
-
--- ---- numbered
-
-numbered-in : (k written line element position : ℕ) → T (leb k 14) → (namesWritten k ≡ false → written ≡ 0) → (namesLine k ≡ false → line ≡ 0) → (namesElement k ≡ false → element ≡ 0) → (namesPosition k ≡ false → position ≡ 0) → Numbered (replyIn k written line element position)
-numbered-in k written line element position t w l e p =
-    record {
-      known = leb→le k 14 t;
-      no-next = λ x. refl;
-      no-written = w;
-      no-group = λ x. refl;
-      no-line = l;
-      no-element = e;
-      no-position = p;
-    }
-
-pub refusal-numbered : (r : Refusal) → Numbered (refusalReply r)
-refusal-numbered NoGroup = numbered-plain 12 tt
-refusal-numbered End = numbered-plain 1 tt
-refusal-numbered Beyond = numbered-plain 2 tt
-refusal-numbered TooFewLines = numbered-plain 3 tt
-refusal-numbered Misformed = numbered-plain 4 tt
-refusal-numbered OtherRelease = numbered-plain 5 tt
-refusal-numbered (FilledVacant g) = numbered-on 6 g tt (λ e. absurd (true≢false e))
-refusal-numbered (BrokenRule g) = numbered-on 7 g tt (λ e. absurd (true≢false e))
-refusal-numbered NoRoom = numbered-plain 11 tt
-refusal-numbered (BadLine l) = numbered-in 8 0 l 0 0 tt (λ x. refl) (λ x. absurd (true≢false x)) (λ x. refl) (λ x. refl)
-refusal-numbered (BadField l e) = numbered-in 9 0 l e 0 tt (λ x. refl) (λ x. absurd (true≢false x)) (λ x. absurd (true≢false x)) (λ x. refl)
-refusal-numbered (BadDate p) = numbered-in 10 0 0 0 p tt (λ x. refl) (λ x. refl) (λ x. refl) (λ x. absurd (true≢false x))
-
-pub reading-numbered : (r : Reading) → Numbered (readingReply r)
-reading-numbered (Done n) = numbered-in 0 n 0 0 0 tt (λ x. absurd (true≢false x)) (λ x. refl) (λ x. refl) (λ x. refl)
-reading-numbered (Refused r) = refusal-numbered r
-
--- ---- the table
-
--- refused read keeps: "reply not 0 → the table at exit is the table at entry"
-pub refused-read-keeps : (g : Cells) (old : List ℤ) → (readingReply (readingOf g) .number ≡ 0 → ⊥) → tableBy g old ≡ old
-refused-read-keeps (done cs) old n = absurd (n refl)
-refused-read-keeps (bad r) old n = refl
-
--- done read keeps the rest: "Cells behind the last one written keep their content"
-pub done-read-keeps-rest : (g : Cells) (old : List ℤ) (n : ℕ) → readingOf g ≡ Done n → drop n (tableBy g old) ≡ drop n old
-done-read-keeps-rest (done cs) old n e =
-    let m : length cs ≡ n = cc in
-    rw (← m, zero-add (length cs)) (drop-at cs (drop (length cs) old) (length cs) refl)
-done-read-keeps-rest (bad r) old n e = let z : _≡_ {A = ℕ} 0 1 = cc in absurd (omega arith)
-
--- any two outcomes that the contract allows are equal
-pub read-once : (g : Cells) (old : List ℤ) (r q : Reading) (new now : List ℤ) → (r ≡ readingOf g) × (new ≡ tableBy g old) → (q ≡ readingOf g) × (now ≡ tableBy g old) → (r ≡ q) × (new ≡ now)
-read-once g old r q new now a b = (a .0 ∙ sym (b .0), a .1 ∙ sym (b .1))
 
 -- ---- reading is local
 
@@ -100,28 +20,3 @@ read-local s t at bt n m ns g room a b e = by (formOf g)
     by : (h : GroupForm) → readAtBy s at g room h ≡ readAtBy t bt g room h
     by (Has f) = rw (a, b, e)
     by NoForm = refl
-
--- a record that breaks a rule on counts gives 7 for every group, whatever its lines hold
-pub read-broken : (ns : List ℕ) (g : ℕ) (x : List ℕ) (room h : ℕ) (f : Form) → formOf g ≡ Has f → rulingOf ns ≡ Broken h → readGroup ns g x room ≡ bad (BrokenRule h)
-unfolding readGroup
-read-broken ns g x room h f e r = rw (e, r)
-
--- ---- "A group with count 0 gives 0 and no cells", also into an empty table
-
-no-elements : (f : Form) → (linesOf f 0 ≡ 0) × (cellsOf f 0 ≡ 0)
-unfolding Count.linesOf Count.cellsOf Count.elementsOf
-no-elements f = (rounded-none (rowOf f .«per_line»), zero-mul (rowOf f .cells))
-
-no-lines : (f : Form) (x : List ℕ) → readLines f 0 x ≡ done []
-unfolding readLines readLinesOf planOf planFrom Pieces.gather Every.upFrom
-no-lines f x = rw (no-elements f .0)
-
-pub read-none : (ns : List ℕ) (g : ℕ) (x : List ℕ) (room : ℕ) (f : Form) → formOf g ≡ Has f → rulingOf ns ≡ Kept → countOf ns g ≡ 0 → readGroup ns g x room ≡ done []
-unfolding readGroup readForm
-read-none ns g x room f e r c =
-    rw (e, r, c, no-elements f .1, le-leb 0 room (omega arith), no-lines f x, ne-eqb g 3 other)
-  where
-    other : g ≡ 3 → ⊥
-    other t =
-        let k : countOf ns 3 ≡ 0 = ap (countOf ns) (sym t) ∙ c in
-        omega (arith, kept-letters ns r)

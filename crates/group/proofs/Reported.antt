@@ -15,16 +15,16 @@ use Rattle.base.specs.Pieces.{Got, done, bad}
 use Rattle.base.specs.Sign.{negative, sizeOf}
 use Rattle.count.specs.Reply.{Numbered}
 use Rattle.count.proofs.Replies.{numbered-plain}
-use Rattle.group.specs.declared.Refusal.{Refusal}
-use Rattle.group.specs.declared.Refusal.the-variants.{NoGroup}
-use Rattle.group.specs.declared.Reading.{Reading}
-use Rattle.group.specs.declared.Reading.the-variants.{Done, Refused}
+use Rattle.reading.specs.declared.Refusal.{Refusal}
+use Rattle.reading.specs.declared.Refusal.the-variants.{NoGroup}
+use Rattle.reading.specs.declared.Reading.{Reading}
+use Rattle.reading.specs.declared.Reading.the-variants.{Done, Refused}
 use Rattle.group.specs.declared.Characteristic.{Characteristic}
 use Rattle.group.specs.declared.Characteristic.the-variants.{Value, NoReading, NotReported, Unread}
-use Rattle.group.specs.Read.{Cells, readingOf, tableBy}
+use Rattle.reading.specs.Read.{Cells, readingOf, tableBy}
 use Rattle.group.specs.Text.{readAt}
 use Rattle.group.specs.Characteristics.{isNoReading, told, reported, characteristicAt, characteristicReply}
-use Rattle.group.proofs.Promises.{refusal-numbered}
+use Rattle.reading.proofs.Promises.{refusal-numbered}
 
 -- ---- no reading
 

@@ -1,127 +1,95 @@
--- Reading at a place of a text, by what placing answered.
+-- Reading at a place of a text, by whether the group can be asked about there.
 -- Assumes nothing.
 use mathlib.Core.Path.{_≡_, refl, sym, _∙_, ap, subst}
-use mathlib.Core.Bool.{Bool, true, false, cond}
-use mathlib.Core.List.{List, [], _∷_, _++_}
-use mathlib.Core.Logic.{_⊎_, inl, inr, ⊎-elim}
+use mathlib.Core.Bool.{Bool, true, false}
+use mathlib.Core.List.{List, [], _∷_}
+use mathlib.Core.Logic.{⊎-elim}
 use types.Run.{OneOf}
-use lib.Dec.{T, leb, leb→le}
-use Rattle.base.specs.Every.{every}
-use Rattle.base.proofs.Choice.{and-left, and-right}
-use Rattle.base.proofs.Order.{le-or-lt}
-use Prim.Native.Nat.{ℕ, suc, _+_, _<_, _≤_}
-use native.Mathlib.Numerals.{add-one}
+use Prim.Native.Nat.{ℕ, _+_}
 use native.Mathlib.Omega.{arith}
+use lib.Dec.{T, leb, leb→le}
 use lib.IntN.{ℤ}
 use lib.ListN.{length}
-use Rattle.base.specs.Part.{part, over}
+use Rattle.base.specs.Every.{every}
+use Rattle.base.specs.Part.{part}
 use Rattle.base.specs.Pieces.{Got, done, bad}
+use Rattle.base.proofs.Choice.{and-left, and-right}
 use Rattle.form.specs.declared.Form.{Form}
 use Rattle.form.specs.declared.GroupForm.{GroupForm}
 use Rattle.form.specs.declared.GroupForm.the-variants.{Has, NoGroup as NoForm}
 use Rattle.form.specs.Table.{formOf}
-use Rattle.form.proofs.Table.{IsGroup, no-group}
 use Rattle.count.specs.Rules.{rulingOf}
 use Rattle.count.specs.declared.Ruling.{Ruling}
 use Rattle.count.specs.declared.Ruling.the-variants.{Kept, Broken}
-use Rattle.count.proofs.Releases.{release-five}
 use Rattle.place.specs.declared.Placing.{Placing}
-use Rattle.place.specs.declared.Placing.the-variants.{Placed}
+use Rattle.place.specs.declared.Placing.the-variants as P
 use Rattle.place.specs.Placing
 use Rattle.place.specs.Placing.{Located, located, refused, locate, placingBy, placingOf, countsAt, ruledAt}
-use Rattle.place.specs.Parts
-use Rattle.place.specs.Parts.{start, groupPart}
-use Rattle.place.specs.Due.{Stands, HasLines}
-use Rattle.place.proofs.Due.{first-due}
-use Rattle.place.proofs.Placed.{IsLocated, is-located, located-is, located-range}
-use Rattle.place.proofs.Tiling.{start-mono, start-within}
-use Rattle.group.specs.declared.Refusal.{Refusal}
-use Rattle.group.specs.declared.Refusal.the-variants.{NoGroup, BrokenRule}
-use Rattle.group.specs.declared.Reading.{Reading}
-use Rattle.group.specs.declared.Reading.the-variants.{Done, Refused}
-use Rattle.group.specs.Read
-use Rattle.group.specs.Read.{Cells, readGroup, readingOf, tableBy}
-use Rattle.group.specs.Text.{refusalOf, readLocated, readAt}
-use Rattle.group.proofs.Steps.{Answers}
+use Rattle.place.specs.Parts.{start}
+use Rattle.place.proofs.Zero.{is-placed}
+use Rattle.reading.specs.declared.Refusal.{Refusal}
+use Rattle.reading.specs.declared.Refusal.the-variants.{NoGroup, BrokenRule}
+use Rattle.reading.specs.declared.Reading.{Reading}
+use Rattle.reading.specs.declared.Reading.the-variants.{Done, Refused}
+use Rattle.reading.specs.Read
+use Rattle.reading.specs.Read.{Cells, readGroup}
+use Rattle.reading.proofs.Steps.{Answers}
+use Rattle.group.specs.declared.Found.{Found}
+use Rattle.group.specs.declared.Found.the-variants.{Given, Missing}
+use Rattle.group.specs.Held.{refusalOf, foundBy, foundIn, foundAt, countsHeld, partAt}
+use Rattle.group.specs.Text.{readLocated, readAtBy, readAt}
+use Rattle.group.proofs.Holding.{given-is, given-part, held-counts, held-part}
 
--- a record that is placed with 0: it is located, with the counts that placing gives, and these keep the rules
-pub record IsPlaced (s : List ℕ) (at n : ℕ) : Type 0 where
-  pub located-at : locate s at ≡ located n (countsAt s at)
-  pub kept : rulingOf (countsAt s at) ≡ Kept
+module _ (s : List ℕ) (at g room : ℕ) where
+  -- 12, or any placing reply but 0
+  pub read-missing : {r : Refusal} → foundAt s at g ≡ Missing r → readAt s at g room ≡ bad r
+  unfolding foundAt readAt Read.readGroup Placing.placingOf
+  read-missing {r} e = by (formOf g) refl e
+    where
+      given : {A : Type 0} → Given ≡ Missing r → A
+      given e = let z : _≡_ {A = ℕ} 0 1 = cc in absurd (omega arith)
 
-pub is-placed : (s : List ℕ) (at n : ℕ) → placingOf s at ≡ Placed n → IsPlaced s at n
-unfolding Placing.countsAt
-is-placed s at n e =
-    let d = first-due s at (Placed n) .0 e in
-    let h = d .lines in
-    let l : locate s at ≡ located n (d .ns) = is-located s at n (d .ns) record {
-      inside = h .head .index .place .inside;
-      head = h .head .index .place .lines;
-      index = h .head .index .read;
-      release = release-five (d .ns) (h .head .five) (h .head .vacant);
-      many = h .enough;
-      next = h .next;
-    } in
-    let c : countsAt s at ≡ d .ns = ap Placing.countsBy l in
-    record { located-at = l ∙ ap (located n) (sym c); kept = ap rulingOf c ∙ d .kept }
+      same : {q : Refusal} → Missing q ≡ Missing r → _≡_ {A = Cells} (bad q) (bad r)
+      same {q} e = let p : q ≡ r = cc in ap bad p
 
-module _ (s : List ℕ) (at g : ℕ) (old : List ℤ) where
-  pub text-none : formOf g ≡ NoForm → Answers (readAt s at g (length old)) old (Refused NoGroup) old
+      ruled : (f : Form) (n : ℕ) (ns : List ℕ) (k : Ruling) → formOf g ≡ Has f → rulingOf ns ≡ k → foundBy (ruledAt n k) ≡ Missing r → readLocated s at g room (located n ns) ≡ bad r
+      ruled f n ns Kept h u v = given v
+      ruled f n ns (Broken b) h u v = rw (h, u) (same v)
+
+      refusal : (p : Placing) → foundBy p ≡ Missing r → _≡_ {A = Cells} (bad (refusalOf p)) (bad r)
+      refusal (P.Placed n) v = given v
+      refusal P.End v = same v
+      refusal P.Beyond v = same v
+      refusal P.TooFewLines v = same v
+      refusal P.Misformed v = same v
+      refusal P.OtherRelease v = same v
+      refusal (P.FilledVacant h) v = same v
+      refusal (P.BrokenRule h n) v = same v
+
+      place : (f : Form) (l : Located) → formOf g ≡ Has f → locate s at ≡ l → foundBy (placingBy l) ≡ Missing r → readLocated s at g room l ≡ bad r
+      place f (located n ns) h u v = ruled f n ns (rulingOf ns) h refl v
+      place f (refused p) h u v = refusal p v
+
+      by : (h : GroupForm) → formOf g ≡ h → foundIn s at h ≡ Missing r → readAtBy s at g room h ≡ bad r
+      by (Has f) h v = place f (locate s at) h refl v
+      by NoForm h v = same v
+
+  -- reply 0 in placing: the record's counts and the group's own lines
+  pub read-given : foundAt s at g ≡ Given → readAt s at g room ≡ readGroup (countsAt s at) g (partAt s at g) room
   unfolding readAt
-  text-none e =
-      let n : readAt s at g (length old) ≡ bad NoGroup = rw e in
-      rw n (refl, refl)
+  read-given e =
+      let i = given-is s at g e in
+      rw (i .has, is-placed s at (i .next) (i .placed) .located-at, given-part s at g e) refl
 
-  module _ (f : Form) (e : formOf g ≡ Has f) where
-    by-place : (l : Located) → locate s at ≡ l → readAt s at g (length old) ≡ readLocated s at g (length old) l
-    unfolding readAt
-    by-place l u = rw (e, u)
+-- the same, with the table
+module _ (s : List ℕ) (at g : ℕ) (old : List ℤ) where
+  pub text-missing : {r : Refusal} → Missing r ≡ foundAt s at g → Answers (readAt s at g (length old)) old (Refused r) old
+  text-missing e = rw (read-missing s at g (length old) (sym e)) (refl, refl)
 
-    -- any placing reply but 0
-    pub text-refused : (p : Placing) → placingOf s at ≡ p → ((n : ℕ) → p ≡ Placed n → ⊥) → Answers (readAt s at g (length old)) old (Refused (refusalOf p)) old
-    unfolding Placing.placingOf Read.readGroup
-    text-refused p u never = by (locate s at) refl u
-      where
-        ruled : (n : ℕ) (ns : List ℕ) (k : Ruling) → rulingOf ns ≡ k → locate s at ≡ located n ns → ruledAt n k ≡ p → Answers (readAt s at g (length old)) old (Refused (refusalOf p)) old
-        ruled n ns Kept r l v = absurd (never n (sym v))
-        ruled n ns (Broken h) r l v =
-            let a : readAt s at g (length old) ≡ bad (BrokenRule h) = by-place (located n ns) l ∙ rw (e, r) in
-            rw (a, ← v) (refl, refl)
-
-        by : (l : Located) → locate s at ≡ l → placingBy l ≡ p → Answers (readAt s at g (length old)) old (Refused (refusalOf p)) old
-        by (located n ns) l v = ruled n ns (rulingOf ns) refl l v
-        by (refused q) l v = rw (by-place (refused q) l, ← v) (refl, refl)
-
-    -- reply 0: the record's counts and the group's own lines
-    module _ (n : ℕ) (u : placingOf s at ≡ Placed n) (ns : List ℕ) (c : ns ≡ countsAt s at) where
-      here : locate s at ≡ located n ns
-      here = is-placed s at n u .located-at ∙ ap (located n) (sym c)
-
-      pub place-inside : at ≤ length s
-      place-inside = omega (arith, located-is s at n ns here .inside)
-
-      group-few : g ≤ 60
-      group-few = by (le-or-lt g 60)
-        where
-          no-form : {A : Type 0} {f : Form} → NoForm ≡ Has f → A
-          no-form e = let z : _≡_ {A = ℕ} 0 1 = cc in absurd (omega arith)
-
-          by : (g ≤ 60) ⊎ (60 < g) → g ≤ 60
-          by (inl h) = h
-          by (inr h) = no-form (sym (no-group g .1 (λ i. omega (arith, i .high))) ∙ e)
-
-      pub group-small : g + 1 ≤ 61
-      group-small = omega (arith, group-few)
-
-      module _ (from to : ℕ) (a : from ≡ start s at ns g) (z : to ≡ start s at ns (g + 1)) where
-        pub part-range : (from ≤ to) × (to ≤ length s)
-        part-range = (omega (arith, start-mono s at ns g (g + 1) (omega arith)), omega (arith, start-within s at n ns here (g + 1) group-small, located-range s at n ns here))
-
-        pub text-read : {r : Reading} {new : List ℤ} → Answers (readGroup ns g (part from to s) (length old)) old r new → Answers (readAt s at g (length old)) old r new
-        unfolding Parts.groupPart
-        text-read {r = r} {new = new} b =
-            let same : part from to s ≡ groupPart s at ns g = rw (a, z, add-one g) in
-            subst (λ y. Answers y old r new) (ap (λ x. readGroup ns g x (length old)) same ∙ sym (by-place (located n ns) here)) b
+  pub text-given : Given ≡ foundAt s at g → (ns : List ℕ) → ns ≡ countsHeld s at g → (from to : ℕ) → (from ≡ start s at ns g) × (to ≡ start s at ns (g + 1)) → {r : Reading} {new : List ℤ} → Answers (readGroup ns g (part from to s) (length old)) old r new → Answers (readAt s at g (length old)) old r new
+  text-given e ns c from to a {r} {new} b =
+      let same : readGroup ns g (part from to s) (length old) ≡ readAt s at g (length old) = rw (held-part s at g (sym e) ns c from to a .0, held-counts s at g (sym e) ns c) (sym (read-given s at g (length old) (sym e))) in
+      subst (λ y. Answers y old r new) same b
 
 -- the answers of placing that are none of these are `Placed`
 pub not-first : (ks : List ℕ) → T (every (leb 1) ks) → OneOf ks 0 → ⊥

@@ -10,11 +10,11 @@ use lib.ListN.{length, getD}
 use Rattle.base.specs.Pieces.{Got, done, bad}
 use Rattle.base.specs.Sign.{negative, sizeOf}
 use Rattle.count.specs.Reply.{Reply, reply}
-use Rattle.group.specs.declared.Refusal.the-variants.{NoGroup}
+use Rattle.reading.specs.declared.Refusal.the-variants.{NoGroup}
 use Rattle.group.specs.declared.Characteristic.{Characteristic}
 use Rattle.group.specs.declared.Characteristic.the-variants.{Value, NoReading, NotReported, Unread}
-use Rattle.group.specs.Numbered.{refusalReply}
-use Rattle.group.specs.Read.{Cells}
+use Rattle.reading.specs.Numbered.{refusalReply}
+use Rattle.reading.specs.Read.{Cells}
 use Rattle.group.specs.Text.{readAt}
 
 -- no reading: the cell is 9,999,000

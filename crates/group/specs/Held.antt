@@ -2,6 +2,7 @@
 -- 0. A count of 0 gives an empty part where the lines would begin; a refusal gives the empty part at the text's start."
 use mathlib.Core.List.{List}
 use Prim.Native.Nat.{ℕ, suc, _+_}
+use lib.ListN.{replicate}
 use Rattle.base.specs.Part.{part}
 use Rattle.form.specs.declared.GroupForm.{GroupForm}
 use Rattle.form.specs.declared.GroupForm.the-variants.{Has, NoGroup as NoForm}
@@ -11,11 +12,22 @@ use Rattle.place.specs.declared.Placing.the-variants as P
 use Rattle.place.specs.Placing.{placingOf, countsAt}
 use Rattle.place.specs.Parts.{start}
 use Rattle.count.specs.Reply.{Reply, reply}
-use Rattle.group.specs.declared.Refusal.the-variants.{NoGroup}
+use Rattle.reading.specs.declared.Refusal.{Refusal}
+use Rattle.reading.specs.declared.Refusal.the-variants.{NoGroup, End, Beyond, TooFewLines, Misformed, OtherRelease, FilledVacant, BrokenRule}
 use Rattle.group.specs.declared.Found.{Found}
 use Rattle.group.specs.declared.Found.the-variants.{Given, Missing}
-use Rattle.group.specs.Numbered.{refusalReply}
-use Rattle.group.specs.Text.{refusalOf}
+use Rattle.reading.specs.Numbered.{refusalReply}
+
+-- a placing reply but 0, as the reply of a question about a group: 7 has its group and no next place. (Placed has none; nobody asks for it.)
+abbrev pub refusalOf : Placing → Refusal
+refusalOf (P.Placed n) = NoGroup
+refusalOf P.End = End
+refusalOf P.Beyond = Beyond
+refusalOf P.TooFewLines = TooFewLines
+refusalOf P.Misformed = Misformed
+refusalOf P.OtherRelease = OtherRelease
+refusalOf (P.FilledVacant g) = FilledVacant g
+refusalOf (P.BrokenRule g n) = BrokenRule g
 
 abbrev pub foundBy : Placing → Found
 foundBy (P.Placed n) = Given
@@ -27,6 +39,11 @@ foundBy P.OtherRelease = Missing (refusalOf P.OtherRelease)
 foundBy (P.FilledVacant g) = Missing (refusalOf (P.FilledVacant g))
 foundBy (P.BrokenRule g n) = Missing (refusalOf (P.BrokenRule g n))
 
+-- a refused question has no counts
+abbrev pub countsBy : Found → List ℕ → List ℕ
+countsBy Given ns = ns
+countsBy (Missing r) ns = replicate 80 0
+
 abbrev pub foundIn : List ℕ → ℕ → GroupForm → Found
 foundIn s at (Has f) = foundBy (placingOf s at)
 foundIn s at NoForm = Missing NoGroup
@@ -34,6 +51,14 @@ foundIn s at NoForm = Missing NoGroup
 -- whether the lines of group g of the record at a place can be given
 unfoldable pub foundAt : List ℕ → ℕ → ℕ → Found
 foundAt s at g = foundIn s at (formOf g)
+
+-- the counts of the record, or zeros
+abbrev pub countsIn : List ℕ → ℕ → GroupForm → List ℕ
+countsIn s at (Has f) = countsBy (foundBy (placingOf s at)) (countsAt s at)
+countsIn s at NoForm = replicate 80 0
+
+unfoldable pub countsHeld : List ℕ → ℕ → ℕ → List ℕ
+countsHeld s at g = countsIn s at (formOf g)
 
 -- where the lines of group g begin, or the text's start
 abbrev pub startBy : List ℕ → ℕ → ℕ → Found → ℕ

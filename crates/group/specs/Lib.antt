@@ -1,10 +1,5 @@
--- Reading a group of a record ("Records and lines", "Fields" and "Replies" of 01): what a line may hold and how it is filled with blanks
--- (Blanks), which elements stand in which line (Plan), what the lines of a group read as (Read), and the same at a place of a text (Text).
--- Numbered gives each answer's number in 01's table with the numbers beside it.
-pub mod Blanks
-pub mod Plan
-pub mod Read
-pub mod Text
-pub mod Numbered
+-- A group of the record at a place of a text ("Replies" of 01): whether its lines can be given, and where they stand (Held); what it reads
+-- as (Text); a characteristic, which is a cell of group 4 (Characteristics).
 pub mod Held
+pub mod Text
 pub mod Characteristics

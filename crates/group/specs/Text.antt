@@ -6,24 +6,11 @@ use Rattle.base.specs.Pieces.{bad}
 use Rattle.form.specs.declared.GroupForm.{GroupForm}
 use Rattle.form.specs.declared.GroupForm.the-variants.{Has, NoGroup as NoForm}
 use Rattle.form.specs.Table.{formOf}
-use Rattle.place.specs.declared.Placing.{Placing}
-use Rattle.place.specs.declared.Placing.the-variants as P
 use Rattle.place.specs.Placing.{Located, located, refused, locate}
 use Rattle.place.specs.Parts.{groupPart}
-use Rattle.group.specs.declared.Refusal.{Refusal}
-use Rattle.group.specs.declared.Refusal.the-variants.{NoGroup, End, Beyond, TooFewLines, Misformed, OtherRelease, FilledVacant, BrokenRule}
-use Rattle.group.specs.Read.{Cells, readGroup}
-
--- a placing reply but 0, as the reply of reading: 7 has its group and no next place. (Placed has none; nobody asks for it.)
-abbrev pub refusalOf : Placing → Refusal
-refusalOf (P.Placed n) = NoGroup
-refusalOf P.End = End
-refusalOf P.Beyond = Beyond
-refusalOf P.TooFewLines = TooFewLines
-refusalOf P.Misformed = Misformed
-refusalOf P.OtherRelease = OtherRelease
-refusalOf (P.FilledVacant g) = FilledVacant g
-refusalOf (P.BrokenRule g n) = BrokenRule g
+use Rattle.reading.specs.declared.Refusal.the-variants.{NoGroup}
+use Rattle.reading.specs.Read.{Cells, readGroup}
+use Rattle.group.specs.Held.{refusalOf}
 
 -- a record that can be located reads by its counts and the group's own lines; 7 is decided by its counts
 abbrev pub readLocated : List ℕ → ℕ → ℕ → ℕ → Located → Cells

@@ -7,7 +7,7 @@ use mathlib.Core.List.{List, [], _++_, map}
 use mathlib.Core.Logic.{_⊎_, ⊎-elim}
 use Prim.Native.Nat.{compare·suc-suc, ℕ, zero, suc, _+_, _-_, _<_, _≤_}
 use native.Mathlib.Omega.{arith}
-use native.Mathlib.Nat.{add-suc, suc-add}
+use native.Mathlib.Nat.{add-suc, suc-add, add-zero}
 use native.Mathlib.Numerals.{add-one}
 use lib.Dec.{leb}
 use lib.ListN.{length, take, drop, getD, length-drop, take-append-drop, drop-of-length-le}
@@ -22,7 +22,7 @@ use Rattle.line.specs.Texts.{SameLines}
 use Rattle.line.specs.declared.Behind.{Behind}
 use Rattle.line.specs.declared.Behind.the-variants.{At, TooFew}
 use Rattle.line.proofs.Feeds.{feeds-append, feeds-nil, feeds-drop-feed, feeds-drop-other}
-use Rattle.line.proofs.Reach.{reach-zero, reach-le, reach-add, reach-append, reach-drop-feed, reach-drop-other, feeds-behind, length-lines}
+use Rattle.line.proofs.Reach.{reach-zero, reach-le, reach-add, reach-all, reach-nil, reach-append, reach-drop-feed, reach-drop-other, feeds-behind, length-lines}
 use Rattle.line.proofs.Whole.{reach-whole, feeds-whole, whole-lines, whole-same}
 use Rattle.line.proofs.Texts.{feeds-from, reach-from}
 
@@ -190,6 +190,18 @@ behindAt-lines {k} {a} p b u =
       many = rw d (omega (arith, feeds-whole b u));
       place = rw d (ap (λ n. length p + n) (sym (reach-whole b u)));
     }
+
+-- ---- behind so many lines, or at the end
+
+module _ (s : List ℕ) (at k : ℕ) where
+  pub reach-beyond : length s < at → at ≡ at + reach (drop at s) k
+  reach-beyond h = rw (drop-of-length-le s {i = at} (omega arith), reach-nil k) (sym (add-zero at))
+
+  pub reach-at : (n : ℕ) → behindAt s at k ≡ At n → n ≡ at + reach (drop at s) k
+  reach-at n e = at-is s at k n e .place
+
+  pub reach-end : at ≤ length s → behindAt s at k ≡ TooFew → length s ≡ at + reach (drop at s) k
+  reach-end h e = omega (arith, reach-all (drop at s) k (few-is s at k e), length-drop at s)
 
 -- ---- any two answers are equal
 

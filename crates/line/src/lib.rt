@@ -1,5 +1,8 @@
 // Lines of a text: where so many of them end, and what the content of one is.
 ghost use mathlib.Core.Path.{_≡_};
+ghost use Prim.Native.Nat.{_+_};
+ghost use lib.ListN.{drop};
+ghost use Rattle.line.specs.Lines.{reach};
 ghost use Rattle.line.specs.Places.{behindAt};
 ghost use Rattle.line.specs.Contents.{contentOf};
 
@@ -28,6 +31,19 @@ pub fn place_behind(text: &[u8], at: usize, lines: usize) -> Behind
         i += 1;
     }
     Behind::TooFew
+}
+
+// The place behind so many lines from a place, or the text's end where there are fewer.
+pub fn behind_or_end(text: &[u8], at: usize, lines: usize) -> usize
+    ensures { λ r. ⌜ r ≡ at + reach (drop at (now (text .entry))) lines ⌝ }
+{
+    if text.len() < at {
+        return at;
+    }
+    let Behind::At(n) = place_behind(text, at, lines) else {
+        return text.len();
+    };
+    n
 }
 
 // How many bytes of a line are its content, or that no carriage return stands before its line feed.

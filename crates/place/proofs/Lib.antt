@@ -9,3 +9,4 @@ pub mod Spans
 pub mod Local
 pub mod SameWalk
 pub mod Numbered
+pub mod Zero

@@ -135,19 +135,6 @@ pub fn place(text: &[u8], at: usize) -> Record
     with_counts(text, end, counts)
 }
 
-// The place behind so many lines from a place, or the text's end where there are fewer.
-fn behind_or_end(text: &[u8], at: usize, lines: usize) -> usize
-    ensures { λ r. ⌜ r ≡ at + reach (drop at (now (text .entry))) lines ⌝ }
-{
-    if text.len() < at {
-        return at;
-    }
-    let line::Behind::At(n) = line::place_behind(text, at, lines) else {
-        return text.len();
-    };
-    n
-}
-
 // From where to where the lines of a group stand.
 pub struct Span {
     pub from: usize,
@@ -160,13 +147,13 @@ pub fn span_of(text: &[u8], at: usize, counts: &[u16], group: usize) -> Span
     ensures { λ r. ⌜ (r .from ≡ start (now (text .entry)) at (now (counts .entry)) group) × (r .to ≡ start (now (text .entry)) at (now (counts .entry)) (group + 1)) ⌝ }
 {
     let before = count::add_up(counts, group);
-    let from = behind_or_end(text, at, before.lines);
+    let from = line::behind_or_end(text, at, before.lines);
     if 60 < group {
         return Span { from, to: from };
     }
     let with = count::add_up(counts, group + 1);
     Span {
         from,
-        to: behind_or_end(text, from, with.lines - before.lines),
+        to: line::behind_or_end(text, from, with.lines - before.lines),
     }
 }

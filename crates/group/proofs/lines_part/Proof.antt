@@ -2,13 +2,17 @@
 -- Assumes nothing.
 use borrow.Author.Needs.{needs}
 use native.Mathlib.Omega.{arith}
-use mathlib.Core.Path.{sym, _∙_}
-use Rattle.group.proofs.Holding.{given-inside, given-small, given-range, part-given, part-missing, moved-by}
+use mathlib.Core.Path.{_≡_, sym, _∙_}
+use Prim.Native.Nat.{_≤_}
+use lib.ListN.{length}
+use Rattle.group.specs.declared.Found.the-variants.{Given}
+use Rattle.group.specs.Held.{foundAt}
+use Rattle.group.proofs.Holding.{held-range, held-part, missing-part, moved-by}
 use Rattle.group.proofs.lines_part.Statement.{statement}
 use Rattle.group.proofs.lines_part.Tie as tie
 
-lines-reply-requires : tie.Need-lines-reply-requires
-lines-reply-requires c κs = search needs
+held-at-requires : tie.Need-held-at-requires
+held-at-requires c κs = search needs
 
 enum-told : tie.Need-enum-told
 enum-told c = search needs
@@ -27,58 +31,49 @@ part-result-end c = search needs
 
 returns : tie.Need-returns
 returns c =
-    let b = part-missing (c .before .before .before .before .before .args .text .now) (c .before .before .before .before .before .args .at) (c .before .before .before .before .before .args .group) (sym (c .before .before .before .lines-reply .ensures) ∙ c .before .enum-told2 .given .1) in
+    let b = missing-part (c .before .before .before .before .before .args .text .now) (c .before .before .before .before .before .args .at) (c .before .before .before .before .before .args .group) (sym (c .before .before .before .held-at .ensures .0) ∙ c .before .enum-told2 .given .1) in
     (b .0, moved-by (c .before .before .before .before .before .args .text .ptr) (b .1))
 
-place-requires : tie.Need-place-requires
-place-requires c κs = search needs
+slice-aggregate-span-of : tie.Need-slice-aggregate-span-of
+slice-aggregate-span-of c = search needs
 
-slice-aggregate-start-of : tie.Need-slice-aggregate-start-of
-slice-aggregate-start-of c = search needs
+span-of-requires : tie.Need-span-of-requires
+span-of-requires c κs = search needs
 
-start-of-requires : tie.Need-start-of-requires
-start-of-requires c κs = given-inside (c .before .before .before .before .before .before .before .args .text .now) (c .before .before .before .before .before .before .before .args .at) (c .before .before .before .before .before .before .before .args .group) (sym (c .before .before .before .before .before .lines-reply .ensures) ∙ c .before .before .before .enum-told .given .1) _ (c .before .before .place .ensures .1)
+given : (c : tie.After-span-of) → foundAt (c .before .before .before .before .before .before .before .args .text .now) (c .before .before .before .before .before .before .before .args .at) (c .before .before .before .before .before .before .before .args .group) ≡ Given
+given c = sym (c .before .before .before .before .before .held-at .ensures .0) ∙ c .before .before .before .enum-told .given .1
 
-slice-aggregate-start-of-2 : tie.Need-slice-aggregate-start-of-2
-slice-aggregate-start-of-2 c = search needs
-
-add-start-of : tie.Need-add-start-of
-add-start-of c = omega (arith, given-small (c .before .before .before .before .before .before .before .before .before .args .text .now) (c .before .before .before .before .before .before .before .before .before .args .at) (c .before .before .before .before .before .before .before .before .before .args .group) (sym (c .before .before .before .before .before .before .before .lines-reply .ensures) ∙ c .before .before .before .before .before .enum-told .given .1) _ (c .before .before .before .before .place .ensures .1))
-
-start-of-requires-2 : tie.Need-start-of-requires-2
-start-of-requires-2 c κs = given-inside (c .before .before .before .before .before .before .before .before .before .args .text .now) (c .before .before .before .before .before .before .before .before .before .args .at) (c .before .before .before .before .before .before .before .before .before .args .group) (sym (c .before .before .before .before .before .before .before .lines-reply .ensures) ∙ c .before .before .before .before .before .enum-told .given .1) _ (c .before .before .before .before .place .ensures .1)
+range : (c : tie.After-span-of) → (c .span-of .result .from ≤ c .span-of .result .to) × (c .span-of .result .to ≤ length (c .before .before .before .before .before .before .before .args .text .now))
+range c = held-range (c .before .before .before .before .before .before .before .args .text .now) (c .before .before .before .before .before .before .before .args .at) (c .before .before .before .before .before .before .before .args .group) (given c) _ (c .before .before .before .before .before .held-at .ensures .1) _ _ (c .span-of .ensures)
 
 sub-result-2 : tie.Need-sub-result-2
-sub-result-2 c = given-range (c .before .before .before .before .before .before .before .before .before .before .args .text .now) (c .before .before .before .before .before .before .before .before .before .before .args .at) (c .before .before .before .before .before .before .before .before .before .before .args .group) (sym (c .before .before .before .before .before .before .before .before .lines-reply .ensures) ∙ c .before .before .before .before .before .before .enum-told .given .1) _ (c .before .before .before .before .before .place .ensures .1) _ _ (c .before .before .start-of .ensures) (c .start-of2 .ensures) .0
+sub-result-2 c = range c .0
 
 part-result-start-2 : tie.Need-part-result-start-2
-part-result-start-2 c = omega (arith, given-range (c .before .before .before .before .before .before .before .before .before .before .args .text .now) (c .before .before .before .before .before .before .before .before .before .before .args .at) (c .before .before .before .before .before .before .before .before .before .before .args .group) (sym (c .before .before .before .before .before .before .before .before .lines-reply .ensures) ∙ c .before .before .before .before .before .before .enum-told .given .1) _ (c .before .before .before .before .before .place .ensures .1) _ _ (c .before .before .start-of .ensures) (c .start-of2 .ensures) .0)
+part-result-start-2 c = omega (arith, range c .0)
 
 part-result-end-2 : tie.Need-part-result-end-2
-part-result-end-2 c = omega (arith, given-range (c .before .before .before .before .before .before .before .before .before .before .args .text .now) (c .before .before .before .before .before .before .before .before .before .before .args .at) (c .before .before .before .before .before .before .before .before .before .before .args .group) (sym (c .before .before .before .before .before .before .before .before .lines-reply .ensures) ∙ c .before .before .before .before .before .before .enum-told .given .1) _ (c .before .before .before .before .before .place .ensures .1) _ _ (c .before .before .start-of .ensures) (c .start-of2 .ensures) .1)
+part-result-end-2 c = omega (arith, range c .1)
 
 returns-2 : tie.Need-returns-2
 returns-2 c =
-    let b = part-given (c .before .before .before .before .before .before .before .before .before .before .before .args .text .now) (c .before .before .before .before .before .before .before .before .before .before .before .args .at) (c .before .before .before .before .before .before .before .before .before .before .before .args .group) (sym (c .before .before .before .before .before .before .before .before .before .lines-reply .ensures) ∙ c .before .before .before .before .before .before .before .enum-told .given .1) _ (c .before .before .before .before .before .before .place .ensures .1) _ _ (c .before .before .before .start-of .ensures) (c .before .start-of2 .ensures) in
-    (b .0, moved-by (c .before .before .before .before .before .before .before .before .before .before .before .args .text .ptr) (b .1))
+    let d = c .before in
+    let b = held-part (c .before .before .before .before .before .before .before .before .args .text .now) (c .before .before .before .before .before .before .before .before .args .at) (c .before .before .before .before .before .before .before .before .args .group) (given d) _ (c .before .before .before .before .before .before .held-at .ensures .1) _ _ (d .span-of .ensures) in
+    (b .0, moved-by (c .before .before .before .before .before .before .before .before .args .text .ptr) (b .1))
 
 pub lines-part-spec : {M : Type 1} → statement M
 lines-part-spec =
     tie.close
     (tie.spec
-    lines-reply-requires
+    held-at-requires
     enum-told
     enum-told-2
     sub-result
     part-result-start
     part-result-end
     returns
-    place-requires
-    slice-aggregate-start-of
-    start-of-requires
-    slice-aggregate-start-of-2
-    add-start-of
-    start-of-requires-2
+    slice-aggregate-span-of
+    span-of-requires
     sub-result-2
     part-result-start-2
     part-result-end-2

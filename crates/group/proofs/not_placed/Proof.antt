@@ -2,7 +2,7 @@
 -- Assumes nothing.
 use borrow.Author.Needs.{needs}
 use mathlib.Core.Path.{sym, ap}
-use Rattle.group.specs.Text.{refusalOf}
+use Rattle.group.specs.Held.{refusalOf}
 use Rattle.group.proofs.not_placed.Statement.{statement}
 use Rattle.group.proofs.not_placed.Tie as tie
 

@@ -1,0 +1,30 @@
+-- `line::behind_or_end` meets its contract: where too few lines are left, they reach to the end.
+-- Assumes nothing.
+use borrow.Author.Needs.{needs}
+use native.Mathlib.Omega.{arith}
+use mathlib.Core.Path.{sym, _∙_}
+use Rattle.line.proofs.Places.{reach-beyond, reach-at, reach-end}
+use Rattle.line.proofs.behind_or_end.Statement.{statement}
+use Rattle.line.proofs.behind_or_end.Tie as tie
+
+returns : tie.Need-returns
+returns c = reach-beyond (c .before .before .args .text .now) (c .before .before .args .at) (c .before .before .args .lines) (c .if1 .taken)
+
+place-behind-requires : tie.Need-place-behind-requires
+place-behind-requires c κs = search needs
+
+enum-known-n : tie.Need-enum-known-n
+enum-known-n c = search needs
+
+enum-told : tie.Need-enum-told
+enum-told c = search needs
+
+returns-2 : tie.Need-returns-2
+returns-2 c = reach-end (c .before .before .before .before .before .args .text .now) (c .before .before .before .before .before .args .at) (c .before .before .before .before .before .args .lines) (omega arith) (sym (c .before .before .place-behind .ensures) ∙ c .enum-told .given .1)
+
+returns-3 : tie.Need-returns-3
+returns-3 c = reach-at (c .before .before .before .before .before .before .args .text .now) (c .before .before .before .before .before .before .args .at) (c .before .before .before .before .before .before .args .lines) (c .before .n .given .0 .0) (sym (c .before .before .before .place-behind .ensures) ∙ c .before .n .given .1)
+
+pub behind-or-end-spec : {M : Type 1} → statement M
+behind-or-end-spec =
+    tie.close (tie.spec returns place-behind-requires enum-known-n enum-told returns-2 returns-3)

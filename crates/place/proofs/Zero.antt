@@ -1,0 +1,33 @@
+-- A record that is placed with 0: it is located, with the counts that placing gives, and these keep the rules.
+-- Assumes nothing.
+use mathlib.Core.Path.{_≡_, sym, _∙_, ap}
+use mathlib.Core.List.{List}
+use Prim.Native.Nat.{ℕ}
+use Rattle.count.specs.Rules.{rulingOf}
+use Rattle.count.specs.declared.Ruling.the-variants.{Kept}
+use Rattle.count.proofs.Releases.{release-five}
+use Rattle.place.specs.declared.Placing.the-variants.{Placed}
+use Rattle.place.specs.Placing.{located, locate, countsBy, placingOf, countsAt}
+use Rattle.place.specs.Due.{Stands, HasLines}
+use Rattle.place.proofs.Due.{first-due}
+use Rattle.place.proofs.Placed.{IsLocated, is-located}
+
+pub record IsPlaced (s : List ℕ) (at n : ℕ) : Type 0 where
+  pub located-at : locate s at ≡ located n (countsAt s at)
+  pub kept : rulingOf (countsAt s at) ≡ Kept
+
+pub is-placed : (s : List ℕ) (at n : ℕ) → placingOf s at ≡ Placed n → IsPlaced s at n
+unfolding countsAt
+is-placed s at n e =
+    let d = first-due s at (Placed n) .0 e in
+    let h = d .lines in
+    let l : locate s at ≡ located n (d .ns) = is-located s at n (d .ns) record {
+      inside = h .head .index .place .inside;
+      head = h .head .index .place .lines;
+      index = h .head .index .read;
+      release = release-five (d .ns) (h .head .five) (h .head .vacant);
+      many = h .enough;
+      next = h .next;
+    } in
+    let c : countsAt s at ≡ d .ns = ap countsBy l in
+    record { located-at = l ∙ ap (located n) (sym c); kept = ap rulingOf c ∙ d .kept }

@@ -1,0 +1,153 @@
+-- Filling with blanks: what is long enough stays, a beginning and a rest of what is filled; and when a line's content is right, test by test.
+-- Assumes nothing.
+use mathlib.Core.Path.{_≡_, refl, sym, _∙_, ap, subst}
+use mathlib.Core.Bool.{Bool, true, false, cond, _&&_, false≢true}
+use mathlib.Core.List.{List, [], _∷_, _++_, append-nil}
+use Prim.Native.Nat.{ℕ, zero, suc, _+_, _-_, _<_, _≤_}
+use native.Mathlib.Omega.{arith}
+use native.Mathlib.Nat.{sub-zero}
+use borrow.Author.Tests.{le-leb, lt-leb, eq-eqb, leb-true}
+use lib.Dec.{T, leb, eqb}
+use lib.ListN.{length, take, drop, getD, replicate, length-append, length-drop, length-replicate, drop-of-length-le}
+use lib.Seq.{take-all}
+use Rattle.base.specs.Ascii.{printable}
+use Rattle.base.specs.Every.{every}
+use Rattle.base.specs.Part.{part}
+use Rattle.base.proofs.Taken.{drop-none, take-none}
+use Rattle.base.proofs.Choice.{and-first, and-second}
+use Rattle.form.specs.declared.Form.{Form}
+use Rattle.form.specs.declared.Form.the-variants.{F7, A120, A1, F8, I2, I3, I1, E11, E20, E8}
+use Rattle.form.specs.Table
+use Rattle.form.specs.Table.{rowOf}
+use Rattle.field.specs.Read
+use Rattle.field.specs.Read.{fieldOf, formed, readAs}
+use Rattle.field.specs.Kind.{kindOf}
+use Rattle.field.specs.declared.Value.the-variants.{Letters, Misformed}
+use Rattle.reading.specs.Blanks.{blank, mayBeShort, shortest, filledTo, isRight, Fits}
+
+-- ---- filling
+
+pub filled-enough : (n : ℕ) (s : List ℕ) → n ≤ length s → filledTo n s ≡ s
+unfolding filledTo
+filled-enough n s h =
+    let e : n - length s ≡ 0 = omega arith in
+    rw e (append-nil s)
+
+pub filled-length : (n : ℕ) (s : List ℕ) → length s ≤ n → length (filledTo n s) ≡ n
+unfolding filledTo
+filled-length n s h = length-append s (replicate (n - length s) 32) ∙ rw (length-replicate {A = ℕ} (n - length s) 32) (omega arith)
+
+-- a byte more in front
+filled-cons : (n x : ℕ) (s : List ℕ) → filledTo n (x ∷ s) ≡ x ∷ filledTo (n - 1) s
+unfolding filledTo
+filled-cons n x s =
+    let e : n - suc (length s) ≡ n - 1 - length s = omega arith in
+    rw e
+
+filled-nil : (n : ℕ) → filledTo n [] ≡ replicate n 32
+unfolding filledTo
+filled-nil n = rw (sub-zero n)
+
+drop-blanks : (d n : ℕ) → drop {A = ℕ} d (replicate n 32) ≡ replicate (n - d) 32
+drop-blanks zero n = drop-none (replicate n 32) ∙ rw (sub-zero n)
+drop-blanks (suc d) zero = let e : 0 - suc d ≡ 0 = omega arith in rw e
+drop-blanks (suc d) (suc n) = let e : suc n - suc d ≡ n - d = omega arith in rw e (drop-blanks d n)
+
+take-blanks : (w n : ℕ) → w ≤ n → take {A = ℕ} w (replicate n 32) ≡ replicate w 32
+take-blanks zero zero h = refl
+take-blanks zero (suc n) h = refl
+take-blanks (suc w) zero h = absurd (omega arith)
+take-blanks (suc w) (suc n) h = ap (λ l. 32 ∷ l) (take-blanks w n (omega arith))
+
+pub filled-drop : (n d : ℕ) (s : List ℕ) → drop d (filledTo n s) ≡ filledTo (n - d) (drop d s)
+filled-drop n zero [] = rw (filled-nil n, sub-zero n) (drop-blanks 0 n ∙ rw (sub-zero n) (sym (filled-nil n)))
+filled-drop n zero (x ∷ s) = rw (filled-cons n x s, sub-zero n) (sym (filled-cons n x s))
+filled-drop n (suc d) [] = rw (filled-nil n, filled-nil (n - suc d)) (drop-blanks (suc d) n)
+filled-drop n (suc d) (x ∷ s) =
+    let e : n - 1 - d ≡ n - suc d = omega arith in
+    rw (filled-cons n x s) (filled-drop (n - 1) d s ∙ rw e)
+
+pub filled-take : (w n : ℕ) (s : List ℕ) → w ≤ n → take w (filledTo n s) ≡ filledTo w (take w s)
+filled-take zero n s h = take-none (filledTo n s) ∙ sym (ap (filledTo 0) (take-none s) ∙ filled-nil 0)
+filled-take (suc w) n [] h = rw (filled-nil n) (take-blanks (suc w) n h ∙ sym (filled-nil (suc w)))
+filled-take (suc w) n (x ∷ s) h =
+    let e : suc w - 1 ≡ w = omega arith in
+    rw (filled-cons n x s, filled-cons (suc w) x (take w s), e) (ap (λ l. x ∷ l) (filled-take w (n - 1) s (omega arith)))
+
+-- blanks print
+pub filled-printable : (n : ℕ) (s : List ℕ) → every printable (filledTo n s) ≡ every printable s
+filled-printable n [] = rw (filled-nil n) (blanks n)
+  where
+    blanks : (n : ℕ) → every printable (replicate n 32) ≡ true
+    blanks zero = refl
+    blanks (suc n) = blanks n
+filled-printable n (x ∷ s) = rw (filled-cons n x s) (ap (λ b. printable x && b) (filled-printable (n - 1) s))
+
+-- a byte of what is filled
+pub filled-getD : (n : ℕ) (s : List ℕ) (i : ℕ) → getD (filledTo n s) i 32 ≡ getD s i 32
+filled-getD n [] i = rw (filled-nil n) (blanks n i)
+  where
+    blanks : (n i : ℕ) → getD {A = ℕ} (replicate n 32) i 32 ≡ 32
+    blanks zero i = refl
+    blanks (suc n) zero = refl
+    blanks (suc n) (suc i) = blanks n i
+filled-getD n (x ∷ s) zero = rw (filled-cons n x s)
+filled-getD n (x ∷ s) (suc i) = rw (filled-cons n x s) (filled-getD (n - 1) s i)
+
+-- ---- a field, filled
+
+not-short : {A : Type 0} → false ≡ true → A
+not-short e = absurd (false≢true e)
+
+-- a form whose lines may be short is of letters only
+pub short-field : (f : Form) (s : List ℕ) → mayBeShort f ≡ true → Fits f (length s) → every printable s ≡ formed (fieldOf f (filledTo (rowOf f .width) s))
+unfolding Read.fieldOf Table.rowOf Table.entryOf
+short-field A120 s e h = sym (filled-printable 120 s) ∙ rw (eq-eqb (length (filledTo 120 s)) 120 (filled-length 120 s (h .high))) (test (every printable (filledTo 120 s)))
+  where
+    test : (t : Bool) → t ≡ formed (cond t Letters Misformed)
+    test true = refl
+    test false = refl
+short-field F7 s e h = not-short e
+short-field A1 s e h = not-short e
+short-field F8 s e h = not-short e
+short-field I2 s e h = not-short e
+short-field I3 s e h = not-short e
+short-field I1 s e h = not-short e
+short-field E11 s e h = not-short e
+short-field E20 s e h = not-short e
+short-field E8 s e h = not-short e
+
+-- the others are not filled
+pub full-field : (f : Form) (s : List ℕ) → mayBeShort f ≡ false → Fits f (length s) → filledTo (rowOf f .width) s ≡ s
+full-field f s e h = filled-enough (rowOf f .width) s (rw e at (h .low))
+
+-- ---- a content that is right
+
+module _ (f : Form) (columns : ℕ) (s : List ℕ) where
+  pub right-short : length s < shortest f columns → isRight f columns s ≡ false
+  unfolding isRight
+  right-short h = rw (lt-leb (shortest f columns) (length s) h)
+
+  module _ (a : shortest f columns ≤ length s) where
+    pub right-long : 120 < length s → isRight f columns s ≡ false
+    unfolding isRight
+    right-long h = rw (le-leb (shortest f columns) (length s) a, lt-leb (length s) 120 h)
+
+    pub right-rest : length s ≤ 120 → isRight f columns s ≡ every blank (drop columns s)
+    unfolding isRight
+    right-rest h = rw (le-leb (shortest f columns) (length s) a, le-leb (length s) 120 h)
+
+    pub right-exact : length s ≤ 120 → length s ≤ columns → isRight f columns s ≡ true
+    right-exact h k = right-rest h ∙ rw (drop-of-length-le s k)
+
+    pub right-blanks : length s ≤ 120 → isRight f columns s ≡ every blank (part columns (length s) s)
+    right-blanks h = right-rest h ∙ rw (take-all (length s - columns) (drop columns s) (omega (arith, length-drop columns s)))
+
+  -- what it says
+  pub right-low : isRight f columns s ≡ true → shortest f columns ≤ length s
+  unfolding isRight
+  right-low e = leb-true (shortest f columns) (length s) (and-first (leb (shortest f columns) (length s)) (leb (length s) 120 && every blank (drop columns s)) e)
+
+  pub right-high : isRight f columns s ≡ true → length s ≤ 120
+  unfolding isRight
+  right-high e = leb-true (length s) 120 (and-first (leb (length s) 120) (every blank (drop columns s)) (and-second (leb (shortest f columns) (length s)) (leb (length s) 120 && every blank (drop columns s)) e))

@@ -1,0 +1,128 @@
+-- The fields of a line, one after the other: the bytes that the code lends for field i are that field, filled with blanks; one field more.
+-- Assumes nothing.
+use mathlib.Core.Path.{_≡_, refl, sym, _∙_, ap, subst}
+use mathlib.Core.Bool.{Bool, true, false, cond, false≢true}
+use mathlib.Core.List.{List, [], _∷_, _++_}
+use Prim.Native.Nat.{ℕ, zero, suc, _+_, _-_, _*_, _<_, _≤_, min}
+use native.Mathlib.Nat.{add-mul, one-mul, mul-le-mul-right, zero-mul, add-zero, sub-zero, add-assoc}
+use native.Mathlib.Omega.{arith}
+use lib.ListN.{length, take, drop, length-take, length-drop}
+use lib.Seq.{drop-drop, length-take-le}
+use Rattle.base.proofs.Taken.{drop-none, drop-take, take-both, part-begin}
+use Rattle.base.specs.Every.{upFrom}
+use Rattle.base.specs.Part.{part}
+use Rattle.base.specs.Pieces
+use Rattle.base.specs.Pieces.{Got, done, bad, both, gather}
+use Rattle.base.specs.Every
+use Rattle.form.specs.declared.Form.{Form}
+use Rattle.form.specs.declared.Form.the-variants.{F7, A120, A1, F8, I2, I3, I1, E11, E20, E8}
+use Rattle.form.specs.Table
+use Rattle.form.specs.Table.{rowOf}
+use Rattle.form.proofs.Rows.{row-fits}
+use Rattle.field.specs.Read.{fieldOf, formed, cellsIn}
+use Rattle.line.specs.declared.Content.the-variants.{Length}
+use Rattle.line.proofs.Contents.{content-two}
+use Rattle.reading.specs.Blanks.{mayBeShort, shortest, filledTo, isRight, rightContent, Fits}
+use Rattle.reading.specs.Plan.{Line, elementsIn}
+use Rattle.reading.specs.Read.{Cells, readField, readFields, columnsOf}
+use Rattle.reading.proofs.Blanks.{filled-drop, filled-take, right-low}
+use Rattle.reading.proofs.Lines.{IsRightLine, right-is}
+
+-- the line without its first i elements
+abbrev pub restOf : Line → ℕ → Line
+restOf l i = record { number = l .number; first = l .first + i; many = l .many - i }
+
+-- the columns of a line's fields, as they are read: its content of n bytes, filled with blanks
+abbrev pub lineText : Form → Line → List ℕ → ℕ → ℕ → ℕ → List ℕ
+lineText f l s at end n = filledTo (columnsOf f l) (part 0 n (part at end s))
+
+next-column : (i w : ℕ) → i * w + w ≡ (i + 1) * w
+next-column i w = omega (arith, add-mul i 1 w, one-mul w)
+
+-- ---- one field more
+
+module _ (f : Form) (l : Line) (text : List ℕ) where
+  abbrev width : ℕ
+  width = rowOf f .width
+
+  pub fields-start : readFields f (restOf l 0) (drop (0 * width) text) ≡ readFields f l text
+  unfolding readFields
+  fields-start = rw (add-zero (l .first), sub-zero (l .many), zero-mul width, drop-none text)
+
+  pub fields-more : (i : ℕ) → i < l .many → readFields f (restOf l i) (drop (i * width) text) ≡ both (readField f (l .number) (l .first + i) (take width (drop (i * width) text))) (readFields f (restOf l (i + 1)) (drop ((i + 1) * width) text))
+  unfolding readFields Pieces.gather Every.upFrom
+  fields-more i h =
+      let n : l .many - i ≡ suc (l .many - (i + 1)) = omega arith in
+      let a : suc (l .first + i) ≡ l .first + (i + 1) = omega arith in
+      let d : drop width (drop (i * width) text) ≡ drop ((i + 1) * width) text = drop-drop width (i * width) text ∙ ap (λ m. drop m text) (next-column i width) in
+      rw (n, a, d)
+
+  pub fields-none : (i : ℕ) (s : List ℕ) → l .many ≤ i → readFields f (restOf l i) s ≡ done []
+  unfolding readFields Pieces.gather Every.upFrom
+  fields-none i s h = let n : l .many - i ≡ 0 = omega arith in rw n
+
+-- ---- the bytes of a field
+
+-- a form whose lines may be short has one element to a line
+short-one : (f : Form) → mayBeShort f ≡ true → rowOf f .«per_line» ≡ 1
+unfolding Table.rowOf Table.entryOf
+short-one A120 e = refl
+short-one F7 e = absurd (false≢true e)
+short-one A1 e = absurd (false≢true e)
+short-one F8 e = absurd (false≢true e)
+short-one I2 e = absurd (false≢true e)
+short-one I3 e = absurd (false≢true e)
+short-one I1 e = absurd (false≢true e)
+short-one E11 e = absurd (false≢true e)
+short-one E20 e = absurd (false≢true e)
+short-one E8 e = absurd (false≢true e)
+
+module _ (f : Form) (l : Line) (s : List ℕ) (at end n : ℕ) (inside : end ≤ length s) (e : rightContent f (columnsOf f l) (part at end s) ≡ Length n) where
+  abbrev w : ℕ
+  w = rowOf f .width
+
+  pub line-ends : at + n + 2 ≡ end
+  line-ends =
+      let r = right-is f (columnsOf f l) (part at end s) n e in
+      omega (arith, content-two (part at end s) n (r .content), length-take (end - at) (drop at s), length-drop at s)
+
+  content : part 0 n (part at end s) ≡ take n (drop at s)
+  content = part-begin at end n s (omega (arith, line-ends))
+
+  content-long : length (part 0 n (part at end s)) ≡ n
+  content-long = ap length content ∙ length-take-le n (drop at s) (omega (arith, line-ends, length-drop at s))
+
+  enough : shortest f (columnsOf f l) ≤ n
+  enough = subst (λ m. shortest f (columnsOf f l) ≤ m) content-long (right-low f (columnsOf f l) (part 0 n (part at end s)) (right-is f (columnsOf f l) (part at end s) n e .right))
+
+  module _ (few : l .many ≤ rowOf f .«per_line») (i from to : ℕ) (h : i < l .many) (p : from ≡ at + i * w) (q : to ≡ min (from + w) (at + n)) where
+    columns : i * w + w ≤ columnsOf f l
+    columns = subst (λ m. m ≤ columnsOf f l) (sym (next-column i w)) (mul-le-mul-right {m = i + 1} {n = l .many} w (omega arith))
+
+    pub piece : filledTo w (part from to s) ≡ take w (drop (i * w) (lineText f l s at end n))
+    piece =
+        sym
+        (ap (take w) (filled-drop (columnsOf f l) (i * w) (part 0 n (part at end s)))
+        ∙ filled-take w (columnsOf f l - i * w) (drop (i * w) (part 0 n (part at end s))) (omega (arith, columns))
+        ∙ ap (filledTo w) (ap (λ c. take w (drop (i * w) c)) content ∙ ap (take w) (drop-take (i * w) n (drop at s)) ∙ take-both w (n - i * w) (drop (i * w) (drop at s)) ∙ ap (take (min w (n - i * w))) (drop-drop (i * w) at s ∙ ap (λ m. drop m s) (sym p)) ∙ ap (λ m. take m (drop from s)) cut))
+      where
+        cut : min w (n - i * w) ≡ to - from
+        cut = omega arith
+
+    pub piece-range : (from ≤ to) × (to ≤ length s) × Fits f (to - from)
+    piece-range = by (mayBeShort f) refl
+      where
+        high : to - from ≤ w
+        high = omega arith
+
+        inner : to ≤ length s
+        inner = omega (arith, line-ends)
+
+        by : (t : Bool) → mayBeShort f ≡ t → (from ≤ to) × (to ≤ length s) × Fits f (to - from)
+        by true u =
+            let z : i ≡ 0 = omega (arith, short-one f u) in
+            let y : i * w ≡ 0 = ap (λ m. m * w) z ∙ zero-mul w in
+            (omega arith, inner, record { low = rw u (omega arith); high = high })
+        by false u =
+            let m : columnsOf f l ≤ n = rw u at enough in
+            (omega (arith, columns), inner, record { low = rw u (omega (arith, columns)); high = high })

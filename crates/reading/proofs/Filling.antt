@@ -1,0 +1,242 @@
+-- The second pass: its state as it comes to a line and to a field of the line; a field more, a line more, and the end.
+-- Assumes nothing.
+use mathlib.Core.Path.{_≡_, refl, sym, _∙_, ap, subst}
+use mathlib.Core.Bool.{Bool, true, false, cond}
+use mathlib.Core.List.{List, [], _∷_, _++_, append-assoc, append-nil}
+use Prim.Native.Nat.{ℕ, zero, suc, _+_, _-_, _*_, _<_, _≤_, min}
+use native.Mathlib.Nat.{add-mul, one-mul, zero-mul, zero-add, sub-zero, mul-le-mul}
+use native.Mathlib.Omega.{arith}
+use lib.Dec.{T}
+use lib.IntN.{ℤ}
+use lib.ListN.{length, take, drop, length-append}
+use Rattle.base.specs.Part.{part, over}
+use Rattle.base.specs.Pieces.{Got, done, bad, both, cellsGot}
+use Rattle.base.proofs.Part.{over-none, over-then, over-length}
+use Rattle.base.proofs.Pieces.{BothDone, both-done}
+use Rattle.base.proofs.Taken.{drop-none}
+use Rattle.form.specs.declared.Form.{Form}
+use Rattle.form.specs.Table.{rowOf}
+use Rattle.form.specs.Count.{elementsOf, linesOf, cellsOf}
+use Rattle.form.proofs.Rows.{row-fits}
+use Rattle.field.specs.Read.{fieldOf, formed, cellsIn, Reads}
+use Rattle.line.specs.Lines.{reach}
+use Rattle.line.specs.Contents.{contentOf}
+use Rattle.line.specs.declared.Content.the-variants.{Length, NoReturn}
+use Rattle.reading.specs.Blanks.{filledTo, isRight, rightContent, Fits}
+use Rattle.reading.specs.Plan.{Line, lineAt, planFrom, planOf}
+use Rattle.reading.specs.declared.Verdict.the-variants.{Clean}
+use Rattle.reading.specs.Read.{Cells, readField, readFields, columnsOf, readLine, readLinesOf, readLines, verdictOf}
+use Rattle.reading.proofs.Lines.{right-yes}
+use Rattle.reading.proofs.Fields.{restOf, lineText, fields-start, fields-more, fields-none, line-ends, piece, piece-range}
+use Rattle.reading.proofs.Checking.{Walking, line-more, lines-none, many-here, few-here, end-range, walking-next, width-few}
+use Rattle.reading.proofs.Sizes.{WasRead, clean-read, field-done, reads-size, LineDone, line-done, group-size}
+
+done-same : {a b : List ℤ} → _≡_ {A = Cells} (done a) (done b) → a ≡ b
+done-same e = cc
+
+-- what has been put into a table from `base` on: the cells `stored` of all cells cs, of which `rest` are left; `cell` is where the next goes
+pub record Stored (cs old : List ℤ) (base cell : ℕ) (table rest : List ℤ) : Type 0 where
+  pub stored : List ℤ
+  pub here : table ≡ over base stored old
+  pub next : cell ≡ base + length stored
+  pub all : cs ≡ stored ++ rest
+
+pub stored-none : (cs old : List ℤ) (base : ℕ) → Stored cs old base base old cs
+stored-none cs old base = record { stored = []; here = over-none old base; next = omega arith; all = refl }
+
+module _ {cs old table : List ℤ} {base cell : ℕ} (room : base + length cs ≤ length old) where
+  pub stored-room : (first rest : List ℤ) → Stored cs old base cell table (first ++ rest) → cell + length first ≤ length old
+  stored-room first rest b = omega (arith, b .next, ap length (b .all), length-append (b .stored) (first ++ rest), length-append first rest)
+
+  pub stored-length : (rest : List ℤ) → Stored cs old base cell table rest → length table ≡ length old
+  stored-length rest b = ap length (b .here) ∙ over-length old (b .stored) base (omega (arith, ap length (b .all), length-append (b .stored) rest))
+
+  pub stored-more : (first rest new : List ℤ) → Stored cs old base cell table (first ++ rest) → new ≡ over cell first table → Stored cs old base (cell + length first) new rest
+  stored-more first rest new b e =
+      record {
+        stored = b .stored ++ first;
+        here = over-then old table new (b .stored) first base cell (b .next) (omega (arith, stored-room first rest b)) (b .here) e;
+        next = omega (arith, b .next, length-append (b .stored) first);
+        all = b .all ∙ sym (append-assoc (b .stored) first rest);
+      }
+
+pub record AllStored (cs old : List ℤ) (base cell : ℕ) (table : List ℤ) : Type 0 where
+  pub here : table ≡ over base cs old
+  pub next : cell ≡ base + length cs
+
+pub stored-all : (cs old table : List ℤ) (base cell : ℕ) → Stored cs old base cell table [] → AllStored cs old base cell table
+stored-all cs old table base cell b =
+    let e : b .stored ≡ cs = sym (b .all ∙ append-nil (b .stored)) in
+    record { here = b .here ∙ ap (λ l. over base l old) e; next = b .next ∙ ap (λ l. base + length l) e }
+
+-- ---- the state before line j, and before field i of it
+
+pub record Filling (f : Form) (count : ℕ) (s : List ℕ) (old : List ℤ) (width perLine cells many left at cell j : ℕ) (table : List ℤ) : Type 0 where
+  pub walk : Walking f count s width perLine many left at j
+  pub sized : cells ≡ rowOf f .cells
+  pub more : List ℤ
+  pub rest : readLinesOf f (planFrom (rowOf f .«per_line») (elementsOf f count) j (many - j)) (drop at s) ≡ done more
+  pub store : Stored (cellsGot (readLines f count s)) old 0 cell table more
+
+-- the cells of line l go to the table `old` from `base` on
+pub record FillingFields (f : Form) (l : Line) (text : List ℕ) (old : List ℤ) (base at i from cell : ℕ) (table : List ℤ) : Type 0 where
+  pub place : from ≡ at + i * rowOf f .width
+  pub within : i ≤ l .many
+  pub more : List ℤ
+  pub rest : readFields f (restOf l i) (drop (i * rowOf f .width) text) ≡ done more
+  pub store : Stored (cellsGot (readFields f l text)) old base cell table more
+
+pub enough-room : (f : Form) (count : ℕ) (s : List ℕ) (old : List ℤ) → verdictOf (readLines f count s) ≡ Clean → cellsOf f count ≤ length old → length (cellsGot (readLines f count s)) ≤ length old
+enough-room f count s old v room =
+    let r = clean-read (readLines f count s) v in
+    omega (arith, ap (λ g. length (cellsGot g)) (r .is), group-size f count s (r .cells) (r .is))
+
+pub filling-start : (f : Form) (count : ℕ) (s : List ℕ) (old : List ℤ) (width perLine cells many left : ℕ) → Walking f count s width perLine many left 0 0 → cells ≡ rowOf f .cells → verdictOf (readLines f count s) ≡ Clean → Filling f count s old width perLine cells many left 0 0 0 old
+unfolding readLines planOf
+filling-start f count s old width perLine cells many left b z v =
+    let r = clean-read (readLines f count s) v in
+    record {
+      walk = b;
+      sized = z;
+      more = cellsGot (readLines f count s);
+      rest = rw (sub-zero many, b .lines, drop-none s) (r .is ∙ ap done (sym (ap cellsGot (r .is))));
+      store = stored-none (cellsGot (readLines f count s)) old 0;
+    }
+
+pub filling-end : (f : Form) (count : ℕ) (s : List ℕ) (old : List ℤ) {width perLine cells many left at cell j : ℕ} {table : List ℤ} → Filling f count s old width perLine cells many left at cell j table → many ≤ j → table ≡ over 0 (cellsGot (readLines f count s)) old
+filling-end f count s old {many = many} {at = at} {cell = cell} {j = j} {table = table} b h =
+    let z : many - j ≡ 0 = omega arith in
+    let e : [] ≡ b .more = done-same (sym (lines-none f s (rowOf f .«per_line») (elementsOf f count) j at) ∙ (rw z at (b .rest))) in
+    stored-all (cellsGot (readLines f count s)) old table 0 cell (subst (λ x. Stored (cellsGot (readLines f count s)) old 0 cell table x) (sym e) (b .store)) .here
+
+pub filling-length : (f : Form) (count : ℕ) (s : List ℕ) (old : List ℤ) → length (cellsGot (readLines f count s)) ≤ length old → {width perLine cells many left at cell j : ℕ} {table : List ℤ} → Filling f count s old width perLine cells many left at cell j table → length table ≡ length old
+filling-length f count s old room b = stored-length (omega arith) (b .more) (b .store)
+
+module _ (f : Form) (count : ℕ) (s : List ℕ) (old : List ℤ) (room : length (cellsGot (readLines f count s)) ≤ length old) {width perLine cells many left at cell j : ℕ} {table : List ℤ} (b : Filling f count s old width perLine cells many left at cell j table) (h : j < many) (k end : ℕ) (q : k ≡ min perLine left) (w : end ≡ at + reach (drop at s) 1) where
+  abbrev pub l : Line
+  l = lineAt (rowOf f .«per_line») (elementsOf f count) j
+
+  -- the cells behind this line
+  abbrev pub others : Cells
+  others = readLinesOf f (planFrom (rowOf f .«per_line») (elementsOf f count) (j + 1) (many - (j + 1))) (drop end s)
+
+  split : BothDone (readLine f l (part at end s)) others (b .more)
+  split = both-done (readLine f l (part at end s)) others (b .more) (sym (line-more f count s (b .walk) k end q w h) ∙ b .rest)
+
+  here : LineDone f l (part at end s) (split .first)
+  here = line-done f l (part at end s) (split .first) (split .first-is)
+
+  -- a clean line has a content
+  pub has-content : contentOf (part at end s) ≡ NoReturn → ⊥
+  has-content e =
+      let y = sym (here .content) ∙ e in
+      let z : _≡_ {A = ℕ} 0 1 = cc in
+      absurd (omega arith)
+
+  module _ (m : ℕ) (e : contentOf (part at end s) ≡ Length m) where
+    bytes : here .bytes ≡ m
+    bytes = same (sym (here .content) ∙ e)
+      where
+        same : {a b : ℕ} → Length a ≡ Length b → a ≡ b
+        same e = cc
+
+    right : rightContent f (columnsOf f l) (part at end s) ≡ Length m
+    right = right-yes f (columnsOf f l) (part at end s) m e (subst (λ x. isRight f (columnsOf f l) (part 0 x (part at end s)) ≡ true) bytes (here .right))
+
+    inside : end ≤ length s
+    inside = end-range f count s (b .walk) k end q w .1
+
+    pub fill-inside : at + m + 2 ≤ length s
+    fill-inside = omega (arith, line-ends f l s at end m inside right, inside)
+
+    text-done : readFields f l (lineText f l s at end m) ≡ done (split .first)
+    text-done = subst (λ x. readFields f l (filledTo (columnsOf f l) (part 0 x (part at end s))) ≡ done (split .first)) bytes (here .fields)
+
+    line-cells : cellsGot (readFields f l (lineText f l s at end m)) ≡ split .first
+    line-cells = ap cellsGot text-done
+
+    -- what is left begins with the cells of this line
+    before : Stored (cellsGot (readLines f count s)) old 0 cell table (split .first ++ split .second)
+    before = subst (λ x. Stored (cellsGot (readLines f count s)) old 0 cell table x) (split .all) (b .store)
+
+    line-room : cell + length (cellsGot (readFields f l (lineText f l s at end m))) ≤ length table
+    line-room = omega (arith, ap length line-cells, stored-room {base = 0} (omega arith) (split .first) (split .second) before, filling-length f count s old room b)
+
+    pub fields-filling : FillingFields f l (lineText f l s at end m) table cell at 0 at cell table
+    fields-filling =
+        record {
+          place = omega (arith, zero-mul (rowOf f .width));
+          within = omega arith;
+          more = cellsGot (readFields f l (lineText f l s at end m));
+          rest = fields-start f l (lineText f l s at end m) ∙ text-done ∙ ap done (sym line-cells);
+          store = stored-none (cellsGot (readFields f l (lineText f l s at end m))) table cell;
+        }
+
+    module _ {i from spot : ℕ} {now : List ℤ} (g : FillingFields f l (lineText f l s at end m) table cell at i from spot now) where
+      pub fill-small : from ≤ length s + 120 * 120
+      fill-small = omega (arith, g .place, b .walk .inside, mul-le-mul few-passed (width-few f))
+        where
+          few-passed : i ≤ 120
+          few-passed = omega (arith, g .within, row-fits f .few)
+
+      pub fill-length : length now ≡ length table
+      fill-length = stored-length line-room (g .more) (g .store)
+
+      -- all fields are filled: the next line
+      pub filling-next : k ≤ i → Filling f count s old width perLine cells many (left - k) end spot (j + 1) now
+      filling-next d =
+          record {
+            walk = walking-next f count s (b .walk) k end q w h;
+            sized = b .sized;
+            more = split .second;
+            rest = split .second-is;
+            store = subst (λ n. Stored (cellsGot (readLines f count s)) old 0 n now (split .second)) (sym (whole .next ∙ ap (λ y. cell + length y) line-cells)) (stored-more {base = 0} (omega arith) (split .first) (split .second) now before (whole .here ∙ ap (λ y. over cell y table) line-cells));
+          }
+        where
+          none : [] ≡ g .more
+          none = done-same (sym (fields-none f l (lineText f l s at end m) i (drop (i * rowOf f .width) (lineText f l s at end m)) (omega (arith, many-here f count s (b .walk) k end q w))) ∙ g .rest)
+
+          whole : AllStored (cellsGot (readFields f l (lineText f l s at end m))) table cell spot now
+          whole = stored-all (cellsGot (readFields f l (lineText f l s at end m))) table now cell spot (subst (λ x. Stored (cellsGot (readFields f l (lineText f l s at end m))) table cell spot now x) (sym none) (g .store))
+
+      module _ (to : ℕ) (c : i < k) (t : to ≡ min (from + width) (at + m)) where
+        inner : i < l .many
+        inner = omega (arith, many-here f count s (b .walk) k end q w)
+
+        to-is : to ≡ min (from + rowOf f .width) (at + m)
+        to-is = t ∙ rw (b .walk .wide)
+
+        field-is : filledTo width (part from to s) ≡ take (rowOf f .width) (drop (i * rowOf f .width) (lineText f l s at end m))
+        field-is = ap (λ n. filledTo n (part from to s)) (b .walk .wide) ∙ piece f l s at end m inside right (few-here f count s (b .walk) k end q w) i from to inner (g .place) to-is
+
+        one : BothDone (readField f (l .number) (l .first + i) (filledTo width (part from to s))) (readFields f (restOf l (i + 1)) (drop ((i + 1) * rowOf f .width) (lineText f l s at end m))) (g .more)
+        one =
+            both-done (readField f (l .number) (l .first + i) (filledTo width (part from to s))) (readFields f (restOf l (i + 1)) (drop ((i + 1) * rowOf f .width) (lineText f l s at end m))) (g .more)
+            (ap (λ y. both (readField f (l .number) (l .first + i) y) (readFields f (restOf l (i + 1)) (drop ((i + 1) * rowOf f .width) (lineText f l s at end m)))) field-is ∙ sym (fields-more f l (lineText f l s at end m) i inner) ∙ g .rest)
+
+        reads : Reads f (filledTo width (part from to s)) (one .first)
+        reads = field-done f (l .number) (l .first + i) (filledTo width (part from to s)) (one .first) (one .first-is)
+
+        size : length (one .first) ≡ rowOf f .cells
+        size = reads-size f (filledTo width (part from to s)) (one .first) reads
+
+        store : Stored (cellsGot (readFields f l (lineText f l s at end m))) table cell spot now (one .first ++ one .second)
+        store = subst (λ y. Stored (cellsGot (readFields f l (lineText f l s at end m))) table cell spot now y) (one .all) (g .store)
+
+        pub put-requires : (from ≤ to) × (to ≤ length s) × (width ≡ rowOf f .width) × Fits f (to - from) × T (formed (fieldOf f (filledTo width (part from to s)))) × (spot + rowOf f .cells ≤ length now)
+        put-requires =
+            let r = piece-range f l s at end m inside right (few-here f count s (b .walk) k end q w) i from to inner (g .place) to-is in
+            (r .0, r .1, b .walk .wide, r .2, reads .good, omega (arith, size, fill-length, stored-room line-room (one .first) (one .second) store))
+
+        pub cell-small : spot + cells ≤ length old
+        cell-small = omega (arith, b .sized, put-requires .5, fill-length, filling-length f count s old room b)
+
+        pub fields-next : {new : List ℤ} → new ≡ over spot (cellsIn (filledTo width (part from to s)) (fieldOf f (filledTo width (part from to s)))) now → FillingFields f l (lineText f l s at end m) table cell at (i + 1) (from + width) (spot + cells) new
+        fields-next {new = new} y =
+            record {
+              place = omega (arith, g .place, b .walk .wide, add-mul i 1 (rowOf f .width), one-mul (rowOf f .width));
+              within = omega (arith, inner);
+              more = one .second;
+              rest = one .second-is;
+              store = subst (λ n. Stored (cellsGot (readFields f l (lineText f l s at end m))) table cell n new (one .second)) (ap (λ n. spot + n) (size ∙ sym (b .sized))) (stored-more line-room (one .first) (one .second) new store (y ∙ ap (λ z. over spot z now) (reads .cells)));
+            }

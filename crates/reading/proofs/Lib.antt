@@ -1,0 +1,11 @@
+-- The laws of reading's definitions.
+pub mod Blanks
+pub mod Lines
+pub mod Fields
+pub mod Checking
+pub mod Sizes
+pub mod Putting
+pub mod Filling
+pub mod Dates
+pub mod Steps
+pub mod Promises

@@ -1,0 +1,131 @@
+-- The cells of one field, put into a table: what room they need, and what each kind of value leaves there.
+-- Assumes nothing.
+use mathlib.Core.Path.{_≡_, refl, sym, _∙_, ap, subst}
+use mathlib.Core.Bool.{Bool, true, false, cond, false≢true}
+use mathlib.Core.List.{List, [], _∷_, _++_, map}
+use Prim.Native.Nat.{ℕ, zero, suc, _+_, _-_, _*_, _<_, _≤_}
+use native.Mathlib.Numerals.{add-one}
+use native.Mathlib.Omega.{arith}
+use lib.Dec.{T, eqb}
+use lib.IntN.{ℤ, pos}
+use lib.ListN.{length, take, drop, getD, set, length-map, length-set}
+use Rattle.base.specs.Ascii.{printable}
+use Rattle.base.specs.Every.{every}
+use Rattle.base.specs.Part.{part, over}
+use Rattle.base.proofs.Mapped.{getD-map-within}
+use Rattle.base.proofs.Part.{over-turn, over-one, over-then, over-none}
+use Rattle.base.proofs.Taken.{take-none}
+use lib.Seq.{take-all}
+use Rattle.form.specs.declared.Form.{Form}
+use Rattle.form.specs.declared.Form.the-variants.{F7, A120, A1, F8, I2, I3, I1, E11, E20, E8}
+use Rattle.form.specs.Table
+use Rattle.form.specs.Table.{rowOf}
+use Rattle.field.specs.Read
+use Rattle.field.specs.Read.{fieldOf, formed, cellsIn}
+use Rattle.field.specs.declared.Value.{Value}
+use Rattle.field.specs.declared.Value.the-variants.{Cell, Pair, Letters, Misformed}
+use Rattle.reading.specs.Blanks.{mayBeShort, filledTo, Fits}
+use Rattle.reading.proofs.Blanks.{filled-length, filled-getD, full-field}
+use Rattle.reading.proofs.Sizes.{reads-size}
+
+-- a byte that is there, whatever stands for one that isn't
+pub getD-within : (xs : List ℕ) (i d e : ℕ) → i < length xs → getD xs i d ≡ getD xs i e
+getD-within [] i d e h = absurd (omega arith)
+getD-within (x ∷ xs) zero d e h = refl
+getD-within (x ∷ xs) (suc i) d e h = getD-within xs i d e (omega arith)
+
+pub getD-beyond : (xs : List ℕ) (i d : ℕ) → length xs ≤ i → getD xs i d ≡ d
+getD-beyond [] i d h = refl
+getD-beyond (x ∷ xs) zero d h = absurd (omega arith)
+getD-beyond (x ∷ xs) (suc i) d h = getD-beyond xs i d (omega arith)
+
+-- ---- letters, one after the other
+
+module _ (bytes : List ℕ) (width : ℕ) (old : List ℤ) (at : ℕ) (short : length bytes ≤ width) (room : at + width ≤ length old) where
+  letters : List ℤ
+  letters = map pos (filledTo width bytes)
+
+  many : length (map pos (filledTo width bytes)) ≡ width
+  many = length-map (filledTo width bytes) pos ∙ filled-length width bytes short
+
+  pub letters-none : old ≡ over at (take 0 (map pos (filledTo width bytes))) old
+  letters-none = over-none old at ∙ ap (λ l. over at l old) (sym (take-none (map pos (filledTo width bytes))))
+
+  pub letters-more : (i : ℕ) (table : List ℤ) (z : ℤ) → i < width → z ≡ pos (getD bytes i 32) → table ≡ over at (take i (map pos (filledTo width bytes))) old → set table (at + i) z ≡ over at (take (i + 1) (map pos (filledTo width bytes))) old
+  letters-more i table z h e b =
+      let d : z ≡ getD (map pos (filledTo width bytes)) i (pos 0) = e ∙ ap pos (sym (filled-getD width bytes i)) ∙ sym (getD-map-within pos (filledTo width bytes) i 32 (pos 0) (omega (arith, filled-length width bytes short))) in
+      rw d (over-turn old (map pos (filledTo width bytes)) table at i (pos 0) (omega (arith, many)) (omega (arith, many)) b)
+
+  pub letters-all : (i : ℕ) (table : List ℤ) → width ≤ i → table ≡ over at (take i (map pos (filledTo width bytes))) old → table ≡ over at (map pos (filledTo width bytes)) old
+  letters-all i table h b = b ∙ ap (λ l. over at l old) (take-all i (map pos (filledTo width bytes)) (omega (arith, many)))
+
+-- ---- a field
+
+-- a form whose lines may be short holds letters
+short-cells : (f : Form) (t : List ℕ) → mayBeShort f ≡ true → T (formed (fieldOf f t)) → cellsIn t (fieldOf f t) ≡ map pos t
+unfolding Read.fieldOf
+short-cells A120 t e h = by (eqb (length t) (rowOf A120 .width)) (every printable t) h
+  where
+    by : (x y : Bool) → T (formed (cond x (cond y Letters Misformed) Misformed)) → cellsIn t (cond x (cond y Letters Misformed) Misformed) ≡ map pos t
+    by true true g = refl
+    by true false g = absurd g
+    by false y g = absurd g
+short-cells F7 t e h = absurd (false≢true e)
+short-cells A1 t e h = absurd (false≢true e)
+short-cells F8 t e h = absurd (false≢true e)
+short-cells I2 t e h = absurd (false≢true e)
+short-cells I3 t e h = absurd (false≢true e)
+short-cells I1 t e h = absurd (false≢true e)
+short-cells E11 t e h = absurd (false≢true e)
+short-cells E20 t e h = absurd (false≢true e)
+short-cells E8 t e h = absurd (false≢true e)
+
+pub cells-size : (f : Form) (t : List ℕ) → T (formed (fieldOf f t)) → length (cellsIn t (fieldOf f t)) ≡ rowOf f .cells
+cells-size f t h = reads-size f t (cellsIn t (fieldOf f t)) record { good = h; cells = refl }
+
+module _ (f : Form) (width : ℕ) (bytes : List ℕ) (old : List ℤ) (at : ℕ) (wide : width ≡ rowOf f .width) (fit : Fits f (length bytes)) (good : T (formed (fieldOf f (filledTo width bytes)))) (room : at + rowOf f .cells ≤ length old) where
+  pub short-room : mayBeShort f ≡ true → (length bytes ≤ width) × (at + width ≤ length old)
+  short-room e =
+      let l : length bytes ≤ width = omega (arith, fit .high) in
+      (l, omega (arith, cells-size f (filledTo width bytes) good, ap length (short-cells f (filledTo width bytes) e good), length-map (filledTo width bytes) pos, filled-length width bytes l))
+
+  pub short-put : mayBeShort f ≡ true → {new : List ℤ} → new ≡ over at (map pos (filledTo width bytes)) old → new ≡ over at (cellsIn (filledTo width bytes) (fieldOf f (filledTo width bytes))) old
+  short-put e n = n ∙ ap (λ l. over at l old) (sym (short-cells f (filledTo width bytes) e good))
+
+  module _ (no : mayBeShort f ≡ false) {v : Value} (r : fieldOf f bytes ≡ v) where
+    full : filledTo width bytes ≡ bytes
+    full = ap (λ n. filledTo n bytes) wide ∙ full-field f bytes no fit
+
+    value : fieldOf f (filledTo width bytes) ≡ v
+    value = ap (fieldOf f) full ∙ r
+
+    cells : cellsIn (filledTo width bytes) (fieldOf f (filledTo width bytes)) ≡ cellsIn bytes v
+    cells = ap (cellsIn (filledTo width bytes)) value ∙ ap (λ t. cellsIn t v) full
+
+    pub full-room : at + length (cellsIn bytes v) ≤ length old
+    full-room = omega (arith, cells-size f (filledTo width bytes) good, ap length cells)
+
+    pub full-put : {new : List ℤ} → new ≡ over at (cellsIn bytes v) old → new ≡ over at (cellsIn (filledTo width bytes) (fieldOf f (filledTo width bytes))) old
+    full-put n = n ∙ ap (λ l. over at l old) (sym cells)
+
+    pub full-formed : T (formed v)
+    full-formed = subst (λ x. T (formed x)) value good
+
+    pub full-letters : v ≡ Letters → (length bytes ≤ width) × (at + width ≤ length old)
+    full-letters u =
+        let low : rowOf f .width ≤ length bytes = rw no at (fit .low) in
+        (omega (arith, fit .high), omega (arith, full-room, ap (λ y. length (cellsIn bytes y)) u, length-map bytes pos))
+
+    pub full-filled : {new : List ℤ} → new ≡ over at (map pos (filledTo width bytes)) old → new ≡ over at (map pos bytes) old
+    full-filled n = n ∙ ap (λ t. over at (map pos t) old) full
+
+-- one cell, and two, as the machine stores them
+pub cell-put : (old : List ℤ) (at : ℕ) {y z : ℤ} → y ≡ z → at + 1 ≤ length old → set old at y ≡ over at (z ∷ []) old
+cell-put old at {z = z} e h = ap (set old at) e ∙ over-one old at z (omega arith)
+
+pub pair-put : (old : List ℤ) (at : ℕ) {y m u x : ℤ} → y ≡ m → u ≡ x → at + 2 ≤ length old → set (set old at y) (at + 1) u ≡ over at (m ∷ x ∷ []) old
+pair-put old at {m = m} {x = x} e d h =
+    rw (e, d)
+    (over-then old (set old at m) (set (set old at m) (at + 1) x) (m ∷ []) (x ∷ []) at (at + 1) refl (omega arith)
+    (over-one old at m (omega arith))
+    (over-one (set old at m) (at + 1) x (omega (arith, length-set old at m))))

@@ -1,0 +1,65 @@
+-- `reading::check_date` meets its contract: the letters that decide the date are the first bytes of the lines.
+-- Assumes nothing.
+use borrow.Author.Needs.{needs}
+use native.Mathlib.Omega.{arith}
+use mathlib.Core.Path.{_≡_, sym, _∙_, ap}
+use Prim.Native.Nat.{min}
+use Rattle.form.specs.declared.Form.the-variants.{A1}
+use Rattle.form.specs.Table.{rowOf}
+use Rattle.form.specs.Count.{elementsOf}
+use Rattle.reading.proofs.Dates.{letters-inside, date-verdict}
+use Rattle.reading.proofs.check_date.Statement.{statement}
+use Rattle.reading.proofs.check_date.Tie as tie
+
+elements-requires : tie.Need-elements-requires
+elements-requires c κs = search needs
+
+row-of-requires : tie.Need-row-of-requires
+row-of-requires c κs = search needs
+
+lesser-requires : tie.Need-lesser-requires
+lesser-requires c κs = search needs
+
+sub-new : tie.Need-sub-new
+sub-new c = search needs
+
+part-new-start : tie.Need-part-new-start
+part-new-start c = search needs
+
+-- as many letters as the first line has
+first-many : (c : tie.After-lesser) → c .lesser .result ≡ min (rowOf A1 .«per_line») (elementsOf A1 (c .before .before .before .before .args .count))
+first-many c = c .lesser .ensures ∙ rw (c .before .row-of .ensures, c .before .before .elements .ensures)
+
+part-new-end : tie.Need-part-new-end
+part-new-end c = omega (arith, letters-inside (c .before .before .before .before .args .count) (c .before .before .before .before .args .lines .now) (c .before .before .before .before .pre .1) (c .before .before .before .before .pre .0) (c .lesser .result) (first-many c))
+
+new-requires : tie.Need-new-requires
+new-requires c κs = search needs
+
+enum-told : tie.Need-enum-told
+enum-told c = search needs
+
+enum-known-position : tie.Need-enum-known-position
+enum-known-position c = search needs
+
+returns : tie.Need-returns
+returns c = date-verdict (c .before .before .before .before .before .before .before .before .args .count) (c .before .before .before .before .before .before .before .before .args .lines .now) (c .before .before .before .before .before .before .before .before .pre .1) (c .before .before .before .before .before .before .before .before .pre .0) (c .before .before .before .before .lesser .result) (first-many (c .before .before .before .before)) (sym (c .before .before .new .ensures) ∙ c .enum-told .given .1)
+
+returns-2 : tie.Need-returns-2
+returns-2 c = date-verdict (c .before .before .before .before .before .before .before .before .before .args .count) (c .before .before .before .before .before .before .before .before .before .args .lines .now) (c .before .before .before .before .before .before .before .before .before .pre .1) (c .before .before .before .before .before .before .before .before .before .pre .0) (c .before .before .before .before .before .lesser .result) (first-many (c .before .before .before .before .before)) (sym (c .before .before .before .new .ensures) ∙ c .before .position .given .1)
+
+pub check-date-spec : {M : Type 1} → statement M
+check-date-spec =
+    tie.close
+    (tie.spec
+    elements-requires
+    row-of-requires
+    lesser-requires
+    sub-new
+    part-new-start
+    part-new-end
+    new-requires
+    enum-told
+    enum-known-position
+    returns
+    returns-2)

@@ -1,0 +1,147 @@
+-- `reading::fill_lines` meets its contract. The invariants (proofs/Filling.antt): the cells so far stand in the table, and what is left of the
+-- lines, and of a line's fields, gives the cells that are left.
+-- Assumes nothing.
+use borrow.Author.Needs.{needs}
+use native.Mathlib.Omega.{arith}
+use mathlib.Core.Path.{_≡_, refl, sym, _∙_, ap}
+use Prim.Native.Nat.{_+_, _-_}
+use lib.ListN.{length, drop}
+use Rattle.base.specs.Pieces.{cellsGot}
+use Rattle.form.specs.Table.{rowOf}
+use Rattle.form.specs.Count.{elementsOf}
+use Rattle.reading.specs.Plan.{lineAt, planFrom}
+use Rattle.reading.specs.Read.{readLines, readLinesOf}
+use Rattle.reading.proofs.Fields.{lineText}
+use Rattle.reading.proofs.Checking.{walking-start, end-range, width-few}
+use Rattle.reading.proofs.Filling.{Filling, FillingFields, enough-room, filling-start, filling-end, filling-length, has-content, fill-inside, fields-filling, fill-small, fill-length, filling-next, put-requires, cell-small, fields-next}
+use Rattle.reading.proofs.fill_lines.Statement.{statement}
+use Rattle.reading.proofs.fill_lines.Tie as tie
+
+abbrev Inv-loop2 : tie.InvT-loop2
+Inv-loop2 form count lines table₀ width per-line cells many left at cell₀ j k end n stop from₀ i₀ table cell from i = FillingFields form (lineAt (rowOf form .«per_line») (elementsOf form count) j) (lineText form (lineAt (rowOf form .«per_line») (elementsOf form count) j) lines at end n) table₀ cell₀ at i from cell table
+
+abbrev μ-loop2 : tie.MeasureT-loop2
+μ-loop2 form count lines table₀ width per-line cells many left at cell₀ j k end n stop from₀ i₀ table cell from i = k - i
+
+abbrev Inv-loop : tie.InvT-loop
+Inv-loop form count lines table₀ width per-line cells many left₀ at₀ cell₀ j₀ table left at cell j = Filling form count lines table₀ width per-line cells many left at cell j table
+
+abbrev μ-loop : tie.MeasureT-loop
+μ-loop form count lines table₀ width per-line cells many left₀ at₀ cell₀ j₀ table left at cell j = many - j
+
+row-of-requires : tie.Need-row-of-requires Inv-loop2 μ-loop2 Inv-loop μ-loop
+row-of-requires c κs = search needs
+
+lines-requires : tie.Need-lines-requires Inv-loop2 μ-loop2 Inv-loop μ-loop
+lines-requires c κs = search needs
+
+elements-requires : tie.Need-elements-requires Inv-loop2 μ-loop2 Inv-loop μ-loop
+elements-requires c κs = search needs
+
+loop-holds : tie.Need-loop-holds Inv-loop2 μ-loop2 Inv-loop μ-loop
+loop-holds c = filling-start _ _ _ _ _ _ _ _ _ (walking-start _ _ _ _ _ _ _ (ap (λ r. r .width) (c .before .before .row-of .ensures)) (ap (λ r. r .«per_line») (c .before .before .row-of .ensures)) (c .before .lines .ensures) (c .elements .ensures) (omega arith)) (ap (λ r. r .cells) (c .before .before .row-of .ensures)) (c .before .before .before .before .pre .0)
+
+lesser-requires : tie.Need-lesser-requires Inv-loop2 μ-loop2 Inv-loop μ-loop
+lesser-requires c κs = search needs
+
+behind-or-end-requires : tie.Need-behind-or-end-requires Inv-loop2 μ-loop2 Inv-loop μ-loop
+behind-or-end-requires c κs = search needs
+
+content-at-requires : tie.Need-content-at-requires Inv-loop2 μ-loop2 Inv-loop μ-loop
+content-at-requires c κs = end-range (c .before .before .before .before .before .before .before .before .args .form) (c .before .before .before .before .before .before .before .before .args .count) (c .before .before .before .before .before .before .before .before .args .lines .now) (c .before .before .before .loop .inv .walk) (c .before .lesser .result) (c .behind-or-end .result) (c .before .lesser .ensures) (c .behind-or-end .ensures)
+
+enum-known-n : tie.Need-enum-known-n Inv-loop2 μ-loop2 Inv-loop μ-loop
+enum-known-n c = search needs
+
+enum-told : tie.Need-enum-told Inv-loop2 μ-loop2 Inv-loop μ-loop
+enum-told c = search needs
+
+same-length : tie.Need-same-length Inv-loop2 μ-loop2 Inv-loop μ-loop
+same-length c = filling-length (c .before .before .before .before .before .before .before .before .before .before .before .args .form) (c .before .before .before .before .before .before .before .before .before .before .before .args .count) (c .before .before .before .before .before .before .before .before .before .before .before .args .lines .now) (c .before .before .before .before .before .before .before .before .before .before .before .args .table .now) (enough-room (c .before .before .before .before .before .before .before .before .before .before .before .args .form) (c .before .before .before .before .before .before .before .before .before .before .before .args .count) (c .before .before .before .before .before .before .before .before .before .before .before .args .lines .now) (c .before .before .before .before .before .before .before .before .before .before .before .args .table .now) (c .before .before .before .before .before .before .before .before .before .before .before .pre .0) (c .before .before .before .before .before .before .before .before .before .before .before .pre .1)) (c .before .before .before .before .before .before .loop .inv)
+
+returns : tie.Need-returns Inv-loop2 μ-loop2 Inv-loop μ-loop
+returns c = absurd (has-content (c .before .before .before .before .before .before .before .before .before .before .before .args .form) (c .before .before .before .before .before .before .before .before .before .before .before .args .count) (c .before .before .before .before .before .before .before .before .before .before .before .args .lines .now) (c .before .before .before .before .before .before .before .before .before .before .before .args .table .now) (enough-room (c .before .before .before .before .before .before .before .before .before .before .before .args .form) (c .before .before .before .before .before .before .before .before .before .before .before .args .count) (c .before .before .before .before .before .before .before .before .before .before .before .args .lines .now) (c .before .before .before .before .before .before .before .before .before .before .before .args .table .now) (c .before .before .before .before .before .before .before .before .before .before .before .pre .0) (c .before .before .before .before .before .before .before .before .before .before .before .pre .1)) (c .before .before .before .before .before .before .loop .inv) (c .before .before .before .before .before .loop-test .taken) (c .before .before .before .before .lesser .result) (c .before .before .before .behind-or-end .result) (c .before .before .before .before .lesser .ensures) (c .before .before .before .behind-or-end .ensures) (sym (c .before .before .content-at .ensures) ∙ c .enum-told .given .1))
+
+add-stop : tie.Need-add-stop Inv-loop2 μ-loop2 Inv-loop μ-loop
+add-stop c = omega (arith, fill-inside (c .before .before .before .before .before .before .before .before .before .before .before .before .args .form) (c .before .before .before .before .before .before .before .before .before .before .before .before .args .count) (c .before .before .before .before .before .before .before .before .before .before .before .before .args .lines .now) (c .before .before .before .before .before .before .before .before .before .before .before .before .args .table .now) (enough-room (c .before .before .before .before .before .before .before .before .before .before .before .before .args .form) (c .before .before .before .before .before .before .before .before .before .before .before .before .args .count) (c .before .before .before .before .before .before .before .before .before .before .before .before .args .lines .now) (c .before .before .before .before .before .before .before .before .before .before .before .before .args .table .now) (c .before .before .before .before .before .before .before .before .before .before .before .before .pre .0) (c .before .before .before .before .before .before .before .before .before .before .before .before .pre .1)) (c .before .before .before .before .before .before .before .loop .inv) (c .before .before .before .before .before .before .loop-test .taken) (c .before .before .before .before .before .lesser .result) (c .before .before .before .before .behind-or-end .result) (c .before .before .before .before .before .lesser .ensures) (c .before .before .before .before .behind-or-end .ensures) (c .before .n .given .0 .0) (sym (c .before .before .before .content-at .ensures) ∙ c .before .n .given .1))
+
+loop2-holds : tie.Need-loop2-holds Inv-loop2 μ-loop2 Inv-loop μ-loop
+loop2-holds c = fields-filling (c .before .before .before .before .before .before .before .before .before .before .before .before .args .form) (c .before .before .before .before .before .before .before .before .before .before .before .before .args .count) (c .before .before .before .before .before .before .before .before .before .before .before .before .args .lines .now) (c .before .before .before .before .before .before .before .before .before .before .before .before .args .table .now) (enough-room (c .before .before .before .before .before .before .before .before .before .before .before .before .args .form) (c .before .before .before .before .before .before .before .before .before .before .before .before .args .count) (c .before .before .before .before .before .before .before .before .before .before .before .before .args .lines .now) (c .before .before .before .before .before .before .before .before .before .before .before .before .args .table .now) (c .before .before .before .before .before .before .before .before .before .before .before .before .pre .0) (c .before .before .before .before .before .before .before .before .before .before .before .before .pre .1)) (c .before .before .before .before .before .before .before .loop .inv) (c .before .before .before .before .before .before .loop-test .taken) (c .before .before .before .before .before .lesser .result) (c .before .before .before .before .behind-or-end .result) (c .before .before .before .before .before .lesser .ensures) (c .before .before .before .before .behind-or-end .ensures) (c .before .n .given .0 .0) (sym (c .before .before .before .content-at .ensures) ∙ c .before .n .given .1)
+
+add-lesser : tie.Need-add-lesser Inv-loop2 μ-loop2 Inv-loop μ-loop
+add-lesser c = omega (arith, fill-small (c .before .before .before .before .before .before .before .before .before .before .before .before .before .before .args .form) (c .before .before .before .before .before .before .before .before .before .before .before .before .before .before .args .count) (c .before .before .before .before .before .before .before .before .before .before .before .before .before .before .args .lines .now) (c .before .before .before .before .before .before .before .before .before .before .before .before .before .before .args .table .now) (enough-room (c .before .before .before .before .before .before .before .before .before .before .before .before .before .before .args .form) (c .before .before .before .before .before .before .before .before .before .before .before .before .before .before .args .count) (c .before .before .before .before .before .before .before .before .before .before .before .before .before .before .args .lines .now) (c .before .before .before .before .before .before .before .before .before .before .before .before .before .before .args .table .now) (c .before .before .before .before .before .before .before .before .before .before .before .before .before .before .pre .0) (c .before .before .before .before .before .before .before .before .before .before .before .before .before .before .pre .1)) (c .before .before .before .before .before .before .before .before .before .loop .inv) (c .before .before .before .before .before .before .before .before .loop-test .taken) (c .before .before .before .before .before .before .before .lesser .result) (c .before .before .before .before .before .before .behind-or-end .result) (c .before .before .before .before .before .before .before .lesser .ensures) (c .before .before .before .before .before .before .behind-or-end .ensures) (c .before .before .before .n .given .0 .0) (sym (c .before .before .before .before .before .content-at .ensures) ∙ c .before .before .before .n .given .1) (c .before .loop2 .inv), c .before .before .before .before .before .before .before .before .before .loop .inv .walk .wide, width-few (c .before .before .before .before .before .before .before .before .before .before .before .before .before .before .args .form))
+
+lesser-requires-2 : tie.Need-lesser-requires-2 Inv-loop2 μ-loop2 Inv-loop μ-loop
+lesser-requires-2 c κs = search needs
+
+put-field-at-requires : tie.Need-put-field-at-requires Inv-loop2 μ-loop2 Inv-loop μ-loop
+put-field-at-requires c κs = put-requires (c .before .before .before .before .before .before .before .before .before .before .before .before .before .before .before .before .args .form) (c .before .before .before .before .before .before .before .before .before .before .before .before .before .before .before .before .args .count) (c .before .before .before .before .before .before .before .before .before .before .before .before .before .before .before .before .args .lines .now) (c .before .before .before .before .before .before .before .before .before .before .before .before .before .before .before .before .args .table .now) (enough-room (c .before .before .before .before .before .before .before .before .before .before .before .before .before .before .before .before .args .form) (c .before .before .before .before .before .before .before .before .before .before .before .before .before .before .before .before .args .count) (c .before .before .before .before .before .before .before .before .before .before .before .before .before .before .before .before .args .lines .now) (c .before .before .before .before .before .before .before .before .before .before .before .before .before .before .before .before .args .table .now) (c .before .before .before .before .before .before .before .before .before .before .before .before .before .before .before .before .pre .0) (c .before .before .before .before .before .before .before .before .before .before .before .before .before .before .before .before .pre .1)) (c .before .before .before .before .before .before .before .before .before .before .before .loop .inv) (c .before .before .before .before .before .before .before .before .before .before .loop-test .taken) (c .before .before .before .before .before .before .before .before .before .lesser .result) (c .before .before .before .before .before .before .before .before .behind-or-end .result) (c .before .before .before .before .before .before .before .before .before .lesser .ensures) (c .before .before .before .before .before .before .before .before .behind-or-end .ensures) (c .before .before .before .before .before .n .given .0 .0) (sym (c .before .before .before .before .before .before .before .content-at .ensures) ∙ c .before .before .before .before .before .n .given .1) (c .before .before .before .loop2 .inv) (c .before .lesser2 .result) (c .before .before .loop2-test .taken) (c .before .lesser2 .ensures)
+
+add-from : tie.Need-add-from Inv-loop2 μ-loop2 Inv-loop μ-loop
+add-from c = omega (arith, fill-small (c .before .before .before .before .before .before .before .before .before .before .before .before .before .before .before .before .before .before .args .form) (c .before .before .before .before .before .before .before .before .before .before .before .before .before .before .before .before .before .before .args .count) (c .before .before .before .before .before .before .before .before .before .before .before .before .before .before .before .before .before .before .args .lines .now) (c .before .before .before .before .before .before .before .before .before .before .before .before .before .before .before .before .before .before .args .table .now) (enough-room (c .before .before .before .before .before .before .before .before .before .before .before .before .before .before .before .before .before .before .args .form) (c .before .before .before .before .before .before .before .before .before .before .before .before .before .before .before .before .before .before .args .count) (c .before .before .before .before .before .before .before .before .before .before .before .before .before .before .before .before .before .before .args .lines .now) (c .before .before .before .before .before .before .before .before .before .before .before .before .before .before .before .before .before .before .args .table .now) (c .before .before .before .before .before .before .before .before .before .before .before .before .before .before .before .before .before .before .pre .0) (c .before .before .before .before .before .before .before .before .before .before .before .before .before .before .before .before .before .before .pre .1)) (c .before .before .before .before .before .before .before .before .before .before .before .before .before .loop .inv) (c .before .before .before .before .before .before .before .before .before .before .before .before .loop-test .taken) (c .before .before .before .before .before .before .before .before .before .before .before .lesser .result) (c .before .before .before .before .before .before .before .before .before .before .behind-or-end .result) (c .before .before .before .before .before .before .before .before .before .before .before .lesser .ensures) (c .before .before .before .before .before .before .before .before .before .before .behind-or-end .ensures) (c .before .before .before .before .before .before .before .n .given .0 .0) (sym (c .before .before .before .before .before .before .before .before .before .content-at .ensures) ∙ c .before .before .before .before .before .before .before .n .given .1) (c .before .before .before .before .before .loop2 .inv), c .before .before .before .before .before .before .before .before .before .before .before .before .before .loop .inv .walk .wide, width-few (c .before .before .before .before .before .before .before .before .before .before .before .before .before .before .before .before .before .before .args .form))
+
+add-cell : tie.Need-add-cell Inv-loop2 μ-loop2 Inv-loop μ-loop
+add-cell c = omega (arith, cell-small (c .before .before .before .before .before .before .before .before .before .before .before .before .before .before .before .before .before .before .args .form) (c .before .before .before .before .before .before .before .before .before .before .before .before .before .before .before .before .before .before .args .count) (c .before .before .before .before .before .before .before .before .before .before .before .before .before .before .before .before .before .before .args .lines .now) (c .before .before .before .before .before .before .before .before .before .before .before .before .before .before .before .before .before .before .args .table .now) (enough-room (c .before .before .before .before .before .before .before .before .before .before .before .before .before .before .before .before .before .before .args .form) (c .before .before .before .before .before .before .before .before .before .before .before .before .before .before .before .before .before .before .args .count) (c .before .before .before .before .before .before .before .before .before .before .before .before .before .before .before .before .before .before .args .lines .now) (c .before .before .before .before .before .before .before .before .before .before .before .before .before .before .before .before .before .before .args .table .now) (c .before .before .before .before .before .before .before .before .before .before .before .before .before .before .before .before .before .before .pre .0) (c .before .before .before .before .before .before .before .before .before .before .before .before .before .before .before .before .before .before .pre .1)) (c .before .before .before .before .before .before .before .before .before .before .before .before .before .loop .inv) (c .before .before .before .before .before .before .before .before .before .before .before .before .loop-test .taken) (c .before .before .before .before .before .before .before .before .before .before .before .lesser .result) (c .before .before .before .before .before .before .before .before .before .before .behind-or-end .result) (c .before .before .before .before .before .before .before .before .before .before .before .lesser .ensures) (c .before .before .before .before .before .before .before .before .before .before .behind-or-end .ensures) (c .before .before .before .before .before .before .before .n .given .0 .0) (sym (c .before .before .before .before .before .before .before .before .before .content-at .ensures) ∙ c .before .before .before .before .before .before .before .n .given .1) (c .before .before .before .before .before .loop2 .inv) (c .before .before .before .lesser2 .result) (c .before .before .before .before .loop2-test .taken) (c .before .before .before .lesser2 .ensures))
+
+add-i : tie.Need-add-i Inv-loop2 μ-loop2 Inv-loop μ-loop
+add-i c = search needs
+
+loop2-less : tie.Need-loop2-less Inv-loop2 μ-loop2 Inv-loop μ-loop
+loop2-less c = search needs
+
+loop2-again : tie.Need-loop2-again Inv-loop2 μ-loop2 Inv-loop μ-loop
+loop2-again c = fields-next (c .before .before .before .before .before .before .before .before .before .before .before .before .before .before .before .before .before .before .args .form) (c .before .before .before .before .before .before .before .before .before .before .before .before .before .before .before .before .before .before .args .count) (c .before .before .before .before .before .before .before .before .before .before .before .before .before .before .before .before .before .before .args .lines .now) (c .before .before .before .before .before .before .before .before .before .before .before .before .before .before .before .before .before .before .args .table .now) (enough-room (c .before .before .before .before .before .before .before .before .before .before .before .before .before .before .before .before .before .before .args .form) (c .before .before .before .before .before .before .before .before .before .before .before .before .before .before .before .before .before .before .args .count) (c .before .before .before .before .before .before .before .before .before .before .before .before .before .before .before .before .before .before .args .lines .now) (c .before .before .before .before .before .before .before .before .before .before .before .before .before .before .before .before .before .before .args .table .now) (c .before .before .before .before .before .before .before .before .before .before .before .before .before .before .before .before .before .before .pre .0) (c .before .before .before .before .before .before .before .before .before .before .before .before .before .before .before .before .before .before .pre .1)) (c .before .before .before .before .before .before .before .before .before .before .before .before .before .loop .inv) (c .before .before .before .before .before .before .before .before .before .before .before .before .loop-test .taken) (c .before .before .before .before .before .before .before .before .before .before .before .lesser .result) (c .before .before .before .before .before .before .before .before .before .before .behind-or-end .result) (c .before .before .before .before .before .before .before .before .before .before .before .lesser .ensures) (c .before .before .before .before .before .before .before .before .before .before .behind-or-end .ensures) (c .before .before .before .before .before .before .before .n .given .0 .0) (sym (c .before .before .before .before .before .before .before .before .before .content-at .ensures) ∙ c .before .before .before .before .before .before .before .n .given .1) (c .before .before .before .before .before .loop2 .inv) (c .before .before .before .lesser2 .result) (c .before .before .before .before .loop2-test .taken) (c .before .before .before .lesser2 .ensures) (c .before .put-field-at .ensures)
+
+sub-left : tie.Need-sub-left Inv-loop2 μ-loop2 Inv-loop μ-loop
+sub-left c = omega (arith, c .before .before .before .before .before .before .before .lesser .ensures)
+
+add-j : tie.Need-add-j Inv-loop2 μ-loop2 Inv-loop μ-loop
+add-j c = search needs
+
+loop-less : tie.Need-loop-less Inv-loop2 μ-loop2 Inv-loop μ-loop
+loop-less c = search needs
+
+loop-again : tie.Need-loop-again Inv-loop2 μ-loop2 Inv-loop μ-loop
+loop-again c = filling-next (c .before .before .before .before .before .before .before .before .before .before .before .before .before .before .args .form) (c .before .before .before .before .before .before .before .before .before .before .before .before .before .before .args .count) (c .before .before .before .before .before .before .before .before .before .before .before .before .before .before .args .lines .now) (c .before .before .before .before .before .before .before .before .before .before .before .before .before .before .args .table .now) (enough-room (c .before .before .before .before .before .before .before .before .before .before .before .before .before .before .args .form) (c .before .before .before .before .before .before .before .before .before .before .before .before .before .before .args .count) (c .before .before .before .before .before .before .before .before .before .before .before .before .before .before .args .lines .now) (c .before .before .before .before .before .before .before .before .before .before .before .before .before .before .args .table .now) (c .before .before .before .before .before .before .before .before .before .before .before .before .before .before .pre .0) (c .before .before .before .before .before .before .before .before .before .before .before .before .before .before .pre .1)) (c .before .before .before .before .before .before .before .before .before .loop .inv) (c .before .before .before .before .before .before .before .before .loop-test .taken) (c .before .before .before .before .before .before .before .lesser .result) (c .before .before .before .before .before .before .behind-or-end .result) (c .before .before .before .before .before .before .before .lesser .ensures) (c .before .before .before .before .before .before .behind-or-end .ensures) (c .before .before .before .n .given .0 .0) (sym (c .before .before .before .before .before .content-at .ensures) ∙ c .before .before .before .n .given .1) (c .before .loop2 .inv) (omega arith)
+
+same-length-2 : tie.Need-same-length-2 Inv-loop2 μ-loop2 Inv-loop μ-loop
+same-length-2 c = filling-length (c .before .before .before .before .before .before .args .form) (c .before .before .before .before .before .before .args .count) (c .before .before .before .before .before .before .args .lines .now) (c .before .before .before .before .before .before .args .table .now) (enough-room (c .before .before .before .before .before .before .args .form) (c .before .before .before .before .before .before .args .count) (c .before .before .before .before .before .before .args .lines .now) (c .before .before .before .before .before .before .args .table .now) (c .before .before .before .before .before .before .pre .0) (c .before .before .before .before .before .before .pre .1)) (c .before .loop .inv)
+
+returns-2 : tie.Need-returns-2 Inv-loop2 μ-loop2 Inv-loop μ-loop
+returns-2 c = filling-end (c .before .before .before .before .before .before .args .form) (c .before .before .before .before .before .before .args .count) (c .before .before .before .before .before .before .args .lines .now) (c .before .before .before .before .before .before .args .table .now) (c .before .loop .inv) (omega arith)
+
+pub fill-lines-spec : {M : Type 1} → statement M
+fill-lines-spec =
+    tie.close
+    (tie.spec
+    Inv-loop2
+    μ-loop2
+    Inv-loop
+    μ-loop
+    row-of-requires
+    lines-requires
+    elements-requires
+    loop-holds
+    lesser-requires
+    behind-or-end-requires
+    content-at-requires
+    enum-known-n
+    enum-told
+    same-length
+    returns
+    add-stop
+    loop2-holds
+    add-lesser
+    lesser-requires-2
+    put-field-at-requires
+    add-from
+    add-cell
+    add-i
+    loop2-less
+    loop2-again
+    sub-left
+    add-j
+    loop-less
+    loop-again
+    same-length-2
+    returns-2)

@@ -1,0 +1,37 @@
+-- `reading::is_field` meets its contract: letters print with or without the blanks behind them, and other fields are as wide as they should be.
+-- Assumes nothing.
+use borrow.Author.Needs.{needs}
+use mathlib.Core.Path.{_≡_, sym, _∙_, ap}
+use Rattle.field.specs.Read.{fieldOf, formed}
+use Rattle.reading.proofs.Blanks.{short-field, full-field}
+use Rattle.reading.proofs.is_field.Statement.{statement}
+use Rattle.reading.proofs.is_field.Tie as tie
+
+may-be-short-requires : tie.Need-may-be-short-requires
+may-be-short-requires c κs = search needs
+
+all-printable-requires : tie.Need-all-printable-requires
+all-printable-requires c κs = search needs
+
+returns : tie.Need-returns
+returns c = c .all-printable .ensures ∙ short-field _ _ (sym (c .before .before .may-be-short .ensures) ∙ c .before .if1 .taken) (c .before .before .before .before .pre)
+
+read-requires : tie.Need-read-requires
+read-requires c κs = search needs
+
+is-formed-requires : tie.Need-is-formed-requires
+is-formed-requires c κs = search needs
+
+returns-2 : tie.Need-returns-2
+returns-2 c = c .is-formed .ensures ∙ ap formed (c .before .read .ensures ∙ ap (fieldOf _) (sym (full-field _ _ (sym (c .before .before .before .may-be-short .ensures) ∙ c .before .before .if1 .left) (c .before .before .before .before .before .pre))))
+
+pub is-field-spec : {M : Type 1} → statement M
+is-field-spec =
+    tie.close
+    (tie.spec
+    may-be-short-requires
+    all-printable-requires
+    returns
+    read-requires
+    is-formed-requires
+    returns-2)

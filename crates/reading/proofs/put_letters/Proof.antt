@@ -1,0 +1,78 @@
+-- `reading::put_letters` meets its contract. The invariant: the first i letters stand in the table.
+-- Assumes nothing.
+use borrow.Author.Needs.{needs}
+use native.Mathlib.Omega.{arith}
+use mathlib.Core.Path.{_≡_, refl, sym, _∙_, ap}
+use mathlib.Core.List.{map}
+use Prim.Native.Nat.{_≤_, _-_}
+use borrow.Author.Needs.{sfits-of}
+use mir.Syntax.{w64}
+use mir.Facts.{toZ-ofZ}
+use lib.IntN.{pos}
+use lib.ListN.{length, take, length-set}
+use Rattle.base.specs.Part.{over}
+use Rattle.reading.specs.Blanks.{filledTo}
+use Rattle.reading.proofs.Putting.{letters-none, letters-more, letters-all}
+use Rattle.reading.proofs.put_letters.Statement.{statement}
+use Rattle.reading.proofs.put_letters.Tie as tie
+
+abbrev Inv-loop : tie.InvT-loop
+Inv-loop bytes width table₀ at i₀ table i = (i ≤ width) × (length table ≡ length table₀) × (table ≡ over at (take i (map pos (filledTo width bytes))) table₀)
+
+abbrev μ-loop : tie.MeasureT-loop
+μ-loop bytes width table₀ at i₀ table i = width - i
+
+loop-holds : tie.Need-loop-holds Inv-loop μ-loop
+loop-holds c = (omega arith, refl, letters-none (c .before .args .bytes .now) (c .before .args .width) (c .before .args .table .now) (c .before .args .at) (c .before .pre .0) (c .before .pre .1))
+
+byte-or-blank-requires : tie.Need-byte-or-blank-requires Inv-loop μ-loop
+byte-or-blank-requires c κs = search needs
+
+cast-cell : tie.Need-cast-cell Inv-loop μ-loop
+cast-cell c = search needs
+
+cell-requires : tie.Need-cell-requires Inv-loop μ-loop
+cell-requires c κs = search needs
+
+add-t10 : tie.Need-add-t10 Inv-loop μ-loop
+add-t10 c = search needs
+
+mul-t11 : tie.Need-mul-t11 Inv-loop μ-loop
+mul-t11 c = search needs
+
+slice-set-from-table : tie.Need-slice-set-from-table Inv-loop μ-loop
+slice-set-from-table c = search needs
+
+add-i : tie.Need-add-i Inv-loop μ-loop
+add-i c = search needs
+
+loop-less : tie.Need-loop-less Inv-loop μ-loop
+loop-less c = search needs
+
+loop-again : tie.Need-loop-again Inv-loop μ-loop
+loop-again c = (omega arith, simp length-set (c .before .before .before .loop .inv .1), letters-more (c .before .before .before .before .before .args .bytes .now) (c .before .before .before .before .before .args .width) (c .before .before .before .before .before .args .table .now) (c .before .before .before .before .before .args .at) (c .before .before .before .before .before .pre .0) (c .before .before .before .before .before .pre .1) (c .before .before .before .loop .i) _ _ (c .before .before .loop-test .taken) (toZ-ofZ (sfits-of {w = w64} (c .cell .ok)) ∙ c .cell .ensures ∙ ap pos (c .before .byte-or-blank .ensures)) (c .before .before .before .loop .inv .2))
+
+same-length : tie.Need-same-length Inv-loop μ-loop
+same-length c = search needs
+
+returns : tie.Need-returns Inv-loop μ-loop
+returns c = letters-all (c .before .before .before .args .bytes .now) (c .before .before .before .args .width) (c .before .before .before .args .table .now) (c .before .before .before .args .at) (c .before .before .before .pre .0) (c .before .before .before .pre .1) (c .before .loop .i) _ (omega arith) (c .before .loop .inv .2)
+
+pub put-letters-spec : {M : Type 1} → statement M
+put-letters-spec =
+    tie.close
+    (tie.spec
+    Inv-loop
+    μ-loop
+    loop-holds
+    byte-or-blank-requires
+    cast-cell
+    cell-requires
+    add-t10
+    mul-t11
+    slice-set-from-table
+    add-i
+    loop-less
+    loop-again
+    same-length
+    returns)

@@ -1,0 +1,55 @@
+-- `reading::read_form` meets its contract: room, then the check, and the table is filled only where all is clean.
+-- Assumes nothing.
+use borrow.Author.Needs.{needs}
+use mathlib.Core.Path.{_≡_, sym, _∙_, ap, subst}
+use Prim.Native.Nat.{_<_, _≤_}
+use lib.ListN.{length}
+use Rattle.reading.specs.declared.Reading.{Reading}
+use Rattle.reading.specs.declared.Reading.the-variants.{Done}
+use Rattle.reading.specs.Read.{readForm}
+use Rattle.reading.proofs.Steps.{Answers, form-none, form-bad, lines-clean, form-done}
+use Rattle.reading.proofs.read_form.Statement.{statement}
+use Rattle.reading.proofs.read_form.Tie as tie
+
+cells-requires : tie.Need-cells-requires
+cells-requires c κs = search needs
+
+returns : tie.Need-returns
+returns c = form-none (c .before .before .before .args .form) (c .before .before .before .args .group) (c .before .before .before .args .count) (c .before .before .before .args .lines .now) (c .before .before .before .args .table .now) (subst (λ m. length (c .before .before .before .args .table .now) < m) (c .before .cells .ensures) (c .if1 .taken))
+
+check-requires : tie.Need-check-requires
+check-requires c κs = search needs
+
+enum-known-r : tie.Need-enum-known-r
+enum-known-r c = search needs
+
+enum-told : tie.Need-enum-told
+enum-told c = search needs
+
+fill-lines-requires : tie.Need-fill-lines-requires
+fill-lines-requires c κs = (lines-clean (c .before .before .before .before .before .before .before .args .form) (c .before .before .before .before .before .before .before .args .group) (c .before .before .before .before .before .before .before .args .count) (c .before .before .before .before .before .before .before .args .lines .now) (c .before .before .before .before .before .before .before .args .table .now) (subst (λ m. m ≤ length (c .before .before .before .before .before .before .before .args .table .now)) (c .before .before .before .before .before .cells .ensures) (c .before .before .before .before .if1 .left)) (sym (c .before .before .before .check .ensures) ∙ c .before .enum-told .given .1), subst (λ m. m ≤ length (c .before .before .before .before .before .before .before .args .table .now)) (c .before .before .before .before .before .cells .ensures) (c .before .before .before .before .if1 .left))
+
+returns-2 : tie.Need-returns-2
+returns-2 c = form-bad (c .before .before .before .before .before .before .before .args .form) (c .before .before .before .before .before .before .before .args .group) (c .before .before .before .before .before .before .before .args .count) (c .before .before .before .before .before .before .before .args .lines .now) (c .before .before .before .before .before .before .before .args .table .now) (subst (λ m. m ≤ length (c .before .before .before .before .before .before .before .args .table .now)) (c .before .before .before .before .before .cells .ensures) (c .before .before .before .before .if1 .left)) _ (sym (c .before .before .before .check .ensures) ∙ c .before .r .given .1)
+
+same-length : tie.Need-same-length
+same-length c = search needs
+
+returns-3 : tie.Need-returns-3
+returns-3 c =
+    let b = form-done (c .before .before .before .before .before .before .before .before .before .args .form) (c .before .before .before .before .before .before .before .before .before .args .group) (c .before .before .before .before .before .before .before .before .before .args .count) (c .before .before .before .before .before .before .before .before .before .args .lines .now) (c .before .before .before .before .before .before .before .before .before .args .table .now) (subst (λ m. m ≤ length (c .before .before .before .before .before .before .before .before .before .args .table .now)) (c .before .before .before .before .before .before .before .cells .ensures) (c .before .before .before .before .before .before .if1 .left)) (sym (c .before .before .before .before .before .check .ensures) ∙ c .before .before .before .enum-told .given .1) (c .before .fill-lines .ensures) in
+    (ap Done (c .before .before .before .before .before .before .before .cells .ensures) ∙ b .0, b .1)
+
+pub read-form-spec : {M : Type 1} → statement M
+read-form-spec =
+    tie.close
+    (tie.spec
+    cells-requires
+    returns
+    check-requires
+    enum-known-r
+    enum-told
+    fill-lines-requires
+    returns-2
+    same-length
+    returns-3)

@@ -1,0 +1,122 @@
+-- What a group reads as: a definition over the record's counts, the group's number, the bytes of its own lines and the table's length, in
+-- which the text does not occur.
+use mathlib.Core.Path.{_≡_}
+use mathlib.Core.Bool.{Bool, true, false, cond}
+use mathlib.Core.List.{List, [], _∷_, map}
+use Prim.Native.Nat.{ℕ, _*_}
+use lib.Dec.{T, eqb, leb}
+use lib.IntN.{ℤ}
+use lib.ListN.{length}
+use Rattle.base.specs.Part.{part, over}
+use Rattle.base.specs.Pieces.{Got, done, bad, gather}
+use Rattle.base.specs.Sign.{sizeOf}
+use Rattle.form.specs.declared.Form.{Form}
+use Rattle.form.specs.declared.GroupForm.{GroupForm}
+use Rattle.form.specs.declared.GroupForm.the-variants.{Has, NoGroup as NoForm}
+use Rattle.form.specs.Table.{rowOf, formOf}
+use Rattle.form.specs.Count.{cellsOf}
+use Rattle.field.specs.Read.{fieldOf, formed, cellsIn}
+use Rattle.line.specs.Lines.{reach}
+use Rattle.line.specs.Contents.{contentOf}
+use Rattle.line.specs.declared.Content.{Content}
+use Rattle.line.specs.declared.Content.the-variants.{Length, NoReturn}
+use Rattle.count.specs.Tally.{countOf}
+use Rattle.count.specs.Rules.{rulingOf}
+use Rattle.count.specs.declared.Ruling.{Ruling}
+use Rattle.count.specs.declared.Ruling.the-variants.{Kept, Broken}
+use Rattle.date.specs.Date.{datedOf}
+use Rattle.date.specs.declared.Dated.{Dated}
+use Rattle.date.specs.declared.Dated.the-variants.{Right, Wrong}
+use Rattle.reading.specs.Blanks.{isRight, filledTo}
+use Rattle.reading.specs.Plan.{Line, planOf, elementsIn}
+use Rattle.reading.specs.declared.Refusal.{Refusal}
+use Rattle.reading.specs.declared.Refusal.the-variants.{NoGroup, BrokenRule, NoRoom, BadLine, BadField, BadDate}
+use Rattle.reading.specs.declared.Reading.{Reading}
+use Rattle.reading.specs.declared.Reading.the-variants.{Done, Refused}
+use Rattle.reading.specs.declared.Verdict.{Verdict}
+use Rattle.reading.specs.declared.Verdict.the-variants.{Clean, Bad}
+
+-- the cells read, or the refusal
+abbrev pub Cells : Type 0
+Cells = Got Refusal ℤ
+
+-- ---- a line: 8, then that line's fields, 9
+
+-- "misformed field: line, element in group"
+abbrev pub readField : Form → ℕ → ℕ → List ℕ → Cells
+readField f line e x = cond (formed (fieldOf f x)) (done (cellsIn x (fieldOf f x))) (bad (BadField line e))
+
+-- the fields of a line stand one behind the other
+unfoldable pub readFields : Form → Line → List ℕ → Cells
+readFields f l s = gather (λ (e : ℕ) x. rowOf f .width) (readField f (l .number)) (elementsIn l) s
+
+-- the columns that a line's fields take
+abbrev pub columnsOf : Form → Line → ℕ
+columnsOf f l = l .many * rowOf f .width
+
+-- "no carriage return before the line feed, wrong length, or bytes after the fields that aren't blanks: line in group"
+abbrev pub readContent : Form → Line → List ℕ → Content → Cells
+readContent f l x (Length n) =
+    cond (isRight f (columnsOf f l) (part 0 n x)) (readFields f l (filledTo (columnsOf f l) (part 0 n x))) (bad (BadLine (l .number)))
+readContent f l x NoReturn = bad (BadLine (l .number))
+
+-- a line, with its line feed
+unfoldable pub readLine : Form → Line → List ℕ → Cells
+readLine f l x = readContent f l x (contentOf x)
+
+-- ---- a group
+
+-- "then line by line 8 and that line's fields 9". "The first bad field ends the reading, whichever line it is in."
+unfoldable pub readLinesOf : Form → List Line → List ℕ → Cells
+readLinesOf f ls x = gather (λ (l : Line) s. reach s 1) (readLine f) ls x
+
+unfoldable pub readLines : Form → ℕ → List ℕ → Cells
+readLines f count x = readLinesOf f (planOf f count) x
+
+-- "then 10 for group 3"
+abbrev pub byDate : List ℤ → Dated → Cells
+byDate cs (Right d) = done cs
+byDate cs (Wrong p) = bad (BadDate p)
+
+abbrev pub dated : ℕ → Cells → Cells
+dated g (done cs) = cond (eqb g 3) (byDate cs (datedOf (map sizeOf cs))) (done cs)
+dated g (bad r) = bad r
+
+-- "table or output shorter than what reply 0 would fill, and only then" (11), then the lines, then the date
+unfoldable pub readForm : Form → ℕ → ℕ → List ℕ → ℕ → Cells
+readForm f g count x room = cond (leb (cellsOf f count) room) (dated g (readLines f count x)) (bad NoRoom)
+
+-- "rule on counts broken: blamed group" (7)
+abbrev pub readRuled : Form → List ℕ → ℕ → List ℕ → ℕ → Ruling → Cells
+readRuled f ns g x room Kept = readForm f g (countOf ns g) x room
+readRuled f ns g x room (Broken h) = bad (BrokenRule h)
+
+-- "no group 1-60 .. of that number" (12)
+abbrev pub readBy : List ℕ → ℕ → List ℕ → ℕ → GroupForm → Cells
+readBy ns g x room (Has f) = readRuled f ns g x room (rulingOf ns)
+readBy ns g x room NoForm = bad NoGroup
+
+-- a group of a record with these counts, whose lines are x, read into a table of this length
+unfoldable pub readGroup : List ℕ → ℕ → List ℕ → ℕ → Cells
+readGroup ns g x room = readBy ns g x room (formOf g)
+
+-- ---- the answer and the table
+
+abbrev pub readingOf : Cells → Reading
+readingOf (done cs) = Done (length cs)
+readingOf (bad r) = Refused r
+
+-- "Cells behind the last one written keep their content."
+abbrev pub tableBy : Cells → List ℤ → List ℤ
+tableBy (done cs) old = over 0 cs old
+tableBy (bad r) old = old
+
+-- ---- whether all is clean, as the first pass finds it
+
+abbrev pub verdictOf : Cells → Verdict
+verdictOf (done cs) = Clean
+verdictOf (bad r) = Bad r
+
+abbrev pub dateVerdict : Dated → Verdict
+dateVerdict (Right d) = Clean
+dateVerdict (Wrong p) = Bad (BadDate p)

@@ -1,0 +1,395 @@
+// Reading the lines of a group under its record's counts. The lines are checked first, and the table is filled only when all of them are
+// clean. The text that they come from is not known here.
+use form::Form;
+use form::GroupForm;
+ghost use mathlib.Core.Path.{_≡_};
+ghost use mathlib.Core.List.{map};
+ghost use Prim.Native.Nat.{_+_, _-_, _*_, _≤_};
+ghost use lib.Dec.{T};
+ghost use lib.IntN.{pos};
+ghost use lib.ListN.{length, getD};
+ghost use Rattle.base.specs.Every.{every};
+ghost use Rattle.base.specs.Part.{part, over};
+ghost use Rattle.base.specs.Pieces.{cellsGot};
+ghost use Rattle.form.specs.Table.{rowOf, formOf};
+ghost use Rattle.form.specs.Count.{cellsOf};
+ghost use Rattle.field.specs.Read.{fieldOf, formed, cellsIn};
+ghost use Rattle.line.specs.Contents.{contentOf};
+ghost use Rattle.reading.specs.Blanks.{blank, mayBeShort, shortest, filledTo, isRight, rightContent, Fits};
+ghost use Rattle.reading.specs.Read.{verdictOf, readLines, dated, readForm, readGroup, readingOf, tableBy};
+
+// Why nothing is read; each variant is one of 01's replies.
+pub enum Refusal {
+    // 12
+    NoGroup,
+    // 1
+    End,
+    // 2
+    Beyond,
+    // 3
+    TooFewLines,
+    // 4
+    Misformed,
+    // 5
+    OtherRelease,
+    // 6, with the lowest vacant group that has a count
+    FilledVacant(usize),
+    // 7, with the blamed group
+    BrokenRule(usize),
+    // 11
+    NoRoom,
+    // 8, with the line in the group
+    BadLine(usize),
+    // 9, with the line and the element in the group
+    BadField(usize, usize),
+    // 10, with the position blamed
+    BadDate(usize),
+}
+
+// What reading a group answers: 0 with the number of cells, or why nothing was read.
+pub enum Reading {
+    Done(usize),
+    Refused(Refusal),
+}
+
+// Whether the lines of a group are clean, or the first thing that is not.
+pub enum Verdict {
+    Clean,
+    Bad(Refusal),
+}
+
+// ---- What a line holds.
+
+// Whether lines of the form may be shorter than their fields.
+fn may_be_short(form: Form) -> bool
+    ensures { λ r. ⌜ r ≡ mayBeShort form ⌝ }
+{
+    match form {
+        Form::F7 => false,
+        Form::A120 => true,
+        Form::A1 => false,
+        Form::F8 => false,
+        Form::I2 => false,
+        Form::I3 => false,
+        Form::I1 => false,
+        Form::E11 => false,
+        Form::E20 => false,
+        Form::E8 => false,
+    }
+}
+
+fn least(form: Form, columns: usize) -> usize
+    ensures { λ r. ⌜ r ≡ shortest form columns ⌝ }
+{
+    if may_be_short(form) {
+        return 0;
+    }
+    columns
+}
+
+fn all_blank(s: &[u8]) -> bool
+    ensures { λ r. ⌜ r ≡ every blank (now (s .entry)) ⌝ }
+{
+    let mut i = 0;
+    while i < s.len() {
+        if s[i] != 32 {
+            return false;
+        }
+        i += 1;
+    }
+    true
+}
+
+// Whether a content is right for fields that take so many columns.
+fn is_right(form: Form, columns: usize, content: &[u8]) -> bool
+    ensures { λ r. ⌜ r ≡ isRight form columns (now (content .entry)) ⌝ }
+{
+    let n = content.len();
+    if n < least(form, columns) {
+        return false;
+    }
+    if 120 < n {
+        return false;
+    }
+    if n <= columns {
+        return true;
+    }
+    all_blank(&content[columns..n])
+}
+
+// The length of a line's content, if there is one and it is right.
+fn right_content(form: Form, columns: usize, line: &[u8]) -> line::Content
+    ensures { λ r. ⌜ r ≡ rightContent form columns (now (line .entry)) ⌝ }
+{
+    let line::Content::Length(n) = line::content_length(line) else {
+        return line::Content::NoReturn;
+    };
+    if is_right(form, columns, &line[0..n]) {
+        return line::Content::Length(n);
+    }
+    line::Content::NoReturn
+}
+
+fn right_content_at(
+    form: Form,
+    columns: usize,
+    lines: &[u8],
+    from: usize,
+    to: usize,
+) -> line::Content
+    requires { ⌜ (from ≤ to) × (to ≤ length (now lines)) ⌝ }
+    ensures { λ r. ⌜ r ≡ rightContent form columns (part from to (now (lines .entry))) ⌝ }
+{
+    right_content(form, columns, &lines[from..to])
+}
+
+// ---- Checking.
+
+fn is_formed(value: field::Value) -> bool
+    ensures { λ r. ⌜ r ≡ formed value ⌝ }
+{
+    match value {
+        field::Value::Cell(_) => true,
+        field::Value::Pair(_, _) => true,
+        field::Value::Letters => true,
+        field::Value::Misformed => false,
+    }
+}
+
+// Whether bytes, filled with blanks where they are short, are a field of the form.
+fn is_field(form: Form, bytes: &[u8]) -> bool
+    requires { ⌜ Fits form (length (now bytes)) ⌝ }
+    ensures { λ r. ⌜ r ≡ formed (fieldOf form (filledTo (rowOf form .width) (now (bytes .entry)))) ⌝ }
+{
+    if may_be_short(form) {
+        return field::all_printable(bytes);
+    }
+    is_formed(field::read(form, bytes))
+}
+
+fn is_field_at(form: Form, lines: &[u8], from: usize, to: usize) -> bool
+    requires { ⌜ (from ≤ to) × (to ≤ length (now lines)) × Fits form (to - from) ⌝ }
+    ensures { λ r. ⌜ r ≡ formed (fieldOf form (filledTo (rowOf form .width) (part from to (now (lines .entry))))) ⌝ }
+{
+    is_field(form, &lines[from..to])
+}
+
+// The first pass: each line's content, and then its fields, up to the first that is bad. It looks at no table.
+fn check_lines(form: Form, count: u16, lines: &[u8]) -> Verdict
+    ensures { λ r. ⌜ r ≡ verdictOf (readLines form count (now (lines .entry))) ⌝ }
+{
+    let row = form::row_of(form);
+    let width = row.width;
+    let per_line = row.per_line;
+    let many = form::lines(form, count);
+    let mut left = form::elements(form, count);
+    let mut verdict = Verdict::Clean;
+    let mut at: usize = 0;
+    let mut element: usize = 1;
+    let mut j: usize = 0;
+    'lines: while j < many {
+        let k = base::lesser(per_line, left);
+        let end = line::behind_or_end(lines, at, 1);
+        let line::Content::Length(n) = right_content_at(form, k * width, lines, at, end) else {
+            verdict = Verdict::Bad(Refusal::BadLine(j + 1));
+            break 'lines;
+        };
+        let stop = at + n;
+        let mut from = at;
+        let mut i: usize = 0;
+        while i < k {
+            if is_field_at(form, lines, from, base::lesser(from + width, stop)) {
+                from += width;
+                i += 1;
+            } else {
+                verdict = Verdict::Bad(Refusal::BadField(j + 1, element + i));
+                break 'lines;
+            }
+        }
+        at = end;
+        left -= k;
+        element += per_line;
+        j += 1;
+    }
+    verdict
+}
+
+// The letters of a date stand in the first line of group 3: the rule on its count puts 19 there at least.
+fn check_date(count: u16, lines: &[u8]) -> Verdict
+    requires { ⌜ (19 ≤ count) × (verdictOf (readLines Form.A1 count (now lines)) ≡ Verdict.Clean) ⌝ }
+    ensures { λ r. ⌜ r ≡ verdictOf (dated 3 (readLines Form.A1 count (now (lines .entry)))) ⌝ }
+{
+    let n = form::elements(Form::A1, count);
+    let row = form::row_of(Form::A1);
+    let k = base::lesser(row.per_line, n);
+    match date::Date::new(&lines[0..k]) {
+        date::Dated::Right(_) => Verdict::Clean,
+        date::Dated::Wrong(position) => Verdict::Bad(Refusal::BadDate(position)),
+    }
+}
+
+// Lines, and then the date of group 3.
+fn check(form: Form, group: usize, count: u16, lines: &[u8]) -> Verdict
+    requires { ⌜ (formOf group ≡ GroupForm.Has form) × (group ≡ 3 → 19 ≤ count) ⌝ }
+    ensures { λ r. ⌜ r ≡ verdictOf (dated group (readLines form count (now (lines .entry)))) ⌝ }
+{
+    match check_lines(form, count, lines) {
+        Verdict::Bad(r) => Verdict::Bad(r),
+        Verdict::Clean => {
+            if group == 3 {
+                return check_date(count, lines);
+            }
+            Verdict::Clean
+        }
+    }
+}
+
+// ---- Filling.
+
+// A byte, or a blank behind the last.
+fn byte_or_blank(bytes: &[u8], i: usize) -> u8
+    ensures { λ r. ⌜ r ≡ getD (now (bytes .entry)) i 32 ⌝ }
+{
+    if i < bytes.len() {
+        return bytes[i];
+    }
+    32
+}
+
+// Letters, and blanks behind them up to the width.
+fn put_letters(bytes: &[u8], width: usize, table: &mut [i64], at: usize)
+    requires { ⌜ (length (now bytes) ≤ width) × (at + width ≤ length (now table)) ⌝ }
+    ensures { λ _. ⌜ now (table .exit) ≡ over at (map pos (filledTo width (now (bytes .entry)))) (now (table .entry)) ⌝ }
+{
+    let mut i: usize = 0;
+    while i < width {
+        table[at + i] = number::cell(false, byte_or_blank(bytes, i) as u64);
+        i += 1;
+    }
+}
+
+// The cells of a field.
+fn put_field(form: Form, width: usize, bytes: &[u8], table: &mut [i64], at: usize)
+    requires { ⌜ (width ≡ rowOf form .width) × Fits form (length (now bytes)) × T (formed (fieldOf form (filledTo width (now bytes)))) × (at + rowOf form .cells ≤ length (now table)) ⌝ }
+    ensures { λ _. ⌜ now (table .exit) ≡ over at (cellsIn (filledTo width (now (bytes .entry))) (fieldOf form (filledTo width (now (bytes .entry))))) (now (table .entry)) ⌝ }
+{
+    if may_be_short(form) {
+        put_letters(bytes, width, table, at);
+        return;
+    }
+    match field::read(form, bytes) {
+        field::Value::Cell(z) => {
+            table[at] = z;
+        }
+        field::Value::Pair(m, x) => {
+            table[at] = m;
+            table[at + 1] = x;
+        }
+        field::Value::Letters => put_letters(bytes, width, table, at),
+        // the lines were found clean
+        field::Value::Misformed => {}
+    }
+}
+
+fn put_field_at(
+    form: Form,
+    width: usize,
+    lines: &[u8],
+    from: usize,
+    to: usize,
+    table: &mut [i64],
+    at: usize,
+)
+    requires { ⌜ (from ≤ to) × (to ≤ length (now lines)) × (width ≡ rowOf form .width) × Fits form (to - from) × T (formed (fieldOf form (filledTo width (part from to (now lines))))) × (at + rowOf form .cells ≤ length (now table)) ⌝ }
+    ensures { λ _. ⌜ now (table .exit) ≡ over at (cellsIn (filledTo width (part from to (now (lines .entry)))) (fieldOf form (filledTo width (part from to (now (lines .entry)))))) (now (table .entry)) ⌝ }
+{
+    put_field(form, width, &lines[from..to], table, at);
+}
+
+fn content_at(lines: &[u8], from: usize, to: usize) -> line::Content
+    requires { ⌜ (from ≤ to) × (to ≤ length (now lines)) ⌝ }
+    ensures { λ r. ⌜ r ≡ contentOf (part from to (now (lines .entry))) ⌝ }
+{
+    line::content_length(&lines[from..to])
+}
+
+// The second pass: the cells of lines that were found clean.
+fn fill_lines(form: Form, count: u16, lines: &[u8], table: &mut [i64])
+    requires { ⌜ (verdictOf (readLines form count (now lines)) ≡ Verdict.Clean) × (cellsOf form count ≤ length (now table)) ⌝ }
+    ensures { λ _. ⌜ now (table .exit) ≡ over 0 (cellsGot (readLines form count (now (lines .entry)))) (now (table .entry)) ⌝ }
+{
+    let row = form::row_of(form);
+    let width = row.width;
+    let per_line = row.per_line;
+    let cells = row.cells;
+    let many = form::lines(form, count);
+    let mut left = form::elements(form, count);
+    let mut at: usize = 0;
+    let mut cell: usize = 0;
+    let mut j: usize = 0;
+    while j < many {
+        let k = base::lesser(per_line, left);
+        let end = line::behind_or_end(lines, at, 1);
+        // a clean line has a content, so this is never taken
+        let line::Content::Length(n) = content_at(lines, at, end) else {
+            return;
+        };
+        let stop = at + n;
+        let mut from = at;
+        let mut i: usize = 0;
+        while i < k {
+            put_field_at(
+                form,
+                width,
+                lines,
+                from,
+                base::lesser(from + width, stop),
+                table,
+                cell,
+            );
+            from += width;
+            cell += cells;
+            i += 1;
+        }
+        at = end;
+        left -= k;
+        j += 1;
+    }
+}
+
+// ---- Reading a group's lines.
+
+// A group of a form, whose rules on counts are kept: 11, then the lines and the date, and only then the table.
+fn read_form(form: Form, group: usize, count: u16, lines: &[u8], table: &mut [i64]) -> Reading
+    requires { ⌜ (formOf group ≡ GroupForm.Has form) × (group ≡ 3 → 19 ≤ count) ⌝ }
+    ensures { λ r. ⌜ (r ≡ readingOf (readForm form group count (now (lines .entry)) (length (now (table .entry))))) × (now (table .exit) ≡ tableBy (readForm form group count (now (lines .entry)) (length (now (table .entry)))) (now (table .entry))) ⌝ }
+{
+    let cells = form::cells(form, count);
+    if table.len() < cells {
+        return Reading::Refused(Refusal::NoRoom);
+    }
+    match check(form, group, count, lines) {
+        Verdict::Bad(r) => Reading::Refused(r),
+        Verdict::Clean => {
+            fill_lines(form, count, lines, table);
+            Reading::Done(cells)
+        }
+    }
+}
+
+// Reads a group of a record with these counts, whose lines these are, into a table. It is altered only if all is clean, and then only as
+// far as the group's cells go.
+pub fn read_lines(counts: &[u16], group: usize, lines: &[u8], table: &mut [i64]) -> Reading
+    ensures { λ r. ⌜ (r ≡ readingOf (readGroup (now (counts .entry)) group (now (lines .entry)) (length (now (table .entry))))) × (now (table .exit) ≡ tableBy (readGroup (now (counts .entry)) group (now (lines .entry)) (length (now (table .entry)))) (now (table .entry))) ⌝ }
+{
+    let form::GroupForm::Has(form) = form::form_of(group) else {
+        return Reading::Refused(Refusal::NoGroup);
+    };
+    match count::ruling_of(counts) {
+        count::Ruling::Broken(g) => Reading::Refused(Refusal::BrokenRule(g)),
+        count::Ruling::Kept => {
+            let count = count::count_of(counts, group);
+            read_form(form, group, count, lines, table)
+        }
+    }
+}
