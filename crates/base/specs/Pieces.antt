@@ -1,4 +1,5 @@
--- Texts in pieces, one behind the other: what is read from them, up to the first that is bad. B is what is told of a bad piece, C a cell.
+-- Texts in pieces, one behind the other: what is read from them, up to the first that is bad; what is written for them; and that a text is
+-- such pieces. A is a piece, B what is told of a bad one, C a cell.
 use mathlib.Core.List.{List, [], _∷_, _++_}
 use Prim.Native.Nat.{ℕ}
 use lib.ListN.{take, drop}
@@ -23,3 +24,14 @@ gather wide read (a ∷ bs) s = both (read a (take (wide a s) s)) (gather wide r
 abbrev pub cellsGot : {B C : Type 0} → Got B C → List C
 cellsGot (done cs) = cs
 cellsGot (bad r) = []
+
+-- ---- writing: each piece takes as many cells as `size` says
+
+unfoldable pub emit : {A C : Type 0} → (A → ℕ) → (A → List C → List ℕ) → List A → List C → List ℕ
+emit size text [] cs = []
+emit size text (a ∷ bs) cs = text a (take (size a) cs) ++ emit size text bs (drop (size a) cs)
+
+-- a text is these pieces, and cs their cells: each piece with its own cells is as P says
+pub data Each {A C : Type 0} (P : A → List ℕ → List C → Type 0) : List A → List ℕ → List C → Type 0 where
+  none : Each P [] [] []
+  more : {a : A} {bs : List A} (x : List ℕ) (c : List C) {y : List ℕ} {d : List C} → P a x c → Each P bs y d → Each P (a ∷ bs) (x ++ y) (c ++ d)

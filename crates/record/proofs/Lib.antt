@@ -1,0 +1,1 @@
+-- The laws of record's definitions.

@@ -1,0 +1,79 @@
+-- The canonical text of counts and cells. "A record is two index lines, then the lines of groups 1 to 60 in number order."
+use mathlib.Core.List.{List, [], _∷_, _++_, map}
+use Prim.Native.Nat.{ℕ, _+_, _*_}
+use lib.IntN.{ℤ}
+use lib.ListN.{take, drop}
+use Rattle.base.specs.Every.{upFrom}
+use Rattle.base.specs.Pieces.{emit}
+use Rattle.base.specs.Sum.{sum}
+use Rattle.form.specs.declared.Form.{Form}
+use Rattle.form.specs.declared.GroupForm.{GroupForm}
+use Rattle.form.specs.declared.GroupForm.the-variants.{Has, NoGroup}
+use Rattle.form.specs.Table.{rowOf, formOf}
+use Rattle.form.specs.Count.{elementsOf, linesOf}
+use Rattle.field.specs.Write.{fieldText}
+use Rattle.field.specs.Entry.{entryText}
+use Rattle.count.specs.Tally.{countOf, cellsIn}
+use Rattle.reading.specs.Plan.{Line, planOf, elementsIn}
+
+-- "carriage return and line feed on each line"
+abbrev pub lineEnd : List ℕ
+lineEnd = 13 ∷ 10 ∷ []
+
+-- ---- the index
+
+unfoldable pub entriesText : List ℕ → List ℕ
+entriesText [] = []
+entriesText (n ∷ ns) = entryText n ++ entriesText ns
+
+-- "The index (2(40I3))": two lines of 40 counts
+unfoldable pub indexText : List ℕ → List ℕ
+indexText ns = (entriesText (take 40 ns) ++ lineEnd) ++ (entriesText (drop 40 ns) ++ lineEnd)
+
+-- ---- a group
+
+-- the cells of a line, and its fields, one behind the other
+abbrev pub lineCells : Form → Line → ℕ
+lineCells f l = l .many * rowOf f .cells
+
+unfoldable pub fieldsText : Form → Line → List ℤ → List ℕ
+fieldsText f l cs = emit (λ (e : ℕ). rowOf f .cells) (λ (e : ℕ) c. fieldText f c) (elementsIn l) cs
+
+-- "no blanks after a line's fields"
+unfoldable pub lineText : Form → Line → List ℤ → List ℕ
+lineText f l cs = fieldsText f l cs ++ lineEnd
+
+unfoldable pub linesText : Form → ℕ → List ℤ → List ℕ
+linesText f count cs = emit (lineCells f) (lineText f) (planOf f count) cs
+
+abbrev pub groupTextBy : GroupForm → ℕ → List ℤ → List ℕ
+groupTextBy (Has f) count cs = linesText f count cs
+groupTextBy NoGroup count cs = []
+
+unfoldable pub groupText : List ℕ → ℕ → List ℤ → List ℕ
+groupText ns g cs = groupTextBy (formOf g) (countOf ns g) cs
+
+-- ---- a record
+
+-- the groups' lines, each from its own cells
+unfoldable pub groupsText : List ℕ → List ℤ → List ℕ
+groupsText ns cs = emit (cellsIn ns) (groupText ns) (upFrom 1 60) cs
+
+unfoldable pub recordText : List ℕ → List ℤ → List ℕ
+recordText ns cs = indexText ns ++ groupsText ns cs
+
+-- ---- how long it is, by the counts alone
+
+abbrev pub bytesOf : Form → ℕ → ℕ
+bytesOf f count = elementsOf f count * rowOf f .width + linesOf f count * 2
+
+abbrev pub bytesBy : GroupForm → ℕ → ℕ
+bytesBy (Has f) count = bytesOf f count
+bytesBy NoGroup count = 0
+
+unfoldable pub bytesIn : List ℕ → ℕ → ℕ
+bytesIn ns g = bytesBy (formOf g) (countOf ns g)
+
+-- two index lines of 122 bytes, and the groups' lines
+unfoldable pub recordBytes : List ℕ → ℕ
+recordBytes ns = 244 + sum (map (bytesIn ns) (upFrom 1 60))

@@ -1,0 +1,82 @@
+-- "Writing takes the counts, one table of all cells in group order, and the output: 4, 5, 6, 7, 14, 13 (lowest group, then lowest element), 10,
+-- 11." What it answers, and what the output is afterwards.
+use mathlib.Core.Bool.{cond}
+use mathlib.Core.List.{List, map}
+use Prim.Native.Nat.{ℕ}
+use lib.Dec.{leb}
+use lib.IntN.{ℤ}
+use lib.ListN.{length}
+use Rattle.base.specs.Part.{part, over}
+use Rattle.base.specs.Sign.{sizeOf}
+use Rattle.count.specs.Check.{checkedOf}
+use Rattle.count.specs.Reply.{Reply, replyOn, reply}
+use Rattle.count.specs.Tally.{cellsBefore}
+use Rattle.count.specs.declared.Checked.{Checked}
+use Rattle.count.specs.declared.Checked.the-variants as C
+use Rattle.date.specs.Date.{datedOf}
+use Rattle.date.specs.declared.Dated.{Dated}
+use Rattle.date.specs.declared.Dated.the-variants.{Right, Wrong}
+use Rattle.record.specs.declared.Fit.{Fit}
+use Rattle.record.specs.declared.Fit.the-variants.{All, Not}
+use Rattle.record.specs.declared.Writing.{Writing}
+use Rattle.record.specs.declared.Writing.the-variants.{Done, Misformed, OtherRelease, FilledVacant, BrokenRule, OtherLength, NoField, BadDate, NoRoom}
+use Rattle.record.specs.Fitting.{fitOf}
+use Rattle.record.specs.Text.{recordText, recordBytes}
+
+-- the letters of group 3
+abbrev pub dateLetters : List ℕ → List ℤ → List ℕ
+dateLetters ns cs = map sizeOf (part (cellsBefore ns 3) (cellsBefore ns 4) cs)
+
+-- 11: "output shorter than what reply 0 would fill, and only then"
+abbrev pub writeRoom : List ℕ → ℕ → Writing
+writeRoom ns room = cond (leb (recordBytes ns) room) (Done (recordBytes ns)) NoRoom
+
+-- 10
+abbrev pub writeDated : List ℕ → ℕ → Dated → Writing
+writeDated ns room (Right d) = writeRoom ns room
+writeDated ns room (Wrong p) = BadDate p
+
+-- 13
+abbrev pub writeFit : List ℕ → List ℤ → ℕ → Fit → Writing
+writeFit ns cs room All = writeDated ns room (datedOf (dateLetters ns cs))
+writeFit ns cs room (Not g e) = NoField g e
+
+-- 4, 5, 6, 7, 14
+abbrev pub writeChecked : List ℕ → List ℤ → ℕ → Checked → Writing
+writeChecked ns cs room C.Right = writeFit ns cs room (fitOf ns cs)
+writeChecked ns cs room C.Misformed = Misformed
+writeChecked ns cs room C.OtherRelease = OtherRelease
+writeChecked ns cs room (C.FilledVacant g) = FilledVacant g
+writeChecked ns cs room (C.BrokenRule g) = BrokenRule g
+writeChecked ns cs room C.OtherLength = OtherLength
+
+-- counts and cells written into so many bytes
+unfoldable pub writingOf : List ℕ → List ℤ → ℕ → Writing
+writingOf ns cs room = writeChecked ns cs room (checkedOf ns (length cs))
+
+-- "a refused write alters no byte of the output"; "Cells behind the last one written keep their content, and so do output bytes in writing."
+abbrev pub outputBy : List ℕ → List ℤ → Writing → List ℕ → List ℕ
+outputBy ns cs (Done n) old = over 0 (recordText ns cs) old
+outputBy ns cs Misformed old = old
+outputBy ns cs OtherRelease old = old
+outputBy ns cs (FilledVacant g) old = old
+outputBy ns cs (BrokenRule g) old = old
+outputBy ns cs OtherLength old = old
+outputBy ns cs (NoField g e) old = old
+outputBy ns cs (BadDate p) old = old
+outputBy ns cs NoRoom old = old
+
+-- each answer's number in 01's table, with the numbers given besides
+abbrev pub writingReply : Writing → Reply
+writingReply (Done n) =
+    record { number = 0; next = 0; written = n; group = 0; line = 0; element = 0; position = 0 }
+writingReply Misformed = reply 4
+writingReply OtherRelease = reply 5
+writingReply (FilledVacant g) = replyOn 6 g
+writingReply (BrokenRule g) = replyOn 7 g
+writingReply OtherLength = reply 14
+writingReply (NoField g e) =
+    record { number = 13; next = 0; written = 0; group = g; line = 0; element = e; position = 0 }
+writingReply (BadDate p) =
+    record { number = 10; next = 0; written = 0; group = 0; line = 0; element = 0; position = p }
+writingReply NoRoom = reply 11
