@@ -18,8 +18,8 @@ use Rattle.form.specs.Table.{formOf}
 use Rattle.form.proofs.Table.{no-group}
 use Rattle.line.specs.Lines.{Whole}
 use Rattle.count.specs.Tally.{lineTally}
-use Rattle.count.specs.Reply.{Numbered}
-use Rattle.count.proofs.Replies.{numbered-plain}
+use Rattle.reply.specs.Table.{Numbered}
+use Rattle.reply.proofs.Replies.{numbered-plain}
 use Rattle.place.specs.declared.Placing.{Placing}
 use Rattle.place.specs.declared.Placing.the-variants.{Placed, End, Beyond, TooFewLines, Misformed, OtherRelease, FilledVacant, BrokenRule}
 use Rattle.place.specs.Placing.{placingOf, countsAt}

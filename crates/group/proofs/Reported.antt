@@ -13,8 +13,8 @@ use lib.ListN.{length, take, drop, getD}
 use Rattle.base.specs.Part.{over}
 use Rattle.base.specs.Pieces.{Got, done, bad}
 use Rattle.base.specs.Sign.{negative, sizeOf}
-use Rattle.count.specs.Reply.{Numbered}
-use Rattle.count.proofs.Replies.{numbered-plain}
+use Rattle.reply.specs.Table.{Numbered}
+use Rattle.reply.proofs.Replies.{numbered-plain}
 use Rattle.reading.specs.declared.Refusal.{Refusal}
 use Rattle.reading.specs.declared.Refusal.the-variants.{NoGroup}
 use Rattle.reading.specs.declared.Reading.{Reading}

@@ -9,7 +9,8 @@ use lib.IntN.{ℤ, pos}
 use lib.ListN.{length, getD}
 use Rattle.base.specs.Pieces.{Got, done, bad}
 use Rattle.base.specs.Sign.{negative, sizeOf}
-use Rattle.count.specs.Reply.{Reply, reply}
+use Rattle.reply.specs.declared.Reply.{Reply}
+use Rattle.reply.specs.Table.{replyPlain}
 use Rattle.reading.specs.declared.Refusal.the-variants.{NoGroup}
 use Rattle.group.specs.declared.Characteristic.{Characteristic}
 use Rattle.group.specs.declared.Characteristic.the-variants.{Value, NoReading, NotReported, Unread}
@@ -35,7 +36,7 @@ characteristicAt s at k = cond (leb 1 k && leb k 49) (reported k (readAt s at 4 
 
 -- the number in 01's table
 abbrev pub characteristicReply : Characteristic → Reply
-characteristicReply (Value z) = reply 0
-characteristicReply NoReading = reply 0
-characteristicReply NotReported = reply 0
+characteristicReply (Value z) = replyPlain 0
+characteristicReply NoReading = replyPlain 0
+characteristicReply NotReported = replyPlain 0
 characteristicReply (Unread r) = refusalReply r

@@ -23,8 +23,8 @@ use Rattle.form.specs.Table.{rowOf, formOf}
 use Rattle.form.specs.Count
 use Rattle.form.specs.Count.{elementsOf, linesOf, cellsOf}
 use Rattle.form.proofs.Rounding.{rounded-none}
-use Rattle.count.specs.Reply.{Reply, replyOn, Numbered, namesWritten, namesLine, namesElement, namesPosition}
-use Rattle.count.proofs.Replies.{numbered-on, numbered-plain}
+use Rattle.reply.specs.Table.{Numbered}
+use Rattle.reply.proofs.Replies.{numbered-on, numbered-plain, numbered-done, numbered-line, numbered-date}
 use Rattle.count.specs.Tally.{countOf}
 use Rattle.count.specs.Rules.{rulingOf}
 use Rattle.count.specs.declared.Ruling.the-variants.{Kept, Broken}
@@ -32,24 +32,12 @@ use Rattle.reading.specs.declared.Refusal.{Refusal}
 use Rattle.reading.specs.declared.Refusal.the-variants.{NoGroup, End, Beyond, TooFewLines, Misformed, OtherRelease, FilledVacant, BrokenRule, NoRoom, BadLine, BadField, BadDate}
 use Rattle.reading.specs.declared.Reading.{Reading}
 use Rattle.reading.specs.declared.Reading.the-variants.{Done, Refused}
-use Rattle.reading.specs.Numbered.{replyIn, refusalReply, readingReply}
+use Rattle.reading.specs.Numbered.{refusalReply, readingReply}
 use Rattle.reading.specs.Plan.{planFrom, planOf}
 use Rattle.reading.specs.Read.{Cells, readLinesOf, readLines, dated, readForm, readGroup, readingOf, tableBy}
 use Rattle.reading.proofs.Steps.{kept-letters}
 
 -- ---- numbered
-
-numbered-in : (k written line element position : ℕ) → T (leb k 14) → (namesWritten k ≡ false → written ≡ 0) → (namesLine k ≡ false → line ≡ 0) → (namesElement k ≡ false → element ≡ 0) → (namesPosition k ≡ false → position ≡ 0) → Numbered (replyIn k written line element position)
-numbered-in k written line element position t w l e p =
-    record {
-      known = leb→le k 14 t;
-      no-next = λ x. refl;
-      no-written = w;
-      no-group = λ x. refl;
-      no-line = l;
-      no-element = e;
-      no-position = p;
-    }
 
 pub refusal-numbered : (r : Refusal) → Numbered (refusalReply r)
 refusal-numbered NoGroup = numbered-plain 12 tt
@@ -61,12 +49,12 @@ refusal-numbered OtherRelease = numbered-plain 5 tt
 refusal-numbered (FilledVacant g) = numbered-on 6 g tt (λ e. absurd (true≢false e))
 refusal-numbered (BrokenRule g) = numbered-on 7 g tt (λ e. absurd (true≢false e))
 refusal-numbered NoRoom = numbered-plain 11 tt
-refusal-numbered (BadLine l) = numbered-in 8 0 l 0 0 tt (λ x. refl) (λ x. absurd (true≢false x)) (λ x. refl) (λ x. refl)
-refusal-numbered (BadField l e) = numbered-in 9 0 l e 0 tt (λ x. refl) (λ x. absurd (true≢false x)) (λ x. absurd (true≢false x)) (λ x. refl)
-refusal-numbered (BadDate p) = numbered-in 10 0 0 0 p tt (λ x. refl) (λ x. refl) (λ x. refl) (λ x. absurd (true≢false x))
+refusal-numbered (BadLine l) = numbered-line 8 l 0 tt (λ x. absurd (true≢false x)) (λ x. refl)
+refusal-numbered (BadField l e) = numbered-line 9 l e tt (λ x. absurd (true≢false x)) (λ x. absurd (true≢false x))
+refusal-numbered (BadDate p) = numbered-date p
 
 pub reading-numbered : (r : Reading) → Numbered (readingReply r)
-reading-numbered (Done n) = numbered-in 0 n 0 0 0 tt (λ x. absurd (true≢false x)) (λ x. refl) (λ x. refl) (λ x. refl)
+reading-numbered (Done n) = numbered-done n
 reading-numbered (Refused r) = refusal-numbered r
 
 -- ---- the table
