@@ -5,7 +5,8 @@ use libc::STDOUT_FILENO;
 
 fn ask(text: &[u8], at: usize) {
     let record = place::place(text, at);
-    let r = place::reply_of(record.answer);
+    let answer = record.answer;
+    let r = place::reply_of(answer);
     io::print_decimal(STDOUT_FILENO, r.number as u64);
     io::write_all(STDOUT_FILENO, b" ");
     io::print_decimal(STDOUT_FILENO, r.next as u64);
