@@ -69,6 +69,9 @@ pub counts-at : (s : List ℕ) (at n : ℕ) (ns : List ℕ) → locate s at ≡ 
 unfolding Placing.countsAt
 counts-at s at n ns e = ap countsBy e
 
+pub record-at : (s : List ℕ) (at : ℕ) (r : IsRecord s at) → locate s at ≡ located (r .next) (countsAt s at)
+record-at s at r = r .is ∙ ap (located (r .next)) (sym (counts-at s at (r .next) (r .ns) (r .is)))
+
 -- ---- the lines of a group of a record with these counts, in two texts with their lines at the same places
 
 module _ (s t : List ℕ) (at : ℕ) (l : SameLines s t) (ns : List ℕ) (g : ℕ) where
@@ -204,6 +207,14 @@ module _ {D : ℕ → Type 0} (s t : List ℕ) (o : Replaced D s t) where
 
     -- a group whose lines are spared
     module _ (clear : Spares D s (spot s j) g) where
+      pub lines-kept : IsRecord s (spot s j) → groupPart s (spot s j) (countsAt s (spot s j)) g ≡ groupPart t (spot t j) (countsAt t (spot t j)) g
+      lines-kept r =
+          let at = spot s j in
+          let e : locate s at ≡ located (r .next) (countsAt s at) = record-at s at r in
+          lines-same s t at (o .lines) (countsAt s at) g (o .elsewhere) (clear (r .next) (countsAt s at) e)
+          ∙ ap (λ ns. groupPart t at ns g) (counts-kept j)
+          ∙ ap (λ p. groupPart t p (countsAt t (spot t j)) g) (spot-kept j)
+
       pub part-kept : partAt s (spot s j) g ≡ partAt t (spot t j) g
       part-kept = there (λ p. partAt t p g) j (part-same s t (spot s j) (o .lines) (located-kept j) (o .elsewhere) g clear)
 

@@ -1,14 +1,19 @@
--- The third demand (specs/Damage.antt): bytes replaced in the lines of one group of one record alter what that group gives, and nothing else.
--- The general laws of Confined, where the places are the lines of one group: by tiling (place, Apart) these miss the index lines of every
--- record and the lines of every other group.
+-- The third demand (specs/Damage.antt): bytes replaced in the lines of one group of one record alter what that group gives, and nothing
+-- else. These are the general laws of Confined, where the places are the lines of one group: by tiling (place, Apart) they miss the index
+-- lines of every record and the lines of every other group.
 -- Assumes nothing.
 use mathlib.Core.Path.{_≡_, refl, sym, _∙_, ap, subst}
+use mathlib.Core.Bool.{Bool, true, false}
 use mathlib.Core.List.{List}
 use mathlib.Core.Logic.{_⊎_, inl, inr, _↔_}
-use Prim.Native.Nat.{ℕ}
+use Prim.Native.Nat.{ℕ, _<_, _≤_}
 use native.Mathlib.Omega.{arith}
 use lib.IntN.{ℤ}
-use lib.ListN.{length}
+use lib.ListN.{length, getD, set, length-set}
+use lib.Seq.{getD-set-same, getD-set-other}
+use borrow.Author.Tests.{eqb-true, eqb-false}
+use lib.Dec.{eqb}
+use Rattle.line.specs.Lines.{isFeed}
 use Rattle.count.specs.Rules.{rulingOf}
 use Rattle.count.specs.declared.Ruling.{Ruling}
 use Rattle.count.specs.declared.Ruling.the-variants.{Kept, Broken}
@@ -23,7 +28,7 @@ use Rattle.place.proofs.Walked.{Stopping, refused-stopping}
 use Rattle.reading.specs.Read.{Cells, readingOf, tableBy}
 use Rattle.group.specs.Text.{readAt}
 use Rattle.group.specs.Damage.{PlacedAt, LinesAt, SameReading, Damaged, Other, Confined}
-use Rattle.group.proofs.Confined.{counts-at, Spares, Replaced, characteristic-same, spot-kept, stops-kept, placing-kept, counts-kept, starts-kept, found-kept, part-start-kept, part-length-kept, part-kept, read-kept, read-by-lines}
+use Rattle.group.proofs.Confined.{record-at, Spares, Replaced, characteristic-same, spot-kept, stops-kept, placing-kept, counts-kept, starts-kept, found-kept, part-start-kept, part-length-kept, lines-kept, part-kept, read-kept, read-by-lines}
 
 -- ---- a record is placed exactly if the reply is 0 or 7
 
@@ -75,7 +80,7 @@ module _ (t u : List ℕ) (k g : ℕ) (d : Damaged t u k g) where
   r = placed-is-record t (spot t k) .0 (d .placed)
 
   here : locate t (spot t k) ≡ located (r .next) (countsAt t (spot t k))
-  here = r .is ∙ ap (located (r .next)) (sym (counts-at t (spot t k) (r .next) (r .ns) (r .is)))
+  here = record-at t (spot t k) r
 
   replaced : Replaced (LinesAt t (spot t k) g) t u
   replaced = record {
@@ -100,8 +105,28 @@ module _ (t u : List ℕ) (k g : ℕ) (d : Damaged t u k g) where
     part-answers = λ j h. sym (found-kept t u replaced j h);
     part-starts = λ j h. sym (part-start-kept t u replaced j h);
     part-lengths = λ j h. sym (part-length-kept t u replaced j h);
+    line-bytes = λ j h there other. sym (lines-kept t u replaced j h (clear j h other) (placed-is-record t (spot t j) .0 there));
     part-bytes = λ j h other. sym (part-kept t u replaced j h (clear j h other));
     others = λ j h other table. same-reading _ _ table (read-other j h (length table) other);
     altered = λ table. same-reading _ _ table (read-by-lines t u replaced k g r (length table));
     characteristics = λ j other number. characteristic-same u t (spot u j) (spot t j) number (read-other j 4 49 other);
   }
+
+-- ---- there is such damage: one byte of the lines that is no line feed, replaced by another that is none
+
+pub damaged-one : (t : List ℕ) (k g i v : ℕ) → PlacedAt t (spot t k) → 1 ≤ g → g ≤ 60 → LinesAt t (spot t k) g i → i < length t → isFeed (getD t i 0) ≡ isFeed v → Damaged t (set t i v) k g
+damaged-one t k g i v placed low high inside within feed =
+    record {
+      placed = placed;
+      low = low;
+      high = high;
+      lines = record { long = sym (length-set t i v); feeds = λ j b. feeds j (eqb j i) refl };
+      elsewhere = record { long = sym (length-set t i v); same = λ j out. other j (λ e. out (subst (LinesAt t (spot t k) g) (sym e) inside)) };
+    }
+  where
+    other : (j : ℕ) → (j ≡ i → ⊥) → getD t j 0 ≡ getD (set t i v) j 0
+    other j n = sym (getD-set-other t i j v 0 n)
+
+    feeds : (j : ℕ) (e : Bool) → eqb j i ≡ e → isFeed (getD t j 0) ≡ isFeed (getD (set t i v) j 0)
+    feeds j true e = let q = eqb-true j i e in rw q (feed ∙ ap isFeed (sym (getD-set-same t i v 0 within)))
+    feeds j false e = ap isFeed (other j (eqb-false j i e))

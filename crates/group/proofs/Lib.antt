@@ -5,3 +5,4 @@ pub mod Promises
 pub mod Reported
 pub mod Confined
 pub mod Damage
+pub mod DamageInstance

@@ -16,7 +16,7 @@ use Rattle.base.specs.Part.{part}
 use Rattle.line.specs.Texts.{SameLines}
 use Rattle.place.specs.declared.Placing.{Placing}
 use Rattle.place.specs.Numbered.{placingReply}
-use Rattle.place.specs.Parts.{start}
+use Rattle.place.specs.Parts.{start, groupPart}
 use Rattle.place.specs.Placing.{placingOf, countsAt}
 use Rattle.place.specs.Walk.{spot, Stops}
 use Rattle.reading.specs.Read.{Cells, readGroup, readingOf, tableBy}
@@ -74,7 +74,9 @@ module _ (t u : List ℕ) (k g : ℕ) where
     pub part-answers : (j h : ℕ) → foundAt u (spot u j) h ≡ foundAt t (spot t j) h
     pub part-starts : (j h : ℕ) → partStart u (spot u j) h ≡ partStart t (spot t j) h
     pub part-lengths : (j h : ℕ) → length (partAt u (spot u j) h) ≡ length (partAt t (spot t j) h)
-    -- and every other group's part has the same bytes
+    -- every other group's lines have the same bytes, whether the record's reply is 0 or 7
+    pub line-bytes : (j h : ℕ) → PlacedAt t (spot t j) → Other k g j h → groupPart u (spot u j) (countsAt u (spot u j)) h ≡ groupPart t (spot t j) (countsAt t (spot t j)) h
+    -- and so has its part
     pub part-bytes : (j h : ℕ) → Other k g j h → partAt u (spot u j) h ≡ partAt t (spot t j) h
     -- "Every other group of every record gives the same reply and the same cells into the same table": also where h is no group (12)
     pub others : (j h : ℕ) → Other k g j h → (table : List ℤ) → SameReading (readAt u (spot u j) h (length table)) (readAt t (spot t j) h (length table)) table

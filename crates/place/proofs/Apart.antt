@@ -1,5 +1,5 @@
--- The records of a walk lie behind one another, and so do their lines: the lines of one group of one record share no place with those of any
--- other group of any record, nor with the index lines where the walk stands after any number of steps. (Tiling, along the walk.)
+-- Tiling along the walk: its records lie behind one another, and so do their lines. The lines of one group of one record share no place
+-- with those of any other group of any record, nor with the two lines where the walk stands after any number of steps.
 -- Assumes nothing.
 use mathlib.Core.Path.{_≡_, refl, sym, _∙_, ap}
 use mathlib.Core.List.{List}

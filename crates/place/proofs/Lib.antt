@@ -11,3 +11,4 @@ pub mod SameWalk
 pub mod Numbered
 pub mod Zero
 pub mod Apart
+pub mod TwiceS
