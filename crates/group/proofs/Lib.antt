@@ -3,3 +3,6 @@ pub mod Holding
 pub mod Texts
 pub mod Promises
 pub mod Reported
+pub mod Confined
+pub mod Damage
+pub mod DamageInstance
