@@ -30,8 +30,8 @@ echo 'stop 0 11 0 0' >"$work/want"
 same 'input of 65,537 bytes' "$work/want"
 
 # S with blanks behind the field of its last line, up to 120 bytes and one more; and with a blank in place of its last carriage return
-row() { # CASE EXPECTED, with the input on standard input: the row of group 4
-    ./run dump | grep '^group 4 ' >"$work/got"
+row() { # CASE EXPECTED: the row of group 4 of the text made
+    ./run dump <"$work/text" | grep '^group 4 ' >"$work/got"
     echo "$2" >"$work/want"
     same "$1" "$work/want"
 }
@@ -41,9 +41,12 @@ behind() { # COUNT: S with so many blanks behind the field of its last line
     printf "%$1s\r\n" ''
 }
 
-behind 112 | row 'S with 112 blanks behind the last field' 'group 4 0 1 0 295 417 7250'
-behind 113 | row 'S with 113 blanks behind the last field' 'group 4 8 1 0 295 418'
-{ head -c 303 examples/s.sao && printf ' \n'; } | row 'S with a blank in place of its last carriage return' 'group 4 8 1 0 295 305'
+behind 112 >"$work/text"
+row 'S with 112 blanks behind the last field' 'group 4 0 1 0 295 417 7250'
+behind 113 >"$work/text"
+row 'S with 113 blanks behind the last field' 'group 4 8 1 0 295 418'
+{ head -c 303 examples/s.sao && printf ' \n'; } >"$work/text"
+row 'S with a blank in place of its last carriage return' 'group 4 8 1 0 295 305'
 
 # Five replacements for each text: the record and the group by their rows in the dump, up to four bytes of its lines, none of them a line
 # feed. One line each: text, number of the row, record's place, group, and then places and bytes.

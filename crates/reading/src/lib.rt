@@ -422,7 +422,7 @@ pub fn reply_of(answer: Reading) -> reply::Reply
     ensures { λ r. ⌜ r ≡ readingReply answer ⌝ }
 {
     match answer {
-        Reading::Done(cells) => reply::done(cells),
+        Reading::Done(written) => reply::done(written),
         Reading::Refused(r) => refusal_reply(r),
     }
 }
