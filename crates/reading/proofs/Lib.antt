@@ -9,3 +9,4 @@ pub mod Filling
 pub mod Dates
 pub mod Steps
 pub mod Promises
+pub mod Values

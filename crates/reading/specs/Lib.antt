@@ -5,3 +5,5 @@ pub mod Blanks
 pub mod Plan
 pub mod Read
 pub mod Numbered
+pub mod Values
+pub mod Due
