@@ -10,3 +10,4 @@ pub mod Dates
 pub mod Steps
 pub mod Promises
 pub mod Values
+pub mod Due

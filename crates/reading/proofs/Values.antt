@@ -89,7 +89,7 @@ module _ (f : Form) (count : ℕ) (x : List ℕ) where
 
 -- ---- a line that was read
 
-part-begins : (n : ℕ) (y : List ℕ) → part 0 n y ≡ take n y
+pub part-begins : (n : ℕ) (y : List ℕ) → part 0 n y ≡ take n y
 part-begins n y = rw (sub-zero n, drop-none y) refl
 
 module _ (f : Form) (count : ℕ) (x : List ℕ) where
@@ -139,7 +139,7 @@ module _ (f : Form) (count : ℕ) (x : List ℕ) where
       (le-or-lt (linesOf f count) j)
 
   module _ (cs : List ℤ) (e : readLines f count x ≡ done cs) where
-    line-cells : (j : ℕ) → j < linesOf f count → lineRead f count x j ≡ done (part (begins j) (begins (suc j)) cs)
+    pub line-cells : (j : ℕ) → j < linesOf f count → lineRead f count x j ≡ done (part (begins j) (begins (suc j)) cs)
     line-cells j h =
         piece-done (linesOf f count) (lineRead f count x) (linesFrom f count x) (lines-pieces f count x) begins first size cs (lines-start f count x ∙ e) j h
       where

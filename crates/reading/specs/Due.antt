@@ -68,12 +68,10 @@ module _ (f : Form) (count : ℕ) (x : List ℕ) where
 -- ---- the group
 
 module _ (ns : List ℕ) (g : ℕ) (x : List ℕ) (room : ℕ) where
-  abbrev pub IsGroup : Type 0
-  IsGroup = (1 ≤ g) × (g ≤ 60)
-
-  -- not 12, and 7
+  -- 7, and not 12
   pub record Breaks (h : ℕ) : Type 0 where
-    pub group : IsGroup
+    pub low : 1 ≤ g
+    pub high : g ≤ 60
     pub broken : rulingOf ns ≡ Broken h
 
   -- neither 12 nor 7
@@ -123,7 +121,7 @@ module _ (ns : List ℕ) (g : ℕ) (x : List ℕ) (room : ℕ) where
     pub date : g ≡ 3 → (d : Date) × (datedOf (map sizeOf cs) ≡ Right d)
 
   abbrev pub RefusalDue : Refusal → Type 0
-  RefusalDue NoGroup = IsGroup → ⊥
+  RefusalDue NoGroup = (1 ≤ g) × (g ≤ 60) → ⊥
   RefusalDue (BrokenRule h) = Breaks h
   RefusalDue NoRoom = Short
   RefusalDue (BadLine l) = LineDue l
