@@ -2,4 +2,6 @@
 pub mod Holding
 pub mod Texts
 pub mod Promises
+pub mod Rooms
 pub mod Reported
+pub mod Due

@@ -63,16 +63,16 @@ module _ (s : List ℕ) (at k : ℕ) where
     number-high h = rw (le-leb 1 k low, lt-leb k 49 h)
 
     module _ (high : k ≤ 49) where
-      inside : {g : Cells} → readAt s at 4 49 ≡ g → characteristicAt s at k ≡ reported k g
+      pub number-inside : {g : Cells} → readAt s at 4 49 ≡ g → characteristicAt s at k ≡ reported k g
       unfolding characteristicAt
-      inside e = rw (le-leb 1 k low, le-leb k 49 high, e)
+      number-inside e = rw (le-leb 1 k low, le-leb k 49 high, e)
 
       pub four-refused : {r : Refusal} → Refused r ≡ readingOf (readAt s at 4 49) → Unread r ≡ characteristicAt s at k
       four-refused {r = r} e = by (readAt s at 4 49) refl e
         where
           by : (g : Cells) → readAt s at 4 49 ≡ g → Refused r ≡ readingOf g → Unread r ≡ characteristicAt s at k
           by (done cs) u v = let z : _≡_ {A = ℕ} 0 1 = cc in absurd (omega arith)
-          by (bad q) u v = let p : r ≡ q = cc in ap Unread p ∙ sym (inside u)
+          by (bad q) u v = let p : r ≡ q = cc in ap Unread p ∙ sym (number-inside u)
 
       module _ {n : ℕ} (e : Done n ≡ readingOf (readAt s at 4 49)) where
         pub four-few : n < k → NotReported ≡ characteristicAt s at k
@@ -82,7 +82,7 @@ module _ (s : List ℕ) (at k : ℕ) where
             by (done cs) u v =
                 let m : n ≡ length cs = cc in
                 let t : leb k (length cs) ≡ false = lt-leb k (length cs) (omega arith) in
-                sym (inside u ∙ rw t)
+                sym (number-inside u ∙ rw t)
             by (bad q) u v = let z : _≡_ {A = ℕ} 0 1 = cc in absurd (omega arith)
 
         pub four-told : k ≤ n → (new old : List ℤ) → new ≡ tableBy (readAt s at 4 49) old → told (getD new (k - 1) (pos 0)) ≡ characteristicAt s at k
@@ -92,7 +92,7 @@ module _ (s : List ℕ) (at k : ℕ) where
             by (done cs) u v w =
                 let m : n ≡ length cs = cc in
                 let t : leb k (length cs) ≡ true = le-leb k (length cs) (omega arith) in
-                ap (λ l. told (getD l (k - 1) (pos 0))) w ∙ ap told (getD-append cs (drop (0 + length cs) old) (k - 1) (pos 0) (omega arith)) ∙ sym (inside u ∙ rw t)
+                ap (λ l. told (getD l (k - 1) (pos 0))) w ∙ ap told (getD-append cs (drop (0 + length cs) old) (k - 1) (pos 0) (omega arith)) ∙ sym (number-inside u ∙ rw t)
             by (bad q) u v w = let z : _≡_ {A = ℕ} 0 1 = cc in absurd (omega arith)
 
 pub characteristic-numbered : (c : Characteristic) → Numbered (characteristicReply c)

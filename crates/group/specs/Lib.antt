@@ -3,3 +3,4 @@
 pub mod Held
 pub mod Text
 pub mod Characteristics
+pub mod Due

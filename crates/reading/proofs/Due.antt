@@ -208,14 +208,14 @@ module _ (f : Form) (count : ℕ) (x : List ℕ) where
 -- ---- a group
 
 -- a number has a form exactly if it is 1 to 60
-has-form : (g : ℕ) → 1 ≤ g → g ≤ 60 → (f : Form) × (formOf g ≡ Has f)
+pub has-form : (g : ℕ) → 1 ≤ g → g ≤ 60 → (f : Form) × (formOf g ≡ Has f)
 has-form g a b = by (formOf g) refl
   where
     by : (h : GroupForm) → formOf g ≡ h → (f : Form) × (formOf g ≡ Has f)
     by (Has f) e = (f, e)
     by NoForm e = absurd (no-group g .0 e record { low = a; high = b })
 
-form-range : (g : ℕ) (f : Form) → formOf g ≡ Has f → (1 ≤ g) × (g ≤ 60)
+pub form-range : (g : ℕ) (f : Form) → formOf g ≡ Has f → (1 ≤ g) × (g ≤ 60)
 form-range g f e = (by 1 g (λ (h : g < 1) i. omega (arith, i .low)), by g 60 (λ h i. omega (arith, i .high)))
   where
     no-form : {A : Type 0} → NoForm ≡ Has f → A

@@ -1,0 +1,177 @@
+-- First due: asking for a group's lines at a place, reading a group there, and asking for a characteristic each give a reply exactly if that
+-- reply is due (specs/Due.antt). So group 4 never lacks room in 49 cells.
+-- Assumes nothing.
+use mathlib.Core.Path.{_≡_, refl, sym, _∙_, ap, subst}
+use mathlib.Core.List.{List}
+use mathlib.Core.Logic.{_↔_}
+use Prim.Native.Nat.{ℕ, _<_, _≤_}
+use native.Mathlib.Omega.{arith}
+use lib.IntN.{ℤ}
+use lib.ListN.{drop}
+use Rattle.base.specs.Pieces.{Got, done, bad}
+use Rattle.form.specs.declared.GroupForm.{GroupForm}
+use Rattle.form.specs.declared.GroupForm.the-variants.{Has, NoGroup as NoForm}
+use Rattle.form.specs.Table.{formOf}
+use Rattle.form.proofs.Table.{no-group}
+use Rattle.count.specs.Rules.{rulingOf}
+use Rattle.count.specs.declared.Ruling.the-variants.{Kept, Broken}
+use Rattle.place.specs.declared.Placing.{Placing}
+use Rattle.place.specs.declared.Placing.the-variants as P
+use Rattle.place.specs.Index.{counts}
+use Rattle.place.specs.Placing.{placingOf, countsAt}
+use Rattle.place.specs.Parts.{groupPart}
+use Rattle.place.specs.Due as Place
+use Rattle.place.proofs.Due as Placing
+use Rattle.place.proofs.Placed.{located-is}
+use Rattle.place.proofs.Zero.{is-placed}
+use Rattle.reading.specs.declared.Refusal.{Refusal}
+use Rattle.reading.specs.declared.Refusal.the-variants.{NoGroup, End, Beyond, TooFewLines, Misformed, OtherRelease, FilledVacant, BrokenRule, NoRoom, BadLine, BadField, BadDate}
+use Rattle.reading.specs.Read.{Cells, readGroup}
+use Rattle.reading.specs.Due as Lines
+use Rattle.reading.proofs.Due as Reading
+use Rattle.reading.proofs.Due.{has-form, form-range}
+use Rattle.group.specs.declared.Found.{Found}
+use Rattle.group.specs.declared.Found.the-variants.{Given, Missing}
+use Rattle.group.specs.Held.{foundBy, foundIn, foundAt}
+use Rattle.group.specs.Text.{readAt}
+use Rattle.group.specs.Due.{NoSuchGroup, PlacingDue, BrokenDue, IsPlaced, MissingDue, FoundDue, ReadingDue, RefusalDue, Due}
+use Rattle.group.proofs.Holding.{given-part}
+use Rattle.group.proofs.Texts.{read-missing, read-given}
+
+-- ---- the lines of a group
+
+module _ (s : List ℕ) (at g : ℕ) where
+  found-none : NoSuchGroup s at g → foundAt s at g ≡ Missing NoGroup
+  unfolding foundAt
+  found-none n = rw (no-group g .1 (λ i. n (i .low, i .high))) refl
+
+  found-placing : (p : Placing) → PlacingDue s at g p → foundAt s at g ≡ foundBy p
+  unfolding foundAt
+  found-placing p d = rw (has-form g (d .low) (d .high) .1, Placing.first-due s at p .1 (d .placing)) refl
+
+  missing-given : (r : Refusal) → MissingDue s at g r → foundAt s at g ≡ Missing r
+  missing-given NoGroup d = found-none d
+  missing-given End d = found-placing P.End d
+  missing-given Beyond d = found-placing P.Beyond d
+  missing-given TooFewLines d = found-placing P.TooFewLines d
+  missing-given Misformed d = found-placing P.Misformed d
+  missing-given OtherRelease d = found-placing P.OtherRelease d
+  missing-given (FilledVacant h) d = found-placing (P.FilledVacant h) d
+  missing-given (BrokenRule h) d = found-placing (P.BrokenRule h (d .next)) (d .broken)
+  missing-given NoRoom d = absurd d
+  missing-given (BadLine l) d = absurd d
+  missing-given (BadField l e) d = absurd d
+  missing-given (BadDate p) d = absurd d
+
+  found-given : (r : Found) → FoundDue s at g r → foundAt s at g ≡ r
+  found-given Given d = found-placing (P.Placed (d .next)) (d .placed)
+  found-given (Missing r) d = missing-given r d
+
+  from-placing : (p : Placing) → PlacingDue s at g p → FoundDue s at g (foundBy p)
+  from-placing (P.Placed n) d = record { next = n; placed = d }
+  from-placing P.End d = d
+  from-placing P.Beyond d = d
+  from-placing P.TooFewLines d = d
+  from-placing P.Misformed d = d
+  from-placing P.OtherRelease d = d
+  from-placing (P.FilledVacant h) d = d
+  from-placing (P.BrokenRule h n) d = record { next = n; broken = d }
+
+  found-is-due : FoundDue s at g (foundAt s at g)
+  unfolding foundAt
+  found-is-due = by (formOf g) refl
+    where
+      by : (h : GroupForm) → formOf g ≡ h → FoundDue s at g (foundIn s at h)
+      by (Has f) e =
+          let r = form-range g f e in
+          from-placing (placingOf s at) record { low = r .0; high = r .1; placing = Placing.first-due s at (placingOf s at) .0 refl }
+      by NoForm e = λ i. no-group g .0 e record { low = i .0; high = i .1 }
+
+  pub found-first-due : (r : Found) → foundAt s at g ≡ r ↔ FoundDue s at g r
+  found-first-due r = (λ e. subst (FoundDue s at g) e found-is-due, found-given r)
+
+-- ---- a group
+
+-- the counts of a placed record are those that stand in its index
+counts-are : (s : List ℕ) (at n : ℕ) (d : Place.Stands s at n) → countsAt s at ≡ d .ns
+counts-are s at n d =
+    let p = is-placed s at n (Placing.first-due s at (P.Placed n) .1 d) in
+    let a = located-is s at n (countsAt s at) (p .located-at) .index in
+    let e : counts (countsAt s at) ≡ counts (d .ns) = sym a ∙ d .lines .head .index .read in
+    cc
+
+module _ (s : List ℕ) (at g room : ℕ) where
+  to-reading : (n : ℕ) (d : PlacingDue s at g (P.Placed n)) → readAt s at g room ≡ readGroup (d .placing .ns) g (groupPart s at (d .placing .ns) g) room
+  to-reading n d =
+      let e = found-placing s at g (P.Placed n) d in
+      read-given s at g room e ∙ rw (given-part s at g e, counts-are s at n (d .placing)) refl
+
+  reading-given : (c : Cells) → ReadingDue s at g room c → readAt s at g room ≡ c
+  reading-given c d =
+      let ns = d .placed .placing .ns in
+      to-reading (d .next) (d .placed) ∙ Reading.first-due ns g (groupPart s at ns g) room c .1 (d .reading)
+
+  missing-read : (r : Refusal) → MissingDue s at g r → readAt s at g room ≡ bad r
+  missing-read r d = read-missing s at g room (missing-given s at g r d)
+
+  refusal-given : (r : Refusal) → RefusalDue s at g room r → readAt s at g room ≡ bad r
+  refusal-given NoGroup d = missing-read NoGroup d
+  refusal-given End d = missing-read End d
+  refusal-given Beyond d = missing-read Beyond d
+  refusal-given TooFewLines d = missing-read TooFewLines d
+  refusal-given Misformed d = missing-read Misformed d
+  refusal-given OtherRelease d = missing-read OtherRelease d
+  refusal-given (FilledVacant h) d = missing-read (FilledVacant h) d
+  refusal-given (BrokenRule h) d = missing-read (BrokenRule h) d
+  refusal-given NoRoom d = reading-given (bad NoRoom) d
+  refusal-given (BadLine l) d = reading-given (bad (BadLine l)) d
+  refusal-given (BadField l e) d = reading-given (bad (BadField l e)) d
+  refusal-given (BadDate p) d = reading-given (bad (BadDate p)) d
+
+  given : (c : Cells) → Due s at g room c → readAt s at g room ≡ c
+  given (done cs) d = reading-given (done cs) d
+  given (bad r) d = refusal-given r d
+
+  from-missing : (r : Refusal) → MissingDue s at g r → RefusalDue s at g room r
+  from-missing NoGroup d = d
+  from-missing End d = d
+  from-missing Beyond d = d
+  from-missing TooFewLines d = d
+  from-missing Misformed d = d
+  from-missing OtherRelease d = d
+  from-missing (FilledVacant h) d = d
+  from-missing (BrokenRule h) d = d
+  from-missing NoRoom d = absurd d
+  from-missing (BadLine l) d = absurd d
+  from-missing (BadField l e) d = absurd d
+  from-missing (BadDate p) d = absurd d
+
+  -- a placed record keeps the rules, and its group is one: what reading tells is none of the replies before
+  from-reading : (c : Cells) → ReadingDue s at g room c → Due s at g room c
+  from-reading (done cs) d = d
+  from-reading (bad NoGroup) d = absurd (d .reading (d .placed .low, d .placed .high))
+  from-reading (bad (BrokenRule h)) d =
+      let e : Kept ≡ Broken h = sym (d .placed .placing .kept) ∙ d .reading .broken in
+      let z : _≡_ {A = ℕ} 0 1 = cc in
+      absurd (omega arith)
+  from-reading (bad End) d = absurd (d .reading)
+  from-reading (bad Beyond) d = absurd (d .reading)
+  from-reading (bad TooFewLines) d = absurd (d .reading)
+  from-reading (bad Misformed) d = absurd (d .reading)
+  from-reading (bad OtherRelease) d = absurd (d .reading)
+  from-reading (bad (FilledVacant h)) d = absurd (d .reading)
+  from-reading (bad NoRoom) d = d
+  from-reading (bad (BadLine l)) d = d
+  from-reading (bad (BadField l e)) d = d
+  from-reading (bad (BadDate p)) d = d
+
+  from-found : (r : Found) → foundAt s at g ≡ r → FoundDue s at g r → Due s at g room (readAt s at g room)
+  from-found Given e d =
+      let ns = d .placed .placing .ns in
+      let u = to-reading (d .next) (d .placed) in
+      from-reading (readAt s at g room) record { next = d .next; placed = d .placed; reading = Reading.first-due ns g (groupPart s at ns g) room (readAt s at g room) .0 (sym u) }
+  from-found (Missing r) e d = subst (Due s at g room) (sym (read-missing s at g room e)) (from-missing r d)
+
+  -- the reply that is given is the one that is due, and no other is
+  pub first-due : (c : Cells) → readAt s at g room ≡ c ↔ Due s at g room c
+  first-due c = (λ e. subst (Due s at g room) e (from-found (foundAt s at g) refl (found-first-due s at g (foundAt s at g) .0 refl)), given c)
