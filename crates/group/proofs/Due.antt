@@ -2,17 +2,24 @@
 -- reply is due (specs/Due.antt). So group 4 never lacks room in 49 cells.
 -- Assumes nothing.
 use mathlib.Core.Path.{_≡_, refl, sym, _∙_, ap, subst}
+use mathlib.Core.Bool.{Bool, true, false, cond, false≢true}
 use mathlib.Core.List.{List}
-use mathlib.Core.Logic.{_↔_}
-use Prim.Native.Nat.{ℕ, _<_, _≤_}
+use mathlib.Core.Logic.{_↔_, inl, inr, ⊎-elim}
+use Prim.Native.Nat.{ℕ, _-_, _<_, _≤_}
 use native.Mathlib.Omega.{arith}
-use lib.IntN.{ℤ}
-use lib.ListN.{drop}
+use borrow.Author.Tests.{le-leb, lt-leb, leb-true, leb-false, eqb-true}
+use lib.Dec.{leb}
+use lib.IntN.{ℤ, pos, negsuc}
+use lib.ListN.{length, getD}
 use Rattle.base.specs.Pieces.{Got, done, bad}
+use Rattle.base.proofs.Order.{le-or-lt}
+use Rattle.form.specs.declared.Form.the-variants.{F8}
 use Rattle.form.specs.declared.GroupForm.{GroupForm}
 use Rattle.form.specs.declared.GroupForm.the-variants.{Has, NoGroup as NoForm}
 use Rattle.form.specs.Table.{formOf}
+use Rattle.form.specs.Count.{cellsOf}
 use Rattle.form.proofs.Table.{no-group}
+use Rattle.count.specs.Tally.{countOf}
 use Rattle.count.specs.Rules.{rulingOf}
 use Rattle.count.specs.declared.Ruling.the-variants.{Kept, Broken}
 use Rattle.place.specs.declared.Placing.{Placing}
@@ -32,11 +39,17 @@ use Rattle.reading.proofs.Due as Reading
 use Rattle.reading.proofs.Due.{has-form, form-range}
 use Rattle.group.specs.declared.Found.{Found}
 use Rattle.group.specs.declared.Found.the-variants.{Given, Missing}
+use Rattle.group.specs.declared.Characteristic.{Characteristic}
+use Rattle.group.specs.declared.Characteristic.the-variants.{Value, NoReading, NotReported, Unread}
 use Rattle.group.specs.Held.{foundBy, foundIn, foundAt}
 use Rattle.group.specs.Text.{readAt}
-use Rattle.group.specs.Due.{NoSuchGroup, PlacingDue, BrokenDue, IsPlaced, MissingDue, FoundDue, ReadingDue, RefusalDue, Due}
+use Rattle.group.specs.Characteristics
+use Rattle.group.specs.Characteristics.{isNoReading, told, reported, characteristicAt}
+use Rattle.group.specs.Due.{NoSuchGroup, PlacingDue, BrokenDue, IsPlaced, MissingDue, FoundDue, ReadingDue, RefusalDue, Due, NoNumber, FourReads, Above, HasCell, HasValue, CharacteristicDue}
 use Rattle.group.proofs.Holding.{given-part}
 use Rattle.group.proofs.Texts.{read-missing, read-given}
+use Rattle.group.proofs.Reported.{no-reading-cell, number-low, number-high, number-inside}
+use Rattle.group.proofs.Rooms.{form-four, cells-four, room-four, same-room}
 
 -- ---- the lines of a group
 
@@ -175,3 +188,103 @@ module _ (s : List ℕ) (at g room : ℕ) where
   -- the reply that is given is the one that is due, and no other is
   pub first-due : (c : Cells) → readAt s at g room ≡ c ↔ Due s at g room c
   first-due c = (λ e. subst (Due s at g room) e (from-found (foundAt s at g) refl (found-first-due s at g (foundAt s at g) .0 refl)), given c)
+
+-- ---- a characteristic
+
+-- no reading is one cell, and no other
+no-reading-is : (z : ℤ) → isNoReading z ≡ true → z ≡ pos 9999000
+unfolding Characteristics.isNoReading
+no-reading-is (pos n) e = ap pos (eqb-true n 9999000 e)
+no-reading-is (negsuc n) e = absurd (false≢true e)
+
+is-reading : (z : ℤ) → (z ≡ pos 9999000 → ⊥) → told z ≡ Value z
+is-reading z n = by (isNoReading z) refl
+  where
+    by : (t : Bool) → isNoReading z ≡ t → cond t NoReading (Value z) ≡ Value z
+    by true u = absurd (n (no-reading-is z u))
+    by false u = refl
+
+-- group 4 has a cell for each element
+four-size : (s : List ℕ) (at room : ℕ) (cs : List ℤ) → Due s at 4 room (done cs) → length cs ≡ countOf (countsAt s at) 4
+four-size s at room cs d =
+    let ns = d .placed .placing .ns in
+    let f = d .reading .cells .f in
+    let h : Has f ≡ Has F8 = sym (d .reading .cells .roomy .ruled .form) ∙ form-four in
+    let e : f ≡ F8 = cc in
+    d .reading .cells .values .size ∙ ap (λ y. cellsOf y (countOf ns 4)) e ∙ cells-four (countOf ns 4) ∙ ap (λ l. countOf l 4) (sym (counts-are s at (d .next) (d .placed .placing)))
+
+module _ (s : List ℕ) (at k : ℕ) where
+  -- group 4 read into a table of 49 cells is group 4 read into every table with room
+  pub four-is : (c : Cells) → (readAt s at 4 49 ≡ c) ↔ ((room : ℕ) → 49 ≤ room → Due s at 4 room c)
+  four-is c =
+      (λ e room h. first-due s at 4 room c .0 (same-room s at room 49 h (omega arith) ∙ e), λ d. first-due s at 4 49 c .1 (d 49 (omega arith)))
+
+  to-reported : (c : Cells) → FourReads s at k c → characteristicAt s at k ≡ reported k c
+  to-reported c d = number-inside s at k (d .low) (d .high) (four-is c .1 (d .four))
+
+  read-size : (cs : List ℤ) → FourReads s at k (done cs) → length cs ≡ countOf (countsAt s at) 4
+  read-size cs d = four-size s at 49 cs (d .four 49 (omega arith))
+
+  to-cell : (z : ℤ) → HasCell s at k z → characteristicAt s at k ≡ told z
+  to-cell z d =
+      let t : leb k (length (d .cs)) ≡ true = le-leb k (length (d .cs)) (omega (arith, read-size (d .cs) (d .reads), d .within)) in
+      to-reported (done (d .cs)) (d .reads) ∙ rw (t, d .cell) refl
+
+  out-of-range : ((1 ≤ k) × (k ≤ 49) → ⊥) → characteristicAt s at k ≡ Unread NoGroup
+  out-of-range n =
+      ⊎-elim
+      (λ (low : 1 ≤ k). ⊎-elim (λ (high : k ≤ 49). absurd (n (low, high))) (λ (h : 49 < k). sym (number-high s at k low h)) (le-or-lt k 49))
+      (λ (h : k < 1). sym (number-low s at k h))
+      (le-or-lt 1 k)
+
+  told-given : (c : Characteristic) → CharacteristicDue s at k c → characteristicAt s at k ≡ c
+  told-given (Unread r) d =
+      ⊎-elim
+      (λ (n : NoNumber s at k r). out-of-range (n .none) ∙ ap Unread (sym (n .twelve)))
+      (λ (h : FourReads s at k (bad r)). to-reported (bad r) h)
+      d
+  told-given NotReported d =
+      let t : leb k (length (d .cs)) ≡ false = lt-leb k (length (d .cs)) (omega (arith, read-size (d .cs) (d .reads), d .above)) in
+      to-reported (done (d .cs)) (d .reads) ∙ rw t refl
+  told-given NoReading d = to-cell (pos 9999000) d ∙ no-reading-cell
+  told-given (Value z) d = to-cell z (d .cell) ∙ is-reading z (d .reading)
+
+  from-cell : (z : ℤ) (t : Bool) → HasCell s at k z → isNoReading z ≡ t → CharacteristicDue s at k (cond t NoReading (Value z))
+  from-cell z true h e = subst (HasCell s at k) (no-reading-is z e) h
+  from-cell z false h e =
+      record { cell = h; reading = λ u. let w : told z ≡ NoReading = ap told u ∙ no-reading-cell in let v : Value z ≡ NoReading = sym (rw e refl) ∙ w in let y : _≡_ {A = ℕ} 0 1 = cc in omega arith }
+
+  from-count : (cs : List ℤ) (t : Bool) → FourReads s at k (done cs) → leb k (length cs) ≡ t → CharacteristicDue s at k (cond t (told (getD cs (k - 1) (pos 0))) NotReported)
+  from-count cs true h e =
+      from-cell (getD cs (k - 1) (pos 0)) (isNoReading (getD cs (k - 1) (pos 0))) record { cs = cs; reads = h; within = omega (arith, leb-true k (length cs) e, read-size cs h); cell = refl } refl
+  from-count cs false h e = record { cs = cs; reads = h; above = omega (arith, leb-false k (length cs) e, read-size cs h) }
+
+  from-four : (c : Cells) → FourReads s at k c → CharacteristicDue s at k (reported k c)
+  from-four (done cs) h = from-count cs (leb k (length cs)) h refl
+  from-four (bad r) h = inr h
+
+  told-is-due : CharacteristicDue s at k (characteristicAt s at k)
+  told-is-due =
+      ⊎-elim
+      (λ (low : 1 ≤ k).
+      ⊎-elim
+      (λ (high : k ≤ 49). subst (CharacteristicDue s at k) (sym (number-inside s at k low high refl)) (from-four (readAt s at 4 49) record { low = low; high = high; four = four-is (readAt s at 4 49) .0 refl }))
+      (λ (h : 49 < k). none (λ r. omega (arith, r .1)))
+      (le-or-lt k 49))
+      (λ (h : k < 1). none (λ r. omega (arith, r .0)))
+      (le-or-lt 1 k)
+    where
+      none : ((1 ≤ k) × (k ≤ 49) → ⊥) → CharacteristicDue s at k (characteristicAt s at k)
+      none n = subst (CharacteristicDue s at k) (sym (out-of-range n)) (inl record { none = n; twelve = refl })
+
+  pub characteristic-first-due : (c : Characteristic) → characteristicAt s at k ≡ c ↔ CharacteristicDue s at k c
+  characteristic-first-due c = (λ e. subst (CharacteristicDue s at k) e told-is-due, told-given c)
+
+-- 49 cells always have room for group 4
+pub four-has-room : (s : List ℕ) (at : ℕ) → readAt s at 4 49 ≡ bad NoRoom → ⊥
+four-has-room s at e =
+    let d = first-due s at 4 49 (bad NoRoom) .0 e in
+    let f = d .reading .f in
+    let h : Has f ≡ Has F8 = sym (d .reading .ruled .form) ∙ form-four in
+    let u : f ≡ F8 = cc in
+    omega (arith, d .reading .few, ap (λ y. cellsOf y (countOf (d .placed .placing .ns) 4)) u, room-four (d .placed .placing .ns) (d .reading .ruled .kept))
