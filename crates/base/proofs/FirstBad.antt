@@ -11,7 +11,7 @@ use lib.ListN.{length, take, drop}
 use lib.Seq.{drop-at, take-at, drop-drop}
 use Rattle.base.specs.Part.{part}
 use Rattle.base.specs.Pieces.{Got, done, bad, both}
-use Rattle.base.proofs.Pieces.{BothDone, both-done}
+use Rattle.base.proofs.Pieces.{both-done}
 use Rattle.base.proofs.Taken.{drop-none}
 
 pub record IsDone {B C : Type 0} (g : Got B C) : Type 0 where

@@ -2,16 +2,16 @@
 -- reply is due (specs/Due.antt). So group 4 never lacks room in 49 cells.
 -- Assumes nothing.
 use mathlib.Core.Path.{_≡_, refl, sym, _∙_, ap, subst}
-use mathlib.Core.Bool.{Bool, true, false, cond, false≢true}
+use mathlib.Core.Bool.{Bool, true, false, cond}
 use mathlib.Core.List.{List}
 use mathlib.Core.Logic.{_↔_, inl, inr, ⊎-elim}
 use Prim.Native.Nat.{ℕ, _-_, _<_, _≤_}
 use native.Mathlib.Omega.{arith}
-use borrow.Author.Tests.{le-leb, lt-leb, leb-true, leb-false, eqb-true}
+use borrow.Author.Tests.{le-leb, lt-leb, leb-true, leb-false}
 use lib.Dec.{leb}
-use lib.IntN.{ℤ, pos, negsuc}
+use lib.IntN.{ℤ, pos}
 use lib.ListN.{length, getD}
-use Rattle.base.specs.Pieces.{Got, done, bad}
+use Rattle.base.specs.Pieces.{done, bad}
 use Rattle.base.proofs.Order.{le-or-lt}
 use Rattle.form.specs.declared.Form.the-variants.{F8}
 use Rattle.form.specs.declared.GroupForm.{GroupForm}
@@ -20,7 +20,6 @@ use Rattle.form.specs.Table.{formOf}
 use Rattle.form.specs.Count.{cellsOf}
 use Rattle.form.proofs.Table.{no-group}
 use Rattle.count.specs.Tally.{countOf}
-use Rattle.count.specs.Rules.{rulingOf}
 use Rattle.count.specs.declared.Ruling.the-variants.{Kept, Broken}
 use Rattle.place.specs.declared.Placing.{Placing}
 use Rattle.place.specs.declared.Placing.the-variants as P
@@ -34,7 +33,6 @@ use Rattle.place.proofs.Zero.{is-placed}
 use Rattle.reading.specs.declared.Refusal.{Refusal}
 use Rattle.reading.specs.declared.Refusal.the-variants.{NoGroup, End, Beyond, TooFewLines, Misformed, OtherRelease, FilledVacant, BrokenRule, NoRoom, BadLine, BadField, BadDate}
 use Rattle.reading.specs.Read.{Cells, readGroup}
-use Rattle.reading.specs.Due as Lines
 use Rattle.reading.proofs.Due as Reading
 use Rattle.reading.proofs.Due.{has-form, form-range}
 use Rattle.group.specs.declared.Found.{Found}
@@ -43,12 +41,11 @@ use Rattle.group.specs.declared.Characteristic.{Characteristic}
 use Rattle.group.specs.declared.Characteristic.the-variants.{Value, NoReading, NotReported, Unread}
 use Rattle.group.specs.Held.{foundBy, foundIn, foundAt}
 use Rattle.group.specs.Text.{readAt}
-use Rattle.group.specs.Characteristics
 use Rattle.group.specs.Characteristics.{isNoReading, told, reported, characteristicAt}
-use Rattle.group.specs.Due.{NoSuchGroup, PlacingDue, BrokenDue, IsPlaced, MissingDue, FoundDue, ReadingDue, RefusalDue, Due, NoNumber, FourReads, Above, HasCell, HasValue, CharacteristicDue}
+use Rattle.group.specs.Due.{NoSuchGroup, PlacingDue, MissingDue, FoundDue, ReadingDue, RefusalDue, Due, NoNumber, FourReads, HasCell, CharacteristicDue}
 use Rattle.group.proofs.Holding.{given-part}
 use Rattle.group.proofs.Texts.{read-missing, read-given}
-use Rattle.group.proofs.Reported.{no-reading-cell, number-low, number-high, number-inside}
+use Rattle.group.proofs.Reported.{no-reading-cell, no-reading-is, is-reading, number-low, number-high, number-inside}
 use Rattle.group.proofs.Rooms.{form-four, cells-four, room-four, same-room}
 
 -- ---- the lines of a group
@@ -190,19 +187,6 @@ module _ (s : List ℕ) (at g room : ℕ) where
   first-due c = (λ e. subst (Due s at g room) e (from-found (foundAt s at g) refl (found-first-due s at g (foundAt s at g) .0 refl)), given c)
 
 -- ---- a characteristic
-
--- no reading is one cell, and no other
-no-reading-is : (z : ℤ) → isNoReading z ≡ true → z ≡ pos 9999000
-unfolding Characteristics.isNoReading
-no-reading-is (pos n) e = ap pos (eqb-true n 9999000 e)
-no-reading-is (negsuc n) e = absurd (false≢true e)
-
-is-reading : (z : ℤ) → (z ≡ pos 9999000 → ⊥) → told z ≡ Value z
-is-reading z n = by (isNoReading z) refl
-  where
-    by : (t : Bool) → isNoReading z ≡ t → cond t NoReading (Value z) ≡ Value z
-    by true u = absurd (n (no-reading-is z u))
-    by false u = refl
 
 -- group 4 has a cell for each element
 four-size : (s : List ℕ) (at room : ℕ) (cs : List ℤ) → Due s at 4 room (done cs) → length cs ≡ countOf (countsAt s at) 4

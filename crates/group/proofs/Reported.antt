@@ -1,23 +1,20 @@
 -- A characteristic: by its number, by what group 4 reads as, and by its cell; each answer is a reply of 01's table, and there is one.
 -- Assumes nothing.
-use mathlib.Core.Path.{_≡_, refl, sym, _∙_, ap, subst}
-use mathlib.Core.Bool.{Bool, true, false, cond, not, _&&_}
+use mathlib.Core.Path.{_≡_, refl, sym, _∙_, ap}
+use mathlib.Core.Bool.{Bool, true, false, cond, false≢true}
 use mathlib.Core.List.{List, [], _∷_, _++_}
 use Prim.Native.Nat.{ℕ, zero, suc, _+_, _-_, _<_, _≤_}
-use native.Mathlib.Nat.{zero-add}
 use native.Mathlib.Omega.{arith}
-use borrow.Author.Tests.{le-leb, lt-leb}
+use borrow.Author.Tests.{le-leb, lt-leb, eqb-true}
 use lib.Dec.{eqb, leb}
-use lib.IntN.{ℤ, pos}
-use lib.ListN.{length, take, drop, getD}
-use Rattle.base.specs.Part.{over}
-use Rattle.base.specs.Pieces.{Got, done, bad}
+use lib.IntN.{ℤ, pos, negsuc}
+use lib.ListN.{length, drop, getD}
+use Rattle.base.specs.Pieces.{done, bad}
 use Rattle.base.specs.Sign.{negative, sizeOf}
 use Rattle.count.specs.Reply.{Numbered}
 use Rattle.count.proofs.Replies.{numbered-plain}
 use Rattle.reading.specs.declared.Refusal.{Refusal}
 use Rattle.reading.specs.declared.Refusal.the-variants.{NoGroup}
-use Rattle.reading.specs.declared.Reading.{Reading}
 use Rattle.reading.specs.declared.Reading.the-variants.{Done, Refused}
 use Rattle.group.specs.declared.Characteristic.{Characteristic}
 use Rattle.group.specs.declared.Characteristic.the-variants.{Value, NoReading, NotReported, Unread}
@@ -44,6 +41,19 @@ unscaled-value = refl
 pub no-reading-cell : told (pos 9999000) ≡ NoReading
 unfolding isNoReading
 no-reading-cell = refl
+
+-- no reading is one cell, and no other
+pub no-reading-is : (z : ℤ) → isNoReading z ≡ true → z ≡ pos 9999000
+unfolding isNoReading
+no-reading-is (pos n) e = ap pos (eqb-true n 9999000 e)
+no-reading-is (negsuc n) e = absurd (false≢true e)
+
+pub is-reading : (z : ℤ) → (z ≡ pos 9999000 → ⊥) → told z ≡ Value z
+is-reading z n = by (isNoReading z) refl
+  where
+    by : (t : Bool) → isNoReading z ≡ t → cond t NoReading (Value z) ≡ Value z
+    by true u = absurd (n (no-reading-is z u))
+    by false u = refl
 
 -- ---- by the number
 

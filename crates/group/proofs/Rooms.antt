@@ -1,7 +1,7 @@
 -- A table with room: the rules on counts let group 4 have at most 49 cells, so that 49 always have room; and group 4 reads the same into every
 -- table of at least 49.
 -- Assumes nothing.
-use mathlib.Core.Path.{_≡_, refl, sym, _∙_, ap}
+use mathlib.Core.Path.{_≡_, refl}
 use mathlib.Core.Bool.{Bool, true, false, _&&_}
 use mathlib.Core.List.{List}
 use mathlib.Core.Logic.{inl, inr}
@@ -11,7 +11,6 @@ use native.Mathlib.Omega.{arith}
 use borrow.Author.Tests.{leb-true}
 use lib.Dec.{leb}
 use Rattle.base.proofs.Choice.{and-second}
-use Rattle.base.specs.Pieces.{bad}
 use Rattle.form.specs.declared.Form.the-variants.{F8}
 use Rattle.form.specs.declared.GroupForm.the-variants.{Has}
 use Rattle.form.specs.Table

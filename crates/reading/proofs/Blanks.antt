@@ -1,13 +1,13 @@
 -- Filling with blanks: what is long enough stays, a beginning and a rest of what is filled; and when a line's content is right, test by test.
 -- Assumes nothing.
-use mathlib.Core.Path.{_≡_, refl, sym, _∙_, ap, subst}
+use mathlib.Core.Path.{_≡_, refl, sym, _∙_, ap}
 use mathlib.Core.Bool.{Bool, true, false, cond, _&&_, false≢true}
-use mathlib.Core.List.{List, [], _∷_, _++_, append-nil}
-use Prim.Native.Nat.{ℕ, zero, suc, _+_, _-_, _<_, _≤_}
+use mathlib.Core.List.{List, [], _∷_, append-nil}
+use Prim.Native.Nat.{ℕ, zero, suc, _-_, _<_, _≤_}
 use native.Mathlib.Omega.{arith}
 use native.Mathlib.Nat.{sub-zero}
 use borrow.Author.Tests.{le-leb, lt-leb, eq-eqb, leb-true}
-use lib.Dec.{T, leb, eqb}
+use lib.Dec.{leb}
 use lib.ListN.{length, take, drop, getD, replicate, length-append, length-drop, length-replicate, drop-of-length-le}
 use lib.Seq.{take-all}
 use Rattle.base.specs.Ascii.{printable}
@@ -20,8 +20,7 @@ use Rattle.form.specs.declared.Form.the-variants.{F7, A120, A1, F8, I2, I3, I1,
 use Rattle.form.specs.Table
 use Rattle.form.specs.Table.{rowOf}
 use Rattle.field.specs.Read
-use Rattle.field.specs.Read.{fieldOf, formed, readAs}
-use Rattle.field.specs.Kind.{kindOf}
+use Rattle.field.specs.Read.{fieldOf, formed}
 use Rattle.field.specs.declared.Value.the-variants.{Letters, Misformed}
 use Rattle.reading.specs.Blanks.{blank, mayBeShort, shortest, filledTo, isRight, Fits}
 

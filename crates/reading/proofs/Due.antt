@@ -4,22 +4,22 @@ use mathlib.Core.Path.{_≡_, refl, sym, _∙_, ap, subst}
 use mathlib.Core.Bool.{Bool, true, false, cond}
 use mathlib.Core.List.{List, map}
 use mathlib.Core.Logic.{_↔_, _⊎_, inl, inr, ⊎-elim}
-use Prim.Native.Nat.{ℕ, _+_, _*_, _<_, _≤_}
+use Prim.Native.Nat.{ℕ, _+_, _<_, _≤_}
 use native.Mathlib.Omega.{arith}
-use borrow.Author.Tests.{le-leb, lt-leb, leb-true, leb-false, eq-eqb, ne-eqb, eqb-true, eqb-false}
+use borrow.Author.Tests.{le-leb, lt-leb, leb-true, leb-false, eq-eqb, eqb-true, eqb-false}
 use lib.Dec.{T, leb, eqb}
 use lib.IntN.{ℤ}
-use lib.ListN.{length, take, drop}
+use lib.ListN.{length, take}
 use Rattle.base.specs.Part.{part}
-use Rattle.base.specs.Pieces.{Got, done, bad}
+use Rattle.base.specs.Pieces.{done, bad}
 use Rattle.base.specs.Sign.{sizeOf}
-use Rattle.base.proofs.Choice.{true-T, T-true, not-T-false}
+use Rattle.base.proofs.Choice.{T-true, not-T-false}
 use Rattle.base.proofs.FirstBad.{IsDone, FirstBad, bad-told, first-bad, all-done}
 use Rattle.base.proofs.Order.{le-or-lt}
 use Rattle.form.specs.declared.Form.{Form}
 use Rattle.form.specs.declared.GroupForm.{GroupForm}
 use Rattle.form.specs.declared.GroupForm.the-variants.{Has, NoGroup as NoForm}
-use Rattle.form.specs.Table.{rowOf, formOf}
+use Rattle.form.specs.Table.{formOf}
 use Rattle.form.specs.Count.{linesOf, cellsOf}
 use Rattle.form.proofs.Table.{IsGroup, no-group}
 use Rattle.field.specs.Read.{fieldOf, formed, cellsIn}
@@ -39,11 +39,11 @@ use Rattle.reading.specs.Blanks.{isRight, filledTo, rightContent}
 use Rattle.reading.specs.Plan.{Line}
 use Rattle.reading.specs.Read.{Cells, readField, readFields, columnsOf, readLines, byDate, dated, readForm, readRuled, readBy, readGroup}
 use Rattle.reading.specs.Values.{lineOf, planned, fieldIn, RightLine, Values}
-use Rattle.reading.specs.Due.{FieldReads, CleanLine, AllClean, ComesTo, WrongLine, WrongField, Breaks, Ruled, Short, Roomy, LineDue, FieldDue, HasCells, DateDue, DoneDue, RefusalDue, Due}
+use Rattle.reading.specs.Due.{CleanLine, AllClean, ComesTo, WrongLine, WrongField, Ruled, Roomy, HasCells, DoneDue, RefusalDue, Due}
 use Rattle.reading.proofs.Lines.{right-yes, right-is, line-right, line-wrong}
 use Rattle.reading.proofs.Fields.{fields-start}
 use Rattle.reading.proofs.Sizes.{field-done}
-use Rattle.reading.proofs.Values.{fieldAt, fieldsFrom, fields-pieces, lineRead, linesFrom, lines-pieces, lines-start, part-begins, ReadLine, line-read, line-cells, read-values, values-one}
+use Rattle.reading.proofs.Values.{fieldAt, fieldsFrom, fields-pieces, lineRead, linesFrom, lines-pieces, lines-start, part-begins, line-read, line-cells, read-values, values-one}
 
 -- ---- a field: 9
 

@@ -2,29 +2,27 @@
 -- behind the cells; there is one outcome; a broken rule on counts is 7 for every group; a group reads the same
 -- into every table with room; a count of 0 gives 0 and no cells.
 -- Assumes nothing.
-use mathlib.Core.Path.{_≡_, refl, sym, _∙_, ap, subst}
-use mathlib.Core.Bool.{Bool, true, false, cond, true≢false}
-use mathlib.Core.List.{List, [], _∷_, _++_}
-use Prim.Native.Nat.{ℕ, zero, suc, _+_, _-_, _*_, _<_, _≤_}
+use mathlib.Core.Path.{_≡_, refl, sym, _∙_, ap}
+use mathlib.Core.Bool.{false, true≢false}
+use mathlib.Core.List.{List, []}
+use Prim.Native.Nat.{ℕ, _≤_}
 use native.Mathlib.Nat.{zero-add, zero-mul}
 use native.Mathlib.Omega.{arith}
 use borrow.Author.Tests.{le-leb, ne-eqb}
 use lib.Dec.{T, leb, leb→le}
 use lib.IntN.{ℤ}
-use lib.ListN.{length, take, drop}
+use lib.ListN.{length, drop}
 use lib.Seq.{drop-at}
 use Rattle.base.specs.Every
-use Rattle.base.specs.Part.{part, over}
 use Rattle.base.specs.Pieces
-use Rattle.base.specs.Pieces.{Got, done, bad}
+use Rattle.base.specs.Pieces.{done, bad}
 use Rattle.form.specs.declared.Form.{Form}
-use Rattle.form.specs.declared.GroupForm.{GroupForm}
-use Rattle.form.specs.declared.GroupForm.the-variants.{Has, NoGroup as NoForm}
+use Rattle.form.specs.declared.GroupForm.the-variants.{Has}
 use Rattle.form.specs.Table.{rowOf, formOf}
 use Rattle.form.specs.Count
 use Rattle.form.specs.Count.{elementsOf, linesOf, cellsOf}
 use Rattle.form.proofs.Rounding.{rounded-none}
-use Rattle.count.specs.Reply.{Reply, replyOn, Numbered, namesWritten, namesLine, namesElement, namesPosition}
+use Rattle.count.specs.Reply.{Numbered, namesWritten, namesLine, namesElement, namesPosition}
 use Rattle.count.proofs.Replies.{numbered-on, numbered-plain}
 use Rattle.count.specs.Tally.{countOf}
 use Rattle.count.specs.Rules.{rulingOf}
@@ -36,7 +34,7 @@ use Rattle.reading.specs.declared.Reading.{Reading}
 use Rattle.reading.specs.declared.Reading.the-variants.{Done, Refused}
 use Rattle.reading.specs.Numbered.{replyIn, refusalReply, readingReply}
 use Rattle.reading.specs.Plan.{planFrom, planOf}
-use Rattle.reading.specs.Read.{Cells, readLinesOf, readLines, dated, readForm, readRuled, readGroup, readingOf, tableBy}
+use Rattle.reading.specs.Read.{Cells, readLinesOf, readLines, readForm, readRuled, readGroup, readingOf, tableBy}
 use Rattle.reading.proofs.Steps.{kept-letters}
 
 -- ---- numbered

@@ -4,14 +4,14 @@
 use mathlib.Core.Path.{_≡_, refl, sym, _∙_, ap, subst}
 use mathlib.Core.List.{List, []}
 use mathlib.Core.Logic.{⊎-elim}
-use Prim.Native.Nat.{ℕ, zero, suc, _+_, _-_, _*_, _/_, _%_, _<_, _≤_, min}
+use Prim.Native.Nat.{ℕ, suc, _+_, _-_, _*_, _/_, _%_, _<_, _≤_, min}
 use native.Mathlib.Nat.{sub-zero, add-mul, suc-mul, zero-mul, mul-le-mul-right, div-add-mod', mod-lt}
 use native.Mathlib.Numerals.{add-one}
 use native.Mathlib.Omega.{arith}
 use lib.IntN.{ℤ}
 use lib.ListN.{length, take, drop}
 use Rattle.base.specs.Part.{part}
-use Rattle.base.specs.Pieces.{Got, done, bad, both}
+use Rattle.base.specs.Pieces.{done, both}
 use Rattle.base.proofs.FirstBad.{InPieces, piece-done}
 use Rattle.base.proofs.Order.{le-or-lt}
 use Rattle.base.proofs.Taken.{drop-none, part-part, parts-same}
@@ -22,16 +22,16 @@ use Rattle.form.specs.Count.{elementsOf, linesOf, cellsOf}
 use Rattle.form.proofs.Rows.{row-fits}
 use Rattle.form.proofs.Rounding.{lines-enough}
 use Rattle.field.specs.Read.{fieldOf, cellsIn, Reads}
-use Rattle.line.specs.Lines.{reach, lines, behind}
+use Rattle.line.specs.Lines.{reach, behind}
 use Rattle.line.proofs.Reach.{reach-zero, reach-add}
 use Rattle.line.proofs.Contents.{is-content, content-one}
 use Rattle.reading.specs.Blanks.{isRight, filledTo}
-use Rattle.reading.specs.Plan.{Line, lineAt, planFrom, planOf}
+use Rattle.reading.specs.Plan.{Line, planFrom, planOf}
 use Rattle.reading.specs.Read.{Cells, readField, readFields, columnsOf, readLine, readLinesOf, readLines}
 use Rattle.reading.specs.Values.{lineOf, planned, fieldIn, RightLine, Stands, Values}
 use Rattle.reading.proofs.Fields.{restOf, fields-start, fields-more, fields-none}
 use Rattle.reading.proofs.Checking.{lines-more, lines-none}
-use Rattle.reading.proofs.Sizes.{field-done, reads-size, LineDone, line-done, line-size, group-size}
+use Rattle.reading.proofs.Sizes.{field-done, reads-size, line-done, line-size, group-size}
 
 -- ---- pieces one behind the other
 
