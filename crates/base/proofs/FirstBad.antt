@@ -30,7 +30,12 @@ pub record FirstBad {B C : Type 0} (m : ℕ) (piece : ℕ → Got B C) (r : B) :
   pub earlier : (i : ℕ) → i < at → IsDone (piece i)
   pub told : piece at ≡ bad r
 
-module _ {B C : Type 0} (m : ℕ) (piece from : ℕ → Got B C) (p : InPieces m piece from) where
+-- the cells of piece i begin at `at i`, and end where those of the next begin
+pub record Sized {B C : Type 0} (m : ℕ) (piece : ℕ → Got B C) (at : ℕ → ℕ) : Type 0 where
+  pub begin : at 0 ≡ 0
+  pub size : (i : ℕ) → i < m → (cs : List C) → piece i ≡ done cs → at i + length cs ≡ at (suc i)
+
+module _ {B C : Type 0} {m : ℕ} {piece from : ℕ → Got B C} (p : InPieces m piece from) where
   -- ---- a bad piece
 
   -- what is told from piece i on, behind pieces that are done, is told of all
@@ -87,16 +92,15 @@ module _ {B C : Type 0} (m : ℕ) (piece from : ℕ → Got B C) (p : InPieces m
   pub all-done : ((j : ℕ) → j < m → IsDone (piece j)) → IsDone (from 0)
   all-done d = done-from m 0 (omega arith) d
 
-  -- the cells of piece i begin at `at i` and end where those of the next begin
-  module _ (at : ℕ → ℕ) (begin : at 0 ≡ 0) (size : (i : ℕ) → i < m → (cs : List C) → piece i ≡ done cs → at i + length cs ≡ at (suc i)) (cs : List C) (e : from 0 ≡ done cs) where
-    pub record PieceDone (i : ℕ) : Type 0 where
-      pub here : piece i ≡ done (part (at i) (at (suc i)) cs)
-      pub behind : from (suc i) ≡ done (drop (at (suc i)) cs)
+  module _ {at : ℕ → ℕ} (z : Sized m piece at) (cs : List C) (e : from 0 ≡ done cs) where
+    record PieceDone (i : ℕ) : Type 0 where
+      here : piece i ≡ done (part (at i) (at (suc i)) cs)
+      behind : from (suc i) ≡ done (drop (at (suc i)) cs)
 
     piece-cut : (i : ℕ) → i < m → from i ≡ done (drop (at i) cs) → PieceDone i
     piece-cut i h u =
         let b = both-done (piece i) (from (suc i)) (drop (at i) cs) (sym (p .more i h) ∙ u) in
-        let n = size i h (b .first) (b .first-is) in
+        let n = z .size i h (b .first) (b .first-is) in
         let w : at (suc i) - at i ≡ length (b .first) = omega arith in
         let d : drop (at (suc i)) cs ≡ b .second = ap (λ k. drop k cs) (sym n) ∙ sym (drop-drop (length (b .first)) (at i) cs) ∙ ap (drop (length (b .first))) (b .all) ∙ drop-at (b .first) (b .second) (length (b .first)) refl in
         record {
@@ -105,7 +109,7 @@ module _ {B C : Type 0} (m : ℕ) (piece from : ℕ → Got B C) (p : InPieces m
         }
 
     rest-done : (i : ℕ) → i ≤ m → from i ≡ done (drop (at i) cs)
-    rest-done zero h = e ∙ ap done (sym (drop-none cs) ∙ ap (λ k. drop k cs) (sym begin))
+    rest-done zero h = e ∙ ap done (sym (drop-none cs) ∙ ap (λ k. drop k cs) (sym (z .begin)))
     rest-done (suc i) h = piece-cut i h (rest-done i (omega arith)) .behind
 
     -- each piece is its part of the cells

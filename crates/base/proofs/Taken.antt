@@ -37,6 +37,9 @@ module _ {A : Type 0} where
       let e : min (suc m) (suc n) ≡ suc (min m n) = omega arith in
       rw e (ap (λ l. y ∷ l) (take-both m n x))
 
+  pub part-zero : (n : ℕ) (x : List A) → part 0 n x ≡ take n x
+  part-zero n x = rw (sub-zero n, drop-none x)
+
   -- a beginning of a part
   pub part-begin : (at end n : ℕ) (s : List A) → n ≤ end - at → part 0 n (part at end s) ≡ take n (drop at s)
   part-begin at end n s h =

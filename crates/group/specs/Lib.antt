@@ -1,5 +1,5 @@
 -- A group of the record at a place of a text ("Replies" of 01): whether its lines can be given, and where they stand (Held); what it reads
--- as (Text); a characteristic, which is a cell of group 4 (Characteristics).
+-- as (Text); a characteristic, which is a cell of group 4 (Characteristics); when each reply is due (Due).
 pub mod Held
 pub mod Text
 pub mod Characteristics

@@ -4,7 +4,8 @@ use mathlib.Core.Path.{_≡_, refl, sym, _∙_, ap, subst}
 use mathlib.Core.Bool.{Bool, true, false, cond}
 use mathlib.Core.List.{List, map}
 use mathlib.Core.Logic.{_↔_, _⊎_, inl, inr, ⊎-elim}
-use Prim.Native.Nat.{ℕ, _+_, _<_, _≤_}
+use Prim.Native.Nat.{ℕ, _+_, _*_, _<_, _≤_}
+use native.Mathlib.Nat.{mul-one}
 use native.Mathlib.Omega.{arith}
 use borrow.Author.Tests.{le-leb, lt-leb, leb-true, leb-false, eq-eqb, eqb-true, eqb-false}
 use lib.Dec.{T, leb, eqb}
@@ -16,10 +17,12 @@ use Rattle.base.specs.Sign.{sizeOf}
 use Rattle.base.proofs.Choice.{T-true, not-T-false}
 use Rattle.base.proofs.FirstBad.{IsDone, FirstBad, bad-told, first-bad, all-done}
 use Rattle.base.proofs.Order.{le-or-lt}
+use Rattle.base.proofs.Taken.{part-zero}
 use Rattle.form.specs.declared.Form.{Form}
+use Rattle.form.specs.declared.Form.the-variants.{A120}
 use Rattle.form.specs.declared.GroupForm.{GroupForm}
 use Rattle.form.specs.declared.GroupForm.the-variants.{Has, NoGroup as NoForm}
-use Rattle.form.specs.Table.{formOf}
+use Rattle.form.specs.Table.{rowOf, formOf}
 use Rattle.form.specs.Count.{linesOf, cellsOf}
 use Rattle.form.proofs.Table.{IsGroup, no-group}
 use Rattle.field.specs.Read.{fieldOf, formed, cellsIn}
@@ -35,15 +38,16 @@ use Rattle.date.specs.declared.Dated.{Dated}
 use Rattle.date.specs.declared.Dated.the-variants.{Right, Wrong}
 use Rattle.reading.specs.declared.Refusal.{Refusal}
 use Rattle.reading.specs.declared.Refusal.the-variants.{NoGroup, End, Beyond, TooFewLines, Misformed, OtherRelease, FilledVacant, BrokenRule, NoRoom, BadLine, BadField, BadDate}
-use Rattle.reading.specs.Blanks.{isRight, filledTo, rightContent}
+use Rattle.reading.specs.Blanks.{mayBeShort, isRight, filledTo, rightContent}
 use Rattle.reading.specs.Plan.{Line}
 use Rattle.reading.specs.Read.{Cells, readField, readFields, columnsOf, readLines, byDate, dated, readForm, readRuled, readBy, readGroup}
 use Rattle.reading.specs.Values.{lineOf, planned, fieldIn, RightLine, Values}
 use Rattle.reading.specs.Due.{CleanLine, AllClean, ComesTo, WrongLine, WrongField, Ruled, Roomy, HasCells, DoneDue, RefusalDue, Due}
+use Rattle.reading.proofs.Blanks.{right-plain}
 use Rattle.reading.proofs.Lines.{right-yes, right-is, line-right, line-wrong}
-use Rattle.reading.proofs.Fields.{fields-start}
+use Rattle.reading.proofs.Fields.{short-one, fields-start}
 use Rattle.reading.proofs.Sizes.{field-done}
-use Rattle.reading.proofs.Values.{fieldAt, fieldsFrom, fields-pieces, lineRead, linesFrom, lines-pieces, lines-start, part-begins, line-read, line-cells, read-values, values-one}
+use Rattle.reading.proofs.Values.{fields-pieces, lineRead, lines-pieces, lines-start, line-read, line-cells, read-values, values-one}
 
 -- ---- a field: 9
 
@@ -86,8 +90,8 @@ module _ (f : Form) (count : ℕ) (x : List ℕ) where
     right-content s r =
         let y = lineOf x j in
         let e = content-is y s (r .content) in
-        let t : part 0 (length s) y ≡ s = part-begins (length s) y ∙ content-taken y s (length s) (r .content) e in
-        (right-yes f (columnsOf f l) y (length s) e (ap (isRight f (columnsOf f l)) t ∙ r .right), t)
+        let t : part 0 (length s) y ≡ s = part-zero (length s) y ∙ content-taken y s (length s) (r .content) e in
+        (right-yes f (columnsOf f l) y (length s) e (ap (isRight f (columnsOf f l)) t ∙ right-plain f (columnsOf f l) s .1 (r .right)), t)
 
     right-reads : (s : List ℕ) → RightLine f count x j s → lineRead f count x j ≡ readFields f (planned f count j) (filledTo (columnsOf f (planned f count j)) s)
     right-reads s r =
@@ -100,7 +104,7 @@ module _ (f : Form) (count : ℕ) (x : List ℕ) where
         by : (c : Content) → rightContent f (columnsOf f l) (lineOf x j) ≡ c → LineRight ⊎ LineWrong
         by (Length n) e =
             let i = right-is f (columnsOf f l) (lineOf x j) n e in
-            let r : RightLine f count x j (take n (lineOf x j)) = record { content = is-content (lineOf x j) n (i .content) .0; right = ap (isRight f (columnsOf f l)) (sym (part-begins n (lineOf x j))) ∙ i .right } in
+            let r : RightLine f count x j (take n (lineOf x j)) = record { content = is-content (lineOf x j) n (i .content) .0; right = right-plain f (columnsOf f l) (take n (lineOf x j)) .0 (ap (isRight f (columnsOf f l)) (sym (part-zero n (lineOf x j))) ∙ i .right) } in
             inl record { content = take n (lineOf x j); line = r; reads = right-reads (take n (lineOf x j)) r }
         by NoReturn e =
             inr record {
@@ -116,7 +120,7 @@ module _ (f : Form) (count : ℕ) (x : List ℕ) where
     clean-done : CleanLine f count x j → IsDone (lineRead f count x j)
     clean-done c =
         let text = filledTo (columnsOf f l) (c .content) in
-        let d = all-done (l .many) (fieldAt f l text) (fieldsFrom f l text) (fields-pieces f l text) (λ k h. field-reads f (l .number) (l .first + k) (fieldIn f count j (c .content) k) (c .fields k h)) in
+        let d = all-done (fields-pieces f l text) (λ k h. field-reads f (l .number) (l .first + k) (fieldIn f count j (c .content) k) (c .fields k h)) in
         record { cells = d .cells; is = right-reads (c .content) (c .line) ∙ sym (fields-start f l text) ∙ d .is }
 
     done-clean : IsDone (lineRead f count x j) → CleanLine f count x j
@@ -143,7 +147,7 @@ module _ (f : Form) (count : ℕ) (x : List ℕ) where
   lines-told : (r : Refusal) (j : ℕ) → ComesTo f count x j → lineRead f count x j ≡ bad r → readLines f count x ≡ bad r
   lines-told r j c e =
       sym (lines-start f count x)
-      ∙ bad-told (linesOf f count) (lineRead f count x) (linesFrom f count x) (lines-pieces f count x) r record { at = j; inside = c .inside; earlier = λ i h. clean-done i (c .earlier i h); told = e }
+      ∙ bad-told (lines-pieces f count x) r record { at = j; inside = c .inside; earlier = λ i h. clean-done i (c .earlier i h); told = e }
 
   line-given : (n : ℕ) → WrongLine f count x n → readLines f count x ≡ bad (BadLine n)
   line-given n w = lines-told (BadLine n) (w .j) (w .comes) (wrong-told (w .j) (w .wrong) ∙ ap (λ k. bad (BadLine k)) (sym (w .number)))
@@ -154,7 +158,7 @@ module _ (f : Form) (count : ℕ) (x : List ℕ) where
       lines-told (BadField n e) (w .j) (w .comes)
       (right-reads (w .j) (w .content) (w .line)
       ∙ sym (fields-start f (l (w .j)) t)
-      ∙ bad-told (l (w .j) .many) (fieldAt f (l (w .j)) t) (fieldsFrom f (l (w .j)) t) (fields-pieces f (l (w .j)) t) (BadField n e) record {
+      ∙ bad-told (fields-pieces f (l (w .j)) t) (BadField n e) record {
         at = w .k;
         inside = w .inside;
         earlier = λ i h. field-reads f (l (w .j) .number) (l (w .j) .first + i) (fieldIn f count (w .j) (w .content) i) (w .earlier i h);
@@ -166,7 +170,7 @@ module _ (f : Form) (count : ℕ) (x : List ℕ) where
   lines-due r e = ⊎-elim inside wrong (line-either (b .at))
     where
       b : FirstBad (linesOf f count) (lineRead f count x) r
-      b = first-bad (linesOf f count) (lineRead f count x) (linesFrom f count x) (lines-pieces f count x) r .0 (lines-start f count x ∙ e)
+      b = first-bad (lines-pieces f count x) r .0 (lines-start f count x ∙ e)
 
       comes : ComesTo f count x (b .at)
       comes = record { inside = b .inside; earlier = λ i h. done-clean i (b .earlier i h) }
@@ -180,7 +184,7 @@ module _ (f : Form) (count : ℕ) (x : List ℕ) where
       inside : LineRight (b .at) → LinesDue r
       inside w =
           let t = filledTo (columnsOf f (l (b .at))) (w .content) in
-          let c = first-bad (l (b .at) .many) (fieldAt f (l (b .at)) t) (fieldsFrom f (l (b .at)) t) (fields-pieces f (l (b .at)) t) r .0 (fields-start f (l (b .at)) t ∙ sym (w .reads) ∙ b .told) in
+          let c = first-bad (fields-pieces f (l (b .at)) t) r .0 (fields-start f (l (b .at)) t ∙ sym (w .reads) ∙ b .told) in
           let q = field-bad f (l (b .at) .number) (l (b .at) .first + c .at) (fieldIn f count (b .at) (w .content) (c .at)) r (c .told) in
           subst LinesDue (sym (q .is)) record {
             j = b .at;
@@ -195,10 +199,17 @@ module _ (f : Form) (count : ℕ) (x : List ℕ) where
             element = refl;
           }
 
+  -- "In A120 the element is the line."
+  pub letters-line : f ≡ A120 → (n e : ℕ) → WrongField f count x n e → e ≡ n
+  letters-line u n e w =
+      let p : rowOf f .«per_line» ≡ 1 = short-one f (ap mayBeShort u) in
+      let m : w .j * rowOf f .«per_line» ≡ w .j = ap (λ k. w .j * k) p ∙ mul-one (w .j) in
+      omega (arith, w .number, w .element, w .inside, p)
+
   -- all clean, with these values: these cells were read
   lines-read : (cs : List ℤ) → AllClean f count x → Values f count x cs → readLines f count x ≡ done cs
   lines-read cs c v =
-      let d = all-done (linesOf f count) (lineRead f count x) (linesFrom f count x) (lines-pieces f count x) (λ j h. clean-done j (c j h)) in
+      let d = all-done (lines-pieces f count x) (λ j h. clean-done j (c j h)) in
       let e : readLines f count x ≡ done (d .cells) = sym (lines-start f count x) ∙ d .is in
       e ∙ ap done (values-one f count x (d .cells) cs (read-values f count x (d .cells) e) v)
 

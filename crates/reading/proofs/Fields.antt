@@ -62,7 +62,7 @@ module _ (f : Form) (l : Line) (text : List ℕ) where
 -- ---- the bytes of a field
 
 -- a form whose lines may be short has one element to a line
-short-one : (f : Form) → mayBeShort f ≡ true → rowOf f .«per_line» ≡ 1
+pub short-one : (f : Form) → mayBeShort f ≡ true → rowOf f .«per_line» ≡ 1
 unfolding Table.rowOf Table.entryOf
 short-one A120 e = refl
 short-one F7 e = absurd (false≢true e)

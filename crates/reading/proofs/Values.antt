@@ -12,9 +12,9 @@ use lib.IntN.{ℤ}
 use lib.ListN.{length, take, drop}
 use Rattle.base.specs.Part.{part}
 use Rattle.base.specs.Pieces.{done, both}
-use Rattle.base.proofs.FirstBad.{InPieces, piece-done}
+use Rattle.base.proofs.FirstBad.{InPieces, Sized, piece-done}
 use Rattle.base.proofs.Order.{le-or-lt}
-use Rattle.base.proofs.Taken.{drop-none, part-part, parts-same}
+use Rattle.base.proofs.Taken.{drop-none, part-zero, part-part, parts-same}
 use Rattle.form.specs.declared.Form.{Form}
 use Rattle.form.specs.Table.{rowOf}
 use Rattle.form.specs.Count
@@ -29,6 +29,7 @@ use Rattle.reading.specs.Blanks.{isRight, filledTo}
 use Rattle.reading.specs.Plan.{Line, planFrom, planOf}
 use Rattle.reading.specs.Read.{Cells, readField, readFields, columnsOf, readLine, readLinesOf, readLines}
 use Rattle.reading.specs.Values.{lineOf, planned, fieldIn, RightLine, Stands, Values}
+use Rattle.reading.proofs.Blanks.{right-plain}
 use Rattle.reading.proofs.Fields.{restOf, fields-start, fields-more, fields-none}
 use Rattle.reading.proofs.Checking.{lines-more, lines-none}
 use Rattle.reading.proofs.Sizes.{field-done, reads-size, line-done, line-size, group-size}
@@ -37,9 +38,6 @@ use Rattle.reading.proofs.Sizes.{field-done, reads-size, line-done, lin
 
 -- the fields of a line
 module _ (f : Form) (l : Line) (text : List ℕ) where
-  abbrev w : ℕ
-  w = rowOf f .width
-
   abbrev pub fieldAt : ℕ → Cells
   fieldAt k = readField f (l .number) (l .first + k) (take (rowOf f .width) (drop (k * rowOf f .width) text))
 
@@ -51,6 +49,14 @@ module _ (f : Form) (l : Line) (text : List ℕ) where
     more = λ i h. fields-more f l text i h ∙ rw (add-one i) refl;
     none = fields-none f l text (l .many) (drop (l .many * rowOf f .width) text) (omega arith);
   }
+
+  fields-sized : Sized (l .many) fieldAt (λ i. i * rowOf f .cells)
+  fields-sized = record { begin = zero-mul (rowOf f .cells); size = size }
+    where
+      size : (i : ℕ) → i < l .many → (ds : List ℤ) → fieldAt i ≡ done ds → i * rowOf f .cells + length ds ≡ suc i * rowOf f .cells
+      size i h ds u =
+          let y = take (rowOf f .width) (drop (i * rowOf f .width) text) in
+          omega (arith, suc-mul i (rowOf f .cells), reads-size f y ds (field-done f (l .number) (l .first + i) y ds u))
 
 -- the lines of a group
 module _ (f : Form) (count : ℕ) (x : List ℕ) where
@@ -89,9 +95,6 @@ module _ (f : Form) (count : ℕ) (x : List ℕ) where
 
 -- ---- a line that was read
 
-pub part-begins : (n : ℕ) (y : List ℕ) → part 0 n y ≡ take n y
-part-begins n y = rw (sub-zero n, drop-none y) refl
-
 module _ (f : Form) (count : ℕ) (x : List ℕ) where
   -- it is right, and each of its fields has its cells
   pub record ReadLine (j : ℕ) (cs : List ℤ) : Type 0 where
@@ -104,19 +107,15 @@ module _ (f : Form) (count : ℕ) (x : List ℕ) where
       let l = planned f count j in
       let y = lineOf x j in
       let d = line-done f l y cs e in
-      let t = part-begins (d .bytes) y in
+      let t = part-zero (d .bytes) y in
       let s = take (d .bytes) y in
       let text = filledTo (columnsOf f l) s in
       let fields : fieldsFrom f l text 0 ≡ done cs = fields-start f l text ∙ ap (λ z. readFields f l (filledTo (columnsOf f l) z)) (sym t) ∙ d .fields in
       record {
         content = s;
-        line = record { content = is-content y (d .bytes) (d .content) .0; right = ap (isRight f (columnsOf f l)) (sym t) ∙ d .right };
-        each = λ k h. field-done f (l .number) (l .first + k) (fieldIn f count j s k) (part (k * rowOf f .cells) (suc k * rowOf f .cells) cs) (piece-done (l .many) (fieldAt f l text) (fieldsFrom f l text) (fields-pieces f l text) (λ i. i * rowOf f .cells) (zero-mul (rowOf f .cells)) (size l text) cs fields k h);
+        line = record { content = is-content y (d .bytes) (d .content) .0; right = right-plain f (columnsOf f l) s .0 (ap (isRight f (columnsOf f l)) (sym t) ∙ d .right) };
+        each = λ k h. field-done f (l .number) (l .first + k) (fieldIn f count j s k) (part (k * rowOf f .cells) (suc k * rowOf f .cells) cs) (piece-done (fields-pieces f l text) (fields-sized f l text) cs fields k h);
       }
-    where
-      size : (l : Line) (text : List ℕ) (i : ℕ) → i < l .many → (ds : List ℤ) → fieldAt f l text i ≡ done ds → i * rowOf f .cells + length ds ≡ suc i * rowOf f .cells
-      size l text i h ds u =
-          omega (arith, suc-mul i (rowOf f .cells), reads-size f (take (rowOf f .width) (drop (i * rowOf f .width) text)) ds (field-done f (l .number) (l .first + i) (take (rowOf f .width) (drop (i * rowOf f .width) text)) ds u))
 
   -- ---- the group
 
@@ -141,7 +140,7 @@ module _ (f : Form) (count : ℕ) (x : List ℕ) where
   module _ (cs : List ℤ) (e : readLines f count x ≡ done cs) where
     pub line-cells : (j : ℕ) → j < linesOf f count → lineRead f count x j ≡ done (part (begins j) (begins (suc j)) cs)
     line-cells j h =
-        piece-done (linesOf f count) (lineRead f count x) (linesFrom f count x) (lines-pieces f count x) begins first size cs (lines-start f count x ∙ e) j h
+        piece-done (lines-pieces f count x) record { begin = first; size = size } cs (lines-start f count x ∙ e) j h
       where
         first : begins 0 ≡ 0
         first =

@@ -28,7 +28,7 @@ use Rattle.reading.specs.Values.{planned, fieldIn, RightLine, Values}
 abbrev pub FieldReads : Form → ℕ → ℕ → List ℕ → ℕ → Type 0
 FieldReads f count j s k = T (formed (fieldOf f (fieldIn f count j s k)))
 
--- ---- the lines, which count from 0 here: 8 and 9
+-- ---- the lines: 8 and 9. "Lines and elements count from 1": the line with j before it is number j + 1, and Plan gives its first element
 
 module _ (f : Form) (count : ℕ) (x : List ℕ) where
   -- neither 8 nor 9 for line j
@@ -40,7 +40,7 @@ module _ (f : Form) (count : ℕ) (x : List ℕ) where
   abbrev pub AllClean : Type 0
   AllClean = (j : ℕ) → j < linesOf f count → CleanLine j
 
-  -- line j is come to: "the first bad field ends the reading, whichever line it is in"
+  -- the reading comes to line j: no line before it is bad
   pub record ComesTo (j : ℕ) : Type 0 where
     pub inside : j < linesOf f count
     pub earlier : (i : ℕ) → i < j → CleanLine i
@@ -52,7 +52,7 @@ module _ (f : Form) (count : ℕ) (x : List ℕ) where
     pub wrong : (s : List ℕ) → RightLine f count x j s → ⊥
     pub number : l ≡ planned f count j .number
 
-  -- 9: "misformed field", in a line that is right, behind fields that are none
+  -- 9: "misformed field", the first of its line, in a line that is right
   pub record WrongField (l e : ℕ) : Type 0 where
     pub j : ℕ
     pub k : ℕ

@@ -2,11 +2,10 @@
 -- here: element i stands in line i / per line, in the columns from (i mod per line) times the width, and fills the cells from i times the
 -- form's cells on (proofs/Values.antt).
 use mathlib.Core.Path.{_≡_}
-use mathlib.Core.Bool.{true}
 use mathlib.Core.List.{List}
-use Prim.Native.Nat.{ℕ, _+_, _*_, _<_}
+use Prim.Native.Nat.{ℕ, _+_, _*_, _<_, _≤_}
 use lib.IntN.{ℤ}
-use lib.ListN.{length, take, drop}
+use lib.ListN.{length, take, drop, getD}
 use Rattle.base.specs.Part.{part}
 use Rattle.form.specs.declared.Form.{Form}
 use Rattle.form.specs.Table.{rowOf}
@@ -14,7 +13,7 @@ use Rattle.form.specs.Count.{elementsOf, cellsOf}
 use Rattle.field.specs.Read.{Reads}
 use Rattle.line.specs.Lines.{lines, behind}
 use Rattle.line.specs.Contents.{HasContent}
-use Rattle.reading.specs.Blanks.{isRight, filledTo}
+use Rattle.reading.specs.Blanks.{shortest, filledTo}
 use Rattle.reading.specs.Plan.{Line, lineAt}
 use Rattle.reading.specs.Read.{columnsOf}
 
@@ -30,14 +29,21 @@ planned f count j = lineAt (rowOf f .«per_line») (elementsOf f count) j
 abbrev pub fieldIn : Form → ℕ → ℕ → List ℕ → ℕ → List ℕ
 fieldIn f count j s k = take (rowOf f .width) (drop (k * rowOf f .width) (filledTo (columnsOf f (planned f count j)) s))
 
+-- "A data line of k elements has k times the width as its length, and may carry blanks after that, up to 120 in all. An A120 line may have 0
+-- to 120 bytes": what isRight tests (proofs/Blanks.antt)
+pub record RightContent (f : Form) (columns : ℕ) (s : List ℕ) : Type 0 where
+  pub least : shortest f columns ≤ length s
+  pub most : length s ≤ 120
+  pub blanks : (i : ℕ) → columns ≤ i → i < length s → getD s i 0 ≡ 32
+
 -- a group of this form and count, whose lines are x
 module _ (f : Form) (count : ℕ) (x : List ℕ) where
-  -- line j is right, not 8: it is the content s, a carriage return and a line feed, and s has a right length and only blanks after the fields
+  -- line j is right, not 8: it is the content s, a carriage return and a line feed, and s is right for its fields
   pub record RightLine (j : ℕ) (s : List ℕ) : Type 0 where
     pub content : HasContent (lineOf x j) s
-    pub right : isRight f (columnsOf f (planned f count j)) s ≡ true
+    pub right : RightContent f (columnsOf f (planned f count j)) s
 
-  -- element i stands in line j with k fields before it there; its field reads as the cells from i times the form's cells on
+  -- element i stands in line j with k fields before it there; its field reads (field's Grammar) as the cells from i times the form's cells on
   pub record Stands (cs : List ℤ) (i j k : ℕ) : Type 0 where
     pub content : List ℕ
     pub line : RightLine j content
