@@ -20,7 +20,6 @@ use Rattle.form.specs.Table.{formOf}
 use Rattle.form.specs.Count.{cellsOf}
 use Rattle.form.proofs.Table.{no-group}
 use Rattle.count.specs.Tally.{countOf}
-use Rattle.count.specs.declared.Ruling.the-variants.{Kept, Broken}
 use Rattle.place.specs.declared.Placing.{Placing}
 use Rattle.place.specs.declared.Placing.the-variants as P
 use Rattle.place.specs.Index.{counts}
@@ -42,7 +41,7 @@ use Rattle.group.specs.declared.Characteristic.the-variants.{Value, NoRe
 use Rattle.group.specs.Held.{foundBy, foundIn, foundAt}
 use Rattle.group.specs.Text.{readAt}
 use Rattle.group.specs.Characteristics.{isNoReading, told, reported, characteristicAt}
-use Rattle.group.specs.Due.{NoSuchGroup, PlacingDue, MissingDue, FoundDue, ReadingDue, RefusalDue, Due, NoNumber, FourReads, HasCell, CharacteristicDue}
+use Rattle.group.specs.Due.{NoSuchGroup, PlacingDue, MissingDue, FoundDue, ReadingDue, Due, NoNumber, FourReads, HasCell, CharacteristicDue}
 use Rattle.group.proofs.Holding.{given-part}
 use Rattle.group.proofs.Texts.{read-missing, read-given}
 use Rattle.group.proofs.Reported.{no-reading-cell, no-reading-is, is-reading, number-low, number-high, number-inside}
@@ -51,7 +50,7 @@ use Rattle.group.proofs.Rooms.{form-four, cells-four, room-four, same-r
 -- ---- the lines of a group
 
 module _ (s : List ℕ) (at g : ℕ) where
-  found-none : NoSuchGroup s at g → foundAt s at g ≡ Missing NoGroup
+  found-none : NoSuchGroup g → foundAt s at g ≡ Missing NoGroup
   unfolding foundAt
   found-none n = rw (no-group g .1 (λ i. n (i .low, i .high))) refl
 
@@ -124,63 +123,20 @@ module _ (s : List ℕ) (at g room : ℕ) where
   missing-read : (r : Refusal) → MissingDue s at g r → readAt s at g room ≡ bad r
   missing-read r d = read-missing s at g room (missing-given s at g r d)
 
-  refusal-given : (r : Refusal) → RefusalDue s at g room r → readAt s at g room ≡ bad r
-  refusal-given NoGroup d = missing-read NoGroup d
-  refusal-given End d = missing-read End d
-  refusal-given Beyond d = missing-read Beyond d
-  refusal-given TooFewLines d = missing-read TooFewLines d
-  refusal-given Misformed d = missing-read Misformed d
-  refusal-given OtherRelease d = missing-read OtherRelease d
-  refusal-given (FilledVacant h) d = missing-read (FilledVacant h) d
-  refusal-given (BrokenRule h) d = missing-read (BrokenRule h) d
-  refusal-given NoRoom d = reading-given (bad NoRoom) d
-  refusal-given (BadLine l) d = reading-given (bad (BadLine l)) d
-  refusal-given (BadField l e) d = reading-given (bad (BadField l e)) d
-  refusal-given (BadDate p) d = reading-given (bad (BadDate p)) d
-
   given : (c : Cells) → Due s at g room c → readAt s at g room ≡ c
   given (done cs) d = reading-given (done cs) d
-  given (bad r) d = refusal-given r d
+  given (bad r) d = ⊎-elim (missing-read r) (reading-given (bad r)) d
 
-  from-missing : (r : Refusal) → MissingDue s at g r → RefusalDue s at g room r
-  from-missing NoGroup d = d
-  from-missing End d = d
-  from-missing Beyond d = d
-  from-missing TooFewLines d = d
-  from-missing Misformed d = d
-  from-missing OtherRelease d = d
-  from-missing (FilledVacant h) d = d
-  from-missing (BrokenRule h) d = d
-  from-missing NoRoom d = absurd d
-  from-missing (BadLine l) d = absurd d
-  from-missing (BadField l e) d = absurd d
-  from-missing (BadDate p) d = absurd d
-
-  -- a placed record keeps the rules, and its group is one: what reading tells is none of the replies before
   from-reading : (c : Cells) → ReadingDue s at g room c → Due s at g room c
   from-reading (done cs) d = d
-  from-reading (bad NoGroup) d = absurd (d .reading (d .placed .low, d .placed .high))
-  from-reading (bad (BrokenRule h)) d =
-      let e : Kept ≡ Broken h = sym (d .placed .placing .kept) ∙ d .reading .broken in
-      let z : _≡_ {A = ℕ} 0 1 = cc in
-      absurd (omega arith)
-  from-reading (bad End) d = absurd (d .reading)
-  from-reading (bad Beyond) d = absurd (d .reading)
-  from-reading (bad TooFewLines) d = absurd (d .reading)
-  from-reading (bad Misformed) d = absurd (d .reading)
-  from-reading (bad OtherRelease) d = absurd (d .reading)
-  from-reading (bad (FilledVacant h)) d = absurd (d .reading)
-  from-reading (bad NoRoom) d = d
-  from-reading (bad (BadLine l)) d = d
-  from-reading (bad (BadField l e)) d = d
-  from-reading (bad (BadDate p)) d = d
+  from-reading (bad r) d = inr d
 
   from-found : (r : Found) → foundAt s at g ≡ r → FoundDue s at g r → Due s at g room (readAt s at g room)
   from-found Given e d =
       let ns = d .placed .placing .ns in
       let u = to-reading (d .next) (d .placed) in
       from-reading (readAt s at g room) record { next = d .next; placed = d .placed; reading = Reading.first-due ns g (groupPart s at ns g) room (readAt s at g room) .0 (sym u) }
-  from-found (Missing r) e d = subst (Due s at g room) (sym (read-missing s at g room e)) (from-missing r d)
+  from-found (Missing r) e d = subst (Due s at g room) (sym (read-missing s at g room e)) (inl d)
 
   -- the reply that is given is the one that is due, and no other is
   pub first-due : (c : Cells) → readAt s at g room ≡ c ↔ Due s at g room c
@@ -266,9 +222,11 @@ module _ (s : List ℕ) (at k : ℕ) where
 
 -- 49 cells always have room for group 4
 pub four-has-room : (s : List ℕ) (at : ℕ) → readAt s at 4 49 ≡ bad NoRoom → ⊥
-four-has-room s at e =
-    let d = first-due s at 4 49 (bad NoRoom) .0 e in
-    let f = d .reading .f in
-    let h : Has f ≡ Has F8 = sym (d .reading .ruled .form) ∙ form-four in
-    let u : f ≡ F8 = cc in
-    omega (arith, d .reading .few, ap (λ y. cellsOf y (countOf (d .placed .placing .ns) 4)) u, room-four (d .placed .placing .ns) (d .reading .ruled .kept))
+four-has-room s at e = ⊎-elim (λ (n : ⊥). n) short (first-due s at 4 49 (bad NoRoom) .0 e)
+  where
+    short : ReadingDue s at 4 49 (bad NoRoom) → ⊥
+    short d =
+        let f = d .reading .f in
+        let h : Has f ≡ Has F8 = sym (d .reading .ruled .form) ∙ form-four in
+        let u : f ≡ F8 = cc in
+        omega (arith, d .reading .few, ap (λ y. cellsOf y (countOf (d .placed .placing .ns) 4)) u, room-four (d .placed .placing .ns) (d .reading .ruled .kept))

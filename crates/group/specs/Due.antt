@@ -23,11 +23,11 @@ use Rattle.group.specs.declared.Found.the-variants.{Given, Missing}
 use Rattle.group.specs.declared.Characteristic.{Characteristic}
 use Rattle.group.specs.declared.Characteristic.the-variants.{Value, NoReading, NotReported, Unread}
 
-module _ (s : List ℕ) (at g : ℕ) where
-  -- 12: "no group 1-60 .. of that number"
-  abbrev pub NoSuchGroup : Type 0
-  NoSuchGroup = (1 ≤ g) × (g ≤ 60) → ⊥
+-- 12: "no group 1-60 .. of that number"
+abbrev pub NoSuchGroup : ℕ → Type 0
+NoSuchGroup g = (1 ≤ g) × (g ≤ 60) → ⊥
 
+module _ (s : List ℕ) (at g : ℕ) where
   -- not 12, and placing's reply is p
   pub record PlacingDue (p : Placing) : Type 0 where
     pub low : 1 ≤ g
@@ -47,7 +47,7 @@ module _ (s : List ℕ) (at g : ℕ) where
   -- ---- the lines of a group: "replies are 12, then any placing reply but 0"
 
   abbrev pub MissingDue : Refusal → Type 0
-  MissingDue NoGroup = NoSuchGroup
+  MissingDue NoGroup = NoSuchGroup g
   MissingDue End = PlacingDue P.End
   MissingDue Beyond = PlacingDue P.Beyond
   MissingDue TooFewLines = PlacingDue P.TooFewLines
@@ -67,29 +67,15 @@ module _ (s : List ℕ) (at g : ℕ) where
   -- ---- reading a group: the same, "then 11, then line by line 8 and that line's fields 9, then 10 for group 3"
 
   module _ (room : ℕ) where
-    -- the placed record's counts and the group's own lines decide
+    -- neither 12 nor a placing reply but 0: the record's counts and the group's own lines decide
     pub record ReadingDue (c : Cells) : Type 0 where
       pub next : ℕ
       pub placed : PlacingDue (P.Placed next)
       pub reading : Reading.Due (placed .placing .ns) g (groupPart s at (placed .placing .ns) g) room c
 
-    abbrev pub RefusalDue : Refusal → Type 0
-    RefusalDue NoGroup = NoSuchGroup
-    RefusalDue End = PlacingDue P.End
-    RefusalDue Beyond = PlacingDue P.Beyond
-    RefusalDue TooFewLines = PlacingDue P.TooFewLines
-    RefusalDue Misformed = PlacingDue P.Misformed
-    RefusalDue OtherRelease = PlacingDue P.OtherRelease
-    RefusalDue (FilledVacant h) = PlacingDue (P.FilledVacant h)
-    RefusalDue (BrokenRule h) = BrokenDue h
-    RefusalDue NoRoom = ReadingDue (bad NoRoom)
-    RefusalDue (BadLine l) = ReadingDue (bad (BadLine l))
-    RefusalDue (BadField l e) = ReadingDue (bad (BadField l e))
-    RefusalDue (BadDate p) = ReadingDue (bad (BadDate p))
-
     abbrev pub Due : Cells → Type 0
     Due (done cs) = ReadingDue (done cs)
-    Due (bad r) = RefusalDue r
+    Due (bad r) = MissingDue r ⊎ ReadingDue (bad r)
 
 -- ---- a characteristic: "12 comes first, then group 4's reply with its numbers, as if read into a table with room, then not reported"
 
