@@ -1,5 +1,5 @@
--- Pieces one behind the other: what is told of them as bad is told of the first that is bad, and of no other; where all are done they are done
--- as a whole, and each has its part of the cells.
+-- Pieces one behind the other: what is told of them as bad is told of the first that is bad, and of no other; where all are done they are
+-- done as a whole, and each has its part of the cells.
 -- Assumes nothing.
 use mathlib.Core.Path.{_≡_, refl, sym, _∙_, ap}
 use mathlib.Core.List.{List, [], _++_}

@@ -1,5 +1,5 @@
--- Whether a group can be asked about at a place, the counts of its record, and its lines as a part of the text: when they can be given, where
--- they begin, and that they are the group's lines.
+-- Whether a group can be asked about at a place, the counts of its record, and its lines as a part of the text: when they can be given,
+-- where they begin, and that they are the group's lines.
 -- Assumes nothing.
 use mathlib.Core.Path.{_≡_, refl, sym, _∙_, ap}
 use mathlib.Core.List.{List}

@@ -1,5 +1,5 @@
--- A table with room: the rules on counts let group 4 have at most 49 cells, so that 49 always have room; and group 4 reads the same into every
--- table of at least 49.
+-- A table with room: the rules on counts let group 4 have at most 49 cells, so that 49 always have room; and group 4 reads the same into
+-- every table of at least 49.
 -- Assumes nothing.
 use mathlib.Core.Path.{_≡_, refl}
 use mathlib.Core.Bool.{Bool, true, false, _&&_}

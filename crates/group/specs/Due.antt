@@ -80,7 +80,7 @@ module _ (s : List ℕ) (at g : ℕ) where
 -- ---- a characteristic: "12 comes first, then group 4's reply with its numbers, as if read into a table with room, then not reported"
 
 module _ (s : List ℕ) (at k : ℕ) where
-  -- 12: "no characteristic 1-49 of that number"
+  -- 12: "no characteristic 1-49, of that number"
   pub record NoNumber (r : Refusal) : Type 0 where
     pub none : (1 ≤ k) × (k ≤ 49) → ⊥
     pub twelve : r ≡ NoGroup

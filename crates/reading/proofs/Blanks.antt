@@ -1,5 +1,5 @@
--- Filling with blanks: what is long enough stays, a beginning and a rest of what is filled; and when a line's content is right, test by test and in
--- plain words.
+-- Filling with blanks: what is long enough stays, a beginning and a rest of what is filled; and when a line's content is right, test by
+-- test and in plain words.
 -- Assumes nothing.
 use mathlib.Core.Path.{_≡_, refl, sym, _∙_, ap}
 use mathlib.Core.Bool.{Bool, true, false, cond, _&&_, false≢true}

@@ -1,5 +1,6 @@
 -- The values of a group: the lines of a group and the fields of a line are pieces one behind the other; what was read is the value of each
--- element, in its line and its columns, and no other cells are; element i stands in line i / per line, i mod per line fields behind its first.
+-- element, in its line and its columns, and no other cells are; element i stands in line i / per line, with i mod per line
+-- fields before it.
 -- Assumes nothing.
 use mathlib.Core.Path.{_≡_, refl, sym, _∙_, ap, subst}
 use mathlib.Core.List.{List, []}

@@ -1,6 +1,6 @@
--- When each reply of reading a group under its record's counts is due: its condition in 01's table, and none earlier in 01's order: "the order
--- is 12, then any placing reply but 0, then 11, then line by line 8 and that line's fields 9, then 10 for group 3." Of placing's replies the
--- counts decide 7.
+-- When each reply of reading a group under its record's counts is due: its condition in 01's table, and none earlier in 01's order: "the
+-- order is 12, then any placing reply but 0, then 11, then line by line 8 and that line's fields 9, then 10 for group 3." Of placing's
+-- replies the counts decide 7.
 use mathlib.Core.Path.{_≡_}
 use mathlib.Core.List.{List, map}
 use Prim.Native.Nat.{ℕ, _+_, _<_, _≤_}

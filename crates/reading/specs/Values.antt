@@ -29,8 +29,8 @@ planned f count j = lineAt (rowOf f .«per_line») (elementsOf f count) j
 abbrev pub fieldIn : Form → ℕ → ℕ → List ℕ → ℕ → List ℕ
 fieldIn f count j s k = take (rowOf f .width) (drop (k * rowOf f .width) (filledTo (columnsOf f (planned f count j)) s))
 
--- "A data line of k elements has k times the width as its length, and may carry blanks after that, up to 120 in all. An A120 line may have 0
--- to 120 bytes": what isRight tests (proofs/Blanks.antt)
+-- "A data line of k elements has k times the width as its length, and may carry blanks after that, up to 120 in all. An A120 line may have
+-- 0 to 120 bytes": what isRight tests (proofs/Blanks.antt)
 pub record RightContent (f : Form) (columns : ℕ) (s : List ℕ) : Type 0 where
   pub least : shortest f columns ≤ length s
   pub most : length s ≤ 120
@@ -43,7 +43,7 @@ module _ (f : Form) (count : ℕ) (x : List ℕ) where
     pub content : HasContent (lineOf x j) s
     pub right : RightContent f (columnsOf f (planned f count j)) s
 
-  -- element i stands in line j with k fields before it there; its field reads (field's Grammar) as the cells from i times the form's cells on
+  -- element i stands in line j with k fields before it; its field reads (field's Grammar) as the cells from i times the form's cells on
   pub record Stands (cs : List ℤ) (i j k : ℕ) : Type 0 where
     pub content : List ℕ
     pub line : RightLine j content
