@@ -79,6 +79,11 @@ module _ {A : Type 0} (f : A → Bool) where
   every-at d (x ∷ xs) t zero h = and-left (f x) (every f xs) t
   every-at d (x ∷ xs) t (suc k) h = every-at d xs (and-right (f x) (every f xs) t) k (le-of-suc-le-suc h)
 
+  -- and back: what passes at each index passes at every element
+  pub at-every : (d : A) (xs : List A) → ((k : ℕ) → k < length xs → T (f (getD xs k d))) → T (every f xs)
+  at-every d [] h = tt
+  at-every d (x ∷ xs) h = and-both (f x) (every f xs) (h 0 (omega arith)) (at-every d xs (λ k l. h (suc k) (omega arith)))
+
 -- what passes at each byte that `last` gives passes at each column
 pub columns-every : {S : Type 0} (last : S → ℕ) (back : S → S) (f : ℕ → Bool) → ((s : S) → T (f (last s))) → (w : ℕ) (s : S) → T (every f (columns last back w s))
 columns-every last back f h zero s = tt

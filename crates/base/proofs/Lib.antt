@@ -5,6 +5,7 @@ pub mod Choice
 pub mod Columns
 pub mod Digits
 pub mod Every
+pub mod FirstBad
 pub mod FromLast
 pub mod Mapped
 pub mod Order

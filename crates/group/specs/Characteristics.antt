@@ -1,13 +1,13 @@
--- "A characteristic (1-49) of a record is, each under reply 0, a value in thousandths, or no reading (cell 9,999,000), or not reported (number
--- above group 4's count); otherwise it is 12 or group 4's reply. 12 comes first, then group 4's reply with its numbers, as if read into a
--- table with room, then not reported. .. 999,900 is a value."
+-- "A characteristic (1-49) of a record is, each under reply 0, a value in thousandths, or no reading (cell 9,999,000), or not reported
+-- (number above group 4's count); otherwise it is 12 or group 4's reply. 12 comes first, then group 4's reply with its numbers, as if read
+-- into a table with room, then not reported. .. 999,900 is a value."
 use mathlib.Core.Bool.{Bool, cond, not, _&&_}
 use mathlib.Core.List.{List}
 use Prim.Native.Nat.{ℕ, _-_}
 use lib.Dec.{eqb, leb}
 use lib.IntN.{ℤ, pos}
 use lib.ListN.{length, getD}
-use Rattle.base.specs.Pieces.{Got, done, bad}
+use Rattle.base.specs.Pieces.{done, bad}
 use Rattle.base.specs.Sign.{negative, sizeOf}
 use Rattle.reply.specs.declared.Reply.{Reply}
 use Rattle.reply.specs.Table.{replyPlain}

@@ -10,3 +10,5 @@ pub mod Dates
 pub mod Steps
 pub mod Promises
 pub mod FourS
+pub mod Values
+pub mod Due

@@ -1,24 +1,23 @@
 -- What is promised of reading the lines of a group: each answer is a reply of 01's table; a refusal keeps the table, and 0 keeps what stands
--- behind the cells; there is one outcome; a broken rule on counts is 7 for every group; a count of 0 gives 0 and no cells.
+-- behind the cells; there is one outcome; a broken rule on counts is 7 for every group; a group reads the same
+-- into every table with room; a count of 0 gives 0 and no cells.
 -- Assumes nothing.
-use mathlib.Core.Path.{_≡_, refl, sym, _∙_, ap, subst}
-use mathlib.Core.Bool.{Bool, true, false, cond, true≢false}
-use mathlib.Core.List.{List, [], _∷_, _++_}
-use Prim.Native.Nat.{ℕ, zero, suc, _+_, _-_, _*_, _<_, _≤_}
+use mathlib.Core.Path.{_≡_, refl, sym, _∙_, ap}
+use mathlib.Core.Bool.{false, true≢false}
+use mathlib.Core.List.{List, []}
+use Prim.Native.Nat.{ℕ, _≤_}
 use native.Mathlib.Nat.{zero-add, zero-mul}
 use native.Mathlib.Omega.{arith}
 use borrow.Author.Tests.{le-leb, ne-eqb}
 use lib.Dec.{T, leb, leb→le}
 use lib.IntN.{ℤ}
-use lib.ListN.{length, take, drop}
+use lib.ListN.{length, drop}
 use lib.Seq.{drop-at}
 use Rattle.base.specs.Every
-use Rattle.base.specs.Part.{part, over}
 use Rattle.base.specs.Pieces
-use Rattle.base.specs.Pieces.{Got, done, bad}
+use Rattle.base.specs.Pieces.{done, bad}
 use Rattle.form.specs.declared.Form.{Form}
-use Rattle.form.specs.declared.GroupForm.{GroupForm}
-use Rattle.form.specs.declared.GroupForm.the-variants.{Has, NoGroup as NoForm}
+use Rattle.form.specs.declared.GroupForm.the-variants.{Has}
 use Rattle.form.specs.Table.{rowOf, formOf}
 use Rattle.form.specs.Count
 use Rattle.form.specs.Count.{elementsOf, linesOf, cellsOf}
@@ -27,6 +26,7 @@ use Rattle.reply.specs.Table.{Numbered}
 use Rattle.reply.proofs.Replies.{numbered-on, numbered-plain, numbered-done, numbered-line, numbered-date}
 use Rattle.count.specs.Tally.{countOf}
 use Rattle.count.specs.Rules.{rulingOf}
+use Rattle.count.specs.declared.Ruling.{Ruling}
 use Rattle.count.specs.declared.Ruling.the-variants.{Kept, Broken}
 use Rattle.reading.specs.declared.Refusal.{Refusal}
 use Rattle.reading.specs.declared.Refusal.the-variants.{NoGroup, End, Beyond, TooFewLines, Misformed, OtherRelease, FilledVacant, BrokenRule, NoRoom, BadLine, BadField, BadDate}
@@ -34,7 +34,7 @@ use Rattle.reading.specs.declared.Reading.{Reading}
 use Rattle.reading.specs.declared.Reading.the-variants.{Done, Refused}
 use Rattle.reading.specs.Numbered.{refusalReply, readingReply}
 use Rattle.reading.specs.Plan.{planFrom, planOf}
-use Rattle.reading.specs.Read.{Cells, readLinesOf, readLines, dated, readForm, readGroup, readingOf, tableBy}
+use Rattle.reading.specs.Read.{Cells, readLinesOf, readLines, readForm, readRuled, readGroup, readingOf, tableBy}
 use Rattle.reading.proofs.Steps.{kept-letters}
 
 -- ---- numbered
@@ -79,6 +79,17 @@ read-once g old r q new now a b = (a .0 ∙ sym (b .0), a .1 ∙ sym (b .1))
 pub read-broken : (ns : List ℕ) (g : ℕ) (x : List ℕ) (room h : ℕ) (f : Form) → formOf g ≡ Has f → rulingOf ns ≡ Broken h → readGroup ns g x room ≡ bad (BrokenRule h)
 unfolding readGroup
 read-broken ns g x room h f e r = rw (e, r)
+
+-- a group reads the same into every table with room for what its counts, if they keep the rules, let it fill
+pub read-room : (ns : List ℕ) (g : ℕ) (x : List ℕ) (room more : ℕ) (f : Form) → formOf g ≡ Has f → (rulingOf ns ≡ Kept → (cellsOf f (countOf ns g) ≤ room) × (cellsOf f (countOf ns g) ≤ more)) → readGroup ns g x room ≡ readGroup ns g x more
+unfolding readGroup readForm
+read-room ns g x room more f e h = rw e (by (rulingOf ns) refl)
+  where
+    by : (k : Ruling) → rulingOf ns ≡ k → readRuled f ns g x room k ≡ readRuled f ns g x more k
+    by Kept u =
+        let m = h u in
+        rw (le-leb (cellsOf f (countOf ns g)) room (m .0), le-leb (cellsOf f (countOf ns g)) more (m .1)) refl
+    by (Broken b) u = refl
 
 -- ---- "A group with count 0 gives 0 and no cells", also into an empty table
 
