@@ -1,0 +1,89 @@
+-- Texts in pieces: how many cells and bytes they have; what is read from them, whatever stands behind; that they are what is written; a piece
+-- among the others.
+-- Assumes nothing.
+use mathlib.Core.Path.{_≡_, refl, sym, _∙_, ap, ap₂}
+use mathlib.Core.Bool.{Bool}
+use mathlib.Core.List.{List, [], _∷_, _++_, map, append-assoc}
+use Prim.Native.Nat.{ℕ, zero, suc, _+_, _<_}
+use native.Mathlib.Omega.{arith}
+use lib.Dec.{T}
+use lib.ListN.{length, take, drop, getD, length-append}
+use lib.Seq.{take-append-seam, drop-append-seam, take-at, drop-at}
+use Rattle.base.specs.Every.{every}
+use Rattle.base.specs.Pieces
+use Rattle.base.specs.Pieces.{Got, done, bad, both, gather, emit, Each, none, more}
+use Rattle.base.specs.Sum
+use Rattle.base.specs.Sum.{sum}
+use Rattle.base.proofs.Choice.{and-left, and-right}
+
+module _ {A C : Type 0} {P : A → List ℕ → List C → Type 0} where
+  -- as many cells, and as many bytes, as all pieces together
+  pub each-cells : (size : A → ℕ) → ((a : A) (x : List ℕ) (c : List C) → P a x c → length c ≡ size a) → (bs : List A) (s : List ℕ) (cs : List C) → Each P bs s cs → length cs ≡ sum (map size bs)
+  unfolding Sum.sum
+  each-cells size l [] [] [] none = refl
+  each-cells size l (a ∷ bs) s cs (more x c {y} {d} p h) =
+      length-append c d ∙ ap₂ _+_ (l a x c p) (each-cells size l bs y d h)
+
+  pub each-bytes : (size : A → ℕ) → ((a : A) (x : List ℕ) (c : List C) → P a x c → length x ≡ size a) → (bs : List A) (s : List ℕ) (cs : List C) → Each P bs s cs → length s ≡ sum (map size bs)
+  unfolding Sum.sum
+  each-bytes size l [] [] [] none = refl
+  each-bytes size l (a ∷ bs) s cs (more x c {y} {d} p h) =
+      length-append x y ∙ ap₂ _+_ (l a x c p) (each-bytes size l bs y d h)
+
+  -- pieces that hold of another statement too
+  pub each-imply : {Q : A → List ℕ → List C → Type 0} → ((a : A) (x : List ℕ) (c : List C) → P a x c → Q a x c) → (bs : List A) (s : List ℕ) (cs : List C) → Each P bs s cs → Each Q bs s cs
+  each-imply f [] [] [] none = none
+  each-imply f (a ∷ bs) s cs (more x c {y} {d} p h) = more x c (f a x c p) (each-imply f bs y d h)
+
+  -- a test that every piece passes
+  pub each-passed : (f : A → Bool) (bs : List A) (s : List ℕ) (cs : List C) → T (every f bs) → Each P bs s cs → Each (λ a x c. T (f a) × P a x c) bs s cs
+  each-passed f [] [] [] t none = none
+  each-passed f (a ∷ bs) s cs t (more x c {y} {d} p h) =
+      more x c (and-left (f a) (every f bs) t, p) (each-passed f bs y d (and-right (f a) (every f bs) t) h)
+
+  -- pieces that read as their cells, each as wide as it is found to be: all cells are read, whatever stands behind
+  pub each-gather : {B : Type 0} (wide : A → List ℕ → ℕ) (read : A → List ℕ → Got B C) → ((a : A) (x : List ℕ) (c : List C) → P a x c → read a x ≡ done c) → ((a : A) (x : List ℕ) (c : List C) (b : List ℕ) → P a x c → wide a (x ++ b) ≡ length x) → (bs : List A) (s : List ℕ) (cs : List C) (b : List ℕ) → Each P bs s cs → gather wide read bs (s ++ b) ≡ done cs
+  unfolding Pieces.gather
+  each-gather wide read back exact [] [] [] b none = refl
+  each-gather wide read back exact (a ∷ bs) s cs b (more x c {y} {d} p h) =
+      rw (append-assoc x y b, exact a x c (y ++ b) p, take-append-seam x (y ++ b), drop-append-seam x (y ++ b), back a x c p, each-gather wide read back exact bs y d b h)
+
+  -- pieces that are the texts of their cells: the whole is what is written for all cells
+  pub each-emit : (size : A → ℕ) (text : A → List C → List ℕ) → ((a : A) (x : List ℕ) (c : List C) → P a x c → (x ≡ text a c) × (length c ≡ size a)) → (bs : List A) (s : List ℕ) (cs : List C) → Each P bs s cs → s ≡ emit size text bs cs
+  unfolding Pieces.emit
+  each-emit size text t [] [] [] none = refl
+  each-emit size text t (a ∷ bs) s cs (more x c {y} {d} p h) =
+      let u = t a x c p in
+      rw (take-at c d (size a) (u .1), drop-at c d (size a) (u .1)) (ap₂ _++_ (u .0) (each-emit size text t bs y d h))
+
+-- piece k of the pieces, with what stands before it and behind it
+pub record Among {A C : Type 0} (P : A → List ℕ → List C → Type 0) (bs : List A) (k : ℕ) (a : A) (s : List ℕ) (cs : List C) : Type 0 where
+  pub first : List ℕ
+  pub itself : List ℕ
+  pub rest : List ℕ
+  pub first-cells : List C
+  pub cells : List C
+  pub rest-cells : List C
+  pub before : Each P (take k bs) first first-cells
+  pub holds : P a itself cells
+  pub text : s ≡ first ++ (itself ++ rest)
+  pub all : cs ≡ first-cells ++ (cells ++ rest-cells)
+
+pub among : {A C : Type 0} {P : A → List ℕ → List C → Type 0} (o : A) (bs : List A) (k : ℕ) (s : List ℕ) (cs : List C) → k < length bs → Each P bs s cs → Among P bs k (getD bs k o) s cs
+among o [] k s cs l h = absurd (omega arith)
+among o (a ∷ bs) zero s cs l (more x c {y} {d} p h) =
+    record { first = []; itself = x; rest = y; first-cells = []; cells = c; rest-cells = d; before = none; holds = p; text = refl; all = refl }
+among o (a ∷ bs) (suc k) s cs l (more x c {y} {d} p h) =
+    let m = among o bs k y d (omega arith) h in
+    record {
+      first = x ++ m .first;
+      itself = m .itself;
+      rest = m .rest;
+      first-cells = c ++ m .first-cells;
+      cells = m .cells;
+      rest-cells = m .rest-cells;
+      before = more x c p (m .before);
+      holds = m .holds;
+      text = ap (λ (z : List ℕ). x ++ z) (m .text) ∙ sym (append-assoc x (m .first) (m .itself ++ m .rest));
+      all = ap (λ z. c ++ z) (m .all) ∙ sym (append-assoc c (m .first-cells) (m .cells ++ m .rest-cells));
+    }
