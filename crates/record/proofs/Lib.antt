@@ -1,1 +1,3 @@
 -- The laws of record's definitions.
+pub mod Fitting
+pub mod Lengths
