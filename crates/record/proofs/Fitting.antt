@@ -34,7 +34,7 @@ use Rattle.reading.specs.Plan
 use Rattle.reading.specs.Plan.{planFrom}
 use Rattle.record.specs.declared.Fit.{Fit}
 use Rattle.record.specs.declared.Fit.the-variants.{All, Not}
-use Rattle.record.specs.Fitting.{firstOf, firstMisfit, elementFit, elementsFit, groupFit, fitOf}
+use Rattle.record.specs.Fitting.{Fitted, firstOf, firstMisfit, elementFit, elementsFit, groupFit, fitOf}
 use Rattle.record.specs.Text.{lineCells}
 
 -- ---- pieces of which all fit
@@ -82,10 +82,6 @@ element-fits f g e c h = by (fitsOf f c) h
 
 fits-element : (f : Form) (g e : ℕ) (c : List ℤ) → T (fitsOf f c) → elementFit f g e c ≡ All
 fits-element f g e c t = rw (T-true (fitsOf f c) t)
-
--- each of the first k elements fits
-abbrev pub Fitted : Form → ℕ → List ℤ → Type 0
-Fitted f k cs = (i : ℕ) → i < k → T (fitsOf f (take (rowOf f .cells) (drop (i * rowOf f .cells) cs)))
 
 module _ (f : Form) where
   abbrev size : ℕ → ℕ

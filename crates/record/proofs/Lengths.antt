@@ -32,9 +32,9 @@ use Rattle.count.specs.Tally.{countOf, cellsIn}
 use Rattle.reading.specs.Plan
 use Rattle.reading.specs.Plan.{Line, lineAt, planFrom, planOf, elementsIn}
 use Rattle.record.specs.declared.Fit.the-variants.{All}
-use Rattle.record.specs.Fitting.{groupFitBy, groupFit, fitOf}
+use Rattle.record.specs.Fitting.{Fitted, groupFitBy, groupFit, fitOf}
 use Rattle.record.specs.Text.{lineEnd, entriesText, indexText, lineCells, fieldsText, lineText, linesText, groupTextBy, groupText, groupsText, recordText, bytesOf, bytesBy, bytesIn, recordBytes}
-use Rattle.record.proofs.Fitting.{Fitted, elements-fitted, fitted-own, fitted-lines, groups-own}
+use Rattle.record.proofs.Fitting.{elements-fitted, fitted-own, fitted-lines, groups-own}
 
 -- ---- the index
 
