@@ -16,7 +16,7 @@ use Rattle.base.specs.Part.{part}
 use Rattle.base.specs.Pieces.{done, Each}
 use Rattle.base.specs.Sum
 use Rattle.base.specs.Sum.{sum}
-use Rattle.base.proofs.Mapped.{map-take}
+use Rattle.base.proofs.Each.{each-cells, each-emit, own-each}
 use Rattle.base.proofs.Part.{part-middle}
 use Rattle.base.proofs.UpFrom.{length-up}
 use Rattle.form.specs.declared.Form.{Form}
@@ -39,7 +39,6 @@ use Rattle.place.proofs.Tiling.{part-lines}
 use Rattle.reading.specs.Read.{readLines}
 use Rattle.record.specs.Text.{groupTextBy, groupText, groupsText, indexText, recordText}
 use Rattle.record.specs.Canonical.{CanonicalGroupBy, CanonicalGroup, CanonicalRecord}
-use Rattle.record.proofs.Pieced.{each-cells, each-emit, Among, among}
 use Rattle.record.proofs.CanonicalGroups as Lines
 use Rattle.record.proofs.CanonicalGroups.{each-whole}
 use Rattle.record.proofs.CanonicalIndex.{index-line-text, index-whole, index-read}

@@ -19,8 +19,9 @@ use Rattle.base.specs.Pieces.{done, bad, Each, none, more}
 use Rattle.base.specs.Sum
 use Rattle.base.specs.Sum.{sum}
 use Rattle.base.proofs.Choice.{T-true, and-left, and-right, and-both}
+use Rattle.base.proofs.Each.{each-cells, each-bytes, each-passed, each-gather, each-emit}
 use Rattle.base.proofs.Taken.{drop-none}
-use Rattle.base.proofs.UpFrom.{length-up}
+use Rattle.base.proofs.UpFrom.{sum-up-same}
 use Rattle.form.specs.declared.Form.{Form}
 use Rattle.form.specs.Table.{rowOf}
 use Rattle.form.specs.Count.{elementsOf, linesOf, cellsOf}
@@ -42,7 +43,7 @@ use Rattle.reading.specs.Read.{Cells, readField, readFields, columnsOf, readLin
 use Rattle.reading.proofs.Sizes.{group-size}
 use Rattle.record.specs.Text.{lineEnd, lineCells, fieldsText, lineText, linesText}
 use Rattle.record.specs.Canonical.{Ended, CanonicalLine, CanonicalLines}
-use Rattle.record.proofs.Pieced.{each-cells, each-bytes, each-passed, each-gather, each-emit}
+use Rattle.record.proofs.Lengths.{plan-length}
 
 -- ---- lines in pieces
 
@@ -71,11 +72,6 @@ unfolding Sum.sum
 sum-ones [] = refl
 sum-ones (x ∷ xs) = omega (arith, sum-ones xs)
 
-sum-same : (c a k : ℕ) → sum (map (λ (e : ℕ). c) (upFrom a k)) ≡ k * c
-unfolding Every.upFrom Sum.sum
-sum-same c a zero = sym (zero-mul c)
-sum-same c a (suc k) = ap (λ n. c + n) (sum-same c (suc a) k) ∙ omega (arith, suc-mul k c)
-
 -- ---- a field, and the fields of a line
 
 module _ (f : Form) where
@@ -98,10 +94,10 @@ module _ (f : Form) where
 
   module _ (l : Line) (s : List ℕ) (cs : List ℤ) (h : Each Field (elementsIn l) s cs) where
     fields-cells : length cs ≡ lineCells f l
-    fields-cells = each-cells (λ (e : ℕ). rowOf f .cells) field-cells (elementsIn l) s cs h ∙ sum-same (rowOf f .cells) (l .first) (l .many)
+    fields-cells = each-cells (λ (e : ℕ). rowOf f .cells) field-cells (elementsIn l) s cs h ∙ sum-up-same (rowOf f .cells) (l .first) (l .many)
 
     fields-bytes : length s ≡ columnsOf f l
-    fields-bytes = each-bytes (λ (e : ℕ). rowOf f .width) (λ e x c p. p .width) (elementsIn l) s cs h ∙ sum-same (rowOf f .width) (l .first) (l .many)
+    fields-bytes = each-bytes (λ (e : ℕ). rowOf f .width) (λ e x c p. p .width) (elementsIn l) s cs h ∙ sum-up-same (rowOf f .width) (l .first) (l .many)
 
     fields-text : s ≡ fieldsText f l cs
     unfolding fieldsText
@@ -150,10 +146,6 @@ module _ (f : Form) where
   plan-few p n j (suc k) =
       and-both (leb (min p (n - j * p)) p) (every (λ l. leb (l .many) p) (planFrom p n (suc j) k)) (le→leb (min p (n - j * p)) p (omega arith)) (plan-few p n (suc j) k)
 
-  plan-length : (p n j k : ℕ) → length (planFrom p n j k) ≡ k
-  unfolding Plan.planFrom
-  plan-length p n j k = length-map (upFrom j k) (lineAt p n) ∙ length-up j k
-
   module _ (count : ℕ) (x : List ℕ) (cs : List ℤ) (h : CanonicalLines f count x cs) where
     pub lines-text : x ≡ linesText f count cs
     unfolding linesText
@@ -162,7 +154,7 @@ module _ (f : Form) where
     pub lines-whole : Whole (linesOf f count) x
     unfolding Plan.planOf
     lines-whole =
-        subst (λ k. Whole k x) (sum-ones (planOf f count) ∙ plan-length (rowOf f .«per_line») (elementsOf f count) 0 (linesOf f count))
+        subst (λ k. Whole k x) (sum-ones (planOf f count) ∙ plan-length f count)
         (each-whole (λ (l : Line). 1) line-whole (planOf f count) x cs h)
 
     pub lines-read : readLines f count x ≡ done cs

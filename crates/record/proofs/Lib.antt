@@ -1,7 +1,11 @@
 -- The laws of record's definitions.
-pub mod Pieced
+pub mod Fitting
+pub mod Lengths
 pub mod CanonicalGroups
 pub mod CanonicalIndex
 pub mod Canonical
 pub mod Standing
 pub mod Done
+pub mod Written
+pub mod GroupRead
+pub mod ReadsBack

@@ -16,9 +16,10 @@ use Rattle.base.specs.Part.{part}
 use Rattle.base.specs.Pieces.{Each}
 use Rattle.base.specs.Sum
 use Rattle.base.specs.Sum.{sum}
+use Rattle.base.proofs.Each.{each-cells, Among, among}
 use Rattle.base.proofs.Mapped.{map-take}
 use Rattle.base.proofs.Part.{part-middle}
-use Rattle.base.proofs.UpFrom.{length-up}
+use Rattle.base.proofs.UpFrom.{length-up, getD-up}
 use Rattle.line.specs.Lines.{feeds, lines, behind, Whole}
 use Rattle.line.proofs.Feeds.{feeds-le}
 use Rattle.line.proofs.Whole.{whole-append, reach-whole, lines-whole, behind-whole, feeds-whole}
@@ -33,16 +34,9 @@ use Rattle.place.specs.Parts.{groupPart}
 use Rattle.place.proofs.Placed.{IsLocated, is-located}
 use Rattle.place.proofs.Tiling.{part-lines}
 use Rattle.record.specs.Canonical.{CanonicalGroup, CanonicalRecord}
-use Rattle.record.proofs.Pieced.{each-cells, Among, among}
 use Rattle.record.proofs.CanonicalGroups.{each-whole}
 use Rattle.record.proofs.CanonicalIndex.{index-whole, index-read}
 use Rattle.record.proofs.Canonical.{group-whole, group-cells, canonical-whole}
-
-getD-up : (a n i d : ℕ) → i < n → getD (upFrom a n) i d ≡ a + i
-unfolding Every.upFrom
-getD-up a zero i d h = absurd (omega arith)
-getD-up a (suc n) zero d h = sym (add-zero a)
-getD-up a (suc n) (suc i) d h = getD-up (suc a) n i d (omega arith) ∙ suc-add a i ∙ sym (add-suc a i)
 
 cells-more : (ns : List ℕ) (g : ℕ) → 0 < g → g < 61 → cellsBefore ns (suc g) ≡ cellsBefore ns g + cellsIn ns g
 unfolding Tally.cellsBefore Tally.cellTally

@@ -1,31 +1,30 @@
--- Texts in pieces: how many cells and bytes they have; what is read from them, whatever stands behind; that they are what is written; a piece
--- among the others.
+-- A text that is pieces: how many cells and bytes it has; what is read from it, whatever stands behind, and that what is read as a whole is
+-- such a text; that it is what is written, and what is written is such a text; pieces of pieces; a piece among the others.
 -- Assumes nothing.
-use mathlib.Core.Path.{_≡_, refl, sym, _∙_, ap, ap₂}
+use mathlib.Core.Path.{_≡_, refl, sym, _∙_, ap, ap₂, subst}
 use mathlib.Core.Bool.{Bool}
-use mathlib.Core.List.{List, [], _∷_, _++_, map, append-assoc}
-use Prim.Native.Nat.{ℕ, zero, suc, _+_, _<_}
+use mathlib.Core.List.{List, [], _∷_, _++_, map, flatMap, append-assoc}
+use Prim.Native.Nat.{ℕ, zero, suc, _+_, _-_, _<_, _≤_}
 use native.Mathlib.Omega.{arith}
 use lib.Dec.{T}
-use lib.ListN.{length, take, drop, getD, length-append}
-use lib.Seq.{take-append-seam, drop-append-seam, take-at, drop-at}
+use lib.ListN.{length, take, drop, getD, length-append, length-drop, take-append-drop}
+use lib.Seq.{take-append-seam, drop-append-seam, take-at, drop-at, length-take-le}
 use Rattle.base.specs.Every.{every}
-use Rattle.base.specs.Pieces
-use Rattle.base.specs.Pieces.{Got, done, bad, both, gather, emit, Each, none, more}
-use Rattle.base.specs.Sum
+use Rattle.base.specs.Pieces.{Got, done, bad, both, gather, emit, Own, Each, none, more}
 use Rattle.base.specs.Sum.{sum}
 use Rattle.base.proofs.Choice.{and-left, and-right}
+use Rattle.base.proofs.Pieces.{both-done}
 
 module _ {A C : Type 0} {P : A → List ℕ → List C → Type 0} where
   -- as many cells, and as many bytes, as all pieces together
   pub each-cells : (size : A → ℕ) → ((a : A) (x : List ℕ) (c : List C) → P a x c → length c ≡ size a) → (bs : List A) (s : List ℕ) (cs : List C) → Each P bs s cs → length cs ≡ sum (map size bs)
-  unfolding Sum.sum
+  unfolding sum
   each-cells size l [] [] [] none = refl
   each-cells size l (a ∷ bs) s cs (more x c {y} {d} p h) =
       length-append c d ∙ ap₂ _+_ (l a x c p) (each-cells size l bs y d h)
 
   pub each-bytes : (size : A → ℕ) → ((a : A) (x : List ℕ) (c : List C) → P a x c → length x ≡ size a) → (bs : List A) (s : List ℕ) (cs : List C) → Each P bs s cs → length s ≡ sum (map size bs)
-  unfolding Sum.sum
+  unfolding sum
   each-bytes size l [] [] [] none = refl
   each-bytes size l (a ∷ bs) s cs (more x c {y} {d} p h) =
       length-append x y ∙ ap₂ _+_ (l a x c p) (each-bytes size l bs y d h)
@@ -43,18 +42,62 @@ module _ {A C : Type 0} {P : A → List ℕ → List C → Type 0} where
 
   -- pieces that read as their cells, each as wide as it is found to be: all cells are read, whatever stands behind
   pub each-gather : {B : Type 0} (wide : A → List ℕ → ℕ) (read : A → List ℕ → Got B C) → ((a : A) (x : List ℕ) (c : List C) → P a x c → read a x ≡ done c) → ((a : A) (x : List ℕ) (c : List C) (b : List ℕ) → P a x c → wide a (x ++ b) ≡ length x) → (bs : List A) (s : List ℕ) (cs : List C) (b : List ℕ) → Each P bs s cs → gather wide read bs (s ++ b) ≡ done cs
-  unfolding Pieces.gather
+  unfolding gather
   each-gather wide read back exact [] [] [] b none = refl
   each-gather wide read back exact (a ∷ bs) s cs b (more x c {y} {d} p h) =
       rw (append-assoc x y b, exact a x c (y ++ b) p, take-append-seam x (y ++ b), drop-append-seam x (y ++ b), back a x c p, each-gather wide read back exact bs y d b h)
 
   -- pieces that are the texts of their cells: the whole is what is written for all cells
   pub each-emit : (size : A → ℕ) (text : A → List C → List ℕ) → ((a : A) (x : List ℕ) (c : List C) → P a x c → (x ≡ text a c) × (length c ≡ size a)) → (bs : List A) (s : List ℕ) (cs : List C) → Each P bs s cs → s ≡ emit size text bs cs
-  unfolding Pieces.emit
+  unfolding emit
   each-emit size text t [] [] [] none = refl
   each-emit size text t (a ∷ bs) s cs (more x c {y} {d} p h) =
       let u = t a x c p in
       rw (take-at c d (size a) (u .1), drop-at c d (size a) (u .1)) (ap₂ _++_ (u .0) (each-emit size text t bs y d h))
+
+-- what is written for pieces, each of which has its own cells and a text for them
+pub own-each : {A C : Type 0} {P : A → List ℕ → List C → Type 0} (size : A → ℕ) (text : A → List C → List ℕ) (Q : A → List C → Type 0) → ((a : A) (c : List C) → length c ≡ size a → Q a c → P a (text a c) c) → (bs : List A) (cs : List C) → length cs ≡ sum (map size bs) → Own size Q bs cs → Each P bs (emit size text bs cs) cs
+unfolding sum emit Own
+own-each size text Q t [] [] l o = none
+own-each size text Q t [] (c ∷ cs) l o = absurd (omega arith)
+own-each {P = P} size text Q t (a ∷ bs) cs l o =
+    let c = take (size a) cs in
+    let d = drop (size a) cs in
+    let r : length d ≡ sum (map size bs) = length-drop (size a) cs ∙ omega arith in
+    subst (Each P (a ∷ bs) (text a c ++ emit size text bs d)) (take-append-drop (size a) cs)
+    (more (text a c) c (t a c (length-take-le (size a) cs (omega arith)) (o .0)) (own-each size text Q t bs d r (o .1)))
+
+-- some text is pieces with these cells
+pub record Pieced {A C : Type 0} (P : A → List ℕ → List C → Type 0) (bs : List A) (cs : List C) : Type 0 where
+  pub text : List ℕ
+  pub each : Each P bs text cs
+
+-- what is read as a whole is the pieces that were read
+pub gather-each : {A B C : Type 0} (wide : A → List ℕ → ℕ) (read : A → List ℕ → Got B C) (bs : List A) (s : List ℕ) (cs : List C) → gather wide read bs s ≡ done cs → Pieced (λ a x c. read a x ≡ done c) bs cs
+unfolding gather
+gather-each {A} {B} {C} wide read [] s cs e =
+    let z : [] ≡ cs = cc in
+    subst (Pieced (λ a x c. read a x ≡ done c) []) z record { text = []; each = none }
+gather-each {A} {B} {C} wide read (a ∷ bs) s cs e =
+    let x = take (wide a s) s in
+    let d = both-done (read a x) (gather wide read bs (drop (wide a s) s)) cs e in
+    let r = gather-each wide read bs (drop (wide a s) s) (d .second) (d .second-is) in
+    subst (Pieced (λ a x c. read a x ≡ done c) (a ∷ bs)) (sym (d .all)) record { text = x ++ r .text; each = more x (d .first) (d .first-is) (r .each) }
+
+-- pieces behind one another
+pub each-append : {A C : Type 0} {P : A → List ℕ → List C → Type 0} (ks bs : List A) (s t : List ℕ) (cs ds : List C) → Each P ks s cs → Each P bs t ds → Each P (ks ++ bs) (s ++ t) (cs ++ ds)
+each-append [] bs [] t [] ds none k = k
+each-append {P = P} (a ∷ ks) bs s t cs ds (more x c {y} {d} p h) k =
+    subst (λ z. Each P (a ∷ (ks ++ bs)) z ((c ++ d) ++ ds)) (sym (append-assoc x y t))
+    (subst (Each P (a ∷ (ks ++ bs)) (x ++ (y ++ t))) (sym (append-assoc c d ds)) (more x c p (each-append ks bs y t d ds h k)))
+
+-- pieces that are pieces themselves
+pub each-flat : {A B C : Type 0} {P : B → List ℕ → List C → Type 0} (inner : A → List B) (ks : List A) (s : List ℕ) (cs : List C) → Each (λ a x c. Pieced P (inner a) c) ks s cs → Pieced P (flatMap inner ks) cs
+unfolding flatMap
+each-flat inner [] [] [] none = record { text = []; each = none }
+each-flat inner (a ∷ ks) s cs (more x c {y} {d} p h) =
+    let r = each-flat inner ks y d h in
+    record { text = p .text ++ r .text; each = each-append (inner a) (flatMap inner ks) (p .text) (r .text) c d (p .each) (r .each) }
 
 -- piece k of the pieces, with what stands before it and behind it
 pub record Among {A C : Type 0} (P : A → List ℕ → List C → Type 0) (bs : List A) (k : ℕ) (a : A) (s : List ℕ) (cs : List C) : Type 0 where
