@@ -26,7 +26,7 @@ use Rattle.group.specs.Text
 use Rattle.group.specs.Text.{readAtBy, readAt}
 use Rattle.record.specs.declared.Writing.the-variants.{Done}
 use Rattle.record.specs.Canonical.{CanonicalGroup, CanonicalRecord}
-use Rattle.record.specs.RoundTrip.{ReadsBack}
+use Rattle.record.specs.RoundTrip.{groupCells, ReadsBack}
 use Rattle.record.specs.Text.{recordText, recordBytes}
 use Rattle.record.specs.Writing.{dateLetters, writingOf}
 use Rattle.record.proofs.Canonical.{group-read}
@@ -48,15 +48,12 @@ read-located s at n ns g room low high e = by (formOf g) refl
 -- ---- a canonical record reads back
 
 module _ {ns x : List ℕ} {cs : List ℤ} (h : CanonicalRecord ns x cs) (five : releaseOf ns ≡ Five) (kept : rulingOf ns ≡ Kept) (told : TellsDate (dateLetters ns cs)) where
-  abbrev own : ℕ → List ℤ
-  own g = part (cellsBefore ns g) (cellsBefore ns (suc g)) cs
-
-  group-back : (g room : ℕ) (y : List ℕ) → 1 ≤ g → g ≤ 60 → cellsIn ns g ≤ room → CanonicalGroup ns g y (own g) → GroupReads ns g y room (own g)
+  group-back : (g room : ℕ) (y : List ℕ) → 1 ≤ g → g ≤ 60 → cellsIn ns g ≤ room → CanonicalGroup ns g y (groupCells ns cs g) → GroupReads ns g y room (groupCells ns cs g)
   unfolding Tally.cellsIn
   group-back g room y low high enough p = by (formOf g) refl enough
     where
-      by : (h : GroupForm) → formOf g ≡ h → cellsBy h (countOf ns g) ≤ room → GroupReads ns g y room (own g)
-      by (Has f) u l = record { form = f; has = u; enough = l; lines = group-read ns g f y (own g) u p; date = λ e. rw e told }
+      by : (h : GroupForm) → formOf g ≡ h → cellsBy h (countOf ns g) ≤ room → GroupReads ns g y room (groupCells ns cs g)
+      by (Has f) u l = record { form = f; has = u; enough = l; lines = group-read ns g f y (groupCells ns cs g) u p; date = λ e. rw e told }
       by NoGroup u l = absurd (has-form g low (omega arith) u)
 
   pub canonical-back : (a b : List ℕ) → ReadsBack ns cs (length x) (a ++ (x ++ b)) (length a)
@@ -70,7 +67,7 @@ module _ {ns x : List ℕ} {cs : List ℤ} (h : CanonicalRecord ns x cs) (five :
         counts = ap countsBy l;
         groups = λ g room low high enough.
             read-located s at (at + length x) ns g room low high l
-            ∙ reads-group ns g (groupPart s at ns g) room (own g) kept (group-back g room (groupPart s at ns g) low high enough (standing-group h a b g low high));
+            ∙ reads-group ns g (groupPart s at ns g) room (groupCells ns cs g) kept (group-back g room (groupPart s at ns g) low high enough (standing-group h a b g low high));
       }
 
 -- ---- what was written reads back

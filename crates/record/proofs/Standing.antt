@@ -36,11 +36,17 @@ use Rattle.place.proofs.Tiling.{part-lines}
 use Rattle.record.specs.Canonical.{CanonicalGroup, CanonicalRecord}
 use Rattle.record.proofs.CanonicalGroups.{each-whole}
 use Rattle.record.proofs.CanonicalIndex.{index-whole, index-read}
+use Rattle.record.specs.RoundTrip.{groupCells}
+use Rattle.record.proofs.GroupCells.{GroupAmong, group-among}
 use Rattle.record.proofs.Canonical.{group-whole, group-cells, canonical-whole}
 
-cells-more : (ns : List ℕ) (g : ℕ) → 0 < g → g < 61 → cellsBefore ns (suc g) ≡ cellsBefore ns g + cellsIn ns g
-unfolding Tally.cellsBefore Tally.cellTally
-cells-more ns g some few = rw (add-one g) at (tally-more 0 (cellsIn ns) g some few)
+-- the index and the groups before group g
+lines-before : (ns : List ℕ) (g : ℕ) → 1 ≤ g → linesBefore ns g ≡ 2 + sum (map (linesIn ns) (take (g - 1) (upFrom 1 60)))
+unfolding Tally.linesBefore Tally.lineTally Sum.sum
+lines-before ns zero low = absurd (omega arith)
+lines-before ns (suc k) low =
+    let e : suc k - 1 ≡ k = omega arith in
+    rw (e, map-take (linesIn ns) k (upFrom 1 60))
 
 module _ {ns x : List ℕ} {cs : List ℤ} (h : CanonicalRecord ns x cs) (a b : List ℕ) where
   abbrev pub inText : List ℕ
@@ -61,41 +67,22 @@ module _ {ns x : List ℕ} {cs : List ℤ} (h : CanonicalRecord ns x cs) (a b : 
         next = rw d (ap (λ k. length a + k) (sym (reach-whole b u)));
       }
 
-  -- the groups before one, and it
-  module _ (k : ℕ) (few : k < 60) where
-    m : Among (CanonicalGroup ns) (upFrom 1 60) k (getD (upFrom 1 60) k 0) (h .groups) cs
-    m = among 0 (upFrom 1 60) k (h .groups) cs (omega (arith, length-up 1 60)) (h .each)
+  -- a group is found behind the lines of the groups before it
+  module _ (g : ℕ) (low : 1 ≤ g) (high : g ≤ 60) where
+    m : GroupAmong ns (CanonicalGroup ns) (h .groups) cs g
+    m = group-among ns (group-cells ns) (h .groups) cs (h .each) g low high
 
-    it : CanonicalGroup ns (suc k) (m .itself) (m .cells)
-    it =
-        let e : getD (upFrom 1 60) k 0 ≡ suc k = getD-up 1 60 k 0 few ∙ omega arith in
-        subst (λ g. CanonicalGroup ns g (m .itself) (m .cells)) e (m .holds)
-
-    before-lines : Whole (linesBefore ns (suc k)) ((h .first ++ h .second) ++ m .first)
-    unfolding Tally.linesBefore Tally.lineTally Sum.sum
+    before-lines : Whole (linesBefore ns g) ((h .first ++ h .second) ++ m .first)
     before-lines =
-        rw (← map-take (linesIn ns) k (upFrom 1 60))
-        (whole-append (index-whole ns (h .first) (h .second) (h .many) (h .first-line) (h .second-line)) (each-whole (linesIn ns) (group-whole ns) (take k (upFrom 1 60)) (m .first) (m .first-cells) (m .before)))
+        subst (λ k. Whole k ((h .first ++ h .second) ++ m .first)) (sym (lines-before ns g low))
+        (whole-append (index-whole ns (h .first) (h .second) (h .many) (h .first-line) (h .second-line)) (each-whole (linesIn ns) (group-whole ns) (take (g - 1) (upFrom 1 60)) (m .first) (m .first-cells) (m .before)))
 
-    before-cells : length (m .first-cells) ≡ cellsBefore ns (suc k)
-    unfolding Tally.cellsBefore Tally.cellTally Sum.sum
-    before-cells =
-        each-cells (cellsIn ns) (group-cells ns) (take k (upFrom 1 60)) (m .first) (m .first-cells) (m .before)
-        ∙ rw (← map-take (cellsIn ns) k (upFrom 1 60)) (omega arith)
-
-    its-lines : groupPart inText (length a) ns (suc k) ≡ m .itself
+    its-lines : groupPart inText (length a) ns g ≡ m .itself
     its-lines =
         let t : x ++ b ≡ ((h .first ++ h .second) ++ m .first) ++ (m .itself ++ (m .rest ++ b)) = ap (λ y. y ++ b) (h .is ∙ ap (λ y. (h .first ++ h .second) ++ y) (m .text)) ∙ simp append-assoc in
-        part-lines inText (length a) ns (suc k) (omega arith)
-        ∙ rw (line-entry ns (suc k) (omega arith) (omega arith), drop-append-seam a (x ++ b), t, behind-whole (m .itself ++ (m .rest ++ b)) before-lines)
-        (lines-whole (m .rest ++ b) (group-whole ns (suc k) (m .itself) (m .cells) it))
+        part-lines inText (length a) ns g (omega arith)
+        ∙ rw (line-entry ns g low (omega arith), drop-append-seam a (x ++ b), t, behind-whole (m .itself ++ (m .rest ++ b)) before-lines)
+        (lines-whole (m .rest ++ b) (group-whole ns g (m .itself) (groupCells ns cs g) (m .holds)))
 
-    its-cells : part (cellsBefore ns (suc k)) (cellsBefore ns (suc (suc k))) cs ≡ m .cells
-    its-cells =
-        let e : cellsBefore ns (suc (suc k)) ≡ length (m .first-cells) + length (m .cells) = cells-more ns (suc k) (omega arith) (omega arith) ∙ omega (arith, before-cells, group-cells ns (suc k) (m .itself) (m .cells) it) in
-        ap (part (cellsBefore ns (suc k)) (cellsBefore ns (suc (suc k)))) (m .all)
-        ∙ rw (e, ← before-cells) (part-middle (m .first-cells) (m .cells) (m .rest-cells))
-
-  pub standing-group : (g : ℕ) → 1 ≤ g → g ≤ 60 → CanonicalGroup ns g (groupPart inText (length a) ns g) (part (cellsBefore ns g) (cellsBefore ns (suc g)) cs)
-  standing-group zero low high = absurd (omega arith)
-  standing-group (suc k) low high = rw (its-lines k (omega arith), its-cells k (omega arith)) (it k (omega arith))
+    pub standing-group : CanonicalGroup ns g (groupPart inText (length a) ns g) (groupCells ns cs g)
+    standing-group = rw its-lines (m .holds)

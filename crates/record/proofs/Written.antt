@@ -95,6 +95,12 @@ by-canonical : (h : GroupForm) (g count : ℕ) (c : List ℤ) → (h ≡ NoGroup
 by-canonical (Has f) g count c some n e = lines-canonical f count c n (elements-fitted f g count c e)
 by-canonical NoGroup g count c some n e = some refl
 
+-- ---- a record
+
+pub all-groups : T (every (λ g. leb 1 g && leb g 60) (upFrom 1 60))
+unfolding Every.upFrom
+all-groups = tt
+
 module _ (ns : List ℕ) where
   group-canonical : (g : ℕ) (c : List ℤ) → length c ≡ cellsIn ns g → groupFit ns g c ≡ All → T (leb 1 g && leb g 60) → CanonicalGroup ns g (groupText ns g c) c
   unfolding groupText Tally.cellsIn
@@ -102,12 +108,6 @@ module _ (ns : List ℕ) where
       let low = leb→le 1 g (and-left (leb 1 g) (leb g 60) t) in
       let high = leb→le g 60 (and-right (leb 1 g) (leb g 60) t) in
       by-canonical (formOf g) g (countOf ns g) c (has-form g low (omega arith)) n e
-
-  -- ---- a record
-
-  all-groups : T (every (λ g. leb 1 g && leb g 60) (upFrom 1 60))
-  unfolding Every.upFrom
-  all-groups = tt
 
   groups-canonical : (cs : List ℤ) → length cs ≡ recordCells ns → fitOf ns cs ≡ All → Each (CanonicalGroup ns) (upFrom 1 60) (groupsText ns cs) cs
   unfolding groupsText Tally.cellTally Sum.sum

@@ -11,13 +11,17 @@ use Rattle.place.specs.declared.Placing.the-variants.{Placed}
 use Rattle.place.specs.Placing.{placingOf, countsAt}
 use Rattle.group.specs.Text.{readAt}
 
+-- the cells of group g: those behind the cells of the groups before it
+abbrev pub groupCells : List ℕ → List ℤ → ℕ → List ℤ
+groupCells ns cs g = part (cellsBefore ns g) (cellsBefore ns (suc g)) cs
+
 -- n bytes that stand at a place of a text read back as these counts and cells
 pub record ReadsBack (ns : List ℕ) (cs : List ℤ) (n : ℕ) (s : List ℕ) (at : ℕ) : Type 0 where
   -- placing gives 0, with the place behind the n bytes and the same counts
   pub placed : placingOf s at ≡ Placed (at + n)
   pub counts : countsAt s at ≡ ns
   -- every group reads with 0 as its own cells, into any table with room
-  pub groups : (g room : ℕ) → 1 ≤ g → g ≤ 60 → cellsIn ns g ≤ room → readAt s at g room ≡ done (part (cellsBefore ns g) (cellsBefore ns (suc g)) cs)
+  pub groups : (g room : ℕ) → 1 ≤ g → g ≤ 60 → cellsIn ns g ≤ room → readAt s at g room ≡ done (groupCells ns cs g)
 
 -- a record is placed with 0 at a place of a text, with its next place, and every group reads with 0 as its cells
 pub record ReadWhole (s : List ℕ) (at next : ℕ) (cells : ℕ → List ℤ) : Type 0 where
