@@ -14,3 +14,5 @@ pub mod ReadsBack
 pub mod ReadFits
 pub mod IndexCounts
 pub mod ReadWrites
+pub mod Instance
+pub mod Cases

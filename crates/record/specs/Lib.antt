@@ -6,3 +6,4 @@ pub mod Canonical
 pub mod Fitting
 pub mod Writing
 pub mod RoundTrip
+pub mod Cases
