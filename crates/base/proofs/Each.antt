@@ -4,13 +4,13 @@
 use mathlib.Core.Path.{_≡_, refl, sym, _∙_, ap, ap₂, subst}
 use mathlib.Core.Bool.{Bool}
 use mathlib.Core.List.{List, [], _∷_, _++_, map, flatMap, append-assoc}
-use Prim.Native.Nat.{ℕ, zero, suc, _+_, _-_, _<_, _≤_}
+use Prim.Native.Nat.{ℕ, zero, suc, _+_, _<_}
 use native.Mathlib.Omega.{arith}
 use lib.Dec.{T}
 use lib.ListN.{length, take, drop, getD, length-append, length-drop, take-append-drop}
 use lib.Seq.{take-append-seam, drop-append-seam, take-at, drop-at, length-take-le}
 use Rattle.base.specs.Every.{every}
-use Rattle.base.specs.Pieces.{Got, done, bad, both, gather, emit, Own, Each, none, more}
+use Rattle.base.specs.Pieces.{Got, done, gather, emit, Own, Each, none, more}
 use Rattle.base.specs.Sum.{sum}
 use Rattle.base.proofs.Choice.{and-left, and-right}
 use Rattle.base.proofs.Pieces.{both-done}
@@ -66,6 +66,21 @@ own-each {P = P} size text Q t (a ∷ bs) cs l o =
     let r : length d ≡ sum (map size bs) = length-drop (size a) cs ∙ omega arith in
     subst (Each P (a ∷ bs) (text a c ++ emit size text bs d)) (take-append-drop (size a) cs)
     (more (text a c) c (t a c (length-take-le (size a) cs (omega arith)) (o .0)) (own-each size text Q t bs d r (o .1)))
+
+-- and back: each piece has its own cells
+module _ {A C : Type 0} {P : A → List ℕ → List C → Type 0} where
+  pub each-own : (size : A → ℕ) (Q : A → List C → Type 0) → ((a : A) (x : List ℕ) (c : List C) → P a x c → (length c ≡ size a) × Q a c) → (bs : List A) (s : List ℕ) (cs : List C) → Each P bs s cs → Own size Q bs cs
+  unfolding Own
+  each-own size Q t [] [] [] none = tt
+  each-own size Q t (a ∷ bs) s cs (more x c {y} {d} p h) =
+      let u = t a x c p in
+      rw (take-at c d (size a) (u .0), drop-at c d (size a) (u .0)) (u .1, each-own size Q t bs y d h)
+
+-- texts and cells of pieces, one behind the other
+pub flat-each : {A C : Type 0} (text : A → List ℕ) (cells : A → List C) (bs : List A) → Each (λ a x c. (x ≡ text a) × (c ≡ cells a)) bs (flatMap text bs) (flatMap cells bs)
+unfolding flatMap
+flat-each text cells [] = none
+flat-each text cells (a ∷ bs) = more (text a) (cells a) (refl, refl) (flat-each text cells bs)
 
 -- some text is pieces with these cells
 pub record Pieced {A C : Type 0} (P : A → List ℕ → List C → Type 0) (bs : List A) (cs : List C) : Type 0 where

@@ -1,47 +1,31 @@
 -- A canonical record: each canonical record is the text that is written for its counts and cells, so that two with equal counts and cells are
 -- equal bytes; and wherever it stands in whatever text, its counts are found, and the lines of each group read as the group's own cells.
 -- Assumes nothing.
-use mathlib.Core.Path.{_≡_, refl, sym, _∙_, ap, ap₂, subst}
-use mathlib.Core.List.{List, [], _∷_, _++_, map, append-assoc}
-use Prim.Native.Nat.{ℕ, zero, suc, _+_, _-_, _<_, _≤_}
-use native.Mathlib.Nat.{zero-add, add-zero, add-suc, suc-add}
-use native.Mathlib.Numerals.{add-one}
-use native.Mathlib.Omega.{arith}
+use mathlib.Core.Path.{_≡_, sym, _∙_, ap₂, subst}
+use mathlib.Core.List.{List, _++_, map}
+use Prim.Native.Nat.{ℕ}
+use native.Mathlib.Nat.{zero-add}
 use lib.IntN.{ℤ}
-use lib.ListN.{length, take, drop, getD, length-append}
-use lib.Seq.{drop-append-seam}
-use Rattle.base.specs.Every
+use lib.ListN.{length, take, drop}
 use Rattle.base.specs.Every.{upFrom}
-use Rattle.base.specs.Part.{part}
-use Rattle.base.specs.Pieces.{done, Each}
+use Rattle.base.specs.Pieces.{done}
 use Rattle.base.specs.Sum
 use Rattle.base.specs.Sum.{sum}
-use Rattle.base.proofs.Each.{each-cells, each-emit, own-each}
-use Rattle.base.proofs.Part.{part-middle}
-use Rattle.base.proofs.UpFrom.{length-up}
+use Rattle.base.proofs.Each.{each-cells, each-emit}
 use Rattle.form.specs.declared.Form.{Form}
 use Rattle.form.specs.declared.GroupForm.{GroupForm}
 use Rattle.form.specs.declared.GroupForm.the-variants.{Has, NoGroup}
 use Rattle.form.specs.Table.{formOf}
-use Rattle.line.specs.Lines.{feeds, Whole}
-use Rattle.line.proofs.Feeds.{feeds-le}
-use Rattle.line.proofs.Whole.{whole-append, reach-whole, lines-whole, behind-whole, feeds-whole}
+use Rattle.line.specs.Lines.{Whole}
+use Rattle.line.proofs.Whole.{whole-append}
 use Rattle.count.specs.Tally
-use Rattle.count.specs.Tally.{countOf, linesBy, cellsBy, linesIn, cellsIn, lineTally, cellTally, linesBefore, cellsBefore, recordLines, recordCells}
-use Rattle.count.specs.Rules.{releaseOf}
-use Rattle.count.specs.declared.Release.the-variants.{Five}
-use Rattle.count.proofs.Tallied.{line-entry, record-two, tally-more}
-use Rattle.place.specs.Index.{counts, readIndex}
-use Rattle.place.specs.Placing.{located, locate}
-use Rattle.place.specs.Parts.{groupPart}
-use Rattle.place.proofs.Placed.{IsLocated, is-located}
-use Rattle.place.proofs.Tiling.{part-lines}
+use Rattle.count.specs.Tally.{countOf, linesBy, cellsBy, linesIn, cellsIn, recordLines, recordCells}
 use Rattle.reading.specs.Read.{readLines}
 use Rattle.record.specs.Text.{groupTextBy, groupText, groupsText, indexText, recordText}
 use Rattle.record.specs.Canonical.{CanonicalGroupBy, CanonicalGroup, CanonicalRecord}
 use Rattle.record.proofs.CanonicalGroups as Lines
 use Rattle.record.proofs.CanonicalGroups.{each-whole}
-use Rattle.record.proofs.CanonicalIndex.{index-line-text, index-whole, index-read}
+use Rattle.record.proofs.CanonicalIndex.{index-line-text, index-whole}
 
 -- ---- a group, by its form
 

@@ -1,32 +1,33 @@
 -- A canonical group, line by line: how many lines and cells it has, that it is the text that is written for its cells, and that it reads as
 -- these.
 -- Assumes nothing.
-use mathlib.Core.Path.{_≡_, refl, sym, _∙_, ap, ap₂, subst}
+use mathlib.Core.Path.{_≡_, sym, _∙_, ap, subst}
 use mathlib.Core.Bool.{Bool, true, false, cond, not}
 use mathlib.Core.List.{List, [], _∷_, _++_, map, append-nil}
-use Prim.Native.Nat.{ℕ, zero, suc, _+_, _-_, _*_, _≤_, min}
-use native.Mathlib.Nat.{zero-mul, suc-mul, mul-comm, mul-le-mul-right}
+use Prim.Native.Nat.{ℕ, zero, suc, _-_, _*_, _≤_, min}
+use native.Mathlib.Nat.{mul-comm, mul-le-mul-right}
 use native.Mathlib.Omega.{arith}
 use borrow.Author.Tests.{eq-eqb}
 use lib.Dec.{T, leb, eqb, leb→le, le→leb}
 use lib.IntN.{ℤ}
-use lib.ListN.{length, take, drop, length-map}
+use lib.ListN.{length, take}
 use lib.Seq.{take-at}
 use Rattle.base.specs.Every
-use Rattle.base.specs.Every.{every, upFrom}
+use Rattle.base.specs.Every.{every}
 use Rattle.base.specs.Part.{part}
-use Rattle.base.specs.Pieces.{done, bad, Each, none, more}
+use Rattle.base.specs.Pieces.{done, Each, none, more}
 use Rattle.base.specs.Sum
 use Rattle.base.specs.Sum.{sum}
 use Rattle.base.proofs.Choice.{T-true, and-left, and-right, and-both}
 use Rattle.base.proofs.Each.{each-cells, each-bytes, each-passed, each-gather, each-emit}
+use Rattle.base.proofs.Sum.{sum-ones}
 use Rattle.base.proofs.Taken.{drop-none}
 use Rattle.base.proofs.UpFrom.{sum-up-same}
 use Rattle.form.specs.declared.Form.{Form}
 use Rattle.form.specs.Table.{rowOf}
 use Rattle.form.specs.Count.{elementsOf, linesOf, cellsOf}
 use Rattle.form.proofs.Rows.{row-fits}
-use Rattle.field.specs.Read.{fieldOf, formed, cellsIn, Reads}
+use Rattle.field.specs.Read.{fieldOf, formed}
 use Rattle.field.specs.Write.{fieldText, fitsOf}
 use Rattle.field.specs.Canonical.{IsCanonical}
 use Rattle.field.proofs.Laws.{lawful}
@@ -34,15 +35,15 @@ use Rattle.line.specs.Lines.{reach, Whole, Plain}
 use Rattle.line.proofs.Feeds.{plain-nil, plain-cons, plain-append}
 use Rattle.line.proofs.Whole.{whole-nil, whole-append, reach-whole}
 use Rattle.line.proofs.Contents.{content-append, content-line}
-use Rattle.reading.specs.Blanks.{mayBeShort, shortest, filledTo, isRight}
+use Rattle.reading.specs.Blanks.{mayBeShort, isRight}
 use Rattle.reading.proofs.Blanks.{filled-enough, right-exact}
 use Rattle.reading.specs.Plan
-use Rattle.reading.specs.Plan.{Line, lineAt, planFrom, planOf, elementsIn}
+use Rattle.reading.specs.Plan.{Line, planFrom, planOf, elementsIn}
 use Rattle.reading.specs.Read
-use Rattle.reading.specs.Read.{Cells, readField, readFields, columnsOf, readLine, readLines, readLinesOf}
+use Rattle.reading.specs.Read.{readField, readFields, columnsOf, readLine, readLines}
 use Rattle.reading.proofs.Sizes.{group-size}
 use Rattle.record.specs.Text.{lineEnd, lineCells, fieldsText, lineText, linesText}
-use Rattle.record.specs.Canonical.{Ended, CanonicalLine, CanonicalLines}
+use Rattle.record.specs.Canonical.{CanonicalLine, CanonicalLines}
 use Rattle.record.proofs.Lengths.{plan-length}
 
 -- ---- lines in pieces
@@ -66,11 +67,6 @@ unbroken-plain (x ∷ s) t =
   where
     other : T (not (eqb x 10)) → x ≡ 10 → ⊥
     other u e = rw (eq-eqb x 10 e) at u
-
-sum-ones : {A : Type 0} (xs : List A) → sum (map (λ (x : A). 1) xs) ≡ length xs
-unfolding Sum.sum
-sum-ones [] = refl
-sum-ones (x ∷ xs) = omega (arith, sum-ones xs)
 
 -- ---- a field, and the fields of a line
 

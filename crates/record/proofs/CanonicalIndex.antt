@@ -3,7 +3,7 @@
 -- Assumes nothing.
 use mathlib.Core.Path.{_≡_, refl, sym, _∙_, ap, ap₂, subst}
 use mathlib.Core.List.{List, [], _∷_, _++_, append-assoc}
-use Prim.Native.Nat.{ℕ, suc, _+_, _-_, _*_, _≤_}
+use Prim.Native.Nat.{ℕ, _-_, _*_}
 use native.Mathlib.Omega.{arith}
 use borrow.Author.Tests.{eq-eqb}
 use lib.Dec.{lit<}
@@ -13,16 +13,15 @@ use Rattle.base.specs.Part.{part}
 use Rattle.base.specs.Pieces.{Each, none, more}
 use Rattle.base.proofs.Ascii.{printable-without}
 use Rattle.base.proofs.Taken.{drop-none}
-use Rattle.field.specs.Entry.{CanonicalEntry, entryOf, entryText}
-use Rattle.field.specs.declared.Entry.the-variants.{Count}
+use Rattle.field.specs.Entry.{CanonicalEntry}
 use Rattle.field.proofs.Entries.{is-entry, canonical-entry, entry-one, entry-plain}
-use Rattle.line.specs.Lines.{lines, behind, Whole, Plain}
+use Rattle.line.specs.Lines.{Whole, Plain}
 use Rattle.line.proofs.Whole.{whole-append, lines-whole, behind-whole}
 use Rattle.line.proofs.Contents.{content-append, content-line}
 use Rattle.place.specs.Index
-use Rattle.place.specs.Index.{Indexed, counts, entryThen, readEntries, readIndexLine, joined, readIndex}
+use Rattle.place.specs.Index.{counts, readEntries, readIndexLine, readIndex}
 use Rattle.record.specs.Text.{lineEnd, entriesText}
-use Rattle.record.specs.Canonical.{Ended, EntryOf, CanonicalIndexLine}
+use Rattle.record.specs.Canonical.{EntryOf, CanonicalIndexLine}
 use Rattle.record.proofs.CanonicalGroups.{each-plain, unbroken-plain}
 
 -- ---- entries

@@ -1,7 +1,6 @@
 -- 01's marked cases hold, by computation.
 -- Assumes nothing.
 use mathlib.Core.Path.{refl}
-use Prim.Native.Nat.{ℕ}
 use Rattle.base.specs.Every
 use Rattle.base.specs.Pieces
 use Rattle.form.specs.Table

@@ -1,30 +1,28 @@
 -- The groups of a record as pieces, each with its own cells: group g among the others; cells that are told group by group.
 -- Assumes nothing.
-use mathlib.Core.Path.{_≡_, refl, sym, _∙_, ap, subst}
-use mathlib.Core.List.{List, [], _∷_, _++_, map, flatMap}
+use mathlib.Core.Path.{_≡_, sym, _∙_, ap, subst}
+use mathlib.Core.List.{List, _++_}
 use Prim.Native.Nat.{ℕ, zero, suc, _+_, _-_, _<_, _≤_}
 use native.Mathlib.Nat.{sub-zero}
 use native.Mathlib.Numerals.{add-one}
 use native.Mathlib.Omega.{arith}
 use lib.IntN.{ℤ}
-use lib.ListN.{length, take, drop, getD}
+use lib.ListN.{length, take, getD}
 use lib.Seq.{take-all}
 use Rattle.base.specs.Every.{upFrom}
 use Rattle.base.specs.Part.{part}
 use Rattle.base.specs.Pieces.{Each}
 use Rattle.base.specs.Sum
-use Rattle.base.specs.Sum.{sum}
 use Rattle.base.proofs.Each.{each-cells, Among, among}
 use Rattle.base.proofs.Mapped.{map-take}
 use Rattle.base.proofs.Part.{part-middle}
 use Rattle.base.proofs.Sum.{sum-take-mono}
 use Rattle.base.proofs.Taken.{drop-none}
-use Rattle.base.proofs.UpFrom.{length-up, getD-up}
+use Rattle.base.proofs.UpFrom.{length-up, getD-up, flat-same, parts-flat}
 use Rattle.count.specs.Tally
 use Rattle.count.specs.Tally.{cellsIn, cellTally, cellsBefore, recordCells}
 use Rattle.count.proofs.Tallied.{tally-more, before-groups, all-cells}
 use Rattle.record.specs.RoundTrip.{groupCells, joined}
-use Rattle.record.proofs.Extra.{flat-same, parts-flat}
 
 cells-more : (ns : List ℕ) (g : ℕ) → 0 < g → g < 61 → cellsBefore ns (suc g) ≡ cellsBefore ns g + cellsIn ns g
 unfolding Tally.cellsBefore Tally.cellTally

@@ -8,7 +8,7 @@ use native.Mathlib.Omega.{arith}
 use borrow.Author.Tests.{eqb-true, eq-eqb, le-leb, leb-true}
 use lib.Dec.{eqb, leb}
 use lib.IntN.{ℤ}
-use Rattle.base.specs.Pieces.{Got, done, bad}
+use Rattle.base.specs.Pieces.{done, bad}
 use Rattle.base.specs.Sign.{sizeOf}
 use Rattle.form.specs.declared.Form.{Form}
 use Rattle.form.specs.declared.GroupForm.{GroupForm}
@@ -23,9 +23,9 @@ use Rattle.date.specs.declared.Date.{Date}
 use Rattle.date.specs.declared.Dated.{Dated}
 use Rattle.date.specs.declared.Dated.the-variants.{Right, Wrong}
 use Rattle.reading.specs.declared.Refusal.{Refusal}
-use Rattle.reading.specs.declared.Refusal.the-variants.{NoGroup, NoRoom}
+use Rattle.reading.specs.declared.Refusal.the-variants.{NoRoom}
 use Rattle.reading.specs.Read
-use Rattle.reading.specs.Read.{Cells, byDate, dated, readLines, readForm, readBy, readGroup}
+use Rattle.reading.specs.Read.{Cells, byDate, dated, readLines, readBy, readGroup}
 
 -- letters tell a date
 pub record TellsDate (letters : List ℕ) : Type 0 where

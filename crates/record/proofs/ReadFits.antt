@@ -1,25 +1,23 @@
 -- What reads fits: where the lines of a group read with 0, each of its elements' cells has a field of its form.
 -- Assumes nothing.
 use mathlib.Core.Path.{_≡_, refl, sym, _∙_, ap, subst}
-use mathlib.Core.List.{List, [], _∷_, _++_, map, flatMap, append-nil}
-use mathlib.Core.Logic.{⊎-elim}
-use Prim.Native.Nat.{ℕ, zero, suc, _+_, _-_, _*_, _<_, _≤_, min}
+use mathlib.Core.List.{List, _++_, flatMap}
+use Prim.Native.Nat.{ℕ, zero, suc, _+_, _-_, _*_, min}
 use native.Mathlib.Nat.{add-zero, zero-add, zero-mul, add-mul, suc-mul}
 use native.Mathlib.Omega.{arith}
 use lib.Dec.{T}
 use lib.IntN.{ℤ}
-use lib.ListN.{length}
 use Rattle.base.specs.Every
 use Rattle.base.specs.Every.{upFrom}
 use Rattle.base.specs.Part.{part}
-use Rattle.base.specs.Pieces.{done, Each}
+use Rattle.base.specs.Pieces.{done}
 use Rattle.base.proofs.Choice.{T-true}
-use Rattle.base.proofs.Each.{each-imply, Pieced, gather-each, each-flat}
-use Rattle.base.proofs.Order.{le-or-lt}
+use Rattle.base.proofs.Each.{each-imply, each-own, Pieced, gather-each, each-flat}
+use Rattle.base.proofs.UpFrom.{up-append}
 use Rattle.form.specs.declared.Form.{Form}
 use Rattle.form.specs.Table.{rowOf}
 use Rattle.form.specs.Count
-use Rattle.form.specs.Count.{elementsOf, linesOf, roundedUp}
+use Rattle.form.specs.Count.{elementsOf, roundedUp}
 use Rattle.form.proofs.Rows.{row-fits}
 use Rattle.form.proofs.Rounding.{lines-enough}
 use Rattle.field.specs.Write.{fitsOf}
@@ -27,13 +25,12 @@ use Rattle.field.proofs.Laws.{lawful}
 use Rattle.line.specs.Lines.{reach}
 use Rattle.reading.specs.Blanks.{filledTo}
 use Rattle.reading.specs.Plan
-use Rattle.reading.specs.Plan.{Line, lineAt, planFrom, planOf, elementsIn}
+use Rattle.reading.specs.Plan.{Line, planFrom, planOf, elementsIn}
 use Rattle.reading.specs.Read
 use Rattle.reading.specs.Read.{readField, readFields, columnsOf, readLine, readLines}
 use Rattle.reading.proofs.Sizes.{field-done, line-done}
 use Rattle.record.specs.declared.Fit.the-variants.{All}
 use Rattle.record.specs.Fitting.{elementFit, elementsFit}
-use Rattle.record.proofs.Extra.{each-own, up-append}
 use Rattle.record.proofs.Fitting.{own-misfit}
 
 -- ---- the elements of a plan's lines are all elements, in order

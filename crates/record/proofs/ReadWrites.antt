@@ -3,8 +3,8 @@
 -- Assumes nothing.
 use mathlib.Core.Path.{_≡_, refl, sym, _∙_, ap, subst}
 use mathlib.Core.Bool.{_&&_}
-use mathlib.Core.List.{List, [], _∷_, _++_, map, flatMap}
-use Prim.Native.Nat.{ℕ, suc, _+_, _-_, _≤_}
+use mathlib.Core.List.{List, _++_, map, flatMap}
+use Prim.Native.Nat.{ℕ, _+_, _-_, _≤_}
 use native.Mathlib.Nat.{zero-add}
 use native.Mathlib.Omega.{arith}
 use lib.Dec.{T, leb, leb→le}
@@ -18,21 +18,16 @@ use Rattle.base.specs.Sign.{sizeOf}
 use Rattle.base.specs.Sum
 use Rattle.base.specs.Sum.{sum}
 use Rattle.base.proofs.Choice.{and-left, and-right}
-use Rattle.base.proofs.Each.{each-imply, each-passed, each-cells}
+use Rattle.base.proofs.Each.{each-imply, each-passed, each-cells, each-own, flat-each}
 use Rattle.base.proofs.Part.{part-cut, part-length}
-use Rattle.form.specs.declared.Form.{Form}
-use Rattle.form.specs.declared.GroupForm.the-variants.{Has}
-use Rattle.form.specs.Table.{formOf}
 use Rattle.count.specs.Tally
-use Rattle.count.specs.Tally.{countOf, cellsIn, cellTally, recordCells}
-use Rattle.count.specs.Rules.{rulingOf}
-use Rattle.count.specs.declared.Ruling.the-variants.{Kept}
+use Rattle.count.specs.Tally.{countOf, cellsIn, recordCells}
 use Rattle.date.specs.Date.{datedOf}
-use Rattle.place.specs.Placing.{located, locate, countsAt}
+use Rattle.place.specs.Placing.{countsAt}
 use Rattle.place.specs.Parts.{groupPart}
 use Rattle.place.proofs.Placed.{IsLocated, located-is, located-range, located-long}
 use Rattle.place.proofs.Zero.{IsPlaced, is-placed}
-use Rattle.reading.specs.Read.{Cells, readLines}
+use Rattle.reading.specs.Read.{Cells}
 use Rattle.reading.proofs.Sizes.{group-size}
 use Rattle.record.specs.declared.Fit.the-variants.{All}
 use Rattle.record.specs.declared.Writing.the-variants.{Done}
@@ -40,13 +35,12 @@ use Rattle.record.specs.Canonical.{CanonicalGroup, CanonicalRecord}
 use Rattle.record.specs.Fitting.{groupFit, fitOf}
 use Rattle.record.specs.RoundTrip.{groupCells, ReadWhole, joined}
 use Rattle.record.specs.Text.{recordText, recordBytes}
-use Rattle.record.specs.Writing.{dateLetters, writingOf, outputBy}
+use Rattle.record.specs.Writing.{writingOf, outputBy}
 use Rattle.record.proofs.Canonical.{group-read, canonical-text, canonical-cells}
-use Rattle.record.proofs.Done.{IsDone, is-done}
-use Rattle.record.proofs.Extra.{each-own, flat-each}
+use Rattle.record.proofs.Done.{is-done}
 use Rattle.record.proofs.Fitting.{own-groups}
 use Rattle.record.proofs.GroupCells.{group-among, cells-joined}
-use Rattle.record.proofs.GroupRead.{TellsDate, GroupReads, group-reads}
+use Rattle.record.proofs.GroupRead.{GroupReads, group-reads}
 use Rattle.record.proofs.IndexCounts.{index-many, index-small}
 use Rattle.record.proofs.Lengths.{record-length}
 use Rattle.record.proofs.ReadFits.{group-fit}

@@ -3,17 +3,19 @@
 -- Assumes nothing.
 use mathlib.Core.Path.{_≡_, refl, sym, _∙_, ap, subst}
 use mathlib.Core.List.{List, _++_}
-use Prim.Native.Nat.{ℕ, suc, _+_, _≤_}
+use Prim.Native.Nat.{ℕ, _+_, _-_, _≤_, min}
 use native.Mathlib.Omega.{arith}
 use lib.IntN.{ℤ}
-use lib.ListN.{length}
+use lib.ListN.{length, take, drop, length-take, length-drop}
+use lib.Seq.{take-at, length-take-le}
 use Rattle.base.specs.Part.{part}
-use Rattle.base.specs.Pieces.{done}
+use Rattle.base.proofs.Part.{part-cut}
+use Rattle.base.proofs.Taken.{take-none}
 use Rattle.form.specs.declared.GroupForm.{GroupForm}
 use Rattle.form.specs.declared.GroupForm.the-variants.{Has, NoGroup}
 use Rattle.form.specs.Table.{formOf}
 use Rattle.count.specs.Tally
-use Rattle.count.specs.Tally.{countOf, cellsBy, cellsIn, cellsBefore}
+use Rattle.count.specs.Tally.{countOf, cellsBy, cellsIn}
 use Rattle.count.specs.Rules.{releaseOf, rulingOf}
 use Rattle.count.specs.declared.Release.the-variants.{Five}
 use Rattle.count.specs.declared.Ruling.the-variants.{Kept}
@@ -28,7 +30,7 @@ use Rattle.record.specs.declared.Writing.the-variants.{Done}
 use Rattle.record.specs.Canonical.{CanonicalGroup, CanonicalRecord}
 use Rattle.record.specs.RoundTrip.{groupCells, ReadsBack}
 use Rattle.record.specs.Text.{recordText, recordBytes}
-use Rattle.record.specs.Writing.{dateLetters, writingOf}
+use Rattle.record.specs.Writing.{dateLetters, writingOf, outputBy}
 use Rattle.record.proofs.Canonical.{group-read}
 use Rattle.record.proofs.Done.{IsDone, done-is}
 use Rattle.record.proofs.GroupRead.{TellsDate, GroupReads, reads-group}
@@ -86,3 +88,20 @@ module _ (ns : List ℕ) (cs : List ℤ) (room n : ℕ) (e : writingOf ns cs roo
   reads-back a b =
       subst (λ m. ReadsBack ns cs m (a ++ (recordText ns cs ++ b)) (length a)) done-bytes
       (canonical-back done-canonical (d .checked .release) (d .checked .kept) record { date = d .date; right = d .right } a b)
+
+  -- the same of the output: wherever its first n bytes stand
+  pub output-bytes : (old : List ℕ) → take n (outputBy ns cs (Done n) old) ≡ recordText ns cs
+  output-bytes old =
+      ap (λ t. take n (t ++ (recordText ns cs ++ drop (0 + length (recordText ns cs)) old))) (take-none old)
+      ∙ take-at (recordText ns cs) (drop (0 + length (recordText ns cs)) old) n done-bytes
+
+  pub output-reads-back : (old s : List ℕ) (at : ℕ) → part at (at + n) s ≡ take n (outputBy ns cs (Done n) old) → ReadsBack ns cs n s at
+  unfolding recordBytes
+  output-reads-back old s at p =
+      let m : at + n - at ≡ n = omega arith in
+      let t : part at (at + n) s ≡ recordText ns cs = p ∙ output-bytes old in
+      let l : length (part at (at + n) s) ≡ n = ap length t ∙ done-bytes in
+      let k : length (part at (at + n) s) ≡ min (at + n - at) (length s - at) = length-take (at + n - at) (drop at s) ∙ ap (min (at + n - at)) (length-drop at s) in
+      let e : length (take at s) ≡ at = length-take-le at s (omega (arith, d .bytes)) in
+      let w : take at s ++ (recordText ns cs ++ drop n (drop at s)) ≡ s = ap (λ y. take at s ++ (y ++ drop n (drop at s))) (sym t) ∙ sym (part-cut s at n) in
+      subst (λ i. ReadsBack ns cs n s i) e (subst (λ y. ReadsBack ns cs n y (length (take at s))) w (reads-back (take at s) (drop n (drop at s))))

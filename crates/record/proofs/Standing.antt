@@ -1,37 +1,29 @@
 -- A canonical record, wherever it stands in whatever text: it is located there with its counts, and the part of each group is the group's own
 -- canonical text, with the group's own cells.
 -- Assumes nothing.
-use mathlib.Core.Path.{_≡_, refl, sym, _∙_, ap, ap₂, subst}
-use mathlib.Core.List.{List, [], _∷_, _++_, map, append-assoc}
-use Prim.Native.Nat.{ℕ, zero, suc, _+_, _-_, _<_, _≤_}
-use native.Mathlib.Nat.{add-zero, add-suc, suc-add}
-use native.Mathlib.Numerals.{add-one}
+use mathlib.Core.Path.{_≡_, sym, _∙_, ap, subst}
+use mathlib.Core.List.{List, _++_, map, append-assoc}
+use Prim.Native.Nat.{ℕ, zero, suc, _+_, _-_, _≤_}
 use native.Mathlib.Omega.{arith}
 use lib.IntN.{ℤ}
-use lib.ListN.{length, take, drop, getD, length-append}
+use lib.ListN.{length, take, drop, length-append}
 use lib.Seq.{drop-append-seam}
-use Rattle.base.specs.Every
 use Rattle.base.specs.Every.{upFrom}
-use Rattle.base.specs.Part.{part}
-use Rattle.base.specs.Pieces.{Each}
 use Rattle.base.specs.Sum
 use Rattle.base.specs.Sum.{sum}
-use Rattle.base.proofs.Each.{each-cells, Among, among}
 use Rattle.base.proofs.Mapped.{map-take}
-use Rattle.base.proofs.Part.{part-middle}
-use Rattle.base.proofs.UpFrom.{length-up, getD-up}
-use Rattle.line.specs.Lines.{feeds, lines, behind, Whole}
+use Rattle.line.specs.Lines.{feeds, Whole}
 use Rattle.line.proofs.Feeds.{feeds-le}
 use Rattle.line.proofs.Whole.{whole-append, reach-whole, lines-whole, behind-whole, feeds-whole}
 use Rattle.count.specs.Tally
-use Rattle.count.specs.Tally.{linesIn, cellsIn, lineTally, cellTally, linesBefore, cellsBefore, recordLines}
+use Rattle.count.specs.Tally.{linesIn, linesBefore, recordLines}
 use Rattle.count.specs.Rules.{releaseOf}
 use Rattle.count.specs.declared.Release.the-variants.{Five}
-use Rattle.count.proofs.Tallied.{line-entry, record-two, tally-more}
+use Rattle.count.proofs.Tallied.{line-entry, record-two}
 use Rattle.place.specs.Index.{counts, readIndex}
 use Rattle.place.specs.Placing.{located, locate}
 use Rattle.place.specs.Parts.{groupPart}
-use Rattle.place.proofs.Placed.{IsLocated, is-located}
+use Rattle.place.proofs.Placed.{is-located}
 use Rattle.place.proofs.Tiling.{part-lines}
 use Rattle.record.specs.Canonical.{CanonicalGroup, CanonicalRecord}
 use Rattle.record.proofs.CanonicalGroups.{each-whole}

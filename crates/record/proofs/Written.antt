@@ -1,9 +1,9 @@
 -- What is written for counts and cells that fit is canonical: each entry and index line, each field, line and group, and the record.
 -- Assumes nothing.
-use mathlib.Core.Path.{_≡_, refl, sym, _∙_, ap}
-use mathlib.Core.Bool.{Bool, _&&_}
+use mathlib.Core.Path.{_≡_, refl, sym, _∙_}
+use mathlib.Core.Bool.{_&&_}
 use mathlib.Core.List.{List, [], _∷_, _++_, map}
-use Prim.Native.Nat.{ℕ, zero, suc, _-_, _*_, _≤_, min}
+use Prim.Native.Nat.{ℕ, _*_, min}
 use native.Mathlib.Nat.{zero-mul, zero-add}
 use native.Mathlib.Omega.{arith}
 use lib.Dec.{T, leb, leb→le}
@@ -14,8 +14,9 @@ use Rattle.base.specs.Every.{every, upFrom}
 use Rattle.base.specs.Pieces.{Own, Each, none, more}
 use Rattle.base.specs.Sum
 use Rattle.base.specs.Sum.{sum}
-use Rattle.base.proofs.Choice.{and-left, and-right, and-both}
+use Rattle.base.proofs.Choice.{and-left, and-right}
 use Rattle.base.proofs.Each.{each-imply, each-passed, own-each}
+use Rattle.base.proofs.Every.{every-take, every-drop}
 use Rattle.base.proofs.Taken.{drop-none}
 use Rattle.base.proofs.UpFrom.{sum-up-same}
 use Rattle.form.specs.declared.Form.{Form}
@@ -29,28 +30,16 @@ use Rattle.field.specs.Write.{fitsOf, fieldText}
 use Rattle.field.proofs.Entries.{entry-canonical}
 use Rattle.field.proofs.Laws.{lawful}
 use Rattle.count.specs.Tally
-use Rattle.count.specs.Tally.{countOf, cellsBy, cellsIn, recordCells, cellTally}
+use Rattle.count.specs.Tally.{countOf, cellsBy, cellsIn, recordCells}
 use Rattle.count.proofs.Tallied.{has-form}
 use Rattle.reading.specs.Plan
 use Rattle.reading.specs.Plan.{Line, planOf, elementsIn}
 use Rattle.record.specs.declared.Fit.the-variants.{All}
 use Rattle.record.specs.Text.{lineEnd, entriesText, indexText, lineCells, fieldsText, lineText, linesText, groupTextBy, groupText, groupsText, recordText}
 use Rattle.record.specs.Fitting.{Fitted, groupFitBy, groupFit, fitOf}
-use Rattle.record.specs.Canonical.{Ended, EntryOf, CanonicalIndexLine, CanonicalLine, CanonicalLines, CanonicalGroupBy, CanonicalGroup, CanonicalRecord}
+use Rattle.record.specs.Canonical.{EntryOf, CanonicalIndexLine, CanonicalLine, CanonicalLines, CanonicalGroupBy, CanonicalGroup, CanonicalRecord}
 use Rattle.record.proofs.Fitting.{elements-fitted, fitted-own, fitted-lines, groups-own}
 use Rattle.record.proofs.Lengths.{plan-cells}
-
-every-take : {A : Type 0} (f : A → Bool) (k : ℕ) (xs : List A) → T (every f xs) → T (every f (take k xs))
-every-take f zero [] t = tt
-every-take f zero (x ∷ xs) t = tt
-every-take f (suc k) [] t = tt
-every-take f (suc k) (x ∷ xs) t = and-both (f x) (every f (take k xs)) (and-left (f x) (every f xs) t) (every-take f k xs (and-right (f x) (every f xs) t))
-
-every-drop : {A : Type 0} (f : A → Bool) (k : ℕ) (xs : List A) → T (every f xs) → T (every f (drop k xs))
-every-drop f zero [] t = tt
-every-drop f zero (x ∷ xs) t = t
-every-drop f (suc k) [] t = tt
-every-drop f (suc k) (x ∷ xs) t = every-drop f k xs (and-right (f x) (every f xs) t)
 
 -- ---- the index
 
