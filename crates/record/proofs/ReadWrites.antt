@@ -33,7 +33,7 @@ use Rattle.record.specs.declared.Fit.the-variants.{All}
 use Rattle.record.specs.declared.Writing.the-variants.{Done}
 use Rattle.record.specs.Canonical.{CanonicalGroup, CanonicalRecord}
 use Rattle.record.specs.Fitting.{groupFit, fitOf}
-use Rattle.record.specs.RoundTrip.{groupCells, ReadWhole, joined}
+use Rattle.record.specs.RoundTrip.{groupCells, ReadWhole, joined, WritesAgain}
 use Rattle.record.specs.Text.{recordText, recordBytes}
 use Rattle.record.specs.Writing.{writingOf, outputBy}
 use Rattle.record.proofs.Canonical.{group-read, canonical-text, canonical-cells}
@@ -169,3 +169,6 @@ module _ {s : List ℕ} {at n : ℕ} {cells : ℕ → List ℤ} (r : ReadWhole s
     returns-same old enough =
         let w : writingOf ns (joined cells) (length old) ≡ Done (n - at) = read-writes (length old) (omega (arith, again-bytes)) ∙ ap Done again-bytes in
         (w, rw (w, written-again))
+
+  pub writes-again : WritesAgain s at n cells
+  writes-again = record { written = read-writes; cells-same = λ ds h. canonical-joined h; bytes-same = λ ds h. written-again h }

@@ -10,6 +10,10 @@ use Rattle.count.specs.Tally.{cellsIn, cellsBefore}
 use Rattle.place.specs.declared.Placing.the-variants.{Placed}
 use Rattle.place.specs.Placing.{placingOf, countsAt}
 use Rattle.group.specs.Text.{readAt}
+use Rattle.record.specs.declared.Writing.the-variants.{Done}
+use Rattle.record.specs.Canonical.{CanonicalRecord}
+use Rattle.record.specs.Text.{recordText, recordBytes}
+use Rattle.record.specs.Writing.{writingOf}
 
 -- the cells of group g: those behind the cells of the groups before it
 abbrev pub groupCells : List ℕ → List ℤ → ℕ → List ℤ
@@ -32,3 +36,11 @@ pub record ReadWhole (s : List ℕ) (at next : ℕ) (cells : ℕ → List ℤ) :
 -- "one table of all cells in group order"
 abbrev pub joined : (ℕ → List ℤ) → List ℤ
 joined cells = flatMap cells (upFrom 1 60)
+
+-- what writing the counts and cells that were read comes to
+pub record WritesAgain (s : List ℕ) (at next : ℕ) (cells : ℕ → List ℤ) : Type 0 where
+  -- 0, where there is room
+  pub written : (room : ℕ) → recordBytes (countsAt s at) ≤ room → writingOf (countsAt s at) (joined cells) room ≡ Done (recordBytes (countsAt s at))
+  -- and where the record's bytes are canonical, of whatever cells, these are the cells that were read, and its bytes are what is written
+  pub cells-same : (ds : List ℤ) → CanonicalRecord (countsAt s at) (part at next s) ds → ds ≡ joined cells
+  pub bytes-same : (ds : List ℤ) → CanonicalRecord (countsAt s at) (part at next s) ds → recordText (countsAt s at) (joined cells) ≡ part at next s
