@@ -31,6 +31,11 @@ unfoldable pub emit : {A C : Type 0} → (A → ℕ) → (A → List C → List 
 emit size text [] cs = []
 emit size text (a ∷ bs) cs = text a (take (size a) cs) ++ emit size text bs (drop (size a) cs)
 
+-- each piece's own cells, so many as `size` says, are as P says
+unfoldable pub Own : {A C : Type 0} → (A → ℕ) → (A → List C → Type 0) → List A → List C → Type 0
+Own size P [] cs = Unit {0}
+Own size P (a ∷ bs) cs = P a (take (size a) cs) × Own size P bs (drop (size a) cs)
+
 -- a text is these pieces, and cs their cells: each piece with its own cells is as P says
 pub data Each {A C : Type 0} (P : A → List ℕ → List C → Type 0) : List A → List ℕ → List C → Type 0 where
   none : Each P [] [] []

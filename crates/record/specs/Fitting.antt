@@ -1,7 +1,8 @@
 -- "13 (lowest group, then lowest element)": the first element of a record whose cells fit no field of its form.
 use mathlib.Core.Bool.{Bool, cond}
 use mathlib.Core.List.{List, [], _∷_}
-use Prim.Native.Nat.{ℕ}
+use Prim.Native.Nat.{ℕ, _*_, _<_}
+use lib.Dec.{T}
 use lib.IntN.{ℤ}
 use lib.ListN.{take, drop}
 use Rattle.base.specs.Every.{upFrom}
@@ -42,3 +43,9 @@ groupFit ns g cs = groupFitBy (formOf g) g (countOf ns g) cs
 -- the groups of a record
 unfoldable pub fitOf : List ℕ → List ℤ → Fit
 fitOf ns cs = firstMisfit (cellsIn ns) (groupFit ns) (upFrom 1 60) cs
+
+-- ---- all of them
+
+-- each of the first k elements of these cells fits
+abbrev pub Fitted : Form → ℕ → List ℤ → Type 0
+Fitted f k cs = (i : ℕ) → i < k → T (fitsOf f (take (rowOf f .cells) (drop (i * rowOf f .cells) cs)))
