@@ -4,36 +4,23 @@
 # replaced by what is drawn from a fixed seed, and is the same in each run. Prints each case that fails, and how many passed.
 set -u
 cd "$(dirname "$0")/.." || exit 2
-work=$(mktemp -d) || exit 2
-trap 'rm -rf "$work"' EXIT
-passed=0
-failed=0
-
-same() { # CASE EXPECTED: what was dumped, with what is expected
-    if cmp -s "$work/got" "$2"; then
-        passed=$((passed + 1))
-    else
-        failed=$((failed + 1))
-        echo "FAILED: dump: $1"
-        diff "$2" "$work/got" | head -n 6
-    fi
-}
+name=dump
+. tests/cases
 
 for text in tests/vectors/*.sao; do
     ./run dump <"$text" >"$work/got"
-    same "$text" "${text%.sao}.dump"
+    compared "$text" "${text%.sao}.dump"
 done
-[ "$passed" -gt 100 ] || failed=$((failed + 1))
 
 awk 'BEGIN { for (i = 0; i < 65537; i++) printf "x" }' | ./run dump >"$work/got"
 echo 'stop 0 11 0 0' >"$work/want"
-same 'input of 65,537 bytes' "$work/want"
+compared 'input of 65,537 bytes' "$work/want"
 
 # S with blanks behind the field of its last line, up to 120 bytes and one more; and with a blank in place of its last carriage return
 row() { # CASE EXPECTED: the row of group 4 of the text made
     ./run dump <"$work/text" | grep '^group 4 ' >"$work/got"
     echo "$2" >"$work/want"
-    same "$1" "$work/want"
+    compared "$1" "$work/want"
 }
 
 behind() { # COUNT: S with so many blanks behind the field of its last line
@@ -83,17 +70,8 @@ for text in tests/vectors/*.sao; do
         }' "$work/bytes" "${text%.sao}.dump"
 done >"$work/damage"
 
-differ=0
-while read -r text row place group bytes; do
-    cp "$text" "$work/damaged"
-    set -- $bytes
-    while [ $# -gt 1 ]; do
-        printf "\\$(printf '%03o' "$2")" | dd of="$work/damaged" bs=1 seek="$1" conv=notrunc 2>/dev/null
-        shift 2
-    done
-    ./run dump <"$work/damaged" >"$work/got"
-    cmp -s "$work/got" "${text%.sao}.dump" || differ=$((differ + 1))
-    if awk -v row="$row" -v place="$place" -v group="$group" '
+confined() { # EXPECTED ROW PLACE GROUP: what was dumped differs from it only in that row, and for group 4 in that record's characteristics
+    awk -v row="$2" -v place="$3" -v group="$4" '
         FNR == NR { want[NR] = $0; rows = NR; next }
         $1 == "record" { here = $2 }
         $0 != want[FNR] {
@@ -104,19 +82,25 @@ while read -r text row place group bytes; do
                 next
             bad = 1
         }
-        END { exit bad || FNR != rows }' "${text%.sao}.dump" "$work/got"; then
-        passed=$((passed + 1))
-    else
-        failed=$((failed + 1))
-        echo "FAILED: damage: $text, group $group of the record at $place, bytes $bytes"
-    fi
+        END { exit bad || FNR != rows }' "$1" "$work/got"
+}
+
+differ=0
+while read -r text row place group bytes; do
+    cp "$text" "$work/damaged"
+    set -- $bytes
+    while [ $# -gt 1 ]; do
+        printf "\\$(printf '%03o' "$2")" | dd of="$work/damaged" bs=1 seek="$1" conv=notrunc 2>/dev/null
+        shift 2
+    done
+    ./run dump <"$work/damaged" >"$work/got"
+    cmp -s "$work/got" "${text%.sao}.dump" || differ=$((differ + 1))
+    counted "$text, group $group of the record at $place, bytes $bytes" confined "${text%.sao}.dump" "$row" "$place" "$group"
 done <"$work/damage"
-damaged=$(wc -l <"$work/damage")
-# the cases show something only if there are many, if most of them change an answer, and if the worst bytes are among them
-[ "$damaged" -gt 300 ] || failed=$((failed + 1))
-[ "$differ" -gt 150 ] || failed=$((failed + 1))
+
+# these cases show something only if most of them change an answer, and if the worst bytes are among them
+counted 'damage that changes an answer' [ "$differ" -gt 200 ]
 for byte in 0 13 127 255; do
-    grep -q " $byte\$" "$work/damage" || failed=$((failed + 1))
+    counted "damage with byte $byte" grep -q " $byte\$" "$work/damage"
 done
-echo "dump: $passed passed, $failed failed; $damaged damaged texts, $differ with another answer"
-[ "$failed" = 0 ]
+finished 430

@@ -3,20 +3,8 @@
 # Expected lines come from 01, from its arithmetic, or from the vectors. Prints each case that fails, and how many passed.
 set -u
 cd "$(dirname "$0")/.." || exit 2
-work=$(mktemp -d) || exit 2
-trap 'rm -rf "$work"' EXIT
-passed=0
-failed=0
-
-compared() { # CASE EXPECTED: what was listed, with what is expected
-    if cmp -s "$work/got" "$2"; then
-        passed=$((passed + 1))
-    else
-        failed=$((failed + 1))
-        echo "FAILED: list: $1"
-        diff "$2" "$work/got" | head -n 6
-    fi
-}
+name=list
+. tests/cases
 
 listed() { # CASE EXPECTED, with the input on standard input
     ./run list >"$work/got"
@@ -136,5 +124,4 @@ for text in tests/vectors/*.sao; do
     listed "$text" "${text%.sao}.list" <"$text"
 done
 
-echo "list: $passed passed, $failed failed"
-[ "$failed" = 0 ]
+finished 125
