@@ -19,3 +19,7 @@ pub mod IndexCounts
 pub mod ReadWrites
 pub mod Instance
 pub mod Cases
+pub mod Checking
+pub mod Putting
+pub mod Letters
+pub mod Steps
