@@ -1,5 +1,5 @@
 -- A test at each element: what passes at every one passes at each, so that one computed test proves a table's rule; of two lists together,
--- by another test, as a loop meets the elements, and at columns.
+-- by another test, in parts, as a loop meets the elements, and at columns.
 -- Assumes nothing.
 use mathlib.Core.Path.{_≡_, refl, sym, _∙_, ap, subst}
 use mathlib.Core.Bool.{Bool, true, false, _&&_, _||_}
@@ -9,7 +9,7 @@ use Prim.Native.Nat.{ℕ, zero, suc, _+_, _-_, _<_, _≤_}
 use native.Mathlib.Nat.{add-zero, zero-add, add-suc, suc-add, le-of-suc-le-suc, not-suc-le-zero}
 use native.Mathlib.Omega.{arith}
 use lib.Dec.{T, eqb, eqb→eq, eqb-refl}
-use lib.ListN.{length, getD, drop, drop-of-length-le}
+use lib.ListN.{length, getD, take, drop, drop-of-length-le}
 use lib.Seq.{drop-cons}
 use native.Mathlib.Numerals.{add-one}
 use Rattle.base.specs.Every.{every, has, upFrom}
@@ -78,6 +78,24 @@ module _ {A : Type 0} (f : A → Bool) where
   every-at d [] t k h = absurd (not-suc-le-zero h)
   every-at d (x ∷ xs) t zero h = and-left (f x) (every f xs) t
   every-at d (x ∷ xs) t (suc k) h = every-at d xs (and-right (f x) (every f xs) t) k (le-of-suc-le-suc h)
+
+  -- and back: what passes at each index passes at every element
+  pub at-every : (d : A) (xs : List A) → ((k : ℕ) → k < length xs → T (f (getD xs k d))) → T (every f xs)
+  at-every d [] h = tt
+  at-every d (x ∷ xs) h = and-both (f x) (every f xs) (h 0 (omega arith)) (at-every d xs (λ k l. h (suc k) (omega arith)))
+
+-- at the first k and at the others
+pub every-take : {A : Type 0} (f : A → Bool) (k : ℕ) (xs : List A) → T (every f xs) → T (every f (take k xs))
+every-take f zero [] t = tt
+every-take f zero (x ∷ xs) t = tt
+every-take f (suc k) [] t = tt
+every-take f (suc k) (x ∷ xs) t = and-both (f x) (every f (take k xs)) (and-left (f x) (every f xs) t) (every-take f k xs (and-right (f x) (every f xs) t))
+
+pub every-drop : {A : Type 0} (f : A → Bool) (k : ℕ) (xs : List A) → T (every f xs) → T (every f (drop k xs))
+every-drop f zero [] t = tt
+every-drop f zero (x ∷ xs) t = t
+every-drop f (suc k) [] t = tt
+every-drop f (suc k) (x ∷ xs) t = every-drop f k xs (and-right (f x) (every f xs) t)
 
 -- what passes at each byte that `last` gives passes at each column
 pub columns-every : {S : Type 0} (last : S → ℕ) (back : S → S) (f : ℕ → Bool) → ((s : S) → T (f (last s))) → (w : ℕ) (s : S) → T (every f (columns last back w s))

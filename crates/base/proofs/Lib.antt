@@ -4,7 +4,9 @@ pub mod Ascii
 pub mod Choice
 pub mod Columns
 pub mod Digits
+pub mod Each
 pub mod Every
+pub mod FirstBad
 pub mod FromLast
 pub mod Mapped
 pub mod Order

@@ -1,4 +1,4 @@
--- Parts and overwritten places: a part is what stands in the middle; two writes that meet are one; a part that was lent comes back as `over`;
+-- Parts and overwritten places: a part is what stands in the middle, and two that meet are one; two writes that meet are one; a part that was lent comes back as `over`;
 -- places overwritten from the last to the first, and by a loop that stores one element behind the other.
 -- Assumes nothing.
 use mathlib.Core.Path.{_≡_, refl, sym, ap, _∙_}
@@ -8,7 +8,7 @@ use native.Mathlib.Nat.{add-assoc, zero-add, add-zero}
 use native.Mathlib.Numerals.{add-one}
 use native.Mathlib.Omega.{arith}
 use lib.ListN.{length, take, drop, set, take-append-drop, length-append, length-take, length-drop, drop-of-length-le, getD}
-use lib.Seq.{take-at, drop-at, drop-drop, length-take-le, set-split, take-append-le, take-take, take-suc}
+use lib.Seq.{take-at, drop-at, drop-drop, length-take-le, set-split, take-append-le, take-take, take-suc, take-add}
 use Rattle.base.specs.Part.{part, over}
 
 pub part-length : {A : Type 0} (xs : List A) (at w : ℕ) → at + w ≤ length xs → length (part at (at + w) xs) ≡ w
@@ -59,6 +59,15 @@ pub part-middle : {A : Type 0} (a b c : List A) → part (length a) (length a + 
 part-middle a b c =
     let e : length a + length b - length a ≡ length b = omega arith in
     rw (drop-at a (b ++ c) (length a) refl, e) (take-at b c (length b) refl)
+
+-- a part and the one behind it
+pub part-append : {A : Type 0} (s : List A) (a b c : ℕ) → a ≤ b → b ≤ c → part a b s ++ part b c s ≡ part a c s
+part-append s a b c h k =
+    let r = drop a s in
+    let m : a + (b - a) ≡ b = omega arith in
+    let n : b - a + (c - b) ≡ c - a = omega arith in
+    let e : drop b s ≡ drop (b - a) r = ap (λ k. drop k s) (sym m) ∙ sym (drop-drop (b - a) a s) in
+    rw e (sym (take-add (b - a) (c - b) r) ∙ ap (λ k. take k r) n)
 
 -- ys is xs with t from a place of it on
 pub record Put {A : Type 0} (xs : List A) (at : ℕ) (t ys : List A) : Type 0 where

@@ -1,7 +1,7 @@
--- Sums of the first entries of a list.
+-- Sums of the first entries of a list, and of ones.
 -- Assumes nothing.
 use mathlib.Core.Path.{_≡_, refl, sym, _∙_, ap}
-use mathlib.Core.List.{List, [], _∷_, _++_}
+use mathlib.Core.List.{List, [], _∷_, _++_, map}
 use Prim.Native.Nat.{ℕ, zero, suc, _+_, _<_, _≤_}
 use native.Mathlib.Omega.{arith}
 use native.Mathlib.Nat.{add-assoc, zero-add}
@@ -41,3 +41,9 @@ sum-take-all [] zero = omega arith
 sum-take-all [] (suc g) = omega arith
 sum-take-all (n ∷ ns) zero = omega arith
 sum-take-all (n ∷ ns) (suc g) = omega (arith, sum-take-all ns g)
+
+-- a one for each element
+pub sum-ones : {A : Type 0} (xs : List A) → sum (map (λ (x : A). 1) xs) ≡ length xs
+unfolding sum
+sum-ones [] = refl
+sum-ones (x ∷ xs) = omega (arith, sum-ones xs)

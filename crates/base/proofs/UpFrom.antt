@@ -1,22 +1,30 @@
--- Lists over the numbers from one on, and from one up to and with another.
+-- Lists over the numbers from one on, and from one up to and with another; lists for each of them, one behind the other.
 -- Assumes nothing.
-use mathlib.Core.Path.{_≡_, refl, sym, _∙_, ap, subst}
-use mathlib.Core.List.{List, [], _∷_, map}
+use mathlib.Core.Path.{_≡_, refl, sym, _∙_, ap, ap₂, subst}
+use mathlib.Core.List.{List, [], _∷_, _++_, map, flatMap}
 use Prim.Native.Nat.{ℕ, zero, suc, _+_, _-_, _*_, _<_, _≤_}
-use native.Mathlib.Nat.{add-zero, add-suc, suc-add, zero-mul, suc-mul}
+use native.Mathlib.Nat.{add-zero, zero-add, add-suc, suc-add, zero-mul, suc-mul}
 use native.Mathlib.Numerals.{add-one}
 use native.Mathlib.Omega.{arith}
 use lib.ListN.{length, getD, take, drop}
 use lib.Seq.{drop-drop}
 use Rattle.base.specs.Every.{upFrom}
+use Rattle.base.specs.Part.{part}
 use Rattle.base.specs.Pieces.{Own}
 use Rattle.base.specs.Sum.{sum}
-use Rattle.base.proofs.Taken.{drop-none}
+use Rattle.base.proofs.Part.{part-append}
+use Rattle.base.proofs.Taken.{take-none, drop-none}
 
 pub length-up : (a n : ℕ) → length (upFrom a n) ≡ n
 unfolding upFrom
 length-up a zero = refl
 length-up a (suc n) = ap suc (length-up (suc a) n)
+
+pub getD-up : (a n i d : ℕ) → i < n → getD (upFrom a n) i d ≡ a + i
+unfolding upFrom
+getD-up a zero i d h = absurd (omega arith)
+getD-up a (suc n) zero d h = sym (add-zero a)
+getD-up a (suc n) (suc i) d h = getD-up (suc a) n i d (omega arith) ∙ suc-add a i ∙ sym (add-suc a i)
 
 pub getD-map-up : {B : Type 0} (f : ℕ → B) (a n i : ℕ) (d : B) → i < n → getD (map f (upFrom a n)) i d ≡ f (a + i)
 unfolding upFrom
@@ -72,3 +80,35 @@ up-own size P a (suc n) cs h =
         let e : a + suc i ≡ suc a + i = omega arith in
         subst (λ g. P g (take (size g) (drop (sum (map size (upFrom (suc a) i))) (drop (size a) cs)))) e
         (subst (λ x. P (a + suc i) (take (size (a + suc i)) x)) (sym (drop-drop (sum (map size (upFrom (suc a) i))) (size a) cs)) (h (suc i) (omega arith)))
+
+-- ---- so many and then others; lists for each of them, one behind the other
+
+pub up-append : (a m n : ℕ) → upFrom a (m + n) ≡ upFrom a m ++ upFrom (a + m) n
+unfolding upFrom
+up-append a zero n = rw (add-zero a, zero-add n)
+up-append a (suc m) n =
+    let e : suc m + n ≡ suc (m + n) = omega arith in
+    let f : suc a + m ≡ a + suc m = omega arith in
+    rw e (ap (λ l. a ∷ l) (up-append (suc a) m n ∙ ap (λ b. upFrom (suc a) m ++ upFrom b n) f))
+
+pub flat-same : {A : Type 0} (f h : ℕ → List A) (a n : ℕ) → ((g : ℕ) → a ≤ g → g < a + n → f g ≡ h g) → flatMap f (upFrom a n) ≡ flatMap h (upFrom a n)
+unfolding upFrom flatMap
+flat-same f h a zero e = refl
+flat-same f h a (suc n) e = ap₂ _++_ (e a (omega arith) (omega arith)) (flat-same f h (suc a) n (λ g l m. e g (omega arith) (omega arith)))
+
+-- parts that follow one another
+module _ {A : Type 0} (place : ℕ → ℕ) (s : List A) (up : (g : ℕ) → place g ≤ place (suc g)) where
+  places-up : (a n : ℕ) → place a ≤ place (a + n)
+  places-up a zero = rw (add-zero a) (omega arith)
+  places-up a (suc n) = rw (add-suc a n) (omega (arith, places-up a n, up (a + n)))
+
+  pub parts-flat : (a n : ℕ) → flatMap (λ g. part (place g) (place (suc g)) s) (upFrom a n) ≡ part (place a) (place (a + n)) s
+  unfolding upFrom flatMap
+  parts-flat a zero =
+      let z : place a - place a ≡ 0 = omega arith in
+      rw (add-zero a, z) (sym (take-none (drop (place a) s)))
+  parts-flat a (suc n) =
+      let e : suc a + n ≡ a + suc n = omega arith in
+      ap (λ l. part (place a) (place (suc a)) s ++ l) (parts-flat (suc a) n)
+      ∙ part-append s (place a) (place (suc a)) (place (suc a + n)) (up a) (places-up (suc a) n)
+      ∙ ap (λ k. part (place a) (place k) s) e

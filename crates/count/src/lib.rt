@@ -114,15 +114,14 @@ pub fn count_of(counts: &[u16], group: usize) -> u16
     counts[group - 1]
 }
 
-// Totals with those of a group more, whose row is given.
-fn with_group(totals: Totals, form: form::Form, row: form::Row, count: u16) -> Totals
-    requires { ⌜ (row ≡ rowOf form) × (totals .lines < 2 ^ 32) × (totals .cells < 2 ^ 32) ⌝ }
+// Totals with those of a group more.
+fn with_group(totals: Totals, form: form::Form, count: u16) -> Totals
+    requires { ⌜ (totals .lines < 2 ^ 32) × (totals .cells < 2 ^ 32) ⌝ }
     ensures { λ r. ⌜ (r .lines ≡ totals .lines + linesOf form count) × (r .cells ≡ totals .cells + cellsOf form count) ⌝ }
 {
-    let n = form::elements(form, count);
     Totals {
-        lines: totals.lines + form::rounded_up(n, row.per_line),
-        cells: totals.cells + n * row.cells,
+        lines: totals.lines + form::lines(form, count),
+        cells: totals.cells + form::cells(form, count),
     }
 }
 
@@ -134,17 +133,14 @@ pub fn add_up(counts: &[u16], group: usize) -> Totals
         return Totals { lines: 0, cells: 0 };
     }
     let end = base::lesser(group, 61);
-    let rows = form::ROWS;
     let mut totals = Totals { lines: 2, cells: 0 };
     let mut g: usize = 1;
     while g < end {
-        let found = form::form_of(g);
         // each of 1 to 60 has a form, so this is never taken
-        let form::GroupForm::Has(f) = found else {
+        let form::GroupForm::Has(f) = form::form_of(g) else {
             return totals;
         };
-        let k = form::number(f);
-        totals = with_group(totals, f, rows[k], count_of(counts, g));
+        totals = with_group(totals, f, count_of(counts, g));
         g += 1;
     }
     totals

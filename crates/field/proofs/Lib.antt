@@ -3,6 +3,5 @@ pub mod Forms
 pub mod Fitting
 pub mod Letters
 pub mod Laws
-pub mod Cases
 pub mod Entries
 pub mod Ranges

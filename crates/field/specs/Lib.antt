@@ -7,4 +7,3 @@ pub mod Read
 pub mod Write
 pub mod Entry
 pub mod Law
-pub mod Cases

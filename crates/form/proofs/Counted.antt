@@ -1,16 +1,14 @@
 -- What a reader may hold a group's lines to: k lines are enough for its elements and k - 1 are not; the last line has what the full
 -- lines before it leave, at least one element and no more than a full line.
 -- Assumes nothing.
-use mathlib.Core.Path.{_≡_, refl}
-use mathlib.Core.List.{[], _∷_, map}
+use mathlib.Core.Path.{_≡_}
 use mathlib.Core.Logic.{_↔_}
 use Prim.Native.Nat.{ℕ, _<_, _≤_}
 use native.Mathlib.Nat.{mul-le-mul, le-mul-of-pos-right}
 use native.Mathlib.Omega.{arith}
 use Rattle.form.specs.declared.Form.{Form}
-use Rattle.form.specs.declared.Form.the-variants.{F8}
-use Rattle.form.specs.Table.{entryOf, rowOf}
-use Rattle.form.specs.Count.{elementsOf, roundedUp, linesOf, cellsOf, lastOf, Takes, Leaves}
+use Rattle.form.specs.Table.{rowOf}
+use Rattle.form.specs.Count.{elementsOf, linesOf, cellsOf, lastOf, Takes, Leaves}
 use Rattle.form.proofs.Rows.{row-fits, elements-few}
 use Rattle.form.proofs.Rounding.{lines-are, lines-least, last-line}
 
@@ -33,8 +31,3 @@ lines-few f n h =
 pub cells-few : (f : Form) (n : ℕ) → n ≤ 65535 → cellsOf f n ≤ 7864200
 unfolding cellsOf
 cells-few f n h = mul-le-mul (elements-few f n h) (row-fits f .few-cells)
-
--- Marked case 8: "F8.3 counts 0, 15, 16 have 0, 1, 2 lines."
-pub marked-lines : map (linesOf F8) (0 ∷ 15 ∷ 16 ∷ []) ≡ 0 ∷ 1 ∷ 2 ∷ []
-unfolding linesOf roundedUp elementsOf rowOf entryOf
-marked-lines = refl

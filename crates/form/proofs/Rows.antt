@@ -1,21 +1,17 @@
 -- The rule of 01's rows, by one test over the forms: a line's fields take at most 120 columns, and every number of a row is 1 to 120.
 -- And the bound of a count's elements.
 -- Assumes nothing.
-use mathlib.Core.Path.{_≡_, _∙_, ap}
+use mathlib.Core.Path.{_≡_}
 use mathlib.Core.Bool.{Bool, true, false, _&&_}
-use mathlib.Core.List.{map}
 use Prim.Native.Nat.{ℕ, _*_, _<_, _≤_}
 use lib.Dec.{T, leb, leb→le}
-use lib.ListN.{getD}
 use Rattle.base.specs.Every.{every}
-use Rattle.base.proofs.Mapped.{getD-map-within}
 use Rattle.base.proofs.Choice.{and-left, and-right}
 use Rattle.form.specs.declared.Row.{Row}
 use Rattle.form.specs.declared.Form.{Form}
-use Rattle.form.specs.declared.Form.the-variants.{F7}
-use Rattle.form.specs.Table.{entryOf, rowOf, forms, numberOf}
+use Rattle.form.specs.Table.{entryOf, rowOf, forms}
 use Rattle.form.specs.Count.{elementsOf}
-use Rattle.form.proofs.Table.{each-form, forms-number, number-below}
+use Rattle.form.proofs.Table.{each-form}
 
 abbrev fits : Row → Bool
 fits r = leb (r .width * r .«per_line») 120 && (leb 1 (r .width) && (leb 1 (r .«per_line») && (leb (r .«per_line») 120 && (leb 1 (r .cells) && leb (r .cells) 120))))
@@ -59,10 +55,6 @@ row-fits f = passed (rowOf f) (each-form (λ g. fits (rowOf g)) all-fit f)
 -- a row that is some form's
 pub fits-by : {r : Row} (f : Form) → r ≡ rowOf f → RowFits r
 fits-by f e = rw e (row-fits f)
-
--- the rows in the forms' order, each at its form's number
-pub row-at : (f : Form) (d : Row) → getD (map rowOf forms) (numberOf f) d ≡ rowOf f
-row-at f d = getD-map-within rowOf forms (numberOf f) F7 d (number-below f) ∙ ap rowOf (forms-number f)
 
 pub elements-few : (f : Form) (n : ℕ) → n ≤ 65535 → elementsOf f n ≤ 65535
 unfolding elementsOf

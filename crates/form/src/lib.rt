@@ -1,7 +1,7 @@
 // The ten field forms: which group has which, what each takes, and the lines, elements and cells of a group's count.
 ghost use mathlib.Core.Path.{_≡_};
 ghost use Prim.Native.Nat.{_<_};
-ghost use Rattle.form.specs.Table.{numberOf, rowOf, formOf};
+ghost use Rattle.form.specs.Table.{rowOf, formOf};
 ghost use Rattle.form.specs.Count.{elementsOf, roundedUp, linesOf, cellsOf, lastOf};
 
 // A form is named by its letter and its width; the number of decimals follows from these.
@@ -121,30 +121,22 @@ pub fn form_of(group: usize) -> GroupForm
     }
 }
 
-// A form's row number, from 0. A constant table is built anew where it is indexed, so a loop that asks for many rows copies ROWS before it
-// begins, and takes its rows by this number.
-pub fn number(form: Form) -> usize
-    ensures { λ r. ⌜ r ≡ numberOf form ⌝ }
-{
-    match form {
-        Form::F7 => 0,
-        Form::A120 => 1,
-        Form::A1 => 2,
-        Form::F8 => 3,
-        Form::I2 => 4,
-        Form::I3 => 5,
-        Form::I1 => 6,
-        Form::E11 => 7,
-        Form::E20 => 8,
-        Form::E8 => 9,
-    }
-}
-
+// A form's row. A constant table is built anew where a variable indexes it, but not at a constant index: so this costs nothing in a loop.
 pub fn row_of(form: Form) -> Row
     ensures { λ r. ⌜ r ≡ rowOf form ⌝ }
 {
-    let k = number(form);
-    ROWS[k]
+    match form {
+        Form::F7 => ROWS[0],
+        Form::A120 => ROWS[1],
+        Form::A1 => ROWS[2],
+        Form::F8 => ROWS[3],
+        Form::I2 => ROWS[4],
+        Form::I3 => ROWS[5],
+        Form::I1 => ROWS[6],
+        Form::E11 => ROWS[7],
+        Form::E20 => ROWS[8],
+        Form::E8 => ROWS[9],
+    }
 }
 
 // The elements of a group of this form and count.

@@ -1,25 +1,22 @@
--- Whether a group can be asked about at a place, the counts of its record, and its lines as a part of the text: when they can be given, where
--- they begin, and that they are the group's lines.
+-- Whether a group can be asked about at a place, the counts of its record, and its lines as a part of the text: when they can be given,
+-- where they begin, and that they are the group's lines.
 -- Assumes nothing.
 use mathlib.Core.Path.{_≡_, refl, sym, _∙_, ap}
-use mathlib.Core.List.{List, []}
-use mathlib.Core.Logic.{_⊎_, inl, inr}
-use Prim.Native.Nat.{ℕ, suc, _+_, _<_, _≤_}
+use mathlib.Core.List.{List}
+use Prim.Native.Nat.{ℕ, suc, _+_, _≤_}
 use native.Mathlib.Nat.{add-comm}
 use native.Mathlib.Numerals.{add-one}
 use native.Mathlib.Omega.{arith}
 use lib.ListN.{length, getD, replicate}
 use Rattle.base.specs.Part.{part}
-use Rattle.base.proofs.Order.{le-or-lt}
 use Rattle.form.specs.declared.Form.{Form}
 use Rattle.form.specs.declared.GroupForm.{GroupForm}
 use Rattle.form.specs.declared.GroupForm.the-variants.{Has, NoGroup as NoForm}
 use Rattle.form.specs.Table.{formOf}
-use Rattle.form.proofs.Table.{no-group}
 use Rattle.line.specs.Lines.{Whole}
 use Rattle.count.specs.Tally.{lineTally}
-use Rattle.count.specs.Reply.{Numbered}
-use Rattle.count.proofs.Replies.{numbered-plain}
+use Rattle.reply.specs.Table.{Numbered}
+use Rattle.reply.proofs.Replies.{numbered-plain}
 use Rattle.place.specs.declared.Placing.{Placing}
 use Rattle.place.specs.declared.Placing.the-variants.{Placed, End, Beyond, TooFewLines, Misformed, OtherRelease, FilledVacant, BrokenRule}
 use Rattle.place.specs.Placing.{placingOf, countsAt}
@@ -30,6 +27,7 @@ use Rattle.place.proofs.Tiling.{part-whole, start-mono, start-within}
 use Rattle.place.proofs.Zero.{is-placed}
 use Rattle.reading.specs.declared.Refusal.{Refusal}
 use Rattle.reading.specs.declared.Refusal.the-variants.{NoGroup}
+use Rattle.reading.proofs.Due.{form-range}
 use Rattle.reading.proofs.Promises.{refusal-numbered}
 use Rattle.group.specs.declared.Found.{Found}
 use Rattle.group.specs.declared.Found.the-variants.{Given, Missing}
@@ -88,17 +86,6 @@ module _ (s : List ℕ) (at g : ℕ) where
       by (Has f) h v = place f (placingOf s at) h refl v
       by NoForm h v = no-given v
 
-  -- a group that has a form is one of 60
-  group-few : {f : Form} → formOf g ≡ Has f → g ≤ 60
-  group-few {f} e = by (le-or-lt g 60)
-    where
-      no-form : {A : Type 0} → NoForm ≡ Has f → A
-      no-form e = let z : _≡_ {A = ℕ} 0 1 = cc in absurd (omega arith)
-
-      by : (g ≤ 60) ⊎ (60 < g) → g ≤ 60
-      by (inl h) = h
-      by (inr h) = no-form (sym (no-group g .1 (λ i. omega (arith, i .high))) ∙ e)
-
   -- the lines, from where to where they stand in the record that was placed
   module _ (e : foundAt s at g ≡ Given) (ns : List ℕ) (c : ns ≡ countsHeld s at g) where
     i : IsGiven
@@ -113,7 +100,7 @@ module _ (s : List ℕ) (at g : ℕ) where
         let l = is-placed s at (i .next) (i .placed) .located-at in
         let x : from ≡ start s at n g = a .0 ∙ ap (λ y. start s at y g) held-counts in
         let y : to ≡ start s at n (g + 1) = a .1 ∙ ap (λ y. start s at y (g + 1)) held-counts in
-        let few = group-few (i .has) in
+        let few = form-range g (i .form) (i .has) .1 in
         (omega (arith, x, y, start-mono s at n g (g + 1) (omega arith)), omega (arith, y, start-within s at (i .next) n l (g + 1) (omega (arith, few)), located-range s at (i .next) n l))
 
     pub held-part : (from to : ℕ) → (from ≡ start s at ns g) × (to ≡ start s at ns (g + 1)) → (part from to s ≡ partAt s at g) × (from ≡ partStart s at g)
@@ -135,7 +122,7 @@ module _ (s : List ℕ) (at g : ℕ) where
   pub given-lines : foundAt s at g ≡ Given → Whole (getD (lineTally (countsAt s at)) g 0) (partAt s at g)
   given-lines e =
       let i = given-is e in
-      rw (given-part e) (part-whole s at (i .next) (countsAt s at) (is-placed s at (i .next) (i .placed) .located-at) g (omega (arith, group-few (i .has))))
+      rw (given-part e) (part-whole s at (i .next) (countsAt s at) (is-placed s at (i .next) (i .placed) .located-at) g (omega (arith, form-range g (i .form) (i .has) .1)))
 
   -- any two answers are equal
   pub found-once : (r q : Found) → r ≡ foundAt s at g → q ≡ foundAt s at g → r ≡ q

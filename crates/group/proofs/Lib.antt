@@ -2,4 +2,9 @@
 pub mod Holding
 pub mod Texts
 pub mod Promises
+pub mod Rooms
 pub mod Reported
+pub mod Confined
+pub mod Damage
+pub mod DamageInstance
+pub mod Due

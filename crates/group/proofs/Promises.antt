@@ -6,7 +6,7 @@ use Prim.Native.Nat.{ℕ}
 use Rattle.form.specs.declared.GroupForm.{GroupForm}
 use Rattle.form.specs.declared.GroupForm.the-variants.{Has, NoGroup as NoForm}
 use Rattle.form.specs.Table.{formOf}
-use Rattle.place.specs.Placing.{Located, located, refused, locate}
+use Rattle.place.specs.Placing.{located, locate}
 use Rattle.place.specs.Parts.{groupPart}
 use Rattle.group.specs.Text.{readAtBy, readAt}
 

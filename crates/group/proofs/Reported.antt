@@ -1,23 +1,20 @@
--- A characteristic: by its number, by what group 4 reads as, and by its cell.
+-- A characteristic: by its number, by what group 4 reads as, and by its cell; each answer is a reply of 01's table, and there is one.
 -- Assumes nothing.
-use mathlib.Core.Path.{_≡_, refl, sym, _∙_, ap, subst}
-use mathlib.Core.Bool.{Bool, true, false, cond, not, _&&_}
+use mathlib.Core.Path.{_≡_, refl, sym, _∙_, ap}
+use mathlib.Core.Bool.{Bool, true, false, cond, false≢true}
 use mathlib.Core.List.{List, [], _∷_, _++_}
 use Prim.Native.Nat.{ℕ, zero, suc, _+_, _-_, _<_, _≤_}
-use native.Mathlib.Nat.{zero-add}
 use native.Mathlib.Omega.{arith}
-use borrow.Author.Tests.{le-leb, lt-leb}
+use borrow.Author.Tests.{le-leb, lt-leb, eqb-true}
 use lib.Dec.{eqb, leb}
-use lib.IntN.{ℤ, pos}
-use lib.ListN.{length, take, drop, getD}
-use Rattle.base.specs.Part.{over}
-use Rattle.base.specs.Pieces.{Got, done, bad}
+use lib.IntN.{ℤ, pos, negsuc}
+use lib.ListN.{length, drop, getD}
+use Rattle.base.specs.Pieces.{done, bad}
 use Rattle.base.specs.Sign.{negative, sizeOf}
-use Rattle.count.specs.Reply.{Numbered}
-use Rattle.count.proofs.Replies.{numbered-plain}
+use Rattle.reply.specs.Table.{Numbered}
+use Rattle.reply.proofs.Replies.{numbered-plain}
 use Rattle.reading.specs.declared.Refusal.{Refusal}
 use Rattle.reading.specs.declared.Refusal.the-variants.{NoGroup}
-use Rattle.reading.specs.declared.Reading.{Reading}
 use Rattle.reading.specs.declared.Reading.the-variants.{Done, Refused}
 use Rattle.group.specs.declared.Characteristic.{Characteristic}
 use Rattle.group.specs.declared.Characteristic.the-variants.{Value, NoReading, NotReported, Unread}
@@ -45,6 +42,19 @@ pub no-reading-cell : told (pos 9999000) ≡ NoReading
 unfolding isNoReading
 no-reading-cell = refl
 
+-- no reading is one cell, and no other
+pub no-reading-is : (z : ℤ) → isNoReading z ≡ true → z ≡ pos 9999000
+unfolding isNoReading
+no-reading-is (pos n) e = ap pos (eqb-true n 9999000 e)
+no-reading-is (negsuc n) e = absurd (false≢true e)
+
+pub is-reading : (z : ℤ) → (z ≡ pos 9999000 → ⊥) → told z ≡ Value z
+is-reading z n = by (isNoReading z) refl
+  where
+    by : (t : Bool) → isNoReading z ≡ t → cond t NoReading (Value z) ≡ Value z
+    by true u = absurd (n (no-reading-is z u))
+    by false u = refl
+
 -- ---- by the number
 
 getD-append : (a b : List ℤ) (i : ℕ) (d : ℤ) → i < length a → getD (a ++ b) i d ≡ getD a i d
@@ -63,16 +73,16 @@ module _ (s : List ℕ) (at k : ℕ) where
     number-high h = rw (le-leb 1 k low, lt-leb k 49 h)
 
     module _ (high : k ≤ 49) where
-      inside : {g : Cells} → readAt s at 4 49 ≡ g → characteristicAt s at k ≡ reported k g
+      pub number-inside : {g : Cells} → readAt s at 4 49 ≡ g → characteristicAt s at k ≡ reported k g
       unfolding characteristicAt
-      inside e = rw (le-leb 1 k low, le-leb k 49 high, e)
+      number-inside e = rw (le-leb 1 k low, le-leb k 49 high, e)
 
       pub four-refused : {r : Refusal} → Refused r ≡ readingOf (readAt s at 4 49) → Unread r ≡ characteristicAt s at k
       four-refused {r = r} e = by (readAt s at 4 49) refl e
         where
           by : (g : Cells) → readAt s at 4 49 ≡ g → Refused r ≡ readingOf g → Unread r ≡ characteristicAt s at k
           by (done cs) u v = let z : _≡_ {A = ℕ} 0 1 = cc in absurd (omega arith)
-          by (bad q) u v = let p : r ≡ q = cc in ap Unread p ∙ sym (inside u)
+          by (bad q) u v = let p : r ≡ q = cc in ap Unread p ∙ sym (number-inside u)
 
       module _ {n : ℕ} (e : Done n ≡ readingOf (readAt s at 4 49)) where
         pub four-few : n < k → NotReported ≡ characteristicAt s at k
@@ -82,7 +92,7 @@ module _ (s : List ℕ) (at k : ℕ) where
             by (done cs) u v =
                 let m : n ≡ length cs = cc in
                 let t : leb k (length cs) ≡ false = lt-leb k (length cs) (omega arith) in
-                sym (inside u ∙ rw t)
+                sym (number-inside u ∙ rw t)
             by (bad q) u v = let z : _≡_ {A = ℕ} 0 1 = cc in absurd (omega arith)
 
         pub four-told : k ≤ n → (new old : List ℤ) → new ≡ tableBy (readAt s at 4 49) old → told (getD new (k - 1) (pos 0)) ≡ characteristicAt s at k
@@ -92,7 +102,7 @@ module _ (s : List ℕ) (at k : ℕ) where
             by (done cs) u v w =
                 let m : n ≡ length cs = cc in
                 let t : leb k (length cs) ≡ true = le-leb k (length cs) (omega arith) in
-                ap (λ l. told (getD l (k - 1) (pos 0))) w ∙ ap told (getD-append cs (drop (0 + length cs) old) (k - 1) (pos 0) (omega arith)) ∙ sym (inside u ∙ rw t)
+                ap (λ l. told (getD l (k - 1) (pos 0))) w ∙ ap told (getD-append cs (drop (0 + length cs) old) (k - 1) (pos 0) (omega arith)) ∙ sym (number-inside u ∙ rw t)
             by (bad q) u v w = let z : _≡_ {A = ℕ} 0 1 = cc in absurd (omega arith)
 
 pub characteristic-numbered : (c : Characteristic) → Numbered (characteristicReply c)
@@ -100,3 +110,7 @@ characteristic-numbered (Value z) = numbered-plain 0 tt
 characteristic-numbered NoReading = numbered-plain 0 tt
 characteristic-numbered NotReported = numbered-plain 0 tt
 characteristic-numbered (Unread r) = refusal-numbered r
+
+-- any two answers are equal
+pub characteristic-once : (s : List ℕ) (at k : ℕ) (c d : Characteristic) → c ≡ characteristicAt s at k → d ≡ characteristicAt s at k → c ≡ d
+characteristic-once s at k c d a b = a ∙ sym b

@@ -1,7 +1,7 @@
 -- Reading at a place of a text, by whether the group can be asked about there.
 -- Assumes nothing.
-use mathlib.Core.Path.{_≡_, refl, sym, _∙_, ap, subst}
-use mathlib.Core.Bool.{Bool, true, false}
+use mathlib.Core.Path.{_≡_, refl, sym, ap, subst}
+use mathlib.Core.Bool.{true}
 use mathlib.Core.List.{List, [], _∷_}
 use mathlib.Core.Logic.{⊎-elim}
 use types.Run.{OneOf}
@@ -12,7 +12,7 @@ use lib.IntN.{ℤ}
 use lib.ListN.{length}
 use Rattle.base.specs.Every.{every}
 use Rattle.base.specs.Part.{part}
-use Rattle.base.specs.Pieces.{Got, done, bad}
+use Rattle.base.specs.Pieces.{bad}
 use Rattle.base.proofs.Choice.{and-left, and-right}
 use Rattle.form.specs.declared.Form.{Form}
 use Rattle.form.specs.declared.GroupForm.{GroupForm}
@@ -28,13 +28,12 @@ use Rattle.place.specs.Placing.{Located, located, refused, locate, placingBy, p
 use Rattle.place.specs.Parts.{start}
 use Rattle.place.proofs.Zero.{is-placed}
 use Rattle.reading.specs.declared.Refusal.{Refusal}
-use Rattle.reading.specs.declared.Refusal.the-variants.{NoGroup, BrokenRule}
+use Rattle.reading.specs.declared.Refusal.the-variants.{BrokenRule}
 use Rattle.reading.specs.declared.Reading.{Reading}
-use Rattle.reading.specs.declared.Reading.the-variants.{Done, Refused}
+use Rattle.reading.specs.declared.Reading.the-variants.{Refused}
 use Rattle.reading.specs.Read
 use Rattle.reading.specs.Read.{Cells, readGroup}
 use Rattle.reading.proofs.Steps.{Answers}
-use Rattle.group.specs.declared.Found.{Found}
 use Rattle.group.specs.declared.Found.the-variants.{Given, Missing}
 use Rattle.group.specs.Held.{refusalOf, foundBy, foundIn, foundAt, countsHeld, partAt}
 use Rattle.group.specs.Text.{readLocated, readAtBy, readAt}

@@ -1,15 +1,16 @@
--- "A characteristic (1-49) of a record is, each under reply 0, a value in thousandths, or no reading (cell 9,999,000), or not reported (number
--- above group 4's count); otherwise it is 12 or group 4's reply. 12 comes first, then group 4's reply with its numbers, as if read into a
--- table with room, then not reported. .. 999,900 is a value."
+-- "A characteristic (1-49) of a record is, each under reply 0, a value in thousandths, or no reading (cell 9,999,000), or not reported
+-- (number above group 4's count); otherwise it is 12 or group 4's reply. 12 comes first, then group 4's reply with its numbers, as if read
+-- into a table with room, then not reported. .. 999,900 is a value."
 use mathlib.Core.Bool.{Bool, cond, not, _&&_}
 use mathlib.Core.List.{List}
 use Prim.Native.Nat.{ℕ, _-_}
 use lib.Dec.{eqb, leb}
 use lib.IntN.{ℤ, pos}
 use lib.ListN.{length, getD}
-use Rattle.base.specs.Pieces.{Got, done, bad}
+use Rattle.base.specs.Pieces.{done, bad}
 use Rattle.base.specs.Sign.{negative, sizeOf}
-use Rattle.count.specs.Reply.{Reply, reply}
+use Rattle.reply.specs.declared.Reply.{Reply}
+use Rattle.reply.specs.Table.{replyPlain}
 use Rattle.reading.specs.declared.Refusal.the-variants.{NoGroup}
 use Rattle.group.specs.declared.Characteristic.{Characteristic}
 use Rattle.group.specs.declared.Characteristic.the-variants.{Value, NoReading, NotReported, Unread}
@@ -35,7 +36,7 @@ characteristicAt s at k = cond (leb 1 k && leb k 49) (reported k (readAt s at 4 
 
 -- the number in 01's table
 abbrev pub characteristicReply : Characteristic → Reply
-characteristicReply (Value z) = reply 0
-characteristicReply NoReading = reply 0
-characteristicReply NotReported = reply 0
+characteristicReply (Value z) = replyPlain 0
+characteristicReply NoReading = replyPlain 0
+characteristicReply NotReported = replyPlain 0
 characteristicReply (Unread r) = refusalReply r

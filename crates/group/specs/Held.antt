@@ -11,7 +11,8 @@ use Rattle.place.specs.declared.Placing.{Placing}
 use Rattle.place.specs.declared.Placing.the-variants as P
 use Rattle.place.specs.Placing.{placingOf, countsAt}
 use Rattle.place.specs.Parts.{start}
-use Rattle.count.specs.Reply.{Reply, reply}
+use Rattle.reply.specs.declared.Reply.{Reply}
+use Rattle.reply.specs.Table.{replyPlain}
 use Rattle.reading.specs.declared.Refusal.{Refusal}
 use Rattle.reading.specs.declared.Refusal.the-variants.{NoGroup, End, Beyond, TooFewLines, Misformed, OtherRelease, FilledVacant, BrokenRule}
 use Rattle.group.specs.declared.Found.{Found}
@@ -78,5 +79,5 @@ moved p n = (p .0, p .1 + n)
 
 -- the number in 01's table
 abbrev pub foundReply : Found → Reply
-foundReply Given = reply 0
+foundReply Given = replyPlain 0
 foundReply (Missing r) = refusalReply r

@@ -5,8 +5,8 @@ use reading::Refusal;
 ghost use mathlib.Core.Path.{_≡_};
 ghost use lib.ListN.{length, replicate};
 ghost use Rattle.reading.specs.Read.{readingOf, tableBy};
-ghost use Rattle.group.specs.Characteristics.{isNoReading, told, characteristicAt};
-ghost use Rattle.group.specs.Held.{refusalOf, foundAt, countsHeld, partStart, partAt, moved};
+ghost use Rattle.group.specs.Characteristics.{isNoReading, told, characteristicAt, characteristicReply};
+ghost use Rattle.group.specs.Held.{refusalOf, foundAt, countsHeld, partStart, partAt, moved, foundReply};
 ghost use Rattle.group.specs.Text.{readAt};
 
 // Whether a group can be asked about at a place.
@@ -158,5 +158,28 @@ pub fn characteristic_at(text: &[u8], at: usize, number: usize) -> Characteristi
             }
             told_by(table[number - 1])
         }
+    }
+}
+
+// ---- Replies.
+
+// The answer's number in 01's table, with the numbers given besides.
+pub fn found_reply(answer: Found) -> reply::Reply
+    ensures { λ r. ⌜ r ≡ foundReply answer ⌝ }
+{
+    match answer {
+        Found::Given => reply::plain(0),
+        Found::Missing(r) => reading::refusal_reply(r),
+    }
+}
+
+pub fn characteristic_reply(answer: Characteristic) -> reply::Reply
+    ensures { λ r. ⌜ r ≡ characteristicReply answer ⌝ }
+{
+    match answer {
+        Characteristic::Value(_) => reply::plain(0),
+        Characteristic::NoReading => reply::plain(0),
+        Characteristic::NotReported => reply::plain(0),
+        Characteristic::Unread(r) => reading::refusal_reply(r),
     }
 }

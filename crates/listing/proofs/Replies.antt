@@ -9,8 +9,8 @@ use native.Mathlib.Nat.{zero-add}
 use native.Mathlib.Omega.{arith}
 use lib.Dec.{leb→le}
 use lib.ListN.{length}
-use Rattle.count.specs.Reply.{Numbered}
-use Rattle.count.proofs.Replies.{numbered-plain}
+use Rattle.reply.specs.Table.{Numbered}
+use Rattle.reply.proofs.Replies.{numbered-plain, numbered-done}
 use Rattle.decimal.specs.Writing.{Puts}
 use Rattle.decimal.specs.declared.Put.{Put}
 use Rattle.decimal.specs.declared.Put.the-variants.{Next, NoRoom}
@@ -18,16 +18,7 @@ use Rattle.decimal.proofs.Writing.{next-means, none-means}
 use Rattle.listing.specs.Listing.{listedReply}
 
 pub listed-numbered : (r : Put) → Numbered (listedReply r)
-listed-numbered (Next n) =
-    record {
-      known = leb→le 0 14 tt;
-      no-next = λ e. refl;
-      no-written = λ e. absurd (true≢false e);
-      no-group = λ e. refl;
-      no-line = λ e. refl;
-      no-element = λ e. refl;
-      no-position = λ e. refl;
-    }
+listed-numbered (Next n) = numbered-done n
 listed-numbered NoRoom = numbered-plain 11 tt
 
 module _ (text old new : List ℕ) where

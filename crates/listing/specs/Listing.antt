@@ -6,7 +6,8 @@ use Prim.Native.Nat.{ℕ, zero, suc}
 use lib.Dec.{leb}
 use lib.ListN.{length}
 use Rattle.base.specs.Quoted.{bytes}
-use Rattle.count.specs.Reply.{Reply, reply}
+use Rattle.reply.specs.declared.Reply.{Reply}
+use Rattle.reply.specs.Table.{replyPlain, replyDone}
 use Rattle.decimal.specs.Rows.{rowText}
 use Rattle.decimal.specs.declared.Put.{Put}
 use Rattle.decimal.specs.declared.Put.the-variants.{Next, NoRoom}
@@ -41,5 +42,5 @@ printed s = cond (leb (length s) 65536) (listing s) (bytes "end " ++ rowText (0 
 
 -- 01's reply: 0 with the bytes written, or 11
 abbrev pub listedReply : Put → Reply
-listedReply (Next n) = record { number = 0; next = 0; written = n; group = 0; line = 0; element = 0; position = 0 }
-listedReply NoRoom = reply 11
+listedReply (Next n) = replyDone n
+listedReply NoRoom = replyPlain 11

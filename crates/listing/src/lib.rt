@@ -4,45 +4,13 @@ ghost use Prim.Native.Nat.{_+_, _≤_};
 ghost use lib.ListN.{length};
 ghost use Rattle.base.specs.Part.{over};
 ghost use Rattle.decimal.specs.Writing.{endIn, Puts};
-ghost use Rattle.listing.specs.Rows.{replyOf, nextOf, groupOf, isPlaced, filledGroups, recordRow, endRow};
+ghost use Rattle.listing.specs.Rows.{isPlaced, filledGroups, recordRow, endRow};
 ghost use Rattle.listing.specs.Listing.{listing, printed};
 use decimal::Put;
 use place::Placing;
 
-// An answer's number in 01's table, with the next place and the group given besides.
-struct Reply {
-    number: u64,
-    next: u64,
-    group: u64,
-}
-
-fn numbered(number: u64, next: usize, group: usize) -> Reply
-    ensures { λ r. ⌜ (r .number ≡ number) × (r .next ≡ next) × (r .group ≡ group) ⌝ }
-{
-    Reply {
-        number,
-        next: next as u64,
-        group: group as u64,
-    }
-}
-
-fn reply_of(answer: Placing) -> Reply
-    ensures { λ r. ⌜ (r .number ≡ replyOf answer) × (r .next ≡ nextOf answer) × (r .group ≡ groupOf answer) ⌝ }
-{
-    match answer {
-        Placing::Placed(n) => numbered(0, n, 0),
-        Placing::End => numbered(1, 0, 0),
-        Placing::Beyond => numbered(2, 0, 0),
-        Placing::TooFewLines => numbered(3, 0, 0),
-        Placing::Misformed => numbered(4, 0, 0),
-        Placing::OtherRelease => numbered(5, 0, 0),
-        Placing::FilledVacant(g) => numbered(6, 0, g),
-        Placing::BrokenRule(g, n) => numbered(7, n, g),
-    }
-}
-
 // "A record is placed where the reply is 0 or 7."
-fn is_placed(number: u64) -> bool
+fn is_placed(number: usize) -> bool
     ensures { λ r. ⌜ r ≡ isPlaced number ⌝ }
 {
     if number == 0 {
@@ -70,15 +38,15 @@ pub fn filled_groups(counts: &[u16]) -> u64
 pub fn record_row(number: usize, at: usize, answer: Placing, counts: &[u16]) -> [u64; 7]
     ensures { λ r. ⌜ r ≡ recordRow number at answer (now (counts .entry)) ⌝ }
 {
-    let r = reply_of(answer);
+    let r = place::reply_of(answer);
     let groups = filled_groups(counts);
     let lines = count::add_up(counts, 61).lines;
     [
         number as u64,
         at as u64,
-        r.next,
-        r.number,
-        r.group,
+        r.next as u64,
+        r.number as u64,
+        r.group as u64,
         groups,
         lines as u64,
     ]
@@ -88,8 +56,8 @@ pub fn record_row(number: usize, at: usize, answer: Placing, counts: &[u16]) -> 
 pub fn end_row(records: usize, at: usize, answer: Placing) -> [u64; 4]
     ensures { λ r. ⌜ r ≡ endRow records at answer ⌝ }
 {
-    let r = reply_of(answer);
-    [records as u64, at as u64, r.number, r.group]
+    let r = place::reply_of(answer);
+    [records as u64, at as u64, r.number as u64, r.group as u64]
 }
 
 // Where the listing ends that is put into so many bytes from their start on: a walk with nothing put.
@@ -102,7 +70,7 @@ fn listing_end(text: &[u8], size: usize) -> Put
     loop {
         let here = place::place(text, at);
         let answer = here.answer;
-        let r = reply_of(answer);
+        let r = place::reply_of(answer);
         if !is_placed(r.number) {
             let last = end_row(k, at, answer);
             return decimal::row_end(size, a, b"end ", &last);
@@ -113,7 +81,7 @@ fn listing_end(text: &[u8], size: usize) -> Put
             return Put::NoRoom;
         };
         a = end;
-        at = r.next as usize;
+        at = r.next;
         k += 1;
     }
 }
@@ -129,7 +97,7 @@ fn put_listing(text: &[u8], out: &mut [u8])
     loop {
         let found = place::place(text, at);
         let answer = found.answer;
-        let r = reply_of(answer);
+        let r = place::reply_of(answer);
         if !is_placed(r.number) {
             let last = end_row(k, at, answer);
             decimal::put_row(out, a, b"end ", &last);
@@ -142,7 +110,7 @@ fn put_listing(text: &[u8], out: &mut [u8])
             return;
         };
         a = end;
-        at = r.next as usize;
+        at = r.next;
         k += 1;
     }
 }

@@ -10,3 +10,5 @@ pub mod Local
 pub mod SameWalk
 pub mod Numbered
 pub mod Zero
+pub mod Apart
+pub mod TwiceS

@@ -7,3 +7,5 @@ pub mod Parts
 pub mod Walk
 pub mod Numbered
 pub mod Due
+-- 01's record S, and S twice
+pub mod RecordS

@@ -5,6 +5,7 @@ ghost use lib.ListN.{length, drop, replicate};
 ghost use Rattle.line.specs.Lines.{reach};
 ghost use Rattle.place.specs.Parts.{start};
 ghost use Rattle.place.specs.Index.{readEntries, readIndexLine, Stored};
+ghost use Rattle.place.specs.Numbered.{placingReply};
 ghost use Rattle.place.specs.Placing.{Answers, placingOf, countsAt, ruledAt, locateLinesFrom, locateFrom};
 
 // What placing answers; each variant is one of 01's replies.
@@ -133,6 +134,22 @@ pub fn place(text: &[u8], at: usize) -> Record
         return nothing(Placing::Misformed);
     }
     with_counts(text, end, counts)
+}
+
+// The answer's number in 01's table, with the next place and the group given besides.
+pub fn reply_of(answer: Placing) -> reply::Reply
+    ensures { λ r. ⌜ r ≡ placingReply answer ⌝ }
+{
+    match answer {
+        Placing::Placed(n) => reply::at_next(0, n, 0),
+        Placing::End => reply::plain(1),
+        Placing::Beyond => reply::plain(2),
+        Placing::TooFewLines => reply::plain(3),
+        Placing::Misformed => reply::plain(4),
+        Placing::OtherRelease => reply::plain(5),
+        Placing::FilledVacant(g) => reply::on_group(6, g),
+        Placing::BrokenRule(g, n) => reply::at_next(7, n, g),
+    }
 }
 
 // From where to where the lines of a group stand.

@@ -2,30 +2,17 @@
 // Its input is S, and then S with group 11's count 3, the other trace counts 0, and a data line for it.
 use libc::STDIN_FILENO;
 use libc::STDOUT_FILENO;
-use place::Placing;
-
-fn show(number: u64, next: u64, group: u64) {
-    io::print_decimal(STDOUT_FILENO, number);
-    io::write_all(STDOUT_FILENO, b" ");
-    io::print_decimal(STDOUT_FILENO, next);
-    io::write_all(STDOUT_FILENO, b" ");
-    io::print_decimal(STDOUT_FILENO, group);
-    io::write_all(STDOUT_FILENO, b"\n");
-}
 
 fn ask(text: &[u8], at: usize) {
     let record = place::place(text, at);
     let answer = record.answer;
-    match answer {
-        Placing::Placed(n) => show(0, n as u64, 0),
-        Placing::End => show(1, 0, 0),
-        Placing::Beyond => show(2, 0, 0),
-        Placing::TooFewLines => show(3, 0, 0),
-        Placing::Misformed => show(4, 0, 0),
-        Placing::OtherRelease => show(5, 0, 0),
-        Placing::FilledVacant(g) => show(6, 0, g as u64),
-        Placing::BrokenRule(g, n) => show(7, n as u64, g as u64),
-    }
+    let r = place::reply_of(answer);
+    io::print_decimal(STDOUT_FILENO, r.number as u64);
+    io::write_all(STDOUT_FILENO, b" ");
+    io::print_decimal(STDOUT_FILENO, r.next as u64);
+    io::write_all(STDOUT_FILENO, b" ");
+    io::print_decimal(STDOUT_FILENO, r.group as u64);
+    io::write_all(STDOUT_FILENO, b"\n");
 }
 
 fn main() {

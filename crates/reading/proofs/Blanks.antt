@@ -1,29 +1,32 @@
--- Filling with blanks: what is long enough stays, a beginning and a rest of what is filled; and when a line's content is right, test by test.
+-- Filling with blanks: what is long enough stays, a beginning and a rest of what is filled; and when a line's content is right, test by
+-- test and in plain words.
 -- Assumes nothing.
-use mathlib.Core.Path.{_≡_, refl, sym, _∙_, ap, subst}
+use mathlib.Core.Path.{_≡_, refl, sym, _∙_, ap}
 use mathlib.Core.Bool.{Bool, true, false, cond, _&&_, false≢true}
-use mathlib.Core.List.{List, [], _∷_, _++_, append-nil}
+use mathlib.Core.List.{List, [], _∷_, append-nil}
+use mathlib.Core.Logic.{_↔_}
 use Prim.Native.Nat.{ℕ, zero, suc, _+_, _-_, _<_, _≤_}
 use native.Mathlib.Omega.{arith}
 use native.Mathlib.Nat.{sub-zero}
 use borrow.Author.Tests.{le-leb, lt-leb, eq-eqb, leb-true}
-use lib.Dec.{T, leb, eqb}
+use lib.Dec.{T, leb, eqb→eq}
 use lib.ListN.{length, take, drop, getD, replicate, length-append, length-drop, length-replicate, drop-of-length-le}
-use lib.Seq.{take-all}
+use lib.Seq.{take-all, getD-drop}
 use Rattle.base.specs.Ascii.{printable}
 use Rattle.base.specs.Every.{every}
 use Rattle.base.specs.Part.{part}
 use Rattle.base.proofs.Taken.{drop-none, take-none}
-use Rattle.base.proofs.Choice.{and-first, and-second}
+use Rattle.base.proofs.Choice.{and-first, and-second, true-T, T-true}
+use Rattle.base.proofs.Every.{every-at, at-every}
 use Rattle.form.specs.declared.Form.{Form}
 use Rattle.form.specs.declared.Form.the-variants.{F7, A120, A1, F8, I2, I3, I1, E11, E20, E8}
 use Rattle.form.specs.Table
 use Rattle.form.specs.Table.{rowOf}
 use Rattle.field.specs.Read
-use Rattle.field.specs.Read.{fieldOf, formed, readAs}
-use Rattle.field.specs.Kind.{kindOf}
+use Rattle.field.specs.Read.{fieldOf, formed}
 use Rattle.field.specs.declared.Value.the-variants.{Letters, Misformed}
 use Rattle.reading.specs.Blanks.{blank, mayBeShort, shortest, filledTo, isRight, Fits}
+use Rattle.reading.specs.Values.{RightContent}
 
 -- ---- filling
 
@@ -151,3 +154,23 @@ module _ (f : Form) (columns : ℕ) (s : List ℕ) where
   pub right-high : isRight f columns s ≡ true → length s ≤ 120
   unfolding isRight
   right-high e = leb-true (length s) 120 (and-first (leb (length s) 120) (every blank (drop columns s)) (and-second (leb (shortest f columns) (length s)) (leb (length s) 120 && every blank (drop columns s)) e))
+
+  right-after : isRight f columns s ≡ true → T (every blank (drop columns s))
+  right-after e = true-T (every blank (drop columns s)) (sym (right-rest (right-low e) (right-high e)) ∙ e)
+
+  -- in plain words, both ways
+  pub right-plain : isRight f columns s ≡ true ↔ RightContent f columns s
+  right-plain = (λ e. record { least = right-low e; most = right-high e; blanks = there e }, back)
+    where
+      there : isRight f columns s ≡ true → (i : ℕ) → columns ≤ i → i < length s → getD s i 0 ≡ 32
+      there e i a b =
+          let n : columns + (i - columns) ≡ i = omega arith in
+          let t = every-at blank 0 (drop columns s) (right-after e) (i - columns) (omega (arith, length-drop columns s)) in
+          ap (λ k. getD s k 0) (sym n) ∙ sym (getD-drop columns s (i - columns) 0) ∙ eqb→eq (getD (drop columns s) (i - columns) 0) 32 t
+
+      back : RightContent f columns s → isRight f columns s ≡ true
+      back r =
+          right-rest (r .least) (r .most)
+          ∙ T-true (every blank (drop columns s)) (at-every blank 0 (drop columns s) (λ k h.
+          let e : getD (drop columns s) k 0 ≡ 32 = getD-drop columns s k 0 ∙ r .blanks (columns + k) (omega arith) (omega (arith, length-drop columns s)) in
+          true-T (blank (getD (drop columns s) k 0)) (eq-eqb (getD (drop columns s) k 0) 32 e)))

@@ -1,10 +1,10 @@
 -- The first pass: its state as it comes to a line and to a field of the line; a line more, a field more, and where it stops.
 -- Assumes nothing.
-use mathlib.Core.Path.{_≡_, refl, sym, _∙_, ap, subst}
-use mathlib.Core.Bool.{Bool, true, false, cond}
-use mathlib.Core.List.{List, [], _∷_, _++_, map}
-use Prim.Native.Nat.{ℕ, zero, suc, _+_, _-_, _*_, _<_, _≤_, min}
-use native.Mathlib.Nat.{add-mul, one-mul, mul-le-mul, le-mul-of-pos-right, zero-mul, add-assoc, sub-zero, zero-add}
+use mathlib.Core.Path.{_≡_, refl, sym, _∙_, ap}
+use mathlib.Core.Bool.{true, false}
+use mathlib.Core.List.{List, []}
+use Prim.Native.Nat.{ℕ, suc, _+_, _-_, _*_, _<_, _≤_, min}
+use native.Mathlib.Nat.{add-mul, one-mul, mul-le-mul, le-mul-of-pos-right, zero-mul, sub-zero}
 use native.Mathlib.Numerals.{add-one}
 use native.Mathlib.Omega.{arith}
 use lib.ListN.{length, take, drop, length-drop}
@@ -13,14 +13,14 @@ use Rattle.base.specs.Every
 use Rattle.base.specs.Every.{upFrom}
 use Rattle.base.specs.Part.{part}
 use Rattle.base.specs.Pieces
-use Rattle.base.specs.Pieces.{Got, done, bad, both, gather}
+use Rattle.base.specs.Pieces.{done, bad, both, gather}
 use Rattle.base.proofs.Taken.{drop-none}
 use Rattle.form.specs.declared.Form.{Form}
 use Rattle.form.specs.Table.{rowOf}
 use Rattle.form.specs.Count.{elementsOf, linesOf}
-use Rattle.form.proofs.Rows.{row-fits, elements-few}
+use Rattle.form.proofs.Rows.{row-fits}
 use Rattle.form.proofs.Counted.{lines-few}
-use Rattle.field.specs.Read.{fieldOf, formed, cellsIn}
+use Rattle.field.specs.Read.{fieldOf, formed}
 use Rattle.line.specs.Lines.{reach}
 use Rattle.line.specs.declared.Content.the-variants.{Length, NoReturn}
 use Rattle.line.proofs.Reach.{reach-le}
@@ -28,7 +28,6 @@ use Rattle.reading.specs.Blanks.{filledTo, rightContent, Fits}
 use Rattle.reading.specs.Plan.{Line, lineAt, planFrom, planOf}
 use Rattle.reading.specs.declared.Refusal.{Refusal}
 use Rattle.reading.specs.declared.Refusal.the-variants.{BadLine, BadField}
-use Rattle.reading.specs.declared.Verdict.{Verdict}
 use Rattle.reading.specs.declared.Verdict.the-variants.{Clean, Bad}
 use Rattle.reading.specs.Read.{Cells, readField, readFields, columnsOf, readLine, readLinesOf, readLines, verdictOf}
 use Rattle.reading.proofs.Lines.{line-right, line-wrong}

@@ -1,22 +1,22 @@
 -- The date of group 3: its letters' first 19 decide it, and these are the first bytes of its first line.
 -- Assumes nothing.
 use mathlib.Core.Path.{_≡_, refl, sym, _∙_, ap, subst}
-use mathlib.Core.Bool.{Bool, true, false, cond, false≢true}
+use mathlib.Core.Bool.{Bool, true, false, cond}
 use mathlib.Core.List.{List, [], _∷_, _++_, map}
-use Prim.Native.Nat.{ℕ, zero, suc, _+_, _-_, _*_, _<_, _≤_, min}
-use native.Mathlib.Nat.{zero-mul, add-zero, sub-zero, zero-add, mul-one}
+use Prim.Native.Nat.{ℕ, zero, suc, _+_, _-_, _*_, _≤_, min}
+use native.Mathlib.Nat.{zero-mul, sub-zero, mul-one}
 use native.Mathlib.Omega.{arith}
-use borrow.Author.Tests.{le-leb, eq-eqb, ne-eqb, eqb-true}
+use borrow.Author.Tests.{le-leb, ne-eqb}
 use lib.Dec.{T, eqb}
 use lib.IntN.{ℤ, pos}
-use lib.ListN.{length, take, drop, length-take, length-append, length-map}
-use lib.Seq.{take-at, take-append-le, length-take-le}
+use lib.ListN.{length, take, drop, length-take, length-append}
+use lib.Seq.{take-at, length-take-le}
 use Rattle.base.specs.Ascii.{printable}
 use Rattle.base.specs.Every
 use Rattle.base.specs.Every.{every, upFrom}
 use Rattle.base.specs.Part.{part}
 use Rattle.base.specs.Pieces
-use Rattle.base.specs.Pieces.{done, bad, both}
+use Rattle.base.specs.Pieces.{done, bad}
 use Rattle.base.specs.Sign.{sizeOf}
 use Rattle.base.proofs.Pieces.{BothDone, both-done}
 use Rattle.base.proofs.Taken.{drop-none, take-none, drop-take, take-both, part-begin}
@@ -36,7 +36,7 @@ use Rattle.line.specs.Lines.{reach}
 use Rattle.line.proofs.Contents.{content-two}
 use Rattle.line.proofs.Reach.{reach-le}
 use Rattle.date.specs.Digits
-use Rattle.date.specs.Digits.{digitsOf, bytesAt, hasPositions}
+use Rattle.date.specs.Digits.{digitsOf, bytesAt}
 use Rattle.date.specs.Date
 use Rattle.date.specs.Date.{datedOf, year, dayOfYear, month, day, hour, minute, second}
 use Rattle.date.specs.declared.DigitField.{DigitField}
@@ -44,13 +44,12 @@ use Rattle.date.specs.declared.Dated.{Dated}
 use Rattle.date.specs.declared.Dated.the-variants.{Right, Wrong}
 use Rattle.reading.specs.Blanks.{filledTo}
 use Rattle.reading.specs.Plan.{Line, lineAt, planFrom, planOf}
-use Rattle.reading.specs.declared.Verdict.{Verdict}
 use Rattle.reading.specs.declared.Verdict.the-variants.{Clean, Bad}
 use Rattle.reading.specs.declared.Refusal.{Refusal}
 use Rattle.reading.specs.Read.{Cells, readField, readFields, columnsOf, readLine, readLinesOf, readLines, verdictOf, dated, byDate, dateVerdict}
 use Rattle.reading.proofs.Blanks.{filled-enough, right-low}
 use Rattle.reading.proofs.Checking.{lines-more}
-use Rattle.reading.proofs.Sizes.{WasRead, clean-read, field-done, LineDone, line-done}
+use Rattle.reading.proofs.Sizes.{clean-read, field-done, line-done}
 
 -- ---- only the beginning matters, as far as the fields go
 

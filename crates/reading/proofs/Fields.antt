@@ -1,10 +1,10 @@
 -- The fields of a line, one after the other: the bytes that the code lends for field i are that field, filled with blanks; one field more.
 -- Assumes nothing.
 use mathlib.Core.Path.{_≡_, refl, sym, _∙_, ap, subst}
-use mathlib.Core.Bool.{Bool, true, false, cond, false≢true}
-use mathlib.Core.List.{List, [], _∷_, _++_}
-use Prim.Native.Nat.{ℕ, zero, suc, _+_, _-_, _*_, _<_, _≤_, min}
-use native.Mathlib.Nat.{add-mul, one-mul, mul-le-mul-right, zero-mul, add-zero, sub-zero, add-assoc}
+use mathlib.Core.Bool.{Bool, true, false, false≢true}
+use mathlib.Core.List.{List, []}
+use Prim.Native.Nat.{ℕ, suc, _+_, _-_, _*_, _<_, _≤_, min}
+use native.Mathlib.Nat.{add-mul, one-mul, mul-le-mul-right, zero-mul, add-zero, sub-zero}
 use native.Mathlib.Omega.{arith}
 use lib.ListN.{length, take, drop, length-take, length-drop}
 use lib.Seq.{drop-drop, length-take-le}
@@ -12,21 +12,19 @@ use Rattle.base.proofs.Taken.{drop-none, drop-take, take-both, part-begin}
 use Rattle.base.specs.Every.{upFrom}
 use Rattle.base.specs.Part.{part}
 use Rattle.base.specs.Pieces
-use Rattle.base.specs.Pieces.{Got, done, bad, both, gather}
+use Rattle.base.specs.Pieces.{done, both, gather}
 use Rattle.base.specs.Every
 use Rattle.form.specs.declared.Form.{Form}
 use Rattle.form.specs.declared.Form.the-variants.{F7, A120, A1, F8, I2, I3, I1, E11, E20, E8}
 use Rattle.form.specs.Table
 use Rattle.form.specs.Table.{rowOf}
-use Rattle.form.proofs.Rows.{row-fits}
-use Rattle.field.specs.Read.{fieldOf, formed, cellsIn}
 use Rattle.line.specs.declared.Content.the-variants.{Length}
 use Rattle.line.proofs.Contents.{content-two}
-use Rattle.reading.specs.Blanks.{mayBeShort, shortest, filledTo, isRight, rightContent, Fits}
-use Rattle.reading.specs.Plan.{Line, elementsIn}
-use Rattle.reading.specs.Read.{Cells, readField, readFields, columnsOf}
+use Rattle.reading.specs.Blanks.{mayBeShort, shortest, filledTo, rightContent, Fits}
+use Rattle.reading.specs.Plan.{Line}
+use Rattle.reading.specs.Read.{readField, readFields, columnsOf}
 use Rattle.reading.proofs.Blanks.{filled-drop, filled-take, right-low}
-use Rattle.reading.proofs.Lines.{IsRightLine, right-is}
+use Rattle.reading.proofs.Lines.{right-is}
 
 -- the line without its first i elements
 abbrev pub restOf : Line → ℕ → Line
@@ -64,7 +62,7 @@ module _ (f : Form) (l : Line) (text : List ℕ) where
 -- ---- the bytes of a field
 
 -- a form whose lines may be short has one element to a line
-short-one : (f : Form) → mayBeShort f ≡ true → rowOf f .«per_line» ≡ 1
+pub short-one : (f : Form) → mayBeShort f ≡ true → rowOf f .«per_line» ≡ 1
 unfolding Table.rowOf Table.entryOf
 short-one A120 e = refl
 short-one F7 e = absurd (false≢true e)

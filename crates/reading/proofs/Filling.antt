@@ -1,22 +1,22 @@
 -- The second pass: its state as it comes to a line and to a field of the line; a field more, a line more, and the end.
 -- Assumes nothing.
 use mathlib.Core.Path.{_≡_, refl, sym, _∙_, ap, subst}
-use mathlib.Core.Bool.{Bool, true, false, cond}
-use mathlib.Core.List.{List, [], _∷_, _++_, append-assoc, append-nil}
-use Prim.Native.Nat.{ℕ, zero, suc, _+_, _-_, _*_, _<_, _≤_, min}
-use native.Mathlib.Nat.{add-mul, one-mul, zero-mul, zero-add, sub-zero, mul-le-mul}
+use mathlib.Core.Bool.{true}
+use mathlib.Core.List.{List, [], _++_, append-assoc, append-nil}
+use Prim.Native.Nat.{ℕ, _+_, _-_, _*_, _<_, _≤_, min}
+use native.Mathlib.Nat.{add-mul, one-mul, zero-mul, sub-zero, mul-le-mul}
 use native.Mathlib.Omega.{arith}
 use lib.Dec.{T}
 use lib.IntN.{ℤ}
 use lib.ListN.{length, take, drop, length-append}
 use Rattle.base.specs.Part.{part, over}
-use Rattle.base.specs.Pieces.{Got, done, bad, both, cellsGot}
+use Rattle.base.specs.Pieces.{done, both, cellsGot}
 use Rattle.base.proofs.Part.{over-none, over-then, over-length}
 use Rattle.base.proofs.Pieces.{BothDone, both-done}
 use Rattle.base.proofs.Taken.{drop-none}
 use Rattle.form.specs.declared.Form.{Form}
 use Rattle.form.specs.Table.{rowOf}
-use Rattle.form.specs.Count.{elementsOf, linesOf, cellsOf}
+use Rattle.form.specs.Count.{elementsOf, cellsOf}
 use Rattle.form.proofs.Rows.{row-fits}
 use Rattle.field.specs.Read.{fieldOf, formed, cellsIn, Reads}
 use Rattle.line.specs.Lines.{reach}
@@ -29,7 +29,7 @@ use Rattle.reading.specs.Read.{Cells, readField, readFields, columnsOf, 
 use Rattle.reading.proofs.Lines.{right-yes}
 use Rattle.reading.proofs.Fields.{restOf, lineText, fields-start, fields-more, fields-none, line-ends, piece, piece-range}
 use Rattle.reading.proofs.Checking.{Walking, line-more, lines-none, many-here, few-here, end-range, walking-next, width-few}
-use Rattle.reading.proofs.Sizes.{WasRead, clean-read, field-done, reads-size, LineDone, line-done, group-size}
+use Rattle.reading.proofs.Sizes.{clean-read, field-done, reads-size, LineDone, line-done, group-size}
 
 done-same : {a b : List ℤ} → _≡_ {A = Cells} (done a) (done b) → a ≡ b
 done-same e = cc

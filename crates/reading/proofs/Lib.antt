@@ -9,3 +9,6 @@ pub mod Filling
 pub mod Dates
 pub mod Steps
 pub mod Promises
+pub mod FourS
+pub mod Values
+pub mod Due

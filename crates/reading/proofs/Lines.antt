@@ -1,20 +1,16 @@
 -- A line of a group: where it ends, and what its content makes of it.
 -- Assumes nothing.
-use mathlib.Core.Path.{_≡_, refl, sym, _∙_, ap, subst}
+use mathlib.Core.Path.{_≡_, refl}
 use mathlib.Core.Bool.{Bool, true, false, cond}
-use mathlib.Core.List.{List, [], _∷_, _++_}
-use Prim.Native.Nat.{ℕ, zero, suc, _+_, _-_, _*_, _<_, _≤_}
+use mathlib.Core.List.{List}
+use Prim.Native.Nat.{ℕ}
 use native.Mathlib.Omega.{arith}
-use lib.ListN.{length, take, drop, length-drop}
 use Rattle.base.specs.Part.{part}
-use Rattle.base.specs.Pieces.{Got, done, bad}
+use Rattle.base.specs.Pieces.{bad}
 use Rattle.form.specs.declared.Form.{Form}
-use Rattle.line.specs.Lines.{feeds, reach}
 use Rattle.line.specs.Contents.{contentOf}
 use Rattle.line.specs.declared.Content.{Content}
 use Rattle.line.specs.declared.Content.the-variants.{Length, NoReturn}
-use Rattle.line.proofs.Reach.{reach-all}
-use Rattle.line.proofs.Contents.{content-two}
 use Rattle.reading.specs.Blanks.{isRight, filledTo, ifRight, rightContent}
 use Rattle.reading.specs.Plan.{Line}
 use Rattle.reading.specs.declared.Refusal.the-variants.{BadLine}

@@ -1,55 +1,43 @@
 -- What is promised of reading the lines of a group: each answer is a reply of 01's table; a refusal keeps the table, and 0 keeps what stands
--- behind the cells; there is one outcome; a broken rule on counts is 7 for every group; a count of 0 gives 0 and no cells.
+-- behind the cells; there is one outcome; a broken rule on counts is 7 for every group; a group reads the same
+-- into every table with room; a count of 0 gives 0 and no cells.
 -- Assumes nothing.
-use mathlib.Core.Path.{_≡_, refl, sym, _∙_, ap, subst}
-use mathlib.Core.Bool.{Bool, true, false, cond, true≢false}
-use mathlib.Core.List.{List, [], _∷_, _++_}
-use Prim.Native.Nat.{ℕ, zero, suc, _+_, _-_, _*_, _<_, _≤_}
+use mathlib.Core.Path.{_≡_, refl, sym, _∙_, ap}
+use mathlib.Core.Bool.{false, true≢false}
+use mathlib.Core.List.{List, []}
+use Prim.Native.Nat.{ℕ, _≤_}
 use native.Mathlib.Nat.{zero-add, zero-mul}
 use native.Mathlib.Omega.{arith}
 use borrow.Author.Tests.{le-leb, ne-eqb}
 use lib.Dec.{T, leb, leb→le}
 use lib.IntN.{ℤ}
-use lib.ListN.{length, take, drop}
+use lib.ListN.{length, drop}
 use lib.Seq.{drop-at}
 use Rattle.base.specs.Every
-use Rattle.base.specs.Part.{part, over}
 use Rattle.base.specs.Pieces
-use Rattle.base.specs.Pieces.{Got, done, bad}
+use Rattle.base.specs.Pieces.{done, bad}
 use Rattle.form.specs.declared.Form.{Form}
-use Rattle.form.specs.declared.GroupForm.{GroupForm}
-use Rattle.form.specs.declared.GroupForm.the-variants.{Has, NoGroup as NoForm}
+use Rattle.form.specs.declared.GroupForm.the-variants.{Has}
 use Rattle.form.specs.Table.{rowOf, formOf}
 use Rattle.form.specs.Count
 use Rattle.form.specs.Count.{elementsOf, linesOf, cellsOf}
 use Rattle.form.proofs.Rounding.{rounded-none}
-use Rattle.count.specs.Reply.{Reply, replyOn, Numbered, namesWritten, namesLine, namesElement, namesPosition}
-use Rattle.count.proofs.Replies.{numbered-on, numbered-plain}
+use Rattle.reply.specs.Table.{Numbered}
+use Rattle.reply.proofs.Replies.{numbered-on, numbered-plain, numbered-done, numbered-line, numbered-date}
 use Rattle.count.specs.Tally.{countOf}
 use Rattle.count.specs.Rules.{rulingOf}
+use Rattle.count.specs.declared.Ruling.{Ruling}
 use Rattle.count.specs.declared.Ruling.the-variants.{Kept, Broken}
 use Rattle.reading.specs.declared.Refusal.{Refusal}
 use Rattle.reading.specs.declared.Refusal.the-variants.{NoGroup, End, Beyond, TooFewLines, Misformed, OtherRelease, FilledVacant, BrokenRule, NoRoom, BadLine, BadField, BadDate}
 use Rattle.reading.specs.declared.Reading.{Reading}
 use Rattle.reading.specs.declared.Reading.the-variants.{Done, Refused}
-use Rattle.reading.specs.Numbered.{replyIn, refusalReply, readingReply}
+use Rattle.reading.specs.Numbered.{refusalReply, readingReply}
 use Rattle.reading.specs.Plan.{planFrom, planOf}
-use Rattle.reading.specs.Read.{Cells, readLinesOf, readLines, dated, readForm, readGroup, readingOf, tableBy}
+use Rattle.reading.specs.Read.{Cells, readLinesOf, readLines, readForm, readRuled, readGroup, readingOf, tableBy}
 use Rattle.reading.proofs.Steps.{kept-letters}
 
 -- ---- numbered
-
-numbered-in : (k written line element position : ℕ) → T (leb k 14) → (namesWritten k ≡ false → written ≡ 0) → (namesLine k ≡ false → line ≡ 0) → (namesElement k ≡ false → element ≡ 0) → (namesPosition k ≡ false → position ≡ 0) → Numbered (replyIn k written line element position)
-numbered-in k written line element position t w l e p =
-    record {
-      known = leb→le k 14 t;
-      no-next = λ x. refl;
-      no-written = w;
-      no-group = λ x. refl;
-      no-line = l;
-      no-element = e;
-      no-position = p;
-    }
 
 pub refusal-numbered : (r : Refusal) → Numbered (refusalReply r)
 refusal-numbered NoGroup = numbered-plain 12 tt
@@ -61,12 +49,12 @@ refusal-numbered OtherRelease = numbered-plain 5 tt
 refusal-numbered (FilledVacant g) = numbered-on 6 g tt (λ e. absurd (true≢false e))
 refusal-numbered (BrokenRule g) = numbered-on 7 g tt (λ e. absurd (true≢false e))
 refusal-numbered NoRoom = numbered-plain 11 tt
-refusal-numbered (BadLine l) = numbered-in 8 0 l 0 0 tt (λ x. refl) (λ x. absurd (true≢false x)) (λ x. refl) (λ x. refl)
-refusal-numbered (BadField l e) = numbered-in 9 0 l e 0 tt (λ x. refl) (λ x. absurd (true≢false x)) (λ x. absurd (true≢false x)) (λ x. refl)
-refusal-numbered (BadDate p) = numbered-in 10 0 0 0 p tt (λ x. refl) (λ x. refl) (λ x. refl) (λ x. absurd (true≢false x))
+refusal-numbered (BadLine l) = numbered-line 8 l 0 tt (λ x. absurd (true≢false x)) (λ x. refl)
+refusal-numbered (BadField l e) = numbered-line 9 l e tt (λ x. absurd (true≢false x)) (λ x. absurd (true≢false x))
+refusal-numbered (BadDate p) = numbered-date p
 
 pub reading-numbered : (r : Reading) → Numbered (readingReply r)
-reading-numbered (Done n) = numbered-in 0 n 0 0 0 tt (λ x. absurd (true≢false x)) (λ x. refl) (λ x. refl) (λ x. refl)
+reading-numbered (Done n) = numbered-done n
 reading-numbered (Refused r) = refusal-numbered r
 
 -- ---- the table
@@ -91,6 +79,17 @@ read-once g old r q new now a b = (a .0 ∙ sym (b .0), a .1 ∙ sym (b .1))
 pub read-broken : (ns : List ℕ) (g : ℕ) (x : List ℕ) (room h : ℕ) (f : Form) → formOf g ≡ Has f → rulingOf ns ≡ Broken h → readGroup ns g x room ≡ bad (BrokenRule h)
 unfolding readGroup
 read-broken ns g x room h f e r = rw (e, r)
+
+-- a group reads the same into every table with room for what its counts, if they keep the rules, let it fill
+pub read-room : (ns : List ℕ) (g : ℕ) (x : List ℕ) (room more : ℕ) (f : Form) → formOf g ≡ Has f → (rulingOf ns ≡ Kept → (cellsOf f (countOf ns g) ≤ room) × (cellsOf f (countOf ns g) ≤ more)) → readGroup ns g x room ≡ readGroup ns g x more
+unfolding readGroup readForm
+read-room ns g x room more f e h = rw e (by (rulingOf ns) refl)
+  where
+    by : (k : Ruling) → rulingOf ns ≡ k → readRuled f ns g x room k ≡ readRuled f ns g x more k
+    by Kept u =
+        let m = h u in
+        rw (le-leb (cellsOf f (countOf ns g)) room (m .0), le-leb (cellsOf f (countOf ns g)) more (m .1)) refl
+    by (Broken b) u = refl
 
 -- ---- "A group with count 0 gives 0 and no cells", also into an empty table
 

@@ -2,28 +2,26 @@
 -- Assumes nothing.
 use mathlib.Core.Path.{_≡_, refl, sym, _∙_, ap, subst}
 use mathlib.Core.Bool.{Bool, true, false, cond, false≢true}
-use mathlib.Core.List.{List, [], _∷_, _++_, map}
-use Prim.Native.Nat.{ℕ, zero, suc, _+_, _-_, _*_, _<_, _≤_}
-use native.Mathlib.Numerals.{add-one}
+use mathlib.Core.List.{List, [], _∷_, map}
+use Prim.Native.Nat.{ℕ, zero, suc, _+_, _<_, _≤_}
 use native.Mathlib.Omega.{arith}
 use lib.Dec.{T, eqb}
 use lib.IntN.{ℤ, pos}
-use lib.ListN.{length, take, drop, getD, set, length-map, length-set}
+use lib.ListN.{length, take, getD, set, length-map, length-set}
 use Rattle.base.specs.Ascii.{printable}
 use Rattle.base.specs.Every.{every}
-use Rattle.base.specs.Part.{part, over}
+use Rattle.base.specs.Part.{over}
 use Rattle.base.proofs.Mapped.{getD-map-within}
 use Rattle.base.proofs.Part.{over-turn, over-one, over-then, over-none}
 use Rattle.base.proofs.Taken.{take-none}
 use lib.Seq.{take-all}
 use Rattle.form.specs.declared.Form.{Form}
 use Rattle.form.specs.declared.Form.the-variants.{F7, A120, A1, F8, I2, I3, I1, E11, E20, E8}
-use Rattle.form.specs.Table
 use Rattle.form.specs.Table.{rowOf}
 use Rattle.field.specs.Read
 use Rattle.field.specs.Read.{fieldOf, formed, cellsIn}
 use Rattle.field.specs.declared.Value.{Value}
-use Rattle.field.specs.declared.Value.the-variants.{Cell, Pair, Letters, Misformed}
+use Rattle.field.specs.declared.Value.the-variants.{Letters, Misformed}
 use Rattle.reading.specs.Blanks.{mayBeShort, filledTo, Fits}
 use Rattle.reading.proofs.Blanks.{filled-length, filled-getD, full-field}
 use Rattle.reading.proofs.Sizes.{reads-size}

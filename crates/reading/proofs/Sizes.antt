@@ -1,22 +1,21 @@
 -- How many cells are read: a field's as many as its form has, a line's for each of its elements, a group's for each of its elements.
 -- Assumes nothing.
-use mathlib.Core.Path.{_≡_, refl, sym, _∙_, ap, subst}
+use mathlib.Core.Path.{_≡_, refl, sym, _∙_, ap}
 use mathlib.Core.Bool.{Bool, true, false, cond}
-use mathlib.Core.List.{List, [], _∷_, _++_}
-use Prim.Native.Nat.{ℕ, zero, suc, _+_, _-_, _*_, _<_, _≤_, min}
-use native.Mathlib.Nat.{add-mul, one-mul, zero-mul, suc-mul, mul-le-mul-right, add-zero, zero-add, suc-add, add-suc}
-use native.Mathlib.Numerals.{add-one}
+use mathlib.Core.List.{List, []}
+use Prim.Native.Nat.{ℕ, zero, suc, _+_, _-_, _*_, min}
+use native.Mathlib.Nat.{add-mul, one-mul, zero-mul, suc-mul, add-zero, zero-add}
 use native.Mathlib.Omega.{arith}
-use lib.Dec.{T}
 use lib.IntN.{ℤ}
 use lib.ListN.{length, take, drop, length-append}
 use Rattle.base.specs.Every
 use Rattle.base.specs.Every.{upFrom}
 use Rattle.base.specs.Part.{part}
 use Rattle.base.specs.Pieces
-use Rattle.base.specs.Pieces.{Got, done, bad, both, gather}
+use Rattle.base.specs.Pieces.{done, bad, gather}
 use Rattle.base.proofs.Choice.{true-T}
-use Rattle.base.proofs.Pieces.{BothDone, both-done}
+use Rattle.base.proofs.FirstBad.{IsDone}
+use Rattle.base.proofs.Pieces.{both-done}
 use Rattle.base.proofs.Taken.{drop-none}
 use Rattle.form.specs.declared.Form.{Form}
 use Rattle.form.specs.Table.{rowOf}
@@ -30,24 +29,19 @@ use Rattle.line.specs.Lines.{reach}
 use Rattle.line.specs.Contents.{contentOf}
 use Rattle.line.specs.declared.Content.{Content}
 use Rattle.line.specs.declared.Content.the-variants.{Length, NoReturn}
-use Rattle.reading.specs.Blanks.{filledTo, isRight, rightContent}
-use Rattle.reading.specs.Plan.{Line, lineAt, planFrom, planOf, elementsIn}
+use Rattle.reading.specs.Blanks.{filledTo, isRight}
+use Rattle.reading.specs.Plan.{Line, lineAt, planFrom, planOf}
 use Rattle.reading.specs.declared.Refusal.{Refusal}
 use Rattle.reading.specs.declared.Refusal.the-variants.{BadLine, BadField}
 use Rattle.reading.specs.declared.Verdict.the-variants.{Clean}
 use Rattle.reading.specs.Read.{Cells, readField, readFields, columnsOf, readContent, readLine, readLinesOf, readLines, verdictOf}
-use Rattle.reading.proofs.Lines.{right-yes}
 use Rattle.reading.proofs.Checking.{lines-more, lines-none}
 
 no-done : {A : Type 0} {r : Refusal} {cs : List ℤ} → _≡_ {A = Cells} (bad r) (done cs) → A
 no-done e = let z : _≡_ {A = ℕ} 0 1 = cc in absurd (omega arith)
 
 -- what is clean was read
-pub record WasRead (g : Cells) : Type 0 where
-  pub cells : List ℤ
-  pub is : g ≡ done cells
-
-pub clean-read : (g : Cells) → verdictOf g ≡ Clean → WasRead g
+pub clean-read : (g : Cells) → verdictOf g ≡ Clean → IsDone g
 clean-read (done cs) e = record { cells = cs; is = refl }
 clean-read (bad r) e = let z : _≡_ {A = ℕ} 0 1 = cc in absurd (omega arith)
 

@@ -2,39 +2,37 @@
 -- Assumes nothing.
 use mathlib.Core.Path.{_≡_, refl, sym, _∙_, ap, subst}
 use mathlib.Core.Bool.{Bool, true, false, cond}
-use mathlib.Core.List.{List, [], _∷_, _++_, map}
+use mathlib.Core.List.{List, map}
 use mathlib.Core.Logic.{inl, inr}
-use Prim.Native.Nat.{ℕ, suc, _+_, _<_, _≤_}
+use Prim.Native.Nat.{ℕ, _<_, _≤_}
 use native.Mathlib.Omega.{arith}
-use borrow.Author.Tests.{le-leb, lt-leb, eq-eqb, ne-eqb, leb-true}
+use borrow.Author.Tests.{le-leb, lt-leb, leb-true}
 use lib.Dec.{leb, eqb}
 use lib.IntN.{ℤ}
-use lib.ListN.{length, drop, length-drop}
-use Rattle.base.specs.Part.{part, over}
-use Rattle.base.specs.Pieces.{Got, done, bad, cellsGot}
+use lib.ListN.{length}
+use Rattle.base.specs.Part.{over}
+use Rattle.base.specs.Pieces.{done, bad, cellsGot}
 use Rattle.base.specs.Sign.{sizeOf}
 use Rattle.date.specs.Date.{datedOf}
 use Rattle.date.specs.declared.Dated.{Dated}
 use Rattle.date.specs.declared.Dated.the-variants.{Right, Wrong}
 use Rattle.form.specs.declared.Form.{Form}
-use Rattle.form.specs.declared.GroupForm.{GroupForm}
 use Rattle.form.specs.declared.GroupForm.the-variants.{Has, NoGroup as NoForm}
 use Rattle.form.specs.Table.{formOf}
 use Rattle.form.specs.Count.{cellsOf}
 use Rattle.count.specs.Tally.{countOf}
 use Rattle.count.specs.Rules
-use Rattle.count.specs.Rules.{rulingOf, rules}
-use Rattle.count.specs.declared.Ruling.{Ruling}
+use Rattle.count.specs.Rules.{rulingOf}
 use Rattle.count.specs.declared.Ruling.the-variants.{Kept, Broken}
 use Rattle.count.proofs.Rulings
-use Rattle.count.proofs.Rulings.{Breaks, Says, ruling-says}
+use Rattle.count.proofs.Rulings.{Breaks, ruling-says}
 use Rattle.reading.specs.declared.Refusal.{Refusal}
 use Rattle.reading.specs.declared.Refusal.the-variants.{NoGroup, BrokenRule, NoRoom}
 use Rattle.reading.specs.declared.Reading.{Reading}
 use Rattle.reading.specs.declared.Reading.the-variants.{Done, Refused}
 use Rattle.reading.specs.declared.Verdict.the-variants.{Clean, Bad}
 use Rattle.reading.specs.Read.{Cells, readLines, dated, byDate, readForm, readGroup, readingOf, tableBy, verdictOf}
-use Rattle.reading.proofs.Sizes.{WasRead, clean-read, group-size}
+use Rattle.reading.proofs.Sizes.{clean-read, group-size}
 
 -- what an answer and a table at exit owe
 abbrev pub Answers : Cells → List ℤ → Reading → List ℤ → Type 0

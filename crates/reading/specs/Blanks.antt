@@ -1,7 +1,7 @@
 -- "A data line of k elements has k times the width as its length, and may carry blanks after that, up to 120 in all. An A120 line may have 0
 -- to 120 bytes and reads as if filled with blanks to 120."
 use mathlib.Core.Bool.{Bool, true, false, cond, _&&_}
-use mathlib.Core.List.{List, [], _∷_, _++_}
+use mathlib.Core.List.{List, _++_}
 use Prim.Native.Nat.{ℕ, _-_, _≤_}
 use lib.Dec.{eqb, leb}
 use lib.ListN.{length, drop, replicate}

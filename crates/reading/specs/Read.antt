@@ -1,10 +1,9 @@
 -- What a group reads as: a definition over the record's counts, the group's number, the bytes of its own lines and the table's length, in
 -- which the text does not occur.
-use mathlib.Core.Path.{_≡_}
-use mathlib.Core.Bool.{Bool, true, false, cond}
-use mathlib.Core.List.{List, [], _∷_, map}
+use mathlib.Core.Bool.{cond}
+use mathlib.Core.List.{List, map}
 use Prim.Native.Nat.{ℕ, _*_}
-use lib.Dec.{T, eqb, leb}
+use lib.Dec.{eqb, leb}
 use lib.IntN.{ℤ}
 use lib.ListN.{length}
 use Rattle.base.specs.Part.{part, over}

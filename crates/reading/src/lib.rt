@@ -16,6 +16,7 @@ ghost use Rattle.form.specs.Count.{cellsOf};
 ghost use Rattle.field.specs.Read.{fieldOf, formed, cellsIn};
 ghost use Rattle.line.specs.Contents.{contentOf};
 ghost use Rattle.reading.specs.Blanks.{blank, mayBeShort, shortest, filledTo, isRight, rightContent, Fits};
+ghost use Rattle.reading.specs.Numbered.{refusalReply, readingReply};
 ghost use Rattle.reading.specs.Read.{verdictOf, readLines, dated, readForm, readGroup, readingOf, tableBy};
 
 // Why nothing is read; each variant is one of 01's replies.
@@ -391,5 +392,37 @@ pub fn read_lines(counts: &[u16], group: usize, lines: &[u8], table: &mut [i64])
             let count = count::count_of(counts, group);
             read_form(form, group, count, lines, table)
         }
+    }
+}
+
+// ---- Replies.
+
+// The refusal's number in 01's table, with the numbers given besides.
+pub fn refusal_reply(refusal: Refusal) -> reply::Reply
+    ensures { λ r. ⌜ r ≡ refusalReply refusal ⌝ }
+{
+    match refusal {
+        Refusal::NoGroup => reply::plain(12),
+        Refusal::End => reply::plain(1),
+        Refusal::Beyond => reply::plain(2),
+        Refusal::TooFewLines => reply::plain(3),
+        Refusal::Misformed => reply::plain(4),
+        Refusal::OtherRelease => reply::plain(5),
+        Refusal::FilledVacant(g) => reply::on_group(6, g),
+        Refusal::BrokenRule(g) => reply::on_group(7, g),
+        Refusal::NoRoom => reply::plain(11),
+        Refusal::BadLine(line) => reply::in_line(8, line, 0),
+        Refusal::BadField(line, element) => reply::in_line(9, line, element),
+        Refusal::BadDate(position) => reply::bad_date(position),
+    }
+}
+
+// The answer's number, with the numbers given besides.
+pub fn reply_of(answer: Reading) -> reply::Reply
+    ensures { λ r. ⌜ r ≡ readingReply answer ⌝ }
+{
+    match answer {
+        Reading::Done(written) => reply::done(written),
+        Reading::Refused(r) => refusal_reply(r),
     }
 }

@@ -1,7 +1,7 @@
 -- What it says that writing answers 0, as one record of facts, both ways.
 -- Assumes nothing.
-use mathlib.Core.Path.{_≡_, refl, sym, _∙_, ap}
-use mathlib.Core.Bool.{Bool, true, false, cond, _&&_}
+use mathlib.Core.Path.{_≡_, refl, sym, ap}
+use mathlib.Core.Bool.{Bool, true, false, cond}
 use mathlib.Core.List.{List}
 use Prim.Native.Nat.{ℕ, _≤_}
 use native.Mathlib.Omega.{arith}
@@ -14,7 +14,7 @@ use Rattle.base.proofs.Choice.{true-T, T-true, and-first, and-second}
 use Rattle.count.specs.Tally.{recordCells}
 use Rattle.count.specs.Rules.{releaseOf, rulingOf}
 use Rattle.count.specs.Check
-use Rattle.count.specs.Check.{wellFormed, byLength, byRules, byRelease, checkedOf}
+use Rattle.count.specs.Check.{wellFormed, byRules, byRelease, checkedOf}
 use Rattle.count.specs.declared.Release.{Release}
 use Rattle.count.specs.declared.Release.the-variants.{Five, Other, Filled}
 use Rattle.count.specs.declared.Ruling.{Ruling}
@@ -27,11 +27,10 @@ use Rattle.date.specs.declared.Dated.{Dated}
 use Rattle.date.specs.declared.Dated.the-variants.{Right, Wrong}
 use Rattle.record.specs.declared.Fit.{Fit}
 use Rattle.record.specs.declared.Fit.the-variants.{All, Not}
-use Rattle.record.specs.declared.Writing.{Writing}
 use Rattle.record.specs.declared.Writing.the-variants.{Done, NoRoom}
 use Rattle.record.specs.Fitting.{fitOf}
 use Rattle.record.specs.Text.{recordBytes}
-use Rattle.record.specs.Writing.{dateLetters, writeRoom, writeDated, writeFit, writeChecked, writingOf}
+use Rattle.record.specs.Writing.{dateLetters, writeDated, writeFit, writeChecked, writingOf}
 
 -- ---- the check of counts and a table's length
 

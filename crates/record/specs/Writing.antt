@@ -9,7 +9,8 @@ use lib.ListN.{length}
 use Rattle.base.specs.Part.{part, over}
 use Rattle.base.specs.Sign.{sizeOf}
 use Rattle.count.specs.Check.{checkedOf}
-use Rattle.count.specs.Reply.{Reply, replyOn, reply}
+use Rattle.reply.specs.declared.Reply.{Reply}
+use Rattle.reply.specs.Table.{replyOn, replyPlain, replyDone, replyField, replyDate}
 use Rattle.count.specs.Tally.{cellsBefore}
 use Rattle.count.specs.declared.Checked.{Checked}
 use Rattle.count.specs.declared.Checked.the-variants as C
@@ -68,15 +69,12 @@ outputBy ns cs NoRoom old = old
 
 -- each answer's number in 01's table, with the numbers given besides
 abbrev pub writingReply : Writing → Reply
-writingReply (Done n) =
-    record { number = 0; next = 0; written = n; group = 0; line = 0; element = 0; position = 0 }
-writingReply Misformed = reply 4
-writingReply OtherRelease = reply 5
+writingReply (Done n) = replyDone n
+writingReply Misformed = replyPlain 4
+writingReply OtherRelease = replyPlain 5
 writingReply (FilledVacant g) = replyOn 6 g
 writingReply (BrokenRule g) = replyOn 7 g
-writingReply OtherLength = reply 14
-writingReply (NoField g e) =
-    record { number = 13; next = 0; written = 0; group = g; line = 0; element = e; position = 0 }
-writingReply (BadDate p) =
-    record { number = 10; next = 0; written = 0; group = 0; line = 0; element = 0; position = p }
-writingReply NoRoom = reply 11
+writingReply OtherLength = replyPlain 14
+writingReply (NoField g e) = replyField g e
+writingReply (BadDate p) = replyDate p
+writingReply NoRoom = replyPlain 11

@@ -2,15 +2,10 @@
 -- Assumes nothing.
 use borrow.Author.Needs.{needs}
 use native.Mathlib.Omega.{arith}
-use mathlib.Core.Path.{_≡_, refl, sym, _∙_, ap}
-use mathlib.Core.List.{map}
-use Prim.Native.Nat.{_*_, _+_, _-_, _≤_, min}
-use lib.ListN.{getD}
-use Rattle.form.specs.Table
-use Rattle.form.specs.Table.{rowOf, forms, formOf}
+use mathlib.Core.Path.{_≡_, sym, _∙_}
+use Prim.Native.Nat.{_*_, _-_, _≤_, min}
+use Rattle.form.specs.Table.{formOf}
 use Rattle.form.specs.declared.GroupForm.the-variants.{Has}
-use Rattle.form.proofs.Table.{number-below}
-use Rattle.form.proofs.Rows.{row-at}
 use Rattle.form.proofs.Counted.{lines-few, cells-few}
 use Rattle.count.specs.Tally.{countOf, Before}
 use Rattle.count.proofs.Tallied.{before-none, before-groups, before-end, before-more, has-form}
@@ -18,10 +13,10 @@ use Rattle.count.proofs.add_up.Statement.{statement}
 use Rattle.count.proofs.add_up.Tie as tie
 
 abbrev Inv-loop : tie.InvT-loop
-Inv-loop counts group end rows totals₀ g₀ totals g = (1 ≤ g) × (g ≤ end) × (totals .lines ≤ 65537 * g) × (totals .cells ≤ 7864200 * g) × Before counts g (totals .lines) (totals .cells)
+Inv-loop counts group end totals₀ g₀ totals g = (1 ≤ g) × (g ≤ end) × (totals .lines ≤ 65537 * g) × (totals .cells ≤ 7864200 * g) × Before counts g (totals .lines) (totals .cells)
 
 abbrev μ-loop : tie.MeasureT-loop
-μ-loop counts group end rows totals₀ g₀ totals g = end - g
+μ-loop counts group end totals₀ g₀ totals g = end - g
 
 returns : tie.Need-returns Inv-loop μ-loop
 returns c = rw (c .if1 .taken) (before-none _)
@@ -35,8 +30,8 @@ loop-holds c = (omega arith, omega arith, omega arith, omega arith, before-group
 form-of-requires : tie.Need-form-of-requires Inv-loop μ-loop
 form-of-requires c κs = search needs
 
-enum-known-found : tie.Need-enum-known-found Inv-loop μ-loop
-enum-known-found c = search needs
+enum-known-f : tie.Need-enum-known-f Inv-loop μ-loop
+enum-known-f c = search needs
 
 enum-told : tie.Need-enum-told Inv-loop μ-loop
 enum-told c = search needs
@@ -44,21 +39,11 @@ enum-told c = search needs
 returns-2 : tie.Need-returns-2 Inv-loop μ-loop
 returns-2 c = absurd (has-form (c .before .before .before .before .loop .g) (omega arith) (omega arith) (sym (c .before .before .form-of .ensures) ∙ c .enum-told .given .1))
 
-number-requires : tie.Need-number-requires Inv-loop μ-loop
-number-requires c κs = search needs
-
-mul-with-group : tie.Need-mul-with-group Inv-loop μ-loop
-mul-with-group c = record { fits = omega (arith, c .number .ensures, number-below (c .before .before .found .given .0 .0)) }
-
-array-copy-out-with-group : tie.Need-array-copy-out-with-group Inv-loop μ-loop
-array-copy-out-with-group c = omega (arith, c .number .ensures, number-below (c .before .before .found .given .0 .0))
-
 count-of-requires : tie.Need-count-of-requires Inv-loop μ-loop
 count-of-requires c κs = search needs
 
 with-group-requires : tie.Need-with-group-requires Inv-loop μ-loop
-unfolding Table.rowOf Table.entryOf
-with-group-requires c κs = (ap (λ k. getD (map rowOf forms) k _) (c .before .before .number .ensures) ∙ row-at (c .before .before .before .before .found .given .0 .0) _, omega arith, omega arith)
+with-group-requires c κs = (omega arith, omega arith)
 
 add-g : tie.Need-add-g Inv-loop μ-loop
 add-g c = search needs
@@ -68,11 +53,11 @@ loop-less c = search needs
 
 loop-again : tie.Need-loop-again Inv-loop μ-loop
 loop-again c =
-    let l = c .before .before .before .before .before .before .before .before .before .loop in
-    let f = c .before .before .before .before .before .found .given .0 .0 in
-    let ns = c .before .before .before .before .before .before .before .before .before .before .before .before .before .args .counts .now in
+    let l = c .before .before .before .before .before .before .before .loop in
+    let f = c .before .before .before .f .given .0 .0 in
+    let ns = c .before .before .before .before .before .before .before .before .before .before .before .args .counts .now in
     let n : countOf ns (l .g) ≤ 65535 = omega (arith, c .before .count-of .ensures) in
-    let e : formOf (l .g) ≡ Has f = sym (c .before .before .before .before .before .before .before .form-of .ensures) ∙ c .before .before .before .before .before .found .given .1 in
+    let e : formOf (l .g) ≡ Has f = sym (c .before .before .before .before .before .form-of .ensures) ∙ c .before .before .before .f .given .1 in
     let more = before-more ns (l .g) (l .totals .lines) (l .totals .cells) (omega arith) (omega arith) (l .inv .4) f e in
     rw (c .with-group .ensures .0, c .with-group .ensures .1, c .before .count-of .ensures)
     (omega arith, omega arith, omega (arith, lines-few f (countOf ns (l .g)) n), omega (arith, cells-few f (countOf ns (l .g)) n), more)
@@ -92,12 +77,9 @@ add-up-spec =
     lesser-requires
     loop-holds
     form-of-requires
-    enum-known-found
+    enum-known-f
     enum-told
     returns-2
-    number-requires
-    mul-with-group
-    array-copy-out-with-group
     count-of-requires
     with-group-requires
     add-g

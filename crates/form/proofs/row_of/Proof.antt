@@ -1,28 +1,142 @@
--- `form::row_of` meets its contract: the table's entry at a form's number is the form's row.
+-- `form::row_of` meets its contract: the variant chooses the entry of the table.
 -- Assumes nothing.
-use mathlib.Core.Path.{_∙_, ap}
-use mathlib.Core.List.{map}
-use native.Mathlib.Omega.{arith}
-use lib.ListN.{getD}
 use borrow.Author.Needs.{needs}
-use Rattle.form.specs.Table.{rowOf, entryOf, forms}
-use Rattle.form.proofs.Rows.{row-at}
-use Rattle.form.proofs.Table.{number-below}
+use mathlib.Core.Path.{sym, ap}
+use Rattle.form.specs.Table.{rowOf, entryOf}
 use Rattle.form.proofs.row_of.Statement.{statement}
 use Rattle.form.proofs.row_of.Tie as tie
 
-number-requires : tie.Need-number-requires
-number-requires c κs = search needs
-
-mul-result : tie.Need-mul-result
-mul-result c = record { fits = omega (arith, number-below (c .before .args .form)) }
+enum-told : tie.Need-enum-told
+enum-told c = search needs
 
 array-copy-out-result : tie.Need-array-copy-out-result
-array-copy-out-result c = omega (arith, number-below (c .before .args .form))
+array-copy-out-result c = search needs
+
+enum-told-2 : tie.Need-enum-told-2
+enum-told-2 c = search needs
+
+array-copy-out-result-2 : tie.Need-array-copy-out-result-2
+array-copy-out-result-2 c = search needs
+
+enum-told-3 : tie.Need-enum-told-3
+enum-told-3 c = search needs
+
+array-copy-out-result-3 : tie.Need-array-copy-out-result-3
+array-copy-out-result-3 c = search needs
+
+enum-told-4 : tie.Need-enum-told-4
+enum-told-4 c = search needs
+
+array-copy-out-result-4 : tie.Need-array-copy-out-result-4
+array-copy-out-result-4 c = search needs
+
+enum-told-5 : tie.Need-enum-told-5
+enum-told-5 c = search needs
+
+array-copy-out-result-5 : tie.Need-array-copy-out-result-5
+array-copy-out-result-5 c = search needs
+
+enum-told-6 : tie.Need-enum-told-6
+enum-told-6 c = search needs
+
+array-copy-out-result-6 : tie.Need-array-copy-out-result-6
+array-copy-out-result-6 c = search needs
+
+enum-told-7 : tie.Need-enum-told-7
+enum-told-7 c = search needs
+
+array-copy-out-result-7 : tie.Need-array-copy-out-result-7
+array-copy-out-result-7 c = search needs
+
+enum-told-8 : tie.Need-enum-told-8
+enum-told-8 c = search needs
+
+array-copy-out-result-8 : tie.Need-array-copy-out-result-8
+array-copy-out-result-8 c = search needs
+
+enum-told-9 : tie.Need-enum-told-9
+enum-told-9 c = search needs
+
+array-copy-out-result-9 : tie.Need-array-copy-out-result-9
+array-copy-out-result-9 c = search needs
+
+enum-told-10 : tie.Need-enum-told-10
+enum-told-10 c = search needs
+
+array-copy-out-result-10 : tie.Need-array-copy-out-result-10
+array-copy-out-result-10 c = search needs
 
 returns : tie.Need-returns
 unfolding rowOf entryOf
-returns c = ap (λ k. getD (map rowOf forms) k _) (c .before .number .ensures) ∙ row-at (c .before .before .args .form) _
+returns c = ap rowOf (sym (c .before .enum-told .given .1))
+
+returns-2 : tie.Need-returns-2
+unfolding rowOf entryOf
+returns-2 c = ap rowOf (sym (c .before .enum-told2 .given .1))
+
+returns-3 : tie.Need-returns-3
+unfolding rowOf entryOf
+returns-3 c = ap rowOf (sym (c .before .enum-told3 .given .1))
+
+returns-4 : tie.Need-returns-4
+unfolding rowOf entryOf
+returns-4 c = ap rowOf (sym (c .before .enum-told4 .given .1))
+
+returns-5 : tie.Need-returns-5
+unfolding rowOf entryOf
+returns-5 c = ap rowOf (sym (c .before .enum-told5 .given .1))
+
+returns-6 : tie.Need-returns-6
+unfolding rowOf entryOf
+returns-6 c = ap rowOf (sym (c .before .enum-told6 .given .1))
+
+returns-7 : tie.Need-returns-7
+unfolding rowOf entryOf
+returns-7 c = ap rowOf (sym (c .before .enum-told7 .given .1))
+
+returns-8 : tie.Need-returns-8
+unfolding rowOf entryOf
+returns-8 c = ap rowOf (sym (c .before .enum-told8 .given .1))
+
+returns-9 : tie.Need-returns-9
+unfolding rowOf entryOf
+returns-9 c = ap rowOf (sym (c .before .enum-told9 .given .1))
+
+returns-10 : tie.Need-returns-10
+unfolding rowOf entryOf
+returns-10 c = ap rowOf (sym (c .before .enum-told10 .given .1))
 
 pub row-of-spec : {M : Type 1} → statement M
-row-of-spec = tie.close (tie.spec number-requires mul-result array-copy-out-result returns)
+row-of-spec =
+    tie.close
+    (tie.spec
+    enum-told
+    array-copy-out-result
+    enum-told-2
+    array-copy-out-result-2
+    enum-told-3
+    array-copy-out-result-3
+    enum-told-4
+    array-copy-out-result-4
+    enum-told-5
+    array-copy-out-result-5
+    enum-told-6
+    array-copy-out-result-6
+    enum-told-7
+    array-copy-out-result-7
+    enum-told-8
+    array-copy-out-result-8
+    enum-told-9
+    array-copy-out-result-9
+    enum-told-10
+    array-copy-out-result-10
+    returns
+    returns-2
+    returns-3
+    returns-4
+    returns-5
+    returns-6
+    returns-7
+    returns-8
+    returns-9
+    returns-10)

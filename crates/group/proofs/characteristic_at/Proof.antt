@@ -1,12 +1,10 @@
 -- `group::characteristic_at` meets its contract: its number, then group 4's reply, then its cell.
 -- Assumes nothing.
 use borrow.Author.Needs.{needs}
-use mathlib.Core.Path.{_≡_, sym, ap, _∙_}
+use mathlib.Core.Path.{sym, ap, _∙_}
 use borrow.Author.Needs.{sfits-of}
 use mir.Syntax.{w64}
 use mir.Facts.{toZ-ofZ}
-use lib.IntN.{pos}
-use lib.ListN.{getD}
 use Rattle.group.specs.Characteristics.{told}
 use Rattle.group.proofs.Reported.{number-low, number-high, four-refused, four-few, four-told}
 use Rattle.group.proofs.characteristic_at.Statement.{statement}

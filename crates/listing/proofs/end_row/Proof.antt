@@ -10,7 +10,7 @@ reply-of-requires c κs = search needs
 
 returns : tie.Need-returns
 unfolding endRow
-returns c = rw (c .reply-of .ensures .0, c .reply-of .ensures .2)
+returns c = rw (c .reply-of .ensures)
 
 pub end-row-spec : {M : Type 1} → statement M
 end-row-spec = tie.close (tie.spec reply-of-requires returns)

@@ -6,6 +6,7 @@ use mathlib.Core.Path.{_≡_, sym, _∙_, ap}
 use Prim.Native.Nat.{suc, _-_, _≤_}
 use borrow.Author.Tests.{not-true, not-false}
 use lib.ListN.{length}
+use Rattle.reply.specs.declared.Reply.{Reply}
 use Rattle.decimal.specs.Writing.{endIn}
 use Rattle.place.specs.Walk.{spot}
 use Rattle.place.proofs.Walked.{spot-start}
@@ -46,8 +47,8 @@ met c =
       here = l .inv .1;
       placing = p .ensures .0;
       beside = p .ensures .1;
-      next-is = r .ensures .1;
-      told = c .is-placed .ensures ∙ ap isPlaced (r .ensures .0);
+      next-is = ap (λ (a : Reply). a .next) (r .ensures);
+      told = c .is-placed .ensures ∙ ap (λ (a : Reply). isPlaced (a .number)) (r .ensures);
     }
 
 end-row-requires : tie.Need-end-row-requires Inv-loop μ-loop

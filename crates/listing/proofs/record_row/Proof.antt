@@ -18,7 +18,7 @@ add-up-requires c κs = search needs
 
 returns : tie.Need-returns
 unfolding recordRow
-returns c = rw (c .before .before .reply-of .ensures .1, c .before .before .reply-of .ensures .0, c .before .before .reply-of .ensures .2, c .before .filled-groups .ensures, c .add-up .ensures .lines-are ∙ all-lines _)
+returns c = rw (c .before .before .reply-of .ensures, c .before .filled-groups .ensures, c .add-up .ensures .lines-are ∙ all-lines _)
 
 pub record-row-spec : {M : Type 1} → statement M
 record-row-spec =

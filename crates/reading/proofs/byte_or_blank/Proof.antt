@@ -1,7 +1,7 @@
 -- `reading::byte_or_blank` meets its contract: behind the last byte there is none.
 -- Assumes nothing.
 use borrow.Author.Needs.{needs}
-use mathlib.Core.Path.{_≡_, sym, _∙_}
+use mathlib.Core.Path.{sym}
 use Rattle.reading.proofs.Putting.{getD-within, getD-beyond}
 use Rattle.reading.proofs.byte_or_blank.Statement.{statement}
 use Rattle.reading.proofs.byte_or_blank.Tie as tie

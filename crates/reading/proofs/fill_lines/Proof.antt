@@ -3,17 +3,14 @@
 -- Assumes nothing.
 use borrow.Author.Needs.{needs}
 use native.Mathlib.Omega.{arith}
-use mathlib.Core.Path.{_≡_, refl, sym, _∙_, ap}
-use Prim.Native.Nat.{_+_, _-_}
-use lib.ListN.{length, drop}
-use Rattle.base.specs.Pieces.{cellsGot}
+use mathlib.Core.Path.{sym, _∙_, ap}
+use Prim.Native.Nat.{_-_}
 use Rattle.form.specs.Table.{rowOf}
 use Rattle.form.specs.Count.{elementsOf}
-use Rattle.reading.specs.Plan.{lineAt, planFrom}
-use Rattle.reading.specs.Read.{readLines, readLinesOf}
+use Rattle.reading.specs.Plan.{lineAt}
 use Rattle.reading.proofs.Fields.{lineText}
 use Rattle.reading.proofs.Checking.{walking-start, end-range, width-few}
-use Rattle.reading.proofs.Filling.{Filling, FillingFields, enough-room, filling-start, filling-end, filling-length, has-content, fill-inside, fields-filling, fill-small, fill-length, filling-next, put-requires, cell-small, fields-next}
+use Rattle.reading.proofs.Filling.{Filling, FillingFields, enough-room, filling-start, filling-end, filling-length, has-content, fill-inside, fields-filling, fill-small, filling-next, put-requires, cell-small, fields-next}
 use Rattle.reading.proofs.fill_lines.Statement.{statement}
 use Rattle.reading.proofs.fill_lines.Tie as tie
 

@@ -1,7 +1,7 @@
 -- `reading::is_field` meets its contract: letters print with or without the blanks behind them, and other fields are as wide as they should be.
 -- Assumes nothing.
 use borrow.Author.Needs.{needs}
-use mathlib.Core.Path.{_≡_, sym, _∙_, ap}
+use mathlib.Core.Path.{sym, _∙_, ap}
 use Rattle.field.specs.Read.{fieldOf, formed}
 use Rattle.reading.proofs.Blanks.{short-field, full-field}
 use Rattle.reading.proofs.is_field.Statement.{statement}

@@ -1,7 +1,7 @@
 -- `reading::is_right` meets its contract: test by test, and then the bytes behind the fields.
 -- Assumes nothing.
 use borrow.Author.Needs.{needs}
-use mathlib.Core.Path.{_≡_, sym, _∙_, ap, subst}
+use mathlib.Core.Path.{sym, _∙_, subst}
 use Prim.Native.Nat.{_<_, _≤_}
 use lib.ListN.{length}
 use Rattle.reading.proofs.Blanks.{right-short, right-long, right-exact, right-blanks}

@@ -1,13 +1,11 @@
 -- `reading::read_form` meets its contract: room, then the check, and the table is filled only where all is clean.
 -- Assumes nothing.
 use borrow.Author.Needs.{needs}
-use mathlib.Core.Path.{_≡_, sym, _∙_, ap, subst}
+use mathlib.Core.Path.{sym, _∙_, ap, subst}
 use Prim.Native.Nat.{_<_, _≤_}
 use lib.ListN.{length}
-use Rattle.reading.specs.declared.Reading.{Reading}
 use Rattle.reading.specs.declared.Reading.the-variants.{Done}
-use Rattle.reading.specs.Read.{readForm}
-use Rattle.reading.proofs.Steps.{Answers, form-none, form-bad, lines-clean, form-done}
+use Rattle.reading.proofs.Steps.{form-none, form-bad, lines-clean, form-done}
 use Rattle.reading.proofs.read_form.Statement.{statement}
 use Rattle.reading.proofs.read_form.Tie as tie
 

@@ -1,7 +1,7 @@
 -- `reading::read_lines` meets its contract: 12, then 7 from the counts, and then by the group's form.
 -- Assumes nothing.
 use borrow.Author.Needs.{needs}
-use mathlib.Core.Path.{_≡_, sym, _∙_, ap, subst}
+use mathlib.Core.Path.{sym, _∙_, ap, subst}
 use Prim.Native.Nat.{_≤_}
 use Rattle.count.specs.Tally.{countOf}
 use Rattle.reading.proofs.Steps.{kept-letters, group-none, group-broken, group-kept}

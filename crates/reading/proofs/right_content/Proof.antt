@@ -2,7 +2,7 @@
 -- Assumes nothing.
 use borrow.Author.Needs.{needs}
 use native.Mathlib.Omega.{arith}
-use mathlib.Core.Path.{_≡_, sym, _∙_, ap, subst}
+use mathlib.Core.Path.{sym, _∙_}
 use Rattle.line.proofs.Contents.{content-two}
 use Rattle.reading.proofs.Lines.{right-none, right-not, right-yes}
 use Rattle.reading.proofs.right_content.Statement.{statement}

@@ -1,0 +1,132 @@
+-- The third demand (specs/Damage.antt): bytes replaced in the lines of one group of one record alter what that group gives, and nothing
+-- else. These are the general laws of Confined, where the places are the lines of one group: by tiling (place, Apart) they miss the index
+-- lines of every record and the lines of every other group.
+-- Assumes nothing.
+use mathlib.Core.Path.{_≡_, refl, sym, _∙_, ap, subst}
+use mathlib.Core.Bool.{Bool, true, false}
+use mathlib.Core.List.{List}
+use mathlib.Core.Logic.{_⊎_, inl, inr, _↔_}
+use Prim.Native.Nat.{ℕ, _<_, _≤_}
+use native.Mathlib.Omega.{arith}
+use lib.IntN.{ℤ}
+use lib.ListN.{length, getD, set, length-set}
+use lib.Seq.{getD-set-same, getD-set-other}
+use borrow.Author.Tests.{eqb-true, eqb-false}
+use lib.Dec.{eqb}
+use Rattle.line.specs.Lines.{isFeed}
+use Rattle.count.specs.Rules.{rulingOf}
+use Rattle.count.specs.declared.Ruling.{Ruling}
+use Rattle.count.specs.declared.Ruling.the-variants.{Kept, Broken}
+use Rattle.place.specs.declared.Placing.{Placing}
+use Rattle.place.specs.declared.Placing.the-variants.{Placed, End, Beyond, TooFewLines, Misformed, OtherRelease, FilledVacant, BrokenRule}
+use Rattle.place.specs.Numbered.{placingReply}
+use Rattle.place.specs.Placing
+use Rattle.place.specs.Placing.{Located, located, refused, locate, placingBy, placingOf, ruledAt, countsAt}
+use Rattle.place.specs.Walk.{spot, IsRecord}
+use Rattle.place.proofs.Apart.{lines-apart, heads-apart}
+use Rattle.place.proofs.Walked.{Stopping, refused-stopping}
+use Rattle.reading.specs.Read.{Cells, readingOf, tableBy}
+use Rattle.group.specs.Text.{readAt}
+use Rattle.group.specs.Damage.{PlacedAt, LinesAt, SameReading, Damaged, Other, Confined}
+use Rattle.group.proofs.Confined.{record-at, Spares, Replaced, characteristic-same, spot-kept, stops-kept, placing-kept, counts-kept, starts-kept, found-kept, part-start-kept, part-length-kept, lines-kept, part-kept, read-kept, read-by-lines}
+
+-- ---- a record is placed exactly if the reply is 0 or 7
+
+abbrev Zero7 : Placing → Type 0
+Zero7 p = (placingReply p .number ≡ 0) ⊎ (placingReply p .number ≡ 7)
+
+-- a reply that stops the walk is neither
+neither : (p : Placing) → Stopping p → Zero7 p → ⊥
+neither (Placed n) h z = h
+neither End h (inl e) = omega arith
+neither End h (inr e) = omega arith
+neither Beyond h (inl e) = omega arith
+neither Beyond h (inr e) = omega arith
+neither TooFewLines h (inl e) = omega arith
+neither TooFewLines h (inr e) = omega arith
+neither Misformed h (inl e) = omega arith
+neither Misformed h (inr e) = omega arith
+neither OtherRelease h (inl e) = omega arith
+neither OtherRelease h (inr e) = omega arith
+neither (FilledVacant g) h (inl e) = omega arith
+neither (FilledVacant g) h (inr e) = omega arith
+neither (BrokenRule g n) h z = h
+
+ruled-either : (n : ℕ) (r : Ruling) → Zero7 (ruledAt n r)
+ruled-either n Kept = inl refl
+ruled-either n (Broken g) = inr refl
+
+pub placed-is-record : (s : List ℕ) (at : ℕ) → PlacedAt s at ↔ IsRecord s at
+unfolding Placing.placingOf
+placed-is-record s at = (to, back)
+  where
+    to : Zero7 (placingBy (locate s at)) → IsRecord s at
+    to z = by (locate s at) refl z
+      where
+        by : (l : Located) → locate s at ≡ l → Zero7 (placingBy l) → IsRecord s at
+        by (located n ns) e y = record { next = n; ns = ns; is = e }
+        by (refused p) e y = absurd (neither p (refused-stopping s at p e) y)
+
+    back : IsRecord s at → Zero7 (placingBy (locate s at))
+    back r = subst (λ l. Zero7 (placingBy l)) (sym (r .is)) (ruled-either (r .next) (rulingOf (r .ns)))
+
+-- ---- the demand
+
+same-reading : (a b : Cells) (table : List ℤ) → a ≡ b → SameReading a b table
+same-reading a b table e = record { reply = ap readingOf e; cells = ap (λ c. tableBy c table) e }
+
+module _ (t u : List ℕ) (k g : ℕ) (d : Damaged t u k g) where
+  r : IsRecord t (spot t k)
+  r = placed-is-record t (spot t k) .0 (d .placed)
+
+  here : locate t (spot t k) ≡ located (r .next) (countsAt t (spot t k))
+  here = record-at t (spot t k) r
+
+  replaced : Replaced (LinesAt t (spot t k) g) t u
+  replaced = record {
+    lines = d .lines;
+    elsewhere = d .elsewhere;
+    heads = heads-apart t k (r .next) (countsAt t (spot t k)) here g (d .high) (d .low);
+  }
+
+  clear : (j h : ℕ) → Other k g j h → Spares (LinesAt t (spot t k) g) t (spot t j) h
+  clear j h other n ns e = lines-apart t k (r .next) (countsAt t (spot t k)) here g (d .high) j n ns e h other
+
+  read-other : (j h room : ℕ) → Other k g j h → readAt u (spot u j) h room ≡ readAt t (spot t j) h room
+  read-other j h room other = sym (read-kept t u replaced j h (clear j h other) room)
+
+  pub damage-stays : Confined t u k g
+  damage-stays = record {
+    as-many = stops-kept t u replaced;
+    places = λ j. sym (spot-kept t u replaced j);
+    answers = λ j. sym (placing-kept t u replaced j);
+    counts = λ j. sym (counts-kept t u replaced j);
+    starts = λ j h. sym (starts-kept t u replaced j h);
+    part-answers = λ j h. sym (found-kept t u replaced j h);
+    part-starts = λ j h. sym (part-start-kept t u replaced j h);
+    part-lengths = λ j h. sym (part-length-kept t u replaced j h);
+    line-bytes = λ j h there other. sym (lines-kept t u replaced j h (clear j h other) (placed-is-record t (spot t j) .0 there));
+    part-bytes = λ j h other. sym (part-kept t u replaced j h (clear j h other));
+    others = λ j h other table. same-reading _ _ table (read-other j h (length table) other);
+    altered = λ table. same-reading _ _ table (read-by-lines t u replaced k g r (length table));
+    characteristics = λ j other number. characteristic-same u t (spot u j) (spot t j) number (read-other j 4 49 other);
+  }
+
+-- ---- there is such damage: one byte of the lines that is no line feed, replaced by another that is none
+
+pub damaged-one : (t : List ℕ) (k g i v : ℕ) → PlacedAt t (spot t k) → 1 ≤ g → g ≤ 60 → LinesAt t (spot t k) g i → i < length t → isFeed (getD t i 0) ≡ isFeed v → Damaged t (set t i v) k g
+damaged-one t k g i v placed low high inside within feed =
+    record {
+      placed = placed;
+      low = low;
+      high = high;
+      lines = record { long = sym (length-set t i v); feeds = λ j b. feeds j (eqb j i) refl };
+      elsewhere = record { long = sym (length-set t i v); same = λ j out. other j (λ e. out (subst (LinesAt t (spot t k) g) (sym e) inside)) };
+    }
+  where
+    other : (j : ℕ) → (j ≡ i → ⊥) → getD t j 0 ≡ getD (set t i v) j 0
+    other j n = sym (getD-set-other t i j v 0 n)
+
+    feeds : (j : ℕ) (e : Bool) → eqb j i ≡ e → isFeed (getD t j 0) ≡ isFeed (getD (set t i v) j 0)
+    feeds j true e = let q = eqb-true j i e in rw q (feed ∙ ap isFeed (sym (getD-set-same t i v 0 within)))
+    feeds j false e = ap isFeed (other j (eqb-false j i e))

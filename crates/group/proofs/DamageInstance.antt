@@ -1,0 +1,133 @@
+-- The third demand has an instance: S twice, with a comma in place of the point in the first record's group 4. That group is refused, 9 at
+-- line 1, element 1; two records are placed as before, and all other groups, those of the second record among them, are read as before.
+-- Assumes nothing.
+use mathlib.Core.Path.{_≡_, refl, sym, _∙_, ap}
+use mathlib.Core.List.{List, [], _∷_}
+use Prim.Native.Nat.{ℕ, _≤_}
+use native.Mathlib.Omega.{arith}
+use lib.IntN.{ℤ, pos}
+use lib.ListN.{length, set, replicate}
+use Rattle.base.specs.Every
+use Rattle.base.specs.Part.{part}
+use Rattle.base.specs.Pieces.{done, bad}
+use Rattle.form.specs.declared.Form.the-variants.{F8}
+use Rattle.form.specs.Table
+use Rattle.line.specs.Lines.{isFeed}
+use Rattle.count.specs.Rules
+use Rattle.place.specs.declared.Placing.the-variants.{End}
+use Rattle.place.specs.Parts.{start, groupPart}
+use Rattle.place.specs.Placing.{located, locate, countsAt}
+use Rattle.place.specs.RecordS
+use Rattle.place.specs.RecordS.{lineOf, countsS, twiceS}
+use Rattle.place.specs.Walk.{spot, Stops}
+use Rattle.place.proofs.TwiceS.{twice, spot-one, two-records}
+use Rattle.place.proofs.Walked.{spot-start}
+use Rattle.reading.specs.declared.Refusal.the-variants.{BadField}
+use Rattle.reading.specs.Read
+use Rattle.reading.specs.Read.{Cells, readForm, readGroup, readingOf, tableBy}
+use Rattle.reading.proofs.FourS.{four-reads}
+use Rattle.group.specs.declared.Characteristic.the-variants.{Value, Unread}
+use Rattle.group.specs.Characteristics.{isNoReading, reported, characteristicAt}
+use Rattle.group.specs.Damage.{linesStart, SameReading, Damaged, Confined}
+use Rattle.group.specs.Text.{readAt}
+use Rattle.group.proofs.Confined.{counts-at, read-located}
+use Rattle.group.proofs.Damage.{placed-is-record, damage-stays, damaged-one}
+use Rattle.group.proofs.Reported.{four-refused}
+
+-- S twice with a comma in place of the point in the first record's group 4: `   7,250`
+unfoldable pub commaS : List ℕ
+commaS = set twiceS 299 44
+
+comma-line : part 295 305 commaS ≡ lineOf "   7,250"
+unfolding commaS RecordS.recordS RecordS.twiceS
+comma-line = refl
+
+-- ---- group 4 of a record with S's counts, into a table with room
+
+four-by : (x : List ℕ) (room : ℕ) → readGroup countsS 4 x room ≡ readForm F8 4 1 x room
+unfolding RecordS.countsS Read.readGroup Every.upFrom Table.entryOf Table.formAmong Table.formOf Rules.rulingOf Rules.lowest Rules.headRules Rules.sets Rules.keeps Rules.letterRules
+four-by x room = refl
+
+module _ (room : ℕ) (h : 1 ≤ room) where
+  four-before : (at next : ℕ) → locate twiceS at ≡ located next countsS → groupPart twiceS at countsS 4 ≡ lineOf "   7.250" → readAt twiceS at 4 room ≡ done (pos 7250 ∷ [])
+  four-before at next e f =
+      read-located twiceS at next countsS 4 room e
+      ∙ ap (λ x. readGroup countsS 4 x room) f
+      ∙ four-by (lineOf "   7.250") room
+      ∙ four-reads room h .0
+
+  read-first : readAt twiceS 0 4 room ≡ done (pos 7250 ∷ [])
+  read-first = four-before 0 305 (twice .first) (twice .first-four)
+
+  read-second : readAt twiceS 305 4 room ≡ done (pos 7250 ∷ [])
+  read-second = four-before 305 610 (twice .second) (twice .second-four)
+
+-- ---- the damage, and that it is confined
+
+first-starts : (g n : ℕ) → start twiceS 0 countsS g ≡ n → linesStart twiceS (spot twiceS 0) g ≡ n
+first-starts g n e = rw (← spot-start twiceS, counts-at twiceS 0 305 countsS (twice .first)) e
+
+pub comma-damages : Damaged twiceS commaS 0 4
+unfolding commaS
+comma-damages =
+    damaged-one twiceS 0 4 299 44
+    (placed-is-record twiceS (spot twiceS 0) .1 (two-records .each 0 (omega arith)))
+    (omega arith)
+    (omega arith)
+    (omega (arith, first-starts 4 295 (twice .from)), omega (arith, first-starts 5 305 (twice .to)))
+    (omega (arith, twice .long))
+    (ap isFeed (twice .point))
+
+pub comma-confined : Confined twiceS commaS 0 4
+comma-confined = damage-stays twiceS commaS 0 4 comma-damages
+
+-- ---- what that says here
+
+-- "as many records can be placed as before"
+pub two-still : Stops commaS 2 End
+two-still = comma-confined .as-many 2 End .0 two-records
+
+comma-second : 305 ≡ spot commaS 1
+comma-second = sym (comma-confined .places 1 ∙ spot-one)
+
+-- what a group gives, by places and cells that are known
+given : (s : List ℕ) (g : ℕ) (table : List ℤ) {p q : ℕ} {c d : Cells} → p ≡ q → SameReading (readAt s q g (length table)) c table → c ≡ d → SameReading (readAt s p g (length table)) d table
+given s g table e o f =
+    record {
+      reply = ap (λ p. readingOf (readAt s p g (length table))) e ∙ o .reply ∙ ap readingOf f;
+      cells = ap (λ p. tableBy (readAt s p g (length table)) table) e ∙ o .cells ∙ ap (λ c. tableBy c table) f;
+    }
+
+module _ (table : List ℤ) (room : 1 ≤ length table) where
+  -- the first record's group 4 gave its cell, and so did the second's
+  pub before-both : (readAt twiceS 0 4 (length table) ≡ done (pos 7250 ∷ [])) × (readAt twiceS 305 4 (length table) ≡ done (pos 7250 ∷ []))
+  before-both = (read-first (length table) room, read-second (length table) room)
+
+  -- the first record's is refused now, 9 at line 1, element 1
+  pub first-refused : SameReading (readAt commaS 0 4 (length table)) (bad (BadField 1 1)) table
+  first-refused = given commaS 4 table (spot-start commaS) (comma-confined .altered table) lines
+    where
+      lines : readGroup (countsAt twiceS (spot twiceS 0)) 4 (part (linesStart twiceS (spot twiceS 0) 4) (linesStart twiceS (spot twiceS 0) 5) commaS) (length table) ≡ bad (BadField 1 1)
+      lines =
+          rw (first-starts 4 295 (twice .from), first-starts 5 305 (twice .to), ← spot-start twiceS, counts-at twiceS 0 305 countsS (twice .first), comma-line)
+          (four-by (lineOf "   7,250") (length table) ∙ four-reads (length table) room .1)
+
+  -- the second record's gives its cell still
+  pub second-still : SameReading (readAt commaS 305 4 (length table)) (done (pos 7250 ∷ [])) table
+  second-still =
+      given commaS 4 table comma-second (comma-confined .others 1 4 (λ e f. omega arith) table)
+      (ap (λ p. readAt twiceS p 4 (length table)) spot-one ∙ read-second (length table) room)
+
+-- so the first record's first characteristic is refused, and the second's is what it was, 7.250
+pub first-characteristic : characteristicAt commaS 0 1 ≡ Unread (BadField 1 1)
+first-characteristic =
+    let table = replicate 49 (pos 0) in
+    sym (four-refused commaS 0 1 (omega arith) (omega arith) (sym (first-refused table (omega arith) .reply)))
+
+pub second-characteristic : characteristicAt commaS 305 1 ≡ Value (pos 7250)
+unfolding characteristicAt isNoReading
+second-characteristic =
+    ap (λ p. characteristicAt commaS p 1) comma-second
+    ∙ comma-confined .characteristics 1 (λ e f. omega arith) 1
+    ∙ ap (λ p. characteristicAt twiceS p 1) spot-one
+    ∙ ap (reported 1) (read-second 49 (omega arith))

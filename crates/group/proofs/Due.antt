@@ -1,0 +1,232 @@
+-- First due: asking for a group's lines at a place, reading a group there, and asking for a characteristic each give a reply exactly if that
+-- reply is due (specs/Due.antt). So group 4 never lacks room in 49 cells.
+-- Assumes nothing.
+use mathlib.Core.Path.{_≡_, refl, sym, _∙_, ap, subst}
+use mathlib.Core.Bool.{Bool, true, false, cond}
+use mathlib.Core.List.{List}
+use mathlib.Core.Logic.{_↔_, inl, inr, ⊎-elim}
+use Prim.Native.Nat.{ℕ, _-_, _<_, _≤_}
+use native.Mathlib.Omega.{arith}
+use borrow.Author.Tests.{le-leb, lt-leb, leb-true, leb-false}
+use lib.Dec.{leb}
+use lib.IntN.{ℤ, pos}
+use lib.ListN.{length, getD}
+use Rattle.base.specs.Pieces.{done, bad}
+use Rattle.base.proofs.Order.{le-or-lt}
+use Rattle.form.specs.declared.Form.the-variants.{F8}
+use Rattle.form.specs.declared.GroupForm.{GroupForm}
+use Rattle.form.specs.declared.GroupForm.the-variants.{Has, NoGroup as NoForm}
+use Rattle.form.specs.Table.{formOf}
+use Rattle.form.specs.Count.{cellsOf}
+use Rattle.form.proofs.Table.{no-group}
+use Rattle.count.specs.Tally.{countOf}
+use Rattle.place.specs.declared.Placing.{Placing}
+use Rattle.place.specs.declared.Placing.the-variants as P
+use Rattle.place.specs.Index.{counts}
+use Rattle.place.specs.Placing.{placingOf, countsAt}
+use Rattle.place.specs.Parts.{groupPart}
+use Rattle.place.specs.Due as Place
+use Rattle.place.proofs.Due as Placing
+use Rattle.place.proofs.Placed.{located-is}
+use Rattle.place.proofs.Zero.{is-placed}
+use Rattle.reading.specs.declared.Refusal.{Refusal}
+use Rattle.reading.specs.declared.Refusal.the-variants.{NoGroup, End, Beyond, TooFewLines, Misformed, OtherRelease, FilledVacant, BrokenRule, NoRoom, BadLine, BadField, BadDate}
+use Rattle.reading.specs.Read.{Cells, readGroup}
+use Rattle.reading.proofs.Due as Reading
+use Rattle.reading.proofs.Due.{has-form, form-range}
+use Rattle.group.specs.declared.Found.{Found}
+use Rattle.group.specs.declared.Found.the-variants.{Given, Missing}
+use Rattle.group.specs.declared.Characteristic.{Characteristic}
+use Rattle.group.specs.declared.Characteristic.the-variants.{Value, NoReading, NotReported, Unread}
+use Rattle.group.specs.Held.{foundBy, foundIn, foundAt}
+use Rattle.group.specs.Text.{readAt}
+use Rattle.group.specs.Characteristics.{isNoReading, told, reported, characteristicAt}
+use Rattle.group.specs.Due.{NoSuchGroup, PlacingDue, MissingDue, FoundDue, ReadingDue, Due, NoNumber, FourReads, HasCell, CharacteristicDue}
+use Rattle.group.proofs.Holding.{given-part}
+use Rattle.group.proofs.Texts.{read-missing, read-given}
+use Rattle.group.proofs.Reported.{no-reading-cell, no-reading-is, is-reading, number-low, number-high, number-inside}
+use Rattle.group.proofs.Rooms.{form-four, cells-four, room-four, same-room}
+
+-- ---- the lines of a group
+
+module _ (s : List ℕ) (at g : ℕ) where
+  found-none : NoSuchGroup g → foundAt s at g ≡ Missing NoGroup
+  unfolding foundAt
+  found-none n = rw (no-group g .1 (λ i. n (i .low, i .high))) refl
+
+  found-placing : (p : Placing) → PlacingDue s at g p → foundAt s at g ≡ foundBy p
+  unfolding foundAt
+  found-placing p d = rw (has-form g (d .low) (d .high) .1, Placing.first-due s at p .1 (d .placing)) refl
+
+  missing-given : (r : Refusal) → MissingDue s at g r → foundAt s at g ≡ Missing r
+  missing-given NoGroup d = found-none d
+  missing-given End d = found-placing P.End d
+  missing-given Beyond d = found-placing P.Beyond d
+  missing-given TooFewLines d = found-placing P.TooFewLines d
+  missing-given Misformed d = found-placing P.Misformed d
+  missing-given OtherRelease d = found-placing P.OtherRelease d
+  missing-given (FilledVacant h) d = found-placing (P.FilledVacant h) d
+  missing-given (BrokenRule h) d = found-placing (P.BrokenRule h (d .next)) (d .broken)
+  missing-given NoRoom d = absurd d
+  missing-given (BadLine l) d = absurd d
+  missing-given (BadField l e) d = absurd d
+  missing-given (BadDate p) d = absurd d
+
+  found-given : (r : Found) → FoundDue s at g r → foundAt s at g ≡ r
+  found-given Given d = found-placing (P.Placed (d .next)) (d .placed)
+  found-given (Missing r) d = missing-given r d
+
+  from-placing : (p : Placing) → PlacingDue s at g p → FoundDue s at g (foundBy p)
+  from-placing (P.Placed n) d = record { next = n; placed = d }
+  from-placing P.End d = d
+  from-placing P.Beyond d = d
+  from-placing P.TooFewLines d = d
+  from-placing P.Misformed d = d
+  from-placing P.OtherRelease d = d
+  from-placing (P.FilledVacant h) d = d
+  from-placing (P.BrokenRule h n) d = record { next = n; broken = d }
+
+  found-is-due : FoundDue s at g (foundAt s at g)
+  unfolding foundAt
+  found-is-due = by (formOf g) refl
+    where
+      by : (h : GroupForm) → formOf g ≡ h → FoundDue s at g (foundIn s at h)
+      by (Has f) e =
+          let r = form-range g f e in
+          from-placing (placingOf s at) record { low = r .0; high = r .1; placing = Placing.first-due s at (placingOf s at) .0 refl }
+      by NoForm e = λ i. no-group g .0 e record { low = i .0; high = i .1 }
+
+  pub found-first-due : (r : Found) → foundAt s at g ≡ r ↔ FoundDue s at g r
+  found-first-due r = (λ e. subst (FoundDue s at g) e found-is-due, found-given r)
+
+-- ---- a group
+
+-- the counts of a placed record are those that stand in its index
+counts-are : (s : List ℕ) (at n : ℕ) (d : Place.Stands s at n) → countsAt s at ≡ d .ns
+counts-are s at n d =
+    let p = is-placed s at n (Placing.first-due s at (P.Placed n) .1 d) in
+    let a = located-is s at n (countsAt s at) (p .located-at) .index in
+    let e : counts (countsAt s at) ≡ counts (d .ns) = sym a ∙ d .lines .head .index .read in
+    cc
+
+module _ (s : List ℕ) (at g room : ℕ) where
+  to-reading : (n : ℕ) (d : PlacingDue s at g (P.Placed n)) → readAt s at g room ≡ readGroup (d .placing .ns) g (groupPart s at (d .placing .ns) g) room
+  to-reading n d =
+      let e = found-placing s at g (P.Placed n) d in
+      read-given s at g room e ∙ rw (given-part s at g e, counts-are s at n (d .placing)) refl
+
+  reading-given : (c : Cells) → ReadingDue s at g room c → readAt s at g room ≡ c
+  reading-given c d =
+      let ns = d .placed .placing .ns in
+      to-reading (d .next) (d .placed) ∙ Reading.first-due ns g (groupPart s at ns g) room c .1 (d .reading)
+
+  missing-read : (r : Refusal) → MissingDue s at g r → readAt s at g room ≡ bad r
+  missing-read r d = read-missing s at g room (missing-given s at g r d)
+
+  given : (c : Cells) → Due s at g room c → readAt s at g room ≡ c
+  given (done cs) d = reading-given (done cs) d
+  given (bad r) d = ⊎-elim (missing-read r) (reading-given (bad r)) d
+
+  from-reading : (c : Cells) → ReadingDue s at g room c → Due s at g room c
+  from-reading (done cs) d = d
+  from-reading (bad r) d = inr d
+
+  from-found : (r : Found) → foundAt s at g ≡ r → FoundDue s at g r → Due s at g room (readAt s at g room)
+  from-found Given e d =
+      let ns = d .placed .placing .ns in
+      let u = to-reading (d .next) (d .placed) in
+      from-reading (readAt s at g room) record { next = d .next; placed = d .placed; reading = Reading.first-due ns g (groupPart s at ns g) room (readAt s at g room) .0 (sym u) }
+  from-found (Missing r) e d = subst (Due s at g room) (sym (read-missing s at g room e)) (inl d)
+
+  -- the reply that is given is the one that is due, and no other is
+  pub first-due : (c : Cells) → readAt s at g room ≡ c ↔ Due s at g room c
+  first-due c = (λ e. subst (Due s at g room) e (from-found (foundAt s at g) refl (found-first-due s at g (foundAt s at g) .0 refl)), given c)
+
+-- ---- a characteristic
+
+-- group 4 has a cell for each element
+four-size : (s : List ℕ) (at room : ℕ) (cs : List ℤ) → Due s at 4 room (done cs) → length cs ≡ countOf (countsAt s at) 4
+four-size s at room cs d =
+    let ns = d .placed .placing .ns in
+    let f = d .reading .cells .f in
+    let h : Has f ≡ Has F8 = sym (d .reading .cells .roomy .ruled .form) ∙ form-four in
+    let e : f ≡ F8 = cc in
+    d .reading .cells .values .size ∙ ap (λ y. cellsOf y (countOf ns 4)) e ∙ cells-four (countOf ns 4) ∙ ap (λ l. countOf l 4) (sym (counts-are s at (d .next) (d .placed .placing)))
+
+module _ (s : List ℕ) (at k : ℕ) where
+  -- group 4 read into a table of 49 cells is group 4 read into every table with room
+  pub four-is : (c : Cells) → (readAt s at 4 49 ≡ c) ↔ ((room : ℕ) → 49 ≤ room → Due s at 4 room c)
+  four-is c =
+      (λ e room h. first-due s at 4 room c .0 (same-room s at room 49 h (omega arith) ∙ e), λ d. first-due s at 4 49 c .1 (d 49 (omega arith)))
+
+  to-reported : (c : Cells) → FourReads s at k c → characteristicAt s at k ≡ reported k c
+  to-reported c d = number-inside s at k (d .low) (d .high) (four-is c .1 (d .four))
+
+  read-size : (cs : List ℤ) → FourReads s at k (done cs) → length cs ≡ countOf (countsAt s at) 4
+  read-size cs d = four-size s at 49 cs (d .four 49 (omega arith))
+
+  to-cell : (z : ℤ) → HasCell s at k z → characteristicAt s at k ≡ told z
+  to-cell z d =
+      let t : leb k (length (d .cs)) ≡ true = le-leb k (length (d .cs)) (omega (arith, read-size (d .cs) (d .reads), d .within)) in
+      to-reported (done (d .cs)) (d .reads) ∙ rw (t, d .cell) refl
+
+  out-of-range : ((1 ≤ k) × (k ≤ 49) → ⊥) → characteristicAt s at k ≡ Unread NoGroup
+  out-of-range n =
+      ⊎-elim
+      (λ (low : 1 ≤ k). ⊎-elim (λ (high : k ≤ 49). absurd (n (low, high))) (λ (h : 49 < k). sym (number-high s at k low h)) (le-or-lt k 49))
+      (λ (h : k < 1). sym (number-low s at k h))
+      (le-or-lt 1 k)
+
+  told-given : (c : Characteristic) → CharacteristicDue s at k c → characteristicAt s at k ≡ c
+  told-given (Unread r) d =
+      ⊎-elim
+      (λ (n : NoNumber s at k r). out-of-range (n .none) ∙ ap Unread (sym (n .twelve)))
+      (λ (h : FourReads s at k (bad r)). to-reported (bad r) h)
+      d
+  told-given NotReported d =
+      let t : leb k (length (d .cs)) ≡ false = lt-leb k (length (d .cs)) (omega (arith, read-size (d .cs) (d .reads), d .above)) in
+      to-reported (done (d .cs)) (d .reads) ∙ rw t refl
+  told-given NoReading d = to-cell (pos 9999000) d ∙ no-reading-cell
+  told-given (Value z) d = to-cell z (d .cell) ∙ is-reading z (d .reading)
+
+  from-cell : (z : ℤ) (t : Bool) → HasCell s at k z → isNoReading z ≡ t → CharacteristicDue s at k (cond t NoReading (Value z))
+  from-cell z true h e = subst (HasCell s at k) (no-reading-is z e) h
+  from-cell z false h e =
+      record { cell = h; reading = λ u. let w : told z ≡ NoReading = ap told u ∙ no-reading-cell in let v : Value z ≡ NoReading = sym (rw e refl) ∙ w in let y : _≡_ {A = ℕ} 0 1 = cc in omega arith }
+
+  from-count : (cs : List ℤ) (t : Bool) → FourReads s at k (done cs) → leb k (length cs) ≡ t → CharacteristicDue s at k (cond t (told (getD cs (k - 1) (pos 0))) NotReported)
+  from-count cs true h e =
+      from-cell (getD cs (k - 1) (pos 0)) (isNoReading (getD cs (k - 1) (pos 0))) record { cs = cs; reads = h; within = omega (arith, leb-true k (length cs) e, read-size cs h); cell = refl } refl
+  from-count cs false h e = record { cs = cs; reads = h; above = omega (arith, leb-false k (length cs) e, read-size cs h) }
+
+  from-four : (c : Cells) → FourReads s at k c → CharacteristicDue s at k (reported k c)
+  from-four (done cs) h = from-count cs (leb k (length cs)) h refl
+  from-four (bad r) h = inr h
+
+  told-is-due : CharacteristicDue s at k (characteristicAt s at k)
+  told-is-due =
+      ⊎-elim
+      (λ (low : 1 ≤ k).
+      ⊎-elim
+      (λ (high : k ≤ 49). subst (CharacteristicDue s at k) (sym (number-inside s at k low high refl)) (from-four (readAt s at 4 49) record { low = low; high = high; four = four-is (readAt s at 4 49) .0 refl }))
+      (λ (h : 49 < k). none (λ r. omega (arith, r .1)))
+      (le-or-lt k 49))
+      (λ (h : k < 1). none (λ r. omega (arith, r .0)))
+      (le-or-lt 1 k)
+    where
+      none : ((1 ≤ k) × (k ≤ 49) → ⊥) → CharacteristicDue s at k (characteristicAt s at k)
+      none n = subst (CharacteristicDue s at k) (sym (out-of-range n)) (inl record { none = n; twelve = refl })
+
+  pub characteristic-first-due : (c : Characteristic) → characteristicAt s at k ≡ c ↔ CharacteristicDue s at k c
+  characteristic-first-due c = (λ e. subst (CharacteristicDue s at k) e told-is-due, told-given c)
+
+-- 49 cells always have room for group 4
+pub four-has-room : (s : List ℕ) (at : ℕ) → readAt s at 4 49 ≡ bad NoRoom → ⊥
+four-has-room s at e = ⊎-elim (λ (n : ⊥). n) short (first-due s at 4 49 (bad NoRoom) .0 e)
+  where
+    short : ReadingDue s at 4 49 (bad NoRoom) → ⊥
+    short d =
+        let f = d .reading .f in
+        let h : Has f ≡ Has F8 = sym (d .reading .ruled .form) ∙ form-four in
+        let u : f ≡ F8 = cc in
+        omega (arith, d .reading .few, ap (λ y. cellsOf y (countOf (d .placed .placing .ns) 4)) u, room-four (d .placed .placing .ns) (d .reading .ruled .kept))

@@ -1,0 +1,57 @@
+-- A table with room: the rules on counts let group 4 have at most 49 cells, so that 49 always have room; and group 4 reads the same into
+-- every table of at least 49.
+-- Assumes nothing.
+use mathlib.Core.Path.{_≡_, refl}
+use mathlib.Core.Bool.{Bool, true, false, _&&_}
+use mathlib.Core.List.{List}
+use mathlib.Core.Logic.{inl, inr}
+use Prim.Native.Nat.{ℕ, _≤_}
+use native.Mathlib.Nat.{mul-one}
+use native.Mathlib.Omega.{arith}
+use borrow.Author.Tests.{leb-true}
+use lib.Dec.{leb}
+use Rattle.base.proofs.Choice.{and-second}
+use Rattle.form.specs.declared.Form.the-variants.{F8}
+use Rattle.form.specs.declared.GroupForm.the-variants.{Has}
+use Rattle.form.specs.Table
+use Rattle.form.specs.Table.{formOf}
+use Rattle.form.specs.Count
+use Rattle.form.specs.Count.{cellsOf}
+use Rattle.count.specs.Rules
+use Rattle.count.specs.Rules.{rulingOf}
+use Rattle.count.specs.Tally.{countOf}
+use Rattle.count.specs.declared.Ruling.the-variants.{Kept}
+use Rattle.count.proofs.Rulings
+use Rattle.count.proofs.Rulings.{ruling-says}
+use Rattle.place.specs.Placing.{Located, located, refused, locate}
+use Rattle.place.specs.Parts.{groupPart}
+use Rattle.reading.proofs.Promises.{read-room}
+use Rattle.group.specs.Text.{readLocated, readAt}
+
+pub form-four : formOf 4 ≡ Has F8
+unfolding Table.formOf Table.formAmong Table.entryOf
+form-four = refl
+
+pub cells-four : (n : ℕ) → cellsOf F8 n ≡ n
+unfolding Count.cellsOf Count.elementsOf Table.rowOf Table.entryOf
+cells-four n = mul-one n
+
+-- "group 4 from 1 to 49"
+pub kept-four : (ns : List ℕ) → rulingOf ns ≡ Kept → countOf ns 4 ≤ 49
+unfolding Rulings.Breaks Rules.headRules
+kept-four ns e = by (leb 1 (countOf ns 4) && leb (countOf ns 4) 49) refl
+  where
+    by : (t : Bool) → leb 1 (countOf ns 4) && leb (countOf ns 4) 49 ≡ t → countOf ns 4 ≤ 49
+    by true u = leb-true (countOf ns 4) 49 (and-second (leb 1 (countOf ns 4)) (leb (countOf ns 4) 49) u)
+    by false u = absurd (ruling-says ns Kept .0 e 4 (inr (inr (inr (inl (u, refl))))))
+
+pub room-four : (ns : List ℕ) → rulingOf ns ≡ Kept → cellsOf F8 (countOf ns 4) ≤ 49
+room-four ns e = omega (arith, cells-four (countOf ns 4), kept-four ns e)
+
+pub same-room : (s : List ℕ) (at room more : ℕ) → 49 ≤ room → 49 ≤ more → readAt s at 4 room ≡ readAt s at 4 more
+unfolding readAt
+same-room s at room more a b = rw form-four (by (locate s at))
+  where
+    by : (l : Located) → readLocated s at 4 room l ≡ readLocated s at 4 more l
+    by (located n ns) = read-room ns 4 (groupPart s at ns 4) room more F8 form-four (λ e. (omega (arith, room-four ns e), omega (arith, room-four ns e)))
+    by (refused p) = refl

@@ -1,0 +1,60 @@
+-- `group::characteristic_reply` meets its contract: the variant chooses the reply.
+-- Assumes nothing.
+use borrow.Author.Needs.{needs}
+use mathlib.Core.Path.{sym, _∙_, ap}
+use Rattle.group.specs.Characteristics.{characteristicReply}
+use Rattle.group.proofs.characteristic_reply.Statement.{statement}
+use Rattle.group.proofs.characteristic_reply.Tie as tie
+
+enum-told : tie.Need-enum-told
+enum-told c = search needs
+
+plain-requires : tie.Need-plain-requires
+plain-requires c κs = search needs
+
+enum-told-2 : tie.Need-enum-told-2
+enum-told-2 c = search needs
+
+plain-requires-2 : tie.Need-plain-requires-2
+plain-requires-2 c κs = search needs
+
+enum-told-3 : tie.Need-enum-told-3
+enum-told-3 c = search needs
+
+plain-requires-3 : tie.Need-plain-requires-3
+plain-requires-3 c κs = search needs
+
+enum-known-answer : tie.Need-enum-known-answer
+enum-known-answer c = search needs
+
+refusal-reply-requires : tie.Need-refusal-reply-requires
+refusal-reply-requires c κs = search needs
+
+returns : tie.Need-returns
+returns c = c .plain .ensures ∙ ap characteristicReply (sym (c .before .enum-told .given .1))
+
+returns-2 : tie.Need-returns-2
+returns-2 c = c .plain2 .ensures ∙ ap characteristicReply (sym (c .before .enum-told2 .given .1))
+
+returns-3 : tie.Need-returns-3
+returns-3 c = c .plain3 .ensures ∙ ap characteristicReply (sym (c .before .enum-told3 .given .1))
+
+returns-4 : tie.Need-returns-4
+returns-4 c = c .refusal-reply .ensures ∙ ap characteristicReply (sym (c .before .before .answer .given .1))
+
+pub characteristic-reply-spec : {M : Type 1} → statement M
+characteristic-reply-spec =
+    tie.close
+    (tie.spec
+    enum-told
+    plain-requires
+    enum-told-2
+    plain-requires-2
+    enum-told-3
+    plain-requires-3
+    enum-known-answer
+    refusal-reply-requires
+    returns
+    returns-2
+    returns-3
+    returns-4)

@@ -1,0 +1,116 @@
+-- When each reply of a question about a group at a place is due: its condition, and none earlier in 01's order. "Reading a group goes no
+-- further than the placing reply unless that is 0: the order is 12, then any placing reply but 0", and then what place's and reading's own
+-- Due say.
+use mathlib.Core.Path.{_≡_}
+use mathlib.Core.List.{List}
+use mathlib.Core.Logic.{_⊎_}
+use Prim.Native.Nat.{ℕ, _-_, _<_, _≤_}
+use lib.IntN.{ℤ, pos}
+use lib.ListN.{getD}
+use Rattle.base.specs.Pieces.{done, bad}
+use Rattle.count.specs.Tally.{countOf}
+use Rattle.place.specs.declared.Placing.{Placing}
+use Rattle.place.specs.declared.Placing.the-variants as P
+use Rattle.place.specs.Placing.{countsAt}
+use Rattle.place.specs.Parts.{groupPart}
+use Rattle.place.specs.Due as Place
+use Rattle.reading.specs.declared.Refusal.{Refusal}
+use Rattle.reading.specs.declared.Refusal.the-variants.{NoGroup, End, Beyond, TooFewLines, Misformed, OtherRelease, FilledVacant, BrokenRule, NoRoom, BadLine, BadField, BadDate}
+use Rattle.reading.specs.Read.{Cells}
+use Rattle.reading.specs.Due as Reading
+use Rattle.group.specs.declared.Found.{Found}
+use Rattle.group.specs.declared.Found.the-variants.{Given, Missing}
+use Rattle.group.specs.declared.Characteristic.{Characteristic}
+use Rattle.group.specs.declared.Characteristic.the-variants.{Value, NoReading, NotReported, Unread}
+
+-- 12: "no group 1-60 .. of that number"
+abbrev pub NoSuchGroup : ℕ → Type 0
+NoSuchGroup g = (1 ≤ g) × (g ≤ 60) → ⊥
+
+module _ (s : List ℕ) (at g : ℕ) where
+  -- not 12, and placing's reply is p
+  pub record PlacingDue (p : Placing) : Type 0 where
+    pub low : 1 ≤ g
+    pub high : g ≤ 60
+    pub placing : Place.Due s at p
+
+  -- 7 has its group; the next place is not asked for
+  pub record BrokenDue (h : ℕ) : Type 0 where
+    pub next : ℕ
+    pub broken : PlacingDue (P.BrokenRule h next)
+
+  -- neither 12 nor a placing reply but 0
+  pub record IsPlaced : Type 0 where
+    pub next : ℕ
+    pub placed : PlacingDue (P.Placed next)
+
+  -- ---- the lines of a group: "replies are 12, then any placing reply but 0"
+
+  abbrev pub MissingDue : Refusal → Type 0
+  MissingDue NoGroup = NoSuchGroup g
+  MissingDue End = PlacingDue P.End
+  MissingDue Beyond = PlacingDue P.Beyond
+  MissingDue TooFewLines = PlacingDue P.TooFewLines
+  MissingDue Misformed = PlacingDue P.Misformed
+  MissingDue OtherRelease = PlacingDue P.OtherRelease
+  MissingDue (FilledVacant h) = PlacingDue (P.FilledVacant h)
+  MissingDue (BrokenRule h) = BrokenDue h
+  MissingDue NoRoom = ⊥
+  MissingDue (BadLine l) = ⊥
+  MissingDue (BadField l e) = ⊥
+  MissingDue (BadDate p) = ⊥
+
+  abbrev pub FoundDue : Found → Type 0
+  FoundDue Given = IsPlaced
+  FoundDue (Missing r) = MissingDue r
+
+  -- ---- reading a group: the same, "then 11, then line by line 8 and that line's fields 9, then 10 for group 3"
+
+  module _ (room : ℕ) where
+    -- neither 12 nor a placing reply but 0: the record's counts and the group's own lines decide
+    pub record ReadingDue (c : Cells) : Type 0 where
+      pub next : ℕ
+      pub placed : PlacingDue (P.Placed next)
+      pub reading : Reading.Due (placed .placing .ns) g (groupPart s at (placed .placing .ns) g) room c
+
+    abbrev pub Due : Cells → Type 0
+    Due (done cs) = ReadingDue (done cs)
+    Due (bad r) = MissingDue r ⊎ ReadingDue (bad r)
+
+-- ---- a characteristic: "12 comes first, then group 4's reply with its numbers, as if read into a table with room, then not reported"
+
+module _ (s : List ℕ) (at k : ℕ) where
+  -- 12: "no characteristic 1-49, of that number"
+  pub record NoNumber (r : Refusal) : Type 0 where
+    pub none : (1 ≤ k) × (k ≤ 49) → ⊥
+    pub twelve : r ≡ NoGroup
+
+  -- not 12, and group 4 reads as c into every table with room (49 cells have room: proofs/Rooms.antt)
+  pub record FourReads (c : Cells) : Type 0 where
+    pub low : 1 ≤ k
+    pub high : k ≤ 49
+    pub four : (room : ℕ) → 49 ≤ room → Due s at 4 room c
+
+  -- "not reported (number above group 4's count)"
+  pub record Above : Type 0 where
+    pub cs : List ℤ
+    pub reads : FourReads (done cs)
+    pub above : countOf (countsAt s at) 4 < k
+
+  -- the number is one of group 4's, and z its cell
+  pub record HasCell (z : ℤ) : Type 0 where
+    pub cs : List ℤ
+    pub reads : FourReads (done cs)
+    pub within : k ≤ countOf (countsAt s at) 4
+    pub cell : getD cs (k - 1) (pos 0) ≡ z
+
+  -- "a value in thousandths, or no reading (cell 9,999,000)"
+  pub record HasValue (z : ℤ) : Type 0 where
+    pub cell : HasCell z
+    pub reading : z ≡ pos 9999000 → ⊥
+
+  abbrev pub CharacteristicDue : Characteristic → Type 0
+  CharacteristicDue (Unread r) = NoNumber r ⊎ FourReads (bad r)
+  CharacteristicDue NotReported = Above
+  CharacteristicDue NoReading = HasCell (pos 9999000)
+  CharacteristicDue (Value z) = HasValue z

@@ -1,0 +1,66 @@
+-- S twice, by computation: where its records are, where the lines of group 4 are and what they hold; and its walk, which is two records.
+-- Assumes nothing.
+use mathlib.Core.Path.{_≡_, refl}
+use Prim.Native.Nat.{ℕ, zero, suc, _<_}
+use native.Mathlib.Omega.{arith}
+use lib.ListN.{length, getD}
+use Rattle.base.specs.Every
+use Rattle.base.specs.Sum
+use Rattle.form.specs.Count
+use Rattle.form.specs.Table
+use Rattle.field.specs.Entry
+use Rattle.line.specs.Contents
+use Rattle.line.specs.Lines
+use Rattle.count.specs.Rules
+use Rattle.count.specs.Tally
+use Rattle.place.specs.declared.Placing.the-variants.{End}
+use Rattle.place.specs.Index.{readEntries, readIndexLine, readIndex}
+use Rattle.place.specs.Parts.{start, groupPart}
+use Rattle.place.specs.Placing.{located, refused, locate}
+use Rattle.place.specs.RecordS.{lineOf, recordS, countsS, twiceS}
+use Rattle.place.specs.Walk.{spot, IsRecord, Stops}
+use Rattle.place.proofs.Walked.{spot-start, spot-more}
+
+pub record Twice : Type 0 where
+  pub long : length twiceS ≡ 610
+  -- "1 0 305", "2 305 610", "end 2 610 1"
+  pub first : locate twiceS 0 ≡ located 305 countsS
+  pub second : locate twiceS 305 ≡ located 610 countsS
+  pub last : locate twiceS 610 ≡ refused End
+  -- the lines of group 4: where they are in the first record, and what they are in both
+  pub from : start twiceS 0 countsS 4 ≡ 295
+  pub to : start twiceS 0 countsS 5 ≡ 305
+  pub first-four : groupPart twiceS 0 countsS 4 ≡ lineOf "   7.250"
+  pub second-four : groupPart twiceS 305 countsS 4 ≡ lineOf "   7.250"
+  -- its point
+  pub point : getD twiceS 299 0 ≡ 46
+
+pub twice : Twice
+unfolding recordS twiceS countsS locate readIndex readIndexLine readEntries Entry.entryOf start groupPart Lines.feeds Lines.reach Contents.contentOf Tally.linesIn Tally.lineTally Tally.linesBefore Sum.sum Every.upFrom Table.rowOf Table.entryOf Table.formAmong Table.formOf Count.linesOf Count.roundedUp Count.elementsOf Rules.releaseOf Rules.filledAmong
+twice = record {
+  long = refl;
+  first = refl;
+  second = refl;
+  last = refl;
+  from = refl;
+  to = refl;
+  first-four = refl;
+  second-four = refl;
+  point = refl;
+}
+
+-- ---- its walk
+
+pub spot-one : spot twiceS 1 ≡ 305
+spot-one = spot-more twiceS 0 305 countsS (rw (← spot-start twiceS) (twice .first))
+
+pub spot-two : spot twiceS 2 ≡ 610
+spot-two = spot-more twiceS 1 610 countsS (rw spot-one (twice .second))
+
+pub two-records : Stops twiceS 2 End
+two-records = record { each = each; last = rw spot-two (twice .last) }
+  where
+    each : (k : ℕ) → k < 2 → IsRecord twiceS (spot twiceS k)
+    each zero h = record { next = 305; ns = countsS; is = rw (← spot-start twiceS) (twice .first) }
+    each (suc zero) h = record { next = 610; ns = countsS; is = rw spot-one (twice .second) }
+    each (suc (suc k)) h = absurd (omega arith)

@@ -1,0 +1,23 @@
+-- "Record S has counts 4, 0, 19, 1, zeros, release 5, and data lines `  1.200 67.000-23.500143.000`, `AA20062650922142530`, `   7.250`.
+-- It has 305 bytes."
+use mathlib.Core.List.{List, [], _∷_, _++_}
+use Prim.Native.Nat.{ℕ}
+use Prim.Native.String.{String}
+use lib.ListN.{replicate}
+use Rattle.base.specs.Quoted.{bytes}
+
+-- a line with this content: carriage return and line feed behind it
+abbrev pub lineOf : String → List ℕ
+lineOf content = bytes content ++ (13 ∷ 10 ∷ [])
+
+unfoldable pub recordS : List ℕ
+recordS =
+    lineOf "  4  0 19  1  0  0  0  0  0  0  0  0  0  0  0  0  0  0  0  0  0  0  0  0  0  0  0  0  0  0  0  0  0  0  0  0  0  0  0  0"
+    ++ (lineOf "  0  0  0  0  0  0  0  0  0  0  0  0  0  0  0  0  0  0  0  0  0  0  0  0  0  0  0  0  0  0  0  0  0  0  0  0  0  0  0  5"
+    ++ (lineOf "  1.200 67.000-23.500143.000" ++ (lineOf "AA20062650922142530" ++ lineOf "   7.250")))
+
+unfoldable pub countsS : List ℕ
+countsS = 4 ∷ 0 ∷ 19 ∷ 1 ∷ (replicate 75 0 ++ (5 ∷ []))
+
+unfoldable pub twiceS : List ℕ
+twiceS = recordS ++ recordS

@@ -1,0 +1,319 @@
+-- First due: reading a group under its record's counts gives a reply exactly if that reply is due (specs/Due.antt).
+-- Assumes nothing.
+use mathlib.Core.Path.{_≡_, refl, sym, _∙_, ap, subst}
+use mathlib.Core.Bool.{Bool, true, false, cond}
+use mathlib.Core.List.{List, map}
+use mathlib.Core.Logic.{_↔_, _⊎_, inl, inr, ⊎-elim}
+use Prim.Native.Nat.{ℕ, _+_, _*_, _<_, _≤_}
+use native.Mathlib.Nat.{mul-one}
+use native.Mathlib.Omega.{arith}
+use borrow.Author.Tests.{le-leb, lt-leb, leb-true, leb-false, eq-eqb, eqb-true, eqb-false}
+use lib.Dec.{T, leb, eqb}
+use lib.IntN.{ℤ}
+use lib.ListN.{length, take}
+use Rattle.base.specs.Part.{part}
+use Rattle.base.specs.Pieces.{done, bad}
+use Rattle.base.specs.Sign.{sizeOf}
+use Rattle.base.proofs.Choice.{T-true, not-T-false}
+use Rattle.base.proofs.FirstBad.{IsDone, FirstBad, bad-told, first-bad, all-done}
+use Rattle.base.proofs.Order.{le-or-lt}
+use Rattle.base.proofs.Taken.{part-zero}
+use Rattle.form.specs.declared.Form.{Form}
+use Rattle.form.specs.declared.Form.the-variants.{A120}
+use Rattle.form.specs.declared.GroupForm.{GroupForm}
+use Rattle.form.specs.declared.GroupForm.the-variants.{Has, NoGroup as NoForm}
+use Rattle.form.specs.Table.{rowOf, formOf}
+use Rattle.form.specs.Count.{linesOf, cellsOf}
+use Rattle.form.proofs.Table.{IsGroup, no-group}
+use Rattle.field.specs.Read.{fieldOf, formed, cellsIn}
+use Rattle.line.specs.declared.Content.{Content}
+use Rattle.line.specs.declared.Content.the-variants.{Length, NoReturn}
+use Rattle.line.proofs.Contents.{is-content, content-is, content-taken}
+use Rattle.count.specs.Tally.{countOf}
+use Rattle.count.specs.Rules.{rulingOf}
+use Rattle.count.specs.declared.Ruling.{Ruling}
+use Rattle.count.specs.declared.Ruling.the-variants.{Kept, Broken}
+use Rattle.date.specs.Date.{datedOf}
+use Rattle.date.specs.declared.Dated.{Dated}
+use Rattle.date.specs.declared.Dated.the-variants.{Right, Wrong}
+use Rattle.reading.specs.declared.Refusal.{Refusal}
+use Rattle.reading.specs.declared.Refusal.the-variants.{NoGroup, End, Beyond, TooFewLines, Misformed, OtherRelease, FilledVacant, BrokenRule, NoRoom, BadLine, BadField, BadDate}
+use Rattle.reading.specs.Blanks.{mayBeShort, isRight, filledTo, rightContent}
+use Rattle.reading.specs.Plan.{Line}
+use Rattle.reading.specs.Read.{Cells, readField, readFields, columnsOf, readLines, byDate, dated, readForm, readRuled, readBy, readGroup}
+use Rattle.reading.specs.Values.{lineOf, planned, fieldIn, RightLine, Values}
+use Rattle.reading.specs.Due.{CleanLine, AllClean, ComesTo, WrongLine, WrongField, Ruled, Roomy, HasCells, DoneDue, RefusalDue, Due}
+use Rattle.reading.proofs.Blanks.{right-plain}
+use Rattle.reading.proofs.Lines.{right-yes, right-is, line-right, line-wrong}
+use Rattle.reading.proofs.Fields.{short-one, fields-start}
+use Rattle.reading.proofs.Sizes.{field-done}
+use Rattle.reading.proofs.Values.{fields-pieces, lineRead, lines-pieces, lines-start, line-read, line-cells, read-values, values-one}
+
+-- ---- a field: 9
+
+module _ (f : Form) (line e : ℕ) (y : List ℕ) where
+  field-reads : T (formed (fieldOf f y)) → IsDone (readField f line e y)
+  field-reads t = record { cells = cellsIn y (fieldOf f y); is = rw (T-true (formed (fieldOf f y)) t) refl }
+
+  field-told : (T (formed (fieldOf f y)) → ⊥) → readField f line e y ≡ bad (BadField line e)
+  field-told n = rw (not-T-false (formed (fieldOf f y)) n) refl
+
+  record FieldBad (r : Refusal) : Type 0 where
+    none : T (formed (fieldOf f y)) → ⊥
+    is : r ≡ BadField line e
+
+  field-bad : (r : Refusal) → readField f line e y ≡ bad r → FieldBad r
+  field-bad r h = by (formed (fieldOf f y)) refl h
+    where
+      by : (t : Bool) → formed (fieldOf f y) ≡ t → cond t (done (cellsIn y (fieldOf f y))) (bad (BadField line e)) ≡ bad r → FieldBad r
+      by true u w = let z : _≡_ {A = ℕ} 0 1 = cc in absurd (omega arith)
+      by false u w = record { none = λ t. let v : T false = rw u at t in v; is = cc }
+
+-- ---- a line: 8, then 9
+
+module _ (f : Form) (count : ℕ) (x : List ℕ) where
+  module _ (j : ℕ) where
+    abbrev l : Line
+    l = planned f count j
+
+    -- the line is right, and its fields decide
+    record LineRight : Type 0 where
+      content : List ℕ
+      line : RightLine f count x j content
+      reads : lineRead f count x j ≡ readFields f (planned f count j) (filledTo (columnsOf f (planned f count j)) content)
+
+    record LineWrong : Type 0 where
+      none : (s : List ℕ) → RightLine f count x j s → ⊥
+      told : lineRead f count x j ≡ bad (BadLine (planned f count j .number))
+
+    right-content : (s : List ℕ) → RightLine f count x j s → (rightContent f (columnsOf f l) (lineOf x j) ≡ Length (length s)) × (part 0 (length s) (lineOf x j) ≡ s)
+    right-content s r =
+        let y = lineOf x j in
+        let e = content-is y s (r .content) in
+        let t : part 0 (length s) y ≡ s = part-zero (length s) y ∙ content-taken y s (length s) (r .content) e in
+        (right-yes f (columnsOf f l) y (length s) e (ap (isRight f (columnsOf f l)) t ∙ right-plain f (columnsOf f l) s .1 (r .right)), t)
+
+    right-reads : (s : List ℕ) → RightLine f count x j s → lineRead f count x j ≡ readFields f (planned f count j) (filledTo (columnsOf f (planned f count j)) s)
+    right-reads s r =
+        let c = right-content s r in
+        line-right f l (lineOf x j) (length s) (c .0) ∙ ap (λ z. readFields f l (filledTo (columnsOf f l) z)) (c .1)
+
+    line-either : LineRight ⊎ LineWrong
+    line-either = by (rightContent f (columnsOf f l) (lineOf x j)) refl
+      where
+        by : (c : Content) → rightContent f (columnsOf f l) (lineOf x j) ≡ c → LineRight ⊎ LineWrong
+        by (Length n) e =
+            let i = right-is f (columnsOf f l) (lineOf x j) n e in
+            let r : RightLine f count x j (take n (lineOf x j)) = record { content = is-content (lineOf x j) n (i .content) .0; right = right-plain f (columnsOf f l) (take n (lineOf x j)) .0 (ap (isRight f (columnsOf f l)) (sym (part-zero n (lineOf x j))) ∙ i .right) } in
+            inl record { content = take n (lineOf x j); line = r; reads = right-reads (take n (lineOf x j)) r }
+        by NoReturn e =
+            inr record {
+              none = λ s r. let w : Length (length s) ≡ NoReturn = sym (right-content s r .0) ∙ e in let z : _≡_ {A = ℕ} 0 1 = cc in omega arith;
+              told = line-wrong f l (lineOf x j) e;
+            }
+
+    wrong-told : ((s : List ℕ) → RightLine f count x j s → ⊥) → lineRead f count x j ≡ bad (BadLine (planned f count j .number))
+    wrong-told n = ⊎-elim (λ (r : LineRight). absurd (n (r .content) (r .line))) (λ (w : LineWrong). w .told) line-either
+
+    -- ---- clean exactly if it was read
+
+    clean-done : CleanLine f count x j → IsDone (lineRead f count x j)
+    clean-done c =
+        let text = filledTo (columnsOf f l) (c .content) in
+        let d = all-done (fields-pieces f l text) (λ k h. field-reads f (l .number) (l .first + k) (fieldIn f count j (c .content) k) (c .fields k h)) in
+        record { cells = d .cells; is = right-reads (c .content) (c .line) ∙ sym (fields-start f l text) ∙ d .is }
+
+    done-clean : IsDone (lineRead f count x j) → CleanLine f count x j
+    done-clean d =
+        let r = line-read f count x j (d .cells) (d .is) in
+        record { content = r .content; line = r .line; fields = λ k h. r .each k h .good }
+
+  -- ---- the lines
+
+  abbrev LinesDue : Refusal → Type 0
+  LinesDue NoGroup = ⊥
+  LinesDue (BrokenRule h) = ⊥
+  LinesDue NoRoom = ⊥
+  LinesDue (BadLine n) = WrongLine f count x n
+  LinesDue (BadField n e) = WrongField f count x n e
+  LinesDue (BadDate p) = ⊥
+  LinesDue End = ⊥
+  LinesDue Beyond = ⊥
+  LinesDue TooFewLines = ⊥
+  LinesDue Misformed = ⊥
+  LinesDue OtherRelease = ⊥
+  LinesDue (FilledVacant h) = ⊥
+
+  lines-told : (r : Refusal) (j : ℕ) → ComesTo f count x j → lineRead f count x j ≡ bad r → readLines f count x ≡ bad r
+  lines-told r j c e =
+      sym (lines-start f count x)
+      ∙ bad-told (lines-pieces f count x) r record { at = j; inside = c .inside; earlier = λ i h. clean-done i (c .earlier i h); told = e }
+
+  line-given : (n : ℕ) → WrongLine f count x n → readLines f count x ≡ bad (BadLine n)
+  line-given n w = lines-told (BadLine n) (w .j) (w .comes) (wrong-told (w .j) (w .wrong) ∙ ap (λ k. bad (BadLine k)) (sym (w .number)))
+
+  field-given : (n e : ℕ) → WrongField f count x n e → readLines f count x ≡ bad (BadField n e)
+  field-given n e w =
+      let t = filledTo (columnsOf f (l (w .j))) (w .content) in
+      lines-told (BadField n e) (w .j) (w .comes)
+      (right-reads (w .j) (w .content) (w .line)
+      ∙ sym (fields-start f (l (w .j)) t)
+      ∙ bad-told (fields-pieces f (l (w .j)) t) (BadField n e) record {
+        at = w .k;
+        inside = w .inside;
+        earlier = λ i h. field-reads f (l (w .j) .number) (l (w .j) .first + i) (fieldIn f count (w .j) (w .content) i) (w .earlier i h);
+        told = field-told f (l (w .j) .number) (l (w .j) .first + w .k) (fieldIn f count (w .j) (w .content) (w .k)) (w .misformed) ∙ rw (w .number, w .element) refl;
+      })
+
+  -- what is told of the lines
+  lines-due : (r : Refusal) → readLines f count x ≡ bad r → LinesDue r
+  lines-due r e = ⊎-elim inside wrong (line-either (b .at))
+    where
+      b : FirstBad (linesOf f count) (lineRead f count x) r
+      b = first-bad (lines-pieces f count x) r .0 (lines-start f count x ∙ e)
+
+      comes : ComesTo f count x (b .at)
+      comes = record { inside = b .inside; earlier = λ i h. done-clean i (b .earlier i h) }
+
+      wrong : LineWrong (b .at) → LinesDue r
+      wrong w =
+          let t : bad (BadLine (l (b .at) .number)) ≡ bad r = sym (w .told) ∙ b .told in
+          let u : BadLine (l (b .at) .number) ≡ r = cc in
+          subst LinesDue u record { j = b .at; comes = comes; wrong = w .none; number = refl }
+
+      inside : LineRight (b .at) → LinesDue r
+      inside w =
+          let t = filledTo (columnsOf f (l (b .at))) (w .content) in
+          let c = first-bad (fields-pieces f (l (b .at)) t) r .0 (fields-start f (l (b .at)) t ∙ sym (w .reads) ∙ b .told) in
+          let q = field-bad f (l (b .at) .number) (l (b .at) .first + c .at) (fieldIn f count (b .at) (w .content) (c .at)) r (c .told) in
+          subst LinesDue (sym (q .is)) record {
+            j = b .at;
+            k = c .at;
+            comes = comes;
+            content = w .content;
+            line = w .line;
+            inside = c .inside;
+            earlier = λ i h. field-done f (l (b .at) .number) (l (b .at) .first + i) (fieldIn f count (b .at) (w .content) i) (c .earlier i h .cells) (c .earlier i h .is) .good;
+            misformed = q .none;
+            number = refl;
+            element = refl;
+          }
+
+  -- "In A120 the element is the line."
+  pub letters-line : f ≡ A120 → (n e : ℕ) → WrongField f count x n e → e ≡ n
+  letters-line u n e w =
+      let p : rowOf f .«per_line» ≡ 1 = short-one f (ap mayBeShort u) in
+      let m : w .j * rowOf f .«per_line» ≡ w .j = ap (λ k. w .j * k) p ∙ mul-one (w .j) in
+      omega (arith, w .number, w .element, w .inside, p)
+
+  -- all clean, with these values: these cells were read
+  lines-read : (cs : List ℤ) → AllClean f count x → Values f count x cs → readLines f count x ≡ done cs
+  lines-read cs c v =
+      let d = all-done (lines-pieces f count x) (λ j h. clean-done j (c j h)) in
+      let e : readLines f count x ≡ done (d .cells) = sym (lines-start f count x) ∙ d .is in
+      e ∙ ap done (values-one f count x (d .cells) cs (read-values f count x (d .cells) e) v)
+
+  lines-clean : (cs : List ℤ) → readLines f count x ≡ done cs → AllClean f count x
+  lines-clean cs e j h = done-clean j record { cells = _; is = line-cells f count x cs e j h }
+
+-- ---- a group
+
+-- a number has a form exactly if it is 1 to 60
+pub has-form : (g : ℕ) → 1 ≤ g → g ≤ 60 → (f : Form) × (formOf g ≡ Has f)
+has-form g a b = by (formOf g) refl
+  where
+    by : (h : GroupForm) → formOf g ≡ h → (f : Form) × (formOf g ≡ Has f)
+    by (Has f) e = (f, e)
+    by NoForm e = absurd (no-group g .0 e record { low = a; high = b })
+
+pub form-range : (g : ℕ) (f : Form) → formOf g ≡ Has f → (1 ≤ g) × (g ≤ 60)
+form-range g f e = (by 1 g (λ (h : g < 1) i. omega (arith, i .low)), by g 60 (λ h i. omega (arith, i .high)))
+  where
+    no-form : {A : Type 0} → NoForm ≡ Has f → A
+    no-form e = let z : _≡_ {A = ℕ} 0 1 = cc in absurd (omega arith)
+
+    by : (a b : ℕ) → (b < a → IsGroup g → ⊥) → a ≤ b
+    by a b n = ⊎-elim (λ h. h) (λ (h : b < a). no-form (sym (no-group g .1 (n h)) ∙ e)) (le-or-lt a b)
+
+module _ (ns : List ℕ) (g : ℕ) (x : List ℕ) (room : ℕ) where
+  -- ---- what is due is given
+
+  to-lines : (f : Form) → Roomy ns g x room f → readGroup ns g x room ≡ dated g (readLines f (countOf ns g) x)
+  unfolding readGroup readForm
+  to-lines f r = rw (r .ruled .form, r .ruled .kept, le-leb (cellsOf f (countOf ns g)) room (r .enough)) refl
+
+  to-cells : (cs : List ℤ) → HasCells ns g x room cs → readGroup ns g x room ≡ dated g (done cs)
+  to-cells cs h = to-lines (h .f) (h .roomy) ∙ ap (dated g) (lines-read (h .f) (countOf ns g) x cs (h .clean) (h .values))
+
+  refusal-given : (r : Refusal) → RefusalDue ns g x room r → readGroup ns g x room ≡ bad r
+  unfolding readGroup readForm
+  refusal-given NoGroup d = rw (no-group g .1 (λ i. d (i .low, i .high))) refl
+  refusal-given (BrokenRule h) d = rw (has-form g (d .low) (d .high) .1, d .broken) refl
+  refusal-given NoRoom d = rw (d .ruled .form, d .ruled .kept, lt-leb (cellsOf (d .f) (countOf ns g)) room (d .few)) refl
+  refusal-given (BadLine n) d = to-lines (d .f) (d .roomy) ∙ ap (dated g) (line-given (d .f) (countOf ns g) x n (d .line))
+  refusal-given (BadField n e) d = to-lines (d .f) (d .roomy) ∙ ap (dated g) (field-given (d .f) (countOf ns g) x n e (d .field))
+  refusal-given (BadDate p) d = to-cells (d .cs) (d .cells) ∙ rw (eq-eqb g 3 (d .three), d .wrong) refl
+  refusal-given End d = absurd d
+  refusal-given Beyond d = absurd d
+  refusal-given TooFewLines d = absurd d
+  refusal-given Misformed d = absurd d
+  refusal-given OtherRelease d = absurd d
+  refusal-given (FilledVacant h) d = absurd d
+
+  done-given : (cs : List ℤ) → DoneDue ns g x room cs → readGroup ns g x room ≡ done cs
+  done-given cs d = to-cells cs (d .cells) ∙ by (eqb g 3) refl
+    where
+      by : (t : Bool) → eqb g 3 ≡ t → cond t (byDate cs (datedOf (map sizeOf cs))) (done cs) ≡ done cs
+      by true e = rw (d .date (eqb-true g 3 e) .1) refl
+      by false e = refl
+
+  given : (c : Cells) → Due ns g x room c → readGroup ns g x room ≡ c
+  given (done cs) d = done-given cs d
+  given (bad r) d = refusal-given r d
+
+  -- ---- what is given is due
+
+  from-bad : (f : Form) (r : Refusal) → Roomy ns g x room f → LinesDue f (countOf ns g) x r → RefusalDue ns g x room r
+  from-bad f NoGroup h d = absurd d
+  from-bad f (BrokenRule k) h d = absurd d
+  from-bad f NoRoom h d = absurd d
+  from-bad f (BadLine n) h d = record { f = f; roomy = h; line = d }
+  from-bad f (BadField n e) h d = record { f = f; roomy = h; field = d }
+  from-bad f (BadDate p) h d = absurd d
+  from-bad f End h d = d
+  from-bad f Beyond h d = d
+  from-bad f TooFewLines h d = d
+  from-bad f Misformed h d = d
+  from-bad f OtherRelease h d = d
+  from-bad f (FilledVacant k) h d = d
+
+  from-date : (cs : List ℤ) (t : Bool) (c : Dated) → HasCells ns g x room cs → eqb g 3 ≡ t → datedOf (map sizeOf cs) ≡ c → Due ns g x room (cond t (byDate cs c) (done cs))
+  from-date cs true (Right d) h e u = record { cells = h; date = λ three. (d, u) }
+  from-date cs true (Wrong p) h e u = record { cs = cs; cells = h; three = eqb-true g 3 e; wrong = u }
+  from-date cs false c h e u = record { cells = h; date = λ three. absurd (eqb-false g 3 e three) }
+
+  from-lines : (f : Form) (c : Cells) → Roomy ns g x room f → readLines f (countOf ns g) x ≡ c → Due ns g x room (dated g c)
+  from-lines f (done cs) h e =
+      from-date cs (eqb g 3) (datedOf (map sizeOf cs)) record { f = f; roomy = h; clean = lines-clean f (countOf ns g) x cs e; values = read-values f (countOf ns g) x cs e } refl refl
+  from-lines f (bad r) h e = from-bad f r h (lines-due f (countOf ns g) x r e)
+
+  from-room : (f : Form) (t : Bool) → Ruled ns g x room f → leb (cellsOf f (countOf ns g)) room ≡ t → Due ns g x room (cond t (dated g (readLines f (countOf ns g) x)) (bad NoRoom))
+  from-room f true h e = from-lines f (readLines f (countOf ns g) x) record { ruled = h; enough = leb-true (cellsOf f (countOf ns g)) room e } refl
+  from-room f false h e = record { f = f; ruled = h; few = leb-false (cellsOf f (countOf ns g)) room e }
+
+  from-ruling : (f : Form) (k : Ruling) → formOf g ≡ Has f → rulingOf ns ≡ k → Due ns g x room (readRuled f ns g x room k)
+  unfolding readForm
+  from-ruling f Kept h e = from-room f (leb (cellsOf f (countOf ns g)) room) record { form = h; kept = e } refl
+  from-ruling f (Broken k) h e = let r = form-range g f h in record { low = r .0; high = r .1; broken = e }
+
+  is-due : Due ns g x room (readGroup ns g x room)
+  unfolding readGroup
+  is-due = by (formOf g) refl
+    where
+      by : (h : GroupForm) → formOf g ≡ h → Due ns g x room (readBy ns g x room h)
+      by (Has f) e = from-ruling f (rulingOf ns) e refl
+      by NoForm e = λ i. no-group g .0 e record { low = i .0; high = i .1 }
+
+  -- the reply that is given is the one that is due, and no other is
+  pub first-due : (c : Cells) → readGroup ns g x room ≡ c ↔ Due ns g x room c
+  first-due c = (λ e. subst (Due ns g x room) e is-due, given c)

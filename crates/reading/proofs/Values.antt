@@ -1,0 +1,192 @@
+-- The values of a group: the lines of a group and the fields of a line are pieces one behind the other; what was read is the value of each
+-- element, in its line and its columns, and no other cells are; element i stands in line i / per line, with i mod per line
+-- fields before it.
+-- Assumes nothing.
+use mathlib.Core.Path.{_≡_, refl, sym, _∙_, ap, subst}
+use mathlib.Core.List.{List, []}
+use mathlib.Core.Logic.{⊎-elim}
+use Prim.Native.Nat.{ℕ, suc, _+_, _-_, _*_, _/_, _%_, _<_, _≤_, min}
+use native.Mathlib.Nat.{sub-zero, add-mul, suc-mul, zero-mul, mul-le-mul-right, div-add-mod', mod-lt}
+use native.Mathlib.Numerals.{add-one}
+use native.Mathlib.Omega.{arith}
+use lib.IntN.{ℤ}
+use lib.ListN.{length, take, drop}
+use Rattle.base.specs.Part.{part}
+use Rattle.base.specs.Pieces.{done, both}
+use Rattle.base.proofs.FirstBad.{InPieces, Sized, piece-done}
+use Rattle.base.proofs.Order.{le-or-lt}
+use Rattle.base.proofs.Taken.{drop-none, part-zero, part-part, parts-same}
+use Rattle.form.specs.declared.Form.{Form}
+use Rattle.form.specs.Table.{rowOf}
+use Rattle.form.specs.Count
+use Rattle.form.specs.Count.{elementsOf, linesOf, cellsOf}
+use Rattle.form.proofs.Rows.{row-fits}
+use Rattle.form.proofs.Rounding.{lines-enough}
+use Rattle.field.specs.Read.{fieldOf, cellsIn, Reads}
+use Rattle.line.specs.Lines.{reach, behind}
+use Rattle.line.proofs.Reach.{reach-zero, reach-add}
+use Rattle.line.proofs.Contents.{is-content, content-one}
+use Rattle.reading.specs.Blanks.{isRight, filledTo}
+use Rattle.reading.specs.Plan.{Line, planFrom, planOf}
+use Rattle.reading.specs.Read.{Cells, readField, readFields, columnsOf, readLine, readLinesOf, readLines}
+use Rattle.reading.specs.Values.{lineOf, planned, fieldIn, RightLine, Stands, Values}
+use Rattle.reading.proofs.Blanks.{right-plain}
+use Rattle.reading.proofs.Fields.{restOf, fields-start, fields-more, fields-none}
+use Rattle.reading.proofs.Checking.{lines-more, lines-none}
+use Rattle.reading.proofs.Sizes.{field-done, reads-size, line-done, line-size, group-size}
+
+-- ---- pieces one behind the other
+
+-- the fields of a line
+module _ (f : Form) (l : Line) (text : List ℕ) where
+  abbrev pub fieldAt : ℕ → Cells
+  fieldAt k = readField f (l .number) (l .first + k) (take (rowOf f .width) (drop (k * rowOf f .width) text))
+
+  abbrev pub fieldsFrom : ℕ → Cells
+  fieldsFrom k = readFields f (restOf l k) (drop (k * rowOf f .width) text)
+
+  pub fields-pieces : InPieces (l .many) fieldAt fieldsFrom
+  fields-pieces = record {
+    more = λ i h. fields-more f l text i h ∙ rw (add-one i) refl;
+    none = fields-none f l text (l .many) (drop (l .many * rowOf f .width) text) (omega arith);
+  }
+
+  fields-sized : Sized (l .many) fieldAt (λ i. i * rowOf f .cells)
+  fields-sized = record { begin = zero-mul (rowOf f .cells); size = size }
+    where
+      size : (i : ℕ) → i < l .many → (ds : List ℤ) → fieldAt i ≡ done ds → i * rowOf f .cells + length ds ≡ suc i * rowOf f .cells
+      size i h ds u =
+          let y = take (rowOf f .width) (drop (i * rowOf f .width) text) in
+          omega (arith, suc-mul i (rowOf f .cells), reads-size f y ds (field-done f (l .number) (l .first + i) y ds u))
+
+-- the lines of a group
+module _ (f : Form) (count : ℕ) (x : List ℕ) where
+  abbrev pub lineRead : ℕ → Cells
+  lineRead j = readLine f (planned f count j) (lineOf x j)
+
+  abbrev pub linesFrom : ℕ → Cells
+  linesFrom j = readLinesOf f (planFrom (rowOf f .«per_line») (elementsOf f count) j (linesOf f count - j)) (behind j x)
+
+  pub lines-pieces : InPieces (linesOf f count) lineRead linesFrom
+  lines-pieces = record { more = more; none = none }
+    where
+      p : ℕ
+      p = rowOf f .«per_line»
+
+      n : ℕ
+      n = elementsOf f count
+
+      more : (j : ℕ) → j < linesOf f count → linesFrom j ≡ both (lineRead j) (linesFrom (suc j))
+      more j h =
+          let at = reach x j in
+          let end = at + reach (drop at x) 1 in
+          let m : linesOf f count - j ≡ suc (linesOf f count - suc j) = omega arith in
+          let c : end - at ≡ reach (drop at x) 1 = omega arith in
+          let e : end ≡ reach x (suc j) = sym (reach-add x j 1) ∙ ap (reach x) (add-one j) in
+          rw m (lines-more f x p n j (linesOf f count - suc j) at end refl ∙ rw (c, e, add-one j) refl)
+
+      none : linesFrom (linesOf f count) ≡ done []
+      none =
+          let m : linesOf f count - linesOf f count ≡ 0 = omega arith in
+          rw m (lines-none f x p n (linesOf f count) (reach x (linesOf f count)))
+
+  pub lines-start : linesFrom 0 ≡ readLines f count x
+  unfolding readLines planOf
+  lines-start = rw (reach-zero x, drop-none x, sub-zero (linesOf f count)) refl
+
+-- ---- a line that was read
+
+module _ (f : Form) (count : ℕ) (x : List ℕ) where
+  -- it is right, and each of its fields has its cells
+  pub record ReadLine (j : ℕ) (cs : List ℤ) : Type 0 where
+    pub content : List ℕ
+    pub line : RightLine f count x j content
+    pub each : (k : ℕ) → k < planned f count j .many → Reads f (fieldIn f count j content k) (part (k * rowOf f .cells) (suc k * rowOf f .cells) cs)
+
+  pub line-read : (j : ℕ) (cs : List ℤ) → lineRead f count x j ≡ done cs → ReadLine j cs
+  line-read j cs e =
+      let l = planned f count j in
+      let y = lineOf x j in
+      let d = line-done f l y cs e in
+      let t = part-zero (d .bytes) y in
+      let s = take (d .bytes) y in
+      let text = filledTo (columnsOf f l) s in
+      let fields : fieldsFrom f l text 0 ≡ done cs = fields-start f l text ∙ ap (λ z. readFields f l (filledTo (columnsOf f l) z)) (sym t) ∙ d .fields in
+      record {
+        content = s;
+        line = record { content = is-content y (d .bytes) (d .content) .0; right = right-plain f (columnsOf f l) s .0 (ap (isRight f (columnsOf f l)) (sym t) ∙ d .right) };
+        each = λ k h. field-done f (l .number) (l .first + k) (fieldIn f count j s k) (part (k * rowOf f .cells) (suc k * rowOf f .cells) cs) (piece-done (fields-pieces f l text) (fields-sized f l text) cs fields k h);
+      }
+
+  -- ---- the group
+
+  abbrev p : ℕ
+  p = rowOf f .«per_line»
+
+  abbrev n : ℕ
+  n = elementsOf f count
+
+  -- where the cells of line j begin
+  abbrev begins : ℕ → ℕ
+  begins j = min n (j * p) * rowOf f .cells
+
+  line-inside : (j : ℕ) → j * p < n → j < linesOf f count
+  unfolding Count.linesOf
+  line-inside j h =
+      ⊎-elim
+      (λ (l : linesOf f count ≤ j). absurd (omega (arith, mul-le-mul-right p l, lines-enough n p (row-fits f .some))))
+      (λ l. l)
+      (le-or-lt (linesOf f count) j)
+
+  module _ (cs : List ℤ) (e : readLines f count x ≡ done cs) where
+    pub line-cells : (j : ℕ) → j < linesOf f count → lineRead f count x j ≡ done (part (begins j) (begins (suc j)) cs)
+    line-cells j h =
+        piece-done (lines-pieces f count x) record { begin = first; size = size } cs (lines-start f count x ∙ e) j h
+      where
+        first : begins 0 ≡ 0
+        first =
+            let z : min n (0 * p) ≡ 0 = rw (zero-mul p) (omega arith) in
+            rw z (zero-mul (rowOf f .cells))
+
+        size : (i : ℕ) → i < linesOf f count → (ds : List ℤ) → lineRead f count x i ≡ done ds → begins i + length ds ≡ begins (suc i)
+        size i l ds u =
+            let m : min n (i * p) + min p (n - i * p) ≡ min n (suc i * p) = omega (arith, suc-mul i p) in
+            omega (arith, line-size f (planned f count i) (lineOf x i) ds u, add-mul (min n (i * p)) (min p (n - i * p)) (rowOf f .cells), ap (λ k. k * rowOf f .cells) m)
+
+    stands : (j k : ℕ) → k < p → j * p + k < n → Stands f count x cs (j * p + k) j k
+    stands j k h l =
+        let c = rowOf f .cells in
+        let r = line-read j (part (begins j) (begins (suc j)) cs) (line-cells j (line-inside j (omega arith))) in
+        let m : min n (j * p) ≡ j * p = omega arith in
+        let b : begins j ≡ j * p * c = ap (λ i. i * c) m in
+        let from : begins j + k * c ≡ (j * p + k) * c = omega (arith, add-mul (j * p) k c) in
+        let to : begins j + suc k * c ≡ (j * p + k) * c + c = omega (arith, add-mul (j * p) k c, suc-mul k c) in
+        let few : suc (j * p + k) ≤ min n (suc j * p) = omega (arith, suc-mul j p) in
+        let within : begins j + suc k * c ≤ begins (suc j) = omega (arith, mul-le-mul-right c few, suc-mul (j * p + k) c) in
+        record {
+          content = r .content;
+          line = r .line;
+          reads = subst (Reads f (fieldIn f count j (r .content) k)) (part-part (begins j) (begins (suc j)) (k * c) (suc k * c) cs within ∙ rw (from, to) refl) (r .each k (omega arith));
+        }
+
+    -- what was read is the group's values
+    pub read-values : Values f count x cs
+    read-values = record { size = group-size f count x cs e; each = stands }
+
+  -- "element i (from 0) stands in line i / per line of the group, in the columns from (i mod per line) times the width"
+  pub values-divided : (cs : List ℤ) → Values f count x cs → (i : ℕ) → i < n → Stands f count x cs i (i / p) (i % p)
+  values-divided cs v i h =
+      let e = div-add-mod' i p in
+      subst (λ m. Stands f count x cs m (i / p) (i % p)) e (v .each (i / p) (i % p) (mod-lt i (row-fits f .some)) (omega arith))
+
+  -- a group has one list of values
+  pub values-one : (cs ds : List ℤ) → Values f count x cs → Values f count x ds → cs ≡ ds
+  unfolding Count.cellsOf
+  values-one cs ds u v = parts-same (rowOf f .cells) n cs ds (u .size) (v .size) same
+    where
+      same : (i : ℕ) → i < n → part (i * rowOf f .cells) (i * rowOf f .cells + rowOf f .cells) cs ≡ part (i * rowOf f .cells) (i * rowOf f .cells + rowOf f .cells) ds
+      same i h =
+          let a = values-divided cs u i h in
+          let b = values-divided ds v i h in
+          let c : a .content ≡ b .content = content-one (lineOf x (i / p)) (a .content) (b .content) (a .line .content) (b .line .content) in
+          sym (a .reads .cells) ∙ ap (λ s. cellsIn (fieldIn f count (i / p) s (i % p)) (fieldOf f (fieldIn f count (i / p) s (i % p)))) c ∙ b .reads .cells

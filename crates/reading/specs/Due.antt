@@ -1,0 +1,139 @@
+-- When each reply of reading a group under its record's counts is due: its condition in 01's table, and none earlier in 01's order: "the
+-- order is 12, then any placing reply but 0, then 11, then line by line 8 and that line's fields 9, then 10 for group 3." Of placing's
+-- replies the counts decide 7.
+use mathlib.Core.Path.{_≡_}
+use mathlib.Core.List.{List, map}
+use Prim.Native.Nat.{ℕ, _+_, _<_, _≤_}
+use lib.Dec.{T}
+use lib.IntN.{ℤ}
+use Rattle.base.specs.Pieces.{done, bad}
+use Rattle.base.specs.Sign.{sizeOf}
+use Rattle.form.specs.declared.Form.{Form}
+use Rattle.form.specs.declared.GroupForm.the-variants.{Has}
+use Rattle.form.specs.Table.{formOf}
+use Rattle.form.specs.Count.{linesOf, cellsOf}
+use Rattle.field.specs.Read.{fieldOf, formed}
+use Rattle.count.specs.Tally.{countOf}
+use Rattle.count.specs.Rules.{rulingOf}
+use Rattle.count.specs.declared.Ruling.the-variants.{Kept, Broken}
+use Rattle.date.specs.Date.{datedOf}
+use Rattle.date.specs.declared.Date.{Date}
+use Rattle.date.specs.declared.Dated.the-variants.{Right, Wrong}
+use Rattle.reading.specs.declared.Refusal.{Refusal}
+use Rattle.reading.specs.declared.Refusal.the-variants.{NoGroup, End, Beyond, TooFewLines, Misformed, OtherRelease, FilledVacant, BrokenRule, NoRoom, BadLine, BadField, BadDate}
+use Rattle.reading.specs.Read.{Cells}
+use Rattle.reading.specs.Values.{planned, fieldIn, RightLine, Values}
+
+-- the field with k fields before it, in line j of content s, is one of the form
+abbrev pub FieldReads : Form → ℕ → ℕ → List ℕ → ℕ → Type 0
+FieldReads f count j s k = T (formed (fieldOf f (fieldIn f count j s k)))
+
+-- ---- the lines: 8 and 9. "Lines and elements count from 1": the line with j before it is number j + 1, and Plan gives its first element
+
+module _ (f : Form) (count : ℕ) (x : List ℕ) where
+  -- neither 8 nor 9 for line j
+  pub record CleanLine (j : ℕ) : Type 0 where
+    pub content : List ℕ
+    pub line : RightLine f count x j content
+    pub fields : (k : ℕ) → k < planned f count j .many → FieldReads f count j content k
+
+  abbrev pub AllClean : Type 0
+  AllClean = (j : ℕ) → j < linesOf f count → CleanLine j
+
+  -- the reading comes to line j: no line before it is bad
+  pub record ComesTo (j : ℕ) : Type 0 where
+    pub inside : j < linesOf f count
+    pub earlier : (i : ℕ) → i < j → CleanLine i
+
+  -- 8: "no carriage return before the line feed, wrong length, or bytes after the fields that aren't blanks"
+  pub record WrongLine (l : ℕ) : Type 0 where
+    pub j : ℕ
+    pub comes : ComesTo j
+    pub wrong : (s : List ℕ) → RightLine f count x j s → ⊥
+    pub number : l ≡ planned f count j .number
+
+  -- 9: "misformed field", the first of its line, in a line that is right
+  pub record WrongField (l e : ℕ) : Type 0 where
+    pub j : ℕ
+    pub k : ℕ
+    pub comes : ComesTo j
+    pub content : List ℕ
+    pub line : RightLine f count x j content
+    pub inside : k < planned f count j .many
+    pub earlier : (i : ℕ) → i < k → FieldReads f count j content i
+    pub misformed : FieldReads f count j content k → ⊥
+    pub number : l ≡ planned f count j .number
+    pub element : e ≡ planned f count j .first + k
+
+-- ---- the group
+
+module _ (ns : List ℕ) (g : ℕ) (x : List ℕ) (room : ℕ) where
+  -- 7, and not 12
+  pub record Breaks (h : ℕ) : Type 0 where
+    pub low : 1 ≤ g
+    pub high : g ≤ 60
+    pub broken : rulingOf ns ≡ Broken h
+
+  -- neither 12 nor 7
+  pub record Ruled (f : Form) : Type 0 where
+    pub form : formOf g ≡ Has f
+    pub kept : rulingOf ns ≡ Kept
+
+  -- 11: "table .. shorter than what reply 0 would fill, and only then"
+  pub record Short : Type 0 where
+    pub f : Form
+    pub ruled : Ruled f
+    pub few : room < cellsOf f (countOf ns g)
+
+  -- nor 11
+  pub record Roomy (f : Form) : Type 0 where
+    pub ruled : Ruled f
+    pub enough : cellsOf f (countOf ns g) ≤ room
+
+  -- 8 and 9
+  pub record LineDue (l : ℕ) : Type 0 where
+    pub f : Form
+    pub roomy : Roomy f
+    pub line : WrongLine f (countOf ns g) x l
+
+  pub record FieldDue (l e : ℕ) : Type 0 where
+    pub f : Form
+    pub roomy : Roomy f
+    pub field : WrongField f (countOf ns g) x l e
+
+  -- neither of them: the cells are read
+  pub record HasCells (cs : List ℤ) : Type 0 where
+    pub f : Form
+    pub roomy : Roomy f
+    pub clean : AllClean f (countOf ns g) x
+    pub values : Values f (countOf ns g) x cs
+
+  -- 10: the letters of group 3 are no date, and p is blamed
+  pub record DateDue (p : ℕ) : Type 0 where
+    pub cs : List ℤ
+    pub cells : HasCells cs
+    pub three : g ≡ 3
+    pub wrong : datedOf (map sizeOf cs) ≡ Wrong p
+
+  -- 0
+  pub record DoneDue (cs : List ℤ) : Type 0 where
+    pub cells : HasCells cs
+    pub date : g ≡ 3 → (d : Date) × (datedOf (map sizeOf cs) ≡ Right d)
+
+  abbrev pub RefusalDue : Refusal → Type 0
+  RefusalDue NoGroup = (1 ≤ g) × (g ≤ 60) → ⊥
+  RefusalDue (BrokenRule h) = Breaks h
+  RefusalDue NoRoom = Short
+  RefusalDue (BadLine l) = LineDue l
+  RefusalDue (BadField l e) = FieldDue l e
+  RefusalDue (BadDate p) = DateDue p
+  RefusalDue End = ⊥
+  RefusalDue Beyond = ⊥
+  RefusalDue TooFewLines = ⊥
+  RefusalDue Misformed = ⊥
+  RefusalDue OtherRelease = ⊥
+  RefusalDue (FilledVacant h) = ⊥
+
+  abbrev pub Due : Cells → Type 0
+  Due (done cs) = DoneDue cs
+  Due (bad r) = RefusalDue r

@@ -1,0 +1,55 @@
+-- Where an element of a group stands in the group's lines, and which cells it fills. Lines, elements, and the fields of a line count from 0
+-- here: element i stands in line i / per line, in the columns from (i mod per line) times the width, and fills the cells from i times the
+-- form's cells on (proofs/Values.antt).
+use mathlib.Core.Path.{_≡_}
+use mathlib.Core.List.{List}
+use Prim.Native.Nat.{ℕ, _+_, _*_, _<_, _≤_}
+use lib.IntN.{ℤ}
+use lib.ListN.{length, take, drop, getD}
+use Rattle.base.specs.Part.{part}
+use Rattle.form.specs.declared.Form.{Form}
+use Rattle.form.specs.Table.{rowOf}
+use Rattle.form.specs.Count.{elementsOf, cellsOf}
+use Rattle.field.specs.Read.{Reads}
+use Rattle.line.specs.Lines.{lines, behind}
+use Rattle.line.specs.Contents.{HasContent}
+use Rattle.reading.specs.Blanks.{shortest, filledTo}
+use Rattle.reading.specs.Plan.{Line, lineAt}
+use Rattle.reading.specs.Read.{columnsOf}
+
+-- "A line is the bytes up to and including a line feed": the line with j lines before it
+abbrev pub lineOf : List ℕ → ℕ → List ℕ
+lineOf x j = lines 1 (behind j x)
+
+-- the elements that stand in it
+abbrev pub planned : Form → ℕ → ℕ → Line
+planned f count j = lineAt (rowOf f .«per_line») (elementsOf f count) j
+
+-- the field with k fields before it, in line j of content s: its columns of the content filled with blanks
+abbrev pub fieldIn : Form → ℕ → ℕ → List ℕ → ℕ → List ℕ
+fieldIn f count j s k = take (rowOf f .width) (drop (k * rowOf f .width) (filledTo (columnsOf f (planned f count j)) s))
+
+-- "A data line of k elements has k times the width as its length, and may carry blanks after that, up to 120 in all. An A120 line may have
+-- 0 to 120 bytes": what isRight tests (proofs/Blanks.antt)
+pub record RightContent (f : Form) (columns : ℕ) (s : List ℕ) : Type 0 where
+  pub least : shortest f columns ≤ length s
+  pub most : length s ≤ 120
+  pub blanks : (i : ℕ) → columns ≤ i → i < length s → getD s i 0 ≡ 32
+
+-- a group of this form and count, whose lines are x
+module _ (f : Form) (count : ℕ) (x : List ℕ) where
+  -- line j is right, not 8: it is the content s, a carriage return and a line feed, and s is right for its fields
+  pub record RightLine (j : ℕ) (s : List ℕ) : Type 0 where
+    pub content : HasContent (lineOf x j) s
+    pub right : RightContent f (columnsOf f (planned f count j)) s
+
+  -- element i stands in line j with k fields before it; its field reads (field's Grammar) as the cells from i times the form's cells on
+  pub record Stands (cs : List ℤ) (i j k : ℕ) : Type 0 where
+    pub content : List ℕ
+    pub line : RightLine j content
+    pub reads : Reads f (fieldIn f count j content k) (part (i * rowOf f .cells) (i * rowOf f .cells + rowOf f .cells) cs)
+
+  -- the cells of the group: of each element, and no others
+  pub record Values (cs : List ℤ) : Type 0 where
+    pub size : length cs ≡ cellsOf f count
+    pub each : (j k : ℕ) → k < rowOf f .«per_line» → j * rowOf f .«per_line» + k < elementsOf f count → Stands cs (j * rowOf f .«per_line» + k) j k

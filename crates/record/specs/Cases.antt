@@ -1,0 +1,133 @@
+-- 01's marked cases in its order, with its reply numbers, and some neighbours: a field on a line of its own as it is read and written, the
+-- lines of a count, the letters of group 3.
+use mathlib.Core.Path.{_≡_}
+use mathlib.Core.List.{List, [], _∷_, _++_}
+use Prim.Native.Nat.{ℕ}
+use Prim.Native.String.{String}
+use lib.IntN.{ℤ, pos, negℤ}
+use lib.ListN.{length}
+use Rattle.base.specs.Pieces.{cellsGot}
+use Rattle.base.specs.Quoted.{bytes}
+use Rattle.form.specs.declared.Form.{Form}
+use Rattle.form.specs.declared.Form.the-variants.{A1, F8, I3, E20, E8}
+use Rattle.form.specs.Count.{linesOf}
+use Rattle.field.specs.Entry.{entryOf}
+use Rattle.field.specs.declared.Entry.{Entry}
+use Rattle.field.specs.declared.Entry.the-variants.{Count, Misformed}
+use Rattle.reply.specs.declared.Reply.{Reply}
+use Rattle.date.specs.Date.{datedOf}
+use Rattle.date.specs.declared.Date.{Date}
+use Rattle.date.specs.declared.Dated.the-variants.{Right}
+use Rattle.reading.specs.Numbered.{readingReply}
+use Rattle.reading.specs.Read.{Cells, readLines, readForm, readingOf}
+use Rattle.record.specs.declared.Fit.{Fit}
+use Rattle.record.specs.declared.Fit.the-variants.{All, Not}
+use Rattle.record.specs.declared.Writing.the-variants.{NoField}
+use Rattle.record.specs.Fitting.{elementsFit}
+use Rattle.record.specs.Text.{lineEnd, linesText}
+use Rattle.record.specs.Writing.{writingReply}
+
+abbrev pub minus : ℕ → ℤ
+minus n = negℤ (pos n)
+
+abbrev pub line : String → List ℕ
+line t = bytes t ++ lineEnd
+
+pub data Case : Type 0 where
+  -- one field of the form is read with this reply, and these cells
+  reads : Form → String → ℕ → List ℤ → Case
+  -- one element's cells are written with 0 as this field
+  writes : Form → List ℤ → String → Case
+  -- or refused with this reply
+  refuses : Form → List ℤ → ℕ → Case
+  -- an index entry
+  entry : String → Entry → Case
+  -- so many elements have so many lines
+  takes : Form → ℕ → ℕ → Case
+  -- the letters of group 3 are read with 0 and tell this date
+  dates : String → Date → Case
+  -- or are refused with this reply at this position
+  blames : String → (number position : ℕ) → Case
+
+-- the reply to a reading and to cells that are written, of whatever group
+abbrev pub readReply : Cells → Reply
+readReply g = readingReply (readingOf g)
+
+abbrev pub fitNumber : Fit → ℕ
+fitNumber All = 0
+fitNumber (Not g e) = writingReply (NoField g e) .number
+
+-- letters as group 3
+abbrev pub lettersRead : String → Cells
+lettersRead t = readForm A1 3 (length (bytes t)) (line t) (length (bytes t))
+
+abbrev pub Holding : Case → Type 0
+Holding (reads f t n cs) = (readReply (readLines f 1 (line t)) .number ≡ n) × (cellsGot (readLines f 1 (line t)) ≡ cs)
+Holding (writes f cs t) = (g : ℕ) → (fitNumber (elementsFit f g 1 cs) ≡ 0) × (linesText f 1 cs ≡ line t)
+Holding (refuses f cs n) = (g : ℕ) → fitNumber (elementsFit f g 1 cs) ≡ n
+Holding (entry t e) = entryOf (bytes t) ≡ e
+Holding (takes f count n) = linesOf f count ≡ n
+Holding (dates t d) = (readReply (lettersRead t) .number ≡ 0) × (datedOf (bytes t) ≡ Right d)
+Holding (blames t n p) = (readReply (lettersRead t) .number ≡ n) × (readReply (lettersRead t) .position ≡ p)
+
+abbrev pub Holds : List Case → Type 0
+Holds [] = Unit {0}
+Holds (c ∷ cs) = Holding c × Holds cs
+
+-- year, day of year, month, day, hour, minute, second
+abbrev pub date : ℕ → ℕ → ℕ → ℕ → ℕ → ℕ → ℕ → Date
+date y n m d h i e = record { year = y; «day_of_year» = n; month = m; day = d; hour = h; minute = i; second = e }
+
+abbrev pub cases : List Case
+cases =
+    -- 1. F8.3 `9999.999` reads 9,999,999; writing 10,000,000 gives 13.
+    reads F8 "9999.999" 0 (pos 9999999 ∷ [])
+    ∷ refuses F8 (pos 10000000 ∷ []) 13
+    -- 2. F8.3 `-999.999` reads -999,999; writing -1,000,000 gives 13.
+    ∷ reads F8 "-999.999" 0 (minus 999999 ∷ [])
+    ∷ refuses F8 (minus 1000000 ∷ []) 13
+    -- 3. F8.3 `   -.500` reads -500; canonical `  -0.500`.
+    ∷ reads F8 "   -.500" 0 (minus 500 ∷ [])
+    ∷ writes F8 (minus 500 ∷ []) "  -0.500"
+    -- 4. F8.3 `  -0.000` reads 0; `  123456` is refused, 9.
+    ∷ reads F8 "  -0.000" 0 (pos 0 ∷ [])
+    ∷ reads F8 "  123456" 9 []
+    -- 5. I3 `007` reads 7; `- 7` is refused, 9.
+    ∷ reads I3 "007" 0 (pos 7 ∷ [])
+    ∷ reads I3 "- 7" 9 []
+    -- 6. E8.3E1 `0.123E+6` reads 123 and 6; `1.230E+5` is refused, 9.
+    ∷ reads E8 "0.123E+6" 0 (pos 123 ∷ pos 6 ∷ [])
+    ∷ reads E8 "1.230E+5" 9 []
+    -- 7. E20.12E2 `  0.100000000000E+01` reads 100,000,000,000 and 1.
+    ∷ reads E20 "  0.100000000000E+01" 0 (pos 100000000000 ∷ pos 1 ∷ [])
+    -- 8. F8.3 counts 0, 15, 16 have 0, 1, 2 lines.
+    ∷ takes F8 0 0
+    ∷ takes F8 15 1
+    ∷ takes F8 16 2
+    -- 9. 2004, day 60, 29 February is right; the same in 2006 is 10 at 7; 2006, day 60, 1 March is right.
+    ∷ dates "AA20040600229142530" (date 2004 60 2 29 14 25 30)
+    ∷ blames "AA20060600229142530" 10 7
+    ∷ dates "AA20060600301142530" (date 2006 60 3 1 14 25 30)
+    -- 10. 1900, day 366, 31 December is 10 at 7.
+    ∷ blames "AA19003661231142530" 10 7
+    -- "Index entries are I3 without a minus, so ` -0` is misformed there"
+    ∷ reads I3 " -0" 0 (pos 0 ∷ [])
+    ∷ entry " -0" Misformed
+    ∷ entry "005" (Count 5)
+    -- "No plus sign stands before a number's digits. A blank I, F or E field is refused"
+    ∷ reads I3 " +7" 9 []
+    ∷ reads F8 "        " 9 []
+    ∷ reads E8 "        " 9 []
+    -- "Zero has no minus, and exponent zero has a plus"
+    ∷ writes F8 (pos 0 ∷ []) "   0.000"
+    ∷ writes E20 (minus 5 ∷ pos 0 ∷ []) " -0.000000000005E+00"
+    -- record S's date; "0000 is a leap year"
+    ∷ dates "AA20062650922142530" (date 2006 265 9 22 14 25 30)
+    ∷ dates "AA00000600229000000" (date 0 60 2 29 0 0 0)
+    -- "Blamed is the first position of the first field that fails alone; if none, 7 for a mismatch"
+    ∷ blames "AA20060600229240000" 10 14
+    -- "All digits": blanks are none, and neither is what is not there
+    ∷ blames "AA2006265 922142530" 10 10
+    ∷ blames "AA2006265092214253" 10 18
+    ∷ blames "" 10 3
+    ∷ []

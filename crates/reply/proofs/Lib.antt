@@ -1,0 +1,2 @@
+-- The laws of reply's definitions.
+pub mod Replies

@@ -1,0 +1,2 @@
+-- 01's table of replies.
+pub mod Table

@@ -1,0 +1,34 @@
+-- "The rewriting program takes the same input, and prints the canonical text of each record until the first reply other than 0 in placing or
+-- reading, or the first record whose canonical text is longer than 8,192 bytes, and nothing of that record or later. Input longer than
+-- 65,536 bytes prints nothing."
+use mathlib.Core.Bool.{cond}
+use mathlib.Core.List.{List, [], _++_}
+use Prim.Native.Nat.{ℕ, zero, suc}
+use lib.Dec.{leb}
+use lib.ListN.{length}
+use Rattle.rewriting.specs.declared.Rewriting.{Rewriting}
+use Rattle.rewriting.specs.declared.Rewriting.the-variants.{Done, Missing, NoRoom, Unread}
+use Rattle.rewriting.specs.Record.{rewritingOf, textAt}
+
+-- a table of 8,192 cells always serves: no record has more cells than bytes of canonical text
+abbrev pub programRewriting : List ℕ → ℕ → Rewriting
+programRewriting s at = rewritingOf s at 8192 8192
+
+-- a record's text, and more behind it
+abbrev pub textThen : List ℕ → (ℕ → List ℕ) → Rewriting → List ℕ
+textThen text more (Done n next) = text ++ more next
+textThen text more (Missing r) = []
+textThen text more NoRoom = []
+textThen text more (Unread g r) = []
+
+-- from a place on, at most so many records
+unfoldable pub rewrittenFrom : ℕ → List ℕ → ℕ → List ℕ
+rewrittenFrom zero s at = []
+rewrittenFrom (suc k) s at = textThen (textAt s at) (rewrittenFrom k s) (programRewriting s at)
+
+-- a text has fewer records than bytes
+unfoldable pub rewritten : List ℕ → List ℕ
+rewritten s = rewrittenFrom (length s) s 0
+
+unfoldable pub printed : List ℕ → List ℕ
+printed s = cond (leb (length s) 65536) (rewritten s) []

@@ -1,0 +1,101 @@
+-- The record at a place, read group after group and written as canonical text: "any placing reply but 0; 11 if the canonical text is longer
+-- than the buffer or the cells more than the table; the first reply other than 0 of reading groups 1 to 60 in turn, with that group's
+-- number; else 0 with the bytes written and the next place".
+use mathlib.Core.Bool.{Bool, cond, _&&_}
+use mathlib.Core.List.{List, [], _∷_, _++_}
+use Prim.Native.Nat.{ℕ}
+use lib.Dec.{leb}
+use lib.IntN.{ℤ}
+use lib.ListN.{length}
+use Rattle.base.specs.Every.{upFrom}
+use Rattle.base.specs.Part.{over}
+use Rattle.base.specs.Pieces.{Got, done, bad, both}
+use Rattle.count.specs.Tally.{cellsIn, recordCells}
+use Rattle.place.specs.declared.Placing.{Placing}
+use Rattle.place.specs.declared.Placing.the-variants as P
+use Rattle.place.specs.Placing.{placingOf, countsAt}
+use Rattle.reading.specs.declared.Refusal.{Refusal}
+use Rattle.reading.specs.Read.{Cells}
+use Rattle.group.specs.Held.{refusalOf}
+use Rattle.group.specs.Text.{readAt}
+use Rattle.record.specs.Text.{recordText, recordBytes}
+use Rattle.rewriting.specs.declared.Rewriting.{Rewriting}
+use Rattle.rewriting.specs.declared.Rewriting.the-variants.{Done, Missing, NoRoom, Unread}
+
+-- ---- the groups in turn
+
+-- each group is read into a part of the table that has as many cells as it needs
+abbrev pub groupRead : List ℕ → ℕ → ℕ → Cells
+groupRead s at g = readAt s at g (cellsIn (countsAt s at) g)
+
+-- all cells in group order, or the first refusal with its group
+abbrev pub Turn : Type 0
+Turn = Got (ℕ × Refusal) ℤ
+
+abbrev pub onGroup : ℕ → Cells → Turn
+onGroup g (done cs) = done cs
+onGroup g (bad r) = bad (g, r)
+
+unfoldable pub inTurn : (ℕ → Cells) → List ℕ → Turn
+inTurn read [] = done []
+inTurn read (g ∷ gs) = both (onGroup g (read g)) (inTurn read gs)
+
+-- the cells of the groups before the first that is refused; all cells where none is
+abbrev pub firstThen : Cells → List ℤ → List ℤ
+firstThen (done cs) more = cs ++ more
+firstThen (bad r) more = []
+
+unfoldable pub cellsInTurn : (ℕ → Cells) → List ℕ → List ℤ
+cellsInTurn read [] = []
+cellsInTurn read (g ∷ gs) = firstThen (read g) (cellsInTurn read gs)
+
+abbrev pub allInTurn : List ℕ → ℕ → Turn
+allInTurn s at = inTurn (groupRead s at) (upFrom 1 60)
+
+abbrev pub cellsAt : List ℕ → ℕ → List ℤ
+cellsAt s at = cellsInTurn (groupRead s at) (upFrom 1 60)
+
+-- ---- the answer
+
+-- room for the canonical text and for all cells
+abbrev pub hasRoom : List ℕ → ℕ → ℕ → Bool
+hasRoom ns cells room = leb (recordBytes ns) room && leb (recordCells ns) cells
+
+abbrev pub rewrittenAs : List ℕ → ℕ → Turn → Rewriting
+rewrittenAs ns next (done cs) = Done (recordBytes ns) next
+rewrittenAs ns next (bad u) = Unread (u .0) (u .1)
+
+abbrev pub rewritingBy : List ℕ → ℕ → ℕ → ℕ → Placing → Rewriting
+rewritingBy s at cells room (P.Placed n) =
+    cond (hasRoom (countsAt s at) cells room) (rewrittenAs (countsAt s at) n (allInTurn s at)) NoRoom
+rewritingBy s at cells room P.End = Missing (refusalOf P.End)
+rewritingBy s at cells room P.Beyond = Missing (refusalOf P.Beyond)
+rewritingBy s at cells room P.TooFewLines = Missing (refusalOf P.TooFewLines)
+rewritingBy s at cells room P.Misformed = Missing (refusalOf P.Misformed)
+rewritingBy s at cells room P.OtherRelease = Missing (refusalOf P.OtherRelease)
+rewritingBy s at cells room (P.FilledVacant g) = Missing (refusalOf (P.FilledVacant g))
+rewritingBy s at cells room (P.BrokenRule g n) = Missing (refusalOf (P.BrokenRule g n))
+
+-- over a table of so many cells and a buffer of so many bytes
+unfoldable pub rewritingOf : List ℕ → ℕ → ℕ → ℕ → Rewriting
+rewritingOf s at cells room = rewritingBy s at cells room (placingOf s at)
+
+-- ---- what is lent, afterwards
+
+-- the canonical text of the record at a place
+abbrev pub textAt : List ℕ → ℕ → List ℕ
+textAt s at = recordText (countsAt s at) (cellsAt s at)
+
+-- "A refusal alters no byte of the buffer."
+abbrev pub bufferBy : List ℕ → ℕ → Rewriting → List ℕ → List ℕ
+bufferBy s at (Done n next) old = over 0 (textAt s at) old
+bufferBy s at (Missing r) old = old
+bufferBy s at NoRoom old = old
+bufferBy s at (Unread g r) old = old
+
+-- groups are read into consecutive parts of the table, up to the first that is refused
+abbrev pub tableBy : List ℕ → ℕ → Rewriting → List ℤ → List ℤ
+tableBy s at (Done n next) old = over 0 (cellsAt s at) old
+tableBy s at (Missing r) old = old
+tableBy s at NoRoom old = old
+tableBy s at (Unread g r) old = over 0 (cellsAt s at) old
