@@ -1,13 +1,13 @@
 -- First due: writing gives a reply exactly if that reply is due (specs/Due.antt).
 -- Assumes nothing.
 use mathlib.Core.Path.{_≡_, refl, sym, _∙_, ap, subst}
-use mathlib.Core.Bool.{Bool, true, false, cond, _&&_}
-use mathlib.Core.List.{List, [], _∷_, map}
+use mathlib.Core.Bool.{Bool, true, false, cond}
+use mathlib.Core.List.{List, map}
 use mathlib.Core.Logic.{_↔_}
 use Prim.Native.Nat.{ℕ, zero, suc, _+_, _<_, _≤_}
 use native.Mathlib.Omega.{arith}
 use borrow.Author.Tests.{eqb-true, eqb-false, eq-eqb, leb-true, leb-false, le-leb, lt-leb}
-use lib.Dec.{T, eqb, leb, leb→le, le→leb}
+use lib.Dec.{eqb, leb, leb→le, le→leb}
 use lib.IntN.{ℤ}
 use lib.ListN.{length, getD, take, drop}
 use Rattle.base.specs.Every.{every, upFrom}
@@ -17,15 +17,14 @@ use Rattle.base.proofs.Every.{every-at, at-every}
 use Rattle.form.specs.declared.Form.{Form}
 use Rattle.form.specs.declared.GroupForm.the-variants.{Has}
 use Rattle.form.specs.Table.{formOf}
-use Rattle.count.specs.Tally.{countOf, cellsIn, cellsBefore, recordCells}
+use Rattle.count.specs.Tally.{cellsIn, recordCells}
 use Rattle.count.specs.Check
-use Rattle.count.specs.Check.{wellFormed, byLength, byRules, byRelease, checkedOf}
+use Rattle.count.specs.Check.{wellFormed, byRules, byRelease, checkedOf}
 use Rattle.count.specs.Rules.{releaseOf, rulingOf}
 use Rattle.count.specs.declared.Release.{Release}
 use Rattle.count.specs.declared.Release.the-variants.{Five, Other, Filled}
 use Rattle.count.specs.declared.Ruling.{Ruling}
 use Rattle.count.specs.declared.Ruling.the-variants.{Kept, Broken}
-use Rattle.count.specs.declared.Checked.{Checked}
 use Rattle.count.specs.declared.Checked.the-variants as C
 use Rattle.count.proofs.Checks.{checked-misformed, checked-release, checked-filled, checked-broken, checked-right, checked-length}
 use Rattle.count.proofs.Releases.{release-other, release-five, release-filled, ReleaseIs, release-is}
@@ -41,9 +40,9 @@ use Rattle.record.specs.declared.Writing.the-variants.{Done, Misformed, 
 use Rattle.record.specs.Fitting.{groupFit, fitOf}
 use Rattle.record.specs.Text.{recordBytes}
 use Rattle.record.specs.Writing.{dateLetters, writeRoom, writeDated, writeFit, writeChecked, writingOf}
-use Rattle.record.specs.Due.{HasField, Element, elementCells, HasCounts, HasRelease, HasRules, HasCells, HasFields, HasDate, OtherFive, LowestFilled, Breaks, Differs, LowestNone, WrongDate, Short, Stands, Due}
-use Rattle.record.proofs.Fitting.{cells-before, group-fits, own-groups}
-use Rattle.record.proofs.Misfits.{FirstNot, first-found, found-first, groupFound, all-fields, fields-all, Lowest, found-none, none-found, groups-all}
+use Rattle.record.specs.Due.{HasField, Element, elementCells, HasCounts, HasRelease, HasRules, HasCells, HasFields, HasDate, LowestNone, Due}
+use Rattle.record.proofs.Fitting.{cells-before, group-fits}
+use Rattle.record.proofs.Misfits.{first-found, found-first, groupFound, all-fields, fields-all, Lowest, found-none, none-found, groups-all}
 
 module _ (ns : List ℕ) (cs : List ℤ) where
   -- ---- 4

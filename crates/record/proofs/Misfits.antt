@@ -3,7 +3,7 @@
 -- Assumes nothing.
 use mathlib.Core.Path.{_≡_, refl, sym, _∙_, ap, subst}
 use mathlib.Core.Bool.{Bool, true, false, cond}
-use mathlib.Core.List.{List, [], _∷_, map}
+use mathlib.Core.List.{List, map}
 use Prim.Native.Nat.{ℕ, zero, suc, _+_, _-_, _*_, _<_, _≤_}
 use native.Mathlib.Nat.{add-zero}
 use native.Mathlib.Omega.{arith}
@@ -19,11 +19,9 @@ use Rattle.base.proofs.Choice.{T-true, not-T-false}
 use Rattle.base.proofs.Taken.{drop-none}
 use Rattle.base.proofs.UpFrom.{sum-up-same, up-own}
 use Rattle.form.specs.declared.Form.{Form}
-use Rattle.form.specs.declared.GroupForm.{GroupForm}
-use Rattle.form.specs.declared.GroupForm.the-variants.{Has, NoGroup}
+use Rattle.form.specs.declared.GroupForm.the-variants.{Has}
 use Rattle.form.specs.Table.{rowOf, formOf}
-use Rattle.form.specs.Count.{elementsOf, cellsOf}
-use Rattle.form.proofs.Table.{no-group}
+use Rattle.form.specs.Count.{elementsOf}
 use Rattle.field.specs.Write.{fitsOf, fieldText}
 use Rattle.field.proofs.Laws.{lawful}
 use Rattle.count.specs.Tally.{countOf, cellsIn, cellsBefore}
@@ -63,11 +61,11 @@ module _ (size : ℕ → ℕ) (fit : ℕ → List ℤ → Fit) where
   pub first-found : (a n : ℕ) (cs : List ℤ) (g e : ℕ) → firstMisfit size fit (upFrom a n) cs ≡ Not g e → FirstNot a n cs g e
   unfolding firstMisfit Every.upFrom
   first-found a zero cs g e h = no-not h
-  first-found a (suc n) cs g e h = by (fit a (take (size a) cs)) refl h
+  first-found a (suc n) cs g e h = by (fit a (take (size a) cs)) refl h (first-found (suc a) n (drop (size a) cs) g e)
     where
-      by : (x : Fit) → fit a (take (size a) cs) ≡ x → firstOf x (firstMisfit size fit (upFrom (suc a) n) (drop (size a) cs)) ≡ Not g e → FirstNot a (suc n) cs g e
-      by All u v =
-          let r = first-found (suc a) n (drop (size a) cs) g e v in
+      by : (x : Fit) → fit a (take (size a) cs) ≡ x → firstOf x (firstMisfit size fit (upFrom (suc a) n) (drop (size a) cs)) ≡ Not g e → (firstMisfit size fit (upFrom (suc a) n) (drop (size a) cs) ≡ Not g e → FirstNot (suc a) n (drop (size a) cs) g e) → FirstNot a (suc n) cs g e
+      by All u v rest =
+          let r = rest v in
           record {
             at = suc (r .at);
             inside = omega (arith, r .inside);
@@ -78,18 +76,18 @@ module _ (size : ℕ → ℕ) (fit : ℕ → List ℤ → Fit) where
           before : (i : ℕ) {k : ℕ} → ((j : ℕ) → j < k → pieceAt (suc a) j (drop (size a) cs) ≡ All) → i < suc k → pieceAt a i cs ≡ All
           before zero f l = here a cs ∙ u
           before (suc i) f l = next a i cs ∙ f i (omega arith)
-      by (Not p q) u v = record { at = 0; inside = omega arith; earlier = λ i l. absurd (omega arith); told = here a cs ∙ u ∙ v }
+      by (Not p q) u v rest = record { at = 0; inside = omega arith; earlier = λ i l. absurd (omega arith); told = here a cs ∙ u ∙ v }
 
   pub found-first : (a n : ℕ) (cs : List ℤ) (g e : ℕ) → FirstNot a n cs g e → firstMisfit size fit (upFrom a n) cs ≡ Not g e
   unfolding firstMisfit Every.upFrom
   found-first a zero cs g e r = absurd (omega (arith, r .inside))
-  found-first a (suc n) cs g e r = by (r .at) (r .inside) (r .earlier) (r .told)
+  found-first a (suc n) cs g e r = by (r .at) (r .inside) (r .earlier) (r .told) (found-first (suc a) n (drop (size a) cs) g e)
     where
-      by : (k : ℕ) → k < suc n → ((i : ℕ) → i < k → pieceAt a i cs ≡ All) → pieceAt a k cs ≡ Not g e → firstOf (fit a (take (size a) cs)) (firstMisfit size fit (upFrom (suc a) n) (drop (size a) cs)) ≡ Not g e
-      by zero l f t = rw (sym (here a cs) ∙ t)
-      by (suc k) l f t =
+      by : (k : ℕ) → k < suc n → ((i : ℕ) → i < k → pieceAt a i cs ≡ All) → pieceAt a k cs ≡ Not g e → (FirstNot (suc a) n (drop (size a) cs) g e → firstMisfit size fit (upFrom (suc a) n) (drop (size a) cs) ≡ Not g e) → firstOf (fit a (take (size a) cs)) (firstMisfit size fit (upFrom (suc a) n) (drop (size a) cs)) ≡ Not g e
+      by zero l f t rest = rw (sym (here a cs) ∙ t)
+      by (suc k) l f t rest =
           rw (sym (here a cs) ∙ f 0 (omega arith))
-          (found-first (suc a) n (drop (size a) cs) g e record { at = k; inside = omega arith; earlier = λ i j. sym (next a i cs) ∙ f (suc i) (omega arith); told = sym (next a k cs) ∙ t })
+          (rest record { at = k; inside = omega arith; earlier = λ i j. sym (next a i cs) ∙ f (suc i) (omega arith); told = sym (next a k cs) ∙ t })
 
 -- ---- cells fit exactly if some field reads as them
 
