@@ -1,10 +1,18 @@
--- The laws of record's definitions, a file to a subject: when all cells fit (Fitting), and how long the texts are (Lengths); a canonical group
--- (CanonicalGroups), index (CanonicalIndex) and record (Canonical), and where it stands in a text (Standing) with each group's own cells
--- (GroupCells); that what is written is canonical (Written). What reply 0 says, of writing (Done) and of reading a group (GroupRead). What was
--- written reads back (ReadsBack); what reads fits (ReadFits), the counts of an index (IndexCounts), and what was read is written again
--- (ReadWrites). Record S (Instance) and the marked cases (Cases).
+-- The laws of record's definitions, a file to a subject: when all cells fit (Fitting), and how long the texts are (Lengths); the two
+-- passes of writing (Checking, Putting), the letters of group 3 (Letters), each answer (Steps), what is promised of them (Promises), and when
+-- each is due (Misfits, Due); a canonical group (CanonicalGroups), index (CanonicalIndex) and record (Canonical), and where it stands in a text
+-- (Standing) with each group's own cells (GroupCells); that what is written is canonical (Written). What reply 0 says, of writing (Done) and
+-- of reading a group (GroupRead). What was written reads back (ReadsBack); what reads fits (ReadFits), the counts of an index (IndexCounts),
+-- and what was read is written again (ReadWrites). Record S (Instance) and the marked cases (Cases).
 pub mod Fitting
 pub mod Lengths
+pub mod Checking
+pub mod Putting
+pub mod Letters
+pub mod Steps
+pub mod Promises
+pub mod Misfits
+pub mod Due
 pub mod CanonicalGroups
 pub mod CanonicalIndex
 pub mod Canonical
@@ -19,7 +27,3 @@ pub mod IndexCounts
 pub mod ReadWrites
 pub mod Instance
 pub mod Cases
-pub mod Checking
-pub mod Putting
-pub mod Letters
-pub mod Steps

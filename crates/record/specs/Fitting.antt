@@ -1,5 +1,5 @@
 -- "13 (lowest group, then lowest element)": the first element of a record whose cells fit no field of its form.
-use mathlib.Core.Bool.{Bool, cond}
+use mathlib.Core.Bool.{cond}
 use mathlib.Core.List.{List, [], _∷_}
 use Prim.Native.Nat.{ℕ, _*_, _<_}
 use lib.Dec.{T}

@@ -13,7 +13,7 @@ ghost use Rattle.form.specs.Table.{rowOf};
 ghost use Rattle.form.specs.Count.{elementsOf, cellsOf};
 ghost use Rattle.field.specs.Write.{isLetter, fitsOf, fieldText};
 ghost use Rattle.count.specs.Check.{checkedOf};
-ghost use Rattle.count.specs.Tally.{countOf, cellsBefore};
+ghost use Rattle.count.specs.Tally.{cellsBefore};
 ghost use Rattle.date.specs.Date.{datedOf};
 ghost use Rattle.record.specs.Fitting.{elementsFit, fitOf, Fitted};
 ghost use Rattle.record.specs.Text.{lineEnd, entriesText, indexText, lineOf, fieldsText, linesText, groupsText, bytesOf, recordBytes};
