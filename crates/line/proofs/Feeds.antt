@@ -1,6 +1,6 @@
 -- The number of line feeds: of texts behind one another, of one byte more, of equal line feeds.
 -- Assumes nothing.
-use mathlib.Core.Path.{_≡_, refl, sym, _∙_, ap}
+use mathlib.Core.Path.{_≡_, refl, sym, _∙_, ap, subst}
 use mathlib.Core.Bool.{Bool, true, false, cond}
 use mathlib.Core.List.{List, [], _∷_, _++_, map}
 use Prim.Native.Nat.{ℕ, suc, _+_, _≤_, _<_}
@@ -83,6 +83,9 @@ plain-left a b p = omega (arith, feeds-append a b)
 pub plain-right : (a b : List ℕ) → Plain (a ++ b) → Plain b
 unfolding Plain
 plain-right a b p = omega (arith, feeds-append a b)
+
+pub plain-take : (m : ℕ) (a : List ℕ) → Plain a → Plain (take m a)
+plain-take m a p = plain-left (take m a) (drop m a) (subst Plain (sym (take-append-drop m a)) p)
 
 -- told by its bytes, both ways
 pub plain-if : (a : List ℕ) → ((i : ℕ) → i < length a → getD a i 0 ≡ 10 → ⊥) → Plain a

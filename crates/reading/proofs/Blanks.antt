@@ -16,7 +16,7 @@ use Rattle.base.specs.Ascii.{printable}
 use Rattle.base.specs.Every.{every}
 use Rattle.base.specs.Part.{part}
 use Rattle.base.proofs.Taken.{drop-none, take-none}
-use Rattle.base.proofs.Choice.{and-first, and-second, true-T, T-true}
+use Rattle.base.proofs.Choice.{cond-elim, and-first, and-second, true-T, T-true}
 use Rattle.base.proofs.Every.{every-at, at-every}
 use Rattle.form.specs.declared.Form.{Form}
 use Rattle.form.specs.declared.Form.the-variants.{F7, A120, A1, F8, I2, I3, I1, E11, E20, E8}
@@ -96,6 +96,11 @@ filled-getD n [] i = rw (filled-nil n) (blanks n i)
     blanks (suc n) (suc i) = blanks n i
 filled-getD n (x ∷ s) zero = rw (filled-cons n x s)
 filled-getD n (x ∷ s) (suc i) = rw (filled-cons n x s) (filled-getD (n - 1) s i)
+
+-- ---- the least length
+
+pub shortest-most : (f : Form) (columns : ℕ) → shortest f columns ≤ columns
+shortest-most f columns = cond-elim (λ n. n ≤ columns) (mayBeShort f) (λ e. omega arith) (λ e. omega arith)
 
 -- ---- a field, filled
 

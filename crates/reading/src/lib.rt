@@ -330,7 +330,8 @@ fn fill_lines(form: Form, count: u16, lines: &[u8], table: &mut [i64])
     let mut j: usize = 0;
     while j < many {
         let k = base::lesser(per_line, left);
-        let end = line::behind_or_end(lines, at, 1);
+        // no line feed stands in the columns of these fields; a line of A120 may end anywhere, so its bytes are looked at twice
+        let end = line::behind_or_end(lines, at + least(form, k * width), 1);
         // a clean line has a content, so this is never taken
         let line::Content::Length(n) = content_at(lines, at, end) else {
             return;
