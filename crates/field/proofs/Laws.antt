@@ -31,7 +31,7 @@ use Rattle.number.proofs.GrammarF.{f-read, read-f}
 use Rattle.number.proofs.GrammarE.{e-read, read-e}
 use Rattle.number.proofs.Unique.{i-unique, f-unique, e-unique}
 use Rattle.number.proofs.Fits.{i-canonical, i-within, f-canonical, f-within, e-canonical, e-within}
-use Rattle.number.proofs.Text.{i-length, f-length, e-length, i-printable, f-printable, e-printable, canonical-i, canonical-f, canonical-e}
+use Rattle.number.proofs.Text.{i-length, f-length, e-length, i-printable, f-printable, e-printable, i-prints, f-prints, e-prints, canonical-i, canonical-f, canonical-e}
 use Rattle.field.specs.declared.Kind.{Kind}
 use Rattle.field.specs.declared.Kind.the-variants.{Whole, Fixed, Power, OneLetter, AllLetters}
 use Rattle.field.specs.declared.Value.{Value}
@@ -242,9 +242,18 @@ text-plain (Power c d x p q) cs h = e-printable c d x (cellAt cs 0) (cellAt cs 1
 text-plain OneLetter cs h = cells-bytes cs h
 text-plain (AllLetters w) cs h = cells-bytes cs h
 
+-- ---- each byte of what reads prints
+
+shape-prints : (k : Kind) (s : List ℕ) (cs : List ℤ) → ShapeOf k s cs → T (every printable s)
+shape-prints (Whole w low high) s cs h = i-prints s (h .cell) (h .holds)
+shape-prints (Fixed w low high) s cs h = f-prints s (h .cell) (h .holds)
+shape-prints (Power c d x p q) s cs h = e-prints c d x s (h .first) (h .second) (h .holds)
+shape-prints OneLetter s cs h = letters-printable s (h .letters)
+shape-prints (AllLetters w) s cs h = letters-printable s (h .letters)
+
 -- ---- of every form
 
-good-width : (f : Form) (s : List ℕ) → T (formed (fieldOf f s)) → length s ≡ rowOf f .width
+pub good-width : (f : Form) (s : List ℕ) → T (formed (fieldOf f s)) → length s ≡ rowOf f .width
 unfolding fieldOf
 good-width f s t = by (eqb (length s) (rowOf f .width)) refl t
   where
@@ -298,6 +307,9 @@ module _ (f : Form) where
 
   back : (cs : List ℤ) → T (fitsOf f cs) → Reads f (fieldText f cs) cs
   back cs t = is-reads (fieldText f cs) cs (canonical-is (fieldText f cs) cs (canonical cs t))
+
+  pub good-prints : (s : List ℕ) → T (formed (fieldOf f s)) → T (every printable s)
+  good-prints s t = shape-prints (kindOf f) s (cellsIn s (fieldOf f s)) (reads-is s (cellsIn s (fieldOf f s)) record { good = t; cells = refl } .shape)
 
 pub lawful : (f : Form) → Lawful f
 lawful f =

@@ -8,14 +8,15 @@ use Prim.Native.Nat.{ℕ, suc, _+_, _-_, _<_, _≤_}
 use native.Mathlib.Omega.{arith}
 use lib.Dec.{eqb}
 use lib.ListN.{length, take, drop, getD, length-append, drop-of-length-le, take-append-drop}
-use lib.Seq.{take-append-seam, drop-append-seam, drop-cons, length-take-le}
+use lib.Seq.{take-append-seam, drop-append-seam, drop-cons, length-take-le, take-take}
 use borrow.Author.Tests.{eq-eqb, ne-eqb, eqb-true}
-use Rattle.line.specs.Lines.{feeds, Whole, Plain}
+use Rattle.line.specs.Lines.{feeds, reach, lines, Whole, Plain}
 use Rattle.line.specs.Contents.{HasContent, isReturnFeed, contentOf}
 use Rattle.line.specs.declared.Content.{Content}
 use Rattle.line.specs.declared.Content.the-variants.{Length, NoReturn}
-use Rattle.line.proofs.Feeds.{feeds-append, plain-nil, plain-cons, plain-append}
-use Rattle.line.proofs.Whole.{whole-line}
+use Rattle.line.proofs.Feeds.{feeds-append, feeds-cut, plain-nil, plain-cons, plain-append}
+use Rattle.line.proofs.Reach.{length-lines}
+use Rattle.line.proofs.Whole.{whole-line, whole-lines}
 
 -- the content of a, carriage return, line feed is a
 pub content-is : (x a : List ℕ) → HasContent x a → contentOf x ≡ Length (length a)
@@ -74,6 +75,14 @@ content-line a p =
 pub content-plain : (x a : List ℕ) → Whole 1 x → HasContent x a → Plain a
 unfolding Plain
 content-plain x a u h = omega (arith, u .many, ap feeds h, feeds-append a (13 ∷ 10 ∷ []), content-line [] plain-nil .many)
+
+-- the content of a text's first line has no line feed
+pub first-plain : (xs : List ℕ) (n : ℕ) → contentOf (lines 1 xs) ≡ Length n → Plain (take n xs)
+first-plain xs n e =
+    let h = is-content (lines 1 xs) n e in
+    let a = take n (lines 1 xs) in
+    let f : 1 ≤ feeds xs = omega (arith, feeds-cut (reach xs 1) xs, ap feeds (h .0), feeds-append a (13 ∷ 10 ∷ []), content-line [] plain-nil .many) in
+    subst Plain (take-take n (reach xs 1) xs (omega (arith, content-two (lines 1 xs) n e, length-lines xs 1))) (content-plain (lines 1 xs) a (whole-lines xs 1 f) (h .0))
 
 -- no content
 pub none-is : (x a : List ℕ) → contentOf x ≡ NoReturn → HasContent x a → ⊥

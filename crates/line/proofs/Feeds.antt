@@ -1,6 +1,6 @@
--- The number of line feeds: of texts behind one another, of one byte more, of equal line feeds.
+-- The number of line feeds: of texts behind one another, of one byte more, of equal line feeds; none in a text that prints.
 -- Assumes nothing.
-use mathlib.Core.Path.{_≡_, refl, sym, _∙_, ap}
+use mathlib.Core.Path.{_≡_, refl, sym, _∙_, ap, subst}
 use mathlib.Core.Bool.{Bool, true, false, cond}
 use mathlib.Core.List.{List, [], _∷_, _++_, map}
 use Prim.Native.Nat.{ℕ, suc, _+_, _≤_, _<_}
@@ -9,6 +9,11 @@ use native.Mathlib.Nat.{zero-add}
 use lib.ListN.{length, take, drop, getD, take-append-drop}
 use lib.Seq.{drop-cons}
 use borrow.Author.Tests.{eq-eqb, ne-eqb}
+use lib.Dec.{T, leb, leb→le}
+use Rattle.base.specs.Ascii.{printable}
+use Rattle.base.specs.Every.{every}
+use Rattle.base.proofs.Choice.{and-left}
+use Rattle.base.proofs.Every.{every-at}
 use Rattle.line.specs.Lines.{isFeed, feeds, Plain}
 
 pub feeds-append : (a b : List ℕ) → feeds (a ++ b) ≡ feeds a + feeds b
@@ -84,6 +89,9 @@ pub plain-right : (a b : List ℕ) → Plain (a ++ b) → Plain b
 unfolding Plain
 plain-right a b p = omega (arith, feeds-append a b)
 
+pub plain-take : (m : ℕ) (a : List ℕ) → Plain a → Plain (take m a)
+plain-take m a p = plain-left (take m a) (drop m a) (subst Plain (sym (take-append-drop m a)) p)
+
 -- told by its bytes, both ways
 pub plain-if : (a : List ℕ) → ((i : ℕ) → i < length a → getD a i 0 ≡ 10 → ⊥) → Plain a
 plain-if [] n = plain-nil
@@ -92,3 +100,11 @@ plain-if (x ∷ a) n = plain-cons x a (n 0 (omega arith)) (plain-if a (λ i l. n
 pub plain-only-if : (a : List ℕ) (i : ℕ) → Plain a → i < length a → getD a i 0 ≡ 10 → ⊥
 unfolding Plain
 plain-only-if a i p h e = omega (arith, feeds-cut i a, feeds-drop-feed a i h e)
+
+-- a line feed does not print
+pub printable-plain : (s : List ℕ) → T (every printable s) → Plain s
+printable-plain s t =
+    plain-if s (λ i h e.
+    let p : T (printable (getD s i 0)) = every-at printable 0 s t i h in
+    let l : 32 ≤ getD s i 0 = leb→le 32 (getD s i 0) (and-left (leb 32 (getD s i 0)) (leb (getD s i 0) 126) p) in
+    omega arith)

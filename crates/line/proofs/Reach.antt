@@ -1,4 +1,5 @@
--- How many bytes the first k lines take: lines behind one another, more lines, bytes added behind them, equal line feeds.
+-- How many bytes the first k lines take: lines behind one another, more lines, bytes added behind them or in front of them, equal line
+-- feeds.
 -- Assumes nothing.
 use mathlib.Core.Path.{_≡_, refl, sym, _∙_, ap}
 use mathlib.Core.Bool.{Bool, true, false, cond}
@@ -6,10 +7,11 @@ use mathlib.Core.List.{List, [], _∷_, _++_, map}
 use Prim.Native.Nat.{ℕ, zero, suc, _+_, _-_, _<_, _≤_}
 use native.Mathlib.Omega.{arith}
 use native.Mathlib.Nat.{suc-add, zero-add}
-use lib.ListN.{length, drop, getD, take-append-drop}
+use lib.ListN.{length, drop, getD, length-drop, take-append-drop}
 use lib.Seq.{drop-cons, drop-drop, length-take-le, take-append-le, drop-append-le}
 use borrow.Author.Tests.{eq-eqb, ne-eqb}
-use Rattle.line.specs.Lines.{isFeed, feeds, reach, lines, behind}
+use Rattle.base.specs.Part.{part}
+use Rattle.line.specs.Lines.{isFeed, feeds, reach, lines, behind, Plain}
 use Rattle.line.proofs.Feeds.{feeds-append, feeds-le}
 
 pub reach-zero : (a : List ℕ) → reach a 0 ≡ 0
@@ -126,3 +128,24 @@ reach-drop-feed s i k h e = rw (drop-cons s i 0 h, eq-eqb (getD s i 0) 10 e)
 pub reach-drop-other : (s : List ℕ) (i k : ℕ) → i < length s → (getD s i 0 ≡ 10 → ⊥) → reach (drop i s) (suc k) ≡ suc (reach (drop (suc i) s) (suc k))
 unfolding reach
 reach-drop-other s i k h n = rw (drop-cons s i 0 h, ne-eqb (getD s i 0) 10 n)
+
+-- bytes without a line feed in front belong to the first line
+reach-plain : (a b : List ℕ) (k : ℕ) → feeds a ≡ 0 → reach (a ++ b) (suc k) ≡ length a + reach b (suc k)
+unfolding feeds reach
+reach-plain [] b k h = sym (zero-add (reach b (suc k)))
+reach-plain (x ∷ a) b k h = one (isFeed x) h (reach-plain a b k)
+  where
+    one : (c : Bool) → cond c (suc (feeds a)) (feeds a) ≡ 0 → (feeds a ≡ 0 → reach (a ++ b) (suc k) ≡ length a + reach b (suc k)) → suc (reach (a ++ b) (cond c k (suc k))) ≡ suc (length a) + reach b (suc k)
+    one true e r = absurd (omega arith)
+    one false e r = omega (arith, r e)
+
+-- so a line's end may be sought behind them
+pub reach-past : (s : List ℕ) (at to k : ℕ) → at ≤ to → to ≤ length s → Plain (part at to s) → to + reach (drop to s) (suc k) ≡ at + reach (drop at s) (suc k)
+unfolding Plain
+reach-past s at to k h l p =
+    let m = to - at in
+    let e : at + m ≡ to = omega arith in
+    let d : drop m (drop at s) ≡ drop to s = drop-drop m at s ∙ ap (λ n. drop n s) e in
+    let n : length (part at to s) ≡ m = length-take-le m (drop at s) (omega (arith, length-drop at s)) in
+    let r : reach (drop at s) (suc k) ≡ length (part at to s) + reach (drop m (drop at s)) (suc k) = ap (λ (y : List ℕ). reach y (suc k)) (sym (take-append-drop m (drop at s))) ∙ reach-plain (part at to s) (drop m (drop at s)) k p in
+    omega (arith, r, n, ap (λ y. reach y (suc k)) d)

@@ -1,17 +1,17 @@
--- The text that is written: its length, its bytes, and that a canonical text is a field.
+-- The text that is written: its length, its bytes, and that a canonical text is a field; the bytes of any field.
 -- Assumes nothing.
-use mathlib.Core.Path.{_≡_, refl, sym, ap, ap₂, _∙_}
+use mathlib.Core.Path.{_≡_, refl, sym, ap, ap₂, _∙_, subst}
 use mathlib.Core.Bool.{Bool, true, false, cond}
-use mathlib.Core.List.{List, _∷_, _++_}
-use Prim.Native.Nat.{ℕ, suc, _+_, _-_, _/_, _%_, _≤_}
+use mathlib.Core.List.{List, [], _∷_, _++_}
+use Prim.Native.Nat.{ℕ, zero, suc, _+_, _-_, _/_, _%_, _≤_}
 use native.Mathlib.Omega.{arith}
 use lib.Dec.{T, leb, eqb, le→leb}
 use lib.IntN.{ℤ}
-use lib.ListN.{length, length-append}
+use lib.ListN.{length, replicate, length-append}
 use Rattle.base.specs.Ascii.{printable}
 use Rattle.base.specs.Every.{every}
 use Rattle.base.specs.Sign.{ofSign, negative, sizeOf}
-use Rattle.base.specs.Digits.{numberOf}
+use Rattle.base.specs.Digits.{AllDigits, numberOf, digitText}
 use Rattle.base.proofs.Choice.{and-both}
 use Rattle.base.proofs.Columns.{columns-length}
 use Rattle.base.proofs.Digits.{lean-some}
@@ -19,8 +19,8 @@ use Rattle.base.proofs.Every.{every-append, columns-every}
 use Rattle.number.specs.declared.Scan.{Scan}
 use Rattle.number.specs.declared.Scan.the-variants.{Blanks, Signed, Digits, Broken}
 use Rattle.number.specs.Write.{lastOf, backOf, textOf, stateOf, leadState, textI, textF, textE}
-use Rattle.number.specs.Grammar.{IsI, IsF, IsE, leadMinus, signByte}
-use Rattle.number.specs.Grammar.Lead.{minus, minusNought}
+use Rattle.number.specs.Grammar.{IsI, IsF, IsE, Lead, minusOf, leadText, leadMinus, signByte}
+use Rattle.number.specs.Grammar.Lead.{nought, minusNought, bare, minus}
 use Rattle.number.specs.Canonical.{CanonicalI, CanonicalF, CanonicalE, dueLead}
 
 -- ---- lengths
@@ -116,3 +116,49 @@ canonical-e c d x s m e i =
       first = i .first ∙ ap (λ g. ofSign g (numberOf (i .digits))) (sym (due-minus c (i .sign)));
       second = i .second;
     }
+
+-- ---- each byte of a field prints, canonical or not
+
+abbrev Prints : List ℕ → Type 0
+Prints s = T (every printable s)
+
+behind : (xs ys : List ℕ) → Prints xs → Prints ys → Prints (xs ++ ys)
+behind xs ys p q = every-append printable xs ys p q
+
+blanks-print : (k : ℕ) → Prints (replicate k 32)
+blanks-print zero = tt
+blanks-print (suc k) = blanks-print k
+
+minus-prints : (g : Bool) → Prints (minusOf g)
+minus-prints true = tt
+minus-prints false = tt
+
+lead-prints : (l : Lead) → Prints (leadText l)
+lead-prints nought = tt
+lead-prints minusNought = tt
+lead-prints bare = tt
+lead-prints minus = tt
+
+digits-print : (ds : List ℕ) → AllDigits ds → Prints (digitText ds)
+digits-print [] h = tt
+digits-print (d ∷ ds) h = and-both (printable (48 + d)) (every printable (digitText ds)) (between (48 + d) (omega arith) (omega (arith, h .0))) (digits-print ds (h .1))
+
+pub i-prints : (s : List ℕ) (z : ℤ) → IsI s z → T (every printable s)
+i-prints s z i =
+    let rest = minusOf (i .minus) ++ digitText (i .digits) in
+    subst Prints (sym (i .text)) (behind (replicate (i .blanks) 32) rest (blanks-print (i .blanks)) (behind (minusOf (i .minus)) (digitText (i .digits)) (minus-prints (i .minus)) (digits-print (i .digits) (i .each))))
+
+pub f-prints : (s : List ℕ) (z : ℤ) → IsF s z → T (every printable s)
+f-prints s z i =
+    let tail = digitText (i .units) ++ (46 ∷ digitText (i .thousandths)) in
+    let t : Prints tail = behind (digitText (i .units)) (46 ∷ digitText (i .thousandths)) (digits-print (i .units) (i .each)) (digits-print (i .thousandths) (i .every)) in
+    subst Prints (sym (i .text)) (behind (replicate (i .blanks) 32) (minusOf (i .minus) ++ tail) (blanks-print (i .blanks)) (behind (minusOf (i .minus)) tail (minus-prints (i .minus)) t))
+
+pub e-prints : (c d x : ℕ) (s : List ℕ) (m e : ℤ) → IsE c d x s m e → T (every printable s)
+e-prints c d x s m e i =
+    let exponent = signByte (i .down) ∷ digitText (i .exponent) in
+    let tail = digitText (i .digits) ++ (69 ∷ exponent) in
+    let u : Prints exponent = and-both (printable (signByte (i .down))) (every printable (digitText (i .exponent))) (sign-printable (i .down)) (digits-print (i .exponent) (i .every)) in
+    let t : Prints tail = behind (digitText (i .digits)) (69 ∷ exponent) (digits-print (i .digits) (i .each)) u in
+    let h : Prints (replicate (i .blanks) 32 ++ leadText (i .lead)) = behind (replicate (i .blanks) 32) (leadText (i .lead)) (blanks-print (i .blanks)) (lead-prints (i .lead)) in
+    subst Prints (sym (i .text)) (behind (replicate (i .blanks) 32 ++ leadText (i .lead)) (46 ∷ tail) h t)

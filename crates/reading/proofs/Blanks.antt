@@ -16,7 +16,7 @@ use Rattle.base.specs.Ascii.{printable}
 use Rattle.base.specs.Every.{every}
 use Rattle.base.specs.Part.{part}
 use Rattle.base.proofs.Taken.{drop-none, take-none}
-use Rattle.base.proofs.Choice.{and-first, and-second, true-T, T-true}
+use Rattle.base.proofs.Choice.{cond-elim, and-first, and-second, true-T, T-true}
 use Rattle.base.proofs.Every.{every-at, at-every}
 use Rattle.form.specs.declared.Form.{Form}
 use Rattle.form.specs.declared.Form.the-variants.{F7, A120, A1, F8, I2, I3, I1, E11, E20, E8}
@@ -25,7 +25,7 @@ use Rattle.form.specs.Table.{rowOf}
 use Rattle.field.specs.Read
 use Rattle.field.specs.Read.{fieldOf, formed}
 use Rattle.field.specs.declared.Value.the-variants.{Letters, Misformed}
-use Rattle.reading.specs.Blanks.{blank, mayBeShort, shortest, filledTo, isRight, Fits}
+use Rattle.reading.specs.Blanks.{blank, mayBeShort, shortest, filledTo, isRight, asField, Fits}
 use Rattle.reading.specs.Values.{RightContent}
 
 -- ---- filling
@@ -97,15 +97,20 @@ filled-getD n [] i = rw (filled-nil n) (blanks n i)
 filled-getD n (x ∷ s) zero = rw (filled-cons n x s)
 filled-getD n (x ∷ s) (suc i) = rw (filled-cons n x s) (filled-getD (n - 1) s i)
 
+-- ---- the least length
+
+pub shortest-most : (f : Form) (columns : ℕ) → shortest f columns ≤ columns
+shortest-most f columns = cond-elim (λ n. n ≤ columns) (mayBeShort f) (λ e. omega arith) (λ e. omega arith)
+
 -- ---- a field, filled
 
 not-short : {A : Type 0} → false ≡ true → A
 not-short e = absurd (false≢true e)
 
 -- a form whose lines may be short is of letters only
-pub short-field : (f : Form) (s : List ℕ) → mayBeShort f ≡ true → Fits f (length s) → every printable s ≡ formed (fieldOf f (filledTo (rowOf f .width) s))
+pub short-field : (f : Form) (s : List ℕ) → mayBeShort f ≡ true → length s ≤ rowOf f .width → every printable s ≡ formed (fieldOf f (asField f s))
 unfolding Read.fieldOf Table.rowOf Table.entryOf
-short-field A120 s e h = sym (filled-printable 120 s) ∙ rw (eq-eqb (length (filledTo 120 s)) 120 (filled-length 120 s (h .high))) (test (every printable (filledTo 120 s)))
+short-field A120 s e h = sym (filled-printable 120 s) ∙ rw (eq-eqb (length (filledTo 120 s)) 120 (filled-length 120 s h)) (test (every printable (filledTo 120 s)))
   where
     test : (t : Bool) → t ≡ formed (cond t Letters Misformed)
     test true = refl
@@ -123,6 +128,16 @@ short-field E8 s e h = not-short e
 -- the others are not filled
 pub full-field : (f : Form) (s : List ℕ) → mayBeShort f ≡ false → Fits f (length s) → filledTo (rowOf f .width) s ≡ s
 full-field f s e h = filled-enough (rowOf f .width) s (rw e at (h .low))
+
+pub as-whole : (f : Form) (s : List ℕ) → mayBeShort f ≡ false → asField f s ≡ s
+as-whole f s e = rw e refl
+
+pub as-filled : (f : Form) (s : List ℕ) → Fits f (length s) → asField f s ≡ filledTo (rowOf f .width) s
+as-filled f s h = by (mayBeShort f) refl
+  where
+    by : (t : Bool) → mayBeShort f ≡ t → asField f s ≡ filledTo (rowOf f .width) s
+    by true e = rw e refl
+    by false e = as-whole f s e ∙ sym (full-field f s e h)
 
 -- ---- a content that is right
 

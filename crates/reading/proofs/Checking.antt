@@ -24,12 +24,13 @@ use Rattle.field.specs.Read.{fieldOf, formed}
 use Rattle.line.specs.Lines.{reach}
 use Rattle.line.specs.declared.Content.the-variants.{Length, NoReturn}
 use Rattle.line.proofs.Reach.{reach-le}
-use Rattle.reading.specs.Blanks.{filledTo, rightContent, Fits}
+use Rattle.reading.specs.Blanks.{shortest, filledTo, rightContent, Fits}
 use Rattle.reading.specs.Plan.{Line, lineAt, planFrom, planOf}
 use Rattle.reading.specs.declared.Refusal.{Refusal}
 use Rattle.reading.specs.declared.Refusal.the-variants.{BadLine, BadField}
 use Rattle.reading.specs.declared.Verdict.the-variants.{Clean, Bad}
 use Rattle.reading.specs.Read.{Cells, readField, readFields, columnsOf, readLine, readLinesOf, readLines, verdictOf}
+use Rattle.reading.proofs.Blanks.{shortest-most}
 use Rattle.reading.proofs.Lines.{line-right, line-wrong}
 use Rattle.reading.proofs.Fields.{restOf, lineText, fields-start, fields-more, fields-none, line-ends, piece, piece-range}
 
@@ -116,6 +117,9 @@ module _ (f : Form) (count : ℕ) (s : List ℕ) {width perLine many left at j :
 
         narrow : width ≤ 120
         narrow = omega (arith, b .wide, width-few f)
+
+    pub seek-small : (m : ℕ) → m ≡ shortest f (k * width) → at + m ≤ length s + 120 * 120
+    seek-small m e = omega (arith, shortest-most f (k * width), columns-small, b .inside)
 
     pub end-range : (at ≤ end) × (end ≤ length s)
     end-range = (omega arith, omega (arith, reach-le (drop at s) 1, length-drop at s, b .inside))

@@ -1,4 +1,5 @@
--- The fields of a line, one after the other: the bytes that the code lends for field i are that field, filled with blanks; one field more.
+-- The fields of a line, one after the other: the bytes that the code lends for field i are that field, filled with blanks; one field more;
+-- the line's end, sought from within its content.
 -- Assumes nothing.
 use mathlib.Core.Path.{_≡_, refl, sym, _∙_, ap, subst}
 use mathlib.Core.Bool.{Bool, true, false, false≢true}
@@ -7,7 +8,7 @@ use Prim.Native.Nat.{ℕ, suc, _+_, _-_, _*_, _<_, _≤_, min}
 use native.Mathlib.Nat.{add-mul, one-mul, mul-le-mul-right, zero-mul, add-zero, sub-zero}
 use native.Mathlib.Omega.{arith}
 use lib.ListN.{length, take, drop, length-take, length-drop}
-use lib.Seq.{drop-drop, length-take-le}
+use lib.Seq.{drop-drop, length-take-le, take-take}
 use Rattle.base.proofs.Taken.{drop-none, drop-take, take-both, part-begin}
 use Rattle.base.specs.Every.{upFrom}
 use Rattle.base.specs.Part.{part}
@@ -18,8 +19,11 @@ use Rattle.form.specs.declared.Form.{Form}
 use Rattle.form.specs.declared.Form.the-variants.{F7, A120, A1, F8, I2, I3, I1, E11, E20, E8}
 use Rattle.form.specs.Table
 use Rattle.form.specs.Table.{rowOf}
+use Rattle.line.specs.Lines.{reach, Plain}
 use Rattle.line.specs.declared.Content.the-variants.{Length}
-use Rattle.line.proofs.Contents.{content-two}
+use Rattle.line.proofs.Feeds.{plain-take}
+use Rattle.line.proofs.Reach.{reach-past}
+use Rattle.line.proofs.Contents.{content-two, first-plain}
 use Rattle.reading.specs.Blanks.{mayBeShort, shortest, filledTo, rightContent, Fits}
 use Rattle.reading.specs.Plan.{Line}
 use Rattle.reading.specs.Read.{readField, readFields, columnsOf}
@@ -90,8 +94,22 @@ module _ (f : Form) (l : Line) (s : List ℕ) (at end n : ℕ) (inside : end ≤
   content-long : length (part 0 n (part at end s)) ≡ n
   content-long = ap length content ∙ length-take-le n (drop at s) (omega (arith, line-ends, length-drop at s))
 
-  enough : shortest f (columnsOf f l) ≤ n
+  pub enough : shortest f (columnsOf f l) ≤ n
   enough = subst (λ m. shortest f (columnsOf f l) ≤ m) content-long (right-low f (columnsOf f l) (part 0 n (part at end s)) (right-is f (columnsOf f l) (part at end s) n e .right))
+
+  -- no line feed stands in the content, so the line's end may be sought from any place of it
+  pub end-from : end ≡ at + reach (drop at s) 1 → (m : ℕ) → m ≤ n → at + m + reach (drop (at + m) s) 1 ≡ at + reach (drop at s) 1
+  end-from w m h = reach-past s at (at + m) 0 (omega arith) (omega (arith, line-ends)) (subst Plain first (plain-take m (take n (drop at s)) plain))
+    where
+      plain : Plain (take n (drop at s))
+      plain =
+          let r : end - at ≡ reach (drop at s) 1 = omega arith in
+          first-plain (drop at s) n (rw r at (right-is f (columnsOf f l) (part at end s) n e .content))
+
+      first : take m (take n (drop at s)) ≡ part at (at + m) s
+      first =
+          let r : m ≡ at + m - at = omega arith in
+          take-take m n (drop at s) h ∙ ap (λ k. take k (drop at s)) r
 
   module _ (few : l .many ≤ rowOf f .«per_line») (i from to : ℕ) (h : i < l .many) (p : from ≡ at + i * w) (q : to ≡ min (from + w) (at + n)) where
     columns : i * w + w ≤ columnsOf f l

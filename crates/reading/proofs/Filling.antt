@@ -22,13 +22,13 @@ use Rattle.field.specs.Read.{fieldOf, formed, cellsIn, Reads}
 use Rattle.line.specs.Lines.{reach}
 use Rattle.line.specs.Contents.{contentOf}
 use Rattle.line.specs.declared.Content.the-variants.{Length, NoReturn}
-use Rattle.reading.specs.Blanks.{filledTo, isRight, rightContent, Fits}
+use Rattle.reading.specs.Blanks.{shortest, filledTo, isRight, rightContent, Fits}
 use Rattle.reading.specs.Plan.{Line, lineAt, planFrom, planOf}
 use Rattle.reading.specs.declared.Verdict.the-variants.{Clean}
 use Rattle.reading.specs.Read.{Cells, readField, readFields, columnsOf, readLine, readLinesOf, readLines, verdictOf}
 use Rattle.reading.proofs.Lines.{right-yes}
-use Rattle.reading.proofs.Fields.{restOf, lineText, fields-start, fields-more, fields-none, line-ends, piece, piece-range}
-use Rattle.reading.proofs.Checking.{Walking, line-more, lines-none, many-here, few-here, end-range, walking-next, width-few}
+use Rattle.reading.proofs.Fields.{restOf, lineText, fields-start, fields-more, fields-none, line-ends, enough, end-from, piece, piece-range}
+use Rattle.reading.proofs.Checking.{Walking, line-more, lines-none, many-here, columns-here, few-here, end-range, walking-next, width-few}
 use Rattle.reading.proofs.Sizes.{clean-read, field-done, reads-size, LineDone, line-done, group-size}
 
 done-same : {a b : List ℤ} → _≡_ {A = Cells} (done a) (done b) → a ≡ b
@@ -132,6 +132,14 @@ module _ (f : Form) (count : ℕ) (s : List ℕ) (old : List ℤ) (room : length
       let y = sym (here .content) ∙ e in
       let z : _≡_ {A = ℕ} 0 1 = cc in
       absurd (omega arith)
+
+  -- which is no shorter than the code takes it to be
+  pub end-behind : (m : ℕ) → m ≡ shortest f (k * width) → at + m + reach (drop (at + m) s) 1 ≡ at + reach (drop at s) 1
+  end-behind m e =
+      let r = right-yes f (columnsOf f l) (part at end s) (here .bytes) (here .content) (here .right) in
+      let i = end-range f count s (b .walk) k end q w .1 in
+      let n : m ≡ shortest f (columnsOf f l) = e ∙ ap (shortest f) (columns-here f count s (b .walk) k end q w) in
+      end-from f l s at end (here .bytes) i r w m (omega (arith, enough f l s at end (here .bytes) i r))
 
   module _ (m : ℕ) (e : contentOf (part at end s) ≡ Length m) where
     bytes : here .bytes ≡ m

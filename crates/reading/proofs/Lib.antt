@@ -3,6 +3,7 @@ pub mod Blanks
 pub mod Lines
 pub mod Fields
 pub mod Checking
+pub mod Trying
 pub mod Sizes
 pub mod Putting
 pub mod Filling

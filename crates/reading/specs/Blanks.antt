@@ -2,7 +2,7 @@
 -- to 120 bytes and reads as if filled with blanks to 120."
 use mathlib.Core.Bool.{Bool, true, false, cond, _&&_}
 use mathlib.Core.List.{List, _++_}
-use Prim.Native.Nat.{ℕ, _-_, _≤_}
+use Prim.Native.Nat.{ℕ, _+_, _-_, _≤_, min}
 use lib.Dec.{eqb, leb}
 use lib.ListN.{length, drop, replicate}
 use Rattle.base.specs.Every.{every}
@@ -10,6 +10,7 @@ use Rattle.base.specs.Part.{part}
 use Rattle.form.specs.declared.Form.{Form}
 use Rattle.form.specs.declared.Form.the-variants.{F7, A120, A1, F8, I2, I3, I1, E11, E20, E8}
 use Rattle.form.specs.Table.{rowOf}
+use Rattle.line.specs.Lines.{reach}
 use Rattle.line.specs.Contents.{contentOf}
 use Rattle.line.specs.declared.Content.{Content}
 use Rattle.line.specs.declared.Content.the-variants.{Length, NoReturn}
@@ -42,6 +43,10 @@ filledTo n s = s ++ replicate (n - length s) 32
 unfoldable pub isRight : Form → ℕ → List ℕ → Bool
 isRight f columns s = leb (shortest f columns) (length s) && (leb (length s) 120 && every blank (drop columns s))
 
+-- the field that bytes of a line are: they are filled with blanks only where lines may be short
+abbrev pub asField : Form → List ℕ → List ℕ
+asField f s = cond (mayBeShort f) (filledTo (rowOf f .width) s) s
+
 -- what may be lent as a field: the whole width, or less where lines may be short
 pub record Fits (f : Form) (n : ℕ) : Type 0 where
   pub low : shortest f (rowOf f .width) ≤ n
@@ -55,3 +60,14 @@ ifRight f columns x NoReturn = NoReturn
 
 unfoldable pub rightContent : Form → ℕ → List ℕ → Content
 rightContent f columns x = ifRight f columns x (contentOf x)
+
+-- ---- how far a line's fields are looked for before its end is known: over their columns, if there are so many bytes; a line that may be
+-- short has no length of its own, so its content is asked for first
+
+abbrev pub contentLong : Content → ℕ
+contentLong (Length n) = n
+contentLong NoReturn = 0
+
+unfoldable pub fieldsSpan : Form → ℕ → List ℕ → ℕ → ℕ
+fieldsSpan f columns s at =
+    cond (mayBeShort f) (contentLong (contentOf (part at (at + reach (drop at s) 1) s))) (min columns (length s - at))

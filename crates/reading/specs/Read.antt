@@ -59,6 +59,11 @@ readContent f l x (Length n) =
     cond (isRight f (columnsOf f l) (part 0 n x)) (readFields f l (filledTo (columnsOf f l) (part 0 n x))) (bad (BadLine (l .number)))
 readContent f l x NoReturn = bad (BadLine (l .number))
 
+-- what is blamed where a field of a line is misformed: the line itself, if it is not right
+abbrev pub misfitOf : ℕ → ℕ → Content → Refusal
+misfitOf line e (Length n) = BadField line e
+misfitOf line e NoReturn = BadLine line
+
 -- a line, with its line feed
 unfoldable pub readLine : Form → Line → List ℕ → Cells
 readLine f l x = readContent f l x (contentOf x)

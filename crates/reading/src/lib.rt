@@ -7,17 +7,18 @@ ghost use mathlib.Core.List.{map};
 ghost use Prim.Native.Nat.{_+_, _-_, _*_, _≤_};
 ghost use lib.Dec.{T};
 ghost use lib.IntN.{pos};
-ghost use lib.ListN.{length, getD};
+ghost use lib.ListN.{length, drop, getD};
 ghost use Rattle.base.specs.Every.{every};
 ghost use Rattle.base.specs.Part.{part, over};
 ghost use Rattle.base.specs.Pieces.{cellsGot};
 ghost use Rattle.form.specs.Table.{rowOf, formOf};
 ghost use Rattle.form.specs.Count.{cellsOf};
 ghost use Rattle.field.specs.Read.{fieldOf, formed, cellsIn};
+ghost use Rattle.line.specs.Lines.{reach};
 ghost use Rattle.line.specs.Contents.{contentOf};
-ghost use Rattle.reading.specs.Blanks.{blank, mayBeShort, shortest, filledTo, isRight, rightContent, Fits};
+ghost use Rattle.reading.specs.Blanks.{blank, mayBeShort, shortest, filledTo, isRight, asField, rightContent, fieldsSpan, Fits};
 ghost use Rattle.reading.specs.Numbered.{refusalReply, readingReply};
-ghost use Rattle.reading.specs.Read.{verdictOf, readLines, dated, readForm, readGroup, readingOf, tableBy};
+ghost use Rattle.reading.specs.Read.{verdictOf, misfitOf, readLines, dated, readForm, readGroup, readingOf, tableBy};
 
 // Why nothing is read; each variant is one of 01's replies.
 pub enum Refusal {
@@ -144,6 +145,13 @@ fn right_content_at(
     right_content(form, columns, &lines[from..to])
 }
 
+fn content_at(lines: &[u8], from: usize, to: usize) -> line::Content
+    requires { ⌜ (from ≤ to) × (to ≤ length (now lines)) ⌝ }
+    ensures { λ r. ⌜ r ≡ contentOf (part from to (now (lines .entry))) ⌝ }
+{
+    line::content_length(&lines[from..to])
+}
+
 // ---- Checking.
 
 fn is_formed(value: field::Value) -> bool
@@ -157,10 +165,10 @@ fn is_formed(value: field::Value) -> bool
     }
 }
 
-// Whether bytes, filled with blanks where they are short, are a field of the form.
+// Whether bytes of a line are a field of the form.
 fn is_field(form: Form, bytes: &[u8]) -> bool
-    requires { ⌜ Fits form (length (now bytes)) ⌝ }
-    ensures { λ r. ⌜ r ≡ formed (fieldOf form (filledTo (rowOf form .width) (now (bytes .entry)))) ⌝ }
+    requires { ⌜ length (now bytes) ≤ rowOf form .width ⌝ }
+    ensures { λ r. ⌜ r ≡ formed (fieldOf form (asField form (now (bytes .entry)))) ⌝ }
 {
     if may_be_short(form) {
         return field::all_printable(bytes);
@@ -169,13 +177,48 @@ fn is_field(form: Form, bytes: &[u8]) -> bool
 }
 
 fn is_field_at(form: Form, lines: &[u8], from: usize, to: usize) -> bool
-    requires { ⌜ (from ≤ to) × (to ≤ length (now lines)) × Fits form (to - from) ⌝ }
-    ensures { λ r. ⌜ r ≡ formed (fieldOf form (filledTo (rowOf form .width) (part from to (now (lines .entry))))) ⌝ }
+    requires { ⌜ (from ≤ to) × (to ≤ length (now lines)) × (to - from ≤ rowOf form .width) ⌝ }
+    ensures { λ r. ⌜ r ≡ formed (fieldOf form (asField form (part from to (now (lines .entry))))) ⌝ }
 {
     is_field(form, &lines[from..to])
 }
 
-// The first pass: each line's content, and then its fields, up to the first that is bad. It looks at no table.
+// Where the fields of a line are looked for no further, before its end is known. A line of A120 has no length of its own: its content is
+// asked for first, and its bytes are looked at twice.
+fn fields_stop(form: Form, columns: usize, lines: &[u8], at: usize) -> usize
+    requires { ⌜ at ≤ length (now lines) ⌝ }
+    ensures { λ r. ⌜ r ≡ at + fieldsSpan form columns (now (lines .entry)) at ⌝ }
+{
+    if may_be_short(form) {
+        let line::Content::Length(n) = content_at(lines, at, line::behind_or_end(lines, at, 1))
+        else {
+            return at;
+        };
+        return at + n;
+    }
+    at + base::lesser(columns, lines.len() - at)
+}
+
+// Which is blamed where a field is misformed: a line that is not right comes before its fields.
+fn misfit(
+    form: Form,
+    columns: usize,
+    lines: &[u8],
+    at: usize,
+    number: usize,
+    element: usize,
+) -> Refusal
+    requires { ⌜ at ≤ length (now lines) ⌝ }
+    ensures { λ r. ⌜ r ≡ misfitOf number element (rightContent form columns (part at (at + reach (drop at (now (lines .entry))) 1) (now (lines .entry)))) ⌝ }
+{
+    match right_content_at(form, columns, lines, at, line::behind_or_end(lines, at, 1)) {
+        line::Content::Length(_) => Refusal::BadField(number, element),
+        line::Content::NoReturn => Refusal::BadLine(number),
+    }
+}
+
+// The first pass: each line's fields, and then what stands behind them, up to the first line that is bad. It looks at no table. No line
+// feed stands in fields that are formed, so the line's end is sought behind them.
 fn check_lines(form: Form, count: u16, lines: &[u8]) -> Verdict
     ensures { λ r. ⌜ r ≡ verdictOf (readLines form count (now (lines .entry))) ⌝ }
 {
@@ -190,12 +233,7 @@ fn check_lines(form: Form, count: u16, lines: &[u8]) -> Verdict
     let mut j: usize = 0;
     'lines: while j < many {
         let k = base::lesser(per_line, left);
-        let end = line::behind_or_end(lines, at, 1);
-        let line::Content::Length(n) = right_content_at(form, k * width, lines, at, end) else {
-            verdict = Verdict::Bad(Refusal::BadLine(j + 1));
-            break 'lines;
-        };
-        let stop = at + n;
+        let stop = fields_stop(form, k * width, lines, at);
         let mut from = at;
         let mut i: usize = 0;
         while i < k {
@@ -203,10 +241,15 @@ fn check_lines(form: Form, count: u16, lines: &[u8]) -> Verdict
                 from += width;
                 i += 1;
             } else {
-                verdict = Verdict::Bad(Refusal::BadField(j + 1, element + i));
+                verdict = Verdict::Bad(misfit(form, k * width, lines, at, j + 1, element + i));
                 break 'lines;
             }
         }
+        let end = line::behind_or_end(lines, stop, 1);
+        let line::Content::Length(_) = right_content_at(form, k * width, lines, at, end) else {
+            verdict = Verdict::Bad(Refusal::BadLine(j + 1));
+            break 'lines;
+        };
         at = end;
         left -= k;
         element += per_line;
@@ -307,13 +350,6 @@ fn put_field_at(
     put_field(form, width, &lines[from..to], table, at);
 }
 
-fn content_at(lines: &[u8], from: usize, to: usize) -> line::Content
-    requires { ⌜ (from ≤ to) × (to ≤ length (now lines)) ⌝ }
-    ensures { λ r. ⌜ r ≡ contentOf (part from to (now (lines .entry))) ⌝ }
-{
-    line::content_length(&lines[from..to])
-}
-
 // The second pass: the cells of lines that were found clean.
 fn fill_lines(form: Form, count: u16, lines: &[u8], table: &mut [i64])
     requires { ⌜ (verdictOf (readLines form count (now lines)) ≡ Verdict.Clean) × (cellsOf form count ≤ length (now table)) ⌝ }
@@ -330,7 +366,8 @@ fn fill_lines(form: Form, count: u16, lines: &[u8], table: &mut [i64])
     let mut j: usize = 0;
     while j < many {
         let k = base::lesser(per_line, left);
-        let end = line::behind_or_end(lines, at, 1);
+        // no line feed stands in the columns of these fields; a line of A120 may end anywhere, so its bytes are looked at twice
+        let end = line::behind_or_end(lines, at + least(form, k * width), 1);
         // a clean line has a content, so this is never taken
         let line::Content::Length(n) = content_at(lines, at, end) else {
             return;
@@ -339,15 +376,8 @@ fn fill_lines(form: Form, count: u16, lines: &[u8], table: &mut [i64])
         let mut from = at;
         let mut i: usize = 0;
         while i < k {
-            put_field_at(
-                form,
-                width,
-                lines,
-                from,
-                base::lesser(from + width, stop),
-                table,
-                cell,
-            );
+            let to = base::lesser(from + width, stop);
+            put_field_at(form, width, lines, from, to, table, cell);
             from += width;
             cell += cells;
             i += 1;

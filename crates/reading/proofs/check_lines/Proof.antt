@@ -1,5 +1,5 @@
--- `reading::check_lines` meets its contract. The invariants (proofs/Checking.antt): the verdict on what is left, of the lines and of a line's
--- fields, is the verdict on all.
+-- `reading::check_lines` meets its contract. The invariants (proofs/Checking.antt, proofs/Trying.antt): the verdict on the lines that are left is the
+-- verdict on all; the fields of a line so far are formed.
 -- Assumes nothing.
 use borrow.Author.Needs.{needs}
 use native.Mathlib.Omega.{arith}
@@ -7,19 +7,18 @@ use mathlib.Core.Path.{_≡_, refl, sym, _∙_, ap}
 use Prim.Native.Nat.{_-_}
 use Rattle.form.specs.Table.{rowOf}
 use Rattle.form.specs.Count.{elementsOf}
-use Rattle.form.proofs.Rows.{row-fits}
 use Rattle.reading.specs.Plan.{lineAt}
 use Rattle.reading.specs.declared.Verdict.the-variants.{Clean}
-use Rattle.reading.proofs.Fields.{lineText}
-use Rattle.reading.proofs.Checking.{Checking, Fielding, walking-start, checking-start, checking-end, element-small, next-first, columns-small, width-few, end-range, wrong-line, content-inside, fielding-start, checking-next, from-small, field-range, fielding-next, wrong-field}
+use Rattle.reading.proofs.Checking.{Checking, walking-start, checking-start, checking-end, element-small, next-first, columns-small, width-few}
+use Rattle.reading.proofs.Trying.{Trying, trying-start, try-small, try-range, element-few, trying-next, trying-wrong, tried-range, tried-wrong, tried-next}
 use Rattle.reading.proofs.check_lines.Statement.{statement}
 use Rattle.reading.proofs.check_lines.Tie as tie
 
 abbrev Inv-loop : tie.InvT-loop
-Inv-loop form count lines width per-line many left verdict₀ at element j k end n stop from₀ i₀ verdict from i = (verdict ≡ Clean) × Fielding form (lineAt (rowOf form .«per_line») (elementsOf form count) j) (lineText form (lineAt (rowOf form .«per_line») (elementsOf form count) j) lines at end n) at i from
+Inv-loop form count lines width per-line many left verdict₀ at element j k stop from₀ i₀ verdict from i = (verdict ≡ Clean) × Trying form (lineAt (rowOf form .«per_line») (elementsOf form count) j) lines at stop i from
 
 abbrev μ-loop : tie.MeasureT-loop
-μ-loop form count lines width per-line many left verdict₀ at element j k end n stop from₀ i₀ verdict from i = k - i
+μ-loop form count lines width per-line many left verdict₀ at element j k stop from₀ i₀ verdict from i = k - i
 
 abbrev Inv-lines : tie.InvT-lines
 Inv-lines form count lines width per-line many left₀ verdict₀ at₀ element₀ j₀ left verdict at element j = (verdict ≡ Clean) × Checking form count lines width per-line many left at element j
@@ -42,41 +41,26 @@ lines-holds c = (refl, checking-start _ _ _ _ _ _ _ (walking-start _ _ _ _ _ _ _
 lesser-requires : tie.Need-lesser-requires Inv-loop μ-loop Inv-lines μ-lines
 lesser-requires c κs = search needs
 
-behind-or-end-requires : tie.Need-behind-or-end-requires Inv-loop μ-loop Inv-lines μ-lines
-behind-or-end-requires c κs = search needs
+mul-fields-stop : tie.Need-mul-fields-stop Inv-loop μ-loop Inv-lines μ-lines
+mul-fields-stop c = omega (arith, columns-small (c .before .before .before .before .before .before .before .args .form) (c .before .before .before .before .before .before .before .args .count) (c .before .before .before .before .before .before .before .args .lines .now) (c .before .before .lines .inv .1 .walk) (c .lesser .result) _ (c .lesser .ensures) refl)
 
-mul-right-content-at : tie.Need-mul-right-content-at Inv-loop μ-loop Inv-lines μ-lines
-mul-right-content-at c = omega (arith, columns-small (c .before .before .before .before .before .before .before .before .args .form) (c .before .before .before .before .before .before .before .before .args .count) (c .before .before .before .before .before .before .before .before .args .lines .now) (c .before .before .before .lines .inv .1 .walk) (c .before .lesser .result) (c .behind-or-end .result) (c .before .lesser .ensures) (c .behind-or-end .ensures))
-
-right-content-at-requires : tie.Need-right-content-at-requires Inv-loop μ-loop Inv-lines μ-lines
-right-content-at-requires c κs = end-range (c .before .before .before .before .before .before .before .before .args .form) (c .before .before .before .before .before .before .before .before .args .count) (c .before .before .before .before .before .before .before .before .args .lines .now) (c .before .before .before .lines .inv .1 .walk) (c .before .lesser .result) (c .behind-or-end .result) (c .before .lesser .ensures) (c .behind-or-end .ensures)
-
-enum-known-n : tie.Need-enum-known-n Inv-loop μ-loop Inv-lines μ-lines
-enum-known-n c = search needs
-
-enum-told : tie.Need-enum-told Inv-loop μ-loop Inv-lines μ-lines
-enum-told c = search needs
-
-add-t22 : tie.Need-add-t22 Inv-loop μ-loop Inv-lines μ-lines
-add-t22 c = search needs
-
-add-stop : tie.Need-add-stop Inv-loop μ-loop Inv-lines μ-lines
-add-stop c = omega (arith, content-inside (c .before .before .before .before .before .before .before .before .before .before .before .before .args .form) (c .before .before .before .before .before .before .before .before .before .before .before .before .args .count) (c .before .before .before .before .before .before .before .before .before .before .before .before .args .lines .now) (c .before .before .before .before .before .before .before .lines .inv .1) (c .before .before .before .before .before .before .lines-test .taken) (c .before .before .before .before .before .lesser .result) (c .before .before .before .before .behind-or-end .result) (c .before .before .before .before .before .lesser .ensures) (c .before .before .before .before .behind-or-end .ensures) (c .before .n .given .0 .0) (sym (c .before .before .before .right-content-at .ensures) ∙ c .before .n .given .1))
+fields-stop-requires : tie.Need-fields-stop-requires Inv-loop μ-loop Inv-lines μ-lines
+fields-stop-requires c κs = c .before .before .lines .inv .1 .walk .inside
 
 loop-holds : tie.Need-loop-holds Inv-loop μ-loop Inv-lines μ-lines
-loop-holds c = (c .before .before .before .before .before .before .before .lines .inv .0, fielding-start (c .before .before .before .before .before .before .before .before .before .before .before .before .args .form) (c .before .before .before .before .before .before .before .before .before .before .before .before .args .count) (c .before .before .before .before .before .before .before .before .before .before .before .before .args .lines .now) (c .before .before .before .before .before .before .before .lines .inv .1) (c .before .before .before .before .before .before .lines-test .taken) (c .before .before .before .before .before .lesser .result) (c .before .before .before .before .behind-or-end .result) (c .before .before .before .before .before .lesser .ensures) (c .before .before .before .before .behind-or-end .ensures) (c .before .n .given .0 .0) (sym (c .before .before .before .right-content-at .ensures) ∙ c .before .n .given .1))
+loop-holds c = (c .before .before .before .lines .inv .0, trying-start (c .before .before .before .before .before .before .before .before .args .form) (c .before .before .before .before .before .before .before .before .args .count) (c .before .before .before .before .before .before .before .before .args .lines .now) (c .before .before .before .lines .inv .1) (c .before .before .lines-test .taken) (c .before .lesser .result) (c .before .lesser .ensures) (c .fields-stop .result) (c .fields-stop .ensures))
 
 add-lesser : tie.Need-add-lesser Inv-loop μ-loop Inv-lines μ-lines
-add-lesser c = omega (arith, from-small (c .before .before .before .before .before .before .before .before .before .before .before .before .before .before .args .form) (c .before .before .before .before .before .before .before .before .before .before .before .before .before .before .args .count) (c .before .before .before .before .before .before .before .before .before .before .before .before .before .before .args .lines .now) (c .before .before .before .before .before .before .before .before .before .lines .inv .1) (c .before .before .before .before .before .before .before .before .lines-test .taken) (c .before .before .before .before .before .before .before .lesser .result) (c .before .before .before .before .before .before .behind-or-end .result) (c .before .before .before .before .before .before .before .lesser .ensures) (c .before .before .before .before .before .before .behind-or-end .ensures) (c .before .before .before .n .given .0 .0) (sym (c .before .before .before .before .before .right-content-at .ensures) ∙ c .before .before .before .n .given .1) (c .before .loop .inv .1), c .before .before .before .before .before .before .before .before .before .lines .inv .1 .walk .wide, width-few (c .before .before .before .before .before .before .before .before .before .before .before .before .before .before .args .form))
+add-lesser c = omega (arith, try-small (c .before .before .before .before .before .before .before .before .before .before .args .form) (c .before .before .before .before .before .before .before .before .before .before .args .count) (c .before .before .before .before .before .before .before .before .before .before .args .lines .now) (c .before .before .before .before .before .lines .inv .1) (c .before .before .before .before .lines-test .taken) (c .before .before .before .lesser .result) (c .before .before .before .lesser .ensures) (c .before .before .fields-stop .result) (c .before .before .fields-stop .ensures) (c .before .loop .inv .1), c .before .before .before .before .before .lines .inv .1 .walk .wide, width-few (c .before .before .before .before .before .before .before .before .before .before .args .form))
 
 lesser-requires-2 : tie.Need-lesser-requires-2 Inv-loop μ-loop Inv-lines μ-lines
 lesser-requires-2 c κs = search needs
 
 is-field-at-requires : tie.Need-is-field-at-requires Inv-loop μ-loop Inv-lines μ-lines
-is-field-at-requires c κs = field-range (c .before .before .before .before .before .before .before .before .before .before .before .before .before .before .before .args .form) (c .before .before .before .before .before .before .before .before .before .before .before .before .before .before .before .args .count) (c .before .before .before .before .before .before .before .before .before .before .before .before .before .before .before .args .lines .now) (c .before .before .before .before .before .before .before .before .before .before .lines .inv .1) (c .before .before .before .before .before .before .before .before .before .lines-test .taken) (c .before .before .before .before .before .before .before .before .lesser .result) (c .before .before .before .before .before .before .before .behind-or-end .result) (c .before .before .before .before .before .before .before .before .lesser .ensures) (c .before .before .before .before .before .before .before .behind-or-end .ensures) (c .before .before .before .before .n .given .0 .0) (sym (c .before .before .before .before .before .before .right-content-at .ensures) ∙ c .before .before .before .before .n .given .1) (c .before .before .loop .inv .1) (c .lesser2 .result) (c .before .loop-test .taken) (c .lesser2 .ensures)
+is-field-at-requires c κs = try-range (c .before .before .before .before .before .before .before .before .before .before .before .args .form) (c .before .before .before .before .before .before .before .before .before .before .before .args .count) (c .before .before .before .before .before .before .before .before .before .before .before .args .lines .now) (c .before .before .before .before .before .before .lines .inv .1) (c .before .before .before .before .before .lines-test .taken) (c .before .before .before .before .lesser .result) (c .before .before .before .before .lesser .ensures) (c .before .before .before .fields-stop .result) (c .before .before .before .fields-stop .ensures) (c .before .before .loop .inv .1) (c .lesser2 .result) (c .before .loop-test .taken) (c .lesser2 .ensures)
 
 add-from : tie.Need-add-from Inv-loop μ-loop Inv-lines μ-lines
-add-from c = omega (arith, from-small (c .before .before .before .before .before .before .before .before .before .before .before .before .before .before .before .before .before .args .form) (c .before .before .before .before .before .before .before .before .before .before .before .before .before .before .before .before .before .args .count) (c .before .before .before .before .before .before .before .before .before .before .before .before .before .before .before .before .before .args .lines .now) (c .before .before .before .before .before .before .before .before .before .before .before .before .lines .inv .1) (c .before .before .before .before .before .before .before .before .before .before .before .lines-test .taken) (c .before .before .before .before .before .before .before .before .before .before .lesser .result) (c .before .before .before .before .before .before .before .before .before .behind-or-end .result) (c .before .before .before .before .before .before .before .before .before .before .lesser .ensures) (c .before .before .before .before .before .before .before .before .before .behind-or-end .ensures) (c .before .before .before .before .before .before .n .given .0 .0) (sym (c .before .before .before .before .before .before .before .before .right-content-at .ensures) ∙ c .before .before .before .before .before .before .n .given .1) (c .before .before .before .before .loop .inv .1), c .before .before .before .before .before .before .before .before .before .before .before .before .lines .inv .1 .walk .wide, width-few (c .before .before .before .before .before .before .before .before .before .before .before .before .before .before .before .before .before .args .form))
+add-from c = omega (arith, try-small (c .before .before .before .before .before .before .before .before .before .before .before .before .before .args .form) (c .before .before .before .before .before .before .before .before .before .before .before .before .before .args .count) (c .before .before .before .before .before .before .before .before .before .before .before .before .before .args .lines .now) (c .before .before .before .before .before .before .before .before .lines .inv .1) (c .before .before .before .before .before .before .before .lines-test .taken) (c .before .before .before .before .before .before .lesser .result) (c .before .before .before .before .before .before .lesser .ensures) (c .before .before .before .before .before .fields-stop .result) (c .before .before .before .before .before .fields-stop .ensures) (c .before .before .before .before .loop .inv .1), c .before .before .before .before .before .before .before .before .lines .inv .1 .walk .wide, width-few (c .before .before .before .before .before .before .before .before .before .before .before .before .before .args .form))
 
 add-i : tie.Need-add-i Inv-loop μ-loop Inv-lines μ-lines
 add-i c = search needs
@@ -85,13 +69,37 @@ loop-less : tie.Need-loop-less Inv-loop μ-loop Inv-lines μ-lines
 loop-less c = search needs
 
 loop-again : tie.Need-loop-again Inv-loop μ-loop Inv-lines μ-lines
-loop-again c = (c .before .before .before .before .loop .inv .0, fielding-next (c .before .before .before .before .before .before .before .before .before .before .before .before .before .before .before .before .before .args .form) (c .before .before .before .before .before .before .before .before .before .before .before .before .before .before .before .before .before .args .count) (c .before .before .before .before .before .before .before .before .before .before .before .before .before .before .before .before .before .args .lines .now) (c .before .before .before .before .before .before .before .before .before .before .before .before .lines .inv .1) (c .before .before .before .before .before .before .before .before .before .before .before .lines-test .taken) (c .before .before .before .before .before .before .before .before .before .before .lesser .result) (c .before .before .before .before .before .before .before .before .before .behind-or-end .result) (c .before .before .before .before .before .before .before .before .before .before .lesser .ensures) (c .before .before .before .before .before .before .before .before .before .behind-or-end .ensures) (c .before .before .before .before .before .before .n .given .0 .0) (sym (c .before .before .before .before .before .before .before .before .right-content-at .ensures) ∙ c .before .before .before .before .before .before .n .given .1) (c .before .before .before .before .loop .inv .1) (c .before .before .lesser2 .result) (c .before .before .before .loop-test .taken) (c .before .before .lesser2 .ensures) (sym (c .before .is-field-at .ensures) ∙ c .if1 .taken))
+loop-again c = (c .before .before .before .before .loop .inv .0, trying-next (c .before .before .before .before .before .before .before .before .before .before .before .before .before .args .form) (c .before .before .before .before .before .before .before .before .before .before .before .before .before .args .count) (c .before .before .before .before .before .before .before .before .before .before .before .before .before .args .lines .now) (c .before .before .before .before .before .before .before .before .lines .inv .1) (c .before .before .before .before .before .before .before .lines-test .taken) (c .before .before .before .before .before .before .lesser .result) (c .before .before .before .before .before .before .lesser .ensures) (c .before .before .before .before .before .fields-stop .result) (c .before .before .before .before .before .fields-stop .ensures) (c .before .before .before .before .loop .inv .1) (c .before .before .lesser2 .result) (c .before .before .before .loop-test .taken) (c .before .before .lesser2 .ensures) (sym (c .before .is-field-at .ensures) ∙ c .if1 .taken))
 
-add-t28 : tie.Need-add-t28 Inv-loop μ-loop Inv-lines μ-lines
-add-t28 c = search needs
+mul-misfit : tie.Need-mul-misfit Inv-loop μ-loop Inv-lines μ-lines
+mul-misfit c = omega (arith, columns-small (c .before .before .before .before .before .before .before .before .before .before .before .before .before .args .form) (c .before .before .before .before .before .before .before .before .before .before .before .before .before .args .count) (c .before .before .before .before .before .before .before .before .before .before .before .before .before .args .lines .now) (c .before .before .before .before .before .before .before .before .lines .inv .1 .walk) (c .before .before .before .before .before .before .lesser .result) _ (c .before .before .before .before .before .before .lesser .ensures) refl)
+
+add-misfit : tie.Need-add-misfit Inv-loop μ-loop Inv-lines μ-lines
+add-misfit c = search needs
+
+add-misfit-2 : tie.Need-add-misfit-2 Inv-loop μ-loop Inv-lines μ-lines
+add-misfit-2 c = omega (arith, element-few (c .before .before .before .before .before .before .before .before .before .before .before .before .before .args .form) (c .before .before .before .before .before .before .before .before .before .before .before .before .before .args .count) (c .before .before .before .before .before .before .before .before .before .before .before .before .before .args .lines .now) (c .before .before .before .before .before .before .before .before .lines .inv .1) (c .before .before .before .before .before .before .before .lines-test .taken) (c .before .before .before .before .before .before .lesser .result) (c .before .before .before .before .before .before .lesser .ensures) (c .before .before .before .before .before .fields-stop .result) (c .before .before .before .before .before .fields-stop .ensures) (c .before .before .before .before .loop .inv .1) (c .before .before .lesser2 .result) (c .before .before .before .loop-test .taken) (c .before .before .lesser2 .ensures))
+
+misfit-requires : tie.Need-misfit-requires Inv-loop μ-loop Inv-lines μ-lines
+misfit-requires c κs = c .before .before .before .before .before .before .before .before .lines .inv .1 .walk .inside
+
+behind-or-end-requires : tie.Need-behind-or-end-requires Inv-loop μ-loop Inv-lines μ-lines
+behind-or-end-requires c κs = search needs
+
+mul-right-content-at : tie.Need-mul-right-content-at Inv-loop μ-loop Inv-lines μ-lines
+mul-right-content-at c = omega (arith, columns-small (c .before .before .before .before .before .before .before .before .before .before .before .args .form) (c .before .before .before .before .before .before .before .before .before .before .before .args .count) (c .before .before .before .before .before .before .before .before .before .before .before .args .lines .now) (c .before .before .before .before .before .before .lines .inv .1 .walk) (c .before .before .before .before .lesser .result) _ (c .before .before .before .before .lesser .ensures) refl)
+
+right-content-at-requires : tie.Need-right-content-at-requires Inv-loop μ-loop Inv-lines μ-lines
+right-content-at-requires c κs = tried-range (c .before .before .before .before .before .before .before .before .before .before .before .args .form) (c .before .before .before .before .before .before .before .before .before .before .before .args .count) (c .before .before .before .before .before .before .before .before .before .before .before .args .lines .now) (c .before .before .before .before .before .before .lines .inv .1) (c .before .before .before .before .before .lines-test .taken) (c .before .before .before .before .lesser .result) (c .before .before .before .before .lesser .ensures) (c .before .before .before .fields-stop .result) (c .before .before .before .fields-stop .ensures) (c .before .before .loop .inv .1) (omega arith) (c .behind-or-end .result) (c .behind-or-end .ensures)
+
+enum-told : tie.Need-enum-told Inv-loop μ-loop Inv-lines μ-lines
+enum-told c = search needs
+
+enum-told-2 : tie.Need-enum-told-2 Inv-loop μ-loop Inv-lines μ-lines
+enum-told-2 c = search needs
 
 add-t29 : tie.Need-add-t29 Inv-loop μ-loop Inv-lines μ-lines
-add-t29 c = omega (arith, c .before .before .before .before .before .before .before .before .before .before .before .before .lines .inv .1 .first, next-first (c .before .before .before .before .before .before .before .before .before .before .before .before .before .before .before .before .before .args .form) (c .before .before .before .before .before .before .before .before .before .before .before .before .before .before .before .before .before .args .count) (c .before .before .before .before .before .before .before .before .before .before .before .before .before .before .before .before .before .args .lines .now) (c .before .before .before .before .before .before .before .before .before .before .before .before .lines .inv .1 .walk), element-small (c .before .before .before .before .before .before .before .before .before .before .before .before .before .before .before .before .before .args .form) (c .before .before .before .before .before .before .before .before .before .before .before .before .before .before .before .before .before .args .count) (c .before .before .before .before .before .before .before .before .before .before .before .before .before .before .before .before .before .args .lines .now) (c .before .before .before .before .before .before .before .before .before .before .before .before .lines .inv .1 .walk), c .before .before .before .before .loop .inv .1 .within, row-fits (c .before .before .before .before .before .before .before .before .before .before .before .before .before .before .before .before .before .args .form) .few)
+add-t29 c = search needs
 
 sub-left : tie.Need-sub-left Inv-loop μ-loop Inv-lines μ-lines
 sub-left c = omega (arith, c .before .before .before .before .before .before .before .lesser .ensures)
@@ -106,16 +114,16 @@ lines-less : tie.Need-lines-less Inv-loop μ-loop Inv-lines μ-lines
 lines-less c = search needs
 
 lines-again : tie.Need-lines-again Inv-loop μ-loop Inv-lines μ-lines
-lines-again c = (c .before .loop .inv .0, checking-next (c .before .before .before .before .before .before .before .before .before .before .before .before .before .before .args .form) (c .before .before .before .before .before .before .before .before .before .before .before .before .before .before .args .count) (c .before .before .before .before .before .before .before .before .before .before .before .before .before .before .args .lines .now) (c .before .before .before .before .before .before .before .before .before .lines .inv .1) (c .before .before .before .before .before .before .before .before .lines-test .taken) (c .before .before .before .before .before .before .before .lesser .result) (c .before .before .before .before .before .before .behind-or-end .result) (c .before .before .before .before .before .before .before .lesser .ensures) (c .before .before .before .before .before .before .behind-or-end .ensures) (c .before .before .before .n .given .0 .0) (sym (c .before .before .before .before .before .right-content-at .ensures) ∙ c .before .before .before .n .given .1) (c .before .loop .inv .1) (omega arith))
+lines-again c = (c .before .before .before .before .before .loop .inv .0, tried-next (c .before .before .before .before .before .before .before .before .before .before .before .before .before .before .args .form) (c .before .before .before .before .before .before .before .before .before .before .before .before .before .before .args .count) (c .before .before .before .before .before .before .before .before .before .before .before .before .before .before .args .lines .now) (c .before .before .before .before .before .before .before .before .before .lines .inv .1) (c .before .before .before .before .before .before .before .before .lines-test .taken) (c .before .before .before .before .before .before .before .lesser .result) (c .before .before .before .before .before .before .before .lesser .ensures) (c .before .before .before .before .before .before .fields-stop .result) (c .before .before .before .before .before .before .fields-stop .ensures) (c .before .before .before .before .before .loop .inv .1) (omega arith) (c .before .before .before .behind-or-end .result) (c .before .before .before .behind-or-end .ensures) (c .enum-told .given .0 .0) (sym (c .before .before .right-content-at .ensures) ∙ c .enum-told .given .1))
 
 returns : tie.Need-returns Inv-loop μ-loop Inv-lines μ-lines
 returns c = c .before .lines .inv .0 ∙ checking-end (c .before .before .before .before .before .before .args .form) (c .before .before .before .before .before .before .args .count) (c .before .before .before .before .before .before .args .lines .now) (c .before .lines .inv .1) (omega arith)
 
 returns-2 : tie.Need-returns-2 Inv-loop μ-loop Inv-lines μ-lines
-returns-2 c = wrong-line (c .before .before .before .before .before .before .before .before .before .before .before .args .form) (c .before .before .before .before .before .before .before .before .before .before .before .args .count) (c .before .before .before .before .before .before .before .before .before .before .before .args .lines .now) (c .before .before .before .before .before .before .lines .inv .1) (c .before .before .before .before .before .lines-test .taken) (c .before .before .before .before .lesser .result) (c .before .before .before .behind-or-end .result) (c .before .before .before .before .lesser .ensures) (c .before .before .before .behind-or-end .ensures) (sym (c .before .before .right-content-at .ensures) ∙ c .enum-told .given .1)
+returns-2 c = trying-wrong (c .before .before .before .before .before .before .before .before .before .before .before .before .before .before .args .form) (c .before .before .before .before .before .before .before .before .before .before .before .before .before .before .args .count) (c .before .before .before .before .before .before .before .before .before .before .before .before .before .before .args .lines .now) (c .before .before .before .before .before .before .before .before .before .lines .inv .1) (c .before .before .before .before .before .before .before .before .lines-test .taken) (c .before .before .before .before .before .before .before .lesser .result) (c .before .before .before .before .before .before .before .lesser .ensures) (c .before .before .before .before .before .before .fields-stop .result) (c .before .before .before .before .before .before .fields-stop .ensures) (c .before .before .before .before .before .loop .inv .1) (c .before .before .before .lesser2 .result) (c .before .before .before .before .loop-test .taken) (c .before .before .before .lesser2 .ensures) (sym (c .before .before .is-field-at .ensures) ∙ c .before .if1 .left) (c .misfit .result) (c .misfit .ensures)
 
 returns-3 : tie.Need-returns-3 Inv-loop μ-loop Inv-lines μ-lines
-returns-3 c = wrong-field (c .before .before .before .before .before .before .before .before .before .before .before .before .before .before .before .before .before .args .form) (c .before .before .before .before .before .before .before .before .before .before .before .before .before .before .before .before .before .args .count) (c .before .before .before .before .before .before .before .before .before .before .before .before .before .before .before .before .before .args .lines .now) (c .before .before .before .before .before .before .before .before .before .before .before .before .lines .inv .1) (c .before .before .before .before .before .before .before .before .before .before .before .lines-test .taken) (c .before .before .before .before .before .before .before .before .before .before .lesser .result) (c .before .before .before .before .before .before .before .before .before .behind-or-end .result) (c .before .before .before .before .before .before .before .before .before .before .lesser .ensures) (c .before .before .before .before .before .before .before .before .before .behind-or-end .ensures) (c .before .before .before .before .before .before .n .given .0 .0) (sym (c .before .before .before .before .before .before .before .before .right-content-at .ensures) ∙ c .before .before .before .before .before .before .n .given .1) (c .before .before .before .before .loop .inv .1) (c .before .before .lesser2 .result) (c .before .before .before .loop-test .taken) (c .before .before .lesser2 .ensures) (sym (c .before .is-field-at .ensures) ∙ c .if1 .left)
+returns-3 c = tried-wrong (c .before .before .before .before .before .before .before .before .before .before .before .before .before .before .args .form) (c .before .before .before .before .before .before .before .before .before .before .before .before .before .before .args .count) (c .before .before .before .before .before .before .before .before .before .before .before .before .before .before .args .lines .now) (c .before .before .before .before .before .before .before .before .before .lines .inv .1) (c .before .before .before .before .before .before .before .before .lines-test .taken) (c .before .before .before .before .before .before .before .lesser .result) (c .before .before .before .before .before .before .before .lesser .ensures) (c .before .before .before .before .before .before .fields-stop .result) (c .before .before .before .before .before .before .fields-stop .ensures) (c .before .before .before .before .before .loop .inv .1) (omega arith) (c .before .before .before .behind-or-end .result) (c .before .before .before .behind-or-end .ensures) (sym (c .before .before .right-content-at .ensures) ∙ c .enum-told2 .given .1)
 
 pub check-lines-spec : {M : Type 1} → statement M
 check-lines-spec =
@@ -130,13 +138,8 @@ check-lines-spec =
     elements-requires
     lines-holds
     lesser-requires
-    behind-or-end-requires
-    mul-right-content-at
-    right-content-at-requires
-    enum-known-n
-    enum-told
-    add-t22
-    add-stop
+    mul-fields-stop
+    fields-stop-requires
     loop-holds
     add-lesser
     lesser-requires-2
@@ -145,7 +148,15 @@ check-lines-spec =
     add-i
     loop-less
     loop-again
-    add-t28
+    mul-misfit
+    add-misfit
+    add-misfit-2
+    misfit-requires
+    behind-or-end-requires
+    mul-right-content-at
+    right-content-at-requires
+    enum-told
+    enum-told-2
     add-t29
     sub-left
     add-element

@@ -1,9 +1,9 @@
--- `reading::is_field` meets its contract: letters print with or without the blanks behind them, and other fields are as wide as they should be.
+-- `reading::is_field` meets its contract: letters print with or without the blanks behind them, and other fields are not filled.
 -- Assumes nothing.
 use borrow.Author.Needs.{needs}
 use mathlib.Core.Path.{sym, _∙_, ap}
 use Rattle.field.specs.Read.{fieldOf, formed}
-use Rattle.reading.proofs.Blanks.{short-field, full-field}
+use Rattle.reading.proofs.Blanks.{short-field, as-whole}
 use Rattle.reading.proofs.is_field.Statement.{statement}
 use Rattle.reading.proofs.is_field.Tie as tie
 
@@ -23,7 +23,7 @@ is-formed-requires : tie.Need-is-formed-requires
 is-formed-requires c κs = search needs
 
 returns-2 : tie.Need-returns-2
-returns-2 c = c .is-formed .ensures ∙ ap formed (c .before .read .ensures ∙ ap (fieldOf _) (sym (full-field _ _ (sym (c .before .before .before .may-be-short .ensures) ∙ c .before .before .if1 .left) (c .before .before .before .before .before .pre))))
+returns-2 c = c .is-formed .ensures ∙ ap formed (c .before .read .ensures ∙ ap (fieldOf _) (sym (as-whole (c .before .before .before .before .before .args .form) (c .before .before .before .before .before .args .bytes .now) (sym (c .before .before .before .may-be-short .ensures) ∙ c .before .before .if1 .left))))
 
 pub is-field-spec : {M : Type 1} → statement M
 is-field-spec =

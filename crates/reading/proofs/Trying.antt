@@ -1,0 +1,243 @@
+-- The fields of a line, tried before the line's end is known: how far they are looked for; fields that are formed have no line feed, so the
+-- end is sought behind them; a line is blamed before its fields.
+-- Assumes nothing.
+use mathlib.Core.Path.{_≡_, refl, sym, _∙_, ap, subst}
+use mathlib.Core.Bool.{Bool, true, false}
+use mathlib.Core.List.{List}
+use Prim.Native.Nat.{ℕ, _+_, _-_, _*_, _<_, _≤_, min}
+use native.Mathlib.Nat.{add-mul, one-mul, mul-le-mul, mul-le-mul-right, zero-mul}
+use native.Mathlib.Omega.{arith}
+use lib.ListN.{length, take, drop, length-take, length-drop}
+use lib.Seq.{length-take-le}
+use Rattle.base.specs.Part.{part}
+use Rattle.base.proofs.Choice.{true-T}
+use Rattle.base.proofs.Part.{part-append}
+use Rattle.base.proofs.Taken.{take-none}
+use Rattle.form.specs.declared.Form.{Form}
+use Rattle.form.specs.Table.{rowOf}
+use Rattle.form.specs.Count.{elementsOf}
+use Rattle.form.proofs.Rows.{row-fits}
+use Rattle.field.specs.Read.{fieldOf, formed}
+use Rattle.field.proofs.Laws.{good-width, good-prints}
+use Rattle.line.specs.Lines.{reach, Plain}
+use Rattle.line.specs.Contents.{contentOf}
+use Rattle.line.specs.declared.Content.{Content}
+use Rattle.line.specs.declared.Content.the-variants.{Length, NoReturn}
+use Rattle.line.proofs.Feeds.{plain-nil, plain-append, printable-plain}
+use Rattle.line.proofs.Reach.{reach-le, reach-past}
+use Rattle.line.proofs.Contents.{content-two, first-plain}
+use Rattle.reading.specs.Blanks.{mayBeShort, filledTo, asField, rightContent, fieldsSpan, Fits}
+use Rattle.reading.specs.Plan.{Line, lineAt}
+use Rattle.reading.specs.declared.Refusal.{Refusal}
+use Rattle.reading.specs.declared.Refusal.the-variants.{BadLine}
+use Rattle.reading.specs.declared.Verdict.the-variants.{Bad}
+use Rattle.reading.specs.Read.{columnsOf, misfitOf, readLines, verdictOf}
+use Rattle.reading.proofs.Blanks.{as-whole, as-filled}
+use Rattle.reading.proofs.Lines.{right-is}
+use Rattle.reading.proofs.Fields.{lineText, short-one, enough}
+use Rattle.reading.proofs.Checking.{Checking, Fielding, element-small, next-first, many-here, columns-here, few-here, end-range, width-few, wrong-line, content-inside, fielding-start, checking-next, field-range, fielding-next, wrong-field}
+
+-- ---- how far fields are looked for
+
+module _ (f : Form) (columns : ℕ) (s : List ℕ) (at : ℕ) (inside : at ≤ length s) where
+  abbrev behindLine : ℕ
+  behindLine = at + reach (drop at s) 1
+
+  pub line-range : (at ≤ at + reach (drop at s) 1) × (at + reach (drop at s) 1 ≤ length s)
+  line-range = (omega arith, omega (arith, reach-le (drop at s) 1, length-drop at s))
+
+  pub content-fits : (n : ℕ) → contentOf (part at (at + reach (drop at s) 1) s) ≡ Length n → at + n ≤ length s
+  content-fits n e = omega (arith, content-two (part at behindLine s) n e, length-take (behindLine - at) (drop at s), length-drop at s)
+
+  pub span-none : mayBeShort f ≡ true → contentOf (part at (at + reach (drop at s) 1) s) ≡ NoReturn → at ≡ at + fieldsSpan f columns s at
+  unfolding fieldsSpan
+  span-none u e = rw (u, e) (omega arith)
+
+  pub span-content : mayBeShort f ≡ true → (n : ℕ) → contentOf (part at (at + reach (drop at s) 1) s) ≡ Length n → at + n ≡ at + fieldsSpan f columns s at
+  unfolding fieldsSpan
+  span-content u n e = rw (u, e) refl
+
+  pub span-columns : mayBeShort f ≡ false → at + min columns (length s - at) ≡ at + fieldsSpan f columns s at
+  unfolding fieldsSpan
+  span-columns u = rw u refl
+
+  module _ (stop : ℕ) (e : stop ≡ at + fieldsSpan f columns s at) where
+    -- as far as the content goes, where lines may be short
+    pub record Short : Type 0 where
+      pub range : (at ≤ stop) × (stop ≤ length s)
+      pub plain : Plain (part at stop s)
+      pub content : (n : ℕ) → contentOf (part at (at + reach (drop at s) 1) s) ≡ Length n → stop ≡ at + n
+
+    stop-short : mayBeShort f ≡ true → Short
+    stop-short u = by (contentOf (part at behindLine s)) refl
+      where
+        by : (c : Content) → contentOf (part at behindLine s) ≡ c → Short
+        by (Length n) v =
+            let z : stop ≡ at + n = e ∙ sym (span-content u n v) in
+            let r : behindLine - at ≡ reach (drop at s) 1 = omega arith in
+            let m : n ≡ stop - at = omega arith in
+            record {
+              range = (omega arith, omega (arith, content-fits n v));
+              plain = subst (λ i. Plain (take i (drop at s))) m (first-plain (drop at s) n (rw r at v));
+              content = λ i w. e ∙ sym (span-content u i w);
+            }
+        by NoReturn v =
+            let z : stop ≡ at = e ∙ sym (span-none u v) in
+            let m : stop - at ≡ 0 = omega arith in
+            record {
+              range = (omega arith, omega arith);
+              plain = subst Plain (sym (ap (λ i. take i (drop at s)) m ∙ take-none (drop at s))) plain-nil;
+              content = λ i w. e ∙ sym (span-content u i w);
+            }
+
+    stop-full : mayBeShort f ≡ false → stop ≡ at + min columns (length s - at)
+    stop-full u = e ∙ sym (span-columns u)
+
+    pub stop-range : (at ≤ stop) × (stop ≤ length s)
+    stop-range = by (mayBeShort f) refl
+      where
+        by : (t : Bool) → mayBeShort f ≡ t → (at ≤ stop) × (stop ≤ length s)
+        by true u = stop-short u .range
+        by false u = (omega (arith, stop-full u), omega (arith, stop-full u))
+
+-- ---- a formed field has no line feed
+
+formed-plain : (f : Form) (s : List ℕ) → mayBeShort f ≡ false → formed (fieldOf f (asField f s)) ≡ true → (length s ≡ rowOf f .width) × Plain s
+formed-plain f s u e =
+    let t = true-T (formed (fieldOf f s)) (ap (λ x. formed (fieldOf f x)) (sym (as-whole f s u)) ∙ e) in
+    (good-width f s t, printable-plain s (good-prints f s t))
+
+-- ---- the state before field i: those before it are formed
+
+pub record Trying (f : Form) (l : Line) (s : List ℕ) (at stop i from : ℕ) : Type 0 where
+  pub place : from ≡ at + i * rowOf f .width
+  pub within : i ≤ l .many
+  pub reached : mayBeShort f ≡ false → from ≤ stop
+  pub plain : mayBeShort f ≡ false → Plain (part at from s)
+  -- if the line is right, they are its first fields
+  pub right : (end m : ℕ) → end ≡ at + reach (drop at s) 1 → rightContent f (columnsOf f l) (part at end s) ≡ Length m → Fielding f l (lineText f l s at end m) at i from
+
+module _ (f : Form) (count : ℕ) (s : List ℕ) {width perLine many left at element j : ℕ} (b : Checking f count s width perLine many left at element j) (h : j < many) (k : ℕ) (q : k ≡ min perLine left) (stop : ℕ) (e : stop ≡ at + fieldsSpan f (k * width) s at) where
+  abbrev l : Line
+  l = lineAt (rowOf f .«per_line») (elementsOf f count) j
+
+  columns : k * width ≡ columnsOf f l
+  columns = columns-here f count s (b .walk) k (at + reach (drop at s) 1) q refl
+
+  stops : (at ≤ stop) × (stop ≤ length s)
+  stops = stop-range f (k * width) s at (b .walk .inside) stop e
+
+  pub trying-start : Trying f l s at stop 0 at
+  trying-start =
+      let z : at - at ≡ 0 = omega arith in
+      record {
+        place = omega (arith, zero-mul (rowOf f .width));
+        within = omega arith;
+        reached = λ u. stops .0;
+        plain = λ u. subst Plain (sym (ap (λ i. take i (drop at s)) z ∙ take-none (drop at s))) plain-nil;
+        right = λ end m w r. fielding-start f count s b h k end q w m (rw (sym columns) at r);
+      }
+
+  module _ {i from : ℕ} (g : Trying f l s at stop i from) where
+    pub try-small : from ≤ length s + 120 * 120
+    try-small = omega (arith, g .place, b .walk .inside, mul-le-mul few-passed (width-few f))
+      where
+        few-passed : i ≤ 120
+        few-passed = omega (arith, g .within, row-fits f .few)
+
+    module _ (to : ℕ) (c : i < k) (t : to ≡ min (from + width) stop) where
+      inner : i < l .many
+      inner = omega (arith, many-here f count s (b .walk) k (at + reach (drop at s) 1) q refl)
+
+      next : from + rowOf f .width ≤ at + columnsOf f l
+      next = omega (arith, g .place, add-mul i 1 (rowOf f .width), one-mul (rowOf f .width), mul-le-mul-right {m = i + 1} {n = l .many} (rowOf f .width) (omega (arith, inner)))
+
+      pub element-few : element + i ≤ 65536 * 120
+      element-few = omega (arith, b .first, inner, next-first f count s (b .walk), element-small f count s (b .walk))
+
+      -- a line that may be short has one field
+      first : mayBeShort f ≡ true → from ≡ at
+      first u =
+          let z : i ≡ 0 = omega (arith, inner, few-here f count s (b .walk) k (at + reach (drop at s) 1) q refl, short-one f u) in
+          omega (arith, g .place, ap (λ n. n * rowOf f .width) z, zero-mul (rowOf f .width))
+
+      begun : from ≤ stop
+      begun = by (mayBeShort f) refl
+        where
+          by : (x : Bool) → mayBeShort f ≡ x → from ≤ stop
+          by true u = omega (arith, first u, stops)
+          by false u = g .reached u
+
+      pub try-range : (from ≤ to) × (to ≤ length s) × (to - from ≤ rowOf f .width)
+      try-range = (omega (arith, begun), omega (arith, stops .1), omega (arith, b .walk .wide))
+
+      long : length (part from to s) ≡ to - from
+      long = length-take-le (to - from) (drop from s) (omega (arith, try-range, length-drop from s))
+
+      -- where the line is right, this is where the field ends
+      module _ (end m : ℕ) (w : end ≡ at + reach (drop at s) 1) (r : rightContent f (columnsOf f l) (part at end s) ≡ Length m) where
+        given : rightContent f (k * width) (part at end s) ≡ Length m
+        given = rw (sym columns) at r
+
+        to-right : to ≡ min (from + width) (at + m)
+        to-right = by (mayBeShort f) refl
+          where
+            by : (x : Bool) → mayBeShort f ≡ x → to ≡ min (from + width) (at + m)
+            by true u =
+                let v : contentOf (part at (at + reach (drop at s) 1) s) ≡ Length m = rw w at (right-is f (columnsOf f l) (part at end s) m r .content) in
+                t ∙ ap (min (from + width)) (stop-short f (k * width) s at (b .walk .inside) stop e u .content m v)
+            by false u =
+                let n : columnsOf f l ≤ m = rw u at (enough f l s at end m (end-range f count s (b .walk) k end q w .1) r) in
+                omega (arith, next, columns, b .walk .wide, stop-full f (k * width) s at (b .walk .inside) stop e u, content-inside f count s b h k end q w m given)
+
+        same : formed (fieldOf f (asField f (part from to s))) ≡ formed (fieldOf f (filledTo (rowOf f .width) (part from to s)))
+        same =
+            let fit = field-range f count s b h k end q w m given (g .right end m w r) to c to-right .2 in
+            ap (λ x. formed (fieldOf f x)) (as-filled f (part from to s) (subst (Fits f) (sym long) fit))
+
+      pub trying-next : formed (fieldOf f (asField f (part from to s))) ≡ true → Trying f l s at stop (i + 1) (from + width)
+      trying-next y =
+          record {
+            place = omega (arith, g .place, b .walk .wide, add-mul i 1 (rowOf f .width), one-mul (rowOf f .width));
+            within = omega (arith, inner);
+            reached = λ u. omega (arith, whole u);
+            plain = λ u. subst (λ n. Plain (part at n s)) (whole u) (subst Plain (part-append s at from to (omega (arith, g .place)) (try-range .0)) (plain-append (part at from s) (part from to s) (g .plain u) (formed-plain f (part from to s) u y .1)));
+            right = λ end m w r. fielding-next f count s b h k end q w m (given end m w r) (g .right end m w r) to c (to-right end m w r) (sym (same end m w r) ∙ y);
+          }
+        where
+          whole : mayBeShort f ≡ false → to ≡ from + width
+          whole u = omega (arith, formed-plain f (part from to s) u y .0, long, b .walk .wide, try-range)
+
+      -- a line that is not right is blamed, and otherwise the field
+      pub trying-wrong : formed (fieldOf f (asField f (part from to s))) ≡ false → (r : Refusal) → r ≡ misfitOf (j + 1) (element + i) (rightContent f (k * width) (part at (at + reach (drop at s) 1) s)) → Bad r ≡ verdictOf (readLines f count s)
+      trying-wrong y r z = by (rightContent f (k * width) (part at (at + reach (drop at s) 1) s)) refl
+        where
+          end : ℕ
+          end = at + reach (drop at s) 1
+
+          by : (x : Content) → rightContent f (k * width) (part at (at + reach (drop at s) 1) s) ≡ x → Bad r ≡ verdictOf (readLines f count s)
+          by (Length m) v =
+              let n : rightContent f (columnsOf f l) (part at end s) ≡ Length m = rw columns at v in
+              ap Bad (z ∙ ap (misfitOf (j + 1) (element + i)) v) ∙ wrong-field f count s b h k end q refl m v (g .right end m refl n) to c (to-right end m refl n) (sym (same end m refl n) ∙ y)
+          by NoReturn v = ap Bad (z ∙ ap (misfitOf (j + 1) (element + i)) v) ∙ wrong-line f count s b h k end q refl v
+
+    -- all fields are formed: the line's end is sought behind them
+    module _ (d : k ≤ i) (end : ℕ) (w : end ≡ stop + reach (drop stop s) 1) where
+      ends : end ≡ at + reach (drop at s) 1
+      ends = w ∙ reach-past s at stop 0 (stops .0) (stops .1) (by (mayBeShort f) refl)
+        where
+          by : (x : Bool) → mayBeShort f ≡ x → Plain (part at stop s)
+          by true u = stop-short f (k * width) s at (b .walk .inside) stop e u .plain
+          by false u =
+              let z : i ≡ k = omega (arith, g .within, many-here f count s (b .walk) k (at + reach (drop at s) 1) q refl) in
+              let n : from ≡ stop = omega (arith, g .place, ap (λ x. x * rowOf f .width) z, ap (λ x. k * x) (b .walk .wide), g .reached u, stop-full f (k * width) s at (b .walk .inside) stop e u) in
+              subst (λ x. Plain (part at x s)) n (g .plain u)
+
+      pub tried-range : (at ≤ end) × (end ≤ length s)
+      tried-range = end-range f count s (b .walk) k end q ends
+
+      pub tried-wrong : rightContent f (k * width) (part at end s) ≡ NoReturn → Bad (BadLine (j + 1)) ≡ verdictOf (readLines f count s)
+      tried-wrong v = wrong-line f count s b h k end q ends v
+
+      pub tried-next : (m : ℕ) → rightContent f (k * width) (part at end s) ≡ Length m → Checking f count s width perLine many (left - k) end (element + perLine) (j + 1)
+      tried-next m v = checking-next f count s b h k end q ends m v (g .right end m ends (rw columns at v)) d

@@ -1,0 +1,66 @@
+-- `reading::fields_stop` meets its contract: the content's end where lines may be short, and otherwise the columns' end or the text's.
+-- Assumes nothing.
+use borrow.Author.Needs.{needs}
+use native.Mathlib.Omega.{arith}
+use mathlib.Core.Path.{sym, _∙_, ap}
+use Prim.Native.Nat.{_+_}
+use Rattle.base.specs.Part.{part}
+use Rattle.line.specs.Contents.{contentOf}
+use Rattle.reading.proofs.Trying.{line-range, content-fits, span-none, span-content, span-columns}
+use Rattle.reading.proofs.fields_stop.Statement.{statement}
+use Rattle.reading.proofs.fields_stop.Tie as tie
+
+may-be-short-requires : tie.Need-may-be-short-requires
+may-be-short-requires c κs = search needs
+
+behind-or-end-requires : tie.Need-behind-or-end-requires
+behind-or-end-requires c κs = search needs
+
+content-at-requires : tie.Need-content-at-requires
+content-at-requires c κs =
+    let r = line-range (c .before .before .before .before .args .form) (c .before .before .before .before .args .columns) (c .before .before .before .before .args .lines .now) (c .before .before .before .before .args .at) (c .before .before .before .before .pre) in
+    (omega (arith, c .behind-or-end .ensures), omega (arith, r .1, c .behind-or-end .ensures))
+
+enum-known-n : tie.Need-enum-known-n
+enum-known-n c = search needs
+
+enum-told : tie.Need-enum-told
+enum-told c = search needs
+
+returns : tie.Need-returns
+returns c = span-none (c .before .before .before .before .before .before .before .args .form) (c .before .before .before .before .before .before .before .args .columns) (c .before .before .before .before .before .before .before .args .lines .now) (c .before .before .before .before .before .before .before .args .at) (c .before .before .before .before .before .before .before .pre) (sym (c .before .before .before .before .before .may-be-short .ensures) ∙ c .before .before .before .before .if1 .taken) (ap (λ x. contentOf (part (c .before .before .before .before .before .before .before .args .at) x (c .before .before .before .before .before .before .before .args .lines .now))) (sym (c .before .before .before .behind-or-end .ensures)) ∙ sym (c .before .before .content-at .ensures) ∙ c .enum-told .given .1)
+
+add-result : tie.Need-add-result
+add-result c = omega (arith, content-fits (c .before .before .before .before .before .before .before .before .args .form) (c .before .before .before .before .before .before .before .before .args .columns) (c .before .before .before .before .before .before .before .before .args .lines .now) (c .before .before .before .before .before .before .before .before .args .at) (c .before .before .before .before .before .before .before .before .pre) (c .before .n .given .0 .0) (ap (λ x. contentOf (part (c .before .before .before .before .before .before .before .before .args .at) x (c .before .before .before .before .before .before .before .before .args .lines .now))) (sym (c .before .before .before .before .behind-or-end .ensures)) ∙ sym (c .before .before .before .content-at .ensures) ∙ c .before .n .given .1))
+
+returns-2 : tie.Need-returns-2
+returns-2 c = span-content (c .before .before .before .before .before .before .before .before .args .form) (c .before .before .before .before .before .before .before .before .args .columns) (c .before .before .before .before .before .before .before .before .args .lines .now) (c .before .before .before .before .before .before .before .before .args .at) (c .before .before .before .before .before .before .before .before .pre) (sym (c .before .before .before .before .before .before .may-be-short .ensures) ∙ c .before .before .before .before .before .if1 .taken) (c .before .n .given .0 .0) (ap (λ x. contentOf (part (c .before .before .before .before .before .before .before .before .args .at) x (c .before .before .before .before .before .before .before .before .args .lines .now))) (sym (c .before .before .before .before .behind-or-end .ensures)) ∙ sym (c .before .before .before .content-at .ensures) ∙ c .before .n .given .1)
+
+sub-lesser : tie.Need-sub-lesser
+sub-lesser c = search needs
+
+lesser-requires : tie.Need-lesser-requires
+lesser-requires c κs = search needs
+
+add-result-2 : tie.Need-add-result-2
+add-result-2 c = omega (arith, c .lesser .ensures, c .before .before .before .before .pre)
+
+returns-3 : tie.Need-returns-3
+returns-3 c = ap (λ n. c .before .before .before .before .args .at + n) (c .lesser .ensures) ∙ span-columns (c .before .before .before .before .args .form) (c .before .before .before .before .args .columns) (c .before .before .before .before .args .lines .now) (c .before .before .before .before .args .at) (c .before .before .before .before .pre) (sym (c .before .before .may-be-short .ensures) ∙ c .before .if1 .left)
+
+pub fields-stop-spec : {M : Type 1} → statement M
+fields-stop-spec =
+    tie.close
+    (tie.spec
+    may-be-short-requires
+    behind-or-end-requires
+    content-at-requires
+    enum-known-n
+    enum-told
+    returns
+    add-result
+    returns-2
+    sub-lesser
+    lesser-requires
+    add-result-2
+    returns-3)

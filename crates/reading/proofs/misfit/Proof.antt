@@ -1,0 +1,42 @@
+-- `reading::misfit` meets its contract.
+-- Assumes nothing.
+use borrow.Author.Needs.{needs}
+use native.Mathlib.Omega.{arith}
+use mathlib.Core.Path.{sym, _∙_, ap}
+use Rattle.base.specs.Part.{part}
+use Rattle.reading.specs.Blanks.{rightContent}
+use Rattle.reading.specs.Read.{misfitOf}
+use Rattle.reading.proofs.Trying.{line-range}
+use Rattle.reading.proofs.misfit.Statement.{statement}
+use Rattle.reading.proofs.misfit.Tie as tie
+
+behind-or-end-requires : tie.Need-behind-or-end-requires
+behind-or-end-requires c κs = search needs
+
+right-content-at-requires : tie.Need-right-content-at-requires
+right-content-at-requires c κs =
+    let r = line-range (c .before .before .args .form) (c .before .before .args .columns) (c .before .before .args .lines .now) (c .before .before .args .at) (c .before .before .pre) in
+    (omega (arith, c .behind-or-end .ensures), omega (arith, r .1, c .behind-or-end .ensures))
+
+enum-told : tie.Need-enum-told
+enum-told c = search needs
+
+enum-told-2 : tie.Need-enum-told-2
+enum-told-2 c = search needs
+
+returns : tie.Need-returns
+returns c = sym (ap (misfitOf (c .before .before .before .before .before .args .number) (c .before .before .before .before .before .args .element)) (ap (λ x. rightContent (c .before .before .before .before .before .args .form) (c .before .before .before .before .before .args .columns) (part (c .before .before .before .before .before .args .at) x (c .before .before .before .before .before .args .lines .now))) (sym (c .before .before .before .behind-or-end .ensures)) ∙ sym (c .before .before .right-content-at .ensures) ∙ c .enum-told .given .1))
+
+returns-2 : tie.Need-returns-2
+returns-2 c = sym (ap (misfitOf (c .before .before .before .before .before .args .number) (c .before .before .before .before .before .args .element)) (ap (λ x. rightContent (c .before .before .before .before .before .args .form) (c .before .before .before .before .before .args .columns) (part (c .before .before .before .before .before .args .at) x (c .before .before .before .before .before .args .lines .now))) (sym (c .before .before .before .behind-or-end .ensures)) ∙ sym (c .before .before .right-content-at .ensures) ∙ c .enum-told2 .given .1))
+
+pub misfit-spec : {M : Type 1} → statement M
+misfit-spec =
+    tie.close
+    (tie.spec
+    behind-or-end-requires
+    right-content-at-requires
+    enum-told
+    enum-told-2
+    returns
+    returns-2)
