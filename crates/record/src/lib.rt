@@ -17,7 +17,7 @@ ghost use Rattle.count.specs.Tally.{cellsBefore};
 ghost use Rattle.date.specs.Date.{datedOf};
 ghost use Rattle.record.specs.Fitting.{elementsFit, fitOf, Fitted};
 ghost use Rattle.record.specs.Text.{lineEnd, entriesText, indexText, lineOf, fieldsText, linesText, groupsText, bytesOf, recordBytes};
-ghost use Rattle.record.specs.Writing.{dateLetters, writeFit, writeRoom, writingOf, outputBy};
+ghost use Rattle.record.specs.Writing.{dateLetters, writeFit, writeRoom, writingOf, outputBy, writingReply};
 
 // Whether each element's cells have a field of their form, or the group and the element of the first that has none.
 pub enum Fit {
@@ -313,5 +313,22 @@ pub fn write_record(counts: &[u16], cells: &[i64], out: &mut [u8]) -> Writing
         Checked::FilledVacant(g) => Writing::FilledVacant(g),
         Checked::BrokenRule(g) => Writing::BrokenRule(g),
         Checked::OtherLength => Writing::OtherLength,
+    }
+}
+
+// The answer's number in 01's table, with the numbers given besides.
+pub fn reply_of(answer: Writing) -> reply::Reply
+    ensures { λ r. ⌜ r ≡ writingReply answer ⌝ }
+{
+    match answer {
+        Writing::Done(bytes) => reply::done(bytes),
+        Writing::Misformed => reply::plain(4),
+        Writing::OtherRelease => reply::plain(5),
+        Writing::FilledVacant(g) => reply::on_group(6, g),
+        Writing::BrokenRule(g) => reply::on_group(7, g),
+        Writing::OtherLength => reply::plain(14),
+        Writing::NoField(g, e) => reply::no_field(g, e),
+        Writing::BadDate(position) => reply::bad_date(position),
+        Writing::NoRoom => reply::plain(11),
     }
 }
