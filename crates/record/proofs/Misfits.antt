@@ -4,7 +4,7 @@
 use mathlib.Core.Path.{_≡_, refl, sym, _∙_, ap, subst}
 use mathlib.Core.Bool.{Bool, true, false, cond}
 use mathlib.Core.List.{List, map}
-use Prim.Native.Nat.{ℕ, zero, suc, _+_, _-_, _*_, _<_, _≤_}
+use Prim.Native.Nat.{ℕ, zero, suc, _+_, _-_, _*_, _<_}
 use native.Mathlib.Nat.{add-zero}
 use native.Mathlib.Omega.{arith}
 use lib.Dec.{T}
@@ -120,13 +120,13 @@ module _ (ns : List ℕ) (cs : List ℤ) where
         let e : suc i - 1 ≡ i = omega arith in
         rw e (ap (take (rowOf f .cells)) (drop-drop (i * rowOf f .cells) (cellsBefore ns g) cs))
 
-    cells-of : (e : ℕ) → 1 ≤ e → take (rowOf f .cells) (drop ((e - 1) * rowOf f .cells) (drop (cellsBefore ns g) cs)) ≡ elementCells ns cs g e f
-    cells-of e l = ap (take (rowOf f .cells)) (drop-drop ((e - 1) * rowOf f .cells) (cellsBefore ns g) cs)
+    cells-of : (e : ℕ) → take (rowOf f .cells) (drop ((e - 1) * rowOf f .cells) (drop (cellsBefore ns g) cs)) ≡ elementCells ns cs g e f
+    cells-of e = ap (take (rowOf f .cells)) (drop-drop ((e - 1) * rowOf f .cells) (cellsBefore ns g) cs)
 
     pub all-fields : groupFound g ≡ All → (e : ℕ) → Element ns cs g e f → HasField f (elementCells ns cs g e f)
     all-fields a e x =
         let t = elements-fitted f g (countOf ns g) (drop (cellsBefore ns g) cs) (sym found-is ∙ a) (e - 1) (omega (arith, x .low, x .high)) in
-        has-field f (elementCells ns cs g e f) (subst (λ c. T (fitsOf f c)) (cells-of e (x .low)) t)
+        has-field f (elementCells ns cs g e f) (subst (λ c. T (fitsOf f c)) (cells-of e) t)
 
     pub fields-all : ((e : ℕ) → Element ns cs g e f → HasField f (elementCells ns cs g e f)) → groupFound g ≡ All
     fields-all k =
@@ -139,9 +139,6 @@ module _ (ns : List ℕ) (cs : List ℤ) where
       pub element : Element ns cs g e f
       pub none : HasNone f (elementCells ns cs g e f)
       pub before : (d : ℕ) → Element ns cs g d f → d < e → HasField f (elementCells ns cs g d f)
-
-    size : ℕ → ℕ
-    size e = rowOf f .cells
 
     piece-is : (i : ℕ) → elementFit f g (1 + i) (take (rowOf f .cells) (drop (sum (map (λ (e : ℕ). rowOf f .cells) (upFrom 1 i))) (drop (cellsBefore ns g) cs))) ≡ elementFit f g (1 + i) (elementCells ns cs g (suc i) f)
     piece-is i = ap (λ n. elementFit f g (1 + i) (take (rowOf f .cells) (drop n (drop (cellsBefore ns g) cs)))) (sum-up-same (rowOf f .cells) 1 i) ∙ ap (elementFit f g (1 + i)) (cells-is i)

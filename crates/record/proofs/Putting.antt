@@ -245,9 +245,6 @@ module _ (f : Form) (count : ℕ) (cs : List ℤ) (from at : ℕ) (old : List �
         (omega (arith, b .put .place, ap length e, lines-length f count (drop from cs) fit), putting-end (b .put) e)
 
     module _ (h : j < many) (k : ℕ) (q : k ≡ min perLine left) where
-      before : ℕ
-      before = min n (j * p)
-
       many-here : lineAt p n j .many ≡ k
       many-here = sym (q ∙ rw (b .per, b .rest))
 
@@ -262,12 +259,10 @@ module _ (f : Form) (count : ℕ) (cs : List ℤ) (from at : ℕ) (old : List �
           let t : lineText f (lineAt p n j) (take (lineCells f (lineAt p n j)) (drop cell cs)) ≡ lineText f (lineOf k) (drop cell cs) = line-any f (lineAt p n j) (drop cell cs) ∙ ap (λ x. lineText f (lineOf x) (drop cell cs)) many-here in
           ap (λ x. linesFrom f count j x (drop cell cs)) m ∙ rw (t, d, add-one j)
 
-      behind : before + k ≡ min n ((j + 1) * p)
-      unfolding before
+      behind : min n (j * p) + k ≡ min n ((j + 1) * p)
       behind = ap (λ x. min n (j * p) + x) (sym many-here) ∙ line-behind f p n j
 
       fits-here : Fitted f k (drop cell cs)
-      unfolding before
       fits-here =
           let d : drop (min n (j * p) * rowOf f .cells) (drop from cs) ≡ drop cell cs = drop-drop (min n (j * p) * rowOf f .cells) from cs ∙ ap (λ x. drop x cs) (sym (b .cells)) in
           rw d at (fitted-fewer f (n - min n (j * p)) k (drop (min n (j * p) * rowOf f .cells) (drop from cs)) (omega (arith, behind)) (fitted-drop f n (min n (j * p)) (drop from cs) fit))
@@ -276,7 +271,6 @@ module _ (f : Form) (count : ℕ) (cs : List ℤ) (from at : ℕ) (old : List �
       long-here = line-length f (lineOf k) (drop cell cs) fits-here
 
       cells-here : cell + k * rowOf f .cells ≡ from + min n ((j + 1) * p) * rowOf f .cells
-      unfolding before
       cells-here = omega (arith, b .cells, add-mul (min n (j * p)) k (rowOf f .cells), ap (λ x. x * rowOf f .cells) behind)
 
       pub line-requires : from + cellsOf f count ≤ length cs → (cell + k * rowOf f .cells ≤ length cs) × Fitted f k (drop cell cs) × (a + k * rowOf f .width + 2 ≤ length out)
