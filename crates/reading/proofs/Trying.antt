@@ -39,7 +39,7 @@ use Rattle.reading.proofs.Checking.{Checking, Fielding, element-small, 
 
 -- ---- how far fields are looked for
 
-module _ (f : Form) (columns : ℕ) (s : List ℕ) (at : ℕ) (inside : at ≤ length s) where
+module _ (s : List ℕ) (at : ℕ) (inside : at ≤ length s) where
   abbrev behindLine : ℕ
   behindLine = at + reach (drop at s) 1
 
@@ -49,6 +49,7 @@ module _ (f : Form) (columns : ℕ) (s : List ℕ) (at : ℕ) (inside : at ≤ l
   pub content-fits : (n : ℕ) → contentOf (part at (at + reach (drop at s) 1) s) ≡ Length n → at + n ≤ length s
   content-fits n e = omega (arith, content-two (part at behindLine s) n e, length-take (behindLine - at) (drop at s), length-drop at s)
 
+module _ (f : Form) (columns : ℕ) (s : List ℕ) (at : ℕ) (inside : at ≤ length s) where
   pub span-none : mayBeShort f ≡ true → contentOf (part at (at + reach (drop at s) 1) s) ≡ NoReturn → at ≡ at + fieldsSpan f columns s at
   unfolding fieldsSpan
   span-none u e = rw (u, e) (omega arith)
@@ -69,15 +70,15 @@ module _ (f : Form) (columns : ℕ) (s : List ℕ) (at : ℕ) (inside : at ≤ l
       pub content : (n : ℕ) → contentOf (part at (at + reach (drop at s) 1) s) ≡ Length n → stop ≡ at + n
 
     stop-short : mayBeShort f ≡ true → Short
-    stop-short u = by (contentOf (part at behindLine s)) refl
+    stop-short u = by (contentOf (part at (at + reach (drop at s) 1) s)) refl
       where
-        by : (c : Content) → contentOf (part at behindLine s) ≡ c → Short
+        by : (c : Content) → contentOf (part at (at + reach (drop at s) 1) s) ≡ c → Short
         by (Length n) v =
             let z : stop ≡ at + n = e ∙ sym (span-content u n v) in
-            let r : behindLine - at ≡ reach (drop at s) 1 = omega arith in
+            let r : at + reach (drop at s) 1 - at ≡ reach (drop at s) 1 = omega arith in
             let m : n ≡ stop - at = omega arith in
             record {
-              range = (omega arith, omega (arith, content-fits n v));
+              range = (omega arith, omega (arith, content-fits s at inside n v));
               plain = subst (λ i. Plain (take i (drop at s))) m (first-plain (drop at s) n (rw r at v));
               content = λ i w. e ∙ sym (span-content u i w);
             }

@@ -18,7 +18,7 @@ behind-or-end-requires c κs = search needs
 
 content-at-requires : tie.Need-content-at-requires
 content-at-requires c κs =
-    let r = line-range (c .before .before .before .before .args .form) (c .before .before .before .before .args .columns) (c .before .before .before .before .args .lines .now) (c .before .before .before .before .args .at) (c .before .before .before .before .pre) in
+    let r = line-range (c .before .before .before .before .args .lines .now) (c .before .before .before .before .args .at) (c .before .before .before .before .pre) in
     (omega (arith, c .behind-or-end .ensures), omega (arith, r .1, c .behind-or-end .ensures))
 
 enum-known-n : tie.Need-enum-known-n
@@ -31,7 +31,7 @@ returns : tie.Need-returns
 returns c = span-none (c .before .before .before .before .before .before .before .args .form) (c .before .before .before .before .before .before .before .args .columns) (c .before .before .before .before .before .before .before .args .lines .now) (c .before .before .before .before .before .before .before .args .at) (c .before .before .before .before .before .before .before .pre) (sym (c .before .before .before .before .before .may-be-short .ensures) ∙ c .before .before .before .before .if1 .taken) (ap (λ x. contentOf (part (c .before .before .before .before .before .before .before .args .at) x (c .before .before .before .before .before .before .before .args .lines .now))) (sym (c .before .before .before .behind-or-end .ensures)) ∙ sym (c .before .before .content-at .ensures) ∙ c .enum-told .given .1)
 
 add-result : tie.Need-add-result
-add-result c = omega (arith, content-fits (c .before .before .before .before .before .before .before .before .args .form) (c .before .before .before .before .before .before .before .before .args .columns) (c .before .before .before .before .before .before .before .before .args .lines .now) (c .before .before .before .before .before .before .before .before .args .at) (c .before .before .before .before .before .before .before .before .pre) (c .before .n .given .0 .0) (ap (λ x. contentOf (part (c .before .before .before .before .before .before .before .before .args .at) x (c .before .before .before .before .before .before .before .before .args .lines .now))) (sym (c .before .before .before .before .behind-or-end .ensures)) ∙ sym (c .before .before .before .content-at .ensures) ∙ c .before .n .given .1))
+add-result c = omega (arith, content-fits (c .before .before .before .before .before .before .before .before .args .lines .now) (c .before .before .before .before .before .before .before .before .args .at) (c .before .before .before .before .before .before .before .before .pre) (c .before .n .given .0 .0) (ap (λ x. contentOf (part (c .before .before .before .before .before .before .before .before .args .at) x (c .before .before .before .before .before .before .before .before .args .lines .now))) (sym (c .before .before .before .before .behind-or-end .ensures)) ∙ sym (c .before .before .before .content-at .ensures) ∙ c .before .n .given .1))
 
 returns-2 : tie.Need-returns-2
 returns-2 c = span-content (c .before .before .before .before .before .before .before .before .args .form) (c .before .before .before .before .before .before .before .before .args .columns) (c .before .before .before .before .before .before .before .before .args .lines .now) (c .before .before .before .before .before .before .before .before .args .at) (c .before .before .before .before .before .before .before .before .pre) (sym (c .before .before .before .before .before .before .may-be-short .ensures) ∙ c .before .before .before .before .before .if1 .taken) (c .before .n .given .0 .0) (ap (λ x. contentOf (part (c .before .before .before .before .before .before .before .before .args .at) x (c .before .before .before .before .before .before .before .before .args .lines .now))) (sym (c .before .before .before .before .behind-or-end .ensures)) ∙ sym (c .before .before .before .content-at .ensures) ∙ c .before .n .given .1)

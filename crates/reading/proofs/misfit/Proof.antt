@@ -15,7 +15,7 @@ behind-or-end-requires c κs = search needs
 
 right-content-at-requires : tie.Need-right-content-at-requires
 right-content-at-requires c κs =
-    let r = line-range (c .before .before .args .form) (c .before .before .args .columns) (c .before .before .args .lines .now) (c .before .before .args .at) (c .before .before .pre) in
+    let r = line-range (c .before .before .args .lines .now) (c .before .before .args .at) (c .before .before .pre) in
     (omega (arith, c .behind-or-end .ensures), omega (arith, r .1, c .behind-or-end .ensures))
 
 enum-told : tie.Need-enum-told
