@@ -1,3 +1,7 @@
 -- The laws of rewriting's definitions: groups in turn (Turns, Whole).
+pub mod Cells
+pub mod Due
+pub mod Printing
+pub mod Promises
 pub mod Turns
 pub mod Whole

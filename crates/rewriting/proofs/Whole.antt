@@ -32,7 +32,7 @@ module _ (read : ℕ → Cells) where
   abbrev pub cellsOfGroup : ℕ → List ℤ
   cellsOfGroup g = cellsGot (read g)
 
-  on-done : (g : ℕ) (c : Cells) (cs : List ℤ) → onGroup g c ≡ done cs → c ≡ done cs
+  pub on-done : (g : ℕ) (c : Cells) (cs : List ℤ) → onGroup g c ≡ done cs → c ≡ done cs
   on-done g (done ds) cs e = let p : ds ≡ cs = cc in ap done p
   on-done g (bad r) cs e = let z : _≡_ {A = ℕ} 0 1 = cc in absurd (omega arith)
 
