@@ -12,6 +12,7 @@ pub mod Mapped
 pub mod Order
 pub mod Part
 pub mod Pieces
+pub mod Putting
 pub mod Sign
 pub mod Sum
 pub mod Taken

@@ -149,3 +149,21 @@ lines-below ns g h l = sum-take-mono (lineTally ns) g h l
 pub lines-all : (ns : List ℕ) (g : ℕ) → 61 ≤ g → linesBefore ns g ≡ recordLines ns
 unfolding linesBefore lineTally
 lines-all ns g h = tally-all 2 (linesIn ns) g h
+
+-- ---- the cells before a group
+
+pub cells-has : (ns : List ℕ) (g : ℕ) (f : Form) → formOf g ≡ Has f → cellsIn ns g ≡ cellsOf f (countOf ns g)
+unfolding cellsIn
+cells-has ns g f e = rw e
+
+pub cells-first : (ns : List ℕ) → cellsBefore ns 1 ≡ 0
+unfolding cellsBefore cellTally
+cells-first ns = tally-one 0 (cellsIn ns)
+
+pub cells-next : (ns : List ℕ) (g : ℕ) → 0 < g → g < 61 → cellsBefore ns (g + 1) ≡ cellsBefore ns g + cellsIn ns g
+unfolding cellsBefore cellTally
+cells-next ns g some few = tally-more 0 (cellsIn ns) g some few
+
+pub cells-below : (ns : List ℕ) (g h : ℕ) → g ≤ h → cellsBefore ns g ≤ cellsBefore ns h
+unfolding cellsBefore
+cells-below ns g h l = sum-take-mono (cellTally ns) g h l

@@ -351,7 +351,8 @@ fn letter(v: i64) -> u8
     m.size as u8
 }
 
-fn put_letters(cells: &[i64], out: &mut [u8], at: usize)
+// Writes cells that are letters at a place with room.
+pub fn put_letters(cells: &[i64], out: &mut [u8], at: usize)
     requires { ⌜ (at + length (now cells) ≤ length (now out)) × T (every isLetter (now cells)) ⌝ }
     ensures { λ _. ⌜ now (out .exit) ≡ over at (map sizeOf (now (cells .entry))) (now (out .entry)) ⌝ }
 {
@@ -389,14 +390,21 @@ fn put_as(kind: Kind, cells: &[i64], out: &mut [u8], at: usize)
     }
 }
 
+// Writes the canonical text of cells that fit at a place with room.
+pub fn put(form: Form, cells: &[i64], out: &mut [u8], at: usize)
+    requires { ⌜ T (fitsOf form (now cells)) × (at + rowOf form .width ≤ length (now out)) ⌝ }
+    ensures { λ _. ⌜ now (out .exit) ≡ over at (fieldText form (now (cells .entry))) (now (out .entry)) ⌝ }
+{
+    put_as(kind_of(form), cells, out, at);
+}
+
 // Writes the canonical text of the cells at a place, or nothing: first where no field of the form reads as them, then where there is no room.
 pub fn write(form: Form, cells: &[i64], out: &mut [u8], at: usize) -> Written
     ensures { λ r. ⌜ Wrote (fitsOf form (now (cells .entry))) (fieldText form (now (cells .entry))) at (rowOf form .width) (now (out .entry)) r (now (out .exit)) ⌝ }
 {
-    let kind = kind_of(form);
     if fits(form, cells) {
-        if base::has_room(at, width_of(kind), out.len()) {
-            put_as(kind, cells, out, at);
+        if base::has_room(at, width_of(kind_of(form)), out.len()) {
+            put(form, cells, out, at);
             return Written::Done;
         }
         return Written::NoRoom;
@@ -433,6 +441,14 @@ pub fn read_entry(entry: &[u8]) -> Entry
     count_in(number::scan_part(entry, Scan::Blanks))
 }
 
+// Writes the canonical text of a count at a place with room.
+pub fn put_entry(count: u16, out: &mut [u8], at: usize)
+    requires { ⌜ at + 3 ≤ length (now out) ⌝ }
+    ensures { λ _. ⌜ now (out .exit) ≡ over at (entryText count) (now (out .entry)) ⌝ }
+{
+    number::put_at(out, at, 3, false, Scan::Digits(false, count as u64));
+}
+
 // Writes the canonical text of a count at a place, or nothing.
 pub fn write_entry(count: u16, out: &mut [u8], at: usize) -> Written
     ensures { λ r. ⌜ Wrote (entryFits count) (entryText count) at 3 (now (out .entry)) r (now (out .exit)) ⌝ }
@@ -441,7 +457,7 @@ pub fn write_entry(count: u16, out: &mut [u8], at: usize) -> Written
         return Written::NoField;
     }
     if base::has_room(at, 3, out.len()) {
-        number::put_at(out, at, 3, false, Scan::Digits(false, count as u64));
+        put_entry(count, out, at);
         return Written::Done;
     }
     Written::NoRoom

@@ -29,7 +29,7 @@ use Rattle.form.specs.Count.{elementsOf, cellsOf}
 use Rattle.field.specs.Write.{fitsOf}
 use Rattle.count.specs.Tally
 use Rattle.count.specs.Tally.{countOf, cellsIn, cellsBefore}
-use Rattle.count.proofs.Tallied.{tally-one, tally-more}
+use Rattle.count.proofs.Tallied.{cells-first, cells-next}
 use Rattle.reading.specs.Plan
 use Rattle.reading.specs.Plan.{planFrom}
 use Rattle.record.specs.declared.Fit.{Fit}
@@ -163,13 +163,12 @@ own-groups ns cs o = own-misfit (cellsIn ns) (groupFit ns) (upFrom 1 60) cs o
 
 -- the cells before group i + 1 are those of the groups 1 to i
 pub cells-before : (ns : List ℕ) (i : ℕ) → i < 61 → sum (map (cellsIn ns) (upFrom 1 i)) ≡ cellsBefore ns (suc i)
-unfolding Tally.cellsBefore Tally.cellTally
-cells-before ns zero h = sum-up-none (cellsIn ns) 1 ∙ sym (tally-one 0 (cellsIn ns))
+cells-before ns zero h = sum-up-none (cellsIn ns) 1 ∙ sym (cells-first ns)
 cells-before ns (suc i) h =
     sum-up-more (cellsIn ns) 1 i
     ∙ ap (λ m. m + cellsIn ns (1 + i)) (cells-before ns i (omega arith))
     ∙ ap (λ g. cellsBefore ns (suc i) + cellsIn ns g) (next i)
-    ∙ sym (rw (add-one (suc i)) at (tally-more 0 (cellsIn ns) (suc i) (omega arith) (omega arith)))
+    ∙ sym (rw (add-one (suc i)) at (cells-next ns (suc i) (omega arith) (omega arith)))
   where
     next : (i : ℕ) → 1 + i ≡ suc i
     next i = omega arith

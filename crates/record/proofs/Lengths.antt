@@ -1,9 +1,9 @@
 -- How long canonical text is where all cells fit: a line, a group, the index, a record; and that a group's text takes no cells but its own.
 -- Assumes nothing.
-use mathlib.Core.Path.{_≡_, refl, _∙_, ap}
+use mathlib.Core.Path.{_≡_, refl, sym, _∙_, ap}
 use mathlib.Core.List.{List, [], _∷_, _++_, map}
-use Prim.Native.Nat.{ℕ, zero, suc, _+_, _-_, _*_, min}
-use native.Mathlib.Nat.{add-mul, zero-mul, suc-mul, add-zero, zero-add}
+use Prim.Native.Nat.{ℕ, zero, suc, _+_, _-_, _*_, _<_, _≤_, min}
+use native.Mathlib.Nat.{mul-le-mul, add-mul, zero-mul, suc-mul, add-zero, zero-add}
 use native.Mathlib.Omega.{arith}
 use lib.Dec.{T}
 use lib.IntN.{ℤ}
@@ -15,20 +15,22 @@ use Rattle.base.specs.Sum
 use Rattle.base.specs.Sum.{sum}
 use Rattle.base.proofs.Pieces.{own-imply, emit-length, emit-take}
 use Rattle.base.proofs.Taken.{drop-none}
-use Rattle.base.proofs.UpFrom.{length-up, sum-up-same}
+use Rattle.base.proofs.UpFrom.{length-up, up-more, sum-up-same}
 use Rattle.form.specs.declared.Form.{Form}
 use Rattle.form.specs.declared.GroupForm.{GroupForm}
 use Rattle.form.specs.declared.GroupForm.the-variants.{Has, NoGroup}
 use Rattle.form.specs.Table.{rowOf, formOf}
 use Rattle.form.specs.Count
 use Rattle.form.specs.Count.{elementsOf, linesOf, cellsOf, roundedUp}
-use Rattle.form.proofs.Rows.{row-fits}
+use Rattle.form.proofs.Counted.{lines-few}
+use Rattle.form.proofs.Rows.{row-fits, elements-few}
 use Rattle.form.proofs.Rounding.{lines-enough}
 use Rattle.field.specs.Entry.{entryText}
 use Rattle.field.specs.Write.{fitsOf, fieldText}
 use Rattle.field.proofs.Entries.{entry-wide}
 use Rattle.field.proofs.Laws.{lawful}
 use Rattle.count.specs.Tally.{countOf, cellsIn}
+use Rattle.reading.proofs.Checking.{width-few}
 use Rattle.reading.specs.Plan
 use Rattle.reading.specs.Plan.{Line, lineAt, planFrom, planOf, elementsIn}
 use Rattle.record.specs.declared.Fit.the-variants.{All}
@@ -139,3 +141,40 @@ groups-length ns cs h =
 pub record-length : (ns : List ℕ) (cs : List ℤ) → length ns ≡ 80 → fitOf ns cs ≡ All → length (recordText ns cs) ≡ recordBytes ns
 unfolding recordText recordBytes
 record-length ns cs e h = length-append (indexText ns) (groupsText ns cs) ∙ rw (index-length ns e, groups-length ns cs h)
+
+-- ---- a loop that adds the groups' bytes up
+
+-- the bytes of a group of 65,535 elements at most
+pub bytes-few : (f : Form) (n : ℕ) → n ≤ 65535 → (elementsOf f n * rowOf f .width ≤ 65535 * 120) × (linesOf f n ≤ 65535)
+bytes-few f n h = (mul-le-mul (elements-few f n h) (width-few f), lines-few f n h)
+
+-- those of the groups from g on are still to be added
+pub record Adding (ns : List ℕ) (total g : ℕ) : Type 0 where
+  pub low : 1 ≤ g
+  pub high : g ≤ 61
+  pub small : total ≤ g * 10000000
+  pub same : total + sum (map (bytesIn ns) (upFrom g (61 - g))) ≡ recordBytes ns
+
+module _ (ns : List ℕ) where
+  pub adding-start : Adding ns 244 1
+  unfolding recordBytes
+  adding-start = record { low = omega arith; high = omega arith; small = omega arith; same = refl }
+
+  module _ {total g : ℕ} (b : Adding ns total g) where
+    pub adding-end : 61 ≤ g → total ≡ recordBytes ns
+    unfolding Sum.sum Every.upFrom
+    adding-end h =
+        let z : 61 - g ≡ 0 = omega arith in
+        let e : total + 0 ≡ recordBytes ns = rw z at (b .same) in
+        omega arith
+
+    pub adding-more : g < 61 → (f : Form) → formOf g ≡ Has f → (n : ℕ) → n ≡ countOf ns g → n ≤ 65535 → Adding ns (total + bytesOf f n) (g + 1)
+    unfolding Sum.sum bytesIn
+    adding-more h f e n c few =
+        let s : sum (map (bytesIn ns) (upFrom g (61 - g))) ≡ bytesIn ns g + sum (map (bytesIn ns) (upFrom (g + 1) (61 - (g + 1)))) = ap (λ l. sum (map (bytesIn ns) l)) (up-more g 60 (omega arith)) in
+        let t : bytesIn ns g ≡ bytesOf f n = by f e ∙ ap (bytesOf f) (sym c) in
+        let k = bytes-few f n few in
+        record { low = omega arith; high = omega arith; small = omega (arith, b .small, k .0, k .1); same = omega (arith, b .same) }
+      where
+        by : (f : Form) → formOf g ≡ Has f → bytesIn ns g ≡ bytesOf f (countOf ns g)
+        by f e = rw e

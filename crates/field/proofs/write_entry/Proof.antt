@@ -1,6 +1,7 @@
 -- `field::write_entry` meets its contract: the tests that led to each return choose the answer.
-use native.Mathlib.Omega.{arith}
+-- Assumes nothing.
 use borrow.Author.Needs.{needs}
+use native.Mathlib.Omega.{arith}
 use mathlib.Core.Path.{sym, _∙_}
 use borrow.Author.Tests.{le-leb, lt-leb, leb-true}
 use Prim.Native.Nat.{_+_}
@@ -14,8 +15,8 @@ returns c = record { answer = simp (lt-leb _ _ (c .if1 .taken)); memory = search
 has-room-requires : tie.Need-has-room-requires
 has-room-requires c κs = search needs
 
-put-at-requires : tie.Need-put-at-requires
-put-at-requires c κs = omega (arith, leb-true (c .before .before .before .before .before .args .at + 3) (length (c .before .before .before .before .before .args .out .now)) (sym (c .before .before .has-room .ensures) ∙ c .before .if2 .taken))
+put-entry-requires : tie.Need-put-entry-requires
+put-entry-requires c κs = omega (arith, leb-true (c .before .before .before .before .before .args .at + 3) (length (c .before .before .before .before .before .args .out .now)) (sym (c .before .before .has-room .ensures) ∙ c .before .if2 .taken))
 
 same-length : tie.Need-same-length
 same-length c = search needs
@@ -24,7 +25,7 @@ returns-2 : tie.Need-returns-2
 returns-2 c =
     record {
       answer = simp (le-leb _ _ (c .before .before .before .before .before .before .if1 .left), sym (c .before .before .before .before .before .has-room .ensures) ∙ c .before .before .before .before .if2 .taken);
-      memory = c .before .before .put-at .ensures .0;
+      memory = c .before .before .put-entry .ensures;
     }
 
 returns-3 : tie.Need-returns-3
@@ -32,4 +33,5 @@ returns-3 c = record { answer = simp (le-leb _ _ (c .before .before .if1 .left),
 
 pub write-entry-spec : {M : Type 1} → statement M
 write-entry-spec =
-    tie.close (tie.spec returns has-room-requires put-at-requires same-length returns-2 returns-3)
+    tie.close
+    (tie.spec returns has-room-requires put-entry-requires same-length returns-2 returns-3)

@@ -1,0 +1,78 @@
+-- `record::canonical_length` meets its contract. The invariant: the bytes of the groups from g on are still to be added.
+-- Assumes nothing.
+use borrow.Author.Needs.{needs}
+use native.Mathlib.Omega.{arith}
+use mathlib.Core.Path.{_≡_, sym, _∙_}
+use Prim.Native.Nat.{_-_}
+use Rattle.form.specs.declared.GroupForm.the-variants.{Has}
+use Rattle.form.specs.Table.{formOf}
+use Rattle.count.proofs.Tallied.{has-form}
+use Rattle.record.proofs.Lengths.{Adding, adding-start, adding-end, adding-more}
+use Rattle.record.proofs.canonical_length.Statement.{statement}
+use Rattle.record.proofs.canonical_length.Tie as tie
+
+abbrev Inv-loop : tie.InvT-loop
+Inv-loop counts total₀ g₀ total g = Adding counts total g
+
+abbrev μ-loop : tie.MeasureT-loop
+μ-loop counts total₀ g₀ total g = 61 - g
+
+loop-holds : tie.Need-loop-holds Inv-loop μ-loop
+loop-holds c = adding-start (c .before .args .counts .now)
+
+form-of-requires : tie.Need-form-of-requires Inv-loop μ-loop
+form-of-requires c κs = search needs
+
+enum-known-f : tie.Need-enum-known-f Inv-loop μ-loop
+enum-known-f c = search needs
+
+form-is : (c : tie.After-f Inv-loop μ-loop) → formOf (c .before .before .before .before .loop .g) ≡ Has (c .f .given .0 .0)
+form-is c = sym (c .before .before .form-of .ensures) ∙ c .f .given .1
+
+enum-told : tie.Need-enum-told Inv-loop μ-loop
+enum-told c = search needs
+
+returns : tie.Need-returns Inv-loop μ-loop
+returns c = absurd (has-form (c .before .before .before .before .loop .g) (omega (arith, c .before .before .before .before .loop .inv .low)) (omega arith) (sym (c .before .before .form-of .ensures) ∙ c .enum-told .given .1))
+
+count-of-requires : tie.Need-count-of-requires Inv-loop μ-loop
+count-of-requires c κs = search needs
+
+group-bytes-requires : tie.Need-group-bytes-requires Inv-loop μ-loop
+group-bytes-requires c κs = search needs
+
+add-total : tie.Need-add-total Inv-loop μ-loop
+add-total c =
+    let b = adding-more (c .before .before .before .before .before .before .before .before .before .args .counts .now) (c .before .before .before .before .before .before .before .loop .inv) (c .before .before .before .before .before .before .loop-test .taken) (c .before .before .before .f .given .0 .0) (form-is (c .before .before .before)) (c .before .count-of .result) (c .before .count-of .ensures) (omega arith) in
+    record { fits = omega (arith, b .small, c .group-bytes .ensures) }
+
+add-g : tie.Need-add-g Inv-loop μ-loop
+add-g c = search needs
+
+loop-less : tie.Need-loop-less Inv-loop μ-loop
+loop-less c = search needs
+
+loop-again : tie.Need-loop-again Inv-loop μ-loop
+loop-again c = rw (c .group-bytes .ensures) (adding-more (c .before .before .before .before .before .before .before .before .before .args .counts .now) (c .before .before .before .before .before .before .before .loop .inv) (c .before .before .before .before .before .before .loop-test .taken) (c .before .before .before .f .given .0 .0) (form-is (c .before .before .before)) (c .before .count-of .result) (c .before .count-of .ensures) (omega arith))
+
+returns-2 : tie.Need-returns-2 Inv-loop μ-loop
+returns-2 c = adding-end (c .before .before .before .args .counts .now) (c .before .loop .inv) (c .loop-test .left)
+
+pub canonical-length-spec : {M : Type 1} → statement M
+canonical-length-spec =
+    tie.close
+    (tie.spec
+    Inv-loop
+    μ-loop
+    loop-holds
+    form-of-requires
+    enum-known-f
+    enum-told
+    returns
+    count-of-requires
+    group-bytes-requires
+    add-total
+    add-g
+    loop-less
+    loop-again
+    returns-2)

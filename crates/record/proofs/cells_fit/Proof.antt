@@ -1,0 +1,92 @@
+-- `record::cells_fit` meets its contract. The invariant: the groups before g fit, and all are as the others are.
+-- Assumes nothing.
+use borrow.Author.Needs.{needs}
+use native.Mathlib.Omega.{arith}
+use mathlib.Core.Path.{_≡_, sym, _∙_}
+use Prim.Native.Nat.{_-_}
+use Rattle.form.specs.declared.GroupForm.the-variants.{Has}
+use Rattle.form.specs.Table.{formOf}
+use Rattle.count.proofs.Tallied.{has-form}
+use Rattle.record.proofs.Checking.{Groups, groups-start, groups-end, group-range, groups-more, groups-bad}
+use Rattle.record.proofs.cells_fit.Statement.{statement}
+use Rattle.record.proofs.cells_fit.Tie as tie
+
+abbrev Inv-loop : tie.InvT-loop
+Inv-loop counts cells from₀ g₀ from g = Groups counts cells from g
+
+abbrev μ-loop : tie.MeasureT-loop
+μ-loop counts cells from₀ g₀ from g = 61 - g
+
+loop-holds : tie.Need-loop-holds Inv-loop μ-loop
+loop-holds c = groups-start (c .before .args .counts .now) (c .before .args .cells .now)
+
+form-of-requires : tie.Need-form-of-requires Inv-loop μ-loop
+form-of-requires c κs = search needs
+
+enum-known-f : tie.Need-enum-known-f Inv-loop μ-loop
+enum-known-f c = search needs
+
+form-is : (c : tie.After-f Inv-loop μ-loop) → formOf (c .before .before .before .before .loop .g) ≡ Has (c .f .given .0 .0)
+form-is c = sym (c .before .before .form-of .ensures) ∙ c .f .given .1
+
+enum-told : tie.Need-enum-told Inv-loop μ-loop
+enum-told c = search needs
+
+returns : tie.Need-returns Inv-loop μ-loop
+returns c = absurd (has-form (c .before .before .before .before .loop .g) (omega (arith, c .before .before .before .before .loop .inv .low)) (omega arith) (sym (c .before .before .form-of .ensures) ∙ c .enum-told .given .1))
+
+count-of-requires : tie.Need-count-of-requires Inv-loop μ-loop
+count-of-requires c κs = search needs
+
+elements-fit-requires : tie.Need-elements-fit-requires Inv-loop μ-loop
+elements-fit-requires c κs = group-range (c .before .before .before .before .before .before .before .before .args .counts .now) (c .before .before .before .before .before .before .before .before .args .cells .now) (c .before .before .before .before .before .before .loop .inv) (c .before .before .before .before .before .loop-test .taken) (c .before .before .f .given .0 .0) (form-is (c .before .before)) (c .count-of .result) (c .count-of .ensures) (c .before .before .before .before .before .before .before .before .pre)
+
+enum-known-fit : tie.Need-enum-known-fit Inv-loop μ-loop
+enum-known-fit c = search needs
+
+returns-2 : tie.Need-returns-2 Inv-loop μ-loop
+returns-2 c = groups-bad (c .before .before .before .before .before .before .before .before .before .before .before .before .args .counts .now) (c .before .before .before .before .before .before .before .before .before .before .before .before .args .cells .now) (c .before .before .before .before .before .before .before .before .before .before .loop .inv) (c .before .before .before .before .before .before .before .before .before .loop-test .taken) (c .before .before .before .before .before .before .f .given .0 .0) (form-is (c .before .before .before .before .before .before)) (c .before .before .before .before .count-of .result) (c .before .before .before .before .count-of .ensures) (sym (c .before .before .before .elements-fit .ensures) ∙ c .before .fit .given .1)
+
+enum-told-2 : tie.Need-enum-told-2 Inv-loop μ-loop
+enum-told-2 c = search needs
+
+cells-requires : tie.Need-cells-requires Inv-loop μ-loop
+cells-requires c κs = search needs
+
+add-from : tie.Need-add-from Inv-loop μ-loop
+add-from c = record { fits = omega (arith, c .cells .ensures, group-range (c .before .before .before .before .before .before .before .before .before .before .before .before .args .counts .now) (c .before .before .before .before .before .before .before .before .before .before .before .before .args .cells .now) (c .before .before .before .before .before .before .before .before .before .before .loop .inv) (c .before .before .before .before .before .before .before .before .before .loop-test .taken) (c .before .before .before .before .before .before .f .given .0 .0) (form-is (c .before .before .before .before .before .before)) (c .before .before .before .before .count-of .result) (c .before .before .before .before .count-of .ensures) (c .before .before .before .before .before .before .before .before .before .before .before .before .pre)) }
+
+add-g : tie.Need-add-g Inv-loop μ-loop
+add-g c = search needs
+
+loop-less : tie.Need-loop-less Inv-loop μ-loop
+loop-less c = search needs
+
+loop-again : tie.Need-loop-again Inv-loop μ-loop
+loop-again c = rw (c .cells .ensures) (groups-more (c .before .before .before .before .before .before .before .before .before .before .before .before .args .counts .now) (c .before .before .before .before .before .before .before .before .before .before .before .before .args .cells .now) (c .before .before .before .before .before .before .before .before .before .before .loop .inv) (c .before .before .before .before .before .before .before .before .before .loop-test .taken) (c .before .before .before .before .before .before .f .given .0 .0) (form-is (c .before .before .before .before .before .before)) (c .before .before .before .before .count-of .result) (c .before .before .before .before .count-of .ensures) (sym (c .before .before .before .elements-fit .ensures) ∙ c .before .enum-told2 .given .1))
+
+returns-3 : tie.Need-returns-3 Inv-loop μ-loop
+returns-3 c = groups-end (c .before .before .before .args .counts .now) (c .before .before .before .args .cells .now) (c .before .loop .inv) (c .loop-test .left)
+
+pub cells-fit-spec : {M : Type 1} → statement M
+cells-fit-spec =
+    tie.close
+    (tie.spec
+    Inv-loop
+    μ-loop
+    loop-holds
+    form-of-requires
+    enum-known-f
+    enum-told
+    returns
+    count-of-requires
+    elements-fit-requires
+    enum-known-fit
+    returns-2
+    enum-told-2
+    cells-requires
+    add-from
+    add-g
+    loop-less
+    loop-again
+    returns-3)

@@ -1,0 +1,68 @@
+-- `record::elements_fit` meets its contract. The invariant: e elements fit, and all are as the others are.
+-- Assumes nothing.
+use borrow.Author.Needs.{needs}
+use native.Mathlib.Omega.{arith}
+use mathlib.Core.Path.{sym, ap, _∙_}
+use Prim.Native.Nat.{_-_}
+use Rattle.record.proofs.Checking.{Elements, elements-start, elements-end, element-range, elements-more, elements-bad}
+use Rattle.record.proofs.elements_fit.Statement.{statement}
+use Rattle.record.proofs.elements_fit.Tie as tie
+
+abbrev Inv-loop : tie.InvT-loop
+Inv-loop form group count cells from size many at₀ e₀ at e = Elements form group count cells from size many at e
+
+abbrev μ-loop : tie.MeasureT-loop
+μ-loop form group count cells from size many at₀ e₀ at e = many - e
+
+row-of-requires : tie.Need-row-of-requires Inv-loop μ-loop
+row-of-requires c κs = search needs
+
+elements-requires : tie.Need-elements-requires Inv-loop μ-loop
+elements-requires c κs = search needs
+
+loop-holds : tie.Need-loop-holds Inv-loop μ-loop
+loop-holds c = elements-start (c .before .before .args .form) (c .before .before .args .group) (c .before .before .args .count) (c .before .before .args .cells .now) (c .before .before .args .from) _ _ (ap (λ r. r .cells) (c .before .row-of .ensures)) (c .elements .ensures)
+
+add-to : tie.Need-add-to Inv-loop μ-loop
+add-to c =
+    let r = element-range (c .before .before .before .before .args .form) (c .before .before .before .before .args .group) (c .before .before .before .before .args .count) (c .before .before .before .before .args .cells .now) (c .before .before .before .before .args .from) (c .before .loop .inv) (c .loop-test .taken) (c .before .before .before .before .pre) in
+    record { fits = omega (arith, r .1) }
+
+fits-at-requires : tie.Need-fits-at-requires Inv-loop μ-loop
+fits-at-requires c κs = element-range (c .before .before .before .before .args .form) (c .before .before .before .before .args .group) (c .before .before .before .before .args .count) (c .before .before .before .before .args .cells .now) (c .before .before .before .before .args .from) (c .before .loop .inv) (c .loop-test .taken) (c .before .before .before .before .pre)
+
+add-e : tie.Need-add-e Inv-loop μ-loop
+add-e c = search needs
+
+loop-less : tie.Need-loop-less Inv-loop μ-loop
+loop-less c = search needs
+
+loop-again : tie.Need-loop-again Inv-loop μ-loop
+loop-again c = elements-more (c .before .before .before .before .before .before .args .form) (c .before .before .before .before .before .before .args .group) (c .before .before .before .before .before .before .args .count) (c .before .before .before .before .before .before .args .cells .now) (c .before .before .before .before .before .before .args .from) (c .before .before .before .loop .inv) (c .before .before .loop-test .taken) (sym (c .before .fits-at .ensures) ∙ c .if1 .taken)
+
+add-t14 : tie.Need-add-t14 Inv-loop μ-loop
+add-t14 c = search needs
+
+returns : tie.Need-returns Inv-loop μ-loop
+returns c = elements-bad (c .before .before .before .before .before .before .args .form) (c .before .before .before .before .before .before .args .group) (c .before .before .before .before .before .before .args .count) (c .before .before .before .before .before .before .args .cells .now) (c .before .before .before .before .before .before .args .from) (c .before .before .before .loop .inv) (c .before .before .loop-test .taken) (sym (c .before .fits-at .ensures) ∙ c .if1 .left)
+
+returns-2 : tie.Need-returns-2 Inv-loop μ-loop
+returns-2 c = elements-end (c .before .before .before .before .args .form) (c .before .before .before .before .args .group) (c .before .before .before .before .args .count) (c .before .before .before .before .args .cells .now) (c .before .before .before .before .args .from) (c .before .loop .inv) (c .loop-test .left)
+
+pub elements-fit-spec : {M : Type 1} → statement M
+elements-fit-spec =
+    tie.close
+    (tie.spec
+    Inv-loop
+    μ-loop
+    row-of-requires
+    elements-requires
+    loop-holds
+    add-to
+    fits-at-requires
+    add-e
+    loop-less
+    loop-again
+    add-t14
+    returns
+    returns-2)

@@ -1,0 +1,62 @@
+-- `record::put_entries` meets its contract. The invariant: the entries from i on, put at a, make all of them.
+-- Assumes nothing.
+use borrow.Author.Needs.{needs}
+use native.Mathlib.Omega.{arith}
+use Prim.Native.Nat.{_-_}
+use lib.ListN.{length}
+use Rattle.record.proofs.Putting.{Entries, entries-start, entries-end, entry-room, entries-next}
+use Rattle.record.proofs.put_entries.Statement.{statement}
+use Rattle.record.proofs.put_entries.Tie as tie
+
+abbrev Inv-loop : tie.InvT-loop
+Inv-loop counts out₀ at a₀ i₀ out a i = Entries counts out₀ at a i out
+
+abbrev μ-loop : tie.MeasureT-loop
+μ-loop counts out₀ at a₀ i₀ out a i = length counts - i
+
+loop-holds : tie.Need-loop-holds Inv-loop μ-loop
+loop-holds c = entries-start (c .before .before .args .counts .now) (c .before .before .args .out .now) (c .before .before .args .at) (c .before .before .pre)
+
+mul-put-entry : tie.Need-mul-put-entry Inv-loop μ-loop
+mul-put-entry c = search needs
+
+shared-slice-read-put-entry : tie.Need-shared-slice-read-put-entry Inv-loop μ-loop
+shared-slice-read-put-entry c = search needs
+
+put-entry-requires : tie.Need-put-entry-requires Inv-loop μ-loop
+put-entry-requires c κs = entry-room (c .before .before .before .before .before .before .args .counts .now) (c .before .before .before .before .before .before .args .out .now) (c .before .before .before .before .before .before .args .at) (c .before .before .before .loop .inv) (c .before .before .loop-test .taken)
+
+add-a : tie.Need-add-a Inv-loop μ-loop
+add-a c = record { fits = omega (arith, entry-room (c .before .before .before .before .before .before .before .before .before .args .counts .now) (c .before .before .before .before .before .before .before .before .before .args .out .now) (c .before .before .before .before .before .before .before .before .before .args .at) (c .before .before .before .before .before .before .loop .inv) (c .before .before .before .before .before .loop-test .taken)) }
+
+add-i : tie.Need-add-i Inv-loop μ-loop
+add-i c = search needs
+
+loop-less : tie.Need-loop-less Inv-loop μ-loop
+loop-less c = search needs
+
+loop-again : tie.Need-loop-again Inv-loop μ-loop
+loop-again c = entries-next (c .before .before .before .before .before .before .before .before .before .args .counts .now) (c .before .before .before .before .before .before .before .before .before .args .out .now) (c .before .before .before .before .before .before .before .before .before .args .at) (c .before .before .before .before .before .before .loop .inv) (c .before .before .before .before .before .loop-test .taken) _ (c .before .before .put-entry .ensures)
+
+same-length : tie.Need-same-length Inv-loop μ-loop
+same-length c = c .before .loop .inv .put .long
+
+returns : tie.Need-returns Inv-loop μ-loop
+returns c = entries-end (c .before .before .before .before .args .counts .now) (c .before .before .before .before .args .out .now) (c .before .before .before .before .args .at) (c .before .loop .inv) (c .loop-test .left)
+
+pub put-entries-spec : {M : Type 1} → statement M
+put-entries-spec =
+    tie.close
+    (tie.spec
+    Inv-loop
+    μ-loop
+    loop-holds
+    mul-put-entry
+    shared-slice-read-put-entry
+    put-entry-requires
+    add-a
+    add-i
+    loop-less
+    loop-again
+    same-length
+    returns)

@@ -1,0 +1,90 @@
+-- `record::put_groups` meets its contract. The invariant: the groups from g on, put at a, make all of them.
+-- Assumes nothing.
+use borrow.Author.Needs.{needs}
+use native.Mathlib.Omega.{arith}
+use mathlib.Core.Path.{_≡_, sym, _∙_}
+use Prim.Native.Nat.{_-_}
+use Rattle.form.specs.declared.GroupForm.the-variants.{Has}
+use Rattle.form.specs.Table.{formOf}
+use Rattle.count.proofs.Tallied.{has-form}
+use Rattle.record.proofs.Putting.{GroupsPut, groups-put-start, groups-put-end, group-requires, groups-put-next}
+use Rattle.record.proofs.put_groups.Statement.{statement}
+use Rattle.record.proofs.put_groups.Tie as tie
+
+abbrev Inv-loop : tie.InvT-loop
+Inv-loop counts cells out₀ at from₀ a₀ g₀ out from a g = GroupsPut counts cells at out₀ from a g out
+
+abbrev μ-loop : tie.MeasureT-loop
+μ-loop counts cells out₀ at from₀ a₀ g₀ out from a g = 61 - g
+
+loop-holds : tie.Need-loop-holds Inv-loop μ-loop
+loop-holds c = groups-put-start (c .before .before .args .counts .now) (c .before .before .args .cells .now) (c .before .before .args .at) (c .before .before .args .out .now) (c .before .before .pre .2)
+
+form-of-requires : tie.Need-form-of-requires Inv-loop μ-loop
+form-of-requires c κs = search needs
+
+enum-known-f : tie.Need-enum-known-f Inv-loop μ-loop
+enum-known-f c = search needs
+
+form-is : (c : tie.After-f Inv-loop μ-loop) → formOf (c .before .before .before .before .loop .g) ≡ Has (c .f .given .0 .0)
+form-is c = sym (c .before .before .form-of .ensures) ∙ c .f .given .1
+
+enum-told : tie.Need-enum-told Inv-loop μ-loop
+enum-told c = search needs
+
+same-length : tie.Need-same-length Inv-loop μ-loop
+same-length c = c .before .before .before .before .loop .inv .put .long
+
+returns : tie.Need-returns Inv-loop μ-loop
+returns c = absurd (has-form (c .before .before .before .before .loop .g) (omega (arith, c .before .before .before .before .loop .inv .low)) (omega arith) (sym (c .before .before .form-of .ensures) ∙ c .enum-told .given .1))
+
+count-of-requires : tie.Need-count-of-requires Inv-loop μ-loop
+count-of-requires c κs = search needs
+
+put-lines-requires : tie.Need-put-lines-requires Inv-loop μ-loop
+put-lines-requires c κs = group-requires (c .before .before .before .before .before .before .before .before .before .before .args .counts .now) (c .before .before .before .before .before .before .before .before .before .before .args .cells .now) (c .before .before .before .before .before .before .before .before .before .before .args .at) (c .before .before .before .before .before .before .before .before .before .before .args .out .now) (c .before .before .before .before .before .before .before .loop .inv) (c .before .before .before .before .before .before .loop-test .taken) (c .before .before .before .before .before .before .before .before .before .before .pre .1) (c .before .before .before .before .before .before .before .before .before .before .pre .0) (c .before .before .before .f .given .0 .0) (form-is (c .before .before .before)) (c .before .count-of .result) (c .before .count-of .ensures)
+
+cells-requires : tie.Need-cells-requires Inv-loop μ-loop
+cells-requires c κs = search needs
+
+add-from : tie.Need-add-from Inv-loop μ-loop
+add-from c =
+    let r = group-requires (c .before .before .before .before .before .before .before .before .before .before .before .before .before .before .args .counts .now) (c .before .before .before .before .before .before .before .before .before .before .before .before .before .before .args .cells .now) (c .before .before .before .before .before .before .before .before .before .before .before .before .before .before .args .at) (c .before .before .before .before .before .before .before .before .before .before .before .before .before .before .args .out .now) (c .before .before .before .before .before .before .before .before .before .before .before .loop .inv) (c .before .before .before .before .before .before .before .before .before .before .loop-test .taken) (c .before .before .before .before .before .before .before .before .before .before .before .before .before .before .pre .1) (c .before .before .before .before .before .before .before .before .before .before .before .before .before .before .pre .0) (c .before .before .before .before .before .before .before .f .given .0 .0) (form-is (c .before .before .before .before .before .before .before)) (c .before .before .before .before .before .count-of .result) (c .before .before .before .before .before .count-of .ensures) in
+    record { fits = omega (arith, r .0, c .cells .ensures) }
+
+add-g : tie.Need-add-g Inv-loop μ-loop
+add-g c = search needs
+
+loop-less : tie.Need-loop-less Inv-loop μ-loop
+loop-less c = search needs
+
+loop-again : tie.Need-loop-again Inv-loop μ-loop
+loop-again c = rw (c .cells .ensures) (groups-put-next (c .before .before .before .before .before .before .before .before .before .before .before .before .before .before .args .counts .now) (c .before .before .before .before .before .before .before .before .before .before .before .before .before .before .args .cells .now) (c .before .before .before .before .before .before .before .before .before .before .before .before .before .before .args .at) (c .before .before .before .before .before .before .before .before .before .before .before .before .before .before .args .out .now) (c .before .before .before .before .before .before .before .before .before .before .before .loop .inv) (c .before .before .before .before .before .before .before .before .before .before .loop-test .taken) (c .before .before .before .before .before .before .before .before .before .before .before .before .before .before .pre .1) (c .before .before .before .before .before .before .before .before .before .before .before .before .before .before .pre .0) (c .before .before .before .before .before .before .before .f .given .0 .0) (form-is (c .before .before .before .before .before .before .before)) (c .before .before .before .before .before .count-of .result) (c .before .before .before .before .before .count-of .ensures) _ _ (c .before .before .before .put-lines .ensures .0) (c .before .before .before .put-lines .ensures .1))
+
+same-length-2 : tie.Need-same-length-2 Inv-loop μ-loop
+same-length-2 c = c .before .loop .inv .put .long
+
+returns-2 : tie.Need-returns-2 Inv-loop μ-loop
+returns-2 c = groups-put-end (c .before .before .before .before .args .counts .now) (c .before .before .before .before .args .cells .now) (c .before .before .before .before .args .at) (c .before .before .before .before .args .out .now) (c .before .loop .inv) (c .loop-test .left)
+
+pub put-groups-spec : {M : Type 1} → statement M
+put-groups-spec =
+    tie.close
+    (tie.spec
+    Inv-loop
+    μ-loop
+    loop-holds
+    form-of-requires
+    enum-known-f
+    enum-told
+    same-length
+    returns
+    count-of-requires
+    put-lines-requires
+    cells-requires
+    add-from
+    add-g
+    loop-less
+    loop-again
+    same-length-2
+    returns-2)

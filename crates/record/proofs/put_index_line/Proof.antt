@@ -1,0 +1,28 @@
+-- `record::put_index_line` meets its contract: 40 entries of three bytes, and the line's end.
+-- Assumes nothing.
+use borrow.Author.Needs.{needs}
+use native.Mathlib.Omega.{arith}
+use Rattle.record.proofs.Lengths.{entries-length}
+use Rattle.record.proofs.Putting.{index-line-put}
+use Rattle.record.proofs.put_index_line.Statement.{statement}
+use Rattle.record.proofs.put_index_line.Tie as tie
+
+put-entries-requires : tie.Need-put-entries-requires
+put-entries-requires c κs = omega (arith, entries-length (c .before .before .before .args .counts .now), c .before .before .before .pre .0, c .before .before .before .pre .1)
+
+add-put-line-end : tie.Need-add-put-line-end
+add-put-line-end c = search needs
+
+put-line-end-requires : tie.Need-put-line-end-requires
+put-line-end-requires c κs = search needs
+
+same-length : tie.Need-same-length
+same-length c = search needs
+
+returns : tie.Need-returns
+returns c = index-line-put (c .before .before .before .before .before .before .before .before .before .before .args .counts .now) (c .before .before .before .before .before .before .before .before .before .before .args .out .now) _ _ (c .before .before .before .before .before .before .before .before .before .before .args .at) (c .before .before .before .before .before .before .before .before .before .before .pre .0) (c .before .before .before .before .before .before .before .before .before .before .pre .1) (c .before .before .before .before .before .before .put-entries .ensures) (c .before .before .put-line-end .ensures)
+
+pub put-index-line-spec : {M : Type 1} → statement M
+put-index-line-spec =
+    tie.close
+    (tie.spec put-entries-requires add-put-line-end put-line-end-requires same-length returns)

@@ -1,0 +1,96 @@
+-- `record::put_lines` meets its contract. The invariant: the lines from the j-th on, put at a, make all of them.
+-- Assumes nothing.
+use borrow.Author.Needs.{needs}
+use native.Mathlib.Omega.{arith}
+use Prim.Native.Nat.{_-_}
+use Rattle.record.proofs.Putting.{Lines, lines-start, lines-end, line-requires, lines-next}
+use Rattle.record.proofs.put_lines.Statement.{statement}
+use Rattle.record.proofs.put_lines.Tie as tie
+
+abbrev Inv-loop : tie.InvT-loop
+Inv-loop form count cells from out₀ at row per-line size left₀ many cell₀ a₀ j₀ out left cell a j =
+    Lines form count cells from at out₀ per-line size many left cell a j out
+
+abbrev μ-loop : tie.MeasureT-loop
+μ-loop form count cells from out₀ at row per-line size left₀ many cell₀ a₀ j₀ out left cell a j = many - j
+
+row-of-requires : tie.Need-row-of-requires Inv-loop μ-loop
+row-of-requires c κs = search needs
+
+elements-requires : tie.Need-elements-requires Inv-loop μ-loop
+elements-requires c κs = search needs
+
+rounded-up-requires : tie.Need-rounded-up-requires Inv-loop μ-loop
+rounded-up-requires c κs = search needs
+
+loop-holds : tie.Need-loop-holds Inv-loop μ-loop
+loop-holds c = lines-start (c .before .before .before .before .args .form) (c .before .before .before .before .args .count) (c .before .before .before .before .args .cells .now) (c .before .before .before .before .args .from) (c .before .before .before .before .args .at) (c .before .before .before .before .args .out .now) (c .before .before .before .before .pre .1) (c .before .before .row-of .result) (c .before .elements .result) (c .rounded-up .result) (c .before .before .row-of .ensures) (c .before .elements .ensures) (c .rounded-up .ensures) (c .before .before .before .before .pre .2)
+
+lesser-requires : tie.Need-lesser-requires Inv-loop μ-loop
+lesser-requires c κs = search needs
+
+put-fields-requires : tie.Need-put-fields-requires Inv-loop μ-loop
+put-fields-requires c κs =
+    let r = line-requires (c .before .before .before .before .before .before .before .before .args .form) (c .before .before .before .before .before .before .before .before .args .count) (c .before .before .before .before .before .before .before .before .args .cells .now) (c .before .before .before .before .before .before .before .before .args .from) (c .before .before .before .before .before .before .before .before .args .at) (c .before .before .before .before .before .before .before .before .args .out .now) (c .before .before .before .before .before .before .before .before .pre .1) (c .before .before .before .loop .inv) (c .before .before .loop-test .taken) (c .before .lesser .result) (c .before .lesser .ensures) (c .before .before .before .before .before .before .before .before .pre .0) in
+    (c .before .before .before .before .before .before .row-of .ensures, r .0, r .1, omega (arith, r .2))
+
+put-line-end-requires : tie.Need-put-line-end-requires Inv-loop μ-loop
+put-line-end-requires c κs =
+    let r = line-requires (c .before .before .before .before .before .before .before .before .before .before .before .before .args .form) (c .before .before .before .before .before .before .before .before .before .before .before .before .args .count) (c .before .before .before .before .before .before .before .before .before .before .before .before .args .cells .now) (c .before .before .before .before .before .before .before .before .before .before .before .before .args .from) (c .before .before .before .before .before .before .before .before .before .before .before .before .args .at) (c .before .before .before .before .before .before .before .before .before .before .before .before .args .out .now) (c .before .before .before .before .before .before .before .before .before .before .before .before .pre .1) (c .before .before .before .before .before .before .before .loop .inv) (c .before .before .before .before .before .before .loop-test .taken) (c .before .before .before .before .before .lesser .result) (c .before .before .before .before .before .lesser .ensures) (c .before .before .before .before .before .before .before .before .before .before .before .before .pre .0) in
+    omega (arith, r .2, c .before .before .before .put-fields .ensures .0)
+
+add-a : tie.Need-add-a Inv-loop μ-loop
+add-a c =
+    let r = line-requires (c .before .before .before .before .before .before .before .before .before .before .before .before .before .before .before .args .form) (c .before .before .before .before .before .before .before .before .before .before .before .before .before .before .before .args .count) (c .before .before .before .before .before .before .before .before .before .before .before .before .before .before .before .args .cells .now) (c .before .before .before .before .before .before .before .before .before .before .before .before .before .before .before .args .from) (c .before .before .before .before .before .before .before .before .before .before .before .before .before .before .before .args .at) (c .before .before .before .before .before .before .before .before .before .before .before .before .before .before .before .args .out .now) (c .before .before .before .before .before .before .before .before .before .before .before .before .before .before .before .pre .1) (c .before .before .before .before .before .before .before .before .before .before .loop .inv) (c .before .before .before .before .before .before .before .before .before .loop-test .taken) (c .before .before .before .before .before .before .before .before .lesser .result) (c .before .before .before .before .before .before .before .before .lesser .ensures) (c .before .before .before .before .before .before .before .before .before .before .before .before .before .before .before .pre .0) in
+    record { fits = omega (arith, r .2, c .before .before .before .before .before .before .put-fields .ensures .0) }
+
+mul-cell : tie.Need-mul-cell Inv-loop μ-loop
+mul-cell c =
+    let r = line-requires (c .before .before .before .before .before .before .before .before .before .before .before .before .before .before .before .args .form) (c .before .before .before .before .before .before .before .before .before .before .before .before .before .before .before .args .count) (c .before .before .before .before .before .before .before .before .before .before .before .before .before .before .before .args .cells .now) (c .before .before .before .before .before .before .before .before .before .before .before .before .before .before .before .args .from) (c .before .before .before .before .before .before .before .before .before .before .before .before .before .before .before .args .at) (c .before .before .before .before .before .before .before .before .before .before .before .before .before .before .before .args .out .now) (c .before .before .before .before .before .before .before .before .before .before .before .before .before .before .before .pre .1) (c .before .before .before .before .before .before .before .before .before .before .loop .inv) (c .before .before .before .before .before .before .before .before .before .loop-test .taken) (c .before .before .before .before .before .before .before .before .lesser .result) (c .before .before .before .before .before .before .before .before .lesser .ensures) (c .before .before .before .before .before .before .before .before .before .before .before .before .before .before .before .pre .0) in
+    record { fits = rw (c .before .before .before .before .before .before .before .before .before .before .loop .inv .sized) (omega (arith, r .0)) }
+
+add-cell : tie.Need-add-cell Inv-loop μ-loop
+add-cell c =
+    let r = line-requires (c .before .before .before .before .before .before .before .before .before .before .before .before .before .before .before .args .form) (c .before .before .before .before .before .before .before .before .before .before .before .before .before .before .before .args .count) (c .before .before .before .before .before .before .before .before .before .before .before .before .before .before .before .args .cells .now) (c .before .before .before .before .before .before .before .before .before .before .before .before .before .before .before .args .from) (c .before .before .before .before .before .before .before .before .before .before .before .before .before .before .before .args .at) (c .before .before .before .before .before .before .before .before .before .before .before .before .before .before .before .args .out .now) (c .before .before .before .before .before .before .before .before .before .before .before .before .before .before .before .pre .1) (c .before .before .before .before .before .before .before .before .before .before .loop .inv) (c .before .before .before .before .before .before .before .before .before .loop-test .taken) (c .before .before .before .before .before .before .before .before .lesser .result) (c .before .before .before .before .before .before .before .before .lesser .ensures) (c .before .before .before .before .before .before .before .before .before .before .before .before .before .before .before .pre .0) in
+    record { fits = rw (c .before .before .before .before .before .before .before .before .before .before .loop .inv .sized) (omega (arith, r .0)) }
+
+sub-left : tie.Need-sub-left Inv-loop μ-loop
+sub-left c = omega (arith, c .before .before .before .before .before .before .before .before .lesser .ensures)
+
+add-j : tie.Need-add-j Inv-loop μ-loop
+add-j c = search needs
+
+loop-less : tie.Need-loop-less Inv-loop μ-loop
+loop-less c = search needs
+
+loop-again : tie.Need-loop-again Inv-loop μ-loop
+loop-again c = lines-next (c .before .before .before .before .before .before .before .before .before .before .before .before .before .before .before .args .form) (c .before .before .before .before .before .before .before .before .before .before .before .before .before .before .before .args .count) (c .before .before .before .before .before .before .before .before .before .before .before .before .before .before .before .args .cells .now) (c .before .before .before .before .before .before .before .before .before .before .before .before .before .before .before .args .from) (c .before .before .before .before .before .before .before .before .before .before .before .before .before .before .before .args .at) (c .before .before .before .before .before .before .before .before .before .before .before .before .before .before .before .args .out .now) (c .before .before .before .before .before .before .before .before .before .before .before .before .before .before .before .pre .1) (c .before .before .before .before .before .before .before .before .before .before .loop .inv) (c .before .before .before .before .before .before .before .before .before .loop-test .taken) (c .before .before .before .before .before .before .before .before .lesser .result) (c .before .before .before .before .before .before .before .before .lesser .ensures) _ _ _ (c .before .before .before .before .before .before .put-fields .ensures .0) (c .before .before .before .before .before .before .put-fields .ensures .1) (c .before .before .put-line-end .ensures)
+
+same-length : tie.Need-same-length Inv-loop μ-loop
+same-length c = c .before .loop .inv .put .long
+
+returns : tie.Need-returns Inv-loop μ-loop
+returns c = lines-end (c .before .before .before .before .before .before .args .form) (c .before .before .before .before .before .before .args .count) (c .before .before .before .before .before .before .args .cells .now) (c .before .before .before .before .before .before .args .from) (c .before .before .before .before .before .before .args .at) (c .before .before .before .before .before .before .args .out .now) (c .before .before .before .before .before .before .pre .1) (c .before .loop .inv) (c .loop-test .left)
+
+pub put-lines-spec : {M : Type 1} → statement M
+put-lines-spec =
+    tie.close
+    (tie.spec
+    Inv-loop
+    μ-loop
+    row-of-requires
+    elements-requires
+    rounded-up-requires
+    loop-holds
+    lesser-requires
+    put-fields-requires
+    put-line-end-requires
+    add-a
+    mul-cell
+    add-cell
+    sub-left
+    add-j
+    loop-less
+    loop-again
+    same-length
+    returns)

@@ -1,0 +1,56 @@
+-- `record::write_checked` meets its contract: 13, 10, and what is left to be asked.
+-- Assumes nothing.
+use borrow.Author.Needs.{needs}
+use mathlib.Core.Path.{sym, _∙_}
+use Rattle.record.proofs.Steps.{all-needed, fit-bad, date-bad, date-right}
+use Rattle.record.proofs.write_checked.Statement.{statement}
+use Rattle.record.proofs.write_checked.Tie as tie
+
+cells-fit-requires : tie.Need-cells-fit-requires
+cells-fit-requires c κs = all-needed (c .before .before .args .counts .now) (c .before .before .args .cells .now) (c .before .before .args .out .now) (c .before .before .pre)
+
+enum-known-g : tie.Need-enum-known-g
+enum-known-g c = search needs
+
+enum-told : tie.Need-enum-told
+enum-told c = search needs
+
+date-of-requires : tie.Need-date-of-requires
+date-of-requires c κs = (c .before .before .before .before .before .pre, sym (c .before .before .cells-fit .ensures) ∙ c .enum-told .given .1)
+
+enum-known-position : tie.Need-enum-known-position
+enum-known-position c = search needs
+
+enum-told-2 : tie.Need-enum-told-2
+enum-told-2 c = search needs
+
+write-right-requires : tie.Need-write-right-requires
+write-right-requires c κs = (c .before .before .before .before .before .before .before .before .before .pre, sym (c .before .before .before .before .before .before .cells-fit .ensures) ∙ c .before .before .before .before .enum-told .given .1)
+
+returns : tie.Need-returns
+returns c = fit-bad (c .before .before .before .before .before .before .args .counts .now) (c .before .before .before .before .before .before .args .cells .now) (c .before .before .before .before .before .before .args .out .now) (sym (c .before .before .before .cells-fit .ensures) ∙ c .before .g .given .1)
+
+returns-2 : tie.Need-returns-2
+returns-2 c = date-bad (c .before .before .before .before .before .before .before .before .before .args .counts .now) (c .before .before .before .before .before .before .before .before .before .args .cells .now) (c .before .before .before .before .before .before .before .before .before .args .out .now) (sym (c .before .before .before .before .before .before .cells-fit .ensures) ∙ c .before .before .before .before .enum-told .given .1) (sym (c .before .before .before .date-of .ensures) ∙ c .before .position .given .1)
+
+same-length : tie.Need-same-length
+same-length c = search needs
+
+returns-3 : tie.Need-returns-3
+returns-3 c = date-right (c .before .before .before .before .before .before .before .before .before .before .before .before .args .counts .now) (c .before .before .before .before .before .before .before .before .before .before .before .before .args .cells .now) (c .before .before .before .before .before .before .before .before .before .before .before .before .args .out .now) (sym (c .before .before .before .before .before .before .before .before .before .cells-fit .ensures) ∙ c .before .before .before .before .before .before .before .enum-told .given .1) (sym (c .before .before .before .before .before .before .date-of .ensures) ∙ c .before .before .before .before .enum-told2 .given .1) (c .before .before .write-right .ensures)
+
+pub write-checked-spec : {M : Type 1} → statement M
+write-checked-spec =
+    tie.close
+    (tie.spec
+    cells-fit-requires
+    enum-known-g
+    enum-told
+    date-of-requires
+    enum-known-position
+    enum-told-2
+    write-right-requires
+    returns
+    returns-2
+    same-length
+    returns-3)

@@ -1,0 +1,72 @@
+-- `record::write_record` meets its contract: the check's answer chooses.
+-- Assumes nothing.
+use borrow.Author.Needs.{needs}
+use mathlib.Core.Path.{refl, sym, _∙_}
+use Rattle.record.proofs.Steps.{checked-by}
+use Rattle.record.proofs.write_record.Statement.{statement}
+use Rattle.record.proofs.write_record.Tie as tie
+
+check-requires : tie.Need-check-requires
+check-requires c κs = search needs
+
+enum-told : tie.Need-enum-told
+enum-told c = search needs
+
+write-checked-requires : tie.Need-write-checked-requires
+write-checked-requires c κs = sym (c .before .before .before .check .ensures) ∙ c .before .enum-told .given .1
+
+enum-told-2 : tie.Need-enum-told-2
+enum-told-2 c = search needs
+
+enum-told-3 : tie.Need-enum-told-3
+enum-told-3 c = search needs
+
+enum-known-g : tie.Need-enum-known-g
+enum-known-g c = search needs
+
+enum-known-g-2 : tie.Need-enum-known-g-2
+enum-known-g-2 c = search needs
+
+enum-told-4 : tie.Need-enum-told-4
+enum-told-4 c = search needs
+
+same-length : tie.Need-same-length
+same-length c = search needs
+
+returns : tie.Need-returns
+returns c = checked-by (c .before .before .before .before .before .before .before .before .before .args .counts .now) (c .before .before .before .before .before .before .before .before .before .args .cells .now) (c .before .before .before .before .before .before .before .before .before .args .out .now) (sym (c .before .before .before .before .before .before .check .ensures) ∙ c .before .before .before .before .enum-told .given .1) (c .before .before .write-checked .ensures)
+
+returns-2 : tie.Need-returns-2
+returns-2 c = checked-by (c .before .before .before .before .before .args .counts .now) (c .before .before .before .before .before .args .cells .now) (c .before .before .before .before .before .args .out .now) (sym (c .before .before .check .ensures) ∙ c .enum-told2 .given .1) (refl, refl)
+
+returns-3 : tie.Need-returns-3
+returns-3 c = checked-by (c .before .before .before .before .before .args .counts .now) (c .before .before .before .before .before .args .cells .now) (c .before .before .before .before .before .args .out .now) (sym (c .before .before .check .ensures) ∙ c .enum-told3 .given .1) (refl, refl)
+
+returns-4 : tie.Need-returns-4
+returns-4 c = checked-by (c .before .before .before .before .before .before .args .counts .now) (c .before .before .before .before .before .before .args .cells .now) (c .before .before .before .before .before .before .args .out .now) (sym (c .before .before .before .check .ensures) ∙ c .before .g .given .1) (refl, refl)
+
+returns-5 : tie.Need-returns-5
+returns-5 c = checked-by (c .before .before .before .before .before .before .args .counts .now) (c .before .before .before .before .before .before .args .cells .now) (c .before .before .before .before .before .before .args .out .now) (sym (c .before .before .before .check .ensures) ∙ c .before .g2 .given .1) (refl, refl)
+
+returns-6 : tie.Need-returns-6
+returns-6 c = checked-by (c .before .before .before .before .before .args .counts .now) (c .before .before .before .before .before .args .cells .now) (c .before .before .before .before .before .args .out .now) (sym (c .before .before .check .ensures) ∙ c .enum-told4 .given .1) (refl, refl)
+
+pub write-record-spec : {M : Type 1} → statement M
+write-record-spec =
+    tie.close
+    (tie.spec
+    check-requires
+    enum-told
+    write-checked-requires
+    enum-told-2
+    enum-told-3
+    enum-known-g
+    enum-known-g-2
+    enum-told-4
+    same-length
+    returns
+    returns-2
+    returns-3
+    returns-4
+    returns-5
+    returns-6)
