@@ -82,7 +82,7 @@ module _ (read : ℕ → Cells) where
   turn-all d = all-done in-turn (λ i l. let h = d (suc i) (omega arith) (omega arith) in record { cells = h .cells; is = rw (h .is) refl })
 
 module _ (s : List ℕ) (at cells room : ℕ) where
-  missing-is : (p : Placing) → placingOf s at ≡ p → ((n : ℕ) → p ≡ P.Placed n → ⊥) → rewritingOf s at cells room ≡ Missing (refusalOf p)
+  pub missing-is : (p : Placing) → placingOf s at ≡ p → ((n : ℕ) → p ≡ P.Placed n → ⊥) → rewritingOf s at cells room ≡ Missing (refusalOf p)
   unfolding rewritingOf
   missing-is p u other = rw u (by p other)
     where
@@ -96,11 +96,11 @@ module _ (s : List ℕ) (at cells room : ℕ) where
       by (P.FilledVacant g) o = refl
       by (P.BrokenRule g n) o = refl
 
-  roomy-is : {next : ℕ} → Roomy s at cells room next → rewritingOf s at cells room ≡ rewrittenAs (countsAt s at) next (allInTurn s at)
+  pub roomy-is : {next : ℕ} → Roomy s at cells room next → rewritingOf s at cells room ≡ rewrittenAs (countsAt s at) next (allInTurn s at)
   unfolding rewritingOf
   roomy-is h = rw (h .placed, le-leb (recordBytes (countsAt s at)) room (h .text-fits), le-leb (recordCells (countsAt s at)) cells (h .cells-fit)) refl
 
-  short-is : NoRoomDue s at cells room → rewritingOf s at cells room ≡ NoRoom
+  pub short-is : NoRoomDue s at cells room → rewritingOf s at cells room ≡ NoRoom
   unfolding rewritingOf
   short-is h =
       let ns = countsAt s at in

@@ -3,5 +3,6 @@ pub mod Cells
 pub mod Due
 pub mod Printing
 pub mod Promises
+pub mod Steps
 pub mod Turns
 pub mod Whole

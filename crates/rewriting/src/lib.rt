@@ -1,14 +1,17 @@
 // Rewriting: the record at a place of a text as canonical text, over a lent table. Any text, place, table and buffer may be given.
 use reading::Reading;
 use reading::Refusal;
+use record::Writing;
 ghost use mathlib.Core.Path.{_≡_};
 ghost use Prim.Native.Nat.{_-_, _≤_};
 ghost use lib.ListN.{length};
 ghost use Rattle.base.specs.Part.{part, over};
 ghost use Rattle.place.specs.Placing.{countsAt};
 ghost use Rattle.reading.specs.Read.{readGroup, readingOf, tableBy};
+ghost use Rattle.record.specs.Text.{recordText, recordBytes};
+ghost use Rattle.record.specs.Writing.{writingOf};
 ghost use Rattle.rewriting.specs.Numbered.{rewritingReply, rewritingGroup};
-ghost use Rattle.rewriting.specs.Record.{Ready, groupsOf, allInTurn, cellsAt};
+ghost use Rattle.rewriting.specs.Record.{Ready, groupsOf, allInTurn, cellsAt, rewritingOf, bufferBy, tableBy as tableAfter};
 
 // What rewriting a record answers.
 pub enum Rewriting {
@@ -75,6 +78,45 @@ fn read_groups(text: &[u8], at: usize, counts: &[u16], table: &mut [i64]) -> Gro
         g += 1;
     }
     Groups::All
+}
+
+// ---- Rewriting a record.
+
+// The canonical text of counts and of the first cells of a table, which is written with 0.
+fn write_cells(counts: &[u16], table: &[i64], cells: usize, out: &mut [u8])
+    requires { ⌜ (cells ≤ length (now table)) × (writingOf (now counts) (part 0 cells (now table)) (length (now out)) ≡ Writing.Done (recordBytes (now counts))) ⌝ }
+    ensures { λ _. ⌜ now (out .exit) ≡ over 0 (recordText (now (counts .entry)) (part 0 cells (now (table .entry)))) (now (out .entry)) ⌝ }
+{
+    record::write_record(counts, &table[0..cells], out);
+}
+
+// Rewrites the record at a place of a text into a buffer, over a table: any placing reply but 0; 11 if its canonical text is longer than the
+// buffer or its cells are more than the table; the first reply other than 0 of reading groups 1 to 60 in turn, with that group's number;
+// else 0 with the bytes written and the next place. A refusal alters no byte of the buffer.
+pub fn rewrite_record(text: &[u8], at: usize, table: &mut [i64], out: &mut [u8]) -> Rewriting
+    ensures { λ r. ⌜ (r ≡ rewritingOf (now (text .entry)) at (length (now (table .entry))) (length (now (out .entry)))) × (now (table .exit) ≡ tableAfter (now (text .entry)) at r (now (table .entry))) × (now (out .exit) ≡ bufferBy (now (text .entry)) at r (now (out .entry))) ⌝ }
+{
+    let placed = place::place(text, at);
+    let answer = placed.answer;
+    let place::Placing::Placed(next) = answer else {
+        return Rewriting::Missing(group::refusal_of(answer));
+    };
+    let counts = placed.counts;
+    let bytes = record::canonical_length(&counts);
+    if out.len() < bytes {
+        return Rewriting::NoRoom;
+    }
+    let all = count::add_up(&counts, 61);
+    if table.len() < all.cells {
+        return Rewriting::NoRoom;
+    }
+    match read_groups(text, at, &counts, table) {
+        Groups::Refused(g, r) => Rewriting::Unread(g, r),
+        Groups::All => {
+            write_cells(&counts, table, all.cells, out);
+            Rewriting::Done(bytes, next)
+        }
+    }
 }
 
 // ---- Replies.
