@@ -47,3 +47,9 @@ pub sum-ones : {A : Type 0} (xs : List A) → sum (map (λ (x : A). 1) xs) ≡ l
 unfolding sum
 sum-ones [] = refl
 sum-ones (x ∷ xs) = omega (arith, sum-ones xs)
+
+-- a sum of lower numbers
+pub sum-map-le : {A : Type 0} (f h : A → ℕ) → ((a : A) → f a ≤ h a) → (bs : List A) → sum (map f bs) ≤ sum (map h bs)
+unfolding sum
+sum-map-le f h l [] = omega arith
+sum-map-le f h l (a ∷ bs) = omega (arith, l a, sum-map-le f h l bs)

@@ -18,7 +18,7 @@ pub enum Found {
 }
 
 // A placing reply but 0, as a refusal.
-fn not_placed(answer: place::Placing) -> Refusal
+pub fn refusal_of(answer: place::Placing) -> Refusal
     ensures { λ r. ⌜ r ≡ refusalOf answer ⌝ }
 {
     match answer {
@@ -58,7 +58,7 @@ fn held_at(text: &[u8], at: usize, group: usize) -> Held
     let record = place::place(text, at);
     let answer = record.answer;
     let place::Placing::Placed(_) = answer else {
-        return missing(not_placed(answer));
+        return missing(refusal_of(answer));
     };
     let counts = record.counts;
     Held {

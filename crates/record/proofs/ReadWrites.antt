@@ -51,7 +51,7 @@ use Rattle.record.proofs.Written.{all-groups}
 -- ---- what a group that was read says
 
 module _ {ns : List ℕ} {g : ℕ} {y : List ℕ} {room : ℕ} {c : List ℤ} (r : GroupReads ns g y room c) where
-  reads-cells : length c ≡ cellsIn ns g
+  pub reads-cells : length c ≡ cellsIn ns g
   unfolding Tally.cellsIn
   reads-cells = rw (r .has) (group-size (r .form) (countOf ns g) y c (r .lines))
 

@@ -1,1 +1,8 @@
--- The laws of rewriting's definitions.
+-- The laws of rewriting's definitions: groups in turn (Turns, Whole).
+pub mod Cells
+pub mod Due
+pub mod Printing
+pub mod Promises
+pub mod Steps
+pub mod Turns
+pub mod Whole

@@ -1,9 +1,10 @@
 -- The record at a place, read group after group and written as canonical text: "any placing reply but 0; 11 if the canonical text is longer
 -- than the buffer or the cells more than the table; the first reply other than 0 of reading groups 1 to 60 in turn, with that group's
 -- number; else 0 with the bytes written and the next place".
+use mathlib.Core.Path.{_≡_}
 use mathlib.Core.Bool.{Bool, cond, _&&_}
 use mathlib.Core.List.{List, [], _∷_, _++_}
-use Prim.Native.Nat.{ℕ}
+use Prim.Native.Nat.{ℕ, _≤_}
 use lib.Dec.{leb}
 use lib.IntN.{ℤ}
 use lib.ListN.{length}
@@ -19,6 +20,8 @@ use Rattle.reading.specs.Read.{Cells}
 use Rattle.group.specs.Held.{refusalOf}
 use Rattle.group.specs.Text.{readAt}
 use Rattle.record.specs.Text.{recordText, recordBytes}
+use Rattle.rewriting.specs.declared.Groups.{Groups}
+use Rattle.rewriting.specs.declared.Groups.the-variants.{All, Refused}
 use Rattle.rewriting.specs.declared.Rewriting.{Rewriting}
 use Rattle.rewriting.specs.declared.Rewriting.the-variants.{Done, Missing, NoRoom, Unread}
 
@@ -54,6 +57,17 @@ allInTurn s at = inTurn (groupRead s at) (upFrom 1 60)
 
 abbrev pub cellsAt : List ℕ → ℕ → List ℤ
 cellsAt s at = cellsInTurn (groupRead s at) (upFrom 1 60)
+
+-- whether all were read, or the first refusal
+abbrev pub groupsOf : Turn → Groups
+groupsOf (done cs) = All
+groupsOf (bad u) = Refused (u .0) (u .1)
+
+-- what is asked before: the record is placed with 0, and its cells have room in a table of so many
+pub record Ready (s : List ℕ) (at cells : ℕ) : Type 0 where
+  pub next : ℕ
+  pub placed : placingOf s at ≡ P.Placed next
+  pub enough : recordCells (countsAt s at) ≤ cells
 
 -- ---- the answer
 

@@ -1,5 +1,17 @@
-// Rewriting: the record at a place of a text as canonical text, over a lent table.
+// Rewriting: the record at a place of a text as canonical text, over a lent table. Any text, place, table and buffer may be given.
+use reading::Reading;
 use reading::Refusal;
+use record::Writing;
+ghost use mathlib.Core.Path.{_≡_};
+ghost use Prim.Native.Nat.{_-_, _≤_};
+ghost use lib.ListN.{length};
+ghost use Rattle.base.specs.Part.{part, over};
+ghost use Rattle.place.specs.Placing.{countsAt};
+ghost use Rattle.reading.specs.Read.{readGroup, readingOf, tableBy};
+ghost use Rattle.record.specs.Text.{recordText, recordBytes};
+ghost use Rattle.record.specs.Writing.{writingOf};
+ghost use Rattle.rewriting.specs.Numbered.{rewritingReply, rewritingGroup};
+ghost use Rattle.rewriting.specs.Record.{Ready, groupsOf, allInTurn, cellsAt, rewritingOf, bufferBy, tableBy as tableAfter};
 
 // What rewriting a record answers.
 pub enum Rewriting {
@@ -11,4 +23,132 @@ pub enum Rewriting {
     NoRoom,
     // the first reply other than 0 of reading groups 1 to 60, with that group's number
     Unread(usize, Refusal),
+}
+
+// Whether all groups of a record were read, or the first that was refused.
+pub enum Groups {
+    All,
+    Refused(usize, Refusal),
+}
+
+// ---- Reading all groups.
+
+// A group whose lines are a part of the text, read into a part of the table.
+fn read_part(
+    counts: &[u16],
+    group: usize,
+    text: &[u8],
+    from: usize,
+    to: usize,
+    table: &mut [i64],
+    cell: usize,
+    end: usize,
+) -> Reading
+    requires { ⌜ (from ≤ to) × (to ≤ length (now text)) × (cell ≤ end) × (end ≤ length (now table)) ⌝ }
+    ensures { λ r. ⌜ (r ≡ readingOf (readGroup (now (counts .entry)) group (part from to (now (text .entry))) (end - cell))) × (now (table .exit) ≡ over cell (tableBy (readGroup (now (counts .entry)) group (part from to (now (text .entry))) (end - cell)) (part cell end (now (table .entry)))) (now (table .entry))) ⌝ }
+{
+    reading::read_lines(counts, group, &text[from..to], &mut table[cell..end])
+}
+
+// Groups 1 to 60 in turn, into consecutive parts of the table, up to the first that is refused.
+fn read_groups(text: &[u8], at: usize, counts: &[u16], table: &mut [i64]) -> Groups
+    requires { ⌜ (now counts ≡ countsAt (now text) at) × Ready (now text) at (length (now table)) ⌝ }
+    ensures { λ r. ⌜ (r ≡ groupsOf (allInTurn (now (text .entry)) at)) × (now (table .exit) ≡ over 0 (cellsAt (now (text .entry)) at) (now (table .entry))) ⌝ }
+{
+    let mut from = line::behind_or_end(text, at, 2);
+    let mut cell: usize = 0;
+    let mut g: usize = 1;
+    while g < 61 {
+        // each of 1 to 60 has a form, so this is never taken
+        let form::GroupForm::Has(f) = form::form_of(g) else {
+            return Groups::All;
+        };
+        let n = count::count_of(counts, g);
+        let to = line::behind_or_end(text, from, form::lines(f, n));
+        let end = cell + form::cells(f, n);
+        let answer = read_part(counts, g, text, from, to, table, cell, end);
+        match answer {
+            Reading::Refused(r) => {
+                return Groups::Refused(g, r);
+            }
+            Reading::Done(_) => {}
+        }
+        from = to;
+        cell = end;
+        g += 1;
+    }
+    Groups::All
+}
+
+// ---- Rewriting a record.
+
+// The canonical text of counts and of the first cells of a table, which is written with 0.
+fn write_cells(counts: &[u16], table: &[i64], cells: usize, out: &mut [u8])
+    requires { ⌜ (cells ≤ length (now table)) × (writingOf (now counts) (part 0 cells (now table)) (length (now out)) ≡ Writing.Done (recordBytes (now counts))) ⌝ }
+    ensures { λ _. ⌜ now (out .exit) ≡ over 0 (recordText (now (counts .entry)) (part 0 cells (now (table .entry)))) (now (out .entry)) ⌝ }
+{
+    record::write_record(counts, &table[0..cells], out);
+}
+
+// Rewrites the record at a place of a text into a buffer, over a table: any placing reply but 0; 11 if its canonical text is longer than the
+// buffer or its cells are more than the table; the first reply other than 0 of reading groups 1 to 60 in turn, with that group's number;
+// else 0 with the bytes written and the next place. A refusal alters no byte of the buffer.
+pub fn rewrite_record(text: &[u8], at: usize, table: &mut [i64], out: &mut [u8]) -> Rewriting
+    ensures { λ r. ⌜ (r ≡ rewritingOf (now (text .entry)) at (length (now (table .entry))) (length (now (out .entry)))) × (now (table .exit) ≡ tableAfter (now (text .entry)) at r (now (table .entry))) × (now (out .exit) ≡ bufferBy (now (text .entry)) at r (now (out .entry))) ⌝ }
+{
+    let placed = place::place(text, at);
+    let answer = placed.answer;
+    let place::Placing::Placed(next) = answer else {
+        return Rewriting::Missing(group::refusal_of(answer));
+    };
+    let counts = placed.counts;
+    let bytes = record::canonical_length(&counts);
+    if out.len() < bytes {
+        return Rewriting::NoRoom;
+    }
+    let all = count::add_up(&counts, 61);
+    if table.len() < all.cells {
+        return Rewriting::NoRoom;
+    }
+    match read_groups(text, at, &counts, table) {
+        Groups::Refused(g, r) => Rewriting::Unread(g, r),
+        Groups::All => {
+            write_cells(&counts, table, all.cells, out);
+            Rewriting::Done(bytes, next)
+        }
+    }
+}
+
+// ---- Replies.
+
+// The answer's number in 01's table, with the numbers given besides.
+pub fn reply_of(answer: Rewriting) -> reply::Reply
+    ensures { λ r. ⌜ r ≡ rewritingReply answer ⌝ }
+{
+    match answer {
+        Rewriting::Done(bytes, next) => reply::Reply {
+            number: 0,
+            next,
+            written: bytes,
+            group: 0,
+            line: 0,
+            element: 0,
+            position: 0,
+        },
+        Rewriting::Missing(r) => reading::refusal_reply(r),
+        Rewriting::NoRoom => reply::plain(11),
+        Rewriting::Unread(_, r) => reading::refusal_reply(r),
+    }
+}
+
+// The group that was not read; 0 where none was.
+pub fn group_of(answer: Rewriting) -> usize
+    ensures { λ r. ⌜ r ≡ rewritingGroup answer ⌝ }
+{
+    match answer {
+        Rewriting::Done(_, _) => 0,
+        Rewriting::Missing(_) => 0,
+        Rewriting::NoRoom => 0,
+        Rewriting::Unread(g, _) => g,
+    }
 }

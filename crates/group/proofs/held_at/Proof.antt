@@ -41,8 +41,8 @@ place-requires c κs = search needs
 enum-told-3 : tie.Need-enum-told-3
 enum-told-3 c = search needs
 
-not-placed-requires : tie.Need-not-placed-requires
-not-placed-requires c κs = search needs
+refusal-of-requires : tie.Need-refusal-of-requires
+refusal-of-requires c κs = search needs
 
 missing-requires-2 : tie.Need-missing-requires-2
 missing-requires-2 c κs = search needs
@@ -50,7 +50,7 @@ missing-requires-2 c κs = search needs
 returns-2 : tie.Need-returns-2
 returns-2 c =
     let h = held-refused (c .before .before .before .before .before .before .before .before .args .text .now) (c .before .before .before .before .before .before .before .before .args .at) (c .before .before .before .before .before .before .before .before .args .group) (c .before .before .before .before .enum-told .given .0 .0) (has-form (c .before .before .before .before)) _ (sym (c .before .before .before .place .ensures .0)) (λ n e. not-first (1 ∷ 2 ∷ 3 ∷ 4 ∷ 5 ∷ 6 ∷ 7 ∷ []) tt (subst (λ (p : Placing). OneOf (1 ∷ 2 ∷ 3 ∷ 4 ∷ 5 ∷ 6 ∷ 7 ∷ []) (tagOf the-type p)) e (c .before .before .match2 .keys2))) in
-    (c .missing2 .ensures .0 ∙ ap Missing (c .before .not-placed .ensures) ∙ sym (h .0), c .missing2 .ensures .1 ∙ sym (h .1))
+    (c .missing2 .ensures .0 ∙ ap Missing (c .before .refusal-of .ensures) ∙ sym (h .0), c .missing2 .ensures .1 ∙ sym (h .1))
 
 returns-3 : tie.Need-returns-3
 returns-3 c =
@@ -68,7 +68,7 @@ held-at-spec =
     returns
     place-requires
     enum-told-3
-    not-placed-requires
+    refusal-of-requires
     missing-requires-2
     returns-2
     returns-3)

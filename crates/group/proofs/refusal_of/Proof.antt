@@ -1,10 +1,10 @@
--- `group::not_placed` meets its contract: the variant chooses the reply.
+-- `group::refusal_of` meets its contract: the variant chooses the reply.
 -- Assumes nothing.
 use borrow.Author.Needs.{needs}
 use mathlib.Core.Path.{sym, ap}
 use Rattle.group.specs.Held.{refusalOf}
-use Rattle.group.proofs.not_placed.Statement.{statement}
-use Rattle.group.proofs.not_placed.Tie as tie
+use Rattle.group.proofs.refusal_of.Statement.{statement}
+use Rattle.group.proofs.refusal_of.Tie as tie
 
 enum-told : tie.Need-enum-told
 enum-told c = search needs
@@ -54,8 +54,8 @@ returns-7 c = ap refusalOf (sym (c .before .answer .given .1))
 returns-8 : tie.Need-returns-8
 returns-8 c = ap refusalOf (sym (c .before .answer2 .given .1))
 
-pub not-placed-spec : {M : Type 1} → statement M
-not-placed-spec =
+pub refusal-of-spec : {M : Type 1} → statement M
+refusal-of-spec =
     tie.close
     (tie.spec
     enum-told

@@ -1,0 +1,46 @@
+-- A record has no more cells than bytes of canonical text: a field gives no more cells than it has columns. So a table that is as long as the
+-- buffer always serves.
+-- Assumes nothing.
+use mathlib.Core.Path.{_≡_}
+use mathlib.Core.List.{map}
+use mathlib.Core.List.{List}
+use Prim.Native.Nat.{ℕ, _*_, _≤_}
+use native.Mathlib.Nat.{mul-le-mul-left}
+use native.Mathlib.Omega.{arith}
+use lib.Dec.{T, leb, leb→le}
+use Rattle.base.specs.Every.{every, upFrom}
+use Rattle.base.specs.Sum
+use Rattle.base.specs.Sum.{sum}
+use Rattle.base.proofs.Sum.{sum-map-le}
+use Rattle.form.specs.declared.Form.{Form}
+use Rattle.form.specs.declared.GroupForm.{GroupForm}
+use Rattle.form.specs.declared.GroupForm.the-variants.{Has, NoGroup}
+use Rattle.form.specs.Table
+use Rattle.form.specs.Table.{rowOf, forms, formOf}
+use Rattle.form.specs.Count
+use Rattle.form.specs.Count.{elementsOf}
+use Rattle.form.proofs.Table.{each-form}
+use Rattle.count.specs.Tally
+use Rattle.count.specs.Tally.{countOf, cellsBy, cellsIn, recordCells}
+use Rattle.record.specs.Text
+use Rattle.record.specs.Text.{bytesBy, bytesIn, recordBytes}
+
+-- by one test over the ten rows
+all-narrow : T (every (λ f. leb (rowOf f .cells) (rowOf f .width)) forms)
+unfolding Table.rowOf Table.entryOf
+all-narrow = tt
+
+field-cells : (f : Form) → rowOf f .cells ≤ rowOf f .width
+field-cells f = leb→le (rowOf f .cells) (rowOf f .width) (each-form (λ g. leb (rowOf g .cells) (rowOf g .width)) all-narrow f)
+
+group-cells : (ns : List ℕ) (g : ℕ) → cellsIn ns g ≤ bytesIn ns g
+unfolding Tally.cellsIn Text.bytesIn Count.cellsOf
+group-cells ns g = by (formOf g)
+  where
+    by : (h : GroupForm) → cellsBy h (countOf ns g) ≤ bytesBy h (countOf ns g)
+    by (Has f) = omega (arith, mul-le-mul-left (elementsOf f (countOf ns g)) (field-cells f))
+    by NoGroup = omega arith
+
+pub record-cells : (ns : List ℕ) → recordCells ns ≤ recordBytes ns
+unfolding Tally.cellTally Text.recordBytes Sum.sum
+record-cells ns = omega (arith, sum-map-le (cellsIn ns) (bytesIn ns) (group-cells ns) (upFrom 1 60))

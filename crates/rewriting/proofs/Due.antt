@@ -1,0 +1,177 @@
+-- *First due*: rewriting gives each answer exactly if it is due.
+-- Assumes nothing.
+use mathlib.Core.Path.{_≡_, refl, sym, _∙_, ap, subst}
+use mathlib.Core.Bool.{Bool, true, false, cond, _&&_}
+use mathlib.Core.List.{List, _∷_}
+use mathlib.Core.Logic.{_↔_, inl, inr, ⊎-elim}
+use Prim.Native.Nat.{ℕ, zero, suc, _-_, _<_, _≤_}
+use native.Mathlib.Omega.{arith}
+use borrow.Author.Tests.{le-leb, lt-leb, leb-true, leb-false}
+use lib.Dec.{leb}
+use lib.IntN.{ℤ}
+use Rattle.base.specs.Every
+use Rattle.base.specs.Every.{upFrom}
+use Rattle.base.specs.Pieces.{Got, done, bad}
+use Rattle.base.proofs.Choice.{and-false}
+use Rattle.base.proofs.FirstBad.{IsDone, InPieces, FirstBad, first-bad, all-done}
+use Rattle.count.specs.Tally.{recordCells}
+use Rattle.place.specs.declared.Placing.{Placing}
+use Rattle.place.specs.declared.Placing.the-variants as P
+use Rattle.place.specs.Placing.{placingOf, countsAt}
+use Rattle.reading.specs.declared.Refusal.{Refusal}
+use Rattle.reading.specs.Read.{Cells}
+use Rattle.group.specs.Held.{refusalOf}
+use Rattle.record.specs.Text.{recordBytes}
+use Rattle.rewriting.specs.declared.Rewriting.{Rewriting}
+use Rattle.rewriting.specs.declared.Rewriting.the-variants.{Done, Missing, NoRoom, Unread}
+use Rattle.rewriting.specs.Due.{MissingDue, GroupDone, NoRoomDue, Roomy, UnreadDue, DoneDue, Due}
+use Rattle.rewriting.specs.Record.{Turn, groupRead, onGroup, inTurn, allInTurn, hasRoom, rewrittenAs, rewritingBy, rewritingOf}
+use Rattle.rewriting.proofs.Whole.{on-done, all-read}
+
+-- ---- groups in turn, as pieces
+
+module _ (read : ℕ → Cells) where
+  abbrev piece : ℕ → Turn
+  piece i = onGroup (suc i) (read (suc i))
+
+  in-turn : InPieces 60 piece (λ i. inTurn read (upFrom (suc i) (60 - i)))
+  unfolding inTurn Every.upFrom
+  in-turn = record { more = λ i l. ap (inTurn read) (next i l); none = refl }
+    where
+      next : (i : ℕ) → i < 60 → upFrom (suc i) (60 - i) ≡ suc i ∷ upFrom (suc (suc i)) (60 - suc i)
+      next i l = let e : 60 - i ≡ suc (60 - suc i) = omega arith in rw e
+
+  on-bad : (g : ℕ) (c : Cells) (u : ℕ × Refusal) → onGroup g c ≡ bad u → (g ≡ u .0) × (c ≡ bad (u .1))
+  on-bad g (done cs) u e = let z : _≡_ {A = ℕ} 0 1 = cc in absurd (omega arith)
+  on-bad g (bad r) u e = let p : _≡_ {A = ℕ × Refusal} (g, r) u = cc in (ap (λ v. v .0) p, ap (λ v. bad (v .1)) p)
+
+  -- the first group that is refused
+  pub record FirstRefused (g : ℕ) (r : Refusal) : Type 0 where
+    pub low : 1 ≤ g
+    pub high : g ≤ 60
+    pub earlier : (h : ℕ) → 1 ≤ h → h < g → IsDone (read h)
+    pub told : read g ≡ bad r
+
+  pub turn-first : (u : ℕ × Refusal) → inTurn read (upFrom 1 60) ≡ bad u → FirstRefused (u .0) (u .1)
+  turn-first u e =
+      let b = first-bad in-turn u .0 e in
+      let t = on-bad (suc (b .at)) (read (suc (b .at))) u (b .told) in
+      record {
+        low = omega (arith, t .0);
+        high = omega (arith, t .0, b .inside);
+        earlier = earlier (b .at) (u .0) (t .0) (b .earlier);
+        told = ap read (sym (t .0)) ∙ t .1;
+      }
+    where
+      earlier : (k g : ℕ) → suc k ≡ g → ((i : ℕ) → i < k → IsDone (piece i)) → (h : ℕ) → 1 ≤ h → h < g → IsDone (read h)
+      earlier k g e d zero l m = absurd (omega arith)
+      earlier k g e d (suc h) l m =
+          let i = d h (omega arith) in
+          record { cells = i .cells; is = on-done read (suc h) (read (suc h)) (i .cells) (i .is) }
+
+  pub first-turn : (g : ℕ) (r : Refusal) → FirstRefused g r → inTurn read (upFrom 1 60) ≡ bad (g, r)
+  first-turn zero r f = absurd (omega (arith, f .low))
+  first-turn (suc k) r f = first-bad in-turn (suc k, r) .1 record {
+    at = k;
+    inside = omega (arith, f .high);
+    earlier = λ i l. let d = f .earlier (suc i) (omega arith) (omega arith) in record { cells = d .cells; is = rw (d .is) refl };
+    told = rw (f .told) refl;
+  }
+
+  pub turn-all : ((g : ℕ) → 1 ≤ g → g ≤ 60 → IsDone (read g)) → IsDone (inTurn read (upFrom 1 60))
+  turn-all d = all-done in-turn (λ i l. let h = d (suc i) (omega arith) (omega arith) in record { cells = h .cells; is = rw (h .is) refl })
+
+module _ (s : List ℕ) (at cells room : ℕ) where
+  pub missing-is : (p : Placing) → placingOf s at ≡ p → ((n : ℕ) → p ≡ P.Placed n → ⊥) → rewritingOf s at cells room ≡ Missing (refusalOf p)
+  unfolding rewritingOf
+  missing-is p u other = rw u (by p other)
+    where
+      by : (p : Placing) → ((n : ℕ) → p ≡ P.Placed n → ⊥) → rewritingBy s at cells room p ≡ Missing (refusalOf p)
+      by (P.Placed n) o = absurd (o n refl)
+      by P.End o = refl
+      by P.Beyond o = refl
+      by P.TooFewLines o = refl
+      by P.Misformed o = refl
+      by P.OtherRelease o = refl
+      by (P.FilledVacant g) o = refl
+      by (P.BrokenRule g n) o = refl
+
+  pub roomy-is : {next : ℕ} → Roomy s at cells room next → rewritingOf s at cells room ≡ rewrittenAs (countsAt s at) next (allInTurn s at)
+  unfolding rewritingOf
+  roomy-is h = rw (h .placed, le-leb (recordBytes (countsAt s at)) room (h .text-fits), le-leb (recordCells (countsAt s at)) cells (h .cells-fit)) refl
+
+  pub short-is : NoRoomDue s at cells room → rewritingOf s at cells room ≡ NoRoom
+  unfolding rewritingOf
+  short-is h =
+      let ns = countsAt s at in
+      let e : hasRoom ns cells room ≡ false = ⊎-elim (λ (l : room < recordBytes ns). rw (lt-leb (recordBytes ns) room l) refl) (λ (l : cells < recordCells ns). rw (lt-leb (recordCells ns) cells l) (and-false (leb (recordBytes ns) room))) (h .short) in
+      rw (h .placed, e) refl
+
+  -- what is due is given
+  due-given : (r : Rewriting) → Due s at cells room r → rewritingOf s at cells room ≡ r
+  due-given (Done bytes next) d =
+      let i = turn-all (groupRead s at) (λ g low high. let x = d .groups g low high in record { cells = x .cells; is = x .reads }) in
+      roomy-is (d .roomy) ∙ ap (rewrittenAs (countsAt s at) next) (i .is) ∙ ap (λ n. Done n next) (d .written)
+  due-given (Missing r) d = missing-is (d .placing) (d .placed) (d .other) ∙ ap Missing (d .told)
+  due-given NoRoom d = short-is d
+  due-given (Unread g r) d =
+      roomy-is (d .roomy)
+      ∙ ap (rewrittenAs (countsAt s at) (d .next))
+      (first-turn (groupRead s at) g r record {
+        low = d .low;
+        high = d .high;
+        earlier = λ h low few. let x = d .earlier h low few in record { cells = x .cells; is = x .reads };
+        told = d .told;
+      })
+
+  -- what is given is due
+  given-due : Due s at cells room (rewritingOf s at cells room)
+  given-due = by (placingOf s at) refl
+    where
+      D : Rewriting → Type 0
+      D = Due s at cells room
+
+      turn : (n : ℕ) → Roomy s at cells room n → (t : Turn) → allInTurn s at ≡ t → D (rewrittenAs (countsAt s at) n t)
+      turn n h (done cs) e = record {
+        roomy = h;
+        groups = λ g low high. record { cells = _; reads = all-read (groupRead s at) 1 60 cs e .each g low (omega arith) };
+        written = refl;
+      }
+      turn n h (bad u) e =
+          let f = turn-first (groupRead s at) u e in
+          record {
+            next = n;
+            roomy = h;
+            low = f .low;
+            high = f .high;
+            earlier = λ i low few. let x = f .earlier i low few in record { cells = x .cells; reads = x .is };
+            told = f .told;
+          }
+
+      room-by : (n : ℕ) → placingOf s at ≡ P.Placed n → (a b : Bool) → leb (recordBytes (countsAt s at)) room ≡ a → leb (recordCells (countsAt s at)) cells ≡ b → D (rewritingOf s at cells room)
+      room-by n u true true a b =
+          let h : Roomy s at cells room n = record { placed = u; text-fits = leb-true (recordBytes (countsAt s at)) room a; cells-fit = leb-true (recordCells (countsAt s at)) cells b } in
+          subst D (sym (roomy-is h)) (turn n h (allInTurn s at) refl)
+      room-by n u true false a b =
+          let d : NoRoomDue s at cells room = record { next = n; placed = u; short = inr (leb-false (recordCells (countsAt s at)) cells b) } in
+          subst D (sym (short-is d)) d
+      room-by n u false t a b =
+          let d : NoRoomDue s at cells room = record { next = n; placed = u; short = inl (leb-false (recordBytes (countsAt s at)) room a) } in
+          subst D (sym (short-is d)) d
+
+      miss : (p : Placing) → placingOf s at ≡ p → ((n : ℕ) → p ≡ P.Placed n → ⊥) → D (rewritingOf s at cells room)
+      miss p u o = subst D (sym (missing-is p u o)) record { placing = p; placed = u; other = o; told = refl }
+
+      by : (p : Placing) → placingOf s at ≡ p → D (rewritingOf s at cells room)
+      by (P.Placed n) u = room-by n u (leb (recordBytes (countsAt s at)) room) (leb (recordCells (countsAt s at)) cells) refl refl
+      by P.End u = miss P.End u (λ n e. let z : _≡_ {A = ℕ} 0 1 = cc in omega arith)
+      by P.Beyond u = miss P.Beyond u (λ n e. let z : _≡_ {A = ℕ} 0 1 = cc in omega arith)
+      by P.TooFewLines u = miss P.TooFewLines u (λ n e. let z : _≡_ {A = ℕ} 0 1 = cc in omega arith)
+      by P.Misformed u = miss P.Misformed u (λ n e. let z : _≡_ {A = ℕ} 0 1 = cc in omega arith)
+      by P.OtherRelease u = miss P.OtherRelease u (λ n e. let z : _≡_ {A = ℕ} 0 1 = cc in omega arith)
+      by (P.FilledVacant g) u = miss (P.FilledVacant g) u (λ n e. let z : _≡_ {A = ℕ} 0 1 = cc in omega arith)
+      by (P.BrokenRule g n) u = miss (P.BrokenRule g n) u (λ m e. let z : _≡_ {A = ℕ} 0 1 = cc in omega arith)
+
+  -- each answer is given exactly if it is due
+  pub first-due : (r : Rewriting) → rewritingOf s at cells room ≡ r ↔ Due s at cells room r
+  first-due r = (λ e. subst (Due s at cells room) e given-due, due-given r)

@@ -1,0 +1,78 @@
+-- What the rewriting program prints, record by record: the text of a record that is rewritten with 0 and then what follows from its next
+-- place on; nothing from a place where another reply is due. So the texts that a loop prints, one behind the other, are the whole.
+-- Assumes nothing.
+use mathlib.Core.Path.{_≡_, refl, sym, _∙_, ap}
+use mathlib.Core.List.{List, [], _∷_, _++_, append-assoc, append-nil}
+use Prim.Native.Nat.{ℕ, zero, suc, _+_, _<_, _≤_}
+use native.Mathlib.Omega.{arith}
+use lib.ListN.{length}
+use Rattle.place.specs.declared.Placing.the-variants.{Placed}
+use Rattle.place.specs.Placing.{placingOf}
+use Rattle.place.proofs.Placed.{located-is}
+use Rattle.place.proofs.Zero.{is-placed}
+use Rattle.rewriting.specs.declared.Rewriting.{Rewriting}
+use Rattle.rewriting.specs.declared.Rewriting.the-variants.{Done, Missing, NoRoom, Unread}
+use Rattle.rewriting.specs.Record.{textAt}
+use Rattle.rewriting.specs.Printed.{programRewriting, textThen, rewrittenFrom, rewritten}
+use Rattle.rewriting.proofs.Due.{first-due}
+use Rattle.rewriting.proofs.Promises.{done-further, done-inside}
+
+module _ (s : List ℕ) where
+  pub rewritten-done : (k at bytes next : ℕ) → programRewriting s at ≡ Done bytes next → rewrittenFrom (suc k) s at ≡ textAt s at ++ rewrittenFrom k s next
+  unfolding rewrittenFrom
+  rewritten-done k at bytes next e = rw e refl
+
+  -- another reply, in placing or reading, or 11: "nothing of that record or later"
+  pub rewritten-stop : (k at : ℕ) → ((bytes next : ℕ) → programRewriting s at ≡ Done bytes next → ⊥) → rewrittenFrom k s at ≡ []
+  unfolding rewrittenFrom
+  rewritten-stop zero at never = refl
+  rewritten-stop (suc k) at never = by (programRewriting s at) refl
+    where
+      by : (r : Rewriting) → programRewriting s at ≡ r → textThen (textAt s at) (rewrittenFrom k s) r ≡ []
+      by (Done bytes next) e = absurd (never bytes next e)
+      by (Missing r) e = refl
+      by NoRoom e = refl
+      by (Unread g r) e = refl
+
+  -- there is no record at the text's end
+  pub end-never : (at : ℕ) → length s ≤ at → (bytes next : ℕ) → programRewriting s at ≡ Done bytes next → ⊥
+  end-never at l bytes next e = omega (arith, done-further s at 8192 8192 bytes next e, done-inside s at 8192 8192 bytes next e)
+
+  -- as many records as bytes are left are enough
+  pub rewritten-enough : (k m at : ℕ) → length s ≤ at + k → length s ≤ at + m → rewrittenFrom k s at ≡ rewrittenFrom m s at
+  unfolding rewrittenFrom
+  rewritten-enough zero m at a b = sym (rewritten-stop m at (end-never at (omega arith)))
+  rewritten-enough (suc k) zero at a b = rewritten-stop (suc k) at (end-never at (omega arith))
+  rewritten-enough (suc k) (suc m) at a b = by (programRewriting s at) refl (rewritten-enough k m)
+    where
+      by : (r : Rewriting) → programRewriting s at ≡ r → ((p : ℕ) → length s ≤ p + k → length s ≤ p + m → rewrittenFrom k s p ≡ rewrittenFrom m s p) → textThen (textAt s at) (rewrittenFrom k s) r ≡ textThen (textAt s at) (rewrittenFrom m s) r
+      by (Done bytes next) e more =
+          let h = done-further s at 8192 8192 bytes next e in
+          ap (λ y. textAt s at ++ y) (more next (omega arith) (omega arith))
+      by (Missing r) e more = refl
+      by NoRoom e more = refl
+      by (Unread g r) e more = refl
+
+-- ---- a loop over the records: the texts printed before a place, and what follows from it on, are the whole
+
+pub record Printing (s : List ℕ) (at : ℕ) : Type 0 where
+  pub before : List ℕ
+  pub whole : before ++ rewrittenFrom (length s) s at ≡ rewritten s
+
+module _ (s : List ℕ) where
+  pub printing-first : Printing s 0
+  unfolding rewritten
+  printing-first = record { before = []; whole = refl }
+
+  pub printing-more : (at bytes next : ℕ) → Printing s at → programRewriting s at ≡ Done bytes next → Printing s next
+  printing-more at bytes next p e =
+      let h = done-further s at 8192 8192 bytes next e in
+      let f : rewrittenFrom (length s) s at ≡ textAt s at ++ rewrittenFrom (length s) s next = rewritten-enough s (length s) (suc (length s)) at (omega arith) (omega arith) ∙ rewritten-done s (length s) at bytes next e in
+      record {
+        before = p .before ++ textAt s at;
+        whole = append-assoc (p .before) (textAt s at) (rewrittenFrom (length s) s next) ∙ ap (λ y. p .before ++ y) (sym f) ∙ p .whole;
+      }
+
+  -- where it stops, what was printed is all
+  pub printing-stop : (at : ℕ) (p : Printing s at) → ((bytes next : ℕ) → programRewriting s at ≡ Done bytes next → ⊥) → p .before ≡ rewritten s
+  printing-stop at p never = sym (append-nil (p .before)) ∙ ap (λ y. p .before ++ y) (sym (rewritten-stop s (length s) at never)) ∙ p .whole

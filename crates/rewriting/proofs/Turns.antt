@@ -1,0 +1,206 @@
+-- Reading groups 1 to 60 in turn into consecutive parts of a table: what holds before each group, what is read and where, a group more, the
+-- first that is refused, all of them.
+-- Assumes nothing.
+use mathlib.Core.Path.{_≡_, refl, sym, _∙_, ap}
+use mathlib.Core.List.{List, [], _∷_, _++_}
+use Prim.Native.Nat.{ℕ, suc, _+_, _-_, _<_, _≤_}
+use native.Mathlib.Nat.{add-zero}
+use native.Mathlib.Numerals.{add-one}
+use native.Mathlib.Omega.{arith}
+use lib.IntN.{ℤ}
+use lib.ListN.{length, take, drop, length-drop}
+use lib.Seq.{length-take-le, drop-drop}
+use Rattle.base.specs.Every.{upFrom}
+use Rattle.base.specs.Part.{part, over}
+use Rattle.base.specs.Pieces.{done, bad, both}
+use Rattle.base.proofs.FirstBad.{IsDone}
+use Rattle.base.proofs.Part.{over-length, over-none, over-all, over-over, over-lent, part-cut, part-length}
+use Rattle.base.proofs.Sum.{sum-take-all}
+use Rattle.base.proofs.UpFrom.{up-more, up-done}
+use Rattle.form.specs.declared.Form.{Form}
+use Rattle.form.specs.declared.GroupForm.the-variants.{Has}
+use Rattle.form.specs.Table.{formOf}
+use Rattle.form.specs.Count.{linesOf, cellsOf}
+use Rattle.line.specs.Lines.{reach}
+use Rattle.count.specs.Tally
+use Rattle.count.specs.Tally.{countOf, linesBefore, cellsIn, cellTally, cellsBefore, recordCells}
+use Rattle.count.proofs.Tallied.{before-groups, before-more, all-cells}
+use Rattle.place.specs.Placing.{countsAt}
+use Rattle.place.specs.Parts
+use Rattle.place.specs.Parts.{start, groupPart}
+use Rattle.place.proofs.Placed.{located-range}
+use Rattle.place.proofs.Spans.{start-next}
+use Rattle.place.proofs.Tiling.{start-one, start-mono, start-within}
+use Rattle.place.proofs.Zero.{IsPlaced, is-placed}
+use Rattle.reading.specs.declared.Refusal.{Refusal}
+use Rattle.reading.specs.declared.Reading.{Reading}
+use Rattle.reading.specs.declared.Reading.the-variants as R
+use Rattle.reading.specs.Read.{Cells, readGroup, readingOf, tableBy}
+use Rattle.record.proofs.GroupRead.{group-reads}
+use Rattle.record.proofs.ReadsBack.{read-located}
+use Rattle.record.proofs.ReadWrites.{reads-cells}
+use Rattle.rewriting.specs.declared.Groups.the-variants.{All, Refused}
+use Rattle.rewriting.specs.Record.{Turn, groupRead, inTurn, cellsInTurn, groupsOf, allInTurn, cellsAt, Ready}
+
+-- ---- a group before others
+
+module _ (read : ℕ → Cells) (g : ℕ) (gs : List ℕ) where
+  pub turn-done : {cs : List ℤ} → read g ≡ done cs → (groupsOf (inTurn read (g ∷ gs)) ≡ groupsOf (inTurn read gs)) × (cellsInTurn read (g ∷ gs) ≡ cs ++ cellsInTurn read gs)
+  unfolding inTurn cellsInTurn
+  turn-done {cs} e = rw e (by (inTurn read gs), refl)
+    where
+      by : (t : Turn) → groupsOf (both (done cs) t) ≡ groupsOf t
+      by (done ds) = refl
+      by (bad u) = refl
+
+  turn-bad : {r : Refusal} → read g ≡ bad r → (groupsOf (inTurn read (g ∷ gs)) ≡ Refused g r) × (cellsInTurn read (g ∷ gs) ≡ [])
+  unfolding inTurn cellsInTurn
+  turn-bad e = rw e (refl, refl)
+
+-- ---- a part of the table that is lent, and comes back as long
+
+pub lent-length : {A : Type 0} (xs : List A) (a e : ℕ) → a ≤ e → e ≤ length xs → length (part a e xs) ≡ e - a
+lent-length xs a e l m =
+    let k : a + (e - a) ≡ e = omega arith in
+    ap (λ b. length (part a b xs)) (sym k) ∙ part-length xs a (e - a) (omega arith)
+
+-- what is put back where it was lent from
+over-same : {A : Type 0} (xs : List A) (a e : ℕ) → a ≤ e → e ≤ length xs → over a (part a e xs) xs ≡ xs
+over-same xs a e l m =
+    let k : a + (e - a) ≡ e = omega arith in
+    let n : length (part a e xs) ≡ e - a = lent-length xs a e l m in
+    sym (over-lent xs (part a e xs) a (e - a) n) ∙ ap (λ b. take a xs ++ (part a b xs ++ drop (e - a) (drop a xs))) (sym k) ∙ sym (part-cut xs a (e - a))
+
+module _ (read : ℕ → Cells) (table new : List ℤ) (a e : ℕ) (l : a ≤ e) (m : e ≤ length table) (answer : Reading) where
+  pub lent-read : (answer ≡ readingOf (read (length (part a e table)))) × (new ≡ tableBy (read (length (part a e table))) (part a e table)) → length new ≡ length (part a e table) → (answer ≡ readingOf (read (e - a))) × (take a table ++ (new ++ drop (e - a) (drop a table)) ≡ over a (tableBy (read (e - a)) (part a e table)) table)
+  lent-read p same =
+      let n = lent-length table a e l m in
+      (p .0 ∙ ap (λ k. readingOf (read k)) n, over-lent table new a (e - a) (same ∙ n) ∙ ap (λ xs. over a xs table) (p .1 ∙ ap (λ k. tableBy (read k) (part a e table)) n))
+
+-- no group has cells behind those of the record
+cells-below : (ns : List ℕ) (g : ℕ) → cellsBefore ns g ≤ recordCells ns
+unfolding Tally.cellsBefore
+cells-below ns g = sum-take-all (cellTally ns) g
+
+-- ---- before group g: its lines begin at `from`, its cells at `cell`, and what remains to be read is what was asked
+
+pub record Turning (s : List ℕ) (at : ℕ) (old table : List ℤ) (g from cell : ℕ) : Type 0 where
+  pub low : 1 ≤ g
+  pub high : g ≤ 61
+  pub begins : from ≡ start s at (countsAt s at) g
+  pub before : cell ≡ cellsBefore (countsAt s at) g
+  pub same : length table ≡ length old
+  pub answer : groupsOf (inTurn (groupRead s at) (upFrom g (61 - g))) ≡ groupsOf (allInTurn s at)
+  pub cells : over cell (cellsInTurn (groupRead s at) (upFrom g (61 - g))) table ≡ over 0 (cellsAt s at) old
+
+module _ (s : List ℕ) (at : ℕ) (old : List ℤ) where
+  pub turning-first : {from : ℕ} → from ≡ at + reach (drop at s) 2 → Turning s at old old 1 from 0
+  turning-first e = record {
+    low = omega arith;
+    high = omega arith;
+    begins = e ∙ sym (start-one s at (countsAt s at));
+    before = before-groups (countsAt s at) .cells-are;
+    same = refl;
+    answer = refl;
+    cells = refl;
+  }
+
+  pub turning-all : {table : List ℤ} {g from cell : ℕ} → Turning s at old table g from cell → 61 ≤ g → (All ≡ groupsOf (allInTurn s at)) × (table ≡ over 0 (cellsAt s at) old)
+  unfolding inTurn cellsInTurn
+  turning-all {table} {g} {from} {cell} t h =
+      let e : upFrom g (61 - g) ≡ [] = up-done g 60 (omega arith) in
+      (rw e at (t .answer), over-none table cell ∙ (rw e at (t .cells)))
+
+  -- ---- group g, with the form that it has, from `from` to `to`, into the cells from `cell` to `end`
+
+  module _ (ms : List ℕ) (counts : ms ≡ countsAt s at) (ready : Ready s at (length old)) {table : List ℤ} {g from cell : ℕ} (t : Turning s at old table g from cell) (few : g < 61) (f : Form) (has : formOf g ≡ Has f) {to end : ℕ} (to-told : to ≡ from + reach (drop from s) (linesOf f (countOf ms g))) (end-told : end ≡ cell + cellsOf f (countOf ms g)) where
+    to-is : to ≡ from + reach (drop from s) (linesOf f (countOf (countsAt s at) g))
+    to-is = rw counts at to-told
+
+    end-is : end ≡ cell + cellsOf f (countOf (countsAt s at) g)
+    end-is = rw counts at end-told
+
+    placed : IsPlaced s at (ready .next)
+    placed = is-placed s at (ready .next) (ready .placed)
+
+    more : Tally.Before (countsAt s at) (g + 1) (linesBefore (countsAt s at) g + linesOf f (countOf (countsAt s at) g)) (cellsBefore (countsAt s at) g + cellsOf f (countOf (countsAt s at) g))
+    more = before-more (countsAt s at) g (linesBefore (countsAt s at) g) (cellsBefore (countsAt s at) g) (t .low) few record { lines-are = refl; cells-are = refl } f has
+
+    ends : to ≡ start s at (countsAt s at) (g + 1)
+    ends =
+        let e : linesBefore (countsAt s at) g + linesOf f (countOf (countsAt s at) g) - linesBefore (countsAt s at) g ≡ linesOf f (countOf (countsAt s at) g) = omega arith in
+        to-is ∙ ap (λ k. from + reach (drop from s) k) (sym e) ∙ start-next s at (countsAt s at) g (t .begins) refl (more .lines-are)
+
+    behind : end ≡ cellsBefore (countsAt s at) (g + 1)
+    behind = end-is ∙ ap (λ k. k + cellsOf f (countOf (countsAt s at) g)) (t .before) ∙ more .cells-are
+
+    cells-have : cellsIn (countsAt s at) g ≡ cellsOf f (countOf (countsAt s at) g)
+    unfolding Tally.cellsIn
+    cells-have = rw has
+
+    -- both parts are parts of what they are lent from
+    pub turning-range : (from ≤ to) × (to ≤ length s) × (cell ≤ end) × (end ≤ length table)
+    turning-range =
+        let n = countsAt s at in
+        let up = start-mono s at n g (g + 1) (omega arith) in
+        let within = start-within s at (ready .next) n (placed .located-at) (g + 1) (omega arith) in
+        (omega (arith, t .begins, ends, up), omega (arith, ends, within, located-range s at (ready .next) n (placed .located-at)), omega (arith, end-is), omega (arith, behind, cells-below n (g + 1), ready .enough, t .same))
+
+    -- and what is read is the group of the record
+    pub turning-read : readGroup ms g (part from to s) (end - cell) ≡ groupRead s at g
+    unfolding Parts.groupPart
+    turning-read =
+        let n = countsAt s at in
+        let e : end - cell ≡ cellsIn n g = omega (arith, end-is, cells-have) in
+        let p : part from to s ≡ groupPart s at n g = rw (t .begins, ends ∙ ap (start s at n) (add-one g)) refl in
+        rw (counts, e, p) (sym (read-located s at (ready .next) n g (cellsIn n g) (t .low) (omega arith) (placed .located-at)))
+
+    rest : upFrom g (61 - g) ≡ g ∷ upFrom (g + 1) (61 - (g + 1))
+    rest = up-more g 60 (omega arith)
+
+    module _ {answer : Reading} {new : List ℤ} (a : answer ≡ readingOf (readGroup ms g (part from to s) (end - cell))) (b : new ≡ over cell (tableBy (readGroup ms g (part from to s) (end - cell)) (part cell end table)) table) where
+      -- it is refused: the answer has its number, and the table stays as the groups before it left it
+      pub turning-refused : {r : Refusal} → answer ≡ R.Refused r → (Refused g r ≡ groupsOf (allInTurn s at)) × (new ≡ over 0 (cellsAt s at) old)
+      turning-refused {r} e =
+          let q : groupRead s at g ≡ bad r = refused (groupRead s at g) (sym e ∙ a ∙ ap readingOf turning-read) in
+          let u = turn-bad (groupRead s at) g (upFrom (g + 1) (61 - (g + 1))) q in
+          let range = turning-range in (
+            sym (u .0) ∙ ap (λ gs. groupsOf (inTurn (groupRead s at) gs)) (sym rest) ∙ t .answer,
+            b ∙ ap (λ c. over cell (tableBy c (part cell end table)) table) (turning-read ∙ q) ∙ over-same table cell end (range .2) (range .3) ∙ over-none table cell
+                ∙ ap (λ cs. over cell cs table) (sym (u .1) ∙ ap (cellsInTurn (groupRead s at)) (sym rest)) ∙ t .cells,
+          )
+        where
+          refused : (c : Cells) → R.Refused r ≡ readingOf c → c ≡ bad r
+          refused (done cs) e = let z : _≡_ {A = ℕ} 0 1 = cc in absurd (omega arith)
+          refused (bad q) e = let p : q ≡ r = cc in ap bad p
+
+      -- it is read: its cells fill its part, and the next group's turn comes
+      pub turning-more : {k : ℕ} → answer ≡ R.Done k → Turning s at old new (g + 1) to end
+      turning-more {k} e =
+          let q = read (groupRead s at g) (sym e ∙ a ∙ ap readingOf turning-read) in
+          let cs = q .cells in
+          let n = countsAt s at in
+          let u = turn-done (groupRead s at) g (upFrom (g + 1) (61 - (g + 1))) (q .is) in
+          let range = turning-range in
+          let long : length cs ≡ cellsIn n g = reads-cells (group-reads n g (groupPart s at n g) (cellsIn n g) cs (placed .kept) (sym (read-located s at (ready .next) n g (cellsIn n g) (t .low) (omega arith) (placed .located-at)) ∙ q .is)) in
+          let wide : length (part cell end table) ≡ length cs = ap (λ k. length (part cell k table)) end-is ∙ part-length table cell (cellsOf f (countOf n g)) (omega (arith, range .3, end-is)) ∙ sym cells-have ∙ sym long in
+          let new-is : new ≡ over cell cs table = b ∙ ap (λ c. over cell (tableBy c (part cell end table)) table) (turning-read ∙ q .is) ∙ ap (λ xs. over cell xs table) (over-all (part cell end table) cs (sym wide)) in
+          let at-end : end ≡ cell + length cs = end-is ∙ ap (λ k. cell + k) (sym cells-have ∙ sym long) in
+          record {
+            low = omega arith;
+            high = omega arith;
+            begins = ends;
+            before = behind;
+            same = ap length new-is ∙ over-length table cs cell (omega (arith, at-end, range .3)) ∙ t .same;
+            answer = sym (u .0) ∙ ap (λ gs. groupsOf (inTurn (groupRead s at) gs)) (sym rest) ∙ t .answer;
+            cells =
+                ap (over end (cellsInTurn (groupRead s at) (upFrom (g + 1) (61 - (g + 1))))) new-is
+                ∙ ap (λ k. over k (cellsInTurn (groupRead s at) (upFrom (g + 1) (61 - (g + 1)))) (over cell cs table)) at-end
+                ∙ over-over table cs (cellsInTurn (groupRead s at) (upFrom (g + 1) (61 - (g + 1)))) cell (omega (arith, at-end, range .3))
+                ∙ ap (λ xs. over cell xs table) (sym (u .1) ∙ ap (cellsInTurn (groupRead s at)) (sym rest))
+                ∙ t .cells;
+          }
+        where
+          read : (c : Cells) → R.Done k ≡ readingOf c → IsDone c
+          read (done cs) e = record { cells = cs; is = refl }
+          read (bad q) e = let z : _≡_ {A = ℕ} 0 1 = cc in absurd (omega arith)

@@ -1,0 +1,129 @@
+-- `rewriting::rewrite_record` meets its contract: each answer, with what it leaves, by what led to it.
+-- Assumes nothing.
+use borrow.Author.Needs.{needs}
+use native.Mathlib.Omega.{arith}
+use mathlib.Core.Path.{_≡_, sym, _∙_, ap, subst}
+use mathlib.Core.List.{[], _∷_}
+use Prim.Native.Nat.{_≤_}
+use types.Run.{OneOf}
+use denote.Enum.Declared.{tagOf}
+use lib.ListN.{length}
+use Rattle.count.specs.Tally.{recordCells}
+use Rattle.count.proofs.Tallied.{all-cells}
+use Rattle.place.specs.declared.Placing.{Placing}
+use Rattle.place.specs.declared.Placing.the-variants.{Placed}
+use Rattle.place.specs.Placing.{placingOf, countsAt}
+use Rattle.place.proofs.Placing.{the-type}
+use Rattle.group.proofs.Texts.{not-first}
+use Rattle.record.specs.Text.{recordBytes}
+use Rattle.rewriting.specs.declared.Rewriting.the-variants.{Missing}
+use Rattle.rewriting.proofs.Steps.{step-missing, step-no-text, step-no-cells, step-ready, step-unread, step-writes, step-done}
+use Rattle.rewriting.proofs.rewrite_record.Statement.{statement}
+use Rattle.rewriting.proofs.rewrite_record.Tie as tie
+
+place-requires : tie.Need-place-requires
+place-requires c κs = search needs
+
+enum-known-answer : tie.Need-enum-known-answer
+enum-known-answer c = search needs
+
+refusal-of-requires : tie.Need-refusal-of-requires
+refusal-of-requires c κs = search needs
+
+returns : tie.Need-returns
+returns c =
+    let o = c .before .before .before .before .before in
+    let h = step-missing (o .args .text .now) (o .args .at) (o .args .table .now) (o .args .out .now) _ (c .before .before .place .ensures .0) (λ n e. not-first (1 ∷ 2 ∷ 3 ∷ 4 ∷ 5 ∷ 6 ∷ 7 ∷ []) tt (subst (λ (p : Placing). OneOf (1 ∷ 2 ∷ 3 ∷ 4 ∷ 5 ∷ 6 ∷ 7 ∷ []) (tagOf the-type p)) e (c .before .match .keys2))) in
+    (ap Missing (c .refusal-of .ensures) ∙ h .0, h .1, h .2)
+
+slice-aggregate-canonical-length : tie.Need-slice-aggregate-canonical-length
+slice-aggregate-canonical-length c = search needs
+
+canonical-length-requires : tie.Need-canonical-length-requires
+canonical-length-requires c κs = search needs
+
+placed : (c : tie.After-canonical-length) → placingOf (c .before .before .before .before .before .before .before .before .before .args .text .now) (c .before .before .before .before .before .before .before .before .before .args .at) ≡ Placed (c .before .before .before .before .answer .given .0 .0)
+placed c = sym (c .before .before .before .before .before .before .place .ensures .0) ∙ c .before .before .before .before .answer .given .1
+
+counts : (c : tie.After-canonical-length) → c .before .before .before .before .before .before .place .result .counts ≡ countsAt (c .before .before .before .before .before .before .before .before .before .args .text .now) (c .before .before .before .before .before .before .before .before .before .args .at)
+counts c = c .before .before .before .before .before .before .place .ensures .1
+
+returns-2 : tie.Need-returns-2
+returns-2 c = step-no-text (c .before .before .before .before .before .before .before .before .before .before .args .text .now) (c .before .before .before .before .before .before .before .before .before .before .args .at) (c .before .before .before .before .before .before .before .before .before .before .args .table .now) (c .before .before .before .before .before .before .before .before .before .before .args .out .now) _ (placed (c .before)) _ (counts (c .before)) (omega (arith, c .before .canonical-length .ensures))
+
+slice-aggregate-add-up : tie.Need-slice-aggregate-add-up
+slice-aggregate-add-up c = search needs
+
+add-up-requires : tie.Need-add-up-requires
+add-up-requires c κs = search needs
+
+returns-3 : tie.Need-returns-3
+returns-3 c = step-no-cells (c .before .before .before .before .before .before .before .before .before .before .before .before .before .before .args .text .now) (c .before .before .before .before .before .before .before .before .before .before .before .before .before .before .args .at) (c .before .before .before .before .before .before .before .before .before .before .before .before .before .before .args .table .now) (c .before .before .before .before .before .before .before .before .before .before .before .before .before .before .args .out .now) _ (placed (c .before .before .before .before .before)) _ (counts (c .before .before .before .before .before)) (omega (arith, c .before .before .add-up .ensures .cells-are, all-cells (c .before .before .before .before .before .before .before .before .before .before .before .place .result .counts)))
+
+slice-aggregate-read-groups : tie.Need-slice-aggregate-read-groups
+slice-aggregate-read-groups c = search needs
+
+text-fits : (c : tie.After-read-groups-arg) → recordBytes (c .before .before .before .before .before .before .before .before .before .before .before .before .before .place .result .counts) ≤ length (c .before .before .before .before .before .before .before .before .before .before .before .before .before .before .before .before .args .out .now)
+text-fits c = omega (arith, c .before .before .before .before .before .before .before .canonical-length .ensures)
+
+many : (c : tie.After-read-groups-arg) → c .before .before .before .before .add-up .result .cells ≡ recordCells (c .before .before .before .before .before .before .before .before .before .before .before .before .before .place .result .counts)
+many c = c .before .before .before .before .add-up .ensures .cells-are ∙ all-cells (c .before .before .before .before .before .before .before .before .before .before .before .before .before .place .result .counts)
+
+cells-fit : (c : tie.After-read-groups-arg) → recordCells (c .before .before .before .before .before .before .before .before .before .before .before .before .before .place .result .counts) ≤ length (c .before .before .before .before .before .before .before .before .before .before .before .before .before .before .before .before .args .table .now)
+cells-fit c = omega (arith, many c)
+
+read-groups-requires : tie.Need-read-groups-requires
+read-groups-requires c κs = (counts (c .before .before .before .before .before .before .before), step-ready (c .before .before .before .before .before .before .before .before .before .before .before .before .before .before .before .before .args .text .now) (c .before .before .before .before .before .before .before .before .before .before .before .before .before .before .before .before .args .at) (c .before .before .before .before .before .before .before .before .before .before .before .before .before .before .before .before .args .table .now) (c .before .before .before .before .before .before .before .before .before .before .before .before .before .before .before .before .args .out .now) _ (placed (c .before .before .before .before .before .before .before)) _ (counts (c .before .before .before .before .before .before .before)) (text-fits (c)) (cells-fit (c)))
+
+enum-known-g : tie.Need-enum-known-g
+enum-known-g c = search needs
+
+enum-told : tie.Need-enum-told
+enum-told c = search needs
+
+slice-aggregate-write-cells : tie.Need-slice-aggregate-write-cells
+slice-aggregate-write-cells c = search needs
+
+write-cells-requires : tie.Need-write-cells-requires
+write-cells-requires c κs = step-writes (c .before .before .before .before .before .before .before .before .before .before .before .before .before .before .before .before .before .before .before .before .before .before .before .args .text .now) (c .before .before .before .before .before .before .before .before .before .before .before .before .before .before .before .before .before .before .before .before .before .before .before .args .at) (c .before .before .before .before .before .before .before .before .before .before .before .before .before .before .before .before .before .before .before .before .before .before .before .args .table .now) (c .before .before .before .before .before .before .before .before .before .before .before .before .before .before .before .before .before .before .before .before .before .before .before .args .out .now) _ (placed (c .before .before .before .before .before .before .before .before .before .before .before .before .before .before)) _ (counts (c .before .before .before .before .before .before .before .before .before .before .before .before .before .before)) (text-fits (c .before .before .before .before .before .before .before)) (cells-fit (c .before .before .before .before .before .before .before)) (sym (c .before .before .before .enum-told .given .1) ∙ c .before .before .before .before .before .before .read-groups .ensures .0, c .before .before .before .before .before .before .read-groups .ensures .1) (many (c .before .before .before .before .before .before .before))
+
+same-length : tie.Need-same-length
+same-length c = search needs
+
+returns-4 : tie.Need-returns-4
+returns-4 c = step-unread (c .before .before .before .before .before .before .before .before .before .before .before .before .before .before .before .before .before .before .before .before .before .args .text .now) (c .before .before .before .before .before .before .before .before .before .before .before .before .before .before .before .before .before .before .before .before .before .args .at) (c .before .before .before .before .before .before .before .before .before .before .before .before .before .before .before .before .before .before .before .before .before .args .table .now) (c .before .before .before .before .before .before .before .before .before .before .before .before .before .before .before .before .before .before .before .before .before .args .out .now) _ (placed (c .before .before .before .before .before .before .before .before .before .before .before .before)) _ (counts (c .before .before .before .before .before .before .before .before .before .before .before .before)) (text-fits (c .before .before .before .before .before)) (cells-fit (c .before .before .before .before .before)) (sym (c .before .g .given .1) ∙ c .before .before .before .before .read-groups .ensures .0, c .before .before .before .before .read-groups .ensures .1)
+
+same-length-2 : tie.Need-same-length-2
+same-length-2 c = search needs
+
+same-length-3 : tie.Need-same-length-3
+same-length-3 c = search needs
+
+returns-5 : tie.Need-returns-5
+returns-5 c = step-done (c .before .before .before .before .before .before .before .before .before .before .before .before .before .before .before .before .before .before .before .before .before .before .before .before .before .before .args .text .now) (c .before .before .before .before .before .before .before .before .before .before .before .before .before .before .before .before .before .before .before .before .before .before .before .before .before .before .args .at) (c .before .before .before .before .before .before .before .before .before .before .before .before .before .before .before .before .before .before .before .before .before .before .before .before .before .before .args .table .now) (c .before .before .before .before .before .before .before .before .before .before .before .before .before .before .before .before .before .before .before .before .before .before .before .before .before .before .args .out .now) _ (placed (c .before .before .before .before .before .before .before .before .before .before .before .before .before .before .before .before .before)) _ (counts (c .before .before .before .before .before .before .before .before .before .before .before .before .before .before .before .before .before)) (text-fits (c .before .before .before .before .before .before .before .before .before .before)) (cells-fit (c .before .before .before .before .before .before .before .before .before .before)) (sym (c .before .before .before .before .before .before .enum-told .given .1) ∙ c .before .before .before .before .before .before .before .before .before .read-groups .ensures .0, c .before .before .before .before .before .before .before .before .before .read-groups .ensures .1) (many (c .before .before .before .before .before .before .before .before .before .before)) (c .before .before .before .before .before .before .before .before .before .before .before .before .before .before .before .before .before .canonical-length .ensures) (c .before .before .write-cells .ensures)
+
+pub rewrite-record-spec : {M : Type 1} → statement M
+rewrite-record-spec =
+    tie.close
+    (tie.spec
+    place-requires
+    enum-known-answer
+    refusal-of-requires
+    returns
+    slice-aggregate-canonical-length
+    canonical-length-requires
+    returns-2
+    slice-aggregate-add-up
+    add-up-requires
+    returns-3
+    slice-aggregate-read-groups
+    read-groups-requires
+    enum-known-g
+    enum-told
+    slice-aggregate-write-cells
+    write-cells-requires
+    same-length
+    returns-4
+    same-length-2
+    same-length-3
+    returns-5)
