@@ -1,4 +1,5 @@
 -- The laws of rewriting's definitions: groups in turn (Turns, Whole).
+pub mod Canonical
 pub mod Cells
 pub mod Due
 pub mod Printing

@@ -2,20 +2,15 @@
 -- place on; nothing from a place where another reply is due. So the texts that a loop prints, one behind the other, are the whole.
 -- Assumes nothing.
 use mathlib.Core.Path.{_≡_, refl, sym, _∙_, ap}
-use mathlib.Core.List.{List, [], _∷_, _++_, append-assoc, append-nil}
+use mathlib.Core.List.{List, [], _++_, append-assoc, append-nil}
 use Prim.Native.Nat.{ℕ, zero, suc, _+_, _<_, _≤_}
 use native.Mathlib.Omega.{arith}
 use lib.ListN.{length}
-use Rattle.place.specs.declared.Placing.the-variants.{Placed}
-use Rattle.place.specs.Placing.{placingOf}
-use Rattle.place.proofs.Placed.{located-is}
-use Rattle.place.proofs.Zero.{is-placed}
 use Rattle.rewriting.specs.declared.Rewriting.{Rewriting}
 use Rattle.rewriting.specs.declared.Rewriting.the-variants.{Done, Missing, NoRoom, Unread}
-use Rattle.rewriting.specs.Record.{textAt}
-use Rattle.rewriting.specs.Printed.{programRewriting, textThen, rewrittenFrom, rewritten}
-use Rattle.rewriting.proofs.Due.{first-due}
-use Rattle.rewriting.proofs.Promises.{done-further, done-inside}
+use Rattle.rewriting.specs.Record.{rewritingOf, textAt}
+use Rattle.rewriting.specs.Printed.{programRewriting, textThen, rewrittenFrom, rewritten, Behind, start, one-more, Stopped}
+use Rattle.rewriting.proofs.Promises.{done-within, done-further, done-inside}
 
 module _ (s : List ℕ) where
   pub rewritten-done : (k at bytes next : ℕ) → programRewriting s at ≡ Done bytes next → rewrittenFrom (suc k) s at ≡ textAt s at ++ rewrittenFrom k s next
@@ -57,22 +52,48 @@ module _ (s : List ℕ) where
 
 pub record Printing (s : List ℕ) (at : ℕ) : Type 0 where
   pub before : List ℕ
+  pub behind : Behind s at before
   pub whole : before ++ rewrittenFrom (length s) s at ≡ rewritten s
 
 module _ (s : List ℕ) where
   pub printing-first : Printing s 0
   unfolding rewritten
-  printing-first = record { before = []; whole = refl }
+  printing-first = record { before = []; behind = start; whole = refl }
 
-  pub printing-more : (at bytes next : ℕ) → Printing s at → programRewriting s at ≡ Done bytes next → Printing s next
-  printing-more at bytes next p e =
-      let h = done-further s at 8192 8192 bytes next e in
-      let f : rewrittenFrom (length s) s at ≡ textAt s at ++ rewrittenFrom (length s) s next = rewritten-enough s (length s) (suc (length s)) at (omega arith) (omega arith) ∙ rewritten-done s (length s) at bytes next e in
-      record {
-        before = p .before ++ textAt s at;
-        whole = append-assoc (p .before) (textAt s at) (rewrittenFrom (length s) s next) ∙ ap (λ y. p .before ++ y) (sym f) ∙ p .whole;
-      }
+  pub printing-end : (at : ℕ) → Printing s at → ((bytes next : ℕ) → programRewriting s at ≡ Done bytes next → ⊥) → Stopped s at
+  printing-end at p never = record {
+    before = p .before;
+    behind = p .behind;
+    all = sym (append-nil (p .before)) ∙ ap (λ y. p .before ++ y) (sym (rewritten-stop s (length s) at never)) ∙ p .whole;
+  }
 
-  -- where it stops, what was printed is all
-  pub printing-stop : (at : ℕ) (p : Printing s at) → ((bytes next : ℕ) → programRewriting s at ≡ Done bytes next → ⊥) → p .before ≡ rewritten s
-  printing-stop at p never = sym (append-nil (p .before)) ∙ ap (λ y. p .before ++ y) (sym (rewritten-stop s (length s) at never)) ∙ p .whole
+  pub printing-ended : (at : ℕ) → Printing s at → length s ≤ at → Stopped s at
+  printing-ended at p l = printing-end at p (end-never s at l)
+
+  -- what was asked over a table and a page of 8,192
+  module _ (at : ℕ) (p : Printing s at) {cells room : ℕ} (c : cells ≡ 8192) (r : room ≡ 8192) (answer : Rewriting) (a : answer ≡ rewritingOf s at cells room) where
+    asked : answer ≡ programRewriting s at
+    asked = a ∙ rw (c, r) refl
+
+    pub printing-stop : ((bytes next : ℕ) → answer ≡ Done bytes next → ⊥) → Stopped s at
+    printing-stop never = printing-end at p (λ bytes next e. never bytes next (asked ∙ e))
+
+    module _ (bytes next : ℕ) (d : answer ≡ Done bytes next) where
+      e : programRewriting s at ≡ Done bytes next
+      e = sym asked ∙ d
+
+      -- the text has room in the page, and the next place lies further on
+      pub printing-room : bytes ≤ 8192
+      printing-room = done-within s at 8192 8192 bytes next e
+
+      pub printing-further : at < next
+      printing-further = omega (arith, done-further s at 8192 8192 bytes next e)
+
+      pub printing-more : Printing s next
+      printing-more =
+          let f : rewrittenFrom (length s) s at ≡ textAt s at ++ rewrittenFrom (length s) s next = rewritten-enough s (length s) (suc (length s)) at (omega arith) (omega arith) ∙ rewritten-done s (length s) at bytes next e in
+          record {
+            before = p .before ++ textAt s at;
+            behind = one-more at bytes next (p .before) (p .behind) e;
+            whole = append-assoc (p .before) (textAt s at) (rewrittenFrom (length s) s next) ∙ ap (λ y. p .before ++ y) (sym f) ∙ p .whole;
+          }

@@ -1,6 +1,7 @@
 -- "The rewriting program takes the same input, and prints the canonical text of each record until the first reply other than 0 in placing or
 -- reading, or the first record whose canonical text is longer than 8,192 bytes, and nothing of that record or later. Input longer than
 -- 65,536 bytes prints nothing."
+use mathlib.Core.Path.{_≡_}
 use mathlib.Core.Bool.{cond}
 use mathlib.Core.List.{List, [], _++_}
 use Prim.Native.Nat.{ℕ, zero, suc}
@@ -32,3 +33,16 @@ rewritten s = rewrittenFrom (length s) s 0
 
 unfoldable pub printed : List ℕ → List ℕ
 printed s = cond (leb (length s) 65536) (rewritten s) []
+
+-- ---- record by record, as a program goes
+
+-- a place behind records from the text's start on that are rewritten with 0, and their texts, one behind the other
+pub data Behind (s : List ℕ) : ℕ → List ℕ → Type 0 where
+  start : Behind s 0 []
+  one-more : (at bytes next : ℕ) (before : List ℕ) → Behind s at before → programRewriting s at ≡ Done bytes next → Behind s next (before ++ textAt s at)
+
+-- where a program may stop: these texts are all
+pub record Stopped (s : List ℕ) (at : ℕ) : Type 0 where
+  pub before : List ℕ
+  pub behind : Behind s at before
+  pub all : before ≡ rewritten s

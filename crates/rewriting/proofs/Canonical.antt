@@ -1,0 +1,124 @@
+-- A text of canonical records within the program's limits is rewritten as itself; and what the program prints is such a text, so that printing
+-- it again, where it is within the limits, prints the same.
+-- Assumes nothing.
+use mathlib.Core.Path.{_≡_, refl, sym, _∙_, ap, ap₂}
+use mathlib.Core.Bool.{Bool, true, false, cond}
+use mathlib.Core.List.{List, [], _++_, append-assoc, append-nil}
+use Prim.Native.Nat.{ℕ, zero, suc, _+_, _-_, _≤_}
+use native.Mathlib.Omega.{arith}
+use borrow.Author.Tests.{le-leb}
+use lib.Dec.{leb}
+use lib.ListN.{length, length-append}
+use Rattle.base.specs.Part.{part}
+use Rattle.base.specs.Pieces.{done}
+use Rattle.base.proofs.Part.{part-middle}
+use Rattle.count.specs.Tally.{cellsIn}
+use Rattle.place.specs.Placing.{countsAt}
+use Rattle.record.specs.Canonical.{CanonicalRecord}
+use Rattle.record.specs.RoundTrip.{groupCells, ReadsBack, ReadWhole}
+use Rattle.record.specs.Text.{recordText, recordBytes}
+use Rattle.record.proofs.Done.{done-is}
+use Rattle.record.proofs.ReadsBack.{canonical-back, done-canonical}
+use Rattle.record.proofs.ReadWrites.{again-bytes, written-again}
+use Rattle.rewriting.specs.declared.Groups.the-variants.{All}
+use Rattle.rewriting.specs.declared.Rewriting.{Rewriting}
+use Rattle.rewriting.specs.declared.Rewriting.the-variants.{Done, Missing, NoRoom, Unread}
+use Rattle.rewriting.specs.Canonical.{RightRecord, CanonicalRecords, none, more}
+use Rattle.rewriting.specs.Record.{groupRead, groupsOf, allInTurn, cellsAt, textAt, rewritingOf}
+use Rattle.rewriting.specs.Printed.{programRewriting, textThen, rewrittenFrom, rewritten, printed}
+use Rattle.rewriting.proofs.Cells.{record-cells}
+use Rattle.rewriting.proofs.Due.{first-due, turn-all}
+use Rattle.rewriting.proofs.Printing.{rewritten-done, rewritten-stop, end-never}
+use Rattle.rewriting.proofs.Promises.{done-writes, done-text, done-within, done-further}
+use Rattle.rewriting.proofs.Whole.{cellsOfGroup, whole-read, whole-joined}
+
+-- ---- a right record, wherever it stands, is rewritten as itself
+
+module _ {x : List ℕ} (r : RightRecord x) (a b : List ℕ) where
+  abbrev here : List ℕ
+  here = a ++ (x ++ b)
+
+  back : ReadsBack (r .ns) (r .cs) (length x) here (length a)
+  back = canonical-back (r .canonical) (r .release) (r .rules) record { date = r .date; right = r .dated } a b
+
+  reads : (g : ℕ) → 1 ≤ g → g ≤ 60 → groupRead here (length a) g ≡ done (groupCells (r .ns) (r .cs) g)
+  reads g low high = back .groups g (cellsIn (countsAt here (length a)) g) low high (rw (back .counts) (omega arith))
+
+  all : All ≡ groupsOf (allInTurn here (length a))
+  all = sym (ap groupsOf (turn-all (groupRead here (length a)) (λ g low high. record { cells = groupCells (r .ns) (r .cs) g; is = reads g low high }) .is))
+
+  stands : CanonicalRecord (countsAt here (length a)) (part (length a) (length a + length x) here) (r .cs)
+  stands = rw (back .counts, part-middle a x b) (r .canonical)
+
+  read : ReadWhole here (length a) (length a + length x) (cellsOfGroup (groupRead here (length a)))
+  read = whole-read here (length a) (length a + length x) (back .placed) all
+
+  pub right-text : textAt here (length a) ≡ x
+  right-text = ap (recordText (countsAt here (length a))) (whole-joined here (length a) (length a + length x) (back .placed) all) ∙ written-again read stands ∙ part-middle a x b
+
+  pub right-rewritten : length x ≤ 8192 → programRewriting here (length a) ≡ Done (length x) (length a + length x)
+  right-rewritten l =
+      let n : recordBytes (countsAt here (length a)) ≡ length x = again-bytes read stands ∙ omega arith in
+      first-due here (length a) 8192 8192 (Done (length x) (length a + length x)) .1 record {
+        roomy = record { placed = back .placed; text-fits = omega (arith, n); cells-fit = omega (arith, n, record-cells (countsAt here (length a))) };
+        groups = λ g low high. record { cells = groupCells (r .ns) (r .cs) g; reads = reads g low high };
+        written = n;
+      }
+
+-- ---- a text of them
+
+rewritten-same : (a : List ℕ) {y : List ℕ} → CanonicalRecords y → (k : ℕ) → length y ≤ k → rewrittenFrom k (a ++ y) (length a) ≡ y
+rewritten-same a none k h = rewritten-stop (a ++ []) k (length a) (end-never (a ++ []) (length a) (omega (arith, ap length (append-nil a))))
+rewritten-same a (more x {y} r l ys) k h =
+    let e = right-rewritten r a y l in
+    let long = done-further (a ++ (x ++ y)) (length a) 8192 8192 (length x) (length a + length x) e in
+    let both : length (x ++ y) ≡ length x + length y = length-append x y in
+    let j : k ≡ suc (k - 1) = omega arith in
+    let rest : rewrittenFrom (k - 1) (a ++ (x ++ y)) (length a + length x) ≡ y = rw (← append-assoc a x y, ← length-append a x) (rewritten-same (a ++ x) ys (k - 1) (omega arith)) in
+    ap (λ i. rewrittenFrom i (a ++ (x ++ y)) (length a)) j
+    ∙ rewritten-done (a ++ (x ++ y)) (k - 1) (length a) (length x) (length a + length x) e
+    ∙ ap₂ _++_ (right-text r a y) rest
+
+-- "canonical text that is read and written again returns byte for byte"
+pub canonical-printed : (s : List ℕ) → CanonicalRecords s → length s ≤ 65536 → printed s ≡ s
+unfolding printed rewritten
+canonical-printed s c l = rw (le-leb (length s) 65536 l) (rewritten-same [] c (length s) (omega arith))
+
+-- ---- what is printed is canonical records
+
+text-right : (s : List ℕ) (at cells room bytes next : ℕ) → rewritingOf s at cells room ≡ Done bytes next → RightRecord (textAt s at)
+text-right s at cells room bytes next e =
+    let w = done-writes s at cells room bytes next e in
+    let d = done-is (countsAt s at) (cellsAt s at) room bytes w in
+    record {
+      ns = countsAt s at;
+      cs = cellsAt s at;
+      canonical = done-canonical (countsAt s at) (cellsAt s at) room bytes w;
+      release = d .checked .release;
+      rules = d .checked .kept;
+      date = d .date;
+      dated = d .right;
+    }
+
+rewritten-canonical : (k : ℕ) (s : List ℕ) (at : ℕ) → CanonicalRecords (rewrittenFrom k s at)
+unfolding rewrittenFrom
+rewritten-canonical zero s at = none
+rewritten-canonical (suc k) s at = by (programRewriting s at) refl (rewritten-canonical k s)
+  where
+    by : (r : Rewriting) → programRewriting s at ≡ r → ((p : ℕ) → CanonicalRecords (rewrittenFrom k s p)) → CanonicalRecords (textThen (textAt s at) (rewrittenFrom k s) r)
+    by (Done bytes next) e rest = more (textAt s at) (text-right s at 8192 8192 bytes next e) (omega (arith, done-text s at 8192 8192 bytes next e, done-within s at 8192 8192 bytes next e)) (rest next)
+    by (Missing r) e rest = none
+    by NoRoom e rest = none
+    by (Unread g r) e rest = none
+
+pub printed-canonical : (s : List ℕ) → CanonicalRecords (printed s)
+unfolding printed rewritten
+printed-canonical s = by (leb (length s) 65536)
+  where
+    by : (t : Bool) → CanonicalRecords (cond t (rewrittenFrom (length s) s 0) [])
+    by true = rewritten-canonical (length s) s 0
+    by false = none
+
+-- so that it is printed again as itself, where it is not longer than the program takes
+pub printed-again : (s : List ℕ) → length (printed s) ≤ 65536 → printed (printed s) ≡ printed s
+printed-again s l = canonical-printed (printed s) (printed-canonical s) l

@@ -1,0 +1,30 @@
+-- "canonical text that is read and written again returns byte for byte": a text of canonical records, one behind the other, within the
+-- program's limits.
+use mathlib.Core.Path.{_≡_}
+use mathlib.Core.List.{List, [], _++_}
+use Prim.Native.Nat.{ℕ, _≤_}
+use lib.IntN.{ℤ}
+use lib.ListN.{length}
+use Rattle.count.specs.Rules.{releaseOf, rulingOf}
+use Rattle.count.specs.declared.Release.the-variants.{Five}
+use Rattle.count.specs.declared.Ruling.the-variants.{Kept}
+use Rattle.date.specs.Date.{datedOf}
+use Rattle.date.specs.declared.Date.{Date}
+use Rattle.date.specs.declared.Dated.the-variants.{Right}
+use Rattle.record.specs.Canonical.{CanonicalRecord}
+use Rattle.record.specs.Writing.{dateLetters}
+
+-- a canonical record that nothing but its length could have refused: release 5 and no vacant group, the rules on counts, a right date
+pub record RightRecord (x : List ℕ) : Type 0 where
+  pub ns : List ℕ
+  pub cs : List ℤ
+  pub canonical : CanonicalRecord ns x cs
+  pub release : releaseOf ns ≡ Five
+  pub rules : rulingOf ns ≡ Kept
+  pub date : Date
+  pub dated : datedOf (dateLetters ns cs) ≡ Right date
+
+-- such records, one behind the other, none of which has more than 8,192 bytes
+pub data CanonicalRecords : List ℕ → Type 0 where
+  none : CanonicalRecords []
+  more : (x : List ℕ) {y : List ℕ} → RightRecord x → length x ≤ 8192 → CanonicalRecords y → CanonicalRecords (x ++ y)
