@@ -1,0 +1,5 @@
+-- The three demands, proved from the layers' laws, and one outcome of each question.
+pub mod Demand1
+pub mod Demand2
+pub mod Demand3
+pub mod OneOutcome

@@ -1,0 +1,74 @@
+-- The second demand: "Reading gives the values that the SAO 4.3 description, as condensed in document 01, gives to that text, and refuses with
+-- the first reply due under 01's order. Writing gives the one canonical text of the same values. What was written reads back as the values it
+-- was made from, and canonical text that is read and written again returns byte for byte."
+--
+-- s is a text, ns are counts, cs the cells of all groups in group order.
+use mathlib.Core.Path.{_≡_}
+use mathlib.Core.List.{List, _++_}
+use mathlib.Core.Logic.{_↔_}
+use Prim.Native.Nat.{ℕ, _-_, _≤_}
+use lib.IntN.{ℤ}
+use lib.ListN.{length}
+use Rattle.base.specs.Part.{part, over}
+use Rattle.place.specs.declared.Placing.{Placing}
+use Rattle.place.specs.Placing.{placingOf, countsAt}
+use Rattle.place.specs.Due as PlacingIs
+use Rattle.reading.specs.Read.{Cells}
+use Rattle.group.specs.declared.Found.{Found}
+use Rattle.group.specs.declared.Characteristic.{Characteristic}
+use Rattle.group.specs.Text.{readAt}
+use Rattle.group.specs.Held.{foundAt}
+use Rattle.group.specs.Characteristics.{characteristicAt}
+use Rattle.group.specs.Due as GroupIs
+use Rattle.record.specs.declared.Writing.{Writing}
+use Rattle.record.specs.declared.Writing.the-variants.{Done}
+use Rattle.record.specs.Canonical.{CanonicalRecord}
+use Rattle.record.specs.RoundTrip.{ReadsBack, ReadWhole, joined}
+use Rattle.record.specs.Text.{recordText}
+use Rattle.record.specs.Writing.{writingOf, outputBy}
+use Rattle.record.specs.Due as WritingIs
+use Rattle.rewriting.specs.declared.Rewriting.{Rewriting}
+use Rattle.rewriting.specs.Canonical.{CanonicalRecords}
+use Rattle.rewriting.specs.Due as RewritingIs
+use Rattle.rewriting.specs.Printed.{printed}
+use Rattle.rewriting.specs.Record.{rewritingOf}
+
+-- "Reading gives the values that the description gives to that text, and refuses with the first reply due under 01's order": every answer is
+-- given exactly if it is due. What each Due says stands in 01's words in the layers: of 0 that the cells are the values of the fields where
+-- 01 has them (reading's Values), of a refusal that its condition holds and none earlier in the order does.
+pub record GivenAsDue : Type 0 where
+  pub placing : (s : List ℕ) (at : ℕ) (p : Placing) → placingOf s at ≡ p ↔ PlacingIs.Due s at p
+  pub reading : (s : List ℕ) (at g room : ℕ) (c : Cells) → readAt s at g room ≡ c ↔ GroupIs.Due s at g room c
+  pub lines : (s : List ℕ) (at g : ℕ) (r : Found) → foundAt s at g ≡ r ↔ GroupIs.FoundDue s at g r
+  pub characteristic : (s : List ℕ) (at k : ℕ) (c : Characteristic) → characteristicAt s at k ≡ c ↔ GroupIs.CharacteristicDue s at k c
+  pub writing : (ns : List ℕ) (cs : List ℤ) (room : ℕ) (r : Writing) → writingOf ns cs room ≡ r ↔ WritingIs.Due ns cs room r
+  pub rewriting : (s : List ℕ) (at cells room : ℕ) (r : Rewriting) → rewritingOf s at cells room ≡ r ↔ RewritingIs.Due s at cells room r
+
+-- "Writing gives the one canonical text of the same values": n bytes, canonical with these counts and cells, and no other text is
+pub record OneCanonical (ns : List ℕ) (cs : List ℤ) (n : ℕ) : Type 0 where
+  pub long : length (recordText ns cs) ≡ n
+  pub canonical : CanonicalRecord ns (recordText ns cs) cs
+  pub one : (x : List ℕ) → CanonicalRecord ns x cs → x ≡ recordText ns cs
+
+abbrev pub WritesCanonical : Type 0
+WritesCanonical = (ns : List ℕ) (cs : List ℤ) (room n : ℕ) → writingOf ns cs room ≡ Done n → OneCanonical ns cs n
+
+-- "What was written reads back as the values it was made from", wherever it stands in whatever text
+abbrev pub WrittenReadsBack : Type 0
+WrittenReadsBack =
+    (ns : List ℕ) (cs : List ℤ) (room n : ℕ) → writingOf ns cs room ≡ Done n → (a b : List ℕ) → ReadsBack ns cs n (a ++ (recordText ns cs ++ b)) (length a)
+
+-- "and canonical text that is read and written again returns byte for byte"
+pub record ReadWrites : Type 0 where
+  -- a record of any text whose groups all read with 0 and whose bytes are canonical
+  pub record-returns : (s : List ℕ) (at next : ℕ) (cells : ℕ → List ℤ) (ds : List ℤ) → ReadWhole s at next cells → CanonicalRecord (countsAt s at) (part at next s) ds → (out : List ℕ) → next - at ≤ length out → (writingOf (countsAt s at) (joined cells) (length out) ≡ Done (next - at)) × (outputBy (countsAt s at) (joined cells) (writingOf (countsAt s at) (joined cells) (length out)) out ≡ over 0 (part at next s) out)
+  -- what the program prints for a text of canonical records, each of at most 8,192 bytes
+  pub text-returns : (s : List ℕ) → CanonicalRecords s → length s ≤ 65536 → printed s ≡ s
+  -- and for what it printed itself
+  pub printed-returns : (s : List ℕ) → length (printed s) ≤ 65536 → CanonicalRecords (printed s) × (printed (printed s) ≡ printed s)
+
+pub record Demand2 : Type 0 where
+  pub due : GivenAsDue
+  pub canonical : WritesCanonical
+  pub reads-back : WrittenReadsBack
+  pub read-writes : ReadWrites

@@ -1,0 +1,4 @@
+-- The three demands, each sentence above what it says of the questions' definitions. proofs/ has a theorem for each.
+pub mod Demand1
+pub mod Demand2
+pub mod Demand3
