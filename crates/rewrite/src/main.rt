@@ -6,11 +6,14 @@ ghost use lib.ListN.{length};
 ghost use Rattle.rewriting.specs.Printed.{Stopped};
 
 // Prints the canonical text of each record from the text's start on, until the first that is not rewritten with 0, and gives the place where
-// it stopped. The table has a cell for each byte of the page, which is always enough.
-fn print_records(text: &[u8], table: &mut [i64], page: &mut [u8]) -> usize
+// it stopped; of a text longer than 65,536 bytes, nothing. The table has a cell for each byte of the page, which is always enough.
+fn print_text(text: &[u8], table: &mut [i64], page: &mut [u8]) -> usize
     requires { ⌜ (length (now table) ≡ 8192) × (length (now page) ≡ 8192) ⌝ }
     ensures { λ r. ⌜ Stopped (now (text .entry)) r ⌝ }
 {
+    if 65536 < text.len() {
+        return 0;
+    }
     let mut at: usize = 0;
     while at < text.len() {
         let answer = rewriting::rewrite_record(text, at, table, page);
@@ -26,10 +29,7 @@ fn print_records(text: &[u8], table: &mut [i64], page: &mut [u8]) -> usize
 fn main() {
     let mut space = [0u8; 65537];
     let n = io::read_full(libc::STDIN_FILENO, &mut space);
-    if 65536 < n {
-        return;
-    }
     let mut table = [0i64; 8192];
     let mut page = [0u8; 8192];
-    print_records(&space[0..n], &mut table, &mut page);
+    print_text(&space[0..n], &mut table, &mut page);
 }

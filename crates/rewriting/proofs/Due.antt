@@ -1,19 +1,18 @@
 -- *First due*: rewriting gives each answer exactly if it is due.
 -- Assumes nothing.
 use mathlib.Core.Path.{_≡_, refl, sym, _∙_, ap, subst}
-use mathlib.Core.Bool.{Bool, true, false, cond, _&&_}
+use mathlib.Core.Bool.{Bool, true, false}
 use mathlib.Core.List.{List, _∷_}
 use mathlib.Core.Logic.{_↔_, inl, inr, ⊎-elim}
 use Prim.Native.Nat.{ℕ, zero, suc, _-_, _<_, _≤_}
 use native.Mathlib.Omega.{arith}
 use borrow.Author.Tests.{le-leb, lt-leb, leb-true, leb-false}
 use lib.Dec.{leb}
-use lib.IntN.{ℤ}
 use Rattle.base.specs.Every
 use Rattle.base.specs.Every.{upFrom}
-use Rattle.base.specs.Pieces.{Got, done, bad}
+use Rattle.base.specs.Pieces.{done, bad}
 use Rattle.base.proofs.Choice.{and-false}
-use Rattle.base.proofs.FirstBad.{IsDone, InPieces, FirstBad, first-bad, all-done}
+use Rattle.base.proofs.FirstBad.{IsDone, InPieces, first-bad, all-done}
 use Rattle.count.specs.Tally.{recordCells}
 use Rattle.place.specs.declared.Placing.{Placing}
 use Rattle.place.specs.declared.Placing.the-variants as P
@@ -24,7 +23,7 @@ use Rattle.group.specs.Held.{refusalOf}
 use Rattle.record.specs.Text.{recordBytes}
 use Rattle.rewriting.specs.declared.Rewriting.{Rewriting}
 use Rattle.rewriting.specs.declared.Rewriting.the-variants.{Done, Missing, NoRoom, Unread}
-use Rattle.rewriting.specs.Due.{MissingDue, GroupDone, NoRoomDue, Roomy, UnreadDue, DoneDue, Due}
+use Rattle.rewriting.specs.Due.{NoRoomDue, Roomy, Due}
 use Rattle.rewriting.specs.Record.{Turn, groupRead, onGroup, inTurn, allInTurn, hasRoom, rewrittenAs, rewritingBy, rewritingOf}
 use Rattle.rewriting.proofs.Whole.{on-done, all-read}
 

@@ -5,11 +5,12 @@ use mathlib.Core.Path.{_≡_, refl, sym, _∙_, ap}
 use mathlib.Core.List.{List, [], _++_, append-assoc, append-nil}
 use Prim.Native.Nat.{ℕ, zero, suc, _+_, _<_, _≤_}
 use native.Mathlib.Omega.{arith}
+use borrow.Author.Tests.{le-leb, lt-leb}
 use lib.ListN.{length}
 use Rattle.rewriting.specs.declared.Rewriting.{Rewriting}
 use Rattle.rewriting.specs.declared.Rewriting.the-variants.{Done, Missing, NoRoom, Unread}
 use Rattle.rewriting.specs.Record.{rewritingOf, textAt}
-use Rattle.rewriting.specs.Printed.{programRewriting, textThen, rewrittenFrom, rewritten, Behind, start, one-more, Stopped}
+use Rattle.rewriting.specs.Printed.{programRewriting, textThen, rewrittenFrom, rewritten, printed, Reached, start, one-more, Stopped}
 use Rattle.rewriting.proofs.Promises.{done-within, done-further, done-inside}
 
 module _ (s : List ℕ) where
@@ -52,31 +53,37 @@ module _ (s : List ℕ) where
 
 pub record Printing (s : List ℕ) (at : ℕ) : Type 0 where
   pub before : List ℕ
-  pub behind : Behind s at before
+  pub reached : Reached s at before
   pub whole : before ++ rewrittenFrom (length s) s at ≡ rewritten s
 
 module _ (s : List ℕ) where
   pub printing-first : Printing s 0
   unfolding rewritten
-  printing-first = record { before = []; behind = start; whole = refl }
+  printing-first = record { before = []; reached = start; whole = refl }
 
-  pub printing-end : (at : ℕ) → Printing s at → ((bytes next : ℕ) → programRewriting s at ≡ Done bytes next → ⊥) → Stopped s at
-  printing-end at p never = record {
+  -- "Input longer than 65,536 bytes prints nothing."
+  pub printing-none : 65536 < length s → Stopped s 0
+  unfolding printed
+  printing-none l = record { before = []; reached = start; all = rw (lt-leb (length s) 65536 l) refl }
+
+  printing-end : length s ≤ 65536 → (at : ℕ) → Printing s at → ((bytes next : ℕ) → programRewriting s at ≡ Done bytes next → ⊥) → Stopped s at
+  unfolding printed
+  printing-end few at p never = record {
     before = p .before;
-    behind = p .behind;
-    all = sym (append-nil (p .before)) ∙ ap (λ y. p .before ++ y) (sym (rewritten-stop s (length s) at never)) ∙ p .whole;
+    reached = p .reached;
+    all = rw (le-leb (length s) 65536 few) (sym (append-nil (p .before)) ∙ ap (λ y. p .before ++ y) (sym (rewritten-stop s (length s) at never)) ∙ p .whole);
   }
 
-  pub printing-ended : (at : ℕ) → Printing s at → length s ≤ at → Stopped s at
-  printing-ended at p l = printing-end at p (end-never s at l)
+  pub printing-ended : length s ≤ 65536 → (at : ℕ) → Printing s at → length s ≤ at → Stopped s at
+  printing-ended few at p l = printing-end few at p (end-never s at l)
 
   -- what was asked over a table and a page of 8,192
   module _ (at : ℕ) (p : Printing s at) {cells room : ℕ} (c : cells ≡ 8192) (r : room ≡ 8192) (answer : Rewriting) (a : answer ≡ rewritingOf s at cells room) where
     asked : answer ≡ programRewriting s at
     asked = a ∙ rw (c, r) refl
 
-    pub printing-stop : ((bytes next : ℕ) → answer ≡ Done bytes next → ⊥) → Stopped s at
-    printing-stop never = printing-end at p (λ bytes next e. never bytes next (asked ∙ e))
+    pub printing-stop : length s ≤ 65536 → ((bytes next : ℕ) → answer ≡ Done bytes next → ⊥) → Stopped s at
+    printing-stop few never = printing-end few at p (λ bytes next e. never bytes next (asked ∙ e))
 
     module _ (bytes next : ℕ) (d : answer ≡ Done bytes next) where
       e : programRewriting s at ≡ Done bytes next
@@ -94,6 +101,6 @@ module _ (s : List ℕ) where
           let f : rewrittenFrom (length s) s at ≡ textAt s at ++ rewrittenFrom (length s) s next = rewritten-enough s (length s) (suc (length s)) at (omega arith) (omega arith) ∙ rewritten-done s (length s) at bytes next e in
           record {
             before = p .before ++ textAt s at;
-            behind = one-more at bytes next (p .before) (p .behind) e;
+            reached = one-more at bytes next (p .before) (p .reached) e;
             whole = append-assoc (p .before) (textAt s at) (rewrittenFrom (length s) s next) ∙ ap (λ y. p .before ++ y) (sym f) ∙ p .whole;
           }

@@ -2,7 +2,7 @@
 -- text at its front and keeps what stands behind it; there is one outcome; a table with a cell for each byte of the buffer always serves;
 -- the next place lies further on.
 -- Assumes nothing.
-use mathlib.Core.Path.{_≡_, refl, sym, _∙_, ap, ap₂}
+use mathlib.Core.Path.{_≡_, refl, sym, _∙_, ap}
 use mathlib.Core.List.{List}
 use mathlib.Core.Bool.{true≢false}
 use mathlib.Core.Logic.{⊎-elim}

@@ -25,7 +25,7 @@ use Rattle.rewriting.specs.declared.Groups.the-variants.{All, Refused}
 use Rattle.rewriting.specs.declared.Rewriting.{Rewriting}
 use Rattle.rewriting.specs.declared.Rewriting.the-variants.{Done, Missing, NoRoom, Unread}
 use Rattle.rewriting.specs.Due.{Roomy}
-use Rattle.rewriting.specs.Record.{Turn, groupRead, groupsOf, allInTurn, cellsAt, rewrittenAs, rewritingOf, textAt, bufferBy, tableBy, Ready}
+use Rattle.rewriting.specs.Record.{Turn, groupsOf, allInTurn, cellsAt, rewrittenAs, rewritingOf, bufferBy, tableBy, Ready}
 use Rattle.rewriting.proofs.Due.{missing-is, short-is, roomy-is}
 use Rattle.rewriting.proofs.Whole.{whole-length, whole-written}
 

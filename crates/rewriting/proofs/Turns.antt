@@ -3,13 +3,11 @@
 -- Assumes nothing.
 use mathlib.Core.Path.{_≡_, refl, sym, _∙_, ap}
 use mathlib.Core.List.{List, [], _∷_, _++_}
-use Prim.Native.Nat.{ℕ, suc, _+_, _-_, _<_, _≤_}
-use native.Mathlib.Nat.{add-zero}
+use Prim.Native.Nat.{ℕ, _+_, _-_, _<_, _≤_}
 use native.Mathlib.Numerals.{add-one}
 use native.Mathlib.Omega.{arith}
 use lib.IntN.{ℤ}
-use lib.ListN.{length, take, drop, length-drop}
-use lib.Seq.{length-take-le, drop-drop}
+use lib.ListN.{length, take, drop}
 use Rattle.base.specs.Every.{upFrom}
 use Rattle.base.specs.Part.{part, over}
 use Rattle.base.specs.Pieces.{done, bad, both}
@@ -24,7 +22,7 @@ use Rattle.form.specs.Count.{linesOf, cellsOf}
 use Rattle.line.specs.Lines.{reach}
 use Rattle.count.specs.Tally
 use Rattle.count.specs.Tally.{countOf, linesBefore, cellsIn, cellTally, cellsBefore, recordCells}
-use Rattle.count.proofs.Tallied.{before-groups, before-more, all-cells}
+use Rattle.count.proofs.Tallied.{before-groups, before-more}
 use Rattle.place.specs.Placing.{countsAt}
 use Rattle.place.specs.Parts
 use Rattle.place.specs.Parts.{start, groupPart}

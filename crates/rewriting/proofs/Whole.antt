@@ -1,7 +1,7 @@
 -- A record all of whose groups were read in turn: it was read whole, its cells are those of the groups, joined, and so writing them gives 0.
 -- Assumes nothing.
 use mathlib.Core.Path.{_≡_, refl, sym, _∙_, ap, ap₂}
-use mathlib.Core.List.{List, [], _∷_, _++_, flatMap}
+use mathlib.Core.List.{List, [], _++_, flatMap}
 use mathlib.Core.Logic.{⊎-elim}
 use Prim.Native.Nat.{ℕ, zero, suc, _+_, _≤_, _<_}
 use native.Mathlib.Omega.{arith}
@@ -15,14 +15,13 @@ use Rattle.base.proofs.Pieces.{both-done}
 use Rattle.count.specs.Tally.{cellsIn, recordCells}
 use Rattle.place.specs.declared.Placing.the-variants.{Placed}
 use Rattle.place.specs.Placing.{placingOf, countsAt}
-use Rattle.reading.specs.declared.Refusal.{Refusal}
 use Rattle.reading.specs.Read.{Cells}
 use Rattle.record.specs.declared.Writing.the-variants.{Done}
 use Rattle.record.specs.RoundTrip.{ReadWhole, joined}
 use Rattle.record.specs.Text.{recordBytes}
 use Rattle.record.specs.Writing.{writingOf}
 use Rattle.record.proofs.ReadWrites.{read-writes, joined-cells}
-use Rattle.rewriting.specs.declared.Groups.the-variants.{All, Refused}
+use Rattle.rewriting.specs.declared.Groups.the-variants.{All}
 use Rattle.rewriting.specs.Record.{Turn, groupRead, onGroup, inTurn, cellsInTurn, groupsOf, allInTurn, cellsAt}
 use Rattle.rewriting.proofs.Turns.{turn-done}
 

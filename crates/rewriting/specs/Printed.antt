@@ -37,12 +37,12 @@ printed s = cond (leb (length s) 65536) (rewritten s) []
 -- ---- record by record, as a program goes
 
 -- a place behind records from the text's start on that are rewritten with 0, and their texts, one behind the other
-pub data Behind (s : List ℕ) : ℕ → List ℕ → Type 0 where
-  start : Behind s 0 []
-  one-more : (at bytes next : ℕ) (before : List ℕ) → Behind s at before → programRewriting s at ≡ Done bytes next → Behind s next (before ++ textAt s at)
+pub data Reached (s : List ℕ) : ℕ → List ℕ → Type 0 where
+  start : Reached s 0 []
+  one-more : (at bytes next : ℕ) (before : List ℕ) → Reached s at before → programRewriting s at ≡ Done bytes next → Reached s next (before ++ textAt s at)
 
--- where a program may stop: these texts are all
+-- where a program may stop: these texts are all that is to be printed
 pub record Stopped (s : List ℕ) (at : ℕ) : Type 0 where
   pub before : List ℕ
-  pub behind : Behind s at before
-  pub all : before ≡ rewritten s
+  pub reached : Reached s at before
+  pub all : before ≡ printed s

@@ -7,7 +7,6 @@ use mathlib.Core.List.{List, [], _∷_, _++_}
 use Prim.Native.Nat.{ℕ, _≤_}
 use lib.Dec.{leb}
 use lib.IntN.{ℤ}
-use lib.ListN.{length}
 use Rattle.base.specs.Every.{upFrom}
 use Rattle.base.specs.Part.{over}
 use Rattle.base.specs.Pieces.{Got, done, bad, both}

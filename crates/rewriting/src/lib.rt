@@ -126,10 +126,10 @@ pub fn reply_of(answer: Rewriting) -> reply::Reply
     ensures { λ r. ⌜ r ≡ rewritingReply answer ⌝ }
 {
     match answer {
-        Rewriting::Done(bytes, next) => reply::Reply {
+        Rewriting::Done(written, next) => reply::Reply {
             number: 0,
             next,
-            written: bytes,
+            written,
             group: 0,
             line: 0,
             element: 0,

@@ -1,7 +1,7 @@
 -- `rewriting::read_part` meets its contract: both parts are lent, and the table has what was read in place of its part.
 -- Assumes nothing.
 use borrow.Author.Needs.{needs}
-use mathlib.Core.Path.{_≡_, sym, _∙_, ap}
+use mathlib.Core.Path.{_≡_}
 use Prim.Native.Nat.{_-_}
 use lib.ListN.{length}
 use Rattle.base.specs.Part.{part}

@@ -1,7 +1,7 @@
 -- `rewriting::write_cells` meets its contract: writing answers 0, and so the output begins with the text.
 -- Assumes nothing.
 use borrow.Author.Needs.{needs}
-use mathlib.Core.Path.{_≡_, _∙_, ap}
+use mathlib.Core.Path.{_∙_, ap}
 use Rattle.base.specs.Part.{part}
 use Rattle.record.specs.Writing.{outputBy}
 use Rattle.rewriting.proofs.write_cells.Statement.{statement}

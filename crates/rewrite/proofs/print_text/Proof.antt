@@ -1,0 +1,93 @@
+-- `rewrite::print_text` meets its contract. The invariant: what was printed and what is to be printed from the place on are the whole.
+-- Assumes nothing.
+use borrow.Author.Needs.{needs}
+use native.Mathlib.Omega.{arith}
+use mathlib.Core.Path.{_≡_, subst}
+use mathlib.Core.List.{[], _∷_}
+use Prim.Native.Nat.{_-_}
+use types.Run.{OneOf}
+use denote.Enum.Declared.{tagOf}
+use lib.ListN.{length}
+use Rattle.rewriting.specs.declared.Rewriting.{Rewriting}
+use Rattle.rewriting.proofs.Rewriting.{the-type}
+use Rattle.group.proofs.Texts.{not-first}
+use Rattle.rewriting.proofs.Printing.{Printing, printing-first, printing-none, printing-ended, printing-stop, printing-room, printing-further, printing-more}
+use Rattle.rewrite.proofs.print_text.Statement.{statement}
+use Rattle.rewrite.proofs.print_text.Tie as tie
+
+abbrev Inv-loop : tie.InvT-loop
+Inv-loop text table₀ page₀ at₀ table page at = (length table ≡ 8192) × (length page ≡ 8192) × Printing text at
+
+abbrev μ-loop : tie.MeasureT-loop
+μ-loop text table₀ page₀ at₀ table page at = length text - at
+
+returns : tie.Need-returns Inv-loop μ-loop
+returns c = printing-none (c .before .before .before .args .text .now) (omega arith)
+
+loop-holds : tie.Need-loop-holds Inv-loop μ-loop
+loop-holds c = (c .before .before .before .pre .0, c .before .before .before .pre .1, printing-first (c .before .before .before .args .text .now))
+
+rewrite-record-requires : tie.Need-rewrite-record-requires Inv-loop μ-loop
+rewrite-record-requires c κs = search needs
+
+enum-known-answer : tie.Need-enum-known-answer Inv-loop μ-loop
+enum-known-answer c = search needs
+
+same-length : tie.Need-same-length Inv-loop μ-loop
+same-length c = search needs
+
+same-length-2 : tie.Need-same-length-2 Inv-loop μ-loop
+same-length-2 c = search needs
+
+returns-2 : tie.Need-returns-2 Inv-loop μ-loop
+returns-2 c = printing-stop (c .before .before .before .before .before .before .before .before .before .before .before .before .args .text .now) (c .before .before .before .before .before .before .before .before .loop .at) (c .before .before .before .before .before .before .before .before .loop .inv .2) (c .before .before .before .before .before .before .before .before .loop .inv .0) (c .before .before .before .before .before .before .before .before .loop .inv .1) _ (c .before .before .before .before .rewrite-record .ensures .0) (omega arith) (λ bytes next e. not-first (1 ∷ 2 ∷ 3 ∷ []) tt (subst (λ (r : Rewriting). OneOf (1 ∷ 2 ∷ 3 ∷ []) (tagOf the-type r)) e (c .match .keys2)))
+
+sub-write-all : tie.Need-sub-write-all Inv-loop μ-loop
+sub-write-all c = search needs
+
+part-write-all-start : tie.Need-part-write-all-start Inv-loop μ-loop
+part-write-all-start c = search needs
+
+part-write-all-end : tie.Need-part-write-all-end Inv-loop μ-loop
+part-write-all-end c = let l = printing-room (c .before .before .before .before .before .before .before .before .before .before .before .before .before .before .before .args .text .now) (c .before .before .before .before .before .before .before .before .before .before .before .loop .at) (c .before .before .before .before .before .before .before .before .before .before .before .loop .inv .2) (c .before .before .before .before .before .before .before .before .before .before .before .loop .inv .0) (c .before .before .before .before .before .before .before .before .before .before .before .loop .inv .1) _ (c .before .before .before .before .before .before .before .rewrite-record .ensures .0) _ _ (c .before .before .answer .given .1) in search needs
+
+write-all-requires : tie.Need-write-all-requires Inv-loop μ-loop
+write-all-requires c κs = search needs
+
+loop-less : tie.Need-loop-less Inv-loop μ-loop
+loop-less c = let l = printing-further (c .before .before .before .before .before .before .before .before .before .before .before .before .before .before .before .before .before .args .text .now) (c .before .before .before .before .before .before .before .before .before .before .before .before .before .loop .at) (c .before .before .before .before .before .before .before .before .before .before .before .before .before .loop .inv .2) (c .before .before .before .before .before .before .before .before .before .before .before .before .before .loop .inv .0) (c .before .before .before .before .before .before .before .before .before .before .before .before .before .loop .inv .1) _ (c .before .before .before .before .before .before .before .before .before .rewrite-record .ensures .0) _ _ (c .before .before .before .before .answer .given .1) in search needs
+
+loop-again : tie.Need-loop-again Inv-loop μ-loop
+loop-again c = (search needs, search needs, printing-more (c .before .before .before .before .before .before .before .before .before .before .before .before .before .before .before .before .before .args .text .now) (c .before .before .before .before .before .before .before .before .before .before .before .before .before .loop .at) (c .before .before .before .before .before .before .before .before .before .before .before .before .before .loop .inv .2) (c .before .before .before .before .before .before .before .before .before .before .before .before .before .loop .inv .0) (c .before .before .before .before .before .before .before .before .before .before .before .before .before .loop .inv .1) _ (c .before .before .before .before .before .before .before .before .before .rewrite-record .ensures .0) _ _ (c .before .before .before .before .answer .given .1))
+
+same-length-3 : tie.Need-same-length-3 Inv-loop μ-loop
+same-length-3 c = search needs
+
+same-length-4 : tie.Need-same-length-4 Inv-loop μ-loop
+same-length-4 c = search needs
+
+returns-3 : tie.Need-returns-3 Inv-loop μ-loop
+returns-3 c = printing-ended (c .before .before .before .before .before .args .text .now) (omega arith) (c .before .loop .at) (c .before .loop .inv .2) (omega arith)
+
+pub print-text-spec : {M : Type 1} → statement M
+print-text-spec =
+    tie.close
+    (tie.spec
+    Inv-loop
+    μ-loop
+    returns
+    loop-holds
+    rewrite-record-requires
+    enum-known-answer
+    same-length
+    same-length-2
+    returns-2
+    sub-write-all
+    part-write-all-start
+    part-write-all-end
+    write-all-requires
+    loop-less
+    loop-again
+    same-length-3
+    same-length-4
+    returns-3)
