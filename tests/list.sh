@@ -23,14 +23,6 @@ filled() { # COUNT: as many bytes `x`
     awk -v n="$1" 'BEGIN { for (i = 0; i < n; i++) printf "x" }'
 }
 
-repeated() { # COUNT FILE: the file as many times
-    i=0
-    while [ "$i" -lt "$1" ]; do
-        cat "$2"
-        i=$((i + 1))
-    done
-}
-
 rows() { # COUNT SIZE REST: the rows of so many records of that size, REST their last four numbers
     awk -v n="$1" -v size="$2" -v rest="$3" 'BEGIN { for (k = 1; k <= n; k++) print k, (k - 1) * size, k * size, rest }'
 }

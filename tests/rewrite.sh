@@ -18,14 +18,6 @@ sized() { # CASE FILE BYTES: the text made has that length
     counted "$1 has $3 bytes" [ "$(wc -c <"$2")" -eq "$3" ]
 }
 
-repeated() { # COUNT FILE: the file as many times
-    i=0
-    while [ "$i" -lt "$1" ]; do
-        cat "$2"
-        i=$((i + 1))
-    done
-}
-
 s=examples/s.sao
 : >"$work/nothing"
 
