@@ -1,11 +1,10 @@
 -- Decimal digits: appended digits, the number's bounds by powers of ten, what is left without its last digits; as many digits that make the
 -- same number are the same.
 -- Assumes nothing.
-use mathlib.Core.Path.{_≡_, refl, sym, ap, _∙_, subst}
-use mathlib.Core.List.{List, [], _∷_, _++_, map}
-use Prim.Native.Nat.{ℕ, zero, suc, _+_, _*_, _/_, _%_, _-_, _^_, _<_, _≤_}
-use native.Mathlib.Nat.{pow-zero, pow-suc, pow-succ', one-le-pow, div-one, div-div-eq-div-mul, pow-le-pow-right, lt-div-mul-add}
-use native.Mathlib.Numerals.{add-one}
+use mathlib.Core.Path.{_≡_, refl, sym, ap, _∙_}
+use mathlib.Core.List.{List, [], _∷_, _++_}
+use Prim.Native.Nat.{ℕ, zero, suc, _+_, _*_, _/_, _-_, _^_, _<_, _≤_}
+use native.Mathlib.Nat.{pow-suc, one-le-pow, div-one, div-div-eq-div-mul, pow-le-pow-right, lt-div-mul-add}
 use native.Mathlib.Omega.{arith}
 use lib.Arith.{digits-div}
 use lib.Dec.{lit<}

@@ -1,14 +1,13 @@
 -- The whole check, each answer by what led to it, in the order 4, 5, 6, 7, 14.
 -- Assumes nothing.
-use mathlib.Core.Path.{_≡_, sym, _∙_, ap}
-use mathlib.Core.Bool.{Bool, true, false}
+use mathlib.Core.Path.{_≡_, sym, _∙_}
+use mathlib.Core.Bool.{true, false}
 use mathlib.Core.List.{List}
 use Prim.Native.Nat.{ℕ}
-use native.Mathlib.Omega.{arith}
 use borrow.Author.Tests.{eq-eqb, ne-eqb}
-use Rattle.count.specs.Tally.{cellsBefore, recordCells, cellTally}
+use Rattle.count.specs.Tally.{cellsBefore, recordCells}
 use Rattle.count.specs.Rules.{releaseOf, rulingOf}
-use Rattle.count.specs.Check.{wellFormed, byRelease, byRules, byLength, checkedOf}
+use Rattle.count.specs.Check.{wellFormed, checkedOf}
 use Rattle.count.specs.declared.Release.the-variants.{Five, Other, Filled}
 use Rattle.count.specs.declared.Ruling.the-variants.{Kept, Broken}
 use Rattle.count.specs.declared.Checked.the-variants.{Right, Misformed, OtherRelease, FilledVacant, BrokenRule, OtherLength}

@@ -4,5 +4,6 @@ pub mod Sets
 pub mod Tallied
 pub mod Vacant
 pub mod Checks
+pub mod Due
 pub mod Replies
 pub mod Releases

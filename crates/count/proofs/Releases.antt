@@ -1,10 +1,10 @@
 -- Replies 5 and 6 in plain words: release 5 with vacant groups empty, another release, the lowest vacant group with a count. Each exactly
 -- if its condition holds.
 -- Assumes nothing.
-use mathlib.Core.Path.{_≡_, refl, sym, _∙_, ap, subst}
+use mathlib.Core.Path.{_≡_, refl, ap}
 use mathlib.Core.Bool.{Bool, true, false, cond}
-use mathlib.Core.List.{List, [], _∷_}
-use mathlib.Core.Logic.{_⊎_, inl, inr, ⊎-elim}
+use mathlib.Core.List.{List}
+use mathlib.Core.Logic.{_⊎_, ⊎-elim}
 use Prim.Native.Nat.{ℕ, zero, suc, _+_, _<_, _≤_}
 use native.Mathlib.Nat.{eq-or-lt-of-le}
 use native.Mathlib.Omega.{arith}
@@ -15,6 +15,7 @@ use Rattle.base.specs.Every.{upFrom}
 use Rattle.base.proofs.Order.{le-or-lt}
 use Rattle.count.specs.Tally.{countOf}
 use Rattle.count.specs.Rules.{filledAmong, releaseOf}
+use Rattle.count.specs.Due.{ReleaseDue}
 use Rattle.count.specs.declared.Release.{Release}
 use Rattle.count.specs.declared.Release.the-variants.{Five, Other, Filled}
 
@@ -24,7 +25,7 @@ module _ (ns : List ℕ) where
   Empty a n = (g : ℕ) → a ≤ g → g < a + n → countOf ns g ≡ 0
 
   -- g is the lowest of them with a count
-  pub record Lowest (a n g : ℕ) : Type 0 where
+  record Lowest (a n g : ℕ) : Type 0 where
     pub low : a ≤ g
     pub high : g < a + n
     pub filled : countOf ns g ≡ 0 → ⊥
@@ -79,42 +80,26 @@ module _ (ns : List ℕ) where
 
   -- ---- the three answers
 
-  pub release-other : (countOf ns 80 ≡ 5 → ⊥) → releaseOf ns ≡ Other
-  unfolding releaseOf
-  release-other k = rw (ne-eqb (countOf ns 80) 5 k)
-
-  pub release-five : countOf ns 80 ≡ 5 → ((g : ℕ) → 61 ≤ g → g ≤ 79 → countOf ns g ≡ 0) → releaseOf ns ≡ Five
+  -- what is due is given
+  pub release-given : (r : Release) → ReleaseDue ns r → releaseOf ns ≡ r
   unfolding releaseOf Among Empty
-  release-five e f =
-      rw (eq-eqb (countOf ns 80) 5 e) (one 61 19 (filledAmong ns (upFrom 61 19)) Five (says 61 19) (λ g l h. f g l (omega arith)))
+  release-given Five d =
+      rw (eq-eqb (countOf ns 80) 5 (d .five)) (one 61 19 (filledAmong ns (upFrom 61 19)) Five (says 61 19) (λ g l h. d .vacant g l (omega arith)))
+  release-given Other d = rw (ne-eqb (countOf ns 80) 5 d)
+  release-given (Filled g) d =
+      rw (eq-eqb (countOf ns 80) 5 (d .five))
+      (one 61 19 (filledAmong ns (upFrom 61 19)) (Filled g) (says 61 19) record { low = d .low; high = omega (arith, d .high); filled = d .filled; lowest = d .lowest })
 
-  pub release-filled : (g : ℕ) → countOf ns 80 ≡ 5 → Lowest 61 19 g → releaseOf ns ≡ Filled g
-  unfolding releaseOf Among
-  release-filled g e f = rw (eq-eqb (countOf ns 80) 5 e) (one 61 19 (filledAmong ns (upFrom 61 19)) (Filled g) (says 61 19) f)
-
-  -- and what each says
-  pub record FiveIs : Type 0 where
-    pub five : countOf ns 80 ≡ 5
-    pub vacant : (g : ℕ) → 61 ≤ g → g ≤ 79 → countOf ns g ≡ 0
-
-  pub record FilledIs (g : ℕ) : Type 0 where
-    pub five : countOf ns 80 ≡ 5
-    pub group : Lowest 61 19 g
-
-  abbrev pub ReleaseIs : Release → Type 0
-  ReleaseIs Five = FiveIs
-  ReleaseIs Other = countOf ns 80 ≡ 5 → ⊥
-  ReleaseIs (Filled g) = FilledIs g
-
-  pub release-is : ReleaseIs (releaseOf ns)
+  -- and what is given is due
+  pub release-due : ReleaseDue ns (releaseOf ns)
   unfolding releaseOf Among Empty
-  release-is = by (eqb (countOf ns 80) 5) refl
+  release-due = by (eqb (countOf ns 80) 5) refl
     where
-      among : (r : Release) → countOf ns 80 ≡ 5 → Among 61 19 r → ReleaseIs r
+      among : (r : Release) → countOf ns 80 ≡ 5 → Among 61 19 r → ReleaseDue ns r
       among Five e f = record { five = e; vacant = λ g l h. f g l (omega arith) }
       among Other e f = absurd f
-      among (Filled g) e f = record { five = e; group = f }
+      among (Filled g) e f = record { five = e; low = f .low; high = omega (arith, f .high); filled = f .filled; lowest = f .lowest }
 
-      by : (t : Bool) → eqb (countOf ns 80) 5 ≡ t → ReleaseIs (cond t (filledAmong ns (upFrom 61 19)) Other)
+      by : (t : Bool) → eqb (countOf ns 80) 5 ≡ t → ReleaseDue ns (cond t (filledAmong ns (upFrom 61 19)) Other)
       by true e = among (filledAmong ns (upFrom 61 19)) (eqb-true (countOf ns 80) 5 e) (says 61 19)
       by false e = eqb-false (countOf ns 80) 5 e

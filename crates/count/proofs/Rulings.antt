@@ -10,7 +10,7 @@ use lib.ListN.{length, getD, drop, drop-of-length-le}
 use lib.Seq.{drop-cons}
 use native.Mathlib.Omega.{arith}
 use Rattle.base.proofs.Order.{le-or-lt}
-use Rattle.count.specs.Rules.{Rule, rule, lower, one, lowest, rules, rulingOf}
+use Rattle.count.specs.Rules.{Rule, lower, one, lowest, rules, rulingOf}
 use Rattle.count.specs.declared.Ruling.{Ruling}
 use Rattle.count.specs.declared.Ruling.the-variants.{Kept, Broken}
 

@@ -5,17 +5,16 @@ use mathlib.Core.Bool.{Bool, true, false, cond, not, _&&_, _||_}
 use mathlib.Core.List.{List, [], _∷_, map}
 use mathlib.Core.Logic.{_⊎_, inl, inr, ⊎-elim}
 use Prim.Native.Nat.{ℕ, zero, suc, _+_, _-_, _<_, _≤_}
-use native.Mathlib.Omega.{arith}
 use borrow.Author.Tests.{eq-eqb, le-leb}
 use lib.Dec.{T, eqb, leb, leb→le, eqb→eq, eqb-refl}
 use lib.ListN.{getD}
 use Rattle.base.specs.Every.{every, has, upFrom}
 use Rattle.base.proofs.UpFrom.{up-more, up-done}
 use Rattle.base.proofs.Every.{every-has, has-every, every-getD}
-use Rattle.base.proofs.Choice.{and-left, and-right, and-both, or-elim, or-left, or-right, same-test, T-true, true-T}
+use Rattle.base.proofs.Choice.{or-elim, or-left, or-right, same-test, true-T}
 use Rattle.count.specs.declared.Set.{Set}
 use Rattle.count.specs.Tally.{countOf}
-use Rattle.count.specs.Rules.{zero?, differ, settle, equalWhereNonzero, endsNonzero, set, sets, members, keeps}
+use Rattle.count.specs.Rules.{zero?, differ, settle, equalWhereNonzero, sets, members, keeps}
 
 -- xs, after the nonzero count v was seen, or none where v is 0
 unfoldable pub agree : ℕ → List ℕ → Bool

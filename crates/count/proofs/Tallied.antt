@@ -4,22 +4,20 @@ use mathlib.Core.Path.{_≡_, refl, sym, _∙_, ap}
 use mathlib.Core.List.{List, [], _∷_, map}
 use mathlib.Core.Logic.{⊎-elim}
 use Prim.Native.Nat.{ℕ, zero, suc, _+_, _-_, _<_, _≤_, min}
-use native.Mathlib.Nat.{zero-add, suc-add}
 use native.Mathlib.Numerals.{add-one}
 use native.Mathlib.Omega.{arith}
 use lib.ListN.{length, getD, take, length-map, List·getD-eq-default}
-use lib.Seq.{take-all, take-nil}
+use lib.Seq.{take-all}
 use Rattle.base.specs.Sum
 use Rattle.base.specs.Sum.{sum}
 use Rattle.base.specs.Every.{upFrom}
-use Rattle.base.proofs.Sum.{sum-take-more, sum-take-mono, sum-take-all}
+use Rattle.base.proofs.Sum.{sum-take-more, sum-take-mono}
 use Rattle.base.proofs.Order.{le-or-lt}
 use Rattle.base.proofs.UpFrom.{length-up, getD-map-up}
 use Rattle.form.specs.Table.{formOf}
 use Rattle.form.specs.Count.{linesOf, cellsOf}
 use Rattle.form.specs.declared.Form.{Form}
-use Rattle.form.specs.declared.GroupForm.the-variants.{Has, NoGroup}
-use Rattle.form.proofs.Table.{no-group}
+use Rattle.form.specs.declared.GroupForm.the-variants.{Has}
 use Rattle.count.specs.Tally.{countOf, linesIn, cellsIn, lineTally, cellTally, linesBefore, cellsBefore, recordLines, recordCells, Before}
 
 -- ---- a count by its place in the list
@@ -113,10 +111,6 @@ module _ (ns : List ℕ) where
 
         cells-by : (f : Form) → formOf g ≡ Has f → cellsIn ns g ≡ cellsOf f (countOf ns g)
         cells-by f e = rw e
-
--- each of 1 to 60 has a form
-pub has-form : (g : ℕ) → 0 < g → g < 61 → formOf g ≡ NoGroup → ⊥
-has-form g some few e = no-group g .0 e record { low = some; high = omega arith }
 
 -- before 61 is the whole record
 pub all-lines : (ns : List ℕ) → linesBefore ns 61 ≡ recordLines ns

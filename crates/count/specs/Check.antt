@@ -1,6 +1,6 @@
 -- The whole check of counts and a table's length, in the order 4, 5, 6, 7, 14, as writing makes it, and whatever else is lent counts and
 -- cells without a text.
-use mathlib.Core.Bool.{Bool, true, false, cond, _&&_}
+use mathlib.Core.Bool.{Bool, cond, _&&_}
 use mathlib.Core.List.{List}
 use Prim.Native.Nat.{ℕ}
 use lib.Dec.{eqb, leb}

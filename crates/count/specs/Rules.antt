@@ -1,8 +1,7 @@
 -- The release and the vacant groups (replies 5 and 6), and 01's "Rules on counts" (reply 7).
-use mathlib.Core.Path.{_≡_}
 use mathlib.Core.Bool.{Bool, true, false, cond, not, _&&_, _||_}
 use mathlib.Core.List.{List, [], _∷_, _++_, map}
-use Prim.Native.Nat.{ℕ, suc, _-_, _<_, min}
+use Prim.Native.Nat.{ℕ, suc, _-_, min}
 use lib.Dec.{eqb, leb}
 use Rattle.base.specs.Every.{every, upFrom}
 use Rattle.count.specs.Tally.{countOf}

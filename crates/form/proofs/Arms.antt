@@ -1,21 +1,21 @@
 -- What an arm of `form_of` knows of the group number decides its form: one computed test for an arm's single numbers, one for a range
 -- between single numbers.
 -- Assumes nothing.
-use mathlib.Core.Path.{_≡_, refl, sym, _∙_, ap}
+use mathlib.Core.Path.{_≡_, sym, _∙_, ap}
 use mathlib.Core.Bool.{Bool, true, false, _||_}
 use mathlib.Core.List.{List, [], _∷_}
-use mathlib.Core.Logic.{_⊎_, inl, inr, ⊎-elim}
-use Prim.Native.Nat.{ℕ, suc, _+_, _<_, _≤_}
+use mathlib.Core.Logic.{_⊎_, ⊎-elim}
+use Prim.Native.Nat.{ℕ, _+_, _<_, _≤_}
 use native.Mathlib.Omega.{arith}
 use native.Mathlib.Nat.{eq-or-lt-of-le}
-use lib.Dec.{T, eqb}
+use lib.Dec.{T}
 use types.Run.{OneOf, hit}
 use mir.Val.{hasKey}
 use Rattle.base.specs.Every.{every, upFrom}
 use Rattle.base.proofs.Every.{every-between}
 use Rattle.base.proofs.Choice.{and-left, and-right, or-elim}
 use Rattle.form.specs.declared.GroupForm.{GroupForm}
-use Rattle.form.specs.declared.GroupForm.the-variants.{Has, NoGroup}
+use Rattle.form.specs.declared.GroupForm.the-variants.{NoGroup}
 use Rattle.form.specs.Table.{formOf}
 use Rattle.form.proofs.Table.{is, is-form, no-group}
 

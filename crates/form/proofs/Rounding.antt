@@ -1,10 +1,10 @@
 -- Rounding up: so many lines are enough for n elements, and one fewer are not; what the lines before the last leave for it.
 -- Assumes nothing.
-use mathlib.Core.Path.{_≡_, refl, sym, _∙_, ap}
+use mathlib.Core.Path.{_≡_, refl, ap}
 use mathlib.Core.Logic.{_↔_, ⊎-elim}
 use Prim.Native.Nat.{ℕ, zero, suc, _+_, _-_, _*_, _/_, _%_, _<_, _≤_}
 use native.Mathlib.Omega.{arith}
-use native.Mathlib.Nat.{div-add-mod', div-lt-iff-lt-mul, lt-div-mul-add, mod-lt, suc-mul, mul-le-mul-right, add-mul, one-mul, div-mul-le-self, div-zero, div-eq-of-lt}
+use native.Mathlib.Nat.{div-add-mod', div-lt-iff-lt-mul, lt-div-mul-add, suc-mul, mul-le-mul-right, add-mul, one-mul, div-mul-le-self, div-zero, div-eq-of-lt}
 use Rattle.base.proofs.Order.{le-or-lt}
 use Rattle.form.specs.Count.{roundedUp, Takes, Leaves}
 

@@ -2,8 +2,8 @@
 -- And the bound of a count's elements.
 -- Assumes nothing.
 use mathlib.Core.Path.{_≡_}
-use mathlib.Core.Bool.{Bool, true, false, _&&_}
-use Prim.Native.Nat.{ℕ, _*_, _<_, _≤_}
+use mathlib.Core.Bool.{Bool, _&&_}
+use Prim.Native.Nat.{ℕ, _*_, _≤_}
 use lib.Dec.{T, leb, leb→le}
 use Rattle.base.specs.Every.{every}
 use Rattle.base.proofs.Choice.{and-left, and-right}

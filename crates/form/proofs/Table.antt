@@ -4,14 +4,14 @@ use mathlib.Core.Path.{_≡_, refl, sym, _∙_, ap, subst}
 use mathlib.Core.Bool.{Bool, true, false, cond, _&&_}
 use mathlib.Core.List.{List, [], _∷_}
 use mathlib.Core.Logic.{_↔_}
-use Prim.Native.Nat.{ℕ, zero, suc, _<_, _≤_}
+use Prim.Native.Nat.{ℕ, suc, _<_, _≤_}
 use native.Mathlib.Omega.{arith}
 use borrow.Author.Tests.{lt-ltb}
 use lib.Dec.{T, eqb, leb, ltb, eqb→eq, leb→le}
 use lib.ListN.{getD}
 use Rattle.base.specs.Every.{every, has, upFrom}
 use Rattle.base.proofs.Every.{every-getD, every-has, every-between}
-use Rattle.base.proofs.Choice.{and-left, and-right, not-T-false, T-true, cond-elim}
+use Rattle.base.proofs.Choice.{and-left, and-right}
 use Rattle.form.specs.declared.Form.{Form}
 use Rattle.form.specs.declared.Form.the-variants.{F7, A120, A1, F8, I2, I3, I1, E11, E20, E8}
 use Rattle.form.specs.declared.GroupForm.{GroupForm}
@@ -132,3 +132,18 @@ no-group g = (there, back-again (formOf g) refl)
     back-again : (f : GroupForm) → formOf g ≡ f → (IsGroup g → ⊥) → formOf g ≡ NoGroup
     back-again (Has f) e n = absurd (n (has-group g f e))
     back-again NoGroup e n = e
+
+-- each of 1 to 60 has a form
+pub has-form : (g : ℕ) → 0 < g → g < 61 → formOf g ≡ NoGroup → ⊥
+has-form g some few e = no-group g .0 e record { low = some; high = omega arith }
+
+pub group-form : (g : ℕ) → 1 ≤ g → g ≤ 60 → (f : Form) × (formOf g ≡ Has f)
+group-form g a b = by (formOf g) refl
+  where
+    by : (h : GroupForm) → formOf g ≡ h → (f : Form) × (formOf g ≡ Has f)
+    by (Has f) e = (f, e)
+    by NoGroup e = absurd (has-form g a (omega arith) e)
+
+-- and what has a form is one of them
+pub form-range : (g : ℕ) (f : Form) → formOf g ≡ Has f → (1 ≤ g) × (g ≤ 60)
+form-range g f e = let i = has-group g f e in (i .low, i .high)

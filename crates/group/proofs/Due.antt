@@ -33,7 +33,7 @@ use Rattle.reading.specs.declared.Refusal.{Refusal}
 use Rattle.reading.specs.declared.Refusal.the-variants.{NoGroup, End, Beyond, TooFewLines, Misformed, OtherRelease, FilledVacant, BrokenRule, NoRoom, BadLine, BadField, BadDate}
 use Rattle.reading.specs.Read.{Cells, readGroup}
 use Rattle.reading.proofs.Due as Reading
-use Rattle.reading.proofs.Due.{has-form, form-range}
+use Rattle.form.proofs.Table.{group-form, form-range}
 use Rattle.group.specs.declared.Found.{Found}
 use Rattle.group.specs.declared.Found.the-variants.{Given, Missing}
 use Rattle.group.specs.declared.Characteristic.{Characteristic}
@@ -56,7 +56,7 @@ module _ (s : List ℕ) (at g : ℕ) where
 
   found-placing : (p : Placing) → PlacingDue s at g p → foundAt s at g ≡ foundBy p
   unfolding foundAt
-  found-placing p d = rw (has-form g (d .low) (d .high) .1, Placing.first-due s at p .1 (d .placing)) refl
+  found-placing p d = rw (group-form g (d .low) (d .high) .1, Placing.first-due s at p .1 (d .placing)) refl
 
   missing-given : (r : Refusal) → MissingDue s at g r → foundAt s at g ≡ Missing r
   missing-given NoGroup d = found-none d

@@ -27,7 +27,7 @@ use Rattle.place.proofs.Tiling.{part-whole, start-mono, start-within}
 use Rattle.place.proofs.Zero.{is-placed}
 use Rattle.reading.specs.declared.Refusal.{Refusal}
 use Rattle.reading.specs.declared.Refusal.the-variants.{NoGroup}
-use Rattle.reading.proofs.Due.{form-range}
+use Rattle.form.proofs.Table.{form-range}
 use Rattle.reading.proofs.Promises.{refusal-numbered}
 use Rattle.group.specs.declared.Found.{Found}
 use Rattle.group.specs.declared.Found.the-variants.{Given, Missing}

@@ -20,7 +20,8 @@ use Rattle.count.specs.Rules
 use Rattle.count.specs.Rules.{Rule, rules, rulingOf, releaseOf}
 use Rattle.count.specs.declared.Release.the-variants.{Filled}
 use Rattle.count.specs.declared.Ruling.the-variants.{Broken}
-use Rattle.count.proofs.Releases.{FilledIs, release-is}
+use Rattle.count.specs.Due.{LowestFilled}
+use Rattle.count.proofs.Releases.{release-due}
 use Rattle.count.proofs.Rulings
 use Rattle.count.proofs.Rulings.{Breaks, ruling-says}
 use Rattle.listing.specs.Rows.{filled, filledGroups}
@@ -78,4 +79,4 @@ unfolding Rules.headRules Rules.sets Rules.letterRules
 blamed-within ns g e = breaks-within (rules ns) 60 g tt (ruling-says ns (Broken g) .0 e .0)
 
 pub vacant-within : (ns : List ℕ) (g : ℕ) → releaseOf ns ≡ Filled g → g ≤ 79
-vacant-within ns g e = let p : FilledIs ns g = rw e at (release-is ns) in omega (arith, p .group .high)
+vacant-within ns g e = let p : LowestFilled ns g = rw e at (release-due ns) in p .high

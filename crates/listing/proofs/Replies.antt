@@ -2,12 +2,10 @@
 -- if there are fewer bytes than that.
 -- Assumes nothing.
 use mathlib.Core.Path.{_≡_, refl, _∙_, ap}
-use mathlib.Core.Bool.{true≢false}
 use mathlib.Core.List.{List}
 use Prim.Native.Nat.{ℕ, _<_, _≤_}
 use native.Mathlib.Nat.{zero-add}
 use native.Mathlib.Omega.{arith}
-use lib.Dec.{leb→le}
 use lib.ListN.{length}
 use Rattle.reply.specs.Table.{Numbered}
 use Rattle.reply.proofs.Replies.{numbered-plain, numbered-done}

@@ -1,7 +1,7 @@
 // Numbers in columns: I, F and E fields of any width, read in one pass and written from the last column to the first.
 ghost use mathlib.Core.Path.{_≡_};
 ghost use mathlib.Core.List.{_∷_, []};
-ghost use Prim.Native.Nat.{ℕ, _+_, _<_, _≤_, _^_};
+ghost use Prim.Native.Nat.{_+_, _<_, _≤_, _^_};
 ghost use lib.ListN.{length};
 ghost use Rattle.base.specs.Part.{over};
 ghost use Rattle.base.specs.Sign.{ofSign, negative, sizeOf, holds};

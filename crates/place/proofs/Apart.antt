@@ -12,10 +12,10 @@ use Rattle.base.specs.Agree.{Misses, Between}
 use Rattle.base.proofs.Order.{le-or-lt}
 use Rattle.line.specs.Lines.{reach}
 use Rattle.count.proofs.Tallied.{lines-all}
-use Rattle.place.specs.declared.Placing.{Placing}
 use Rattle.place.specs.Placing.{Located, located, refused, locate}
 use Rattle.place.specs.Parts.{start}
 use Rattle.place.specs.Walk.{spot, IsRecord}
+use Rattle.place.proofs.Placed.{no-record}
 use Rattle.place.proofs.Tiling.{start-zero, start-one, start-mono, start-after, start-within}
 use Rattle.place.proofs.Walked.{spot-more, spot-stays, spot-forward}
 
@@ -30,9 +30,6 @@ module _ (s : List ℕ) where
       (eq-or-lt-of-le h)
 
   -- before a record of the walk there are only records
-  no-record : {A : Type 0} {p : Placing} {n : ℕ} {ns : List ℕ} → refused p ≡ located n ns → A
-  no-record e = let z : _≡_ {A = ℕ} 0 1 = cc in absurd (omega arith)
-
   record-step : (k : ℕ) → IsRecord s (spot s (suc k)) → IsRecord s (spot s k)
   record-step k r = by (locate s (spot s k)) refl
     where

@@ -4,12 +4,11 @@ use mathlib.Core.Path.{_≡_, refl, sym, _∙_, ap, subst}
 use mathlib.Core.Bool.{Bool, true, false, cond}
 use mathlib.Core.List.{List}
 use mathlib.Core.Logic.{_↔_, _⊎_, inl, inr, ⊎-elim}
-use Prim.Native.Nat.{ℕ, _+_, _<_, _≤_}
+use Prim.Native.Nat.{ℕ, _+_, _<_}
 use native.Mathlib.Nat.{eq-or-lt-of-le}
-use native.Mathlib.Omega.{arith}
 use borrow.Author.Tests.{ltb-true, ltb-false, eqb-true, eqb-false, leb-true, leb-false, le-leb, lt-leb}
 use lib.Dec.{leb, ltb, eqb}
-use lib.ListN.{length, drop, length-drop}
+use lib.ListN.{length, drop}
 use Rattle.line.specs.Lines.{feeds, reach}
 use Rattle.count.specs.Tally.{recordLines}
 use Rattle.count.specs.Rules.{releaseOf, rulingOf}
@@ -17,14 +16,14 @@ use Rattle.count.specs.declared.Release.{Release}
 use Rattle.count.specs.declared.Release.the-variants.{Five, Other, Filled}
 use Rattle.count.specs.declared.Ruling.{Ruling}
 use Rattle.count.specs.declared.Ruling.the-variants.{Kept, Broken}
-use Rattle.count.proofs.Releases.{release-other, release-five, release-filled, ReleaseIs, release-is}
+use Rattle.count.specs.Due.{ReleaseDue}
+use Rattle.count.proofs.Releases.{release-given, release-due}
 use Rattle.place.specs.declared.Placing.{Placing}
 use Rattle.place.specs.declared.Placing.the-variants.{Placed, End, Beyond, TooFewLines, Misformed, OtherRelease, FilledVacant, BrokenRule}
 use Rattle.place.specs.Index.{Indexed, counts, misformed, readIndex}
-use Rattle.place.specs.Placing.{Located, located, refused, locate, locateHere, locateIndex, locateRelease, locateLines, placingBy, ruledAt, placingOf}
-use Rattle.place.specs.Due.{HasIndex, HasCounts, HasRelease, HasLines, FewForIndex, FewForData, BadIndex, BadRelease, LowestFilled, Breaks, Stands, Due}
+use Rattle.place.specs.Placing.{located, refused, locate, locateIndex, locateRelease, locateLines, placingBy, ruledAt, placingOf}
+use Rattle.place.specs.Due.{HasIndex, HasCounts, HasRelease, HasLines, FewForIndex, FewForData, Due}
 use Rattle.place.proofs.Steps.{locate-beyond, locate-end, locate-few, locate-index}
-use Rattle.place.proofs.Placed.{is-located}
 
 module _ (s : List ℕ) (at : ℕ) where
   -- ---- what is due is given
@@ -33,7 +32,7 @@ module _ (s : List ℕ) (at : ℕ) where
   to-counts ns h = locate-index s at (h .place .inside) (h .place .lines) ∙ rw (h .read)
 
   to-lines : (ns : List ℕ) → HasRelease s at ns → locate s at ≡ locateLines (drop at s) at ns
-  to-lines ns h = to-counts ns (h .index) ∙ rw (release-five ns (h .five) (h .vacant))
+  to-lines ns h = to-counts ns (h .index) ∙ rw (release-given ns Five (h .release))
 
   to-located : (ns : List ℕ) (n : ℕ) → HasLines s at ns n → locate s at ≡ located n ns
   to-located ns n h =
@@ -49,10 +48,10 @@ module _ (s : List ℕ) (at : ℕ) where
       (λ (f : FewForData s at). ap placingBy (to-lines (f .ns) (f .head)) ∙ rw (lt-leb (recordLines (f .ns)) (feeds (drop at s)) (f .few)))
       d
   given Misformed d = ap placingBy (locate-index s at (d .place .inside) (d .place .lines)) ∙ rw (d .bad)
-  given OtherRelease d = ap placingBy (to-counts (d .ns) (d .index)) ∙ rw (release-other (d .ns) (d .other))
+  given OtherRelease d = ap placingBy (to-counts (d .ns) (d .index)) ∙ rw (release-given (d .ns) Other (d .other))
   given (FilledVacant g) d =
       ap placingBy (to-counts (d .ns) (d .index))
-      ∙ rw (release-filled (d .ns) g (d .five) record { low = d .low; high = omega (arith, d .high); filled = d .filled; lowest = d .lowest })
+      ∙ rw (release-given (d .ns) (Filled g) (d .filled))
   given (BrokenRule g n) d = ap placingBy (to-located (d .ns) n (d .lines)) ∙ rw (d .broken)
   given (Placed n) d = ap placingBy (to-located (d .ns) n (d .lines)) ∙ rw (d .kept)
 
@@ -67,23 +66,14 @@ module _ (s : List ℕ) (at : ℕ) where
       from-ruling ns (at + reach (drop at s) (recordLines ns)) (rulingOf ns) record { head = h; enough = leb-true (recordLines ns) (feeds (drop at s)) e; next = refl } refl
   from-lines ns false h e = inr record { ns = ns; head = h; few = leb-false (recordLines ns) (feeds (drop at s)) e }
 
-  from-release : (ns : List ℕ) (r : Release) → HasCounts s at ns → ReleaseIs ns r → Due s at (placingBy (locateRelease (drop at s) at ns r))
+  from-release : (ns : List ℕ) (r : Release) → HasCounts s at ns → ReleaseDue ns r → Due s at (placingBy (locateRelease (drop at s) at ns r))
   from-release ns Five h f =
-      from-lines ns (leb (recordLines ns) (feeds (drop at s))) record { index = h; five = f .five; vacant = f .vacant } refl
+      from-lines ns (leb (recordLines ns) (feeds (drop at s))) record { index = h; release = f } refl
   from-release ns Other h f = record { ns = ns; index = h; other = f }
-  from-release ns (Filled g) h f =
-      record {
-        ns = ns;
-        index = h;
-        five = f .five;
-        low = f .group .low;
-        high = omega (arith, f .group .high);
-        filled = f .group .filled;
-        lowest = f .group .lowest;
-      }
+  from-release ns (Filled g) h f = record { ns = ns; index = h; filled = f }
 
   from-index : (q : Indexed) → HasIndex s at → readIndex (drop at s) ≡ q → Due s at (placingBy (locateIndex (drop at s) at q))
-  from-index (counts ns) h e = from-release ns (releaseOf ns) record { place = h; read = e } (release-is ns)
+  from-index (counts ns) h e = from-release ns (releaseOf ns) record { place = h; read = e } (release-due ns)
   from-index misformed h e = record { place = h; bad = e }
 
   is-due : Due s at (placingBy (locate s at))

@@ -3,16 +3,14 @@
 -- Assumes nothing.
 use mathlib.Core.Path.{_≡_, refl, sym, _∙_, ap, subst}
 use mathlib.Core.Bool.{Bool, true, false, cond}
-use mathlib.Core.List.{List, [], _∷_, _++_, map}
-use Prim.Native.Nat.{ℕ, zero, suc, _+_, _-_, _<_, _≤_}
+use mathlib.Core.List.{List, _++_, map}
+use Prim.Native.Nat.{ℕ, _+_, _-_, _<_, _≤_}
 use native.Mathlib.Omega.{arith}
-use lib.ListN.{length, take, drop, getD, length-drop, length-append, take-append-drop}
+use lib.ListN.{length, drop, length-drop, take-append-drop}
 use borrow.Author.Tests.{le-ltb, ne-eqb, leb-true}
 use lib.Dec.{leb, ltb, eqb}
 use Rattle.base.specs.Part.{part}
 use Rattle.line.specs.Lines.{isFeed, feeds, reach, lines, behind}
-use Rattle.line.specs.Places.{behindAt}
-use Rattle.line.specs.declared.Behind.the-variants.{At}
 use Rattle.line.proofs.Feeds.{feeds-append, feeds-le}
 use Rattle.line.proofs.Reach.{lines-append, behind-append, feeds-lines, feeds-behind}
 use Rattle.line.proofs.Places.{is-at, at-is, behindAt-local}
@@ -22,10 +20,10 @@ use Rattle.count.specs.declared.Release.{Release}
 use Rattle.count.specs.declared.Release.the-variants.{Five, Other, Filled}
 use Rattle.place.specs.declared.Placing.{Placing}
 use Rattle.place.specs.declared.Placing.the-variants.{Placed, End, Beyond, TooFewLines, Misformed, OtherRelease, FilledVacant, BrokenRule}
-use Rattle.place.specs.Index.{Indexed, counts, misformed, readIndexLine, joined, readIndex}
-use Rattle.place.specs.Placing.{Located, located, refused, locate, locateIndex, locateRelease, locateLines, placingBy, placingOf, countsBy, countsAt}
-use Rattle.place.proofs.Steps.{locate-beyond, locate-end, locate-few, locate-index}
-use Rattle.place.proofs.Placed.{IsLocated, is-located, located-is}
+use Rattle.place.specs.Index.{Indexed, counts, misformed, readIndex}
+use Rattle.place.specs.Placing.{located, refused, locate, locateIndex, locateRelease, locateLines, placingBy, placingOf, countsBy, countsAt}
+use Rattle.place.proofs.Steps.{locate-index}
+use Rattle.place.proofs.Placed.{no-record, is-located, located-is}
 
 -- ---- nothing before the place
 
@@ -79,9 +77,6 @@ not-by {p = p} {q = q} e n b =
     let f : p ≡ q = cc in
     absurd (n (subst ByIndex (sym f) b))
 
-no-place : {A : Type 0} {n : ℕ} {ns : List ℕ} {p : Placing} → located n ns ≡ refused p → A
-no-place e = let z : _≡_ {A = ℕ} 0 1 = cc in absurd (omega arith)
-
 module _ (at : ℕ) (p : Placing) (b : ByIndex p) where
   -- it was answered from the index, so there is one
   pub record FromIndex (s : List ℕ) : Type 0 where
@@ -102,7 +97,7 @@ module _ (at : ℕ) (p : Placing) (b : ByIndex p) where
           record { inner = omega (arith, h, feeds-le (drop at s), length-drop at s); two = h; by = f }
 
   by-lines : (xs ys ns : List ℕ) (t : Bool) → cond t (located (at + reach xs (recordLines ns)) ns) (refused TooFewLines) ≡ refused p → locateLines ys at ns ≡ refused p
-  by-lines xs ys ns true e = no-place e
+  by-lines xs ys ns true e = no-record (sym e)
   by-lines xs ys ns false e = not-by e (λ w. w) b
 
   by-release : (xs ys ns : List ℕ) (r : Release) → locateRelease xs at ns r ≡ refused p → locateRelease ys at ns r ≡ refused p

@@ -1,11 +1,11 @@
 -- What it means that a record is located, as one record of facts, both ways; where it lies; and that its index lines are 122 bytes each.
 -- Assumes nothing.
-use mathlib.Core.Path.{_≡_, refl, sym, _∙_, ap, subst}
+use mathlib.Core.Path.{_≡_, refl, sym, _∙_, ap}
 use mathlib.Core.Bool.{Bool, true, false, cond}
-use mathlib.Core.List.{List, [], _∷_, _++_}
-use Prim.Native.Nat.{ℕ, suc, _+_, _-_, _<_, _≤_}
+use mathlib.Core.List.{List, _++_}
+use Prim.Native.Nat.{ℕ, _+_, _-_, _<_, _≤_}
 use native.Mathlib.Omega.{arith}
-use borrow.Author.Tests.{ltb-true, ltb-false, eqb-true, eqb-false, leb-true, leb-false, eq-eqb, ne-eqb, le-leb, lt-leb, eq-eqb}
+use borrow.Author.Tests.{eqb-true, leb-true, le-leb}
 use lib.Dec.{leb, ltb, eqb}
 use lib.ListN.{length, take, drop, length-drop}
 use Rattle.line.specs.Lines.{feeds, reach, lines, behind}
@@ -16,15 +16,15 @@ use Rattle.line.proofs.Feeds.{feeds-le}
 use Rattle.line.proofs.Reach.{reach-le, reach-mono, reach-add, length-lines}
 use Rattle.line.proofs.Contents.{content-two}
 use Rattle.count.specs.Tally.{recordLines}
-use Rattle.count.specs.Rules.{releaseOf, rulingOf}
+use Rattle.count.specs.Rules.{releaseOf}
 use Rattle.count.specs.declared.Release.{Release}
 use Rattle.count.specs.declared.Release.the-variants.{Five, Other, Filled}
 use Rattle.count.proofs.Tallied.{record-two}
 use Rattle.place.specs.declared.Placing.{Placing}
-use Rattle.place.specs.declared.Placing.the-variants.{End, Beyond, TooFewLines, Misformed, OtherRelease, FilledVacant}
+use Rattle.place.specs.declared.Placing.the-variants.{End, Beyond, TooFewLines}
 use Rattle.place.specs.Index.{Indexed, counts, misformed, readContent, readEntries, readIndexLine, joined, readIndex}
-use Rattle.place.specs.Placing.{Located, located, refused, locate, locateHere, locateIndex, locateRelease, locateLines}
-use Rattle.place.proofs.Steps.{locate-beyond, locate-end, locate-few, locate-index}
+use Rattle.place.specs.Placing.{located, refused, locate, locateIndex, locateRelease}
+use Rattle.place.proofs.Steps.{locate-index}
 
 -- the facts of a located record
 pub record IsLocated (s : List ℕ) (at n : ℕ) (ns : List ℕ) : Type 0 where
@@ -42,8 +42,9 @@ is-located s at n ns p =
     (ap (λ m. located m ns) (sym (p .next)))
 
 -- no answer is two
-no-refusal : {A : Type 0} {p : Placing} {n : ℕ} {ns : List ℕ} → refused p ≡ located n ns → A
-no-refusal e = let z : _≡_ {A = ℕ} 0 1 = cc in absurd (omega arith)
+-- what is refused is no record
+pub no-record : {A : Type 0} {p : Placing} {n : ℕ} {ns : List ℕ} → refused p ≡ located n ns → A
+no-record e = let z : _≡_ {A = ℕ} 0 1 = cc in absurd (omega arith)
 
 module _ (s : List ℕ) (at n : ℕ) (ns : List ℕ) where
   xs : List ℕ
@@ -55,26 +56,26 @@ module _ (s : List ℕ) (at n : ℕ) (ns : List ℕ) where
       let p : ms ≡ ns = cc in
       let m = leb-true (recordLines ms) (feeds xs) u in
       record { inside = i; head = h; index = r ∙ ap counts p; release = rw p at f; many = rw p at m; next = cc }
-  by-lines ms false i h r f u e = no-refusal e
+  by-lines ms false i h r f u e = no-record e
 
   by-release : (ms : List ℕ) (r : Release) → at < length s → 2 ≤ feeds xs → readIndex xs ≡ counts ms → releaseOf ms ≡ r → locateRelease xs at ms r ≡ located n ns → IsLocated s at n ns
   unfolding xs
   by-release ms Five i h x f e = by-lines ms (leb (recordLines ms) (feeds xs)) i h x f refl e
-  by-release ms Other i h x f e = no-refusal e
-  by-release ms (Filled g) i h x f e = no-refusal e
+  by-release ms Other i h x f e = no-record e
+  by-release ms (Filled g) i h x f e = no-record e
 
   by-index : (q : Indexed) → at < length s → 2 ≤ feeds xs → readIndex xs ≡ q → locateIndex xs at q ≡ located n ns → IsLocated s at n ns
   by-index (counts ms) i h x e = by-release ms (releaseOf ms) i h x refl e
-  by-index misformed i h x e = no-refusal e
+  by-index misformed i h x e = no-record e
 
   pub located-is : locate s at ≡ located n ns → IsLocated s at n ns
   unfolding locate xs
   located-is e = by (ltb (length s) at) (eqb (length s) at) (leb 2 (feeds xs)) refl refl refl e
     where
       by : (a b c : Bool) → ltb (length s) at ≡ a → eqb (length s) at ≡ b → leb 2 (feeds xs) ≡ c → cond a (refused Beyond) (cond b (refused End) (cond c (locateIndex xs at (readIndex xs)) (refused TooFewLines))) ≡ located n ns → IsLocated s at n ns
-      by true b c u v w e = no-refusal e
-      by false true c u v w e = no-refusal e
-      by false false false u v w e = no-refusal e
+      by true b c u v w e = no-record e
+      by false true c u v w e = no-record e
+      by false false false u v w e = no-record e
       by false false true u v w e =
           let h = leb-true 2 (feeds xs) w in
           by-index (readIndex xs) (omega (arith, h, feeds-le xs, length-drop at s)) h refl e

@@ -1,10 +1,10 @@
 -- Two texts with their lines at the same places that agree on the index lines of the walk's records: each record is at the same place, with
 -- the same answer and the same counts, and the walk stops at the same place with the same answer.
 -- Assumes nothing.
-use mathlib.Core.Path.{_≡_, refl, sym, _∙_, ap, subst}
+use mathlib.Core.Path.{_≡_, refl, sym, _∙_, ap}
 use mathlib.Core.Bool.{Bool, true, false, cond}
 use mathlib.Core.List.{List}
-use Prim.Native.Nat.{ℕ, zero, suc, _+_, _-_, _<_, _≤_}
+use Prim.Native.Nat.{ℕ, zero, suc, _+_, _-_}
 use native.Mathlib.Omega.{arith}
 use borrow.Author.Tests.{leb-true}
 use lib.Dec.{leb, ltb, eqb}
@@ -22,9 +22,9 @@ use Rattle.count.specs.declared.Release.the-variants.{Five, Other, Filled}
 use Rattle.place.specs.declared.Placing.{Placing}
 use Rattle.place.specs.declared.Placing.the-variants.{End, Beyond, TooFewLines}
 use Rattle.place.specs.Index.{Indexed, counts, misformed, readIndex}
-use Rattle.place.specs.Placing.{Located, located, refused, locate, locateIndex, locateRelease}
+use Rattle.place.specs.Placing.{refused, locate, locateIndex, locateRelease}
 use Rattle.place.specs.Parts.{start}
-use Rattle.place.specs.Walk.{onward, spot, IsRecord, Stops}
+use Rattle.place.specs.Walk.{onward, spot, Stops}
 use Rattle.place.proofs.Local.{index-local}
 
 -- ---- at one place

@@ -1,31 +1,31 @@
 -- Placing step by step, as the code goes: each answer by what led to it.
 -- Assumes nothing.
-use mathlib.Core.Path.{_≡_, refl, sym, _∙_, ap, subst}
+use mathlib.Core.Path.{_≡_, refl, sym, _∙_, ap}
 use mathlib.Core.Bool.{Bool, true, false, cond}
-use mathlib.Core.List.{List, [], _∷_, _++_}
-use Prim.Native.Nat.{ℕ, suc, _+_, _-_, _<_, _≤_}
+use mathlib.Core.List.{List, _++_}
+use Prim.Native.Nat.{ℕ, _+_, _-_, _<_, _≤_}
 use native.Mathlib.Omega.{arith}
 use borrow.Author.Tests.{lt-ltb, le-ltb, eq-eqb, ne-eqb, le-leb, lt-leb}
 use lib.Dec.{leb}
 use lib.Seq.{drop-drop}
-use lib.ListN.{length, take, drop, replicate}
+use lib.ListN.{length, drop, replicate}
 use Rattle.base.specs.Part.{part}
-use Rattle.line.specs.Lines.{feeds, reach, lines, behind}
+use Rattle.line.specs.Lines.{feeds, reach, behind}
 use Rattle.line.specs.Places
 use Rattle.line.specs.Places.{behindAt}
 use Rattle.line.specs.Contents.{contentOf}
 use Rattle.line.specs.declared.Content.the-variants.{Length, NoReturn}
 use Rattle.line.specs.declared.Behind.{Behind}
 use Rattle.line.specs.declared.Behind.the-variants.{At, TooFew}
-use Rattle.line.proofs.Places.{at-is, few-is, is-few, behindAt-then, lines-at}
+use Rattle.line.proofs.Places.{at-is, few-is, behindAt-then, lines-at}
 use Rattle.count.specs.Tally.{recordLines}
 use Rattle.count.proofs.Tallied.{record-two}
-use Rattle.count.specs.Rules.{releaseOf, rulingOf}
+use Rattle.count.specs.Rules.{releaseOf}
 use Rattle.count.specs.declared.Release.{Release}
 use Rattle.count.specs.declared.Release.the-variants.{Five, Other, Filled}
 use Rattle.place.specs.declared.Placing.{Placing}
-use Rattle.place.specs.declared.Placing.the-variants.{End, Beyond, TooFewLines, Misformed, OtherRelease, FilledVacant}
-use Rattle.place.specs.Index.{Indexed, counts, misformed, readEntries, readIndexLine, joined, readIndex, Stored}
+use Rattle.place.specs.declared.Placing.the-variants.{End, Beyond, TooFewLines, Misformed}
+use Rattle.place.specs.Index.{counts, misformed, readEntries, readIndexLine, joined, readIndex}
 use Rattle.place.specs.Placing.{Located, located, refused, locate, locateIndex, locateRelease, locateLines, locateLinesFrom, locateFrom, locateFive, locatedBehind, Answers, placingOf, countsAt}
 
 -- ---- an index line

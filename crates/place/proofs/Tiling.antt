@@ -1,23 +1,21 @@
 -- Lines and tiling of a located record: from its place to the next it holds exactly its lines and ends with a line feed; the index and the
 -- lines of groups 1 to 60 follow one another without gap or overlap, each part holding exactly its lines.
 -- Assumes nothing.
-use mathlib.Core.Path.{_≡_, refl, sym, _∙_, ap, subst}
-use mathlib.Core.List.{List, [], _∷_, _++_}
+use mathlib.Core.Path.{_≡_, sym, _∙_, ap, subst}
+use mathlib.Core.List.{List}
 use Prim.Native.Nat.{ℕ, zero, suc, _+_, _-_, _<_, _≤_}
-use native.Mathlib.Nat.{add-zero, add-assoc}
+use native.Mathlib.Nat.{add-zero}
 use native.Mathlib.Omega.{arith}
-use lib.ListN.{length, take, drop, getD}
+use lib.ListN.{length, drop, getD}
 use lib.Seq.{drop-drop}
 use Rattle.base.specs.Part.{part}
-use Rattle.base.proofs.Sum.{sum-take-more, sum-take-mono, sum-take-all}
 use Rattle.line.specs.Lines.{feeds, reach, lines, behind, Whole}
 use Rattle.line.proofs.Reach.{reach-zero, reach-add, reach-mono, feeds-behind}
 use Rattle.line.proofs.Whole.{whole-lines}
 use Rattle.line.proofs.Last.{whole-last}
-use Rattle.count.specs.Tally
-use Rattle.count.specs.Tally.{lineTally, linesBefore, recordLines, linesIn}
-use Rattle.count.proofs.Tallied.{all-lines, record-two, before-none, before-groups, line-entry, lines-more, lines-below}
-use Rattle.place.specs.Placing.{Located, located, locate}
+use Rattle.count.specs.Tally.{lineTally, linesBefore, recordLines}
+use Rattle.count.proofs.Tallied.{all-lines, record-two, before-none, before-groups, lines-more, lines-below}
+use Rattle.place.specs.Placing.{located, locate}
 use Rattle.place.specs.Parts.{start, groupPart}
 use Rattle.place.proofs.Placed.{IsLocated, located-is}
 

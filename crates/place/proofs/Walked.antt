@@ -19,7 +19,7 @@ use Rattle.place.specs.declared.Placing.the-variants.{Placed, End, Beyon
 use Rattle.place.specs.Index.{Indexed, counts, misformed, readIndex}
 use Rattle.place.specs.Placing.{Located, located, refused, locate, locateIndex, locateRelease}
 use Rattle.place.specs.Walk.{onward, spot, IsRecord, Stops}
-use Rattle.place.proofs.Placed.{located-range, located-long}
+use Rattle.place.proofs.Placed.{no-record, located-range, located-long}
 
 -- ---- what is refused is neither 0 nor 7, and the group that 6 names is the lowest one that some counts fill
 
@@ -37,9 +37,6 @@ Stopping OtherRelease = Unit {0}
 Stopping (FilledVacant g) = Fills g
 Stopping (BrokenRule g n) = ⊥
 
-no-record : {A : Type 0} {p : Placing} {n : ℕ} {ns : List ℕ} → located n ns ≡ refused p → A
-no-record e = let z : _≡_ {A = ℕ} 0 1 = cc in absurd (omega arith)
-
 same-refusal : (p q : Placing) → refused q ≡ refused p → Stopping q → Stopping p
 same-refusal p q e h = let f : q ≡ p = cc in subst Stopping f h
 
@@ -48,7 +45,7 @@ module _ (s : List ℕ) (at : ℕ) (p : Placing) where
   xs = drop at s
 
   by-lines : (ns : List ℕ) (t : Bool) → cond t (located (at + reach xs (recordLines ns)) ns) (refused TooFewLines) ≡ refused p → Stopping p
-  by-lines ns true e = no-record e
+  by-lines ns true e = no-record (sym e)
   by-lines ns false e = same-refusal p TooFewLines e tt
 
   by-release : (ns : List ℕ) (r : Release) → releaseOf ns ≡ r → locateRelease xs at ns r ≡ refused p → Stopping p
@@ -125,10 +122,10 @@ module _ (s : List ℕ) where
     stops-later n ns e = ⊎-elim (λ (m : many ≤ k). absurd (here (omega arith))) (λ (m : k < many). m) (le-or-lt many k)
       where
         here : k ≡ many → ⊥
-        here f = no-record (sym (rw f at e) ∙ h .last)
+        here f = no-record (sym (h .last) ∙ rw f at e)
 
     pub stops-here : (q : Placing) → locate s (spot s k) ≡ refused q → k ≡ many
-    stops-here q e = ⊎-elim (λ (m : many ≤ k). omega arith) (λ (m : k < many). absurd (no-record (sym (h .each k m .is) ∙ e))) (le-or-lt many k)
+    stops-here q e = ⊎-elim (λ (m : many ≤ k). omega arith) (λ (m : k < many). absurd (no-record (sym e ∙ h .each k m .is))) (le-or-lt many k)
 
   -- ---- there is one such number
 

@@ -4,13 +4,13 @@ use mathlib.Core.Path.{_≡_, sym, _∙_, ap}
 use mathlib.Core.List.{List}
 use Prim.Native.Nat.{ℕ}
 use Rattle.count.specs.Rules.{rulingOf}
+use Rattle.count.specs.declared.Release.the-variants.{Five}
 use Rattle.count.specs.declared.Ruling.the-variants.{Kept}
-use Rattle.count.proofs.Releases.{release-five}
+use Rattle.count.proofs.Releases.{release-given}
 use Rattle.place.specs.declared.Placing.the-variants.{Placed}
 use Rattle.place.specs.Placing.{located, locate, countsBy, placingOf, countsAt}
-use Rattle.place.specs.Due.{Stands, HasLines}
 use Rattle.place.proofs.Due.{first-due}
-use Rattle.place.proofs.Placed.{IsLocated, is-located}
+use Rattle.place.proofs.Placed.{is-located}
 
 pub record IsPlaced (s : List ℕ) (at n : ℕ) : Type 0 where
   pub located-at : locate s at ≡ located n (countsAt s at)
@@ -25,7 +25,7 @@ is-placed s at n e =
       inside = h .head .index .place .inside;
       head = h .head .index .place .lines;
       index = h .head .index .read;
-      release = release-five (d .ns) (h .head .five) (h .head .vacant);
+      release = release-given (d .ns) Five (h .head .release);
       many = h .enough;
       next = h .next;
     } in

@@ -7,10 +7,11 @@ use lib.ListN.{length, drop}
 use Rattle.line.specs.Lines.{feeds, reach}
 use Rattle.count.specs.Tally.{countOf, recordLines}
 use Rattle.count.specs.Rules.{rulingOf}
+use Rattle.count.specs.Due.{ReleaseFive, LowestFilled}
 use Rattle.count.specs.declared.Ruling.the-variants.{Kept, Broken}
 use Rattle.place.specs.declared.Placing.{Placing}
 use Rattle.place.specs.declared.Placing.the-variants.{Placed, End, Beyond, TooFewLines, Misformed, OtherRelease, FilledVacant, BrokenRule}
-use Rattle.place.specs.Index.{Indexed, counts, misformed, readIndex}
+use Rattle.place.specs.Index.{counts, misformed, readIndex}
 
 module _ (s : List ℕ) (at : ℕ) where
   -- neither 2, 1 nor 3 for the index lines: the place is inside, and two line feeds are left
@@ -26,8 +27,7 @@ module _ (s : List ℕ) (at : ℕ) where
   -- nor 5 and 6: the release is 5, and no vacant group has a count
   pub record HasRelease (ns : List ℕ) : Type 0 where
     pub index : HasCounts ns
-    pub five : countOf ns 80 ≡ 5
-    pub vacant : (g : ℕ) → 61 ≤ g → g ≤ 79 → countOf ns g ≡ 0
+    pub release : ReleaseFive ns
 
   -- nor 3 for the data lines: so many line feeds are left, and n is the place behind them
   pub record HasLines (ns : List ℕ) (n : ℕ) : Type 0 where
@@ -57,14 +57,10 @@ module _ (s : List ℕ) (at : ℕ) where
     pub other : countOf ns 80 ≡ 5 → ⊥
 
   -- 6: the lowest of 61 to 79 with a nonzero count
-  pub record LowestFilled (g : ℕ) : Type 0 where
+  pub record FillsVacant (g : ℕ) : Type 0 where
     pub ns : List ℕ
     pub index : HasCounts ns
-    pub five : countOf ns 80 ≡ 5
-    pub low : 61 ≤ g
-    pub high : g ≤ 79
-    pub filled : countOf ns g ≡ 0 → ⊥
-    pub lowest : (h : ℕ) → 61 ≤ h → h < g → countOf ns h ≡ 0
+    pub filled : LowestFilled ns g
 
   -- 7 and 0
   pub record Breaks (g n : ℕ) : Type 0 where
@@ -83,6 +79,6 @@ module _ (s : List ℕ) (at : ℕ) where
   Due TooFewLines = FewForIndex ⊎ FewForData
   Due Misformed = BadIndex
   Due OtherRelease = BadRelease
-  Due (FilledVacant g) = LowestFilled g
+  Due (FilledVacant g) = FillsVacant g
   Due (BrokenRule g n) = Breaks g n
   Due (Placed n) = Stands n

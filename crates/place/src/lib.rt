@@ -1,8 +1,7 @@
 // Records in a text: placing one at a place.
 ghost use mathlib.Core.Path.{_≡_};
 ghost use Prim.Native.Nat.{_+_, _≤_};
-ghost use lib.ListN.{length, drop, replicate};
-ghost use Rattle.line.specs.Lines.{reach};
+ghost use lib.ListN.{length, replicate};
 ghost use Rattle.place.specs.Parts.{start};
 ghost use Rattle.place.specs.Index.{readEntries, readIndexLine, Stored};
 ghost use Rattle.place.specs.Numbered.{placingReply};

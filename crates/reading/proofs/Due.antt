@@ -4,7 +4,7 @@ use mathlib.Core.Path.{_≡_, refl, sym, _∙_, ap, subst}
 use mathlib.Core.Bool.{Bool, true, false, cond}
 use mathlib.Core.List.{List, map}
 use mathlib.Core.Logic.{_↔_, _⊎_, inl, inr, ⊎-elim}
-use Prim.Native.Nat.{ℕ, _+_, _*_, _<_, _≤_}
+use Prim.Native.Nat.{ℕ, _+_, _*_}
 use native.Mathlib.Nat.{mul-one}
 use native.Mathlib.Omega.{arith}
 use borrow.Author.Tests.{le-leb, lt-leb, leb-true, leb-false, eq-eqb, eqb-true, eqb-false}
@@ -16,7 +16,6 @@ use Rattle.base.specs.Pieces.{done, bad}
 use Rattle.base.specs.Sign.{sizeOf}
 use Rattle.base.proofs.Choice.{T-true, not-T-false}
 use Rattle.base.proofs.FirstBad.{IsDone, FirstBad, bad-told, first-bad, all-done}
-use Rattle.base.proofs.Order.{le-or-lt}
 use Rattle.base.proofs.Taken.{part-zero}
 use Rattle.form.specs.declared.Form.{Form}
 use Rattle.form.specs.declared.Form.the-variants.{A120}
@@ -24,7 +23,7 @@ use Rattle.form.specs.declared.GroupForm.{GroupForm}
 use Rattle.form.specs.declared.GroupForm.the-variants.{Has, NoGroup as NoForm}
 use Rattle.form.specs.Table.{rowOf, formOf}
 use Rattle.form.specs.Count.{linesOf, cellsOf}
-use Rattle.form.proofs.Table.{IsGroup, no-group}
+use Rattle.form.proofs.Table.{no-group, group-form, form-range}
 use Rattle.field.specs.Read.{fieldOf, formed, cellsIn}
 use Rattle.line.specs.declared.Content.{Content}
 use Rattle.line.specs.declared.Content.the-variants.{Length, NoReturn}
@@ -207,33 +206,16 @@ module _ (f : Form) (count : ℕ) (x : List ℕ) where
       omega (arith, w .number, w .element, w .inside, p)
 
   -- all clean, with these values: these cells were read
-  lines-read : (cs : List ℤ) → AllClean f count x → Values f count x cs → readLines f count x ≡ done cs
+  pub lines-read : (cs : List ℤ) → AllClean f count x → Values f count x cs → readLines f count x ≡ done cs
   lines-read cs c v =
       let d = all-done (lines-pieces f count x) (λ j h. clean-done j (c j h)) in
       let e : readLines f count x ≡ done (d .cells) = sym (lines-start f count x) ∙ d .is in
       e ∙ ap done (values-one f count x (d .cells) cs (read-values f count x (d .cells) e) v)
 
-  lines-clean : (cs : List ℤ) → readLines f count x ≡ done cs → AllClean f count x
+  pub lines-clean : (cs : List ℤ) → readLines f count x ≡ done cs → AllClean f count x
   lines-clean cs e j h = done-clean j record { cells = _; is = line-cells f count x cs e j h }
 
 -- ---- a group
-
--- a number has a form exactly if it is 1 to 60
-pub has-form : (g : ℕ) → 1 ≤ g → g ≤ 60 → (f : Form) × (formOf g ≡ Has f)
-has-form g a b = by (formOf g) refl
-  where
-    by : (h : GroupForm) → formOf g ≡ h → (f : Form) × (formOf g ≡ Has f)
-    by (Has f) e = (f, e)
-    by NoForm e = absurd (no-group g .0 e record { low = a; high = b })
-
-pub form-range : (g : ℕ) (f : Form) → formOf g ≡ Has f → (1 ≤ g) × (g ≤ 60)
-form-range g f e = (by 1 g (λ (h : g < 1) i. omega (arith, i .low)), by g 60 (λ h i. omega (arith, i .high)))
-  where
-    no-form : {A : Type 0} → NoForm ≡ Has f → A
-    no-form e = let z : _≡_ {A = ℕ} 0 1 = cc in absurd (omega arith)
-
-    by : (a b : ℕ) → (b < a → IsGroup g → ⊥) → a ≤ b
-    by a b n = ⊎-elim (λ h. h) (λ (h : b < a). no-form (sym (no-group g .1 (n h)) ∙ e)) (le-or-lt a b)
 
 module _ (ns : List ℕ) (g : ℕ) (x : List ℕ) (room : ℕ) where
   -- ---- what is due is given
@@ -248,7 +230,7 @@ module _ (ns : List ℕ) (g : ℕ) (x : List ℕ) (room : ℕ) where
   refusal-given : (r : Refusal) → RefusalDue ns g x room r → readGroup ns g x room ≡ bad r
   unfolding readGroup readForm
   refusal-given NoGroup d = rw (no-group g .1 (λ i. d (i .low, i .high))) refl
-  refusal-given (BrokenRule h) d = rw (has-form g (d .low) (d .high) .1, d .broken) refl
+  refusal-given (BrokenRule h) d = rw (group-form g (d .low) (d .high) .1, d .broken) refl
   refusal-given NoRoom d = rw (d .ruled .form, d .ruled .kept, lt-leb (cellsOf (d .f) (countOf ns g)) room (d .few)) refl
   refusal-given (BadLine n) d = to-lines (d .f) (d .roomy) ∙ ap (dated g) (line-given (d .f) (countOf ns g) x n (d .line))
   refusal-given (BadField n e) d = to-lines (d .f) (d .roomy) ∙ ap (dated g) (field-given (d .f) (countOf ns g) x n e (d .field))

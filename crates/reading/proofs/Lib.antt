@@ -13,3 +13,4 @@ pub mod Promises
 pub mod FourS
 pub mod Values
 pub mod Due
+pub mod GroupRead

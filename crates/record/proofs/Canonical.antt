@@ -16,6 +16,7 @@ use Rattle.form.specs.declared.Form.{Form}
 use Rattle.form.specs.declared.GroupForm.{GroupForm}
 use Rattle.form.specs.declared.GroupForm.the-variants.{Has, NoGroup}
 use Rattle.form.specs.Table.{formOf}
+use Rattle.line.proofs.Pieces.{each-whole}
 use Rattle.line.specs.Lines.{Whole}
 use Rattle.line.proofs.Whole.{whole-append}
 use Rattle.count.specs.Tally
@@ -24,7 +25,6 @@ use Rattle.reading.specs.Read.{readLines}
 use Rattle.record.specs.Text.{groupTextBy, groupText, groupsText, indexText, recordText}
 use Rattle.record.specs.Canonical.{CanonicalGroupBy, CanonicalGroup, CanonicalRecord}
 use Rattle.record.proofs.CanonicalGroups as Lines
-use Rattle.record.proofs.CanonicalGroups.{each-whole}
 use Rattle.record.proofs.CanonicalIndex.{index-line-text, index-whole}
 
 -- ---- a group, by its form

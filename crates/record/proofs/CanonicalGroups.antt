@@ -2,23 +2,20 @@
 -- these.
 -- Assumes nothing.
 use mathlib.Core.Path.{_≡_, sym, _∙_, ap, subst}
-use mathlib.Core.Bool.{Bool, true, false, cond, not}
-use mathlib.Core.List.{List, [], _∷_, _++_, map, append-nil}
+use mathlib.Core.Bool.{Bool, true, false, cond}
+use mathlib.Core.List.{List, [], _++_, append-nil}
 use Prim.Native.Nat.{ℕ, zero, suc, _-_, _*_, _≤_, min}
 use native.Mathlib.Nat.{mul-comm, mul-le-mul-right}
 use native.Mathlib.Omega.{arith}
-use borrow.Author.Tests.{eq-eqb}
-use lib.Dec.{T, leb, eqb, leb→le, le→leb}
+use lib.Dec.{T, leb, leb→le, le→leb}
 use lib.IntN.{ℤ}
 use lib.ListN.{length, take}
 use lib.Seq.{take-at}
 use Rattle.base.specs.Every
 use Rattle.base.specs.Every.{every}
 use Rattle.base.specs.Part.{part}
-use Rattle.base.specs.Pieces.{done, Each, none, more}
-use Rattle.base.specs.Sum
-use Rattle.base.specs.Sum.{sum}
-use Rattle.base.proofs.Choice.{T-true, and-left, and-right, and-both}
+use Rattle.base.specs.Pieces.{done, Each}
+use Rattle.base.proofs.Choice.{T-true, and-both}
 use Rattle.base.proofs.Each.{each-cells, each-bytes, each-passed, each-gather, each-emit}
 use Rattle.base.proofs.Sum.{sum-ones}
 use Rattle.base.proofs.Taken.{drop-none}
@@ -32,8 +29,8 @@ use Rattle.field.specs.Write.{fieldText, fitsOf}
 use Rattle.field.specs.Canonical.{IsCanonical}
 use Rattle.field.proofs.Laws.{lawful}
 use Rattle.line.specs.Lines.{reach, Whole, Plain}
-use Rattle.line.proofs.Feeds.{plain-nil, plain-cons, plain-append}
-use Rattle.line.proofs.Whole.{whole-nil, whole-append, reach-whole}
+use Rattle.line.proofs.Pieces.{each-whole, each-plain, unbroken-plain}
+use Rattle.line.proofs.Whole.{reach-whole}
 use Rattle.line.proofs.Contents.{content-append, content-line}
 use Rattle.reading.specs.Blanks.{mayBeShort, isRight}
 use Rattle.reading.proofs.Blanks.{filled-enough, right-exact}
@@ -45,28 +42,6 @@ use Rattle.reading.proofs.Sizes.{group-size}
 use Rattle.record.specs.Text.{lineEnd, lineCells, fieldsText, lineText, linesText}
 use Rattle.record.specs.Canonical.{CanonicalLine, CanonicalLines}
 use Rattle.record.proofs.Lengths.{plan-length}
-
--- ---- lines in pieces
-
-module _ {A C : Type 0} {P : A → List ℕ → List C → Type 0} where
-  -- pieces that are so many lines each are as many together
-  pub each-whole : (many : A → ℕ) → ((a : A) (x : List ℕ) (c : List C) → P a x c → Whole (many a) x) → (bs : List A) (s : List ℕ) (cs : List C) → Each P bs s cs → Whole (sum (map many bs)) s
-  unfolding Sum.sum
-  each-whole many w [] [] [] none = whole-nil
-  each-whole many w (a ∷ bs) s cs (more x c {y} {d} p h) = whole-append (w a x c p) (each-whole many w bs y d h)
-
-  pub each-plain : ((a : A) (x : List ℕ) (c : List C) → P a x c → Plain x) → (bs : List A) (s : List ℕ) (cs : List C) → Each P bs s cs → Plain s
-  each-plain w [] [] [] none = plain-nil
-  each-plain w (a ∷ bs) s cs (more x c {y} {d} p h) = plain-append x y (w a x c p) (each-plain w bs y d h)
-
-pub unbroken-plain : (s : List ℕ) → T (every (λ b. not (eqb b 10)) s) → Plain s
-unbroken-plain [] t = plain-nil
-unbroken-plain (x ∷ s) t =
-    plain-cons x s (other (and-left (not (eqb x 10)) (every (λ b. not (eqb b 10)) s) t))
-    (unbroken-plain s (and-right (not (eqb x 10)) (every (λ b. not (eqb b 10)) s) t))
-  where
-    other : T (not (eqb x 10)) → x ≡ 10 → ⊥
-    other u e = rw (eq-eqb x 10 e) at u
 
 -- ---- a field, and the fields of a line
 

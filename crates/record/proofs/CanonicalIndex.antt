@@ -15,6 +15,7 @@ use Rattle.base.proofs.Ascii.{printable-without}
 use Rattle.base.proofs.Taken.{drop-none}
 use Rattle.field.specs.Entry.{CanonicalEntry}
 use Rattle.field.proofs.Entries.{is-entry, canonical-entry, entry-one, entry-plain}
+use Rattle.line.proofs.Pieces.{each-plain, unbroken-plain}
 use Rattle.line.specs.Lines.{Whole, Plain}
 use Rattle.line.proofs.Whole.{whole-append, lines-whole, behind-whole}
 use Rattle.line.proofs.Contents.{content-append, content-line}
@@ -22,7 +23,6 @@ use Rattle.place.specs.Index
 use Rattle.place.specs.Index.{counts, readEntries, readIndexLine, readIndex}
 use Rattle.record.specs.Text.{lineEnd, entriesText}
 use Rattle.record.specs.Canonical.{EntryOf, CanonicalIndexLine}
-use Rattle.record.proofs.CanonicalGroups.{each-plain, unbroken-plain}
 
 -- ---- entries
 

@@ -6,30 +6,23 @@ use mathlib.Core.List.{List, map}
 use mathlib.Core.Logic.{_↔_}
 use Prim.Native.Nat.{ℕ, zero, suc, _+_, _<_, _≤_}
 use native.Mathlib.Omega.{arith}
-use borrow.Author.Tests.{eqb-true, eqb-false, eq-eqb, leb-true, leb-false, le-leb, lt-leb}
-use lib.Dec.{eqb, leb, leb→le, le→leb}
+use borrow.Author.Tests.{leb-true, leb-false, le-leb, lt-leb}
+use lib.Dec.{leb}
 use lib.IntN.{ℤ}
-use lib.ListN.{length, getD, take, drop}
-use Rattle.base.specs.Every.{every, upFrom}
+use lib.ListN.{length, take, drop}
+use Rattle.base.specs.Every.{upFrom}
 use Rattle.base.specs.Sum.{sum}
-use Rattle.base.proofs.Choice.{true-T, T-true, and-first, and-second, not-T-false}
-use Rattle.base.proofs.Every.{every-at, at-every}
 use Rattle.form.specs.declared.Form.{Form}
 use Rattle.form.specs.declared.GroupForm.the-variants.{Has}
 use Rattle.form.specs.Table.{formOf}
-use Rattle.count.specs.Tally.{cellsIn, recordCells}
-use Rattle.count.specs.Check
-use Rattle.count.specs.Check.{wellFormed, byRules, byRelease, checkedOf}
-use Rattle.count.specs.Rules.{releaseOf, rulingOf}
-use Rattle.count.specs.declared.Release.{Release}
-use Rattle.count.specs.declared.Release.the-variants.{Five, Other, Filled}
-use Rattle.count.specs.declared.Ruling.{Ruling}
-use Rattle.count.specs.declared.Ruling.the-variants.{Kept, Broken}
+use Rattle.count.specs.Tally.{cellsIn}
+use Rattle.count.specs.Check.{checkedOf}
+use Rattle.count.specs.Due as Counted
+use Rattle.count.specs.Due.{HasCells}
+use Rattle.count.specs.declared.Checked.{Checked}
 use Rattle.count.specs.declared.Checked.the-variants as C
-use Rattle.count.proofs.Checks.{checked-misformed, checked-release, checked-filled, checked-broken, checked-right, checked-length}
-use Rattle.count.proofs.Releases.{release-other, release-five, release-filled, ReleaseIs, release-is}
-use Rattle.count.proofs.Tallied.{all-cells}
-use Rattle.reading.proofs.Due.{has-form, form-range}
+use Rattle.count.proofs.Due as Counts
+use Rattle.form.proofs.Table.{group-form, form-range}
 use Rattle.date.specs.Date.{datedOf}
 use Rattle.date.specs.declared.Dated.{Dated}
 use Rattle.date.specs.declared.Dated.the-variants.{Right, Wrong}
@@ -40,29 +33,11 @@ use Rattle.record.specs.declared.Writing.the-variants.{Done, Misformed, 
 use Rattle.record.specs.Fitting.{groupFit, fitOf}
 use Rattle.record.specs.Text.{recordBytes}
 use Rattle.record.specs.Writing.{dateLetters, writeRoom, writeDated, writeFit, writeChecked, writingOf}
-use Rattle.record.specs.Due.{HasField, Element, elementCells, HasCounts, HasRelease, HasRules, HasCells, HasFields, HasDate, LowestNone, Due}
+use Rattle.record.specs.Due.{HasField, Element, elementCells, HasFields, HasDate, LowestNone, Due}
 use Rattle.record.proofs.Fitting.{cells-before, group-fits}
 use Rattle.record.proofs.Misfits.{first-found, found-first, groupFound, all-fields, fields-all, Lowest, found-none, none-found, groups-all}
 
 module _ (ns : List ℕ) (cs : List ℤ) where
-  -- ---- 4
-
-  counts-formed : HasCounts ns cs → wellFormed ns ≡ true
-  unfolding Check.wellFormed
-  counts-formed h =
-      rw (eq-eqb (length ns) 80 (h .many))
-      (T-true (every (λ n. leb n 999) ns) (at-every (λ n. leb n 999) 0 ns (λ i l. le→leb (getD ns i 0) 999 (h .small i (omega (arith, h .many))))))
-
-  formed-counts : wellFormed ns ≡ true → HasCounts ns cs
-  unfolding Check.wellFormed
-  formed-counts w =
-      let m = eqb-true (length ns) 80 (and-first (eqb (length ns) 80) (every (λ n. leb n 999) ns) w) in
-      let t = true-T (every (λ n. leb n 999) ns) (and-second (eqb (length ns) 80) (every (λ n. leb n 999) ns) w) in
-      record { many = m; small = λ i l. leb→le (getD ns i 0) 999 (every-at (λ n. leb n 999) 0 ns t i (omega arith)) }
-
-  not-formed : (HasCounts ns cs → ⊥) → wellFormed ns ≡ false
-  not-formed n = not-T-false (wellFormed ns) (λ t. n (formed-counts (T-true (wellFormed ns) t)))
-
   -- ---- 13
 
   piece : (i : ℕ) → i < 60 → groupFit ns (1 + i) (take (cellsIn ns (1 + i)) (drop (sum (map (cellsIn ns) (upFrom 1 i))) cs)) ≡ groupFound ns cs (suc i)
@@ -70,12 +45,12 @@ module _ (ns : List ℕ) (cs : List ℤ) where
       let e : 1 + i ≡ suc i = omega arith in
       rw (e, cells-before ns i (omega arith))
 
-  found-lowest : HasCells ns cs → (g e : ℕ) → fitOf ns cs ≡ Not g e → LowestNone ns cs g e
+  found-lowest : HasCells ns (length cs) → (g e : ℕ) → fitOf ns cs ≡ Not g e → LowestNone ns cs g e
   unfolding fitOf
   found-lowest t g e h =
       let r = first-found (cellsIn ns) (groupFit ns) 1 60 cs g e h in
       let k = r .at in
-      let x = has-form (suc k) (omega arith) (omega (arith, r .inside)) in
+      let x = group-form (suc k) (omega arith) (omega (arith, r .inside)) in
       let y = found-none ns cs (suc k) (x .0) (x .1) g e (sym (piece k (r .inside)) ∙ r .told) in
       by k (r .inside) (r .earlier) (x .0) (x .1) (y .0) (y .1)
     where
@@ -110,33 +85,33 @@ module _ (ns : List ℕ) (cs : List ℤ) where
         where
           lower : (i : ℕ) → i < k → groupFound ns cs (suc i) ≡ All
           lower i l =
-              let x = has-form (suc i) (omega arith) (omega arith) in
+              let x = group-form (suc i) (omega arith) (omega arith) in
               fields-all ns cs (suc i) (x .0) (x .1) (λ n y. d .lower (suc i) n (x .0) y (omega arith))
 
-  fits-fields : HasCells ns cs → fitOf ns cs ≡ All → HasFields ns cs
+  pub fits-fields : HasCells ns (length cs) → fitOf ns cs ≡ All → HasFields ns cs
   fits-fields t h =
       record {
         table = t;
         each = λ g e f x. all-fields ns cs g f (x .form) (group-fits ns cs h g (form-range g f (x .form) .0) (omega (arith, form-range g f (x .form) .1))) e x;
       }
 
-  fields-fit : HasFields ns cs → fitOf ns cs ≡ All
+  pub fields-fit : HasFields ns cs → fitOf ns cs ≡ All
   fields-fit h = groups-all ns cs found
     where
       found : (g : ℕ) → 0 < g → g < 61 → groupFound ns cs g ≡ All
       found g a b =
-          let x = has-form g a (omega arith) in
+          let x = group-form g a (omega arith) in
           fields-all ns cs g (x .0) (x .1) (λ e y. h .each g e (x .0) y)
 
   module _ (room : ℕ) where
     -- ---- what is due is given
 
-    to-release : HasRelease ns cs → releaseOf ns ≡ Five
-    to-release h = release-five ns (h .five) (h .vacant)
+    to-checked : HasCells ns (length cs) → checkedOf ns (length cs) ≡ C.Right
+    to-checked h = Counts.first-due ns (length cs) C.Right .1 h
 
-    to-checked : HasCells ns cs → checkedOf ns (length cs) ≡ C.Right
-    to-checked h =
-        checked-right ns (length cs) (counts-formed (h .rules .release .counts)) (to-release (h .rules .release)) (h .rules .kept) (h .needed ∙ sym (all-cells ns))
+    to-refused : (c : Checked) → Counted.Due ns (length cs) c → writingOf ns cs room ≡ writeChecked ns cs room c
+    unfolding writingOf
+    to-refused c d = ap (writeChecked ns cs room) (Counts.first-due ns (length cs) c .1 d)
 
     to-dated : HasFields ns cs → writingOf ns cs room ≡ writeDated ns room (datedOf (dateLetters ns cs))
     unfolding writingOf
@@ -147,13 +122,11 @@ module _ (ns : List ℕ) (cs : List ℤ) where
 
     given : (w : Writing) → Due ns cs room w → writingOf ns cs room ≡ w
     unfolding writingOf
-    given Misformed d = rw (checked-misformed ns (length cs) (not-formed d))
-    given OtherRelease d = rw (checked-release ns (length cs) (counts-formed (d .counts)) (release-other ns (d .other)))
-    given (FilledVacant g) d =
-        rw (checked-filled ns (length cs) (counts-formed (d .counts)) (release-filled ns g (d .five) record { low = d .low; high = omega (arith, d .high); filled = d .filled; lowest = d .lowest }))
-    given (BrokenRule g) d = rw (checked-broken ns (length cs) (counts-formed (d .release .counts)) (to-release (d .release)) (d .broken))
-    given OtherLength d =
-        rw (checked-length ns (length cs) (counts-formed (d .rules .release .counts)) (to-release (d .rules .release)) (d .rules .kept) (λ e. d .other (e ∙ all-cells ns)))
+    given Misformed d = to-refused C.Misformed d
+    given OtherRelease d = to-refused C.OtherRelease d
+    given (FilledVacant g) d = to-refused (C.FilledVacant g) d
+    given (BrokenRule g) d = to-refused (C.BrokenRule g) d
+    given OtherLength d = to-refused C.OtherLength d
     given (NoField g e) d = rw (to-checked (d .table), lowest-found g e d)
     given (BadDate p) d = to-dated (d .fields) ∙ rw (d .wrong)
     given NoRoom d = to-room (d .date) ∙ rw (lt-leb (recordBytes ns) room (d .short))
@@ -169,38 +142,21 @@ module _ (ns : List ℕ) (cs : List ℤ) where
     from-dated (Right d) h e = from-room (leb (recordBytes ns) room) record { fields = h; date = d; right = e } refl
     from-dated (Wrong p) h e = record { fields = h; wrong = e }
 
-    from-fit : (x : Fit) → HasCells ns cs → fitOf ns cs ≡ x → Due ns cs room (writeFit ns cs room x)
+    from-fit : (x : Fit) → HasCells ns (length cs) → fitOf ns cs ≡ x → Due ns cs room (writeFit ns cs room x)
     from-fit All h e = from-dated (datedOf (dateLetters ns cs)) (fits-fields h e) refl
     from-fit (Not g n) h e = found-lowest h g n e
 
-    from-length : (t : Bool) → HasRules ns cs → eqb (length cs) (recordCells ns) ≡ t → Due ns cs room (writeChecked ns cs room (cond t C.Right C.OtherLength))
-    from-length true h e = from-fit (fitOf ns cs) record { rules = h; needed = eqb-true (length cs) (recordCells ns) e } refl
-    from-length false h e = record { rules = h; other = eqb-false (length cs) (recordCells ns) e }
-
-    from-ruling : (k : Ruling) → HasRelease ns cs → rulingOf ns ≡ k → Due ns cs room (writeChecked ns cs room (byRules ns (length cs) k))
-    from-ruling Kept h e = from-length (eqb (length cs) (recordCells ns)) record { release = h; kept = e } refl
-    from-ruling (Broken g) h e = record { release = h; broken = e }
-
-    from-release : (r : Release) → HasCounts ns cs → ReleaseIs ns r → Due ns cs room (writeChecked ns cs room (byRelease ns (length cs) r))
-    from-release Five h f = from-ruling (rulingOf ns) record { counts = h; five = f .five; vacant = f .vacant } refl
-    from-release Other h f = record { counts = h; other = f }
-    from-release (Filled g) h f =
-        record {
-          counts = h;
-          five = f .five;
-          low = f .group .low;
-          high = omega (arith, f .group .high);
-          filled = f .group .filled;
-          lowest = f .group .lowest;
-        }
-
-    from-formed : (t : Bool) → wellFormed ns ≡ t → Due ns cs room (writeChecked ns cs room (cond t (byRelease ns (length cs) (releaseOf ns)) C.Misformed))
-    from-formed true e = from-release (releaseOf ns) (formed-counts e) (release-is ns)
-    from-formed false e = λ h. let z = sym (counts-formed h) ∙ e in let y : _≡_ {A = ℕ} 0 1 = cc in omega arith
+    from-checked : (c : Checked) → Counted.Due ns (length cs) c → Due ns cs room (writeChecked ns cs room c)
+    from-checked C.Right h = from-fit (fitOf ns cs) h refl
+    from-checked C.Misformed h = h
+    from-checked C.OtherRelease h = h
+    from-checked (C.FilledVacant g) h = h
+    from-checked (C.BrokenRule g) h = h
+    from-checked C.OtherLength h = h
 
     is-due : Due ns cs room (writingOf ns cs room)
-    unfolding writingOf Check.checkedOf
-    is-due = from-formed (wellFormed ns) refl
+    unfolding writingOf
+    is-due = from-checked (checkedOf ns (length cs)) (Counts.first-due ns (length cs) (checkedOf ns (length cs)) .0 refl)
 
     -- the reply that is given is the one that is due, and no other is
     pub first-due : (w : Writing) → writingOf ns cs room ≡ w ↔ Due ns cs room w

@@ -5,7 +5,7 @@ use mathlib.Core.Path.{_≡_, refl, sym, _∙_, ap, subst}
 use mathlib.Core.Bool.{Bool, true, false, cond}
 use mathlib.Core.List.{List, [], _∷_, map}
 use Prim.Native.Nat.{ℕ, zero, suc, _+_, _-_, _*_, _<_, _≤_, min}
-use native.Mathlib.Nat.{add-mul, one-mul, mul-le-mul-right}
+use native.Mathlib.Nat.{add-mul, zero-mul, one-mul, mul-le-mul-right}
 use native.Mathlib.Numerals.{add-one}
 use native.Mathlib.Omega.{arith}
 use lib.Dec.{T}
@@ -19,19 +19,19 @@ use Rattle.base.specs.Pieces.{Own}
 use Rattle.base.specs.Sum
 use Rattle.base.specs.Sum.{sum}
 use Rattle.base.proofs.Choice.{T-true}
-use Rattle.base.proofs.Taken.{drop-take}
+use Rattle.base.proofs.Taken.{drop-take, drop-none}
 use Rattle.base.proofs.UpFrom.{sum-up-same, sum-up-more, own-up, up-own}
 use Rattle.form.specs.declared.Form.{Form}
 use Rattle.form.specs.declared.GroupForm.the-variants.{Has}
 use Rattle.form.specs.Table.{rowOf, formOf}
 use Rattle.form.specs.Count
-use Rattle.form.specs.Count.{elementsOf, cellsOf}
+use Rattle.form.specs.Count.{elementsOf, linesOf, cellsOf}
 use Rattle.field.specs.Write.{fitsOf}
 use Rattle.count.specs.Tally
 use Rattle.count.specs.Tally.{countOf, cellsIn, cellsBefore}
 use Rattle.count.proofs.Tallied.{cells-first, cells-next}
 use Rattle.reading.specs.Plan
-use Rattle.reading.specs.Plan.{planFrom}
+use Rattle.reading.specs.Plan.{planFrom, planOf}
 use Rattle.record.specs.declared.Fit.{Fit}
 use Rattle.record.specs.declared.Fit.the-variants.{All, Not}
 use Rattle.record.specs.Fitting.{Fitted, firstOf, firstMisfit, elementFit, elementsFit, groupFit, fitOf}
@@ -146,6 +146,15 @@ module _ (f : Form) where
       let many = min p (n - j * p) in
       let e : drop (many * c) (drop (m * c) cs) ≡ drop (min n (suc j * p) * c) cs = drop-drop (many * c) (m * c) cs ∙ ap (λ x. drop x cs) (sym (add-mul m many c) ∙ ap (λ x. x * c) (line-behind p n j ∙ ap (λ i. min n (i * p)) (add-one j))) in
       (fitted-take (n - m) many (drop (m * c) cs) (omega arith) (fitted-drop n m cs h), rw e (fitted-lines p n (suc j) k cs h))
+
+  -- each line of a group has its own cells, and they fit
+  pub lines-own : (count : ℕ) (cs : List ℤ) → Fitted f (elementsOf f count) cs → Own (lineCells f) (λ l c. Fitted f (l .many) c) (planOf f count) cs
+  unfolding Plan.planOf
+  lines-own count cs h =
+      let p = rowOf f .«per_line» in
+      let n = elementsOf f count in
+      let z : min n (0 * p) ≡ 0 = omega (arith, zero-mul p) in
+      rw (z, zero-mul (rowOf f .cells), drop-none cs) at (fitted-lines p n 0 (linesOf f count) cs h)
 
 -- ---- the groups of a record
 

@@ -16,21 +16,12 @@ use Rattle.base.specs.Sum
 use Rattle.base.proofs.Each.{each-cells, Among, among}
 use Rattle.base.proofs.Mapped.{map-take}
 use Rattle.base.proofs.Part.{part-middle}
-use Rattle.base.proofs.Sum.{sum-take-mono}
 use Rattle.base.proofs.Taken.{drop-none}
 use Rattle.base.proofs.UpFrom.{length-up, getD-up, flat-same, parts-flat}
 use Rattle.count.specs.Tally
 use Rattle.count.specs.Tally.{cellsIn, cellTally, cellsBefore, recordCells}
-use Rattle.count.proofs.Tallied.{tally-more, before-groups, all-cells}
+use Rattle.count.proofs.Tallied.{before-groups, all-cells, cells-next, cells-below}
 use Rattle.record.specs.RoundTrip.{groupCells, joined}
-
-cells-more : (ns : List ℕ) (g : ℕ) → 0 < g → g < 61 → cellsBefore ns (suc g) ≡ cellsBefore ns g + cellsIn ns g
-unfolding Tally.cellsBefore Tally.cellTally
-cells-more ns g some few = rw (add-one g) at (tally-more 0 (cellsIn ns) g some few)
-
-cells-up : (ns : List ℕ) (g : ℕ) → cellsBefore ns g ≤ cellsBefore ns (suc g)
-unfolding Tally.cellsBefore
-cells-up ns g = sum-take-mono (cellTally ns) g (suc g) (omega arith)
 
 -- group g, with what stands before it and behind it
 pub record GroupAmong (ns : List ℕ) (P : ℕ → List ℕ → List ℤ → Type 0) (s : List ℕ) (cs : List ℤ) (g : ℕ) : Type 0 where
@@ -60,7 +51,7 @@ module _ (ns : List ℕ) {P : ℕ → List ℕ → List ℤ → Type 0} (sized :
 
     its-cells : groupCells ns cs (suc k) ≡ m .cells
     its-cells =
-        let e : cellsBefore ns (suc (suc k)) ≡ length (m .first-cells) + length (m .cells) = cells-more ns (suc k) (omega arith) (omega arith) ∙ omega (arith, before-cells, sized (suc k) (m .itself) (m .cells) it) in
+        let e : cellsBefore ns (suc (suc k)) ≡ length (m .first-cells) + length (m .cells) = rw (add-one (suc k)) at (cells-next ns (suc k) (omega arith) (omega arith)) ∙ omega (arith, before-cells, sized (suc k) (m .itself) (m .cells) it) in
         ap (part (cellsBefore ns (suc k)) (cellsBefore ns (suc (suc k)))) (m .all)
         ∙ rw (e, ← before-cells) (part-middle (m .first-cells) (m .cells) (m .rest-cells))
 
@@ -85,7 +76,7 @@ pub cells-joined : (ns : List ℕ) (cs : List ℤ) (cells : ℕ → List ℤ) �
 cells-joined ns cs cells n e =
     sym
     (flat-same cells (groupCells ns cs) 1 60 (λ g low high. sym (e g low (omega arith)))
-    ∙ parts-flat (cellsBefore ns) cs (cells-up ns) 1 60
+    ∙ parts-flat (cellsBefore ns) cs (λ g. cells-below ns g (suc g) (omega arith)) 1 60
     ∙ whole)
   where
     whole : part (cellsBefore ns 1) (cellsBefore ns 61) cs ≡ cs

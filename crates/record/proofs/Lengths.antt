@@ -10,11 +10,9 @@ use lib.IntN.{ℤ}
 use lib.ListN.{length, take, drop, length-append, length-take, length-drop, length-map}
 use Rattle.base.specs.Every
 use Rattle.base.specs.Every.{upFrom}
-use Rattle.base.specs.Pieces.{Own}
 use Rattle.base.specs.Sum
 use Rattle.base.specs.Sum.{sum}
 use Rattle.base.proofs.Pieces.{own-imply, emit-length, emit-take}
-use Rattle.base.proofs.Taken.{drop-none}
 use Rattle.base.proofs.UpFrom.{length-up, up-more, sum-up-same}
 use Rattle.form.specs.declared.Form.{Form}
 use Rattle.form.specs.declared.GroupForm.{GroupForm}
@@ -36,7 +34,7 @@ use Rattle.reading.specs.Plan.{Line, lineAt, planFrom, planOf, elementsIn}
 use Rattle.record.specs.declared.Fit.the-variants.{All}
 use Rattle.record.specs.Fitting.{Fitted, groupFitBy, groupFit, fitOf}
 use Rattle.record.specs.Text.{lineEnd, entriesText, indexText, lineCells, fieldsText, lineText, linesText, groupTextBy, groupText, groupsText, recordText, bytesOf, bytesBy, bytesIn, recordBytes}
-use Rattle.record.proofs.Fitting.{elements-fitted, fitted-own, fitted-lines, groups-own}
+use Rattle.record.proofs.Fitting.{elements-fitted, fitted-own, lines-own, groups-own}
 
 -- ---- the index
 
@@ -104,18 +102,11 @@ plan-length f count = length-map (upFrom 0 (linesOf f count)) (lineAt (rowOf f .
 pub lines-length : (f : Form) (count : ℕ) (cs : List ℤ) → Fitted f (elementsOf f count) cs → length (linesText f count cs) ≡ bytesOf f count
 unfolding linesText Plan.planOf
 lines-length f count cs h =
-    let p = rowOf f .«per_line» in
-    let n = elementsOf f count in
     let wide : Line → ℕ = λ l. l .many * rowOf f .width + 2 in
-    let z : min n (0 * p) * rowOf f .cells ≡ 0 = ap (λ x. min n x * rowOf f .cells) (zero-mul p) ∙ ap (λ x. x * rowOf f .cells) (none n) ∙ zero-mul (rowOf f .cells) in
-    let o : Own (lineCells f) (λ l c. Fitted f (l .many) c) (planOf f count) cs = rw (z, drop-none cs) at (fitted-lines f p n 0 (linesOf f count) cs h) in
     emit-length (lineCells f) (lineText f) wide (planOf f count) cs
-    (own-imply (lineCells f) (λ l c. Fitted f (l .many) c) (λ l c. length (lineText f l c) ≡ wide l) (planOf f count) cs (line-length f) o)
+    (own-imply (lineCells f) (λ l c. Fitted f (l .many) c) (λ l c. length (lineText f l c) ≡ wide l) (planOf f count) cs (line-length f) (lines-own f count cs h))
     ∙ sum-more-each (λ (l : Line). l .many * rowOf f .width) 2 (planOf f count)
     ∙ omega (arith, plan-cells f count (rowOf f .width), ap (λ m. m * 2) (plan-length f count))
-  where
-    none : (n : ℕ) → min n 0 ≡ 0
-    none n = omega arith
 
 -- only the group's own cells matter
 pub lines-take : (f : Form) (count : ℕ) (cs : List ℤ) → linesText f count (take (cellsOf f count) cs) ≡ linesText f count cs

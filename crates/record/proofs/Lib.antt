@@ -1,8 +1,8 @@
 -- The laws of record's definitions, a file to a subject: when all cells fit (Fitting), and how long the texts are (Lengths); the two
 -- passes of writing (Checking, Putting), the letters of group 3 (Letters), each answer (Steps), what is promised of them (Promises), and when
 -- each is due (Misfits, Due); a canonical group (CanonicalGroups), index (CanonicalIndex) and record (Canonical), and where it stands in a text
--- (Standing) with each group's own cells (GroupCells); that what is written is canonical (Written). What reply 0 says, of writing (Done) and
--- of reading a group (GroupRead). What was written reads back (ReadsBack); what reads fits (ReadFits), the counts of an index (IndexCounts),
+-- (Standing) with each group's own cells (GroupCells); that what is written is canonical (Written). What reply 0 of
+-- writing says (Done). What was written reads back (ReadsBack); what reads fits (ReadFits), the counts of an index (IndexCounts),
 -- and what was read is written again (ReadWrites). Record S (Instance) and the marked cases (Cases).
 pub mod Fitting
 pub mod Lengths
@@ -20,7 +20,6 @@ pub mod GroupCells
 pub mod Standing
 pub mod Written
 pub mod Done
-pub mod GroupRead
 pub mod ReadsBack
 pub mod ReadFits
 pub mod IndexCounts

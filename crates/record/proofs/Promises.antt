@@ -50,7 +50,7 @@ module _ (ns : List ℕ) (cs : List ℤ) (old : List ℕ) (n : ℕ) (d : writing
   long : length (recordText ns cs) ≡ n
   long =
       let i = done-is ns cs (length old) n d in
-      record-length ns cs (i .checked .many) (i .fit) ∙ sym (i .bytes)
+      record-length ns cs (i .checked .rules .released .counts .many) (i .fit) ∙ sym (i .bytes)
 
   pub done-write-begins : take n (outputBy ns cs (Done n) old) ≡ recordText ns cs
   done-write-begins = rw (zero-add (length (recordText ns cs))) (take-at (recordText ns cs) (drop (length (recordText ns cs)) old) n long)

@@ -34,13 +34,14 @@ use Rattle.record.specs.declared.Writing.the-variants.{Done}
 use Rattle.record.specs.Canonical.{CanonicalGroup, CanonicalRecord}
 use Rattle.record.specs.Fitting.{groupFit, fitOf}
 use Rattle.record.specs.RoundTrip.{groupCells, ReadWhole, joined, WritesAgain}
+use Rattle.count.proofs.Due.{has-cells}
 use Rattle.record.specs.Text.{recordText, recordBytes}
 use Rattle.record.specs.Writing.{writingOf, outputBy}
 use Rattle.record.proofs.Canonical.{group-read, canonical-text, canonical-cells}
 use Rattle.record.proofs.Done.{is-done}
 use Rattle.record.proofs.Fitting.{own-groups}
 use Rattle.record.proofs.GroupCells.{group-among, cells-joined}
-use Rattle.record.proofs.GroupRead.{GroupReads, group-reads}
+use Rattle.reading.proofs.GroupRead.{GroupReads, group-reads}
 use Rattle.record.proofs.IndexCounts.{index-many, index-small}
 use Rattle.record.proofs.Lengths.{record-length}
 use Rattle.record.proofs.ReadFits.{group-fit}
@@ -70,7 +71,7 @@ module _ {s : List ℕ} {at n : ℕ} {cells : ℕ → List ℤ} (r : ReadWhole s
 
   reads : (g : ℕ) → 1 ≤ g → g ≤ 60 → GroupReads ns g (groupPart s at ns g) (r .room g) (cells g)
   reads g low high =
-      group-reads ns g (groupPart s at ns g) (r .room g) (cells g) (placed .kept)
+      group-reads ns g (groupPart s at ns g) (r .room g) (cells g)
       (sym (read-located s at n ns g (r .room g) low high (placed .located-at)) ∙ r .groups g low high)
 
   -- the groups with their cells, as pieces
@@ -109,13 +110,7 @@ module _ {s : List ℕ} {at n : ℕ} {cells : ℕ → List ℤ} (r : ReadWhole s
   read-writes room enough =
       let told = reads 3 (omega arith) (omega arith) .date refl in
       is-done ns (joined cells) room (recordBytes ns) record {
-        checked = record {
-          many = index-many (drop at s) ns (here .index);
-          small = index-small (drop at s) ns (here .index);
-          release = here .release;
-          kept = placed .kept;
-          needed = joined-cells;
-        };
+        checked = has-cells ns (length (joined cells)) (index-many (drop at s) ns (here .index)) (index-small (drop at s) ns (here .index)) (here .release) (placed .kept) joined-cells;
         fit = joined-fit;
         date = told .date;
         right = ap (λ c. datedOf (map sizeOf c)) (joined-group 3 (omega arith) (omega arith)) ∙ told .right;

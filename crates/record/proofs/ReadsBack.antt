@@ -19,7 +19,9 @@ use Rattle.count.specs.Tally.{countOf, cellsBy, cellsIn}
 use Rattle.count.specs.Rules.{releaseOf, rulingOf}
 use Rattle.count.specs.declared.Release.the-variants.{Five}
 use Rattle.count.specs.declared.Ruling.the-variants.{Kept}
-use Rattle.count.proofs.Tallied.{has-form}
+use Rattle.form.proofs.Table.{has-form}
+use Rattle.count.specs.Due.{Released}
+use Rattle.count.proofs.Due.{counts-small, released}
 use Rattle.place.specs.Placing
 use Rattle.place.specs.Placing.{located, locate, placingBy, countsBy}
 use Rattle.place.specs.Parts.{groupPart}
@@ -33,7 +35,7 @@ use Rattle.record.specs.Text.{recordText, recordBytes}
 use Rattle.record.specs.Writing.{dateLetters, writingOf, outputBy}
 use Rattle.record.proofs.Canonical.{group-read}
 use Rattle.record.proofs.Done.{IsDone, done-is}
-use Rattle.record.proofs.GroupRead.{TellsDate, GroupReads, reads-group}
+use Rattle.reading.proofs.GroupRead.{TellsDate, GroupReads, reads-group}
 use Rattle.record.proofs.Lengths.{record-length}
 use Rattle.record.proofs.Standing.{standing-located, standing-group}
 use Rattle.record.proofs.Written.{written-canonical}
@@ -78,16 +80,19 @@ module _ (ns : List ℕ) (cs : List ℤ) (room n : ℕ) (e : writingOf ns cs roo
   d : IsDone ns cs room n
   d = done-is ns cs room n e
 
+  has : Released ns Five
+  has = d .checked .rules .released
+
   pub done-canonical : CanonicalRecord ns (recordText ns cs) cs
-  done-canonical = written-canonical ns cs (d .checked .many) (d .checked .small) (d .checked .needed) (d .fit)
+  done-canonical = written-canonical ns cs (has .counts .many) (counts-small ns (has .counts)) (d .checked .needed) (d .fit)
 
   pub done-bytes : length (recordText ns cs) ≡ n
-  done-bytes = record-length ns cs (d .checked .many) (d .fit) ∙ sym (d .bytes)
+  done-bytes = record-length ns cs (has .counts .many) (d .fit) ∙ sym (d .bytes)
 
   pub reads-back : (a b : List ℕ) → ReadsBack ns cs n (a ++ (recordText ns cs ++ b)) (length a)
   reads-back a b =
       subst (λ m. ReadsBack ns cs m (a ++ (recordText ns cs ++ b)) (length a)) done-bytes
-      (canonical-back done-canonical (d .checked .release) (d .checked .kept) record { date = d .date; right = d .right } a b)
+      (canonical-back done-canonical (released ns Five has) (d .checked .rules .kept) record { date = d .date; right = d .right } a b)
 
   -- the same of the output: wherever its first n bytes stand
   pub output-bytes : (old : List ℕ) → take n (outputBy ns cs (Done n) old) ≡ recordText ns cs

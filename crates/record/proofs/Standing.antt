@@ -12,6 +12,7 @@ use Rattle.base.specs.Every.{upFrom}
 use Rattle.base.specs.Sum
 use Rattle.base.specs.Sum.{sum}
 use Rattle.base.proofs.Mapped.{map-take}
+use Rattle.line.proofs.Pieces.{each-whole}
 use Rattle.line.specs.Lines.{feeds, Whole}
 use Rattle.line.proofs.Feeds.{feeds-le}
 use Rattle.line.proofs.Whole.{whole-append, reach-whole, lines-whole, behind-whole, feeds-whole}
@@ -26,7 +27,6 @@ use Rattle.place.specs.Parts.{groupPart}
 use Rattle.place.proofs.Placed.{is-located}
 use Rattle.place.proofs.Tiling.{part-lines}
 use Rattle.record.specs.Canonical.{CanonicalGroup, CanonicalRecord}
-use Rattle.record.proofs.CanonicalGroups.{each-whole}
 use Rattle.record.proofs.CanonicalIndex.{index-whole, index-read}
 use Rattle.record.specs.RoundTrip.{groupCells}
 use Rattle.record.proofs.GroupCells.{GroupAmong, group-among}

@@ -23,7 +23,7 @@ use Rattle.record.specs.declared.Writing.the-variants.{Done, NoField, Ba
 use Rattle.record.specs.Fitting.{fitOf}
 use Rattle.record.specs.Text.{indexText, groupsText, recordText, recordBytes}
 use Rattle.record.specs.Writing.{dateLetters, writeRoom, writeFit, writeChecked, writingOf, outputBy}
-use Rattle.record.proofs.Done.{checked-is}
+use Rattle.count.proofs.Due as Counts
 use Rattle.record.proofs.Lengths.{index-length, record-length}
 
 -- what an answer and an output at exit owe to what writing answers
@@ -36,12 +36,15 @@ module _ (ns : List ℕ) (cs : List ℤ) (old : List ℕ) where
   pub right-full : length old < recordBytes ns → Answers ns cs old (writeRoom ns (length old)) NoRoom old
   right-full h = (rw (lt-leb (recordBytes ns) (length old) h), refl)
 
+  pub right-done : (new : List ℕ) → recordBytes ns ≤ length old → new ≡ over 0 (recordText ns cs) old → Answers ns cs old (writeRoom ns (length old)) (Done (recordBytes ns)) new
+  right-done new room p = (rw (le-leb (recordBytes ns) (length old) room), p)
+
   module _ (c : checkedOf ns (length cs) ≡ C.Right) where
     pub all-needed : length cs ≡ cellsBefore ns 61
-    all-needed = checked-is ns (length cs) c .needed ∙ sym (all-cells ns)
+    all-needed = Counts.first-due ns (length cs) C.Right .0 c .needed ∙ sym (all-cells ns)
 
     pub all-there : length ns ≡ 80
-    all-there = checked-is ns (length cs) c .many
+    all-there = Counts.first-due ns (length cs) C.Right .0 c .rules .released .counts .many
 
     module _ (fit : fitOf ns cs ≡ All) (room : recordBytes ns ≤ length old) where
       whole : 244 + length (groupsText ns cs) ≡ recordBytes ns
@@ -54,10 +57,9 @@ module _ (ns : List ℕ) (cs : List ℤ) (old : List ℕ) where
       pub groups-room : 244 + length (groupsText ns cs) ≤ length old
       groups-room = omega (arith, whole)
 
-      pub right-done : (mid new : List ℕ) → mid ≡ over 0 (indexText ns) old → new ≡ over 244 (groupsText ns cs) mid → Answers ns cs old (writeRoom ns (length old)) (Done (recordBytes ns)) new
+      pub index-groups : (mid new : List ℕ) → mid ≡ over 0 (indexText ns) old → new ≡ over 244 (groupsText ns cs) mid → new ≡ over 0 (recordText ns cs) old
       unfolding recordText
-      right-done mid new p q =
-          (rw (le-leb (recordBytes ns) (length old) room), over-then old mid new (indexText ns) (groupsText ns cs) 0 244 (omega (arith, index-length ns all-there)) index-room p q)
+      index-groups mid new p q = over-then old mid new (indexText ns) (groupsText ns cs) 0 244 (omega (arith, index-length ns all-there)) index-room p q
 
   -- ---- 13, 10
 

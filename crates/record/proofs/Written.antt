@@ -3,42 +3,40 @@
 use mathlib.Core.Path.{_≡_, refl, sym, _∙_}
 use mathlib.Core.Bool.{_&&_}
 use mathlib.Core.List.{List, [], _∷_, _++_, map}
-use Prim.Native.Nat.{ℕ, _*_, min}
-use native.Mathlib.Nat.{zero-mul, zero-add}
+use Prim.Native.Nat.{ℕ}
+use native.Mathlib.Nat.{zero-add}
 use native.Mathlib.Omega.{arith}
 use lib.Dec.{T, leb, leb→le}
 use lib.IntN.{ℤ}
 use lib.ListN.{length, take, drop}
 use Rattle.base.specs.Every
 use Rattle.base.specs.Every.{every, upFrom}
-use Rattle.base.specs.Pieces.{Own, Each, none, more}
+use Rattle.base.specs.Pieces.{Each, none, more}
 use Rattle.base.specs.Sum
 use Rattle.base.specs.Sum.{sum}
 use Rattle.base.proofs.Choice.{and-left, and-right}
 use Rattle.base.proofs.Each.{each-imply, each-passed, own-each}
 use Rattle.base.proofs.Every.{every-take, every-drop}
-use Rattle.base.proofs.Taken.{drop-none}
 use Rattle.base.proofs.UpFrom.{sum-up-same}
 use Rattle.form.specs.declared.Form.{Form}
 use Rattle.form.specs.declared.GroupForm.{GroupForm}
 use Rattle.form.specs.declared.GroupForm.the-variants.{Has, NoGroup}
 use Rattle.form.specs.Table.{rowOf, formOf}
 use Rattle.form.specs.Count
-use Rattle.form.specs.Count.{elementsOf, linesOf, cellsOf}
+use Rattle.form.specs.Count.{elementsOf, cellsOf}
 use Rattle.field.specs.Entry.{entryText}
 use Rattle.field.specs.Write.{fitsOf, fieldText}
 use Rattle.field.proofs.Entries.{entry-canonical}
 use Rattle.field.proofs.Laws.{lawful}
 use Rattle.count.specs.Tally
 use Rattle.count.specs.Tally.{countOf, cellsBy, cellsIn, recordCells}
-use Rattle.count.proofs.Tallied.{has-form}
-use Rattle.reading.specs.Plan
+use Rattle.form.proofs.Table.{has-form}
 use Rattle.reading.specs.Plan.{Line, planOf, elementsIn}
 use Rattle.record.specs.declared.Fit.the-variants.{All}
 use Rattle.record.specs.Text.{lineEnd, entriesText, indexText, lineCells, fieldsText, lineText, linesText, groupTextBy, groupText, groupsText, recordText}
 use Rattle.record.specs.Fitting.{Fitted, groupFitBy, groupFit, fitOf}
 use Rattle.record.specs.Canonical.{EntryOf, CanonicalIndexLine, CanonicalLine, CanonicalLines, CanonicalGroupBy, CanonicalGroup, CanonicalRecord}
-use Rattle.record.proofs.Fitting.{elements-fitted, fitted-own, fitted-lines, groups-own}
+use Rattle.record.proofs.Fitting.{elements-fitted, fitted-own, lines-own, groups-own}
 use Rattle.record.proofs.Lengths.{plan-cells}
 
 -- ---- the index
@@ -67,18 +65,10 @@ module _ (f : Form) where
 
   -- ---- a group
 
-  lines-own : (count : ℕ) (cs : List ℤ) → Fitted f (elementsOf f count) cs → Own (lineCells f) (λ l c. Fitted f (l .many) c) (planOf f count) cs
-  unfolding Plan.planOf
-  lines-own count cs h =
-      let p = rowOf f .«per_line» in
-      let n = elementsOf f count in
-      let z : min n (0 * p) ≡ 0 = omega (arith, zero-mul p) in
-      rw (z, zero-mul (rowOf f .cells), drop-none cs) at (fitted-lines f p n 0 (linesOf f count) cs h)
-
   lines-canonical : (count : ℕ) (cs : List ℤ) → length cs ≡ cellsOf f count → Fitted f (elementsOf f count) cs → CanonicalLines f count (linesText f count cs) cs
   unfolding linesText Count.cellsOf
   lines-canonical count cs n h =
-      own-each (lineCells f) (lineText f) (λ l c. Fitted f (l .many) c) line-canonical (planOf f count) cs (n ∙ sym (plan-cells f count (rowOf f .cells))) (lines-own count cs h)
+      own-each (lineCells f) (lineText f) (λ l c. Fitted f (l .many) c) line-canonical (planOf f count) cs (n ∙ sym (plan-cells f count (rowOf f .cells))) (lines-own f count cs h)
 
 by-canonical : (h : GroupForm) (g count : ℕ) (c : List ℤ) → (h ≡ NoGroup → ⊥) → length c ≡ cellsBy h count → groupFitBy h g count c ≡ All → CanonicalGroupBy h count (groupTextBy h count c) c
 by-canonical (Has f) g count c some n e = lines-canonical f count c n (elements-fitted f g count c e)

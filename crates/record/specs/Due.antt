@@ -4,15 +4,16 @@ use mathlib.Core.Path.{_≡_}
 use mathlib.Core.List.{List}
 use Prim.Native.Nat.{ℕ, _+_, _-_, _*_, _<_, _≤_}
 use lib.IntN.{ℤ}
-use lib.ListN.{length, getD, take, drop}
+use lib.ListN.{length, take, drop}
 use Rattle.form.specs.declared.Form.{Form}
 use Rattle.form.specs.declared.GroupForm.the-variants.{Has}
 use Rattle.form.specs.Table.{rowOf, formOf}
 use Rattle.form.specs.Count.{elementsOf}
 use Rattle.field.specs.Read.{Reads}
-use Rattle.count.specs.Tally.{countOf, cellsBefore, recordCells}
-use Rattle.count.specs.Rules.{rulingOf}
-use Rattle.count.specs.declared.Ruling.the-variants.{Kept, Broken}
+use Rattle.count.specs.Tally.{countOf, cellsBefore}
+use Rattle.count.specs.Due as Counts
+use Rattle.count.specs.Due.{HasCells}
+use Rattle.count.specs.declared.Checked.the-variants as C
 use Rattle.date.specs.Date.{datedOf}
 use Rattle.date.specs.declared.Date.{Date}
 use Rattle.date.specs.declared.Dated.the-variants.{Right, Wrong}
@@ -41,30 +42,9 @@ module _ (ns : List ℕ) (cs : List ℤ) where
   abbrev pub elementCells : ℕ → ℕ → Form → List ℤ
   elementCells g e f = take (rowOf f .cells) (drop (cellsBefore ns g + (e - 1) * rowOf f .cells) cs)
 
-  -- not 4: 80 counts, each 0 to 999
-  pub record HasCounts : Type 0 where
-    pub many : length ns ≡ 80
-    pub small : (i : ℕ) → i < 80 → getD ns i 0 ≤ 999
-
-  -- nor 5 and 6: the release is 5, and no vacant group has a count
-  pub record HasRelease : Type 0 where
-    pub counts : HasCounts
-    pub five : countOf ns 80 ≡ 5
-    pub vacant : (g : ℕ) → 61 ≤ g → g ≤ 79 → countOf ns g ≡ 0
-
-  -- nor 7
-  pub record HasRules : Type 0 where
-    pub release : HasRelease
-    pub kept : rulingOf ns ≡ Kept
-
-  -- nor 14: the table is as long as the counts need
-  pub record HasCells : Type 0 where
-    pub rules : HasRules
-    pub needed : length cs ≡ recordCells ns
-
-  -- nor 13: each element's cells have a field
+  -- none of 4, 5, 6, 7 and 14, by count's Due; nor 13: each element's cells have a field
   pub record HasFields : Type 0 where
-    pub table : HasCells
+    pub table : HasCells ns (length cs)
     pub each : (g e : ℕ) (f : Form) → Element g e f → HasField f (elementCells g e f)
 
   -- nor 10
@@ -73,33 +53,9 @@ module _ (ns : List ℕ) (cs : List ℤ) where
     pub date : Date
     pub right : datedOf (dateLetters ns cs) ≡ Right date
 
-  -- 5
-  pub record OtherFive : Type 0 where
-    pub counts : HasCounts
-    pub other : countOf ns 80 ≡ 5 → ⊥
-
-  -- 6: the lowest of 61 to 79 with a nonzero count
-  pub record LowestFilled (g : ℕ) : Type 0 where
-    pub counts : HasCounts
-    pub five : countOf ns 80 ≡ 5
-    pub low : 61 ≤ g
-    pub high : g ≤ 79
-    pub filled : countOf ns g ≡ 0 → ⊥
-    pub lowest : (h : ℕ) → 61 ≤ h → h < g → countOf ns h ≡ 0
-
-  -- 7
-  pub record Breaks (g : ℕ) : Type 0 where
-    pub release : HasRelease
-    pub broken : rulingOf ns ≡ Broken g
-
-  -- 14: "table's length differs from the cells that the counts need"
-  pub record Differs : Type 0 where
-    pub rules : HasRules
-    pub other : length cs ≡ recordCells ns → ⊥
-
   -- 13: this element's cells have no field; those of each in a lower group, and of each lower one in this group, have
   pub record LowestNone (g e : ℕ) : Type 0 where
-    pub table : HasCells
+    pub table : HasCells ns (length cs)
     pub form : Form
     pub element : Element g e form
     pub none : HasNone form (elementCells g e form)
@@ -122,11 +78,11 @@ module _ (ns : List ℕ) (cs : List ℤ) where
     pub bytes : n ≡ recordBytes ns
 
   abbrev pub Due : ℕ → Writing → Type 0
-  Due room Misformed = HasCounts → ⊥
-  Due room OtherRelease = OtherFive
-  Due room (FilledVacant g) = LowestFilled g
-  Due room (BrokenRule g) = Breaks g
-  Due room OtherLength = Differs
+  Due room Misformed = Counts.Due ns (length cs) C.Misformed
+  Due room OtherRelease = Counts.Due ns (length cs) C.OtherRelease
+  Due room (FilledVacant g) = Counts.Due ns (length cs) (C.FilledVacant g)
+  Due room (BrokenRule g) = Counts.Due ns (length cs) (C.BrokenRule g)
+  Due room OtherLength = Counts.Due ns (length cs) C.OtherLength
   Due room (NoField g e) = LowestNone g e
   Due room (BadDate p) = WrongDate p
   Due room NoRoom = Short room

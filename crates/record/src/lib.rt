@@ -16,7 +16,7 @@ ghost use Rattle.count.specs.Check.{checkedOf};
 ghost use Rattle.count.specs.Tally.{cellsBefore};
 ghost use Rattle.date.specs.Date.{datedOf};
 ghost use Rattle.record.specs.Fitting.{elementsFit, fitOf, Fitted};
-ghost use Rattle.record.specs.Text.{lineEnd, entriesText, indexText, lineOf, fieldsText, linesText, groupsText, bytesOf, recordBytes};
+ghost use Rattle.record.specs.Text.{lineEnd, entriesText, indexText, lineOf, fieldsText, linesText, groupsText, recordText, bytesOf, recordBytes};
 ghost use Rattle.record.specs.Writing.{dateLetters, writeFit, writeRoom, writingOf, outputBy, writingReply};
 
 // Whether each element's cells have a field of their form, or the group and the element of the first that has none.
@@ -273,6 +273,16 @@ fn put_groups(counts: &[u16], cells: &[i64], out: &mut [u8], at: usize)
 
 // ---- Writing a record.
 
+// The canonical text of counts and cells to the front of an output that has room for it. Nothing is checked: this is for cells that are known
+// to fit, as those that were read are.
+pub fn put_record(counts: &[u16], cells: &[i64], out: &mut [u8])
+    requires { ⌜ (checkedOf (now counts) (length (now cells)) ≡ Checked.Right) × (fitOf (now counts) (now cells) ≡ Fit.All) × (recordBytes (now counts) ≤ length (now out)) ⌝ }
+    ensures { λ _. ⌜ now (out .exit) ≡ over 0 (recordText (now (counts .entry)) (now (cells .entry))) (now (out .entry)) ⌝ }
+{
+    put_index(counts, out);
+    put_groups(counts, cells, out, 244);
+}
+
 // Counts and cells that are right in all but the room for their text: 11, and only then the output.
 fn write_right(counts: &[u16], cells: &[i64], out: &mut [u8]) -> Writing
     requires { ⌜ (checkedOf (now counts) (length (now cells)) ≡ Checked.Right) × (fitOf (now counts) (now cells) ≡ Fit.All) ⌝ }
@@ -282,8 +292,7 @@ fn write_right(counts: &[u16], cells: &[i64], out: &mut [u8]) -> Writing
     if out.len() < n {
         return Writing::NoRoom;
     }
-    put_index(counts, out);
-    put_groups(counts, cells, out, 244);
+    put_record(counts, cells, out);
     Writing::Done(n)
 }
 

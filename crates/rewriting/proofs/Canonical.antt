@@ -17,6 +17,8 @@ use Rattle.place.specs.Placing.{countsAt}
 use Rattle.record.specs.Canonical.{CanonicalRecord}
 use Rattle.record.specs.RoundTrip.{groupCells, ReadsBack, ReadWhole}
 use Rattle.record.specs.Text.{recordText, recordBytes}
+use Rattle.count.specs.declared.Release.the-variants.{Five}
+use Rattle.count.proofs.Due.{released}
 use Rattle.record.proofs.Done.{done-is}
 use Rattle.record.proofs.ReadsBack.{canonical-back, done-canonical}
 use Rattle.record.proofs.ReadWrites.{again-bytes, written-again}
@@ -94,8 +96,8 @@ text-right s at cells room bytes next e =
       ns = countsAt s at;
       cs = cellsAt s at;
       canonical = done-canonical (countsAt s at) (cellsAt s at) room bytes w;
-      release = d .checked .release;
-      rules = d .checked .kept;
+      release = released (countsAt s at) Five (d .checked .rules .released);
+      rules = d .checked .rules .kept;
       date = d .date;
       dated = d .right;
     }

@@ -34,7 +34,7 @@ use Rattle.reading.specs.declared.Refusal.{Refusal}
 use Rattle.reading.specs.declared.Reading.{Reading}
 use Rattle.reading.specs.declared.Reading.the-variants as R
 use Rattle.reading.specs.Read.{Cells, readGroup, readingOf, tableBy}
-use Rattle.record.proofs.GroupRead.{group-reads}
+use Rattle.reading.proofs.GroupRead.{group-reads}
 use Rattle.record.proofs.ReadsBack.{read-located}
 use Rattle.record.proofs.ReadWrites.{reads-cells}
 use Rattle.rewriting.specs.declared.Groups.the-variants.{All, Refused}
@@ -180,7 +180,7 @@ module _ (s : List ℕ) (at : ℕ) (old : List ℤ) where
           let n = countsAt s at in
           let u = turn-done (groupRead s at) g (upFrom (g + 1) (61 - (g + 1))) (q .is) in
           let range = turning-range in
-          let long : length cs ≡ cellsIn n g = reads-cells (group-reads n g (groupPart s at n g) (cellsIn n g) cs (placed .kept) (sym (read-located s at (ready .next) n g (cellsIn n g) (t .low) (omega arith) (placed .located-at)) ∙ q .is)) in
+          let long : length cs ≡ cellsIn n g = reads-cells (group-reads n g (groupPart s at n g) (cellsIn n g) cs (sym (read-located s at (ready .next) n g (cellsIn n g) (t .low) (omega arith) (placed .located-at)) ∙ q .is)) in
           let wide : length (part cell end table) ≡ length cs = ap (λ k. length (part cell k table)) end-is ∙ part-length table cell (cellsOf f (countOf n g)) (omega (arith, range .3, end-is)) ∙ sym cells-have ∙ sym long in
           let new-is : new ≡ over cell cs table = b ∙ ap (λ c. over cell (tableBy c (part cell end table)) table) (turning-read ∙ q .is) ∙ ap (λ xs. over cell xs table) (over-all (part cell end table) cs (sym wide)) in
           let at-end : end ≡ cell + length cs = end-is ∙ ap (λ k. cell + k) (sym cells-have ∙ sym long) in

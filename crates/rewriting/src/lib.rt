@@ -87,7 +87,7 @@ fn write_cells(counts: &[u16], table: &[i64], cells: usize, out: &mut [u8])
     requires { ⌜ (cells ≤ length (now table)) × (writingOf (now counts) (part 0 cells (now table)) (length (now out)) ≡ Writing.Done (recordBytes (now counts))) ⌝ }
     ensures { λ _. ⌜ now (out .exit) ≡ over 0 (recordText (now (counts .entry)) (part 0 cells (now (table .entry)))) (now (out .entry)) ⌝ }
 {
-    record::write_record(counts, &table[0..cells], out);
+    record::put_record(counts, &table[0..cells], out);
 }
 
 // Rewrites the record at a place of a text into a buffer, over a table: any placing reply but 0; 11 if its canonical text is longer than the

@@ -8,7 +8,8 @@ use Rattle.form.specs.Table.{formOf}
 use Rattle.form.specs.declared.GroupForm.the-variants.{Has}
 use Rattle.form.proofs.Counted.{lines-few, cells-few}
 use Rattle.count.specs.Tally.{countOf, Before}
-use Rattle.count.proofs.Tallied.{before-none, before-groups, before-end, before-more, has-form}
+use Rattle.form.proofs.Table.{has-form}
+use Rattle.count.proofs.Tallied.{before-none, before-groups, before-end, before-more}
 use Rattle.count.proofs.add_up.Statement.{statement}
 use Rattle.count.proofs.add_up.Tie as tie
 

@@ -2,7 +2,7 @@
 -- Assumes nothing.
 use borrow.Author.Needs.{needs}
 use native.Mathlib.Omega.{arith}
-use mathlib.Core.Path.{_≡_, refl, sym, _∙_, ap}
+use mathlib.Core.Path.{sym}
 use Rattle.count.proofs.Tallied.{count-at, count-beyond}
 use Rattle.count.proofs.count_of.Statement.{statement}
 use Rattle.count.proofs.count_of.Tie as tie

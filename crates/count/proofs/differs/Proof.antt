@@ -1,6 +1,5 @@
 -- `count::differs` meets its contract by cases.
 -- Assumes nothing.
-use mathlib.Core.Path.{_≡_, refl, sym, _∙_, ap}
 use borrow.Author.Tests.{eq-eqb, ne-eqb}
 use Rattle.count.proofs.differs.Statement.{statement}
 use Rattle.count.proofs.differs.Tie as tie

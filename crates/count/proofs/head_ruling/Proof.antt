@@ -2,7 +2,7 @@
 -- Assumes nothing.
 use borrow.Author.Needs.{needs}
 use mathlib.Core.Path.{_∙_}
-use Rattle.count.specs.Rules.{one, rule, lowest, headRules}
+use Rattle.count.specs.Rules.{lowest, headRules}
 use Rattle.count.proofs.Rulings.{lower-kept}
 use Rattle.count.proofs.head_ruling.Statement.{statement}
 use Rattle.count.proofs.head_ruling.Tie as tie

@@ -5,8 +5,7 @@ use native.Mathlib.Omega.{arith}
 use mathlib.Core.Path.{_≡_, sym, _∙_}
 use Prim.Native.Nat.{_-_, suc}
 use borrow.Author.Tests.{eq-eqb, ne-eqb}
-use Rattle.count.specs.Tally.{countOf}
-use Rattle.count.specs.Rules.{differ, settle, keeps}
+use Rattle.count.specs.Rules.{keeps}
 use Rattle.count.proofs.Sets.{Seen, endsSeen, seen-start, seen-differs, seen-more, seen-end}
 use Rattle.count.proofs.kept_by.Statement.{statement}
 use Rattle.count.proofs.kept_by.Tie as tie

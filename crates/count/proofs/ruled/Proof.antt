@@ -1,6 +1,5 @@
 -- `count::ruled` meets its contract by cases.
 -- Assumes nothing.
-use mathlib.Core.Path.{_≡_, refl, sym, _∙_, ap}
 use Rattle.count.proofs.ruled.Statement.{statement}
 use Rattle.count.proofs.ruled.Tie as tie
 

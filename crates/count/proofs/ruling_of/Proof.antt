@@ -1,7 +1,7 @@
 -- `count::ruling_of` meets its contract: the lowest of three lists of rules is the lowest of them all.
 -- Assumes nothing.
 use borrow.Author.Needs.{needs}
-use mathlib.Core.Path.{sym, _∙_}
+use mathlib.Core.Path.{_∙_}
 use mathlib.Core.List.{map, _++_}
 use Rattle.count.specs.Rules.{headRules, letterRules, setRule, sets, rulingOf}
 use Rattle.count.proofs.Rulings.{lowest-append}

@@ -1,6 +1,5 @@
 -- `count::zero_or` meets its contract by cases.
 -- Assumes nothing.
-use mathlib.Core.Path.{_≡_, refl, sym, _∙_, ap}
 use borrow.Author.Tests.{eq-eqb, ne-eqb}
 use Rattle.count.proofs.zero_or.Statement.{statement}
 use Rattle.count.proofs.zero_or.Tie as tie

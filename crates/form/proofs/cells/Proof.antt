@@ -4,7 +4,7 @@ use Prim.Native.Nat.{_≤_}
 use native.Mathlib.Nat.{mul-le-mul}
 use native.Mathlib.Omega.{arith}
 use borrow.Author.Needs.{needs}
-use Rattle.form.specs.Count.{elementsOf, cellsOf}
+use Rattle.form.specs.Count.{cellsOf}
 use Rattle.form.proofs.Rows.{fits-by, elements-few}
 use Rattle.form.proofs.cells.Statement.{statement}
 use Rattle.form.proofs.cells.Tie as tie

@@ -2,8 +2,7 @@
 -- Assumes nothing.
 use borrow.Author.Needs.{needs}
 use native.Mathlib.Omega.{arith}
-use mathlib.Core.Path.{_≡_, refl, sym, _∙_, ap, subst}
-use mathlib.Core.List.{_++_}
+use mathlib.Core.Path.{_≡_, refl, sym, _∙_}
 use Prim.Native.Nat.{_≤_}
 use borrow.Author.Tests.{not-true, not-false}
 use lib.ListN.{length, replicate}
@@ -12,7 +11,6 @@ use Rattle.line.specs.Places.{behindAt}
 use Rattle.line.specs.declared.Behind.the-variants.{At}
 use Rattle.line.proofs.Places.{at-range}
 use Rattle.place.specs.Index.{readIndexLine}
-use Rattle.place.specs.Placing.{Answers, locateFrom}
 use Rattle.place.proofs.Entries.{stored-none, StoredCounts, stored-counts, line-length, both-stored}
 use Rattle.place.proofs.Steps.{locate-beyond, locate-end, refuses, first-few, second-few, first-misformed, second-misformed, with-index, answers-at}
 use Rattle.place.proofs.place.Statement.{statement}

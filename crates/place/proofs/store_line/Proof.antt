@@ -2,11 +2,10 @@
 -- Assumes nothing.
 use borrow.Author.Needs.{needs}
 use native.Mathlib.Omega.{arith}
-use mathlib.Core.Path.{_≡_, refl, sym, _∙_, ap}
+use mathlib.Core.Path.{_≡_, refl, sym, _∙_}
 use Prim.Native.Nat.{_+_, _-_}
 use lib.ListN.{length, length-take}
 use Rattle.line.proofs.Contents.{content-two}
-use Rattle.place.specs.Index.{Stored}
 use Rattle.place.proofs.Steps.{line-no-return, line-other-length, line-entries}
 use Rattle.place.proofs.store_line.Statement.{statement}
 use Rattle.place.proofs.store_line.Tie as tie

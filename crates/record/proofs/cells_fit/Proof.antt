@@ -6,7 +6,7 @@ use mathlib.Core.Path.{_≡_, sym, _∙_}
 use Prim.Native.Nat.{_-_}
 use Rattle.form.specs.declared.GroupForm.the-variants.{Has}
 use Rattle.form.specs.Table.{formOf}
-use Rattle.count.proofs.Tallied.{has-form}
+use Rattle.form.proofs.Table.{has-form}
 use Rattle.record.proofs.Checking.{Groups, groups-start, groups-end, group-range, groups-more, groups-bad}
 use Rattle.record.proofs.cells_fit.Statement.{statement}
 use Rattle.record.proofs.cells_fit.Tie as tie

@@ -6,7 +6,7 @@ use mathlib.Core.Path.{_≡_, sym, _∙_}
 use Prim.Native.Nat.{_-_}
 use Rattle.form.specs.declared.GroupForm.the-variants.{Has}
 use Rattle.form.specs.Table.{formOf}
-use Rattle.count.proofs.Tallied.{has-form}
+use Rattle.form.proofs.Table.{has-form}
 use Rattle.record.proofs.Putting.{GroupsPut, groups-put-start, groups-put-end, group-requires, groups-put-next}
 use Rattle.record.proofs.put_groups.Statement.{statement}
 use Rattle.record.proofs.put_groups.Tie as tie

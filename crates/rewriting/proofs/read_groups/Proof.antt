@@ -10,7 +10,7 @@ use Rattle.form.specs.Table.{formOf}
 use Rattle.form.specs.Count.{linesOf, cellsOf}
 use Rattle.line.specs.Lines.{reach}
 use Rattle.count.specs.Tally.{countOf}
-use Rattle.count.proofs.Tallied.{has-form}
+use Rattle.form.proofs.Table.{has-form}
 use Rattle.rewriting.proofs.Turns.{Turning, turning-first, turning-all, turning-range, turning-refused, turning-more}
 use Rattle.rewriting.proofs.read_groups.Statement.{statement}
 use Rattle.rewriting.proofs.read_groups.Tie as tie

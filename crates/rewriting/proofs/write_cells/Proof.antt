@@ -1,40 +1,45 @@
--- `rewriting::write_cells` meets its contract: writing answers 0, and so the output begins with the text.
+-- `rewriting::write_cells` meets its contract: writing would answer 0, and so its text is put.
 -- Assumes nothing.
 use borrow.Author.Needs.{needs}
-use mathlib.Core.Path.{_∙_, ap}
+use lib.ListN.{length}
 use Rattle.base.specs.Part.{part}
-use Rattle.record.specs.Writing.{outputBy}
+use Rattle.count.specs.declared.Checked.the-variants.{Right}
+use Rattle.count.proofs.Due.{first-due}
+use Rattle.record.specs.Text.{recordBytes}
+use Rattle.record.proofs.Done.{done-is}
 use Rattle.rewriting.proofs.write_cells.Statement.{statement}
 use Rattle.rewriting.proofs.write_cells.Tie as tie
 
-sub-write-record : tie.Need-sub-write-record
-sub-write-record c = search needs
+sub-put-record : tie.Need-sub-put-record
+sub-put-record c = search needs
 
-part-write-record-start : tie.Need-part-write-record-start
-part-write-record-start c = search needs
+part-put-record-start : tie.Need-part-put-record-start
+part-put-record-start c = search needs
 
-part-write-record-end : tie.Need-part-write-record-end
-part-write-record-end c = search needs
+part-put-record-end : tie.Need-part-put-record-end
+part-put-record-end c = search needs
 
-write-record-requires : tie.Need-write-record-requires
-write-record-requires c κs = search needs
+put-record-requires : tie.Need-put-record-requires
+put-record-requires c κs =
+    let o = c .before .before .before .before in
+    let ns = o .args .counts .now in
+    let cs = part 0 (o .args .cells) (o .args .table .now) in
+    let d = done-is ns cs (length (o .args .out .now)) (recordBytes ns) (o .pre .1) in
+    (first-due ns (length cs) Right .1 (d .checked), d .fit, d .enough)
 
 same-length : tie.Need-same-length
 same-length c = search needs
 
 returns : tie.Need-returns
-returns c =
-    let o = c .before .before .before .before .before .before .before in
-    let w = c .before .before .write-record in
-    w .ensures .1 ∙ ap (λ r. outputBy (o .args .counts .now) (part 0 (o .args .cells) (o .args .table .now)) r (o .args .out .now)) (w .ensures .0 ∙ o .pre .1)
+returns c = search needs
 
 pub write-cells-spec : {M : Type 1} → statement M
 write-cells-spec =
     tie.close
     (tie.spec
-    sub-write-record
-    part-write-record-start
-    part-write-record-end
-    write-record-requires
+    sub-put-record
+    part-put-record-start
+    part-put-record-end
+    put-record-requires
     same-length
     returns)

@@ -1,0 +1,73 @@
+-- When each answer about counts is due: its condition in 01's table, and none earlier in the order 4, 5, 6, 7, 14.
+use mathlib.Core.Path.{_≡_}
+use mathlib.Core.List.{List}
+use Prim.Native.Nat.{ℕ, _<_, _≤_}
+use lib.ListN.{length, getD}
+use Rattle.count.specs.Tally.{countOf, recordCells}
+use Rattle.count.specs.Rules.{rulingOf}
+use Rattle.count.specs.declared.Release.{Release}
+use Rattle.count.specs.declared.Release.the-variants.{Five, Other, Filled}
+use Rattle.count.specs.declared.Ruling.the-variants.{Kept, Broken}
+use Rattle.count.specs.declared.Checked.{Checked}
+use Rattle.count.specs.declared.Checked.the-variants.{Right, Misformed, OtherRelease, FilledVacant, BrokenRule, OtherLength}
+
+module _ (ns : List ℕ) where
+  -- ---- the release: 5 and 6
+
+  -- neither: the release is 5, and no vacant group has a count
+  pub record ReleaseFive : Type 0 where
+    pub five : countOf ns 80 ≡ 5
+    pub vacant : (g : ℕ) → 61 ≤ g → g ≤ 79 → countOf ns g ≡ 0
+
+  -- 6: the lowest of 61 to 79 with a nonzero count
+  pub record LowestFilled (g : ℕ) : Type 0 where
+    pub five : countOf ns 80 ≡ 5
+    pub low : 61 ≤ g
+    pub high : g ≤ 79
+    pub filled : countOf ns g ≡ 0 → ⊥
+    pub lowest : (h : ℕ) → 61 ≤ h → h < g → countOf ns h ≡ 0
+
+  abbrev pub ReleaseDue : Release → Type 0
+  ReleaseDue Five = ReleaseFive
+  ReleaseDue Other = countOf ns 80 ≡ 5 → ⊥
+  ReleaseDue (Filled g) = LowestFilled g
+
+  -- ---- the whole check
+
+  -- not 4: 80 counts, each 0 to 999
+  pub record HasCounts : Type 0 where
+    pub many : length ns ≡ 80
+    pub small : (i : ℕ) → i < 80 → getD ns i 0 ≤ 999
+
+  -- not 4, and what is said of the release
+  pub record Released (r : Release) : Type 0 where
+    pub counts : HasCounts
+    pub release : ReleaseDue r
+
+  -- none of 4, 5 and 6; and 7
+  pub record Breaks (g : ℕ) : Type 0 where
+    pub released : Released Five
+    pub broken : rulingOf ns ≡ Broken g
+
+  -- nor 7
+  pub record HasRules : Type 0 where
+    pub released : Released Five
+    pub kept : rulingOf ns ≡ Kept
+
+  -- 14: "table's length differs from the cells that the counts need"
+  pub record Differs (cells : ℕ) : Type 0 where
+    pub rules : HasRules
+    pub other : cells ≡ recordCells ns → ⊥
+
+  -- none of them: the table is as long as the counts need
+  pub record HasCells (cells : ℕ) : Type 0 where
+    pub rules : HasRules
+    pub needed : cells ≡ recordCells ns
+
+  abbrev pub Due : ℕ → Checked → Type 0
+  Due cells Misformed = HasCounts → ⊥
+  Due cells OtherRelease = Released Other
+  Due cells (FilledVacant g) = Released (Filled g)
+  Due cells (BrokenRule g) = Breaks g
+  Due cells OtherLength = Differs cells
+  Due cells Right = HasCells cells

@@ -1,0 +1,61 @@
+-- What it says that a group reads with 0, as one record of facts, both ways: what is due (proofs/Due), with the lines as the definition has them.
+-- Assumes nothing.
+use mathlib.Core.Path.{_≡_}
+use mathlib.Core.List.{List, map}
+use Prim.Native.Nat.{ℕ, _≤_}
+use lib.IntN.{ℤ}
+use Rattle.base.specs.Pieces.{done}
+use Rattle.base.specs.Sign.{sizeOf}
+use Rattle.form.specs.declared.Form.{Form}
+use Rattle.form.specs.declared.GroupForm.the-variants.{Has}
+use Rattle.form.specs.Table.{formOf}
+use Rattle.form.specs.Count.{cellsOf}
+use Rattle.count.specs.Tally.{countOf}
+use Rattle.count.specs.Rules.{rulingOf}
+use Rattle.count.specs.declared.Ruling.the-variants.{Kept}
+use Rattle.date.specs.Date.{datedOf}
+use Rattle.date.specs.declared.Date.{Date}
+use Rattle.date.specs.declared.Dated.the-variants.{Right}
+use Rattle.reading.specs.Read.{readLines, readGroup}
+use Rattle.reading.proofs.Due.{lines-read, lines-clean, first-due}
+use Rattle.reading.proofs.Values.{read-values}
+
+-- letters tell a date
+pub record TellsDate (letters : List ℕ) : Type 0 where
+  pub date : Date
+  pub right : datedOf letters ≡ Right date
+
+-- the lines y of group g read as the cells c
+pub record GroupReads (ns : List ℕ) (g : ℕ) (y : List ℕ) (room : ℕ) (c : List ℤ) : Type 0 where
+  pub form : Form
+  pub has : formOf g ≡ Has form
+  pub enough : cellsOf form (countOf ns g) ≤ room
+  pub lines : readLines form (countOf ns g) y ≡ done c
+  pub date : g ≡ 3 → TellsDate (map sizeOf c)
+
+module _ (ns : List ℕ) (g : ℕ) (y : List ℕ) (room : ℕ) (c : List ℤ) where
+  pub reads-group : rulingOf ns ≡ Kept → GroupReads ns g y room c → readGroup ns g y room ≡ done c
+  reads-group kept r =
+      let f = r .form in
+      let n = countOf ns g in
+      first-due ns g y room (done c) .1 record {
+        cells = record {
+          f = f;
+          roomy = record { ruled = record { form = r .has; kept = kept }; enough = r .enough };
+          clean = lines-clean f n y c (r .lines);
+          values = read-values f n y c (r .lines);
+        };
+        date = λ three. (r .date three .date, r .date three .right);
+      }
+
+  pub group-reads : readGroup ns g y room ≡ done c → GroupReads ns g y room c
+  group-reads e =
+      let d = first-due ns g y room (done c) .0 e in
+      let h = d .cells in
+      record {
+        form = h .f;
+        has = h .roomy .ruled .form;
+        enough = h .roomy .enough;
+        lines = lines-read (h .f) (countOf ns g) y c (h .clean) (h .values);
+        date = λ three. record { date = d .date three .0; right = d .date three .1 };
+      }
