@@ -34,14 +34,14 @@ pub enum Checked {
 }
 
 // A set of groups whose nonzero counts are equal; where `ends` is true, its first and last are there if any is.
-pub struct Set {
+struct Set {
     pub first: usize,
     pub last: usize,
     pub ends: bool,
 }
 
 // "Trace sets .. and profile sets .."
-pub const SETS: [Set; 10] = [
+const SETS: [Set; 10] = [
     Set {
         first: 7,
         last: 11,

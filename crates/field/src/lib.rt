@@ -42,7 +42,7 @@ pub enum Entry {
 
 // What a form's field holds: a whole number or thousandths, from minus `low` to `high`; a number with an exponent; a letter, or a line of
 // letters.
-pub enum Kind {
+enum Kind {
     Whole {
         width: usize,
         low: u64,

@@ -31,7 +31,7 @@ pub struct Row {
 }
 
 // "Each field form has its width, its elements per line and its cells", in the order of the enum.
-pub const ROWS: [Row; 10] = [
+const ROWS: [Row; 10] = [
     Row {
         width: 7,
         per_line: 16,

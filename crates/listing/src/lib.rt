@@ -20,7 +20,7 @@ fn is_placed(number: usize) -> bool
 }
 
 // How many of the groups 1 to 60 have a nonzero count.
-pub fn filled_groups(counts: &[u16]) -> u64
+fn filled_groups(counts: &[u16]) -> u64
     ensures { λ r. ⌜ r ≡ filledGroups (now (counts .entry)) ⌝ }
 {
     let mut many: u64 = 0;
@@ -35,7 +35,7 @@ pub fn filled_groups(counts: &[u16]) -> u64
 }
 
 // The row of the record of this number at a place, from what placing answered there.
-pub fn record_row(number: usize, at: usize, answer: Placing, counts: &[u16]) -> [u64; 7]
+fn record_row(number: usize, at: usize, answer: Placing, counts: &[u16]) -> [u64; 7]
     ensures { λ r. ⌜ r ≡ recordRow number at answer (now (counts .entry)) ⌝ }
 {
     let r = place::reply_of(answer);
@@ -53,7 +53,7 @@ pub fn record_row(number: usize, at: usize, answer: Placing, counts: &[u16]) -> 
 }
 
 // The end row behind so many records, where the walk stopped at a place with this answer.
-pub fn end_row(records: usize, at: usize, answer: Placing) -> [u64; 4]
+fn end_row(records: usize, at: usize, answer: Placing) -> [u64; 4]
     ensures { λ r. ⌜ r ≡ endRow records at answer ⌝ }
 {
     let r = place::reply_of(answer);

@@ -13,7 +13,7 @@ ghost use Rattle.number.specs.Write.{lastOf, backOf, textOf, restOf, lea
 // ---- Reading: one pass over the columns.
 
 // What one byte of a number's columns is.
-pub enum Byte {
+enum Byte {
     Blank,
     Minus,
     Digit(u64),

@@ -55,7 +55,7 @@ pub enum Reading {
 }
 
 // Whether the lines of a group are clean, or the first thing that is not.
-pub enum Verdict {
+enum Verdict {
     Clean,
     Bad(Refusal),
 }

@@ -20,7 +20,7 @@ ghost use Rattle.record.specs.Text.{lineEnd, entriesText, indexText, lin
 ghost use Rattle.record.specs.Writing.{dateLetters, writeFit, writeRoom, writingOf, outputBy, writingReply};
 
 // Whether each element's cells have a field of their form, or the group and the element of the first that has none.
-pub enum Fit {
+enum Fit {
     All,
     Not(usize, usize),
 }

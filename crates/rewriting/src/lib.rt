@@ -26,7 +26,7 @@ pub enum Rewriting {
 }
 
 // Whether all groups of a record were read, or the first that was refused.
-pub enum Groups {
+enum Groups {
     All,
     Refused(usize, Refusal),
 }
