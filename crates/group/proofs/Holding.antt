@@ -15,6 +15,8 @@ use Rattle.form.specs.declared.GroupForm.the-variants.{Has, NoGroup as NoForm}
 use Rattle.form.specs.Table.{formOf}
 use Rattle.line.specs.Lines.{Whole}
 use Rattle.count.specs.Tally.{lineTally}
+use Rattle.count.specs.Rules.{rulingOf}
+use Rattle.count.specs.declared.Ruling.the-variants.{Kept}
 use Rattle.reply.specs.Table.{Numbered}
 use Rattle.reply.proofs.Replies.{numbered-plain}
 use Rattle.place.specs.declared.Placing.{Placing}
@@ -93,6 +95,9 @@ module _ (s : List ℕ) (at g : ℕ) where
 
     pub held-counts : ns ≡ countsAt s at
     held-counts = c ∙ i .counts
+
+    pub held-kept : rulingOf ns ≡ Kept
+    held-kept = ap rulingOf held-counts ∙ is-placed s at (i .next) (i .placed) .kept
 
     pub held-range : (from to : ℕ) → (from ≡ start s at ns g) × (to ≡ start s at ns (g + 1)) → (from ≤ to) × (to ≤ length s)
     held-range from to a =

@@ -105,7 +105,7 @@ pub fn read_group(text: &[u8], at: usize, group: usize, table: &mut [i64]) -> Re
             let lines = place::span_of(text, at, &counts, group);
             let from = lines.from;
             let to = lines.to;
-            reading::read_lines(&counts, group, &text[from..to], table)
+            reading::read_kept(&counts, group, &text[from..to], table)
         }
     }
 }

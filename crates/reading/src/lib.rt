@@ -1,5 +1,6 @@
 // Reading the lines of a group under its record's counts. The lines are checked first, and the table is filled only when all of them are
 // clean. The text that they come from is not known here.
+use count::Ruling;
 use form::Form;
 use form::GroupForm;
 ghost use mathlib.Core.Path.{_≡_};
@@ -14,6 +15,7 @@ ghost use Rattle.base.specs.Pieces.{cellsGot};
 ghost use Rattle.form.specs.Table.{rowOf, formOf};
 ghost use Rattle.form.specs.Count.{cellsOf};
 ghost use Rattle.field.specs.Read.{fieldOf, formed, cellsIn};
+ghost use Rattle.count.specs.Rules.{rulingOf};
 ghost use Rattle.line.specs.Lines.{reach};
 ghost use Rattle.line.specs.Contents.{contentOf};
 ghost use Rattle.reading.specs.Blanks.{blank, mayBeShort, shortest, filledTo, isRight, asField, rightContent, fieldsSpan, Fits};
@@ -408,20 +410,29 @@ fn read_form(form: Form, group: usize, count: u16, lines: &[u8], table: &mut [i6
     }
 }
 
-// Reads a group of a record with these counts, whose lines these are, into a table. It is altered only if all is clean, and then only as
-// far as the group's cells go.
-pub fn read_lines(counts: &[u16], group: usize, lines: &[u8], table: &mut [i64]) -> Reading
+// Reads a group as `read_lines` does, by counts that keep the rules, as those of a record that was placed with 0 do: they are not tried again.
+pub fn read_kept(counts: &[u16], group: usize, lines: &[u8], table: &mut [i64]) -> Reading
+    requires { ⌜ rulingOf (now counts) ≡ Ruling.Kept ⌝ }
     ensures { λ r. ⌜ (r ≡ readingOf (readGroup (now (counts .entry)) group (now (lines .entry)) (length (now (table .entry))))) × (now (table .exit) ≡ tableBy (readGroup (now (counts .entry)) group (now (lines .entry)) (length (now (table .entry)))) (now (table .entry))) ⌝ }
 {
     let form::GroupForm::Has(form) = form::form_of(group) else {
         return Reading::Refused(Refusal::NoGroup);
     };
+    let count = count::count_of(counts, group);
+    read_form(form, group, count, lines, table)
+}
+
+// Reads a group of a record with these counts, whose lines these are, into a table. It is altered only if all is clean, and then only as
+// far as the group's cells go.
+pub fn read_lines(counts: &[u16], group: usize, lines: &[u8], table: &mut [i64]) -> Reading
+    ensures { λ r. ⌜ (r ≡ readingOf (readGroup (now (counts .entry)) group (now (lines .entry)) (length (now (table .entry))))) × (now (table .exit) ≡ tableBy (readGroup (now (counts .entry)) group (now (lines .entry)) (length (now (table .entry)))) (now (table .entry))) ⌝ }
+{
+    let form::GroupForm::Has(_) = form::form_of(group) else {
+        return Reading::Refused(Refusal::NoGroup);
+    };
     match count::ruling_of(counts) {
-        count::Ruling::Broken(g) => Reading::Refused(Refusal::BrokenRule(g)),
-        count::Ruling::Kept => {
-            let count = count::count_of(counts, group);
-            read_form(form, group, count, lines, table)
-        }
+        Ruling::Broken(g) => Reading::Refused(Refusal::BrokenRule(g)),
+        Ruling::Kept => read_kept(counts, group, lines, table),
     }
 }
 

@@ -20,6 +20,8 @@ use Rattle.form.specs.declared.GroupForm.the-variants.{Has}
 use Rattle.form.specs.Table.{formOf}
 use Rattle.form.specs.Count.{linesOf, cellsOf}
 use Rattle.line.specs.Lines.{reach}
+use Rattle.count.specs.Rules.{rulingOf}
+use Rattle.count.specs.declared.Ruling.the-variants.{Kept}
 use Rattle.count.specs.Tally
 use Rattle.count.specs.Tally.{countOf, linesBefore, cellsIn, cellTally, cellsBefore, recordCells}
 use Rattle.count.proofs.Tallied.{before-groups, before-more}
@@ -137,12 +139,16 @@ module _ (s : List ℕ) (at : ℕ) (old : List ℤ) where
     cells-have = rw has
 
     -- both parts are parts of what they are lent from
-    pub turning-range : (from ≤ to) × (to ≤ length s) × (cell ≤ end) × (end ≤ length table)
+    turning-range : (from ≤ to) × (to ≤ length s) × (cell ≤ end) × (end ≤ length table)
     turning-range =
         let n = countsAt s at in
         let up = start-mono s at n g (g + 1) (omega arith) in
         let within = start-within s at (ready .next) n (placed .located-at) (g + 1) (omega arith) in
         (omega (arith, t .begins, ends, up), omega (arith, ends, within, located-range s at (ready .next) n (placed .located-at)), omega (arith, end-is), omega (arith, behind, cells-below n (g + 1), ready .enough, t .same))
+
+    -- and the counts keep the rules
+    pub turning-ready : (rulingOf ms ≡ Kept) × (from ≤ to) × (to ≤ length s) × (cell ≤ end) × (end ≤ length table)
+    turning-ready = let r = turning-range in (ap rulingOf counts ∙ placed .kept, r .0, r .1, r .2, r .3)
 
     -- and what is read is the group of the record
     pub turning-read : readGroup ms g (part from to s) (end - cell) ≡ groupRead s at g

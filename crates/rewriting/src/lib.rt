@@ -1,4 +1,5 @@
 // Rewriting: the record at a place of a text as canonical text, over a lent table. Any text, place, table and buffer may be given.
+use count::Ruling;
 use reading::Reading;
 use reading::Refusal;
 use record::Writing;
@@ -6,6 +7,7 @@ ghost use mathlib.Core.Path.{_≡_};
 ghost use Prim.Native.Nat.{_-_, _≤_};
 ghost use lib.ListN.{length};
 ghost use Rattle.base.specs.Part.{part, over};
+ghost use Rattle.count.specs.Rules.{rulingOf};
 ghost use Rattle.place.specs.Placing.{countsAt};
 ghost use Rattle.reading.specs.Read.{readGroup, readingOf, tableBy};
 ghost use Rattle.record.specs.Text.{recordText, recordBytes};
@@ -44,10 +46,10 @@ fn read_part(
     cell: usize,
     end: usize,
 ) -> Reading
-    requires { ⌜ (from ≤ to) × (to ≤ length (now text)) × (cell ≤ end) × (end ≤ length (now table)) ⌝ }
+    requires { ⌜ (rulingOf (now counts) ≡ Ruling.Kept) × (from ≤ to) × (to ≤ length (now text)) × (cell ≤ end) × (end ≤ length (now table)) ⌝ }
     ensures { λ r. ⌜ (r ≡ readingOf (readGroup (now (counts .entry)) group (part from to (now (text .entry))) (end - cell))) × (now (table .exit) ≡ over cell (tableBy (readGroup (now (counts .entry)) group (part from to (now (text .entry))) (end - cell)) (part cell end (now (table .entry)))) (now (table .entry))) ⌝ }
 {
-    reading::read_lines(counts, group, &text[from..to], &mut table[cell..end])
+    reading::read_kept(counts, group, &text[from..to], &mut table[cell..end])
 }
 
 // Groups 1 to 60 in turn, into consecutive parts of the table, up to the first that is refused.

@@ -7,7 +7,7 @@ use Prim.Native.Nat.{_≤_}
 use lib.ListN.{length}
 use Rattle.group.specs.declared.Found.the-variants.{Given}
 use Rattle.group.specs.Held.{foundAt}
-use Rattle.group.proofs.Holding.{held-range}
+use Rattle.group.proofs.Holding.{held-kept, held-range}
 use Rattle.group.proofs.Texts.{text-missing, text-given}
 use Rattle.group.proofs.read_group.Statement.{statement}
 use Rattle.group.proofs.read_group.Tie as tie
@@ -27,8 +27,8 @@ slice-aggregate-span-of c = search needs
 span-of-requires : tie.Need-span-of-requires
 span-of-requires c κs = search needs
 
-slice-aggregate-read-lines : tie.Need-slice-aggregate-read-lines
-slice-aggregate-read-lines c = search needs
+slice-aggregate-read-kept : tie.Need-slice-aggregate-read-kept
+slice-aggregate-read-kept c = search needs
 
 given : (c : tie.After-span-of) → foundAt (c .before .before .before .before .before .before .before .args .text .now) (c .before .before .before .before .before .before .before .args .at) (c .before .before .before .before .before .before .before .args .group) ≡ Given
 given c = sym (c .before .before .before .before .before .held-at .ensures .0) ∙ c .before .before .before .enum-told .given .1
@@ -36,17 +36,19 @@ given c = sym (c .before .before .before .before .before .held-at .ensures .0) �
 range : (c : tie.After-span-of) → (c .span-of .result .from ≤ c .span-of .result .to) × (c .span-of .result .to ≤ length (c .before .before .before .before .before .before .before .args .text .now))
 range c = held-range (c .before .before .before .before .before .before .before .args .text .now) (c .before .before .before .before .before .before .before .args .at) (c .before .before .before .before .before .before .before .args .group) (given c) _ (c .before .before .before .before .before .held-at .ensures .1) _ _ (c .span-of .ensures)
 
-sub-read-lines : tie.Need-sub-read-lines
-sub-read-lines c = range (c .before) .0
+sub-read-kept : tie.Need-sub-read-kept
+sub-read-kept c = range (c .before) .0
 
-part-read-lines-start : tie.Need-part-read-lines-start
-part-read-lines-start c = omega (arith, range (c .before) .0)
+part-read-kept-start : tie.Need-part-read-kept-start
+part-read-kept-start c = omega (arith, range (c .before) .0)
 
-part-read-lines-end : tie.Need-part-read-lines-end
-part-read-lines-end c = omega (arith, range (c .before) .1)
+part-read-kept-end : tie.Need-part-read-kept-end
+part-read-kept-end c = omega (arith, range (c .before) .1)
 
-read-lines-requires : tie.Need-read-lines-requires
-read-lines-requires c κs = search needs
+read-kept-requires : tie.Need-read-kept-requires
+read-kept-requires c κs =
+    let o = c .before .before .before .before .before .before .before .before .before .before in
+    held-kept (o .args .text .now) (o .args .at) (o .args .group) (given (c .before .before .before)) _ (c .before .before .before .before .before .before .before .before .held-at .ensures .1)
 
 returns : tie.Need-returns
 returns c = text-missing (c .before .before .before .before .before .args .text .now) (c .before .before .before .before .before .args .at) (c .before .before .before .before .before .args .group) (c .before .before .before .before .before .args .table .now) (sym (c .before .found .given .1) ∙ c .before .before .before .held-at .ensures .0)
@@ -55,7 +57,7 @@ same-length : tie.Need-same-length
 same-length c = search needs
 
 returns-2 : tie.Need-returns-2
-returns-2 c = text-given (c .before .before .before .before .before .before .before .before .before .before .before .before .args .text .now) (c .before .before .before .before .before .before .before .before .before .before .before .before .args .at) (c .before .before .before .before .before .before .before .before .before .before .before .before .args .group) (c .before .before .before .before .before .before .before .before .before .before .before .before .args .table .now) (sym (given (c .before .before .before .before .before))) _ (c .before .before .before .before .before .before .before .before .before .before .held-at .ensures .1) _ _ (c .before .before .before .before .before .span-of .ensures) (c .before .read-lines .ensures)
+returns-2 c = text-given (c .before .before .before .before .before .before .before .before .before .before .before .before .args .text .now) (c .before .before .before .before .before .before .before .before .before .before .before .before .args .at) (c .before .before .before .before .before .before .before .before .before .before .before .before .args .group) (c .before .before .before .before .before .before .before .before .before .before .before .before .args .table .now) (sym (given (c .before .before .before .before .before))) _ (c .before .before .before .before .before .before .before .before .before .before .held-at .ensures .1) _ _ (c .before .before .before .before .before .span-of .ensures) (c .before .read-kept .ensures)
 
 pub read-group-spec : {M : Type 1} → statement M
 read-group-spec =
@@ -66,11 +68,11 @@ read-group-spec =
     enum-told
     slice-aggregate-span-of
     span-of-requires
-    slice-aggregate-read-lines
-    sub-read-lines
-    part-read-lines-start
-    part-read-lines-end
-    read-lines-requires
+    slice-aggregate-read-kept
+    sub-read-kept
+    part-read-kept-start
+    part-read-kept-end
+    read-kept-requires
     returns
     same-length
     returns-2)

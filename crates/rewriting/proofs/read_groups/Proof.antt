@@ -11,7 +11,7 @@ use Rattle.form.specs.Count.{linesOf, cellsOf}
 use Rattle.line.specs.Lines.{reach}
 use Rattle.count.specs.Tally.{countOf}
 use Rattle.form.proofs.Table.{has-form}
-use Rattle.rewriting.proofs.Turns.{Turning, turning-first, turning-all, turning-range, turning-refused, turning-more}
+use Rattle.rewriting.proofs.Turns.{Turning, turning-first, turning-all, turning-ready, turning-refused, turning-more}
 use Rattle.rewriting.proofs.read_groups.Statement.{statement}
 use Rattle.rewriting.proofs.read_groups.Tie as tie
 
@@ -64,10 +64,10 @@ end-is : (c : tie.After-cells Inv-loop μ-loop) → c .before .before .before .b
 end-is c = rw (c .before .before .before .count-of .ensures) at (ap (λ n. c .before .before .before .before .before .before .before .before .before .loop .cell + n) (c .cells .ensures))
 
 add-end : tie.Need-add-end Inv-loop μ-loop
-add-end c = let h = turning-range (c .before .before .before .before .before .before .before .before .before .before .before .before .before .args .text .now) (c .before .before .before .before .before .before .before .before .before .before .before .before .before .args .at) (c .before .before .before .before .before .before .before .before .before .before .before .before .before .args .table .now) _ (c .before .before .before .before .before .before .before .before .before .before .before .before .before .pre .0) (c .before .before .before .before .before .before .before .before .before .before .before .before .before .pre .1) (c .before .before .before .before .before .before .before .before .before .loop .inv) (omega arith) (c .before .before .before .before .before .f .given .0 .0) (has (c)) (to-is (c)) (end-is (c)) in search needs
+add-end c = let h = turning-ready (c .before .before .before .before .before .before .before .before .before .before .before .before .before .args .text .now) (c .before .before .before .before .before .before .before .before .before .before .before .before .before .args .at) (c .before .before .before .before .before .before .before .before .before .before .before .before .before .args .table .now) _ (c .before .before .before .before .before .before .before .before .before .before .before .before .before .pre .0) (c .before .before .before .before .before .before .before .before .before .before .before .before .before .pre .1) (c .before .before .before .before .before .before .before .before .before .loop .inv) (omega arith) (c .before .before .before .before .before .f .given .0 .0) (has (c)) (to-is (c)) (end-is (c)) in search needs
 
 read-part-requires : tie.Need-read-part-requires Inv-loop μ-loop
-read-part-requires c κs = turning-range (c .before .before .before .before .before .before .before .before .before .before .before .before .before .before .args .text .now) (c .before .before .before .before .before .before .before .before .before .before .before .before .before .before .args .at) (c .before .before .before .before .before .before .before .before .before .before .before .before .before .before .args .table .now) _ (c .before .before .before .before .before .before .before .before .before .before .before .before .before .before .pre .0) (c .before .before .before .before .before .before .before .before .before .before .before .before .before .before .pre .1) (c .before .before .before .before .before .before .before .before .before .before .loop .inv) (omega arith) (c .before .before .before .before .before .before .f .given .0 .0) (has (c .before)) (to-is (c .before)) (end-is (c .before))
+read-part-requires c κs = turning-ready (c .before .before .before .before .before .before .before .before .before .before .before .before .before .before .args .text .now) (c .before .before .before .before .before .before .before .before .before .before .before .before .before .before .args .at) (c .before .before .before .before .before .before .before .before .before .before .before .before .before .before .args .table .now) _ (c .before .before .before .before .before .before .before .before .before .before .before .before .before .before .pre .0) (c .before .before .before .before .before .before .before .before .before .before .before .before .before .before .pre .1) (c .before .before .before .before .before .before .before .before .before .before .loop .inv) (omega arith) (c .before .before .before .before .before .before .f .given .0 .0) (has (c .before)) (to-is (c .before)) (end-is (c .before))
 
 enum-known-answer : tie.Need-enum-known-answer Inv-loop μ-loop
 enum-known-answer c = search needs
