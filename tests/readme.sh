@@ -58,7 +58,7 @@ tools=$own/toolchain
 counted 'the C program is compiled by the kit' "$tools/bin/clang" --target=x86_64-unknown-linux-gnu -std=c99 -O2 -fPIC -Wall -Wextra -Werror \
     -nostdinc -isystem "$work/include" -Iinclude -c "$work/fof2.c" -o "$work/fof2.o"
 counted 'and linked' "$own/bin/rattle-link" --target x86_64-unknown-linux-gnu --toolchain "$tools" -o "$work/fof2" "$work/fof2.o" "$archive" \
-    >"$work/link" || cat "$work/link"
+    >"$work/link" 2>&1 || cat "$work/link"
 if [ "$machine" = x86_64 ]; then
     "$work/fof2" <examples/day.sao >"$work/got"
 else
