@@ -21,6 +21,12 @@ export CARGO_TARGET_DIR
 unset SEAMBEACON_ARCHIVE
 wrapper=bindings/rust
 
+# every function of the header is called; group_lines has the reply of group_lines_reply too
+sed -n 's/^size_t \(seambeacon_[a-z_]*\)(.*/\1/p' include/seambeacon.h | grep -vx seambeacon_group_lines_reply | sort >"$work/want"
+sed -n 's/^    fn \(seambeacon_[a-z_]*\)(.*/\1/p' "$wrapper/src/raw.rs" | sort >"$work/got"
+counted 'the header has functions' [ "$(wc -l <"$work/want")" -ge 7 ]
+compared 'the functions of the header' "$work/want"
+
 cargo test --offline --manifest-path "$wrapper/Cargo.toml" >"$work/said" 2>&1
 status=$?
 counted 'cargo test' [ "$status" = 0 ] || tail -n 40 "$work/said"
@@ -39,4 +45,4 @@ status=$?
 counted 'without the archive there is no build' [ "$status" != 0 ]
 counted 'and the build says what to do' grep -q 'there is no .*libboundary\.a: run `rt staticlib boundary`' "$work/said"
 echo "rust: $ran tests ran"
-finished 5
+finished 7

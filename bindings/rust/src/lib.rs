@@ -1,9 +1,9 @@
 //! Seambeacon: places, reads and writes SAO 4.3 ionogram records. The questions are answered by a library in which every function is proved
 //! to meet its contract; this crate gives each of them a safe function, and each answer an enum.
 //!
-//! Every question can be asked of every text, place, number, table and output. A caller never has to check beforehand, and no call panics. A
-//! text is its bytes, with line ends; a place is a number of bytes from the text's start. Groups, lines, elements, positions and
-//! characteristics count from 1.
+//! Every question can be asked of every text, place, number, table and output. A caller never has to check beforehand, and no call panics.
+//! Nothing is kept between two calls, so they may come from several threads. A text is its bytes, with line ends; a place is a number of bytes
+//! from the text's start. Groups, lines, elements, positions and characteristics count from 1.
 //!
 //! ```
 //! // Record S: four constants, a date and one characteristic, foF2.
@@ -316,7 +316,8 @@ pub fn read_group(text: &[u8], at: usize, group: usize, table: &mut [i64]) -> Re
     }
 }
 
-/// The lines of a group, 1 to 60, of the record at a place, as they stand in the text.
+/// The lines of a group, 1 to 60, of the record at a place, as they stand in the text. The part and its reply, which are two questions in C, are
+/// one answer here.
 pub fn group_lines(text: &[u8], at: usize, group: usize) -> Lines<'_> {
     let mut part = raw::Part::default();
     let reply = raw::group_lines(text, at, group, &mut part);
