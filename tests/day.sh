@@ -139,6 +139,12 @@ sound() { # CONDITION: it holds of each record; cell[g, i] is the i-th cell of g
                     return 0
             return n[g] > 1
         }
+        function told(i) { # an interpolated point has amplitude 0
+            for (i = 1; i <= n[10]; i++)
+                if (cell[9, i] == 0 ? cell[10, i] != 9 : cell[10, i] >= n[6])
+                    return 0
+            return n[10] > 1
+        }
         function below(g, h, i) {
             for (i = 1; i <= n[g]; i++)
                 if (cell[g, i] >= cell[h, i])
@@ -154,7 +160,7 @@ counted 'true heights rise' sound 'rising(8)'
 counted 'true heights are below the virtual ones' sound 'below(8, 7)'
 counted 'the trace ends less than 0.1 MHz below foF2' sound 'cell[11, n[11]] < cell[4, 1] && cell[11, n[11]] > cell[4, 1] - 101'
 counted 'amplitudes from 0 to 99' sound 'within(9, 0, 99)'
-counted 'Doppler numbers from 0 to 9' sound 'within(10, 0, 9)'
+counted 'a Doppler number of the table for each echo, 9 for each interpolated point' sound 'told()'
 counted 'profile heights rise' sound 'rising(51)'
 counted 'plasma frequencies rise' sound 'rising(52)'
 counted 'the profile ends at foF2 and the peak height' sound 'cell[52, n[52]] == cell[4, 1] && cell[51, n[51]] == cell[4, 32]'
