@@ -13,7 +13,9 @@ esac
 cd "$home" || exit 2
 name=readme
 . tests/cases
-. tests/archive
+. tests/kit
+
+counted 'the archive' archived || finished 1 || exit 1
 
 block() { # LANGUAGE: the fenced block of that language
     awk -v fence="\`\`\`$1" '$0 == fence { open = 1; next } /^```/ { open = 0 } open' "$readme"
@@ -40,30 +42,9 @@ counted 'the C program is that of examples' cmp -s "$work/fof2.c" examples/fof2.
 counted 'in at most ten lines' [ "$(wc -l <"$work/fof2.c")" -le 10 ]
 counted 'with the library in it' grep -q 'seambeacon_characteristic' "$work/fof2.c"
 
-# by the kit, which has no headers: what the program takes from them, for x86-64
-mkdir "$work/include"
-echo 'typedef unsigned long size_t;' >"$work/include/stddef.h"
-echo 'typedef unsigned char uint8_t; typedef unsigned short uint16_t; typedef long int64_t;' >"$work/include/stdint.h"
-cat >"$work/include/stdio.h" <<'END'
-#include <stddef.h>
-typedef struct _IO_FILE FILE;
-extern FILE *stdin;
-size_t fread(void *, size_t, size_t, FILE *);
-int printf(const char *, ...);
-END
-machine=$(uname -m)
-guide=$(rt doc) || exit 2
-own=$(dirname "$(dirname "$guide")")/on/$machine
-tools=$own/toolchain
-counted 'the C program is compiled by the kit' "$tools/bin/clang" --target=x86_64-unknown-linux-gnu -std=c99 -O2 -fPIC -Wall -Wextra -Werror \
-    -nostdinc -isystem "$work/include" -Iinclude -c "$work/fof2.c" -o "$work/fof2.o"
-counted 'and linked' "$own/bin/rattle-link" --target x86_64-unknown-linux-gnu --toolchain "$tools" -o "$work/fof2" "$work/fof2.o" "$archive" \
-    >"$work/link" 2>&1 || cat "$work/link"
-if [ "$machine" = x86_64 ]; then
-    "$work/fof2" <examples/day.sao >"$work/got"
-else
-    "$tools/bin/qemu-x86_64" "$tools/lib/ld-linux-x86-64.so.2" --library-path "$tools/lib" "$work/fof2" <examples/day.sao >"$work/got"
-fi
+counted 'the C program is compiled by the kit' compiled "$work/fof2.c" "$work/fof2.o" -std=c99
+counted 'and linked' linked "$work/fof2" "$work/fof2.o"
+started "$work/fof2" <examples/day.sao >"$work/got"
 compared 'foF2 of each hour, in C by the kit' "$work/want"
 
 # by the commands of README.md, in a folder that sees the project's own
@@ -100,4 +81,4 @@ if [ "$machine" = x86_64 ] && command -v cargo >/dev/null; then
 else
     echo "tests/readme.sh: skipped: the command for Rust, which needs x86-64 and cargo (this is $machine)"
 fi
-finished 16
+finished 17

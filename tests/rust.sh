@@ -14,7 +14,8 @@ skipped() { # WHY
 machine=$(uname -m)
 [ "$machine" = x86_64 ] || skipped "the library is x86-64 code, and this machine is $machine"
 command -v cargo >/dev/null || skipped 'there is no cargo on the path'
-. tests/archive
+. tests/kit
+counted 'the archive' archived || finished 1 || exit 1
 
 CARGO_TARGET_DIR=$PWD/target/rust
 export CARGO_TARGET_DIR
@@ -45,4 +46,4 @@ status=$?
 counted 'without the archive there is no build' [ "$status" != 0 ]
 counted 'and the build says what to do' grep -q 'there is no .*libboundary\.a: run `rt staticlib boundary`' "$work/said"
 echo "rust: $ran tests ran"
-finished 7
+finished 8
