@@ -36,7 +36,7 @@ use Rattle.group.specs.declared.Found.{Found}
 use Rattle.group.specs.declared.Found.the-variants.{Given, Missing}
 use Rattle.group.specs.Characteristics.{reported, characteristicAt}
 use Rattle.group.specs.Damage.{linesStart}
-use Rattle.group.specs.Held.{foundIn, foundAt, startBy, partStart, partAt}
+use Rattle.group.specs.Held.{foundIn, foundAt, startBy, partStart, partEnd, partAt}
 use Rattle.group.specs.Text.{readAtBy, readAt}
 use Rattle.group.proofs.Holding.{given-is}
 use Rattle.group.proofs.Promises.{read-local}
@@ -118,11 +118,11 @@ module _ (s t : List ℕ) (at : ℕ) (l : SameLines s t) (e : locate s at ≡ lo
   to g = startBy s at (suc g) (foundAt s at g)
 
   part-there : (g : ℕ) → part (from g) (to g) t ≡ partAt t at g
-  unfolding partAt
+  unfolding partAt partStart partEnd
   part-there g = rw (starts-by g (foundAt s at g), starts-by (suc g) (foundAt s at g), found-same g)
 
   pub part-length-same : (g : ℕ) → length (partAt s at g) ≡ length (partAt t at g)
-  unfolding partAt
+  unfolding partAt partStart partEnd
   part-length-same g = long ∙ ap length (part-there g)
     where
       long : length (part (from g) (to g) s) ≡ length (part (from g) (to g) t)
@@ -130,7 +130,7 @@ module _ (s t : List ℕ) (at : ℕ) (l : SameLines s t) (e : locate s at ≡ lo
 
   module _ {D : ℕ → Type 0} (a : Agree D s t) (g : ℕ) (clear : Spares D s at g) where
     pub part-same : partAt s at g ≡ partAt t at g
-    unfolding partAt
+    unfolding partAt partStart partEnd
     part-same = part-agree s t (from g) (to g) a (by (foundAt s at g) refl) ∙ part-there g
       where
         by : (f : Found) → foundAt s at g ≡ f → Misses D (startBy s at g f) (startBy s at (suc g) f)

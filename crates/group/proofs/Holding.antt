@@ -3,11 +3,11 @@
 -- Assumes nothing.
 use mathlib.Core.Path.{_≡_, refl, sym, _∙_, ap}
 use mathlib.Core.List.{List}
-use Prim.Native.Nat.{ℕ, suc, _+_, _≤_}
+use Prim.Native.Nat.{ℕ, suc, _+_, _-_, _≤_}
 use native.Mathlib.Nat.{add-comm}
 use native.Mathlib.Numerals.{add-one}
 use native.Mathlib.Omega.{arith}
-use lib.ListN.{length, getD, replicate}
+use lib.ListN.{length, getD, replicate, drop, length-take, length-drop}
 use Rattle.base.specs.Part.{part}
 use Rattle.form.specs.declared.Form.{Form}
 use Rattle.form.specs.declared.GroupForm.{GroupForm}
@@ -33,7 +33,7 @@ use Rattle.form.proofs.Table.{form-range}
 use Rattle.reading.proofs.Promises.{refusal-numbered}
 use Rattle.group.specs.declared.Found.{Found}
 use Rattle.group.specs.declared.Found.the-variants.{Given, Missing}
-use Rattle.group.specs.Held.{refusalOf, foundBy, foundIn, foundAt, countsHeld, partStart, partAt, moved, foundReply}
+use Rattle.group.specs.Held.{refusalOf, foundBy, foundIn, foundAt, countsHeld, partStart, partEnd, partAt, moved, foundReply}
 
 module _ (s : List ℕ) (at g : ℕ) where
   pub held-none : formOf g ≡ NoForm → (foundAt s at g ≡ Missing NoGroup) × (countsHeld s at g ≡ replicate 80 0)
@@ -88,6 +88,10 @@ module _ (s : List ℕ) (at g : ℕ) where
       by (Has f) h v = place f (placingOf s at) h refl v
       by NoForm h v = no-given v
 
+  pub span-part : (from to : ℕ) → (from ≡ partStart s at g) × (to ≡ partEnd s at g) → part from to s ≡ partAt s at g
+  unfolding partAt
+  span-part from to a = rw (a .0, a .1) refl
+
   -- the lines, from where to where they stand in the record that was placed
   module _ (e : foundAt s at g ≡ Given) (ns : List ℕ) (c : ns ≡ countsHeld s at g) where
     i : IsGiven
@@ -108,20 +112,43 @@ module _ (s : List ℕ) (at g : ℕ) where
         let few = form-range g (i .form) (i .has) .1 in
         (omega (arith, x, y, start-mono s at n g (g + 1) (omega arith)), omega (arith, y, start-within s at (i .next) n l (g + 1) (omega (arith, few)), located-range s at (i .next) n l))
 
-    pub held-part : (from to : ℕ) → (from ≡ start s at ns g) × (to ≡ start s at ns (g + 1)) → (part from to s ≡ partAt s at g) × (from ≡ partStart s at g)
-    unfolding partAt partStart
-    held-part from to a =
+    pub held-span : (from to : ℕ) → (from ≡ start s at ns g) × (to ≡ start s at ns (g + 1)) → (from ≡ partStart s at g) × (to ≡ partEnd s at g)
+    unfolding partStart partEnd
+    held-span from to a =
         let x : from ≡ start s at (countsAt s at) g = a .0 ∙ ap (λ y. start s at y g) held-counts in
         let y : to ≡ start s at (countsAt s at) (suc g) = a .1 ∙ ap (λ y. start s at y (g + 1)) held-counts ∙ ap (start s at (countsAt s at)) (add-one g) in
         rw (e, x, y) (refl, refl)
 
-  pub missing-part : {r : Refusal} → foundAt s at g ≡ Missing r → (part 0 0 s ≡ partAt s at g) × (0 ≡ partStart s at g)
-  unfolding partAt partStart
-  missing-part e = rw e (refl, refl)
+    pub held-part : (from to : ℕ) → (from ≡ start s at ns g) × (to ≡ start s at ns (g + 1)) → part from to s ≡ partAt s at g
+    held-part from to a = let b = held-span from to a in span-part from to b
+
+  pub missing-span : {r : Refusal} → foundAt s at g ≡ Missing r → (0 ≡ partStart s at g) × (0 ≡ partEnd s at g)
+  unfolding partStart partEnd
+  missing-span e = rw e (refl, refl)
+
+  -- the part lies in the text, whether there are lines or not
+  pub span-range : (partStart s at g ≤ partEnd s at g) × (partEnd s at g ≤ length s)
+  span-range = by (foundAt s at g) refl
+    where
+      by : (r : Found) → foundAt s at g ≡ r → (partStart s at g ≤ partEnd s at g) × (partEnd s at g ≤ length s)
+      by Given e =
+          let ns = countsHeld s at g in
+          let a = held-range e ns refl (start s at ns g) (start s at ns (g + 1)) (refl, refl) in
+          let b = held-span e ns refl (start s at ns g) (start s at ns (g + 1)) (refl, refl) in
+          (omega (arith, a .0, b .0, b .1), omega (arith, a .1, b .1))
+      by (Missing r) e = let b = missing-span e in (omega (arith, b .0, b .1), omega (arith, b .1))
+
+  pub span-length : partEnd s at g - partStart s at g ≡ length (partAt s at g)
+  unfolding partAt
+  span-length =
+      let r = span-range in
+      let n = length-take (partEnd s at g - partStart s at g) (drop (partStart s at g) s) in
+      let m = length-drop (partStart s at g) s in
+      omega (arith, r .0, r .1, n, m)
 
   -- the part is the group's part of the record, and holds exactly the group's lines
   pub given-part : foundAt s at g ≡ Given → partAt s at g ≡ groupPart s at (countsAt s at) g
-  unfolding partAt Parts.groupPart
+  unfolding partAt partStart partEnd Parts.groupPart
   given-part e = rw e refl
 
   pub given-lines : foundAt s at g ≡ Given → Whole (getD (lineTally (countsAt s at)) g 0) (partAt s at g)

@@ -66,12 +66,15 @@ abbrev pub startBy : List ℕ → ℕ → ℕ → Found → ℕ
 startBy s at g Given = start s at (countsAt s at) g
 startBy s at g (Missing r) = 0
 
--- where the part begins, and the part
+-- where the part begins and where it ends, and the part
 unfoldable pub partStart : List ℕ → ℕ → ℕ → ℕ
 partStart s at g = startBy s at g (foundAt s at g)
 
+unfoldable pub partEnd : List ℕ → ℕ → ℕ → ℕ
+partEnd s at g = startBy s at (suc g) (foundAt s at g)
+
 unfoldable pub partAt : List ℕ → ℕ → ℕ → List ℕ
-partAt s at g = part (startBy s at g (foundAt s at g)) (startBy s at (suc g) (foundAt s at g)) s
+partAt s at g = part (partStart s at g) (partEnd s at g) s
 
 -- where that stands, by the address of the text: a block and an offset
 abbrev pub moved : ℕ × ℕ → ℕ → ℕ × ℕ

@@ -1,12 +1,13 @@
 // A group of the record at a place of a text: read into a table, its lines as a part of the text, a characteristic. Any text, place, number
 // and table may be given.
+use place::Span;
 use reading::Reading;
 use reading::Refusal;
 ghost use mathlib.Core.Path.{_≡_};
 ghost use lib.ListN.{length, replicate};
 ghost use Rattle.reading.specs.Read.{readingOf, tableBy};
 ghost use Rattle.group.specs.Characteristics.{isNoReading, told, characteristicAt, characteristicReply};
-ghost use Rattle.group.specs.Held.{refusalOf, foundAt, countsHeld, partStart, partAt, moved, foundReply};
+ghost use Rattle.group.specs.Held.{refusalOf, foundAt, countsHeld, partStart, partEnd, partAt, moved, foundReply};
 ghost use Rattle.group.specs.Text.{readAt};
 
 // Whether a group can be asked about at a place.
@@ -74,18 +75,25 @@ pub fn lines_reply(text: &[u8], at: usize, group: usize) -> Found
     held_at(text, at, group).found
 }
 
-// The lines of a group as the part of the caller's own text that holds them, with their line ends. A count of 0 gives the empty part where
-// they would begin, and a refusal the empty part at the text's start.
-pub fn lines_part<'a>(text: &'a [u8], at: usize, group: usize) -> &'a [u8]
-    ensures { λ r. ⌜ (now r ≡ partAt (now (text .entry)) at group) × (r .ptr ≡ moved (text .entry .ptr) (partStart (now (text .entry)) at group)) ⌝ }
+// From where to where the lines of a group stand in a text, with their line ends. With count 0 both are where they would begin, and at a
+// refusal both are the text's start.
+pub fn lines_span(text: &[u8], at: usize, group: usize) -> Span
+    ensures { λ r. ⌜ (r .from ≡ partStart (now (text .entry)) at group) × (r .to ≡ partEnd (now (text .entry)) at group) ⌝ }
 {
     let held = held_at(text, at, group);
     let found = held.found;
     let Found::Given = found else {
-        return &text[0..0];
+        return Span { from: 0, to: 0 };
     };
     let counts = held.counts;
-    let lines = place::span_of(text, at, &counts, group);
+    place::span_of(text, at, &counts, group)
+}
+
+// The same as the part of the caller's own text that holds them.
+pub fn lines_part<'a>(text: &'a [u8], at: usize, group: usize) -> &'a [u8]
+    ensures { λ r. ⌜ (now r ≡ partAt (now (text .entry)) at group) × (r .ptr ≡ moved (text .entry .ptr) (partStart (now (text .entry)) at group)) ⌝ }
+{
+    let lines = lines_span(text, at, group);
     let from = lines.from;
     let to = lines.to;
     &text[from..to]

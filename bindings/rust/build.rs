@@ -1,0 +1,36 @@
+//! Links the proved library's archive, `libboundary.a`: from the folder that SEAMBEACON_ARCHIVE names, or from the project's
+//! `target/staticlib`, where `rt staticlib boundary` puts it.
+
+use std::env;
+use std::path::PathBuf;
+use std::process::exit;
+
+const VARIABLE: &str = "SEAMBEACON_ARCHIVE";
+const ARCHIVE: &str = "libboundary.a";
+
+fn refuse(why: &str) -> ! {
+    eprintln!("seambeacon: {why}");
+    exit(1)
+}
+
+fn main() {
+    let machine = env::var("CARGO_CFG_TARGET_ARCH").unwrap_or_default();
+    if machine != "x86_64" {
+        refuse(&format!("the library is x86-64 code, and this build is for {machine}"));
+    }
+    let folder = match env::var_os(VARIABLE) {
+        Some(named) => PathBuf::from(named),
+        None => PathBuf::from(env::var_os("CARGO_MANIFEST_DIR").unwrap_or_default()).join("../../target/staticlib"),
+    };
+    let archive = folder.join(ARCHIVE);
+    println!("cargo:rerun-if-env-changed={VARIABLE}");
+    println!("cargo:rerun-if-changed={}", archive.display());
+    if !archive.is_file() {
+        refuse(&format!(
+            "there is no {}: run `rt staticlib boundary` in the project's folder, or name the archive's folder in {VARIABLE}",
+            archive.display()
+        ));
+    }
+    println!("cargo:rustc-link-search=native={}", folder.display());
+    println!("cargo:rustc-link-lib=static=boundary");
+}

@@ -1,0 +1,421 @@
+//! Seambeacon: places, reads and writes SAO 4.3 ionogram records. The questions are answered by a library in which every function is proved
+//! to meet its contract; this crate gives each of them a safe function, and each answer an enum.
+//!
+//! Every question can be asked of every text, place, number, table and output. A caller never has to check beforehand, and no call panics.
+//! Nothing is kept between two calls, so they may come from several threads. A text is its bytes, with line ends; a place is a number of bytes
+//! from the text's start. Groups, lines, elements, positions and characteristics count from 1.
+//!
+//! ```
+//! // Record S: four constants, a date and one characteristic, foF2.
+//! let index = format!("{:3}{:3}{:3}{:3}{}\r\n{}  5\r\n", 4, 0, 19, 1, "  0".repeat(36), "  0".repeat(39));
+//! let text = index + "  1.200 67.000-23.500143.000\r\nAA20062650922142530\r\n   7.250\r\n";
+//! let text = text.as_bytes();
+//!
+//! let seambeacon::Placing::Placed { next, counts } = seambeacon::place(text, 0) else { panic!("no record") };
+//! assert_eq!((next, counts[0], counts[2], counts[3]), (305, 4, 19, 1));
+//! assert_eq!(seambeacon::characteristic(text, 0, 1), seambeacon::Characteristic::Value(7250));
+//! assert_eq!(seambeacon::place(text, next), seambeacon::Placing::Refused(seambeacon::Refusal::End));
+//! ```
+#![deny(missing_docs, unsafe_code, unsafe_op_in_unsafe_fn)]
+
+use std::error::Error;
+use std::fmt;
+
+#[allow(unsafe_code)]
+mod raw;
+
+/// Why a question was refused: the replies 1 to 14, with the numbers that are given beside them.
+#[derive(Clone, Copy, Debug, PartialEq, Eq, Hash)]
+pub enum Refusal {
+    /// 1: the place is the text's end.
+    End,
+    /// 2: the place lies beyond the text's end.
+    Beyond,
+    /// 3: fewer line feeds are left than the two index lines, or the data lines, need.
+    TooFewLines,
+    /// 4: an index line or entry is misformed; in writing, there are not 80 counts, or a count is above 999.
+    Misformed,
+    /// 5: the release, number 80 of the index, is not 5.
+    OtherRelease,
+    /// 6: a group of 61 to 79 has a count.
+    FilledVacant {
+        /// The lowest such group.
+        group: usize,
+    },
+    /// 7: a rule on counts is broken.
+    BrokenRule {
+        /// The blamed group.
+        group: usize,
+    },
+    /// 8: a line has no carriage return, a wrong length, or other bytes than blanks behind its fields.
+    BadLine {
+        /// The line in the group.
+        line: usize,
+    },
+    /// 9: a field is misformed.
+    BadField {
+        /// The line in the group.
+        line: usize,
+        /// The element in the group, counted through all its lines.
+        element: usize,
+    },
+    /// 10: group 3 has no right date.
+    BadDate {
+        /// The position in group 3 that is blamed.
+        position: usize,
+    },
+    /// 11: the table or the output is shorter than what would be filled.
+    NoRoom,
+    /// 12: there is no group 1 to 60, or no characteristic 1 to 49, of that number.
+    NoSuchNumber,
+    /// 13: in writing, a value fits no field of its form.
+    NoField {
+        /// The value's group.
+        group: usize,
+        /// The element in the group.
+        element: usize,
+    },
+    /// 14: in writing, the number of cells is not what the counts need.
+    OtherLength,
+    /// Something that the library is proved never to answer, so another archive than its own has been linked. It is a refusal and no panic,
+    /// since an editor must not go down with unsaved work in it.
+    Unknown {
+        /// The number that was answered.
+        number: usize,
+    },
+}
+
+impl Refusal {
+    /// The reply's number in the table of replies.
+    pub fn number(self) -> usize {
+        match self {
+            Refusal::End => 1,
+            Refusal::Beyond => 2,
+            Refusal::TooFewLines => 3,
+            Refusal::Misformed => 4,
+            Refusal::OtherRelease => 5,
+            Refusal::FilledVacant { .. } => 6,
+            Refusal::BrokenRule { .. } => 7,
+            Refusal::BadLine { .. } => 8,
+            Refusal::BadField { .. } => 9,
+            Refusal::BadDate { .. } => 10,
+            Refusal::NoRoom => 11,
+            Refusal::NoSuchNumber => 12,
+            Refusal::NoField { .. } => 13,
+            Refusal::OtherLength => 14,
+            Refusal::Unknown { number } => number,
+        }
+    }
+}
+
+impl fmt::Display for Refusal {
+    fn fmt(&self, to: &mut fmt::Formatter<'_>) -> fmt::Result {
+        match *self {
+            Refusal::End => write!(to, "the place is the text's end"),
+            Refusal::Beyond => write!(to, "the place lies beyond the text's end"),
+            Refusal::TooFewLines => write!(to, "the text has fewer lines than the record needs"),
+            Refusal::Misformed => write!(to, "the index is misformed"),
+            Refusal::OtherRelease => write!(to, "the release is not SAO 4.3"),
+            Refusal::FilledVacant { group } => write!(to, "group {group}, which has no format, has a count"),
+            Refusal::BrokenRule { group } => write!(to, "the count of group {group} breaks a rule"),
+            Refusal::BadLine { line } => write!(to, "line {line} of the group has a wrong length or line end"),
+            Refusal::BadField { line, element } => write!(to, "element {element}, in line {line} of the group, is misformed"),
+            Refusal::BadDate { position } => write!(to, "the date is wrong at position {position}"),
+            Refusal::NoRoom => write!(to, "the table or the output is too short"),
+            Refusal::NoSuchNumber => write!(to, "there is no group or characteristic of that number"),
+            Refusal::NoField { group, element } => write!(to, "element {element} of group {group} fits no field"),
+            Refusal::OtherLength => write!(to, "the number of cells is not what the counts need"),
+            Refusal::Unknown { number } => write!(to, "an answer that the library does not give ({number})"),
+        }
+    }
+}
+
+impl Error for Refusal {}
+
+/// What stands at a place of a text.
+#[derive(Clone, Copy, Debug, PartialEq, Eq)]
+pub enum Placing {
+    /// 0: a record.
+    Placed {
+        /// The place behind it, from which a walk goes on.
+        next: usize,
+        /// Its counts, group g's as `counts[g - 1]`.
+        counts: [u16; 80],
+    },
+    /// 7: a record whose counts break a rule. No group of it can be read, but a walk goes on behind it.
+    Broken {
+        /// The place behind it.
+        next: usize,
+        /// Its counts.
+        counts: [u16; 80],
+        /// The blamed group.
+        group: usize,
+    },
+    /// 1 to 6: no record, and a walk stops here.
+    Refused(Refusal),
+}
+
+/// What reading a group came to.
+#[derive(Clone, Copy, Debug, PartialEq, Eq)]
+pub enum Reading {
+    /// 0: the cells stand in the table, from its first cell on.
+    Read {
+        /// How many they are.
+        cells: usize,
+    },
+    /// 12, a placing reply but 0, 11, 8, 9 or 10, whichever is due first: the table is as it was.
+    Refused(Refusal),
+}
+
+/// The lines of a group.
+#[derive(Clone, Copy, Debug, PartialEq, Eq)]
+pub enum Lines<'a> {
+    /// 0: the part of the caller's own text that holds them, with their line ends. With count 0 it is the empty part where they would begin.
+    Part(&'a [u8]),
+    /// 12, or a placing reply but 0.
+    Refused(Refusal),
+}
+
+/// What is known of a characteristic.
+#[derive(Clone, Copy, Debug, PartialEq, Eq)]
+pub enum Characteristic {
+    /// 0: its value in thousandths.
+    Value(i64),
+    /// 0: there is no reading (9999.000 in the text).
+    NoReading,
+    /// 0: the record has fewer characteristics.
+    NotReported,
+    /// 12, or the reply of reading group 4.
+    Refused(Refusal),
+}
+
+/// What writing a record came to.
+#[derive(Clone, Copy, Debug, PartialEq, Eq)]
+pub enum Writing {
+    /// 0: the canonical text stands in the output, from its first byte on.
+    Written {
+        /// How many bytes it has.
+        bytes: usize,
+    },
+    /// 4, 5, 6, 7, 14, 13, 10 or 11, whichever is due first: the output is as it was.
+    Refused(Refusal),
+}
+
+/// What listing a text came to.
+#[derive(Clone, Copy, Debug, PartialEq, Eq)]
+pub enum Listing {
+    /// 0: the listing stands in the output, from its first byte on.
+    Listed {
+        /// How many bytes it has.
+        bytes: usize,
+    },
+    /// 11: the output is as it was.
+    Refused(Refusal),
+}
+
+/// What rewriting a record came to.
+#[derive(Clone, Copy, Debug, PartialEq, Eq)]
+pub enum Rewriting {
+    /// 0: the canonical text stands in the output, from its first byte on, and the record's cells in the table.
+    Rewritten {
+        /// How many bytes it has.
+        bytes: usize,
+        /// The place behind the record in the text that was asked.
+        next: usize,
+    },
+    /// A placing reply but 0, or 11: output and table are as they were.
+    Refused(Refusal),
+    /// A group could not be read: the output is as it was, and the table has the cells of the groups before it.
+    Unread {
+        /// The group.
+        group: usize,
+        /// The reply of reading it.
+        refusal: Refusal,
+    },
+}
+
+macro_rules! numbered {
+    ($($answer:ty: $($refused:pat => $why:ident),+;)+) => {$(
+        impl $answer {
+            /// The reply's number in the table of replies.
+            pub fn number(&self) -> usize {
+                match *self {
+                    $($refused => $why.number(),)+
+                    _ => 0,
+                }
+            }
+        }
+    )+};
+}
+
+numbered! {
+    Reading: Reading::Refused(why) => why;
+    Lines<'_>: Lines::Refused(why) => why;
+    Characteristic: Characteristic::Refused(why) => why;
+    Writing: Writing::Refused(why) => why;
+    Listing: Listing::Refused(why) => why;
+    Rewriting: Rewriting::Refused(why) => why, Rewriting::Unread { refusal, .. } => refusal;
+}
+
+impl Placing {
+    /// The reply's number in the table of replies.
+    pub fn number(&self) -> usize {
+        match *self {
+            Placing::Placed { .. } => 0,
+            Placing::Broken { .. } => 7,
+            Placing::Refused(why) => why.number(),
+        }
+    }
+}
+
+impl raw::Reply {
+    /// The refusal of this number, with its numbers. 0 is none.
+    fn refusal(self) -> Refusal {
+        let raw::Beside { group, line, element, position, .. } = self.beside;
+        match self.number {
+            1 => Refusal::End,
+            2 => Refusal::Beyond,
+            3 => Refusal::TooFewLines,
+            4 => Refusal::Misformed,
+            5 => Refusal::OtherRelease,
+            6 => Refusal::FilledVacant { group },
+            7 => Refusal::BrokenRule { group },
+            8 => Refusal::BadLine { line },
+            9 => Refusal::BadField { line, element },
+            10 => Refusal::BadDate { position },
+            11 => Refusal::NoRoom,
+            12 => Refusal::NoSuchNumber,
+            13 => Refusal::NoField { group, element },
+            14 => Refusal::OtherLength,
+            number => Refusal::Unknown { number },
+        }
+    }
+}
+
+/// Which record stands at a place of a text.
+pub fn place(text: &[u8], at: usize) -> Placing {
+    let mut counts = [0; 80];
+    let reply = raw::place(text, at, &mut counts);
+    let raw::Beside { next, group, .. } = reply.beside;
+    match reply.number {
+        0 => Placing::Placed { next, counts },
+        7 => Placing::Broken { next, counts, group },
+        _ => Placing::Refused(reply.refusal()),
+    }
+}
+
+/// The cells of a group, 1 to 60, of the record at a place.
+///
+/// I fields are whole numbers, F fields thousandths, A fields a cell for each byte; an E field has two cells, its digits and its exponent. No
+/// group has more than 1,998 cells. What stands in the table behind the group's cells is kept.
+pub fn read_group(text: &[u8], at: usize, group: usize, table: &mut [i64]) -> Reading {
+    let reply = raw::read_group(text, at, group, table);
+    match reply.number {
+        0 => Reading::Read { cells: reply.beside.written },
+        _ => Reading::Refused(reply.refusal()),
+    }
+}
+
+/// The lines of a group, 1 to 60, of the record at a place, as they stand in the text. The part and its reply, which are two questions in C, are
+/// one answer here.
+pub fn group_lines(text: &[u8], at: usize, group: usize) -> Lines<'_> {
+    let mut part = raw::Part::default();
+    let reply = raw::group_lines(text, at, group, &mut part);
+    let lines = text.get(part.start..).and_then(|rest| rest.get(..part.length));
+    match (reply.number, lines) {
+        (0, Some(lines)) => Lines::Part(lines),
+        (0, None) => Lines::Refused(Refusal::Unknown { number: 0 }),
+        _ => Lines::Refused(reply.refusal()),
+    }
+}
+
+/// A characteristic, 1 to 49, of the record at a place. Characteristic 1 is foF2.
+pub fn characteristic(text: &[u8], at: usize, number: usize) -> Characteristic {
+    let mut answer = raw::Answer::default();
+    let reply = raw::characteristic(text, at, number, &mut answer);
+    match (reply.number, answer.kind) {
+        (0, 0) => Characteristic::Value(answer.value),
+        (0, 1) => Characteristic::NoReading,
+        (0, 2) => Characteristic::NotReported,
+        (0, _) => Characteristic::Refused(Refusal::Unknown { number: 0 }),
+        _ => Characteristic::Refused(reply.refusal()),
+    }
+}
+
+/// The canonical text of a record of these counts, which are 80, and of all its cells in group order.
+///
+/// What stands in the output behind the text is kept.
+pub fn write_record(counts: &[u16], cells: &[i64], out: &mut [u8]) -> Writing {
+    let reply = raw::write_record(counts, cells, out);
+    match reply.number {
+        0 => Writing::Written { bytes: reply.beside.written },
+        _ => Writing::Refused(reply.refusal()),
+    }
+}
+
+/// The listing of a text: a line for each placed record, and last a line that begins with `end`.
+///
+/// A record's line has its number, its place, the next place, the reply, the blamed group, its groups with a count and its lines with the
+/// index; the last line the records listed, the place where the walk stopped, the reply there and its group. What stands in the output behind
+/// the listing is kept.
+pub fn list(text: &[u8], out: &mut [u8]) -> Listing {
+    let reply = raw::list(text, out);
+    match reply.number {
+        0 => Listing::Listed { bytes: reply.beside.written },
+        _ => Listing::Refused(reply.refusal()),
+    }
+}
+
+/// The record at a place as canonical text. The table is room for its cells; as many cells as the output has bytes are always enough.
+///
+/// What stands in the output and in the table behind what was written is kept.
+pub fn rewrite_record(text: &[u8], at: usize, table: &mut [i64], out: &mut [u8]) -> Rewriting {
+    let mut unread = 0;
+    let reply = raw::rewrite_record(text, at, table, out, &mut unread);
+    match (reply.number, unread) {
+        (0, _) => Rewriting::Rewritten { bytes: reply.beside.written, next: reply.beside.next },
+        (_, 0) => Rewriting::Refused(reply.refusal()),
+        (_, group) => Rewriting::Unread { group, refusal: reply.refusal() },
+    }
+}
+
+#[cfg(test)]
+mod tests {
+    use super::raw::{Beside, Reply};
+    use super::Refusal;
+
+    /// Numbers that differ from each other, so that one in another's place is seen.
+    const BESIDE: Beside = Beside { next: 101, written: 102, group: 103, line: 104, element: 105, position: 106 };
+
+    fn refusal(number: usize) -> Refusal {
+        Reply { number, beside: BESIDE }.refusal()
+    }
+
+    /// The rows of the table of replies that give a number beside the reply.
+    #[test]
+    fn each_refusal_takes_the_numbers_of_its_row() {
+        assert_eq!(refusal(6), Refusal::FilledVacant { group: 103 });
+        assert_eq!(refusal(7), Refusal::BrokenRule { group: 103 });
+        assert_eq!(refusal(8), Refusal::BadLine { line: 104 });
+        assert_eq!(refusal(9), Refusal::BadField { line: 104, element: 105 });
+        assert_eq!(refusal(10), Refusal::BadDate { position: 106 });
+        assert_eq!(refusal(13), Refusal::NoField { group: 103, element: 105 });
+    }
+
+    #[test]
+    fn each_number_is_its_own_refusal() {
+        for number in 1..=14 {
+            assert_eq!(refusal(number).number(), number);
+            assert!(!matches!(refusal(number), Refusal::Unknown { .. }), "{number}");
+            assert!(!refusal(number).to_string().is_empty());
+        }
+    }
+
+    #[test]
+    fn a_number_outside_the_table_is_kept() {
+        for number in [0, 15, usize::MAX] {
+            assert_eq!(refusal(number), Refusal::Unknown { number });
+            assert_eq!(refusal(number).number(), number);
+        }
+    }
+}

@@ -1,0 +1,130 @@
+//! The functions of `include/seambeacon.h`, and a safe call of each. All unsafe code is here.
+//!
+//! What the header asks of a caller holds of every call below, whatever is given. A pointer comes from a slice, with that slice's length, or
+//! from a reference to a value of the type that the header names. What is lent to be altered is `&mut`, so it overlaps nothing else and nobody
+//! else looks at it during the call; what is lent to be read is `&`, so nobody writes it. All of it has values beforehand. Nothing is kept by
+//! the library when a call has ended.
+
+/// The numbers beside a reply, 0 where the reply does not give them.
+#[repr(C)]
+#[derive(Clone, Copy, Default)]
+pub struct Beside {
+    pub next: usize,
+    pub written: usize,
+    pub group: usize,
+    pub line: usize,
+    pub element: usize,
+    pub position: usize,
+}
+
+/// A part of the text, by its first byte and its length.
+#[repr(C)]
+#[derive(Clone, Copy, Default)]
+pub struct Part {
+    pub start: usize,
+    pub length: usize,
+}
+
+/// What is known of a characteristic: its kind, and the value of kind 0.
+#[repr(C)]
+#[derive(Clone, Copy, Default)]
+pub struct Answer {
+    pub kind: i64,
+    pub value: i64,
+}
+
+/// A reply's number with the numbers beside it.
+#[derive(Clone, Copy)]
+pub struct Reply {
+    pub number: usize,
+    pub beside: Beside,
+}
+
+extern "C" {
+    fn seambeacon_place(text: *const u8, text_length: usize, at: usize, counts: *mut u16, beside: *mut Beside) -> usize;
+    fn seambeacon_read_group(
+        text: *const u8,
+        text_length: usize,
+        at: usize,
+        group: usize,
+        table: *mut i64,
+        table_length: usize,
+        beside: *mut Beside,
+    ) -> usize;
+    fn seambeacon_group_lines(text: *const u8, text_length: usize, at: usize, group: usize, part: *mut Part, beside: *mut Beside) -> usize;
+    fn seambeacon_characteristic(
+        text: *const u8,
+        text_length: usize,
+        at: usize,
+        number: usize,
+        answer: *mut Answer,
+        beside: *mut Beside,
+    ) -> usize;
+    fn seambeacon_write_record(
+        counts: *const u16,
+        counts_length: usize,
+        cells: *const i64,
+        cells_length: usize,
+        out: *mut u8,
+        out_length: usize,
+        beside: *mut Beside,
+    ) -> usize;
+    fn seambeacon_list(text: *const u8, text_length: usize, out: *mut u8, out_length: usize, beside: *mut Beside) -> usize;
+    fn seambeacon_rewrite_record(
+        text: *const u8,
+        text_length: usize,
+        at: usize,
+        table: *mut i64,
+        table_length: usize,
+        out: *mut u8,
+        out_length: usize,
+        unread: *mut usize,
+        beside: *mut Beside,
+    ) -> usize;
+}
+
+/// The reply of a call that writes the numbers beside it.
+fn reply(call: impl FnOnce(&mut Beside) -> usize) -> Reply {
+    let mut beside = Beside::default();
+    let number = call(&mut beside);
+    Reply { number, beside }
+}
+
+pub fn place(text: &[u8], at: usize, counts: &mut [u16; 80]) -> Reply {
+    // SAFETY: as the head of this file says.
+    reply(|beside| unsafe { seambeacon_place(text.as_ptr(), text.len(), at, counts.as_mut_ptr(), beside) })
+}
+
+pub fn read_group(text: &[u8], at: usize, group: usize, table: &mut [i64]) -> Reply {
+    // SAFETY: as the head of this file says.
+    reply(|beside| unsafe { seambeacon_read_group(text.as_ptr(), text.len(), at, group, table.as_mut_ptr(), table.len(), beside) })
+}
+
+pub fn group_lines(text: &[u8], at: usize, group: usize, part: &mut Part) -> Reply {
+    // SAFETY: as the head of this file says.
+    reply(|beside| unsafe { seambeacon_group_lines(text.as_ptr(), text.len(), at, group, part, beside) })
+}
+
+pub fn characteristic(text: &[u8], at: usize, number: usize, answer: &mut Answer) -> Reply {
+    // SAFETY: as the head of this file says.
+    reply(|beside| unsafe { seambeacon_characteristic(text.as_ptr(), text.len(), at, number, answer, beside) })
+}
+
+pub fn write_record(counts: &[u16], cells: &[i64], out: &mut [u8]) -> Reply {
+    // SAFETY: as the head of this file says.
+    reply(|beside| unsafe {
+        seambeacon_write_record(counts.as_ptr(), counts.len(), cells.as_ptr(), cells.len(), out.as_mut_ptr(), out.len(), beside)
+    })
+}
+
+pub fn list(text: &[u8], out: &mut [u8]) -> Reply {
+    // SAFETY: as the head of this file says.
+    reply(|beside| unsafe { seambeacon_list(text.as_ptr(), text.len(), out.as_mut_ptr(), out.len(), beside) })
+}
+
+pub fn rewrite_record(text: &[u8], at: usize, table: &mut [i64], out: &mut [u8], unread: &mut usize) -> Reply {
+    // SAFETY: as the head of this file says.
+    reply(|beside| unsafe {
+        seambeacon_rewrite_record(text.as_ptr(), text.len(), at, table.as_mut_ptr(), table.len(), out.as_mut_ptr(), out.len(), unread, beside)
+    })
+}

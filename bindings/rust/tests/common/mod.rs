@@ -1,0 +1,58 @@
+//! What the tests share: the project's example texts, and record S with its numbers as the rules state them.
+#![allow(dead_code)]
+
+use seambeacon::Rewriting;
+use std::fs;
+use std::path::PathBuf;
+
+/// A file or folder of the project.
+pub fn project(name: &str) -> PathBuf {
+    PathBuf::from(env!("CARGO_MANIFEST_DIR")).join("../..").join(name)
+}
+
+/// A file's bytes; a file that is not there fails the test.
+pub fn bytes(name: &str) -> Vec<u8> {
+    fs::read(project(name)).unwrap_or_else(|why| panic!("{name}: {why}"))
+}
+
+/// Record S, of 305 bytes.
+pub fn s() -> Vec<u8> {
+    let text = bytes("examples/s.sao");
+    assert_eq!(text.len(), 305);
+    text
+}
+
+/// S's counts: 4, 0, 19, 1, zeros, release 5.
+pub fn counts_of_s() -> [u16; 80] {
+    let mut counts = [0; 80];
+    (counts[0], counts[2], counts[3], counts[79]) = (4, 19, 1, 5);
+    counts
+}
+
+/// S's cells in group order: the data lines are `  1.200 67.000-23.500143.000`, `AA20062650922142530`, `   7.250`.
+pub fn cells_of_s() -> Vec<i64> {
+    let mut cells = vec![1200, 67000, -23500, 143000];
+    cells.extend(b"AA20062650922142530".iter().map(|&letter| i64::from(letter)));
+    cells.push(7250);
+    cells
+}
+
+/// The text with the one place where `old` stands replaced by `new`.
+pub fn replaced(text: &[u8], old: &str, new: &str) -> Vec<u8> {
+    let places: Vec<usize> = (0..text.len()).filter(|&at| text[at..].starts_with(old.as_bytes())).collect();
+    assert_eq!(places.len(), 1, "`{old}` stands in the text once");
+    [&text[..places[0]], new.as_bytes(), &text[places[0] + old.len()..]].concat()
+}
+
+/// What the rewriting program prints of a text: its records as canonical text, each of at most 8,192 bytes, up to the first that is refused.
+/// Also the place where it stops.
+pub fn rewritten(text: &[u8]) -> (Vec<u8>, usize) {
+    let (mut table, mut out) = ([0; 8192], [0; 8192]);
+    let (mut at, mut all) = (0, Vec::new());
+    while let Rewriting::Rewritten { bytes, next } = seambeacon::rewrite_record(text, at, &mut table, &mut out) {
+        assert!(next > at, "a walk goes forward");
+        all.extend_from_slice(&out[..bytes]);
+        at = next;
+    }
+    (all, at)
+}

@@ -1,0 +1,145 @@
+//! The texts and write questions of tests/vectors, with the answers of an independent implementation: lists, rewritten records, every answer
+//! about every placed record, and everything that is written.
+
+mod common;
+
+use common::{bytes, project, rewritten};
+use seambeacon::{Characteristic, Lines, Listing, Placing, Reading, Refusal, Writing};
+use std::fmt::Write;
+use std::fs;
+
+/// The vectors' texts, each with the path of its answers. None is longer than 65,536 bytes, which the programs' answers would depend on.
+fn texts() -> Vec<(String, Vec<u8>)> {
+    let mut all = Vec::new();
+    for file in fs::read_dir(project("tests/vectors")).expect("tests/vectors") {
+        let name = file.expect("a file").file_name().into_string().expect("a name");
+        if let Some(stem) = name.strip_suffix(".sao") {
+            let text = bytes(&format!("tests/vectors/{name}"));
+            assert!(text.len() <= 65536);
+            all.push((format!("tests/vectors/{stem}"), text));
+        }
+    }
+    assert!(all.len() >= 100, "{} texts", all.len());
+    all
+}
+
+#[test]
+fn listings() {
+    for (path, text) in texts() {
+        let mut out = [0; 8192];
+        let Listing::Listed { bytes: length } = seambeacon::list(&text, &mut out) else { panic!("{path}") };
+        assert!(out[..length] == bytes(&format!("{path}.list")), "{path}");
+    }
+}
+
+#[test]
+fn rewritten_records() {
+    for (path, text) in texts() {
+        assert!(rewritten(&text).0 == bytes(&format!("{path}.rewrite")), "{path}");
+    }
+}
+
+/// A refusal's number, and the two numbers beside it in a dump: group, line or position, and element.
+fn numbers(why: Refusal) -> [usize; 3] {
+    let (first, second) = match why {
+        Refusal::FilledVacant { group } | Refusal::BrokenRule { group } => (group, 0),
+        Refusal::BadLine { line } => (line, 0),
+        Refusal::BadField { line, element } => (line, element),
+        Refusal::BadDate { position } => (position, 0),
+        _ => (0, 0),
+    };
+    [why.number(), first, second]
+}
+
+/// `group G REPLY A B START END CELL1 ..`
+fn group_row(text: &[u8], at: usize, group: usize) -> String {
+    let mut table = [0; 2000];
+    let ([reply, a, b], cells) = match seambeacon::read_group(text, at, group, &mut table) {
+        Reading::Read { cells } => ([0, cells, 0], cells),
+        Reading::Refused(why) => (numbers(why), 0),
+    };
+    let start_end = match seambeacon::group_lines(text, at, group) {
+        Lines::Part(lines) => {
+            let start = lines.as_ptr() as usize - text.as_ptr() as usize;
+            [start, start + lines.len()]
+        }
+        Lines::Refused(_) => [0, 0],
+    };
+    let mut row = format!("group {group} {reply} {a} {b} {} {}", start_end[0], start_end[1]);
+    for cell in &table[..cells] {
+        write!(row, " {cell}").expect("a string");
+    }
+    row
+}
+
+/// `char C KIND VALUE REPLY A B`
+fn characteristic_row(text: &[u8], at: usize, number: usize) -> String {
+    let (kind, value, [reply, a, b]) = match seambeacon::characteristic(text, at, number) {
+        Characteristic::Value(value) => (0, value, [0; 3]),
+        Characteristic::NoReading => (1, 0, [0; 3]),
+        Characteristic::NotReported => (2, 0, [0; 3]),
+        Characteristic::Refused(why) => (3, 0, numbers(why)),
+    };
+    format!("char {number} {kind} {value} {reply} {a} {b}")
+}
+
+#[test]
+fn every_answer_about_every_record() {
+    let mut records = 0;
+    for (path, text) in texts() {
+        let (mut at, mut rows) = (0, Vec::new());
+        loop {
+            let (reply, next, group, counts) = match seambeacon::place(&text, at) {
+                Placing::Placed { next, counts } => (0, next, 0, counts),
+                Placing::Broken { next, counts, group } => (7, next, group, counts),
+                Placing::Refused(why) => {
+                    let [reply, group, _] = numbers(why);
+                    rows.push(format!("stop {at} {reply} 0 {group}"));
+                    break;
+                }
+            };
+            let counts: Vec<String> = counts.iter().map(u16::to_string).collect();
+            rows.push(format!("record {at} {reply} {next} {group} {}", counts.join(" ")));
+            rows.extend((1..=60).map(|group| group_row(&text, at, group)));
+            rows.extend((1..=49).map(|number| characteristic_row(&text, at, number)));
+            assert!(next > at, "a walk goes forward");
+            at = next;
+            records += 1;
+        }
+        let want = String::from_utf8(bytes(&format!("{path}.dump"))).expect("ASCII");
+        assert!(want.lines().eq(rows.iter().map(String::as_str)), "{path}");
+    }
+    assert!(records >= 100, "{records} records");
+}
+
+/// `ROOM K count.. M cell.. REPLY A B HEX`, where A and B are bytes, group or position, and element.
+#[test]
+fn write_questions() {
+    let file = String::from_utf8(bytes("tests/vectors/writes.txt")).expect("ASCII");
+    let (mut asked, mut written) = (0, 0);
+    for question in file.lines() {
+        let mut words = question.split(' ');
+        let mut number = || words.next().expect("a number").parse::<i64>().expect("a number");
+        let (room, many) = (number() as usize, number());
+        let counts: Vec<u16> = (0..many).map(|_| u16::try_from(number()).expect("a count")).collect();
+        let many = number();
+        let cells: Vec<i64> = (0..many).map(|_| number()).collect();
+        let want = [number() as usize, number() as usize, number() as usize];
+        let hex = words.next().expect("hexadecimal").trim_end_matches('-');
+        let mut output: Vec<u8> = (0..hex.len()).step_by(2).map(|i| u8::from_str_radix(&hex[i..i + 2], 16).expect("a byte")).collect();
+        output.resize(room, 0xa5);
+
+        let mut out = vec![0xa5; room];
+        let got = match seambeacon::write_record(&counts, &cells, &mut out) {
+            Writing::Written { bytes } => [0, bytes, 0],
+            Writing::Refused(Refusal::NoField { group, element }) => [13, group, element],
+            Writing::Refused(why) => numbers(why),
+        };
+        asked += 1;
+        written += usize::from(want[0] == 0);
+        assert_eq!((got, words.next()), (want, None), "question {asked}");
+        assert!(out == output, "question {asked}");
+    }
+    assert_eq!(asked, 136);
+    assert!(written >= 20, "{written} written");
+}

@@ -1,0 +1,29 @@
+-- `boundary::seambeacon_list` meets its contract: what `sao::list` answers, in numbers.
+-- Assumes nothing.
+use borrow.Author.Needs.{needs}
+use mathlib.Core.Path.{_∙_, ap}
+use Rattle.listing.specs.Listing.{listedReply}
+use Rattle.boundary.proofs.Telling.{told-as}
+use Rattle.boundary.proofs.seambeacon_list.Statement.{statement}
+use Rattle.boundary.proofs.seambeacon_list.Tie as tie
+
+list-requires : tie.Need-list-requires
+list-requires c κs = search needs
+
+listed-reply-requires : tie.Need-listed-reply-requires
+listed-reply-requires c κs = search needs
+
+tell-requires : tie.Need-tell-requires
+tell-requires c κs = search needs
+
+same-length : tie.Need-same-length
+same-length c = search needs
+
+returns : tie.Need-returns
+returns c =
+    let e = c .before .before .before .before .before .list .ensures in
+    (told-as (c .before .before .listed-reply .ensures ∙ ap listedReply (e .answer)) (c .tell .ensures), e .bytes)
+
+pub seambeacon-list-spec : {M : Type 1} → statement M
+seambeacon-list-spec =
+    tie.close (tie.spec list-requires listed-reply-requires tell-requires same-length returns)

@@ -1,0 +1,199 @@
+// The boundary to C: each question of `sao` under a name of its own, in numbers and slices alone. A function answers with the reply's number
+// in 01's table and writes the six numbers beside it, in the order of `besideOf`, into lent memory; numbers that the reply's row doesn't name
+// are 0. What else is lent is altered as the question of the same name says. include/seambeacon.h tells a caller in C.
+use decimal::Put;
+use group::Characteristic;
+use reply::Reply;
+ghost use mathlib.Core.Path.{_≡_};
+ghost use mathlib.Core.List.{[], _∷_};
+ghost use lib.ListN.{length};
+ghost use Rattle.boundary.specs.Numbers.{Told, besideOf, answerOf};
+ghost use Rattle.boundary.specs.Replies.{placeReply, readReply, linesReply, characteristicReplyAt, writeReply, listReply, rewriteReply};
+ghost use Rattle.decimal.specs.Writing.{putBytes};
+ghost use Rattle.place.specs.Placing.{countsAt};
+ghost use Rattle.reading.specs.Read.{tableBy};
+ghost use Rattle.group.specs.Text.{readAt};
+ghost use Rattle.group.specs.Held.{partStart, partAt};
+ghost use Rattle.group.specs.Characteristics.{characteristicAt};
+ghost use Rattle.record.specs.Writing.{writingOf, outputBy};
+ghost use Rattle.rewriting.specs.Record.{rewritingOf, tableBy as tableAfter, bufferBy};
+ghost use Rattle.rewriting.specs.Numbered.{rewritingGroup};
+ghost use Rattle.listing.specs.Listing.{listing, listedReply};
+
+// ---- Numbers.
+
+// A reply as its number, and the numbers beside it.
+fn tell(r: Reply, beside: &mut [usize; 6]) -> usize
+    ensures { λ n. ⌜ Told r n (now (beside .exit)) ⌝ }
+{
+    *beside = [r.next, r.written, r.group, r.line, r.element, r.position];
+    r.number
+}
+
+fn listed_reply(answer: Put) -> Reply
+    ensures { λ r. ⌜ r ≡ listedReply answer ⌝ }
+{
+    match answer {
+        Put::Next(bytes) => reply::done(bytes),
+        Put::NoRoom => reply::plain(11),
+    }
+}
+
+// The kind of a characteristic's answer, and its value or 0.
+fn answer_of(c: Characteristic) -> [i64; 2]
+    ensures { λ r. ⌜ r ≡ answerOf c ⌝ }
+{
+    match c {
+        Characteristic::Value(value) => [0, value],
+        Characteristic::NoReading => [1, 0],
+        Characteristic::NotReported => [2, 0],
+        Characteristic::Unread(_) => [3, 0],
+    }
+}
+
+// ---- The questions.
+
+// Asked: which record stands at a place of a text.
+// Answered: the placing reply, with the next place under 0 and 7; the record's 80 counts.
+// A refusal but 7 leaves 80 zero counts.
+#[no_mangle]
+pub extern "C" fn seambeacon_place(
+    text: &[u8],
+    at: usize,
+    counts: &mut [u16; 80],
+    beside: &mut [usize; 6],
+) -> usize
+    ensures { λ n. ⌜ Told (placeReply (now (text .entry)) at) n (now (beside .exit)) × (now (counts .exit) ≡ countsAt (now (text .entry)) at) ⌝ }
+{
+    let record = sao::place(text, at);
+    let found = record.counts;
+    *counts = found;
+    let answer = record.answer;
+    tell(place::reply_of(answer), beside)
+}
+
+// Asked: the cells of a group, 1 to 60, of the record at a place.
+// Answered: 0 with the number of cells, which stand in the table from its first cell on; what stands behind them is kept.
+// A refusal leaves the whole table as it was.
+#[no_mangle]
+pub extern "C" fn seambeacon_read_group(
+    text: &[u8],
+    at: usize,
+    group: usize,
+    table: &mut [i64],
+    beside: &mut [usize; 6],
+) -> usize
+    ensures { λ n. ⌜ Told (readReply (now (text .entry)) at group (length (now (table .entry)))) n (now (beside .exit)) × (now (table .exit) ≡ tableBy (readAt (now (text .entry)) at group (length (now (table .entry)))) (now (table .entry))) ⌝ }
+{
+    tell(
+        reading::reply_of(sao::read_group(text, at, group, table)),
+        beside,
+    )
+}
+
+// Asked: whether the lines of a group of the record at a place can be given.
+// Answered: 0, or why not: 12, or any placing reply but 0.
+// Nothing but the numbers beside the reply is lent to be altered.
+#[no_mangle]
+pub extern "C" fn seambeacon_group_lines_reply(
+    text: &[u8],
+    at: usize,
+    group: usize,
+    beside: &mut [usize; 6],
+) -> usize
+    ensures { λ n. ⌜ Told (linesReply (now (text .entry)) at group) n (now (beside .exit)) ⌝ }
+{
+    tell(
+        group::found_reply(sao::group_lines_reply(text, at, group)),
+        beside,
+    )
+}
+
+// Asked: the lines of a group, with their line ends.
+// Answered: the same reply, and which part of the text holds them: the place where it starts, and its length. With count 0 it is the empty
+// part where they would begin.
+// A refusal gives the empty part at the text's start.
+#[no_mangle]
+pub extern "C" fn seambeacon_group_lines(
+    text: &[u8],
+    at: usize,
+    group: usize,
+    part: &mut [usize; 2],
+    beside: &mut [usize; 6],
+) -> usize
+    ensures { λ n. ⌜ Told (linesReply (now (text .entry)) at group) n (now (beside .exit)) × (now (part .exit) ≡ partStart (now (text .entry)) at group ∷ length (partAt (now (text .entry)) at group) ∷ []) ⌝ }
+{
+    let lines = group::lines_span(text, at, group);
+    *part = [lines.from, lines.to - lines.from];
+    tell(
+        group::found_reply(sao::group_lines_reply(text, at, group)),
+        beside,
+    )
+}
+
+// Asked: a characteristic, 1 to 49, of the record at a place.
+// Answered: its kind, and its value in thousandths or 0.
+// A refusal is a kind too, and has its reply: 12, or that of reading group 4.
+#[no_mangle]
+pub extern "C" fn seambeacon_characteristic(
+    text: &[u8],
+    at: usize,
+    number: usize,
+    answer: &mut [i64; 2],
+    beside: &mut [usize; 6],
+) -> usize
+    ensures { λ n. ⌜ Told (characteristicReplyAt (now (text .entry)) at number) n (now (beside .exit)) × (now (answer .exit) ≡ answerOf (characteristicAt (now (text .entry)) at number)) ⌝ }
+{
+    let c = sao::characteristic(text, at, number);
+    *answer = answer_of(c);
+    tell(group::characteristic_reply(c), beside)
+}
+
+// Asked: to write a record of these counts and of all cells in group order.
+// Answered: 0 with the number of bytes, which stand in the output from its first byte on; what stands behind them is kept.
+// A refusal leaves the whole output as it was.
+#[no_mangle]
+pub extern "C" fn seambeacon_write_record(
+    counts: &[u16],
+    cells: &[i64],
+    out: &mut [u8],
+    beside: &mut [usize; 6],
+) -> usize
+    ensures { λ n. ⌜ Told (writeReply (now (counts .entry)) (now (cells .entry)) (length (now (out .entry)))) n (now (beside .exit)) × (now (out .exit) ≡ outputBy (now (counts .entry)) (now (cells .entry)) (writingOf (now (counts .entry)) (now (cells .entry)) (length (now (out .entry)))) (now (out .entry))) ⌝ }
+{
+    tell(
+        record::reply_of(sao::write_record(counts, cells, out)),
+        beside,
+    )
+}
+
+// Asked: the listing of a text, a line for each placed record and the line `end`.
+// Answered: 0 with the number of bytes, which stand in the output from its first byte on; what stands behind them is kept.
+// A refusal (11) leaves the whole output as it was.
+#[no_mangle]
+pub extern "C" fn seambeacon_list(text: &[u8], out: &mut [u8], beside: &mut [usize; 6]) -> usize
+    ensures { λ n. ⌜ Told (listReply (now (text .entry)) (now (out .entry))) n (now (beside .exit)) × (now (out .exit) ≡ putBytes 0 (listing (now (text .entry))) (now (out .entry))) ⌝ }
+{
+    tell(listed_reply(sao::list(text, out)), beside)
+}
+
+// Asked: to rewrite the record at a place as canonical text.
+// Answered: 0 with the number of bytes and the next place; the bytes stand in the output from its first byte on, the record's cells in the
+// table from its first cell on, and what stands behind them is kept. The group that was not read, or 0, is given apart: a reply's own group
+// is the blamed one.
+// A refusal leaves the whole output as it was; the table has the cells of the groups that were read before it.
+#[no_mangle]
+pub extern "C" fn seambeacon_rewrite_record(
+    text: &[u8],
+    at: usize,
+    table: &mut [i64],
+    out: &mut [u8],
+    unread: &mut [usize; 1],
+    beside: &mut [usize; 6],
+) -> usize
+    ensures { λ n. ⌜ Told (rewriteReply (now (text .entry)) at (length (now (table .entry))) (length (now (out .entry)))) n (now (beside .exit)) × (now (unread .exit) ≡ rewritingGroup (rewritingOf (now (text .entry)) at (length (now (table .entry))) (length (now (out .entry)))) ∷ []) × (now (table .exit) ≡ tableAfter (now (text .entry)) at (rewritingOf (now (text .entry)) at (length (now (table .entry))) (length (now (out .entry)))) (now (table .entry))) × (now (out .exit) ≡ bufferBy (now (text .entry)) at (rewritingOf (now (text .entry)) at (length (now (table .entry))) (length (now (out .entry)))) (now (out .entry))) ⌝ }
+{
+    let answer = sao::rewrite_record(text, at, table, out);
+    *unread = [rewriting::group_of(answer)];
+    tell(rewriting::reply_of(answer), beside)
+}

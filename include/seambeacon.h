@@ -1,0 +1,128 @@
+/* Seambeacon: places, reads and writes SAO 4.3 records. Link target/staticlib/libboundary.a (`rt staticlib boundary`), x86-64.
+
+   Every function can be asked of every text, place, number, table and output, comes to an end, and returns one of the replies below. A caller
+   never has to check beforehand. Nothing is kept between two calls.
+
+   What a caller answers for:
+   - A pointer with a length behind it is valid for that many of what it points to; with length 0 it is never followed and may be NULL. Any
+     other pointer is valid for the one array or struct that it points to, and is not NULL. All are aligned for their type.
+   - Memory that is lent to be altered (a pointer without const) overlaps nothing else that is lent in the same call, and nobody else reads or
+     writes it during the call. Nobody writes the rest during the call.
+
+   A text is its bytes, with line ends; no byte marks its end. A place is a number of bytes from the text's start. Groups, lines, elements,
+   positions and characteristics count from 1. */
+#ifndef SEAMBEACON_H
+#define SEAMBEACON_H
+
+#include <stddef.h>
+#include <stdint.h>
+
+#ifdef __cplusplus
+extern "C" {
+#endif
+
+/* The replies, each with the numbers that are given beside it. */
+enum seambeacon_reply {
+    SEAMBEACON_DONE = 0,           /* done: in placing and rewriting the next place; else, and in rewriting too, cells or bytes written */
+    SEAMBEACON_END = 1,            /* the place is the text's end */
+    SEAMBEACON_BEYOND = 2,         /* the place lies beyond the text's end */
+    SEAMBEACON_TOO_FEW_LINES = 3,  /* fewer line feeds are left than the index lines or the data lines need */
+    SEAMBEACON_MISFORMED = 4,      /* an index line or entry is misformed; in writing, not 80 counts or a count above 999 */
+    SEAMBEACON_OTHER_RELEASE = 5,  /* the release, number 80 of the index, is not 5 */
+    SEAMBEACON_FILLED_VACANT = 6,  /* a group of 61 to 79 has a count: the lowest such group */
+    SEAMBEACON_BROKEN_RULE = 7,    /* a rule on counts is broken: the blamed group; in placing also the next place */
+    SEAMBEACON_BAD_LINE = 8,       /* no carriage return before the line feed, a wrong length, or no blanks behind the fields: the line */
+    SEAMBEACON_BAD_FIELD = 9,      /* a misformed field: its line, and its element in the group */
+    SEAMBEACON_BAD_DATE = 10,      /* group 3 has no right date: the position blamed */
+    SEAMBEACON_NO_ROOM = 11,       /* the table or the output is shorter than what would be filled */
+    SEAMBEACON_NO_SUCH_NUMBER = 12, /* no group 1 to 60, or no characteristic 1 to 49, of that number */
+    SEAMBEACON_NO_FIELD = 13,      /* in writing, a value fits no field of its form: its group and element */
+    SEAMBEACON_OTHER_LENGTH = 14   /* in writing, the number of cells is not what the counts need */
+};
+
+/* The numbers beside a reply. All six are written at every call, and those that the reply does not give are 0. */
+struct seambeacon_beside {
+    size_t next;     /* place behind the record */
+    size_t written;  /* cells or bytes written */
+    size_t group;
+    size_t line;     /* line in the group */
+    size_t element;  /* element in the group */
+    size_t position; /* position in group 3 */
+};
+
+/* A part of the text: where it starts, as a place, and its length in bytes. */
+struct seambeacon_part {
+    size_t start;
+    size_t length;
+};
+
+/* What is known of a characteristic: one of the kinds, and the value in thousandths, which is 0 for the other kinds. */
+enum seambeacon_kind {
+    SEAMBEACON_VALUE = 0,
+    SEAMBEACON_NO_READING = 1,
+    SEAMBEACON_NOT_REPORTED = 2, /* the record has fewer characteristics */
+    SEAMBEACON_REFUSED = 3       /* the reply says why */
+};
+
+struct seambeacon_answer {
+    int64_t kind;
+    int64_t value;
+};
+
+/* Asked: which record stands at a place of a text.
+   Answered: 0 or 7 with the next place, from which a walk goes on; counts has the record's 80 counts, group g's as counts[g - 1].
+   Another refusal (1 to 6) leaves 80 zeros in counts. */
+size_t seambeacon_place(const uint8_t *text, size_t text_length, size_t at, uint16_t counts[80], struct seambeacon_beside *beside);
+
+/* Asked: the cells of a group, 1 to 60, of the record at a place.
+   Answered: 0 with the number of cells, which stand in the table from its first cell on; what stands behind them is kept. I fields are whole
+   numbers, F fields thousandths, A fields a cell for each byte; an E field has two cells, its digits and its exponent. No group has more than
+   1,998 cells.
+   A refusal (12, a placing reply but 0, 11, 8, 9, 10, in this order) leaves the whole table as it was. */
+size_t seambeacon_read_group(const uint8_t *text, size_t text_length, size_t at, size_t group, int64_t *table, size_t table_length,
+                             struct seambeacon_beside *beside);
+
+/* Asked: whether the lines of a group of the record at a place can be given.
+   Answered: 0, or why not: 12, or a placing reply but 0 (7 without a next place). */
+size_t seambeacon_group_lines_reply(const uint8_t *text, size_t text_length, size_t at, size_t group, struct seambeacon_beside *beside);
+
+/* Asked: the lines of a group of the record at a place, with their line ends.
+   Answered: the reply of seambeacon_group_lines_reply, and which part of the text holds them: part->length bytes from text + part->start on.
+   With count 0 it is the empty part where they would begin.
+   A refusal gives the empty part at the text's start. */
+size_t seambeacon_group_lines(const uint8_t *text, size_t text_length, size_t at, size_t group, struct seambeacon_part *part,
+                              struct seambeacon_beside *beside);
+
+/* Asked: a characteristic, 1 to 49, of the record at a place.
+   Answered: under reply 0 its value, that there is no reading, or that it is not reported.
+   A refusal (12, or the reply of reading group 4) has the kind SEAMBEACON_REFUSED. */
+size_t seambeacon_characteristic(const uint8_t *text, size_t text_length, size_t at, size_t number, struct seambeacon_answer *answer,
+                                 struct seambeacon_beside *beside);
+
+/* Asked: to write a record of these counts, which are 80, and of all its cells in group order.
+   Answered: 0 with the number of bytes of its canonical text, which stand in out from its first byte on; what stands behind them is kept.
+   A refusal (4, 5, 6, 7, 14, 13, 10, 11, in this order) leaves the whole output as it was. */
+size_t seambeacon_write_record(const uint16_t *counts, size_t counts_length, const int64_t *cells, size_t cells_length, uint8_t *out,
+                               size_t out_length, struct seambeacon_beside *beside);
+
+/* Asked: the listing of a text: a line for each placed record (record number, place, next place, reply, blamed group, groups with a count,
+   lines with the index), and last a line with `end`, records listed, the place where the walk stopped, the reply there, its group or 0.
+   Answered: 0 with the number of bytes, which stand in out from its first byte on; what stands behind them is kept. A text of any length is
+   listed.
+   A refusal (11) leaves the whole output as it was. */
+size_t seambeacon_list(const uint8_t *text, size_t text_length, uint8_t *out, size_t out_length, struct seambeacon_beside *beside);
+
+/* Asked: to rewrite the record at a place as canonical text. The table is room for the record's cells: as many cells as the
+   output has bytes are always enough.
+   Answered: 0 with the number of bytes and the next place. The bytes stand in out from its first byte on, the record's cells in group order in
+   the table from its first cell on; what stands behind them is kept. *unread is 0.
+   A refusal (a placing reply but 0, 11, or the first reply but 0 of reading groups 1 to 60) leaves the whole output as it was. *unread is the
+   group that could not be read, and 0 where it is none of that; the table has the cells of the groups before it, and is otherwise as it was. */
+size_t seambeacon_rewrite_record(const uint8_t *text, size_t text_length, size_t at, int64_t *table, size_t table_length, uint8_t *out,
+                                 size_t out_length, size_t *unread, struct seambeacon_beside *beside);
+
+#ifdef __cplusplus
+}
+#endif
+
+#endif

@@ -1,0 +1,32 @@
+#!/bin/sh
+# The boundary from C: include/seambeacon.h compiles alone as C and as C++, and the program of tests/c asks every question on record S, S twice
+# and damaged texts, every line of tests/vectors/writes.txt and every answer of the texts of tests/vectors, and compares all lent memory. The
+# program counts its checks; so many are demanded that none of its parts can be left out.
+set -u
+cd "$(dirname "$0")/.." || exit 2
+name=c
+. tests/cases
+. tests/kit
+
+echo '#include "seambeacon.h"' >"$work/alone.c"
+counted 'the header alone, C99' compiled "$work/alone.c" "$work/alone.o" -std=c99
+counted 'the header alone, C++' compiled "$work/alone.c" "$work/alone.o" -x c++ -std=c++11
+for host in 'cc -std=c99' 'c++ -x c++ -std=c++11'; do
+    command -v "${host%% *}" >/dev/null || continue
+    counted "the header alone, $host with its own headers" $host -Wall -Wextra -pedantic -Werror -Iinclude -fsyntax-only "$work/alone.c"
+done
+
+counted 'the archive' archived || finished 1 || exit 1
+for source in tests/c/*.c; do
+    counted "$source" compiled "$source" "$work/$(basename "$source" .c).o" -std=c99
+done
+rm -f "$work/alone.o"
+counted 'the program is linked' linked "$work/main" "$work"/*.o
+
+texts=$(for text in tests/vectors/*.sao; do echo "${text%.sao}"; done)
+started "$work/main" tests/vectors/writes.txt $texts >"$work/said"
+counted 'every check of the program' [ "$?" = 0 ] || head -n 21 "$work/said"
+last=$(tail -n 1 "$work/said")
+echo "$name: $last"
+counted 'as many checks as there are' [ "${last%% *}" -ge 67633 ]
+finished 12

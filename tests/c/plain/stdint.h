@@ -1,0 +1,8 @@
+/* What include/seambeacon.h takes from <stdint.h>, for a compiler without a C library's headers. */
+#ifndef PLAIN_STDINT_H
+#define PLAIN_STDINT_H
+typedef __UINT8_TYPE__ uint8_t;
+typedef __UINT16_TYPE__ uint16_t;
+typedef __UINT64_TYPE__ uint64_t;
+typedef __INT64_TYPE__ int64_t;
+#endif

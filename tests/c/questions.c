@@ -1,0 +1,92 @@
+#include "questions.h"
+
+static const struct seambeacon_beside none;
+
+void ask_place(const uint8_t *text, size_t length, size_t at, size_t reply, struct seambeacon_beside beside, const uint16_t *counts)
+{
+    fresh();
+    due.beside = beside;
+    memcpy(due.counts, counts, sizeof due.counts);
+    answered("place", seambeacon_place(text, length, at, lent.counts, &lent.beside), reply);
+}
+
+void ask_read(const uint8_t *text, size_t length, size_t at, size_t group, size_t room, size_t reply, struct seambeacon_beside beside,
+              const int64_t *cells)
+{
+    int64_t *table = lend_cells(room);
+    fresh();
+    due.beside = beside;
+    answered("read_group", seambeacon_read_group(text, length, at, group, table, room, &lent.beside), reply);
+    cells_due("read_group: the table", cells, beside.written);
+}
+
+void ask_lines(const uint8_t *text, size_t length, size_t at, size_t group, size_t reply, struct seambeacon_beside beside,
+               struct seambeacon_part part)
+{
+    fresh();
+    due.beside = beside;
+    answered("group_lines_reply", seambeacon_group_lines_reply(text, length, at, group, &lent.beside), reply);
+    fresh();
+    due.beside = beside;
+    due.part = part;
+    answered("group_lines", seambeacon_group_lines(text, length, at, group, &lent.part, &lent.beside), reply);
+}
+
+void ask_characteristic(const uint8_t *text, size_t length, size_t at, size_t number, size_t reply, struct seambeacon_beside beside,
+                        struct seambeacon_answer answer)
+{
+    fresh();
+    due.beside = beside;
+    due.answer = answer;
+    answered("characteristic", seambeacon_characteristic(text, length, at, number, &lent.answer, &lent.beside), reply);
+}
+
+void ask_write(const uint16_t *counts, size_t many, const int64_t *cells, size_t cell_count, size_t room, size_t reply,
+               struct seambeacon_beside beside, const uint8_t *bytes)
+{
+    uint8_t *out = lend_bytes(room);
+    fresh();
+    due.beside = beside;
+    answered("write_record", seambeacon_write_record(counts, many, cells, cell_count, out, room, &lent.beside), reply);
+    bytes_due("write_record: the output", bytes, beside.written);
+}
+
+void ask_list(const uint8_t *text, size_t length, size_t room, size_t reply, struct seambeacon_beside beside, const uint8_t *bytes)
+{
+    uint8_t *out = lend_bytes(room);
+    fresh();
+    due.beside = beside;
+    answered("list", seambeacon_list(text, length, out, room, &lent.beside), reply);
+    bytes_due("list: the output", bytes, beside.written);
+}
+
+/* ---- One short, exact and longer. */
+
+static struct seambeacon_beside of_written(size_t written)
+{
+    struct seambeacon_beside beside = none;
+    beside.written = written;
+    return beside;
+}
+
+void ask_read_all(const uint8_t *text, size_t length, size_t at, size_t group, const int64_t *cells, size_t count)
+{
+    if (count > 0)
+        ask_read(text, length, at, group, count - 1, 11, none, cells);
+    ask_read(text, length, at, group, count, 0, of_written(count), cells);
+    ask_read(text, length, at, group, count + 5, 0, of_written(count), cells);
+}
+
+void ask_write_all(const uint16_t *counts, const int64_t *cells, size_t cell_count, const uint8_t *bytes, size_t count)
+{
+    ask_write(counts, 80, cells, cell_count, count - 1, 11, none, bytes);
+    ask_write(counts, 80, cells, cell_count, count, 0, of_written(count), bytes);
+    ask_write(counts, 80, cells, cell_count, count + 5, 0, of_written(count), bytes);
+}
+
+void ask_list_all(const uint8_t *text, size_t length, const uint8_t *bytes, size_t count)
+{
+    ask_list(text, length, count - 1, 11, none, bytes);
+    ask_list(text, length, count, 0, of_written(count), bytes);
+    ask_list(text, length, count + 5, 0, of_written(count), bytes);
+}

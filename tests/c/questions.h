@@ -1,0 +1,23 @@
+#ifndef QUESTIONS_H
+#define QUESTIONS_H
+
+#include "checks.h"
+
+/* Asks the question and checks the reply, the numbers beside it and every byte of what is lent. */
+void ask_place(const uint8_t *text, size_t length, size_t at, size_t reply, struct seambeacon_beside beside, const uint16_t *counts);
+void ask_read(const uint8_t *text, size_t length, size_t at, size_t group, size_t room, size_t reply, struct seambeacon_beside beside,
+              const int64_t *cells);
+void ask_lines(const uint8_t *text, size_t length, size_t at, size_t group, size_t reply, struct seambeacon_beside beside,
+               struct seambeacon_part part);
+void ask_characteristic(const uint8_t *text, size_t length, size_t at, size_t number, size_t reply, struct seambeacon_beside beside,
+                        struct seambeacon_answer answer);
+void ask_write(const uint16_t *counts, size_t many, const int64_t *cells, size_t cell_count, size_t room, size_t reply,
+               struct seambeacon_beside beside, const uint8_t *bytes);
+void ask_list(const uint8_t *text, size_t length, size_t room, size_t reply, struct seambeacon_beside beside, const uint8_t *bytes);
+
+/* Into a table or an output one short (11), exact and longer. */
+void ask_read_all(const uint8_t *text, size_t length, size_t at, size_t group, const int64_t *cells, size_t count);
+void ask_write_all(const uint16_t *counts, const int64_t *cells, size_t cell_count, const uint8_t *bytes, size_t count);
+void ask_list_all(const uint8_t *text, size_t length, const uint8_t *bytes, size_t count);
+
+#endif

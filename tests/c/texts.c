@@ -1,0 +1,144 @@
+#include "texts.h"
+
+struct text s, twice, twice_comma, nothing;
+struct text cut, blanks, too_many_blanks, no_return, comma, second_bad;
+struct text broken, too_few_first, many_messages, letters, other_release, vacant, last_vacant, minus_zero, no_digit;
+struct text wrong_day, wrong_month, no_year, no_reading, scaled;
+struct text two_lines, last_of_two_bad, second_line_long;
+
+/* ---- Pieces. */
+
+static void put(struct text *text, const char *bytes)
+{
+    memcpy(text->bytes + text->length, bytes, strlen(bytes));
+    text->length += strlen(bytes);
+}
+
+static void put_line(struct text *text, const char *content)
+{
+    put(text, content);
+    put(text, "\r\n");
+}
+
+static void put_entry(struct text *text, unsigned count)
+{
+    char entry[4] = "  0";
+    for (size_t i = 3; i > 0 && count > 0; i--, count /= 10)
+        entry[i - 1] = (char)('0' + count % 10);
+    put(text, entry);
+}
+
+/* Two index lines of 40 entries. */
+static void put_index(struct text *text)
+{
+    for (size_t g = 0; g < 80; g++) {
+        put_entry(text, text->counts[g]);
+        if (g == 39 || g == 79)
+            put(text, "\r\n");
+    }
+}
+
+/* Counts 4, 0, 19, 1, zeros, release 5; then one other. */
+static void put_counts(struct text *text, size_t group, uint16_t count)
+{
+    static const uint16_t first[] = {4, 0, 19, 1};
+    memset(text, 0, sizeof *text);
+    memcpy(text->counts, first, sizeof first);
+    text->counts[79] = 5;
+    text->counts[group - 1] = count;
+    put_index(text);
+}
+
+static void make_s(struct text *text, size_t group, uint16_t count, const char *date, const char *last)
+{
+    put_counts(text, group, count);
+    put_line(text, "  1.200 67.000-23.500143.000");
+    put_line(text, date);
+    put_line(text, last);
+}
+
+static void make_twice(struct text *text, const struct text *first, const struct text *second)
+{
+    *text = *first;
+    memcpy(text->bytes + text->length, second->bytes, second->length);
+    text->length += second->length;
+}
+
+/* S with other bytes from a place on. */
+static void make_altered(struct text *text, size_t at, const char *bytes)
+{
+    *text = s;
+    memcpy(text->bytes + at, bytes, strlen(bytes));
+}
+
+static void make_followed(struct text *text, size_t many)
+{
+    *text = s;
+    text->length -= 2;
+    while (many-- > 0)
+        put(text, " ");
+    put(text, "\r\n");
+}
+
+/* ---- The texts. */
+
+static const char date[] = "AA20062650922142530", value[] = "   7.250";
+
+static void make_damaged_lines(void)
+{
+    cut = s;
+    cut.length--;
+    make_followed(&blanks, 112);
+    make_followed(&too_many_blanks, 113);
+    make_altered(&no_return, 303, " ");
+    make_altered(&comma, 299, ",");
+    make_altered(&second_bad, 253, "x");
+    make_twice(&twice_comma, &comma, &s);
+}
+
+static void make_damaged_counts(void)
+{
+    make_s(&broken, 11, 3, date, value);
+    put_line(&broken, "   1.000   2.000   3.000");
+    make_s(&too_few_first, 1, 3, date, value);
+    make_s(&many_messages, 2, 3, date, value);
+    make_s(&letters, 54, 2, date, value);
+    put_line(&letters, "AB");
+    make_s(&other_release, 80, 4, date, value);
+    make_s(&vacant, 63, 7, date, value);
+    make_s(&last_vacant, 79, 1, date, value);
+    make_altered(&minus_zero, 12, " -0");
+    make_altered(&no_digit, 12, "   ");
+}
+
+static void make_fields(void)
+{
+    make_s(&wrong_day, 80, 5, "AA20060600229142530", value);
+    make_s(&wrong_month, 80, 5, "AA20062651322142530", value);
+    make_s(&no_year, 80, 5, "AA2 062650922142530", value);
+    make_s(&no_reading, 80, 5, date, "9999.000");
+    make_s(&scaled, 80, 5, date, " 999.900");
+}
+
+static const char fifteen[] =
+    "   1.000   2.000   3.000   4.000   5.000   6.000   7.000   8.000   9.000  10.000  11.000  12.000  13.000  14.000  15.000";
+
+static void make_two_lines(void)
+{
+    make_s(&two_lines, 4, 16, date, fifteen);
+    put_line(&two_lines, "  16.000");
+    make_s(&last_of_two_bad, 4, 16, date, fifteen);
+    put_line(&last_of_two_bad, "  16,000");
+    make_s(&second_line_long, 4, 16, date, fifteen);
+    put_line(&second_line_long, "  16.000x");
+}
+
+void make_texts(void)
+{
+    make_s(&s, 80, 5, date, value);
+    make_twice(&twice, &s, &s);
+    make_damaged_lines();
+    make_damaged_counts();
+    make_fields();
+    make_two_lines();
+}

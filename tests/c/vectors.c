@@ -1,0 +1,246 @@
+#include "questions.h"
+#include "vectors.h"
+
+static const struct seambeacon_beside none;
+static struct file text, expected;
+static size_t read_to; /* how far `expected` has been read */
+static int64_t cells[70000];
+static uint16_t counts[100];
+static uint8_t bytes[70000];
+
+/* ---- Words of the file, with a blank or a line feed behind each. */
+
+static int more(void)
+{
+    return read_to < expected.length;
+}
+
+static int word_goes_on(void)
+{
+    return more() && expected.bytes[read_to] > ' ';
+}
+
+static int64_t number(void)
+{
+    int minus = more() && expected.bytes[read_to] == '-';
+    uint64_t size = 0;
+    read_to += (size_t)minus;
+    need("a number stands here", word_goes_on());
+    while (word_goes_on())
+        size = size * 10 + (uint64_t)(expected.bytes[read_to++] - '0');
+    read_to++;
+    return (int64_t)(minus ? 0 - size : size);
+}
+
+static size_t size(void)
+{
+    return (size_t)number();
+}
+
+static int line_goes_on(void)
+{
+    return read_to > 0 && expected.bytes[read_to - 1] != '\n' && more();
+}
+
+static int word_is(const char *word)
+{
+    size_t n = strlen(word);
+    if (expected.length - read_to <= n || memcmp(expected.bytes + read_to, word, n) != 0 || expected.bytes[read_to + n] != ' ')
+        return 0;
+    read_to += n + 1;
+    return 1;
+}
+
+static unsigned digit(void)
+{
+    uint8_t byte = expected.bytes[read_to++];
+    return byte < 'a' ? byte - '0' : byte - 'a' + 10u;
+}
+
+/* The bytes in hexadecimal; `-` for none. */
+static size_t hexadecimal(void)
+{
+    size_t n = 0;
+    if (word_goes_on() && expected.bytes[read_to] == '-')
+        read_to++;
+    while (word_goes_on()) {
+        unsigned high = digit();
+        bytes[n++] = (uint8_t)(high * 16 + digit());
+    }
+    read_to++;
+    return n;
+}
+
+static void many_counts(size_t many)
+{
+    need("so many counts", many <= 100);
+    for (size_t i = 0; i < many && i < 100; i++)
+        counts[i] = (uint16_t)number();
+}
+
+/* The two numbers beside a reply: by 01, the first is what was written, a group, a line or a position, and the second an element. */
+static struct seambeacon_beside beside_of(size_t reply)
+{
+    struct seambeacon_beside beside = none;
+    size_t first = size();
+    switch (reply) {
+    case 0:
+        beside.written = first;
+        break;
+    case 6:
+    case 7:
+    case 13:
+        beside.group = first;
+        break;
+    case 8:
+    case 9:
+        beside.line = first;
+        break;
+    case 10:
+        beside.position = first;
+        break;
+    default:
+        need("no number beside this reply", first == 0);
+    }
+    beside.element = size();
+    return beside;
+}
+
+/* ---- Write questions. */
+
+static void check_write(void)
+{
+    size_t room = size(), many = size(), cell_count, reply, written;
+    struct seambeacon_beside beside;
+    many_counts(many);
+    cell_count = size();
+    for (size_t i = 0; i < cell_count; i++)
+        cells[i] = number();
+    reply = size();
+    beside = beside_of(reply);
+    written = hexadecimal();
+    need("as many bytes as the reply says", written == beside.written);
+    ask_write(counts, many, cells, cell_count, room, reply, beside, bytes);
+    if (reply == 0)
+        ask_write_all(counts, cells, cell_count, bytes, written);
+}
+
+void check_writes(const char *file)
+{
+    of_case(file, 0);
+    read_file(&expected, file, "");
+    read_to = 0;
+    for (size_t line = 1; more(); line++) {
+        of_case(file, line);
+        check_write();
+    }
+}
+
+/* ---- Listing and rewriting. */
+
+static void check_list(const char *name)
+{
+    read_file(&expected, name, ".list");
+    ask_list_all(text.bytes, text.length, expected.bytes, expected.length);
+}
+
+/* "until the first reply other than 0 .., or the first record whose canonical text is longer than 8,192 bytes" */
+static void check_rewrite(const char *name)
+{
+    enum { ROOM = 8192 };
+    static int64_t table[ROOM];
+    size_t at = 0, behind = 0;
+    read_file(&expected, name, ".rewrite");
+    for (;;) {
+        uint8_t *out = lend_bytes(ROOM);
+        fresh();
+        if (seambeacon_rewrite_record(text.bytes, text.length, at, table, ROOM, out, ROOM, &lent.unread, &lent.beside) != 0)
+            break;
+        check("no more is rewritten than is due", lent.beside.written <= expected.length - behind);
+        if (lent.beside.written > expected.length - behind)
+            return;
+        bytes_due("rewrite_record: the output", expected.bytes + behind, lent.beside.written);
+        check("the next place lies behind", lent.beside.next > at);
+        behind += lent.beside.written;
+        at = lent.beside.next;
+    }
+    bytes_due("rewrite_record: the output of a refusal", NULL, 0);
+    check("all is rewritten that is due", behind == expected.length);
+}
+
+/* ---- Every answer about every placed record. */
+
+static void check_group(size_t at)
+{
+    size_t group = size(), reply = size(), given = 0, count = 0;
+    struct seambeacon_beside beside = beside_of(reply);
+    struct seambeacon_part part;
+    part.start = size();
+    part.length = size() - part.start;
+    while (line_goes_on())
+        cells[count++] = number();
+    need("as many cells as the reply says", count == beside.written);
+    given = reply == 0 || (reply >= 8 && reply <= 10);
+    ask_lines(text.bytes, text.length, at, group, given ? 0 : reply, given ? none : beside, part);
+    if (reply == 0)
+        ask_read_all(text.bytes, text.length, at, group, cells, count);
+    else
+        ask_read(text.bytes, text.length, at, group, 2000, reply, beside, NULL);
+}
+
+static void check_characteristic(size_t at)
+{
+    size_t characteristic = size(), reply;
+    struct seambeacon_answer answer;
+    struct seambeacon_beside beside;
+    answer.kind = number();
+    answer.value = number();
+    reply = size();
+    beside = beside_of(reply);
+    ask_characteristic(text.bytes, text.length, at, characteristic, reply, beside, answer);
+}
+
+/* A place with its reply, next place and group, and for a placed record its counts: the place. */
+static size_t check_place(int placed)
+{
+    struct seambeacon_beside beside = none;
+    size_t at = size(), reply = size();
+    beside.next = size();
+    beside.group = size();
+    memset(counts, 0, sizeof counts);
+    if (placed)
+        many_counts(80);
+    ask_place(text.bytes, text.length, at, reply, beside, counts);
+    return at;
+}
+
+static void check_dump(const char *name)
+{
+    size_t at = 0;
+    read_file(&expected, name, ".dump");
+    read_to = 0;
+    for (size_t line = 1; more(); line++) {
+        of_case(name, line);
+        if (word_is("record"))
+            at = check_place(1);
+        else if (word_is("group"))
+            check_group(at);
+        else if (word_is("char"))
+            check_characteristic(at);
+        else if (word_is("stop"))
+            check_place(0);
+        else {
+            need("a line of the format", 0);
+            return;
+        }
+    }
+}
+
+void check_text(const char *name)
+{
+    of_case(name, 0);
+    read_file(&text, name, ".sao");
+    check_list(name);
+    check_rewrite(name);
+    check_dump(name);
+}

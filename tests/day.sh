@@ -1,0 +1,167 @@
+#!/bin/sh
+# The example day and its damaged copy: rewriting returns the day byte for byte, both are listed alike, and one byte that was replaced in a
+# trace is seen in the row of one group alone. Where that group stands, which line and element are refused and what foF2 was are cut out of the
+# text's fixed columns here, by the rules of 01. Prints each case that fails, and how many passed.
+set -u
+LC_ALL=C
+export LC_ALL
+cd "$(dirname "$0")/.." || exit 2
+name=day
+. tests/cases
+
+day=examples/day.sao
+damaged=examples/damaged.sao
+
+# A line for each line of the text: record, its place, group (0 for the index), line in group, place of the line, and its bytes with the
+# carriage return. The index and the elements per line of each form decide where a group ends.
+awk '
+    function put(groups, perLine, many, i) {
+        many = split(groups, list, " ")
+        for (i = 1; i <= many; i++)
+            per[list[i]] = perLine
+    }
+    BEGIN {
+        for (g = 1; g <= 60; g++)
+            per[g] = 15
+        put("1 6", 16); put("2", 1); put("5", 60); put("9 14 19 23 27 31 34 35 36 44 48", 40)
+        put("3 54 55 10 15 20 24 28 32 41 45 49 56", 120); put("37 38 39 42 57", 10); put("40", 6)
+        left = 0; group = 61; place = 0
+    }
+    {
+        if (left == 0 && group > 60) { record++; start = place; group = 0; left = 2; entries = ""; line = 0 }
+        line++; left--
+        print record, start, group, line, place, $0
+        if (group == 0)
+            entries = entries substr($0, 1, 120)
+        place += length($0) + 1
+        while (left == 0 && group <= 60) {
+            group++; line = 0
+            count = substr(entries, 3 * group - 2, 3) + 0
+            left = group <= 60 ? int((count + per[group] - 1) / per[group]) : 0
+        }
+    }' "$day" >"$work/lines"
+
+# ---- the files
+
+for text in "$day" "$damaged"; do
+    counted "$text is shorter than 65,536 bytes" [ "$(wc -c <"$text")" -lt 65536 ]
+done
+counted 'as long as each other' [ "$(wc -c <"$day")" -eq "$(wc -c <"$damaged")" ]
+counted '24 records in the text' [ "$(tail -n 1 "$work/lines" | cut -d ' ' -f 1)" -eq 24 ]
+awk '$1 != last { if (last) print $2 - start; last = $1; start = $2 } END { print size - start }' size="$(wc -c <"$day" | tr -d ' ')" \
+    "$work/lines" >"$work/sizes"
+counted 'no record is longer than 8,192 bytes' [ "$(sort -n "$work/sizes" | tail -n 1)" -le 8192 ]
+
+if command -v python3 >/dev/null; then
+    python3 examples/make-day >"$work/got"
+    compared 'the day as it is made' "$day"
+    python3 examples/make-day damaged >"$work/got"
+    compared 'the damaged day as it is made' "$damaged"
+else
+    echo 'tests/day.sh: skipped: no python3, so the two files were not made anew'
+fi
+
+# the hours 00 to 23 of one leap day, from group 3's columns
+awk 'BEGIN { for (h = 0; h < 24; h++) printf "AA20040600229%02d0000\n", h }' >"$work/want"
+sed -n 's/^[0-9]* [0-9]* 3 1 [0-9]* \(.*\).$/\1/p' "$work/lines" >"$work/got"
+compared 'an hour for each record' "$work/want"
+
+# ---- what the programs print
+
+for which in list dump rewrite; do
+    ./run "$which" <"$day" >"$work/day.$which"
+    ./run "$which" <"$damaged" >"$work/damaged.$which"
+done
+
+cp "$work/day.rewrite" "$work/got"
+compared 'the day rewritten' "$day"
+
+# a row for each record: its place, the next place, reply 0, 15 groups with a count, its lines; at the end 24 records and reply 1
+awk '
+    function row() { print record, start, place, 0, 0, groups, lines }
+    $1 != record { place = $2; if (record) row(); record = $1; start = $2; groups = 0; lines = 0 }
+    { lines++; if ($3 && $4 == 1) groups++ }
+    END { place = size; row(); print "end", record, size, 1, 0 }' size="$(wc -c <"$day" | tr -d ' ')" "$work/lines" >"$work/want"
+cp "$work/day.list" "$work/got"
+compared 'the listing of the day' "$work/want"
+cp "$work/damaged.list" "$work/got"
+compared 'the listing of the damaged day' "$work/want"
+
+# foF2 of each hour, the first eight columns of group 4, in thousandths
+sed -n 's/^[0-9]* [0-9]* 4 1 [0-9]* \(.\{8\}\).*$/\1/p' "$work/lines" | tr -d ' .' | sed 's/.*/char 1 0 & 0 0 0/' >"$work/want"
+counted 'foF2 of 24 hours in the text' [ "$(wc -l <"$work/want")" -eq 24 ]
+for which in day damaged; do
+    grep '^char 1 ' "$work/$which.dump" >"$work/got"
+    compared "foF2 of each hour, $which" "$work/want"
+done
+
+# ---- the damage: one byte of group 7 of the 13:00 record, and in what is dumped the row of that group
+
+cmp -l "$day" "$damaged" >"$work/replaced"
+counted 'one byte is replaced' [ "$(wc -l <"$work/replaced")" -eq 1 ]
+read -r at _ _ <"$work/replaced"
+at=$((at - 1))
+awk -v at="$at" '$5 <= at { record = $1; start = $2; group = $3; line = $4; place = $5 } END { print record, start, group, line, at - place }' \
+    "$work/lines" >"$work/where"
+read -r record start group line column <"$work/where"
+counted 'in the record of 13:00' [ "$record" -eq 14 ]
+counted 'in the virtual heights of the F2 trace' [ "$group" -eq 7 ]
+# F8.3 has 15 elements of 8 columns in a line; a colon is no part of any field, so the element that has it is the first misformed one
+element=$(((line - 1) * 15 + column / 8 + 1))
+row=$(((record - 1) * 110 + 1 + group))
+sed "${row}s/^group 7 0 [0-9]* 0 \([0-9]* [0-9]*\) .*/group 7 9 $line $element \1/" "$work/day.dump" >"$work/want"
+diff "$work/day.dump" "$work/want" | grep -c '^[<>]' >"$work/rows"
+counted 'the row of that group is expected to change' [ "$(cat "$work/rows")" -eq 2 ]
+cp "$work/damaged.dump" "$work/got"
+compared 'the damaged day, dumped' "$work/want"
+
+# "until the first reply other than 0 in placing or reading .. and nothing of that record or later"
+head -c "$start" "$day" >"$work/want"
+cp "$work/damaged.rewrite" "$work/got"
+compared 'the damaged day rewritten' "$work/want"
+
+# ---- the day is plausible: what is read of each record, in order
+
+sound() { # CONDITION: it holds of each record; cell[g, i] is the i-th cell of group g, of the counts n[g]
+    awk '
+        $1 == "record" { records++ }
+        $1 == "group" { n[$2] = $4; for (i = 1; i <= $4; i++) cell[$2, i] = $(i + 7) }
+        $1 == "group" && $2 == 60 { good += ('"$1"') }
+        function rising(g, i) {
+            for (i = 2; i <= n[g]; i++)
+                if (cell[g, i] <= cell[g, i - 1])
+                    return 0
+            return n[g] > 1
+        }
+        function within(g, least, most, i) {
+            for (i = 1; i <= n[g]; i++)
+                if (cell[g, i] < least || cell[g, i] > most)
+                    return 0
+            return n[g] > 1
+        }
+        function told(i) { # an interpolated point has amplitude 0
+            for (i = 1; i <= n[10]; i++)
+                if (cell[9, i] == 0 ? cell[10, i] != 9 : cell[10, i] >= n[6])
+                    return 0
+            return n[10] > 1
+        }
+        function below(g, h, i) {
+            for (i = 1; i <= n[g]; i++)
+                if (cell[g, i] >= cell[h, i])
+                    return 0
+            return n[g] > 1
+        }
+        END { exit !(records == 24 && good == 24) }' "$work/day.dump"
+}
+
+counted 'trace frequencies rise' sound 'rising(11)'
+counted 'virtual heights rise' sound 'rising(7)'
+counted 'true heights rise' sound 'rising(8)'
+counted 'true heights are below the virtual ones' sound 'below(8, 7)'
+counted 'the trace ends less than 0.1 MHz below foF2' sound 'cell[11, n[11]] < cell[4, 1] && cell[11, n[11]] > cell[4, 1] - 101'
+counted 'amplitudes from 0 to 99' sound 'within(9, 0, 99)'
+counted 'a Doppler number of the table for each echo, 9 for each interpolated point' sound 'told()'
+counted 'profile heights rise' sound 'rising(51)'
+counted 'plasma frequencies rise' sound 'rising(52)'
+counted 'the profile ends at foF2 and the peak height' sound 'cell[52, n[52]] == cell[4, 1] && cell[51, n[51]] == cell[4, 32]'
+finished 28
