@@ -1,0 +1,42 @@
+-- "S twice is listed as" three lines: 01's example.
+-- Assumes nothing.
+use mathlib.Core.Path.{_≡_, refl, _∙_}
+use mathlib.Core.List.{List, [], _∷_, _++_}
+use Prim.Native.Nat.{ℕ}
+use Rattle.base.specs.Every
+use Rattle.base.specs.Quoted.{bytes}
+use Rattle.base.specs.Sum
+use Rattle.form.specs.Count
+use Rattle.form.specs.Table
+use Rattle.count.specs.Rules
+use Rattle.count.specs.Rules.{rulingOf}
+use Rattle.count.specs.Tally
+use Rattle.count.specs.Tally.{recordLines}
+use Rattle.count.specs.declared.Ruling.the-variants.{Kept}
+use Rattle.decimal.specs.Numerals
+use Rattle.decimal.specs.Rows
+use Rattle.place.specs.declared.Placing.the-variants.{End}
+use Rattle.place.specs.Placing
+use Rattle.place.specs.RecordS
+use Rattle.place.specs.RecordS.{countsS, twiceS}
+use Rattle.place.proofs.TwiceS.{twice, spot-one, spot-two, two-records}
+use Rattle.place.proofs.Walked.{spot-start}
+use Rattle.listing.specs.Listing.{rowAt, rowsFrom, endAt, listingOf, listing}
+use Rattle.listing.specs.Rows.{filledGroups, recordRow, endRow}
+use Rattle.listing.proofs.Lines.{listing-is}
+
+counted : (filledGroups countsS ≡ 3) × (recordLines countsS ≡ 5) × (rulingOf countsS ≡ Kept)
+unfolding filledGroups RecordS.countsS Tally.linesIn Tally.lineTally Sum.sum Every.upFrom Table.rowOf Table.entryOf Table.formAmong Table.formOf Count.linesOf Count.roundedUp Count.elementsOf Rules.rulingOf Rules.lowest Rules.headRules Rules.sets Rules.keeps Rules.letterRules
+counted = (refl, refl, refl)
+
+rows : (rowAt twiceS 0 ≡ bytes "1 0 305 0 0 3 5" ++ (10 ∷ [])) × (rowAt twiceS 1 ≡ bytes "2 305 610 0 0 3 5" ++ (10 ∷ [])) × (endAt twiceS 2 ≡ bytes "end 2 610 1 0" ++ (10 ∷ []))
+unfolding rowAt endAt recordRow endRow Rows.rowText Numerals.numeral Numerals.digitsOf Numerals.digitsIn Placing.placingOf Placing.countsAt
+rows = (
+  rw (← spot-start twiceS, twice .first, counted .0, counted .1, counted .2) refl,
+  rw (spot-one, twice .second, counted .0, counted .1, counted .2) refl,
+  rw (spot-two, twice .last) refl,
+)
+
+pub twice-listed : listing twiceS ≡ (bytes "1 0 305 0 0 3 5" ++ (10 ∷ [])) ++ ((bytes "2 305 610 0 0 3 5" ++ (10 ∷ [])) ++ (bytes "end 2 610 1 0" ++ (10 ∷ [])))
+unfolding listingOf rowsFrom
+twice-listed = listing-is twiceS 2 End two-records ∙ rw (rows .0, rows .1, rows .2) refl
