@@ -7,7 +7,7 @@ use reply::Reply;
 ghost use mathlib.Core.Path.{_≡_};
 ghost use mathlib.Core.List.{[], _∷_};
 ghost use lib.ListN.{length};
-ghost use Rattle.boundary.specs.Numbers.{Told, besideOf, answerOf};
+ghost use Rattle.boundary.specs.Numbers.{Told, answerOf};
 ghost use Rattle.boundary.specs.Replies.{placeReply, readReply, linesReply, characteristicReplyAt, writeReply, listReply, rewriteReply};
 ghost use Rattle.decimal.specs.Writing.{putBytes};
 ghost use Rattle.place.specs.Placing.{countsAt};
