@@ -23,21 +23,21 @@ extern "C" {
 
 /* The replies, each with the numbers that are given beside it. */
 enum seambeacon_reply {
-    SEAMBEACON_DONE = 0,           /* done: in placing and rewriting the next place; else, and in rewriting too, cells or bytes written */
-    SEAMBEACON_END = 1,            /* the place is the text's end */
-    SEAMBEACON_BEYOND = 2,         /* the place lies beyond the text's end */
-    SEAMBEACON_TOO_FEW_LINES = 3,  /* fewer line feeds are left than the index lines or the data lines need */
-    SEAMBEACON_MISFORMED = 4,      /* an index line or entry is misformed; in writing, not 80 counts or a count above 999 */
-    SEAMBEACON_OTHER_RELEASE = 5,  /* the release, number 80 of the index, is not 5 */
-    SEAMBEACON_FILLED_VACANT = 6,  /* a group of 61 to 79 has a count: the lowest such group */
-    SEAMBEACON_BROKEN_RULE = 7,    /* a rule on counts is broken: the blamed group; in placing also the next place */
-    SEAMBEACON_BAD_LINE = 8,       /* no carriage return before the line feed, a wrong length, or no blanks behind the fields: the line */
-    SEAMBEACON_BAD_FIELD = 9,      /* a misformed field: its line, and its element in the group */
-    SEAMBEACON_BAD_DATE = 10,      /* group 3 has no right date: the position blamed */
-    SEAMBEACON_NO_ROOM = 11,       /* the table or the output is shorter than what would be filled */
-    SEAMBEACON_NO_SUCH_NUMBER = 12, /* no group 1 to 60, or no characteristic 1 to 49, of that number */
-    SEAMBEACON_NO_FIELD = 13,      /* in writing, a value fits no field of its form: its group and element */
-    SEAMBEACON_OTHER_LENGTH = 14   /* in writing, the number of cells is not what the counts need */
+    SEAMBEACON_DONE = 0,            /* done: the next place in placing and rewriting, the cells or bytes written in all that write */
+    SEAMBEACON_END = 1,             /* the place is the text's end */
+    SEAMBEACON_BEYOND = 2,          /* the place lies beyond the text's end */
+    SEAMBEACON_TOO_FEW_LINES = 3,   /* fewer line feeds are left than the index lines or the data lines need */
+    SEAMBEACON_MISFORMED = 4,       /* an index line or entry is misformed; in writing, not 80 counts or a count above 999 */
+    SEAMBEACON_OTHER_RELEASE = 5,   /* the release, number 80 of the index, is not 5 */
+    SEAMBEACON_FILLED_VACANT = 6,   /* a group of 61 to 79 has a count: the lowest such group */
+    SEAMBEACON_BROKEN_RULE = 7,     /* a rule on counts is broken: the blamed group; in placing also the next place */
+    SEAMBEACON_BAD_LINE = 8,        /* no carriage return before the line feed, a wrong length, or other bytes than blanks behind: the line */
+    SEAMBEACON_BAD_FIELD = 9,       /* a field is misformed: its line and its element */
+    SEAMBEACON_BAD_DATE = 10,       /* the date in group 3 is wrong: the position blamed */
+    SEAMBEACON_NO_ROOM = 11,        /* the table or the output is shorter than what would be filled */
+    SEAMBEACON_NO_SUCH_NUMBER = 12, /* there is no group 1 to 60, or no characteristic 1 to 49, of that number */
+    SEAMBEACON_NO_FIELD = 13,       /* in writing, a value fits no field of its form: its group and its element */
+    SEAMBEACON_OTHER_LENGTH = 14    /* in writing, the number of cells is not what the counts need */
 };
 
 /* The numbers beside a reply. All six are written at every call, and those that the reply does not give are 0. */
@@ -83,7 +83,7 @@ size_t seambeacon_read_group(const uint8_t *text, size_t text_length, size_t at,
                              struct seambeacon_beside *beside);
 
 /* Asked: whether the lines of a group of the record at a place can be given.
-   Answered: 0, or why not: 12, or a placing reply but 0 (7 without a next place). */
+   Answered: 0, or why not: 12, or a placing reply but 0 (7 without a next place). Only the numbers beside the reply are lent. */
 size_t seambeacon_group_lines_reply(const uint8_t *text, size_t text_length, size_t at, size_t group, struct seambeacon_beside *beside);
 
 /* Asked: the lines of a group of the record at a place, with their line ends.
@@ -112,12 +112,12 @@ size_t seambeacon_write_record(const uint16_t *counts, size_t counts_length, con
    A refusal (11) leaves the whole output as it was. */
 size_t seambeacon_list(const uint8_t *text, size_t text_length, uint8_t *out, size_t out_length, struct seambeacon_beside *beside);
 
-/* Asked: to rewrite the record at a place as canonical text. The table is room for the record's cells: as many cells as the
-   output has bytes are always enough.
+/* Asked: to rewrite the record at a place as canonical text. The table is room for the record's cells; as many cells as the output
+   has bytes are always enough.
    Answered: 0 with the number of bytes and the next place. The bytes stand in out from its first byte on, the record's cells in group order in
    the table from its first cell on; what stands behind them is kept. *unread is 0.
    A refusal (a placing reply but 0, 11, or the first reply but 0 of reading groups 1 to 60) leaves the whole output as it was. *unread is the
-   group that could not be read, and 0 where it is none of that; the table has the cells of the groups before it, and is otherwise as it was. */
+   group that could not be read, or 0 where none was tried; the table has the cells of the groups before it, and is otherwise as it was. */
 size_t seambeacon_rewrite_record(const uint8_t *text, size_t text_length, size_t at, int64_t *table, size_t table_length, uint8_t *out,
                                  size_t out_length, size_t *unread, struct seambeacon_beside *beside);
 

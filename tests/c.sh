@@ -28,5 +28,6 @@ started "$work/main" tests/vectors/writes.txt $texts >"$work/said"
 counted 'every check of the program' [ "$?" = 0 ] || head -n 21 "$work/said"
 last=$(tail -n 1 "$work/said")
 echo "$name: $last"
-counted 'as many checks as there are' [ "${last%% *}" -ge 67633 ]
+made=${last%% checks,*}
+counted 'as many checks as there are' [ "${made:-0}" -ge 67633 ]
 finished 12

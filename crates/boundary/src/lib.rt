@@ -7,7 +7,7 @@ use reply::Reply;
 ghost use mathlib.Core.Path.{_≡_};
 ghost use mathlib.Core.List.{[], _∷_};
 ghost use lib.ListN.{length};
-ghost use Rattle.boundary.specs.Numbers.{Told, besideOf, answerOf};
+ghost use Rattle.boundary.specs.Numbers.{Told, answerOf};
 ghost use Rattle.boundary.specs.Replies.{placeReply, readReply, linesReply, characteristicReplyAt, writeReply, listReply, rewriteReply};
 ghost use Rattle.decimal.specs.Writing.{putBytes};
 ghost use Rattle.place.specs.Placing.{countsAt};
@@ -66,9 +66,9 @@ pub extern "C" fn seambeacon_place(
     ensures { λ n. ⌜ Told (placeReply (now (text .entry)) at) n (now (beside .exit)) × (now (counts .exit) ≡ countsAt (now (text .entry)) at) ⌝ }
 {
     let record = sao::place(text, at);
+    let answer = record.answer;
     let found = record.counts;
     *counts = found;
-    let answer = record.answer;
     tell(place::reply_of(answer), beside)
 }
 
@@ -85,10 +85,8 @@ pub extern "C" fn seambeacon_read_group(
 ) -> usize
     ensures { λ n. ⌜ Told (readReply (now (text .entry)) at group (length (now (table .entry)))) n (now (beside .exit)) × (now (table .exit) ≡ tableBy (readAt (now (text .entry)) at group (length (now (table .entry)))) (now (table .entry))) ⌝ }
 {
-    tell(
-        reading::reply_of(sao::read_group(text, at, group, table)),
-        beside,
-    )
+    let answer = sao::read_group(text, at, group, table);
+    tell(reading::reply_of(answer), beside)
 }
 
 // Asked: whether the lines of a group of the record at a place can be given.
@@ -103,10 +101,8 @@ pub extern "C" fn seambeacon_group_lines_reply(
 ) -> usize
     ensures { λ n. ⌜ Told (linesReply (now (text .entry)) at group) n (now (beside .exit)) ⌝ }
 {
-    tell(
-        group::found_reply(sao::group_lines_reply(text, at, group)),
-        beside,
-    )
+    let answer = sao::group_lines_reply(text, at, group);
+    tell(group::found_reply(answer), beside)
 }
 
 // Asked: the lines of a group, with their line ends.
@@ -124,11 +120,10 @@ pub extern "C" fn seambeacon_group_lines(
     ensures { λ n. ⌜ Told (linesReply (now (text .entry)) at group) n (now (beside .exit)) × (now (part .exit) ≡ partStart (now (text .entry)) at group ∷ length (partAt (now (text .entry)) at group) ∷ []) ⌝ }
 {
     let lines = group::lines_span(text, at, group);
-    *part = [lines.from, lines.to - lines.from];
-    tell(
-        group::found_reply(sao::group_lines_reply(text, at, group)),
-        beside,
-    )
+    let length = lines.to - lines.from;
+    *part = [lines.from, length];
+    let answer = sao::group_lines_reply(text, at, group);
+    tell(group::found_reply(answer), beside)
 }
 
 // Asked: a characteristic, 1 to 49, of the record at a place.
@@ -144,9 +139,9 @@ pub extern "C" fn seambeacon_characteristic(
 ) -> usize
     ensures { λ n. ⌜ Told (characteristicReplyAt (now (text .entry)) at number) n (now (beside .exit)) × (now (answer .exit) ≡ answerOf (characteristicAt (now (text .entry)) at number)) ⌝ }
 {
-    let c = sao::characteristic(text, at, number);
-    *answer = answer_of(c);
-    tell(group::characteristic_reply(c), beside)
+    let known = sao::characteristic(text, at, number);
+    *answer = answer_of(known);
+    tell(group::characteristic_reply(known), beside)
 }
 
 // Asked: to write a record of these counts and of all cells in group order.
@@ -161,10 +156,8 @@ pub extern "C" fn seambeacon_write_record(
 ) -> usize
     ensures { λ n. ⌜ Told (writeReply (now (counts .entry)) (now (cells .entry)) (length (now (out .entry)))) n (now (beside .exit)) × (now (out .exit) ≡ outputBy (now (counts .entry)) (now (cells .entry)) (writingOf (now (counts .entry)) (now (cells .entry)) (length (now (out .entry)))) (now (out .entry))) ⌝ }
 {
-    tell(
-        record::reply_of(sao::write_record(counts, cells, out)),
-        beside,
-    )
+    let answer = sao::write_record(counts, cells, out);
+    tell(record::reply_of(answer), beside)
 }
 
 // Asked: the listing of a text, a line for each placed record and the line `end`.
@@ -174,7 +167,8 @@ pub extern "C" fn seambeacon_write_record(
 pub extern "C" fn seambeacon_list(text: &[u8], out: &mut [u8], beside: &mut [usize; 6]) -> usize
     ensures { λ n. ⌜ Told (listReply (now (text .entry)) (now (out .entry))) n (now (beside .exit)) × (now (out .exit) ≡ putBytes 0 (listing (now (text .entry))) (now (out .entry))) ⌝ }
 {
-    tell(listed_reply(sao::list(text, out)), beside)
+    let answer = sao::list(text, out);
+    tell(listed_reply(answer), beside)
 }
 
 // Asked: to rewrite the record at a place as canonical text.

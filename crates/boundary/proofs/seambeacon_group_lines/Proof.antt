@@ -12,8 +12,8 @@ use Rattle.boundary.proofs.seambeacon_group_lines.Tie as tie
 lines-span-requires : tie.Need-lines-span-requires
 lines-span-requires c κs = search needs
 
-sub-t7 : tie.Need-sub-t7
-sub-t7 c =
+sub-length : tie.Need-sub-length
+sub-length c =
     let a = c .before .before .before .args in
     let e = c .before .lines-span .ensures in
     omega (arith, span-range (a .text .now) (a .at) (a .group) .0, e .0, e .1)
@@ -38,7 +38,7 @@ seambeacon-group-lines-spec =
     tie.close
     (tie.spec
     lines-span-requires
-    sub-t7
+    sub-length
     group-lines-reply-requires
     found-reply-requires
     tell-requires
