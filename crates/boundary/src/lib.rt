@@ -1,7 +1,6 @@
 // The boundary to C: each question of `sao` under a name of its own, in numbers and slices alone. A function answers with the reply's number
 // in 01's table and writes the six numbers beside it, in the order of `besideOf`, into lent memory; numbers that the reply's row doesn't name
 // are 0. What else is lent is altered as the question of the same name says. include/seambeacon.h tells a caller in C.
-use decimal::Put;
 use group::Characteristic;
 use reply::Reply;
 ghost use mathlib.Core.Path.{_≡_};
@@ -18,7 +17,7 @@ ghost use Rattle.group.specs.Characteristics.{characteristicAt};
 ghost use Rattle.record.specs.Writing.{writingOf, outputBy};
 ghost use Rattle.rewriting.specs.Record.{rewritingOf, tableBy as tableAfter, bufferBy};
 ghost use Rattle.rewriting.specs.Numbered.{rewritingGroup};
-ghost use Rattle.listing.specs.Listing.{listing, listedReply};
+ghost use Rattle.listing.specs.Listing.{listing};
 
 // ---- Numbers.
 
@@ -28,15 +27,6 @@ fn tell(r: Reply, beside: &mut [usize; 6]) -> usize
 {
     *beside = [r.next, r.written, r.group, r.line, r.element, r.position];
     r.number
-}
-
-fn listed_reply(answer: Put) -> Reply
-    ensures { λ r. ⌜ r ≡ listedReply answer ⌝ }
-{
-    match answer {
-        Put::Next(bytes) => reply::done(bytes),
-        Put::NoRoom => reply::plain(11),
-    }
 }
 
 // The kind of a characteristic's answer, and its value or 0.
@@ -119,11 +109,11 @@ pub extern "C" fn seambeacon_group_lines(
 ) -> usize
     ensures { λ n. ⌜ Told (linesReply (now (text .entry)) at group) n (now (beside .exit)) × (now (part .exit) ≡ partStart (now (text .entry)) at group ∷ length (partAt (now (text .entry)) at group) ∷ []) ⌝ }
 {
-    let lines = group::lines_span(text, at, group);
+    let lines = group::lines_at(text, at, group);
+    let found = lines.found;
     let length = lines.to - lines.from;
     *part = [lines.from, length];
-    let answer = sao::group_lines_reply(text, at, group);
-    tell(group::found_reply(answer), beside)
+    tell(group::found_reply(found), beside)
 }
 
 // Asked: a characteristic, 1 to 49, of the record at a place.
@@ -168,7 +158,7 @@ pub extern "C" fn seambeacon_list(text: &[u8], out: &mut [u8], beside: &mut [usi
     ensures { λ n. ⌜ Told (listReply (now (text .entry)) (now (out .entry))) n (now (beside .exit)) × (now (out .exit) ≡ putBytes 0 (listing (now (text .entry))) (now (out .entry))) ⌝ }
 {
     let answer = sao::list(text, out);
-    tell(listed_reply(answer), beside)
+    tell(listing::reply_of(answer), beside)
 }
 
 // Asked: to rewrite the record at a place as canonical text.

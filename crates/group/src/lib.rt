@@ -1,6 +1,5 @@
 // A group of the record at a place of a text: read into a table, its lines as a part of the text, a characteristic. Any text, place, number
 // and table may be given.
-use place::Span;
 use reading::Reading;
 use reading::Refusal;
 ghost use mathlib.Core.Path.{_≡_};
@@ -75,25 +74,41 @@ pub fn lines_reply(text: &[u8], at: usize, group: usize) -> Found
     held_at(text, at, group).found
 }
 
-// From where to where the lines of a group stand in a text, with their line ends. With count 0 both are where they would begin, and at a
-// refusal both are the text's start.
-pub fn lines_span(text: &[u8], at: usize, group: usize) -> Span
-    ensures { λ r. ⌜ (r .from ≡ partStart (now (text .entry)) at group) × (r .to ≡ partEnd (now (text .entry)) at group) ⌝ }
+// Whether the lines of a group can be given, and from where to where they stand in the text.
+pub struct Lines {
+    pub found: Found,
+    pub from: usize,
+    pub to: usize,
+}
+
+// The same with where the lines stand, their line ends among them. With count 0 both places are where they would begin, and at a refusal both
+// are the text's start.
+pub fn lines_at(text: &[u8], at: usize, group: usize) -> Lines
+    ensures { λ r. ⌜ (r .found ≡ foundAt (now (text .entry)) at group) × (r .from ≡ partStart (now (text .entry)) at group) × (r .to ≡ partEnd (now (text .entry)) at group) ⌝ }
 {
     let held = held_at(text, at, group);
     let found = held.found;
     let Found::Given = found else {
-        return Span { from: 0, to: 0 };
+        return Lines {
+            found,
+            from: 0,
+            to: 0,
+        };
     };
     let counts = held.counts;
-    place::span_of(text, at, &counts, group)
+    let span = place::span_of(text, at, &counts, group);
+    Lines {
+        found,
+        from: span.from,
+        to: span.to,
+    }
 }
 
-// The same as the part of the caller's own text that holds them.
+// The lines as the part of the caller's own text that holds them.
 pub fn lines_part<'a>(text: &'a [u8], at: usize, group: usize) -> &'a [u8]
     ensures { λ r. ⌜ (now r ≡ partAt (now (text .entry)) at group) × (r .ptr ≡ moved (text .entry .ptr) (partStart (now (text .entry)) at group)) ⌝ }
 {
-    let lines = lines_span(text, at, group);
+    let lines = lines_at(text, at, group);
     let from = lines.from;
     let to = lines.to;
     &text[from..to]

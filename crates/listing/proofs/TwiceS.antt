@@ -1,8 +1,7 @@
 -- "S twice is listed as" three lines: 01's example.
 -- Assumes nothing.
 use mathlib.Core.Path.{_≡_, refl, _∙_}
-use mathlib.Core.List.{List, [], _∷_, _++_}
-use Prim.Native.Nat.{ℕ}
+use mathlib.Core.List.{[], _∷_, _++_}
 use Rattle.base.specs.Every
 use Rattle.base.specs.Quoted.{bytes}
 use Rattle.base.specs.Sum

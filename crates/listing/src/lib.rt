@@ -5,7 +5,7 @@ ghost use lib.ListN.{length};
 ghost use Rattle.base.specs.Part.{over};
 ghost use Rattle.decimal.specs.Writing.{endIn, Puts};
 ghost use Rattle.listing.specs.Rows.{isPlaced, filledGroups, recordRow, endRow};
-ghost use Rattle.listing.specs.Listing.{listing, printed};
+ghost use Rattle.listing.specs.Listing.{listing, printed, listedReply};
 use decimal::Put;
 use place::Placing;
 
@@ -135,4 +135,14 @@ pub fn print(input: &[u8], out: &mut [u8]) -> Put
         return decimal::put_row(out, 0, b"end ", &[0, 0, 11, 0]);
     }
     render(input, out)
+}
+
+// The answer's number in 01's table, with the bytes written.
+pub fn reply_of(answer: Put) -> reply::Reply
+    ensures { λ r. ⌜ r ≡ listedReply answer ⌝ }
+{
+    match answer {
+        Put::Next(bytes) => reply::done(bytes),
+        Put::NoRoom => reply::plain(11),
+    }
 }

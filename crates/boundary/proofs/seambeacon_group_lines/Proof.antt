@@ -1,25 +1,22 @@
 -- `boundary::seambeacon_group_lines` meets its contract: the reply in numbers, and where the part starts with its length.
 -- Assumes nothing.
 use borrow.Author.Needs.{needs}
-use native.Mathlib.Omega.{arith}
 use mathlib.Core.Path.{refl, _∙_, ap}
+use native.Mathlib.Omega.{arith}
 use Rattle.group.specs.Held.{foundReply}
 use Rattle.group.proofs.Holding.{span-range, span-length}
 use Rattle.boundary.proofs.Telling.{told-as}
 use Rattle.boundary.proofs.seambeacon_group_lines.Statement.{statement}
 use Rattle.boundary.proofs.seambeacon_group_lines.Tie as tie
 
-lines-span-requires : tie.Need-lines-span-requires
-lines-span-requires c κs = search needs
+lines-at-requires : tie.Need-lines-at-requires
+lines-at-requires c κs = search needs
 
 sub-length : tie.Need-sub-length
 sub-length c =
     let a = c .before .before .before .args in
-    let e = c .before .lines-span .ensures in
-    omega (arith, span-range (a .text .now) (a .at) (a .group) .0, e .0, e .1)
-
-group-lines-reply-requires : tie.Need-group-lines-reply-requires
-group-lines-reply-requires c κs = search needs
+    let e = c .before .lines-at .ensures in
+    omega (arith, span-range (a .text .now) (a .at) (a .group) .0, e .1, e .2)
 
 found-reply-requires : tie.Need-found-reply-requires
 found-reply-requires c κs = search needs
@@ -29,17 +26,16 @@ tell-requires c κs = search needs
 
 returns : tie.Need-returns
 returns c =
-    let a = c .before .before .before .before .before .before .before .before .args in
-    let e = c .before .before .before .before .before .before .lines-span .ensures in
-    (told-as (c .before .before .found-reply .ensures ∙ ap foundReply (c .before .before .before .group-lines-reply .ensures)) (c .tell .ensures), rw (e .0, e .1, span-length (a .text .now) (a .at) (a .group)) refl)
+    let a = c .before .before .before .before .before .before .before .args in
+    let e = c .before .before .before .before .before .lines-at .ensures in
+    (told-as (c .before .before .found-reply .ensures ∙ ap foundReply (e .0)) (c .tell .ensures), rw (e .1, e .2, span-length (a .text .now) (a .at) (a .group)) refl)
 
 pub seambeacon-group-lines-spec : {M : Type 1} → statement M
 seambeacon-group-lines-spec =
     tie.close
     (tie.spec
-    lines-span-requires
+    lines-at-requires
     sub-length
-    group-lines-reply-requires
     found-reply-requires
     tell-requires
     returns)

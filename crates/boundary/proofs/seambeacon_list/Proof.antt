@@ -10,8 +10,8 @@ use Rattle.boundary.proofs.seambeacon_list.Tie as tie
 list-requires : tie.Need-list-requires
 list-requires c κs = search needs
 
-listed-reply-requires : tie.Need-listed-reply-requires
-listed-reply-requires c κs = search needs
+reply-of-requires : tie.Need-reply-of-requires
+reply-of-requires c κs = search needs
 
 tell-requires : tie.Need-tell-requires
 tell-requires c κs = search needs
@@ -22,8 +22,8 @@ same-length c = search needs
 returns : tie.Need-returns
 returns c =
     let e = c .before .before .before .before .before .list .ensures in
-    (told-as (c .before .before .listed-reply .ensures ∙ ap listedReply (e .answer)) (c .tell .ensures), e .bytes)
+    (told-as (c .before .before .reply-of .ensures ∙ ap listedReply (e .answer)) (c .tell .ensures), e .bytes)
 
 pub seambeacon-list-spec : {M : Type 1} → statement M
 seambeacon-list-spec =
-    tie.close (tie.spec list-requires listed-reply-requires tell-requires same-length returns)
+    tie.close (tie.spec list-requires reply-of-requires tell-requires same-length returns)

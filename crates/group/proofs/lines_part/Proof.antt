@@ -6,30 +6,30 @@ use Rattle.group.proofs.Holding.{span-range, span-part, moved-by}
 use Rattle.group.proofs.lines_part.Statement.{statement}
 use Rattle.group.proofs.lines_part.Tie as tie
 
-lines-span-requires : tie.Need-lines-span-requires
-lines-span-requires c κs = search needs
+lines-at-requires : tie.Need-lines-at-requires
+lines-at-requires c κs = search needs
 
 sub-result : tie.Need-sub-result
 sub-result c =
     let a = c .before .before .args in
-    omega (arith, span-range (a .text .now) (a .at) (a .group) .0, c .lines-span .ensures .0, c .lines-span .ensures .1)
+    omega (arith, span-range (a .text .now) (a .at) (a .group) .0, c .lines-at .ensures .1, c .lines-at .ensures .2)
 
 part-result-start : tie.Need-part-result-start
 part-result-start c =
     let a = c .before .before .args in
-    omega (arith, span-range (a .text .now) (a .at) (a .group) .0, c .lines-span .ensures .0, c .lines-span .ensures .1)
+    omega (arith, span-range (a .text .now) (a .at) (a .group) .0, c .lines-at .ensures .1, c .lines-at .ensures .2)
 
 part-result-end : tie.Need-part-result-end
 part-result-end c =
     let a = c .before .before .args in
-    omega (arith, span-range (a .text .now) (a .at) (a .group) .1, c .lines-span .ensures .1)
+    omega (arith, span-range (a .text .now) (a .at) (a .group) .1, c .lines-at .ensures .2)
 
 returns : tie.Need-returns
 returns c =
     let a = c .before .before .before .args in
-    let e = c .before .lines-span .ensures in
-    (span-part (a .text .now) (a .at) (a .group) _ _ e, moved-by (a .text .ptr) (e .0))
+    let e = c .before .lines-at .ensures in
+    (span-part (a .text .now) (a .at) (a .group) _ _ (e .1, e .2), moved-by (a .text .ptr) (e .1))
 
 pub lines-part-spec : {M : Type 1} → statement M
 lines-part-spec =
-    tie.close (tie.spec lines-span-requires sub-result part-result-start part-result-end returns)
+    tie.close (tie.spec lines-at-requires sub-result part-result-start part-result-end returns)
