@@ -11,7 +11,9 @@ well-formed-requires : tie.Need-well-formed-requires
 well-formed-requires c κs = search needs
 
 returns : tie.Need-returns
-returns c = sym (checked-misformed (c .before .before .before .args .counts .now) (c .before .before .before .args .cells) (sym (c .before .well-formed .ensures) ∙ not-true _ (c .if1 .taken)))
+returns c =
+    let o = c .before .before .before in
+    sym (checked-misformed (o .args .counts .now) (o .args .cells) (sym (c .before .well-formed .ensures) ∙ not-true _ (c .if1 .taken)))
 
 release-of-requires : tie.Need-release-of-requires
 release-of-requires c κs = search needs
@@ -38,19 +40,29 @@ add-up-requires : tie.Need-add-up-requires
 add-up-requires c κs = search needs
 
 returns-2 : tie.Need-returns-2
-returns-2 c = sym (checked-right (c .before .before .before .before .before .before .before .before .before .before .before .before .args .counts .now) (c .before .before .before .before .before .before .before .before .before .before .before .before .args .cells) (sym (c .before .before .before .before .before .before .before .before .before .before .well-formed .ensures) ∙ not-false _ (c .before .before .before .before .before .before .before .before .before .if1 .left)) (sym (c .before .before .before .before .before .before .before .before .release-of .ensures) ∙ c .before .before .before .before .before .before .enum-told2 .given .1) (sym (c .before .before .before .before .before .ruling-of .ensures) ∙ c .before .before .before .enum-told3 .given .1) (c .if2 .taken ∙ c .before .before .add-up .ensures .cells-are))
+returns-2 c =
+    let o = c .before .before .before .before .before .before .before .before .before .before .before .before in
+    sym (checked-right (o .args .counts .now) (o .args .cells) (sym (c .before .before .before .before .before .before .before .before .before .before .well-formed .ensures) ∙ not-false _ (c .before .before .before .before .before .before .before .before .before .if1 .left)) (sym (c .before .before .before .before .before .before .before .before .release-of .ensures) ∙ c .before .before .before .before .before .before .enum-told2 .given .1) (sym (c .before .before .before .before .before .ruling-of .ensures) ∙ c .before .before .before .enum-told3 .given .1) (c .if2 .taken ∙ c .before .before .add-up .ensures .cells-are))
 
 returns-3 : tie.Need-returns-3
-returns-3 c = sym (checked-release (c .before .before .before .before .before .before .args .counts .now) (c .before .before .before .before .before .before .args .cells) (sym (c .before .before .before .before .well-formed .ensures) ∙ not-false _ (c .before .before .before .if1 .left)) (sym (c .before .before .release-of .ensures) ∙ c .enum-told .given .1))
+returns-3 c =
+    let o = c .before .before .before .before .before .before in
+    sym (checked-release (o .args .counts .now) (o .args .cells) (sym (c .before .before .before .before .well-formed .ensures) ∙ not-false _ (c .before .before .before .if1 .left)) (sym (c .before .before .release-of .ensures) ∙ c .enum-told .given .1))
 
 returns-4 : tie.Need-returns-4
-returns-4 c = sym (checked-filled (c .before .before .before .before .before .before .before .args .counts .now) (c .before .before .before .before .before .before .before .args .cells) (sym (c .before .before .before .before .before .well-formed .ensures) ∙ not-false _ (c .before .before .before .before .if1 .left)) (sym (c .before .before .before .release-of .ensures) ∙ c .before .g .given .1))
+returns-4 c =
+    let o = c .before .before .before .before .before .before .before in
+    sym (checked-filled (o .args .counts .now) (o .args .cells) (sym (c .before .before .before .before .before .well-formed .ensures) ∙ not-false _ (c .before .before .before .before .if1 .left)) (sym (c .before .before .before .release-of .ensures) ∙ c .before .g .given .1))
 
 returns-5 : tie.Need-returns-5
-returns-5 c = sym (checked-broken (c .before .before .before .before .before .before .before .before .before .before .args .counts .now) (c .before .before .before .before .before .before .before .before .before .before .args .cells) (sym (c .before .before .before .before .before .before .before .before .well-formed .ensures) ∙ not-false _ (c .before .before .before .before .before .before .before .if1 .left)) (sym (c .before .before .before .before .before .before .release-of .ensures) ∙ c .before .before .before .before .enum-told2 .given .1) (sym (c .before .before .before .ruling-of .ensures) ∙ c .before .g2 .given .1))
+returns-5 c =
+    let o = c .before .before .before .before .before .before .before .before .before .before in
+    sym (checked-broken (o .args .counts .now) (o .args .cells) (sym (c .before .before .before .before .before .before .before .before .well-formed .ensures) ∙ not-false _ (c .before .before .before .before .before .before .before .if1 .left)) (sym (c .before .before .before .before .before .before .release-of .ensures) ∙ c .before .before .before .before .enum-told2 .given .1) (sym (c .before .before .before .ruling-of .ensures) ∙ c .before .g2 .given .1))
 
 returns-6 : tie.Need-returns-6
-returns-6 c = sym (checked-length (c .before .before .before .before .before .before .before .before .before .before .before .before .args .counts .now) (c .before .before .before .before .before .before .before .before .before .before .before .before .args .cells) (sym (c .before .before .before .before .before .before .before .before .before .before .well-formed .ensures) ∙ not-false _ (c .before .before .before .before .before .before .before .before .before .if1 .left)) (sym (c .before .before .before .before .before .before .before .before .release-of .ensures) ∙ c .before .before .before .before .before .before .enum-told2 .given .1) (sym (c .before .before .before .before .before .ruling-of .ensures) ∙ c .before .before .before .enum-told3 .given .1) (λ e. c .if2 .left (e ∙ sym (c .before .before .add-up .ensures .cells-are))))
+returns-6 c =
+    let o = c .before .before .before .before .before .before .before .before .before .before .before .before in
+    sym (checked-length (o .args .counts .now) (o .args .cells) (sym (c .before .before .before .before .before .before .before .before .before .before .well-formed .ensures) ∙ not-false _ (c .before .before .before .before .before .before .before .before .before .if1 .left)) (sym (c .before .before .before .before .before .before .before .before .release-of .ensures) ∙ c .before .before .before .before .before .before .enum-told2 .given .1) (sym (c .before .before .before .before .before .ruling-of .ensures) ∙ c .before .before .before .enum-told3 .given .1) (λ e. c .if2 .left (e ∙ sym (c .before .before .add-up .ensures .cells-are))))
 
 pub check-spec : {M : Type 1} → statement M
 check-spec =

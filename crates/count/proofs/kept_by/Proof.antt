@@ -49,7 +49,9 @@ loop-again c =
 
 -- what the loop leaves
 ended : (c : tie.After-loop Inv-loop μ-loop) → keeps (c .before .before .before .args .counts .now) (c .before .before .before .args .set) ≡ endsSeen (c .before .before .before .args .counts .now) (c .before .before .before .args .set) (c .before .loop .seen)
-ended c = seen-end (c .before .before .before .args .counts .now) (c .before .before .before .args .set) (c .before .loop .seen) (c .before .loop .g) (c .before .loop .inv) (omega arith)
+ended c =
+    let o = c .before .before .before in
+    seen-end (o .args .counts .now) (o .args .set) (c .before .loop .seen) (c .before .loop .g) (c .before .loop .inv) (omega arith)
 
 returns-2 : tie.Need-returns-2 Inv-loop μ-loop
 returns-2 c = sym (ended (c .before .before) ∙ rw (c .if2 .taken))

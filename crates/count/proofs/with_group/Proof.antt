@@ -17,7 +17,9 @@ cells-requires : tie.Need-cells-requires
 cells-requires c κs = search needs
 
 add-t7 : tie.Need-add-t7
-add-t7 c = record { fits = omega (arith, c .before .cells .ensures, cells-few (c .before .before .before .before .args .form) (c .before .before .before .before .args .count) (omega arith)) }
+add-t7 c =
+    let o = c .before .before .before .before in
+    record { fits = omega (arith, c .before .cells .ensures, cells-few (o .args .form) (o .args .count) (omega arith)) }
 
 returns : tie.Need-returns
 returns c = rw (c .before .before .before .lines .ensures, c .before .cells .ensures) (refl, refl)

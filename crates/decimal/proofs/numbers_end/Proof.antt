@@ -22,10 +22,14 @@ add-t10 : tie.Need-add-t10 Inv-loop μ-loop
 add-t10 c = search needs
 
 returns : tie.Need-returns Inv-loop μ-loop
-returns c = sym (end-done (c .before .before .before .args .at) 1 _ (omega arith)) ∙ end-empty (c .before .before .before .args .numbers .now) _ _ (c .before .if1 .taken)
+returns c =
+    let o = c .before .before .before in
+    sym (end-done (o .args .at) 1 _ (omega arith)) ∙ end-empty (o .args .numbers .now) _ _ (c .before .if1 .taken)
 
 returns-2 : tie.Need-returns-2 Inv-loop μ-loop
-returns-2 c = sym (end-none (c .before .before .before .args .at) 1 (c .before .before .before .args .size) (omega arith)) ∙ end-empty (c .before .before .before .args .numbers .now) _ _ (c .before .if1 .taken)
+returns-2 c =
+    let o = c .before .before .before in
+    sym (end-none (o .args .at) 1 (o .args .size) (omega arith)) ∙ end-empty (o .args .numbers .now) _ _ (c .before .if1 .taken)
 
 loop-holds : tie.Need-loop-holds Inv-loop μ-loop
 loop-holds c = (c .before .before .pre, end-whole _ _ _ (c .if1 .left))

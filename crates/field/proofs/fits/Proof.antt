@@ -21,14 +21,18 @@ count-of-requires c κs = search needs
 
 returns : tie.Need-returns
 unfolding fitsOf
-returns c = rw (ne-eqb (length (c .before .before .before .args .cells .now)) (rowOf (c .before .before .before .args .form) .cells) (λ e. c .if1 .taken (e ∙ sym (count (c .before)))))
+returns c =
+    let o = c .before .before .before in
+    rw (ne-eqb (length (o .args .cells .now)) (rowOf (o .args .form) .cells) (λ e. c .if1 .taken (e ∙ sym (count (c .before)))))
 
 in-range-requires : tie.Need-in-range-requires
 in-range-requires c κs = search needs
 
 returns-2 : tie.Need-returns-2
 unfolding fitsOf
-returns-2 c = rw (eq-eqb (length (c .before .before .before .before .args .cells .now)) (rowOf (c .before .before .before .before .args .form) .cells) (c .before .if1 .left ∙ count (c .before .before))) (c .in-range .ensures ∙ ap (λ k. rangeOf k (c .before .before .before .before .args .cells .now)) (c .before .before .before .kind-of .ensures))
+returns-2 c =
+    let o = c .before .before .before .before in
+    rw (eq-eqb (length (o .args .cells .now)) (rowOf (o .args .form) .cells) (c .before .if1 .left ∙ count (c .before .before))) (c .in-range .ensures ∙ ap (λ k. rangeOf k (o .args .cells .now)) (c .before .before .before .kind-of .ensures))
 
 pub fits-spec : {M : Type 1} → statement M
 fits-spec =

@@ -21,14 +21,18 @@ width-of-requires c κs = rw (c .kind-of .ensures) (kind-small (c .before .befor
 
 returns : tie.Need-returns
 unfolding fieldOf
-returns c = rw (ne-eqb (length (c .before .before .before .before .args .field .now)) (rowOf (c .before .before .before .before .args .form) .width) (λ e. c .if1 .taken (e ∙ sym (width (c .before)))))
+returns c =
+    let o = c .before .before .before .before in
+    rw (ne-eqb (length (o .args .field .now)) (rowOf (o .args .form) .width) (λ e. c .if1 .taken (e ∙ sym (width (c .before)))))
 
 read-as-requires : tie.Need-read-as-requires
 read-as-requires c κs = (c .if1 .left ∙ c .before .width-of .ensures, rw (c .before .before .kind-of .ensures) (kind-small (c .before .before .before .before .args .form)))
 
 returns-2 : tie.Need-returns-2
 unfolding fieldOf
-returns-2 c = rw (eq-eqb (length (c .before .before .before .before .before .args .field .now)) (rowOf (c .before .before .before .before .before .args .form) .width) (c .before .if1 .left ∙ width (c .before .before))) (c .read-as .ensures ∙ ap (λ k. readAs k (c .before .before .before .before .before .args .field .now)) (c .before .before .before .kind-of .ensures))
+returns-2 c =
+    let o = c .before .before .before .before .before in
+    rw (eq-eqb (length (o .args .field .now)) (rowOf (o .args .form) .width) (c .before .if1 .left ∙ width (c .before .before))) (c .read-as .ensures ∙ ap (λ k. readAs k (o .args .field .now)) (c .before .before .before .kind-of .ensures))
 
 pub read-spec : {M : Type 1} → statement M
 read-spec =

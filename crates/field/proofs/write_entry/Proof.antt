@@ -16,7 +16,9 @@ has-room-requires : tie.Need-has-room-requires
 has-room-requires c κs = search needs
 
 put-entry-requires : tie.Need-put-entry-requires
-put-entry-requires c κs = omega (arith, leb-true (c .before .before .before .before .before .args .at + 3) (length (c .before .before .before .before .before .args .out .now)) (sym (c .before .before .has-room .ensures) ∙ c .before .if2 .taken))
+put-entry-requires c κs =
+    let o = c .before .before .before .before .before in
+    omega (arith, leb-true (o .args .at + 3) (length (o .args .out .now)) (sym (c .before .before .has-room .ensures) ∙ c .before .if2 .taken))
 
 same-length : tie.Need-same-length
 same-length c = search needs

@@ -14,7 +14,9 @@ returns : tie.Need-returns
 returns c = number-low (c .before .before .args .text .now) (c .before .before .args .at) (c .before .before .args .number) (c .if1 .taken)
 
 returns-2 : tie.Need-returns-2
-returns-2 c = number-high (c .before .before .before .args .text .now) (c .before .before .before .args .at) (c .before .before .before .args .number) (c .before .if1 .left) (c .if2 .taken)
+returns-2 c =
+    let o = c .before .before .before in
+    number-high (o .args .text .now) (o .args .at) (o .args .number) (c .before .if1 .left) (c .if2 .taken)
 
 slice-aggregate-read-group : tie.Need-slice-aggregate-read-group
 slice-aggregate-read-group c = search needs
@@ -29,7 +31,9 @@ enum-known-n : tie.Need-enum-known-n
 enum-known-n c = search needs
 
 returns-3 : tie.Need-returns-3
-returns-3 c = four-few (c .before .before .before .before .before .before .before .before .before .before .args .text .now) (c .before .before .before .before .before .before .before .before .before .before .args .at) (c .before .before .before .before .before .before .before .before .before .before .args .number) (c .before .before .before .before .before .before .before .before .if1 .left) (c .before .before .before .before .before .before .before .if2 .left) (sym (c .before .before .n .given .1) ∙ c .before .before .before .before .before .read-group .ensures .0) (c .if3 .taken)
+returns-3 c =
+    let o = c .before .before .before .before .before .before .before .before .before .before in
+    four-few (o .args .text .now) (o .args .at) (o .args .number) (c .before .before .before .before .before .before .before .before .if1 .left) (c .before .before .before .before .before .before .before .if2 .left) (sym (c .before .before .n .given .1) ∙ c .before .before .before .before .before .read-group .ensures .0) (c .if3 .taken)
 
 mul-told-by : tie.Need-mul-told-by
 mul-told-by c = search needs
@@ -41,10 +45,14 @@ told-by-requires : tie.Need-told-by-requires
 told-by-requires c κs = search needs
 
 returns-4 : tie.Need-returns-4
-returns-4 c = four-refused (c .before .before .before .before .before .before .before .before .before .args .text .now) (c .before .before .before .before .before .before .before .before .before .args .at) (c .before .before .before .before .before .before .before .before .before .args .number) (c .before .before .before .before .before .before .before .if1 .left) (c .before .before .before .before .before .before .if2 .left) (sym (c .before .r .given .1) ∙ c .before .before .before .before .read-group .ensures .0)
+returns-4 c =
+    let o = c .before .before .before .before .before .before .before .before .before in
+    four-refused (o .args .text .now) (o .args .at) (o .args .number) (c .before .before .before .before .before .before .before .if1 .left) (c .before .before .before .before .before .before .if2 .left) (sym (c .before .r .given .1) ∙ c .before .before .before .before .read-group .ensures .0)
 
 returns-5 : tie.Need-returns-5
-returns-5 c = c .told-by .ensures ∙ ap told (toZ-ofZ {w = w64} (sfits-of {w = w64} (c .before .told-by-arg .given))) ∙ four-told (c .before .before .before .before .before .before .before .before .before .before .before .before .args .text .now) (c .before .before .before .before .before .before .before .before .before .before .before .before .args .at) (c .before .before .before .before .before .before .before .before .before .before .before .before .args .number) (c .before .before .before .before .before .before .before .before .before .before .if1 .left) (c .before .before .before .before .before .before .before .before .before .if2 .left) (sym (c .before .before .before .before .n .given .1) ∙ c .before .before .before .before .before .before .before .read-group .ensures .0) (c .before .before .if3 .left) _ _ (c .before .before .before .before .before .before .before .read-group .ensures .1)
+returns-5 c =
+    let o = c .before .before .before .before .before .before .before .before .before .before .before .before in
+    c .told-by .ensures ∙ ap told (toZ-ofZ {w = w64} (sfits-of {w = w64} (c .before .told-by-arg .given))) ∙ four-told (o .args .text .now) (o .args .at) (o .args .number) (c .before .before .before .before .before .before .before .before .before .before .if1 .left) (c .before .before .before .before .before .before .before .before .before .if2 .left) (sym (c .before .before .before .before .n .given .1) ∙ c .before .before .before .before .before .before .before .read-group .ensures .0) (c .before .before .if3 .left) _ _ (c .before .before .before .before .before .before .before .read-group .ensures .1)
 
 pub characteristic-at-spec : {M : Type 1} → statement M
 characteristic-at-spec =

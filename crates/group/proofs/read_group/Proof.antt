@@ -34,7 +34,9 @@ given : (c : tie.After-span-of) → foundAt (c .before .before .before .before .
 given c = sym (c .before .before .before .before .before .held-at .ensures .0) ∙ c .before .before .before .enum-told .given .1
 
 range : (c : tie.After-span-of) → (c .span-of .result .from ≤ c .span-of .result .to) × (c .span-of .result .to ≤ length (c .before .before .before .before .before .before .before .args .text .now))
-range c = held-range (c .before .before .before .before .before .before .before .args .text .now) (c .before .before .before .before .before .before .before .args .at) (c .before .before .before .before .before .before .before .args .group) (given c) _ (c .before .before .before .before .before .held-at .ensures .1) _ _ (c .span-of .ensures)
+range c =
+    let o = c .before .before .before .before .before .before .before in
+    held-range (o .args .text .now) (o .args .at) (o .args .group) (given c) _ (c .before .before .before .before .before .held-at .ensures .1) _ _ (c .span-of .ensures)
 
 sub-read-kept : tie.Need-sub-read-kept
 sub-read-kept c = range (c .before) .0
@@ -51,13 +53,17 @@ read-kept-requires c κs =
     held-kept (o .args .text .now) (o .args .at) (o .args .group) (given (c .before .before .before)) _ (c .before .before .before .before .before .before .before .before .held-at .ensures .1)
 
 returns : tie.Need-returns
-returns c = text-missing (c .before .before .before .before .before .args .text .now) (c .before .before .before .before .before .args .at) (c .before .before .before .before .before .args .group) (c .before .before .before .before .before .args .table .now) (sym (c .before .found .given .1) ∙ c .before .before .before .held-at .ensures .0)
+returns c =
+    let o = c .before .before .before .before .before in
+    text-missing (o .args .text .now) (o .args .at) (o .args .group) (o .args .table .now) (sym (c .before .found .given .1) ∙ c .before .before .before .held-at .ensures .0)
 
 same-length : tie.Need-same-length
 same-length c = search needs
 
 returns-2 : tie.Need-returns-2
-returns-2 c = text-given (c .before .before .before .before .before .before .before .before .before .before .before .before .args .text .now) (c .before .before .before .before .before .before .before .before .before .before .before .before .args .at) (c .before .before .before .before .before .before .before .before .before .before .before .before .args .group) (c .before .before .before .before .before .before .before .before .before .before .before .before .args .table .now) (sym (given (c .before .before .before .before .before))) _ (c .before .before .before .before .before .before .before .before .before .before .held-at .ensures .1) _ _ (c .before .before .before .before .before .span-of .ensures) (c .before .read-kept .ensures)
+returns-2 c =
+    let o = c .before .before .before .before .before .before .before .before .before .before .before .before in
+    text-given (o .args .text .now) (o .args .at) (o .args .group) (o .args .table .now) (sym (given (c .before .before .before .before .before))) _ (c .before .before .before .before .before .before .before .before .before .before .held-at .ensures .1) _ _ (c .before .before .before .before .before .span-of .ensures) (c .before .read-kept .ensures)
 
 pub read-group-spec : {M : Type 1} → statement M
 read-group-spec =

@@ -20,10 +20,14 @@ enum-told : tie.Need-enum-told
 enum-told c = search needs
 
 returns-2 : tie.Need-returns-2
-returns-2 c = reach-end (c .before .before .before .before .before .args .text .now) (c .before .before .before .before .before .args .at) (c .before .before .before .before .before .args .lines) (omega arith) (sym (c .before .before .place-behind .ensures) ∙ c .enum-told .given .1)
+returns-2 c =
+    let o = c .before .before .before .before .before in
+    reach-end (o .args .text .now) (o .args .at) (o .args .lines) (omega arith) (sym (c .before .before .place-behind .ensures) ∙ c .enum-told .given .1)
 
 returns-3 : tie.Need-returns-3
-returns-3 c = reach-at (c .before .before .before .before .before .before .args .text .now) (c .before .before .before .before .before .before .args .at) (c .before .before .before .before .before .before .args .lines) (c .before .n .given .0 .0) (sym (c .before .before .before .place-behind .ensures) ∙ c .before .n .given .1)
+returns-3 c =
+    let o = c .before .before .before .before .before .before in
+    reach-at (o .args .text .now) (o .args .at) (o .args .lines) (c .before .n .given .0 .0) (sym (c .before .before .before .place-behind .ensures) ∙ c .before .n .given .1)
 
 pub behind-or-end-spec : {M : Type 1} → statement M
 behind-or-end-spec =

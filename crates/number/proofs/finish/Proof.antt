@@ -10,7 +10,9 @@ scan-part-requires : tie.Need-scan-part-requires
 scan-part-requires c κs = search needs
 
 one-requires : tie.Need-one-requires
-one-requires c κs = rw (c .scan-part .ensures) (scan-bound (c .before .before .args .s .now) 6 12 (c .before .before .args .from) (c .before .before .pre .0) (c .before .before .pre .1))
+one-requires c κs =
+    let o = c .before .before in
+    rw (c .scan-part .ensures) (scan-bound (o .args .s .now) 6 12 (o .args .from) (o .pre .0) (o .pre .1))
 
 returns : tie.Need-returns
 returns c = c .one .ensures ∙ ap oneOf (c .before .scan-part .ensures)

@@ -20,13 +20,17 @@ nothing-requires : tie.Need-nothing-requires
 nothing-requires c κs = search needs
 
 returns : tie.Need-returns
-returns c = answers-at (c .before .before .before .args .text .now) (c .before .before .before .args .at) (locate-beyond (c .before .before .before .args .text .now) (c .before .before .before .args .at) (c .before .if1 .taken)) (refuses refl (c .nothing .ensures))
+returns c =
+    let o = c .before .before .before in
+    answers-at (o .args .text .now) (o .args .at) (locate-beyond (o .args .text .now) (o .args .at) (c .before .if1 .taken)) (refuses refl (c .nothing .ensures))
 
 nothing-requires-2 : tie.Need-nothing-requires-2
 nothing-requires-2 c κs = search needs
 
 returns-2 : tie.Need-returns-2
-returns-2 c = answers-at (c .before .before .before .before .args .text .now) (c .before .before .before .before .args .at) (locate-end (c .before .before .before .before .args .text .now) (c .before .before .before .before .args .at) (c .before .if2 .taken)) (refuses refl (c .nothing2 .ensures))
+returns-2 c =
+    let o = c .before .before .before .before in
+    answers-at (o .args .text .now) (o .args .at) (locate-end (o .args .text .now) (o .args .at) (c .before .if2 .taken)) (refuses refl (c .nothing2 .ensures))
 
 place-behind-requires : tie.Need-place-behind-requires
 place-behind-requires c κs = search needs
@@ -41,7 +45,9 @@ nothing-requires-3 : tie.Need-nothing-requires-3
 nothing-requires-3 c κs = search needs
 
 returns-3 : tie.Need-returns-3
-returns-3 c = answers-at (c .before .before .before .before .before .before .before .args .text .now) (c .before .before .before .before .before .before .before .args .at) (first-few (c .before .before .before .before .before .before .before .args .text .now) (c .before .before .before .before .before .before .before .args .at) (omega arith) (sym (c .before .before .before .place-behind .ensures) ∙ c .before .enum-told .given .1)) (refuses refl (c .nothing3 .ensures))
+returns-3 c =
+    let o = c .before .before .before .before .before .before .before in
+    answers-at (o .args .text .now) (o .args .at) (first-few (o .args .text .now) (o .args .at) (omega arith) (sym (c .before .before .before .place-behind .ensures) ∙ c .before .enum-told .given .1)) (refuses refl (c .nothing3 .ensures))
 
 place-behind-requires-2 : tie.Need-place-behind-requires-2
 place-behind-requires-2 c κs = search needs
@@ -56,7 +62,9 @@ nothing-requires-4 : tie.Need-nothing-requires-4
 nothing-requires-4 c κs = search needs
 
 returns-4 : tie.Need-returns-4
-returns-4 c = answers-at (c .before .before .before .before .before .before .before .before .before .before .before .args .text .now) (c .before .before .before .before .before .before .before .before .before .before .before .args .at) (second-few (c .before .before .before .before .before .before .before .before .before .before .before .args .text .now) (c .before .before .before .before .before .before .before .before .before .before .before .args .at) (omega arith) (c .before .before .before .before .before .second .given .0 .0) (sym (c .before .before .before .before .before .before .before .place-behind .ensures) ∙ c .before .before .before .before .before .second .given .1) (sym (c .before .before .before .place-behind2 .ensures) ∙ c .before .enum-told2 .given .1)) (refuses refl (c .nothing4 .ensures))
+returns-4 c =
+    let o = c .before .before .before .before .before .before .before .before .before .before .before in
+    answers-at (o .args .text .now) (o .args .at) (second-few (o .args .text .now) (o .args .at) (omega arith) (c .before .before .before .before .before .second .given .0 .0) (sym (c .before .before .before .before .before .before .before .place-behind .ensures) ∙ c .before .before .before .before .before .second .given .1) (sym (c .before .before .before .place-behind2 .ensures) ∙ c .before .enum-told2 .given .1)) (refuses refl (c .nothing4 .ensures))
 
 -- the places behind the two index lines
 first : (c : tie.After-known-told2) → behindAt (c .before .before .before .before .before .before .before .before .before .before .before .args .text .now) (c .before .before .before .before .before .before .before .before .before .before .before .args .at) 1 ≡ At (c .before .before .before .before .before .second .given .0 .0)
@@ -66,7 +74,9 @@ then : (c : tie.After-known-told2) → behindAt (c .before .before .before .befo
 then c = sym (c .before .before .before .place-behind2 .ensures) ∙ c .before .end .given .1
 
 first-range : (c : tie.After-known-told2) → (c .before .before .before .before .before .before .before .before .before .before .before .args .at ≤ c .before .before .before .before .before .second .given .0 .0) × (c .before .before .before .before .before .second .given .0 .0 ≤ length (c .before .before .before .before .before .before .before .before .before .before .before .args .text .now))
-first-range c = at-range (c .before .before .before .before .before .before .before .before .before .before .before .args .text .now) (c .before .before .before .before .before .before .before .before .before .before .before .args .at) 1 (c .before .before .before .before .before .second .given .0 .0) (omega arith) (first c)
+first-range c =
+    let o = c .before .before .before .before .before .before .before .before .before .before .before in
+    at-range (o .args .text .now) (o .args .at) 1 (c .before .before .before .before .before .second .given .0 .0) (omega arith) (first c)
 
 then-range : (c : tie.After-known-told2) → (c .before .before .before .before .before .second .given .0 .0 ≤ c .before .end .given .0 .0) × (c .before .end .given .0 .0 ≤ length (c .before .before .before .before .before .before .before .before .before .before .before .args .text .now))
 then-range c = at-range (c .before .before .before .before .before .before .before .before .before .before .before .args .text .now) (c .before .before .before .before .before .second .given .0 .0) 1 (c .before .end .given .0 .0) (first-range c .1) (then c)
@@ -90,7 +100,9 @@ nothing-requires-5 : tie.Need-nothing-requires-5
 nothing-requires-5 c κs = search needs
 
 returns-5 : tie.Need-returns-5
-returns-5 c = answers-at (c .before .before .before .before .before .before .before .before .before .before .before .before .before .before .before .before .before .args .text .now) (c .before .before .before .before .before .before .before .before .before .before .before .before .before .before .before .before .before .args .at) (first-misformed (c .before .before .before .before .before .before .before .before .before .before .before .before .before .before .before .before .before .args .text .now) (c .before .before .before .before .before .before .before .before .before .before .before .before .before .before .before .before .before .args .at) (omega arith) (c .before .before .before .before .before .before .before .before .before .before .before .second .given .0 .0) (first (c .before .before .before .before .before .before)) (c .before .before .before .before .before .before .before .end .given .0 .0) (then (c .before .before .before .before .before .before)) (stored-none _ 0 _ _ (not-true _ (c .before .if3 .taken)) (c .before .before .before .store-line .ensures))) (refuses refl (c .nothing5 .ensures))
+returns-5 c =
+    let o = c .before .before .before .before .before .before .before .before .before .before .before .before .before .before .before .before .before in
+    answers-at (o .args .text .now) (o .args .at) (first-misformed (o .args .text .now) (o .args .at) (omega arith) (c .before .before .before .before .before .before .before .before .before .before .before .second .given .0 .0) (first (c .before .before .before .before .before .before)) (c .before .before .before .before .before .before .before .end .given .0 .0) (then (c .before .before .before .before .before .before)) (stored-none _ 0 _ _ (not-true _ (c .before .if3 .taken)) (c .before .before .before .store-line .ensures))) (refuses refl (c .nothing5 .ensures))
 
 -- the counts of the first line
 first-counts : (c : tie.Else3) → StoredCounts (readIndexLine (part (c .before .before .before .before .before .before .before .before .before .before .before .before .before .before .before .before .args .at) (c .before .before .before .before .before .before .before .before .before .before .second .given .0 .0) (c .before .before .before .before .before .before .before .before .before .before .before .before .before .before .before .before .args .text .now))) 0 (replicate 80 0) (c .before .before .store-line .last .1 .0)

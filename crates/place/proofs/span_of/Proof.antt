@@ -20,10 +20,14 @@ behind-or-end-requires c κs = search needs
 
 begins : (c : tie.After-behind-or-end) → c .behind-or-end .result ≡ start (c .before .before .before .before .args .text .now) (c .before .before .before .before .args .at) (c .before .before .before .before .args .counts .now) (c .before .before .before .before .args .group)
 unfolding start
-begins c = c .behind-or-end .ensures ∙ ap (λ k. c .before .before .before .before .args .at + reach (drop (c .before .before .before .before .args .at) (c .before .before .before .before .args .text .now)) k) (c .before .add-up .ensures .lines-are)
+begins c =
+    let o = c .before .before .before .before in
+    c .behind-or-end .ensures ∙ ap (λ k. o .args .at + reach (drop (o .args .at) (o .args .text .now)) k) (c .before .add-up .ensures .lines-are)
 
 returns : tie.Need-returns
-returns c = (begins (c .before), begins (c .before) ∙ sym (start-done (c .before .before .before .before .before .args .text .now) (c .before .before .before .before .before .args .at) (c .before .before .before .before .before .args .counts .now) (c .before .before .before .before .before .args .group) (c .if1 .taken)))
+returns c =
+    let o = c .before .before .before .before .before in
+    (begins (c .before), begins (c .before) ∙ sym (start-done (o .args .text .now) (o .args .at) (o .args .counts .now) (o .args .group) (c .if1 .taken)))
 
 add-add-up : tie.Need-add-add-up
 add-add-up c = search needs
@@ -32,13 +36,17 @@ add-up-requires-2 : tie.Need-add-up-requires-2
 add-up-requires-2 c κs = search needs
 
 sub-behind-or-end : tie.Need-sub-behind-or-end
-sub-behind-or-end c = omega (arith, c .before .before .before .before .before .add-up .ensures .lines-are, c .before .before .add-up2 .ensures .lines-are, lines-below (c .before .before .before .before .before .before .before .before .args .counts .now) (c .before .before .before .before .before .before .before .before .args .group) (c .before .before .before .before .before .before .before .before .args .group + 1) (omega arith))
+sub-behind-or-end c =
+    let o = c .before .before .before .before .before .before .before .before in
+    omega (arith, c .before .before .before .before .before .add-up .ensures .lines-are, c .before .before .add-up2 .ensures .lines-are, lines-below (o .args .counts .now) (o .args .group) (o .args .group + 1) (omega arith))
 
 behind-or-end-requires-2 : tie.Need-behind-or-end-requires-2
 behind-or-end-requires-2 c κs = search needs
 
 returns-2 : tie.Need-returns-2
-returns-2 c = (begins (c .before .before .before .before .before), c .behind-or-end2 .ensures ∙ start-next (c .before .before .before .before .before .before .before .before .before .args .text .now) (c .before .before .before .before .before .before .before .before .before .args .at) (c .before .before .before .before .before .before .before .before .before .args .counts .now) (c .before .before .before .before .before .before .before .before .before .args .group) (begins (c .before .before .before .before .before)) (c .before .before .before .before .before .before .add-up .ensures .lines-are) (c .before .before .before .add-up2 .ensures .lines-are))
+returns-2 c =
+    let o = c .before .before .before .before .before .before .before .before .before in
+    (begins (c .before .before .before .before .before), c .behind-or-end2 .ensures ∙ start-next (o .args .text .now) (o .args .at) (o .args .counts .now) (o .args .group) (begins (c .before .before .before .before .before)) (c .before .before .before .before .before .before .add-up .ensures .lines-are) (c .before .before .before .add-up2 .ensures .lines-are))
 
 pub span-of-spec : {M : Type 1} → statement M
 span-of-spec =

@@ -77,7 +77,9 @@ same-length-2 : tie.Need-same-length-2 Inv-loop μ-loop
 same-length-2 c = c .before .loop .inv .1
 
 returns-2 : tie.Need-returns-2 Inv-loop μ-loop
-returns-2 c = storing-done (c .before .before .before .before .args .content .now) (c .before .before .before .before .args .from) (c .before .before .before .before .args .counts .now) (c .before .loop .k) (c .before .loop .counts) (omega arith) (omega arith) (c .before .loop .inv .2)
+returns-2 c =
+    let o = c .before .before .before .before in
+    storing-done (o .args .content .now) (o .args .from) (o .args .counts .now) (c .before .loop .k) (c .before .loop .counts) (omega arith) (omega arith) (c .before .loop .inv .2)
 
 pub store-entries-spec : {M : Type 1} → statement M
 store-entries-spec =

@@ -31,13 +31,19 @@ with-lines-requires : tie.Need-with-lines-requires
 with-lines-requires c κs = search needs
 
 returns : tie.Need-returns
-returns c = refuses (from-release (c .before .before .before .before .before .before .args .text .now) (c .before .before .before .before .before .before .args .from) (c .before .before .before .before .before .before .args .t3) (sym (c .before .before .before .release-of .ensures) ∙ c .before .enum-told .given .1)) (c .nothing .ensures)
+returns c =
+    let o = c .before .before .before .before .before .before in
+    refuses (from-release (o .args .text .now) (o .args .from) (o .args .t3) (sym (c .before .before .before .release-of .ensures) ∙ c .before .enum-told .given .1)) (c .nothing .ensures)
 
 returns-2 : tie.Need-returns-2
-returns-2 c = refuses (from-release (c .before .before .before .before .before .before .before .args .text .now) (c .before .before .before .before .before .before .before .args .from) (c .before .before .before .before .before .before .before .args .t3) (sym (c .before .before .before .before .release-of .ensures) ∙ c .before .before .g .given .1)) (c .nothing2 .ensures)
+returns-2 c =
+    let o = c .before .before .before .before .before .before .before in
+    refuses (from-release (o .args .text .now) (o .args .from) (o .args .t3) (sym (c .before .before .before .before .release-of .ensures) ∙ c .before .before .g .given .1)) (c .nothing2 .ensures)
 
 returns-3 : tie.Need-returns-3
-returns-3 c = rw (from-release (c .before .before .before .before .before .before .args .text .now) (c .before .before .before .before .before .before .args .from) (c .before .before .before .before .before .before .args .t3) (sym (c .before .before .before .release-of .ensures) ∙ c .before .enum-told2 .given .1)) (c .with-lines .ensures)
+returns-3 c =
+    let o = c .before .before .before .before .before .before in
+    rw (from-release (o .args .text .now) (o .args .from) (o .args .t3) (sym (c .before .before .before .release-of .ensures) ∙ c .before .enum-told2 .given .1)) (c .with-lines .ensures)
 
 pub with-counts-spec : {M : Type 1} → statement M
 with-counts-spec =

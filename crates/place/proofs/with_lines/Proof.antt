@@ -15,7 +15,9 @@ add-up-requires : tie.Need-add-up-requires
 add-up-requires c κs = search needs
 
 sub-place-behind : tie.Need-sub-place-behind
-sub-place-behind c = omega (arith, (c .before .add-up .ensures .lines-are ∙ all-lines (c .before .before .before .before .args .t3)), record-two (c .before .before .before .before .args .t3))
+sub-place-behind c =
+    let o = c .before .before .before .before in
+    omega (arith, (c .before .add-up .ensures .lines-are ∙ all-lines (o .args .t3)), record-two (o .args .t3))
 
 place-behind-requires : tie.Need-place-behind-requires
 place-behind-requires c κs = search needs
@@ -30,7 +32,9 @@ nothing-requires : tie.Need-nothing-requires
 nothing-requires c κs = search needs
 
 returns : tie.Need-returns
-returns c = refuses (from-lines (c .before .before .before .before .before .before .before .before .args .text .now) (c .before .before .before .before .before .before .before .before .args .from) (c .before .before .before .before .before .before .before .before .args .t3) (c .before .before .before .before .before .add-up .ensures .lines-are ∙ all-lines (c .before .before .before .before .before .before .before .before .args .t3)) (sym (c .before .before .before .place-behind .ensures) ∙ c .before .enum-told .given .1)) (c .nothing .ensures)
+returns c =
+    let o = c .before .before .before .before .before .before .before .before in
+    refuses (from-lines (o .args .text .now) (o .args .from) (o .args .t3) (c .before .before .before .before .before .add-up .ensures .lines-are ∙ all-lines (o .args .t3)) (sym (c .before .before .before .place-behind .ensures) ∙ c .before .enum-told .given .1)) (c .nothing .ensures)
 
 slice-aggregate-ruling-of : tie.Need-slice-aggregate-ruling-of
 slice-aggregate-ruling-of c = search needs

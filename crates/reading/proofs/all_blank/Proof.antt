@@ -25,7 +25,9 @@ shared-slice-read-if1 : tie.Need-shared-slice-read-if1 Inv-loop μ-loop
 shared-slice-read-if1 c = search needs
 
 returns : tie.Need-returns Inv-loop μ-loop
-returns c = sym (every-failed blank 0 (c .before .before .before .before .args .s .now) (c .before .before .before .loop .i) (c .before .before .loop-test .taken) (ne-eqb _ 32 (c .if1 .taken))) ∙ c .before .before .before .loop .inv .1
+returns c =
+    let t = c .before .before .before in
+    sym (every-failed blank 0 (c .before .before .before .before .args .s .now) (t .loop .i) (c .before .before .loop-test .taken) (ne-eqb _ 32 (c .if1 .taken))) ∙ t .loop .inv .1
 
 add-i : tie.Need-add-i Inv-loop μ-loop
 add-i c = search needs
@@ -34,7 +36,9 @@ loop-less : tie.Need-loop-less Inv-loop μ-loop
 loop-less c = search needs
 
 loop-again : tie.Need-loop-again Inv-loop μ-loop
-loop-again c = (omega arith, every-passed blank 0 (c .before .before .before .before .args .s .now) (c .before .before .before .loop .i) (c .before .before .loop-test .taken) (eq-eqb _ 32 (c .if1 .left)) ∙ c .before .before .before .loop .inv .1)
+loop-again c =
+    let t = c .before .before .before in
+    (omega arith, every-passed blank 0 (c .before .before .before .before .args .s .now) (t .loop .i) (c .before .before .loop-test .taken) (eq-eqb _ 32 (c .if1 .left)) ∙ t .loop .inv .1)
 
 returns-2 : tie.Need-returns-2 Inv-loop μ-loop
 returns-2 c = sym (every-done blank (c .before .before .args .s .now) (c .before .loop .i) (omega arith)) ∙ c .before .loop .inv .1

@@ -21,22 +21,32 @@ enum-told c = search needs
 
 -- group 3 has letters
 letters : (c : tie.Then1) → c .before .before .before .before .before .args .form ≡ A1
-letters c = date-form (c .before .before .before .before .before .args .group) (c .before .before .before .before .before .args .form) (c .before .before .before .before .before .pre .0) (c .if1 .taken)
+letters c =
+    let o = c .before .before .before .before .before in
+    date-form (o .args .group) (o .args .form) (o .pre .0) (c .if1 .taken)
 
 clean-letters : (c : tie.Then1) → verdictOf (readLines A1 (c .before .before .before .before .before .args .count) (c .before .before .before .before .before .args .lines .now)) ≡ Clean
-clean-letters c = subst (λ (f : Form). verdictOf (readLines f (c .before .before .before .before .before .args .count) (c .before .before .before .before .before .args .lines .now)) ≡ Clean) (letters c) (sym (c .before .before .before .check-lines .ensures) ∙ c .before .enum-told .given .1)
+clean-letters c =
+    let o = c .before .before .before .before .before in
+    subst (λ (f : Form). verdictOf (readLines f (o .args .count) (o .args .lines .now)) ≡ Clean) (letters c) (sym (c .before .before .before .check-lines .ensures) ∙ c .before .enum-told .given .1)
 
 check-date-requires : tie.Need-check-date-requires
 check-date-requires c κs = (c .before .before .before .before .before .pre .1 (c .if1 .taken), clean-letters c)
 
 returns : tie.Need-returns
-returns c = c .check-date .ensures ∙ ap (λ g. verdictOf (dated g (readLines A1 (c .before .before .before .before .before .before .args .count) (c .before .before .before .before .before .before .args .lines .now)))) (sym (c .before .if1 .taken)) ∙ ap (λ f. verdictOf (dated (c .before .before .before .before .before .before .args .group) (readLines f (c .before .before .before .before .before .before .args .count) (c .before .before .before .before .before .before .args .lines .now)))) (sym (letters (c .before)))
+returns c =
+    let o = c .before .before .before .before .before .before in
+    c .check-date .ensures ∙ ap (λ g. verdictOf (dated g (readLines A1 (o .args .count) (o .args .lines .now)))) (sym (c .before .if1 .taken)) ∙ ap (λ f. verdictOf (dated (o .args .group) (readLines f (o .args .count) (o .args .lines .now)))) (sym (letters (c .before)))
 
 returns-2 : tie.Need-returns-2
-returns-2 c = bad-date (c .before .before .before .before .before .args .group) (readLines (c .before .before .before .before .before .args .form) (c .before .before .before .before .before .args .count) (c .before .before .before .before .before .args .lines .now)) (sym (c .before .before .before .check-lines .ensures) ∙ c .before .r .given .1)
+returns-2 c =
+    let o = c .before .before .before .before .before in
+    bad-date (o .args .group) (readLines (o .args .form) (o .args .count) (o .args .lines .now)) (sym (c .before .before .before .check-lines .ensures) ∙ c .before .r .given .1)
 
 returns-3 : tie.Need-returns-3
-returns-3 c = clean-date (c .before .before .before .before .before .args .group) (readLines (c .before .before .before .before .before .args .form) (c .before .before .before .before .before .args .count) (c .before .before .before .before .before .args .lines .now)) (c .if1 .left) (sym (c .before .before .before .check-lines .ensures) ∙ c .before .enum-told .given .1)
+returns-3 c =
+    let o = c .before .before .before .before .before in
+    clean-date (o .args .group) (readLines (o .args .form) (o .args .count) (o .args .lines .now)) (c .if1 .left) (sym (c .before .before .before .check-lines .ensures) ∙ c .before .enum-told .given .1)
 
 pub check-spec : {M : Type 1} → statement M
 check-spec =

@@ -31,7 +31,9 @@ first-many : (c : tie.After-lesser) → c .lesser .result ≡ min (rowOf A1 .«p
 first-many c = c .lesser .ensures ∙ rw (c .before .row-of .ensures, c .before .before .elements .ensures)
 
 part-new-end : tie.Need-part-new-end
-part-new-end c = omega (arith, letters-inside (c .before .before .before .before .args .count) (c .before .before .before .before .args .lines .now) (c .before .before .before .before .pre .1) (c .before .before .before .before .pre .0) (c .lesser .result) (first-many c))
+part-new-end c =
+    let o = c .before .before .before .before in
+    omega (arith, letters-inside (o .args .count) (o .args .lines .now) (o .pre .1) (o .pre .0) (c .lesser .result) (first-many c))
 
 new-requires : tie.Need-new-requires
 new-requires c κs = search needs
@@ -43,10 +45,14 @@ enum-known-position : tie.Need-enum-known-position
 enum-known-position c = search needs
 
 returns : tie.Need-returns
-returns c = date-verdict (c .before .before .before .before .before .before .before .before .args .count) (c .before .before .before .before .before .before .before .before .args .lines .now) (c .before .before .before .before .before .before .before .before .pre .1) (c .before .before .before .before .before .before .before .before .pre .0) (c .before .before .before .before .lesser .result) (first-many (c .before .before .before .before)) (sym (c .before .before .new .ensures) ∙ c .enum-told .given .1)
+returns c =
+    let o = c .before .before .before .before .before .before .before .before in
+    date-verdict (o .args .count) (o .args .lines .now) (o .pre .1) (o .pre .0) (c .before .before .before .before .lesser .result) (first-many (c .before .before .before .before)) (sym (c .before .before .new .ensures) ∙ c .enum-told .given .1)
 
 returns-2 : tie.Need-returns-2
-returns-2 c = date-verdict (c .before .before .before .before .before .before .before .before .before .args .count) (c .before .before .before .before .before .before .before .before .before .args .lines .now) (c .before .before .before .before .before .before .before .before .before .pre .1) (c .before .before .before .before .before .before .before .before .before .pre .0) (c .before .before .before .before .before .lesser .result) (first-many (c .before .before .before .before .before)) (sym (c .before .before .before .new .ensures) ∙ c .before .position .given .1)
+returns-2 c =
+    let o = c .before .before .before .before .before .before .before .before .before in
+    date-verdict (o .args .count) (o .args .lines .now) (o .pre .1) (o .pre .0) (c .before .before .before .before .before .lesser .result) (first-many (c .before .before .before .before .before)) (sym (c .before .before .before .new .ensures) ∙ c .before .position .given .1)
 
 pub check-date-spec : {M : Type 1} → statement M
 check-date-spec =

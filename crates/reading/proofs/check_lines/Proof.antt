@@ -42,25 +42,35 @@ lesser-requires : tie.Need-lesser-requires Inv-loop μ-loop Inv-lines μ-lines
 lesser-requires c κs = search needs
 
 mul-fields-stop : tie.Need-mul-fields-stop Inv-loop μ-loop Inv-lines μ-lines
-mul-fields-stop c = omega (arith, columns-small (c .before .before .before .before .before .before .before .args .form) (c .before .before .before .before .before .before .before .args .count) (c .before .before .before .before .before .before .before .args .lines .now) (c .before .before .lines .inv .1 .walk) (c .lesser .result) _ (c .lesser .ensures) refl)
+mul-fields-stop c =
+    let o = c .before .before .before .before .before .before .before in
+    omega (arith, columns-small (o .args .form) (o .args .count) (o .args .lines .now) (c .before .before .lines .inv .1 .walk) (c .lesser .result) _ (c .lesser .ensures) refl)
 
 fields-stop-requires : tie.Need-fields-stop-requires Inv-loop μ-loop Inv-lines μ-lines
 fields-stop-requires c κs = c .before .before .lines .inv .1 .walk .inside
 
 loop-holds : tie.Need-loop-holds Inv-loop μ-loop Inv-lines μ-lines
-loop-holds c = (c .before .before .before .lines .inv .0, trying-start (c .before .before .before .before .before .before .before .before .args .form) (c .before .before .before .before .before .before .before .before .args .count) (c .before .before .before .before .before .before .before .before .args .lines .now) (c .before .before .before .lines .inv .1) (c .before .before .lines-test .taken) (c .before .lesser .result) (c .before .lesser .ensures) (c .fields-stop .result) (c .fields-stop .ensures))
+loop-holds c =
+    let o = c .before .before .before .before .before .before .before .before in
+    (c .before .before .before .lines .inv .0, trying-start (o .args .form) (o .args .count) (o .args .lines .now) (c .before .before .before .lines .inv .1) (c .before .before .lines-test .taken) (c .before .lesser .result) (c .before .lesser .ensures) (c .fields-stop .result) (c .fields-stop .ensures))
 
 add-lesser : tie.Need-add-lesser Inv-loop μ-loop Inv-lines μ-lines
-add-lesser c = omega (arith, try-small (c .before .before .before .before .before .before .before .before .before .before .args .form) (c .before .before .before .before .before .before .before .before .before .before .args .count) (c .before .before .before .before .before .before .before .before .before .before .args .lines .now) (c .before .before .before .before .before .lines .inv .1) (c .before .before .before .before .lines-test .taken) (c .before .before .before .lesser .result) (c .before .before .before .lesser .ensures) (c .before .before .fields-stop .result) (c .before .before .fields-stop .ensures) (c .before .loop .inv .1), c .before .before .before .before .before .lines .inv .1 .walk .wide, width-few (c .before .before .before .before .before .before .before .before .before .before .args .form))
+add-lesser c =
+    let o = c .before .before .before .before .before .before .before .before .before .before in
+    omega (arith, try-small (o .args .form) (o .args .count) (o .args .lines .now) (c .before .before .before .before .before .lines .inv .1) (c .before .before .before .before .lines-test .taken) (c .before .before .before .lesser .result) (c .before .before .before .lesser .ensures) (c .before .before .fields-stop .result) (c .before .before .fields-stop .ensures) (c .before .loop .inv .1), c .before .before .before .before .before .lines .inv .1 .walk .wide, width-few (o .args .form))
 
 lesser-requires-2 : tie.Need-lesser-requires-2 Inv-loop μ-loop Inv-lines μ-lines
 lesser-requires-2 c κs = search needs
 
 is-field-at-requires : tie.Need-is-field-at-requires Inv-loop μ-loop Inv-lines μ-lines
-is-field-at-requires c κs = try-range (c .before .before .before .before .before .before .before .before .before .before .before .args .form) (c .before .before .before .before .before .before .before .before .before .before .before .args .count) (c .before .before .before .before .before .before .before .before .before .before .before .args .lines .now) (c .before .before .before .before .before .before .lines .inv .1) (c .before .before .before .before .before .lines-test .taken) (c .before .before .before .before .lesser .result) (c .before .before .before .before .lesser .ensures) (c .before .before .before .fields-stop .result) (c .before .before .before .fields-stop .ensures) (c .before .before .loop .inv .1) (c .lesser2 .result) (c .before .loop-test .taken) (c .lesser2 .ensures)
+is-field-at-requires c κs =
+    let o = c .before .before .before .before .before .before .before .before .before .before .before in
+    try-range (o .args .form) (o .args .count) (o .args .lines .now) (c .before .before .before .before .before .before .lines .inv .1) (c .before .before .before .before .before .lines-test .taken) (c .before .before .before .before .lesser .result) (c .before .before .before .before .lesser .ensures) (c .before .before .before .fields-stop .result) (c .before .before .before .fields-stop .ensures) (c .before .before .loop .inv .1) (c .lesser2 .result) (c .before .loop-test .taken) (c .lesser2 .ensures)
 
 add-from : tie.Need-add-from Inv-loop μ-loop Inv-lines μ-lines
-add-from c = omega (arith, try-small (c .before .before .before .before .before .before .before .before .before .before .before .before .before .args .form) (c .before .before .before .before .before .before .before .before .before .before .before .before .before .args .count) (c .before .before .before .before .before .before .before .before .before .before .before .before .before .args .lines .now) (c .before .before .before .before .before .before .before .before .lines .inv .1) (c .before .before .before .before .before .before .before .lines-test .taken) (c .before .before .before .before .before .before .lesser .result) (c .before .before .before .before .before .before .lesser .ensures) (c .before .before .before .before .before .fields-stop .result) (c .before .before .before .before .before .fields-stop .ensures) (c .before .before .before .before .loop .inv .1), c .before .before .before .before .before .before .before .before .lines .inv .1 .walk .wide, width-few (c .before .before .before .before .before .before .before .before .before .before .before .before .before .args .form))
+add-from c =
+    let o = c .before .before .before .before .before .before .before .before .before .before .before .before .before in
+    omega (arith, try-small (o .args .form) (o .args .count) (o .args .lines .now) (c .before .before .before .before .before .before .before .before .lines .inv .1) (c .before .before .before .before .before .before .before .lines-test .taken) (c .before .before .before .before .before .before .lesser .result) (c .before .before .before .before .before .before .lesser .ensures) (c .before .before .before .before .before .fields-stop .result) (c .before .before .before .before .before .fields-stop .ensures) (c .before .before .before .before .loop .inv .1), c .before .before .before .before .before .before .before .before .lines .inv .1 .walk .wide, width-few (o .args .form))
 
 add-i : tie.Need-add-i Inv-loop μ-loop Inv-lines μ-lines
 add-i c = search needs
@@ -69,16 +79,23 @@ loop-less : tie.Need-loop-less Inv-loop μ-loop Inv-lines μ-lines
 loop-less c = search needs
 
 loop-again : tie.Need-loop-again Inv-loop μ-loop Inv-lines μ-lines
-loop-again c = (c .before .before .before .before .loop .inv .0, trying-next (c .before .before .before .before .before .before .before .before .before .before .before .before .before .args .form) (c .before .before .before .before .before .before .before .before .before .before .before .before .before .args .count) (c .before .before .before .before .before .before .before .before .before .before .before .before .before .args .lines .now) (c .before .before .before .before .before .before .before .before .lines .inv .1) (c .before .before .before .before .before .before .before .lines-test .taken) (c .before .before .before .before .before .before .lesser .result) (c .before .before .before .before .before .before .lesser .ensures) (c .before .before .before .before .before .fields-stop .result) (c .before .before .before .before .before .fields-stop .ensures) (c .before .before .before .before .loop .inv .1) (c .before .before .lesser2 .result) (c .before .before .before .loop-test .taken) (c .before .before .lesser2 .ensures) (sym (c .before .is-field-at .ensures) ∙ c .if1 .taken))
+loop-again c =
+    let o = c .before .before .before .before .before .before .before .before .before .before .before .before .before in
+    let t = c .before .before .before .before in
+    (t .loop .inv .0, trying-next (o .args .form) (o .args .count) (o .args .lines .now) (c .before .before .before .before .before .before .before .before .lines .inv .1) (c .before .before .before .before .before .before .before .lines-test .taken) (c .before .before .before .before .before .before .lesser .result) (c .before .before .before .before .before .before .lesser .ensures) (c .before .before .before .before .before .fields-stop .result) (c .before .before .before .before .before .fields-stop .ensures) (t .loop .inv .1) (c .before .before .lesser2 .result) (c .before .before .before .loop-test .taken) (c .before .before .lesser2 .ensures) (sym (c .before .is-field-at .ensures) ∙ c .if1 .taken))
 
 mul-misfit : tie.Need-mul-misfit Inv-loop μ-loop Inv-lines μ-lines
-mul-misfit c = omega (arith, columns-small (c .before .before .before .before .before .before .before .before .before .before .before .before .before .args .form) (c .before .before .before .before .before .before .before .before .before .before .before .before .before .args .count) (c .before .before .before .before .before .before .before .before .before .before .before .before .before .args .lines .now) (c .before .before .before .before .before .before .before .before .lines .inv .1 .walk) (c .before .before .before .before .before .before .lesser .result) _ (c .before .before .before .before .before .before .lesser .ensures) refl)
+mul-misfit c =
+    let o = c .before .before .before .before .before .before .before .before .before .before .before .before .before in
+    omega (arith, columns-small (o .args .form) (o .args .count) (o .args .lines .now) (c .before .before .before .before .before .before .before .before .lines .inv .1 .walk) (c .before .before .before .before .before .before .lesser .result) _ (c .before .before .before .before .before .before .lesser .ensures) refl)
 
 add-misfit : tie.Need-add-misfit Inv-loop μ-loop Inv-lines μ-lines
 add-misfit c = search needs
 
 add-misfit-2 : tie.Need-add-misfit-2 Inv-loop μ-loop Inv-lines μ-lines
-add-misfit-2 c = omega (arith, element-few (c .before .before .before .before .before .before .before .before .before .before .before .before .before .args .form) (c .before .before .before .before .before .before .before .before .before .before .before .before .before .args .count) (c .before .before .before .before .before .before .before .before .before .before .before .before .before .args .lines .now) (c .before .before .before .before .before .before .before .before .lines .inv .1) (c .before .before .before .before .before .before .before .lines-test .taken) (c .before .before .before .before .before .before .lesser .result) (c .before .before .before .before .before .before .lesser .ensures) (c .before .before .before .before .before .fields-stop .result) (c .before .before .before .before .before .fields-stop .ensures) (c .before .before .before .before .loop .inv .1) (c .before .before .lesser2 .result) (c .before .before .before .loop-test .taken) (c .before .before .lesser2 .ensures))
+add-misfit-2 c =
+    let o = c .before .before .before .before .before .before .before .before .before .before .before .before .before in
+    omega (arith, element-few (o .args .form) (o .args .count) (o .args .lines .now) (c .before .before .before .before .before .before .before .before .lines .inv .1) (c .before .before .before .before .before .before .before .lines-test .taken) (c .before .before .before .before .before .before .lesser .result) (c .before .before .before .before .before .before .lesser .ensures) (c .before .before .before .before .before .fields-stop .result) (c .before .before .before .before .before .fields-stop .ensures) (c .before .before .before .before .loop .inv .1) (c .before .before .lesser2 .result) (c .before .before .before .loop-test .taken) (c .before .before .lesser2 .ensures))
 
 misfit-requires : tie.Need-misfit-requires Inv-loop μ-loop Inv-lines μ-lines
 misfit-requires c κs = c .before .before .before .before .before .before .before .before .lines .inv .1 .walk .inside
@@ -87,10 +104,14 @@ behind-or-end-requires : tie.Need-behind-or-end-requires Inv-loop μ-loop Inv-li
 behind-or-end-requires c κs = search needs
 
 mul-right-content-at : tie.Need-mul-right-content-at Inv-loop μ-loop Inv-lines μ-lines
-mul-right-content-at c = omega (arith, columns-small (c .before .before .before .before .before .before .before .before .before .before .before .args .form) (c .before .before .before .before .before .before .before .before .before .before .before .args .count) (c .before .before .before .before .before .before .before .before .before .before .before .args .lines .now) (c .before .before .before .before .before .before .lines .inv .1 .walk) (c .before .before .before .before .lesser .result) _ (c .before .before .before .before .lesser .ensures) refl)
+mul-right-content-at c =
+    let o = c .before .before .before .before .before .before .before .before .before .before .before in
+    omega (arith, columns-small (o .args .form) (o .args .count) (o .args .lines .now) (c .before .before .before .before .before .before .lines .inv .1 .walk) (c .before .before .before .before .lesser .result) _ (c .before .before .before .before .lesser .ensures) refl)
 
 right-content-at-requires : tie.Need-right-content-at-requires Inv-loop μ-loop Inv-lines μ-lines
-right-content-at-requires c κs = tried-range (c .before .before .before .before .before .before .before .before .before .before .before .args .form) (c .before .before .before .before .before .before .before .before .before .before .before .args .count) (c .before .before .before .before .before .before .before .before .before .before .before .args .lines .now) (c .before .before .before .before .before .before .lines .inv .1) (c .before .before .before .before .before .lines-test .taken) (c .before .before .before .before .lesser .result) (c .before .before .before .before .lesser .ensures) (c .before .before .before .fields-stop .result) (c .before .before .before .fields-stop .ensures) (c .before .before .loop .inv .1) (omega arith) (c .behind-or-end .result) (c .behind-or-end .ensures)
+right-content-at-requires c κs =
+    let o = c .before .before .before .before .before .before .before .before .before .before .before in
+    tried-range (o .args .form) (o .args .count) (o .args .lines .now) (c .before .before .before .before .before .before .lines .inv .1) (c .before .before .before .before .before .lines-test .taken) (c .before .before .before .before .lesser .result) (c .before .before .before .before .lesser .ensures) (c .before .before .before .fields-stop .result) (c .before .before .before .fields-stop .ensures) (c .before .before .loop .inv .1) (omega arith) (c .behind-or-end .result) (c .behind-or-end .ensures)
 
 enum-told : tie.Need-enum-told Inv-loop μ-loop Inv-lines μ-lines
 enum-told c = search needs
@@ -105,7 +126,9 @@ sub-left : tie.Need-sub-left Inv-loop μ-loop Inv-lines μ-lines
 sub-left c = omega (arith, c .before .before .before .before .before .before .before .lesser .ensures)
 
 add-element : tie.Need-add-element Inv-loop μ-loop Inv-lines μ-lines
-add-element c = omega (arith, c .before .before .before .before .before .before .before .before .before .lines .inv .1 .first, c .before .before .before .before .before .before .before .before .before .lines .inv .1 .walk .per, next-first (c .before .before .before .before .before .before .before .before .before .before .before .before .before .before .args .form) (c .before .before .before .before .before .before .before .before .before .before .before .before .before .before .args .count) (c .before .before .before .before .before .before .before .before .before .before .before .before .before .before .args .lines .now) (c .before .before .before .before .before .before .before .before .before .lines .inv .1 .walk), element-small (c .before .before .before .before .before .before .before .before .before .before .before .before .before .before .args .form) (c .before .before .before .before .before .before .before .before .before .before .before .before .before .before .args .count) (c .before .before .before .before .before .before .before .before .before .before .before .before .before .before .args .lines .now) (c .before .before .before .before .before .before .before .before .before .lines .inv .1 .walk))
+add-element c =
+    let o = c .before .before .before .before .before .before .before .before .before .before .before .before .before .before in
+    omega (arith, c .before .before .before .before .before .before .before .before .before .lines .inv .1 .first, c .before .before .before .before .before .before .before .before .before .lines .inv .1 .walk .per, next-first (o .args .form) (o .args .count) (o .args .lines .now) (c .before .before .before .before .before .before .before .before .before .lines .inv .1 .walk), element-small (o .args .form) (o .args .count) (o .args .lines .now) (c .before .before .before .before .before .before .before .before .before .lines .inv .1 .walk))
 
 add-j : tie.Need-add-j Inv-loop μ-loop Inv-lines μ-lines
 add-j c = search needs
@@ -114,16 +137,25 @@ lines-less : tie.Need-lines-less Inv-loop μ-loop Inv-lines μ-lines
 lines-less c = search needs
 
 lines-again : tie.Need-lines-again Inv-loop μ-loop Inv-lines μ-lines
-lines-again c = (c .before .before .before .before .before .loop .inv .0, tried-next (c .before .before .before .before .before .before .before .before .before .before .before .before .before .before .args .form) (c .before .before .before .before .before .before .before .before .before .before .before .before .before .before .args .count) (c .before .before .before .before .before .before .before .before .before .before .before .before .before .before .args .lines .now) (c .before .before .before .before .before .before .before .before .before .lines .inv .1) (c .before .before .before .before .before .before .before .before .lines-test .taken) (c .before .before .before .before .before .before .before .lesser .result) (c .before .before .before .before .before .before .before .lesser .ensures) (c .before .before .before .before .before .before .fields-stop .result) (c .before .before .before .before .before .before .fields-stop .ensures) (c .before .before .before .before .before .loop .inv .1) (omega arith) (c .before .before .before .behind-or-end .result) (c .before .before .before .behind-or-end .ensures) (c .enum-told .given .0 .0) (sym (c .before .before .right-content-at .ensures) ∙ c .enum-told .given .1))
+lines-again c =
+    let o = c .before .before .before .before .before .before .before .before .before .before .before .before .before .before in
+    let t = c .before .before .before .before .before in
+    (t .loop .inv .0, tried-next (o .args .form) (o .args .count) (o .args .lines .now) (c .before .before .before .before .before .before .before .before .before .lines .inv .1) (c .before .before .before .before .before .before .before .before .lines-test .taken) (c .before .before .before .before .before .before .before .lesser .result) (c .before .before .before .before .before .before .before .lesser .ensures) (c .before .before .before .before .before .before .fields-stop .result) (c .before .before .before .before .before .before .fields-stop .ensures) (t .loop .inv .1) (omega arith) (c .before .before .before .behind-or-end .result) (c .before .before .before .behind-or-end .ensures) (c .enum-told .given .0 .0) (sym (c .before .before .right-content-at .ensures) ∙ c .enum-told .given .1))
 
 returns : tie.Need-returns Inv-loop μ-loop Inv-lines μ-lines
-returns c = c .before .lines .inv .0 ∙ checking-end (c .before .before .before .before .before .before .args .form) (c .before .before .before .before .before .before .args .count) (c .before .before .before .before .before .before .args .lines .now) (c .before .lines .inv .1) (omega arith)
+returns c =
+    let o = c .before .before .before .before .before .before in
+    c .before .lines .inv .0 ∙ checking-end (o .args .form) (o .args .count) (o .args .lines .now) (c .before .lines .inv .1) (omega arith)
 
 returns-2 : tie.Need-returns-2 Inv-loop μ-loop Inv-lines μ-lines
-returns-2 c = trying-wrong (c .before .before .before .before .before .before .before .before .before .before .before .before .before .before .args .form) (c .before .before .before .before .before .before .before .before .before .before .before .before .before .before .args .count) (c .before .before .before .before .before .before .before .before .before .before .before .before .before .before .args .lines .now) (c .before .before .before .before .before .before .before .before .before .lines .inv .1) (c .before .before .before .before .before .before .before .before .lines-test .taken) (c .before .before .before .before .before .before .before .lesser .result) (c .before .before .before .before .before .before .before .lesser .ensures) (c .before .before .before .before .before .before .fields-stop .result) (c .before .before .before .before .before .before .fields-stop .ensures) (c .before .before .before .before .before .loop .inv .1) (c .before .before .before .lesser2 .result) (c .before .before .before .before .loop-test .taken) (c .before .before .before .lesser2 .ensures) (sym (c .before .before .is-field-at .ensures) ∙ c .before .if1 .left) (c .misfit .result) (c .misfit .ensures)
+returns-2 c =
+    let o = c .before .before .before .before .before .before .before .before .before .before .before .before .before .before in
+    trying-wrong (o .args .form) (o .args .count) (o .args .lines .now) (c .before .before .before .before .before .before .before .before .before .lines .inv .1) (c .before .before .before .before .before .before .before .before .lines-test .taken) (c .before .before .before .before .before .before .before .lesser .result) (c .before .before .before .before .before .before .before .lesser .ensures) (c .before .before .before .before .before .before .fields-stop .result) (c .before .before .before .before .before .before .fields-stop .ensures) (c .before .before .before .before .before .loop .inv .1) (c .before .before .before .lesser2 .result) (c .before .before .before .before .loop-test .taken) (c .before .before .before .lesser2 .ensures) (sym (c .before .before .is-field-at .ensures) ∙ c .before .if1 .left) (c .misfit .result) (c .misfit .ensures)
 
 returns-3 : tie.Need-returns-3 Inv-loop μ-loop Inv-lines μ-lines
-returns-3 c = tried-wrong (c .before .before .before .before .before .before .before .before .before .before .before .before .before .before .args .form) (c .before .before .before .before .before .before .before .before .before .before .before .before .before .before .args .count) (c .before .before .before .before .before .before .before .before .before .before .before .before .before .before .args .lines .now) (c .before .before .before .before .before .before .before .before .before .lines .inv .1) (c .before .before .before .before .before .before .before .before .lines-test .taken) (c .before .before .before .before .before .before .before .lesser .result) (c .before .before .before .before .before .before .before .lesser .ensures) (c .before .before .before .before .before .before .fields-stop .result) (c .before .before .before .before .before .before .fields-stop .ensures) (c .before .before .before .before .before .loop .inv .1) (omega arith) (c .before .before .before .behind-or-end .result) (c .before .before .before .behind-or-end .ensures) (sym (c .before .before .right-content-at .ensures) ∙ c .enum-told2 .given .1)
+returns-3 c =
+    let o = c .before .before .before .before .before .before .before .before .before .before .before .before .before .before in
+    tried-wrong (o .args .form) (o .args .count) (o .args .lines .now) (c .before .before .before .before .before .before .before .before .before .lines .inv .1) (c .before .before .before .before .before .before .before .before .lines-test .taken) (c .before .before .before .before .before .before .before .lesser .result) (c .before .before .before .before .before .before .before .lesser .ensures) (c .before .before .before .before .before .before .fields-stop .result) (c .before .before .before .before .before .before .fields-stop .ensures) (c .before .before .before .before .before .loop .inv .1) (omega arith) (c .before .before .before .behind-or-end .result) (c .before .before .before .behind-or-end .ensures) (sym (c .before .before .right-content-at .ensures) ∙ c .enum-told2 .given .1)
 
 pub check-lines-spec : {M : Type 1} → statement M
 check-lines-spec =

@@ -28,13 +28,19 @@ enum-told : tie.Need-enum-told
 enum-told c = search needs
 
 returns : tie.Need-returns
-returns c = span-none (c .before .before .before .before .before .before .before .args .form) (c .before .before .before .before .before .before .before .args .columns) (c .before .before .before .before .before .before .before .args .lines .now) (c .before .before .before .before .before .before .before .args .at) (c .before .before .before .before .before .before .before .pre) (sym (c .before .before .before .before .before .may-be-short .ensures) ∙ c .before .before .before .before .if1 .taken) (ap (λ x. contentOf (part (c .before .before .before .before .before .before .before .args .at) x (c .before .before .before .before .before .before .before .args .lines .now))) (sym (c .before .before .before .behind-or-end .ensures)) ∙ sym (c .before .before .content-at .ensures) ∙ c .enum-told .given .1)
+returns c =
+    let o = c .before .before .before .before .before .before .before in
+    span-none (o .args .form) (o .args .columns) (o .args .lines .now) (o .args .at) (o .pre) (sym (c .before .before .before .before .before .may-be-short .ensures) ∙ c .before .before .before .before .if1 .taken) (ap (λ x. contentOf (part (o .args .at) x (o .args .lines .now))) (sym (c .before .before .before .behind-or-end .ensures)) ∙ sym (c .before .before .content-at .ensures) ∙ c .enum-told .given .1)
 
 add-result : tie.Need-add-result
-add-result c = omega (arith, content-fits (c .before .before .before .before .before .before .before .before .args .lines .now) (c .before .before .before .before .before .before .before .before .args .at) (c .before .before .before .before .before .before .before .before .pre) (c .before .n .given .0 .0) (ap (λ x. contentOf (part (c .before .before .before .before .before .before .before .before .args .at) x (c .before .before .before .before .before .before .before .before .args .lines .now))) (sym (c .before .before .before .before .behind-or-end .ensures)) ∙ sym (c .before .before .before .content-at .ensures) ∙ c .before .n .given .1))
+add-result c =
+    let o = c .before .before .before .before .before .before .before .before in
+    omega (arith, content-fits (o .args .lines .now) (o .args .at) (o .pre) (c .before .n .given .0 .0) (ap (λ x. contentOf (part (o .args .at) x (o .args .lines .now))) (sym (c .before .before .before .before .behind-or-end .ensures)) ∙ sym (c .before .before .before .content-at .ensures) ∙ c .before .n .given .1))
 
 returns-2 : tie.Need-returns-2
-returns-2 c = span-content (c .before .before .before .before .before .before .before .before .args .form) (c .before .before .before .before .before .before .before .before .args .columns) (c .before .before .before .before .before .before .before .before .args .lines .now) (c .before .before .before .before .before .before .before .before .args .at) (c .before .before .before .before .before .before .before .before .pre) (sym (c .before .before .before .before .before .before .may-be-short .ensures) ∙ c .before .before .before .before .before .if1 .taken) (c .before .n .given .0 .0) (ap (λ x. contentOf (part (c .before .before .before .before .before .before .before .before .args .at) x (c .before .before .before .before .before .before .before .before .args .lines .now))) (sym (c .before .before .before .before .behind-or-end .ensures)) ∙ sym (c .before .before .before .content-at .ensures) ∙ c .before .n .given .1)
+returns-2 c =
+    let o = c .before .before .before .before .before .before .before .before in
+    span-content (o .args .form) (o .args .columns) (o .args .lines .now) (o .args .at) (o .pre) (sym (c .before .before .before .before .before .before .may-be-short .ensures) ∙ c .before .before .before .before .before .if1 .taken) (c .before .n .given .0 .0) (ap (λ x. contentOf (part (o .args .at) x (o .args .lines .now))) (sym (c .before .before .before .before .behind-or-end .ensures)) ∙ sym (c .before .before .before .content-at .ensures) ∙ c .before .n .given .1)
 
 sub-lesser : tie.Need-sub-lesser
 sub-lesser c = search needs
@@ -46,7 +52,9 @@ add-result-2 : tie.Need-add-result-2
 add-result-2 c = omega (arith, c .lesser .ensures, c .before .before .before .before .pre)
 
 returns-3 : tie.Need-returns-3
-returns-3 c = ap (λ n. c .before .before .before .before .args .at + n) (c .lesser .ensures) ∙ span-columns (c .before .before .before .before .args .form) (c .before .before .before .before .args .columns) (c .before .before .before .before .args .lines .now) (c .before .before .before .before .args .at) (c .before .before .before .before .pre) (sym (c .before .before .may-be-short .ensures) ∙ c .before .if1 .left)
+returns-3 c =
+    let o = c .before .before .before .before in
+    ap (λ n. o .args .at + n) (c .lesser .ensures) ∙ span-columns (o .args .form) (o .args .columns) (o .args .lines .now) (o .args .at) (o .pre) (sym (c .before .before .may-be-short .ensures) ∙ c .before .if1 .left)
 
 pub fields-stop-spec : {M : Type 1} → statement M
 fields-stop-spec =

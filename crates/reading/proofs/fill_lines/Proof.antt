@@ -44,22 +44,30 @@ lesser-requires : tie.Need-lesser-requires Inv-loop2 μ-loop2 Inv-loop μ-loop
 lesser-requires c κs = search needs
 
 mul-least : tie.Need-mul-least Inv-loop2 μ-loop2 Inv-loop μ-loop
-mul-least c = omega (arith, columns-small (c .before .before .before .before .before .before .before .args .form) (c .before .before .before .before .before .before .before .args .count) (c .before .before .before .before .before .before .before .args .lines .now) (c .before .before .loop .inv .walk) (c .lesser .result) _ (c .lesser .ensures) refl)
+mul-least c =
+    let o = c .before .before .before .before .before .before .before in
+    omega (arith, columns-small (o .args .form) (o .args .count) (o .args .lines .now) (c .before .before .loop .inv .walk) (c .lesser .result) _ (c .lesser .ensures) refl)
 
 least-requires : tie.Need-least-requires Inv-loop2 μ-loop2 Inv-loop μ-loop
 least-requires c κs = search needs
 
 add-behind-or-end : tie.Need-add-behind-or-end Inv-loop2 μ-loop2 Inv-loop μ-loop
-add-behind-or-end c = omega (arith, seek-small (c .before .before .before .before .before .before .before .before .args .form) (c .before .before .before .before .before .before .before .before .args .count) (c .before .before .before .before .before .before .before .before .args .lines .now) (c .before .before .before .loop .inv .walk) (c .before .lesser .result) _ (c .before .lesser .ensures) refl (c .least .result) (c .least .ensures))
+add-behind-or-end c =
+    let o = c .before .before .before .before .before .before .before .before in
+    omega (arith, seek-small (o .args .form) (o .args .count) (o .args .lines .now) (c .before .before .before .loop .inv .walk) (c .before .lesser .result) _ (c .before .lesser .ensures) refl (c .least .result) (c .least .ensures))
 
 behind-or-end-requires : tie.Need-behind-or-end-requires Inv-loop2 μ-loop2 Inv-loop μ-loop
 behind-or-end-requires c κs = search needs
 
 ends : (c : tie.After-behind-or-end Inv-loop2 μ-loop2 Inv-loop μ-loop) → c .behind-or-end .result ≡ c .before .before .before .before .loop .at + reach (drop (c .before .before .before .before .loop .at) (c .before .before .before .before .before .before .before .before .before .args .lines .now)) 1
-ends c = c .behind-or-end .ensures ∙ end-behind (c .before .before .before .before .before .before .before .before .before .args .form) (c .before .before .before .before .before .before .before .before .before .args .count) (c .before .before .before .before .before .before .before .before .before .args .lines .now) (c .before .before .before .before .before .before .before .before .before .args .table .now) (enough-room (c .before .before .before .before .before .before .before .before .before .args .form) (c .before .before .before .before .before .before .before .before .before .args .count) (c .before .before .before .before .before .before .before .before .before .args .lines .now) (c .before .before .before .before .before .before .before .before .before .args .table .now) (c .before .before .before .before .before .before .before .before .before .pre .0) (c .before .before .before .before .before .before .before .before .before .pre .1)) (c .before .before .before .before .loop .inv) (c .before .before .before .loop-test .taken) (c .before .before .lesser .result) _ (c .before .before .lesser .ensures) refl (c .before .least .result) (c .before .least .ensures)
+ends c =
+    let o = c .before .before .before .before .before .before .before .before .before in
+    c .behind-or-end .ensures ∙ end-behind (o .args .form) (o .args .count) (o .args .lines .now) (o .args .table .now) (enough-room (o .args .form) (o .args .count) (o .args .lines .now) (o .args .table .now) (o .pre .0) (o .pre .1)) (c .before .before .before .before .loop .inv) (c .before .before .before .loop-test .taken) (c .before .before .lesser .result) _ (c .before .before .lesser .ensures) refl (c .before .least .result) (c .before .least .ensures)
 
 content-at-requires : tie.Need-content-at-requires Inv-loop2 μ-loop2 Inv-loop μ-loop
-content-at-requires c κs = end-range (c .before .before .before .before .before .before .before .before .before .args .form) (c .before .before .before .before .before .before .before .before .before .args .count) (c .before .before .before .before .before .before .before .before .before .args .lines .now) (c .before .before .before .before .loop .inv .walk) (c .before .before .lesser .result) (c .behind-or-end .result) (c .before .before .lesser .ensures) (ends c)
+content-at-requires c κs =
+    let o = c .before .before .before .before .before .before .before .before .before in
+    end-range (o .args .form) (o .args .count) (o .args .lines .now) (c .before .before .before .before .loop .inv .walk) (c .before .before .lesser .result) (c .behind-or-end .result) (c .before .before .lesser .ensures) (ends c)
 
 enum-known-n : tie.Need-enum-known-n Inv-loop2 μ-loop2 Inv-loop μ-loop
 enum-known-n c = search needs
@@ -68,31 +76,49 @@ enum-told : tie.Need-enum-told Inv-loop2 μ-loop2 Inv-loop μ-loop
 enum-told c = search needs
 
 same-length : tie.Need-same-length Inv-loop2 μ-loop2 Inv-loop μ-loop
-same-length c = filling-length (c .before .before .before .before .before .before .before .before .before .before .before .before .args .form) (c .before .before .before .before .before .before .before .before .before .before .before .before .args .count) (c .before .before .before .before .before .before .before .before .before .before .before .before .args .lines .now) (c .before .before .before .before .before .before .before .before .before .before .before .before .args .table .now) (enough-room (c .before .before .before .before .before .before .before .before .before .before .before .before .args .form) (c .before .before .before .before .before .before .before .before .before .before .before .before .args .count) (c .before .before .before .before .before .before .before .before .before .before .before .before .args .lines .now) (c .before .before .before .before .before .before .before .before .before .before .before .before .args .table .now) (c .before .before .before .before .before .before .before .before .before .before .before .before .pre .0) (c .before .before .before .before .before .before .before .before .before .before .before .before .pre .1)) (c .before .before .before .before .before .before .before .loop .inv)
+same-length c =
+    let o = c .before .before .before .before .before .before .before .before .before .before .before .before in
+    filling-length (o .args .form) (o .args .count) (o .args .lines .now) (o .args .table .now) (enough-room (o .args .form) (o .args .count) (o .args .lines .now) (o .args .table .now) (o .pre .0) (o .pre .1)) (c .before .before .before .before .before .before .before .loop .inv)
 
 returns : tie.Need-returns Inv-loop2 μ-loop2 Inv-loop μ-loop
-returns c = absurd (has-content (c .before .before .before .before .before .before .before .before .before .before .before .before .args .form) (c .before .before .before .before .before .before .before .before .before .before .before .before .args .count) (c .before .before .before .before .before .before .before .before .before .before .before .before .args .lines .now) (c .before .before .before .before .before .before .before .before .before .before .before .before .args .table .now) (enough-room (c .before .before .before .before .before .before .before .before .before .before .before .before .args .form) (c .before .before .before .before .before .before .before .before .before .before .before .before .args .count) (c .before .before .before .before .before .before .before .before .before .before .before .before .args .lines .now) (c .before .before .before .before .before .before .before .before .before .before .before .before .args .table .now) (c .before .before .before .before .before .before .before .before .before .before .before .before .pre .0) (c .before .before .before .before .before .before .before .before .before .before .before .before .pre .1)) (c .before .before .before .before .before .before .before .loop .inv) (c .before .before .before .before .before .before .loop-test .taken) (c .before .before .before .before .before .lesser .result) (c .before .before .before .behind-or-end .result) (c .before .before .before .before .before .lesser .ensures) (ends (c .before .before .before)) (sym (c .before .before .content-at .ensures) ∙ c .enum-told .given .1))
+returns c =
+    let o = c .before .before .before .before .before .before .before .before .before .before .before .before in
+    absurd (has-content (o .args .form) (o .args .count) (o .args .lines .now) (o .args .table .now) (enough-room (o .args .form) (o .args .count) (o .args .lines .now) (o .args .table .now) (o .pre .0) (o .pre .1)) (c .before .before .before .before .before .before .before .loop .inv) (c .before .before .before .before .before .before .loop-test .taken) (c .before .before .before .before .before .lesser .result) (c .before .before .before .behind-or-end .result) (c .before .before .before .before .before .lesser .ensures) (ends (c .before .before .before)) (sym (c .before .before .content-at .ensures) ∙ c .enum-told .given .1))
 
 add-stop : tie.Need-add-stop Inv-loop2 μ-loop2 Inv-loop μ-loop
-add-stop c = omega (arith, fill-inside (c .before .before .before .before .before .before .before .before .before .before .before .before .before .args .form) (c .before .before .before .before .before .before .before .before .before .before .before .before .before .args .count) (c .before .before .before .before .before .before .before .before .before .before .before .before .before .args .lines .now) (c .before .before .before .before .before .before .before .before .before .before .before .before .before .args .table .now) (enough-room (c .before .before .before .before .before .before .before .before .before .before .before .before .before .args .form) (c .before .before .before .before .before .before .before .before .before .before .before .before .before .args .count) (c .before .before .before .before .before .before .before .before .before .before .before .before .before .args .lines .now) (c .before .before .before .before .before .before .before .before .before .before .before .before .before .args .table .now) (c .before .before .before .before .before .before .before .before .before .before .before .before .before .pre .0) (c .before .before .before .before .before .before .before .before .before .before .before .before .before .pre .1)) (c .before .before .before .before .before .before .before .before .loop .inv) (c .before .before .before .before .before .before .before .loop-test .taken) (c .before .before .before .before .before .before .lesser .result) (c .before .before .before .before .behind-or-end .result) (c .before .before .before .before .before .before .lesser .ensures) (ends (c .before .before .before .before)) (c .before .n .given .0 .0) (sym (c .before .before .before .content-at .ensures) ∙ c .before .n .given .1))
+add-stop c =
+    let o = c .before .before .before .before .before .before .before .before .before .before .before .before .before in
+    omega (arith, fill-inside (o .args .form) (o .args .count) (o .args .lines .now) (o .args .table .now) (enough-room (o .args .form) (o .args .count) (o .args .lines .now) (o .args .table .now) (o .pre .0) (o .pre .1)) (c .before .before .before .before .before .before .before .before .loop .inv) (c .before .before .before .before .before .before .before .loop-test .taken) (c .before .before .before .before .before .before .lesser .result) (c .before .before .before .before .behind-or-end .result) (c .before .before .before .before .before .before .lesser .ensures) (ends (c .before .before .before .before)) (c .before .n .given .0 .0) (sym (c .before .before .before .content-at .ensures) ∙ c .before .n .given .1))
 
 loop2-holds : tie.Need-loop2-holds Inv-loop2 μ-loop2 Inv-loop μ-loop
-loop2-holds c = fields-filling (c .before .before .before .before .before .before .before .before .before .before .before .before .before .args .form) (c .before .before .before .before .before .before .before .before .before .before .before .before .before .args .count) (c .before .before .before .before .before .before .before .before .before .before .before .before .before .args .lines .now) (c .before .before .before .before .before .before .before .before .before .before .before .before .before .args .table .now) (enough-room (c .before .before .before .before .before .before .before .before .before .before .before .before .before .args .form) (c .before .before .before .before .before .before .before .before .before .before .before .before .before .args .count) (c .before .before .before .before .before .before .before .before .before .before .before .before .before .args .lines .now) (c .before .before .before .before .before .before .before .before .before .before .before .before .before .args .table .now) (c .before .before .before .before .before .before .before .before .before .before .before .before .before .pre .0) (c .before .before .before .before .before .before .before .before .before .before .before .before .before .pre .1)) (c .before .before .before .before .before .before .before .before .loop .inv) (c .before .before .before .before .before .before .before .loop-test .taken) (c .before .before .before .before .before .before .lesser .result) (c .before .before .before .before .behind-or-end .result) (c .before .before .before .before .before .before .lesser .ensures) (ends (c .before .before .before .before)) (c .before .n .given .0 .0) (sym (c .before .before .before .content-at .ensures) ∙ c .before .n .given .1)
+loop2-holds c =
+    let o = c .before .before .before .before .before .before .before .before .before .before .before .before .before in
+    fields-filling (o .args .form) (o .args .count) (o .args .lines .now) (o .args .table .now) (enough-room (o .args .form) (o .args .count) (o .args .lines .now) (o .args .table .now) (o .pre .0) (o .pre .1)) (c .before .before .before .before .before .before .before .before .loop .inv) (c .before .before .before .before .before .before .before .loop-test .taken) (c .before .before .before .before .before .before .lesser .result) (c .before .before .before .before .behind-or-end .result) (c .before .before .before .before .before .before .lesser .ensures) (ends (c .before .before .before .before)) (c .before .n .given .0 .0) (sym (c .before .before .before .content-at .ensures) ∙ c .before .n .given .1)
 
 add-lesser : tie.Need-add-lesser Inv-loop2 μ-loop2 Inv-loop μ-loop
-add-lesser c = omega (arith, fill-small (c .before .before .before .before .before .before .before .before .before .before .before .before .before .before .before .args .form) (c .before .before .before .before .before .before .before .before .before .before .before .before .before .before .before .args .count) (c .before .before .before .before .before .before .before .before .before .before .before .before .before .before .before .args .lines .now) (c .before .before .before .before .before .before .before .before .before .before .before .before .before .before .before .args .table .now) (enough-room (c .before .before .before .before .before .before .before .before .before .before .before .before .before .before .before .args .form) (c .before .before .before .before .before .before .before .before .before .before .before .before .before .before .before .args .count) (c .before .before .before .before .before .before .before .before .before .before .before .before .before .before .before .args .lines .now) (c .before .before .before .before .before .before .before .before .before .before .before .before .before .before .before .args .table .now) (c .before .before .before .before .before .before .before .before .before .before .before .before .before .before .before .pre .0) (c .before .before .before .before .before .before .before .before .before .before .before .before .before .before .before .pre .1)) (c .before .before .before .before .before .before .before .before .before .before .loop .inv) (c .before .before .before .before .before .before .before .before .before .loop-test .taken) (c .before .before .before .before .before .before .before .before .lesser .result) (c .before .before .before .before .before .before .behind-or-end .result) (c .before .before .before .before .before .before .before .before .lesser .ensures) (ends (c .before .before .before .before .before .before)) (c .before .before .before .n .given .0 .0) (sym (c .before .before .before .before .before .content-at .ensures) ∙ c .before .before .before .n .given .1) (c .before .loop2 .inv), c .before .before .before .before .before .before .before .before .before .before .loop .inv .walk .wide, width-few (c .before .before .before .before .before .before .before .before .before .before .before .before .before .before .before .args .form))
+add-lesser c =
+    let o = c .before .before .before .before .before .before .before .before .before .before .before .before .before .before .before in
+    let t = c .before .before .before .before .before .before .before .before .before .before in
+    omega (arith, fill-small (o .args .form) (o .args .count) (o .args .lines .now) (o .args .table .now) (enough-room (o .args .form) (o .args .count) (o .args .lines .now) (o .args .table .now) (o .pre .0) (o .pre .1)) (t .loop .inv) (c .before .before .before .before .before .before .before .before .before .loop-test .taken) (c .before .before .before .before .before .before .before .before .lesser .result) (c .before .before .before .before .before .before .behind-or-end .result) (c .before .before .before .before .before .before .before .before .lesser .ensures) (ends (c .before .before .before .before .before .before)) (c .before .before .before .n .given .0 .0) (sym (c .before .before .before .before .before .content-at .ensures) ∙ c .before .before .before .n .given .1) (c .before .loop2 .inv), t .loop .inv .walk .wide, width-few (o .args .form))
 
 lesser-requires-2 : tie.Need-lesser-requires-2 Inv-loop2 μ-loop2 Inv-loop μ-loop
 lesser-requires-2 c κs = search needs
 
 put-field-at-requires : tie.Need-put-field-at-requires Inv-loop2 μ-loop2 Inv-loop μ-loop
-put-field-at-requires c κs = put-requires (c .before .before .before .before .before .before .before .before .before .before .before .before .before .before .before .before .before .args .form) (c .before .before .before .before .before .before .before .before .before .before .before .before .before .before .before .before .before .args .count) (c .before .before .before .before .before .before .before .before .before .before .before .before .before .before .before .before .before .args .lines .now) (c .before .before .before .before .before .before .before .before .before .before .before .before .before .before .before .before .before .args .table .now) (enough-room (c .before .before .before .before .before .before .before .before .before .before .before .before .before .before .before .before .before .args .form) (c .before .before .before .before .before .before .before .before .before .before .before .before .before .before .before .before .before .args .count) (c .before .before .before .before .before .before .before .before .before .before .before .before .before .before .before .before .before .args .lines .now) (c .before .before .before .before .before .before .before .before .before .before .before .before .before .before .before .before .before .args .table .now) (c .before .before .before .before .before .before .before .before .before .before .before .before .before .before .before .before .before .pre .0) (c .before .before .before .before .before .before .before .before .before .before .before .before .before .before .before .before .before .pre .1)) (c .before .before .before .before .before .before .before .before .before .before .before .before .loop .inv) (c .before .before .before .before .before .before .before .before .before .before .before .loop-test .taken) (c .before .before .before .before .before .before .before .before .before .before .lesser .result) (c .before .before .before .before .before .before .before .before .behind-or-end .result) (c .before .before .before .before .before .before .before .before .before .before .lesser .ensures) (ends (c .before .before .before .before .before .before .before .before)) (c .before .before .before .before .before .n .given .0 .0) (sym (c .before .before .before .before .before .before .before .content-at .ensures) ∙ c .before .before .before .before .before .n .given .1) (c .before .before .before .loop2 .inv) (c .before .lesser2 .result) (c .before .before .loop2-test .taken) (c .before .lesser2 .ensures)
+put-field-at-requires c κs =
+    let o = c .before .before .before .before .before .before .before .before .before .before .before .before .before .before .before .before .before in
+    put-requires (o .args .form) (o .args .count) (o .args .lines .now) (o .args .table .now) (enough-room (o .args .form) (o .args .count) (o .args .lines .now) (o .args .table .now) (o .pre .0) (o .pre .1)) (c .before .before .before .before .before .before .before .before .before .before .before .before .loop .inv) (c .before .before .before .before .before .before .before .before .before .before .before .loop-test .taken) (c .before .before .before .before .before .before .before .before .before .before .lesser .result) (c .before .before .before .before .before .before .before .before .behind-or-end .result) (c .before .before .before .before .before .before .before .before .before .before .lesser .ensures) (ends (c .before .before .before .before .before .before .before .before)) (c .before .before .before .before .before .n .given .0 .0) (sym (c .before .before .before .before .before .before .before .content-at .ensures) ∙ c .before .before .before .before .before .n .given .1) (c .before .before .before .loop2 .inv) (c .before .lesser2 .result) (c .before .before .loop2-test .taken) (c .before .lesser2 .ensures)
 
 add-from : tie.Need-add-from Inv-loop2 μ-loop2 Inv-loop μ-loop
-add-from c = omega (arith, fill-small (c .before .before .before .before .before .before .before .before .before .before .before .before .before .before .before .before .before .before .before .args .form) (c .before .before .before .before .before .before .before .before .before .before .before .before .before .before .before .before .before .before .before .args .count) (c .before .before .before .before .before .before .before .before .before .before .before .before .before .before .before .before .before .before .before .args .lines .now) (c .before .before .before .before .before .before .before .before .before .before .before .before .before .before .before .before .before .before .before .args .table .now) (enough-room (c .before .before .before .before .before .before .before .before .before .before .before .before .before .before .before .before .before .before .before .args .form) (c .before .before .before .before .before .before .before .before .before .before .before .before .before .before .before .before .before .before .before .args .count) (c .before .before .before .before .before .before .before .before .before .before .before .before .before .before .before .before .before .before .before .args .lines .now) (c .before .before .before .before .before .before .before .before .before .before .before .before .before .before .before .before .before .before .before .args .table .now) (c .before .before .before .before .before .before .before .before .before .before .before .before .before .before .before .before .before .before .before .pre .0) (c .before .before .before .before .before .before .before .before .before .before .before .before .before .before .before .before .before .before .before .pre .1)) (c .before .before .before .before .before .before .before .before .before .before .before .before .before .before .loop .inv) (c .before .before .before .before .before .before .before .before .before .before .before .before .before .loop-test .taken) (c .before .before .before .before .before .before .before .before .before .before .before .before .lesser .result) (c .before .before .before .before .before .before .before .before .before .before .behind-or-end .result) (c .before .before .before .before .before .before .before .before .before .before .before .before .lesser .ensures) (ends (c .before .before .before .before .before .before .before .before .before .before)) (c .before .before .before .before .before .before .before .n .given .0 .0) (sym (c .before .before .before .before .before .before .before .before .before .content-at .ensures) ∙ c .before .before .before .before .before .before .before .n .given .1) (c .before .before .before .before .before .loop2 .inv), c .before .before .before .before .before .before .before .before .before .before .before .before .before .before .loop .inv .walk .wide, width-few (c .before .before .before .before .before .before .before .before .before .before .before .before .before .before .before .before .before .before .before .args .form))
+add-from c =
+    let o = c .before .before .before .before .before .before .before .before .before .before .before .before .before .before .before .before .before .before .before in
+    let t = c .before .before .before .before .before .before .before .before .before .before .before .before .before .before in
+    omega (arith, fill-small (o .args .form) (o .args .count) (o .args .lines .now) (o .args .table .now) (enough-room (o .args .form) (o .args .count) (o .args .lines .now) (o .args .table .now) (o .pre .0) (o .pre .1)) (t .loop .inv) (c .before .before .before .before .before .before .before .before .before .before .before .before .before .loop-test .taken) (c .before .before .before .before .before .before .before .before .before .before .before .before .lesser .result) (c .before .before .before .before .before .before .before .before .before .before .behind-or-end .result) (c .before .before .before .before .before .before .before .before .before .before .before .before .lesser .ensures) (ends (c .before .before .before .before .before .before .before .before .before .before)) (c .before .before .before .before .before .before .before .n .given .0 .0) (sym (c .before .before .before .before .before .before .before .before .before .content-at .ensures) ∙ c .before .before .before .before .before .before .before .n .given .1) (c .before .before .before .before .before .loop2 .inv), t .loop .inv .walk .wide, width-few (o .args .form))
 
 add-cell : tie.Need-add-cell Inv-loop2 μ-loop2 Inv-loop μ-loop
-add-cell c = omega (arith, c .before .before .before .before .before .before .before .before .before .before .before .before .before .before .before .before .before .before .before .good .1 .1 .1 .0, cell-small (c .before .before .before .before .before .before .before .before .before .before .before .before .before .before .before .before .before .before .before .args .form) (c .before .before .before .before .before .before .before .before .before .before .before .before .before .before .before .before .before .before .before .args .count) (c .before .before .before .before .before .before .before .before .before .before .before .before .before .before .before .before .before .before .before .args .lines .now) (c .before .before .before .before .before .before .before .before .before .before .before .before .before .before .before .before .before .before .before .args .table .now) (enough-room (c .before .before .before .before .before .before .before .before .before .before .before .before .before .before .before .before .before .before .before .args .form) (c .before .before .before .before .before .before .before .before .before .before .before .before .before .before .before .before .before .before .before .args .count) (c .before .before .before .before .before .before .before .before .before .before .before .before .before .before .before .before .before .before .before .args .lines .now) (c .before .before .before .before .before .before .before .before .before .before .before .before .before .before .before .before .before .before .before .args .table .now) (c .before .before .before .before .before .before .before .before .before .before .before .before .before .before .before .before .before .before .before .pre .0) (c .before .before .before .before .before .before .before .before .before .before .before .before .before .before .before .before .before .before .before .pre .1)) (c .before .before .before .before .before .before .before .before .before .before .before .before .before .before .loop .inv) (c .before .before .before .before .before .before .before .before .before .before .before .before .before .loop-test .taken) (c .before .before .before .before .before .before .before .before .before .before .before .before .lesser .result) (c .before .before .before .before .before .before .before .before .before .before .behind-or-end .result) (c .before .before .before .before .before .before .before .before .before .before .before .before .lesser .ensures) (ends (c .before .before .before .before .before .before .before .before .before .before)) (c .before .before .before .before .before .before .before .n .given .0 .0) (sym (c .before .before .before .before .before .before .before .before .before .content-at .ensures) ∙ c .before .before .before .before .before .before .before .n .given .1) (c .before .before .before .before .before .loop2 .inv) (c .before .before .before .lesser2 .result) (c .before .before .before .before .loop2-test .taken) (c .before .before .before .lesser2 .ensures))
+add-cell c =
+    let o = c .before .before .before .before .before .before .before .before .before .before .before .before .before .before .before .before .before .before .before in
+    omega (arith, o .good .1 .1 .1 .0, cell-small (o .args .form) (o .args .count) (o .args .lines .now) (o .args .table .now) (enough-room (o .args .form) (o .args .count) (o .args .lines .now) (o .args .table .now) (o .pre .0) (o .pre .1)) (c .before .before .before .before .before .before .before .before .before .before .before .before .before .before .loop .inv) (c .before .before .before .before .before .before .before .before .before .before .before .before .before .loop-test .taken) (c .before .before .before .before .before .before .before .before .before .before .before .before .lesser .result) (c .before .before .before .before .before .before .before .before .before .before .behind-or-end .result) (c .before .before .before .before .before .before .before .before .before .before .before .before .lesser .ensures) (ends (c .before .before .before .before .before .before .before .before .before .before)) (c .before .before .before .before .before .before .before .n .given .0 .0) (sym (c .before .before .before .before .before .before .before .before .before .content-at .ensures) ∙ c .before .before .before .before .before .before .before .n .given .1) (c .before .before .before .before .before .loop2 .inv) (c .before .before .before .lesser2 .result) (c .before .before .before .before .loop2-test .taken) (c .before .before .before .lesser2 .ensures))
 
 add-i : tie.Need-add-i Inv-loop2 μ-loop2 Inv-loop μ-loop
 add-i c = search needs
@@ -101,7 +127,9 @@ loop2-less : tie.Need-loop2-less Inv-loop2 μ-loop2 Inv-loop μ-loop
 loop2-less c = search needs
 
 loop2-again : tie.Need-loop2-again Inv-loop2 μ-loop2 Inv-loop μ-loop
-loop2-again c = fields-next (c .before .before .before .before .before .before .before .before .before .before .before .before .before .before .before .before .before .before .before .args .form) (c .before .before .before .before .before .before .before .before .before .before .before .before .before .before .before .before .before .before .before .args .count) (c .before .before .before .before .before .before .before .before .before .before .before .before .before .before .before .before .before .before .before .args .lines .now) (c .before .before .before .before .before .before .before .before .before .before .before .before .before .before .before .before .before .before .before .args .table .now) (enough-room (c .before .before .before .before .before .before .before .before .before .before .before .before .before .before .before .before .before .before .before .args .form) (c .before .before .before .before .before .before .before .before .before .before .before .before .before .before .before .before .before .before .before .args .count) (c .before .before .before .before .before .before .before .before .before .before .before .before .before .before .before .before .before .before .before .args .lines .now) (c .before .before .before .before .before .before .before .before .before .before .before .before .before .before .before .before .before .before .before .args .table .now) (c .before .before .before .before .before .before .before .before .before .before .before .before .before .before .before .before .before .before .before .pre .0) (c .before .before .before .before .before .before .before .before .before .before .before .before .before .before .before .before .before .before .before .pre .1)) (c .before .before .before .before .before .before .before .before .before .before .before .before .before .before .loop .inv) (c .before .before .before .before .before .before .before .before .before .before .before .before .before .loop-test .taken) (c .before .before .before .before .before .before .before .before .before .before .before .before .lesser .result) (c .before .before .before .before .before .before .before .before .before .before .behind-or-end .result) (c .before .before .before .before .before .before .before .before .before .before .before .before .lesser .ensures) (ends (c .before .before .before .before .before .before .before .before .before .before)) (c .before .before .before .before .before .before .before .n .given .0 .0) (sym (c .before .before .before .before .before .before .before .before .before .content-at .ensures) ∙ c .before .before .before .before .before .before .before .n .given .1) (c .before .before .before .before .before .loop2 .inv) (c .before .before .before .lesser2 .result) (c .before .before .before .before .loop2-test .taken) (c .before .before .before .lesser2 .ensures) (c .before .put-field-at .ensures)
+loop2-again c =
+    let o = c .before .before .before .before .before .before .before .before .before .before .before .before .before .before .before .before .before .before .before in
+    fields-next (o .args .form) (o .args .count) (o .args .lines .now) (o .args .table .now) (enough-room (o .args .form) (o .args .count) (o .args .lines .now) (o .args .table .now) (o .pre .0) (o .pre .1)) (c .before .before .before .before .before .before .before .before .before .before .before .before .before .before .loop .inv) (c .before .before .before .before .before .before .before .before .before .before .before .before .before .loop-test .taken) (c .before .before .before .before .before .before .before .before .before .before .before .before .lesser .result) (c .before .before .before .before .before .before .before .before .before .before .behind-or-end .result) (c .before .before .before .before .before .before .before .before .before .before .before .before .lesser .ensures) (ends (c .before .before .before .before .before .before .before .before .before .before)) (c .before .before .before .before .before .before .before .n .given .0 .0) (sym (c .before .before .before .before .before .before .before .before .before .content-at .ensures) ∙ c .before .before .before .before .before .before .before .n .given .1) (c .before .before .before .before .before .loop2 .inv) (c .before .before .before .lesser2 .result) (c .before .before .before .before .loop2-test .taken) (c .before .before .before .lesser2 .ensures) (c .before .put-field-at .ensures)
 
 sub-left : tie.Need-sub-left Inv-loop2 μ-loop2 Inv-loop μ-loop
 sub-left c = omega (arith, c .before .before .before .before .before .before .before .before .lesser .ensures)
@@ -113,13 +141,19 @@ loop-less : tie.Need-loop-less Inv-loop2 μ-loop2 Inv-loop μ-loop
 loop-less c = search needs
 
 loop-again : tie.Need-loop-again Inv-loop2 μ-loop2 Inv-loop μ-loop
-loop-again c = filling-next (c .before .before .before .before .before .before .before .before .before .before .before .before .before .before .before .args .form) (c .before .before .before .before .before .before .before .before .before .before .before .before .before .before .before .args .count) (c .before .before .before .before .before .before .before .before .before .before .before .before .before .before .before .args .lines .now) (c .before .before .before .before .before .before .before .before .before .before .before .before .before .before .before .args .table .now) (enough-room (c .before .before .before .before .before .before .before .before .before .before .before .before .before .before .before .args .form) (c .before .before .before .before .before .before .before .before .before .before .before .before .before .before .before .args .count) (c .before .before .before .before .before .before .before .before .before .before .before .before .before .before .before .args .lines .now) (c .before .before .before .before .before .before .before .before .before .before .before .before .before .before .before .args .table .now) (c .before .before .before .before .before .before .before .before .before .before .before .before .before .before .before .pre .0) (c .before .before .before .before .before .before .before .before .before .before .before .before .before .before .before .pre .1)) (c .before .before .before .before .before .before .before .before .before .before .loop .inv) (c .before .before .before .before .before .before .before .before .before .loop-test .taken) (c .before .before .before .before .before .before .before .before .lesser .result) (c .before .before .before .before .before .before .behind-or-end .result) (c .before .before .before .before .before .before .before .before .lesser .ensures) (ends (c .before .before .before .before .before .before)) (c .before .before .before .n .given .0 .0) (sym (c .before .before .before .before .before .content-at .ensures) ∙ c .before .before .before .n .given .1) (c .before .loop2 .inv) (omega arith)
+loop-again c =
+    let o = c .before .before .before .before .before .before .before .before .before .before .before .before .before .before .before in
+    filling-next (o .args .form) (o .args .count) (o .args .lines .now) (o .args .table .now) (enough-room (o .args .form) (o .args .count) (o .args .lines .now) (o .args .table .now) (o .pre .0) (o .pre .1)) (c .before .before .before .before .before .before .before .before .before .before .loop .inv) (c .before .before .before .before .before .before .before .before .before .loop-test .taken) (c .before .before .before .before .before .before .before .before .lesser .result) (c .before .before .before .before .before .before .behind-or-end .result) (c .before .before .before .before .before .before .before .before .lesser .ensures) (ends (c .before .before .before .before .before .before)) (c .before .before .before .n .given .0 .0) (sym (c .before .before .before .before .before .content-at .ensures) ∙ c .before .before .before .n .given .1) (c .before .loop2 .inv) (omega arith)
 
 same-length-2 : tie.Need-same-length-2 Inv-loop2 μ-loop2 Inv-loop μ-loop
-same-length-2 c = filling-length (c .before .before .before .before .before .before .args .form) (c .before .before .before .before .before .before .args .count) (c .before .before .before .before .before .before .args .lines .now) (c .before .before .before .before .before .before .args .table .now) (enough-room (c .before .before .before .before .before .before .args .form) (c .before .before .before .before .before .before .args .count) (c .before .before .before .before .before .before .args .lines .now) (c .before .before .before .before .before .before .args .table .now) (c .before .before .before .before .before .before .pre .0) (c .before .before .before .before .before .before .pre .1)) (c .before .loop .inv)
+same-length-2 c =
+    let o = c .before .before .before .before .before .before in
+    filling-length (o .args .form) (o .args .count) (o .args .lines .now) (o .args .table .now) (enough-room (o .args .form) (o .args .count) (o .args .lines .now) (o .args .table .now) (o .pre .0) (o .pre .1)) (c .before .loop .inv)
 
 returns-2 : tie.Need-returns-2 Inv-loop2 μ-loop2 Inv-loop μ-loop
-returns-2 c = filling-end (c .before .before .before .before .before .before .args .form) (c .before .before .before .before .before .before .args .count) (c .before .before .before .before .before .before .args .lines .now) (c .before .before .before .before .before .before .args .table .now) (c .before .loop .inv) (omega arith)
+returns-2 c =
+    let o = c .before .before .before .before .before .before in
+    filling-end (o .args .form) (o .args .count) (o .args .lines .now) (o .args .table .now) (c .before .loop .inv) (omega arith)
 
 pub fill-lines-spec : {M : Type 1} → statement M
 fill-lines-spec =

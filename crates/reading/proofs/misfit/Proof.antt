@@ -25,10 +25,14 @@ enum-told-2 : tie.Need-enum-told-2
 enum-told-2 c = search needs
 
 returns : tie.Need-returns
-returns c = sym (ap (misfitOf (c .before .before .before .before .before .args .number) (c .before .before .before .before .before .args .element)) (ap (λ x. rightContent (c .before .before .before .before .before .args .form) (c .before .before .before .before .before .args .columns) (part (c .before .before .before .before .before .args .at) x (c .before .before .before .before .before .args .lines .now))) (sym (c .before .before .before .behind-or-end .ensures)) ∙ sym (c .before .before .right-content-at .ensures) ∙ c .enum-told .given .1))
+returns c =
+    let o = c .before .before .before .before .before in
+    sym (ap (misfitOf (o .args .number) (o .args .element)) (ap (λ x. rightContent (o .args .form) (o .args .columns) (part (o .args .at) x (o .args .lines .now))) (sym (c .before .before .before .behind-or-end .ensures)) ∙ sym (c .before .before .right-content-at .ensures) ∙ c .enum-told .given .1))
 
 returns-2 : tie.Need-returns-2
-returns-2 c = sym (ap (misfitOf (c .before .before .before .before .before .args .number) (c .before .before .before .before .before .args .element)) (ap (λ x. rightContent (c .before .before .before .before .before .args .form) (c .before .before .before .before .before .args .columns) (part (c .before .before .before .before .before .args .at) x (c .before .before .before .before .before .args .lines .now))) (sym (c .before .before .before .behind-or-end .ensures)) ∙ sym (c .before .before .right-content-at .ensures) ∙ c .enum-told2 .given .1))
+returns-2 c =
+    let o = c .before .before .before .before .before in
+    sym (ap (misfitOf (o .args .number) (o .args .element)) (ap (λ x. rightContent (o .args .form) (o .args .columns) (part (o .args .at) x (o .args .lines .now))) (sym (c .before .before .before .behind-or-end .ensures)) ∙ sym (c .before .before .right-content-at .ensures) ∙ c .enum-told2 .given .1))
 
 pub misfit-spec : {M : Type 1} → statement M
 misfit-spec =

@@ -50,13 +50,18 @@ loop-less : tie.Need-loop-less Inv-loop μ-loop
 loop-less c = search needs
 
 loop-again : tie.Need-loop-again Inv-loop μ-loop
-loop-again c = (omega arith, simp length-set (c .before .before .before .loop .inv .1), letters-more (c .before .before .before .before .before .args .bytes .now) (c .before .before .before .before .before .args .width) (c .before .before .before .before .before .args .table .now) (c .before .before .before .before .before .args .at) (c .before .before .before .before .before .pre .0) (c .before .before .before .before .before .pre .1) (c .before .before .before .loop .i) _ _ (c .before .before .loop-test .taken) (toZ-ofZ (sfits-of {w = w64} (c .cell .ok)) ∙ c .cell .ensures ∙ ap pos (c .before .byte-or-blank .ensures)) (c .before .before .before .loop .inv .2))
+loop-again c =
+    let o = c .before .before .before .before .before in
+    let t = c .before .before .before in
+    (omega arith, simp length-set (t .loop .inv .1), letters-more (o .args .bytes .now) (o .args .width) (o .args .table .now) (o .args .at) (o .pre .0) (o .pre .1) (t .loop .i) _ _ (c .before .before .loop-test .taken) (toZ-ofZ (sfits-of {w = w64} (c .cell .ok)) ∙ c .cell .ensures ∙ ap pos (c .before .byte-or-blank .ensures)) (t .loop .inv .2))
 
 same-length : tie.Need-same-length Inv-loop μ-loop
 same-length c = search needs
 
 returns : tie.Need-returns Inv-loop μ-loop
-returns c = letters-all (c .before .before .before .args .bytes .now) (c .before .before .before .args .width) (c .before .before .before .args .table .now) (c .before .before .before .args .at) (c .before .before .before .pre .0) (c .before .before .before .pre .1) (c .before .loop .i) _ (omega arith) (c .before .loop .inv .2)
+returns c =
+    let o = c .before .before .before in
+    letters-all (o .args .bytes .now) (o .args .width) (o .args .table .now) (o .args .at) (o .pre .0) (o .pre .1) (c .before .loop .i) _ (omega arith) (c .before .loop .inv .2)
 
 pub put-letters-spec : {M : Type 1} → statement M
 put-letters-spec =

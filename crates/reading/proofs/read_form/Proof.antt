@@ -13,7 +13,9 @@ cells-requires : tie.Need-cells-requires
 cells-requires c κs = search needs
 
 returns : tie.Need-returns
-returns c = form-none (c .before .before .before .args .form) (c .before .before .before .args .group) (c .before .before .before .args .count) (c .before .before .before .args .lines .now) (c .before .before .before .args .table .now) (subst (λ m. length (c .before .before .before .args .table .now) < m) (c .before .cells .ensures) (c .if1 .taken))
+returns c =
+    let o = c .before .before .before in
+    form-none (o .args .form) (o .args .group) (o .args .count) (o .args .lines .now) (o .args .table .now) (subst (λ m. length (o .args .table .now) < m) (c .before .cells .ensures) (c .if1 .taken))
 
 check-requires : tie.Need-check-requires
 check-requires c κs = search needs
@@ -25,10 +27,14 @@ enum-told : tie.Need-enum-told
 enum-told c = search needs
 
 fill-lines-requires : tie.Need-fill-lines-requires
-fill-lines-requires c κs = (lines-clean (c .before .before .before .before .before .before .before .args .form) (c .before .before .before .before .before .before .before .args .group) (c .before .before .before .before .before .before .before .args .count) (c .before .before .before .before .before .before .before .args .lines .now) (c .before .before .before .before .before .before .before .args .table .now) (subst (λ m. m ≤ length (c .before .before .before .before .before .before .before .args .table .now)) (c .before .before .before .before .before .cells .ensures) (c .before .before .before .before .if1 .left)) (sym (c .before .before .before .check .ensures) ∙ c .before .enum-told .given .1), subst (λ m. m ≤ length (c .before .before .before .before .before .before .before .args .table .now)) (c .before .before .before .before .before .cells .ensures) (c .before .before .before .before .if1 .left))
+fill-lines-requires c κs =
+    let o = c .before .before .before .before .before .before .before in
+    (lines-clean (o .args .form) (o .args .group) (o .args .count) (o .args .lines .now) (o .args .table .now) (subst (λ m. m ≤ length (o .args .table .now)) (c .before .before .before .before .before .cells .ensures) (c .before .before .before .before .if1 .left)) (sym (c .before .before .before .check .ensures) ∙ c .before .enum-told .given .1), subst (λ m. m ≤ length (o .args .table .now)) (c .before .before .before .before .before .cells .ensures) (c .before .before .before .before .if1 .left))
 
 returns-2 : tie.Need-returns-2
-returns-2 c = form-bad (c .before .before .before .before .before .before .before .args .form) (c .before .before .before .before .before .before .before .args .group) (c .before .before .before .before .before .before .before .args .count) (c .before .before .before .before .before .before .before .args .lines .now) (c .before .before .before .before .before .before .before .args .table .now) (subst (λ m. m ≤ length (c .before .before .before .before .before .before .before .args .table .now)) (c .before .before .before .before .before .cells .ensures) (c .before .before .before .before .if1 .left)) _ (sym (c .before .before .before .check .ensures) ∙ c .before .r .given .1)
+returns-2 c =
+    let o = c .before .before .before .before .before .before .before in
+    form-bad (o .args .form) (o .args .group) (o .args .count) (o .args .lines .now) (o .args .table .now) (subst (λ m. m ≤ length (o .args .table .now)) (c .before .before .before .before .before .cells .ensures) (c .before .before .before .before .if1 .left)) _ (sym (c .before .before .before .check .ensures) ∙ c .before .r .given .1)
 
 same-length : tie.Need-same-length
 same-length c = search needs

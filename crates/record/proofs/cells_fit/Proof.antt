@@ -33,19 +33,25 @@ enum-told : tie.Need-enum-told Inv-loop μ-loop
 enum-told c = search needs
 
 returns : tie.Need-returns Inv-loop μ-loop
-returns c = absurd (has-form (c .before .before .before .before .loop .g) (omega (arith, c .before .before .before .before .loop .inv .low)) (omega arith) (sym (c .before .before .form-of .ensures) ∙ c .enum-told .given .1))
+returns c =
+    let t = c .before .before .before .before in
+    absurd (has-form (t .loop .g) (omega (arith, t .loop .inv .low)) (omega arith) (sym (c .before .before .form-of .ensures) ∙ c .enum-told .given .1))
 
 count-of-requires : tie.Need-count-of-requires Inv-loop μ-loop
 count-of-requires c κs = search needs
 
 elements-fit-requires : tie.Need-elements-fit-requires Inv-loop μ-loop
-elements-fit-requires c κs = group-range (c .before .before .before .before .before .before .before .before .args .counts .now) (c .before .before .before .before .before .before .before .before .args .cells .now) (c .before .before .before .before .before .before .loop .inv) (c .before .before .before .before .before .loop-test .taken) (c .before .before .f .given .0 .0) (form-is (c .before .before)) (c .count-of .result) (c .count-of .ensures) (c .before .before .before .before .before .before .before .before .pre)
+elements-fit-requires c κs =
+    let o = c .before .before .before .before .before .before .before .before in
+    group-range (o .args .counts .now) (o .args .cells .now) (c .before .before .before .before .before .before .loop .inv) (c .before .before .before .before .before .loop-test .taken) (c .before .before .f .given .0 .0) (form-is (c .before .before)) (c .count-of .result) (c .count-of .ensures) (o .pre)
 
 enum-known-fit : tie.Need-enum-known-fit Inv-loop μ-loop
 enum-known-fit c = search needs
 
 returns-2 : tie.Need-returns-2 Inv-loop μ-loop
-returns-2 c = groups-bad (c .before .before .before .before .before .before .before .before .before .before .before .before .args .counts .now) (c .before .before .before .before .before .before .before .before .before .before .before .before .args .cells .now) (c .before .before .before .before .before .before .before .before .before .before .loop .inv) (c .before .before .before .before .before .before .before .before .before .loop-test .taken) (c .before .before .before .before .before .before .f .given .0 .0) (form-is (c .before .before .before .before .before .before)) (c .before .before .before .before .count-of .result) (c .before .before .before .before .count-of .ensures) (sym (c .before .before .before .elements-fit .ensures) ∙ c .before .fit .given .1)
+returns-2 c =
+    let o = c .before .before .before .before .before .before .before .before .before .before .before .before in
+    groups-bad (o .args .counts .now) (o .args .cells .now) (c .before .before .before .before .before .before .before .before .before .before .loop .inv) (c .before .before .before .before .before .before .before .before .before .loop-test .taken) (c .before .before .before .before .before .before .f .given .0 .0) (form-is (c .before .before .before .before .before .before)) (c .before .before .before .before .count-of .result) (c .before .before .before .before .count-of .ensures) (sym (c .before .before .before .elements-fit .ensures) ∙ c .before .fit .given .1)
 
 enum-told-2 : tie.Need-enum-told-2 Inv-loop μ-loop
 enum-told-2 c = search needs
@@ -54,7 +60,9 @@ cells-requires : tie.Need-cells-requires Inv-loop μ-loop
 cells-requires c κs = search needs
 
 add-from : tie.Need-add-from Inv-loop μ-loop
-add-from c = record { fits = omega (arith, c .cells .ensures, group-range (c .before .before .before .before .before .before .before .before .before .before .before .before .args .counts .now) (c .before .before .before .before .before .before .before .before .before .before .before .before .args .cells .now) (c .before .before .before .before .before .before .before .before .before .before .loop .inv) (c .before .before .before .before .before .before .before .before .before .loop-test .taken) (c .before .before .before .before .before .before .f .given .0 .0) (form-is (c .before .before .before .before .before .before)) (c .before .before .before .before .count-of .result) (c .before .before .before .before .count-of .ensures) (c .before .before .before .before .before .before .before .before .before .before .before .before .pre)) }
+add-from c =
+    let o = c .before .before .before .before .before .before .before .before .before .before .before .before in
+    record { fits = omega (arith, c .cells .ensures, group-range (o .args .counts .now) (o .args .cells .now) (c .before .before .before .before .before .before .before .before .before .before .loop .inv) (c .before .before .before .before .before .before .before .before .before .loop-test .taken) (c .before .before .before .before .before .before .f .given .0 .0) (form-is (c .before .before .before .before .before .before)) (c .before .before .before .before .count-of .result) (c .before .before .before .before .count-of .ensures) (o .pre)) }
 
 add-g : tie.Need-add-g Inv-loop μ-loop
 add-g c = search needs
@@ -63,10 +71,14 @@ loop-less : tie.Need-loop-less Inv-loop μ-loop
 loop-less c = search needs
 
 loop-again : tie.Need-loop-again Inv-loop μ-loop
-loop-again c = rw (c .cells .ensures) (groups-more (c .before .before .before .before .before .before .before .before .before .before .before .before .args .counts .now) (c .before .before .before .before .before .before .before .before .before .before .before .before .args .cells .now) (c .before .before .before .before .before .before .before .before .before .before .loop .inv) (c .before .before .before .before .before .before .before .before .before .loop-test .taken) (c .before .before .before .before .before .before .f .given .0 .0) (form-is (c .before .before .before .before .before .before)) (c .before .before .before .before .count-of .result) (c .before .before .before .before .count-of .ensures) (sym (c .before .before .before .elements-fit .ensures) ∙ c .before .enum-told2 .given .1))
+loop-again c =
+    let o = c .before .before .before .before .before .before .before .before .before .before .before .before in
+    rw (c .cells .ensures) (groups-more (o .args .counts .now) (o .args .cells .now) (c .before .before .before .before .before .before .before .before .before .before .loop .inv) (c .before .before .before .before .before .before .before .before .before .loop-test .taken) (c .before .before .before .before .before .before .f .given .0 .0) (form-is (c .before .before .before .before .before .before)) (c .before .before .before .before .count-of .result) (c .before .before .before .before .count-of .ensures) (sym (c .before .before .before .elements-fit .ensures) ∙ c .before .enum-told2 .given .1))
 
 returns-3 : tie.Need-returns-3 Inv-loop μ-loop
-returns-3 c = groups-end (c .before .before .before .args .counts .now) (c .before .before .before .args .cells .now) (c .before .loop .inv) (c .loop-test .left)
+returns-3 c =
+    let o = c .before .before .before in
+    groups-end (o .args .counts .now) (o .args .cells .now) (c .before .loop .inv) (c .loop-test .left)
 
 pub cells-fit-spec : {M : Type 1} → statement M
 cells-fit-spec =

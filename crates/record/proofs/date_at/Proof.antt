@@ -36,7 +36,9 @@ new-requires : tie.Need-new-requires
 new-requires c κs = search needs
 
 returns : tie.Need-returns
-returns c = c .new .ensures ∙ ap datedOf (c .before .before .before .put-letters .ensures ∙ letters-copied (c .before .before .before .before .before .before .args .cells .now) (c .before .before .before .before .before .before .args .from) (replicate 19 0) (c .before .before .before .before .before .before .pre .0) refl)
+returns c =
+    let o = c .before .before .before .before .before .before in
+    c .new .ensures ∙ ap datedOf (c .before .before .before .put-letters .ensures ∙ letters-copied (o .args .cells .now) (o .args .from) (replicate 19 0) (o .pre .0) refl)
 
 pub date-at-spec : {M : Type 1} → statement M
 date-at-spec =

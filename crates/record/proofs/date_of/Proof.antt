@@ -15,10 +15,14 @@ add-up-requires : tie.Need-add-up-requires
 add-up-requires c κs = search needs
 
 date-at-requires : tie.Need-date-at-requires
-date-at-requires c κs = rw (c .add-up .ensures .cells-are) (date-inside (c .before .before .args .counts .now) (c .before .before .args .cells .now) (c .before .before .pre .0) (c .before .before .pre .1), date-letters (c .before .before .args .counts .now) (c .before .before .args .cells .now) (c .before .before .pre .0) (c .before .before .pre .1))
+date-at-requires c κs =
+    let o = c .before .before in
+    rw (c .add-up .ensures .cells-are) (date-inside (o .args .counts .now) (o .args .cells .now) (o .pre .0) (o .pre .1), date-letters (o .args .counts .now) (o .args .cells .now) (o .pre .0) (o .pre .1))
 
 returns : tie.Need-returns
-returns c = c .date-at .ensures ∙ ap (λ n. datedOf (map sizeOf (part n (n + 19) (c .before .before .before .args .cells .now)))) (c .before .add-up .ensures .cells-are) ∙ date-same (c .before .before .before .args .counts .now) (c .before .before .before .args .cells .now) (c .before .before .before .pre .0) (c .before .before .before .pre .1)
+returns c =
+    let o = c .before .before .before in
+    c .date-at .ensures ∙ ap (λ n. datedOf (map sizeOf (part n (n + 19) (o .args .cells .now)))) (c .before .add-up .ensures .cells-are) ∙ date-same (o .args .counts .now) (o .args .cells .now) (o .pre .0) (o .pre .1)
 
 pub date-of-spec : {M : Type 1} → statement M
 date-of-spec = tie.close (tie.spec add-up-requires date-at-requires returns)

@@ -21,7 +21,9 @@ elements-requires : tie.Need-elements-requires Inv-loop μ-loop
 elements-requires c κs = search needs
 
 loop-holds : tie.Need-loop-holds Inv-loop μ-loop
-loop-holds c = elements-start (c .before .before .args .form) (c .before .before .args .group) (c .before .before .args .count) (c .before .before .args .cells .now) (c .before .before .args .from) _ _ (ap (λ r. r .cells) (c .before .row-of .ensures)) (c .elements .ensures)
+loop-holds c =
+    let o = c .before .before in
+    elements-start (o .args .form) (o .args .group) (o .args .count) (o .args .cells .now) (o .args .from) _ _ (ap (λ r. r .cells) (c .before .row-of .ensures)) (c .elements .ensures)
 
 add-to : tie.Need-add-to Inv-loop μ-loop
 add-to c =
@@ -29,7 +31,9 @@ add-to c =
     record { fits = omega (arith, r .1) }
 
 fits-at-requires : tie.Need-fits-at-requires Inv-loop μ-loop
-fits-at-requires c κs = element-range (c .before .before .before .before .args .form) (c .before .before .before .before .args .group) (c .before .before .before .before .args .count) (c .before .before .before .before .args .cells .now) (c .before .before .before .before .args .from) (c .before .loop .inv) (c .loop-test .taken) (c .before .before .before .before .pre)
+fits-at-requires c κs =
+    let o = c .before .before .before .before in
+    element-range (o .args .form) (o .args .group) (o .args .count) (o .args .cells .now) (o .args .from) (c .before .loop .inv) (c .loop-test .taken) (o .pre)
 
 add-e : tie.Need-add-e Inv-loop μ-loop
 add-e c = search needs
@@ -38,16 +42,22 @@ loop-less : tie.Need-loop-less Inv-loop μ-loop
 loop-less c = search needs
 
 loop-again : tie.Need-loop-again Inv-loop μ-loop
-loop-again c = elements-more (c .before .before .before .before .before .before .args .form) (c .before .before .before .before .before .before .args .group) (c .before .before .before .before .before .before .args .count) (c .before .before .before .before .before .before .args .cells .now) (c .before .before .before .before .before .before .args .from) (c .before .before .before .loop .inv) (c .before .before .loop-test .taken) (sym (c .before .fits-at .ensures) ∙ c .if1 .taken)
+loop-again c =
+    let o = c .before .before .before .before .before .before in
+    elements-more (o .args .form) (o .args .group) (o .args .count) (o .args .cells .now) (o .args .from) (c .before .before .before .loop .inv) (c .before .before .loop-test .taken) (sym (c .before .fits-at .ensures) ∙ c .if1 .taken)
 
 add-t14 : tie.Need-add-t14 Inv-loop μ-loop
 add-t14 c = search needs
 
 returns : tie.Need-returns Inv-loop μ-loop
-returns c = elements-bad (c .before .before .before .before .before .before .args .form) (c .before .before .before .before .before .before .args .group) (c .before .before .before .before .before .before .args .count) (c .before .before .before .before .before .before .args .cells .now) (c .before .before .before .before .before .before .args .from) (c .before .before .before .loop .inv) (c .before .before .loop-test .taken) (sym (c .before .fits-at .ensures) ∙ c .if1 .left)
+returns c =
+    let o = c .before .before .before .before .before .before in
+    elements-bad (o .args .form) (o .args .group) (o .args .count) (o .args .cells .now) (o .args .from) (c .before .before .before .loop .inv) (c .before .before .loop-test .taken) (sym (c .before .fits-at .ensures) ∙ c .if1 .left)
 
 returns-2 : tie.Need-returns-2 Inv-loop μ-loop
-returns-2 c = elements-end (c .before .before .before .before .args .form) (c .before .before .before .before .args .group) (c .before .before .before .before .args .count) (c .before .before .before .before .args .cells .now) (c .before .before .before .before .args .from) (c .before .loop .inv) (c .loop-test .left)
+returns-2 c =
+    let o = c .before .before .before .before in
+    elements-end (o .args .form) (o .args .group) (o .args .count) (o .args .cells .now) (o .args .from) (c .before .loop .inv) (c .loop-test .left)
 
 pub elements-fit-spec : {M : Type 1} → statement M
 elements-fit-spec =

@@ -24,10 +24,14 @@ shared-slice-read-put-entry : tie.Need-shared-slice-read-put-entry Inv-loop μ-l
 shared-slice-read-put-entry c = search needs
 
 put-entry-requires : tie.Need-put-entry-requires Inv-loop μ-loop
-put-entry-requires c κs = entry-room (c .before .before .before .before .before .before .args .counts .now) (c .before .before .before .before .before .before .args .out .now) (c .before .before .before .before .before .before .args .at) (c .before .before .before .loop .inv) (c .before .before .loop-test .taken)
+put-entry-requires c κs =
+    let o = c .before .before .before .before .before .before in
+    entry-room (o .args .counts .now) (o .args .out .now) (o .args .at) (c .before .before .before .loop .inv) (c .before .before .loop-test .taken)
 
 add-a : tie.Need-add-a Inv-loop μ-loop
-add-a c = record { fits = omega (arith, entry-room (c .before .before .before .before .before .before .before .before .before .args .counts .now) (c .before .before .before .before .before .before .before .before .before .args .out .now) (c .before .before .before .before .before .before .before .before .before .args .at) (c .before .before .before .before .before .before .loop .inv) (c .before .before .before .before .before .loop-test .taken)) }
+add-a c =
+    let o = c .before .before .before .before .before .before .before .before .before in
+    record { fits = omega (arith, entry-room (o .args .counts .now) (o .args .out .now) (o .args .at) (c .before .before .before .before .before .before .loop .inv) (c .before .before .before .before .before .loop-test .taken)) }
 
 add-i : tie.Need-add-i Inv-loop μ-loop
 add-i c = search needs
@@ -36,13 +40,17 @@ loop-less : tie.Need-loop-less Inv-loop μ-loop
 loop-less c = search needs
 
 loop-again : tie.Need-loop-again Inv-loop μ-loop
-loop-again c = entries-next (c .before .before .before .before .before .before .before .before .before .args .counts .now) (c .before .before .before .before .before .before .before .before .before .args .out .now) (c .before .before .before .before .before .before .before .before .before .args .at) (c .before .before .before .before .before .before .loop .inv) (c .before .before .before .before .before .loop-test .taken) _ (c .before .before .put-entry .ensures)
+loop-again c =
+    let o = c .before .before .before .before .before .before .before .before .before in
+    entries-next (o .args .counts .now) (o .args .out .now) (o .args .at) (c .before .before .before .before .before .before .loop .inv) (c .before .before .before .before .before .loop-test .taken) _ (c .before .before .put-entry .ensures)
 
 same-length : tie.Need-same-length Inv-loop μ-loop
 same-length c = c .before .loop .inv .put .long
 
 returns : tie.Need-returns Inv-loop μ-loop
-returns c = entries-end (c .before .before .before .before .args .counts .now) (c .before .before .before .before .args .out .now) (c .before .before .before .before .args .at) (c .before .loop .inv) (c .loop-test .left)
+returns c =
+    let o = c .before .before .before .before in
+    entries-end (o .args .counts .now) (o .args .out .now) (o .args .at) (c .before .loop .inv) (c .loop-test .left)
 
 pub put-entries-spec : {M : Type 1} → statement M
 put-entries-spec =

@@ -22,7 +22,9 @@ add-to c =
     record { fits = omega (arith, r .1) }
 
 put-field-at-requires : tie.Need-put-field-at-requires Inv-loop μ-loop
-put-field-at-requires c κs = field-requires (c .before .before .before .before .args .form) (c .before .before .before .before .args .many) (c .before .before .before .before .args .cells .now) (c .before .before .before .before .args .from) (c .before .before .before .before .args .at) (c .before .before .before .before .args .out .now) (c .before .before .before .before .pre .2) (c .before .before .loop .inv) (c .before .loop-test .taken) (c .before .before .before .before .pre .1)
+put-field-at-requires c κs =
+    let o = c .before .before .before .before in
+    field-requires (o .args .form) (o .args .many) (o .args .cells .now) (o .args .from) (o .args .at) (o .args .out .now) (o .pre .2) (c .before .before .loop .inv) (c .before .loop-test .taken) (o .pre .1)
 
 add-a : tie.Need-add-a Inv-loop μ-loop
 add-a c =
@@ -36,13 +38,17 @@ loop-less : tie.Need-loop-less Inv-loop μ-loop
 loop-less c = search needs
 
 loop-again : tie.Need-loop-again Inv-loop μ-loop
-loop-again c = fields-next (c .before .before .before .before .before .before .before .args .form) (c .before .before .before .before .before .before .before .args .many) (c .before .before .before .before .before .before .before .args .cells .now) (c .before .before .before .before .before .before .before .args .from) (c .before .before .before .before .before .before .before .args .at) (c .before .before .before .before .before .before .before .args .out .now) (c .before .before .before .before .before .before .before .pre .2) (c .before .before .before .before .before .loop .inv) (c .before .before .before .before .loop-test .taken) _ (c .before .before .put-field-at .ensures)
+loop-again c =
+    let o = c .before .before .before .before .before .before .before in
+    fields-next (o .args .form) (o .args .many) (o .args .cells .now) (o .args .from) (o .args .at) (o .args .out .now) (o .pre .2) (c .before .before .before .before .before .loop .inv) (c .before .before .before .before .loop-test .taken) _ (c .before .before .put-field-at .ensures)
 
 same-length : tie.Need-same-length Inv-loop μ-loop
 same-length c = c .before .loop .inv .put .long
 
 returns : tie.Need-returns Inv-loop μ-loop
-returns c = fields-end (c .before .before .before .args .form) (c .before .before .before .args .many) (c .before .before .before .args .cells .now) (c .before .before .before .args .from) (c .before .before .before .args .at) (c .before .before .before .args .out .now) (c .before .before .before .pre .2) (c .before .loop .inv) (c .loop-test .left)
+returns c =
+    let o = c .before .before .before in
+    fields-end (o .args .form) (o .args .many) (o .args .cells .now) (o .args .from) (o .args .at) (o .args .out .now) (o .pre .2) (c .before .loop .inv) (c .loop-test .left)
 
 pub put-fields-spec : {M : Type 1} → statement M
 put-fields-spec =

@@ -18,7 +18,9 @@ abbrev μ-loop : tie.MeasureT-loop
 μ-loop counts cells out₀ at from₀ a₀ g₀ out from a g = 61 - g
 
 loop-holds : tie.Need-loop-holds Inv-loop μ-loop
-loop-holds c = groups-put-start (c .before .before .args .counts .now) (c .before .before .args .cells .now) (c .before .before .args .at) (c .before .before .args .out .now) (c .before .before .pre .2)
+loop-holds c =
+    let o = c .before .before in
+    groups-put-start (o .args .counts .now) (o .args .cells .now) (o .args .at) (o .args .out .now) (o .pre .2)
 
 form-of-requires : tie.Need-form-of-requires Inv-loop μ-loop
 form-of-requires c κs = search needs
@@ -36,13 +38,17 @@ same-length : tie.Need-same-length Inv-loop μ-loop
 same-length c = c .before .before .before .before .loop .inv .put .long
 
 returns : tie.Need-returns Inv-loop μ-loop
-returns c = absurd (has-form (c .before .before .before .before .loop .g) (omega (arith, c .before .before .before .before .loop .inv .low)) (omega arith) (sym (c .before .before .form-of .ensures) ∙ c .enum-told .given .1))
+returns c =
+    let t = c .before .before .before .before in
+    absurd (has-form (t .loop .g) (omega (arith, t .loop .inv .low)) (omega arith) (sym (c .before .before .form-of .ensures) ∙ c .enum-told .given .1))
 
 count-of-requires : tie.Need-count-of-requires Inv-loop μ-loop
 count-of-requires c κs = search needs
 
 put-lines-requires : tie.Need-put-lines-requires Inv-loop μ-loop
-put-lines-requires c κs = group-requires (c .before .before .before .before .before .before .before .before .before .before .args .counts .now) (c .before .before .before .before .before .before .before .before .before .before .args .cells .now) (c .before .before .before .before .before .before .before .before .before .before .args .at) (c .before .before .before .before .before .before .before .before .before .before .args .out .now) (c .before .before .before .before .before .before .before .loop .inv) (c .before .before .before .before .before .before .loop-test .taken) (c .before .before .before .before .before .before .before .before .before .before .pre .1) (c .before .before .before .before .before .before .before .before .before .before .pre .0) (c .before .before .before .f .given .0 .0) (form-is (c .before .before .before)) (c .before .count-of .result) (c .before .count-of .ensures)
+put-lines-requires c κs =
+    let o = c .before .before .before .before .before .before .before .before .before .before in
+    group-requires (o .args .counts .now) (o .args .cells .now) (o .args .at) (o .args .out .now) (c .before .before .before .before .before .before .before .loop .inv) (c .before .before .before .before .before .before .loop-test .taken) (o .pre .1) (o .pre .0) (c .before .before .before .f .given .0 .0) (form-is (c .before .before .before)) (c .before .count-of .result) (c .before .count-of .ensures)
 
 cells-requires : tie.Need-cells-requires Inv-loop μ-loop
 cells-requires c κs = search needs
@@ -59,13 +65,17 @@ loop-less : tie.Need-loop-less Inv-loop μ-loop
 loop-less c = search needs
 
 loop-again : tie.Need-loop-again Inv-loop μ-loop
-loop-again c = rw (c .cells .ensures) (groups-put-next (c .before .before .before .before .before .before .before .before .before .before .before .before .before .before .args .counts .now) (c .before .before .before .before .before .before .before .before .before .before .before .before .before .before .args .cells .now) (c .before .before .before .before .before .before .before .before .before .before .before .before .before .before .args .at) (c .before .before .before .before .before .before .before .before .before .before .before .before .before .before .args .out .now) (c .before .before .before .before .before .before .before .before .before .before .before .loop .inv) (c .before .before .before .before .before .before .before .before .before .before .loop-test .taken) (c .before .before .before .before .before .before .before .before .before .before .before .before .before .before .pre .1) (c .before .before .before .before .before .before .before .before .before .before .before .before .before .before .pre .0) (c .before .before .before .before .before .before .before .f .given .0 .0) (form-is (c .before .before .before .before .before .before .before)) (c .before .before .before .before .before .count-of .result) (c .before .before .before .before .before .count-of .ensures) _ _ (c .before .before .before .put-lines .ensures .0) (c .before .before .before .put-lines .ensures .1))
+loop-again c =
+    let o = c .before .before .before .before .before .before .before .before .before .before .before .before .before .before in
+    rw (c .cells .ensures) (groups-put-next (o .args .counts .now) (o .args .cells .now) (o .args .at) (o .args .out .now) (c .before .before .before .before .before .before .before .before .before .before .before .loop .inv) (c .before .before .before .before .before .before .before .before .before .before .loop-test .taken) (o .pre .1) (o .pre .0) (c .before .before .before .before .before .before .before .f .given .0 .0) (form-is (c .before .before .before .before .before .before .before)) (c .before .before .before .before .before .count-of .result) (c .before .before .before .before .before .count-of .ensures) _ _ (c .before .before .before .put-lines .ensures .0) (c .before .before .before .put-lines .ensures .1))
 
 same-length-2 : tie.Need-same-length-2 Inv-loop μ-loop
 same-length-2 c = c .before .loop .inv .put .long
 
 returns-2 : tie.Need-returns-2 Inv-loop μ-loop
-returns-2 c = groups-put-end (c .before .before .before .before .args .counts .now) (c .before .before .before .before .args .cells .now) (c .before .before .before .before .args .at) (c .before .before .before .before .args .out .now) (c .before .loop .inv) (c .loop-test .left)
+returns-2 c =
+    let o = c .before .before .before .before in
+    groups-put-end (o .args .counts .now) (o .args .cells .now) (o .args .at) (o .args .out .now) (c .before .loop .inv) (c .loop-test .left)
 
 pub put-groups-spec : {M : Type 1} → statement M
 put-groups-spec =

@@ -33,7 +33,9 @@ same-length : tie.Need-same-length
 same-length c = search needs
 
 returns : tie.Need-returns
-returns c = index-put (c .before .before .before .before .before .before .before .before .before .before .before .before .args .counts .now) (c .before .before .before .before .before .before .before .before .before .before .before .before .args .out .now) _ _ (c .before .before .before .before .before .before .before .before .before .before .before .before .pre .0) (c .before .before .before .before .before .before .before .before .before .before .before .before .pre .1) (c .before .before .before .before .before .before .before .put-index-line .ensures) (c .before .before .put-index-line2 .ensures)
+returns c =
+    let o = c .before .before .before .before .before .before .before .before .before .before .before .before in
+    index-put (o .args .counts .now) (o .args .out .now) _ _ (o .pre .0) (o .pre .1) (c .before .before .before .before .before .before .before .put-index-line .ensures) (c .before .before .put-index-line2 .ensures)
 
 pub put-index-spec : {M : Type 1} → statement M
 put-index-spec =

@@ -8,7 +8,9 @@ use Rattle.record.proofs.put_index_line.Statement.{statement}
 use Rattle.record.proofs.put_index_line.Tie as tie
 
 put-entries-requires : tie.Need-put-entries-requires
-put-entries-requires c κs = omega (arith, entries-length (c .before .before .before .args .counts .now), c .before .before .before .pre .0, c .before .before .before .pre .1)
+put-entries-requires c κs =
+    let o = c .before .before .before in
+    omega (arith, entries-length (o .args .counts .now), o .pre .0, o .pre .1)
 
 add-put-line-end : tie.Need-add-put-line-end
 add-put-line-end c = search needs
@@ -20,7 +22,9 @@ same-length : tie.Need-same-length
 same-length c = search needs
 
 returns : tie.Need-returns
-returns c = index-line-put (c .before .before .before .before .before .before .before .before .before .before .args .counts .now) (c .before .before .before .before .before .before .before .before .before .before .args .out .now) _ _ (c .before .before .before .before .before .before .before .before .before .before .args .at) (c .before .before .before .before .before .before .before .before .before .before .pre .0) (c .before .before .before .before .before .before .before .before .before .before .pre .1) (c .before .before .before .before .before .before .put-entries .ensures) (c .before .before .put-line-end .ensures)
+returns c =
+    let o = c .before .before .before .before .before .before .before .before .before .before in
+    index-line-put (o .args .counts .now) (o .args .out .now) _ _ (o .args .at) (o .pre .0) (o .pre .1) (c .before .before .before .before .before .before .put-entries .ensures) (c .before .before .put-line-end .ensures)
 
 pub put-index-line-spec : {M : Type 1} → statement M
 put-index-line-spec =

@@ -24,7 +24,9 @@ rounded-up-requires : tie.Need-rounded-up-requires Inv-loop μ-loop
 rounded-up-requires c κs = search needs
 
 loop-holds : tie.Need-loop-holds Inv-loop μ-loop
-loop-holds c = lines-start (c .before .before .before .before .args .form) (c .before .before .before .before .args .count) (c .before .before .before .before .args .cells .now) (c .before .before .before .before .args .from) (c .before .before .before .before .args .at) (c .before .before .before .before .args .out .now) (c .before .before .before .before .pre .1) (c .before .before .row-of .result) (c .before .elements .result) (c .rounded-up .result) (c .before .before .row-of .ensures) (c .before .elements .ensures) (c .rounded-up .ensures) (c .before .before .before .before .pre .2)
+loop-holds c =
+    let o = c .before .before .before .before in
+    lines-start (o .args .form) (o .args .count) (o .args .cells .now) (o .args .from) (o .args .at) (o .args .out .now) (o .pre .1) (c .before .before .row-of .result) (c .before .elements .result) (c .rounded-up .result) (c .before .before .row-of .ensures) (c .before .elements .ensures) (c .rounded-up .ensures) (o .pre .2)
 
 lesser-requires : tie.Need-lesser-requires Inv-loop μ-loop
 lesser-requires c κs = search needs
@@ -64,13 +66,17 @@ loop-less : tie.Need-loop-less Inv-loop μ-loop
 loop-less c = search needs
 
 loop-again : tie.Need-loop-again Inv-loop μ-loop
-loop-again c = lines-next (c .before .before .before .before .before .before .before .before .before .before .before .before .before .before .before .args .form) (c .before .before .before .before .before .before .before .before .before .before .before .before .before .before .before .args .count) (c .before .before .before .before .before .before .before .before .before .before .before .before .before .before .before .args .cells .now) (c .before .before .before .before .before .before .before .before .before .before .before .before .before .before .before .args .from) (c .before .before .before .before .before .before .before .before .before .before .before .before .before .before .before .args .at) (c .before .before .before .before .before .before .before .before .before .before .before .before .before .before .before .args .out .now) (c .before .before .before .before .before .before .before .before .before .before .before .before .before .before .before .pre .1) (c .before .before .before .before .before .before .before .before .before .before .loop .inv) (c .before .before .before .before .before .before .before .before .before .loop-test .taken) (c .before .before .before .before .before .before .before .before .lesser .result) (c .before .before .before .before .before .before .before .before .lesser .ensures) _ _ _ (c .before .before .before .before .before .before .put-fields .ensures .0) (c .before .before .before .before .before .before .put-fields .ensures .1) (c .before .before .put-line-end .ensures)
+loop-again c =
+    let o = c .before .before .before .before .before .before .before .before .before .before .before .before .before .before .before in
+    lines-next (o .args .form) (o .args .count) (o .args .cells .now) (o .args .from) (o .args .at) (o .args .out .now) (o .pre .1) (c .before .before .before .before .before .before .before .before .before .before .loop .inv) (c .before .before .before .before .before .before .before .before .before .loop-test .taken) (c .before .before .before .before .before .before .before .before .lesser .result) (c .before .before .before .before .before .before .before .before .lesser .ensures) _ _ _ (c .before .before .before .before .before .before .put-fields .ensures .0) (c .before .before .before .before .before .before .put-fields .ensures .1) (c .before .before .put-line-end .ensures)
 
 same-length : tie.Need-same-length Inv-loop μ-loop
 same-length c = c .before .loop .inv .put .long
 
 returns : tie.Need-returns Inv-loop μ-loop
-returns c = lines-end (c .before .before .before .before .before .before .args .form) (c .before .before .before .before .before .before .args .count) (c .before .before .before .before .before .before .args .cells .now) (c .before .before .before .before .before .before .args .from) (c .before .before .before .before .before .before .args .at) (c .before .before .before .before .before .before .args .out .now) (c .before .before .before .before .before .before .pre .1) (c .before .loop .inv) (c .loop-test .left)
+returns c =
+    let o = c .before .before .before .before .before .before in
+    lines-end (o .args .form) (o .args .count) (o .args .cells .now) (o .args .from) (o .args .at) (o .args .out .now) (o .pre .1) (c .before .loop .inv) (c .loop-test .left)
 
 pub put-lines-spec : {M : Type 1} → statement M
 put-lines-spec =

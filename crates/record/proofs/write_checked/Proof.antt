@@ -7,7 +7,9 @@ use Rattle.record.proofs.write_checked.Statement.{statement}
 use Rattle.record.proofs.write_checked.Tie as tie
 
 cells-fit-requires : tie.Need-cells-fit-requires
-cells-fit-requires c κs = all-needed (c .before .before .args .counts .now) (c .before .before .args .cells .now) (c .before .before .args .out .now) (c .before .before .pre)
+cells-fit-requires c κs =
+    let o = c .before .before in
+    all-needed (o .args .counts .now) (o .args .cells .now) (o .args .out .now) (o .pre)
 
 enum-known-g : tie.Need-enum-known-g
 enum-known-g c = search needs
@@ -28,16 +30,22 @@ write-right-requires : tie.Need-write-right-requires
 write-right-requires c κs = (c .before .before .before .before .before .before .before .before .before .pre, sym (c .before .before .before .before .before .before .cells-fit .ensures) ∙ c .before .before .before .before .enum-told .given .1)
 
 returns : tie.Need-returns
-returns c = fit-bad (c .before .before .before .before .before .before .args .counts .now) (c .before .before .before .before .before .before .args .cells .now) (c .before .before .before .before .before .before .args .out .now) (sym (c .before .before .before .cells-fit .ensures) ∙ c .before .g .given .1)
+returns c =
+    let o = c .before .before .before .before .before .before in
+    fit-bad (o .args .counts .now) (o .args .cells .now) (o .args .out .now) (sym (c .before .before .before .cells-fit .ensures) ∙ c .before .g .given .1)
 
 returns-2 : tie.Need-returns-2
-returns-2 c = date-bad (c .before .before .before .before .before .before .before .before .before .args .counts .now) (c .before .before .before .before .before .before .before .before .before .args .cells .now) (c .before .before .before .before .before .before .before .before .before .args .out .now) (sym (c .before .before .before .before .before .before .cells-fit .ensures) ∙ c .before .before .before .before .enum-told .given .1) (sym (c .before .before .before .date-of .ensures) ∙ c .before .position .given .1)
+returns-2 c =
+    let o = c .before .before .before .before .before .before .before .before .before in
+    date-bad (o .args .counts .now) (o .args .cells .now) (o .args .out .now) (sym (c .before .before .before .before .before .before .cells-fit .ensures) ∙ c .before .before .before .before .enum-told .given .1) (sym (c .before .before .before .date-of .ensures) ∙ c .before .position .given .1)
 
 same-length : tie.Need-same-length
 same-length c = search needs
 
 returns-3 : tie.Need-returns-3
-returns-3 c = date-right (c .before .before .before .before .before .before .before .before .before .before .before .before .args .counts .now) (c .before .before .before .before .before .before .before .before .before .before .before .before .args .cells .now) (c .before .before .before .before .before .before .before .before .before .before .before .before .args .out .now) (sym (c .before .before .before .before .before .before .before .before .before .cells-fit .ensures) ∙ c .before .before .before .before .before .before .before .enum-told .given .1) (sym (c .before .before .before .before .before .before .date-of .ensures) ∙ c .before .before .before .before .enum-told2 .given .1) (c .before .before .write-right .ensures)
+returns-3 c =
+    let o = c .before .before .before .before .before .before .before .before .before .before .before .before in
+    date-right (o .args .counts .now) (o .args .cells .now) (o .args .out .now) (sym (c .before .before .before .before .before .before .before .before .before .cells-fit .ensures) ∙ c .before .before .before .before .before .before .before .enum-told .given .1) (sym (c .before .before .before .before .before .before .date-of .ensures) ∙ c .before .before .before .before .enum-told2 .given .1) (c .before .before .write-right .ensures)
 
 pub write-checked-spec : {M : Type 1} → statement M
 write-checked-spec =

@@ -40,7 +40,9 @@ same-length-2 : tie.Need-same-length-2 Inv-loop μ-loop
 same-length-2 c = search needs
 
 returns-2 : tie.Need-returns-2 Inv-loop μ-loop
-returns-2 c = printing-stop (c .before .before .before .before .before .before .before .before .before .before .before .before .args .text .now) (c .before .before .before .before .before .before .before .before .loop .at) (c .before .before .before .before .before .before .before .before .loop .inv .2) (c .before .before .before .before .before .before .before .before .loop .inv .0) (c .before .before .before .before .before .before .before .before .loop .inv .1) _ (c .before .before .before .before .rewrite-record .ensures .0) (omega arith) (λ bytes next e. not-first (1 ∷ 2 ∷ 3 ∷ []) tt (subst (λ (r : Rewriting). OneOf (1 ∷ 2 ∷ 3 ∷ []) (tagOf the-type r)) e (c .match .keys2)))
+returns-2 c =
+    let t = c .before .before .before .before .before .before .before .before in
+    printing-stop (c .before .before .before .before .before .before .before .before .before .before .before .before .args .text .now) (t .loop .at) (t .loop .inv .2) (t .loop .inv .0) (t .loop .inv .1) _ (c .before .before .before .before .rewrite-record .ensures .0) (omega arith) (λ bytes next e. not-first (1 ∷ 2 ∷ 3 ∷ []) tt (subst (λ (r : Rewriting). OneOf (1 ∷ 2 ∷ 3 ∷ []) (tagOf the-type r)) e (c .match .keys2)))
 
 sub-write-all : tie.Need-sub-write-all Inv-loop μ-loop
 sub-write-all c = search needs
@@ -58,7 +60,9 @@ loop-less : tie.Need-loop-less Inv-loop μ-loop
 loop-less c = let l = printing-further (c .before .before .before .before .before .before .before .before .before .before .before .before .before .before .before .before .before .args .text .now) (c .before .before .before .before .before .before .before .before .before .before .before .before .before .loop .at) (c .before .before .before .before .before .before .before .before .before .before .before .before .before .loop .inv .2) (c .before .before .before .before .before .before .before .before .before .before .before .before .before .loop .inv .0) (c .before .before .before .before .before .before .before .before .before .before .before .before .before .loop .inv .1) _ (c .before .before .before .before .before .before .before .before .before .rewrite-record .ensures .0) _ _ (c .before .before .before .before .answer .given .1) in search needs
 
 loop-again : tie.Need-loop-again Inv-loop μ-loop
-loop-again c = (search needs, search needs, printing-more (c .before .before .before .before .before .before .before .before .before .before .before .before .before .before .before .before .before .args .text .now) (c .before .before .before .before .before .before .before .before .before .before .before .before .before .loop .at) (c .before .before .before .before .before .before .before .before .before .before .before .before .before .loop .inv .2) (c .before .before .before .before .before .before .before .before .before .before .before .before .before .loop .inv .0) (c .before .before .before .before .before .before .before .before .before .before .before .before .before .loop .inv .1) _ (c .before .before .before .before .before .before .before .before .before .rewrite-record .ensures .0) _ _ (c .before .before .before .before .answer .given .1))
+loop-again c =
+    let t = c .before .before .before .before .before .before .before .before .before .before .before .before .before in
+    (search needs, search needs, printing-more (c .before .before .before .before .before .before .before .before .before .before .before .before .before .before .before .before .before .args .text .now) (t .loop .at) (t .loop .inv .2) (t .loop .inv .0) (t .loop .inv .1) _ (c .before .before .before .before .before .before .before .before .before .rewrite-record .ensures .0) _ _ (c .before .before .before .before .answer .given .1))
 
 same-length-3 : tie.Need-same-length-3 Inv-loop μ-loop
 same-length-3 c = search needs

@@ -25,7 +25,9 @@ behind-or-end-requires : tie.Need-behind-or-end-requires Inv-loop μ-loop
 behind-or-end-requires c κs = search needs
 
 loop-holds : tie.Need-loop-holds Inv-loop μ-loop
-loop-holds c = turning-first (c .before .before .before .args .text .now) (c .before .before .before .args .at) (c .before .before .before .args .table .now) (c .behind-or-end .ensures)
+loop-holds c =
+    let o = c .before .before .before in
+    turning-first (o .args .text .now) (o .args .at) (o .args .table .now) (c .behind-or-end .ensures)
 
 form-of-requires : tie.Need-form-of-requires Inv-loop μ-loop
 form-of-requires c κs = search needs
@@ -40,7 +42,9 @@ same-length : tie.Need-same-length Inv-loop μ-loop
 same-length c = search needs
 
 returns : tie.Need-returns Inv-loop μ-loop
-returns c = absurd (has-form (c .before .before .before .before .loop .g) (omega (arith, c .before .before .before .before .loop .inv .low)) (omega arith) (sym (c .before .before .form-of .ensures) ∙ c .enum-told .given .1))
+returns c =
+    let t = c .before .before .before .before in
+    absurd (has-form (t .loop .g) (omega (arith, t .loop .inv .low)) (omega arith) (sym (c .before .before .form-of .ensures) ∙ c .enum-told .given .1))
 
 count-of-requires : tie.Need-count-of-requires Inv-loop μ-loop
 count-of-requires c κs = search needs
@@ -67,7 +71,9 @@ add-end : tie.Need-add-end Inv-loop μ-loop
 add-end c = let h = turning-ready (c .before .before .before .before .before .before .before .before .before .before .before .before .before .args .text .now) (c .before .before .before .before .before .before .before .before .before .before .before .before .before .args .at) (c .before .before .before .before .before .before .before .before .before .before .before .before .before .args .table .now) _ (c .before .before .before .before .before .before .before .before .before .before .before .before .before .pre .0) (c .before .before .before .before .before .before .before .before .before .before .before .before .before .pre .1) (c .before .before .before .before .before .before .before .before .before .loop .inv) (omega arith) (c .before .before .before .before .before .f .given .0 .0) (has (c)) (to-is (c)) (end-is (c)) in search needs
 
 read-part-requires : tie.Need-read-part-requires Inv-loop μ-loop
-read-part-requires c κs = turning-ready (c .before .before .before .before .before .before .before .before .before .before .before .before .before .before .args .text .now) (c .before .before .before .before .before .before .before .before .before .before .before .before .before .before .args .at) (c .before .before .before .before .before .before .before .before .before .before .before .before .before .before .args .table .now) _ (c .before .before .before .before .before .before .before .before .before .before .before .before .before .before .pre .0) (c .before .before .before .before .before .before .before .before .before .before .before .before .before .before .pre .1) (c .before .before .before .before .before .before .before .before .before .before .loop .inv) (omega arith) (c .before .before .before .before .before .before .f .given .0 .0) (has (c .before)) (to-is (c .before)) (end-is (c .before))
+read-part-requires c κs =
+    let o = c .before .before .before .before .before .before .before .before .before .before .before .before .before .before in
+    turning-ready (o .args .text .now) (o .args .at) (o .args .table .now) _ (o .pre .0) (o .pre .1) (c .before .before .before .before .before .before .before .before .before .before .loop .inv) (omega arith) (c .before .before .before .before .before .before .f .given .0 .0) (has (c .before)) (to-is (c .before)) (end-is (c .before))
 
 enum-known-answer : tie.Need-enum-known-answer Inv-loop μ-loop
 enum-known-answer c = search needs
@@ -76,7 +82,9 @@ same-length-2 : tie.Need-same-length-2 Inv-loop μ-loop
 same-length-2 c = search needs
 
 returns-2 : tie.Need-returns-2 Inv-loop μ-loop
-returns-2 c = turning-refused (c .before .before .before .before .before .before .before .before .before .before .before .before .before .before .before .before .before .before .before .args .text .now) (c .before .before .before .before .before .before .before .before .before .before .before .before .before .before .before .before .before .before .before .args .at) (c .before .before .before .before .before .before .before .before .before .before .before .before .before .before .before .before .before .before .before .args .table .now) _ (c .before .before .before .before .before .before .before .before .before .before .before .before .before .before .before .before .before .before .before .pre .0) (c .before .before .before .before .before .before .before .before .before .before .before .before .before .before .before .before .before .before .before .pre .1) (c .before .before .before .before .before .before .before .before .before .before .before .before .before .before .before .loop .inv) (omega arith) (c .before .before .before .before .before .before .before .before .before .before .before .f .given .0 .0) (has (c .before .before .before .before .before .before)) (to-is (c .before .before .before .before .before .before)) (end-is (c .before .before .before .before .before .before)) (c .before .before .before .before .read-part .ensures .0) (c .before .before .before .before .read-part .ensures .1) (c .before .answer .given .1)
+returns-2 c =
+    let o = c .before .before .before .before .before .before .before .before .before .before .before .before .before .before .before .before .before .before .before in
+    turning-refused (o .args .text .now) (o .args .at) (o .args .table .now) _ (o .pre .0) (o .pre .1) (c .before .before .before .before .before .before .before .before .before .before .before .before .before .before .before .loop .inv) (omega arith) (c .before .before .before .before .before .before .before .before .before .before .before .f .given .0 .0) (has (c .before .before .before .before .before .before)) (to-is (c .before .before .before .before .before .before)) (end-is (c .before .before .before .before .before .before)) (c .before .before .before .before .read-part .ensures .0) (c .before .before .before .before .read-part .ensures .1) (c .before .answer .given .1)
 
 enum-told-2 : tie.Need-enum-told-2 Inv-loop μ-loop
 enum-told-2 c = search needs
@@ -88,13 +96,17 @@ loop-less : tie.Need-loop-less Inv-loop μ-loop
 loop-less c = search needs
 
 loop-again : tie.Need-loop-again Inv-loop μ-loop
-loop-again c = turning-more (c .before .before .before .before .before .before .before .before .before .before .before .before .before .before .before .before .before .before .args .text .now) (c .before .before .before .before .before .before .before .before .before .before .before .before .before .before .before .before .before .before .args .at) (c .before .before .before .before .before .before .before .before .before .before .before .before .before .before .before .before .before .before .args .table .now) _ (c .before .before .before .before .before .before .before .before .before .before .before .before .before .before .before .before .before .before .pre .0) (c .before .before .before .before .before .before .before .before .before .before .before .before .before .before .before .before .before .before .pre .1) (c .before .before .before .before .before .before .before .before .before .before .before .before .before .before .loop .inv) (omega arith) (c .before .before .before .before .before .before .before .before .before .before .f .given .0 .0) (has (c .before .before .before .before .before)) (to-is (c .before .before .before .before .before)) (end-is (c .before .before .before .before .before)) (c .before .before .before .read-part .ensures .0) (c .before .before .before .read-part .ensures .1) (c .enum-told2 .given .1)
+loop-again c =
+    let o = c .before .before .before .before .before .before .before .before .before .before .before .before .before .before .before .before .before .before in
+    turning-more (o .args .text .now) (o .args .at) (o .args .table .now) _ (o .pre .0) (o .pre .1) (c .before .before .before .before .before .before .before .before .before .before .before .before .before .before .loop .inv) (omega arith) (c .before .before .before .before .before .before .before .before .before .before .f .given .0 .0) (has (c .before .before .before .before .before)) (to-is (c .before .before .before .before .before)) (end-is (c .before .before .before .before .before)) (c .before .before .before .read-part .ensures .0) (c .before .before .before .read-part .ensures .1) (c .enum-told2 .given .1)
 
 same-length-3 : tie.Need-same-length-3 Inv-loop μ-loop
 same-length-3 c = search needs
 
 returns-3 : tie.Need-returns-3 Inv-loop μ-loop
-returns-3 c = turning-all (c .before .before .before .before .before .args .text .now) (c .before .before .before .before .before .args .at) (c .before .before .before .before .before .args .table .now) (c .before .loop .inv) (omega arith)
+returns-3 c =
+    let o = c .before .before .before .before .before in
+    turning-all (o .args .text .now) (o .args .at) (o .args .table .now) (c .before .loop .inv) (omega arith)
 
 pub read-groups-spec : {M : Type 1} → statement M
 read-groups-spec =

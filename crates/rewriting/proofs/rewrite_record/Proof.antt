@@ -49,7 +49,9 @@ counts : (c : tie.After-canonical-length) → c .before .before .before .before 
 counts c = c .before .before .before .before .before .before .place .ensures .1
 
 returns-2 : tie.Need-returns-2
-returns-2 c = step-no-text (c .before .before .before .before .before .before .before .before .before .before .args .text .now) (c .before .before .before .before .before .before .before .before .before .before .args .at) (c .before .before .before .before .before .before .before .before .before .before .args .table .now) (c .before .before .before .before .before .before .before .before .before .before .args .out .now) _ (placed (c .before)) _ (counts (c .before)) (omega (arith, c .before .canonical-length .ensures))
+returns-2 c =
+    let o = c .before .before .before .before .before .before .before .before .before .before in
+    step-no-text (o .args .text .now) (o .args .at) (o .args .table .now) (o .args .out .now) _ (placed (c .before)) _ (counts (c .before)) (omega (arith, c .before .canonical-length .ensures))
 
 slice-aggregate-add-up : tie.Need-slice-aggregate-add-up
 slice-aggregate-add-up c = search needs
@@ -58,7 +60,9 @@ add-up-requires : tie.Need-add-up-requires
 add-up-requires c κs = search needs
 
 returns-3 : tie.Need-returns-3
-returns-3 c = step-no-cells (c .before .before .before .before .before .before .before .before .before .before .before .before .before .before .args .text .now) (c .before .before .before .before .before .before .before .before .before .before .before .before .before .before .args .at) (c .before .before .before .before .before .before .before .before .before .before .before .before .before .before .args .table .now) (c .before .before .before .before .before .before .before .before .before .before .before .before .before .before .args .out .now) _ (placed (c .before .before .before .before .before)) _ (counts (c .before .before .before .before .before)) (omega (arith, c .before .before .add-up .ensures .cells-are, all-cells (c .before .before .before .before .before .before .before .before .before .before .before .place .result .counts)))
+returns-3 c =
+    let o = c .before .before .before .before .before .before .before .before .before .before .before .before .before .before in
+    step-no-cells (o .args .text .now) (o .args .at) (o .args .table .now) (o .args .out .now) _ (placed (c .before .before .before .before .before)) _ (counts (c .before .before .before .before .before)) (omega (arith, c .before .before .add-up .ensures .cells-are, all-cells (c .before .before .before .before .before .before .before .before .before .before .before .place .result .counts)))
 
 slice-aggregate-read-groups : tie.Need-slice-aggregate-read-groups
 slice-aggregate-read-groups c = search needs
@@ -73,7 +77,9 @@ cells-fit : (c : tie.After-read-groups-arg) → recordCells (c .before .before .
 cells-fit c = omega (arith, many c)
 
 read-groups-requires : tie.Need-read-groups-requires
-read-groups-requires c κs = (counts (c .before .before .before .before .before .before .before), step-ready (c .before .before .before .before .before .before .before .before .before .before .before .before .before .before .before .before .args .text .now) (c .before .before .before .before .before .before .before .before .before .before .before .before .before .before .before .before .args .at) (c .before .before .before .before .before .before .before .before .before .before .before .before .before .before .before .before .args .table .now) (c .before .before .before .before .before .before .before .before .before .before .before .before .before .before .before .before .args .out .now) _ (placed (c .before .before .before .before .before .before .before)) _ (counts (c .before .before .before .before .before .before .before)) (text-fits (c)) (cells-fit (c)))
+read-groups-requires c κs =
+    let o = c .before .before .before .before .before .before .before .before .before .before .before .before .before .before .before .before in
+    (counts (c .before .before .before .before .before .before .before), step-ready (o .args .text .now) (o .args .at) (o .args .table .now) (o .args .out .now) _ (placed (c .before .before .before .before .before .before .before)) _ (counts (c .before .before .before .before .before .before .before)) (text-fits (c)) (cells-fit (c)))
 
 enum-known-g : tie.Need-enum-known-g
 enum-known-g c = search needs
@@ -85,13 +91,17 @@ slice-aggregate-write-cells : tie.Need-slice-aggregate-write-cells
 slice-aggregate-write-cells c = search needs
 
 write-cells-requires : tie.Need-write-cells-requires
-write-cells-requires c κs = step-writes (c .before .before .before .before .before .before .before .before .before .before .before .before .before .before .before .before .before .before .before .before .before .before .before .args .text .now) (c .before .before .before .before .before .before .before .before .before .before .before .before .before .before .before .before .before .before .before .before .before .before .before .args .at) (c .before .before .before .before .before .before .before .before .before .before .before .before .before .before .before .before .before .before .before .before .before .before .before .args .table .now) (c .before .before .before .before .before .before .before .before .before .before .before .before .before .before .before .before .before .before .before .before .before .before .before .args .out .now) _ (placed (c .before .before .before .before .before .before .before .before .before .before .before .before .before .before)) _ (counts (c .before .before .before .before .before .before .before .before .before .before .before .before .before .before)) (text-fits (c .before .before .before .before .before .before .before)) (cells-fit (c .before .before .before .before .before .before .before)) (sym (c .before .before .before .enum-told .given .1) ∙ c .before .before .before .before .before .before .read-groups .ensures .0, c .before .before .before .before .before .before .read-groups .ensures .1) (many (c .before .before .before .before .before .before .before))
+write-cells-requires c κs =
+    let o = c .before .before .before .before .before .before .before .before .before .before .before .before .before .before .before .before .before .before .before .before .before .before .before in
+    step-writes (o .args .text .now) (o .args .at) (o .args .table .now) (o .args .out .now) _ (placed (c .before .before .before .before .before .before .before .before .before .before .before .before .before .before)) _ (counts (c .before .before .before .before .before .before .before .before .before .before .before .before .before .before)) (text-fits (c .before .before .before .before .before .before .before)) (cells-fit (c .before .before .before .before .before .before .before)) (sym (c .before .before .before .enum-told .given .1) ∙ c .before .before .before .before .before .before .read-groups .ensures .0, c .before .before .before .before .before .before .read-groups .ensures .1) (many (c .before .before .before .before .before .before .before))
 
 same-length : tie.Need-same-length
 same-length c = search needs
 
 returns-4 : tie.Need-returns-4
-returns-4 c = step-unread (c .before .before .before .before .before .before .before .before .before .before .before .before .before .before .before .before .before .before .before .before .before .args .text .now) (c .before .before .before .before .before .before .before .before .before .before .before .before .before .before .before .before .before .before .before .before .before .args .at) (c .before .before .before .before .before .before .before .before .before .before .before .before .before .before .before .before .before .before .before .before .before .args .table .now) (c .before .before .before .before .before .before .before .before .before .before .before .before .before .before .before .before .before .before .before .before .before .args .out .now) _ (placed (c .before .before .before .before .before .before .before .before .before .before .before .before)) _ (counts (c .before .before .before .before .before .before .before .before .before .before .before .before)) (text-fits (c .before .before .before .before .before)) (cells-fit (c .before .before .before .before .before)) (sym (c .before .g .given .1) ∙ c .before .before .before .before .read-groups .ensures .0, c .before .before .before .before .read-groups .ensures .1)
+returns-4 c =
+    let o = c .before .before .before .before .before .before .before .before .before .before .before .before .before .before .before .before .before .before .before .before .before in
+    step-unread (o .args .text .now) (o .args .at) (o .args .table .now) (o .args .out .now) _ (placed (c .before .before .before .before .before .before .before .before .before .before .before .before)) _ (counts (c .before .before .before .before .before .before .before .before .before .before .before .before)) (text-fits (c .before .before .before .before .before)) (cells-fit (c .before .before .before .before .before)) (sym (c .before .g .given .1) ∙ c .before .before .before .before .read-groups .ensures .0, c .before .before .before .before .read-groups .ensures .1)
 
 same-length-2 : tie.Need-same-length-2
 same-length-2 c = search needs
@@ -100,7 +110,9 @@ same-length-3 : tie.Need-same-length-3
 same-length-3 c = search needs
 
 returns-5 : tie.Need-returns-5
-returns-5 c = step-done (c .before .before .before .before .before .before .before .before .before .before .before .before .before .before .before .before .before .before .before .before .before .before .before .before .before .before .args .text .now) (c .before .before .before .before .before .before .before .before .before .before .before .before .before .before .before .before .before .before .before .before .before .before .before .before .before .before .args .at) (c .before .before .before .before .before .before .before .before .before .before .before .before .before .before .before .before .before .before .before .before .before .before .before .before .before .before .args .table .now) (c .before .before .before .before .before .before .before .before .before .before .before .before .before .before .before .before .before .before .before .before .before .before .before .before .before .before .args .out .now) _ (placed (c .before .before .before .before .before .before .before .before .before .before .before .before .before .before .before .before .before)) _ (counts (c .before .before .before .before .before .before .before .before .before .before .before .before .before .before .before .before .before)) (text-fits (c .before .before .before .before .before .before .before .before .before .before)) (cells-fit (c .before .before .before .before .before .before .before .before .before .before)) (sym (c .before .before .before .before .before .before .enum-told .given .1) ∙ c .before .before .before .before .before .before .before .before .before .read-groups .ensures .0, c .before .before .before .before .before .before .before .before .before .read-groups .ensures .1) (many (c .before .before .before .before .before .before .before .before .before .before)) (c .before .before .before .before .before .before .before .before .before .before .before .before .before .before .before .before .before .canonical-length .ensures) (c .before .before .write-cells .ensures)
+returns-5 c =
+    let o = c .before .before .before .before .before .before .before .before .before .before .before .before .before .before .before .before .before .before .before .before .before .before .before .before .before .before in
+    step-done (o .args .text .now) (o .args .at) (o .args .table .now) (o .args .out .now) _ (placed (c .before .before .before .before .before .before .before .before .before .before .before .before .before .before .before .before .before)) _ (counts (c .before .before .before .before .before .before .before .before .before .before .before .before .before .before .before .before .before)) (text-fits (c .before .before .before .before .before .before .before .before .before .before)) (cells-fit (c .before .before .before .before .before .before .before .before .before .before)) (sym (c .before .before .before .before .before .before .enum-told .given .1) ∙ c .before .before .before .before .before .before .before .before .before .read-groups .ensures .0, c .before .before .before .before .before .before .before .before .before .read-groups .ensures .1) (many (c .before .before .before .before .before .before .before .before .before .before)) (c .before .before .before .before .before .before .before .before .before .before .before .before .before .before .before .before .before .canonical-length .ensures) (c .before .before .write-cells .ensures)
 
 pub rewrite-record-spec : {M : Type 1} → statement M
 rewrite-record-spec =
