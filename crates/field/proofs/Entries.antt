@@ -25,7 +25,8 @@ use Rattle.number.proofs.Unique.{lean-text}
 use Rattle.number.proofs.Fits.{i-canonical}
 use Rattle.number.proofs.Text.{i-length, i-printable}
 use Rattle.field.specs.declared.Entry.the-variants.{Count, Misformed}
-use Rattle.field.specs.Entry.{IsEntry, CanonicalEntry, countIn, entryOf, entryText, entryFits}
+use Rattle.form.specs.Count.{mostCount, isCount}
+use Rattle.field.specs.Entry.{IsEntry, CanonicalEntry, countIn, entryOf, entryText}
 
 -- ---- reading
 
@@ -57,16 +58,16 @@ is-entry s n i =
 
 -- ---- fits exactly
 
-pub entry-fitting : (s : List ℕ) (n : ℕ) → IsEntry s n → T (entryFits n)
+pub entry-fitting : (s : List ℕ) (n : ℕ) → IsEntry s n → T (isCount n)
 entry-fitting s n i =
     let d : length (digitText (i .digits)) ≡ length (i .digits) = simp length-map in
     let l = length-append (replicate (i .blanks) 32) (digitText (i .digits)) in
     let w : length (i .digits) ≤ 3 = omega (arith, ap length (i .text), i .width) in
-    le→leb n 999 (omega (arith, i .value, number-within (i .digits) 3 (i .each) w))
+    le→leb n mostCount (omega (arith, i .value, number-within (i .digits) 3 (i .each) w))
 
 -- ---- canonical is one
 
-pub entry-canonical : (n : ℕ) → T (entryFits n) → CanonicalEntry (entryText n) n
+pub entry-canonical : (n : ℕ) → T (isCount n) → CanonicalEntry (entryText n) n
 entry-canonical n t =
     let c = i-canonical 2 99 999 refl refl (pos n) t in
     let m = numberOf (c .digits) in
@@ -93,7 +94,7 @@ canonical-entry s n c =
 
 -- ---- written reads
 
-pub entry-back : (n : ℕ) → T (entryFits n) → entryOf (entryText n) ≡ Count n
+pub entry-back : (n : ℕ) → T (isCount n) → entryOf (entryText n) ≡ Count n
 entry-back n t = is-entry (entryText n) n (canonical-entry (entryText n) n (entry-canonical n t))
 
 pub entry-wide : (n : ℕ) → length (entryText n) ≡ 3

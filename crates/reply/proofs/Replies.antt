@@ -1,74 +1,60 @@
--- Replies that are in 01's table, with 0 for what their row doesn't name.
+-- Replies that fill a row, by the shape of the reply; and tables that hold others.
 -- Assumes nothing.
 use mathlib.Core.Path.{_≡_, refl}
-use mathlib.Core.Bool.{false, true≢false}
-use Prim.Native.Nat.{ℕ}
-use lib.Dec.{T, leb, leb→le}
-use Rattle.reply.specs.Table.{replyAt, replyOn, replyPlain, replyDone, replyLine, replyField, replyDate, namesNext, namesGroup, namesLine, namesElement, Numbered}
+use mathlib.Core.List.{List, [], _∷_, _++_}
+use mathlib.Core.Logic.{_⊎_, inl, inr}
+use Prim.Native.Nat.{ℕ, _≤_}
+use native.Mathlib.Omega.{arith}
+use Rattle.reply.specs.declared.Reply.{Reply}
+use Rattle.reply.specs.Table.{Row, row, numbers, replyAt, replyOn, replyPlain, replyDone, replyLine, replyField, replyDate, Fills, Numbered, next, written, group, line, element, position}
 
--- a next place where the row names one, and a group where it names one
-pub numbered-at : (k next group : ℕ) → T (leb k 14) → (namesNext k ≡ false → next ≡ 0) → (namesGroup k ≡ false → group ≡ 0) → Numbered (replyAt k next group)
-numbered-at k next group t n g =
-    record {
-      known = leb→le k 14 t;
-      no-next = n;
-      no-written = λ e. refl;
-      no-group = g;
-      no-line = λ e. refl;
-      no-element = λ e. refl;
-      no-position = λ e. refl;
-    }
+pub fills-plain : (k : ℕ) → Fills (row k []) (replyPlain k)
+fills-plain k =
+    record { numbered = refl; with-next = refl; with-written = refl; with-group = refl; with-line = refl; with-element = refl; with-position = refl }
 
-pub numbered-on : (k group : ℕ) → T (leb k 14) → (namesGroup k ≡ false → group ≡ 0) → Numbered (replyOn k group)
-numbered-on k group t g = numbered-at k 0 group t (λ e. refl) g
+pub fills-on : (k g : ℕ) → 1 ≤ g → Fills (row k (group ∷ [])) (replyOn k g)
+fills-on k g h =
+    record { numbered = refl; with-next = refl; with-written = refl; with-group = h; with-line = refl; with-element = refl; with-position = refl }
 
-pub numbered-plain : (k : ℕ) → T (leb k 14) → Numbered (replyPlain k)
-numbered-plain k t = numbered-on k 0 t (λ e. refl)
+pub fills-next : (k n : ℕ) → 1 ≤ n → Fills (row k (next ∷ [])) (replyAt k n 0)
+fills-next k n h =
+    record { numbered = refl; with-next = h; with-written = refl; with-group = refl; with-line = refl; with-element = refl; with-position = refl }
 
-pub numbered-done : (written : ℕ) → Numbered (replyDone written)
-numbered-done written =
-    record {
-      known = leb→le 0 14 tt;
-      no-next = λ e. refl;
-      no-written = λ e. absurd (true≢false e);
-      no-group = λ e. refl;
-      no-line = λ e. refl;
-      no-element = λ e. refl;
-      no-position = λ e. refl;
-    }
+pub fills-at : (k n g : ℕ) → 1 ≤ n → 1 ≤ g → Fills (row k (group ∷ next ∷ [])) (replyAt k n g)
+fills-at k n g h j =
+    record { numbered = refl; with-next = h; with-written = refl; with-group = j; with-line = refl; with-element = refl; with-position = refl }
 
-pub numbered-line : (k line element : ℕ) → T (leb k 14) → (namesLine k ≡ false → line ≡ 0) → (namesElement k ≡ false → element ≡ 0) → Numbered (replyLine k line element)
-numbered-line k line element t l e =
-    record {
-      known = leb→le k 14 t;
-      no-next = λ x. refl;
-      no-written = λ x. refl;
-      no-group = λ x. refl;
-      no-line = l;
-      no-element = e;
-      no-position = λ x. refl;
-    }
+pub fills-done : (n : ℕ) → Fills (row 0 (written ∷ [])) (replyDone n)
+fills-done n =
+    record { numbered = refl; with-next = refl; with-written = omega arith; with-group = refl; with-line = refl; with-element = refl; with-position = refl }
 
-pub numbered-field : (group element : ℕ) → Numbered (replyField group element)
-numbered-field group element =
-    record {
-      known = leb→le 13 14 tt;
-      no-next = λ e. refl;
-      no-written = λ e. refl;
-      no-group = λ e. absurd (true≢false e);
-      no-line = λ e. refl;
-      no-element = λ e. absurd (true≢false e);
-      no-position = λ e. refl;
-    }
+pub fills-both : (n m : ℕ) → 1 ≤ n → Fills (row 0 (next ∷ written ∷ [])) (numbers 0 n m 0 0 0 0)
+fills-both n m h =
+    record { numbered = refl; with-next = h; with-written = omega arith; with-group = refl; with-line = refl; with-element = refl; with-position = refl }
 
-pub numbered-date : (position : ℕ) → Numbered (replyDate position)
-numbered-date position =
-    record {
-      known = leb→le 10 14 tt;
-      no-next = λ e. refl;
-      no-written = λ e. refl;
-      no-group = λ e. refl;
-      no-line = λ e. refl;
-      no-element = λ e. refl;
-      no-position = λ e. absurd (true≢false e);
-    }
+pub fills-line : (k l : ℕ) → 1 ≤ l → Fills (row k (line ∷ [])) (replyLine k l 0)
+fills-line k l h =
+    record { numbered = refl; with-next = refl; with-written = refl; with-group = refl; with-line = h; with-element = refl; with-position = refl }
+
+pub fills-element : (k l e : ℕ) → 1 ≤ l → 1 ≤ e → Fills (row k (line ∷ element ∷ [])) (replyLine k l e)
+fills-element k l e h j =
+    record { numbered = refl; with-next = refl; with-written = refl; with-group = refl; with-line = h; with-element = j; with-position = refl }
+
+pub fills-field : (g e : ℕ) → 1 ≤ g → 1 ≤ e → Fills (row 13 (group ∷ element ∷ [])) (replyField g e)
+fills-field g e h j =
+    record { numbered = refl; with-next = refl; with-written = refl; with-group = h; with-line = refl; with-element = j; with-position = refl }
+
+pub fills-date : (p : ℕ) → 1 ≤ p → Fills (row 10 (position ∷ [])) (replyDate p)
+fills-date p h =
+    record { numbered = refl; with-next = refl; with-written = refl; with-group = refl; with-line = refl; with-element = refl; with-position = h }
+
+-- ---- tables one behind the other
+
+pub numbered-left : (a b : List Row) (r : Reply) → Numbered a r → Numbered (a ++ b) r
+numbered-left [] b r n = absurd n
+numbered-left (w ∷ a) b r (inl f) = inl f
+numbered-left (w ∷ a) b r (inr n) = inr (numbered-left a b r n)
+
+pub numbered-right : (a b : List Row) (r : Reply) → Numbered b r → Numbered (a ++ b) r
+numbered-right [] b r n = n
+numbered-right (w ∷ a) b r n = inr (numbered-right a b r n)
