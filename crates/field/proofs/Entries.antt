@@ -3,6 +3,7 @@
 use mathlib.Core.Path.{_≡_, refl, sym, ap, _∙_}
 use mathlib.Core.Bool.{true, false}
 use mathlib.Core.List.{List, _++_}
+use mathlib.Core.Logic.{_↔_}
 use Prim.Native.Nat.{ℕ, zero, _≤_}
 use native.Mathlib.Omega.{arith}
 use borrow.Author.Tests.{eq-eqb, eqb-true}
@@ -26,7 +27,7 @@ use Rattle.number.proofs.Fits.{i-canonical}
 use Rattle.number.proofs.Text.{i-length, i-printable}
 use Rattle.field.specs.declared.Entry.the-variants.{Count, Misformed}
 use Rattle.form.specs.Count.{mostCount, isCount}
-use Rattle.field.specs.Entry.{IsEntry, CanonicalEntry, countIn, entryOf, entryText}
+use Rattle.field.specs.Entry.{IsEntry, HasEntry, CanonicalEntry, countIn, entryOf, entryText}
 
 -- ---- reading
 
@@ -102,3 +103,7 @@ entry-wide n = i-length 3 (pos n)
 
 pub entry-plain : (n : ℕ) → T (every printable (entryText n))
 entry-plain n = i-printable 3 (pos n)
+
+-- a count has an entry exactly if it is 0 to 999
+pub has-entry : (n : ℕ) → HasEntry n ↔ T (isCount n)
+has-entry n = (λ h. entry-fitting (h .columns) n (h .entry), λ t. record { columns = entryText n; entry = canonical-entry (entryText n) n (entry-canonical n t) })

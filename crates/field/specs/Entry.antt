@@ -23,6 +23,11 @@ pub record IsEntry (s : List ℕ) (n : ℕ) : Type 0 where
   pub text : s ≡ replicate blanks 32 ++ digitText digits
   pub value : n ≡ numberOf digits
 
+-- some three columns are an entry of this count
+pub record HasEntry (n : ℕ) : Type 0 where
+  pub columns : List ℕ
+  pub entry : IsEntry columns n
+
 -- without needless zeros
 pub record CanonicalEntry (s : List ℕ) (n : ℕ) : Type 0 where
   pub width : length s ≡ 3

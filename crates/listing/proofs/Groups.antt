@@ -23,7 +23,7 @@ use Rattle.count.specs.declared.Ruling.the-variants.{Broken}
 use Rattle.count.specs.Due.{LowestFilled}
 use Rattle.count.proofs.Releases.{release-due}
 use Rattle.count.proofs.Rulings
-use Rattle.count.proofs.Rulings.{Breaks, ruling-says}
+use Rattle.count.proofs.Rulings.{ruling-broken, broken-group}
 use Rattle.listing.specs.Rows.{filled, filledGroups}
 
 module _ (ns : List ℕ) where
@@ -65,18 +65,8 @@ module _ (ns : List ℕ) where
 
 -- ---- the group that reply 7 blames is at most 60, the group that reply 6 names at most 79
 
-breaks-within : (rs : List Rule) (m g : ℕ) → T (every (λ r. leb (r .blamed) m) rs) → Breaks rs g → g ≤ m
-unfolding Rulings.Breaks
-breaks-within [] m g t b = absurd b
-breaks-within (r ∷ rs) m g t b =
-    ⊎-elim
-    (λ h. omega (arith, h .1, leb→le (r .blamed) m (and-left (leb (r .blamed) m) (every (λ r. leb (r .blamed) m) rs) t)))
-    (λ h. breaks-within rs m g (and-right (leb (r .blamed) m) (every (λ r. leb (r .blamed) m) rs) t) h)
-    b
-
 pub blamed-within : (ns : List ℕ) (g : ℕ) → rulingOf ns ≡ Broken g → g ≤ 60
-unfolding Rules.headRules Rules.sets Rules.letterRules
-blamed-within ns g e = breaks-within (rules ns) 60 g tt (ruling-says ns (Broken g) .0 e .0)
+blamed-within ns g e = broken-group ns (ruling-broken ns e) .1
 
 pub vacant-within : (ns : List ℕ) (g : ℕ) → releaseOf ns ≡ Filled g → g ≤ 79
 vacant-within ns g e = let p : LowestFilled ns g = rw e at (release-due ns) in p .high

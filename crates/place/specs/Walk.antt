@@ -2,8 +2,13 @@
 use mathlib.Core.Path.{_≡_}
 use mathlib.Core.List.{List}
 use Prim.Native.Nat.{ℕ, zero, suc, _<_}
+use lib.Dec.{T}
 use Rattle.place.specs.declared.Placing.{Placing}
-use Rattle.place.specs.Placing.{Located, located, refused, locate}
+use Rattle.place.specs.Numbered.{placingReply, isPlaced}
+use Rattle.place.specs.Placing.{Located, located, refused, locate, placingOf}
+
+abbrev pub PlacedAt : List ℕ → ℕ → Type 0
+PlacedAt s at = T (isPlaced (placingReply (placingOf s at) .number))
 
 abbrev pub onward : ℕ → Located → ℕ
 onward at (located n ns) = n
