@@ -5,8 +5,11 @@ use mathlib.Core.Path.{_≡_, refl, sym, ap, _∙_, subst}
 use mathlib.Core.Bool.{Bool, true, false, true≢false}
 use mathlib.Core.List.{List, [], _∷_, _++_}
 use mathlib.Core.Logic.{_↔_, _⊎_, inl, inr, ⊎-elim}
-use Prim.Native.Nat.{ℕ}
+use Prim.Native.Nat.{ℕ, _≤_}
 use native.Mathlib.Omega.{arith}
+use lib.Dec.{T, leb, leb→le}
+use Rattle.base.specs.Every.{every}
+use Rattle.base.proofs.Choice.{and-left, and-right}
 use Rattle.date.specs.declared.DigitField.{DigitField}
 use Rattle.date.specs.declared.Digits.{Digits}
 use Rattle.date.specs.declared.Digits.the-variants.{Number, Fails}
@@ -158,3 +161,15 @@ given-due s =
 
 pub first-due : (s : List ℕ) (x : Dated) → datedOf s ≡ x ↔ Due s x
 first-due s x = (λ e. subst (Due s) e (given-due s), due-given s x)
+
+-- ---- a position that is blamed is one: positions count from 1
+
+first-one : (bs : List DigitField) (f : DigitField) (cs : List DigitField) → T (every (λ d. leb 1 (d .first)) (bs ++ (f ∷ cs))) → 1 ≤ f .first
+first-one [] f cs t = leb→le 1 (f .first) (and-left (leb 1 (f .first)) (every (λ d. leb 1 (d .first)) cs) t)
+first-one (b ∷ bs) f cs t = first-one bs f cs (and-right (leb 1 (b .first)) (every (λ d. leb 1 (d .first)) (bs ++ (f ∷ cs))) t)
+
+pub blamed-position : (s : List ℕ) (p : ℕ) → Due s (Wrong p) → 1 ≤ p
+blamed-position s p (inl r) =
+    let l = first-one (r .before) (r .field) (r .behind) (subst (λ fs. T (every (λ d. leb 1 (d .first)) fs)) (r .order) tt) in
+    omega (arith, l, r .position)
+blamed-position s p (inr m) = omega (arith, m .position)

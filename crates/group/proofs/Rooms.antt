@@ -21,8 +21,8 @@ use Rattle.count.specs.Rules
 use Rattle.count.specs.Rules.{rulingOf}
 use Rattle.count.specs.Tally.{countOf}
 use Rattle.count.specs.declared.Ruling.the-variants.{Kept}
-use Rattle.count.proofs.Rulings
-use Rattle.count.proofs.Rulings.{ruling-says}
+use Rattle.count.specs.Blame
+use Rattle.count.proofs.Rulings.{ruling-kept}
 use Rattle.place.specs.Placing.{Located, located, refused, locate}
 use Rattle.place.specs.Parts.{groupPart}
 use Rattle.reading.proofs.Promises.{read-room}
@@ -38,12 +38,12 @@ cells-four n = mul-one n
 
 -- "group 4 from 1 to 49"
 pub kept-four : (ns : List ℕ) → rulingOf ns ≡ Kept → countOf ns 4 ≤ 49
-unfolding Rulings.Breaks Rules.headRules
+unfolding Blame.Blames Rules.headRules
 kept-four ns e = by (leb 1 (countOf ns 4) && leb (countOf ns 4) 49) refl
   where
     by : (t : Bool) → leb 1 (countOf ns 4) && leb (countOf ns 4) 49 ≡ t → countOf ns 4 ≤ 49
     by true u = leb-true (countOf ns 4) 49 (and-second (leb 1 (countOf ns 4)) (leb (countOf ns 4) 49) u)
-    by false u = absurd (ruling-says ns Kept .0 e 4 (inr (inr (inr (inl (u, refl))))))
+    by false u = absurd (ruling-kept ns e 4 (inr (inr (inr (inl (u, refl))))))
 
 pub room-four : (ns : List ℕ) → rulingOf ns ≡ Kept → cellsOf F8 (countOf ns 4) ≤ 49
 room-four ns e = omega (arith, cells-four (countOf ns 4), kept-four ns e)

@@ -2,12 +2,12 @@
 -- Assumes nothing.
 use mathlib.Core.Path.{_≡_, refl, sym, _∙_}
 use mathlib.Core.List.{List}
-use mathlib.Core.Logic.{inl, inr}
 use Prim.Native.Nat.{ℕ, _≤_}
 use native.Mathlib.Omega.{arith}
+use lib.Dec.{lit<}
 use lib.ListN.{drop}
 use Rattle.reply.specs.Table.{Numbered}
-use Rattle.reply.proofs.Replies.{fills-plain, fills-on, fills-next, fills-at}
+use Rattle.reply.proofs.Replies.{fills-plain, fills-on, fills-next, fills-at, at-row}
 use Rattle.count.specs.Tally.{recordLines}
 use Rattle.count.proofs.Rulings.{broken-group}
 use Rattle.count.proofs.Tallied.{record-two}
@@ -26,15 +26,15 @@ module _ (s : List ℕ) (at : ℕ) where
   next-behind ns n h = omega (arith, h .next, h .enough, record-two ns, reach-least (drop at s) (recordLines ns) (h .enough))
 
   pub due-numbered : (p : Placing) → Due s at p → Numbered placingRows (placingReply p)
-  due-numbered (Placed n) d = inl (fills-next 0 n (next-behind (d .ns) n (d .lines)))
-  due-numbered End d = inr (inl (fills-plain 1))
-  due-numbered Beyond d = inr (inr (inl (fills-plain 2)))
-  due-numbered TooFewLines d = inr (inr (inr (inl (fills-plain 3))))
-  due-numbered Misformed d = inr (inr (inr (inr (inl (fills-plain 4)))))
-  due-numbered OtherRelease d = inr (inr (inr (inr (inr (inl (fills-plain 5))))))
-  due-numbered (FilledVacant g) d = inr (inr (inr (inr (inr (inr (inl (fills-on 6 g (omega (arith, d .filled .low)))))))))
+  due-numbered (Placed n) d = at-row 0 placingRows (placingReply (Placed n)) (lit< tt) (fills-next 0 n (next-behind (d .ns) n (d .lines)))
+  due-numbered End d = at-row 1 placingRows (placingReply End) (lit< tt) (fills-plain 1)
+  due-numbered Beyond d = at-row 2 placingRows (placingReply Beyond) (lit< tt) (fills-plain 2)
+  due-numbered TooFewLines d = at-row 3 placingRows (placingReply TooFewLines) (lit< tt) (fills-plain 3)
+  due-numbered Misformed d = at-row 4 placingRows (placingReply Misformed) (lit< tt) (fills-plain 4)
+  due-numbered OtherRelease d = at-row 5 placingRows (placingReply OtherRelease) (lit< tt) (fills-plain 5)
+  due-numbered (FilledVacant g) d = at-row 6 placingRows (placingReply (FilledVacant g)) (lit< tt) (fills-on 6 g (omega (arith, d .filled .low)))
   due-numbered (BrokenRule g n) d =
-      inr (inr (inr (inr (inr (inr (inr (inl (fills-at 7 n g (next-behind (d .ns) n (d .lines)) (broken-group (d .ns) (d .broken) .0)))))))))
+      at-row 7 placingRows (placingReply (BrokenRule g n)) (lit< tt) (fills-at 7 n g (next-behind (d .ns) n (d .lines)) (broken-group (d .ns) (d .broken) .0))
 
   pub placing-numbered : Numbered placingRows (placingReply (placingOf s at))
   placing-numbered = due-numbered (placingOf s at) (first-due s at (placingOf s at) .0 refl)

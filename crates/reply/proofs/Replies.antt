@@ -1,10 +1,12 @@
--- Replies that fill a row, by the shape of the reply; and tables that hold others.
+-- Replies that fill a row, by the shape of the reply.
 -- Assumes nothing.
-use mathlib.Core.Path.{_≡_, refl}
-use mathlib.Core.List.{List, [], _∷_, _++_}
-use mathlib.Core.Logic.{_⊎_, inl, inr}
-use Prim.Native.Nat.{ℕ, _≤_}
+use mathlib.Core.Path.{refl}
+use mathlib.Core.List.{List, [], _∷_}
+use mathlib.Core.Logic.{inl, inr}
+use Prim.Native.Nat.{ℕ, zero, suc, _<_, _≤_}
+use native.Mathlib.Nat.{le-of-suc-le-suc}
 use native.Mathlib.Omega.{arith}
+use lib.ListN.{length, getD}
 use Rattle.reply.specs.declared.Reply.{Reply}
 use Rattle.reply.specs.Table.{Row, row, numbers, replyAt, replyOn, replyPlain, replyDone, replyLine, replyField, replyDate, Fills, Numbered, next, written, group, line, element, position}
 
@@ -48,13 +50,9 @@ pub fills-date : (p : ℕ) → 1 ≤ p → Fills (row 10 (position ∷ [])) (rep
 fills-date p h =
     record { numbered = refl; with-next = refl; with-written = refl; with-group = refl; with-line = refl; with-element = refl; with-position = h }
 
--- ---- tables one behind the other
+-- ---- which row
 
-pub numbered-left : (a b : List Row) (r : Reply) → Numbered a r → Numbered (a ++ b) r
-numbered-left [] b r n = absurd n
-numbered-left (w ∷ a) b r (inl f) = inl f
-numbered-left (w ∷ a) b r (inr n) = inr (numbered-left a b r n)
-
-pub numbered-right : (a b : List Row) (r : Reply) → Numbered b r → Numbered (a ++ b) r
-numbered-right [] b r n = n
-numbered-right (w ∷ a) b r n = inr (numbered-right a b r n)
+pub at-row : (k : ℕ) (ws : List Row) (r : Reply) → k < length ws → Fills (getD ws k (row 0 [])) r → Numbered ws r
+at-row k [] r l f = absurd (omega arith)
+at-row zero (w ∷ ws) r l f = inl f
+at-row (suc k) (w ∷ ws) r l f = inr (at-row k ws r (le-of-suc-le-suc l) f)

@@ -89,6 +89,10 @@ Numbered (w ∷ ws) r = Fills w r ⊎ Numbered ws r
 abbrev pub placingRefusals : List Row
 placingRefusals = row 1 [] ∷ row 2 [] ∷ row 3 [] ∷ row 4 [] ∷ row 5 [] ∷ row 6 (group ∷ []) ∷ row 7 (group ∷ []) ∷ []
 
+-- "12, then any placing reply but 0"
+abbrev pub askedRefusals : List Row
+askedRefusals = row 12 [] ∷ placingRefusals
+
 -- what the lines of a group are refused with
 abbrev pub lineRefusals : List Row
 lineRefusals = row 8 (line ∷ []) ∷ row 9 (line ∷ element ∷ []) ∷ []
