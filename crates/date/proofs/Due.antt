@@ -19,7 +19,7 @@ use Rattle.date.specs.declared.Dated.the-variants.{Right, Wrong}
 use Rattle.date.specs.Digits.{digitsOf, Reads}
 use Rattle.date.specs.Calendar.{isLeap}
 use Rattle.date.specs.Date.{fields, fails, number, firstBlamed, datedOf, dateOf, namesOneDay, judged}
-use Rattle.date.specs.Due.{Holds, FailsAlone, AllHold, FirstFails, HasNumbers, NamesDay, Mismatched, IsDate, Due}
+use Rattle.date.specs.Due.{Holds, FailsAlone, AllHold, FirstFails, HasNumbers, NamesDay, Due}
 use Rattle.date.proofs.Days.{day-named, named-day, not-named}
 use Rattle.date.proofs.Grammar.{read-is, is-read}
 

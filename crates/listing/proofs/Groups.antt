@@ -3,26 +3,22 @@
 use mathlib.Core.Path.{_≡_, refl}
 use mathlib.Core.Bool.{Bool, true, false, cond}
 use mathlib.Core.List.{List, [], _∷_, map}
-use mathlib.Core.Logic.{_⊎_, ⊎-elim}
 use Prim.Native.Nat.{ℕ, suc, _+_, _-_, _<_, _≤_}
 use native.Mathlib.Omega.{arith}
 use native.Mathlib.Nat.{add-zero}
 use lib.ListN.{length}
-use lib.Dec.{T, eqb, leb, leb→le}
+use lib.Dec.{eqb}
 use borrow.Author.Tests.{eq-eqb, ne-eqb}
-use Rattle.base.specs.Every.{every, upFrom}
+use Rattle.base.specs.Every.{upFrom}
 use Rattle.base.specs.Sum
 use Rattle.base.specs.Sum.{sum}
-use Rattle.base.proofs.Choice.{and-left, and-right}
 use Rattle.base.proofs.UpFrom.{length-up, up-more, up-done}
 use Rattle.count.specs.Tally.{countOf}
-use Rattle.count.specs.Rules
-use Rattle.count.specs.Rules.{Rule, rules, rulingOf, releaseOf}
+use Rattle.count.specs.Rules.{rulingOf, releaseOf}
 use Rattle.count.specs.declared.Release.the-variants.{Filled}
 use Rattle.count.specs.declared.Ruling.the-variants.{Broken}
 use Rattle.count.specs.Due.{LowestFilled}
 use Rattle.count.proofs.Releases.{release-due}
-use Rattle.count.proofs.Rulings
 use Rattle.count.proofs.Rulings.{ruling-broken, broken-group}
 use Rattle.listing.specs.Rows.{filled, filledGroups}
 

@@ -10,7 +10,7 @@ use native.Mathlib.Nat.{le-of-suc-le-suc, sub-zero}
 use native.Mathlib.Omega.{arith}
 use borrow.Author.Tests.{eqb-true, leb-true, leb-false}
 use lib.Dec.{leb, eqb, leb→le, le→leb}
-use lib.ListN.{length, take, drop, getD, length-append, length-take, length-drop, take-append-drop, List·getD-append}
+use lib.ListN.{length, take, drop, getD, length-append, length-drop, take-append-drop, List·getD-append}
 use lib.Seq.{drop-drop, getD-append-add, getD-take, getD-drop, length-take-le}
 use Rattle.base.specs.Part.{part}
 use Rattle.form.specs.Count.{mostCount}
@@ -25,7 +25,7 @@ use Rattle.line.specs.Contents.{contentOf, HasContent}
 use Rattle.line.specs.declared.Content.{Content}
 use Rattle.line.specs.declared.Content.the-variants.{Length, NoReturn}
 use Rattle.line.proofs.Contents.{content-is, is-content, content-taken}
-use Rattle.place.specs.Index.{Indexed, counts, misformed, entryThen, readEntries, readContent, readIndexLine, joined, readIndex, IsIndexLine, IsIndex}
+use Rattle.place.specs.Index.{Indexed, counts, misformed, entryThen, readEntries, readContent, readIndexLine, readIndex, IsIndex}
 use Rattle.place.proofs.Placed.{two-lines}
 
 -- ---- entries one behind the other

@@ -11,7 +11,6 @@ use Rattle.reply.proofs.Replies.{fills-plain, fills-on, fills-next, fills-at, a
 use Rattle.count.specs.Tally.{recordLines}
 use Rattle.count.proofs.Rulings.{broken-group}
 use Rattle.count.proofs.Tallied.{record-two}
-use Rattle.line.specs.Lines.{feeds, reach}
 use Rattle.line.proofs.Reach.{reach-least}
 use Rattle.place.specs.declared.Placing.{Placing}
 use Rattle.place.specs.declared.Placing.the-variants.{Placed, End, Beyond, TooFewLines, Misformed, OtherRelease, FilledVacant, BrokenRule}

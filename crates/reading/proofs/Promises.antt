@@ -33,7 +33,7 @@ use Rattle.count.specs.declared.Ruling.the-variants.{Kept, Broken}
 use Rattle.reading.specs.declared.Refusal.{Refusal}
 use Rattle.reading.specs.declared.Refusal.the-variants.{NoGroup, End, Beyond, TooFewLines, Misformed, OtherRelease, FilledVacant, BrokenRule, NoRoom, BadLine, BadField, BadDate}
 use Rattle.reading.specs.declared.Reading.{Reading}
-use Rattle.reading.specs.declared.Reading.the-variants.{Done, Refused}
+use Rattle.reading.specs.declared.Reading.the-variants.{Done}
 use Rattle.reading.specs.Numbered.{refusalReply, readingReply, readingRows}
 use Rattle.reading.specs.Due.{RefusalDue, Due}
 use Rattle.reading.specs.Plan.{planFrom, planOf}

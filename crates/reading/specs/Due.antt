@@ -9,7 +9,7 @@ use Rattle.base.specs.Pieces.{done, bad}
 use Rattle.base.specs.Sign.{sizeOf}
 use Rattle.form.specs.declared.Form.{Form}
 use Rattle.form.specs.declared.GroupForm.the-variants.{Has}
-use Rattle.form.specs.Table.{formOf}
+use Rattle.form.specs.Table.{formOf, NoSuchGroup}
 use Rattle.form.specs.Count.{linesOf, cellsOf}
 use Rattle.field.specs.Grammar.{SomeField}
 use Rattle.count.specs.Tally.{countOf}
@@ -119,7 +119,7 @@ module _ (ns : List ℕ) (g : ℕ) (x : List ℕ) (room : ℕ) where
     pub date : g ≡ 3 → (d : Date) × Letters.Due (map sizeOf cs) (Right d)
 
   abbrev pub RefusalDue : Refusal → Type 0
-  RefusalDue NoGroup = (1 ≤ g) × (g ≤ 60) → ⊥
+  RefusalDue NoGroup = NoSuchGroup g
   RefusalDue (BrokenRule h) = RuleDue h
   RefusalDue NoRoom = Short
   RefusalDue (BadLine l) = LineDue l

@@ -1,7 +1,7 @@
 -- Replies that fill a row, by the shape of the reply.
 -- Assumes nothing.
 use mathlib.Core.Path.{refl}
-use mathlib.Core.List.{List, [], _∷_}
+use mathlib.Core.List.{List, [], _∷_, _++_}
 use mathlib.Core.Logic.{inl, inr}
 use Prim.Native.Nat.{ℕ, zero, suc, _<_, _≤_}
 use native.Mathlib.Nat.{le-of-suc-le-suc}
@@ -56,3 +56,9 @@ pub at-row : (k : ℕ) (ws : List Row) (r : Reply) → k < length ws → Fills (
 at-row k [] r l f = absurd (omega arith)
 at-row zero (w ∷ ws) r l f = inl f
 at-row (suc k) (w ∷ ws) r l f = inr (at-row k ws r (le-of-suc-le-suc l) f)
+
+-- a table that begins with another
+pub numbered-left : (a b : List Row) (r : Reply) → Numbered a r → Numbered (a ++ b) r
+numbered-left [] b r n = absurd n
+numbered-left (w ∷ a) b r (inl f) = inl f
+numbered-left (w ∷ a) b r (inr n) = inr (numbered-left a b r n)
