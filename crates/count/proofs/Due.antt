@@ -56,9 +56,9 @@ module _ (ns : List ℕ) where
 
   module _ (cells : ℕ) where
     -- none of the refusals, told by the answers about release and rules
-    pub has-cells : length ns ≡ 80 → T (every isCount ns) → releaseOf ns ≡ Five → rulingOf ns ≡ Kept → cells ≡ recordCells ns → HasCells ns cells
-    has-cells m t r k n =
-        record { rules = record { released = record { counts = small-counts m t; release = rw r at (release-due ns) }; kept = ruling-kept ns k }; needed = n }
+    pub has-cells : HasCounts ns → releaseOf ns ≡ Five → rulingOf ns ≡ Kept → cells ≡ recordCells ns → HasCells ns cells
+    has-cells h r k n =
+        record { rules = record { released = record { counts = h; release = rw r at (release-due ns) }; kept = ruling-kept ns k }; needed = n }
 
     -- ---- what is due is given
 
