@@ -1,29 +1,66 @@
--- The answer of listing is a reply of 01's table, with 0 for what its row doesn't name; 0 comes with the listing's bytes, and 11 exactly
--- if there are fewer bytes than that.
+-- The listing as due: there is one listing of a text, and it is the one that is given; 0 comes with its bytes, and 11 exactly if there are
+-- fewer bytes than that; what is lent afterwards; and each answer fills a row of the question's table.
 -- Assumes nothing.
-use mathlib.Core.Path.{_≡_, refl, _∙_, ap}
+use mathlib.Core.Path.{_≡_, refl, sym, _∙_, ap}
 use mathlib.Core.List.{List}
-use Prim.Native.Nat.{ℕ, _<_, _≤_}
+use mathlib.Core.Logic.{_↔_, inl, inr}
+use Prim.Native.Nat.{ℕ, _+_}
 use native.Mathlib.Nat.{zero-add}
 use native.Mathlib.Omega.{arith}
-use lib.ListN.{length}
+use lib.ListN.{length, take, drop}
+use lib.Seq.{take-at, drop-at}
 use Rattle.reply.specs.Table.{Numbered}
-use Rattle.reply.proofs.Replies.{numbered-plain, numbered-done}
-use Rattle.decimal.specs.Writing.{Puts}
+use Rattle.reply.proofs.Replies.{fills-plain, fills-done}
+use Rattle.decimal.specs.Writing
+use Rattle.decimal.specs.Writing.{putAnswer, putBytes}
 use Rattle.decimal.specs.declared.Put.{Put}
 use Rattle.decimal.specs.declared.Put.the-variants.{Next, NoRoom}
-use Rattle.decimal.proofs.Writing.{next-means, none-means}
-use Rattle.listing.specs.Listing.{listedReply}
+use Rattle.decimal.proofs.Writing.{next-means, none-means, end-done, end-none}
+use Rattle.place.proofs.Walked.{stops-some}
+use Rattle.listing.specs.Listing.{listingOf, listing, listedReply, listingRows, IsListing, ListingDue}
+use Rattle.listing.proofs.Counted.{records-are, records-stop}
 
-pub listed-numbered : (r : Put) → Numbered (listedReply r)
-listed-numbered (Next n) = numbered-done n
-listed-numbered NoRoom = numbered-plain 11 tt
+pub listed-numbered : (r : Put) → Numbered listingRows (listedReply r)
+listed-numbered (Next n) = inl (fills-done n)
+listed-numbered NoRoom = inr (inl (fills-plain 11))
 
-module _ (text old new : List ℕ) where
-  pub listed-done : (r : Put) → Puts 0 text old r new → length text ≤ length old → listedReply r ≡ listedReply (Next (length text))
-  listed-done (Next n) p h = ap (λ k. listedReply (Next k)) (next-means 0 n text old new p .0 ∙ zero-add (length text))
-  listed-done NoRoom p h = absurd (omega (arith, none-means 0 text old new p .0))
+-- ---- which text it is
 
-  pub listed-no-room : (r : Put) → Puts 0 text old r new → length old < length text → listedReply r ≡ listedReply NoRoom
-  listed-no-room (Next n) p h = let m = next-means 0 n text old new p in absurd (omega (arith, m .0, m .1))
-  listed-no-room NoRoom p h = refl
+pub listing-is : (s : List ℕ) → IsListing s (listing s)
+unfolding listing
+listing-is s = record { many = _; answer = stops-some s .answer; stops = records-stop s; lines = refl }
+
+pub is-listing : (s x : List ℕ) → IsListing s x → x ≡ listing s
+unfolding listing
+is-listing s x h = h .lines ∙ ap (listingOf s) (sym (records-are s (h .many) (h .answer) (h .stops)))
+
+-- ---- which answer
+
+module _ (x out : List ℕ) where
+  given-due : (r : Put) → putAnswer 0 x out ≡ r → ListingDue x (length out) r
+  given-due (Next n) e = let m = next-means 0 n x out (putBytes 0 x out) record { answer = sym e; bytes = refl } in (m .0 ∙ zero-add (length x), omega (arith, m .0, m .1))
+  given-due NoRoom e = let m = none-means 0 x out (putBytes 0 x out) record { answer = sym e; bytes = refl } in omega (arith, m .0)
+
+  due-given : (r : Put) → ListingDue x (length out) r → putAnswer 0 x out ≡ r
+  unfolding Writing.putAnswer
+  due-given (Next n) d = end-done 0 (length x) (length out) (omega (arith, d .1)) ∙ ap Next (zero-add (length x) ∙ sym (d .0))
+  due-given NoRoom d = end-none 0 (length x) (length out) (omega (arith, d))
+
+  pub first-due : (r : Put) → putAnswer 0 x out ≡ r ↔ ListingDue x (length out) r
+  first-due r = (given-due r, due-given r)
+
+  -- ---- what is lent, afterwards
+
+  pub listed-keeps : putAnswer 0 x out ≡ NoRoom → putBytes 0 x out ≡ out
+  listed-keeps e = none-means 0 x out (putBytes 0 x out) record { answer = sym e; bytes = refl } .1
+
+  pub listed-begins : (n : ℕ) → putAnswer 0 x out ≡ Next n → take n (putBytes 0 x out) ≡ x
+  listed-begins n e =
+      let m = next-means 0 n x out (putBytes 0 x out) record { answer = sym e; bytes = refl } in
+      ap (take n) (m .2) ∙ take-at x (drop (0 + length x) out) n (sym (m .0 ∙ zero-add (length x)))
+
+  pub listed-rest : (n : ℕ) → putAnswer 0 x out ≡ Next n → drop n (putBytes 0 x out) ≡ drop n out
+  listed-rest n e =
+      let m = next-means 0 n x out (putBytes 0 x out) record { answer = sym e; bytes = refl } in
+      let l : length x ≡ n = sym (m .0 ∙ zero-add (length x)) in
+      ap (drop n) (m .2) ∙ drop-at x (drop (0 + length x) out) n l ∙ ap (λ k. drop k out) (zero-add (length x) ∙ l)

@@ -1,18 +1,20 @@
 -- The listing of a text: the rows of its records, one behind the other, and then the end row. "Numbers are decimal, one space stands
 -- between two, and a line feed ends each line" is decimal's `rowText`.
+use mathlib.Core.Path.{_≡_}
 use mathlib.Core.Bool.{cond}
 use mathlib.Core.List.{List, [], _∷_, _++_}
-use Prim.Native.Nat.{ℕ, zero, suc}
+use Prim.Native.Nat.{ℕ, zero, suc, _<_, _≤_}
 use lib.Dec.{leb}
 use lib.ListN.{length}
 use Rattle.base.specs.Quoted.{bytes}
 use Rattle.reply.specs.declared.Reply.{Reply}
-use Rattle.reply.specs.Table.{replyPlain, replyDone}
+use Rattle.reply.specs.Table.{replyPlain, replyDone, Row, row, written}
 use Rattle.decimal.specs.Rows.{rowText}
 use Rattle.decimal.specs.declared.Put.{Put}
 use Rattle.decimal.specs.declared.Put.the-variants.{Next, NoRoom}
 use Rattle.place.specs.Placing.{placingOf, countsAt}
-use Rattle.place.specs.Walk.{spot}
+use Rattle.place.specs.declared.Placing.{Placing}
+use Rattle.place.specs.Walk.{spot, Stops}
 use Rattle.listing.specs.Rows.{recordRow, endRow}
 use Rattle.listing.specs.Records.{recordsIn}
 
@@ -44,3 +46,19 @@ printed s = cond (leb (length s) 65536) (listing s) (bytes "end " ++ rowText (0 
 abbrev pub listedReply : Put → Reply
 listedReply (Next n) = replyDone n
 listedReply NoRoom = replyPlain 11
+
+-- the rows of the question
+abbrev pub listingRows : List Row
+listingRows = row 0 (written ∷ []) ∷ row 11 [] ∷ []
+
+-- ---- as a statement: x is the listing of a text, a line for each record of its walk and then that of where it stops
+pub record IsListing (s x : List ℕ) : Type 0 where
+  pub many : ℕ
+  pub answer : Placing
+  pub stops : Stops s many answer
+  pub lines : x ≡ listingOf s many
+
+-- 0 with its bytes where they have room, else 11
+abbrev pub ListingDue : List ℕ → ℕ → Put → Type 0
+ListingDue x room (Next n) = (n ≡ length x) × (length x ≤ room)
+ListingDue x room NoRoom = room < length x

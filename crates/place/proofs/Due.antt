@@ -6,6 +6,7 @@ use mathlib.Core.List.{List}
 use mathlib.Core.Logic.{_↔_, _⊎_, inl, inr, ⊎-elim}
 use Prim.Native.Nat.{ℕ, _+_, _<_}
 use native.Mathlib.Nat.{eq-or-lt-of-le}
+use native.Mathlib.Omega.{arith}
 use borrow.Author.Tests.{ltb-true, ltb-false, eqb-true, eqb-false, leb-true, leb-false, le-leb, lt-leb}
 use lib.Dec.{leb, ltb, eqb}
 use lib.ListN.{length, drop}
@@ -22,9 +23,10 @@ use Rattle.count.proofs.Releases.{release-given, release-due}
 use Rattle.place.specs.declared.Placing.{Placing}
 use Rattle.place.specs.declared.Placing.the-variants.{Placed, End, Beyond, TooFewLines, Misformed, OtherRelease, FilledVacant, BrokenRule}
 use Rattle.place.specs.Index.{Indexed, counts, misformed, readIndex}
-use Rattle.place.specs.Placing.{located, refused, locate, locateIndex, locateRelease, locateLines, placingBy, ruledAt, placingOf}
-use Rattle.place.specs.Due.{HasIndex, HasCounts, HasRelease, HasLines, FewForIndex, FewForData, Due}
+use Rattle.place.specs.Placing.{Located, located, refused, locate, locateIndex, locateRelease, locateLines, placingBy, countsBy, ruledAt, placingOf, countsAt}
+use Rattle.place.specs.Due.{HasIndex, HasCounts, HasRelease, HasLines, FewForIndex, FewForData, CountsDue, Due}
 use Rattle.place.proofs.Indexed.{index-is, no-index}
+use Rattle.place.proofs.Placed.{located-is}
 use Rattle.place.proofs.Steps.{locate-beyond, locate-end, locate-few, locate-index}
 
 module _ (s : List ℕ) (at : ℕ) where
@@ -95,3 +97,36 @@ module _ (s : List ℕ) (at : ℕ) where
   pub first-due : (p : Placing) → placingOf s at ≡ p ↔ Due s at p
   unfolding placingOf
   first-due p = (λ e. subst (Due s at) e is-due, given p)
+
+  -- ---- the counts
+
+  located-lines : (n : ℕ) (ns : List ℕ) → locate s at ≡ located n ns → HasLines s at ns n
+  located-lines n ns e =
+      let p = located-is s at n ns e in
+      record {
+        head = record {
+          index = record { place = record { inside = p .inside; lines = p .head }; index = index-is (drop at s) ns .0 (p .index) };
+          release = rw (p .release) at (release-due ns);
+        };
+        enough = p .many;
+        next = p .next;
+      }
+
+  counts-given : (ns : List ℕ) → CountsDue s at ns → countsBy (locate s at) ≡ ns
+  counts-given ns (inl r) = ap countsBy (to-located ns (r .next) (r .lines))
+  counts-given ns (inr n) = by (locate s at) refl
+    where
+      by : (l : Located) → locate s at ≡ l → countsBy l ≡ ns
+      by (located m ms) e = absurd (n .none ms record { next = m; lines = located-lines m ms e })
+      by (refused p) e = sym (n .zeros)
+
+  counts-due : CountsDue s at (countsBy (locate s at))
+  counts-due = by (locate s at) refl
+    where
+      by : (l : Located) → locate s at ≡ l → CountsDue s at (countsBy l)
+      by (located n ns) e = inl record { next = n; lines = located-lines n ns e }
+      by (refused p) e = inr record { none = λ ms r. let f = sym e ∙ to-located ms (r .next) (r .lines) in let z : _≡_ {A = ℕ} 0 1 = cc in omega arith; zeros = refl }
+
+  pub counts-first-due : (ns : List ℕ) → countsAt s at ≡ ns ↔ CountsDue s at ns
+  unfolding countsAt
+  counts-first-due ns = (λ e. subst (CountsDue s at) e counts-due, counts-given ns)

@@ -3,7 +3,7 @@ use mathlib.Core.Path.{_≡_}
 use mathlib.Core.List.{List}
 use mathlib.Core.Logic.{_⊎_}
 use Prim.Native.Nat.{ℕ, _+_, _<_, _≤_}
-use lib.ListN.{length, drop}
+use lib.ListN.{length, drop, replicate}
 use Rattle.line.specs.Lines.{feeds, reach}
 use Rattle.count.specs.Tally.{countOf, recordLines}
 use Rattle.count.specs.Blame.{KeepsRules, BreaksRules}
@@ -71,6 +71,18 @@ module _ (s : List ℕ) (at : ℕ) where
     pub ns : List ℕ
     pub lines : HasLines ns n
     pub kept : KeepsRules ns
+
+  -- the counts beside the answer: those of the record, or 80 zeros where none stands
+  pub record HasRecord (ns : List ℕ) : Type 0 where
+    pub next : ℕ
+    pub lines : HasLines ns next
+
+  pub record NoRecord (ns : List ℕ) : Type 0 where
+    pub none : (ms : List ℕ) → HasRecord ms → ⊥
+    pub zeros : ns ≡ replicate 80 0
+
+  abbrev pub CountsDue : List ℕ → Type 0
+  CountsDue ns = HasRecord ns ⊎ NoRecord ns
 
   abbrev pub Due : Placing → Type 0
   Due Beyond = length s < at
