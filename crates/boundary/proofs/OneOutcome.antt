@@ -1,7 +1,7 @@
 -- Any two outcomes that a contract allows are equal, of each exported function's contract itself (`Learnt`): the number, the numbers beside
 -- it, and all else that is lent.
 -- Assumes nothing.
-use mathlib.Core.Path.{_≡_, sym, _∙_}
+use mathlib.Core.Path.{sym, _∙_}
 use Rattle.sao.specs.Outcome.{OneOutcome}
 use Rattle.boundary.proofs.seambeacon_place as place
 use Rattle.boundary.proofs.seambeacon_read_group as read-group

@@ -1,4 +1,4 @@
--- A characteristic: by its number, by what group 4 reads as, and by its cell; each answer is a reply of 01's table, and there is one.
+-- A characteristic: by its number, by what group 4 reads as, and by its cell; each answer is a reply of 01's table.
 -- Assumes nothing.
 use mathlib.Core.Path.{_≡_, refl, sym, _∙_, ap}
 use mathlib.Core.Bool.{Bool, true, false, cond, false≢true}
@@ -110,7 +110,3 @@ characteristic-numbered (Value z) = numbered-plain 0 tt
 characteristic-numbered NoReading = numbered-plain 0 tt
 characteristic-numbered NotReported = numbered-plain 0 tt
 characteristic-numbered (Unread r) = refusal-numbered r
-
--- any two answers are equal
-pub characteristic-once : (s : List ℕ) (at k : ℕ) (c d : Characteristic) → c ≡ characteristicAt s at k → d ≡ characteristicAt s at k → c ≡ d
-characteristic-once s at k c d a b = a ∙ sym b

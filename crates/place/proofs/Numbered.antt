@@ -1,14 +1,11 @@
--- Each answer of placing is a reply of 01's table, with 0 for what its row doesn't name; and there is one answer and one list of counts.
+-- Each answer of placing is a reply of 01's table, with 0 for what its row doesn't name.
 -- Assumes nothing.
-use mathlib.Core.Path.{_≡_, refl, sym, _∙_}
+use mathlib.Core.Path.{refl}
 use mathlib.Core.Bool.{true≢false}
-use mathlib.Core.List.{List}
-use Prim.Native.Nat.{ℕ}
 use Rattle.reply.specs.Table.{Numbered}
 use Rattle.reply.proofs.Replies.{numbered-at, numbered-on, numbered-plain}
 use Rattle.place.specs.declared.Placing.{Placing}
 use Rattle.place.specs.declared.Placing.the-variants.{Placed, End, Beyond, TooFewLines, Misformed, OtherRelease, FilledVacant, BrokenRule}
-use Rattle.place.specs.Placing.{placingOf, countsAt}
 use Rattle.place.specs.Numbered.{placingReply}
 
 pub placing-numbered : (p : Placing) → Numbered (placingReply p)
@@ -20,7 +17,3 @@ placing-numbered Misformed = numbered-plain 4 tt
 placing-numbered OtherRelease = numbered-plain 5 tt
 placing-numbered (FilledVacant g) = numbered-on 6 g tt (λ e. absurd (true≢false e))
 placing-numbered (BrokenRule g n) = numbered-at 7 n g tt (λ e. absurd (true≢false e)) (λ e. absurd (true≢false e))
-
--- any two outcomes that the contract allows are equal
-pub placing-once : (s : List ℕ) (at : ℕ) (r q : Placing) (ns ms : List ℕ) → (r ≡ placingOf s at) × (ns ≡ countsAt s at) → (q ≡ placingOf s at) × (ms ≡ countsAt s at) → (r ≡ q) × (ns ≡ ms)
-placing-once s at r q ns ms a b = (a .0 ∙ sym (b .0), a .1 ∙ sym (b .1))
