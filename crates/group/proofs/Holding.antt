@@ -1,7 +1,7 @@
 -- Whether a group can be asked about at a place, the counts of its record, and its lines as a part of the text: when they can be given,
 -- where they begin, and that they are the group's lines.
 -- Assumes nothing.
-use mathlib.Core.Path.{_≡_, refl, sym, _∙_, ap}
+use mathlib.Core.Path.{_≡_, refl, _∙_, ap}
 use mathlib.Core.List.{List}
 use Prim.Native.Nat.{ℕ, suc, _+_, _-_, _≤_}
 use native.Mathlib.Nat.{add-comm}
@@ -153,13 +153,6 @@ module _ (s : List ℕ) (at g : ℕ) where
   given-lines e =
       let i = given-is e in
       rw (given-part e) (part-whole s at (i .next) (countsAt s at) (is-placed s at (i .next) (i .placed) .located-at) g (omega (arith, form-range g (i .form) (i .has) .1)))
-
-  -- any two answers are equal
-  pub found-once : (r q : Found) → r ≡ foundAt s at g → q ≡ foundAt s at g → r ≡ q
-  found-once r q a b = a ∙ sym b
-
-  pub part-once : (p : ℕ × ℕ) (x y : List ℕ) (a b : ℕ × ℕ) → (x ≡ partAt s at g) × (a ≡ moved p (partStart s at g)) → (y ≡ partAt s at g) × (b ≡ moved p (partStart s at g)) → (x ≡ y) × (a ≡ b)
-  part-once p x y a b h k = (h .0 ∙ sym (k .0), h .1 ∙ sym (k .1))
 
 -- the address that the machine makes of a part
 pub moved-by : (p : ℕ × ℕ) {from n : ℕ} → from ≡ n → _≡_ {A = ℕ × ℕ} (p .0, from + p .1) (moved p n)

@@ -1,4 +1,4 @@
--- A characteristic: by its number, by what group 4 reads as, and by its cell; and there is one answer.
+-- A characteristic: by its number, by what group 4 reads as, and by its cell.
 -- Assumes nothing.
 use mathlib.Core.Path.{_≡_, refl, sym, _∙_, ap}
 use mathlib.Core.Bool.{Bool, true, false, cond, false≢true}
@@ -14,7 +14,6 @@ use Rattle.base.specs.Sign.{negative, sizeOf}
 use Rattle.reading.specs.declared.Refusal.{Refusal}
 use Rattle.reading.specs.declared.Refusal.the-variants.{NoGroup}
 use Rattle.reading.specs.declared.Reading.the-variants.{Done, Refused}
-use Rattle.group.specs.declared.Characteristic.{Characteristic}
 use Rattle.group.specs.declared.Characteristic.the-variants.{Value, NoReading, NotReported, Unread}
 use Rattle.reading.specs.Read.{Cells, readingOf, tableBy}
 use Rattle.group.specs.Text.{readAt}
@@ -96,7 +95,3 @@ module _ (s : List ℕ) (at k : ℕ) where
                 let t : leb k (length cs) ≡ true = le-leb k (length cs) (omega arith) in
                 ap (λ l. told (getD l (k - 1) (pos 0))) w ∙ ap told (List·getD-append cs (drop (0 + length cs) old) (pos 0) (k - 1) (omega arith)) ∙ sym (number-inside u ∙ rw t)
             by (bad q) u v w = let z : _≡_ {A = ℕ} 0 1 = cc in absurd (omega arith)
-
--- any two answers are equal
-pub characteristic-once : (s : List ℕ) (at k : ℕ) (c d : Characteristic) → c ≡ characteristicAt s at k → d ≡ characteristicAt s at k → c ≡ d
-characteristic-once s at k c d a b = a ∙ sym b

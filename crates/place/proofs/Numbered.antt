@@ -1,6 +1,6 @@
--- Each answer of placing fills a row of its table; and there is one answer and one list of counts.
+-- Each answer of placing fills a row of its table.
 -- Assumes nothing.
-use mathlib.Core.Path.{_≡_, refl, sym, _∙_}
+use mathlib.Core.Path.{refl}
 use mathlib.Core.List.{List}
 use Prim.Native.Nat.{ℕ, _≤_}
 use native.Mathlib.Omega.{arith}
@@ -14,7 +14,7 @@ use Rattle.count.proofs.Tallied.{record-two}
 use Rattle.line.proofs.Reach.{reach-least}
 use Rattle.place.specs.declared.Placing.{Placing}
 use Rattle.place.specs.declared.Placing.the-variants.{Placed, End, Beyond, TooFewLines, Misformed, OtherRelease, FilledVacant, BrokenRule}
-use Rattle.place.specs.Placing.{placingOf, countsAt}
+use Rattle.place.specs.Placing.{placingOf}
 use Rattle.place.specs.Numbered.{placingReply, placingRows}
 use Rattle.place.specs.Due.{HasLines, Due}
 use Rattle.place.proofs.Due.{first-due}
@@ -37,7 +37,3 @@ module _ (s : List ℕ) (at : ℕ) where
 
   pub placing-numbered : Numbered placingRows (placingReply (placingOf s at))
   placing-numbered = due-numbered (placingOf s at) (first-due s at (placingOf s at) .0 refl)
-
--- any two outcomes that the contract allows are equal
-pub placing-once : (s : List ℕ) (at : ℕ) (r q : Placing) (ns ms : List ℕ) → (r ≡ placingOf s at) × (ns ≡ countsAt s at) → (q ≡ placingOf s at) × (ms ≡ countsAt s at) → (r ≡ q) × (ns ≡ ms)
-placing-once s at r q ns ms a b = (a .0 ∙ sym (b .0), a .1 ∙ sym (b .1))

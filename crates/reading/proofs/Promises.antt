@@ -1,6 +1,6 @@
 -- What is promised of reading the lines of a group: each answer fills a row of its table; a refusal keeps the table, and 0 keeps what stands
--- behind the cells; there is one outcome; a broken rule on counts is 7 for every group; a group reads the same
--- into every table with room; a count of 0 gives 0 and no cells.
+-- behind the cells; a broken rule on counts is 7 for every group; a group reads the same into every table with room; a count of 0 gives 0
+-- and no cells.
 -- Assumes nothing.
 use mathlib.Core.Path.{_≡_, refl, sym, _∙_, ap}
 use mathlib.Core.List.{List, [], map}
@@ -32,7 +32,6 @@ use Rattle.count.specs.declared.Ruling.{Ruling}
 use Rattle.count.specs.declared.Ruling.the-variants.{Kept, Broken}
 use Rattle.reading.specs.declared.Refusal.{Refusal}
 use Rattle.reading.specs.declared.Refusal.the-variants.{NoGroup, End, Beyond, TooFewLines, Misformed, OtherRelease, FilledVacant, BrokenRule, NoRoom, BadLine, BadField, BadDate}
-use Rattle.reading.specs.declared.Reading.{Reading}
 use Rattle.reading.specs.declared.Reading.the-variants.{Done}
 use Rattle.reading.specs.Numbered.{refusalReply, readingReply, readingRows}
 use Rattle.reading.specs.Due.{RefusalDue, Due}
@@ -79,10 +78,6 @@ done-read-keeps-rest (done cs) old n e =
     let m : length cs ≡ n = cc in
     rw (← m, zero-add (length cs)) (drop-at cs (drop (length cs) old) (length cs) refl)
 done-read-keeps-rest (bad r) old n e = let z : _≡_ {A = ℕ} 0 1 = cc in absurd (omega arith)
-
--- any two outcomes that the contract allows are equal
-pub read-once : (g : Cells) (old : List ℤ) (r q : Reading) (new now : List ℤ) → (r ≡ readingOf g) × (new ≡ tableBy g old) → (q ≡ readingOf g) × (now ≡ tableBy g old) → (r ≡ q) × (new ≡ now)
-read-once g old r q new now a b = (a .0 ∙ sym (b .0), a .1 ∙ sym (b .1))
 
 -- a record that breaks a rule on counts gives 7 for every group, whatever its lines hold
 pub read-broken : (ns : List ℕ) (g : ℕ) (x : List ℕ) (room h : ℕ) (f : Form) → formOf g ≡ Has f → rulingOf ns ≡ Broken h → readGroup ns g x room ≡ bad (BrokenRule h)

@@ -1,5 +1,5 @@
 -- What is promised of writing a record: each answer fills a row of its table; a refusal keeps the output, and 0 keeps what stands behind the
--- text; there is one outcome.
+-- text.
 -- Assumes nothing.
 use mathlib.Core.Path.{_≡_, refl, sym, _∙_, ap}
 use mathlib.Core.List.{List}
@@ -68,9 +68,3 @@ module _ (ns : List ℕ) (cs : List ℤ) (old : List ℕ) (n : ℕ) (d : writing
 
   pub done-write-keeps-rest : drop n (outputBy ns cs (Done n) old) ≡ drop n old
   done-write-keeps-rest = rw (zero-add (length (recordText ns cs))) (drop-at (recordText ns cs) (drop (length (recordText ns cs)) old) n long ∙ ap (λ k. drop k old) long)
-
--- any two outcomes that the contract allows are equal
-pub write-once : (ns : List ℕ) (cs : List ℤ) (old : List ℕ) (r q : Writing) (new now : List ℕ) → (r ≡ writingOf ns cs (length old)) × (new ≡ outputBy ns cs r old) → (q ≡ writingOf ns cs (length old)) × (now ≡ outputBy ns cs q old) → (r ≡ q) × (new ≡ now)
-write-once ns cs old r q new now a b =
-    let e : r ≡ q = a .0 ∙ sym (b .0) in
-    (e, a .1 ∙ ap (λ w. outputBy ns cs w old) e ∙ sym (b .1))

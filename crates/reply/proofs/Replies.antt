@@ -1,12 +1,16 @@
 -- Replies that fill a row, by the shape of the reply.
 -- Assumes nothing.
-use mathlib.Core.Path.{refl}
-use mathlib.Core.List.{List, [], _∷_, _++_}
+use mathlib.Core.Path.{refl, sym}
+use mathlib.Core.List.{List, [], _∷_, _++_, map}
 use mathlib.Core.Logic.{inl, inr}
 use Prim.Native.Nat.{ℕ, zero, suc, _<_, _≤_}
 use native.Mathlib.Nat.{le-of-suc-le-suc}
 use native.Mathlib.Omega.{arith}
+use borrow.Author.Tests.{eq-eqb}
+use lib.Dec.{T, eqb}
 use lib.ListN.{length, getD}
+use Rattle.base.specs.Every.{has}
+use Rattle.base.proofs.Choice.{or-right}
 use Rattle.reply.specs.declared.Reply.{Reply}
 use Rattle.reply.specs.Table.{Row, row, numbers, replyAt, replyOn, replyPlain, replyDone, replyLine, replyField, replyDate, Fills, Numbered, next, written, group, line, element, position}
 
@@ -62,3 +66,9 @@ pub numbered-left : (a b : List Row) (r : Reply) → Numbered a r → Numbered (
 numbered-left [] b r n = absurd n
 numbered-left (w ∷ a) b r (inl f) = inl f
 numbered-left (w ∷ a) b r (inr n) = inr (numbered-left a b r n)
+
+-- the number is one of the table's
+pub numbered-known : (ws : List Row) (r : Reply) → Numbered ws r → T (has (map (λ w. w .number) ws) (r .number))
+numbered-known [] r n = n
+numbered-known (w ∷ ws) r (inl f) = rw (eq-eqb (w .number) (r .number) (sym (f .numbered))) tt
+numbered-known (w ∷ ws) r (inr n) = or-right (eqb (w .number) (r .number)) (has (map (λ w. w .number) ws) (r .number)) (numbered-known ws r n)

@@ -1,5 +1,5 @@
 -- What is promised of rewriting a record: a refusal keeps the buffer, and 0 has the record's canonical text at its front and keeps what stands
--- behind it; the table has the cells that were read; there is one outcome; a table with a cell for each byte of the buffer always serves; the
+-- behind it; the table has the cells that were read; a table with a cell for each byte of the buffer always serves; the
 -- next place lies further on; and each answer fills a row of its table.
 -- Assumes nothing.
 use mathlib.Core.Path.{_≡_, refl, sym, _∙_, ap, subst}
@@ -62,12 +62,6 @@ refused-rewriting-keeps s at (Done bytes next) old n = absurd (n refl)
 refused-rewriting-keeps s at (Missing r) old n = refl
 refused-rewriting-keeps s at NoRoom old n = refl
 refused-rewriting-keeps s at (Unread g r) old n = refl
-
--- any two outcomes that the contract allows are equal
-pub rewrite-once : (s : List ℕ) (at : ℕ) (table : List ℤ) (out : List ℕ) (r q : Rewriting) (t u : List ℤ) (x y : List ℕ) → (r ≡ rewritingOf s at (length table) (length out)) × (t ≡ tableBy s at r table) × (x ≡ bufferBy s at r out) → (q ≡ rewritingOf s at (length table) (length out)) × (u ≡ tableBy s at q table) × (y ≡ bufferBy s at q out) → (r ≡ q) × (t ≡ u) × (x ≡ y)
-rewrite-once s at table out r q t u x y a b =
-    let e : r ≡ q = a .0 ∙ sym (b .0) in
-    (e, a .1 ∙ ap (λ p. tableBy s at p table) e ∙ sym (b .1), a .2 ∙ ap (λ p. bufferBy s at p out) e ∙ sym (b .2))
 
 -- a table with a cell for each byte of the buffer always serves: 11 is then given only for the text
 pub table-serves : (s : List ℕ) (at cells room : ℕ) → room ≤ cells → NoRoomDue s at cells room → room < recordBytes (countsAt s at)
