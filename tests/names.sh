@@ -1,10 +1,14 @@
 #!/bin/sh
-# Names: what the documents name is there, and what must be named is named. A name with a file behind it, `name` (crate, `specs/File.antt`), is
-# declared in that file of the crate's specs/ or proofs/ and can be used outside it; `field` of `Record` is a field of that record; crate::name
-# is code of the crate, crate/label one of its must-fail edits, and what has another slash a path. A name that stands alone is a crate's, or one
-# that the same document gives with its file elsewhere. Anything else between backquotes that begins with a letter is an error, so that nothing
-# is passed over. The other way round, PROMISES.md names each field of the demands' records, each theorem of `sao` and the boundary, each of their
-# questions, each must-fail edit and each test. The lookup is tried on made-up documents first.
+# Names: what the documents name is there, and what must be named is named. Between backquotes stand:
+#   `name`, `name` (crate, `specs/File.antt`)    declared in that file, and open to others; without its folder the file is of specs/ or proofs/
+#   `field`, `field` of `Record` (crate, ..)     fields of that record
+#   `crate::name`, `crate::Type::name`           code of the crate
+#   `crate/label`                                a must-fail edit of the crate
+#   `tests/list.sh`, `README.md`                 a path
+#   `name`                                       alone: a crate, or what the same document gives with its file elsewhere
+# Anything else that begins with a letter is an error, so that nothing is passed over. The other way round, PROMISES.md names each field of the
+# demands' records, each theorem and each question of `sao` and the boundary, each must-fail edit and each test. The lookup is tried on made-up
+# documents first.
 set -u
 LC_ALL=C
 export LC_ALL
@@ -75,8 +79,9 @@ declared() { # FOLDER
             awaited == "impl" { owner = word }
             awaited ~ /^(enum|struct)$/ { print "code", where, "-", word, open; owner = word; members = 1 }
             awaited ~ /^(fn|const)$/ { print "code", where, owner, word, open }
-            awaited == "" && owner != "-" && members && braces == 1 && nested == 0 && before ~ /^([{,]|pub)$/ && word ~ /^[A-Za-z]/ && word != "pub" {
-                print "code", where, owner, word, "-"
+            awaited == "" && owner != "-" && members && braces == 1 && nested == 0 && before ~ /^([{,]|pub)$/ && word ~ /^[A-Za-z]/ {
+                if (word != "pub")
+                    print "code", where, owner, word, "-"
             }
             awaited == "" && word == "impl" { members = 0 }
             awaited != "" { open = "-" }
@@ -108,17 +113,19 @@ looked_up() { # DECLARED DOCUMENT..
             next
         }
         function wrong(what) { print FILENAME ":" FNR ": " what }
-        function found(what, key) {
+        function found(what) {
             references++
             print "named", FILENAME, what
         }
         # the names since the last file, each in this file: what stands before ` of ` belongs to the name behind it
-        function settled(crate, file, i, j, owner) {
+        function settled(crate, file, i, owner) {
             if (!waiting)
                 wrong("no name before (" crate ", " file ")")
             for (i = waiting; i >= 1; i--) {
-                if (i == waiting || joint[i + 1] !~ /^(, | and | of )$/ || joint[i + 1] == " of " )
-                    owner = i < waiting && joint[i + 1] == " of " ? held[i + 1] : "-"
+                if (i < waiting && joint[i + 1] == " of ")
+                    owner = held[i + 1]
+                else if (i == waiting || joint[i] == " of " || joint[i + 1] !~ /^(, | and )$/)
+                    owner = "-"
                 if (there["law", crate, file, owner, held[i]])
                     found("law " crate " " file " " owner " " held[i])
                 else if (file !~ /\// && there["law", crate, "specs/" file, owner, held[i]])
@@ -160,7 +167,7 @@ looked_up() { # DECLARED DOCUMENT..
                     found("edit " text)
                 else
                     wrong("no must-fail edit " text)
-            } else if (text ~ /^[.A-Za-z_]+\//) {
+            } else if (text ~ /^[.A-Za-z_]+\// || text ~ /^[A-Za-z_]+\.(md|txt)$/) {
                 name = text; sub(/^\.\//, "", name); sub(/\/$/, "", name)
                 if (there["path", name])
                     found("path " name)
@@ -222,11 +229,14 @@ demanded() { # DECLARED FILE..
 
 # ---- made up: a crate with a law, a record, a function and an edit
 
-mkdir -p "$work/made/crates/one/specs" "$work/made/crates/one/proofs" "$work/made/crates/one/src" "$work/made/crates/one/must-fail" "$work/made/tests"
-printf -- '-- pub remark : A\npub record Whole : Type 0 where\n  pub part : A\n  -- pub lost : A\n\nabbrev pub short : A\nhidden : A\n' >"$work/made/crates/one/specs/A.antt"
-printf 'module _ where\n  pub law-one : A\n  law-one = a\n    where\n    inner : A\n' >"$work/made/crates/one/proofs/A.antt"
-printf 'pub enum E { One, Two(u8) }\nimpl E {\n    pub const TOP: u8 = 1;\n}\n// pub fn gone()\npub fn f(s: S) -> E { }\n' >"$work/made/crates/one/src/lib.rt"
-: >"$work/made/crates/one/must-fail/bad_answer.edit"
+one=$work/made/crates/one
+mkdir -p "$one/specs" "$one/proofs" "$one/src" "$one/must-fail" "$work/made/tests"
+printf '%s\n' '-- pub remark : A' 'pub record Whole : Type 0 where' '  pub part : A' '  -- pub lost : A' '' 'abbrev pub short : A' 'hidden : A' \
+    >"$one/specs/A.antt"
+printf '%s\n' 'module _ where' '  pub law-one : A' '  law-one = a' '    where' '    inner : A' >"$one/proofs/A.antt"
+printf '%s\n' 'pub enum E { One, Two(u8) }' 'impl E {' '    pub const TOP: u8 = 1;' '}' '// pub fn gone()' 'pub fn f(s: S) -> E { }' \
+    >"$one/src/lib.rt"
+: >"$one/must-fail/bad_answer.edit"
 : >"$work/made/tests/a.sh"
 declared "$work/made" >"$work/made.declared"
 
@@ -245,6 +255,7 @@ made 1 '`hidden` (one, `specs/A.antt`)'
 made 1 '`inner` (one, `proofs/A.antt`)'
 made 1 '`part` (one, `specs/A.antt`)'
 made 1 '`part`, `lost` of `Whole` (one, `specs/A.antt`)'
+made 0 '`part` of `Whole`, `part` of `Whole` and `short` (one, `specs/A.antt`)'
 made 2 '`part` of `Hole` (one, `specs/A.antt`)'
 made 1 '`short` (two, `specs/A.antt`)'
 made 2 '| `short` | (one, `specs/A.antt`) |'
@@ -256,6 +267,7 @@ made 1 '`two::f`'
 made 1 '`f(s: S)`'
 made 1 '`one/good_answer`'
 made 1 '`tests/b.sh`'
+made 1 '`README.md`'
 made 1 '`short, law-one`'
 made 1 'a lone ` backquote'
 
@@ -284,4 +296,4 @@ for kind in law code edit path; do
     counted "there is something to be named: $kind" grep -q "^$kind " "$work/demanded"
 done
 counted 'what must be named in PROMISES.md is' none "$(comm -23 "$work/demanded" "$work/named" | sed 's/^/not named in docs\/PROMISES.md: /')"
-finished 33
+finished 35
