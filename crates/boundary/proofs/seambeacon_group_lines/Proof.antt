@@ -9,20 +9,11 @@ use Rattle.boundary.proofs.Telling.{told-as}
 use Rattle.boundary.proofs.seambeacon_group_lines.Statement.{statement}
 use Rattle.boundary.proofs.seambeacon_group_lines.Tie as tie
 
-lines-at-requires : tie.Need-lines-at-requires
-lines-at-requires c κs = search needs
-
 sub-length : tie.Need-sub-length
 sub-length c =
     let a = c .before .before .before .args in
     let e = c .before .lines-at .ensures in
     omega (arith, span-range (a .text .now) (a .at) (a .group) .0, e .1, e .2)
-
-found-reply-requires : tie.Need-found-reply-requires
-found-reply-requires c κs = search needs
-
-tell-requires : tie.Need-tell-requires
-tell-requires c κs = search needs
 
 returns : tie.Need-returns
 returns c =
@@ -34,8 +25,8 @@ pub seambeacon-group-lines-spec : {M : Type 1} → statement M
 seambeacon-group-lines-spec =
     tie.close
     (tie.spec
-    lines-at-requires
+    (λ c κs. search needs)
     sub-length
-    found-reply-requires
-    tell-requires
+    (λ c κs. search needs)
+    (λ c κs. search needs)
     returns)

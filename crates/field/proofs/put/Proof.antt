@@ -11,9 +11,6 @@ use Rattle.field.proofs.Fitting.{fits-counted, fits-range}
 use Rattle.field.proofs.put.Statement.{statement}
 use Rattle.field.proofs.put.Tie as tie
 
-kind-of-requires : tie.Need-kind-of-requires
-kind-of-requires c κs = search needs
-
 put-as-requires : tie.Need-put-as-requires
 put-as-requires c κs =
     let a = c .before .before .before .args in
@@ -25,9 +22,6 @@ put-as-requires c κs =
       rw k (kind-small (a .form)),
     )
 
-same-length : tie.Need-same-length
-same-length c = search needs
-
 returns : tie.Need-returns
 unfolding fieldText
 returns c =
@@ -35,4 +29,4 @@ returns c =
     c .before .before .put-as .ensures ∙ ap (λ k. over (a .at) (textAs k (a .cells .now)) (a .out .now)) (c .before .before .before .before .kind-of .ensures)
 
 pub put-spec : {M : Type 1} → statement M
-put-spec = tie.close (tie.spec kind-of-requires put-as-requires same-length returns)
+put-spec = tie.close (tie.spec (λ c κs. search needs) put-as-requires (λ c. search needs) returns)

@@ -6,9 +6,6 @@ use Rattle.group.proofs.Holding.{span-range, span-part, moved-by}
 use Rattle.group.proofs.lines_part.Statement.{statement}
 use Rattle.group.proofs.lines_part.Tie as tie
 
-lines-at-requires : tie.Need-lines-at-requires
-lines-at-requires c κs = search needs
-
 sub-result : tie.Need-sub-result
 sub-result c =
     let a = c .before .before .args in
@@ -32,4 +29,4 @@ returns c =
 
 pub lines-part-spec : {M : Type 1} → statement M
 lines-part-spec =
-    tie.close (tie.spec lines-at-requires sub-result part-result-start part-result-end returns)
+    tie.close (tie.spec (λ c κs. search needs) sub-result part-result-start part-result-end returns)

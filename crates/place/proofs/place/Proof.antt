@@ -16,50 +16,20 @@ use Rattle.place.proofs.Steps.{locate-beyond, locate-end, refuses, firs
 use Rattle.place.proofs.place.Statement.{statement}
 use Rattle.place.proofs.place.Tie as tie
 
-nothing-requires : tie.Need-nothing-requires
-nothing-requires c κs = search needs
-
 returns : tie.Need-returns
 returns c =
     let o = c .before .before .before in
     answers-at (o .args .text .now) (o .args .at) (locate-beyond (o .args .text .now) (o .args .at) (c .before .if1 .taken)) (refuses refl (c .nothing .ensures))
-
-nothing-requires-2 : tie.Need-nothing-requires-2
-nothing-requires-2 c κs = search needs
 
 returns-2 : tie.Need-returns-2
 returns-2 c =
     let o = c .before .before .before .before in
     answers-at (o .args .text .now) (o .args .at) (locate-end (o .args .text .now) (o .args .at) (c .before .if2 .taken)) (refuses refl (c .nothing2 .ensures))
 
-place-behind-requires : tie.Need-place-behind-requires
-place-behind-requires c κs = search needs
-
-enum-known-second : tie.Need-enum-known-second
-enum-known-second c = search needs
-
-enum-told : tie.Need-enum-told
-enum-told c = search needs
-
-nothing-requires-3 : tie.Need-nothing-requires-3
-nothing-requires-3 c κs = search needs
-
 returns-3 : tie.Need-returns-3
 returns-3 c =
     let o = c .before .before .before .before .before .before .before in
     answers-at (o .args .text .now) (o .args .at) (first-few (o .args .text .now) (o .args .at) (omega arith) (sym (c .before .before .before .place-behind .ensures) ∙ c .before .enum-told .given .1)) (refuses refl (c .nothing3 .ensures))
-
-place-behind-requires-2 : tie.Need-place-behind-requires-2
-place-behind-requires-2 c κs = search needs
-
-enum-known-end : tie.Need-enum-known-end
-enum-known-end c = search needs
-
-enum-told-2 : tie.Need-enum-told-2
-enum-told-2 c = search needs
-
-nothing-requires-4 : tie.Need-nothing-requires-4
-nothing-requires-4 c κs = search needs
 
 returns-4 : tie.Need-returns-4
 returns-4 c =
@@ -90,14 +60,8 @@ part-store-line-start c = omega (arith, first-range c .0)
 part-store-line-end : tie.Need-part-store-line-end
 part-store-line-end c = omega (arith, first-range c .1)
 
-slice-aggregate-store-line : tie.Need-slice-aggregate-store-line
-slice-aggregate-store-line c = search needs
-
 store-line-requires : tie.Need-store-line-requires
 store-line-requires c κs = omega arith
-
-nothing-requires-5 : tie.Need-nothing-requires-5
-nothing-requires-5 c κs = search needs
 
 returns-5 : tie.Need-returns-5
 returns-5 c =
@@ -117,24 +81,12 @@ part-store-line-start-2 c = omega (arith, then-range (c .before .before .before 
 part-store-line-end-2 : tie.Need-part-store-line-end-2
 part-store-line-end-2 c = omega (arith, then-range (c .before .before .before .before .before) .1)
 
-slice-aggregate-store-line-2 : tie.Need-slice-aggregate-store-line-2
-slice-aggregate-store-line-2 c = search needs
-
-store-line-requires-2 : tie.Need-store-line-requires-2
-store-line-requires-2 c κs = search needs
-
-nothing-requires-6 : tie.Need-nothing-requires-6
-nothing-requires-6 c κs = search needs
-
 returns-6 : tie.Need-returns-6
 returns-6 c =
     let line = first-counts (c .before .before .before .before .before .before) in
     answers-at (c .before .before .before .before .before .before .before .before .before .before .before .before .before .before .before .before .before .before .before .before .before .before .args .text .now) (c .before .before .before .before .before .before .before .before .before .before .before .before .before .before .before .before .before .before .before .before .before .before .args .at)
     (second-misformed (c .before .before .before .before .before .before .before .before .before .before .before .before .before .before .before .before .before .before .before .before .before .before .args .text .now) (c .before .before .before .before .before .before .before .before .before .before .before .before .before .before .before .before .before .before .before .before .before .before .args .at) (omega arith) (c .before .before .before .before .before .before .before .before .before .before .before .before .before .before .before .before .second .given .0 .0) (first (c .before .before .before .before .before .before .before .before .before .before .before)) (c .before .before .before .before .before .before .before .before .before .before .before .before .end .given .0 .0) (then (c .before .before .before .before .before .before .before .before .before .before .before)) (line .these) (line .read) (stored-none _ 40 _ _ (not-true _ (c .before .if4 .taken)) (c .before .before .before .store-line2 .ensures)))
     (refuses refl (c .nothing6 .ensures))
-
-with-counts-requires : tie.Need-with-counts-requires
-with-counts-requires c κs = search needs
 
 returns-7 : tie.Need-returns-7
 returns-7 c =
@@ -147,33 +99,33 @@ pub place-spec : {M : Type 1} → statement M
 place-spec =
     tie.close
     (tie.spec
-    nothing-requires
+    (λ c κs. search needs)
     returns
-    nothing-requires-2
+    (λ c κs. search needs)
     returns-2
-    place-behind-requires
-    enum-known-second
-    enum-told
-    nothing-requires-3
+    (λ c κs. search needs)
+    (λ c. search needs)
+    (λ c. search needs)
+    (λ c κs. search needs)
     returns-3
-    place-behind-requires-2
-    enum-known-end
-    enum-told-2
-    nothing-requires-4
+    (λ c κs. search needs)
+    (λ c. search needs)
+    (λ c. search needs)
+    (λ c κs. search needs)
     returns-4
     sub-store-line
     part-store-line-start
     part-store-line-end
-    slice-aggregate-store-line
+    (λ c. search needs)
     store-line-requires
-    nothing-requires-5
+    (λ c κs. search needs)
     returns-5
     sub-store-line-2
     part-store-line-start-2
     part-store-line-end-2
-    slice-aggregate-store-line-2
-    store-line-requires-2
-    nothing-requires-6
+    (λ c. search needs)
+    (λ c κs. search needs)
+    (λ c κs. search needs)
     returns-6
-    with-counts-requires
+    (λ c κs. search needs)
     returns-7)

@@ -26,20 +26,8 @@ Inv-lines form count lines width per-line many left₀ verdict₀ at₀ element�
 abbrev μ-lines : tie.MeasureT-lines
 μ-lines form count lines width per-line many left₀ verdict₀ at₀ element₀ j₀ left verdict at element j = many - j
 
-row-of-requires : tie.Need-row-of-requires Inv-loop μ-loop Inv-lines μ-lines
-row-of-requires c κs = search needs
-
-lines-requires : tie.Need-lines-requires Inv-loop μ-loop Inv-lines μ-lines
-lines-requires c κs = search needs
-
-elements-requires : tie.Need-elements-requires Inv-loop μ-loop Inv-lines μ-lines
-elements-requires c κs = search needs
-
 lines-holds : tie.Need-lines-holds Inv-loop μ-loop Inv-lines μ-lines
 lines-holds c = (refl, checking-start _ _ _ _ _ _ _ (walking-start _ _ _ _ _ _ _ (ap (λ r. r .width) (c .before .before .row-of .ensures)) (ap (λ r. r .«per_line») (c .before .before .row-of .ensures)) (c .before .lines2 .ensures) (c .elements .ensures) (omega arith)))
-
-lesser-requires : tie.Need-lesser-requires Inv-loop μ-loop Inv-lines μ-lines
-lesser-requires c κs = search needs
 
 mul-fields-stop : tie.Need-mul-fields-stop Inv-loop μ-loop Inv-lines μ-lines
 mul-fields-stop c =
@@ -59,9 +47,6 @@ add-lesser c =
     let o = c .before .before .before .before .before .before .before .before .before .before in
     omega (arith, try-small (o .args .form) (o .args .count) (o .args .lines .now) (c .before .before .before .before .before .lines .inv .1) (c .before .before .before .before .lines-test .taken) (c .before .before .before .lesser .result) (c .before .before .before .lesser .ensures) (c .before .before .fields-stop .result) (c .before .before .fields-stop .ensures) (c .before .loop .inv .1), c .before .before .before .before .before .lines .inv .1 .walk .wide, width-few (o .args .form))
 
-lesser-requires-2 : tie.Need-lesser-requires-2 Inv-loop μ-loop Inv-lines μ-lines
-lesser-requires-2 c κs = search needs
-
 is-field-at-requires : tie.Need-is-field-at-requires Inv-loop μ-loop Inv-lines μ-lines
 is-field-at-requires c κs =
     let o = c .before .before .before .before .before .before .before .before .before .before .before in
@@ -71,12 +56,6 @@ add-from : tie.Need-add-from Inv-loop μ-loop Inv-lines μ-lines
 add-from c =
     let o = c .before .before .before .before .before .before .before .before .before .before .before .before .before in
     omega (arith, try-small (o .args .form) (o .args .count) (o .args .lines .now) (c .before .before .before .before .before .before .before .before .lines .inv .1) (c .before .before .before .before .before .before .before .lines-test .taken) (c .before .before .before .before .before .before .lesser .result) (c .before .before .before .before .before .before .lesser .ensures) (c .before .before .before .before .before .fields-stop .result) (c .before .before .before .before .before .fields-stop .ensures) (c .before .before .before .before .loop .inv .1), c .before .before .before .before .before .before .before .before .lines .inv .1 .walk .wide, width-few (o .args .form))
-
-add-i : tie.Need-add-i Inv-loop μ-loop Inv-lines μ-lines
-add-i c = search needs
-
-loop-less : tie.Need-loop-less Inv-loop μ-loop Inv-lines μ-lines
-loop-less c = search needs
 
 loop-again : tie.Need-loop-again Inv-loop μ-loop Inv-lines μ-lines
 loop-again c =
@@ -89,9 +68,6 @@ mul-misfit c =
     let o = c .before .before .before .before .before .before .before .before .before .before .before .before .before in
     omega (arith, columns-small (o .args .form) (o .args .count) (o .args .lines .now) (c .before .before .before .before .before .before .before .before .lines .inv .1 .walk) (c .before .before .before .before .before .before .lesser .result) _ (c .before .before .before .before .before .before .lesser .ensures) refl)
 
-add-misfit : tie.Need-add-misfit Inv-loop μ-loop Inv-lines μ-lines
-add-misfit c = search needs
-
 add-misfit-2 : tie.Need-add-misfit-2 Inv-loop μ-loop Inv-lines μ-lines
 add-misfit-2 c =
     let o = c .before .before .before .before .before .before .before .before .before .before .before .before .before in
@@ -99,9 +75,6 @@ add-misfit-2 c =
 
 misfit-requires : tie.Need-misfit-requires Inv-loop μ-loop Inv-lines μ-lines
 misfit-requires c κs = c .before .before .before .before .before .before .before .before .lines .inv .1 .walk .inside
-
-behind-or-end-requires : tie.Need-behind-or-end-requires Inv-loop μ-loop Inv-lines μ-lines
-behind-or-end-requires c κs = search needs
 
 mul-right-content-at : tie.Need-mul-right-content-at Inv-loop μ-loop Inv-lines μ-lines
 mul-right-content-at c =
@@ -113,15 +86,6 @@ right-content-at-requires c κs =
     let o = c .before .before .before .before .before .before .before .before .before .before .before in
     tried-range (o .args .form) (o .args .count) (o .args .lines .now) (c .before .before .before .before .before .before .lines .inv .1) (c .before .before .before .before .before .lines-test .taken) (c .before .before .before .before .lesser .result) (c .before .before .before .before .lesser .ensures) (c .before .before .before .fields-stop .result) (c .before .before .before .fields-stop .ensures) (c .before .before .loop .inv .1) (omega arith) (c .behind-or-end .result) (c .behind-or-end .ensures)
 
-enum-told : tie.Need-enum-told Inv-loop μ-loop Inv-lines μ-lines
-enum-told c = search needs
-
-enum-told-2 : tie.Need-enum-told-2 Inv-loop μ-loop Inv-lines μ-lines
-enum-told-2 c = search needs
-
-add-t29 : tie.Need-add-t29 Inv-loop μ-loop Inv-lines μ-lines
-add-t29 c = search needs
-
 sub-left : tie.Need-sub-left Inv-loop μ-loop Inv-lines μ-lines
 sub-left c = omega (arith, c .before .before .before .before .before .before .before .lesser .ensures)
 
@@ -129,12 +93,6 @@ add-element : tie.Need-add-element Inv-loop μ-loop Inv-lines μ-lines
 add-element c =
     let o = c .before .before .before .before .before .before .before .before .before .before .before .before .before .before in
     omega (arith, c .before .before .before .before .before .before .before .before .before .lines .inv .1 .first, c .before .before .before .before .before .before .before .before .before .lines .inv .1 .walk .per, next-first (o .args .form) (o .args .count) (o .args .lines .now) (c .before .before .before .before .before .before .before .before .before .lines .inv .1 .walk), element-small (o .args .form) (o .args .count) (o .args .lines .now) (c .before .before .before .before .before .before .before .before .before .lines .inv .1 .walk))
-
-add-j : tie.Need-add-j Inv-loop μ-loop Inv-lines μ-lines
-add-j c = search needs
-
-lines-less : tie.Need-lines-less Inv-loop μ-loop Inv-lines μ-lines
-lines-less c = search needs
 
 lines-again : tie.Need-lines-again Inv-loop μ-loop Inv-lines μ-lines
 lines-again c =
@@ -165,35 +123,35 @@ check-lines-spec =
     μ-loop
     Inv-lines
     μ-lines
-    row-of-requires
-    lines-requires
-    elements-requires
+    (λ c κs. search needs)
+    (λ c κs. search needs)
+    (λ c κs. search needs)
     lines-holds
-    lesser-requires
+    (λ c κs. search needs)
     mul-fields-stop
     fields-stop-requires
     loop-holds
     add-lesser
-    lesser-requires-2
+    (λ c κs. search needs)
     is-field-at-requires
     add-from
-    add-i
-    loop-less
+    (λ c. search needs)
+    (λ c. search needs)
     loop-again
     mul-misfit
-    add-misfit
+    (λ c. search needs)
     add-misfit-2
     misfit-requires
-    behind-or-end-requires
+    (λ c κs. search needs)
     mul-right-content-at
     right-content-at-requires
-    enum-told
-    enum-told-2
-    add-t29
+    (λ c. search needs)
+    (λ c. search needs)
+    (λ c. search needs)
     sub-left
     add-element
-    add-j
-    lines-less
+    (λ c. search needs)
+    (λ c. search needs)
     lines-again
     returns
     returns-2

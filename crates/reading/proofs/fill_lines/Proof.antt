@@ -28,36 +28,18 @@ Inv-loop form count lines table₀ width per-line cells many left₀ at₀ cell�
 abbrev μ-loop : tie.MeasureT-loop
 μ-loop form count lines table₀ width per-line cells many left₀ at₀ cell₀ j₀ table left at cell j = many - j
 
-row-of-requires : tie.Need-row-of-requires Inv-loop2 μ-loop2 Inv-loop μ-loop
-row-of-requires c κs = search needs
-
-lines-requires : tie.Need-lines-requires Inv-loop2 μ-loop2 Inv-loop μ-loop
-lines-requires c κs = search needs
-
-elements-requires : tie.Need-elements-requires Inv-loop2 μ-loop2 Inv-loop μ-loop
-elements-requires c κs = search needs
-
 loop-holds : tie.Need-loop-holds Inv-loop2 μ-loop2 Inv-loop μ-loop
 loop-holds c = filling-start _ _ _ _ _ _ _ _ _ (walking-start _ _ _ _ _ _ _ (ap (λ r. r .width) (c .before .before .row-of .ensures)) (ap (λ r. r .«per_line») (c .before .before .row-of .ensures)) (c .before .lines .ensures) (c .elements .ensures) (omega arith)) (ap (λ r. r .cells) (c .before .before .row-of .ensures)) (c .before .before .before .before .pre .0)
-
-lesser-requires : tie.Need-lesser-requires Inv-loop2 μ-loop2 Inv-loop μ-loop
-lesser-requires c κs = search needs
 
 mul-least : tie.Need-mul-least Inv-loop2 μ-loop2 Inv-loop μ-loop
 mul-least c =
     let o = c .before .before .before .before .before .before .before in
     omega (arith, columns-small (o .args .form) (o .args .count) (o .args .lines .now) (c .before .before .loop .inv .walk) (c .lesser .result) _ (c .lesser .ensures) refl)
 
-least-requires : tie.Need-least-requires Inv-loop2 μ-loop2 Inv-loop μ-loop
-least-requires c κs = search needs
-
 add-behind-or-end : tie.Need-add-behind-or-end Inv-loop2 μ-loop2 Inv-loop μ-loop
 add-behind-or-end c =
     let o = c .before .before .before .before .before .before .before .before in
     omega (arith, seek-small (o .args .form) (o .args .count) (o .args .lines .now) (c .before .before .before .loop .inv .walk) (c .before .lesser .result) _ (c .before .lesser .ensures) refl (c .least .result) (c .least .ensures))
-
-behind-or-end-requires : tie.Need-behind-or-end-requires Inv-loop2 μ-loop2 Inv-loop μ-loop
-behind-or-end-requires c κs = search needs
 
 ends : (c : tie.After-behind-or-end Inv-loop2 μ-loop2 Inv-loop μ-loop) → c .behind-or-end .result ≡ c .before .before .before .before .loop .at + reach (drop (c .before .before .before .before .loop .at) (c .before .before .before .before .before .before .before .before .before .args .lines .now)) 1
 ends c =
@@ -68,12 +50,6 @@ content-at-requires : tie.Need-content-at-requires Inv-loop2 μ-loop2 Inv-loop �
 content-at-requires c κs =
     let o = c .before .before .before .before .before .before .before .before .before in
     end-range (o .args .form) (o .args .count) (o .args .lines .now) (c .before .before .before .before .loop .inv .walk) (c .before .before .lesser .result) (c .behind-or-end .result) (c .before .before .lesser .ensures) (ends c)
-
-enum-known-n : tie.Need-enum-known-n Inv-loop2 μ-loop2 Inv-loop μ-loop
-enum-known-n c = search needs
-
-enum-told : tie.Need-enum-told Inv-loop2 μ-loop2 Inv-loop μ-loop
-enum-told c = search needs
 
 same-length : tie.Need-same-length Inv-loop2 μ-loop2 Inv-loop μ-loop
 same-length c =
@@ -101,9 +77,6 @@ add-lesser c =
     let t = c .before .before .before .before .before .before .before .before .before .before in
     omega (arith, fill-small (o .args .form) (o .args .count) (o .args .lines .now) (o .args .table .now) (enough-room (o .args .form) (o .args .count) (o .args .lines .now) (o .args .table .now) (o .pre .0) (o .pre .1)) (t .loop .inv) (c .before .before .before .before .before .before .before .before .before .loop-test .taken) (c .before .before .before .before .before .before .before .before .lesser .result) (c .before .before .before .before .before .before .behind-or-end .result) (c .before .before .before .before .before .before .before .before .lesser .ensures) (ends (c .before .before .before .before .before .before)) (c .before .before .before .n .given .0 .0) (sym (c .before .before .before .before .before .content-at .ensures) ∙ c .before .before .before .n .given .1) (c .before .loop2 .inv), t .loop .inv .walk .wide, width-few (o .args .form))
 
-lesser-requires-2 : tie.Need-lesser-requires-2 Inv-loop2 μ-loop2 Inv-loop μ-loop
-lesser-requires-2 c κs = search needs
-
 put-field-at-requires : tie.Need-put-field-at-requires Inv-loop2 μ-loop2 Inv-loop μ-loop
 put-field-at-requires c κs =
     let o = c .before .before .before .before .before .before .before .before .before .before .before .before .before .before .before .before .before in
@@ -120,12 +93,6 @@ add-cell c =
     let o = c .before .before .before .before .before .before .before .before .before .before .before .before .before .before .before .before .before .before .before in
     omega (arith, o .good .1 .1 .1 .0, cell-small (o .args .form) (o .args .count) (o .args .lines .now) (o .args .table .now) (enough-room (o .args .form) (o .args .count) (o .args .lines .now) (o .args .table .now) (o .pre .0) (o .pre .1)) (c .before .before .before .before .before .before .before .before .before .before .before .before .before .before .loop .inv) (c .before .before .before .before .before .before .before .before .before .before .before .before .before .loop-test .taken) (c .before .before .before .before .before .before .before .before .before .before .before .before .lesser .result) (c .before .before .before .before .before .before .before .before .before .before .behind-or-end .result) (c .before .before .before .before .before .before .before .before .before .before .before .before .lesser .ensures) (ends (c .before .before .before .before .before .before .before .before .before .before)) (c .before .before .before .before .before .before .before .n .given .0 .0) (sym (c .before .before .before .before .before .before .before .before .before .content-at .ensures) ∙ c .before .before .before .before .before .before .before .n .given .1) (c .before .before .before .before .before .loop2 .inv) (c .before .before .before .lesser2 .result) (c .before .before .before .before .loop2-test .taken) (c .before .before .before .lesser2 .ensures))
 
-add-i : tie.Need-add-i Inv-loop2 μ-loop2 Inv-loop μ-loop
-add-i c = search needs
-
-loop2-less : tie.Need-loop2-less Inv-loop2 μ-loop2 Inv-loop μ-loop
-loop2-less c = search needs
-
 loop2-again : tie.Need-loop2-again Inv-loop2 μ-loop2 Inv-loop μ-loop
 loop2-again c =
     let o = c .before .before .before .before .before .before .before .before .before .before .before .before .before .before .before .before .before .before .before in
@@ -133,12 +100,6 @@ loop2-again c =
 
 sub-left : tie.Need-sub-left Inv-loop2 μ-loop2 Inv-loop μ-loop
 sub-left c = omega (arith, c .before .before .before .before .before .before .before .before .lesser .ensures)
-
-add-j : tie.Need-add-j Inv-loop2 μ-loop2 Inv-loop μ-loop
-add-j c = search needs
-
-loop-less : tie.Need-loop-less Inv-loop2 μ-loop2 Inv-loop μ-loop
-loop-less c = search needs
 
 loop-again : tie.Need-loop-again Inv-loop2 μ-loop2 Inv-loop μ-loop
 loop-again c =
@@ -163,33 +124,33 @@ fill-lines-spec =
     μ-loop2
     Inv-loop
     μ-loop
-    row-of-requires
-    lines-requires
-    elements-requires
+    (λ c κs. search needs)
+    (λ c κs. search needs)
+    (λ c κs. search needs)
     loop-holds
-    lesser-requires
+    (λ c κs. search needs)
     mul-least
-    least-requires
+    (λ c κs. search needs)
     add-behind-or-end
-    behind-or-end-requires
+    (λ c κs. search needs)
     content-at-requires
-    enum-known-n
-    enum-told
+    (λ c. search needs)
+    (λ c. search needs)
     same-length
     returns
     add-stop
     loop2-holds
     add-lesser
-    lesser-requires-2
+    (λ c κs. search needs)
     put-field-at-requires
     add-from
     add-cell
-    add-i
-    loop2-less
+    (λ c. search needs)
+    (λ c. search needs)
     loop2-again
     sub-left
-    add-j
-    loop-less
+    (λ c. search needs)
+    (λ c. search needs)
     loop-again
     same-length-2
     returns-2)

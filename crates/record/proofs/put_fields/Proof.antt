@@ -31,12 +31,6 @@ add-a c =
     let r = field-requires (c .before .before .before .before .before .before .before .args .form) (c .before .before .before .before .before .before .before .args .many) (c .before .before .before .before .before .before .before .args .cells .now) (c .before .before .before .before .before .before .before .args .from) (c .before .before .before .before .before .before .before .args .at) (c .before .before .before .before .before .before .before .args .out .now) (c .before .before .before .before .before .before .before .pre .2) (c .before .before .before .before .before .loop .inv) (c .before .before .before .before .loop-test .taken) (c .before .before .before .before .before .before .before .pre .1) in
     record { fits = omega (arith, r .3, c .before .before .before .before .before .loop .inv .wide) }
 
-add-i : tie.Need-add-i Inv-loop μ-loop
-add-i c = search needs
-
-loop-less : tie.Need-loop-less Inv-loop μ-loop
-loop-less c = search needs
-
 loop-again : tie.Need-loop-again Inv-loop μ-loop
 loop-again c =
     let o = c .before .before .before .before .before .before .before in
@@ -60,8 +54,8 @@ put-fields-spec =
     add-to
     put-field-at-requires
     add-a
-    add-i
-    loop-less
+    (λ c. search needs)
+    (λ c. search needs)
     loop-again
     same-length
     returns)

@@ -14,22 +14,10 @@ Inv-loop form count cells from out₀ at row per-line size left₀ many cell₀ 
 abbrev μ-loop : tie.MeasureT-loop
 μ-loop form count cells from out₀ at row per-line size left₀ many cell₀ a₀ j₀ out left cell a j = many - j
 
-row-of-requires : tie.Need-row-of-requires Inv-loop μ-loop
-row-of-requires c κs = search needs
-
-elements-requires : tie.Need-elements-requires Inv-loop μ-loop
-elements-requires c κs = search needs
-
-rounded-up-requires : tie.Need-rounded-up-requires Inv-loop μ-loop
-rounded-up-requires c κs = search needs
-
 loop-holds : tie.Need-loop-holds Inv-loop μ-loop
 loop-holds c =
     let o = c .before .before .before .before in
     lines-start (o .args .form) (o .args .count) (o .args .cells .now) (o .args .from) (o .args .at) (o .args .out .now) (o .pre .1) (c .before .before .row-of .result) (c .before .elements .result) (c .rounded-up .result) (c .before .before .row-of .ensures) (c .before .elements .ensures) (c .rounded-up .ensures) (o .pre .2)
-
-lesser-requires : tie.Need-lesser-requires Inv-loop μ-loop
-lesser-requires c κs = search needs
 
 put-fields-requires : tie.Need-put-fields-requires Inv-loop μ-loop
 put-fields-requires c κs =
@@ -59,12 +47,6 @@ add-cell c =
 sub-left : tie.Need-sub-left Inv-loop μ-loop
 sub-left c = omega (arith, c .before .before .before .before .before .before .before .before .lesser .ensures)
 
-add-j : tie.Need-add-j Inv-loop μ-loop
-add-j c = search needs
-
-loop-less : tie.Need-loop-less Inv-loop μ-loop
-loop-less c = search needs
-
 loop-again : tie.Need-loop-again Inv-loop μ-loop
 loop-again c =
     let o = c .before .before .before .before .before .before .before .before .before .before .before .before .before .before .before in
@@ -84,19 +66,19 @@ put-lines-spec =
     (tie.spec
     Inv-loop
     μ-loop
-    row-of-requires
-    elements-requires
-    rounded-up-requires
+    (λ c κs. search needs)
+    (λ c κs. search needs)
+    (λ c κs. search needs)
     loop-holds
-    lesser-requires
+    (λ c κs. search needs)
     put-fields-requires
     put-line-end-requires
     add-a
     mul-cell
     add-cell
     sub-left
-    add-j
-    loop-less
+    (λ c. search needs)
+    (λ c. search needs)
     loop-again
     same-length
     returns)

@@ -16,13 +16,10 @@ put-groups-requires c κs =
     let o = c .before .before .before .before .before .before .before in
     (all-needed (o .args .counts .now) (o .args .cells .now) (o .args .out .now) (o .pre .0), o .pre .1, omega (arith, groups-room (o .args .counts .now) (o .args .cells .now) (o .args .out .now) (o .pre .0) (o .pre .1) (o .pre .2)))
 
-same-length : tie.Need-same-length
-same-length c = search needs
-
 returns : tie.Need-returns
 returns c =
     let o = c .before .before .before .before .before .before .before .before .before .before in
     index-groups (o .args .counts .now) (o .args .cells .now) (o .args .out .now) (o .pre .0) (o .pre .1) (o .pre .2) _ _ (c .before .before .before .before .before .before .put-index .ensures) (c .before .before .put-groups .ensures)
 
 pub put-record-spec : {M : Type 1} → statement M
-put-record-spec = tie.close (tie.spec put-index-requires put-groups-requires same-length returns)
+put-record-spec = tie.close (tie.spec put-index-requires put-groups-requires (λ c. search needs) returns)
