@@ -17,9 +17,13 @@ put-as-requires c κs =
     let k = c .before .kind-of .ensures in
     let p = c .before .before .before .pre in (
       fits-counted (a .form) (a .cells .now) (p .0) ∙ ap countOf (sym k),
-      rw k (fits-range (a .form) (a .cells .now) (p .0)),
-      omega (arith, p .1, ap widthOf k, kind-width (a .form)),
-      rw k (kind-small (a .form)),
+      (
+        rw k (fits-range (a .form) (a .cells .now) (p .0)),
+        (
+          omega (arith, p .1, ap widthOf k, kind-width (a .form)),
+          rw k (kind-small (a .form)),
+        ),
+      ),
     )
 
 returns : tie.Need-returns

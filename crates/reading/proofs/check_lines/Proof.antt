@@ -50,7 +50,8 @@ add-lesser c =
 is-field-at-requires : tie.Need-is-field-at-requires Inv-loop μ-loop Inv-lines μ-lines
 is-field-at-requires c κs =
     let o = c .before .before .before .before .before .before .before .before .before .before .before in
-    try-range (o .args .form) (o .args .count) (o .args .lines .now) (c .before .before .before .before .before .before .lines .inv .1) (c .before .before .before .before .before .lines-test .taken) (c .before .before .before .before .lesser .result) (c .before .before .before .before .lesser .ensures) (c .before .before .before .fields-stop .result) (c .before .before .before .fields-stop .ensures) (c .before .before .loop .inv .1) (c .lesser2 .result) (c .before .loop-test .taken) (c .lesser2 .ensures)
+    let all = try-range (o .args .form) (o .args .count) (o .args .lines .now) (c .before .before .before .before .before .before .lines .inv .1) (c .before .before .before .before .before .lines-test .taken) (c .before .before .before .before .lesser .result) (c .before .before .before .before .lesser .ensures) (c .before .before .before .fields-stop .result) (c .before .before .before .fields-stop .ensures) (c .before .before .loop .inv .1) (c .lesser2 .result) (c .before .loop-test .taken) (c .lesser2 .ensures) in
+    (all .0, (all .1, all .2))
 
 add-from : tie.Need-add-from Inv-loop μ-loop Inv-lines μ-lines
 add-from c =

@@ -80,7 +80,8 @@ add-lesser c =
 put-field-at-requires : tie.Need-put-field-at-requires Inv-loop2 μ-loop2 Inv-loop μ-loop
 put-field-at-requires c κs =
     let o = c .before .before .before .before .before .before .before .before .before .before .before .before .before .before .before .before .before in
-    put-requires (o .args .form) (o .args .count) (o .args .lines .now) (o .args .table .now) (enough-room (o .args .form) (o .args .count) (o .args .lines .now) (o .args .table .now) (o .pre .0) (o .pre .1)) (c .before .before .before .before .before .before .before .before .before .before .before .before .loop .inv) (c .before .before .before .before .before .before .before .before .before .before .before .loop-test .taken) (c .before .before .before .before .before .before .before .before .before .before .lesser .result) (c .before .before .before .before .before .before .before .before .behind-or-end .result) (c .before .before .before .before .before .before .before .before .before .before .lesser .ensures) (ends (c .before .before .before .before .before .before .before .before)) (c .before .before .before .before .before .n .given .0 .0) (sym (c .before .before .before .before .before .before .before .content-at .ensures) ∙ c .before .before .before .before .before .n .given .1) (c .before .before .before .loop2 .inv) (c .before .lesser2 .result) (c .before .before .loop2-test .taken) (c .before .lesser2 .ensures)
+    let all = put-requires (o .args .form) (o .args .count) (o .args .lines .now) (o .args .table .now) (enough-room (o .args .form) (o .args .count) (o .args .lines .now) (o .args .table .now) (o .pre .0) (o .pre .1)) (c .before .before .before .before .before .before .before .before .before .before .before .before .loop .inv) (c .before .before .before .before .before .before .before .before .before .before .before .loop-test .taken) (c .before .before .before .before .before .before .before .before .before .before .lesser .result) (c .before .before .before .before .before .before .before .before .behind-or-end .result) (c .before .before .before .before .before .before .before .before .before .before .lesser .ensures) (ends (c .before .before .before .before .before .before .before .before)) (c .before .before .before .before .before .n .given .0 .0) (sym (c .before .before .before .before .before .before .before .content-at .ensures) ∙ c .before .before .before .before .before .n .given .1) (c .before .before .before .loop2 .inv) (c .before .lesser2 .result) (c .before .before .loop2-test .taken) (c .before .lesser2 .ensures) in
+    (all .0, (all .1, (all .2, (all .3, (all .4, all .5)))))
 
 add-from : tie.Need-add-from Inv-loop2 μ-loop2 Inv-loop μ-loop
 add-from c =

@@ -46,7 +46,8 @@ add-end c = let h = turning-ready (c .before .before .before .before .before .be
 read-part-requires : tie.Need-read-part-requires Inv-loop μ-loop
 read-part-requires c κs =
     let o = c .before .before .before .before .before .before .before .before .before .before .before .before .before .before in
-    turning-ready (o .args .text .now) (o .args .at) (o .args .table .now) _ (o .pre .0) (o .pre .1) (c .before .before .before .before .before .before .before .before .before .before .loop .inv) (omega arith) (c .before .before .before .before .before .before .f .given .0 .0) (has (c .before)) (to-is (c .before)) (end-is (c .before))
+    let all = turning-ready (o .args .text .now) (o .args .at) (o .args .table .now) _ (o .pre .0) (o .pre .1) (c .before .before .before .before .before .before .before .before .before .before .loop .inv) (omega arith) (c .before .before .before .before .before .before .f .given .0 .0) (has (c .before)) (to-is (c .before)) (end-is (c .before)) in
+    (all .0, (all .1, (all .2, (all .3, all .4))))
 
 returns-2 : tie.Need-returns-2 Inv-loop μ-loop
 returns-2 c =

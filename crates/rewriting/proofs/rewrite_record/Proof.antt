@@ -25,7 +25,7 @@ returns : tie.Need-returns
 returns c =
     let o = c .before .before .before .before .before in
     let h = step-missing (o .args .text .now) (o .args .at) (o .args .table .now) (o .args .out .now) _ (c .before .before .place .ensures .0) (λ n e. not-first (1 ∷ 2 ∷ 3 ∷ 4 ∷ 5 ∷ 6 ∷ 7 ∷ []) tt (subst (λ (p : Placing). OneOf (1 ∷ 2 ∷ 3 ∷ 4 ∷ 5 ∷ 6 ∷ 7 ∷ []) (tagOf the-type p)) e (c .before .match .keys2))) in
-    (ap Missing (c .refusal-of .ensures) ∙ h .0, h .1, h .2)
+    (ap Missing (c .refusal-of .ensures) ∙ h .0, (h .1, h .2))
 
 placed : (c : tie.After-canonical-length) → placingOf (c .before .before .before .before .before .before .before .before .before .args .text .now) (c .before .before .before .before .before .before .before .before .before .args .at) ≡ Placed (c .before .before .before .before .answer .given .0 .0)
 placed c = sym (c .before .before .before .before .before .before .place .ensures .0) ∙ c .before .before .before .before .answer .given .1
@@ -36,12 +36,14 @@ counts c = c .before .before .before .before .before .before .place .ensures .1
 returns-2 : tie.Need-returns-2
 returns-2 c =
     let o = c .before .before .before .before .before .before .before .before .before .before in
-    step-no-text (o .args .text .now) (o .args .at) (o .args .table .now) (o .args .out .now) _ (placed (c .before)) _ (counts (c .before)) (omega (arith, c .before .canonical-length .ensures))
+    let all = step-no-text (o .args .text .now) (o .args .at) (o .args .table .now) (o .args .out .now) _ (placed (c .before)) _ (counts (c .before)) (omega (arith, c .before .canonical-length .ensures)) in
+    (all .0, (all .1, all .2))
 
 returns-3 : tie.Need-returns-3
 returns-3 c =
     let o = c .before .before .before .before .before .before .before .before .before .before .before .before .before .before in
-    step-no-cells (o .args .text .now) (o .args .at) (o .args .table .now) (o .args .out .now) _ (placed (c .before .before .before .before .before)) _ (counts (c .before .before .before .before .before)) (omega (arith, c .before .before .add-up .ensures .cells-are, all-cells (c .before .before .before .before .before .before .before .before .before .before .before .place .result .counts)))
+    let all = step-no-cells (o .args .text .now) (o .args .at) (o .args .table .now) (o .args .out .now) _ (placed (c .before .before .before .before .before)) _ (counts (c .before .before .before .before .before)) (omega (arith, c .before .before .add-up .ensures .cells-are, all-cells (c .before .before .before .before .before .before .before .before .before .before .before .place .result .counts))) in
+    (all .0, (all .1, all .2))
 
 text-fits : (c : tie.After-read-groups-arg) → recordBytes (c .before .before .before .before .before .before .before .before .before .before .before .before .before .place .result .counts) ≤ length (c .before .before .before .before .before .before .before .before .before .before .before .before .before .before .before .before .args .out .now)
 text-fits c = omega (arith, c .before .before .before .before .before .before .before .canonical-length .ensures)
@@ -65,12 +67,14 @@ write-cells-requires c κs =
 returns-4 : tie.Need-returns-4
 returns-4 c =
     let o = c .before .before .before .before .before .before .before .before .before .before .before .before .before .before .before .before .before .before .before .before .before in
-    step-unread (o .args .text .now) (o .args .at) (o .args .table .now) (o .args .out .now) _ (placed (c .before .before .before .before .before .before .before .before .before .before .before .before)) _ (counts (c .before .before .before .before .before .before .before .before .before .before .before .before)) (text-fits (c .before .before .before .before .before)) (cells-fit (c .before .before .before .before .before)) (sym (c .before .g .given .1) ∙ c .before .before .before .before .read-groups .ensures .0, c .before .before .before .before .read-groups .ensures .1)
+    let all = step-unread (o .args .text .now) (o .args .at) (o .args .table .now) (o .args .out .now) _ (placed (c .before .before .before .before .before .before .before .before .before .before .before .before)) _ (counts (c .before .before .before .before .before .before .before .before .before .before .before .before)) (text-fits (c .before .before .before .before .before)) (cells-fit (c .before .before .before .before .before)) (sym (c .before .g .given .1) ∙ c .before .before .before .before .read-groups .ensures .0, c .before .before .before .before .read-groups .ensures .1) in
+    (all .0, (all .1, all .2))
 
 returns-5 : tie.Need-returns-5
 returns-5 c =
     let o = c .before .before .before .before .before .before .before .before .before .before .before .before .before .before .before .before .before .before .before .before .before .before .before .before .before .before in
-    step-done (o .args .text .now) (o .args .at) (o .args .table .now) (o .args .out .now) _ (placed (c .before .before .before .before .before .before .before .before .before .before .before .before .before .before .before .before .before)) _ (counts (c .before .before .before .before .before .before .before .before .before .before .before .before .before .before .before .before .before)) (text-fits (c .before .before .before .before .before .before .before .before .before .before)) (cells-fit (c .before .before .before .before .before .before .before .before .before .before)) (sym (c .before .before .before .before .before .before .enum-told .given .1) ∙ c .before .before .before .before .before .before .before .before .before .read-groups .ensures .0, c .before .before .before .before .before .before .before .before .before .read-groups .ensures .1) (many (c .before .before .before .before .before .before .before .before .before .before)) (c .before .before .before .before .before .before .before .before .before .before .before .before .before .before .before .before .before .canonical-length .ensures) (c .before .before .write-cells .ensures)
+    let all = step-done (o .args .text .now) (o .args .at) (o .args .table .now) (o .args .out .now) _ (placed (c .before .before .before .before .before .before .before .before .before .before .before .before .before .before .before .before .before)) _ (counts (c .before .before .before .before .before .before .before .before .before .before .before .before .before .before .before .before .before)) (text-fits (c .before .before .before .before .before .before .before .before .before .before)) (cells-fit (c .before .before .before .before .before .before .before .before .before .before)) (sym (c .before .before .before .before .before .before .enum-told .given .1) ∙ c .before .before .before .before .before .before .before .before .before .read-groups .ensures .0, c .before .before .before .before .before .before .before .before .before .read-groups .ensures .1) (many (c .before .before .before .before .before .before .before .before .before .before)) (c .before .before .before .before .before .before .before .before .before .before .before .before .before .before .before .before .before .canonical-length .ensures) (c .before .before .write-cells .ensures) in
+    (all .0, (all .1, all .2))
 
 pub rewrite-record-spec : {M : Type 1} → statement M
 rewrite-record-spec =

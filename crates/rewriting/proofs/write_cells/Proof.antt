@@ -16,7 +16,7 @@ put-record-requires c κs =
     let ns = o .args .counts .now in
     let cs = part 0 (o .args .cells) (o .args .table .now) in
     let d = done-is ns cs (length (o .args .out .now)) (recordBytes ns) (o .pre .1) in
-    (first-due ns (length cs) Right .1 (d .checked), d .fit, d .enough)
+    (first-due ns (length cs) Right .1 (d .checked), (d .fit, d .enough))
 
 pub write-cells-spec : {M : Type 1} → statement M
 write-cells-spec =
