@@ -17,7 +17,8 @@ use Rattle.reading.specs.Plan.{lineAt}
 use Rattle.reading.specs.Read.{readLines}
 use Rattle.reading.proofs.Fields.{lineText}
 use Rattle.reading.proofs.Checking.{walking-start, columns-small, seek-small, width-few}
-use Rattle.reading.proofs.Filling.{Filling, FillingFields, enough-room, Reached, OnLine, filling-start, filling-end, filling-length, has-content, line-inside, end-behind, fill-inside, fields-filling, fill-small, filling-next, put-requires, cell-small, fields-next}
+use Rattle.reading.proofs.Filling.{Reached, Filling, OnLine, FillingFields, enough-room, filling-start, filling-end, filling-length, filling-next}
+use Rattle.reading.proofs.Filling.{line-inside, has-content, end-behind, fill-inside, fields-filling, fill-small, put-requires, cell-small, fields-next}
 use Rattle.reading.proofs.fill_lines.Statement.{statement}
 use Rattle.reading.proofs.fill_lines.Tie as tie
 
@@ -69,8 +70,15 @@ add-behind-or-end c =
 room : (c : tie.Start Inv-loop2 μ-loop2 Inv-loop μ-loop) → length (cellsGot (readLines (c .args .form) (c .args .count) (c .args .lines .now))) ≤ length (c .args .table .now)
 room c = enough-room (c .args .form) (c .args .count) (c .args .lines .now) (c .args .table .now) (c .pre .0) (c .pre .1)
 
--- where the pass stands, as it comes to a line whose end is known
-abbrev reached : tie.After-behind-or-end Inv-loop2 μ-loop2 Inv-loop μ-loop → Reached
+-- ---- a line whose end is known
+
+abbrev AtLine : Type 0
+AtLine = tie.After-behind-or-end Inv-loop2 μ-loop2 Inv-loop μ-loop
+
+abbrev start : AtLine → tie.Start Inv-loop2 μ-loop2 Inv-loop μ-loop
+start c = c .before .before .before .before .before .before .before .before .before
+
+abbrev reached : AtLine → Reached
 reached c =
     let at-loop = c .before .before .before .before .loop in
     let row = c .before .before .before .before .before .before .before .row-of .result in
@@ -86,10 +94,13 @@ reached c =
       table = at-loop .table;
     }
 
-abbrev line-to : (c : tie.After-behind-or-end Inv-loop2 μ-loop2 Inv-loop μ-loop) (end : ℕ) → end ≡ reached c .at + reach (drop (reached c .at) (c .before .before .before .before .before .before .before .before .before .args .lines .now)) 1 → OnLine (c .before .before .before .before .before .before .before .before .before .args .form) (c .before .before .before .before .before .before .before .before .before .args .count) (c .before .before .before .before .before .before .before .before .before .args .lines .now) (c .before .before .before .before .before .before .before .before .before .args .table .now) (reached c)
+abbrev OnThis : AtLine → Type 0
+OnThis c = OnLine (start c .args .form) (start c .args .count) (start c .args .lines .now) (start c .args .table .now) (reached c)
+
+abbrev line-to : (c : AtLine) (end : ℕ) → end ≡ reached c .at + reach (drop (reached c .at) (start c .args .lines .now)) 1 → OnThis c
 line-to c end e =
     record {
-      room = room (c .before .before .before .before .before .before .before .before .before);
+      room = room (start c);
       state = c .before .before .before .before .loop .inv;
       further = c .before .before .before .loop-test .taken;
       k = c .before .before .lesser .result;
@@ -98,8 +109,11 @@ line-to c end e =
       behind = e;
     }
 
-abbrev line : (c : tie.After-behind-or-end Inv-loop2 μ-loop2 Inv-loop μ-loop) → OnLine (c .before .before .before .before .before .before .before .before .before .args .form) (c .before .before .before .before .before .before .before .before .before .args .count) (c .before .before .before .before .before .before .before .before .before .args .lines .now) (c .before .before .before .before .before .before .before .before .before .args .table .now) (reached c)
-line c = line-to c (c .behind-or-end .result) (c .behind-or-end .ensures ∙ end-behind (line-to c _ refl) (c .before .least .result) (c .before .least .ensures))
+-- the end is sought behind the columns of the fields, where no line feed stands
+abbrev line : (c : AtLine) → OnThis c
+line c =
+    let least = c .before .least in
+    line-to c (c .behind-or-end .result) (c .behind-or-end .ensures ∙ end-behind (line-to c _ refl) (least .result) (least .ensures))
 
 content-at-requires : tie.Need-content-at-requires Inv-loop2 μ-loop2 Inv-loop μ-loop
 content-at-requires c κs = line-inside (line c)
@@ -112,53 +126,74 @@ same-length c =
 returns : tie.Need-returns Inv-loop2 μ-loop2 Inv-loop μ-loop
 returns c = absurd (has-content (line (c .before .before .before)) (sym (c .before .before .content-at .ensures) ∙ c .enum-told .given .1))
 
--- its content, where there is one
-content : (c : tie.After-known-told Inv-loop2 μ-loop2 Inv-loop μ-loop) → contentOf (part (reached (c .before .before .before .before) .at) (c .before .before .before .before .behind-or-end .result) (c .before .before .before .before .before .before .before .before .before .before .before .before .before .args .lines .now)) ≡ Length (c .before .n .given .0 .0)
+-- ---- its fields, where it has a content
+
+abbrev AtFields : Type 0
+AtFields = tie.After-known-told Inv-loop2 μ-loop2 Inv-loop μ-loop
+
+abbrev line-of : AtFields → AtLine
+line-of c = c .before .before .before .before
+
+content : (c : AtFields) → contentOf (part (reached (line-of c) .at) (line (line-of c) .end) (start (line-of c) .args .lines .now)) ≡ Length (c .before .n .given .0 .0)
 content c = sym (c .before .before .before .content-at .ensures) ∙ c .before .n .given .1
 
 add-stop : tie.Need-add-stop Inv-loop2 μ-loop2 Inv-loop μ-loop
-add-stop c = omega (arith, fill-inside (line (c .before .before .before .before)) _ (content c))
+add-stop c = omega (arith, fill-inside (line (line-of c)) _ (content c))
 
 loop2-holds : tie.Need-loop2-holds Inv-loop2 μ-loop2 Inv-loop μ-loop
-loop2-holds c = fields-filling (line (c .before .before .before .before)) _ (content c)
+loop2-holds c = fields-filling (line (line-of c)) _ (content c)
 
 add-lesser : tie.Need-add-lesser Inv-loop2 μ-loop2 Inv-loop μ-loop
 add-lesser c =
-    let start = c .before .before .before .before .before .before .before .before .before .before .before .before .before .before .before in
     let at-fields = c .before .before in
-    let at-line = c .before .before .before .before .before .before in
-    omega (arith, fill-small (line at-line) _ (content at-fields) (c .before .loop2 .inv), line at-line .state .walk .wide, width-few (start .args .form))
+    let at-line = line-of at-fields in
+    let o = start at-line in
+    omega (arith, fill-small (line at-line) _ (content at-fields) (c .before .loop2 .inv), line at-line .state .walk .wide, width-few (o .args .form))
 
 put-field-at-requires : tie.Need-put-field-at-requires Inv-loop2 μ-loop2 Inv-loop μ-loop
 put-field-at-requires c κs =
+    let to = c .before .lesser2 in
     let at-loop = c .before .before .before in
-    let all = put-requires (line (c .before .before .before .before .before .before .before .before)) _ (content (at-loop .before)) (at-loop .loop2 .inv) (c .before .lesser2 .result) (c .before .before .loop2-test .taken) (c .before .lesser2 .ensures) in
+    let at-fields = at-loop .before in
+    let all = put-requires (line (line-of at-fields)) _ (content at-fields) (at-loop .loop2 .inv) (to .result) (c .before .before .loop2-test .taken) (to .ensures) in
     (all .0, (all .1, (all .2, (all .3, (all .4, all .5)))))
 
 add-from : tie.Need-add-from Inv-loop2 μ-loop2 Inv-loop μ-loop
 add-from c =
-    let start = c .before .before .before .before .before .before .before .before .before .before .before .before .before .before .before .before .before .before .before in
     let at-loop = c .before .before .before .before .before in
-    let at-line = c .before .before .before .before .before .before .before .before .before .before in
-    omega (arith, fill-small (line at-line) _ (content (at-loop .before)) (at-loop .loop2 .inv), line at-line .state .walk .wide, width-few (start .args .form))
+    let at-fields = at-loop .before in
+    let at-line = line-of at-fields in
+    let o = start at-line in
+    omega (arith, fill-small (line at-line) _ (content at-fields) (at-loop .loop2 .inv), line at-line .state .walk .wide, width-few (o .args .form))
 
 add-cell : tie.Need-add-cell Inv-loop2 μ-loop2 Inv-loop μ-loop
 add-cell c =
-    let at-loop = c .before .before .before .before .before in
     let to = c .before .before .before .lesser2 in
-    omega (arith, c .before .before .before .before .before .before .before .before .before .before .before .before .before .before .before .before .before .before .before .good .1 .1 .1 .0, cell-small (line (c .before .before .before .before .before .before .before .before .before .before)) _ (content (at-loop .before)) (at-loop .loop2 .inv) (to .result) (c .before .before .before .before .loop2-test .taken) (to .ensures))
+    let in-loop = c .before .before .before .before in
+    let at-loop = in-loop .before in
+    let at-fields = at-loop .before in
+    let o = start (line-of at-fields) in
+    let small = cell-small (line (line-of at-fields)) _ (content at-fields) (at-loop .loop2 .inv) (to .result) (in-loop .loop2-test .taken) (to .ensures) in
+    omega (arith, o .good .1 .1 .1 .0, small)
 
 loop2-again : tie.Need-loop2-again Inv-loop2 μ-loop2 Inv-loop μ-loop
 loop2-again c =
-    let at-loop = c .before .before .before .before .before in
     let to = c .before .before .before .lesser2 in
-    fields-next (line (c .before .before .before .before .before .before .before .before .before .before)) _ (content (at-loop .before)) (at-loop .loop2 .inv) (to .result) (c .before .before .before .before .loop2-test .taken) (to .ensures) (c .before .put-field-at .ensures)
+    let in-loop = c .before .before .before .before in
+    let at-loop = in-loop .before in
+    let at-fields = at-loop .before in
+    let put = c .before .put-field-at .ensures in
+    fields-next (line (line-of at-fields)) _ (content at-fields) (at-loop .loop2 .inv) (to .result) (in-loop .loop2-test .taken) (to .ensures) put
+
+-- ---- the next line, and the end
 
 sub-left : tie.Need-sub-left Inv-loop2 μ-loop2 Inv-loop μ-loop
 sub-left c = omega (arith, c .before .before .before .before .before .before .before .before .lesser .ensures)
 
 loop-again : tie.Need-loop-again Inv-loop2 μ-loop2 Inv-loop μ-loop
-loop-again c = filling-next (line (c .before .before .before .before .before .before)) _ (content (c .before .before)) (c .before .loop2 .inv) (omega arith)
+loop-again c =
+    let at-fields = c .before .before in
+    filling-next (line (line-of at-fields)) _ (content at-fields) (c .before .loop2 .inv) (omega arith)
 
 same-length-2 : tie.Need-same-length-2 Inv-loop2 μ-loop2 Inv-loop μ-loop
 same-length-2 c = filling-length (room (c .before .before .before .before .before .before)) (c .before .loop .inv)
