@@ -19,37 +19,56 @@ use Rattle.place.proofs.place.Tie as tie
 returns : tie.Need-returns
 returns c =
     let o = c .before .before .before in
-    answers-at (o .args .text .now) (o .args .at) (locate-beyond (o .args .text .now) (o .args .at) (c .before .if1 .taken)) (refuses refl (c .nothing .ensures))
+    answers-at (o .args .text .now) (o .args .at)
+    (locate-beyond (o .args .text .now) (o .args .at) (c .before .if1 .taken)) (refuses refl (c .nothing .ensures))
 
 returns-2 : tie.Need-returns-2
 returns-2 c =
     let o = c .before .before .before .before in
-    answers-at (o .args .text .now) (o .args .at) (locate-end (o .args .text .now) (o .args .at) (c .before .if2 .taken)) (refuses refl (c .nothing2 .ensures))
+    answers-at (o .args .text .now) (o .args .at)
+    (locate-end (o .args .text .now) (o .args .at) (c .before .if2 .taken)) (refuses refl (c .nothing2 .ensures))
 
 returns-3 : tie.Need-returns-3
 returns-3 c =
     let o = c .before .before .before .before .before .before .before in
-    answers-at (o .args .text .now) (o .args .at) (first-few (o .args .text .now) (o .args .at) (omega arith) (sym (c .before .before .before .place-behind .ensures) ∙ c .before .enum-told .given .1)) (refuses refl (c .nothing3 .ensures))
+    answers-at (o .args .text .now) (o .args .at)
+    (first-few (o .args .text .now) (o .args .at) (omega arith)
+    (sym (c .before .before .before .place-behind .ensures) ∙ c .before .enum-told .given .1))
+    (refuses refl (c .nothing3 .ensures))
 
 returns-4 : tie.Need-returns-4
 returns-4 c =
-    let o = c .before .before .before .before .before .before .before .before .before .before .before in
-    answers-at (o .args .text .now) (o .args .at) (second-few (o .args .text .now) (o .args .at) (omega arith) (c .before .before .before .before .before .second .given .0 .0) (sym (c .before .before .before .before .before .before .before .place-behind .ensures) ∙ c .before .before .before .before .before .second .given .1) (sym (c .before .before .before .place-behind2 .ensures) ∙ c .before .enum-told2 .given .1)) (refuses refl (c .nothing4 .ensures))
+    let at-second = c .before .before .before .before .before in
+    let at-place-behind = at-second .before .before in
+    let o = at-place-behind .before .before .before .before in
+    answers-at (o .args .text .now) (o .args .at)
+    (second-few (o .args .text .now) (o .args .at) (omega arith) (at-second .second .given .0 .0)
+    (sym (at-place-behind .place-behind .ensures) ∙ at-second .second .given .1)
+    (sym (c .before .before .before .place-behind2 .ensures) ∙ c .before .enum-told2 .given .1))
+    (refuses refl (c .nothing4 .ensures))
 
 -- the places behind the two index lines
 first : (c : tie.After-known-told2) → behindAt (c .before .before .before .before .before .before .before .before .before .before .before .args .text .now) (c .before .before .before .before .before .before .before .before .before .before .before .args .at) 1 ≡ At (c .before .before .before .before .before .second .given .0 .0)
-first c = sym (c .before .before .before .before .before .before .before .place-behind .ensures) ∙ c .before .before .before .before .before .second .given .1
+first c =
+    let at-second = c .before .before .before .before .before in
+    let at-place-behind = at-second .before .before in
+    sym (at-place-behind .place-behind .ensures) ∙ at-second .second .given .1
 
 then : (c : tie.After-known-told2) → behindAt (c .before .before .before .before .before .before .before .before .before .before .before .args .text .now) (c .before .before .before .before .before .second .given .0 .0) 1 ≡ At (c .before .end .given .0 .0)
 then c = sym (c .before .before .before .place-behind2 .ensures) ∙ c .before .end .given .1
 
 first-range : (c : tie.After-known-told2) → (c .before .before .before .before .before .before .before .before .before .before .before .args .at ≤ c .before .before .before .before .before .second .given .0 .0) × (c .before .before .before .before .before .second .given .0 .0 ≤ length (c .before .before .before .before .before .before .before .before .before .before .before .args .text .now))
 first-range c =
-    let o = c .before .before .before .before .before .before .before .before .before .before .before in
-    at-range (o .args .text .now) (o .args .at) 1 (c .before .before .before .before .before .second .given .0 .0) (omega arith) (first c)
+    let at-second = c .before .before .before .before .before in
+    let o = at-second .before .before .before .before .before .before in
+    at-range (o .args .text .now) (o .args .at) 1 (at-second .second .given .0 .0) (omega arith) (first c)
 
 then-range : (c : tie.After-known-told2) → (c .before .before .before .before .before .second .given .0 .0 ≤ c .before .end .given .0 .0) × (c .before .end .given .0 .0 ≤ length (c .before .before .before .before .before .before .before .before .before .before .before .args .text .now))
-then-range c = at-range (c .before .before .before .before .before .before .before .before .before .before .before .args .text .now) (c .before .before .before .before .before .second .given .0 .0) 1 (c .before .end .given .0 .0) (first-range c .1) (then c)
+then-range c =
+    let at-second = c .before .before .before .before .before in
+    let start = at-second .before .before .before .before .before .before in
+    at-range (start .args .text .now) (at-second .second .given .0 .0) 1 (c .before .end .given .0 .0)
+    (first-range c .1) (then c)
 
 sub-store-line : tie.Need-sub-store-line
 sub-store-line c = first-range c .0
@@ -65,8 +84,15 @@ store-line-requires c κs = omega arith
 
 returns-5 : tie.Need-returns-5
 returns-5 c =
-    let o = c .before .before .before .before .before .before .before .before .before .before .before .before .before .before .before .before .before in
-    answers-at (o .args .text .now) (o .args .at) (first-misformed (o .args .text .now) (o .args .at) (omega arith) (c .before .before .before .before .before .before .before .before .before .before .before .second .given .0 .0) (first (c .before .before .before .before .before .before)) (c .before .before .before .before .before .before .before .end .given .0 .0) (then (c .before .before .before .before .before .before)) (stored-none _ 0 _ _ (not-true _ (c .before .if3 .taken)) (c .before .before .before .store-line .ensures))) (refuses refl (c .nothing5 .ensures))
+    let at-first = c .before .before .before .before .before .before in
+    let at-end = at-first .before in
+    let at-second = at-end .before .before .before .before in
+    let o = at-second .before .before .before .before .before .before in
+    answers-at (o .args .text .now) (o .args .at)
+    (first-misformed (o .args .text .now) (o .args .at) (omega arith) (at-second .second .given .0 .0) (first at-first)
+    (at-end .end .given .0 .0) (then at-first)
+    (stored-none _ 0 _ _ (not-true _ (c .before .if3 .taken)) (c .before .before .before .store-line .ensures)))
+    (refuses refl (c .nothing5 .ensures))
 
 -- the counts of the first line
 first-counts : (c : tie.Else3) → StoredCounts (readIndexLine (part (c .before .before .before .before .before .before .before .before .before .before .before .before .before .before .before .before .args .at) (c .before .before .before .before .before .before .before .before .before .before .second .given .0 .0) (c .before .before .before .before .before .before .before .before .before .before .before .before .before .before .before .before .args .text .now))) 0 (replicate 80 0) (c .before .before .store-line .last .1 .0)
@@ -83,17 +109,32 @@ part-store-line-end-2 c = omega (arith, then-range (c .before .before .before .b
 
 returns-6 : tie.Need-returns-6
 returns-6 c =
-    let line = first-counts (c .before .before .before .before .before .before) in
-    answers-at (c .before .before .before .before .before .before .before .before .before .before .before .before .before .before .before .before .before .before .before .before .before .before .args .text .now) (c .before .before .before .before .before .before .before .before .before .before .before .before .before .before .before .before .before .before .before .before .before .before .args .at)
-    (second-misformed (c .before .before .before .before .before .before .before .before .before .before .before .before .before .before .before .before .before .before .before .before .before .before .args .text .now) (c .before .before .before .before .before .before .before .before .before .before .before .before .before .before .before .before .before .before .before .before .before .before .args .at) (omega arith) (c .before .before .before .before .before .before .before .before .before .before .before .before .before .before .before .before .second .given .0 .0) (first (c .before .before .before .before .before .before .before .before .before .before .before)) (c .before .before .before .before .before .before .before .before .before .before .before .before .end .given .0 .0) (then (c .before .before .before .before .before .before .before .before .before .before .before)) (line .these) (line .read) (stored-none _ 40 _ _ (not-true _ (c .before .if4 .taken)) (c .before .before .before .store-line2 .ensures)))
+    let at-first-counts = c .before .before .before .before .before .before in
+    let at-first = at-first-counts .before .before .before .before .before in
+    let at-end = at-first .before in
+    let at-second = at-end .before .before .before .before in
+    let start = at-second .before .before .before .before .before .before in
+    let line = first-counts at-first-counts in
+    answers-at (start .args .text .now) (start .args .at)
+    (second-misformed (start .args .text .now) (start .args .at) (omega arith) (at-second .second .given .0 .0) (first at-first) (at-end .end .given .0 .0) (then at-first) (line .these) (line .read) (stored-none _ 40 _ _ (not-true _ (c .before .if4 .taken)) (c .before .before .before .store-line2 .ensures)))
     (refuses refl (c .nothing6 .ensures))
 
 returns-7 : tie.Need-returns-7
 returns-7 c =
-    let line = first-counts (c .before .before .before .before .before .before) in
-    let next = stored-counts _ 40 _ _ (not-false _ (c .before .if4 .left)) (c .before .before .before .store-line2 .ensures) in
-    let all = both-stored (line .these) (next .these) _ _ _ (line-length _ (line .these) (line .read)) (line-length _ (next .these) (next .read)) refl (line .place) (next .place) in
-    answers-at (c .before .before .before .before .before .before .before .before .before .before .before .before .before .before .before .before .before .before .before .before .before .before .args .text .now) (c .before .before .before .before .before .before .before .before .before .before .before .before .before .before .before .before .before .before .before .before .before .before .args .at) (with-index (c .before .before .before .before .before .before .before .before .before .before .before .before .before .before .before .before .before .before .before .before .before .before .args .text .now) (c .before .before .before .before .before .before .before .before .before .before .before .before .before .before .before .before .before .before .before .before .before .before .args .at) (omega arith) (c .before .before .before .before .before .before .before .before .before .before .before .before .before .before .before .before .second .given .0 .0) (first (c .before .before .before .before .before .before .before .before .before .before .before)) (c .before .before .before .before .before .before .before .before .before .before .before .before .end .given .0 .0) (then (c .before .before .before .before .before .before .before .before .before .before .before)) (line .these) (next .these) (line .read) (next .read)) (rw all at (c .with-counts .ensures))
+    let at-first-counts = c .before .before .before .before .before .before in
+    let at-first = at-first-counts .before .before .before .before .before in
+    let at-end = at-first .before in
+    let at-second = at-end .before .before .before .before in
+    let start = at-second .before .before .before .before .before .before in
+    let line = first-counts at-first-counts in
+    let next = stored-counts _ 40 _ _ (not-false _ (c .before .if4 .left))
+    (c .before .before .before .store-line2 .ensures) in
+    let all = both-stored (line .these) (next .these) _ _ _ (line-length _ (line .these) (line .read))
+    (line-length _ (next .these) (next .read)) refl (line .place) (next .place) in
+    answers-at (start .args .text .now) (start .args .at)
+    (with-index (start .args .text .now) (start .args .at) (omega arith) (at-second .second .given .0 .0)
+    (first at-first) (at-end .end .given .0 .0) (then at-first) (line .these) (next .these) (line .read) (next .read))
+    (rw all at (c .with-counts .ensures))
 
 pub place-spec : {M : Type 1} → statement M
 place-spec =
