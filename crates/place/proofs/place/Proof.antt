@@ -3,7 +3,8 @@
 use borrow.Author.Needs.{needs}
 use native.Mathlib.Omega.{arith}
 use mathlib.Core.Path.{_≡_, refl, sym, _∙_}
-use Prim.Native.Nat.{_≤_}
+use mathlib.Core.List.{List}
+use Prim.Native.Nat.{ℕ, _≤_}
 use borrow.Author.Tests.{not-true, not-false}
 use lib.ListN.{length, replicate}
 use Rattle.base.specs.Part.{part}
@@ -47,28 +48,34 @@ returns-4 c =
     (sym (c .before .before .before .place-behind2 .ensures) ∙ c .before .enum-told2 .given .1))
     (refuses refl (c .nothing4 .ensures))
 
--- the places behind the two index lines
-first : (c : tie.After-known-told2) → behindAt (c .before .before .before .before .before .before .before .before .before .before .before .args .text .now) (c .before .before .before .before .before .before .before .before .before .before .before .args .at) 1 ≡ At (c .before .before .before .before .before .second .given .0 .0)
+-- ---- the two index lines have ends: the text and the place, where the second line begins and where it ends
+
+abbrev text : tie.After-known-told2 → List ℕ
+text c = c .before .before .before .before .before .before .before .before .before .before .before .args .text .now
+
+abbrev spot : tie.After-known-told2 → ℕ
+spot c = c .before .before .before .before .before .before .before .before .before .before .before .args .at
+
+abbrev second : tie.After-known-told2 → ℕ
+second c = c .before .before .before .before .before .second .given .0 .0
+
+abbrev end : tie.After-known-told2 → ℕ
+end c = c .before .end .given .0 .0
+
+first : (c : tie.After-known-told2) → behindAt (text c) (spot c) 1 ≡ At (second c)
 first c =
     let at-second = c .before .before .before .before .before in
     let at-place-behind = at-second .before .before in
     sym (at-place-behind .place-behind .ensures) ∙ at-second .second .given .1
 
-then : (c : tie.After-known-told2) → behindAt (c .before .before .before .before .before .before .before .before .before .before .before .args .text .now) (c .before .before .before .before .before .second .given .0 .0) 1 ≡ At (c .before .end .given .0 .0)
+then : (c : tie.After-known-told2) → behindAt (text c) (second c) 1 ≡ At (end c)
 then c = sym (c .before .before .before .place-behind2 .ensures) ∙ c .before .end .given .1
 
-first-range : (c : tie.After-known-told2) → (c .before .before .before .before .before .before .before .before .before .before .before .args .at ≤ c .before .before .before .before .before .second .given .0 .0) × (c .before .before .before .before .before .second .given .0 .0 ≤ length (c .before .before .before .before .before .before .before .before .before .before .before .args .text .now))
-first-range c =
-    let at-second = c .before .before .before .before .before in
-    let o = at-second .before .before .before .before .before .before in
-    at-range (o .args .text .now) (o .args .at) 1 (at-second .second .given .0 .0) (omega arith) (first c)
+first-range : (c : tie.After-known-told2) → (spot c ≤ second c) × (second c ≤ length (text c))
+first-range c = at-range (text c) (spot c) 1 (second c) (omega arith) (first c)
 
-then-range : (c : tie.After-known-told2) → (c .before .before .before .before .before .second .given .0 .0 ≤ c .before .end .given .0 .0) × (c .before .end .given .0 .0 ≤ length (c .before .before .before .before .before .before .before .before .before .before .before .args .text .now))
-then-range c =
-    let at-second = c .before .before .before .before .before in
-    let start = at-second .before .before .before .before .before .before in
-    at-range (start .args .text .now) (at-second .second .given .0 .0) 1 (c .before .end .given .0 .0)
-    (first-range c .1) (then c)
+then-range : (c : tie.After-known-told2) → (second c ≤ end c) × (end c ≤ length (text c))
+then-range c = at-range (text c) (second c) 1 (end c) (first-range c .1) (then c)
 
 sub-store-line : tie.Need-sub-store-line
 sub-store-line c = first-range c .0
@@ -94,8 +101,11 @@ returns-5 c =
     (stored-none _ 0 _ _ (not-true _ (c .before .if3 .taken)) (c .before .before .before .store-line .ensures)))
     (refuses refl (c .nothing5 .ensures))
 
+abbrev index : tie.Else3 → tie.After-known-told2
+index c = c .before .before .before .before .before
+
 -- the counts of the first line
-first-counts : (c : tie.Else3) → StoredCounts (readIndexLine (part (c .before .before .before .before .before .before .before .before .before .before .before .before .before .before .before .before .args .at) (c .before .before .before .before .before .before .before .before .before .before .second .given .0 .0) (c .before .before .before .before .before .before .before .before .before .before .before .before .before .before .before .before .args .text .now))) 0 (replicate 80 0) (c .before .before .store-line .last .1 .0)
+first-counts : (c : tie.Else3) → StoredCounts (readIndexLine (part (spot (index c)) (second (index c)) (text (index c)))) 0 (replicate 80 0) (c .before .before .store-line .last .1 .0)
 first-counts c = stored-counts _ 0 _ _ (not-false _ (c .if3 .left)) (c .before .before .store-line .ensures)
 
 sub-store-line-2 : tie.Need-sub-store-line-2
@@ -116,7 +126,9 @@ returns-6 c =
     let start = at-second .before .before .before .before .before .before in
     let line = first-counts at-first-counts in
     answers-at (start .args .text .now) (start .args .at)
-    (second-misformed (start .args .text .now) (start .args .at) (omega arith) (at-second .second .given .0 .0) (first at-first) (at-end .end .given .0 .0) (then at-first) (line .these) (line .read) (stored-none _ 40 _ _ (not-true _ (c .before .if4 .taken)) (c .before .before .before .store-line2 .ensures)))
+    (second-misformed (start .args .text .now) (start .args .at) (omega arith) (at-second .second .given .0 .0)
+    (first at-first) (at-end .end .given .0 .0) (then at-first) (line .these) (line .read)
+    (stored-none _ 40 _ _ (not-true _ (c .before .if4 .taken)) (c .before .before .before .store-line2 .ensures)))
     (refuses refl (c .nothing6 .ensures))
 
 returns-7 : tie.Need-returns-7

@@ -72,8 +72,11 @@ cells-fit c = omega (arith, many c)
 read-groups-requires : tie.Need-read-groups-requires
 read-groups-requires c κs =
     let at-counts = c .before .before .before .before .before .before .before in
-    let o = at-counts .before .before .before .before .before .before .before .before .before in
-    (counts at-counts, step-ready (o .args .text .now) (o .args .at) (o .args .table .now) (o .args .out .now) _ (placed at-counts) _ (counts at-counts) (text-fits c) (cells-fit c))
+    let o = at-counts .before .before .before .before .before .before .before .before .before in (
+      counts at-counts,
+      step-ready (o .args .text .now) (o .args .at) (o .args .table .now) (o .args .out .now) _
+          (placed at-counts) _ (counts at-counts) (text-fits c) (cells-fit c),
+    )
 
 write-cells-requires : tie.Need-write-cells-requires
 write-cells-requires c κs =
