@@ -7,7 +7,8 @@ ghost use mathlib.Core.Path.{_≡_};
 ghost use mathlib.Core.List.{[], _∷_};
 ghost use lib.ListN.{length};
 ghost use Rattle.boundary.specs.Numbers.{Told, answerOf};
-ghost use Rattle.boundary.specs.Replies.{placeReply, readReply, linesReply, characteristicReplyAt, writeReply, listReply, rewriteReply};
+ghost use Rattle.boundary.specs.Replies.{placeReply, readReply, linesReply, characteristicReplyAt, writeReply};
+ghost use Rattle.boundary.specs.Replies.{listReply, rewriteReply};
 ghost use Rattle.decimal.specs.Writing.{putBytes};
 ghost use Rattle.place.specs.Placing.{countsAt};
 ghost use Rattle.reading.specs.Read.{tableBy};
@@ -53,7 +54,8 @@ pub extern "C" fn seambeacon_place(
     counts: &mut [u16; 80],
     beside: &mut [usize; 6],
 ) -> usize
-    ensures { λ n. ⌜ Told (placeReply (now (text .entry)) at) n (now (beside .exit)) × (now (counts .exit) ≡ countsAt (now (text .entry)) at) ⌝ }
+    ensures reply { λ n. ⌜ Told (placeReply (now (text .entry)) at) n (now (beside .exit)) ⌝ }
+    ensures counts { λ _. ⌜ now (counts .exit) ≡ countsAt (now (text .entry)) at ⌝ }
 {
     let record = sao::place(text, at);
     let answer = record.answer;
@@ -73,7 +75,10 @@ pub extern "C" fn seambeacon_read_group(
     table: &mut [i64],
     beside: &mut [usize; 6],
 ) -> usize
-    ensures { λ n. ⌜ Told (readReply (now (text .entry)) at group (length (now (table .entry)))) n (now (beside .exit)) × (now (table .exit) ≡ tableBy (readAt (now (text .entry)) at group (length (now (table .entry)))) (now (table .entry))) ⌝ }
+    ensures reply { λ n. ⌜ Told (readReply (now (text .entry)) at group (length (now (table .entry)))) n
+        (now (beside .exit)) ⌝ }
+    ensures table { λ _. ⌜ now (table .exit) ≡
+        tableBy (readAt (now (text .entry)) at group (length (now (table .entry)))) (now (table .entry)) ⌝ }
 {
     let answer = sao::read_group(text, at, group, table);
     tell(reading::reply_of(answer), beside)
@@ -107,7 +112,9 @@ pub extern "C" fn seambeacon_group_lines(
     part: &mut [usize; 2],
     beside: &mut [usize; 6],
 ) -> usize
-    ensures { λ n. ⌜ Told (linesReply (now (text .entry)) at group) n (now (beside .exit)) × (now (part .exit) ≡ partStart (now (text .entry)) at group ∷ length (partAt (now (text .entry)) at group) ∷ []) ⌝ }
+    ensures reply { λ n. ⌜ Told (linesReply (now (text .entry)) at group) n (now (beside .exit)) ⌝ }
+    ensures part { λ _. ⌜ now (part .exit) ≡
+        partStart (now (text .entry)) at group ∷ length (partAt (now (text .entry)) at group) ∷ [] ⌝ }
 {
     let lines = sao::group_lines_at(text, at, group);
     let found = lines.found;
@@ -127,7 +134,8 @@ pub extern "C" fn seambeacon_characteristic(
     answer: &mut [i64; 2],
     beside: &mut [usize; 6],
 ) -> usize
-    ensures { λ n. ⌜ Told (characteristicReplyAt (now (text .entry)) at number) n (now (beside .exit)) × (now (answer .exit) ≡ answerOf (characteristicAt (now (text .entry)) at number)) ⌝ }
+    ensures reply { λ n. ⌜ Told (characteristicReplyAt (now (text .entry)) at number) n (now (beside .exit)) ⌝ }
+    ensures answer { λ _. ⌜ now (answer .exit) ≡ answerOf (characteristicAt (now (text .entry)) at number) ⌝ }
 {
     let known = sao::characteristic(text, at, number);
     *answer = answer_of(known);
@@ -144,7 +152,11 @@ pub extern "C" fn seambeacon_write_record(
     out: &mut [u8],
     beside: &mut [usize; 6],
 ) -> usize
-    ensures { λ n. ⌜ Told (writeReply (now (counts .entry)) (now (cells .entry)) (length (now (out .entry)))) n (now (beside .exit)) × (now (out .exit) ≡ outputBy (now (counts .entry)) (now (cells .entry)) (writingOf (now (counts .entry)) (now (cells .entry)) (length (now (out .entry)))) (now (out .entry))) ⌝ }
+    ensures reply { λ n. ⌜ Told (writeReply (now (counts .entry)) (now (cells .entry)) (length (now (out .entry)))) n
+        (now (beside .exit)) ⌝ }
+    ensures output { λ _. ⌜ now (out .exit) ≡
+        outputBy (now (counts .entry)) (now (cells .entry))
+        (writingOf (now (counts .entry)) (now (cells .entry)) (length (now (out .entry)))) (now (out .entry)) ⌝ }
 {
     let answer = sao::write_record(counts, cells, out);
     tell(record::reply_of(answer), beside)
@@ -155,7 +167,8 @@ pub extern "C" fn seambeacon_write_record(
 // A refusal (11) leaves the whole output as it was.
 #[no_mangle]
 pub extern "C" fn seambeacon_list(text: &[u8], out: &mut [u8], beside: &mut [usize; 6]) -> usize
-    ensures { λ n. ⌜ Told (listReply (now (text .entry)) (now (out .entry))) n (now (beside .exit)) × (now (out .exit) ≡ putBytes 0 (listing (now (text .entry))) (now (out .entry))) ⌝ }
+    ensures reply { λ n. ⌜ Told (listReply (now (text .entry)) (now (out .entry))) n (now (beside .exit)) ⌝ }
+    ensures output { λ _. ⌜ now (out .exit) ≡ putBytes 0 (listing (now (text .entry))) (now (out .entry)) ⌝ }
 {
     let answer = sao::list(text, out);
     tell(listing::reply_of(answer), beside)
@@ -175,7 +188,20 @@ pub extern "C" fn seambeacon_rewrite_record(
     unread: &mut [usize; 1],
     beside: &mut [usize; 6],
 ) -> usize
-    ensures { λ n. ⌜ Told (rewriteReply (now (text .entry)) at (length (now (table .entry))) (length (now (out .entry)))) n (now (beside .exit)) × (now (unread .exit) ≡ rewritingGroup (rewritingOf (now (text .entry)) at (length (now (table .entry))) (length (now (out .entry)))) ∷ []) × (now (table .exit) ≡ tableAfter (now (text .entry)) at (rewritingOf (now (text .entry)) at (length (now (table .entry))) (length (now (out .entry)))) (now (table .entry))) × (now (out .exit) ≡ bufferBy (now (text .entry)) at (rewritingOf (now (text .entry)) at (length (now (table .entry))) (length (now (out .entry)))) (now (out .entry))) ⌝ }
+    ensures reply { λ n. ⌜ Told
+        (rewriteReply (now (text .entry)) at (length (now (table .entry))) (length (now (out .entry)))) n
+        (now (beside .exit)) ⌝ }
+    ensures unread { λ _. ⌜ now (unread .exit) ≡
+        rewritingGroup (rewritingOf (now (text .entry)) at (length (now (table .entry))) (length (now (out .entry)))) ∷
+        [] ⌝ }
+    ensures table { λ _. ⌜ now (table .exit) ≡
+        tableAfter (now (text .entry)) at
+        (rewritingOf (now (text .entry)) at (length (now (table .entry))) (length (now (out .entry))))
+        (now (table .entry)) ⌝ }
+    ensures output { λ _. ⌜ now (out .exit) ≡
+        bufferBy (now (text .entry)) at
+        (rewritingOf (now (text .entry)) at (length (now (table .entry))) (length (now (out .entry))))
+        (now (out .entry)) ⌝ }
 {
     let answer = sao::rewrite_record(text, at, table, out);
     *unread = [rewriting::group_of(answer)];

@@ -7,7 +7,8 @@ ghost use lib.Dec.{leb};
 ghost use Prim.Native.Nat.{_+_, _^_, _<_, _≤_};
 ghost use Rattle.form.specs.Count.{linesOf, cellsOf};
 ghost use Rattle.count.specs.Tally.{countOf, Before};
-ghost use Rattle.count.specs.Rules.{releaseOf, lower, one, rule, differ, settle, keeps, lowest, headRules, letterRules, setRule, sets, zeroOr, rulingOf};
+ghost use Rattle.count.specs.Rules.{releaseOf, lower, one, rule, differ, settle, keeps, lowest, headRules};
+ghost use Rattle.count.specs.Rules.{letterRules, setRule, sets, zeroOr, rulingOf};
 ghost use Rattle.count.specs.Check.{wellFormed, checkedOf};
 
 // What is under number 80 and the vacant groups: release 5 and nothing, another release, or the lowest vacant group with a count.
@@ -115,8 +116,10 @@ pub fn count_of(counts: &[u16], group: usize) -> u16
 
 // Totals with those of a group more.
 fn with_group(totals: Totals, form: form::Form, count: u16) -> Totals
-    requires { ⌜ (totals .lines < 2 ^ 32) × (totals .cells < 2 ^ 32) ⌝ }
-    ensures { λ r. ⌜ (r .lines ≡ totals .lines + linesOf form count) × (r .cells ≡ totals .cells + cellsOf form count) ⌝ }
+    requires lines { ⌜ totals .lines < 2 ^ 32 ⌝ }
+    requires cells { ⌜ totals .cells < 2 ^ 32 ⌝ }
+    ensures lines { λ r. ⌜ r .lines ≡ totals .lines + linesOf form count ⌝ }
+    ensures cells { λ r. ⌜ r .cells ≡ totals .cells + cellsOf form count ⌝ }
 {
     Totals {
         lines: totals.lines + form::lines(form, count),

@@ -50,7 +50,8 @@ fn put_digits(out: &mut [u8], n: u64)
 
 // Puts n, which has k digits.
 fn put_numeral(out: &mut [u8], at: usize, k: usize, n: u64)
-    requires { ⌜ (k ≡ length (numeral n)) × (at + k ≤ length (now out)) ⌝ }
+    requires size { ⌜ k ≡ length (numeral n) ⌝ }
+    requires room { ⌜ at + k ≤ length (now out) ⌝ }
     ensures { λ _. ⌜ now (out .exit) ≡ over at (numeral n) (now (out .entry)) ⌝ }
 {
     let e = at + k;
@@ -86,7 +87,8 @@ fn size(v: i64) -> u64
 
 // Puts a minus and n, which has k digits.
 fn put_minus(out: &mut [u8], at: usize, k: usize, n: u64)
-    requires { ⌜ (k ≡ length (numeral n)) × (at + (k + 1) ≤ length (now out)) ⌝ }
+    requires size { ⌜ k ≡ length (numeral n) ⌝ }
+    requires room { ⌜ at + (k + 1) ≤ length (now out) ⌝ }
     ensures { λ _. ⌜ now (out .exit) ≡ over at (45 ∷ numeral n) (now (out .entry)) ⌝ }
 {
     out[at] = b'-';
@@ -158,7 +160,8 @@ fn end_byte(more: usize) -> u8
 // Puts n and the byte behind it; the place behind both.
 fn put_ended(out: &mut [u8], at: usize, n: u64, end: u8) -> usize
     requires { ⌜ at + (length (numeral n) + 1) ≤ length (now out) ⌝ }
-    ensures { λ r. ⌜ (r ≡ at + (length (numeral n) + 1)) × (now (out .exit) ≡ over at (numeral n ++ (end ∷ [])) (now (out .entry))) ⌝ }
+    ensures answer { λ r. ⌜ r ≡ at + (length (numeral n) + 1) ⌝ }
+    ensures output { λ _. ⌜ now (out .exit) ≡ over at (numeral n ++ (end ∷ [])) (now (out .entry)) ⌝ }
 {
     let k = digits(n);
     put_numeral(out, at, k, n);
@@ -198,7 +201,8 @@ fn put_text(out: &mut [u8], at: usize, text: &[u8])
 
 // Puts a row of numbers with the bytes that it begins with, such as `end `, into the bytes from a place on.
 pub fn put_row(out: &mut [u8], at: usize, first: &[u8], numbers: &[u64]) -> Put
-    ensures { λ r. ⌜ Puts at (now (first .entry) ++ rowText (now (numbers .entry))) (now (out .entry)) r (now (out .exit)) ⌝ }
+    ensures { λ r. ⌜ Puts at (now (first .entry) ++ rowText (now (numbers .entry))) (now (out .entry)) r
+        (now (out .exit)) ⌝ }
 {
     let Put::Next(end) = row_end(out.len(), at, first, numbers) else {
         return Put::NoRoom;

@@ -232,7 +232,8 @@ fn read_letters(s: &[u8]) -> Value
 }
 
 fn read_as(kind: Kind, field: &[u8]) -> Value
-    requires { ⌜ (length (now field) ≡ widthOf kind) × Small kind ⌝ }
+    requires field { ⌜ length (now field) ≡ widthOf kind ⌝ }
+    requires small { ⌜ Small kind ⌝ }
     ensures { λ r. ⌜ r ≡ readAs kind (now (field .entry)) ⌝ }
 {
     match kind {
@@ -353,7 +354,8 @@ fn letter(v: i64) -> u8
 
 // Writes cells that are letters at a place with room.
 pub fn put_letters(cells: &[i64], out: &mut [u8], at: usize)
-    requires { ⌜ (at + length (now cells) ≤ length (now out)) × T (every isLetter (now cells)) ⌝ }
+    requires room { ⌜ at + length (now cells) ≤ length (now out) ⌝ }
+    requires letters { ⌜ T (every isLetter (now cells)) ⌝ }
     ensures { λ _. ⌜ now (out .exit) ≡ over at (map sizeOf (now (cells .entry))) (now (out .entry)) ⌝ }
 {
     let mut i = 0;
@@ -364,7 +366,10 @@ pub fn put_letters(cells: &[i64], out: &mut [u8], at: usize)
 }
 
 fn put_as(kind: Kind, cells: &[i64], out: &mut [u8], at: usize)
-    requires { ⌜ (length (now cells) ≡ countOf kind) × T (rangeOf kind (now cells)) × (at + widthOf kind ≤ length (now out)) × Small kind ⌝ }
+    requires cells { ⌜ length (now cells) ≡ countOf kind ⌝ }
+    requires range { ⌜ T (rangeOf kind (now cells)) ⌝ }
+    requires room { ⌜ at + widthOf kind ≤ length (now out) ⌝ }
+    requires small { ⌜ Small kind ⌝ }
     ensures { λ _. ⌜ now (out .exit) ≡ over at (textAs kind (now (cells .entry))) (now (out .entry)) ⌝ }
 {
     match kind {
@@ -392,7 +397,8 @@ fn put_as(kind: Kind, cells: &[i64], out: &mut [u8], at: usize)
 
 // Writes the canonical text of cells that fit at a place with room.
 pub fn put(form: Form, cells: &[i64], out: &mut [u8], at: usize)
-    requires { ⌜ T (fitsOf form (now cells)) × (at + rowOf form .width ≤ length (now out)) ⌝ }
+    requires fits { ⌜ T (fitsOf form (now cells)) ⌝ }
+    requires room { ⌜ at + rowOf form .width ≤ length (now out) ⌝ }
     ensures { λ _. ⌜ now (out .exit) ≡ over at (fieldText form (now (cells .entry))) (now (out .entry)) ⌝ }
 {
     put_as(kind_of(form), cells, out, at);
@@ -400,7 +406,8 @@ pub fn put(form: Form, cells: &[i64], out: &mut [u8], at: usize)
 
 // Writes the canonical text of the cells at a place, or nothing: first where no field of the form reads as them, then where there is no room.
 pub fn write(form: Form, cells: &[i64], out: &mut [u8], at: usize) -> Written
-    ensures { λ r. ⌜ Wrote (fitsOf form (now (cells .entry))) (fieldText form (now (cells .entry))) at (rowOf form .width) (now (out .entry)) r (now (out .exit)) ⌝ }
+    ensures { λ r. ⌜ Wrote (fitsOf form (now (cells .entry))) (fieldText form (now (cells .entry))) at
+        (rowOf form .width) (now (out .entry)) r (now (out .exit)) ⌝ }
 {
     if fits(form, cells) {
         if base::has_room(at, width_of(kind_of(form)), out.len()) {

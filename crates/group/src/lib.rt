@@ -40,7 +40,8 @@ struct Held {
 }
 
 fn missing(r: Refusal) -> Held
-    ensures { λ h. ⌜ (h .found ≡ Found.Missing r) × (h .counts ≡ replicate 80 0) ⌝ }
+    ensures found { λ h. ⌜ h .found ≡ Found.Missing r ⌝ }
+    ensures counts { λ h. ⌜ h .counts ≡ replicate 80 0 ⌝ }
 {
     Held {
         found: Found::Missing(r),
@@ -50,7 +51,8 @@ fn missing(r: Refusal) -> Held
 
 // "12, then any placing reply but 0": what every question about a group asks first.
 fn held_at(text: &[u8], at: usize, group: usize) -> Held
-    ensures { λ r. ⌜ (r .found ≡ foundAt (now (text .entry)) at group) × (r .counts ≡ countsHeld (now (text .entry)) at group) ⌝ }
+    ensures found { λ r. ⌜ r .found ≡ foundAt (now (text .entry)) at group ⌝ }
+    ensures counts { λ r. ⌜ r .counts ≡ countsHeld (now (text .entry)) at group ⌝ }
 {
     let form::GroupForm::Has(_) = form::form_of(group) else {
         return missing(Refusal::NoGroup);
@@ -84,7 +86,9 @@ pub struct Lines {
 // The same with where the lines stand, their line ends among them. With count 0 both places are where they would begin, and at a refusal both
 // are the text's start.
 pub fn lines_at(text: &[u8], at: usize, group: usize) -> Lines
-    ensures { λ r. ⌜ (r .found ≡ foundAt (now (text .entry)) at group) × (r .from ≡ partStart (now (text .entry)) at group) × (r .to ≡ partEnd (now (text .entry)) at group) ⌝ }
+    ensures found { λ r. ⌜ r .found ≡ foundAt (now (text .entry)) at group ⌝ }
+    ensures from { λ r. ⌜ r .from ≡ partStart (now (text .entry)) at group ⌝ }
+    ensures to { λ r. ⌜ r .to ≡ partEnd (now (text .entry)) at group ⌝ }
 {
     let held = held_at(text, at, group);
     let found = held.found;
@@ -106,7 +110,8 @@ pub fn lines_at(text: &[u8], at: usize, group: usize) -> Lines
 
 // The lines as the part of the caller's own text that holds them.
 pub fn lines_part<'a>(text: &'a [u8], at: usize, group: usize) -> &'a [u8]
-    ensures { λ r. ⌜ (now r ≡ partAt (now (text .entry)) at group) × (r .ptr ≡ moved (text .entry .ptr) (partStart (now (text .entry)) at group)) ⌝ }
+    ensures bytes { λ r. ⌜ now r ≡ partAt (now (text .entry)) at group ⌝ }
+    ensures address { λ r. ⌜ r .ptr ≡ moved (text .entry .ptr) (partStart (now (text .entry)) at group) ⌝ }
 {
     let lines = lines_at(text, at, group);
     let from = lines.from;
@@ -117,7 +122,9 @@ pub fn lines_part<'a>(text: &'a [u8], at: usize, group: usize) -> &'a [u8]
 // Reads a group of the record at a place of a text into a table: 12, then any placing reply but 0, and then by the record's counts and the
 // group's own lines. A refusal alters nothing.
 pub fn read_group(text: &[u8], at: usize, group: usize, table: &mut [i64]) -> Reading
-    ensures { λ r. ⌜ (r ≡ readingOf (readAt (now (text .entry)) at group (length (now (table .entry))))) × (now (table .exit) ≡ tableBy (readAt (now (text .entry)) at group (length (now (table .entry)))) (now (table .entry))) ⌝ }
+    ensures answer { λ r. ⌜ r ≡ readingOf (readAt (now (text .entry)) at group (length (now (table .entry)))) ⌝ }
+    ensures table { λ _. ⌜ now (table .exit) ≡
+        tableBy (readAt (now (text .entry)) at group (length (now (table .entry)))) (now (table .entry)) ⌝ }
 {
     let held = held_at(text, at, group);
     let found = held.found;

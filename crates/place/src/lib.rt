@@ -35,8 +35,10 @@ pub struct Record {
 
 // The 40 entries of an index line's content, stored from an index on; whether all are well formed.
 fn store_entries(content: &[u8], counts: &mut [u16], from: usize) -> bool
-    requires { ⌜ (length (now content) ≡ 120) × (from + 40 ≤ length (now counts)) ⌝ }
-    ensures { λ r. ⌜ Stored (readEntries 40 (now (content .entry))) from (now (counts .entry)) r (now (counts .exit)) ⌝ }
+    requires content { ⌜ length (now content) ≡ 120 ⌝ }
+    requires counts { ⌜ from + 40 ≤ length (now counts) ⌝ }
+    ensures { λ r. ⌜ Stored (readEntries 40 (now (content .entry))) from (now (counts .entry)) r
+        (now (counts .exit)) ⌝ }
 {
     let mut k: usize = 0;
     while k < 40 {
@@ -67,7 +69,8 @@ fn store_line(line: &[u8], counts: &mut [u16], from: usize) -> bool
 
 // The answer where nothing is placed.
 fn nothing(answer: Placing) -> Record
-    ensures { λ r. ⌜ (r .answer ≡ answer) × (r .counts ≡ replicate 80 0) ⌝ }
+    ensures answer { λ r. ⌜ r .answer ≡ answer ⌝ }
+    ensures counts { λ r. ⌜ r .counts ≡ replicate 80 0 ⌝ }
 {
     Record {
         answer,
@@ -111,7 +114,8 @@ fn ruled_at(next: usize, ruling: count::Ruling) -> Placing
 
 // The record at a place of a text.
 pub fn place(text: &[u8], at: usize) -> Record
-    ensures { λ r. ⌜ (r .answer ≡ placingOf (now (text .entry)) at) × (r .counts ≡ countsAt (now (text .entry)) at) ⌝ }
+    ensures answer { λ r. ⌜ r .answer ≡ placingOf (now (text .entry)) at ⌝ }
+    ensures counts { λ r. ⌜ r .counts ≡ countsAt (now (text .entry)) at ⌝ }
 {
     if text.len() < at {
         return nothing(Placing::Beyond);
@@ -170,7 +174,8 @@ pub struct Span {
 // The lines of a group in a record at a place with these counts; group 0 is the index, and behind group 60 there are none. Where the text
 // has too few lines, they end where it does.
 pub fn span_of(text: &[u8], at: usize, counts: &[u16], group: usize) -> Span
-    ensures { λ r. ⌜ (r .from ≡ start (now (text .entry)) at (now (counts .entry)) group) × (r .to ≡ start (now (text .entry)) at (now (counts .entry)) (group + 1)) ⌝ }
+    ensures from { λ r. ⌜ r .from ≡ start (now (text .entry)) at (now (counts .entry)) group ⌝ }
+    ensures to { λ r. ⌜ r .to ≡ start (now (text .entry)) at (now (counts .entry)) (group + 1) ⌝ }
 {
     let before = count::add_up(counts, group);
     let from = line::behind_or_end(text, at, before.lines);

@@ -18,9 +18,11 @@ ghost use Rattle.field.specs.Read.{fieldOf, formed, cellsIn};
 ghost use Rattle.count.specs.Rules.{rulingOf};
 ghost use Rattle.line.specs.Lines.{reach};
 ghost use Rattle.line.specs.Contents.{contentOf};
-ghost use Rattle.reading.specs.Blanks.{blank, mayBeShort, shortest, filledTo, isRight, asField, rightContent, fieldsSpan, Fits};
+ghost use Rattle.reading.specs.Blanks.{blank, mayBeShort, shortest, filledTo, isRight, asField, rightContent};
+ghost use Rattle.reading.specs.Blanks.{fieldsSpan, Fits};
 ghost use Rattle.reading.specs.Numbered.{refusalReply, readingReply};
-ghost use Rattle.reading.specs.Read.{verdictOf, misfitOf, readLines, dated, readForm, readGroup, readingOf, tableBy};
+ghost use Rattle.reading.specs.Read.{verdictOf, misfitOf, readLines, dated, readForm, readGroup, readingOf};
+ghost use Rattle.reading.specs.Read.{tableBy};
 
 // Why nothing is read; each variant is one of 01's replies.
 pub enum Refusal {
@@ -141,14 +143,16 @@ fn right_content_at(
     from: usize,
     to: usize,
 ) -> line::Content
-    requires { ⌜ (from ≤ to) × (to ≤ length (now lines)) ⌝ }
+    requires order { ⌜ from ≤ to ⌝ }
+    requires lines { ⌜ to ≤ length (now lines) ⌝ }
     ensures { λ r. ⌜ r ≡ rightContent form columns (part from to (now (lines .entry))) ⌝ }
 {
     right_content(form, columns, &lines[from..to])
 }
 
 fn content_at(lines: &[u8], from: usize, to: usize) -> line::Content
-    requires { ⌜ (from ≤ to) × (to ≤ length (now lines)) ⌝ }
+    requires order { ⌜ from ≤ to ⌝ }
+    requires lines { ⌜ to ≤ length (now lines) ⌝ }
     ensures { λ r. ⌜ r ≡ contentOf (part from to (now (lines .entry))) ⌝ }
 {
     line::content_length(&lines[from..to])
@@ -179,7 +183,9 @@ fn is_field(form: Form, bytes: &[u8]) -> bool
 }
 
 fn is_field_at(form: Form, lines: &[u8], from: usize, to: usize) -> bool
-    requires { ⌜ (from ≤ to) × (to ≤ length (now lines)) × (to - from ≤ rowOf form .width) ⌝ }
+    requires order { ⌜ from ≤ to ⌝ }
+    requires lines { ⌜ to ≤ length (now lines) ⌝ }
+    requires length { ⌜ to - from ≤ rowOf form .width ⌝ }
     ensures { λ r. ⌜ r ≡ formed (fieldOf form (asField form (part from to (now (lines .entry))))) ⌝ }
 {
     is_field(form, &lines[from..to])
@@ -211,7 +217,9 @@ fn misfit(
     element: usize,
 ) -> Refusal
     requires { ⌜ at ≤ length (now lines) ⌝ }
-    ensures { λ r. ⌜ r ≡ misfitOf number element (rightContent form columns (part at (at + reach (drop at (now (lines .entry))) 1) (now (lines .entry)))) ⌝ }
+    ensures { λ r. ⌜ r ≡
+        misfitOf number element
+        (rightContent form columns (part at (at + reach (drop at (now (lines .entry))) 1) (now (lines .entry)))) ⌝ }
 {
     match right_content_at(form, columns, lines, at, line::behind_or_end(lines, at, 1)) {
         line::Content::Length(_) => Refusal::BadField(number, element),
@@ -262,7 +270,8 @@ fn check_lines(form: Form, count: u16, lines: &[u8]) -> Verdict
 
 // The letters of a date stand in the first line of group 3: the rule on its count puts 19 there at least.
 fn check_date(count: u16, lines: &[u8]) -> Verdict
-    requires { ⌜ (19 ≤ count) × (verdictOf (readLines Form.A1 count (now lines)) ≡ Verdict.Clean) ⌝ }
+    requires date { ⌜ 19 ≤ count ⌝ }
+    requires clean { ⌜ verdictOf (readLines Form.A1 count (now lines)) ≡ Verdict.Clean ⌝ }
     ensures { λ r. ⌜ r ≡ verdictOf (dated 3 (readLines Form.A1 count (now (lines .entry)))) ⌝ }
 {
     let n = form::elements(Form::A1, count);
@@ -276,7 +285,8 @@ fn check_date(count: u16, lines: &[u8]) -> Verdict
 
 // Lines, and then the date of group 3.
 fn check(form: Form, group: usize, count: u16, lines: &[u8]) -> Verdict
-    requires { ⌜ (formOf group ≡ GroupForm.Has form) × (group ≡ 3 → 19 ≤ count) ⌝ }
+    requires form { ⌜ formOf group ≡ GroupForm.Has form ⌝ }
+    requires date { ⌜ (group ≡ 3 → 19 ≤ count) ⌝ }
     ensures { λ r. ⌜ r ≡ verdictOf (dated group (readLines form count (now (lines .entry)))) ⌝ }
 {
     match check_lines(form, count, lines) {
@@ -304,8 +314,10 @@ fn byte_or_blank(bytes: &[u8], i: usize) -> u8
 
 // Letters, and blanks behind them up to the width.
 fn put_letters(bytes: &[u8], width: usize, table: &mut [i64], at: usize)
-    requires { ⌜ (length (now bytes) ≤ width) × (at + width ≤ length (now table)) ⌝ }
-    ensures { λ _. ⌜ now (table .exit) ≡ over at (map pos (filledTo width (now (bytes .entry)))) (now (table .entry)) ⌝ }
+    requires bytes { ⌜ length (now bytes) ≤ width ⌝ }
+    requires room { ⌜ at + width ≤ length (now table) ⌝ }
+    ensures { λ _. ⌜ now (table .exit) ≡
+        over at (map pos (filledTo width (now (bytes .entry)))) (now (table .entry)) ⌝ }
 {
     let mut i: usize = 0;
     while i < width {
@@ -316,8 +328,13 @@ fn put_letters(bytes: &[u8], width: usize, table: &mut [i64], at: usize)
 
 // The cells of a field.
 fn put_field(form: Form, width: usize, bytes: &[u8], table: &mut [i64], at: usize)
-    requires { ⌜ (width ≡ rowOf form .width) × Fits form (length (now bytes)) × T (formed (fieldOf form (filledTo width (now bytes)))) × (at + rowOf form .cells ≤ length (now table)) ⌝ }
-    ensures { λ _. ⌜ now (table .exit) ≡ over at (cellsIn (filledTo width (now (bytes .entry))) (fieldOf form (filledTo width (now (bytes .entry))))) (now (table .entry)) ⌝ }
+    requires width { ⌜ width ≡ rowOf form .width ⌝ }
+    requires fits { ⌜ Fits form (length (now bytes)) ⌝ }
+    requires formed { ⌜ T (formed (fieldOf form (filledTo width (now bytes)))) ⌝ }
+    requires room { ⌜ at + rowOf form .cells ≤ length (now table) ⌝ }
+    ensures { λ _. ⌜ now (table .exit) ≡
+        over at (cellsIn (filledTo width (now (bytes .entry))) (fieldOf form (filledTo width (now (bytes .entry)))))
+        (now (table .entry)) ⌝ }
 {
     if may_be_short(form) {
         put_letters(bytes, width, table, at);
@@ -346,16 +363,26 @@ fn put_field_at(
     table: &mut [i64],
     at: usize,
 )
-    requires { ⌜ (from ≤ to) × (to ≤ length (now lines)) × (width ≡ rowOf form .width) × Fits form (to - from) × T (formed (fieldOf form (filledTo width (part from to (now lines))))) × (at + rowOf form .cells ≤ length (now table)) ⌝ }
-    ensures { λ _. ⌜ now (table .exit) ≡ over at (cellsIn (filledTo width (part from to (now (lines .entry)))) (fieldOf form (filledTo width (part from to (now (lines .entry)))))) (now (table .entry)) ⌝ }
+    requires order { ⌜ from ≤ to ⌝ }
+    requires lines { ⌜ to ≤ length (now lines) ⌝ }
+    requires width { ⌜ width ≡ rowOf form .width ⌝ }
+    requires fits { ⌜ Fits form (to - from) ⌝ }
+    requires formed { ⌜ T (formed (fieldOf form (filledTo width (part from to (now lines))))) ⌝ }
+    requires room { ⌜ at + rowOf form .cells ≤ length (now table) ⌝ }
+    ensures { λ _. ⌜ now (table .exit) ≡
+        over at
+        (cellsIn (filledTo width (part from to (now (lines .entry))))
+        (fieldOf form (filledTo width (part from to (now (lines .entry)))))) (now (table .entry)) ⌝ }
 {
     put_field(form, width, &lines[from..to], table, at);
 }
 
 // The second pass: the cells of lines that were found clean.
 fn fill_lines(form: Form, count: u16, lines: &[u8], table: &mut [i64])
-    requires { ⌜ (verdictOf (readLines form count (now lines)) ≡ Verdict.Clean) × (cellsOf form count ≤ length (now table)) ⌝ }
-    ensures { λ _. ⌜ now (table .exit) ≡ over 0 (cellsGot (readLines form count (now (lines .entry)))) (now (table .entry)) ⌝ }
+    requires clean { ⌜ verdictOf (readLines form count (now lines)) ≡ Verdict.Clean ⌝ }
+    requires room { ⌜ cellsOf form count ≤ length (now table) ⌝ }
+    ensures { λ _. ⌜ now (table .exit) ≡
+        over 0 (cellsGot (readLines form count (now (lines .entry)))) (now (table .entry)) ⌝ }
 {
     let row = form::row_of(form);
     let width = row.width;
@@ -394,8 +421,12 @@ fn fill_lines(form: Form, count: u16, lines: &[u8], table: &mut [i64])
 
 // A group of a form, whose rules on counts are kept: 11, then the lines and the date, and only then the table.
 fn read_form(form: Form, group: usize, count: u16, lines: &[u8], table: &mut [i64]) -> Reading
-    requires { ⌜ (formOf group ≡ GroupForm.Has form) × (group ≡ 3 → 19 ≤ count) ⌝ }
-    ensures { λ r. ⌜ (r ≡ readingOf (readForm form group count (now (lines .entry)) (length (now (table .entry))))) × (now (table .exit) ≡ tableBy (readForm form group count (now (lines .entry)) (length (now (table .entry)))) (now (table .entry))) ⌝ }
+    requires form { ⌜ formOf group ≡ GroupForm.Has form ⌝ }
+    requires date { ⌜ (group ≡ 3 → 19 ≤ count) ⌝ }
+    ensures answer { λ r. ⌜ r ≡
+        readingOf (readForm form group count (now (lines .entry)) (length (now (table .entry)))) ⌝ }
+    ensures table { λ _. ⌜ now (table .exit) ≡
+        tableBy (readForm form group count (now (lines .entry)) (length (now (table .entry)))) (now (table .entry)) ⌝ }
 {
     let cells = form::cells(form, count);
     if table.len() < cells {
@@ -413,7 +444,11 @@ fn read_form(form: Form, group: usize, count: u16, lines: &[u8], table: &mut [i6
 // Reads a group as `read_lines` does, by counts that keep the rules, as those of a record that was placed with 0 do: they are not tried again.
 pub fn read_kept(counts: &[u16], group: usize, lines: &[u8], table: &mut [i64]) -> Reading
     requires { ⌜ rulingOf (now counts) ≡ Ruling.Kept ⌝ }
-    ensures { λ r. ⌜ (r ≡ readingOf (readGroup (now (counts .entry)) group (now (lines .entry)) (length (now (table .entry))))) × (now (table .exit) ≡ tableBy (readGroup (now (counts .entry)) group (now (lines .entry)) (length (now (table .entry)))) (now (table .entry))) ⌝ }
+    ensures answer { λ r. ⌜ r ≡
+        readingOf (readGroup (now (counts .entry)) group (now (lines .entry)) (length (now (table .entry)))) ⌝ }
+    ensures table { λ _. ⌜ now (table .exit) ≡
+        tableBy (readGroup (now (counts .entry)) group (now (lines .entry)) (length (now (table .entry))))
+        (now (table .entry)) ⌝ }
 {
     let form::GroupForm::Has(form) = form::form_of(group) else {
         return Reading::Refused(Refusal::NoGroup);
@@ -425,7 +460,11 @@ pub fn read_kept(counts: &[u16], group: usize, lines: &[u8], table: &mut [i64]) 
 // Reads a group of a record with these counts, whose lines these are, into a table. It is altered only if all is clean, and then only as
 // far as the group's cells go.
 pub fn read_lines(counts: &[u16], group: usize, lines: &[u8], table: &mut [i64]) -> Reading
-    ensures { λ r. ⌜ (r ≡ readingOf (readGroup (now (counts .entry)) group (now (lines .entry)) (length (now (table .entry))))) × (now (table .exit) ≡ tableBy (readGroup (now (counts .entry)) group (now (lines .entry)) (length (now (table .entry)))) (now (table .entry))) ⌝ }
+    ensures answer { λ r. ⌜ r ≡
+        readingOf (readGroup (now (counts .entry)) group (now (lines .entry)) (length (now (table .entry)))) ⌝ }
+    ensures table { λ _. ⌜ now (table .exit) ≡
+        tableBy (readGroup (now (counts .entry)) group (now (lines .entry)) (length (now (table .entry))))
+        (now (table .entry)) ⌝ }
 {
     let form::GroupForm::Has(_) = form::form_of(group) else {
         return Reading::Refused(Refusal::NoGroup);

@@ -16,7 +16,8 @@ ghost use Rattle.count.specs.Check.{checkedOf};
 ghost use Rattle.count.specs.Tally.{cellsBefore};
 ghost use Rattle.date.specs.Date.{datedOf};
 ghost use Rattle.record.specs.Fitting.{elementsFit, fitOf, Fitted};
-ghost use Rattle.record.specs.Text.{lineEnd, entriesText, indexText, lineOf, fieldsText, linesText, groupsText, recordText, bytesOf, recordBytes};
+ghost use Rattle.record.specs.Text.{lineEnd, entriesText, indexText, lineOf, fieldsText, linesText, groupsText};
+ghost use Rattle.record.specs.Text.{recordText, bytesOf, recordBytes};
 ghost use Rattle.record.specs.Writing.{dateLetters, writeFit, writeRoom, writingOf, outputBy, writingReply};
 
 // Whether each element's cells have a field of their form, or the group and the element of the first that has none.
@@ -50,7 +51,8 @@ pub enum Writing {
 // ---- Checking.
 
 fn fits_at(form: Form, cells: &[i64], from: usize, to: usize) -> bool
-    requires { ⌜ (from ≤ to) × (to ≤ length (now cells)) ⌝ }
+    requires order { ⌜ from ≤ to ⌝ }
+    requires cells { ⌜ to ≤ length (now cells) ⌝ }
     ensures { λ r. ⌜ r ≡ fitsOf form (part from to (now (cells .entry))) ⌝ }
 {
     field::fits(form, &cells[from..to])
@@ -106,7 +108,8 @@ fn cells_fit(counts: &[u16], cells: &[i64]) -> Fit
 
 // The date of letters that begin at a place: the first 19 decide it.
 fn date_at(cells: &[i64], from: usize) -> date::Dated
-    requires { ⌜ (from + 19 ≤ length (now cells)) × T (every isLetter (part from (from + 19) (now cells))) ⌝ }
+    requires cells { ⌜ from + 19 ≤ length (now cells) ⌝ }
+    requires letters { ⌜ T (every isLetter (part from (from + 19) (now cells))) ⌝ }
     ensures { λ r. ⌜ r ≡ datedOf (map sizeOf (part from (from + 19) (now (cells .entry)))) ⌝ }
 {
     let mut letters = [0u8; 19];
@@ -117,7 +120,8 @@ fn date_at(cells: &[i64], from: usize) -> date::Dated
 
 // The date of group 3, to which the rule on its count gives 19 letters at least.
 fn date_of(counts: &[u16], cells: &[i64]) -> date::Dated
-    requires { ⌜ (checkedOf (now counts) (length (now cells)) ≡ Checked.Right) × (fitOf (now counts) (now cells) ≡ Fit.All) ⌝ }
+    requires checked { ⌜ checkedOf (now counts) (length (now cells)) ≡ Checked.Right ⌝ }
+    requires fits { ⌜ fitOf (now counts) (now cells) ≡ Fit.All ⌝ }
     ensures { λ r. ⌜ r ≡ datedOf (dateLetters (now (counts .entry)) (now (cells .entry))) ⌝ }
 {
     let before = count::add_up(counts, 3);
@@ -176,7 +180,8 @@ fn put_entries(counts: &[u16], out: &mut [u8], at: usize)
 
 // An index line of 40 counts.
 fn put_index_line(counts: &[u16], out: &mut [u8], at: usize)
-    requires { ⌜ (length (now counts) ≡ 40) × (at + 122 ≤ length (now out)) ⌝ }
+    requires counts { ⌜ length (now counts) ≡ 40 ⌝ }
+    requires room { ⌜ at + 122 ≤ length (now out) ⌝ }
     ensures { λ _. ⌜ now (out .exit) ≡ over at (entriesText (now (counts .entry)) ++ lineEnd) (now (out .entry)) ⌝ }
 {
     put_entries(counts, out, at);
@@ -184,7 +189,8 @@ fn put_index_line(counts: &[u16], out: &mut [u8], at: usize)
 }
 
 fn put_index(counts: &[u16], out: &mut [u8])
-    requires { ⌜ (length (now counts) ≡ 80) × (244 ≤ length (now out)) ⌝ }
+    requires counts { ⌜ length (now counts) ≡ 80 ⌝ }
+    requires room { ⌜ 244 ≤ length (now out) ⌝ }
     ensures { λ _. ⌜ now (out .exit) ≡ over 0 (indexText (now (counts .entry))) (now (out .entry)) ⌝ }
 {
     put_index_line(&counts[0..40], out, 0);
@@ -192,8 +198,12 @@ fn put_index(counts: &[u16], out: &mut [u8])
 }
 
 fn put_field_at(form: Form, cells: &[i64], from: usize, to: usize, out: &mut [u8], at: usize)
-    requires { ⌜ (from ≤ to) × (to ≤ length (now cells)) × T (fitsOf form (part from to (now cells))) × (at + rowOf form .width ≤ length (now out)) ⌝ }
-    ensures { λ _. ⌜ now (out .exit) ≡ over at (fieldText form (part from to (now (cells .entry)))) (now (out .entry)) ⌝ }
+    requires order { ⌜ from ≤ to ⌝ }
+    requires cells { ⌜ to ≤ length (now cells) ⌝ }
+    requires fits { ⌜ T (fitsOf form (part from to (now cells))) ⌝ }
+    requires room { ⌜ at + rowOf form .width ≤ length (now out) ⌝ }
+    ensures { λ _. ⌜ now (out .exit) ≡
+        over at (fieldText form (part from to (now (cells .entry)))) (now (out .entry)) ⌝ }
 {
     field::put(form, &cells[from..to], out, at);
 }
@@ -208,8 +218,13 @@ fn put_fields(
     out: &mut [u8],
     at: usize,
 ) -> usize
-    requires { ⌜ (row ≡ rowOf form) × (from + many * rowOf form .cells ≤ length (now cells)) × Fitted form many (drop from (now cells)) × (at + many * rowOf form .width ≤ length (now out)) ⌝ }
-    ensures { λ r. ⌜ (r ≡ at + many * rowOf form .width) × (now (out .exit) ≡ over at (fieldsText form (lineOf many) (drop from (now (cells .entry)))) (now (out .entry))) ⌝ }
+    requires row { ⌜ row ≡ rowOf form ⌝ }
+    requires cells { ⌜ from + many * rowOf form .cells ≤ length (now cells) ⌝ }
+    requires fitted { ⌜ Fitted form many (drop from (now cells)) ⌝ }
+    requires room { ⌜ at + many * rowOf form .width ≤ length (now out) ⌝ }
+    ensures answer { λ r. ⌜ r ≡ at + many * rowOf form .width ⌝ }
+    ensures output { λ _. ⌜ now (out .exit) ≡
+        over at (fieldsText form (lineOf many) (drop from (now (cells .entry)))) (now (out .entry)) ⌝ }
 {
     let width = row.width;
     let size = row.cells;
@@ -228,8 +243,12 @@ fn put_fields(
 
 // The lines of a group, whose cells begin at a place of the table; the place behind them.
 fn put_lines(form: Form, count: u16, cells: &[i64], from: usize, out: &mut [u8], at: usize) -> usize
-    requires { ⌜ (from + cellsOf form count ≤ length (now cells)) × Fitted form (elementsOf form count) (drop from (now cells)) × (at + bytesOf form count ≤ length (now out)) ⌝ }
-    ensures { λ r. ⌜ (r ≡ at + bytesOf form count) × (now (out .exit) ≡ over at (linesText form count (drop from (now (cells .entry)))) (now (out .entry))) ⌝ }
+    requires cells { ⌜ from + cellsOf form count ≤ length (now cells) ⌝ }
+    requires fitted { ⌜ Fitted form (elementsOf form count) (drop from (now cells)) ⌝ }
+    requires room { ⌜ at + bytesOf form count ≤ length (now out) ⌝ }
+    ensures answer { λ r. ⌜ r ≡ at + bytesOf form count ⌝ }
+    ensures output { λ _. ⌜ now (out .exit) ≡
+        over at (linesText form count (drop from (now (cells .entry)))) (now (out .entry)) ⌝ }
 {
     let row = form::row_of(form);
     let per_line = row.per_line;
@@ -253,8 +272,11 @@ fn put_lines(form: Form, count: u16, cells: &[i64], from: usize, out: &mut [u8],
 
 // The second pass: the lines of all groups.
 fn put_groups(counts: &[u16], cells: &[i64], out: &mut [u8], at: usize)
-    requires { ⌜ (length (now cells) ≡ cellsBefore (now counts) 61) × (fitOf (now counts) (now cells) ≡ Fit.All) × (at + length (groupsText (now counts) (now cells)) ≤ length (now out)) ⌝ }
-    ensures { λ _. ⌜ now (out .exit) ≡ over at (groupsText (now (counts .entry)) (now (cells .entry))) (now (out .entry)) ⌝ }
+    requires cells { ⌜ length (now cells) ≡ cellsBefore (now counts) 61 ⌝ }
+    requires fits { ⌜ fitOf (now counts) (now cells) ≡ Fit.All ⌝ }
+    requires room { ⌜ at + length (groupsText (now counts) (now cells)) ≤ length (now out) ⌝ }
+    ensures { λ _. ⌜ now (out .exit) ≡
+        over at (groupsText (now (counts .entry)) (now (cells .entry))) (now (out .entry)) ⌝ }
 {
     let mut from: usize = 0;
     let mut a = at;
@@ -276,8 +298,11 @@ fn put_groups(counts: &[u16], cells: &[i64], out: &mut [u8], at: usize)
 // The canonical text of counts and cells to the front of an output that has room for it. Nothing is checked: this is for cells that are known
 // to fit, as those that were read are.
 pub fn put_record(counts: &[u16], cells: &[i64], out: &mut [u8])
-    requires { ⌜ (checkedOf (now counts) (length (now cells)) ≡ Checked.Right) × (fitOf (now counts) (now cells) ≡ Fit.All) × (recordBytes (now counts) ≤ length (now out)) ⌝ }
-    ensures { λ _. ⌜ now (out .exit) ≡ over 0 (recordText (now (counts .entry)) (now (cells .entry))) (now (out .entry)) ⌝ }
+    requires checked { ⌜ checkedOf (now counts) (length (now cells)) ≡ Checked.Right ⌝ }
+    requires fits { ⌜ fitOf (now counts) (now cells) ≡ Fit.All ⌝ }
+    requires room { ⌜ recordBytes (now counts) ≤ length (now out) ⌝ }
+    ensures { λ _. ⌜ now (out .exit) ≡
+        over 0 (recordText (now (counts .entry)) (now (cells .entry))) (now (out .entry)) ⌝ }
 {
     put_index(counts, out);
     put_groups(counts, cells, out, 244);
@@ -285,8 +310,11 @@ pub fn put_record(counts: &[u16], cells: &[i64], out: &mut [u8])
 
 // Counts and cells that are right in all but the room for their text: 11, and only then the output.
 fn write_right(counts: &[u16], cells: &[i64], out: &mut [u8]) -> Writing
-    requires { ⌜ (checkedOf (now counts) (length (now cells)) ≡ Checked.Right) × (fitOf (now counts) (now cells) ≡ Fit.All) ⌝ }
-    ensures { λ r. ⌜ (r ≡ writeRoom (now (counts .entry)) (length (now (out .entry)))) × (now (out .exit) ≡ outputBy (now (counts .entry)) (now (cells .entry)) r (now (out .entry))) ⌝ }
+    requires checked { ⌜ checkedOf (now counts) (length (now cells)) ≡ Checked.Right ⌝ }
+    requires fits { ⌜ fitOf (now counts) (now cells) ≡ Fit.All ⌝ }
+    ensures answer { λ r. ⌜ r ≡ writeRoom (now (counts .entry)) (length (now (out .entry))) ⌝ }
+    ensures output { λ r. ⌜ now (out .exit) ≡
+        outputBy (now (counts .entry)) (now (cells .entry)) r (now (out .entry)) ⌝ }
 {
     let n = canonical_length(counts);
     if out.len() < n {
@@ -299,7 +327,11 @@ fn write_right(counts: &[u16], cells: &[i64], out: &mut [u8]) -> Writing
 // Counts and a table's length that are right: 13, 10, 11.
 fn write_checked(counts: &[u16], cells: &[i64], out: &mut [u8]) -> Writing
     requires { ⌜ checkedOf (now counts) (length (now cells)) ≡ Checked.Right ⌝ }
-    ensures { λ r. ⌜ (r ≡ writeFit (now (counts .entry)) (now (cells .entry)) (length (now (out .entry))) (fitOf (now (counts .entry)) (now (cells .entry)))) × (now (out .exit) ≡ outputBy (now (counts .entry)) (now (cells .entry)) r (now (out .entry))) ⌝ }
+    ensures answer { λ r. ⌜ r ≡
+        writeFit (now (counts .entry)) (now (cells .entry)) (length (now (out .entry)))
+        (fitOf (now (counts .entry)) (now (cells .entry))) ⌝ }
+    ensures output { λ r. ⌜ now (out .exit) ≡
+        outputBy (now (counts .entry)) (now (cells .entry)) r (now (out .entry)) ⌝ }
 {
     match cells_fit(counts, cells) {
         Fit::Not(g, e) => Writing::NoField(g, e),
@@ -313,7 +345,9 @@ fn write_checked(counts: &[u16], cells: &[i64], out: &mut [u8]) -> Writing
 // Writes the canonical text of counts and of the cells of all groups, in group order, to the front of the output, and answers 0 with its
 // length; or answers the first of 4, 5, 6, 7, 14, 13, 10 and 11 that is due, and alters no byte. What stands behind the text stays.
 pub fn write_record(counts: &[u16], cells: &[i64], out: &mut [u8]) -> Writing
-    ensures { λ r. ⌜ (r ≡ writingOf (now (counts .entry)) (now (cells .entry)) (length (now (out .entry)))) × (now (out .exit) ≡ outputBy (now (counts .entry)) (now (cells .entry)) r (now (out .entry))) ⌝ }
+    ensures answer { λ r. ⌜ r ≡ writingOf (now (counts .entry)) (now (cells .entry)) (length (now (out .entry))) ⌝ }
+    ensures output { λ r. ⌜ now (out .exit) ≡
+        outputBy (now (counts .entry)) (now (cells .entry)) r (now (out .entry)) ⌝ }
 {
     match count::check(counts, cells.len()) {
         Checked::Right => write_checked(counts, cells, out),

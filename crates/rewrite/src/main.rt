@@ -8,7 +8,8 @@ ghost use Rattle.rewriting.specs.Printed.{Stopped};
 // Prints the canonical text of each record from the text's start on, until the first that is not rewritten with 0, and gives the place where
 // it stopped; of a text longer than 65,536 bytes, nothing. The table has a cell for each byte of the page, which is always enough.
 fn print_text(text: &[u8], table: &mut [i64], page: &mut [u8]) -> usize
-    requires { ⌜ (length (now table) ≡ 8192) × (length (now page) ≡ 8192) ⌝ }
+    requires table { ⌜ length (now table) ≡ 8192 ⌝ }
+    requires page { ⌜ length (now page) ≡ 8192 ⌝ }
     ensures { λ r. ⌜ Stopped (now (text .entry)) r ⌝ }
 {
     if 65536 < text.len() {

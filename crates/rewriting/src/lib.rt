@@ -13,7 +13,8 @@ ghost use Rattle.reading.specs.Read.{readGroup, readingOf, tableBy};
 ghost use Rattle.record.specs.Text.{recordText, recordBytes};
 ghost use Rattle.record.specs.Writing.{writingOf};
 ghost use Rattle.rewriting.specs.Numbered.{rewritingReply, rewritingGroup};
-ghost use Rattle.rewriting.specs.Record.{Ready, groupsOf, allInTurn, cellsAt, rewritingOf, bufferBy, tableBy as tableAfter};
+ghost use Rattle.rewriting.specs.Record.{Ready, groupsOf, allInTurn, cellsAt, rewritingOf, bufferBy};
+ghost use Rattle.rewriting.specs.Record.{tableBy as tableAfter};
 
 // What rewriting a record answers.
 pub enum Rewriting {
@@ -46,16 +47,27 @@ fn read_part(
     cell: usize,
     end: usize,
 ) -> Reading
-    requires { ⌜ (rulingOf (now counts) ≡ Ruling.Kept) × (from ≤ to) × (to ≤ length (now text)) × (cell ≤ end) × (end ≤ length (now table)) ⌝ }
-    ensures { λ r. ⌜ (r ≡ readingOf (readGroup (now (counts .entry)) group (part from to (now (text .entry))) (end - cell))) × (now (table .exit) ≡ over cell (tableBy (readGroup (now (counts .entry)) group (part from to (now (text .entry))) (end - cell)) (part cell end (now (table .entry)))) (now (table .entry))) ⌝ }
+    requires kept { ⌜ rulingOf (now counts) ≡ Ruling.Kept ⌝ }
+    requires order { ⌜ from ≤ to ⌝ }
+    requires text { ⌜ to ≤ length (now text) ⌝ }
+    requires cells { ⌜ cell ≤ end ⌝ }
+    requires room { ⌜ end ≤ length (now table) ⌝ }
+    ensures answer { λ r. ⌜ r ≡
+        readingOf (readGroup (now (counts .entry)) group (part from to (now (text .entry))) (end - cell)) ⌝ }
+    ensures table { λ _. ⌜ now (table .exit) ≡
+        over cell
+        (tableBy (readGroup (now (counts .entry)) group (part from to (now (text .entry))) (end - cell))
+        (part cell end (now (table .entry)))) (now (table .entry)) ⌝ }
 {
     reading::read_kept(counts, group, &text[from..to], &mut table[cell..end])
 }
 
 // Groups 1 to 60 in turn, into consecutive parts of the table, up to the first that is refused.
 fn read_groups(text: &[u8], at: usize, counts: &[u16], table: &mut [i64]) -> Groups
-    requires { ⌜ (now counts ≡ countsAt (now text) at) × Ready (now text) at (length (now table)) ⌝ }
-    ensures { λ r. ⌜ (r ≡ groupsOf (allInTurn (now (text .entry)) at)) × (now (table .exit) ≡ over 0 (cellsAt (now (text .entry)) at) (now (table .entry))) ⌝ }
+    requires counts { ⌜ now counts ≡ countsAt (now text) at ⌝ }
+    requires ready { ⌜ Ready (now text) at (length (now table)) ⌝ }
+    ensures answer { λ r. ⌜ r ≡ groupsOf (allInTurn (now (text .entry)) at) ⌝ }
+    ensures table { λ _. ⌜ now (table .exit) ≡ over 0 (cellsAt (now (text .entry)) at) (now (table .entry)) ⌝ }
 {
     let mut from = line::behind_or_end(text, at, 2);
     let mut cell: usize = 0;
@@ -86,8 +98,11 @@ fn read_groups(text: &[u8], at: usize, counts: &[u16], table: &mut [i64]) -> Gro
 
 // The canonical text of counts and of the first cells of a table, which is written with 0.
 fn write_cells(counts: &[u16], table: &[i64], cells: usize, out: &mut [u8])
-    requires { ⌜ (cells ≤ length (now table)) × (writingOf (now counts) (part 0 cells (now table)) (length (now out)) ≡ Writing.Done (recordBytes (now counts))) ⌝ }
-    ensures { λ _. ⌜ now (out .exit) ≡ over 0 (recordText (now (counts .entry)) (part 0 cells (now (table .entry)))) (now (out .entry)) ⌝ }
+    requires room { ⌜ cells ≤ length (now table) ⌝ }
+    requires written { ⌜ writingOf (now counts) (part 0 cells (now table)) (length (now out)) ≡
+        Writing.Done (recordBytes (now counts)) ⌝ }
+    ensures { λ _. ⌜ now (out .exit) ≡
+        over 0 (recordText (now (counts .entry)) (part 0 cells (now (table .entry)))) (now (out .entry)) ⌝ }
 {
     record::put_record(counts, &table[0..cells], out);
 }
@@ -96,7 +111,10 @@ fn write_cells(counts: &[u16], table: &[i64], cells: usize, out: &mut [u8])
 // buffer or its cells are more than the table; the first reply other than 0 of reading groups 1 to 60 in turn, with that group's number;
 // else 0 with the bytes written and the next place. A refusal alters no byte of the buffer.
 pub fn rewrite_record(text: &[u8], at: usize, table: &mut [i64], out: &mut [u8]) -> Rewriting
-    ensures { λ r. ⌜ (r ≡ rewritingOf (now (text .entry)) at (length (now (table .entry))) (length (now (out .entry)))) × (now (table .exit) ≡ tableAfter (now (text .entry)) at r (now (table .entry))) × (now (out .exit) ≡ bufferBy (now (text .entry)) at r (now (out .entry))) ⌝ }
+    ensures answer { λ r. ⌜ r ≡
+        rewritingOf (now (text .entry)) at (length (now (table .entry))) (length (now (out .entry))) ⌝ }
+    ensures table { λ r. ⌜ now (table .exit) ≡ tableAfter (now (text .entry)) at r (now (table .entry)) ⌝ }
+    ensures output { λ r. ⌜ now (out .exit) ≡ bufferBy (now (text .entry)) at r (now (out .entry)) ⌝ }
 {
     let placed = place::place(text, at);
     let answer = placed.answer;

@@ -24,7 +24,8 @@ ghost use Rattle.listing.specs.Listing.{listing};
 // Answered: the placing, with the next place under 0 and 7, and the record's 80 counts.
 // A refusal has next place 0 and 80 zero counts.
 pub fn place(text: &[u8], at: usize) -> Record
-    ensures { λ r. ⌜ (r .answer ≡ placingOf (now (text .entry)) at) × (r .counts ≡ countsAt (now (text .entry)) at) ⌝ }
+    ensures answer { λ r. ⌜ r .answer ≡ placingOf (now (text .entry)) at ⌝ }
+    ensures counts { λ r. ⌜ r .counts ≡ countsAt (now (text .entry)) at ⌝ }
 {
     place::place(text, at)
 }
@@ -33,7 +34,9 @@ pub fn place(text: &[u8], at: usize) -> Record
 // Answered: 0 with the number of cells, which stand in the table from its first cell on; what stands behind them is kept.
 // A refusal leaves the whole table as it was.
 pub fn read_group(text: &[u8], at: usize, group: usize, table: &mut [i64]) -> Reading
-    ensures { λ r. ⌜ (r ≡ readingOf (readAt (now (text .entry)) at group (length (now (table .entry))))) × (now (table .exit) ≡ tableBy (readAt (now (text .entry)) at group (length (now (table .entry)))) (now (table .entry))) ⌝ }
+    ensures answer { λ r. ⌜ r ≡ readingOf (readAt (now (text .entry)) at group (length (now (table .entry)))) ⌝ }
+    ensures table { λ _. ⌜ now (table .exit) ≡
+        tableBy (readAt (now (text .entry)) at group (length (now (table .entry)))) (now (table .entry)) ⌝ }
 {
     group::read_group(text, at, group, table)
 }
@@ -42,7 +45,9 @@ pub fn read_group(text: &[u8], at: usize, group: usize, table: &mut [i64]) -> Re
 // Answered: that they can be given, and from where to where they stand; with count 0 both places are where they would begin.
 // A refusal has its reply, 12 or any placing reply but 0, and both places are the text's start.
 pub fn group_lines_at(text: &[u8], at: usize, group: usize) -> Lines
-    ensures { λ r. ⌜ (r .found ≡ foundAt (now (text .entry)) at group) × (r .from ≡ partStart (now (text .entry)) at group) × (r .to ≡ partEnd (now (text .entry)) at group) ⌝ }
+    ensures found { λ r. ⌜ r .found ≡ foundAt (now (text .entry)) at group ⌝ }
+    ensures from { λ r. ⌜ r .from ≡ partStart (now (text .entry)) at group ⌝ }
+    ensures to { λ r. ⌜ r .to ≡ partEnd (now (text .entry)) at group ⌝ }
 {
     group::lines_at(text, at, group)
 }
@@ -51,7 +56,8 @@ pub fn group_lines_at(text: &[u8], at: usize, group: usize) -> Lines
 // Answered: the part of the caller's own text that holds them; with count 0 the empty part where they would begin.
 // A refusal gives the empty part at the text's start.
 pub fn group_lines<'a>(text: &'a [u8], at: usize, group: usize) -> &'a [u8]
-    ensures { λ r. ⌜ (now r ≡ partAt (now (text .entry)) at group) × (r .ptr ≡ moved (text .entry .ptr) (partStart (now (text .entry)) at group)) ⌝ }
+    ensures bytes { λ r. ⌜ now r ≡ partAt (now (text .entry)) at group ⌝ }
+    ensures address { λ r. ⌜ r .ptr ≡ moved (text .entry .ptr) (partStart (now (text .entry)) at group) ⌝ }
 {
     group::lines_part(text, at, group)
 }
@@ -69,7 +75,9 @@ pub fn characteristic(text: &[u8], at: usize, number: usize) -> Characteristic
 // Answered: 0 with the number of bytes, which stand in the output from its first byte on; what stands behind them is kept.
 // A refusal leaves the whole output as it was.
 pub fn write_record(counts: &[u16], cells: &[i64], out: &mut [u8]) -> Writing
-    ensures { λ r. ⌜ (r ≡ writingOf (now (counts .entry)) (now (cells .entry)) (length (now (out .entry)))) × (now (out .exit) ≡ outputBy (now (counts .entry)) (now (cells .entry)) r (now (out .entry))) ⌝ }
+    ensures answer { λ r. ⌜ r ≡ writingOf (now (counts .entry)) (now (cells .entry)) (length (now (out .entry))) ⌝ }
+    ensures output { λ r. ⌜ now (out .exit) ≡
+        outputBy (now (counts .entry)) (now (cells .entry)) r (now (out .entry)) ⌝ }
 {
     record::write_record(counts, cells, out)
 }
@@ -88,7 +96,10 @@ pub fn list(text: &[u8], out: &mut [u8]) -> Put
 // table from its first cell on, and what stands behind them is kept.
 // A refusal leaves the whole output as it was; the table has the cells of the groups that were read before it.
 pub fn rewrite_record(text: &[u8], at: usize, table: &mut [i64], out: &mut [u8]) -> Rewriting
-    ensures { λ r. ⌜ (r ≡ rewritingOf (now (text .entry)) at (length (now (table .entry))) (length (now (out .entry)))) × (now (table .exit) ≡ tableAfter (now (text .entry)) at r (now (table .entry))) × (now (out .exit) ≡ bufferBy (now (text .entry)) at r (now (out .entry))) ⌝ }
+    ensures answer { λ r. ⌜ r ≡
+        rewritingOf (now (text .entry)) at (length (now (table .entry))) (length (now (out .entry))) ⌝ }
+    ensures table { λ r. ⌜ now (table .exit) ≡ tableAfter (now (text .entry)) at r (now (table .entry)) ⌝ }
+    ensures output { λ r. ⌜ now (out .exit) ≡ bufferBy (now (text .entry)) at r (now (out .entry)) ⌝ }
 {
     rewriting::rewrite_record(text, at, table, out)
 }

@@ -8,18 +8,6 @@ use Rattle.boundary.proofs.Telling.{told-as}
 use Rattle.boundary.proofs.seambeacon_characteristic.Statement.{statement}
 use Rattle.boundary.proofs.seambeacon_characteristic.Tie as tie
 
-characteristic-requires : tie.Need-characteristic-requires
-characteristic-requires c κs = search needs
-
-answer-of-requires : tie.Need-answer-of-requires
-answer-of-requires c κs = search needs
-
-characteristic-reply-requires : tie.Need-characteristic-reply-requires
-characteristic-reply-requires c κs = search needs
-
-tell-requires : tie.Need-tell-requires
-tell-requires c κs = search needs
-
 returns : tie.Need-returns
 returns c =
     let e = c .before .before .before .before .characteristic .ensures in
@@ -29,8 +17,8 @@ pub seambeacon-characteristic-spec : {M : Type 1} → statement M
 seambeacon-characteristic-spec =
     tie.close
     (tie.spec
-    characteristic-requires
-    answer-of-requires
-    characteristic-reply-requires
-    tell-requires
+    (λ c κs. search needs)
+    (λ c κs. search needs)
+    (λ c κs. search needs)
+    (λ c κs. search needs)
     returns)

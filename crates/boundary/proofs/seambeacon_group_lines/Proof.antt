@@ -9,33 +9,24 @@ use Rattle.boundary.proofs.Telling.{told-as}
 use Rattle.boundary.proofs.seambeacon_group_lines.Statement.{statement}
 use Rattle.boundary.proofs.seambeacon_group_lines.Tie as tie
 
-group-lines-at-requires : tie.Need-group-lines-at-requires
-group-lines-at-requires c κs = search needs
-
 sub-length : tie.Need-sub-length
 sub-length c =
     let a = c .before .before .before .args in
     let e = c .before .group-lines-at .ensures in
-    omega (arith, span-range (a .text .now) (a .at) (a .group) .0, e .1, e .2)
-
-found-reply-requires : tie.Need-found-reply-requires
-found-reply-requires c κs = search needs
-
-tell-requires : tie.Need-tell-requires
-tell-requires c κs = search needs
+    omega (arith, span-range (a .text .now) (a .at) (a .group) .0, e .1 .0 .0, e .1 .0 .1)
 
 returns : tie.Need-returns
 returns c =
     let a = c .before .before .before .before .before .before .before .args in
     let e = c .before .before .before .before .before .group-lines-at .ensures in
-    (told-as (c .before .before .found-reply .ensures ∙ ap foundReply (e .0)) (c .tell .ensures), rw (e .1, e .2, span-length (a .text .now) (a .at) (a .group)) refl)
+    (told-as (c .before .before .found-reply .ensures ∙ ap foundReply (e .0)) (c .tell .ensures), rw (e .1 .0 .0, e .1 .0 .1, span-length (a .text .now) (a .at) (a .group)) refl)
 
 pub seambeacon-group-lines-spec : {M : Type 1} → statement M
 seambeacon-group-lines-spec =
     tie.close
     (tie.spec
-    group-lines-at-requires
+    (λ c κs. search needs)
     sub-length
-    found-reply-requires
-    tell-requires
+    (λ c κs. search needs)
+    (λ c κs. search needs)
     returns)

@@ -7,18 +7,6 @@ use Rattle.boundary.proofs.Telling.{told-as}
 use Rattle.boundary.proofs.seambeacon_list.Statement.{statement}
 use Rattle.boundary.proofs.seambeacon_list.Tie as tie
 
-list-requires : tie.Need-list-requires
-list-requires c κs = search needs
-
-reply-of-requires : tie.Need-reply-of-requires
-reply-of-requires c κs = search needs
-
-tell-requires : tie.Need-tell-requires
-tell-requires c κs = search needs
-
-same-length : tie.Need-same-length
-same-length c = search needs
-
 returns : tie.Need-returns
 returns c =
     let e = c .before .before .before .before .before .list .ensures in
@@ -26,4 +14,4 @@ returns c =
 
 pub seambeacon-list-spec : {M : Type 1} → statement M
 seambeacon-list-spec =
-    tie.close (tie.spec list-requires reply-of-requires tell-requires same-length returns)
+    tie.close (tie.spec (λ c κs. search needs) (λ c κs. search needs) (λ c κs. search needs) (λ c. search needs) returns)

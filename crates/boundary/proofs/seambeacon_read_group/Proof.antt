@@ -7,18 +7,6 @@ use Rattle.boundary.proofs.Telling.{told-as}
 use Rattle.boundary.proofs.seambeacon_read_group.Statement.{statement}
 use Rattle.boundary.proofs.seambeacon_read_group.Tie as tie
 
-read-group-requires : tie.Need-read-group-requires
-read-group-requires c κs = search needs
-
-reply-of-requires : tie.Need-reply-of-requires
-reply-of-requires c κs = search needs
-
-tell-requires : tie.Need-tell-requires
-tell-requires c κs = search needs
-
-same-length : tie.Need-same-length
-same-length c = search needs
-
 returns : tie.Need-returns
 returns c =
     let e = c .before .before .before .before .read-group .ensures in
@@ -27,4 +15,4 @@ returns c =
 
 pub seambeacon-read-group-spec : {M : Type 1} → statement M
 seambeacon-read-group-spec =
-    tie.close (tie.spec read-group-requires reply-of-requires tell-requires same-length returns)
+    tie.close (tie.spec (λ c κs. search needs) (λ c κs. search needs) (λ c κs. search needs) (λ c. search needs) returns)

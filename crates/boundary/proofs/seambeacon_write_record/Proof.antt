@@ -7,18 +7,6 @@ use Rattle.boundary.proofs.Telling.{told-as}
 use Rattle.boundary.proofs.seambeacon_write_record.Statement.{statement}
 use Rattle.boundary.proofs.seambeacon_write_record.Tie as tie
 
-write-record-requires : tie.Need-write-record-requires
-write-record-requires c κs = search needs
-
-reply-of-requires : tie.Need-reply-of-requires
-reply-of-requires c κs = search needs
-
-tell-requires : tie.Need-tell-requires
-tell-requires c κs = search needs
-
-same-length : tie.Need-same-length
-same-length c = search needs
-
 returns : tie.Need-returns
 returns c =
     let e = c .before .before .before .before .before .write-record .ensures in
@@ -27,4 +15,4 @@ returns c =
 
 pub seambeacon-write-record-spec : {M : Type 1} → statement M
 seambeacon-write-record-spec =
-    tie.close (tie.spec write-record-requires reply-of-requires tell-requires same-length returns)
+    tie.close (tie.spec (λ c κs. search needs) (λ c κs. search needs) (λ c κs. search needs) (λ c. search needs) returns)

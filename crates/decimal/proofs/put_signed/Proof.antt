@@ -39,17 +39,8 @@ room c = leb-true _ _ (sym (c .before .has-room .ensures) ∙ c .if2 .taken)
 no-room : (c : tie.Else2) → (let a = c .before .before .before .before .before .before .args in length (a .out .now) < a .at + (c .before .before .digits .result + 1))
 no-room c = leb-false _ _ (sym (c .before .has-room .ensures) ∙ c .if2 .left)
 
-size-requires : tie.Need-size-requires
-size-requires c κs = search needs
-
-digits-requires : tie.Need-digits-requires
-digits-requires c κs = search needs
-
 add-has-room : tie.Need-add-has-room
 add-has-room c = omega (arith, digits-few c)
-
-has-room-requires : tie.Need-has-room-requires
-has-room-requires c κs = search needs
 
 put-minus-requires : tie.Need-put-minus-requires
 put-minus-requires c κs = (c .before .before .before .digits .ensures, room (c .before))
@@ -59,9 +50,6 @@ add-t13 c = omega (arith, digits-few (c .before .before .before .before .before 
 
 add-t14 : tie.Need-add-t14
 add-t14 c = omega (arith, room (c .before .before .before .before))
-
-same-length : tie.Need-same-length
-same-length c = search needs
 
 returns : tie.Need-returns
 returns c =
@@ -74,12 +62,6 @@ returns-2 c =
     rw (minus (c .before .before .before))
     (puts-none _ _ _ (omega (arith, no-room c, c .before .before .digits .ensures)))
 
-put-number-requires : tie.Need-put-number-requires
-put-number-requires c κs = search needs
-
-same-length-2 : tie.Need-same-length-2
-same-length-2 c = search needs
-
 returns-3 : tie.Need-returns-3
 returns-3 c = rw (plain (c .before .before .before .before)) (c .before .before .put-number .ensures)
 
@@ -87,16 +69,16 @@ pub put-signed-spec : {M : Type 1} → statement M
 put-signed-spec =
     tie.close
     (tie.spec
-    size-requires
-    digits-requires
+    (λ c κs. search needs)
+    (λ c κs. search needs)
     add-has-room
-    has-room-requires
+    (λ c κs. search needs)
     put-minus-requires
     add-t13
     add-t14
-    same-length
+    (λ c. search needs)
     returns
     returns-2
-    put-number-requires
-    same-length-2
+    (λ c κs. search needs)
+    (λ c. search needs)
     returns-3)

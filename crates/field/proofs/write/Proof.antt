@@ -18,22 +18,13 @@ use Rattle.field.proofs.write.Tie as tie
 fit : (c : tie.Then1) → fitsOf (c .before .before .before .args .form) (c .before .before .before .args .cells .now) ≡ true
 fit c = sym (c .before .fits2 .ensures) ∙ c .if1 .taken
 
-fits-requires : tie.Need-fits-requires
-fits-requires c κs = search needs
-
 room : (c : tie.After-has-room) → c .has-room .result ≡ leb (c .before .before .before .before .before .before .args .at + rowOf (c .before .before .before .before .before .before .args .form) .width) (length (c .before .before .before .before .before .before .args .out .now))
 room c =
     let a = c .before .before .before .before .before .before .args in
     c .has-room .ensures ∙ ap (λ w. leb (a .at + w) (length (a .out .now))) (c .before .width-of .ensures ∙ ap widthOf (c .before .before .kind-of .ensures) ∙ kind-width (a .form))
 
-kind-of-requires : tie.Need-kind-of-requires
-kind-of-requires c κs = search needs
-
 width-of-requires : tie.Need-width-of-requires
 width-of-requires c κs = rw (c .kind-of .ensures) (kind-small (c .before .before .before .before .args .form))
-
-has-room-requires : tie.Need-has-room-requires
-has-room-requires c κs = search needs
 
 put-requires : tie.Need-put-requires
 put-requires c κs =
@@ -41,9 +32,6 @@ put-requires c κs =
       true-T (fitsOf (a .form) (a .cells .now)) (fit (c .before .before .before .before .before)),
       leb-true (a .at + rowOf (a .form) .width) (length (a .out .now)) (sym (room (c .before .before)) ∙ c .before .if2 .taken),
     )
-
-same-length : tie.Need-same-length
-same-length c = search needs
 
 returns : tie.Need-returns
 returns c = record { answer = rw (fit (c .before .before .before .before .before .before .before .before), sym (room (c .before .before .before .before .before)) ∙ c .before .before .before .before .if2 .taken); memory = c .before .before .put .ensures }
@@ -58,12 +46,12 @@ pub write-spec : {M : Type 1} → statement M
 write-spec =
     tie.close
     (tie.spec
-    fits-requires
-    kind-of-requires
+    (λ c κs. search needs)
+    (λ c κs. search needs)
     width-of-requires
-    has-room-requires
+    (λ c κs. search needs)
     put-requires
-    same-length
+    (λ c. search needs)
     returns
     returns-2
     returns-3)

@@ -12,16 +12,10 @@ use Rattle.field.proofs.write_entry.Tie as tie
 returns : tie.Need-returns
 returns c = record { answer = simp (lt-leb _ _ (c .if1 .taken)); memory = search needs }
 
-has-room-requires : tie.Need-has-room-requires
-has-room-requires c κs = search needs
-
 put-entry-requires : tie.Need-put-entry-requires
 put-entry-requires c κs =
     let o = c .before .before .before .before .before in
     omega (arith, leb-true (o .args .at + 3) (length (o .args .out .now)) (sym (c .before .before .has-room .ensures) ∙ c .before .if2 .taken))
-
-same-length : tie.Need-same-length
-same-length c = search needs
 
 returns-2 : tie.Need-returns-2
 returns-2 c =
@@ -36,4 +30,4 @@ returns-3 c = record { answer = simp (le-leb _ _ (c .before .before .if1 .left),
 pub write-entry-spec : {M : Type 1} → statement M
 write-entry-spec =
     tie.close
-    (tie.spec returns has-room-requires put-entry-requires same-length returns-2 returns-3)
+    (tie.spec returns (λ c κs. search needs) put-entry-requires (λ c. search needs) returns-2 returns-3)

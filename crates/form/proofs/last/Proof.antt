@@ -11,18 +11,9 @@ use Rattle.form.proofs.Rounding.{last-by-remainder}
 use Rattle.form.proofs.last.Statement.{statement}
 use Rattle.form.proofs.last.Tie as tie
 
-elements-requires : tie.Need-elements-requires
-elements-requires c κs = search needs
-
 returns : tie.Need-returns
 unfolding lastOf
 returns c = search needs
-
-row-of-requires : tie.Need-row-of-requires
-row-of-requires c κs = search needs
-
-sub-result : tie.Need-sub-result
-sub-result c = search needs
 
 fit : (c : tie.After-struct-known) → RowFits (c .before .row-of .result)
 fit c = fits-by (c .before .before .before .before .args .form) (c .before .row-of .ensures)
@@ -43,4 +34,4 @@ returns-2 c =
     (last-by-remainder (elementsOf f (c .before .before .before .before .args .count)) (rowOf f .«per_line») (row-fits f .some) more)
 
 pub last-spec : {M : Type 1} → statement M
-last-spec = tie.close (tie.spec elements-requires returns row-of-requires sub-result rem-result add-result returns-2)
+last-spec = tie.close (tie.spec (λ c κs. search needs) returns (λ c κs. search needs) (λ c. search needs) rem-result add-result returns-2)

@@ -9,15 +9,6 @@ use Rattle.line.proofs.content_length.Tie as tie
 returns : tie.Need-returns
 returns c = sym (content-short _ (c .if1 .taken))
 
-shared-slice-read-if2 : tie.Need-shared-slice-read-if2
-shared-slice-read-if2 c = search needs
-
-sub-if3 : tie.Need-sub-if3
-sub-if3 c = search needs
-
-shared-slice-read-if3 : tie.Need-shared-slice-read-if3
-shared-slice-read-if3 c = search needs
-
 returns-2 : tie.Need-returns-2
 returns-2 c = sym (content-found _ (c .before .before .before .before .if1 .left) (c .before .before .if2 .taken) (c .if3 .taken))
 
@@ -32,9 +23,9 @@ content-length-spec =
     tie.close
     (tie.spec
     returns
-    shared-slice-read-if2
-    sub-if3
-    shared-slice-read-if3
+    (λ c. search needs)
+    (λ c. search needs)
+    (λ c. search needs)
     returns-2
     returns-3
     returns-4)

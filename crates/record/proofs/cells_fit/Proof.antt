@@ -20,55 +20,28 @@ abbrev μ-loop : tie.MeasureT-loop
 loop-holds : tie.Need-loop-holds Inv-loop μ-loop
 loop-holds c = groups-start (c .before .args .counts .now) (c .before .args .cells .now)
 
-form-of-requires : tie.Need-form-of-requires Inv-loop μ-loop
-form-of-requires c κs = search needs
-
-enum-known-f : tie.Need-enum-known-f Inv-loop μ-loop
-enum-known-f c = search needs
-
 form-is : (c : tie.After-f Inv-loop μ-loop) → formOf (c .before .before .before .before .loop .g) ≡ Has (c .f .given .0 .0)
 form-is c = sym (c .before .before .form-of .ensures) ∙ c .f .given .1
-
-enum-told : tie.Need-enum-told Inv-loop μ-loop
-enum-told c = search needs
 
 returns : tie.Need-returns Inv-loop μ-loop
 returns c =
     let t = c .before .before .before .before in
     absurd (has-form (t .loop .g) (omega (arith, t .loop .inv .low)) (omega arith) (sym (c .before .before .form-of .ensures) ∙ c .enum-told .given .1))
 
-count-of-requires : tie.Need-count-of-requires Inv-loop μ-loop
-count-of-requires c κs = search needs
-
 elements-fit-requires : tie.Need-elements-fit-requires Inv-loop μ-loop
 elements-fit-requires c κs =
     let o = c .before .before .before .before .before .before .before .before in
     group-range (o .args .counts .now) (o .args .cells .now) (c .before .before .before .before .before .before .loop .inv) (c .before .before .before .before .before .loop-test .taken) (c .before .before .f .given .0 .0) (form-is (c .before .before)) (c .count-of .result) (c .count-of .ensures) (o .pre)
-
-enum-known-fit : tie.Need-enum-known-fit Inv-loop μ-loop
-enum-known-fit c = search needs
 
 returns-2 : tie.Need-returns-2 Inv-loop μ-loop
 returns-2 c =
     let o = c .before .before .before .before .before .before .before .before .before .before .before .before in
     groups-bad (o .args .counts .now) (o .args .cells .now) (c .before .before .before .before .before .before .before .before .before .before .loop .inv) (c .before .before .before .before .before .before .before .before .before .loop-test .taken) (c .before .before .before .before .before .before .f .given .0 .0) (form-is (c .before .before .before .before .before .before)) (c .before .before .before .before .count-of .result) (c .before .before .before .before .count-of .ensures) (sym (c .before .before .before .elements-fit .ensures) ∙ c .before .fit .given .1)
 
-enum-told-2 : tie.Need-enum-told-2 Inv-loop μ-loop
-enum-told-2 c = search needs
-
-cells-requires : tie.Need-cells-requires Inv-loop μ-loop
-cells-requires c κs = search needs
-
 add-from : tie.Need-add-from Inv-loop μ-loop
 add-from c =
     let o = c .before .before .before .before .before .before .before .before .before .before .before .before in
     record { fits = omega (arith, c .cells .ensures, group-range (o .args .counts .now) (o .args .cells .now) (c .before .before .before .before .before .before .before .before .before .before .loop .inv) (c .before .before .before .before .before .before .before .before .before .loop-test .taken) (c .before .before .before .before .before .before .f .given .0 .0) (form-is (c .before .before .before .before .before .before)) (c .before .before .before .before .count-of .result) (c .before .before .before .before .count-of .ensures) (o .pre)) }
-
-add-g : tie.Need-add-g Inv-loop μ-loop
-add-g c = search needs
-
-loop-less : tie.Need-loop-less Inv-loop μ-loop
-loop-less c = search needs
 
 loop-again : tie.Need-loop-again Inv-loop μ-loop
 loop-again c =
@@ -87,18 +60,18 @@ cells-fit-spec =
     Inv-loop
     μ-loop
     loop-holds
-    form-of-requires
-    enum-known-f
-    enum-told
+    (λ c κs. search needs)
+    (λ c. search needs)
+    (λ c. search needs)
     returns
-    count-of-requires
+    (λ c κs. search needs)
     elements-fit-requires
-    enum-known-fit
+    (λ c. search needs)
     returns-2
-    enum-told-2
-    cells-requires
+    (λ c. search needs)
+    (λ c κs. search needs)
     add-from
-    add-g
-    loop-less
+    (λ c. search needs)
+    (λ c. search needs)
     loop-again
     returns-3)

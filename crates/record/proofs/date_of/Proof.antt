@@ -11,9 +11,6 @@ use Rattle.record.proofs.Letters.{date-inside, date-letters, date-same}
 use Rattle.record.proofs.date_of.Statement.{statement}
 use Rattle.record.proofs.date_of.Tie as tie
 
-add-up-requires : tie.Need-add-up-requires
-add-up-requires c κs = search needs
-
 date-at-requires : tie.Need-date-at-requires
 date-at-requires c κs =
     let o = c .before .before in
@@ -25,4 +22,4 @@ returns c =
     c .date-at .ensures ∙ ap (λ n. datedOf (map sizeOf (part n (n + 19) (o .args .cells .now)))) (c .before .add-up .ensures .cells-are) ∙ date-same (o .args .counts .now) (o .args .cells .now) (o .pre .0) (o .pre .1)
 
 pub date-of-spec : {M : Type 1} → statement M
-date-of-spec = tie.close (tie.spec add-up-requires date-at-requires returns)
+date-of-spec = tie.close (tie.spec (λ c κs. search needs) date-at-requires returns)

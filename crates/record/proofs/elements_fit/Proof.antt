@@ -14,12 +14,6 @@ Inv-loop form group count cells from size many at₀ e₀ at e = Elements form g
 abbrev μ-loop : tie.MeasureT-loop
 μ-loop form group count cells from size many at₀ e₀ at e = many - e
 
-row-of-requires : tie.Need-row-of-requires Inv-loop μ-loop
-row-of-requires c κs = search needs
-
-elements-requires : tie.Need-elements-requires Inv-loop μ-loop
-elements-requires c κs = search needs
-
 loop-holds : tie.Need-loop-holds Inv-loop μ-loop
 loop-holds c =
     let o = c .before .before in
@@ -35,19 +29,10 @@ fits-at-requires c κs =
     let o = c .before .before .before .before in
     element-range (o .args .form) (o .args .group) (o .args .count) (o .args .cells .now) (o .args .from) (c .before .loop .inv) (c .loop-test .taken) (o .pre)
 
-add-e : tie.Need-add-e Inv-loop μ-loop
-add-e c = search needs
-
-loop-less : tie.Need-loop-less Inv-loop μ-loop
-loop-less c = search needs
-
 loop-again : tie.Need-loop-again Inv-loop μ-loop
 loop-again c =
     let o = c .before .before .before .before .before .before in
     elements-more (o .args .form) (o .args .group) (o .args .count) (o .args .cells .now) (o .args .from) (c .before .before .before .loop .inv) (c .before .before .loop-test .taken) (sym (c .before .fits-at .ensures) ∙ c .if1 .taken)
-
-add-t14 : tie.Need-add-t14 Inv-loop μ-loop
-add-t14 c = search needs
 
 returns : tie.Need-returns Inv-loop μ-loop
 returns c =
@@ -65,14 +50,14 @@ elements-fit-spec =
     (tie.spec
     Inv-loop
     μ-loop
-    row-of-requires
-    elements-requires
+    (λ c κs. search needs)
+    (λ c κs. search needs)
     loop-holds
     add-to
     fits-at-requires
-    add-e
-    loop-less
+    (λ c. search needs)
+    (λ c. search needs)
     loop-again
-    add-t14
+    (λ c. search needs)
     returns
     returns-2)

@@ -8,19 +8,10 @@ use Rattle.record.proofs.Lengths.{bytes-few}
 use Rattle.record.proofs.group_bytes.Statement.{statement}
 use Rattle.record.proofs.group_bytes.Tie as tie
 
-row-of-requires : tie.Need-row-of-requires
-row-of-requires c κs = search needs
-
-elements-requires : tie.Need-elements-requires
-elements-requires c κs = search needs
-
 mul-result : tie.Need-mul-result
 mul-result c =
     let b = bytes-few (c .before .before .before .args .form) (c .before .before .before .args .count) (omega arith) in
     record { fits = rw (c .before .elements .ensures, ap (λ r. r .width) (c .before .before .row-of .ensures)) (omega (arith, b .0)) }
-
-rounded-up-requires : tie.Need-rounded-up-requires
-rounded-up-requires c κs = search needs
 
 mul-result-2 : tie.Need-mul-result-2
 unfolding Count.linesOf
@@ -42,10 +33,10 @@ pub group-bytes-spec : {M : Type 1} → statement M
 group-bytes-spec =
     tie.close
     (tie.spec
-    row-of-requires
-    elements-requires
+    (λ c κs. search needs)
+    (λ c κs. search needs)
     mul-result
-    rounded-up-requires
+    (λ c κs. search needs)
     mul-result-2
     add-result
     returns)

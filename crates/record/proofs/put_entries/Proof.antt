@@ -17,12 +17,6 @@ abbrev μ-loop : tie.MeasureT-loop
 loop-holds : tie.Need-loop-holds Inv-loop μ-loop
 loop-holds c = entries-start (c .before .before .args .counts .now) (c .before .before .args .out .now) (c .before .before .args .at) (c .before .before .pre)
 
-mul-put-entry : tie.Need-mul-put-entry Inv-loop μ-loop
-mul-put-entry c = search needs
-
-shared-slice-read-put-entry : tie.Need-shared-slice-read-put-entry Inv-loop μ-loop
-shared-slice-read-put-entry c = search needs
-
 put-entry-requires : tie.Need-put-entry-requires Inv-loop μ-loop
 put-entry-requires c κs =
     let o = c .before .before .before .before .before .before in
@@ -32,12 +26,6 @@ add-a : tie.Need-add-a Inv-loop μ-loop
 add-a c =
     let o = c .before .before .before .before .before .before .before .before .before in
     record { fits = omega (arith, entry-room (o .args .counts .now) (o .args .out .now) (o .args .at) (c .before .before .before .before .before .before .loop .inv) (c .before .before .before .before .before .loop-test .taken)) }
-
-add-i : tie.Need-add-i Inv-loop μ-loop
-add-i c = search needs
-
-loop-less : tie.Need-loop-less Inv-loop μ-loop
-loop-less c = search needs
 
 loop-again : tie.Need-loop-again Inv-loop μ-loop
 loop-again c =
@@ -59,12 +47,12 @@ put-entries-spec =
     Inv-loop
     μ-loop
     loop-holds
-    mul-put-entry
-    shared-slice-read-put-entry
+    (λ c. search needs)
+    (λ c. search needs)
     put-entry-requires
     add-a
-    add-i
-    loop-less
+    (λ c. search needs)
+    (λ c. search needs)
     loop-again
     same-length
     returns)

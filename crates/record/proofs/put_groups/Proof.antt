@@ -20,19 +20,10 @@ abbrev μ-loop : tie.MeasureT-loop
 loop-holds : tie.Need-loop-holds Inv-loop μ-loop
 loop-holds c =
     let o = c .before .before in
-    groups-put-start (o .args .counts .now) (o .args .cells .now) (o .args .at) (o .args .out .now) (o .pre .2)
-
-form-of-requires : tie.Need-form-of-requires Inv-loop μ-loop
-form-of-requires c κs = search needs
-
-enum-known-f : tie.Need-enum-known-f Inv-loop μ-loop
-enum-known-f c = search needs
+    groups-put-start (o .args .counts .now) (o .args .cells .now) (o .args .at) (o .args .out .now) (o .pre .1 .1)
 
 form-is : (c : tie.After-f Inv-loop μ-loop) → formOf (c .before .before .before .before .loop .g) ≡ Has (c .f .given .0 .0)
 form-is c = sym (c .before .before .form-of .ensures) ∙ c .f .given .1
-
-enum-told : tie.Need-enum-told Inv-loop μ-loop
-enum-told c = search needs
 
 same-length : tie.Need-same-length Inv-loop μ-loop
 same-length c = c .before .before .before .before .loop .inv .put .long
@@ -42,32 +33,21 @@ returns c =
     let t = c .before .before .before .before in
     absurd (has-form (t .loop .g) (omega (arith, t .loop .inv .low)) (omega arith) (sym (c .before .before .form-of .ensures) ∙ c .enum-told .given .1))
 
-count-of-requires : tie.Need-count-of-requires Inv-loop μ-loop
-count-of-requires c κs = search needs
-
 put-lines-requires : tie.Need-put-lines-requires Inv-loop μ-loop
 put-lines-requires c κs =
     let o = c .before .before .before .before .before .before .before .before .before .before in
-    group-requires (o .args .counts .now) (o .args .cells .now) (o .args .at) (o .args .out .now) (c .before .before .before .before .before .before .before .loop .inv) (c .before .before .before .before .before .before .loop-test .taken) (o .pre .1) (o .pre .0) (c .before .before .before .f .given .0 .0) (form-is (c .before .before .before)) (c .before .count-of .result) (c .before .count-of .ensures)
-
-cells-requires : tie.Need-cells-requires Inv-loop μ-loop
-cells-requires c κs = search needs
+    let all = group-requires (o .args .counts .now) (o .args .cells .now) (o .args .at) (o .args .out .now) (c .before .before .before .before .before .before .before .loop .inv) (c .before .before .before .before .before .before .loop-test .taken) (o .pre .1 .0) (o .pre .0) (c .before .before .before .f .given .0 .0) (form-is (c .before .before .before)) (c .before .count-of .result) (c .before .count-of .ensures) in
+    (all .0, (all .1, all .2))
 
 add-from : tie.Need-add-from Inv-loop μ-loop
 add-from c =
-    let r = group-requires (c .before .before .before .before .before .before .before .before .before .before .before .before .before .before .args .counts .now) (c .before .before .before .before .before .before .before .before .before .before .before .before .before .before .args .cells .now) (c .before .before .before .before .before .before .before .before .before .before .before .before .before .before .args .at) (c .before .before .before .before .before .before .before .before .before .before .before .before .before .before .args .out .now) (c .before .before .before .before .before .before .before .before .before .before .before .loop .inv) (c .before .before .before .before .before .before .before .before .before .before .loop-test .taken) (c .before .before .before .before .before .before .before .before .before .before .before .before .before .before .pre .1) (c .before .before .before .before .before .before .before .before .before .before .before .before .before .before .pre .0) (c .before .before .before .before .before .before .before .f .given .0 .0) (form-is (c .before .before .before .before .before .before .before)) (c .before .before .before .before .before .count-of .result) (c .before .before .before .before .before .count-of .ensures) in
+    let r = group-requires (c .before .before .before .before .before .before .before .before .before .before .before .before .before .before .args .counts .now) (c .before .before .before .before .before .before .before .before .before .before .before .before .before .before .args .cells .now) (c .before .before .before .before .before .before .before .before .before .before .before .before .before .before .args .at) (c .before .before .before .before .before .before .before .before .before .before .before .before .before .before .args .out .now) (c .before .before .before .before .before .before .before .before .before .before .before .loop .inv) (c .before .before .before .before .before .before .before .before .before .before .loop-test .taken) (c .before .before .before .before .before .before .before .before .before .before .before .before .before .before .pre .1 .0) (c .before .before .before .before .before .before .before .before .before .before .before .before .before .before .pre .0) (c .before .before .before .before .before .before .before .f .given .0 .0) (form-is (c .before .before .before .before .before .before .before)) (c .before .before .before .before .before .count-of .result) (c .before .before .before .before .before .count-of .ensures) in
     record { fits = omega (arith, r .0, c .cells .ensures) }
-
-add-g : tie.Need-add-g Inv-loop μ-loop
-add-g c = search needs
-
-loop-less : tie.Need-loop-less Inv-loop μ-loop
-loop-less c = search needs
 
 loop-again : tie.Need-loop-again Inv-loop μ-loop
 loop-again c =
     let o = c .before .before .before .before .before .before .before .before .before .before .before .before .before .before in
-    rw (c .cells .ensures) (groups-put-next (o .args .counts .now) (o .args .cells .now) (o .args .at) (o .args .out .now) (c .before .before .before .before .before .before .before .before .before .before .before .loop .inv) (c .before .before .before .before .before .before .before .before .before .before .loop-test .taken) (o .pre .1) (o .pre .0) (c .before .before .before .before .before .before .before .f .given .0 .0) (form-is (c .before .before .before .before .before .before .before)) (c .before .before .before .before .before .count-of .result) (c .before .before .before .before .before .count-of .ensures) _ _ (c .before .before .before .put-lines .ensures .0) (c .before .before .before .put-lines .ensures .1))
+    rw (c .cells .ensures) (groups-put-next (o .args .counts .now) (o .args .cells .now) (o .args .at) (o .args .out .now) (c .before .before .before .before .before .before .before .before .before .before .before .loop .inv) (c .before .before .before .before .before .before .before .before .before .before .loop-test .taken) (o .pre .1 .0) (o .pre .0) (c .before .before .before .before .before .before .before .f .given .0 .0) (form-is (c .before .before .before .before .before .before .before)) (c .before .before .before .before .before .count-of .result) (c .before .before .before .before .before .count-of .ensures) _ _ (c .before .before .before .put-lines .ensures .0) (c .before .before .before .put-lines .ensures .1))
 
 same-length-2 : tie.Need-same-length-2 Inv-loop μ-loop
 same-length-2 c = c .before .loop .inv .put .long
@@ -84,17 +64,17 @@ put-groups-spec =
     Inv-loop
     μ-loop
     loop-holds
-    form-of-requires
-    enum-known-f
-    enum-told
+    (λ c κs. search needs)
+    (λ c. search needs)
+    (λ c. search needs)
     same-length
     returns
-    count-of-requires
+    (λ c κs. search needs)
     put-lines-requires
-    cells-requires
+    (λ c κs. search needs)
     add-from
-    add-g
-    loop-less
+    (λ c. search needs)
+    (λ c. search needs)
     loop-again
     same-length-2
     returns-2)

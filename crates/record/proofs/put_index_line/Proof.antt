@@ -12,15 +12,6 @@ put-entries-requires c κs =
     let o = c .before .before .before in
     omega (arith, entries-length (o .args .counts .now), o .pre .0, o .pre .1)
 
-add-put-line-end : tie.Need-add-put-line-end
-add-put-line-end c = search needs
-
-put-line-end-requires : tie.Need-put-line-end-requires
-put-line-end-requires c κs = search needs
-
-same-length : tie.Need-same-length
-same-length c = search needs
-
 returns : tie.Need-returns
 returns c =
     let o = c .before .before .before .before .before .before .before .before .before .before in
@@ -29,4 +20,4 @@ returns c =
 pub put-index-line-spec : {M : Type 1} → statement M
 put-index-line-spec =
     tie.close
-    (tie.spec put-entries-requires add-put-line-end put-line-end-requires same-length returns)
+    (tie.spec put-entries-requires (λ c. search needs) (λ c κs. search needs) (λ c. search needs) returns)

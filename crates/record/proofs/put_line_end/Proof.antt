@@ -7,21 +7,12 @@ use Rattle.record.proofs.Putting.{line-end-put}
 use Rattle.record.proofs.put_line_end.Statement.{statement}
 use Rattle.record.proofs.put_line_end.Tie as tie
 
-slice-write-out : tie.Need-slice-write-out
-slice-write-out c = search needs
-
-add-out : tie.Need-add-out
-add-out c = search needs
-
 slice-write-out-2 : tie.Need-slice-write-out-2
 slice-write-out-2 c = omega (arith, length-set (c .args .out .now) (c .args .at) 13, c .pre)
-
-same-length : tie.Need-same-length
-same-length c = search needs
 
 returns : tie.Need-returns
 returns c = line-end-put (c .args .out .now) (c .args .at) (c .pre)
 
 pub put-line-end-spec : {M : Type 1} → statement M
 put-line-end-spec =
-    tie.close (tie.spec slice-write-out add-out slice-write-out-2 same-length returns)
+    tie.close (tie.spec (λ c. search needs) (λ c. search needs) slice-write-out-2 (λ c. search needs) returns)

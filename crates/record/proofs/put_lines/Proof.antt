@@ -14,61 +14,84 @@ Inv-loop form count cells from out₀ at row per-line size left₀ many cell₀ 
 abbrev μ-loop : tie.MeasureT-loop
 μ-loop form count cells from out₀ at row per-line size left₀ many cell₀ a₀ j₀ out left cell a j = many - j
 
-row-of-requires : tie.Need-row-of-requires Inv-loop μ-loop
-row-of-requires c κs = search needs
-
-elements-requires : tie.Need-elements-requires Inv-loop μ-loop
-elements-requires c κs = search needs
-
-rounded-up-requires : tie.Need-rounded-up-requires Inv-loop μ-loop
-rounded-up-requires c κs = search needs
-
 loop-holds : tie.Need-loop-holds Inv-loop μ-loop
 loop-holds c =
-    let o = c .before .before .before .before in
-    lines-start (o .args .form) (o .args .count) (o .args .cells .now) (o .args .from) (o .args .at) (o .args .out .now) (o .pre .1) (c .before .before .row-of .result) (c .before .elements .result) (c .rounded-up .result) (c .before .before .row-of .ensures) (c .before .elements .ensures) (c .rounded-up .ensures) (o .pre .2)
-
-lesser-requires : tie.Need-lesser-requires Inv-loop μ-loop
-lesser-requires c κs = search needs
+    let at-elements = c .before in
+    let at-row-of = at-elements .before in
+    let o = at-row-of .before .before in
+    lines-start (o .args .form) (o .args .count) (o .args .cells .now) (o .args .from) (o .args .at) (o .args .out .now)
+    (o .pre .1 .0) (at-row-of .row-of .result) (at-elements .elements .result) (c .rounded-up .result)
+    (at-row-of .row-of .ensures) (at-elements .elements .ensures) (c .rounded-up .ensures) (o .pre .1 .1)
 
 put-fields-requires : tie.Need-put-fields-requires Inv-loop μ-loop
 put-fields-requires c κs =
-    let r = line-requires (c .before .before .before .before .before .before .before .before .args .form) (c .before .before .before .before .before .before .before .before .args .count) (c .before .before .before .before .before .before .before .before .args .cells .now) (c .before .before .before .before .before .before .before .before .args .from) (c .before .before .before .before .before .before .before .before .args .at) (c .before .before .before .before .before .before .before .before .args .out .now) (c .before .before .before .before .before .before .before .before .pre .1) (c .before .before .before .loop .inv) (c .before .before .loop-test .taken) (c .before .lesser .result) (c .before .lesser .ensures) (c .before .before .before .before .before .before .before .before .pre .0) in
-    (c .before .before .before .before .before .before .row-of .ensures, r .0, r .1, omega (arith, r .2))
+    let at-lesser = c .before in
+    let at-row-of = at-lesser .before .before .before .before .before in
+    let start = at-row-of .before .before in
+    let r = line-requires (start .args .form) (start .args .count) (start .args .cells .now) (start .args .from)
+    (start .args .at) (start .args .out .now) (start .pre .1 .0) (c .before .before .before .loop .inv)
+    (c .before .before .loop-test .taken) (at-lesser .lesser .result) (at-lesser .lesser .ensures) (start .pre .0) in
+    (at-row-of .row-of .ensures, (r .0, (r .1, omega (arith, r .2))))
 
 put-line-end-requires : tie.Need-put-line-end-requires Inv-loop μ-loop
 put-line-end-requires c κs =
-    let r = line-requires (c .before .before .before .before .before .before .before .before .before .before .before .before .args .form) (c .before .before .before .before .before .before .before .before .before .before .before .before .args .count) (c .before .before .before .before .before .before .before .before .before .before .before .before .args .cells .now) (c .before .before .before .before .before .before .before .before .before .before .before .before .args .from) (c .before .before .before .before .before .before .before .before .before .before .before .before .args .at) (c .before .before .before .before .before .before .before .before .before .before .before .before .args .out .now) (c .before .before .before .before .before .before .before .before .before .before .before .before .pre .1) (c .before .before .before .before .before .before .before .loop .inv) (c .before .before .before .before .before .before .loop-test .taken) (c .before .before .before .before .before .lesser .result) (c .before .before .before .before .before .lesser .ensures) (c .before .before .before .before .before .before .before .before .before .before .before .before .pre .0) in
+    let at-lesser = c .before .before .before .before .before in
+    let in-loop = at-lesser .before in
+    let at-loop = in-loop .before in
+    let start = at-loop .before .before .before .before .before in
+    let r = line-requires (start .args .form) (start .args .count) (start .args .cells .now) (start .args .from)
+    (start .args .at) (start .args .out .now) (start .pre .1 .0) (at-loop .loop .inv) (in-loop .loop-test .taken)
+    (at-lesser .lesser .result) (at-lesser .lesser .ensures) (start .pre .0) in
     omega (arith, r .2, c .before .before .before .put-fields .ensures .0)
 
 add-a : tie.Need-add-a Inv-loop μ-loop
 add-a c =
-    let r = line-requires (c .before .before .before .before .before .before .before .before .before .before .before .before .before .before .before .args .form) (c .before .before .before .before .before .before .before .before .before .before .before .before .before .before .before .args .count) (c .before .before .before .before .before .before .before .before .before .before .before .before .before .before .before .args .cells .now) (c .before .before .before .before .before .before .before .before .before .before .before .before .before .before .before .args .from) (c .before .before .before .before .before .before .before .before .before .before .before .before .before .before .before .args .at) (c .before .before .before .before .before .before .before .before .before .before .before .before .before .before .before .args .out .now) (c .before .before .before .before .before .before .before .before .before .before .before .before .before .before .before .pre .1) (c .before .before .before .before .before .before .before .before .before .before .loop .inv) (c .before .before .before .before .before .before .before .before .before .loop-test .taken) (c .before .before .before .before .before .before .before .before .lesser .result) (c .before .before .before .before .before .before .before .before .lesser .ensures) (c .before .before .before .before .before .before .before .before .before .before .before .before .before .before .before .pre .0) in
-    record { fits = omega (arith, r .2, c .before .before .before .before .before .before .put-fields .ensures .0) }
+    let at-put-fields = c .before .before .before .before .before .before in
+    let at-lesser = at-put-fields .before .before in
+    let in-loop = at-lesser .before in
+    let at-loop = in-loop .before in
+    let start = at-loop .before .before .before .before .before in
+    let r = line-requires (start .args .form) (start .args .count) (start .args .cells .now) (start .args .from)
+    (start .args .at) (start .args .out .now) (start .pre .1 .0) (at-loop .loop .inv) (in-loop .loop-test .taken)
+    (at-lesser .lesser .result) (at-lesser .lesser .ensures) (start .pre .0) in
+    record { fits = omega (arith, r .2, at-put-fields .put-fields .ensures .0, start .good) }
 
 mul-cell : tie.Need-mul-cell Inv-loop μ-loop
 mul-cell c =
-    let r = line-requires (c .before .before .before .before .before .before .before .before .before .before .before .before .before .before .before .args .form) (c .before .before .before .before .before .before .before .before .before .before .before .before .before .before .before .args .count) (c .before .before .before .before .before .before .before .before .before .before .before .before .before .before .before .args .cells .now) (c .before .before .before .before .before .before .before .before .before .before .before .before .before .before .before .args .from) (c .before .before .before .before .before .before .before .before .before .before .before .before .before .before .before .args .at) (c .before .before .before .before .before .before .before .before .before .before .before .before .before .before .before .args .out .now) (c .before .before .before .before .before .before .before .before .before .before .before .before .before .before .before .pre .1) (c .before .before .before .before .before .before .before .before .before .before .loop .inv) (c .before .before .before .before .before .before .before .before .before .loop-test .taken) (c .before .before .before .before .before .before .before .before .lesser .result) (c .before .before .before .before .before .before .before .before .lesser .ensures) (c .before .before .before .before .before .before .before .before .before .before .before .before .before .before .before .pre .0) in
-    record { fits = rw (c .before .before .before .before .before .before .before .before .before .before .loop .inv .sized) (omega (arith, r .0)) }
+    let at-lesser = c .before .before .before .before .before .before .before .before in
+    let in-loop = at-lesser .before in
+    let at-loop = in-loop .before in
+    let start = at-loop .before .before .before .before .before in
+    let r = line-requires (start .args .form) (start .args .count) (start .args .cells .now) (start .args .from)
+    (start .args .at) (start .args .out .now) (start .pre .1 .0) (at-loop .loop .inv) (in-loop .loop-test .taken)
+    (at-lesser .lesser .result) (at-lesser .lesser .ensures) (start .pre .0) in
+    record { fits = rw (at-loop .loop .inv .sized) (omega (arith, r .0)) }
 
 add-cell : tie.Need-add-cell Inv-loop μ-loop
 add-cell c =
-    let r = line-requires (c .before .before .before .before .before .before .before .before .before .before .before .before .before .before .before .args .form) (c .before .before .before .before .before .before .before .before .before .before .before .before .before .before .before .args .count) (c .before .before .before .before .before .before .before .before .before .before .before .before .before .before .before .args .cells .now) (c .before .before .before .before .before .before .before .before .before .before .before .before .before .before .before .args .from) (c .before .before .before .before .before .before .before .before .before .before .before .before .before .before .before .args .at) (c .before .before .before .before .before .before .before .before .before .before .before .before .before .before .before .args .out .now) (c .before .before .before .before .before .before .before .before .before .before .before .before .before .before .before .pre .1) (c .before .before .before .before .before .before .before .before .before .before .loop .inv) (c .before .before .before .before .before .before .before .before .before .loop-test .taken) (c .before .before .before .before .before .before .before .before .lesser .result) (c .before .before .before .before .before .before .before .before .lesser .ensures) (c .before .before .before .before .before .before .before .before .before .before .before .before .before .before .before .pre .0) in
-    record { fits = rw (c .before .before .before .before .before .before .before .before .before .before .loop .inv .sized) (omega (arith, r .0)) }
+    let at-lesser = c .before .before .before .before .before .before .before .before in
+    let in-loop = at-lesser .before in
+    let at-loop = in-loop .before in
+    let start = at-loop .before .before .before .before .before in
+    let r = line-requires (start .args .form) (start .args .count) (start .args .cells .now) (start .args .from)
+    (start .args .at) (start .args .out .now) (start .pre .1 .0) (at-loop .loop .inv) (in-loop .loop-test .taken)
+    (at-lesser .lesser .result) (at-lesser .lesser .ensures) (start .pre .0) in
+    record { fits = rw (at-loop .loop .inv .sized) (omega (arith, r .0)) }
 
 sub-left : tie.Need-sub-left Inv-loop μ-loop
 sub-left c = omega (arith, c .before .before .before .before .before .before .before .before .lesser .ensures)
 
-add-j : tie.Need-add-j Inv-loop μ-loop
-add-j c = search needs
-
-loop-less : tie.Need-loop-less Inv-loop μ-loop
-loop-less c = search needs
-
 loop-again : tie.Need-loop-again Inv-loop μ-loop
 loop-again c =
-    let o = c .before .before .before .before .before .before .before .before .before .before .before .before .before .before .before in
-    lines-next (o .args .form) (o .args .count) (o .args .cells .now) (o .args .from) (o .args .at) (o .args .out .now) (o .pre .1) (c .before .before .before .before .before .before .before .before .before .before .loop .inv) (c .before .before .before .before .before .before .before .before .before .loop-test .taken) (c .before .before .before .before .before .before .before .before .lesser .result) (c .before .before .before .before .before .before .before .before .lesser .ensures) _ _ _ (c .before .before .before .before .before .before .put-fields .ensures .0) (c .before .before .before .before .before .before .put-fields .ensures .1) (c .before .before .put-line-end .ensures)
+    let at-put-fields = c .before .before .before .before .before .before in
+    let at-lesser = at-put-fields .before .before in
+    let in-loop = at-lesser .before in
+    let at-loop = in-loop .before in
+    let o = at-loop .before .before .before .before .before in
+    lines-next (o .args .form) (o .args .count) (o .args .cells .now) (o .args .from) (o .args .at) (o .args .out .now)
+    (o .pre .1 .0) (at-loop .loop .inv) (in-loop .loop-test .taken) (at-lesser .lesser .result)
+    (at-lesser .lesser .ensures) _ _ _ (at-put-fields .put-fields .ensures .0) (at-put-fields .put-fields .ensures .1)
+    (c .before .before .put-line-end .ensures)
 
 same-length : tie.Need-same-length Inv-loop μ-loop
 same-length c = c .before .loop .inv .put .long
@@ -76,7 +99,8 @@ same-length c = c .before .loop .inv .put .long
 returns : tie.Need-returns Inv-loop μ-loop
 returns c =
     let o = c .before .before .before .before .before .before in
-    lines-end (o .args .form) (o .args .count) (o .args .cells .now) (o .args .from) (o .args .at) (o .args .out .now) (o .pre .1) (c .before .loop .inv) (c .loop-test .left)
+    lines-end (o .args .form) (o .args .count) (o .args .cells .now) (o .args .from) (o .args .at) (o .args .out .now)
+    (o .pre .1 .0) (c .before .loop .inv) (c .loop-test .left)
 
 pub put-lines-spec : {M : Type 1} → statement M
 put-lines-spec =
@@ -84,19 +108,19 @@ put-lines-spec =
     (tie.spec
     Inv-loop
     μ-loop
-    row-of-requires
-    elements-requires
-    rounded-up-requires
+    (λ c κs. search needs)
+    (λ c κs. search needs)
+    (λ c κs. search needs)
     loop-holds
-    lesser-requires
+    (λ c κs. search needs)
     put-fields-requires
     put-line-end-requires
     add-a
     mul-cell
     add-cell
     sub-left
-    add-j
-    loop-less
+    (λ c. search needs)
+    (λ c. search needs)
     loop-again
     same-length
     returns)

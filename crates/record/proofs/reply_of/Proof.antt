@@ -6,60 +6,6 @@ use Rattle.record.specs.Writing.{writingReply}
 use Rattle.record.proofs.reply_of.Statement.{statement}
 use Rattle.record.proofs.reply_of.Tie as tie
 
-enum-known-answer : tie.Need-enum-known-answer
-enum-known-answer c = search needs
-
-done-requires : tie.Need-done-requires
-done-requires c κs = search needs
-
-enum-told : tie.Need-enum-told
-enum-told c = search needs
-
-plain-requires : tie.Need-plain-requires
-plain-requires c κs = search needs
-
-enum-told-2 : tie.Need-enum-told-2
-enum-told-2 c = search needs
-
-plain-requires-2 : tie.Need-plain-requires-2
-plain-requires-2 c κs = search needs
-
-enum-known-answer-2 : tie.Need-enum-known-answer-2
-enum-known-answer-2 c = search needs
-
-on-group-requires : tie.Need-on-group-requires
-on-group-requires c κs = search needs
-
-enum-known-answer-3 : tie.Need-enum-known-answer-3
-enum-known-answer-3 c = search needs
-
-on-group-requires-2 : tie.Need-on-group-requires-2
-on-group-requires-2 c κs = search needs
-
-enum-told-3 : tie.Need-enum-told-3
-enum-told-3 c = search needs
-
-plain-requires-3 : tie.Need-plain-requires-3
-plain-requires-3 c κs = search needs
-
-enum-known-answer-4 : tie.Need-enum-known-answer-4
-enum-known-answer-4 c = search needs
-
-no-field-requires : tie.Need-no-field-requires
-no-field-requires c κs = search needs
-
-enum-known-answer-5 : tie.Need-enum-known-answer-5
-enum-known-answer-5 c = search needs
-
-bad-date-requires : tie.Need-bad-date-requires
-bad-date-requires c κs = search needs
-
-enum-told-4 : tie.Need-enum-told-4
-enum-told-4 c = search needs
-
-plain-requires-4 : tie.Need-plain-requires-4
-plain-requires-4 c κs = search needs
-
 returns : tie.Need-returns
 returns c = c .done .ensures ∙ ap writingReply (sym (c .before .before .answer .given .1))
 
@@ -91,24 +37,24 @@ pub reply-of-spec : {M : Type 1} → statement M
 reply-of-spec =
     tie.close
     (tie.spec
-    enum-known-answer
-    done-requires
-    enum-told
-    plain-requires
-    enum-told-2
-    plain-requires-2
-    enum-known-answer-2
-    on-group-requires
-    enum-known-answer-3
-    on-group-requires-2
-    enum-told-3
-    plain-requires-3
-    enum-known-answer-4
-    no-field-requires
-    enum-known-answer-5
-    bad-date-requires
-    enum-told-4
-    plain-requires-4
+    (λ c. search needs)
+    (λ c κs. search needs)
+    (λ c. search needs)
+    (λ c κs. search needs)
+    (λ c. search needs)
+    (λ c κs. search needs)
+    (λ c. search needs)
+    (λ c κs. search needs)
+    (λ c. search needs)
+    (λ c κs. search needs)
+    (λ c. search needs)
+    (λ c κs. search needs)
+    (λ c. search needs)
+    (λ c κs. search needs)
+    (λ c. search needs)
+    (λ c κs. search needs)
+    (λ c. search needs)
+    (λ c κs. search needs)
     returns
     returns-2
     returns-3

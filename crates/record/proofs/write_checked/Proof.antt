@@ -11,20 +11,8 @@ cells-fit-requires c κs =
     let o = c .before .before in
     all-needed (o .args .counts .now) (o .args .cells .now) (o .args .out .now) (o .pre)
 
-enum-known-g : tie.Need-enum-known-g
-enum-known-g c = search needs
-
-enum-told : tie.Need-enum-told
-enum-told c = search needs
-
 date-of-requires : tie.Need-date-of-requires
 date-of-requires c κs = (c .before .before .before .before .before .pre, sym (c .before .before .cells-fit .ensures) ∙ c .enum-told .given .1)
-
-enum-known-position : tie.Need-enum-known-position
-enum-known-position c = search needs
-
-enum-told-2 : tie.Need-enum-told-2
-enum-told-2 c = search needs
 
 write-right-requires : tie.Need-write-right-requires
 write-right-requires c κs = (c .before .before .before .before .before .before .before .before .before .pre, sym (c .before .before .before .before .before .before .cells-fit .ensures) ∙ c .before .before .before .before .enum-told .given .1)
@@ -39,9 +27,6 @@ returns-2 c =
     let o = c .before .before .before .before .before .before .before .before .before in
     date-bad (o .args .counts .now) (o .args .cells .now) (o .args .out .now) (sym (c .before .before .before .before .before .before .cells-fit .ensures) ∙ c .before .before .before .before .enum-told .given .1) (sym (c .before .before .before .date-of .ensures) ∙ c .before .position .given .1)
 
-same-length : tie.Need-same-length
-same-length c = search needs
-
 returns-3 : tie.Need-returns-3
 returns-3 c =
     let o = c .before .before .before .before .before .before .before .before .before .before .before .before in
@@ -52,13 +37,13 @@ write-checked-spec =
     tie.close
     (tie.spec
     cells-fit-requires
-    enum-known-g
-    enum-told
+    (λ c. search needs)
+    (λ c. search needs)
     date-of-requires
-    enum-known-position
-    enum-told-2
+    (λ c. search needs)
+    (λ c. search needs)
     write-right-requires
     returns
     returns-2
-    same-length
+    (λ c. search needs)
     returns-3)

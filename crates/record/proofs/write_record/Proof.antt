@@ -6,32 +6,8 @@ use Rattle.record.proofs.Steps.{checked-by}
 use Rattle.record.proofs.write_record.Statement.{statement}
 use Rattle.record.proofs.write_record.Tie as tie
 
-check-requires : tie.Need-check-requires
-check-requires c κs = search needs
-
-enum-told : tie.Need-enum-told
-enum-told c = search needs
-
 write-checked-requires : tie.Need-write-checked-requires
 write-checked-requires c κs = sym (c .before .before .before .check .ensures) ∙ c .before .enum-told .given .1
-
-enum-told-2 : tie.Need-enum-told-2
-enum-told-2 c = search needs
-
-enum-told-3 : tie.Need-enum-told-3
-enum-told-3 c = search needs
-
-enum-known-g : tie.Need-enum-known-g
-enum-known-g c = search needs
-
-enum-known-g-2 : tie.Need-enum-known-g-2
-enum-known-g-2 c = search needs
-
-enum-told-4 : tie.Need-enum-told-4
-enum-told-4 c = search needs
-
-same-length : tie.Need-same-length
-same-length c = search needs
 
 returns : tie.Need-returns
 returns c =
@@ -67,15 +43,15 @@ pub write-record-spec : {M : Type 1} → statement M
 write-record-spec =
     tie.close
     (tie.spec
-    check-requires
-    enum-told
+    (λ c κs. search needs)
+    (λ c. search needs)
     write-checked-requires
-    enum-told-2
-    enum-told-3
-    enum-known-g
-    enum-known-g-2
-    enum-told-4
-    same-length
+    (λ c. search needs)
+    (λ c. search needs)
+    (λ c. search needs)
+    (λ c. search needs)
+    (λ c. search needs)
+    (λ c. search needs)
     returns
     returns-2
     returns-3
