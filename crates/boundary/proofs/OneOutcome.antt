@@ -56,7 +56,7 @@ list-one κs a n m v w l k =
 pub rewrite-record-one : OneOutcome rewrite-record.ended rewrite-record.Reads.Learnt
 rewrite-record-one κs a n m v w l k =
     let beside = l .0 .besides ∙ sym (k .0 .besides) in
-    let unread = l .1 ∙ sym (k .1) in
-    let table = l .2 ∙ sym (k .2) in
-    let out = l .3 ∙ sym (k .3) in
+    let unread = l .1 .0 ∙ sym (k .1 .0) in
+    let table = l .1 .1 .0 ∙ sym (k .1 .1 .0) in
+    let out = l .1 .1 .1 ∙ sym (k .1 .1 .1) in
     (l .0 .number ∙ sym (k .0 .number), λ i. (tt, (tt, (table i, (out i, (unread i, (beside i, tt)))))))

@@ -13,13 +13,13 @@ sub-length : tie.Need-sub-length
 sub-length c =
     let a = c .before .before .before .args in
     let e = c .before .group-lines-at .ensures in
-    omega (arith, span-range (a .text .now) (a .at) (a .group) .0, e .1 .0 .0, e .1 .0 .1)
+    omega (arith, span-range (a .text .now) (a .at) (a .group) .0, e .1 .0, e .1 .1)
 
 returns : tie.Need-returns
 returns c =
     let a = c .before .before .before .before .before .before .before .args in
     let e = c .before .before .before .before .before .group-lines-at .ensures in
-    (told-as (c .before .before .found-reply .ensures ∙ ap foundReply (e .0)) (c .tell .ensures), rw (e .1 .0 .0, e .1 .0 .1, span-length (a .text .now) (a .at) (a .group)) refl)
+    (told-as (c .before .before .found-reply .ensures ∙ ap foundReply (e .0)) (c .tell .ensures), rw (e .1 .0, e .1 .1, span-length (a .text .now) (a .at) (a .group)) refl)
 
 pub seambeacon-group-lines-spec : {M : Type 1} → statement M
 seambeacon-group-lines-spec =
