@@ -144,6 +144,9 @@ module _ (s : List ℕ) (at g : ℕ) where
       let m = length-drop (partStart s at g) s in
       omega (arith, r .0, r .1, n, m)
 
+  pub span-end : partEnd s at g ≡ partStart s at g + length (partAt s at g)
+  span-end = omega (arith, span-length, span-range .0)
+
   -- the part is the group's part of the record, and holds exactly the group's lines
   pub given-part : foundAt s at g ≡ Given → partAt s at g ≡ groupPart s at (countsAt s at) g
   unfolding partAt partStart partEnd Parts.groupPart

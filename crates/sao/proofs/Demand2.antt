@@ -9,6 +9,7 @@ use Rattle.place.specs.Placing.{countsAt}
 use Rattle.place.proofs.Due as PlacingDue
 use Rattle.reading.proofs.Promises.{done-read-holds}
 use Rattle.group.proofs.Due as GroupDue
+use Rattle.group.proofs.Holding.{span-end}
 use Rattle.record.specs.declared.Writing.the-variants.{Done}
 use Rattle.record.specs.Canonical.{CanonicalRecord}
 use Rattle.record.specs.Writing.{writingOf}
@@ -35,6 +36,7 @@ as-due =
       reading = λ s at g room. GroupDue.first-due s at g room;
       lines = λ s at g. GroupDue.found-first-due s at g;
       part = λ s at g. GroupDue.part-first-due s at g;
+      part-end = span-end;
       characteristic = λ s at k. GroupDue.characteristic-first-due s at k;
       writing = λ ns cs room. WritingDue.first-due ns cs room;
       rewriting = λ s at cells room. RewritingDue.first-due s at cells room;

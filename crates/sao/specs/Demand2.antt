@@ -6,7 +6,7 @@
 use mathlib.Core.Path.{_≡_}
 use mathlib.Core.List.{List, _++_}
 use mathlib.Core.Logic.{_↔_}
-use Prim.Native.Nat.{ℕ, _-_, _≤_}
+use Prim.Native.Nat.{ℕ, _+_, _-_, _≤_}
 use lib.IntN.{ℤ}
 use lib.ListN.{length, take}
 use Rattle.base.specs.Part.{part, over}
@@ -21,7 +21,7 @@ use Rattle.reading.specs.Read.{Cells, tableBy}
 use Rattle.group.specs.declared.Found.{Found}
 use Rattle.group.specs.declared.Characteristic.{Characteristic}
 use Rattle.group.specs.Text.{readAt}
-use Rattle.group.specs.Held.{foundAt, partStart, partAt}
+use Rattle.group.specs.Held.{foundAt, partStart, partEnd, partAt}
 use Rattle.group.specs.Characteristics.{characteristicAt}
 use Rattle.group.specs.Due as GroupIs
 use Rattle.record.specs.declared.Writing.{Writing}
@@ -40,11 +40,11 @@ use Rattle.rewriting.specs.Printed.{printed}
 use Rattle.rewriting.specs.Record.{rewritingOf, bufferBy}
 
 -- "Reading gives the values that the description gives to that text, and refuses with the first reply due under 01's order": every answer is
--- given exactly if it is due. What each Due says stands in 01's words in the layers, without a function that computes an answer: of an index
--- that its columns are entries (place's IsIndex), of a rule that some rule which blames the group is broken and none that blames a lower one
--- (count's Blame), of 0 that the cells are the values of the fields where 01 has them (reading's Values), each field blanks, at most one
--- minus, digits (number's Grammar), of a date that the first field which fails alone is blamed (date's Due), of a refusal that its condition
--- holds and none earlier in the order does.
+-- given exactly if it is due. Where a Due cites another answer (the placing, the counts, what a group reads as), that answer's own Due is a
+-- field here. So a reader comes to plain words: of an index that its columns are entries (place's IsIndex); of a rule that some rule which
+-- blames the group is broken and none that blames a lower one (count's Blame); of 0 that the cells are the values of the fields where 01 has
+-- them (reading's Values), each field blanks, at most one minus, digits (number's Grammar); of a date that the first field which fails alone
+-- is blamed (date's Due); of a refusal that its condition holds and none earlier in the order does.
 pub record GivenAsDue : Type 0 where
   pub placing : (s : List ℕ) (at : ℕ) (p : Placing) → placingOf s at ≡ p ↔ PlacingIs.Due s at p
   pub counts : (s : List ℕ) (at : ℕ) (ns : List ℕ) → countsAt s at ≡ ns ↔ PlacingIs.CountsDue s at ns
@@ -52,6 +52,7 @@ pub record GivenAsDue : Type 0 where
   pub lines : (s : List ℕ) (at g : ℕ) (r : Found) → foundAt s at g ≡ r ↔ GroupIs.FoundDue s at g r
   -- the part is exactly those lines, and stands there
   pub part : (s : List ℕ) (at g from : ℕ) (x : List ℕ) → ((partStart s at g ≡ from) × (partAt s at g ≡ x)) ↔ GroupIs.PartDue s at g from x
+  pub part-end : (s : List ℕ) (at g : ℕ) → partEnd s at g ≡ partStart s at g + length (partAt s at g)
   pub characteristic : (s : List ℕ) (at k : ℕ) (c : Characteristic) → characteristicAt s at k ≡ c ↔ GroupIs.CharacteristicDue s at k c
   pub writing : (ns : List ℕ) (cs : List ℤ) (room : ℕ) (r : Writing) → writingOf ns cs room ≡ r ↔ WritingIs.Due ns cs room r
   pub rewriting : (s : List ℕ) (at cells room : ℕ) (r : Rewriting) → rewritingOf s at cells room ≡ r ↔ RewritingIs.Due s at cells room r
