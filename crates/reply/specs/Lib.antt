@@ -1,2 +1,3 @@
--- 01's table of replies.
+-- The table of replies, with the numbers that each row names (Table), and the refusals in it (Refusals).
 pub mod Table
+pub mod Refusals
