@@ -2,27 +2,44 @@
 -- fewer bytes than that; what is lent afterwards; and each answer fills a row of the question's table.
 -- Assumes nothing.
 use mathlib.Core.Path.{_≡_, refl, sym, _∙_, ap}
-use mathlib.Core.List.{List}
+use mathlib.Core.List.{List, _++_}
 use mathlib.Core.Logic.{_↔_, inl, inr}
-use Prim.Native.Nat.{ℕ, _+_}
+use Prim.Native.Nat.{ℕ, _+_, _≤_}
 use native.Mathlib.Nat.{zero-add}
 use native.Mathlib.Omega.{arith}
-use lib.ListN.{length, take, drop}
+use lib.ListN.{length, take, drop, length-append}
 use lib.Seq.{take-at, drop-at}
 use Rattle.reply.specs.Table.{Numbered}
-use Rattle.reply.proofs.Replies.{fills-plain, fills-done}
+use Rattle.reply.proofs.Replies.{fills-plain, fills-bytes}
 use Rattle.decimal.specs.Writing
 use Rattle.decimal.specs.Writing.{putAnswer, putBytes}
 use Rattle.decimal.specs.declared.Put.{Put}
 use Rattle.decimal.specs.declared.Put.the-variants.{Next, NoRoom}
 use Rattle.decimal.proofs.Writing.{next-means, none-means, end-done, end-none}
 use Rattle.place.proofs.Walked.{stops-some}
-use Rattle.listing.specs.Listing.{listingOf, listing, listedReply, listingRows, IsListing, ListingDue}
+use Rattle.base.specs.Quoted.{bytes}
+use Rattle.decimal.specs.Rows.{rowText}
+use Rattle.place.specs.Placing.{placingOf}
+use Rattle.place.specs.Walk.{spot}
+use Rattle.listing.specs.Rows.{endRow}
+use Rattle.listing.specs.Records.{recordsIn}
+use Rattle.listing.specs.Listing.{rowsFrom, endAt, listingOf, listing, listedReply, listingRows, IsListing, ListingDue}
 use Rattle.listing.proofs.Counted.{records-are, records-stop}
 
-pub listed-numbered : (r : Put) → Numbered listingRows (listedReply r)
-listed-numbered (Next n) = inl (fills-done n)
-listed-numbered NoRoom = inr (inl (fills-plain 11))
+-- a listing has its line `end` at least
+some-line : (s : List ℕ) → 1 ≤ length (listing s)
+unfolding listing listingOf endAt
+some-line s =
+    let many = recordsIn s in
+    let last = rowText (endRow many (spot s many) (placingOf s (spot s many))) in
+    omega (arith, length-append (rowsFrom s 0 many) (bytes "end " ++ last), length-append (bytes "end ") last)
+
+pub listed-numbered : (s out : List ℕ) → Numbered listingRows (listedReply (putAnswer 0 (listing s) out))
+listed-numbered s out = by (putAnswer 0 (listing s) out) refl
+  where
+    by : (r : Put) → putAnswer 0 (listing s) out ≡ r → Numbered listingRows (listedReply r)
+    by (Next n) e = let m = next-means 0 n (listing s) out (putBytes 0 (listing s) out) record { answer = sym e; bytes = refl } in inl (fills-bytes n (omega (arith, m .0, some-line s)))
+    by NoRoom e = inr (inl (fills-plain 11))
 
 -- ---- which text it is
 

@@ -8,7 +8,7 @@ use lib.Dec.{leb}
 use lib.ListN.{length}
 use Rattle.base.specs.Quoted.{bytes}
 use Rattle.reply.specs.declared.Reply.{Reply}
-use Rattle.reply.specs.Table.{replyPlain, replyDone, Row, row, written}
+use Rattle.reply.specs.Table.{replyPlain, replyDone, Row, row, bytes as textBytes}
 use Rattle.decimal.specs.Rows.{rowText}
 use Rattle.decimal.specs.declared.Put.{Put}
 use Rattle.decimal.specs.declared.Put.the-variants.{Next, NoRoom}
@@ -49,7 +49,7 @@ listedReply NoRoom = replyPlain 11
 
 -- the rows of the question
 abbrev pub listingRows : List Row
-listingRows = row 0 (written ∷ []) ∷ row 11 [] ∷ []
+listingRows = row 0 (textBytes ∷ []) ∷ row 11 [] ∷ []
 
 -- ---- as a statement: x is the listing of a text, a line for each record of its walk and then that of where it stops
 pub record IsListing (s x : List ℕ) : Type 0 where

@@ -12,7 +12,7 @@ use lib.ListN.{length, getD}
 use Rattle.base.specs.Every.{has}
 use Rattle.base.proofs.Choice.{or-right}
 use Rattle.reply.specs.declared.Reply.{Reply}
-use Rattle.reply.specs.Table.{Row, row, numbers, replyAt, replyOn, replyPlain, replyDone, replyLine, replyField, replyDate, Fills, Numbered, next, written, group, line, element, position}
+use Rattle.reply.specs.Table.{Row, row, numbers, replyAt, replyOn, replyPlain, replyDone, replyLine, replyField, replyDate, Fills, Numbered, next, cells, bytes, group, line, element, position}
 
 pub fills-plain : (k : ℕ) → Fills (row k []) (replyPlain k)
 fills-plain k =
@@ -30,13 +30,18 @@ pub fills-at : (k n g : ℕ) → 1 ≤ n → 1 ≤ g → Fills (row k (group ∷
 fills-at k n g h j =
     record { numbered = refl; with-next = h; with-written = refl; with-group = j; with-line = refl; with-element = refl; with-position = refl }
 
-pub fills-done : (n : ℕ) → Fills (row 0 (written ∷ [])) (replyDone n)
-fills-done n =
+-- a group may have no cells, but no text is empty
+pub fills-cells : (n : ℕ) → Fills (row 0 (cells ∷ [])) (replyDone n)
+fills-cells n =
     record { numbered = refl; with-next = refl; with-written = omega arith; with-group = refl; with-line = refl; with-element = refl; with-position = refl }
 
-pub fills-both : (n m : ℕ) → 1 ≤ n → Fills (row 0 (next ∷ written ∷ [])) (numbers 0 n m 0 0 0 0)
-fills-both n m h =
-    record { numbered = refl; with-next = h; with-written = omega arith; with-group = refl; with-line = refl; with-element = refl; with-position = refl }
+pub fills-bytes : (n : ℕ) → 1 ≤ n → Fills (row 0 (bytes ∷ [])) (replyDone n)
+fills-bytes n h =
+    record { numbered = refl; with-next = refl; with-written = h; with-group = refl; with-line = refl; with-element = refl; with-position = refl }
+
+pub fills-both : (n m : ℕ) → 1 ≤ n → 1 ≤ m → Fills (row 0 (next ∷ bytes ∷ [])) (numbers 0 n m 0 0 0 0)
+fills-both n m h j =
+    record { numbered = refl; with-next = h; with-written = j; with-group = refl; with-line = refl; with-element = refl; with-position = refl }
 
 pub fills-line : (k l : ℕ) → 1 ≤ l → Fills (row k (line ∷ [])) (replyLine k l 0)
 fills-line k l h =
