@@ -1,10 +1,13 @@
 #!/bin/sh
-# The listing program: record S and its neighbours as 01 lists them, inputs at the limit of 65,536 bytes, and every text of tests/vectors.
-# Expected lines come from 01, from its arithmetic, or from the vectors. Prints each case that fails, and how many passed.
+# The listing program: record S and its neighbours as 01 lists them, inputs at the limit of 65,536 bytes, and every text of tests/vectors, or of
+# the folder that is named. Expected lines come from 01, from its arithmetic, or from the vectors. Prints each case that fails, and how many
+# passed.
 set -u
 cd "$(dirname "$0")/.." || exit 2
 name=list
 . tests/cases
+. tests/limit
+chosen "$@"
 
 listed() { # CASE EXPECTED, with the input on standard input
     ./run list >"$work/got"
@@ -79,22 +82,24 @@ listed 'one byte' "$work/want" <"$work/in"
 printf '\n' >"$work/in"
 listed 'one line feed' "$work/want" <"$work/in"
 
-# 65,536 bytes: 214 records S, and 266 bytes without a line feed behind them
+# 65,536 bytes, the last of them the end of the last record: its 571 bytes are 7 lines with the index
+limit_text 281 >"$work/in"
+sized '65,536 bytes' "$work/in" 65536
 {
-    repeated 214 "$s"
-    filled 266
-} >"$work/in"
-{
-    rows 214 305 '0 0 3 5'
-    echo 'end 214 65270 3 0'
+    rows 213 305 '0 0 3 5'
+    echo '214 64965 65536 0 0 3 7'
+    echo 'end 214 65536 1 0'
 } >"$work/want"
 listed '65,536 bytes, from a file' "$work/want" <"$work/in"
 slowly "$work/in" | ./run list >"$work/got"
 compared '65,536 bytes, from a slow pipe' "$work/want"
 
-# and one byte more
-printf 'x' >>"$work/in"
+# and one byte more, behind the last record or in it
 lines 'end 0 0 11 0'
+printf 'x' >>"$work/in"
+listed '65,536 bytes and one behind the last record' "$work/want" <"$work/in"
+limit_text 282 >"$work/in"
+sized '65,537 bytes' "$work/in" 65537
 listed '65,537 bytes, from a file' "$work/want" <"$work/in"
 slowly "$work/in" | ./run list >"$work/got"
 compared '65,537 bytes, from a slow pipe' "$work/want"
@@ -112,8 +117,9 @@ awk 'BEGIN { for (i = 0; i < 40; i++) printf "  0"; printf "\r\n"; for (i = 0; i
 listed '268 records' "$work/want" <"$work/in"
 
 # every text of the vectors
-for text in tests/vectors/*.sao; do
+counted 'there are texts' texts
+for text in "$vectors"/*.sao; do
     listed "$text" "${text%.sao}.list" <"$text"
 done
 
-finished 125
+finished 133

@@ -1,6 +1,6 @@
 #!/bin/sh
-# The rewriting program: every text of tests/vectors, and what was printed given to it again; record S with other spellings of its fields;
-# records of 8,192 canonical bytes and of one more; output longer than the input may be; inputs at the limit of 65,536 bytes. Expected texts
+# The rewriting program: every text of tests/vectors, or of the folder that is named, and what was printed given to it again; record S with
+# other spellings of its fields; records of 8,192 canonical bytes and of one more; output longer than the input may be; inputs at the limit of 65,536 bytes. Expected texts
 # come from the vectors, from 01, or from its arithmetic. Prints each case that fails, and how many passed.
 set -u
 LC_ALL=C
@@ -8,26 +8,25 @@ export LC_ALL
 cd "$(dirname "$0")/.." || exit 2
 name=rewrite
 . tests/cases
+. tests/limit
+chosen "$@"
 
 rewritten() { # CASE TEXT EXPECTED: what is printed for the text, with what is expected
     ./run rewrite <"$2" >"$work/got"
     compared "$1" "$3"
 }
 
-sized() { # CASE FILE BYTES: the text made has that length
-    counted "$1 has $3 bytes" [ "$(wc -c <"$2")" -eq "$3" ]
-}
-
 s=examples/s.sao
 : >"$work/nothing"
 
-for text in tests/vectors/*.sao; do
+counted 'there are texts' texts
+for text in "$vectors"/*.sao; do
     rewritten "$text" "$text" "${text%.sao}.rewrite"
 done
 
 # what was printed, given to the program again, comes out byte for byte; longer than it takes, nothing
 again=0
-for text in tests/vectors/*.rewrite; do
+for text in "$vectors"/*.rewrite; do
     if [ "$(wc -c <"$text")" -le 65536 ]; then
         rewritten "$text again" "$text" "$text"
         [ -s "$text" ] && again=$((again + 1))
@@ -35,7 +34,7 @@ for text in tests/vectors/*.rewrite; do
         rewritten "$text again" "$text" "$work/nothing"
     fi
 done
-counted 'canonical texts among the vectors' [ "$again" -gt 20 ]
+! own || counted 'canonical texts among the vectors' [ "$again" -gt 20 ]
 
 # ---- record S and its neighbours
 
@@ -108,10 +107,14 @@ sized 'eight records of 8,192 bytes' "$work/text" 65536
 rewritten 'eight records of 8,192 bytes' "$work/text" "$work/text"
 printf ' ' >>"$work/text"
 rewritten 'eight records of 8,192 bytes, and a byte' "$work/text" "$work/nothing"
-repeated 214 "$s" >"$work/want"
-{ cat "$work/want" && awk 'BEGIN { for (i = 0; i < 266; i++) printf "x" }'; } >"$work/text"
-sized 'S 214 times, and 266 bytes' "$work/text" 65536
-rewritten 'S 214 times, and 266 bytes' "$work/text" "$work/want"
+limit_text 281 >"$work/text"
+sized '65,536 bytes' "$work/text" 65536
+rewritten '65,536 bytes, the last of them the end of the last record' "$work/text" "$work/text"
+printf 'x' >>"$work/text"
+rewritten '65,536 bytes and one behind the last record' "$work/text" "$work/nothing"
+limit_text 282 >"$work/text"
+sized '65,537 bytes' "$work/text" 65537
+rewritten '65,537 bytes, the last of them the end of the last record' "$work/text" "$work/nothing"
 
 # ---- output longer than 65,536 bytes: lines of A120 are filled. S with two empty lines in group 2 has 309 bytes, and 549 when rewritten.
 
@@ -132,4 +135,4 @@ repeated 212 "$work/wide" >"$work/want"
 sized 'the output' "$work/want" 116388
 rewritten 'output of 116,388 bytes' "$work/text" "$work/want"
 
-finished 250
+finished 261

@@ -3,7 +3,7 @@
 -- Assumes nothing.
 use mathlib.Core.Path.{_≡_, refl, sym, ap, _∙_}
 use mathlib.Core.List.{List, [], _∷_, _++_}
-use Prim.Native.Nat.{ℕ, zero, suc, _+_, _*_, _/_, _-_, _^_, _<_, _≤_}
+use Prim.Native.Nat.{ℕ, _+_, _*_, _/_, _-_, _^_, _<_, _≤_}
 use native.Mathlib.Nat.{pow-suc, one-le-pow, div-one, div-div-eq-div-mul, pow-le-pow-right, lt-div-mul-add}
 use native.Mathlib.Omega.{arith}
 use lib.Arith.{digits-div}

@@ -1,12 +1,14 @@
--- A reply told as numbers: the same reply is told the same way, and the numbers tell the reply, so nothing is lost at the boundary. Any two
--- outcomes that a contract allows are equal: `outcome-one`, once for each memory lent beside the numbers.
+-- A reply told as numbers: the same reply is told the same way, and the numbers tell the reply, so nothing is lost at the boundary.
 -- Assumes nothing.
 use mathlib.Core.Path.{_≡_, refl, sym, _∙_, ap}
-use mathlib.Core.List.{List}
-use Prim.Native.Nat.{ℕ, _≤_}
+use mathlib.Core.List.{List, map}
+use Prim.Native.Nat.{ℕ}
+use lib.Dec.{T}
 use lib.ListN.{getD}
 use Rattle.reply.specs.declared.Reply.{Reply}
-use Rattle.reply.specs.Table.{Numbered, numbers}
+use Rattle.base.specs.Every.{has}
+use Rattle.reply.specs.Table.{Row, Numbered, numbers}
+use Rattle.reply.proofs.Replies.{numbered-known}
 use Rattle.boundary.specs.Numbers.{besideOf, Told}
 
 module _ {r q : Reply} where
@@ -26,15 +28,6 @@ module _ {r q : Reply} where
       let whole : numbers (r .number) (r .next) (r .written) (r .group) (r .line) (r .element) (r .position) ≡ q = rw (number, next, written, group, line, element, position) refl in
       whole
 
-module _ (r : Reply) where
-  pub told-one : (n m : ℕ) (bs cs : List ℕ) → Told r n bs → Told r m cs → (n ≡ m) × (bs ≡ cs)
-  told-one n m bs cs t u = (t .number ∙ sym (u .number), t .besides ∙ sym (u .besides))
-
-  pub outcome-one : {A : Type 0} (memory : A) (n m : ℕ) (bs cs : List ℕ) (x y : A) → Told r n bs × (x ≡ memory) → Told r m cs × (y ≡ memory) → (n ≡ m) × (bs ≡ cs) × (x ≡ y)
-  outcome-one memory n m bs cs x y a b =
-      let t = told-one n m bs cs (a .0) (b .0) in
-      (t .0, t .1, a .1 ∙ sym (b .1))
-
-  -- "one of the numbered replies": `Numbered` is what `EndsNumbered` of sao says of each question's reply
-  pub told-known : (n : ℕ) (bs : List ℕ) → Numbered r → Told r n bs → n ≤ 14
-  told-known n bs k t = rw (t .number) (k .known)
+-- "one of the numbered replies": `Numbered` is what `EndsNumbered` of sao says of each question's reply
+pub told-known : (rows : List Row) (r : Reply) (n : ℕ) (bs : List ℕ) → Numbered rows r → Told r n bs → T (has (map (λ w. w .number) rows) n)
+told-known rows r n bs k t = rw (t .number) (numbered-known rows r k)

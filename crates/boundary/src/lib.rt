@@ -91,8 +91,8 @@ pub extern "C" fn seambeacon_group_lines_reply(
 ) -> usize
     ensures { λ n. ⌜ Told (linesReply (now (text .entry)) at group) n (now (beside .exit)) ⌝ }
 {
-    let answer = sao::group_lines_reply(text, at, group);
-    tell(group::found_reply(answer), beside)
+    let found = sao::group_lines_at(text, at, group).found;
+    tell(group::found_reply(found), beside)
 }
 
 // Asked: the lines of a group, with their line ends.
@@ -109,7 +109,7 @@ pub extern "C" fn seambeacon_group_lines(
 ) -> usize
     ensures { λ n. ⌜ Told (linesReply (now (text .entry)) at group) n (now (beside .exit)) × (now (part .exit) ≡ partStart (now (text .entry)) at group ∷ length (partAt (now (text .entry)) at group) ∷ []) ⌝ }
 {
-    let lines = group::lines_at(text, at, group);
+    let lines = sao::group_lines_at(text, at, group);
     let found = lines.found;
     let length = lines.to - lines.from;
     *part = [lines.from, length];

@@ -7,11 +7,12 @@ use mathlib.Core.Logic.{_↔_}
 use Prim.Native.Nat.{ℕ}
 use native.Mathlib.Omega.{arith}
 use borrow.Author.Tests.{eqb-true, eqb-false, eq-eqb}
-use lib.Dec.{T, eqb, leb, leb→le, le→leb}
+use lib.Dec.{T, eqb, leb→le, le→leb}
 use lib.ListN.{length, getD}
 use Rattle.base.specs.Every.{every}
 use Rattle.base.proofs.Choice.{true-T, T-true, and-first, and-second, not-T-false}
 use Rattle.base.proofs.Every.{every-at, at-every}
+use Rattle.form.specs.Count.{mostCount, isCount}
 use Rattle.count.specs.Tally.{recordCells}
 use Rattle.count.specs.Rules.{releaseOf, rulingOf}
 use Rattle.count.specs.Check.{wellFormed, byRules, byRelease, checkedOf}
@@ -23,28 +24,29 @@ use Rattle.count.specs.declared.Ruling.the-variants.{Kept, Broken}
 use Rattle.count.specs.declared.Checked.{Checked}
 use Rattle.count.specs.declared.Checked.the-variants.{Right, Misformed, OtherRelease, FilledVacant, BrokenRule, OtherLength}
 use Rattle.count.proofs.Checks.{checked-misformed, checked-release, checked-filled, checked-broken, checked-right, checked-length}
+use Rattle.count.proofs.Rulings.{kept-ruling, ruling-kept, broken-ruling, ruling-broken}
 use Rattle.count.proofs.Releases.{release-given, release-due}
 use Rattle.count.proofs.Tallied.{all-cells}
 
 module _ (ns : List ℕ) where
   -- ---- 4
 
-  pub counts-small : HasCounts ns → T (every (λ n. leb n 999) ns)
-  counts-small h = at-every (λ n. leb n 999) 0 ns (λ i l. le→leb (getD ns i 0) 999 (h .small i (omega (arith, h .many))))
+  pub counts-small : HasCounts ns → T (every isCount ns)
+  counts-small h = at-every isCount 0 ns (λ i l. le→leb (getD ns i 0) mostCount (h .small i (omega (arith, h .many))))
 
   counts-formed : HasCounts ns → wellFormed ns ≡ true
   unfolding wellFormed
-  counts-formed h = rw (eq-eqb (length ns) 80 (h .many)) (T-true (every (λ n. leb n 999) ns) (counts-small h))
+  counts-formed h = rw (eq-eqb (length ns) 80 (h .many)) (T-true (every isCount ns) (counts-small h))
 
-  small-counts : length ns ≡ 80 → T (every (λ n. leb n 999) ns) → HasCounts ns
-  small-counts m t = record { many = m; small = λ i l. leb→le (getD ns i 0) 999 (every-at (λ n. leb n 999) 0 ns t i (omega arith)) }
+  small-counts : length ns ≡ 80 → T (every isCount ns) → HasCounts ns
+  small-counts m t = record { many = m; small = λ i l. leb→le (getD ns i 0) mostCount (every-at isCount 0 ns t i (omega arith)) }
 
   formed-counts : wellFormed ns ≡ true → HasCounts ns
   unfolding wellFormed
   formed-counts w =
       small-counts
-      (eqb-true (length ns) 80 (and-first (eqb (length ns) 80) (every (λ n. leb n 999) ns) w))
-      (true-T (every (λ n. leb n 999) ns) (and-second (eqb (length ns) 80) (every (λ n. leb n 999) ns) w))
+      (eqb-true (length ns) 80 (and-first (eqb (length ns) 80) (every isCount ns) w))
+      (true-T (every isCount ns) (and-second (eqb (length ns) 80) (every isCount ns) w))
 
   not-formed : (HasCounts ns → ⊥) → wellFormed ns ≡ false
   not-formed n = not-T-false (wellFormed ns) (λ t. n (formed-counts (T-true (wellFormed ns) t)))
@@ -54,9 +56,9 @@ module _ (ns : List ℕ) where
 
   module _ (cells : ℕ) where
     -- none of the refusals, told by the answers about release and rules
-    pub has-cells : length ns ≡ 80 → T (every (λ n. leb n 999) ns) → releaseOf ns ≡ Five → rulingOf ns ≡ Kept → cells ≡ recordCells ns → HasCells ns cells
-    has-cells m t r k n =
-        record { rules = record { released = record { counts = small-counts m t; release = rw r at (release-due ns) }; kept = k }; needed = n }
+    pub has-cells : HasCounts ns → releaseOf ns ≡ Five → rulingOf ns ≡ Kept → cells ≡ recordCells ns → HasCells ns cells
+    has-cells h r k n =
+        record { rules = record { released = record { counts = h; release = rw r at (release-due ns) }; kept = ruling-kept ns k }; needed = n }
 
     -- ---- what is due is given
 
@@ -64,11 +66,11 @@ module _ (ns : List ℕ) where
     given Misformed d = checked-misformed ns cells (not-formed d)
     given OtherRelease d = checked-release ns cells (counts-formed (d .counts)) (released Other d)
     given (FilledVacant g) d = checked-filled ns cells (counts-formed (d .counts)) (released (Filled g) d)
-    given (BrokenRule g) d = checked-broken ns cells (counts-formed (d .released .counts)) (released Five (d .released)) (d .broken)
+    given (BrokenRule g) d = checked-broken ns cells (counts-formed (d .released .counts)) (released Five (d .released)) (broken-ruling ns (d .broken))
     given OtherLength d =
-        checked-length ns cells (counts-formed (d .rules .released .counts)) (released Five (d .rules .released)) (d .rules .kept) (λ e. d .other (e ∙ all-cells ns))
+        checked-length ns cells (counts-formed (d .rules .released .counts)) (released Five (d .rules .released)) (kept-ruling ns (d .rules .kept)) (λ e. d .other (e ∙ all-cells ns))
     given Right d =
-        checked-right ns cells (counts-formed (d .rules .released .counts)) (released Five (d .rules .released)) (d .rules .kept) (d .needed ∙ sym (all-cells ns))
+        checked-right ns cells (counts-formed (d .rules .released .counts)) (released Five (d .rules .released)) (kept-ruling ns (d .rules .kept)) (d .needed ∙ sym (all-cells ns))
 
     -- ---- what is given is due
 
@@ -77,8 +79,8 @@ module _ (ns : List ℕ) where
     from-length false h e = record { rules = h; other = eqb-false cells (recordCells ns) e }
 
     from-ruling : (k : Ruling) → Released ns Five → rulingOf ns ≡ k → Due ns cells (byRules ns cells k)
-    from-ruling Kept h e = from-length (eqb cells (recordCells ns)) record { released = h; kept = e } refl
-    from-ruling (Broken g) h e = record { released = h; broken = e }
+    from-ruling Kept h e = from-length (eqb cells (recordCells ns)) record { released = h; kept = ruling-kept ns e } refl
+    from-ruling (Broken g) h e = record { released = h; broken = ruling-broken ns e }
 
     from-release : (r : Release) → Released ns r → Due ns cells (byRelease ns cells r)
     from-release Five h = from-ruling (rulingOf ns) h refl

@@ -3,9 +3,10 @@
 use mathlib.Core.Bool.{Bool, cond, _&&_}
 use mathlib.Core.List.{List}
 use Prim.Native.Nat.{ℕ}
-use lib.Dec.{eqb, leb}
+use lib.Dec.{eqb}
 use lib.ListN.{length}
 use Rattle.base.specs.Every.{every}
+use Rattle.form.specs.Count.{isCount}
 use Rattle.count.specs.Tally.{recordCells}
 use Rattle.count.specs.Rules.{releaseOf, rulingOf}
 use Rattle.count.specs.declared.Release.{Release}
@@ -17,7 +18,7 @@ use Rattle.count.specs.declared.Checked.the-variants.{Right, Misformed, 
 
 -- "in writing, not 80 counts or a count outside 0 to 999" (4)
 unfoldable pub wellFormed : List ℕ → Bool
-wellFormed ns = eqb (length ns) 80 && every (λ n. leb n 999) ns
+wellFormed ns = eqb (length ns) 80 && every isCount ns
 
 -- "table's length differs from the cells that the counts need" (14)
 abbrev pub byLength : List ℕ → ℕ → Checked

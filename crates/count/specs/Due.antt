@@ -3,11 +3,11 @@ use mathlib.Core.Path.{_≡_}
 use mathlib.Core.List.{List}
 use Prim.Native.Nat.{ℕ, _<_, _≤_}
 use lib.ListN.{length, getD}
+use Rattle.form.specs.Count.{mostCount}
 use Rattle.count.specs.Tally.{countOf, recordCells}
-use Rattle.count.specs.Rules.{rulingOf}
+use Rattle.count.specs.Blame.{KeepsRules, BreaksRules}
 use Rattle.count.specs.declared.Release.{Release}
 use Rattle.count.specs.declared.Release.the-variants.{Five, Other, Filled}
-use Rattle.count.specs.declared.Ruling.the-variants.{Kept, Broken}
 use Rattle.count.specs.declared.Checked.{Checked}
 use Rattle.count.specs.declared.Checked.the-variants.{Right, Misformed, OtherRelease, FilledVacant, BrokenRule, OtherLength}
 
@@ -37,7 +37,7 @@ module _ (ns : List ℕ) where
   -- not 4: 80 counts, each 0 to 999
   pub record HasCounts : Type 0 where
     pub many : length ns ≡ 80
-    pub small : (i : ℕ) → i < 80 → getD ns i 0 ≤ 999
+    pub small : (i : ℕ) → i < 80 → getD ns i 0 ≤ mostCount
 
   -- not 4, and what is said of the release
   pub record Released (r : Release) : Type 0 where
@@ -47,12 +47,12 @@ module _ (ns : List ℕ) where
   -- none of 4, 5 and 6; and 7
   pub record Breaks (g : ℕ) : Type 0 where
     pub released : Released Five
-    pub broken : rulingOf ns ≡ Broken g
+    pub broken : BreaksRules ns g
 
   -- nor 7
   pub record HasRules : Type 0 where
     pub released : Released Five
-    pub kept : rulingOf ns ≡ Kept
+    pub kept : KeepsRules ns
 
   -- 14: "table's length differs from the cells that the counts need"
   pub record Differs (cells : ℕ) : Type 0 where

@@ -1,6 +1,7 @@
--- The number in 01's table of replies of the whole check's answers, with the group given besides.
+-- The whole check's answers as replies, and the rows that it can give.
 use Rattle.reply.specs.declared.Reply.{Reply}
-use Rattle.reply.specs.Table.{replyOn, replyPlain}
+use mathlib.Core.List.{List, [], _∷_}
+use Rattle.reply.specs.Table.{replyOn, replyPlain, Row, row, group}
 use Rattle.count.specs.declared.Checked.{Checked}
 use Rattle.count.specs.declared.Checked.the-variants.{Right, Misformed, OtherRelease, FilledVacant, BrokenRule, OtherLength}
 
@@ -11,3 +12,10 @@ checkReply OtherRelease = replyPlain 5
 checkReply (FilledVacant g) = replyOn 6 g
 checkReply (BrokenRule g) = replyOn 7 g
 checkReply OtherLength = replyPlain 14
+
+-- "in writing, not 80 counts or a count outside 0 to 999" (4), 5, 6, 7, 14
+abbrev pub checkRefusals : List Row
+checkRefusals = row 4 [] ∷ row 5 [] ∷ row 6 (group ∷ []) ∷ row 7 (group ∷ []) ∷ row 14 [] ∷ []
+
+abbrev pub checkRows : List Row
+checkRows = row 0 [] ∷ checkRefusals

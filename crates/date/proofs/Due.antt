@@ -1,12 +1,15 @@
 -- First due: a position is blamed exactly if it is that of the first field that fails alone, or it is 7, no field fails alone, and the three
--- name no day; a date is right exactly if neither is so. Two answers that meet the contract are equal.
+-- name no day; a date is right exactly if neither is so.
 -- Assumes nothing.
-use mathlib.Core.Path.{_≡_, refl, sym, ap, _∙_}
-use mathlib.Core.Bool.{Bool, true, false}
+use mathlib.Core.Path.{_≡_, refl, sym, ap, _∙_, subst}
+use mathlib.Core.Bool.{Bool, true, false, true≢false}
 use mathlib.Core.List.{List, [], _∷_, _++_}
-use mathlib.Core.Logic.{_⊎_, inl, inr, ⊎-elim}
-use Prim.Native.Nat.{ℕ}
+use mathlib.Core.Logic.{_↔_, _⊎_, inl, inr, ⊎-elim}
+use Prim.Native.Nat.{ℕ, _≤_}
 use native.Mathlib.Omega.{arith}
+use lib.Dec.{T, leb, leb→le}
+use Rattle.base.specs.Every.{every}
+use Rattle.base.proofs.Choice.{and-left, and-right}
 use Rattle.date.specs.declared.DigitField.{DigitField}
 use Rattle.date.specs.declared.Digits.{Digits}
 use Rattle.date.specs.declared.Digits.the-variants.{Number, Fails}
@@ -14,24 +17,44 @@ use Rattle.date.specs.declared.Date.{Date}
 use Rattle.date.specs.declared.Dated.{Dated}
 use Rattle.date.specs.declared.Dated.the-variants.{Right, Wrong}
 use Rattle.date.specs.Digits.{digitsOf, Reads}
-use Rattle.date.specs.Date.{fields, fails, number, firstBlamed, datedOf, dateOf, namesOneDay, judged, AllHold, FirstFails, Mismatched, IsDate}
+use Rattle.date.specs.Calendar.{isLeap}
+use Rattle.date.specs.Date.{fields, fails, number, firstBlamed, datedOf, dateOf, namesOneDay, judged}
+use Rattle.date.specs.Due.{Holds, FailsAlone, AllHold, FirstFails, HasNumbers, NamesDay, Due}
+use Rattle.date.proofs.Days.{day-named, named-day, not-named}
 use Rattle.date.proofs.Grammar.{read-is, is-read}
 
 held : (x : Digits) → fails x ≡ false → x ≡ Number (number x)
 held (Number v) e = refl
 held Fails e = let z : _≡_ {A = ℕ} 0 1 = cc in absurd (omega arith)
 
+-- a field holds exactly if the text has its digits, and fails alone exactly if it has none
+holds-passes : (f : DigitField) (s : List ℕ) → Holds f s → fails (digitsOf f s) ≡ false
+holds-passes f s h = rw (is-read f s (h .value) (h .reads))
+
+passes-reads : (f : DigitField) (s : List ℕ) → fails (digitsOf f s) ≡ false → Reads f s (number (digitsOf f s))
+passes-reads f s e = read-is f s (number (digitsOf f s)) (held (digitsOf f s) e)
+
+alone-fails : (f : DigitField) (s : List ℕ) → FailsAlone f s → fails (digitsOf f s) ≡ true
+alone-fails f s h = by (fails (digitsOf f s)) refl
+  where
+    by : (t : Bool) → fails (digitsOf f s) ≡ t → t ≡ true
+    by true e = refl
+    by false e = absurd (h (number (digitsOf f s)) (passes-reads f s e))
+
+fails-alone : (f : DigitField) (s : List ℕ) → fails (digitsOf f s) ≡ true → FailsAlone f s
+fails-alone f s e v r = absurd (true≢false (sym e ∙ holds-passes f s record { value = v; reads = r }))
+
 -- ---- any list of fields: all hold and the answer is as given, or the first that fails is blamed
 
 hold-given : (fs : List DigitField) (s : List ℕ) (given : Dated) → AllHold fs s → firstBlamed fs s given ≡ given
 unfolding firstBlamed
 hold-given [] s given a = refl
-hold-given (f ∷ fs) s given a = rw (a .0) (hold-given fs s given (a .1))
+hold-given (f ∷ fs) s given a = rw (holds-passes f s (a .0)) (hold-given fs s given (a .1))
 
-before-holds : (bs : List DigitField) (f : DigitField) (cs : List DigitField) (s : List ℕ) (given : Dated) → AllHold bs s → fails (digitsOf f s) ≡ true → firstBlamed (bs ++ (f ∷ cs)) s given ≡ Wrong (f .first)
+before-holds : (bs : List DigitField) (f : DigitField) (cs : List DigitField) (s : List ℕ) (given : Dated) → AllHold bs s → FailsAlone f s → firstBlamed (bs ++ (f ∷ cs)) s given ≡ Wrong (f .first)
 unfolding firstBlamed
-before-holds [] f cs s given a e = rw e
-before-holds (b ∷ bs) f cs s given a e = rw (a .0) (before-holds bs f cs s given (a .1) e)
+before-holds [] f cs s given a h = rw (alone-fails f s h)
+before-holds (b ∷ bs) f cs s given a h = rw (holds-passes b s (a .0)) (before-holds bs f cs s given (a .1) h)
 
 first-fails : (fs : List DigitField) (s : List ℕ) (p : ℕ) (given : Dated) → FirstFails fs s p → firstBlamed fs s given ≡ Wrong p
 first-fails fs s p given r = rw (r .order, r .position) (before-holds (r .before) (r .field) (r .behind) s given (r .hold) (r .failing))
@@ -42,8 +65,8 @@ Found fs s = AllHold fs s ⊎ ((p : ℕ) × FirstFails fs s p)
 
 found-more : (f : DigitField) (fs : List DigitField) (s : List ℕ) (t : Bool) → fails (digitsOf f s) ≡ t → Found fs s → Found (f ∷ fs) s
 found-more f fs s true e r =
-    inr (f .first, record { before = []; field = f; behind = fs; order = refl; hold = tt; failing = e; position = refl })
-found-more f fs s false e (inl a) = inl (e, a)
+    inr (f .first, record { before = []; field = f; behind = fs; order = refl; hold = tt; failing = fails-alone f s e; position = refl })
+found-more f fs s false e (inl a) = inl (record { value = number (digitsOf f s); reads = passes-reads f s e }, a)
 found-more f fs s false e (inr r) =
     let q = r .1 in
     inr (
@@ -53,7 +76,7 @@ found-more f fs s false e (inr r) =
         field = q .field;
         behind = q .behind;
         order = ap (λ l. f ∷ l) (q .order);
-        hold = (e, q .hold);
+        hold = (record { value = number (digitsOf f s); reads = passes-reads f s e }, q .hold);
         failing = q .failing;
         position = q .position;
       },
@@ -62,6 +85,46 @@ found-more f fs s false e (inr r) =
 found : (fs : List DigitField) (s : List ℕ) → Found fs s
 found [] s = inl tt
 found (f ∷ fs) s = found-more f fs s (fails (digitsOf f s)) refl (found fs s)
+
+-- ---- the seven numbers
+
+-- fields that hold read as the numbers of `dateOf`
+all-numbers : (s : List ℕ) → AllHold fields s → HasNumbers s (dateOf s)
+all-numbers s (y, (n, (m, (d, (h, (i, (e, _))))))) =
+    record {
+      in-year = passes-reads _ s (holds-passes _ s y);
+      on-day-of-year = passes-reads _ s (holds-passes _ s n);
+      in-month = passes-reads _ s (holds-passes _ s m);
+      on-day = passes-reads _ s (holds-passes _ s d);
+      at-hour = passes-reads _ s (holds-passes _ s h);
+      at-minute = passes-reads _ s (holds-passes _ s i);
+      at-second = passes-reads _ s (holds-passes _ s e);
+    }
+
+read-holds : {f : DigitField} {s : List ℕ} {v : ℕ} → Reads f s v → Holds f s
+read-holds {v = v} r = record { value = v; reads = r }
+
+numbers-hold : (s : List ℕ) (d : Date) → HasNumbers s d → AllHold fields s
+numbers-hold s d n =
+    (read-holds (n .in-year), (read-holds (n .on-day-of-year), (read-holds (n .in-month), (read-holds (n .on-day), (read-holds (n .at-hour), (read-holds (n .at-minute), (read-holds (n .at-second), tt)))))))
+
+numbers-are : (s : List ℕ) (d : Date) → HasNumbers s d → dateOf s ≡ d
+numbers-are s d n =
+    rw (
+      is-read _ s _ (n .in-year),
+      is-read _ s _ (n .on-day-of-year),
+      is-read _ s _ (n .in-month),
+      is-read _ s _ (n .on-day),
+      is-read _ s _ (n .at-hour),
+      is-read _ s _ (n .at-minute),
+      is-read _ s _ (n .at-second),
+    )
+
+day-names : (d : Date) → NamesDay d → namesOneDay d ≡ true
+day-names d h = day-named (isLeap (d .year)) (d .«day_of_year») (d .month) (d .day) h
+
+no-day-names : (d : Date) → (NamesDay d → ⊥) → namesOneDay d ≡ false
+no-day-names d h = not-named (isLeap (d .year)) (d .«day_of_year») (d .month) (d .day) h
 
 -- ---- the answer on the letters of group 3
 
@@ -73,51 +136,40 @@ fails-blamed : (s : List ℕ) (p : ℕ) → FirstFails fields s p → datedOf s 
 unfolding datedOf
 fails-blamed s p r = first-fails fields s p (judged (dateOf s)) r
 
-pub is-blamed : (s : List ℕ) (p : ℕ) → FirstFails fields s p ⊎ Mismatched s p → datedOf s ≡ Wrong p
-is-blamed s p (inl r) = fails-blamed s p r
-is-blamed s p (inr m) = hold-judged s (m .hold) ∙ rw (m .no-day, m .position)
+judged-of : (s : List ℕ) (d : Date) → HasNumbers s d → datedOf s ≡ judged d
+judged-of s d n = hold-judged s (numbers-hold s d n) ∙ ap judged (numbers-are s d n)
 
-pub is-right : (s : List ℕ) (d : Date) → IsDate s d → datedOf s ≡ Right d
-is-right s d i = hold-judged s (i .hold) ∙ rw (i .one-day) (ap Right (sym (i .numbers)))
+due-given : (s : List ℕ) (x : Dated) → Due s x → datedOf s ≡ x
+due-given s (Right d) i = judged-of s d (i .numbers) ∙ rw (day-names d (i .one-day))
+due-given s (Wrong p) (inl r) = fails-blamed s p r
+due-given s (Wrong p) (inr m) = judged-of s (m .date) (m .numbers) ∙ rw (no-day-names (m .date) (m .no-day), m .position)
 
-blamed-judged : (s : List ℕ) (p : ℕ) (d : Date) (t : Bool) → namesOneDay d ≡ t → judged d ≡ Wrong p → (t ≡ false) × (p ≡ 7)
-blamed-judged s p d true e w = let f : Right d ≡ Wrong p = rw e at w in let z : _≡_ {A = ℕ} 0 1 = cc in absurd (omega arith)
-blamed-judged s p d false e w = let f : Wrong 7 ≡ Wrong p = rw e at w in (refl, cc)
+-- no field fails alone: the calendar decides
+judged-due : (s : List ℕ) (t : Bool) → HasNumbers s (dateOf s) → namesOneDay (dateOf s) ≡ t → Due s (judged (dateOf s))
+judged-due s true n e =
+    let d = dateOf s in
+    rw e record { numbers = n; one-day = named-day (isLeap (d .year)) (d .«day_of_year») (d .month) (d .day) e }
+judged-due s false n e =
+    rw e (inr (record { date = dateOf s; numbers = n; no-day = λ h. true≢false (sym (day-names (dateOf s) h) ∙ e); position = refl }))
 
-right-judged : (s : List ℕ) (c d : Date) (t : Bool) → namesOneDay d ≡ t → judged d ≡ Right c → (t ≡ true) × (c ≡ d)
-right-judged s c d true e w = let f : Right d ≡ Right c = rw e at w in (refl, cc)
-right-judged s c d false e w = let f : Wrong 7 ≡ Right c = rw e at w in let z : _≡_ {A = ℕ} 0 1 = cc in absurd (omega arith)
-
-pub blamed-is : (s : List ℕ) (p : ℕ) → datedOf s ≡ Wrong p → FirstFails fields s p ⊎ Mismatched s p
-blamed-is s p e =
+given-due : (s : List ℕ) → Due s (datedOf s)
+given-due s =
     ⊎-elim
-    (λ a.
-    let r = blamed-judged s p (dateOf s) (namesOneDay (dateOf s)) refl (sym (hold-judged s a) ∙ e) in
-    inr (record { hold = a; no-day = r .0; position = r .1 }))
-    (λ r.
-    let q : r .0 ≡ p = let w = sym (fails-blamed s (r .0) (r .1)) ∙ e in cc in
-    inl (rw q at (r .1)))
+    (λ a. subst (Due s) (sym (hold-judged s a)) (judged-due s (namesOneDay (dateOf s)) (all-numbers s a) refl))
+    (λ r. subst (Due s) (sym (fails-blamed s (r .0) (r .1))) (inl (r .1)))
     (found fields s)
 
-pub right-is : (s : List ℕ) (d : Date) → datedOf s ≡ Right d → IsDate s d
-right-is s d e =
-    ⊎-elim
-    (λ a.
-    let r = right-judged s d (dateOf s) (namesOneDay (dateOf s)) refl (sym (hold-judged s a) ∙ e) in
-    record { hold = a; one-day = r .0; numbers = r .1 })
-    (λ r. let w = sym (fails-blamed s (r .0) (r .1)) ∙ e in let z : _≡_ {A = ℕ} 0 1 = cc in absurd (omega arith))
-    (found fields s)
+pub first-due : (s : List ℕ) (x : Dated) → datedOf s ≡ x ↔ Due s x
+first-due s x = (λ e. subst (Due s) e (given-due s), due-given s x)
 
--- a field holds exactly if the text has its digits
-pub holds-reads : (f : DigitField) (s : List ℕ) → fails (digitsOf f s) ≡ false → Reads f s (number (digitsOf f s))
-holds-reads f s e = read-is f s (number (digitsOf f s)) (held (digitsOf f s) e)
+-- ---- a position that is blamed is one: positions count from 1
 
-pub reads-holds : (f : DigitField) (s : List ℕ) (v : ℕ) → Reads f s v → fails (digitsOf f s) ≡ false
-reads-holds f s v r = rw (is-read f s v r)
+first-one : (bs : List DigitField) (f : DigitField) (cs : List DigitField) → T (every (λ d. leb 1 (d .first)) (bs ++ (f ∷ cs))) → 1 ≤ f .first
+first-one [] f cs t = leb→le 1 (f .first) (and-left (leb 1 (f .first)) (every (λ d. leb 1 (d .first)) cs) t)
+first-one (b ∷ bs) f cs t = first-one bs f cs (and-right (leb 1 (b .first)) (every (λ d. leb 1 (d .first)) (bs ++ (f ∷ cs))) t)
 
--- each contract leaves one outcome
-pub dated-once : (s : List ℕ) (a b : Dated) → a ≡ datedOf s → b ≡ datedOf s → a ≡ b
-dated-once s a b p q = p ∙ sym q
-
-pub digits-once : (f : DigitField) (s : List ℕ) (a b : Digits) → a ≡ digitsOf f s → b ≡ digitsOf f s → a ≡ b
-digits-once f s a b p q = p ∙ sym q
+pub blamed-position : (s : List ℕ) (p : ℕ) → Due s (Wrong p) → 1 ≤ p
+blamed-position s p (inl r) =
+    let l = first-one (r .before) (r .field) (r .behind) (subst (λ fs. T (every (λ d. leb 1 (d .first)) fs)) (r .order) tt) in
+    omega (arith, l, r .position)
+blamed-position s p (inr m) = omega (arith, m .position)

@@ -1,8 +1,7 @@
 -- "Group 3, positions 3-6 year, 7-9 day of year, 10-11 month, 12-13 day, 14-15 hour, 16-17 minute, 18-19 second. All digits, zero filled; day
 -- of year 1-366, month 1-12, day 1-31, hour 0-23, minute and second 0-59."
-use mathlib.Core.Path.{_≡_}
 use mathlib.Core.Bool.{Bool, true, false, cond}
-use mathlib.Core.List.{List, [], _∷_, _++_}
+use mathlib.Core.List.{List, [], _∷_}
 use Prim.Native.Nat.{ℕ, suc, _-_}
 use Rattle.date.specs.declared.DigitField.{DigitField}
 use Rattle.date.specs.declared.Digits.{Digits}
@@ -79,32 +78,3 @@ judged d = cond (namesOneDay d) (Right d) (Wrong 7)
 -- the date that the letters of group 3 tell, or the position blamed
 unfoldable pub datedOf : List ℕ → Dated
 datedOf s = firstBlamed fields s (judged (dateOf s))
-
--- ---- who is blamed, as a statement (proofs/Due.antt)
-
--- each of these fields reads as a number
-abbrev pub AllHold : List DigitField → List ℕ → Type 0
-AllHold [] s = Unit {0}
-AllHold (f ∷ fs) s = (fails (digitsOf f s) ≡ false) × AllHold fs s
-
--- one of the fields fails alone, none before it does, and p is its first position
-pub record FirstFails (fs : List DigitField) (s : List ℕ) (p : ℕ) : Type 0 where
-  pub before : List DigitField
-  pub field : DigitField
-  pub behind : List DigitField
-  pub order : fs ≡ before ++ (field ∷ behind)
-  pub hold : AllHold before s
-  pub failing : fails (digitsOf field s) ≡ true
-  pub position : p ≡ field .first
-
--- no field fails alone, but day of year, month and day name no day of that year
-pub record Mismatched (s : List ℕ) (p : ℕ) : Type 0 where
-  pub hold : AllHold fields s
-  pub no-day : namesOneDay (dateOf s) ≡ false
-  pub position : p ≡ 7
-
--- no field fails alone, the three name one day, and d has the seven numbers
-pub record IsDate (s : List ℕ) (d : Date) : Type 0 where
-  pub hold : AllHold fields s
-  pub one-day : namesOneDay (dateOf s) ≡ true
-  pub numbers : d ≡ dateOf s

@@ -1,5 +1,6 @@
 -- The section "Date" of 01: what a digit field reads as (Digits), what a day of a year is (Calendar), and what group 3's letters tell
--- (Date).
+-- (Date), as a statement too (Due).
 pub mod Digits
 pub mod Calendar
 pub mod Date
+pub mod Due

@@ -115,10 +115,6 @@ none-means at text old new h = go (fits at text old) refl (h .answer) (h .bytes)
     go true u e b = let z : _≡_ {A = ℕ} 0 1 = cc in absurd (omega arith)
     go false u e b = (leb-false (at + length text) (length old) u, b)
 
--- any two outcomes are equal
-pub puts-one : (at : ℕ) (text old : List ℕ) (r q : Put) (new other : List ℕ) → Puts at text old r new → Puts at text old q other → (r ≡ q) × (new ≡ other)
-puts-one at text old r q new other g h = (g .answer ∙ sym (h .answer), g .bytes ∙ sym (h .bytes))
-
 -- no byte is added or lost
 pub puts-length : (at : ℕ) (text old : List ℕ) (r : Put) (new : List ℕ) → Puts at text old r new → length new ≡ length old
 puts-length at text old (Next n) new h =

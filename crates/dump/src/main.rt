@@ -101,16 +101,7 @@ fn print_stop(place: usize, r: Reply, page: &mut [u8]) {
     print_row(b"stop", page, end);
 }
 
-// Where the part begins that `lines_part` gives: the lines' place, or the text's start.
-fn part_from(text: &[u8], at: usize, counts: &[u16], g: usize) -> usize {
-    let r = group::found_reply(group::lines_reply(text, at, g));
-    if r.number == 0 {
-        return place::span_of(text, at, counts, g).from;
-    }
-    0
-}
-
-// Where it ends.
+// Where a part of the text ends that begins at a place.
 fn part_to(text: &[u8], from: usize, part: &[u8]) -> usize {
     if text.len() < from {
         return 0;
@@ -121,11 +112,11 @@ fn part_to(text: &[u8], from: usize, part: &[u8]) -> usize {
     from + part.len()
 }
 
-fn print_group(text: &[u8], at: usize, counts: &[u16], g: usize, page: &mut [u8]) {
+fn print_group(text: &[u8], at: usize, g: usize, page: &mut [u8]) {
     let mut table = [0i64; 2048];
-    let r = reading::reply_of(group::read_group(text, at, g, &mut table));
-    let from = part_from(text, at, counts, g);
-    let part = group::lines_part(text, at, g);
+    let r = reading::reply_of(sao::read_group(text, at, g, &mut table));
+    let from = sao::group_lines_at(text, at, g).from;
+    let part = sao::group_lines(text, at, g);
     let number = put(page, 0, g);
     let told = put_reply(page, number, r);
     let start = put(page, told, from);
@@ -152,7 +143,7 @@ fn told(c: Characteristic) -> Shown {
 }
 
 fn print_characteristic(text: &[u8], at: usize, number: usize, page: &mut [u8]) {
-    let answer = group::characteristic_at(text, at, number);
+    let answer = sao::characteristic(text, at, number);
     let t = told(answer);
     let r = group::characteristic_reply(answer);
     let first = put(page, 0, number);
@@ -162,10 +153,10 @@ fn print_characteristic(text: &[u8], at: usize, number: usize, page: &mut [u8]) 
     print_row(b"char", page, end);
 }
 
-fn print_groups(text: &[u8], at: usize, counts: &[u16], page: &mut [u8]) {
+fn print_groups(text: &[u8], at: usize, page: &mut [u8]) {
     let mut g: usize = 1;
     while g <= 60 {
-        print_group(text, at, counts, g, page);
+        print_group(text, at, g, page);
         g += 1;
     }
 }
@@ -183,7 +174,7 @@ fn print_records(text: &[u8], page: &mut [u8]) {
     let mut at: usize = 0;
     let mut k: usize = 0;
     while k < 300 {
-        let record = place::place(text, at);
+        let record = sao::place(text, at);
         let answer = record.answer;
         let counts = record.counts;
         let r = place::reply_of(answer);
@@ -192,7 +183,7 @@ fn print_records(text: &[u8], page: &mut [u8]) {
             return;
         }
         print_record(at, r, &counts, page);
-        print_groups(text, at, &counts, page);
+        print_groups(text, at, page);
         print_characteristics(text, at, page);
         at = r.next;
         k += 1;

@@ -3,6 +3,7 @@
 use mathlib.Core.Path.{_≡_, refl, sym, ap, _∙_}
 use mathlib.Core.Bool.{true, false}
 use mathlib.Core.List.{List, _++_}
+use mathlib.Core.Logic.{_↔_}
 use Prim.Native.Nat.{ℕ, zero, _≤_}
 use native.Mathlib.Omega.{arith}
 use borrow.Author.Tests.{eq-eqb, eqb-true}
@@ -25,7 +26,8 @@ use Rattle.number.proofs.Unique.{lean-text}
 use Rattle.number.proofs.Fits.{i-canonical}
 use Rattle.number.proofs.Text.{i-length, i-printable}
 use Rattle.field.specs.declared.Entry.the-variants.{Count, Misformed}
-use Rattle.field.specs.Entry.{IsEntry, CanonicalEntry, countIn, entryOf, entryText, entryFits}
+use Rattle.form.specs.Count.{mostCount, isCount}
+use Rattle.field.specs.Entry.{IsEntry, HasEntry, CanonicalEntry, countIn, entryOf, entryText}
 
 -- ---- reading
 
@@ -57,16 +59,16 @@ is-entry s n i =
 
 -- ---- fits exactly
 
-pub entry-fitting : (s : List ℕ) (n : ℕ) → IsEntry s n → T (entryFits n)
+pub entry-fitting : (s : List ℕ) (n : ℕ) → IsEntry s n → T (isCount n)
 entry-fitting s n i =
     let d : length (digitText (i .digits)) ≡ length (i .digits) = simp length-map in
     let l = length-append (replicate (i .blanks) 32) (digitText (i .digits)) in
     let w : length (i .digits) ≤ 3 = omega (arith, ap length (i .text), i .width) in
-    le→leb n 999 (omega (arith, i .value, number-within (i .digits) 3 (i .each) w))
+    le→leb n mostCount (omega (arith, i .value, number-within (i .digits) 3 (i .each) w))
 
 -- ---- canonical is one
 
-pub entry-canonical : (n : ℕ) → T (entryFits n) → CanonicalEntry (entryText n) n
+pub entry-canonical : (n : ℕ) → T (isCount n) → CanonicalEntry (entryText n) n
 entry-canonical n t =
     let c = i-canonical 2 99 999 refl refl (pos n) t in
     let m = numberOf (c .digits) in
@@ -93,7 +95,7 @@ canonical-entry s n c =
 
 -- ---- written reads
 
-pub entry-back : (n : ℕ) → T (entryFits n) → entryOf (entryText n) ≡ Count n
+pub entry-back : (n : ℕ) → T (isCount n) → entryOf (entryText n) ≡ Count n
 entry-back n t = is-entry (entryText n) n (canonical-entry (entryText n) n (entry-canonical n t))
 
 pub entry-wide : (n : ℕ) → length (entryText n) ≡ 3
@@ -101,3 +103,7 @@ entry-wide n = i-length 3 (pos n)
 
 pub entry-plain : (n : ℕ) → T (every printable (entryText n))
 entry-plain n = i-printable 3 (pos n)
+
+-- a count has an entry exactly if it is 0 to 999
+pub has-entry : (n : ℕ) → HasEntry n ↔ T (isCount n)
+has-entry n = (λ h. entry-fitting (h .columns) n (h .entry), λ t. record { columns = entryText n; entry = canonical-entry (entryText n) n (entry-canonical n t) })

@@ -4,6 +4,7 @@
 use mathlib.Core.Path.{_≡_, refl, sym, ap, _∙_, subst}
 use mathlib.Core.Bool.{Bool, true, false, cond}
 use mathlib.Core.List.{List, [], _∷_, map}
+use mathlib.Core.Logic.{_↔_}
 use Prim.Native.Nat.{ℕ, zero, suc, _+_, _-_, _^_}
 use native.Mathlib.Omega.{arith}
 use borrow.Author.Tests.{eq-eqb, eqb-true}
@@ -37,7 +38,7 @@ use Rattle.field.specs.declared.Kind.the-variants.{Whole, Fixed, Power, 
 use Rattle.field.specs.declared.Value.{Value}
 use Rattle.field.specs.declared.Value.the-variants.{Cell, Letters as LetterBytes, Misformed}
 use Rattle.field.specs.Kind.{kindOf, widthOf, countOf, Tens}
-use Rattle.field.specs.Grammar.{One, Two, IsA, ShapeOf, IsField}
+use Rattle.field.specs.Grammar.{One, Two, IsA, ShapeOf, IsField, SomeField}
 use Rattle.field.specs.Canonical.{CanonicalAs, IsCanonical}
 use Rattle.field.specs.Read.{valueOf, readAs, fieldOf, cellsIn, formed, Reads}
 use Rattle.field.specs.Write.{cellAt, isLetter, rangeOf, fitsOf, textAs, fieldText}
@@ -326,3 +327,10 @@ lawful f =
       one = one f;
       again = λ s cs c. is-reads f s cs (canonical-is f s cs c);
     }
+
+-- a field is formed exactly if the grammar has some cells for it
+pub some-field : (f : Form) (s : List ℕ) → T (formed (fieldOf f s)) ↔ SomeField f s
+some-field f s = (
+  λ t. record { cells = cellsIn s (fieldOf f s); is = lawful f .reads-is s (cellsIn s (fieldOf f s)) record { good = t; cells = refl } },
+  λ h. lawful f .is-reads s (h .cells) (h .is) .good,
+)

@@ -1,9 +1,9 @@
 -- Index entries: "Index entries are I3 without a minus, so ` -0` is misformed there."
 use mathlib.Core.Path.{_≡_}
-use mathlib.Core.Bool.{Bool, true, false, cond}
+use mathlib.Core.Bool.{true, false, cond}
 use mathlib.Core.List.{List, _++_}
 use Prim.Native.Nat.{ℕ, _<_}
-use lib.Dec.{leb, eqb}
+use lib.Dec.{eqb}
 use lib.ListN.{length, replicate}
 use Rattle.base.specs.Digits.{AllDigits, numberOf, digitText, Lean}
 use Rattle.number.specs.declared.Scan.{Scan}
@@ -22,6 +22,11 @@ pub record IsEntry (s : List ℕ) (n : ℕ) : Type 0 where
   pub some : 0 < length digits
   pub text : s ≡ replicate blanks 32 ++ digitText digits
   pub value : n ≡ numberOf digits
+
+-- some three columns are an entry of this count
+pub record HasEntry (n : ℕ) : Type 0 where
+  pub columns : List ℕ
+  pub entry : IsEntry columns n
 
 -- without needless zeros
 pub record CanonicalEntry (s : List ℕ) (n : ℕ) : Type 0 where
@@ -46,7 +51,3 @@ entryOf s = cond (eqb (length s) 3) (countIn (scanOf Blanks s)) Misformed
 
 abbrev pub entryText : ℕ → List ℕ
 entryText n = textOf false 3 (Digits false n)
-
--- "a count outside 0 to 999"
-abbrev pub entryFits : ℕ → Bool
-entryFits n = leb n 999

@@ -44,3 +44,8 @@ ShapeOf (AllLetters w) s cs = IsA s cs
 pub record IsField (f : Form) (s : List ℕ) (cs : List ℤ) : Type 0 where
   pub width : length s ≡ rowOf f .width
   pub shape : ShapeOf (kindOf f) s cs
+
+-- s is a field of the form, whatever its cells are
+pub record SomeField (f : Form) (s : List ℕ) : Type 0 where
+  pub cells : List ℤ
+  pub is : IsField f s cells

@@ -20,7 +20,7 @@ kindOf E20 = Power 3 12 2 999999999999 99
 kindOf A1 = OneLetter
 kindOf A120 = AllLetters 120
 
--- the width and the number of cells, which are the form's row (`kind-row` in proofs/Forms)
+-- the width and the number of cells, which are the form's row (`kind-width`, `kind-cells` in proofs/Forms.antt)
 abbrev pub widthOf : Kind → ℕ
 widthOf (Whole w low high) = w
 widthOf (Fixed w low high) = w

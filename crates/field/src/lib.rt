@@ -16,7 +16,8 @@ ghost use Rattle.number.specs.Scan.{Below};
 ghost use Rattle.field.specs.Kind.{kindOf, widthOf, countOf, Small};
 ghost use Rattle.field.specs.Read.{valueOf, readAs, fieldOf};
 ghost use Rattle.field.specs.Write.{isLetter, rangeOf, fitsOf, textAs, fieldText, Wrote};
-ghost use Rattle.field.specs.Entry.{countIn, entryOf, entryText, entryFits};
+ghost use Rattle.form.specs.Count.{isCount};
+ghost use Rattle.field.specs.Entry.{countIn, entryOf, entryText};
 
 // What a field reads as: a cell; the two cells of an E field; letters, whose cells are the bytes themselves.
 pub enum Value {
@@ -450,7 +451,7 @@ pub fn put_entry(count: u16, out: &mut [u8], at: usize)
 
 // Writes the canonical text of a count at a place, or nothing.
 pub fn write_entry(count: u16, out: &mut [u8], at: usize) -> Written
-    ensures { λ r. ⌜ Wrote (entryFits count) (entryText count) at 3 (now (out .entry)) r (now (out .exit)) ⌝ }
+    ensures { λ r. ⌜ Wrote (isCount count) (entryText count) at 3 (now (out .entry)) r (now (out .exit)) ⌝ }
 {
     if 999 < count {
         return Written::NoField;

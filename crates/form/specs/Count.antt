@@ -1,8 +1,17 @@
--- What a group's count means: its elements, lines and cells.
+-- Which counts there are, and what a group's count means: its elements, lines and cells.
+use mathlib.Core.Bool.{Bool}
 use Prim.Native.Nat.{ℕ, _+_, _-_, _*_, _/_, _<_, _≤_}
 use mathlib.Core.Path.{_≡_}
+use lib.Dec.{leb}
 use Rattle.form.specs.declared.Form.{Form}
 use Rattle.form.specs.Table.{rowOf}
+
+-- a count is what three columns of an index hold: 0 to 999
+abbrev pub mostCount : ℕ
+mostCount = 999
+
+abbrev pub isCount : ℕ → Bool
+isCount n = leb n mostCount
 
 -- "Number g is the count of elements of group g." "Group 40's count is taken as a count of elements."
 unfoldable pub elementsOf : Form → ℕ → ℕ

@@ -1,7 +1,7 @@
 -- "Each field form has its width, its elements per line and its cells", with the groups that have the form.
 use mathlib.Core.Bool.{cond}
 use mathlib.Core.List.{List, [], _∷_}
-use Prim.Native.Nat.{ℕ}
+use Prim.Native.Nat.{ℕ, _≤_}
 use Rattle.base.specs.Every.{has}
 use Rattle.form.specs.declared.Row.{Row}
 use Rattle.form.specs.declared.Form.{Form}
@@ -59,3 +59,7 @@ formAmong (f ∷ fs) g = cond (has (entryOf f .groups) g) (Has f) (formAmong fs 
 -- "The form follows from the group number."
 unfoldable pub formOf : ℕ → GroupForm
 formOf g = formAmong forms g
+
+-- 12: "no group 1-60 .. of that number" (`no-group` in proofs/Table.antt: exactly the numbers that have no form)
+abbrev pub NoSuchGroup : ℕ → Type 0
+NoSuchGroup g = (1 ≤ g) × (g ≤ 60) → ⊥

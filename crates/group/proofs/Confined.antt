@@ -23,13 +23,15 @@ use Rattle.place.specs.declared.Placing.{Placing}
 use Rattle.place.specs.Parts
 use Rattle.place.specs.Parts.{start, groupPart}
 use Rattle.place.specs.Placing
-use Rattle.place.specs.Placing.{Located, located, refused, locate, placingOf, countsBy, countsAt}
+use Rattle.place.specs.Placing.{Located, located, refused, locate, placingOf, countsAt}
 use Rattle.place.specs.Walk.{spot, IsRecord, Stops}
 use Rattle.place.proofs.Local.{placing-same}
+use Rattle.place.specs.declared.Placing.the-variants.{Placed}
+use Rattle.place.proofs.Placed.{counts-at}
+use Rattle.place.proofs.Walked.{Stopping, refused-stopping}
 use Rattle.place.proofs.Zero.{is-placed}
 use Rattle.place.proofs.SameWalk.{start-same, same-located, same-spot, same-answer, same-stops}
 use Rattle.reading.specs.declared.Refusal.the-variants.{NoGroup}
-use Rattle.reading.specs.Read
 use Rattle.reading.specs.Read.{readGroup}
 use Rattle.group.specs.declared.Characteristic.the-variants.{Unread}
 use Rattle.group.specs.declared.Found.{Found}
@@ -37,37 +39,28 @@ use Rattle.group.specs.declared.Found.the-variants.{Given, Missing}
 use Rattle.group.specs.Characteristics.{reported, characteristicAt}
 use Rattle.group.specs.Damage.{linesStart}
 use Rattle.group.specs.Held.{foundIn, foundAt, startBy, partStart, partEnd, partAt}
-use Rattle.group.specs.Text.{readAtBy, readAt}
-use Rattle.group.proofs.Holding.{given-is}
+use Rattle.group.specs.Text.{readFound, readAt}
+use Rattle.group.proofs.Texts.{read-located}
+use Rattle.group.proofs.Holding.{given-is, missing}
 use Rattle.group.proofs.Promises.{read-local}
 
 -- ---- a group at one place
 
--- of a record: by its counts and the group's own lines, in which the text does not occur
-pub read-located : (s : List ℕ) (at n : ℕ) (ns : List ℕ) (g room : ℕ) → locate s at ≡ located n ns → readAt s at g room ≡ readGroup ns g (groupPart s at ns g) room
-unfolding readAt Read.readGroup
-read-located s at n ns g room e = by (formOf g) refl
-  where
-    by : (h : GroupForm) → formOf g ≡ h → readAtBy s at g room h ≡ Read.readBy ns g (groupPart s at ns g) room h
-    by (Has f) u = rw (e, u)
-    by NoForm u = refl
-
 -- where no record stands, no line is looked at
 pub read-refused : (s t : List ℕ) (at bt g room : ℕ) (p : Placing) → locate s at ≡ refused p → locate t bt ≡ refused p → readAt s at g room ≡ readAt t bt g room
-unfolding readAt
+unfolding readAt foundAt Placing.placingOf
 read-refused s t at bt g room p a b = by (formOf g)
   where
-    by : (h : GroupForm) → readAtBy s at g room h ≡ readAtBy t bt g room h
-    by (Has f) = rw (a, b)
+    no-stop : Stopping p → (n : ℕ) → p ≡ Placed n → ⊥
+    no-stop h n e = let z : ⊥ = rw e at h in z
+
+    by : (h : GroupForm) → readFound s at g room (foundIn s at h) ≡ readFound t bt g room (foundIn t bt h)
+    by (Has f) = rw (a, b, missing p (λ n e. no-stop (refused-stopping s at p a) n e))
     by NoForm = refl
 
 pub characteristic-same : (s t : List ℕ) (at bt k : ℕ) → readAt s at 4 49 ≡ readAt t bt 4 49 → characteristicAt s at k ≡ characteristicAt t bt k
 unfolding characteristicAt
 characteristic-same s t at bt k e = ap (λ c. cond (leb 1 k && leb k 49) (reported k c) (Unread NoGroup)) e
-
-pub counts-at : (s : List ℕ) (at n : ℕ) (ns : List ℕ) → locate s at ≡ located n ns → countsAt s at ≡ ns
-unfolding Placing.countsAt
-counts-at s at n ns e = ap countsBy e
 
 pub record-at : (s : List ℕ) (at : ℕ) (r : IsRecord s at) → locate s at ≡ located (r .next) (countsAt s at)
 record-at s at r = r .is ∙ ap (located (r .next)) (sym (counts-at s at (r .next) (r .ns) (r .is)))
@@ -201,7 +194,7 @@ module _ {D : ℕ → Type 0} (s t : List ℕ) (o : Replaced D s t) where
         let at = spot s j in
         let c : r .ns ≡ countsAt s at = sym (counts-at s at (r .next) (r .ns) (r .is)) in
         ap (λ p. readAt t p g room) (sym (spot-kept j))
-        ∙ read-located t at (r .next) (r .ns) g room (sym (located-kept j) ∙ r .is)
+        ∙ read-located t at g room (r .next) (r .ns) (sym (located-kept j) ∙ r .is)
         ∙ ap (λ x. readGroup (r .ns) g x room) (sym (lines-there s t at (o .lines) (r .ns) g))
         ∙ ap (λ ns. readGroup ns g (part (start s at ns g) (start s at ns (suc g)) t) room) c
 

@@ -5,70 +5,21 @@
 use mathlib.Core.Path.{_≡_, refl, sym, _∙_, ap, subst}
 use mathlib.Core.Bool.{Bool, true, false}
 use mathlib.Core.List.{List}
-use mathlib.Core.Logic.{_⊎_, inl, inr, _↔_}
 use Prim.Native.Nat.{ℕ, _<_, _≤_}
-use native.Mathlib.Omega.{arith}
 use lib.IntN.{ℤ}
 use lib.ListN.{length, getD, set, length-set}
 use lib.Seq.{getD-set-same, getD-set-other}
 use borrow.Author.Tests.{eqb-true, eqb-false}
 use lib.Dec.{eqb}
 use Rattle.line.specs.Lines.{isFeed}
-use Rattle.count.specs.Rules.{rulingOf}
-use Rattle.count.specs.declared.Ruling.{Ruling}
-use Rattle.count.specs.declared.Ruling.the-variants.{Kept, Broken}
-use Rattle.place.specs.declared.Placing.{Placing}
-use Rattle.place.specs.declared.Placing.the-variants.{Placed, End, Beyond, TooFewLines, Misformed, OtherRelease, FilledVacant, BrokenRule}
-use Rattle.place.specs.Numbered.{placingReply}
-use Rattle.place.specs.Placing
-use Rattle.place.specs.Placing.{Located, located, refused, locate, placingBy, placingOf, ruledAt, countsAt}
-use Rattle.place.specs.Walk.{spot, IsRecord}
+use Rattle.place.specs.Placing.{located, locate, countsAt}
+use Rattle.place.specs.Walk.{PlacedAt, spot, IsRecord}
 use Rattle.place.proofs.Apart.{lines-apart, heads-apart}
-use Rattle.place.proofs.Walked.{Stopping, refused-stopping}
+use Rattle.place.proofs.Stopped.{placed-record}
 use Rattle.reading.specs.Read.{Cells, readingOf, tableBy}
 use Rattle.group.specs.Text.{readAt}
-use Rattle.group.specs.Damage.{PlacedAt, LinesAt, SameReading, Damaged, Other, Confined}
+use Rattle.group.specs.Damage.{LinesAt, SameReading, Damaged, Other, Confined}
 use Rattle.group.proofs.Confined.{record-at, Spares, Replaced, characteristic-same, spot-kept, stops-kept, placing-kept, counts-kept, starts-kept, found-kept, part-start-kept, part-length-kept, lines-kept, part-kept, read-kept, read-by-lines}
-
--- ---- a record is placed exactly if the reply is 0 or 7
-
-abbrev Zero7 : Placing → Type 0
-Zero7 p = (placingReply p .number ≡ 0) ⊎ (placingReply p .number ≡ 7)
-
--- a reply that stops the walk is neither
-neither : (p : Placing) → Stopping p → Zero7 p → ⊥
-neither (Placed n) h z = h
-neither End h (inl e) = omega arith
-neither End h (inr e) = omega arith
-neither Beyond h (inl e) = omega arith
-neither Beyond h (inr e) = omega arith
-neither TooFewLines h (inl e) = omega arith
-neither TooFewLines h (inr e) = omega arith
-neither Misformed h (inl e) = omega arith
-neither Misformed h (inr e) = omega arith
-neither OtherRelease h (inl e) = omega arith
-neither OtherRelease h (inr e) = omega arith
-neither (FilledVacant g) h (inl e) = omega arith
-neither (FilledVacant g) h (inr e) = omega arith
-neither (BrokenRule g n) h z = h
-
-ruled-either : (n : ℕ) (r : Ruling) → Zero7 (ruledAt n r)
-ruled-either n Kept = inl refl
-ruled-either n (Broken g) = inr refl
-
-pub placed-is-record : (s : List ℕ) (at : ℕ) → PlacedAt s at ↔ IsRecord s at
-unfolding Placing.placingOf
-placed-is-record s at = (to, back)
-  where
-    to : Zero7 (placingBy (locate s at)) → IsRecord s at
-    to z = by (locate s at) refl z
-      where
-        by : (l : Located) → locate s at ≡ l → Zero7 (placingBy l) → IsRecord s at
-        by (located n ns) e y = record { next = n; ns = ns; is = e }
-        by (refused p) e y = absurd (neither p (refused-stopping s at p e) y)
-
-    back : IsRecord s at → Zero7 (placingBy (locate s at))
-    back r = subst (λ l. Zero7 (placingBy l)) (sym (r .is)) (ruled-either (r .next) (rulingOf (r .ns)))
 
 -- ---- the demand
 
@@ -77,7 +28,7 @@ same-reading a b table e = record { reply = ap readingOf e; cells = ap (λ c. ta
 
 module _ (t u : List ℕ) (k g : ℕ) (d : Damaged t u k g) where
   r : IsRecord t (spot t k)
-  r = placed-is-record t (spot t k) .0 (d .placed)
+  r = placed-record t (spot t k) .0 (d .placed)
 
   here : locate t (spot t k) ≡ located (r .next) (countsAt t (spot t k))
   here = record-at t (spot t k) r
@@ -105,7 +56,7 @@ module _ (t u : List ℕ) (k g : ℕ) (d : Damaged t u k g) where
     part-answers = λ j h. sym (found-kept t u replaced j h);
     part-starts = λ j h. sym (part-start-kept t u replaced j h);
     part-lengths = λ j h. sym (part-length-kept t u replaced j h);
-    line-bytes = λ j h there other. sym (lines-kept t u replaced j h (clear j h other) (placed-is-record t (spot t j) .0 there));
+    line-bytes = λ j h there other. sym (lines-kept t u replaced j h (clear j h other) (placed-record t (spot t j) .0 there));
     part-bytes = λ j h other. sym (part-kept t u replaced j h (clear j h other));
     others = λ j h other table. same-reading _ _ table (read-other j h (length table) other);
     altered = λ table. same-reading _ _ table (read-by-lines t u replaced k g r (length table));

@@ -30,8 +30,10 @@ use Rattle.group.specs.declared.Characteristic.the-variants.{Value, Unre
 use Rattle.group.specs.Characteristics.{isNoReading, reported, characteristicAt}
 use Rattle.group.specs.Damage.{linesStart, SameReading, Damaged, Confined}
 use Rattle.group.specs.Text.{readAt}
-use Rattle.group.proofs.Confined.{counts-at, read-located}
-use Rattle.group.proofs.Damage.{placed-is-record, damage-stays, damaged-one}
+use Rattle.place.proofs.Placed.{counts-at}
+use Rattle.group.proofs.Texts.{read-located}
+use Rattle.place.proofs.Stopped.{placed-record}
+use Rattle.group.proofs.Damage.{damage-stays, damaged-one}
 use Rattle.group.proofs.Reported.{four-refused}
 
 -- S twice with a comma in place of the point in the first record's group 4: `   7,250`
@@ -51,7 +53,7 @@ four-by x room = refl
 module _ (room : ℕ) (h : 1 ≤ room) where
   four-before : (at next : ℕ) → locate twiceS at ≡ located next countsS → groupPart twiceS at countsS 4 ≡ lineOf "   7.250" → readAt twiceS at 4 room ≡ done (pos 7250 ∷ [])
   four-before at next e f =
-      read-located twiceS at next countsS 4 room e
+      read-located twiceS at 4 room next countsS e
       ∙ ap (λ x. readGroup countsS 4 x room) f
       ∙ four-by (lineOf "   7.250") room
       ∙ four-reads room h .0
@@ -71,7 +73,7 @@ pub comma-damages : Damaged twiceS commaS 0 4
 unfolding commaS
 comma-damages =
     damaged-one twiceS 0 4 299 44
-    (placed-is-record twiceS (spot twiceS 0) .1 (two-records .each 0 (omega arith)))
+    (placed-record twiceS (spot twiceS 0) .1 (two-records .each 0 (omega arith)))
     (omega arith)
     (omega arith)
     (omega (arith, first-starts 4 295 (twice .from)), omega (arith, first-starts 5 305 (twice .to)))

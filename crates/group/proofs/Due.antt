@@ -10,7 +10,7 @@ use native.Mathlib.Omega.{arith}
 use borrow.Author.Tests.{le-leb, lt-leb, leb-true, leb-false}
 use lib.Dec.{leb}
 use lib.IntN.{ℤ, pos}
-use lib.ListN.{length, getD}
+use lib.ListN.{length, drop, getD}
 use Rattle.base.specs.Pieces.{done, bad}
 use Rattle.base.proofs.Order.{le-or-lt}
 use Rattle.form.specs.declared.Form.the-variants.{F8}
@@ -24,10 +24,11 @@ use Rattle.place.specs.declared.Placing.{Placing}
 use Rattle.place.specs.declared.Placing.the-variants as P
 use Rattle.place.specs.Index.{counts}
 use Rattle.place.specs.Placing.{placingOf, countsAt}
-use Rattle.place.specs.Parts.{groupPart}
+use Rattle.place.specs.Parts.{start, groupPart}
 use Rattle.place.specs.Due as Place
 use Rattle.place.proofs.Due as Placing
 use Rattle.place.proofs.Placed.{located-is}
+use Rattle.count.proofs.Rulings.{kept-ruling}
 use Rattle.place.proofs.Zero.{is-placed}
 use Rattle.reading.specs.declared.Refusal.{Refusal}
 use Rattle.reading.specs.declared.Refusal.the-variants.{NoGroup, End, Beyond, TooFewLines, Misformed, OtherRelease, FilledVacant, BrokenRule, NoRoom, BadLine, BadField, BadDate}
@@ -38,11 +39,16 @@ use Rattle.group.specs.declared.Found.{Found}
 use Rattle.group.specs.declared.Found.the-variants.{Given, Missing}
 use Rattle.group.specs.declared.Characteristic.{Characteristic}
 use Rattle.group.specs.declared.Characteristic.the-variants.{Value, NoReading, NotReported, Unread}
-use Rattle.group.specs.Held.{foundBy, foundIn, foundAt}
+use Rattle.group.specs.Held.{foundBy, foundIn, foundAt, startBy, partStart, partAt}
 use Rattle.group.specs.Text.{readAt}
 use Rattle.group.specs.Characteristics.{isNoReading, told, reported, characteristicAt}
-use Rattle.group.specs.Due.{NoSuchGroup, PlacingDue, MissingDue, FoundDue, ReadingDue, Due, NoNumber, FourReads, HasCell, CharacteristicDue}
-use Rattle.group.proofs.Holding.{given-part}
+use Rattle.form.specs.Table.{NoSuchGroup}
+use Rattle.place.specs.Parts.{IsPart}
+use Rattle.place.proofs.Indexed.{index-is}
+use Rattle.place.proofs.Tiling.{is-part, part-is}
+use Rattle.base.proofs.Taken.{take-none}
+use Rattle.group.specs.Due.{PlacingDue, MissingDue, FoundDue, GivenPart, PartDue, ReadingDue, Due, NoNumber, FourReads, HasCell, CharacteristicDue}
+use Rattle.group.proofs.Holding.{given-part, missing-span}
 use Rattle.group.proofs.Texts.{read-missing, read-given}
 use Rattle.group.proofs.Reported.{no-reading-cell, no-reading-is, is-reading, number-low, number-high, number-inside}
 use Rattle.group.proofs.Rooms.{form-four, cells-four, room-four, same-room}
@@ -106,8 +112,60 @@ counts-are : (s : List ℕ) (at n : ℕ) (d : Place.Stands s at n) → countsAt 
 counts-are s at n d =
     let p = is-placed s at n (Placing.first-due s at (P.Placed n) .1 d) in
     let a = located-is s at n (countsAt s at) (p .located-at) .index in
-    let e : counts (countsAt s at) ≡ counts (d .ns) = sym a ∙ d .lines .head .index .read in
+    let e : counts (countsAt s at) ≡ counts (d .ns) = sym a ∙ index-is (drop at s) (d .ns) .1 (d .lines .head .index .index) in
     cc
+
+-- ---- its part
+
+placed-part : (s : List ℕ) (at g n : ℕ) (d : PlacingDue s at g (P.Placed n)) → IsPart s at (d .placing .ns) g (start s at (d .placing .ns) g) (groupPart s at (d .placing .ns) g)
+placed-part s at g n d =
+    let q = is-placed s at n (Placing.first-due s at (P.Placed n) .1 (d .placing)) in
+    subst (λ ns. IsPart s at ns g (start s at ns g) (groupPart s at ns g)) (counts-are s at n (d .placing)) (part-is s at n (countsAt s at) (q .located-at) g (d .low) (d .high))
+
+module _ (s : List ℕ) (at g : ℕ) where
+  part-placed : foundAt s at g ≡ Given → (d : FoundDue s at g Given) → GivenPart s at g (partStart s at g) (partAt s at g)
+  unfolding partStart
+  part-placed e d =
+      let p = d .placed .placing in
+      let q = is-placed s at (d .next) (Placing.first-due s at (P.Placed (d .next)) .1 p) in
+      let c = counts-are s at (d .next) p in
+      record {
+        placed = d;
+        lines =
+            subst (λ ns. IsPart s at ns g (startBy s at g (foundAt s at g)) (partAt s at g)) c
+            (rw (e, given-part s at g e) (part-is s at (d .next) (countsAt s at) (q .located-at) g (d .placed .low) (d .placed .high)));
+      }
+
+  part-due : (r : Found) → foundAt s at g ≡ r → FoundDue s at g r → PartDue s at g (partStart s at g) (partAt s at g)
+  unfolding partAt
+  part-due Given e d = inl (part-placed e d)
+  part-due (Missing r) e d =
+      let b = missing-span s at g e in
+      inr record { why = r; missing = d; text-start = sym (b .0); empty = rw (← b .0, ← b .1) (take-none s) }
+
+  due-part : (from : ℕ) (x : List ℕ) → PartDue s at g from x → (partStart s at g ≡ from) × (partAt s at g ≡ x)
+  unfolding partAt partStart
+  due-part from x (inl h) =
+      let d = h .placed .placed in
+      let e = found-placing s at g (P.Placed (h .placed .next)) d in
+      let c = counts-are s at (h .placed .next) (d .placing) in
+      let w = is-part s at (d .placing .ns) g from x (d .low) (d .high) (h .lines) in (
+        rw (e, c) (sym (w .0)),
+        given-part s at g e ∙ rw c (sym (w .1)),
+      )
+  due-part from x (inr h) =
+      let e = missing-given s at g (h .why) (h .missing) in
+      let b = missing-span s at g e in
+      (sym (b .0) ∙ sym (h .text-start), rw (← b .0, ← b .1) (take-none s) ∙ sym (h .empty))
+
+  -- the part that is given is the one that is due, and no other is
+  pub part-first-due : (from : ℕ) (x : List ℕ) → ((partStart s at g ≡ from) × (partAt s at g ≡ x)) ↔ PartDue s at g from x
+  part-first-due from x = (
+    λ e. subst (λ f. PartDue s at g f x) (e .0) (subst (PartDue s at g (partStart s at g)) (e .1) (part-due (foundAt s at g) refl (found-first-due s at g (foundAt s at g) .0 refl))),
+    due-part from x,
+  )
+
+-- ---- reading it
 
 module _ (s : List ℕ) (at g room : ℕ) where
   to-reading : (n : ℕ) (d : PlacingDue s at g (P.Placed n)) → readAt s at g room ≡ readGroup (d .placing .ns) g (groupPart s at (d .placing .ns) g) room
@@ -118,7 +176,8 @@ module _ (s : List ℕ) (at g room : ℕ) where
   reading-given : (c : Cells) → ReadingDue s at g room c → readAt s at g room ≡ c
   reading-given c d =
       let ns = d .placed .placing .ns in
-      to-reading (d .next) (d .placed) ∙ Reading.first-due ns g (groupPart s at ns g) room c .1 (d .reading)
+      let these = is-part s at ns g (d .from) (d .x) (d .placed .low) (d .placed .high) (d .lines) .1 in
+      to-reading (d .next) (d .placed) ∙ ap (λ y. readGroup ns g y room) (sym these) ∙ Reading.first-due ns g (d .x) room c .1 (d .reading)
 
   missing-read : (r : Refusal) → MissingDue s at g r → readAt s at g room ≡ bad r
   missing-read r d = read-missing s at g room (missing-given s at g r d)
@@ -135,7 +194,14 @@ module _ (s : List ℕ) (at g room : ℕ) where
   from-found Given e d =
       let ns = d .placed .placing .ns in
       let u = to-reading (d .next) (d .placed) in
-      from-reading (readAt s at g room) record { next = d .next; placed = d .placed; reading = Reading.first-due ns g (groupPart s at ns g) room (readAt s at g room) .0 (sym u) }
+      from-reading (readAt s at g room) record {
+        next = d .next;
+        placed = d .placed;
+        from = start s at ns g;
+        x = groupPart s at ns g;
+        lines = placed-part s at g (d .next) (d .placed);
+        reading = Reading.first-due ns g (groupPart s at ns g) room (readAt s at g room) .0 (sym u);
+      }
   from-found (Missing r) e d = subst (Due s at g room) (sym (read-missing s at g room e)) (inl d)
 
   -- the reply that is given is the one that is due, and no other is
@@ -186,11 +252,11 @@ module _ (s : List ℕ) (at k : ℕ) where
   told-given NotReported d =
       let t : leb k (length (d .cs)) ≡ false = lt-leb k (length (d .cs)) (omega (arith, read-size (d .cs) (d .reads), d .above)) in
       to-reported (done (d .cs)) (d .reads) ∙ rw t refl
-  told-given NoReading d = to-cell (pos 9999000) d ∙ no-reading-cell
+  told-given NoReading d = to-cell (d .z) (d .cell) ∙ ap told (d .none) ∙ no-reading-cell
   told-given (Value z) d = to-cell z (d .cell) ∙ is-reading z (d .reading)
 
   from-cell : (z : ℤ) (t : Bool) → HasCell s at k z → isNoReading z ≡ t → CharacteristicDue s at k (cond t NoReading (Value z))
-  from-cell z true h e = subst (HasCell s at k) (no-reading-is z e) h
+  from-cell z true h e = record { z = z; cell = h; none = no-reading-is z e }
   from-cell z false h e =
       record { cell = h; reading = λ u. let w : told z ≡ NoReading = ap told u ∙ no-reading-cell in let v : Value z ≡ NoReading = sym (rw e refl) ∙ w in let y : _≡_ {A = ℕ} 0 1 = cc in omega arith }
 
@@ -229,4 +295,4 @@ four-has-room s at e = ⊎-elim (λ (n : ⊥). n) short (first-due s at 4 49 (ba
         let f = d .reading .f in
         let h : Has f ≡ Has F8 = sym (d .reading .ruled .form) ∙ form-four in
         let u : f ≡ F8 = cc in
-        omega (arith, d .reading .few, ap (λ y. cellsOf y (countOf (d .placed .placing .ns) 4)) u, room-four (d .placed .placing .ns) (d .reading .ruled .kept))
+        omega (arith, d .reading .few, ap (λ y. cellsOf y (countOf (d .placed .placing .ns) 4)) u, room-four (d .placed .placing .ns) (kept-ruling (d .placed .placing .ns) (d .reading .ruled .kept)))

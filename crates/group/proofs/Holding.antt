@@ -1,7 +1,7 @@
 -- Whether a group can be asked about at a place, the counts of its record, and its lines as a part of the text: when they can be given,
 -- where they begin, and that they are the group's lines.
 -- Assumes nothing.
-use mathlib.Core.Path.{_≡_, refl, sym, _∙_, ap}
+use mathlib.Core.Path.{_≡_, refl, _∙_, ap}
 use mathlib.Core.List.{List}
 use Prim.Native.Nat.{ℕ, suc, _+_, _-_, _≤_}
 use native.Mathlib.Nat.{add-comm}
@@ -17,8 +17,6 @@ use Rattle.line.specs.Lines.{Whole}
 use Rattle.count.specs.Tally.{lineTally}
 use Rattle.count.specs.Rules.{rulingOf}
 use Rattle.count.specs.declared.Ruling.the-variants.{Kept}
-use Rattle.reply.specs.Table.{Numbered}
-use Rattle.reply.proofs.Replies.{numbered-plain}
 use Rattle.place.specs.declared.Placing.{Placing}
 use Rattle.place.specs.declared.Placing.the-variants.{Placed, End, Beyond, TooFewLines, Misformed, OtherRelease, FilledVacant, BrokenRule}
 use Rattle.place.specs.Placing.{placingOf, countsAt}
@@ -30,10 +28,20 @@ use Rattle.place.proofs.Zero.{is-placed}
 use Rattle.reading.specs.declared.Refusal.{Refusal}
 use Rattle.reading.specs.declared.Refusal.the-variants.{NoGroup}
 use Rattle.form.proofs.Table.{form-range}
-use Rattle.reading.proofs.Promises.{refusal-numbered}
 use Rattle.group.specs.declared.Found.{Found}
 use Rattle.group.specs.declared.Found.the-variants.{Given, Missing}
-use Rattle.group.specs.Held.{refusalOf, foundBy, foundIn, foundAt, countsHeld, partStart, partEnd, partAt, moved, foundReply}
+use Rattle.group.specs.Held.{refusalOf, foundBy, foundIn, foundAt, countsHeld, partStart, partEnd, partAt, moved}
+
+-- any placing reply but 0
+pub missing : (p : Placing) → ((n : ℕ) → p ≡ Placed n → ⊥) → foundBy p ≡ Missing (refusalOf p)
+missing (Placed n) never = absurd (never n refl)
+missing End never = refl
+missing Beyond never = refl
+missing TooFewLines never = refl
+missing Misformed never = refl
+missing OtherRelease never = refl
+missing (FilledVacant h) never = refl
+missing (BrokenRule h n) never = refl
 
 module _ (s : List ℕ) (at g : ℕ) where
   pub held-none : formOf g ≡ NoForm → (foundAt s at g ≡ Missing NoGroup) × (countsHeld s at g ≡ replicate 80 0)
@@ -48,16 +56,6 @@ module _ (s : List ℕ) (at g : ℕ) where
     pub held-refused : (p : Placing) → placingOf s at ≡ p → ((n : ℕ) → p ≡ Placed n → ⊥) → (foundAt s at g ≡ Missing (refusalOf p)) × (countsHeld s at g ≡ replicate 80 0)
     unfolding foundAt countsHeld
     held-refused p u never = rw (e, u, missing p never) (refl, refl)
-      where
-        missing : (p : Placing) → ((n : ℕ) → p ≡ Placed n → ⊥) → foundBy p ≡ Missing (refusalOf p)
-        missing (Placed n) never = absurd (never n refl)
-        missing End never = refl
-        missing Beyond never = refl
-        missing TooFewLines never = refl
-        missing Misformed never = refl
-        missing OtherRelease never = refl
-        missing (FilledVacant h) never = refl
-        missing (BrokenRule h n) never = refl
 
   -- what it says that the lines can be given
   pub record IsGiven : Type 0 where
@@ -146,6 +144,9 @@ module _ (s : List ℕ) (at g : ℕ) where
       let m = length-drop (partStart s at g) s in
       omega (arith, r .0, r .1, n, m)
 
+  pub span-end : partEnd s at g ≡ partStart s at g + length (partAt s at g)
+  span-end = omega (arith, span-length, span-range .0)
+
   -- the part is the group's part of the record, and holds exactly the group's lines
   pub given-part : foundAt s at g ≡ Given → partAt s at g ≡ groupPart s at (countsAt s at) g
   unfolding partAt partStart partEnd Parts.groupPart
@@ -155,17 +156,6 @@ module _ (s : List ℕ) (at g : ℕ) where
   given-lines e =
       let i = given-is e in
       rw (given-part e) (part-whole s at (i .next) (countsAt s at) (is-placed s at (i .next) (i .placed) .located-at) g (omega (arith, form-range g (i .form) (i .has) .1)))
-
-  -- any two answers are equal
-  pub found-once : (r q : Found) → r ≡ foundAt s at g → q ≡ foundAt s at g → r ≡ q
-  found-once r q a b = a ∙ sym b
-
-  pub part-once : (p : ℕ × ℕ) (x y : List ℕ) (a b : ℕ × ℕ) → (x ≡ partAt s at g) × (a ≡ moved p (partStart s at g)) → (y ≡ partAt s at g) × (b ≡ moved p (partStart s at g)) → (x ≡ y) × (a ≡ b)
-  part-once p x y a b h k = (h .0 ∙ sym (k .0), h .1 ∙ sym (k .1))
-
-pub found-numbered : (r : Found) → Numbered (foundReply r)
-found-numbered Given = numbered-plain 0 tt
-found-numbered (Missing r) = refusal-numbered r
 
 -- the address that the machine makes of a part
 pub moved-by : (p : ℕ × ℕ) {from n : ℕ} → from ≡ n → _≡_ {A = ℕ × ℕ} (p .0, from + p .1) (moved p n)

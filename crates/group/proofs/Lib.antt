@@ -8,3 +8,4 @@ pub mod Confined
 pub mod Damage
 pub mod DamageInstance
 pub mod Due
+pub mod Numbered

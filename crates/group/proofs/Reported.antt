@@ -1,27 +1,23 @@
--- A characteristic: by its number, by what group 4 reads as, and by its cell; each answer is a reply of 01's table, and there is one.
+-- A characteristic: by its number, by what group 4 reads as, and by its cell.
 -- Assumes nothing.
 use mathlib.Core.Path.{_≡_, refl, sym, _∙_, ap}
 use mathlib.Core.Bool.{Bool, true, false, cond, false≢true}
-use mathlib.Core.List.{List, [], _∷_, _++_}
-use Prim.Native.Nat.{ℕ, zero, suc, _+_, _-_, _<_, _≤_}
+use mathlib.Core.List.{List}
+use Prim.Native.Nat.{ℕ, _+_, _-_, _<_, _≤_}
 use native.Mathlib.Omega.{arith}
 use borrow.Author.Tests.{le-leb, lt-leb, eqb-true}
 use lib.Dec.{eqb, leb}
 use lib.IntN.{ℤ, pos, negsuc}
-use lib.ListN.{length, drop, getD}
+use lib.ListN.{length, drop, getD, List·getD-append}
 use Rattle.base.specs.Pieces.{done, bad}
 use Rattle.base.specs.Sign.{negative, sizeOf}
-use Rattle.reply.specs.Table.{Numbered}
-use Rattle.reply.proofs.Replies.{numbered-plain}
 use Rattle.reading.specs.declared.Refusal.{Refusal}
 use Rattle.reading.specs.declared.Refusal.the-variants.{NoGroup}
 use Rattle.reading.specs.declared.Reading.the-variants.{Done, Refused}
-use Rattle.group.specs.declared.Characteristic.{Characteristic}
 use Rattle.group.specs.declared.Characteristic.the-variants.{Value, NoReading, NotReported, Unread}
 use Rattle.reading.specs.Read.{Cells, readingOf, tableBy}
 use Rattle.group.specs.Text.{readAt}
-use Rattle.group.specs.Characteristics.{isNoReading, told, reported, characteristicAt, characteristicReply}
-use Rattle.reading.proofs.Promises.{refusal-numbered}
+use Rattle.group.specs.Characteristics.{noReading, isNoReading, told, reported, characteristicAt}
 
 -- ---- no reading
 
@@ -29,7 +25,7 @@ pub negative-reads : (z : ℤ) → negative z ≡ true → isNoReading z ≡ fal
 unfolding isNoReading
 negative-reads z e = rw e
 
-pub natural-reads : (z : ℤ) → negative z ≡ false → isNoReading z ≡ eqb (sizeOf z) 9999000
+pub natural-reads : (z : ℤ) → negative z ≡ false → isNoReading z ≡ eqb (sizeOf z) noReading
 unfolding isNoReading
 natural-reads z e = rw e
 
@@ -38,17 +34,17 @@ pub unscaled-value : told (pos 999900) ≡ Value (pos 999900)
 unfolding isNoReading
 unscaled-value = refl
 
-pub no-reading-cell : told (pos 9999000) ≡ NoReading
+pub no-reading-cell : told (pos noReading) ≡ NoReading
 unfolding isNoReading
 no-reading-cell = refl
 
 -- no reading is one cell, and no other
-pub no-reading-is : (z : ℤ) → isNoReading z ≡ true → z ≡ pos 9999000
+pub no-reading-is : (z : ℤ) → isNoReading z ≡ true → z ≡ pos noReading
 unfolding isNoReading
-no-reading-is (pos n) e = ap pos (eqb-true n 9999000 e)
+no-reading-is (pos n) e = ap pos (eqb-true n noReading e)
 no-reading-is (negsuc n) e = absurd (false≢true e)
 
-pub is-reading : (z : ℤ) → (z ≡ pos 9999000 → ⊥) → told z ≡ Value z
+pub is-reading : (z : ℤ) → (z ≡ pos noReading → ⊥) → told z ≡ Value z
 is-reading z n = by (isNoReading z) refl
   where
     by : (t : Bool) → isNoReading z ≡ t → cond t NoReading (Value z) ≡ Value z
@@ -56,11 +52,6 @@ is-reading z n = by (isNoReading z) refl
     by false u = refl
 
 -- ---- by the number
-
-getD-append : (a b : List ℤ) (i : ℕ) (d : ℤ) → i < length a → getD (a ++ b) i d ≡ getD a i d
-getD-append [] b i d h = absurd (omega arith)
-getD-append (x ∷ a) b zero d h = refl
-getD-append (x ∷ a) b (suc i) d h = getD-append a b i d (omega arith)
 
 module _ (s : List ℕ) (at k : ℕ) where
   pub number-low : k < 1 → Unread NoGroup ≡ characteristicAt s at k
@@ -102,15 +93,5 @@ module _ (s : List ℕ) (at k : ℕ) where
             by (done cs) u v w =
                 let m : n ≡ length cs = cc in
                 let t : leb k (length cs) ≡ true = le-leb k (length cs) (omega arith) in
-                ap (λ l. told (getD l (k - 1) (pos 0))) w ∙ ap told (getD-append cs (drop (0 + length cs) old) (k - 1) (pos 0) (omega arith)) ∙ sym (number-inside u ∙ rw t)
+                ap (λ l. told (getD l (k - 1) (pos 0))) w ∙ ap told (List·getD-append cs (drop (0 + length cs) old) (pos 0) (k - 1) (omega arith)) ∙ sym (number-inside u ∙ rw t)
             by (bad q) u v w = let z : _≡_ {A = ℕ} 0 1 = cc in absurd (omega arith)
-
-pub characteristic-numbered : (c : Characteristic) → Numbered (characteristicReply c)
-characteristic-numbered (Value z) = numbered-plain 0 tt
-characteristic-numbered NoReading = numbered-plain 0 tt
-characteristic-numbered NotReported = numbered-plain 0 tt
-characteristic-numbered (Unread r) = refusal-numbered r
-
--- any two answers are equal
-pub characteristic-once : (s : List ℕ) (at k : ℕ) (c d : Characteristic) → c ≡ characteristicAt s at k → d ≡ characteristicAt s at k → c ≡ d
-characteristic-once s at k c d a b = a ∙ sym b

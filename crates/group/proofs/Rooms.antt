@@ -21,12 +21,14 @@ use Rattle.count.specs.Rules
 use Rattle.count.specs.Rules.{rulingOf}
 use Rattle.count.specs.Tally.{countOf}
 use Rattle.count.specs.declared.Ruling.the-variants.{Kept}
-use Rattle.count.proofs.Rulings
-use Rattle.count.proofs.Rulings.{ruling-says}
-use Rattle.place.specs.Placing.{Located, located, refused, locate}
-use Rattle.place.specs.Parts.{groupPart}
+use Rattle.count.specs.Blame
+use Rattle.count.proofs.Rulings.{ruling-kept}
+use Rattle.place.specs.Placing.{countsAt}
 use Rattle.reading.proofs.Promises.{read-room}
-use Rattle.group.specs.Text.{readLocated, readAt}
+use Rattle.group.specs.declared.Found.{Found}
+use Rattle.group.specs.declared.Found.the-variants.{Given, Missing}
+use Rattle.group.specs.Held.{foundAt, partAt}
+use Rattle.group.specs.Text.{readFound, readAt}
 
 pub form-four : formOf 4 ≡ Has F8
 unfolding Table.formOf Table.formAmong Table.entryOf
@@ -38,20 +40,22 @@ cells-four n = mul-one n
 
 -- "group 4 from 1 to 49"
 pub kept-four : (ns : List ℕ) → rulingOf ns ≡ Kept → countOf ns 4 ≤ 49
-unfolding Rulings.Breaks Rules.headRules
+unfolding Blame.Blames Rules.headRules
 kept-four ns e = by (leb 1 (countOf ns 4) && leb (countOf ns 4) 49) refl
   where
     by : (t : Bool) → leb 1 (countOf ns 4) && leb (countOf ns 4) 49 ≡ t → countOf ns 4 ≤ 49
     by true u = leb-true (countOf ns 4) 49 (and-second (leb 1 (countOf ns 4)) (leb (countOf ns 4) 49) u)
-    by false u = absurd (ruling-says ns Kept .0 e 4 (inr (inr (inr (inl (u, refl))))))
+    by false u = absurd (ruling-kept ns e 4 (inr (inr (inr (inl (u, refl))))))
 
 pub room-four : (ns : List ℕ) → rulingOf ns ≡ Kept → cellsOf F8 (countOf ns 4) ≤ 49
 room-four ns e = omega (arith, cells-four (countOf ns 4), kept-four ns e)
 
 pub same-room : (s : List ℕ) (at room more : ℕ) → 49 ≤ room → 49 ≤ more → readAt s at 4 room ≡ readAt s at 4 more
 unfolding readAt
-same-room s at room more a b = rw form-four (by (locate s at))
+same-room s at room more a b = by (foundAt s at 4)
   where
-    by : (l : Located) → readLocated s at 4 room l ≡ readLocated s at 4 more l
-    by (located n ns) = read-room ns 4 (groupPart s at ns 4) room more F8 form-four (λ e. (omega (arith, room-four ns e), omega (arith, room-four ns e)))
-    by (refused p) = refl
+    by : (r : Found) → readFound s at 4 room r ≡ readFound s at 4 more r
+    by Given =
+        let ns = countsAt s at in
+        read-room ns 4 (partAt s at 4) room more F8 form-four (λ e. (omega (arith, room-four ns e), omega (arith, room-four ns e)))
+    by (Missing r) = refl

@@ -1,6 +1,6 @@
 -- Reading at a place of a text, by whether the group can be asked about there.
 -- Assumes nothing.
-use mathlib.Core.Path.{_≡_, refl, sym, ap, subst}
+use mathlib.Core.Path.{_≡_, refl, sym, subst}
 use mathlib.Core.Bool.{true}
 use mathlib.Core.List.{List, [], _∷_}
 use mathlib.Core.Logic.{⊎-elim}
@@ -21,64 +21,49 @@ use Rattle.form.specs.Table.{formOf}
 use Rattle.count.specs.Rules.{rulingOf}
 use Rattle.count.specs.declared.Ruling.{Ruling}
 use Rattle.count.specs.declared.Ruling.the-variants.{Kept, Broken}
-use Rattle.place.specs.declared.Placing.{Placing}
 use Rattle.place.specs.declared.Placing.the-variants as P
 use Rattle.place.specs.Placing
-use Rattle.place.specs.Placing.{Located, located, refused, locate, placingBy, placingOf, countsAt, ruledAt}
-use Rattle.place.specs.Parts.{start}
-use Rattle.place.proofs.Zero.{is-placed}
+use Rattle.place.specs.Placing.{located, locate, placingBy, countsAt, ruledAt}
+use Rattle.place.specs.Parts.{start, groupPart}
+use Rattle.place.proofs.Placed.{counts-at}
 use Rattle.reading.specs.declared.Refusal.{Refusal}
-use Rattle.reading.specs.declared.Refusal.the-variants.{BrokenRule}
 use Rattle.reading.specs.declared.Reading.{Reading}
 use Rattle.reading.specs.declared.Reading.the-variants.{Refused}
 use Rattle.reading.specs.Read
-use Rattle.reading.specs.Read.{Cells, readGroup}
+use Rattle.reading.specs.Read.{readRuled, readBy, readGroup}
 use Rattle.reading.proofs.Steps.{Answers}
 use Rattle.group.specs.declared.Found.the-variants.{Given, Missing}
-use Rattle.group.specs.Held.{refusalOf, foundBy, foundIn, foundAt, countsHeld, partAt}
-use Rattle.group.specs.Text.{readLocated, readAtBy, readAt}
-use Rattle.group.proofs.Holding.{given-is, given-part, held-counts, held-part}
+use Rattle.group.specs.Held.{foundBy, foundIn, foundAt, countsHeld, partAt}
+use Rattle.group.specs.Text.{readFound, readAt}
+use Rattle.group.proofs.Holding.{given-part, held-counts, held-part}
 
 module _ (s : List ℕ) (at g room : ℕ) where
   -- 12, or any placing reply but 0
   pub read-missing : {r : Refusal} → foundAt s at g ≡ Missing r → readAt s at g room ≡ bad r
-  unfolding foundAt readAt Read.readGroup Placing.placingOf
-  read-missing {r} e = by (formOf g) refl e
-    where
-      given : {A : Type 0} → Given ≡ Missing r → A
-      given e = let z : _≡_ {A = ℕ} 0 1 = cc in absurd (omega arith)
-
-      same : {q : Refusal} → Missing q ≡ Missing r → _≡_ {A = Cells} (bad q) (bad r)
-      same {q} e = let p : q ≡ r = cc in ap bad p
-
-      ruled : (f : Form) (n : ℕ) (ns : List ℕ) (k : Ruling) → formOf g ≡ Has f → rulingOf ns ≡ k → foundBy (ruledAt n k) ≡ Missing r → readLocated s at g room (located n ns) ≡ bad r
-      ruled f n ns Kept h u v = given v
-      ruled f n ns (Broken b) h u v = rw (h, u) (same v)
-
-      refusal : (p : Placing) → foundBy p ≡ Missing r → _≡_ {A = Cells} (bad (refusalOf p)) (bad r)
-      refusal (P.Placed n) v = given v
-      refusal P.End v = same v
-      refusal P.Beyond v = same v
-      refusal P.TooFewLines v = same v
-      refusal P.Misformed v = same v
-      refusal P.OtherRelease v = same v
-      refusal (P.FilledVacant h) v = same v
-      refusal (P.BrokenRule h n) v = same v
-
-      place : (f : Form) (l : Located) → formOf g ≡ Has f → locate s at ≡ l → foundBy (placingBy l) ≡ Missing r → readLocated s at g room l ≡ bad r
-      place f (located n ns) h u v = ruled f n ns (rulingOf ns) h refl v
-      place f (refused p) h u v = refusal p v
-
-      by : (h : GroupForm) → formOf g ≡ h → foundIn s at h ≡ Missing r → readAtBy s at g room h ≡ bad r
-      by (Has f) h v = place f (locate s at) h refl v
-      by NoForm h v = same v
+  unfolding readAt
+  read-missing e = rw e
 
   -- reply 0 in placing: the record's counts and the group's own lines
   pub read-given : foundAt s at g ≡ Given → readAt s at g room ≡ readGroup (countsAt s at) g (partAt s at g) room
   unfolding readAt
-  read-given e =
-      let i = given-is s at g e in
-      rw (i .has, is-placed s at (i .next) (i .placed) .located-at, given-part s at g e) refl
+  read-given e = rw e
+
+  -- a record that can be located: by its counts and the group's own lines, in which the text does not occur; 7 is decided by the counts
+  pub read-located : (n : ℕ) (ns : List ℕ) → locate s at ≡ located n ns → readAt s at g room ≡ readGroup ns g (groupPart s at ns g) room
+  unfolding readAt foundAt Read.readGroup Placing.placingOf
+  read-located n ns e = by (formOf g) refl
+    where
+      ruled : (f : Form) (k : Ruling) → formOf g ≡ Has f → rulingOf ns ≡ k → readFound s at g room (foundBy (ruledAt n k)) ≡ readRuled f ns g (groupPart s at ns g) room k
+      ruled f Kept h u =
+          let q : placingBy (locate s at) ≡ P.Placed n = rw (e, u) in
+          let given : foundIn s at (formOf g) ≡ Given = rw (h, q) in
+          let c : countsAt s at ≡ ns = counts-at s at n ns e in
+          rw (given-part s at g given, c, h, u)
+      ruled f (Broken b) h u = refl
+
+      by : (h : GroupForm) → formOf g ≡ h → readFound s at g room (foundIn s at h) ≡ readBy ns g (groupPart s at ns g) room h
+      by (Has f) h = rw e (ruled f (rulingOf ns) h refl)
+      by NoForm h = refl
 
 -- the same, with the table
 module _ (s : List ℕ) (at g : ℕ) (old : List ℤ) where

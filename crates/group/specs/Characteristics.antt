@@ -1,8 +1,9 @@
 -- "A characteristic (1-49) of a record is, each under reply 0, a value in thousandths, or no reading (cell 9,999,000), or not reported
 -- (number above group 4's count); otherwise it is 12 or group 4's reply. 12 comes first, then group 4's reply with its numbers, as if read
 -- into a table with room, then not reported. .. 999,900 is a value."
+use mathlib.Core.Path.{_≡_}
 use mathlib.Core.Bool.{Bool, cond, not, _&&_}
-use mathlib.Core.List.{List}
+use mathlib.Core.List.{List, [], _∷_, _++_}
 use Prim.Native.Nat.{ℕ, _-_}
 use lib.Dec.{eqb, leb}
 use lib.IntN.{ℤ, pos}
@@ -10,7 +11,7 @@ use lib.ListN.{length, getD}
 use Rattle.base.specs.Pieces.{done, bad}
 use Rattle.base.specs.Sign.{negative, sizeOf}
 use Rattle.reply.specs.declared.Reply.{Reply}
-use Rattle.reply.specs.Table.{replyPlain}
+use Rattle.reply.specs.Table.{replyPlain, Row, row, askedRefusals, lineRefusals}
 use Rattle.reading.specs.declared.Refusal.the-variants.{NoGroup}
 use Rattle.group.specs.declared.Characteristic.{Characteristic}
 use Rattle.group.specs.declared.Characteristic.the-variants.{Value, NoReading, NotReported, Unread}
@@ -19,8 +20,15 @@ use Rattle.reading.specs.Read.{Cells}
 use Rattle.group.specs.Text.{readAt}
 
 -- no reading: the cell is 9,999,000
+abbrev pub noReading : ℕ
+noReading = 9999000
+
+abbrev pub IsNoReading : ℤ → Type 0
+IsNoReading z = z ≡ pos noReading
+
+-- the same as a test
 unfoldable pub isNoReading : ℤ → Bool
-isNoReading z = not (negative z) && eqb (sizeOf z) 9999000
+isNoReading z = not (negative z) && eqb (sizeOf z) noReading
 
 abbrev pub told : ℤ → Characteristic
 told z = cond (isNoReading z) NoReading (Value z)
@@ -40,3 +48,7 @@ characteristicReply (Value z) = replyPlain 0
 characteristicReply NoReading = replyPlain 0
 characteristicReply NotReported = replyPlain 0
 characteristicReply (Unread r) = refusalReply r
+
+-- the rows: 12, and what reading group 4 "as if read into a table with room" is refused with, so neither 10 nor 11
+abbrev pub characteristicRows : List Row
+characteristicRows = row 0 [] ∷ (askedRefusals ++ lineRefusals)

@@ -7,7 +7,7 @@
 -- Damaged says what is done, Confined what follows; proofs/Damage.antt proves the one from the other.
 use mathlib.Core.Path.{_≡_}
 use mathlib.Core.List.{List}
-use mathlib.Core.Logic.{_⊎_, _↔_}
+use mathlib.Core.Logic.{_↔_}
 use Prim.Native.Nat.{ℕ, suc, _≤_}
 use lib.IntN.{ℤ}
 use lib.ListN.{length}
@@ -15,18 +15,13 @@ use Rattle.base.specs.Agree.{Agree, Between}
 use Rattle.base.specs.Part.{part}
 use Rattle.line.specs.Texts.{SameLines}
 use Rattle.place.specs.declared.Placing.{Placing}
-use Rattle.place.specs.Numbered.{placingReply}
 use Rattle.place.specs.Parts.{start, groupPart}
 use Rattle.place.specs.Placing.{placingOf, countsAt}
-use Rattle.place.specs.Walk.{spot, Stops}
+use Rattle.place.specs.Walk.{PlacedAt, spot, Stops}
 use Rattle.reading.specs.Read.{Cells, readGroup, readingOf, tableBy}
 use Rattle.group.specs.Characteristics.{characteristicAt}
 use Rattle.group.specs.Held.{foundAt, partStart, partAt}
 use Rattle.group.specs.Text.{readAt}
-
--- "A record is placed where the reply is 0 or 7."
-abbrev pub PlacedAt : List ℕ → ℕ → Type 0
-PlacedAt s at = (placingReply (placingOf s at) .number ≡ 0) ⊎ (placingReply (placingOf s at) .number ≡ 7)
 
 -- where the lines of group g of the record at a place begin; they end where those of the next group begin
 abbrev pub linesStart : List ℕ → ℕ → ℕ → ℕ

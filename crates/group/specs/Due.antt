@@ -2,30 +2,28 @@
 -- further than the placing reply unless that is 0: the order is 12, then any placing reply but 0", and then what place's and reading's own
 -- Due say.
 use mathlib.Core.Path.{_≡_}
-use mathlib.Core.List.{List}
+use mathlib.Core.List.{List, []}
 use mathlib.Core.Logic.{_⊎_}
 use Prim.Native.Nat.{ℕ, _-_, _<_, _≤_}
 use lib.IntN.{ℤ, pos}
 use lib.ListN.{getD}
 use Rattle.base.specs.Pieces.{done, bad}
+use Rattle.form.specs.Table.{NoSuchGroup}
 use Rattle.count.specs.Tally.{countOf}
 use Rattle.place.specs.declared.Placing.{Placing}
 use Rattle.place.specs.declared.Placing.the-variants as P
 use Rattle.place.specs.Placing.{countsAt}
-use Rattle.place.specs.Parts.{groupPart}
+use Rattle.place.specs.Parts.{IsPart}
 use Rattle.place.specs.Due as Place
 use Rattle.reading.specs.declared.Refusal.{Refusal}
 use Rattle.reading.specs.declared.Refusal.the-variants.{NoGroup, End, Beyond, TooFewLines, Misformed, OtherRelease, FilledVacant, BrokenRule, NoRoom, BadLine, BadField, BadDate}
 use Rattle.reading.specs.Read.{Cells}
 use Rattle.reading.specs.Due as Reading
+use Rattle.group.specs.Characteristics.{IsNoReading}
 use Rattle.group.specs.declared.Found.{Found}
 use Rattle.group.specs.declared.Found.the-variants.{Given, Missing}
 use Rattle.group.specs.declared.Characteristic.{Characteristic}
 use Rattle.group.specs.declared.Characteristic.the-variants.{Value, NoReading, NotReported, Unread}
-
--- 12: "no group 1-60 .. of that number"
-abbrev pub NoSuchGroup : ℕ → Type 0
-NoSuchGroup g = (1 ≤ g) × (g ≤ 60) → ⊥
 
 module _ (s : List ℕ) (at g : ℕ) where
   -- not 12, and placing's reply is p
@@ -64,6 +62,21 @@ module _ (s : List ℕ) (at g : ℕ) where
   FoundDue Given = IsPlaced
   FoundDue (Missing r) = MissingDue r
 
+  -- the part: with 0 the lines of the group, which follow those of the index and of the groups before it; else the empty part at the text's
+  -- start
+  pub record GivenPart (from : ℕ) (x : List ℕ) : Type 0 where
+    pub placed : IsPlaced
+    pub lines : IsPart s at (placed .placed .placing .ns) g from x
+
+  pub record NoPart (from : ℕ) (x : List ℕ) : Type 0 where
+    pub why : Refusal
+    pub missing : MissingDue why
+    pub text-start : from ≡ 0
+    pub empty : x ≡ []
+
+  abbrev pub PartDue : ℕ → List ℕ → Type 0
+  PartDue from x = GivenPart from x ⊎ NoPart from x
+
   -- ---- reading a group: the same, "then 11, then line by line 8 and that line's fields 9, then 10 for group 3"
 
   module _ (room : ℕ) where
@@ -71,7 +84,10 @@ module _ (s : List ℕ) (at g : ℕ) where
     pub record ReadingDue (c : Cells) : Type 0 where
       pub next : ℕ
       pub placed : PlacingDue (P.Placed next)
-      pub reading : Reading.Due (placed .placing .ns) g (groupPart s at (placed .placing .ns) g) room c
+      pub from : ℕ
+      pub x : List ℕ
+      pub lines : IsPart s at (placed .placing .ns) g from x
+      pub reading : Reading.Due (placed .placing .ns) g x room c
 
     abbrev pub Due : Cells → Type 0
     Due (done cs) = ReadingDue (done cs)
@@ -104,13 +120,18 @@ module _ (s : List ℕ) (at k : ℕ) where
     pub within : k ≤ countOf (countsAt s at) 4
     pub cell : getD cs (k - 1) (pos 0) ≡ z
 
-  -- "a value in thousandths, or no reading (cell 9,999,000)"
+  -- "a value in thousandths, or no reading"
   pub record HasValue (z : ℤ) : Type 0 where
     pub cell : HasCell z
-    pub reading : z ≡ pos 9999000 → ⊥
+    pub reading : IsNoReading z → ⊥
+
+  pub record HasNoReading : Type 0 where
+    pub z : ℤ
+    pub cell : HasCell z
+    pub none : IsNoReading z
 
   abbrev pub CharacteristicDue : Characteristic → Type 0
   CharacteristicDue (Unread r) = NoNumber r ⊎ FourReads (bad r)
   CharacteristicDue NotReported = Above
-  CharacteristicDue NoReading = HasCell (pos 9999000)
+  CharacteristicDue NoReading = HasNoReading
   CharacteristicDue (Value z) = HasValue z

@@ -1,6 +1,6 @@
 -- "The lines of one group can be asked for as the part of the caller's own text that holds them; replies are 12, then any placing reply but
 -- 0. A count of 0 gives an empty part where the lines would begin; a refusal gives the empty part at the text's start."
-use mathlib.Core.List.{List}
+use mathlib.Core.List.{List, [], _∷_}
 use Prim.Native.Nat.{ℕ, suc, _+_}
 use lib.ListN.{replicate}
 use Rattle.base.specs.Part.{part}
@@ -12,7 +12,7 @@ use Rattle.place.specs.declared.Placing.the-variants as P
 use Rattle.place.specs.Placing.{placingOf, countsAt}
 use Rattle.place.specs.Parts.{start}
 use Rattle.reply.specs.declared.Reply.{Reply}
-use Rattle.reply.specs.Table.{replyPlain}
+use Rattle.reply.specs.Table.{replyPlain, Row, row, askedRefusals}
 use Rattle.reading.specs.declared.Refusal.{Refusal}
 use Rattle.reading.specs.declared.Refusal.the-variants.{NoGroup, End, Beyond, TooFewLines, Misformed, OtherRelease, FilledVacant, BrokenRule}
 use Rattle.group.specs.declared.Found.{Found}
@@ -54,12 +54,8 @@ unfoldable pub foundAt : List ℕ → ℕ → ℕ → Found
 foundAt s at g = foundIn s at (formOf g)
 
 -- the counts of the record, or zeros
-abbrev pub countsIn : List ℕ → ℕ → GroupForm → List ℕ
-countsIn s at (Has f) = countsBy (foundBy (placingOf s at)) (countsAt s at)
-countsIn s at NoForm = replicate 80 0
-
 unfoldable pub countsHeld : List ℕ → ℕ → ℕ → List ℕ
-countsHeld s at g = countsIn s at (formOf g)
+countsHeld s at g = countsBy (foundAt s at g) (countsAt s at)
 
 -- where the lines of group g begin, or the text's start
 abbrev pub startBy : List ℕ → ℕ → ℕ → Found → ℕ
@@ -84,3 +80,7 @@ moved p n = (p .0, p .1 + n)
 abbrev pub foundReply : Found → Reply
 foundReply Given = replyPlain 0
 foundReply (Missing r) = refusalReply r
+
+-- the rows of the question: "replies are 12, then any placing reply but 0"
+abbrev pub foundRows : List Row
+foundRows = row 0 [] ∷ askedRefusals

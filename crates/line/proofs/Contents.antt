@@ -98,10 +98,6 @@ is-none x n = go (contentOf x) refl
     go (Length m) e = absurd (n (take m x) (is-content x m e .0))
     go NoReturn e = e
 
--- any two answers are equal
-pub content-once : (x : List ℕ) (r q : Content) → r ≡ contentOf x → q ≡ contentOf x → r ≡ q
-content-once x r q g h = g ∙ sym h
-
 -- ---- by places, as the code looks
 
 pub content-short : (x : List ℕ) → length x < 2 → contentOf x ≡ NoReturn

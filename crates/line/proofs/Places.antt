@@ -19,7 +19,6 @@ use Rattle.base.proofs.Order.{le-or-lt}
 use Rattle.line.specs.Lines.{isFeed, feeds, reach, lines, behind, Whole}
 use Rattle.line.specs.Places.{behindAt}
 use Rattle.line.specs.Texts.{SameLines}
-use Rattle.line.specs.declared.Behind.{Behind}
 use Rattle.line.specs.declared.Behind.the-variants.{At, TooFew}
 use Rattle.line.proofs.Feeds.{feeds-append, feeds-nil, feeds-drop-feed, feeds-drop-other}
 use Rattle.line.proofs.Reach.{reach-zero, reach-le, reach-add, reach-all, reach-nil, reach-append, reach-drop-feed, reach-drop-other, feeds-behind, length-lines}
@@ -202,8 +201,3 @@ module _ (s : List ℕ) (at k : ℕ) where
 
   pub reach-end : at ≤ length s → behindAt s at k ≡ TooFew → length s ≡ at + reach (drop at s) k
   reach-end h e = omega (arith, reach-all (drop at s) k (few-is s at k e), length-drop at s)
-
--- ---- any two answers are equal
-
-pub behindAt-once : (s : List ℕ) (at k : ℕ) (r q : Behind) → r ≡ behindAt s at k → q ≡ behindAt s at k → r ≡ q
-behindAt-once s at k r q g h = g ∙ sym h

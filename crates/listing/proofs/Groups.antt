@@ -3,27 +3,23 @@
 use mathlib.Core.Path.{_≡_, refl}
 use mathlib.Core.Bool.{Bool, true, false, cond}
 use mathlib.Core.List.{List, [], _∷_, map}
-use mathlib.Core.Logic.{_⊎_, ⊎-elim}
 use Prim.Native.Nat.{ℕ, suc, _+_, _-_, _<_, _≤_}
 use native.Mathlib.Omega.{arith}
 use native.Mathlib.Nat.{add-zero}
 use lib.ListN.{length}
-use lib.Dec.{T, eqb, leb, leb→le}
+use lib.Dec.{eqb}
 use borrow.Author.Tests.{eq-eqb, ne-eqb}
-use Rattle.base.specs.Every.{every, upFrom}
+use Rattle.base.specs.Every.{upFrom}
 use Rattle.base.specs.Sum
 use Rattle.base.specs.Sum.{sum}
-use Rattle.base.proofs.Choice.{and-left, and-right}
 use Rattle.base.proofs.UpFrom.{length-up, up-more, up-done}
 use Rattle.count.specs.Tally.{countOf}
-use Rattle.count.specs.Rules
-use Rattle.count.specs.Rules.{Rule, rules, rulingOf, releaseOf}
+use Rattle.count.specs.Rules.{rulingOf, releaseOf}
 use Rattle.count.specs.declared.Release.the-variants.{Filled}
 use Rattle.count.specs.declared.Ruling.the-variants.{Broken}
 use Rattle.count.specs.Due.{LowestFilled}
 use Rattle.count.proofs.Releases.{release-due}
-use Rattle.count.proofs.Rulings
-use Rattle.count.proofs.Rulings.{Breaks, ruling-says}
+use Rattle.count.proofs.Rulings.{ruling-broken, broken-group}
 use Rattle.listing.specs.Rows.{filled, filledGroups}
 
 module _ (ns : List ℕ) where
@@ -65,18 +61,8 @@ module _ (ns : List ℕ) where
 
 -- ---- the group that reply 7 blames is at most 60, the group that reply 6 names at most 79
 
-breaks-within : (rs : List Rule) (m g : ℕ) → T (every (λ r. leb (r .blamed) m) rs) → Breaks rs g → g ≤ m
-unfolding Rulings.Breaks
-breaks-within [] m g t b = absurd b
-breaks-within (r ∷ rs) m g t b =
-    ⊎-elim
-    (λ h. omega (arith, h .1, leb→le (r .blamed) m (and-left (leb (r .blamed) m) (every (λ r. leb (r .blamed) m) rs) t)))
-    (λ h. breaks-within rs m g (and-right (leb (r .blamed) m) (every (λ r. leb (r .blamed) m) rs) t) h)
-    b
-
 pub blamed-within : (ns : List ℕ) (g : ℕ) → rulingOf ns ≡ Broken g → g ≤ 60
-unfolding Rules.headRules Rules.sets Rules.letterRules
-blamed-within ns g e = breaks-within (rules ns) 60 g tt (ruling-says ns (Broken g) .0 e .0)
+blamed-within ns g e = broken-group ns (ruling-broken ns e) .1
 
 pub vacant-within : (ns : List ℕ) (g : ℕ) → releaseOf ns ≡ Filled g → g ≤ 79
 vacant-within ns g e = let p : LowestFilled ns g = rw e at (release-due ns) in p .high

@@ -15,10 +15,12 @@ use Rattle.place.specs.declared.Placing.{Placing}
 use Rattle.place.specs.Walk.{spot, Stops}
 use Rattle.place.proofs.Walked.{spot-more, stops-some, stops-later, stops-here}
 use Rattle.place.proofs.Placed.{located-range, located-long}
-use Rattle.listing.specs.Rows.{replyOf, nextOf, isPlaced, recordRow, endRow}
+use Rattle.place.specs.Numbered.{isPlaced}
+use Rattle.listing.specs.Rows.{replyOf, nextOf, recordRow, endRow}
 use Rattle.listing.specs.Records.{recordsIn}
 use Rattle.listing.specs.Listing.{rowAt, rowsFrom, endAt, listingOf, listing}
-use Rattle.listing.proofs.Counted.{records-are, records-stop, placed-goes, placed-halts}
+use Rattle.listing.proofs.Counted.{records-are, records-stop}
+use Rattle.place.proofs.Stopped.{placed-goes, placed-halts}
 
 -- for a walk that has so many records the listing has their rows
 pub listing-is : (s : List ℕ) (many : ℕ) (p : Placing) → Stops s many p → listing s ≡ listingOf s many

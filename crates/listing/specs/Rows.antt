@@ -1,6 +1,6 @@
 -- "a line per placed record: record number, place, next place, reply, blamed group, groups with a nonzero count, lines with the index.
 -- Last comes `end`, records listed, the place where it stopped, the reply there, the group given with it or 0."
-use mathlib.Core.Bool.{Bool, cond, _||_}
+use mathlib.Core.Bool.{cond}
 use mathlib.Core.List.{List, [], _∷_, map}
 use Prim.Native.Nat.{ℕ}
 use lib.Dec.{eqb}
@@ -19,10 +19,6 @@ nextOf p = placingReply p .next
 
 abbrev pub groupOf : Placing → ℕ
 groupOf p = placingReply p .group
-
--- "A record is placed where the reply is 0 or 7."
-abbrev pub isPlaced : ℕ → Bool
-isPlaced reply = eqb reply 0 || eqb reply 7
 
 -- "groups with a nonzero count", among 1 to 60: 1 for each of them
 abbrev pub filled : List ℕ → ℕ → ℕ

@@ -4,20 +4,10 @@ ghost use Prim.Native.Nat.{_+_, _≤_};
 ghost use lib.ListN.{length};
 ghost use Rattle.base.specs.Part.{over};
 ghost use Rattle.decimal.specs.Writing.{endIn, Puts};
-ghost use Rattle.listing.specs.Rows.{isPlaced, filledGroups, recordRow, endRow};
+ghost use Rattle.listing.specs.Rows.{filledGroups, recordRow, endRow};
 ghost use Rattle.listing.specs.Listing.{listing, printed, listedReply};
 use decimal::Put;
 use place::Placing;
-
-// "A record is placed where the reply is 0 or 7."
-fn is_placed(number: usize) -> bool
-    ensures { λ r. ⌜ r ≡ isPlaced number ⌝ }
-{
-    if number == 0 {
-        return true;
-    }
-    number == 7
-}
 
 // How many of the groups 1 to 60 have a nonzero count.
 fn filled_groups(counts: &[u16]) -> u64
@@ -71,7 +61,7 @@ fn listing_end(text: &[u8], size: usize) -> Put
         let here = place::place(text, at);
         let answer = here.answer;
         let r = place::reply_of(answer);
-        if !is_placed(r.number) {
+        if !place::is_placed(r.number) {
             let last = end_row(k, at, answer);
             return decimal::row_end(size, a, b"end ", &last);
         }
@@ -98,7 +88,7 @@ fn put_listing(text: &[u8], out: &mut [u8])
         let found = place::place(text, at);
         let answer = found.answer;
         let r = place::reply_of(answer);
-        if !is_placed(r.number) {
+        if !place::is_placed(r.number) {
             let last = end_row(k, at, answer);
             decimal::put_row(out, a, b"end ", &last);
             return;

@@ -99,3 +99,20 @@ pub record IsE (c d x : ℕ) (s : List ℕ) (m e : ℤ) : Type 0 where
   pub text : s ≡ (replicate blanks 32 ++ leadText lead) ++ (46 ∷ (digitText digits ++ (69 ∷ signByte down ∷ digitText exponent)))
   pub first : m ≡ ofSign (leadMinus lead) (numberOf digits)
   pub second : e ≡ ofSign down (numberOf exponent)
+
+-- The same with the texts before the point listed: E11.6E1 and E8.3E1 by `oneColumn`, E20.12E2 by `threeColumns` (`e-one`, `e-three` in
+-- proofs/Leads.antt)
+pub record IsEBy (shapes : List Shape) (d x : ℕ) (s : List ℕ) (m e : ℤ) : Type 0 where
+  pub minus : Bool
+  pub head : List ℕ
+  pub shape : AnyOf shapes minus head
+  pub digits : List ℕ
+  pub each : AllDigits digits
+  pub many : length digits ≡ d
+  pub down : Bool
+  pub exponent : List ℕ
+  pub every : AllDigits exponent
+  pub places : length exponent ≡ x
+  pub text : s ≡ head ++ (46 ∷ (digitText digits ++ (69 ∷ signByte down ∷ digitText exponent)))
+  pub first : m ≡ ofSign minus (numberOf digits)
+  pub second : e ≡ ofSign down (numberOf exponent)

@@ -6,6 +6,7 @@ use mathlib.Core.List.{List}
 use mathlib.Core.Logic.{_↔_, _⊎_, inl, inr, ⊎-elim}
 use Prim.Native.Nat.{ℕ, _+_, _<_}
 use native.Mathlib.Nat.{eq-or-lt-of-le}
+use native.Mathlib.Omega.{arith}
 use borrow.Author.Tests.{ltb-true, ltb-false, eqb-true, eqb-false, leb-true, leb-false, le-leb, lt-leb}
 use lib.Dec.{leb, ltb, eqb}
 use lib.ListN.{length, drop}
@@ -17,19 +18,22 @@ use Rattle.count.specs.declared.Release.the-variants.{Five, Other, Filled}
 use Rattle.count.specs.declared.Ruling.{Ruling}
 use Rattle.count.specs.declared.Ruling.the-variants.{Kept, Broken}
 use Rattle.count.specs.Due.{ReleaseDue}
+use Rattle.count.proofs.Rulings.{kept-ruling, ruling-kept, broken-ruling, ruling-broken}
 use Rattle.count.proofs.Releases.{release-given, release-due}
 use Rattle.place.specs.declared.Placing.{Placing}
 use Rattle.place.specs.declared.Placing.the-variants.{Placed, End, Beyond, TooFewLines, Misformed, OtherRelease, FilledVacant, BrokenRule}
 use Rattle.place.specs.Index.{Indexed, counts, misformed, readIndex}
-use Rattle.place.specs.Placing.{located, refused, locate, locateIndex, locateRelease, locateLines, placingBy, ruledAt, placingOf}
-use Rattle.place.specs.Due.{HasIndex, HasCounts, HasRelease, HasLines, FewForIndex, FewForData, Due}
+use Rattle.place.specs.Placing.{Located, located, refused, locate, locateIndex, locateRelease, locateLines, placingBy, countsBy, ruledAt, placingOf, countsAt}
+use Rattle.place.specs.Due.{HasIndex, HasCounts, HasRelease, HasLines, FewForIndex, FewForData, CountsDue, Due}
+use Rattle.place.proofs.Indexed.{index-is, no-index}
+use Rattle.place.proofs.Placed.{located-is}
 use Rattle.place.proofs.Steps.{locate-beyond, locate-end, locate-few, locate-index}
 
 module _ (s : List ℕ) (at : ℕ) where
   -- ---- what is due is given
 
   to-counts : (ns : List ℕ) → HasCounts s at ns → locate s at ≡ locateRelease (drop at s) at ns (releaseOf ns)
-  to-counts ns h = locate-index s at (h .place .inside) (h .place .lines) ∙ rw (h .read)
+  to-counts ns h = locate-index s at (h .place .inside) (h .place .lines) ∙ rw (index-is (drop at s) ns .1 (h .index))
 
   to-lines : (ns : List ℕ) → HasRelease s at ns → locate s at ≡ locateLines (drop at s) at ns
   to-lines ns h = to-counts ns (h .index) ∙ rw (release-given ns Five (h .release))
@@ -47,19 +51,19 @@ module _ (s : List ℕ) (at : ℕ) where
       (λ (f : FewForIndex s at). ap placingBy (locate-few s at (f .inside) (f .few)))
       (λ (f : FewForData s at). ap placingBy (to-lines (f .ns) (f .head)) ∙ rw (lt-leb (recordLines (f .ns)) (feeds (drop at s)) (f .few)))
       d
-  given Misformed d = ap placingBy (locate-index s at (d .place .inside) (d .place .lines)) ∙ rw (d .bad)
+  given Misformed d = ap placingBy (locate-index s at (d .place .inside) (d .place .lines)) ∙ rw (no-index (drop at s) .1 (d .none))
   given OtherRelease d = ap placingBy (to-counts (d .ns) (d .index)) ∙ rw (release-given (d .ns) Other (d .other))
   given (FilledVacant g) d =
       ap placingBy (to-counts (d .ns) (d .index))
       ∙ rw (release-given (d .ns) (Filled g) (d .filled))
-  given (BrokenRule g n) d = ap placingBy (to-located (d .ns) n (d .lines)) ∙ rw (d .broken)
-  given (Placed n) d = ap placingBy (to-located (d .ns) n (d .lines)) ∙ rw (d .kept)
+  given (BrokenRule g n) d = ap placingBy (to-located (d .ns) n (d .lines)) ∙ rw (broken-ruling (d .ns) (d .broken))
+  given (Placed n) d = ap placingBy (to-located (d .ns) n (d .lines)) ∙ rw (kept-ruling (d .ns) (d .kept))
 
   -- ---- what is given is due
 
   from-ruling : (ns : List ℕ) (n : ℕ) (k : Ruling) → HasLines s at ns n → rulingOf ns ≡ k → Due s at (ruledAt n k)
-  from-ruling ns n Kept h e = record { ns = ns; lines = h; kept = e }
-  from-ruling ns n (Broken g) h e = record { ns = ns; lines = h; broken = e }
+  from-ruling ns n Kept h e = record { ns = ns; lines = h; kept = ruling-kept ns e }
+  from-ruling ns n (Broken g) h e = record { ns = ns; lines = h; broken = ruling-broken ns e }
 
   from-lines : (ns : List ℕ) (t : Bool) → HasRelease s at ns → leb (recordLines ns) (feeds (drop at s)) ≡ t → Due s at (placingBy (cond t (located (at + reach (drop at s) (recordLines ns)) ns) (refused TooFewLines)))
   from-lines ns true h e =
@@ -73,8 +77,8 @@ module _ (s : List ℕ) (at : ℕ) where
   from-release ns (Filled g) h f = record { ns = ns; index = h; filled = f }
 
   from-index : (q : Indexed) → HasIndex s at → readIndex (drop at s) ≡ q → Due s at (placingBy (locateIndex (drop at s) at q))
-  from-index (counts ns) h e = from-release ns (releaseOf ns) record { place = h; read = e } (release-due ns)
-  from-index misformed h e = record { place = h; bad = e }
+  from-index (counts ns) h e = from-release ns (releaseOf ns) record { place = h; index = index-is (drop at s) ns .0 e } (release-due ns)
+  from-index misformed h e = record { place = h; none = no-index (drop at s) .0 e }
 
   is-due : Due s at (placingBy (locate s at))
   unfolding locate
@@ -93,3 +97,36 @@ module _ (s : List ℕ) (at : ℕ) where
   pub first-due : (p : Placing) → placingOf s at ≡ p ↔ Due s at p
   unfolding placingOf
   first-due p = (λ e. subst (Due s at) e is-due, given p)
+
+  -- ---- the counts
+
+  located-lines : (n : ℕ) (ns : List ℕ) → locate s at ≡ located n ns → HasLines s at ns n
+  located-lines n ns e =
+      let p = located-is s at n ns e in
+      record {
+        head = record {
+          index = record { place = record { inside = p .inside; lines = p .head }; index = index-is (drop at s) ns .0 (p .index) };
+          release = rw (p .release) at (release-due ns);
+        };
+        enough = p .many;
+        next = p .next;
+      }
+
+  counts-given : (ns : List ℕ) → CountsDue s at ns → countsBy (locate s at) ≡ ns
+  counts-given ns (inl r) = ap countsBy (to-located ns (r .next) (r .lines))
+  counts-given ns (inr n) = by (locate s at) refl
+    where
+      by : (l : Located) → locate s at ≡ l → countsBy l ≡ ns
+      by (located m ms) e = absurd (n .none ms record { next = m; lines = located-lines m ms e })
+      by (refused p) e = sym (n .zeros)
+
+  counts-due : CountsDue s at (countsBy (locate s at))
+  counts-due = by (locate s at) refl
+    where
+      by : (l : Located) → locate s at ≡ l → CountsDue s at (countsBy l)
+      by (located n ns) e = inl record { next = n; lines = located-lines n ns e }
+      by (refused p) e = inr record { none = λ ms r. let f = sym e ∙ to-located ms (r .next) (r .lines) in let z : _≡_ {A = ℕ} 0 1 = cc in omega arith; zeros = refl }
+
+  pub counts-first-due : (ns : List ℕ) → countsAt s at ≡ ns ↔ CountsDue s at ns
+  unfolding countsAt
+  counts-first-due ns = (λ e. subst (CountsDue s at) e counts-due, counts-given ns)

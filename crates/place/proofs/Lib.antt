@@ -12,3 +12,5 @@ pub mod Numbered
 pub mod Zero
 pub mod Apart
 pub mod TwiceS
+pub mod Indexed
+pub mod Stopped

@@ -1,26 +1,39 @@
--- Each answer of placing is a reply of 01's table, with 0 for what its row doesn't name; and there is one answer and one list of counts.
+-- Each answer of placing fills a row of its table.
 -- Assumes nothing.
-use mathlib.Core.Path.{_≡_, refl, sym, _∙_}
-use mathlib.Core.Bool.{true≢false}
+use mathlib.Core.Path.{refl}
 use mathlib.Core.List.{List}
-use Prim.Native.Nat.{ℕ}
+use Prim.Native.Nat.{ℕ, _≤_}
+use native.Mathlib.Omega.{arith}
+use lib.Dec.{lit<}
+use lib.ListN.{drop}
 use Rattle.reply.specs.Table.{Numbered}
-use Rattle.reply.proofs.Replies.{numbered-at, numbered-on, numbered-plain}
+use Rattle.reply.proofs.Replies.{fills-plain, fills-on, fills-next, fills-at, at-row}
+use Rattle.count.specs.Tally.{recordLines}
+use Rattle.count.proofs.Rulings.{broken-group}
+use Rattle.count.proofs.Tallied.{record-two}
+use Rattle.line.proofs.Reach.{reach-least}
 use Rattle.place.specs.declared.Placing.{Placing}
 use Rattle.place.specs.declared.Placing.the-variants.{Placed, End, Beyond, TooFewLines, Misformed, OtherRelease, FilledVacant, BrokenRule}
-use Rattle.place.specs.Placing.{placingOf, countsAt}
-use Rattle.place.specs.Numbered.{placingReply}
+use Rattle.place.specs.Placing.{placingOf}
+use Rattle.place.specs.Numbered.{placingReply, placingRows}
+use Rattle.place.specs.Due.{HasLines, Due}
+use Rattle.place.proofs.Due.{first-due}
 
-pub placing-numbered : (p : Placing) → Numbered (placingReply p)
-placing-numbered (Placed n) = numbered-at 0 n 0 tt (λ e. absurd (true≢false e)) (λ e. refl)
-placing-numbered End = numbered-plain 1 tt
-placing-numbered Beyond = numbered-plain 2 tt
-placing-numbered TooFewLines = numbered-plain 3 tt
-placing-numbered Misformed = numbered-plain 4 tt
-placing-numbered OtherRelease = numbered-plain 5 tt
-placing-numbered (FilledVacant g) = numbered-on 6 g tt (λ e. absurd (true≢false e))
-placing-numbered (BrokenRule g n) = numbered-at 7 n g tt (λ e. absurd (true≢false e)) (λ e. absurd (true≢false e))
+module _ (s : List ℕ) (at : ℕ) where
+  -- the next place is behind two lines at least
+  next-behind : (ns : List ℕ) (n : ℕ) → HasLines s at ns n → 1 ≤ n
+  next-behind ns n h = omega (arith, h .next, h .enough, record-two ns, reach-least (drop at s) (recordLines ns) (h .enough))
 
--- any two outcomes that the contract allows are equal
-pub placing-once : (s : List ℕ) (at : ℕ) (r q : Placing) (ns ms : List ℕ) → (r ≡ placingOf s at) × (ns ≡ countsAt s at) → (q ≡ placingOf s at) × (ms ≡ countsAt s at) → (r ≡ q) × (ns ≡ ms)
-placing-once s at r q ns ms a b = (a .0 ∙ sym (b .0), a .1 ∙ sym (b .1))
+  pub due-numbered : (p : Placing) → Due s at p → Numbered placingRows (placingReply p)
+  due-numbered (Placed n) d = at-row 0 placingRows (placingReply (Placed n)) (lit< tt) (fills-next 0 n (next-behind (d .ns) n (d .lines)))
+  due-numbered End d = at-row 1 placingRows (placingReply End) (lit< tt) (fills-plain 1)
+  due-numbered Beyond d = at-row 2 placingRows (placingReply Beyond) (lit< tt) (fills-plain 2)
+  due-numbered TooFewLines d = at-row 3 placingRows (placingReply TooFewLines) (lit< tt) (fills-plain 3)
+  due-numbered Misformed d = at-row 4 placingRows (placingReply Misformed) (lit< tt) (fills-plain 4)
+  due-numbered OtherRelease d = at-row 5 placingRows (placingReply OtherRelease) (lit< tt) (fills-plain 5)
+  due-numbered (FilledVacant g) d = at-row 6 placingRows (placingReply (FilledVacant g)) (lit< tt) (fills-on 6 g (omega (arith, d .filled .low)))
+  due-numbered (BrokenRule g n) d =
+      at-row 7 placingRows (placingReply (BrokenRule g n)) (lit< tt) (fills-at 7 n g (next-behind (d .ns) n (d .lines)) (broken-group (d .ns) (d .broken) .0))
+
+  pub placing-numbered : Numbered placingRows (placingReply (placingOf s at))
+  placing-numbered = due-numbered (placingOf s at) (first-due s at (placingOf s at) .0 refl)

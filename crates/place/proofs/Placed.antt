@@ -23,7 +23,7 @@ use Rattle.count.proofs.Tallied.{record-two}
 use Rattle.place.specs.declared.Placing.{Placing}
 use Rattle.place.specs.declared.Placing.the-variants.{End, Beyond, TooFewLines}
 use Rattle.place.specs.Index.{Indexed, counts, misformed, readContent, readEntries, readIndexLine, joined, readIndex}
-use Rattle.place.specs.Placing.{located, refused, locate, locateIndex, locateRelease}
+use Rattle.place.specs.Placing.{located, refused, locate, locateIndex, locateRelease, countsBy, countsAt}
 use Rattle.place.proofs.Steps.{locate-index}
 
 -- the facts of a located record
@@ -126,3 +126,8 @@ pub located-long : (s : List ℕ) (at n : ℕ) (ns : List ℕ) → locate s at �
 located-long s at n ns e =
     let p = located-is s at n ns e in
     omega (arith, p .next, index-bytes (drop at s) ns (p .index), reach-mono (drop at s) 2 (recordLines ns) (record-two ns))
+
+-- the counts beside the answer are those of the located record
+pub counts-at : (s : List ℕ) (at n : ℕ) (ns : List ℕ) → locate s at ≡ located n ns → countsAt s at ≡ ns
+unfolding countsAt
+counts-at s at n ns e = ap countsBy e

@@ -2,21 +2,21 @@
 -- lines of groups 1 to 60 follow one another without gap or overlap, each part holding exactly its lines.
 -- Assumes nothing.
 use mathlib.Core.Path.{_≡_, sym, _∙_, ap, subst}
-use mathlib.Core.List.{List}
-use Prim.Native.Nat.{ℕ, zero, suc, _+_, _-_, _<_, _≤_}
+use mathlib.Core.List.{List, _++_}
+use Prim.Native.Nat.{ℕ, suc, _+_, _-_, _<_, _≤_}
 use native.Mathlib.Nat.{add-zero}
 use native.Mathlib.Omega.{arith}
-use lib.ListN.{length, drop, getD}
-use lib.Seq.{drop-drop}
+use lib.ListN.{length, take, drop, getD, take-append-drop}
+use lib.Seq.{drop-drop, drop-at, length-take-le}
 use Rattle.base.specs.Part.{part}
 use Rattle.line.specs.Lines.{feeds, reach, lines, behind, Whole}
-use Rattle.line.proofs.Reach.{reach-zero, reach-add, reach-mono, feeds-behind}
-use Rattle.line.proofs.Whole.{whole-lines}
+use Rattle.line.proofs.Reach.{reach-zero, reach-add, reach-mono, feeds-behind, length-lines}
+use Rattle.line.proofs.Whole.{whole-lines, reach-whole, behind-whole, lines-whole}
 use Rattle.line.proofs.Last.{whole-last}
-use Rattle.count.specs.Tally.{lineTally, linesBefore, recordLines}
-use Rattle.count.proofs.Tallied.{all-lines, record-two, before-none, before-groups, lines-more, lines-below}
+use Rattle.count.specs.Tally.{lineTally, linesIn, linesBefore, recordLines}
+use Rattle.count.proofs.Tallied.{all-lines, record-two, before-none, before-groups, line-entry, lines-more, lines-below}
 use Rattle.place.specs.Placing.{located, locate}
-use Rattle.place.specs.Parts.{start, groupPart}
+use Rattle.place.specs.Parts.{start, groupPart, IsPart}
 use Rattle.place.proofs.Placed.{IsLocated, located-is}
 
 -- ---- places, whatever the text: only the lines before a group count
@@ -51,6 +51,19 @@ module _ (s : List ℕ) (at : ℕ) (ns : List ℕ) where
       let w : at + reach xs (linesBefore ns (suc g)) - (at + reach xs j) ≡ reach (behind j xs) k = omega arith in
       rw (w, ← drop-drop (reach xs j) at s)
 
+  -- ---- and is the only part that follows them
+
+  pub is-part : (g from : ℕ) (x : List ℕ) → 1 ≤ g → g ≤ 60 → IsPart s at ns g from x → (from ≡ start s at ns g) × (x ≡ groupPart s at ns g)
+  unfolding start
+  is-part g from x low high h =
+      let b = h .before in
+      let k = linesIn ns g in
+      let here : drop at s ≡ b ++ (x ++ h .rest) = ap (drop at) (h .text) ∙ drop-at (h .ahead) (b ++ (x ++ h .rest)) at (h .place) in
+      let lined : getD (lineTally ns) g 0 ≡ k = line-entry ns g low (omega arith) in (
+        h .begins ∙ ap (λ n. at + n) (sym (reach-whole (x ++ h .rest) (h .lines-before)) ∙ ap (λ l. reach l (linesBefore ns g)) (sym here)),
+        sym (part-lines g (omega arith) ∙ rw (here, lined, behind-whole (x ++ h .rest) (h .lines-before)) (lines-whole (h .rest) (h .lines))),
+      )
+
 -- ---- a located record
 
 module _ (s : List ℕ) (at n : ℕ) (ns : List ℕ) (e : locate s at ≡ located n ns) where
@@ -81,3 +94,27 @@ module _ (s : List ℕ) (at n : ℕ) (ns : List ℕ) (e : locate s at ≡ locate
       let xs = drop at s in
       let m : j + k ≤ feeds xs = omega (arith, p .many, lines-more ns g h, lines-below ns (suc g) 61 (omega arith), all-lines ns) in
       subst (Whole k) (sym (part-lines s at ns g h)) (whole-lines (behind j xs) k (omega (arith, feeds-behind xs j (omega arith))))
+
+  -- the lines of a group, as a statement on the text
+  pub part-is : (g : ℕ) → 1 ≤ g → g ≤ 60 → IsPart s at ns g (start s at ns g) (groupPart s at ns g)
+  unfolding start
+  part-is g low high =
+      let j = linesBefore ns g in
+      let k = linesIn ns g in
+      let xs = drop at s in
+      let lined : getD (lineTally ns) g 0 ≡ k = line-entry ns g low (omega arith) in
+      let these : groupPart s at ns g ≡ lines k (behind j xs) = part-lines s at ns g (omega arith) ∙ ap (λ n. lines n (behind j xs)) lined in
+      let few : j ≤ feeds xs = omega (arith, p .many, lines-below ns g 61 (omega arith), all-lines ns) in
+      record {
+        ahead = take at s;
+        before = lines j xs;
+        rest = behind k (behind j xs);
+        text =
+            sym (take-append-drop at s)
+            ∙ ap (λ l. take at s ++ l)
+            (sym (take-append-drop (reach xs j) xs) ∙ ap (λ l. lines j xs ++ l) (sym (take-append-drop (reach (behind j xs) k) (behind j xs)) ∙ ap (λ l. l ++ behind k (behind j xs)) (sym these)));
+        place = length-take-le at s (omega (arith, p .inside));
+        lines-before = whole-lines xs j few;
+        lines = subst (λ n. Whole n (groupPart s at ns g)) lined (part-whole g (omega arith));
+        begins = ap (λ n. at + n) (sym (length-lines xs j));
+      }

@@ -3,13 +3,16 @@
 use mathlib.Core.Path.{_≡_, sym, _∙_, ap}
 use mathlib.Core.List.{List}
 use Prim.Native.Nat.{ℕ}
+use lib.ListN.{drop}
 use Rattle.count.specs.Rules.{rulingOf}
 use Rattle.count.specs.declared.Release.the-variants.{Five}
 use Rattle.count.specs.declared.Ruling.the-variants.{Kept}
 use Rattle.count.proofs.Releases.{release-given}
+use Rattle.count.proofs.Rulings.{kept-ruling}
 use Rattle.place.specs.declared.Placing.the-variants.{Placed}
 use Rattle.place.specs.Placing.{located, locate, countsBy, placingOf, countsAt}
 use Rattle.place.proofs.Due.{first-due}
+use Rattle.place.proofs.Indexed.{index-is}
 use Rattle.place.proofs.Placed.{is-located}
 
 pub record IsPlaced (s : List ℕ) (at n : ℕ) : Type 0 where
@@ -24,10 +27,10 @@ is-placed s at n e =
     let l : locate s at ≡ located n (d .ns) = is-located s at n (d .ns) record {
       inside = h .head .index .place .inside;
       head = h .head .index .place .lines;
-      index = h .head .index .read;
+      index = index-is (drop at s) (d .ns) .1 (h .head .index .index);
       release = release-given (d .ns) Five (h .head .release);
       many = h .enough;
       next = h .next;
     } in
     let c : countsAt s at ≡ d .ns = ap countsBy l in
-    record { located-at = l ∙ ap (located n) (sym c); kept = ap rulingOf c ∙ d .kept }
+    record { located-at = l ∙ ap (located n) (sym c); kept = ap rulingOf c ∙ kept-ruling (d .ns) (d .kept) }

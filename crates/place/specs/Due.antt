@@ -3,15 +3,14 @@ use mathlib.Core.Path.{_≡_}
 use mathlib.Core.List.{List}
 use mathlib.Core.Logic.{_⊎_}
 use Prim.Native.Nat.{ℕ, _+_, _<_, _≤_}
-use lib.ListN.{length, drop}
+use lib.ListN.{length, drop, replicate}
 use Rattle.line.specs.Lines.{feeds, reach}
 use Rattle.count.specs.Tally.{countOf, recordLines}
-use Rattle.count.specs.Rules.{rulingOf}
+use Rattle.count.specs.Blame.{KeepsRules, BreaksRules}
 use Rattle.count.specs.Due.{ReleaseFive, LowestFilled}
-use Rattle.count.specs.declared.Ruling.the-variants.{Kept, Broken}
 use Rattle.place.specs.declared.Placing.{Placing}
 use Rattle.place.specs.declared.Placing.the-variants.{Placed, End, Beyond, TooFewLines, Misformed, OtherRelease, FilledVacant, BrokenRule}
-use Rattle.place.specs.Index.{counts, misformed, readIndex}
+use Rattle.place.specs.Index.{IsIndex}
 
 module _ (s : List ℕ) (at : ℕ) where
   -- neither 2, 1 nor 3 for the index lines: the place is inside, and two line feeds are left
@@ -19,10 +18,10 @@ module _ (s : List ℕ) (at : ℕ) where
     pub inside : at < length s
     pub lines : 2 ≤ feeds (drop at s)
 
-  -- nor 4: the index gives these counts
+  -- nor 4: the two lines are the index of these counts
   pub record HasCounts (ns : List ℕ) : Type 0 where
     pub place : HasIndex
-    pub read : readIndex (drop at s) ≡ counts ns
+    pub index : IsIndex (drop at s) ns
 
   -- nor 5 and 6: the release is 5, and no vacant group has a count
   pub record HasRelease (ns : List ℕ) : Type 0 where
@@ -45,10 +44,10 @@ module _ (s : List ℕ) (at : ℕ) where
     pub head : HasRelease ns
     pub few : feeds (drop at s) < recordLines ns
 
-  -- 4
+  -- 4: they are the index of no counts
   pub record BadIndex : Type 0 where
     pub place : HasIndex
-    pub bad : readIndex (drop at s) ≡ misformed
+    pub none : (ns : List ℕ) → IsIndex (drop at s) ns → ⊥
 
   -- 5
   pub record BadRelease : Type 0 where
@@ -66,12 +65,24 @@ module _ (s : List ℕ) (at : ℕ) where
   pub record Breaks (g n : ℕ) : Type 0 where
     pub ns : List ℕ
     pub lines : HasLines ns n
-    pub broken : rulingOf ns ≡ Broken g
+    pub broken : BreaksRules ns g
 
   pub record Stands (n : ℕ) : Type 0 where
     pub ns : List ℕ
     pub lines : HasLines ns n
-    pub kept : rulingOf ns ≡ Kept
+    pub kept : KeepsRules ns
+
+  -- the counts beside the answer: those of the record, or 80 zeros where none stands
+  pub record HasRecord (ns : List ℕ) : Type 0 where
+    pub next : ℕ
+    pub lines : HasLines ns next
+
+  pub record NoRecord (ns : List ℕ) : Type 0 where
+    pub none : (ms : List ℕ) → HasRecord ms → ⊥
+    pub zeros : ns ≡ replicate 80 0
+
+  abbrev pub CountsDue : List ℕ → Type 0
+  CountsDue ns = HasRecord ns ⊎ NoRecord ns
 
   abbrev pub Due : Placing → Type 0
   Due Beyond = length s < at

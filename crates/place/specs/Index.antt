@@ -2,15 +2,16 @@
 use mathlib.Core.Path.{_≡_}
 use mathlib.Core.Bool.{Bool, true, false, cond}
 use mathlib.Core.List.{List, [], _∷_, _++_}
-use Prim.Native.Nat.{ℕ, zero, suc}
+use Prim.Native.Nat.{ℕ, zero, suc, _+_, _*_, _<_}
 use lib.Dec.{eqb}
-use lib.ListN.{take, drop}
+use lib.ListN.{length, take, drop}
 use Rattle.base.specs.Part.{part, over}
-use Rattle.field.specs.Entry.{entryOf}
+use Rattle.count.specs.Tally.{countOf}
+use Rattle.field.specs.Entry.{entryOf, IsEntry}
 use Rattle.field.specs.declared.Entry.{Entry}
 use Rattle.field.specs.declared.Entry.the-variants.{Count, Misformed}
 use Rattle.line.specs.Lines.{lines, behind}
-use Rattle.line.specs.Contents.{contentOf}
+use Rattle.line.specs.Contents.{contentOf, HasContent}
 use Rattle.line.specs.declared.Content.{Content}
 use Rattle.line.specs.declared.Content.the-variants.{Length, NoReturn}
 
@@ -46,7 +47,23 @@ joined misformed r = misformed
 unfoldable pub readIndex : List ℕ → Indexed
 readIndex xs = joined (readIndexLine (lines 1 xs)) (readIndexLine (lines 1 (behind 1 xs)))
 
--- what a function that stores the counts of a line from an index on leaves: all of them, or the answer that there are none
+-- ---- the same as a statement (proofs/Indexed.antt)
+
+-- an index line: its content has 120 bytes, and the columns from 3k to 3k + 3 are an entry of the count that stands behind `before` others
+-- and k more
+pub record IsIndexLine (x ns : List ℕ) (before : ℕ) : Type 0 where
+  pub content : List ℕ
+  pub is : HasContent x content
+  pub wide : length content ≡ 120
+  pub each : (k : ℕ) → k < 40 → IsEntry (part (k * 3) (k * 3 + 3) content) (countOf ns (before + k + 1))
+
+-- the first line of xs has the entries of numbers 1 to 40, the second those of 41 to 80
+pub record IsIndex (xs ns : List ℕ) : Type 0 where
+  pub many : length ns ≡ 80
+  pub first : IsIndexLine (lines 1 xs) ns 0
+  pub second : IsIndexLine (lines 1 (behind 1 xs)) ns 40
+
+-- ---- what a function that stores the counts of a line from an index on leaves: all of them, or the answer that there are none
 abbrev pub Stored : Indexed → ℕ → List ℕ → Bool → List ℕ → Type 0
 Stored (counts ns) from old r new = (r ≡ true) × (new ≡ over from ns old)
 Stored misformed from old r new = r ≡ false

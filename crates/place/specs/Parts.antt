@@ -1,11 +1,12 @@
 -- "A record is two index lines, then the lines of groups 1 to 60 in number order": where each group's lines are, for a record at a place
 -- with these counts. Group 0 is the index.
-use mathlib.Core.List.{List}
+use mathlib.Core.Path.{_≡_}
+use mathlib.Core.List.{List, _++_}
 use Prim.Native.Nat.{ℕ, suc, _+_}
-use lib.ListN.{drop}
+use lib.ListN.{length, drop}
 use Rattle.base.specs.Part.{part}
-use Rattle.line.specs.Lines.{reach}
-use Rattle.count.specs.Tally.{linesBefore}
+use Rattle.line.specs.Lines.{reach, Whole}
+use Rattle.count.specs.Tally.{linesIn, linesBefore}
 
 -- where the lines of group g begin; they end where those of the next group begin, and 61 begins where the record ends
 unfoldable pub start : List ℕ → ℕ → List ℕ → ℕ → ℕ
@@ -13,3 +14,15 @@ start s at ns g = at + reach (drop at s) (linesBefore ns g)
 
 unfoldable pub groupPart : List ℕ → ℕ → List ℕ → ℕ → List ℕ
 groupPart s at ns g = part (start s at ns g) (start s at ns (suc g)) s
+
+-- ---- as a statement: x is the lines of group g, and begins at the place `from` (`part-is`, `is-part` in proofs/Tiling.antt)
+pub record IsPart (s : List ℕ) (at : ℕ) (ns : List ℕ) (g from : ℕ) (x : List ℕ) : Type 0 where
+  -- the text is what stands before the record, the lines of the index and of the groups before g, these lines, and the rest
+  pub ahead : List ℕ
+  pub before : List ℕ
+  pub rest : List ℕ
+  pub text : s ≡ ahead ++ (before ++ (x ++ rest))
+  pub place : length ahead ≡ at
+  pub lines-before : Whole (linesBefore ns g) before
+  pub lines : Whole (linesIn ns g) x
+  pub begins : from ≡ at + length before

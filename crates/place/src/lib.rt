@@ -4,7 +4,7 @@ ghost use Prim.Native.Nat.{_+_, _≤_};
 ghost use lib.ListN.{length, replicate};
 ghost use Rattle.place.specs.Parts.{start};
 ghost use Rattle.place.specs.Index.{readEntries, readIndexLine, Stored};
-ghost use Rattle.place.specs.Numbered.{placingReply};
+ghost use Rattle.place.specs.Numbered.{placingReply, isPlaced};
 ghost use Rattle.place.specs.Placing.{Answers, placingOf, countsAt, ruledAt, locateLinesFrom, locateFrom};
 
 // What placing answers; each variant is one of 01's replies.
@@ -149,6 +149,16 @@ pub fn reply_of(answer: Placing) -> reply::Reply
         Placing::FilledVacant(g) => reply::on_group(6, g),
         Placing::BrokenRule(g, n) => reply::at_next(7, n, g),
     }
+}
+
+// "A record is placed where the reply is 0 or 7."
+pub fn is_placed(number: usize) -> bool
+    ensures { λ r. ⌜ r ≡ isPlaced number ⌝ }
+{
+    if number == 0 {
+        return true;
+    }
+    number == 7
 }
 
 // From where to where the lines of a group stand.

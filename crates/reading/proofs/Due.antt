@@ -25,6 +25,8 @@ use Rattle.form.specs.Table.{rowOf, formOf}
 use Rattle.form.specs.Count.{linesOf, cellsOf}
 use Rattle.form.proofs.Table.{no-group, group-form, form-range}
 use Rattle.field.specs.Read.{fieldOf, formed, cellsIn}
+use Rattle.field.specs.Grammar.{SomeField}
+use Rattle.field.proofs.Laws.{some-field}
 use Rattle.line.specs.declared.Content.{Content}
 use Rattle.line.specs.declared.Content.the-variants.{Length, NoReturn}
 use Rattle.line.proofs.Contents.{is-content, content-is, content-taken}
@@ -32,6 +34,8 @@ use Rattle.count.specs.Tally.{countOf}
 use Rattle.count.specs.Rules.{rulingOf}
 use Rattle.count.specs.declared.Ruling.{Ruling}
 use Rattle.count.specs.declared.Ruling.the-variants.{Kept, Broken}
+use Rattle.count.proofs.Rulings.{kept-ruling, ruling-kept, broken-ruling, ruling-broken}
+use Rattle.date.proofs.Due as Letters
 use Rattle.date.specs.Date.{datedOf}
 use Rattle.date.specs.declared.Dated.{Dated}
 use Rattle.date.specs.declared.Dated.the-variants.{Right, Wrong}
@@ -51,14 +55,14 @@ use Rattle.reading.proofs.Values.{fields-pieces, lineRead, lines-pieces
 -- ---- a field: 9
 
 module _ (f : Form) (line e : ℕ) (y : List ℕ) where
-  field-reads : T (formed (fieldOf f y)) → IsDone (readField f line e y)
-  field-reads t = record { cells = cellsIn y (fieldOf f y); is = rw (T-true (formed (fieldOf f y)) t) refl }
+  field-reads : SomeField f y → IsDone (readField f line e y)
+  field-reads h = record { cells = cellsIn y (fieldOf f y); is = rw (T-true (formed (fieldOf f y)) (some-field f y .1 h)) refl }
 
-  field-told : (T (formed (fieldOf f y)) → ⊥) → readField f line e y ≡ bad (BadField line e)
-  field-told n = rw (not-T-false (formed (fieldOf f y)) n) refl
+  field-told : (SomeField f y → ⊥) → readField f line e y ≡ bad (BadField line e)
+  field-told n = rw (not-T-false (formed (fieldOf f y)) (λ t. n (some-field f y .0 t))) refl
 
   record FieldBad (r : Refusal) : Type 0 where
-    none : T (formed (fieldOf f y)) → ⊥
+    none : SomeField f y → ⊥
     is : r ≡ BadField line e
 
   field-bad : (r : Refusal) → readField f line e y ≡ bad r → FieldBad r
@@ -66,7 +70,7 @@ module _ (f : Form) (line e : ℕ) (y : List ℕ) where
     where
       by : (t : Bool) → formed (fieldOf f y) ≡ t → cond t (done (cellsIn y (fieldOf f y))) (bad (BadField line e)) ≡ bad r → FieldBad r
       by true u w = let z : _≡_ {A = ℕ} 0 1 = cc in absurd (omega arith)
-      by false u w = record { none = λ t. let v : T false = rw u at t in v; is = cc }
+      by false u w = record { none = λ h. let v : T false = rw u at (some-field f y .1 h) in v; is = cc }
 
 -- ---- a line: 8, then 9
 
@@ -125,7 +129,7 @@ module _ (f : Form) (count : ℕ) (x : List ℕ) where
     done-clean : IsDone (lineRead f count x j) → CleanLine f count x j
     done-clean d =
         let r = line-read f count x j (d .cells) (d .is) in
-        record { content = r .content; line = r .line; fields = λ k h. r .each k h .good }
+        record { content = r .content; line = r .line; fields = λ k h. some-field f (fieldIn f count j (r .content) k) .0 (r .each k h .good) }
 
   -- ---- the lines
 
@@ -192,7 +196,7 @@ module _ (f : Form) (count : ℕ) (x : List ℕ) where
             content = w .content;
             line = w .line;
             inside = c .inside;
-            earlier = λ i h. field-done f (l (b .at) .number) (l (b .at) .first + i) (fieldIn f count (b .at) (w .content) i) (c .earlier i h .cells) (c .earlier i h .is) .good;
+            earlier = λ i h. some-field f (fieldIn f count (b .at) (w .content) i) .0 (field-done f (l (b .at) .number) (l (b .at) .first + i) (fieldIn f count (b .at) (w .content) i) (c .earlier i h .cells) (c .earlier i h .is) .good);
             misformed = q .none;
             number = refl;
             element = refl;
@@ -222,7 +226,7 @@ module _ (ns : List ℕ) (g : ℕ) (x : List ℕ) (room : ℕ) where
 
   to-lines : (f : Form) → Roomy ns g x room f → readGroup ns g x room ≡ dated g (readLines f (countOf ns g) x)
   unfolding readGroup readForm
-  to-lines f r = rw (r .ruled .form, r .ruled .kept, le-leb (cellsOf f (countOf ns g)) room (r .enough)) refl
+  to-lines f r = rw (r .ruled .form, kept-ruling ns (r .ruled .kept), le-leb (cellsOf f (countOf ns g)) room (r .enough)) refl
 
   to-cells : (cs : List ℤ) → HasCells ns g x room cs → readGroup ns g x room ≡ dated g (done cs)
   to-cells cs h = to-lines (h .f) (h .roomy) ∙ ap (dated g) (lines-read (h .f) (countOf ns g) x cs (h .clean) (h .values))
@@ -230,11 +234,11 @@ module _ (ns : List ℕ) (g : ℕ) (x : List ℕ) (room : ℕ) where
   refusal-given : (r : Refusal) → RefusalDue ns g x room r → readGroup ns g x room ≡ bad r
   unfolding readGroup readForm
   refusal-given NoGroup d = rw (no-group g .1 (λ i. d (i .low, i .high))) refl
-  refusal-given (BrokenRule h) d = rw (group-form g (d .low) (d .high) .1, d .broken) refl
-  refusal-given NoRoom d = rw (d .ruled .form, d .ruled .kept, lt-leb (cellsOf (d .f) (countOf ns g)) room (d .few)) refl
+  refusal-given (BrokenRule h) d = rw (group-form g (d .low) (d .high) .1, broken-ruling ns (d .broken)) refl
+  refusal-given NoRoom d = rw (d .ruled .form, kept-ruling ns (d .ruled .kept), lt-leb (cellsOf (d .f) (countOf ns g)) room (d .few)) refl
   refusal-given (BadLine n) d = to-lines (d .f) (d .roomy) ∙ ap (dated g) (line-given (d .f) (countOf ns g) x n (d .line))
   refusal-given (BadField n e) d = to-lines (d .f) (d .roomy) ∙ ap (dated g) (field-given (d .f) (countOf ns g) x n e (d .field))
-  refusal-given (BadDate p) d = to-cells (d .cs) (d .cells) ∙ rw (eq-eqb g 3 (d .three), d .wrong) refl
+  refusal-given (BadDate p) d = to-cells (d .cs) (d .cells) ∙ rw (eq-eqb g 3 (d .three), Letters.first-due (map sizeOf (d .cs)) (Wrong p) .1 (d .wrong)) refl
   refusal-given End d = absurd d
   refusal-given Beyond d = absurd d
   refusal-given TooFewLines d = absurd d
@@ -246,7 +250,7 @@ module _ (ns : List ℕ) (g : ℕ) (x : List ℕ) (room : ℕ) where
   done-given cs d = to-cells cs (d .cells) ∙ by (eqb g 3) refl
     where
       by : (t : Bool) → eqb g 3 ≡ t → cond t (byDate cs (datedOf (map sizeOf cs))) (done cs) ≡ done cs
-      by true e = rw (d .date (eqb-true g 3 e) .1) refl
+      by true e = let t = d .date (eqb-true g 3 e) in rw (Letters.first-due (map sizeOf cs) (Right (t .0)) .1 (t .1)) refl
       by false e = refl
 
   given : (c : Cells) → Due ns g x room c → readGroup ns g x room ≡ c
@@ -270,8 +274,8 @@ module _ (ns : List ℕ) (g : ℕ) (x : List ℕ) (room : ℕ) where
   from-bad f (FilledVacant k) h d = d
 
   from-date : (cs : List ℤ) (t : Bool) (c : Dated) → HasCells ns g x room cs → eqb g 3 ≡ t → datedOf (map sizeOf cs) ≡ c → Due ns g x room (cond t (byDate cs c) (done cs))
-  from-date cs true (Right d) h e u = record { cells = h; date = λ three. (d, u) }
-  from-date cs true (Wrong p) h e u = record { cs = cs; cells = h; three = eqb-true g 3 e; wrong = u }
+  from-date cs true (Right d) h e u = record { cells = h; date = λ three. (d, Letters.first-due (map sizeOf cs) (Right d) .0 u) }
+  from-date cs true (Wrong p) h e u = record { cs = cs; cells = h; three = eqb-true g 3 e; wrong = Letters.first-due (map sizeOf cs) (Wrong p) .0 u }
   from-date cs false c h e u = record { cells = h; date = λ three. absurd (eqb-false g 3 e three) }
 
   from-lines : (f : Form) (c : Cells) → Roomy ns g x room f → readLines f (countOf ns g) x ≡ c → Due ns g x room (dated g c)
@@ -285,8 +289,8 @@ module _ (ns : List ℕ) (g : ℕ) (x : List ℕ) (room : ℕ) where
 
   from-ruling : (f : Form) (k : Ruling) → formOf g ≡ Has f → rulingOf ns ≡ k → Due ns g x room (readRuled f ns g x room k)
   unfolding readForm
-  from-ruling f Kept h e = from-room f (leb (cellsOf f (countOf ns g)) room) record { form = h; kept = e } refl
-  from-ruling f (Broken k) h e = let r = form-range g f h in record { low = r .0; high = r .1; broken = e }
+  from-ruling f Kept h e = from-room f (leb (cellsOf f (countOf ns g)) room) record { form = h; kept = ruling-kept ns e } refl
+  from-ruling f (Broken k) h e = let r = form-range g f h in record { low = r .0; high = r .1; broken = ruling-broken ns e }
 
   is-due : Due ns g x room (readGroup ns g x room)
   unfolding readGroup

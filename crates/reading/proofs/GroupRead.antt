@@ -13,7 +13,9 @@ use Rattle.form.specs.Count.{cellsOf}
 use Rattle.count.specs.Tally.{countOf}
 use Rattle.count.specs.Rules.{rulingOf}
 use Rattle.count.specs.declared.Ruling.the-variants.{Kept}
+use Rattle.count.proofs.Rulings.{ruling-kept}
 use Rattle.date.specs.Date.{datedOf}
+use Rattle.date.proofs.Due as Letters
 use Rattle.date.specs.declared.Date.{Date}
 use Rattle.date.specs.declared.Dated.the-variants.{Right}
 use Rattle.reading.specs.Read.{readLines, readGroup}
@@ -41,11 +43,11 @@ module _ (ns : List ℕ) (g : ℕ) (y : List ℕ) (room : ℕ) (c : List ℤ) wh
       first-due ns g y room (done c) .1 record {
         cells = record {
           f = f;
-          roomy = record { ruled = record { form = r .has; kept = kept }; enough = r .enough };
+          roomy = record { ruled = record { form = r .has; kept = ruling-kept ns kept }; enough = r .enough };
           clean = lines-clean f n y c (r .lines);
           values = read-values f n y c (r .lines);
         };
-        date = λ three. (r .date three .date, r .date three .right);
+        date = λ three. let d = r .date three in (d .date, Letters.first-due (map sizeOf c) (Right (d .date)) .0 (d .right));
       }
 
   pub group-reads : readGroup ns g y room ≡ done c → GroupReads ns g y room c
@@ -57,5 +59,5 @@ module _ (ns : List ℕ) (g : ℕ) (y : List ℕ) (room : ℕ) (c : List ℤ) wh
         has = h .roomy .ruled .form;
         enough = h .roomy .enough;
         lines = lines-read (h .f) (countOf ns g) y c (h .clean) (h .values);
-        date = λ three. record { date = d .date three .0; right = d .date three .1 };
+        date = λ three. let t = d .date three in record { date = t .0; right = Letters.first-due (map sizeOf c) (Right (t .0)) .1 (t .1) };
       }

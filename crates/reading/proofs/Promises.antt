@@ -1,17 +1,17 @@
--- What is promised of reading the lines of a group: each answer is a reply of 01's table; a refusal keeps the table, and 0 keeps what stands
--- behind the cells; there is one outcome; a broken rule on counts is 7 for every group; a group reads the same
--- into every table with room; a count of 0 gives 0 and no cells.
+-- What is promised of reading the lines of a group: each answer fills a row of its table; a refusal keeps the table, and 0 keeps what stands
+-- behind the cells; a broken rule on counts is 7 for every group; a group reads the same into every table with room; a count of 0 gives 0
+-- and no cells.
 -- Assumes nothing.
 use mathlib.Core.Path.{_≡_, refl, sym, _∙_, ap}
-use mathlib.Core.Bool.{true≢false}
-use mathlib.Core.List.{List, []}
-use Prim.Native.Nat.{ℕ, _≤_}
+use mathlib.Core.List.{List, [], map}
+use Prim.Native.Nat.{ℕ, _+_, _≤_}
 use native.Mathlib.Nat.{zero-add, zero-mul}
 use native.Mathlib.Omega.{arith}
 use borrow.Author.Tests.{le-leb, ne-eqb}
+use lib.Dec.{lit<}
 use lib.IntN.{ℤ}
-use lib.ListN.{length, drop}
-use lib.Seq.{drop-at}
+use lib.ListN.{length, take, drop}
+use lib.Seq.{drop-at, take-at}
 use Rattle.base.specs.Every
 use Rattle.base.specs.Pieces
 use Rattle.base.specs.Pieces.{done, bad}
@@ -22,39 +22,44 @@ use Rattle.form.specs.Count
 use Rattle.form.specs.Count.{elementsOf, linesOf, cellsOf}
 use Rattle.form.proofs.Rounding.{rounded-none}
 use Rattle.reply.specs.Table.{Numbered}
-use Rattle.reply.proofs.Replies.{numbered-on, numbered-plain, numbered-done, numbered-line, numbered-date}
+use Rattle.reply.proofs.Replies.{fills-plain, fills-on, fills-cells, fills-line, fills-element, fills-date, at-row}
+use Rattle.base.specs.Sign.{sizeOf}
+use Rattle.count.proofs.Rulings.{broken-group}
+use Rattle.date.proofs.Due.{blamed-position}
 use Rattle.count.specs.Tally.{countOf}
 use Rattle.count.specs.Rules.{rulingOf}
 use Rattle.count.specs.declared.Ruling.{Ruling}
 use Rattle.count.specs.declared.Ruling.the-variants.{Kept, Broken}
 use Rattle.reading.specs.declared.Refusal.{Refusal}
 use Rattle.reading.specs.declared.Refusal.the-variants.{NoGroup, End, Beyond, TooFewLines, Misformed, OtherRelease, FilledVacant, BrokenRule, NoRoom, BadLine, BadField, BadDate}
-use Rattle.reading.specs.declared.Reading.{Reading}
-use Rattle.reading.specs.declared.Reading.the-variants.{Done, Refused}
-use Rattle.reading.specs.Numbered.{refusalReply, readingReply}
+use Rattle.reading.specs.declared.Reading.the-variants.{Done}
+use Rattle.reading.specs.Numbered.{refusalReply, readingReply, readingRows}
+use Rattle.reading.specs.Due.{RefusalDue, Due}
 use Rattle.reading.specs.Plan.{planFrom, planOf}
 use Rattle.reading.specs.Read.{Cells, readLinesOf, readLines, readForm, readRuled, readGroup, readingOf, tableBy}
 use Rattle.reading.proofs.Steps.{kept-letters}
 
 -- ---- numbered
 
-pub refusal-numbered : (r : Refusal) → Numbered (refusalReply r)
-refusal-numbered NoGroup = numbered-plain 12 tt
-refusal-numbered End = numbered-plain 1 tt
-refusal-numbered Beyond = numbered-plain 2 tt
-refusal-numbered TooFewLines = numbered-plain 3 tt
-refusal-numbered Misformed = numbered-plain 4 tt
-refusal-numbered OtherRelease = numbered-plain 5 tt
-refusal-numbered (FilledVacant g) = numbered-on 6 g tt (λ e. absurd (true≢false e))
-refusal-numbered (BrokenRule g) = numbered-on 7 g tt (λ e. absurd (true≢false e))
-refusal-numbered NoRoom = numbered-plain 11 tt
-refusal-numbered (BadLine l) = numbered-line 8 l 0 tt (λ x. absurd (true≢false x)) (λ x. refl)
-refusal-numbered (BadField l e) = numbered-line 9 l e tt (λ x. absurd (true≢false x)) (λ x. absurd (true≢false x))
-refusal-numbered (BadDate p) = numbered-date p
+-- what is refused by the counts and the lines; 12 and placing's replies are told where they are asked
+pub refusal-numbered : (ns : List ℕ) (g : ℕ) (x : List ℕ) (room : ℕ) (r : Refusal) → RefusalDue ns g x room r → Numbered readingRows (refusalReply r)
+refusal-numbered ns g x room NoGroup d = at-row 1 readingRows (refusalReply NoGroup) (lit< tt) (fills-plain 12)
+refusal-numbered ns g x room End d = absurd d
+refusal-numbered ns g x room Beyond d = absurd d
+refusal-numbered ns g x room TooFewLines d = absurd d
+refusal-numbered ns g x room Misformed d = absurd d
+refusal-numbered ns g x room OtherRelease d = absurd d
+refusal-numbered ns g x room (FilledVacant h) d = absurd d
+refusal-numbered ns g x room (BrokenRule h) d = at-row 8 readingRows (refusalReply (BrokenRule h)) (lit< tt) (fills-on 7 h (broken-group ns (d .broken) .0))
+refusal-numbered ns g x room NoRoom d = at-row 9 readingRows (refusalReply NoRoom) (lit< tt) (fills-plain 11)
+refusal-numbered ns g x room (BadLine l) d = at-row 10 readingRows (refusalReply (BadLine l)) (lit< tt) (fills-line 8 l (omega (arith, d .line .number)))
+refusal-numbered ns g x room (BadField l e) d =
+    at-row 11 readingRows (refusalReply (BadField l e)) (lit< tt) (fills-element 9 l e (omega (arith, d .field .number)) (omega (arith, d .field .element)))
+refusal-numbered ns g x room (BadDate p) d = at-row 12 readingRows (refusalReply (BadDate p)) (lit< tt) (fills-date p (blamed-position (map sizeOf (d .cs)) p (d .wrong)))
 
-pub reading-numbered : (r : Reading) → Numbered (readingReply r)
-reading-numbered (Done n) = numbered-done n
-reading-numbered (Refused r) = refusal-numbered r
+pub cells-numbered : (ns : List ℕ) (g : ℕ) (x : List ℕ) (room : ℕ) (c : Cells) → Due ns g x room c → Numbered readingRows (readingReply (readingOf c))
+cells-numbered ns g x room (done cs) d = at-row 0 readingRows (readingReply (Done (length cs))) (lit< tt) (fills-cells (length cs))
+cells-numbered ns g x room (bad r) d = refusal-numbered ns g x room r d
 
 -- ---- the table
 
@@ -63,16 +68,16 @@ pub refused-read-keeps : (g : Cells) (old : List ℤ) → (readingReply (reading
 refused-read-keeps (done cs) old n = absurd (n refl)
 refused-read-keeps (bad r) old n = refl
 
+-- under 0 the first cells of the table are those that were read
+pub done-read-holds : (cs old : List ℤ) → take (length cs) (tableBy (done cs) old) ≡ cs
+done-read-holds cs old = take-at cs (drop (0 + length cs) old) (length cs) refl
+
 -- done read keeps the rest: "Cells behind the last one written keep their content"
 pub done-read-keeps-rest : (g : Cells) (old : List ℤ) (n : ℕ) → readingOf g ≡ Done n → drop n (tableBy g old) ≡ drop n old
 done-read-keeps-rest (done cs) old n e =
     let m : length cs ≡ n = cc in
     rw (← m, zero-add (length cs)) (drop-at cs (drop (length cs) old) (length cs) refl)
 done-read-keeps-rest (bad r) old n e = let z : _≡_ {A = ℕ} 0 1 = cc in absurd (omega arith)
-
--- any two outcomes that the contract allows are equal
-pub read-once : (g : Cells) (old : List ℤ) (r q : Reading) (new now : List ℤ) → (r ≡ readingOf g) × (new ≡ tableBy g old) → (q ≡ readingOf g) × (now ≡ tableBy g old) → (r ≡ q) × (new ≡ now)
-read-once g old r q new now a b = (a .0 ∙ sym (b .0), a .1 ∙ sym (b .1))
 
 -- a record that breaks a rule on counts gives 7 for every group, whatever its lines hold
 pub read-broken : (ns : List ℕ) (g : ℕ) (x : List ℕ) (room h : ℕ) (f : Form) → formOf g ≡ Has f → rulingOf ns ≡ Broken h → readGroup ns g x room ≡ bad (BrokenRule h)

@@ -24,8 +24,8 @@ use Rattle.count.specs.Tally.{countOf}
 use Rattle.count.specs.Rules
 use Rattle.count.specs.Rules.{rulingOf}
 use Rattle.count.specs.declared.Ruling.the-variants.{Kept, Broken}
-use Rattle.count.proofs.Rulings
-use Rattle.count.proofs.Rulings.{Breaks, ruling-says}
+use Rattle.count.specs.Blame
+use Rattle.count.proofs.Rulings.{ruling-kept}
 use Rattle.reading.specs.declared.Refusal.{Refusal}
 use Rattle.reading.specs.declared.Refusal.the-variants.{NoGroup, BrokenRule, NoRoom}
 use Rattle.reading.specs.declared.Reading.{Reading}
@@ -82,12 +82,12 @@ module _ (f : Form) (g count : ℕ) (x : List ℕ) (old : List ℤ) where
 
 -- "group 3 at least 19"
 pub kept-letters : (ns : List ℕ) → rulingOf ns ≡ Kept → 19 ≤ countOf ns 3
-unfolding Rulings.Breaks Rules.headRules
+unfolding Blame.Blames Rules.headRules
 kept-letters ns e = by (leb 19 (countOf ns 3)) refl
   where
     by : (t : Bool) → leb 19 (countOf ns 3) ≡ t → 19 ≤ countOf ns 3
     by true u = leb-true 19 (countOf ns 3) u
-    by false u = absurd (ruling-says ns Kept .0 e 3 (inr (inr (inl (u, refl)))))
+    by false u = absurd (ruling-kept ns e 3 (inr (inr (inl (u, refl)))))
 
 module _ (ns : List ℕ) (g : ℕ) (x : List ℕ) (old : List ℤ) where
   pub group-none : formOf g ≡ NoForm → Answers (readGroup ns g x (length old)) old (Refused NoGroup) old

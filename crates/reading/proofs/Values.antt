@@ -23,6 +23,7 @@ use Rattle.form.specs.Count.{elementsOf, linesOf, cellsOf}
 use Rattle.form.proofs.Rows.{row-fits}
 use Rattle.form.proofs.Rounding.{lines-enough}
 use Rattle.field.specs.Read.{fieldOf, cellsIn, Reads}
+use Rattle.field.proofs.Laws.{lawful}
 use Rattle.line.specs.Lines.{reach, behind}
 use Rattle.line.proofs.Reach.{reach-zero, reach-add}
 use Rattle.line.proofs.Contents.{is-content, content-one}
@@ -166,7 +167,7 @@ module _ (f : Form) (count : ℕ) (x : List ℕ) where
         record {
           content = r .content;
           line = r .line;
-          reads = subst (Reads f (fieldIn f count j (r .content) k)) (part-part (begins j) (begins (suc j)) (k * c) (suc k * c) cs within ∙ rw (from, to) refl) (r .each k (omega arith));
+          reads = lawful f .reads-is (fieldIn f count j (r .content) k) (part ((j * p + k) * c) ((j * p + k) * c + c) cs) (subst (Reads f (fieldIn f count j (r .content) k)) (part-part (begins j) (begins (suc j)) (k * c) (suc k * c) cs within ∙ rw (from, to) refl) (r .each k (omega arith)));
         }
 
     -- what was read is the group's values
@@ -189,4 +190,6 @@ module _ (f : Form) (count : ℕ) (x : List ℕ) where
           let a = values-divided cs u i h in
           let b = values-divided ds v i h in
           let c : a .content ≡ b .content = content-one (lineOf x (i / p)) (a .content) (b .content) (a .line .content) (b .line .content) in
-          sym (a .reads .cells) ∙ ap (λ s. cellsIn (fieldIn f count (i / p) s (i % p)) (fieldOf f (fieldIn f count (i / p) s (i % p)))) c ∙ b .reads .cells
+          let d = lawful f .is-reads (fieldIn f count (i / p) (a .content) (i % p)) (part (i * rowOf f .cells) (i * rowOf f .cells + rowOf f .cells) cs) (a .reads) in
+          let g = lawful f .is-reads (fieldIn f count (i / p) (b .content) (i % p)) (part (i * rowOf f .cells) (i * rowOf f .cells + rowOf f .cells) ds) (b .reads) in
+          sym (d .cells) ∙ ap (λ s. cellsIn (fieldIn f count (i / p) s (i % p)) (fieldOf f (fieldIn f count (i / p) s (i % p)))) c ∙ g .cells

@@ -4,21 +4,19 @@
 use mathlib.Core.Path.{_≡_}
 use mathlib.Core.List.{List, map}
 use Prim.Native.Nat.{ℕ, _+_, _<_, _≤_}
-use lib.Dec.{T}
 use lib.IntN.{ℤ}
 use Rattle.base.specs.Pieces.{done, bad}
 use Rattle.base.specs.Sign.{sizeOf}
 use Rattle.form.specs.declared.Form.{Form}
 use Rattle.form.specs.declared.GroupForm.the-variants.{Has}
-use Rattle.form.specs.Table.{formOf}
+use Rattle.form.specs.Table.{formOf, NoSuchGroup}
 use Rattle.form.specs.Count.{linesOf, cellsOf}
-use Rattle.field.specs.Read.{fieldOf, formed}
+use Rattle.field.specs.Grammar.{SomeField}
 use Rattle.count.specs.Tally.{countOf}
-use Rattle.count.specs.Rules.{rulingOf}
-use Rattle.count.specs.declared.Ruling.the-variants.{Kept, Broken}
-use Rattle.date.specs.Date.{datedOf}
+use Rattle.count.specs.Blame.{KeepsRules, BreaksRules}
 use Rattle.date.specs.declared.Date.{Date}
 use Rattle.date.specs.declared.Dated.the-variants.{Right, Wrong}
+use Rattle.date.specs.Due as Letters
 use Rattle.reading.specs.declared.Refusal.{Refusal}
 use Rattle.reading.specs.declared.Refusal.the-variants.{NoGroup, End, Beyond, TooFewLines, Misformed, OtherRelease, FilledVacant, BrokenRule, NoRoom, BadLine, BadField, BadDate}
 use Rattle.reading.specs.Read.{Cells}
@@ -26,7 +24,7 @@ use Rattle.reading.specs.Values.{planned, fieldIn, RightLine, Values}
 
 -- the field with k fields before it, in line j of content s, is one of the form
 abbrev pub FieldReads : Form → ℕ → ℕ → List ℕ → ℕ → Type 0
-FieldReads f count j s k = T (formed (fieldOf f (fieldIn f count j s k)))
+FieldReads f count j s k = SomeField f (fieldIn f count j s k)
 
 -- ---- the lines: 8 and 9. "Lines and elements count from 1": the line with j before it is number j + 1, and Plan gives its first element
 
@@ -69,15 +67,15 @@ module _ (f : Form) (count : ℕ) (x : List ℕ) where
 
 module _ (ns : List ℕ) (g : ℕ) (x : List ℕ) (room : ℕ) where
   -- 7, and not 12
-  pub record Breaks (h : ℕ) : Type 0 where
+  pub record RuleDue (h : ℕ) : Type 0 where
     pub low : 1 ≤ g
     pub high : g ≤ 60
-    pub broken : rulingOf ns ≡ Broken h
+    pub broken : BreaksRules ns h
 
   -- neither 12 nor 7
   pub record Ruled (f : Form) : Type 0 where
     pub form : formOf g ≡ Has f
-    pub kept : rulingOf ns ≡ Kept
+    pub kept : KeepsRules ns
 
   -- 11: "table .. shorter than what reply 0 would fill, and only then"
   pub record Short : Type 0 where
@@ -113,16 +111,16 @@ module _ (ns : List ℕ) (g : ℕ) (x : List ℕ) (room : ℕ) where
     pub cs : List ℤ
     pub cells : HasCells cs
     pub three : g ≡ 3
-    pub wrong : datedOf (map sizeOf cs) ≡ Wrong p
+    pub wrong : Letters.Due (map sizeOf cs) (Wrong p)
 
-  -- 0
+  -- 0, and of group 3 a date
   pub record DoneDue (cs : List ℤ) : Type 0 where
     pub cells : HasCells cs
-    pub date : g ≡ 3 → (d : Date) × (datedOf (map sizeOf cs) ≡ Right d)
+    pub date : g ≡ 3 → (d : Date) × Letters.Due (map sizeOf cs) (Right d)
 
   abbrev pub RefusalDue : Refusal → Type 0
-  RefusalDue NoGroup = (1 ≤ g) × (g ≤ 60) → ⊥
-  RefusalDue (BrokenRule h) = Breaks h
+  RefusalDue NoGroup = NoSuchGroup g
+  RefusalDue (BrokenRule h) = RuleDue h
   RefusalDue NoRoom = Short
   RefusalDue (BadLine l) = LineDue l
   RefusalDue (BadField l e) = FieldDue l e

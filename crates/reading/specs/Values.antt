@@ -10,7 +10,7 @@ use Rattle.base.specs.Part.{part}
 use Rattle.form.specs.declared.Form.{Form}
 use Rattle.form.specs.Table.{rowOf}
 use Rattle.form.specs.Count.{elementsOf, cellsOf}
-use Rattle.field.specs.Read.{Reads}
+use Rattle.field.specs.Grammar.{IsField}
 use Rattle.line.specs.Lines.{lines, behind}
 use Rattle.line.specs.Contents.{HasContent}
 use Rattle.reading.specs.Blanks.{shortest, filledTo}
@@ -43,11 +43,11 @@ module _ (f : Form) (count : ℕ) (x : List ℕ) where
     pub content : HasContent (lineOf x j) s
     pub right : RightContent f (columnsOf f (planned f count j)) s
 
-  -- element i stands in line j with k fields before it; its field reads (field's Grammar) as the cells from i times the form's cells on
+  -- element i stands in line j with k fields before it; its field has (field's Grammar) the cells from i times the form's cells on
   pub record Stands (cs : List ℤ) (i j k : ℕ) : Type 0 where
     pub content : List ℕ
     pub line : RightLine j content
-    pub reads : Reads f (fieldIn f count j content k) (part (i * rowOf f .cells) (i * rowOf f .cells + rowOf f .cells) cs)
+    pub reads : IsField f (fieldIn f count j content k) (part (i * rowOf f .cells) (i * rowOf f .cells + rowOf f .cells) cs)
 
   -- the cells of the group: of each element, and no others
   pub record Values (cs : List ℤ) : Type 0 where

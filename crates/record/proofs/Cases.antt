@@ -60,5 +60,4 @@ marked =
     also (refl, refl)
     also (refl, refl)
     also (refl, refl)
-    also (refl, refl)
     also tt

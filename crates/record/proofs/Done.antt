@@ -7,6 +7,7 @@ use lib.IntN.{ℤ}
 use lib.ListN.{length}
 use Rattle.count.specs.Due.{HasCells}
 use Rattle.date.specs.Date.{datedOf}
+use Rattle.date.proofs.Due as Letters
 use Rattle.date.specs.declared.Date.{Date}
 use Rattle.date.specs.declared.Dated.the-variants.{Right}
 use Rattle.record.specs.declared.Fit.the-variants.{All}
@@ -28,7 +29,7 @@ module _ (ns : List ℕ) (cs : List ℤ) (room n : ℕ) where
   pub is-done : IsDone ns cs room n → writingOf ns cs room ≡ Done n
   is-done d =
       first-due ns cs room (Done n) .1 record {
-        date = record { fields = fits-fields ns cs (d .checked) (d .fit); date = d .date; right = d .right };
+        date = record { fields = fits-fields ns cs (d .checked) (d .fit); date = d .date; right = Letters.first-due (dateLetters ns cs) (Right (d .date)) .0 (d .right) };
         enough = d .enough;
         bytes = d .bytes;
       }
@@ -40,7 +41,7 @@ module _ (ns : List ℕ) (cs : List ℤ) (room n : ℕ) where
         checked = d .date .fields .table;
         fit = fields-fit ns cs (d .date .fields);
         date = d .date .date;
-        right = d .date .right;
+        right = Letters.first-due (dateLetters ns cs) (Right (d .date .date)) .1 (d .date .right);
         enough = d .enough;
         bytes = d .bytes;
       }

@@ -24,6 +24,7 @@ use Rattle.count.specs.declared.Checked.the-variants as C
 use Rattle.count.proofs.Due as Counts
 use Rattle.form.proofs.Table.{group-form, form-range}
 use Rattle.date.specs.Date.{datedOf}
+use Rattle.date.proofs.Due as Letters
 use Rattle.date.specs.declared.Dated.{Dated}
 use Rattle.date.specs.declared.Dated.the-variants.{Right, Wrong}
 use Rattle.record.specs.declared.Fit.{Fit}
@@ -118,7 +119,7 @@ module _ (ns : List ℕ) (cs : List ℤ) where
     to-dated h = rw (to-checked (h .table), fields-fit h)
 
     to-room : HasDate ns cs → writingOf ns cs room ≡ writeRoom ns room
-    to-room h = to-dated (h .fields) ∙ rw (h .right)
+    to-room h = to-dated (h .fields) ∙ rw (Letters.first-due (dateLetters ns cs) (Right (h .date)) .1 (h .right))
 
     given : (w : Writing) → Due ns cs room w → writingOf ns cs room ≡ w
     unfolding writingOf
@@ -128,7 +129,7 @@ module _ (ns : List ℕ) (cs : List ℤ) where
     given (BrokenRule g) d = to-refused (C.BrokenRule g) d
     given OtherLength d = to-refused C.OtherLength d
     given (NoField g e) d = rw (to-checked (d .table), lowest-found g e d)
-    given (BadDate p) d = to-dated (d .fields) ∙ rw (d .wrong)
+    given (BadDate p) d = to-dated (d .fields) ∙ rw (Letters.first-due (dateLetters ns cs) (Wrong p) .1 (d .wrong))
     given NoRoom d = to-room (d .date) ∙ rw (lt-leb (recordBytes ns) room (d .short))
     given (Done n) d = to-room (d .date) ∙ rw (le-leb (recordBytes ns) room (d .enough)) (ap Done (sym (d .bytes)))
 
@@ -139,8 +140,8 @@ module _ (ns : List ℕ) (cs : List ℤ) where
     from-room false h e = record { date = h; short = leb-false (recordBytes ns) room e }
 
     from-dated : (d : Dated) → HasFields ns cs → datedOf (dateLetters ns cs) ≡ d → Due ns cs room (writeDated ns room d)
-    from-dated (Right d) h e = from-room (leb (recordBytes ns) room) record { fields = h; date = d; right = e } refl
-    from-dated (Wrong p) h e = record { fields = h; wrong = e }
+    from-dated (Right d) h e = from-room (leb (recordBytes ns) room) record { fields = h; date = d; right = Letters.first-due (dateLetters ns cs) (Right d) .0 e } refl
+    from-dated (Wrong p) h e = record { fields = h; wrong = Letters.first-due (dateLetters ns cs) (Wrong p) .0 e }
 
     from-fit : (x : Fit) → HasCells ns (length cs) → fitOf ns cs ≡ x → Due ns cs room (writeFit ns cs room x)
     from-fit All h e = from-dated (datedOf (dateLetters ns cs)) (fits-fields h e) refl

@@ -35,6 +35,7 @@ use Rattle.record.specs.declared.Fit.the-variants.{All}
 use Rattle.record.specs.Fitting.{Fitted, fitOf}
 use Rattle.record.specs.Writing.{dateLetters}
 use Rattle.count.proofs.Due as Counts
+use Rattle.count.proofs.Rulings.{kept-ruling}
 use Rattle.record.proofs.Fitting.{group-fitted}
 
 -- the first 19 letters, as they are copied into 19 bytes
@@ -84,7 +85,7 @@ elements-many count = refl
 
 module _ (ns : List ℕ) (cs : List ℤ) (c : checkedOf ns (length cs) ≡ C.Right) (fit : fitOf ns cs ≡ All) where
   enough : 19 ≤ countOf ns 3
-  enough = kept-letters ns (Counts.first-due ns (length cs) C.Right .0 c .rules .kept)
+  enough = kept-letters ns (kept-ruling ns (Counts.first-due ns (length cs) C.Right .0 c .rules .kept))
 
   behind : cellsBefore ns 4 ≡ cellsBefore ns 3 + countOf ns 3
   behind = cells-next ns 3 (omega arith) (omega arith) ∙ ap (λ n. cellsBefore ns 3 + n) (cells-has ns 3 A1 three ∙ letters-many (countOf ns 3))

@@ -22,7 +22,6 @@ pub mod Written
 pub mod Done
 pub mod ReadsBack
 pub mod ReadFits
-pub mod IndexCounts
 pub mod ReadWrites
 pub mod Instance
 pub mod Cases

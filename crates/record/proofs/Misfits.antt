@@ -93,16 +93,16 @@ module _ (size : ℕ → ℕ) (fit : ℕ → List ℤ → Fit) where
 
 module _ (f : Form) (c : List ℤ) where
   pub has-field : T (fitsOf f c) → HasField f c
-  has-field t = record { field = fieldText f c; reads = lawful f .back c t }
+  has-field t = record { field = fieldText f c; is = lawful f .reads-is (fieldText f c) c (lawful f .back c t) }
 
   pub field-fits : HasField f c → T (fitsOf f c)
-  field-fits h = lawful f .fitting (h .field) c (h .reads)
+  field-fits h = lawful f .fitting (h .field) c (lawful f .is-reads (h .field) c (h .is))
 
   none-fits : HasNone f c → fitsOf f c ≡ false
-  none-fits h = not-T-false (fitsOf f c) (λ t. h (fieldText f c) (lawful f .back c t))
+  none-fits h = not-T-false (fitsOf f c) (λ t. h (fieldText f c) (lawful f .reads-is (fieldText f c) c (lawful f .back c t)))
 
   fits-none : fitsOf f c ≡ false → HasNone f c
-  fits-none e s r = rw e at (lawful f .fitting s c r)
+  fits-none e s r = rw e at (lawful f .fitting s c (lawful f .is-reads s c r))
 
 -- ---- the elements of a group
 

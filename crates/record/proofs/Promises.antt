@@ -1,35 +1,50 @@
--- What is promised of writing a record: each answer is a reply of 01's table; a refusal keeps the output, and 0 keeps what stands behind the
--- text; there is one outcome.
+-- What is promised of writing a record: each answer fills a row of its table; a refusal keeps the output, and 0 keeps what stands behind the
+-- text.
 -- Assumes nothing.
 use mathlib.Core.Path.{_≡_, refl, sym, _∙_, ap}
-use mathlib.Core.Bool.{true≢false}
 use mathlib.Core.List.{List}
-use Prim.Native.Nat.{ℕ}
+use Prim.Native.Nat.{ℕ, _≤_}
 use native.Mathlib.Nat.{zero-add}
+use native.Mathlib.Omega.{arith}
+use lib.Dec.{lit<}
 use lib.IntN.{ℤ}
 use lib.ListN.{length, take, drop}
 use lib.Seq.{drop-at, take-at}
 use Rattle.reply.specs.Table.{Numbered}
-use Rattle.reply.proofs.Replies.{numbered-on, numbered-plain, numbered-done, numbered-field, numbered-date}
+use Rattle.reply.proofs.Replies.{fills-plain, fills-on, fills-bytes, fills-field, fills-date, at-row}
+use Rattle.form.proofs.Table.{form-range}
+use Rattle.count.proofs.Rulings.{broken-group}
+use Rattle.date.proofs.Due.{blamed-position}
 use Rattle.record.specs.declared.Writing.{Writing}
 use Rattle.record.specs.declared.Writing.the-variants.{Done, Misformed, OtherRelease, FilledVacant, BrokenRule, OtherLength, NoField, BadDate, NoRoom}
-use Rattle.record.specs.Text.{recordText}
-use Rattle.record.specs.Writing.{writingOf, outputBy, writingReply}
+use Rattle.record.specs.Text.{recordText, recordBytes}
+use Rattle.record.specs.Writing.{dateLetters, writingOf, outputBy, writingReply, writingRows}
+use Rattle.record.specs.Due.{Due}
+use Rattle.record.proofs.Due.{first-due}
 use Rattle.record.proofs.Done.{done-is}
 use Rattle.record.proofs.Lengths.{record-length}
 
 -- ---- numbered
 
-pub writing-numbered : (w : Writing) → Numbered (writingReply w)
-writing-numbered (Done n) = numbered-done n
-writing-numbered Misformed = numbered-plain 4 tt
-writing-numbered OtherRelease = numbered-plain 5 tt
-writing-numbered (FilledVacant g) = numbered-on 6 g tt (λ e. absurd (true≢false e))
-writing-numbered (BrokenRule g) = numbered-on 7 g tt (λ e. absurd (true≢false e))
-writing-numbered OtherLength = numbered-plain 14 tt
-writing-numbered (NoField g e) = numbered-field g e
-writing-numbered (BadDate p) = numbered-date p
-writing-numbered NoRoom = numbered-plain 11 tt
+pub record-some : (ns : List ℕ) → 244 ≤ recordBytes ns
+unfolding recordBytes
+record-some ns = omega arith
+
+module _ (ns : List ℕ) (cs : List ℤ) (room : ℕ) where
+  due-numbered : (w : Writing) → Due ns cs room w → Numbered writingRows (writingReply w)
+  due-numbered (Done n) d = at-row 0 writingRows (writingReply (Done n)) (lit< tt) (fills-bytes n (omega (arith, d .bytes, record-some ns)))
+  due-numbered Misformed d = at-row 1 writingRows (writingReply Misformed) (lit< tt) (fills-plain 4)
+  due-numbered OtherRelease d = at-row 2 writingRows (writingReply OtherRelease) (lit< tt) (fills-plain 5)
+  due-numbered (FilledVacant g) d = at-row 3 writingRows (writingReply (FilledVacant g)) (lit< tt) (fills-on 6 g (omega (arith, d .release .low)))
+  due-numbered (BrokenRule g) d = at-row 4 writingRows (writingReply (BrokenRule g)) (lit< tt) (fills-on 7 g (broken-group ns (d .broken) .0))
+  due-numbered OtherLength d = at-row 5 writingRows (writingReply OtherLength) (lit< tt) (fills-plain 14)
+  due-numbered (NoField g e) d =
+      at-row 6 writingRows (writingReply (NoField g e)) (lit< tt) (fills-field g e (form-range g (d .form) (d .element .form) .0) (d .element .low))
+  due-numbered (BadDate p) d = at-row 7 writingRows (writingReply (BadDate p)) (lit< tt) (fills-date p (blamed-position (dateLetters ns cs) p (d .wrong)))
+  due-numbered NoRoom d = at-row 8 writingRows (writingReply NoRoom) (lit< tt) (fills-plain 11)
+
+  pub writing-numbered : Numbered writingRows (writingReply (writingOf ns cs room))
+  writing-numbered = due-numbered (writingOf ns cs room) (first-due ns cs room (writingOf ns cs room) .0 refl)
 
 -- ---- the output
 
@@ -57,9 +72,3 @@ module _ (ns : List ℕ) (cs : List ℤ) (old : List ℕ) (n : ℕ) (d : writing
 
   pub done-write-keeps-rest : drop n (outputBy ns cs (Done n) old) ≡ drop n old
   done-write-keeps-rest = rw (zero-add (length (recordText ns cs))) (drop-at (recordText ns cs) (drop (length (recordText ns cs)) old) n long ∙ ap (λ k. drop k old) long)
-
--- any two outcomes that the contract allows are equal
-pub write-once : (ns : List ℕ) (cs : List ℤ) (old : List ℕ) (r q : Writing) (new now : List ℕ) → (r ≡ writingOf ns cs (length old)) × (new ≡ outputBy ns cs r old) → (q ≡ writingOf ns cs (length old)) × (now ≡ outputBy ns cs q old) → (r ≡ q) × (new ≡ now)
-write-once ns cs old r q new now a b =
-    let e : r ≡ q = a .0 ∙ sym (b .0) in
-    (e, a .1 ∙ ap (λ w. outputBy ns cs w old) e ∙ sym (b .1))

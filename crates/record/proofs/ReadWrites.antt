@@ -42,10 +42,10 @@ use Rattle.record.proofs.Done.{is-done}
 use Rattle.record.proofs.Fitting.{own-groups}
 use Rattle.record.proofs.GroupCells.{group-among, cells-joined}
 use Rattle.reading.proofs.GroupRead.{GroupReads, group-reads}
-use Rattle.record.proofs.IndexCounts.{index-many, index-small}
+use Rattle.place.proofs.Indexed.{index-is, index-counts}
 use Rattle.record.proofs.Lengths.{record-length}
 use Rattle.record.proofs.ReadFits.{group-fit}
-use Rattle.record.proofs.ReadsBack.{read-located}
+use Rattle.group.proofs.Texts.{read-located}
 use Rattle.record.proofs.Standing.{standing-group}
 use Rattle.record.proofs.Written.{all-groups}
 
@@ -72,7 +72,7 @@ module _ {s : List ℕ} {at n : ℕ} {cells : ℕ → List ℤ} (r : ReadWhole s
   reads : (g : ℕ) → 1 ≤ g → g ≤ 60 → GroupReads ns g (groupPart s at ns g) (r .room g) (cells g)
   reads g low high =
       group-reads ns g (groupPart s at ns g) (r .room g) (cells g)
-      (sym (read-located s at n ns g (r .room g) low high (placed .located-at)) ∙ r .groups g low high)
+      (sym (read-located s at g (r .room g) n ns (placed .located-at)) ∙ r .groups g low high)
 
   -- the groups with their cells, as pieces
   abbrev Known : ℕ → List ℕ → List ℤ → Type 0
@@ -110,7 +110,7 @@ module _ {s : List ℕ} {at n : ℕ} {cells : ℕ → List ℤ} (r : ReadWhole s
   read-writes room enough =
       let told = reads 3 (omega arith) (omega arith) .date refl in
       is-done ns (joined cells) room (recordBytes ns) record {
-        checked = has-cells ns (length (joined cells)) (index-many (drop at s) ns (here .index)) (index-small (drop at s) ns (here .index)) (here .release) (placed .kept) joined-cells;
+        checked = has-cells ns (length (joined cells)) (index-counts (drop at s) ns (index-is (drop at s) ns .0 (here .index))) (here .release) (placed .kept) joined-cells;
         fit = joined-fit;
         date = told .date;
         right = ap (λ c. datedOf (map sizeOf c)) (joined-group 3 (omega arith) (omega arith)) ∙ told .right;
@@ -154,7 +154,7 @@ module _ {s : List ℕ} {at n : ℕ} {cells : ℕ → List ℤ} (r : ReadWhole s
     pub again-bytes : recordBytes ns ≡ n - at
     again-bytes =
         let e : at + (n - at) ≡ n = omega (arith, inside .0) in
-        sym (record-length ns (joined cells) (index-many (drop at s) ns (here .index)) joined-fit)
+        sym (record-length ns (joined cells) (index-is (drop at s) ns .0 (here .index) .many) joined-fit)
         ∙ ap length written-again
         ∙ ap (λ m. length (part at m s)) (sym e)
         ∙ part-length s at (n - at) (omega (arith, inside .0, inside .1))

@@ -23,11 +23,10 @@ use Rattle.form.proofs.Table.{has-form}
 use Rattle.count.specs.Due.{Released}
 use Rattle.count.proofs.Due.{counts-small, released}
 use Rattle.place.specs.Placing
-use Rattle.place.specs.Placing.{located, locate, placingBy, countsBy}
+use Rattle.place.specs.Placing.{placingBy, countsBy}
 use Rattle.place.specs.Parts.{groupPart}
-use Rattle.reading.specs.Read.{readGroup}
-use Rattle.group.specs.Text
-use Rattle.group.specs.Text.{readAtBy, readAt}
+use Rattle.count.proofs.Rulings.{kept-ruling}
+use Rattle.group.proofs.Texts.{read-located}
 use Rattle.record.specs.declared.Writing.the-variants.{Done}
 use Rattle.record.specs.Canonical.{CanonicalGroup, CanonicalRecord}
 use Rattle.record.specs.RoundTrip.{groupCells, ReadsBack}
@@ -39,15 +38,6 @@ use Rattle.reading.proofs.GroupRead.{TellsDate, GroupReads, reads-group}
 use Rattle.record.proofs.Lengths.{record-length}
 use Rattle.record.proofs.Standing.{standing-located, standing-group}
 use Rattle.record.proofs.Written.{written-canonical}
-
--- a group at a place where a record is located
-pub read-located : (s : List ℕ) (at n : ℕ) (ns : List ℕ) (g room : ℕ) → 1 ≤ g → g ≤ 60 → locate s at ≡ located n ns → readAt s at g room ≡ readGroup ns g (groupPart s at ns g) room
-unfolding Text.readAt
-read-located s at n ns g room low high e = by (formOf g) refl
-  where
-    by : (h : GroupForm) → formOf g ≡ h → readAtBy s at g room h ≡ readGroup ns g (groupPart s at ns g) room
-    by (Has f) u = rw e
-    by NoGroup u = absurd (has-form g low (omega arith) u)
 
 -- ---- a canonical record reads back
 
@@ -70,7 +60,7 @@ module _ {ns x : List ℕ} {cs : List ℤ} (h : CanonicalRecord ns x cs) (five :
         placed = ap placingBy l ∙ rw kept;
         counts = ap countsBy l;
         groups = λ g room low high enough.
-            read-located s at (at + length x) ns g room low high l
+            read-located s at g room (at + length x) ns l
             ∙ reads-group ns g (groupPart s at ns g) room (groupCells ns cs g) kept (group-back g room (groupPart s at ns g) low high enough (standing-group h a b g low high));
       }
 
@@ -92,7 +82,7 @@ module _ (ns : List ℕ) (cs : List ℤ) (room n : ℕ) (e : writingOf ns cs roo
   pub reads-back : (a b : List ℕ) → ReadsBack ns cs n (a ++ (recordText ns cs ++ b)) (length a)
   reads-back a b =
       subst (λ m. ReadsBack ns cs m (a ++ (recordText ns cs ++ b)) (length a)) done-bytes
-      (canonical-back done-canonical (released ns Five has) (d .checked .rules .kept) record { date = d .date; right = d .right } a b)
+      (canonical-back done-canonical (released ns Five has) (kept-ruling ns (d .checked .rules .kept)) record { date = d .date; right = d .right } a b)
 
   -- the same of the output: wherever its first n bytes stand
   pub output-bytes : (old : List ℕ) → take n (outputBy ns cs (Done n) old) ≡ recordText ns cs

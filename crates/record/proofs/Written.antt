@@ -23,7 +23,7 @@ use Rattle.form.specs.declared.GroupForm.{GroupForm}
 use Rattle.form.specs.declared.GroupForm.the-variants.{Has, NoGroup}
 use Rattle.form.specs.Table.{rowOf, formOf}
 use Rattle.form.specs.Count
-use Rattle.form.specs.Count.{elementsOf, cellsOf}
+use Rattle.form.specs.Count.{isCount, elementsOf, cellsOf}
 use Rattle.field.specs.Entry.{entryText}
 use Rattle.field.specs.Write.{fitsOf, fieldText}
 use Rattle.field.proofs.Entries.{entry-canonical}
@@ -41,13 +41,13 @@ use Rattle.record.proofs.Lengths.{plan-cells}
 
 -- ---- the index
 
-entries-canonical : (ns : List ℕ) → T (every (λ n. leb n 999) ns) → Each EntryOf ns (entriesText ns) ns
+entries-canonical : (ns : List ℕ) → T (every isCount ns) → Each EntryOf ns (entriesText ns) ns
 unfolding entriesText
 entries-canonical [] t = none
 entries-canonical (n ∷ ns) t =
-    more (entryText n) (n ∷ []) (entry-canonical n (and-left (leb n 999) (every (λ n. leb n 999) ns) t), refl) (entries-canonical ns (and-right (leb n 999) (every (λ n. leb n 999) ns) t))
+    more (entryText n) (n ∷ []) (entry-canonical n (and-left (isCount n) (every isCount ns) t), refl) (entries-canonical ns (and-right (isCount n) (every isCount ns) t))
 
-index-line-canonical : (ns : List ℕ) → T (every (λ n. leb n 999) ns) → CanonicalIndexLine ns (entriesText ns ++ lineEnd)
+index-line-canonical : (ns : List ℕ) → T (every isCount ns) → CanonicalIndexLine ns (entriesText ns ++ lineEnd)
 index-line-canonical ns t = record { content = entriesText ns; good = entries-canonical ns t; is = refl }
 
 -- ---- a line
@@ -95,7 +95,7 @@ module _ (ns : List ℕ) where
       each-imply (λ g x c p. p .1 (p .0)) (upFrom 1 60) (groupsText ns cs) cs
       (each-passed (λ g. leb 1 g && leb g 60) (upFrom 1 60) (groupsText ns cs) cs all-groups (own-each {P = λ g x c. T (leb 1 g && leb g 60) → CanonicalGroup ns g x c} (cellsIn ns) (groupText ns) (λ g c. groupFit ns g c ≡ All) group-canonical (upFrom 1 60) cs size (groups-own ns cs e)))
 
-  pub written-canonical : (cs : List ℤ) → length ns ≡ 80 → T (every (λ n. leb n 999) ns) → length cs ≡ recordCells ns → fitOf ns cs ≡ All → CanonicalRecord ns (recordText ns cs) cs
+  pub written-canonical : (cs : List ℤ) → length ns ≡ 80 → T (every isCount ns) → length cs ≡ recordCells ns → fitOf ns cs ≡ All → CanonicalRecord ns (recordText ns cs) cs
   unfolding recordText indexText
   written-canonical cs many small n e =
       record {
@@ -103,8 +103,8 @@ module _ (ns : List ℕ) where
         first = entriesText (take 40 ns) ++ lineEnd;
         second = entriesText (drop 40 ns) ++ lineEnd;
         groups = groupsText ns cs;
-        first-line = index-line-canonical (take 40 ns) (every-take (λ n. leb n 999) 40 ns small);
-        second-line = index-line-canonical (drop 40 ns) (every-drop (λ n. leb n 999) 40 ns small);
+        first-line = index-line-canonical (take 40 ns) (every-take isCount 40 ns small);
+        second-line = index-line-canonical (drop 40 ns) (every-drop isCount 40 ns small);
         each = groups-canonical cs n e;
         is = refl;
       }

@@ -129,5 +129,4 @@ cases =
     -- "All digits": blanks are none, and neither is what is not there
     ∷ blames "AA2006265 922142530" 10 10
     ∷ blames "AA2006265092214253" 10 18
-    ∷ blames "" 10 3
     ∷ []

@@ -9,12 +9,12 @@ use Rattle.form.specs.declared.Form.{Form}
 use Rattle.form.specs.declared.GroupForm.the-variants.{Has}
 use Rattle.form.specs.Table.{rowOf, formOf}
 use Rattle.form.specs.Count.{elementsOf}
-use Rattle.field.specs.Read.{Reads}
+use Rattle.field.specs.Grammar.{IsField}
 use Rattle.count.specs.Tally.{countOf, cellsBefore}
 use Rattle.count.specs.Due as Counts
 use Rattle.count.specs.Due.{HasCells}
 use Rattle.count.specs.declared.Checked.the-variants as C
-use Rattle.date.specs.Date.{datedOf}
+use Rattle.date.specs.Due as Letters
 use Rattle.date.specs.declared.Date.{Date}
 use Rattle.date.specs.declared.Dated.the-variants.{Right, Wrong}
 use Rattle.record.specs.declared.Writing.{Writing}
@@ -25,11 +25,11 @@ use Rattle.record.specs.Writing.{dateLetters}
 -- "13 is given exactly when some cell or pair has no accepted field that reads as it": there is such a field
 pub record HasField (f : Form) (c : List ℤ) : Type 0 where
   pub field : List ℕ
-  pub reads : Reads f field c
+  pub is : IsField f field c
 
 -- or there is none
 abbrev pub HasNone : Form → List ℤ → Type 0
-HasNone f c = (s : List ℕ) → Reads f s c → ⊥
+HasNone f c = (s : List ℕ) → IsField f s c → ⊥
 
 module _ (ns : List ℕ) (cs : List ℤ) where
   -- element e of group g, which has this form. "Lines and elements count from 1."
@@ -51,7 +51,7 @@ module _ (ns : List ℕ) (cs : List ℤ) where
   pub record HasDate : Type 0 where
     pub fields : HasFields
     pub date : Date
-    pub right : datedOf (dateLetters ns cs) ≡ Right date
+    pub right : Letters.Due (dateLetters ns cs) (Right date)
 
   -- 13: this element's cells have no field; those of each in a lower group, and of each lower one in this group, have
   pub record LowestNone (g e : ℕ) : Type 0 where
@@ -65,7 +65,7 @@ module _ (ns : List ℕ) (cs : List ℤ) where
   -- 10
   pub record WrongDate (p : ℕ) : Type 0 where
     pub fields : HasFields
-    pub wrong : datedOf (dateLetters ns cs) ≡ Wrong p
+    pub wrong : Letters.Due (dateLetters ns cs) (Wrong p)
 
   -- 11: "output shorter than what reply 0 would fill, and only then"; and 0
   pub record Short (room : ℕ) : Type 0 where

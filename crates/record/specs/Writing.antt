@@ -1,7 +1,7 @@
 -- "Writing takes the counts, one table of all cells in group order, and the output: 4, 5, 6, 7, 14, 13 (lowest group, then lowest element), 10,
 -- 11." What it answers, and what the output is afterwards.
 use mathlib.Core.Bool.{cond}
-use mathlib.Core.List.{List, map}
+use mathlib.Core.List.{List, [], _∷_, _++_, map}
 use Prim.Native.Nat.{ℕ}
 use lib.Dec.{leb}
 use lib.IntN.{ℤ}
@@ -10,7 +10,8 @@ use Rattle.base.specs.Part.{part, over}
 use Rattle.base.specs.Sign.{sizeOf}
 use Rattle.count.specs.Check.{checkedOf}
 use Rattle.reply.specs.declared.Reply.{Reply}
-use Rattle.reply.specs.Table.{replyOn, replyPlain, replyDone, replyField, replyDate}
+use Rattle.reply.specs.Table.{replyOn, replyPlain, replyDone, replyField, replyDate, Row, row, bytes, group, element, dateRefusal}
+use Rattle.count.specs.Reply.{checkRefusals}
 use Rattle.count.specs.Tally.{cellsBefore}
 use Rattle.count.specs.declared.Checked.{Checked}
 use Rattle.count.specs.declared.Checked.the-variants as C
@@ -78,3 +79,7 @@ writingReply OtherLength = replyPlain 14
 writingReply (NoField g e) = replyField g e
 writingReply (BadDate p) = replyDate p
 writingReply NoRoom = replyPlain 11
+
+-- the rows of writing: "4, 5, 6, 7, 14, 13 (lowest group, then lowest element), 10, 11"
+abbrev pub writingRows : List Row
+writingRows = row 0 (bytes ∷ []) ∷ (checkRefusals ++ (row 13 (group ∷ element ∷ []) ∷ dateRefusal ∷ row 11 [] ∷ []))

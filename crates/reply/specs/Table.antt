@@ -1,7 +1,9 @@
--- 01's table of replies: each reply's number, with the numbers given besides. "Numbers not named in a row are 0."
+-- 01's table of replies: each reply's number, with the numbers given besides. "Numbers not named in a row are 0." Each question has a table
+-- of its own, with the rows that it can give; `Numbered` says that a reply is one of these.
 use mathlib.Core.Path.{_≡_}
-use mathlib.Core.Bool.{Bool, false}
-use mathlib.Core.List.{[], _∷_}
+use mathlib.Core.Bool.{Bool, true, false, cond, _||_}
+use mathlib.Core.List.{List, [], _∷_, map}
+use mathlib.Core.Logic.{_⊎_}
 use Prim.Native.Nat.{ℕ, _≤_}
 use Rattle.base.specs.Every.{has}
 use Rattle.reply.specs.declared.Reply.{Reply}
@@ -36,31 +38,66 @@ replyField group element = numbers 13 0 0 group 0 element 0
 abbrev pub replyDate : ℕ → Reply
 replyDate position = numbers 10 0 0 0 0 0 position
 
--- 01's column "Given besides", a number to a name
-abbrev pub namesNext : ℕ → Bool
-namesNext = has (0 ∷ 7 ∷ [])
+-- ---- which replies a question gives, and which numbers besides
 
-abbrev pub namesWritten : ℕ → Bool
-namesWritten = has (0 ∷ [])
+-- the numbers that may stand beside a reply's own
+pub data Beside : Type 0 where
+  next cells bytes group line element position : Beside
 
-abbrev pub namesGroup : ℕ → Bool
-namesGroup = has (6 ∷ 7 ∷ 13 ∷ [])
+-- a row of a question's table: a reply's number, and what is given besides
+pub record Row : Type 0 where
+  pub number : ℕ
+  pub besides : List Beside
 
-abbrev pub namesLine : ℕ → Bool
-namesLine = has (8 ∷ 9 ∷ [])
+abbrev pub row : ℕ → List Beside → Row
+row number besides = record { number = number; besides = besides }
 
-abbrev pub namesElement : ℕ → Bool
-namesElement = has (9 ∷ 13 ∷ [])
+abbrev code : Beside → ℕ
+code next = 0
+code cells = 1
+code bytes = 2
+code group = 3
+code line = 4
+code element = 5
+code position = 6
 
-abbrev pub namesPosition : ℕ → Bool
-namesPosition = has (10 ∷ [])
+abbrev pub names : Row → Beside → Bool
+names w b = has (map code (w .besides)) (code b)
 
--- a reply of the table: a number of it, and 0 for what its row doesn't name
-pub record Numbered (r : Reply) : Type 0 where
-  pub known : r .number ≤ 14
-  pub no-next : namesNext (r .number) ≡ false → r .next ≡ 0
-  pub no-written : namesWritten (r .number) ≡ false → r .written ≡ 0
-  pub no-group : namesGroup (r .number) ≡ false → r .group ≡ 0
-  pub no-line : namesLine (r .number) ≡ false → r .line ≡ 0
-  pub no-element : namesElement (r .number) ≡ false → r .element ≡ 0
-  pub no-position : namesPosition (r .number) ≡ false → r .position ≡ 0
+-- a number that the row names is at least so much; one that it doesn't name is 0
+abbrev pub Shown : Bool → ℕ → ℕ → Type 0
+Shown true least n = least ≤ n
+Shown false least n = n ≡ 0
+
+-- "Lines and elements count from 1", and so do groups and positions; a next place is behind something, and no text is empty; a group may have
+-- no cells
+pub record Fills (w : Row) (r : Reply) : Type 0 where
+  pub numbered : r .number ≡ w .number
+  pub with-next : Shown (names w next) 1 (r .next)
+  pub with-written : Shown (names w cells || names w bytes) (cond (names w bytes) 1 0) (r .written)
+  pub with-group : Shown (names w group) 1 (r .group)
+  pub with-line : Shown (names w line) 1 (r .line)
+  pub with-element : Shown (names w element) 1 (r .element)
+  pub with-position : Shown (names w position) 1 (r .position)
+
+-- a reply of a question's table: it fills one of the rows
+abbrev pub Numbered : List Row → Reply → Type 0
+Numbered [] r = ⊥
+Numbered (w ∷ ws) r = Fills w r ⊎ Numbered ws r
+
+-- ---- rows that several questions share
+
+-- any placing reply but 0, as a question that goes no further gives it: 7 without its next place
+abbrev pub placingRefusals : List Row
+placingRefusals = row 1 [] ∷ row 2 [] ∷ row 3 [] ∷ row 4 [] ∷ row 5 [] ∷ row 6 (group ∷ []) ∷ row 7 (group ∷ []) ∷ []
+
+-- "12, then any placing reply but 0"
+abbrev pub askedRefusals : List Row
+askedRefusals = row 12 [] ∷ placingRefusals
+
+-- what the lines of a group are refused with
+abbrev pub lineRefusals : List Row
+lineRefusals = row 8 (line ∷ []) ∷ row 9 (line ∷ element ∷ []) ∷ []
+
+abbrev pub dateRefusal : Row
+dateRefusal = row 10 (position ∷ [])

@@ -18,7 +18,11 @@ use Rattle.record.specs.Canonical.{CanonicalRecord}
 use Rattle.record.specs.RoundTrip.{groupCells, ReadsBack, ReadWhole}
 use Rattle.record.specs.Text.{recordText, recordBytes}
 use Rattle.count.specs.declared.Release.the-variants.{Five}
-use Rattle.count.proofs.Due.{released}
+use Rattle.count.proofs.Releases.{release-given}
+use Rattle.count.proofs.Rulings.{kept-ruling}
+use Rattle.date.specs.declared.Dated.the-variants.{Right}
+use Rattle.date.proofs.Due as Letters
+use Rattle.record.specs.Writing.{dateLetters}
 use Rattle.record.proofs.Done.{done-is}
 use Rattle.record.proofs.ReadsBack.{canonical-back, done-canonical}
 use Rattle.record.proofs.ReadWrites.{again-bytes, written-again}
@@ -41,7 +45,7 @@ module _ {x : List ℕ} (r : RightRecord x) (a b : List ℕ) where
   here = a ++ (x ++ b)
 
   back : ReadsBack (r .ns) (r .cs) (length x) here (length a)
-  back = canonical-back (r .canonical) (r .release) (r .rules) record { date = r .date; right = r .dated } a b
+  back = canonical-back (r .canonical) (release-given (r .ns) Five (r .release)) (kept-ruling (r .ns) (r .rules)) record { date = r .date; right = Letters.first-due (dateLetters (r .ns) (r .cs)) (Right (r .date)) .1 (r .dated) } a b
 
   reads : (g : ℕ) → 1 ≤ g → g ≤ 60 → groupRead here (length a) g ≡ done (groupCells (r .ns) (r .cs) g)
   reads g low high = back .groups g (cellsIn (countsAt here (length a)) g) low high (rw (back .counts) (omega arith))
@@ -96,10 +100,10 @@ text-right s at cells room bytes next e =
       ns = countsAt s at;
       cs = cellsAt s at;
       canonical = done-canonical (countsAt s at) (cellsAt s at) room bytes w;
-      release = released (countsAt s at) Five (d .checked .rules .released);
+      release = d .checked .rules .released .release;
       rules = d .checked .rules .kept;
       date = d .date;
-      dated = d .right;
+      dated = Letters.first-due (dateLetters (countsAt s at) (cellsAt s at)) (Right (d .date)) .0 (d .right);
     }
 
 rewritten-canonical : (k : ℕ) (s : List ℕ) (at : ℕ) → CanonicalRecords (rewrittenFrom k s at)

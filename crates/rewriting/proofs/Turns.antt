@@ -37,7 +37,7 @@ use Rattle.reading.specs.declared.Reading.{Reading}
 use Rattle.reading.specs.declared.Reading.the-variants as R
 use Rattle.reading.specs.Read.{Cells, readGroup, readingOf, tableBy}
 use Rattle.reading.proofs.GroupRead.{group-reads}
-use Rattle.record.proofs.ReadsBack.{read-located}
+use Rattle.group.proofs.Texts.{read-located}
 use Rattle.record.proofs.ReadWrites.{reads-cells}
 use Rattle.rewriting.specs.declared.Groups.the-variants.{All, Refused}
 use Rattle.rewriting.specs.Record.{Turn, groupRead, inTurn, cellsInTurn, groupsOf, allInTurn, cellsAt, Ready}
@@ -157,7 +157,7 @@ module _ (s : List ℕ) (at : ℕ) (old : List ℤ) where
         let n = countsAt s at in
         let e : end - cell ≡ cellsIn n g = omega (arith, end-is, cells-have) in
         let p : part from to s ≡ groupPart s at n g = rw (t .begins, ends ∙ ap (start s at n) (add-one g)) refl in
-        rw (counts, e, p) (sym (read-located s at (ready .next) n g (cellsIn n g) (t .low) (omega arith) (placed .located-at)))
+        rw (counts, e, p) (sym (read-located s at g (cellsIn n g) (ready .next) n (placed .located-at)))
 
     rest : upFrom g (61 - g) ≡ g ∷ upFrom (g + 1) (61 - (g + 1))
     rest = up-more g 60 (omega arith)
@@ -186,7 +186,7 @@ module _ (s : List ℕ) (at : ℕ) (old : List ℤ) where
           let n = countsAt s at in
           let u = turn-done (groupRead s at) g (upFrom (g + 1) (61 - (g + 1))) (q .is) in
           let range = turning-range in
-          let long : length cs ≡ cellsIn n g = reads-cells (group-reads n g (groupPart s at n g) (cellsIn n g) cs (sym (read-located s at (ready .next) n g (cellsIn n g) (t .low) (omega arith) (placed .located-at)) ∙ q .is)) in
+          let long : length cs ≡ cellsIn n g = reads-cells (group-reads n g (groupPart s at n g) (cellsIn n g) cs (sym (read-located s at g (cellsIn n g) (ready .next) n (placed .located-at)) ∙ q .is)) in
           let wide : length (part cell end table) ≡ length cs = ap (λ k. length (part cell k table)) end-is ∙ part-length table cell (cellsOf f (countOf n g)) (omega (arith, range .3, end-is)) ∙ sym cells-have ∙ sym long in
           let new-is : new ≡ over cell cs table = b ∙ ap (λ c. over cell (tableBy c (part cell end table)) table) (turning-read ∙ q .is) ∙ ap (λ xs. over cell xs table) (over-all (part cell end table) cs (sym wide)) in
           let at-end : end ≡ cell + length cs = end-is ∙ ap (λ k. cell + k) (sym cells-have ∙ sym long) in

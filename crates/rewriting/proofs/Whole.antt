@@ -80,12 +80,11 @@ module _ (s : List ℕ) (at next : ℕ) (placed : placingOf s at ≡ Placed next
   abbrev cells : ℕ → List ℤ
   cells = cellsOfGroup (groupRead s at)
 
+  pub whole-each : (g : ℕ) → 1 ≤ g → g ≤ 60 → groupRead s at g ≡ done (cells g)
+  whole-each g low high = whole-cells .each g low (omega arith)
+
   pub whole-read : ReadWhole s at next cells
-  whole-read = record {
-    placed = placed;
-    room = cellsIn (countsAt s at);
-    groups = λ g low high. whole-cells .each g low (omega arith);
-  }
+  whole-read = record { placed = placed; room = cellsIn (countsAt s at); groups = whole-each }
 
   pub whole-joined : cellsAt s at ≡ joined cells
   whole-joined = whole-cells .is

@@ -1,16 +1,13 @@
 -- "canonical text that is read and written again returns byte for byte": a text of canonical records, one behind the other, within the
 -- program's limits.
-use mathlib.Core.Path.{_≡_}
 use mathlib.Core.List.{List, [], _++_}
 use Prim.Native.Nat.{ℕ, _≤_}
 use lib.IntN.{ℤ}
 use lib.ListN.{length}
-use Rattle.count.specs.Rules.{releaseOf, rulingOf}
-use Rattle.count.specs.declared.Release.the-variants.{Five}
-use Rattle.count.specs.declared.Ruling.the-variants.{Kept}
-use Rattle.date.specs.Date.{datedOf}
+use Rattle.count.specs.Blame.{KeepsRules}
+use Rattle.count.specs.Due.{ReleaseFive}
+use Rattle.date.specs.Due.{IsDate}
 use Rattle.date.specs.declared.Date.{Date}
-use Rattle.date.specs.declared.Dated.the-variants.{Right}
 use Rattle.record.specs.Canonical.{CanonicalRecord}
 use Rattle.record.specs.Writing.{dateLetters}
 
@@ -19,10 +16,10 @@ pub record RightRecord (x : List ℕ) : Type 0 where
   pub ns : List ℕ
   pub cs : List ℤ
   pub canonical : CanonicalRecord ns x cs
-  pub release : releaseOf ns ≡ Five
-  pub rules : rulingOf ns ≡ Kept
+  pub release : ReleaseFive ns
+  pub rules : KeepsRules ns
   pub date : Date
-  pub dated : datedOf (dateLetters ns cs) ≡ Right date
+  pub dated : IsDate (dateLetters ns cs) date
 
 -- such records, one behind the other, none of which has more than 8,192 bytes
 pub data CanonicalRecords : List ℕ → Type 0 where

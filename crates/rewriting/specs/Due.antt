@@ -2,10 +2,12 @@
 -- text is longer than the buffer or the cells more than the table; the first reply other than 0 of reading groups 1 to 60 in turn, with that
 -- group's number; else 0 with the bytes written and the next place."
 use mathlib.Core.Path.{_≡_}
-use mathlib.Core.List.{List}
+use mathlib.Core.List.{List, flatMap}
 use mathlib.Core.Logic.{_⊎_}
-use Prim.Native.Nat.{ℕ, _<_, _≤_}
+use Prim.Native.Nat.{ℕ, _-_, _<_, _≤_}
 use lib.IntN.{ℤ}
+use lib.ListN.{length, take, drop}
+use Rattle.base.specs.Every.{upFrom}
 use Rattle.base.specs.Pieces.{done, bad}
 use Rattle.count.specs.Tally.{recordCells}
 use Rattle.place.specs.declared.Placing.{Placing}
@@ -63,3 +65,25 @@ module _ (s : List ℕ) (at cells room : ℕ) where
   Due (Missing r) = MissingDue s at r
   Due NoRoom = NoRoomDue
   Due (Unread g r) = UnreadDue g r
+
+-- ---- what is lent, afterwards
+
+-- groups 1 to k read with 0, and cs are their cells, joined
+pub record ReadTo (s : List ℕ) (at k : ℕ) (cs : List ℤ) : Type 0 where
+  pub cells : ℕ → List ℤ
+  pub each : (g : ℕ) → 1 ≤ g → g ≤ k → groupRead s at g ≡ done (cells g)
+  pub joined : cs ≡ flatMap cells (upFrom 1 k)
+
+-- the table begins with these cells, and is as it was behind them
+pub record TableHas (s : List ℕ) (at k : ℕ) (old new : List ℤ) : Type 0 where
+  pub cs : List ℤ
+  pub read : ReadTo s at k cs
+  pub first : take (length cs) new ≡ cs
+  pub rest : drop (length cs) new ≡ drop (length cs) old
+
+-- all groups where 0 was given, those before the refused one where one was, none else
+abbrev pub groupsRead : Rewriting → ℕ
+groupsRead (Done bytes next) = 60
+groupsRead (Missing r) = 0
+groupsRead NoRoom = 0
+groupsRead (Unread g r) = g - 1

@@ -1,6 +1,6 @@
 -- The first demand (specs/Demand1.antt).
 -- Assumes nothing.
-use mathlib.Core.Path.{_≡_, refl, sym}
+use mathlib.Core.Path.{_≡_, refl}
 use mathlib.Core.List.{List}
 use Prim.Native.Nat.{ℕ}
 use lib.IntN.{ℤ}
@@ -9,52 +9,53 @@ use Rattle.base.specs.Pieces.{done, bad}
 use Rattle.decimal.specs.Writing.{putAnswer, putBytes}
 use Rattle.decimal.specs.declared.Put.{Put}
 use Rattle.decimal.specs.declared.Put.the-variants.{Next, NoRoom}
-use Rattle.decimal.proofs.Writing.{none-means}
-use Rattle.place.specs.Placing.{placingOf}
 use Rattle.place.proofs.Numbered.{placing-numbered}
 use Rattle.reading.specs.Read.{Cells, readingOf, tableBy}
 use Rattle.reading.specs.Numbered.{readingReply}
-use Rattle.reading.proofs.Promises.{reading-numbered, refused-read-keeps, done-read-keeps-rest}
+use Rattle.reading.proofs.Promises.{refused-read-keeps, done-read-keeps-rest}
 use Rattle.group.specs.Text.{readAt}
-use Rattle.group.specs.Held.{foundAt}
-use Rattle.group.specs.Characteristics.{characteristicAt}
-use Rattle.group.proofs.Holding.{found-numbered}
-use Rattle.group.proofs.Reported.{characteristic-numbered}
+use Rattle.group.proofs.Numbered.{reading-numbered, found-numbered, characteristic-numbered}
 use Rattle.listing.specs.Listing.{listing, listedReply}
-use Rattle.listing.proofs.Replies.{listed-numbered}
+use Rattle.listing.proofs.Replies.{listed-numbered, listed-keeps, listed-rest}
 use Rattle.record.specs.declared.Writing.{Writing}
 use Rattle.record.specs.declared.Writing.the-variants as W
 use Rattle.record.specs.Writing.{writingOf, outputBy, writingReply}
 use Rattle.record.proofs.Promises.{writing-numbered, refused-write-keeps, done-write-keeps-rest}
-use Rattle.rewriting.specs.Record.{rewritingOf}
-use Rattle.rewriting.proofs.Promises.{rewriting-numbered, refused-rewriting-keeps}
+use Rattle.rewriting.specs.declared.Rewriting.{Rewriting}
+use Rattle.rewriting.specs.declared.Rewriting.the-variants as R
+use Rattle.rewriting.specs.Numbered.{rewritingReply}
+use Rattle.rewriting.specs.Record.{rewritingOf, bufferBy}
+use Rattle.rewriting.proofs.Promises.{rewriting-numbered, unread-group, refused-rewriting-keeps, done-keeps-rest}
+use Rattle.sao.proofs.Numbers.{answers-told}
 use Rattle.sao.specs.Demand1.{Refused, EndsNumbered, RefusedWriteKeeps, KeepsRest, Demand1}
 
 ends-numbered : EndsNumbered
 ends-numbered =
     record {
-      placing = λ s at. placing-numbered (placingOf s at);
-      reading = λ s at g table. reading-numbered (readingOf (readAt s at g (length table)));
-      lines = λ s at g. found-numbered (foundAt s at g);
-      characteristic = λ s at k. characteristic-numbered (characteristicAt s at k);
-      writing = λ ns cs out. writing-numbered (writingOf ns cs (length out));
-      listed = λ s out. listed-numbered (putAnswer 0 (listing s) out);
-      rewriting = λ s at table out. rewriting-numbered (rewritingOf s at (length table) (length out));
+      told = answers-told;
+      placing = placing-numbered;
+      reading = reading-numbered;
+      lines = found-numbered;
+      characteristic = characteristic-numbered;
+      writing = writing-numbered;
+      listed = listed-numbered;
+      rewriting = rewriting-numbered;
+      unread = unread-group;
     }
 
-listed-keeps : (s out : List ℕ) → Refused (listedReply (putAnswer 0 (listing s) out)) → putBytes 0 (listing s) out ≡ out
-listed-keeps s out refused = by (putAnswer 0 (listing s) out) refl refused
+listing-keeps : (s out : List ℕ) → Refused (listedReply (putAnswer 0 (listing s) out)) → putBytes 0 (listing s) out ≡ out
+listing-keeps s out refused = by (putAnswer 0 (listing s) out) refl refused
   where
     by : (r : Put) → putAnswer 0 (listing s) out ≡ r → Refused (listedReply r) → putBytes 0 (listing s) out ≡ out
     by (Next n) e h = absurd (h refl)
-    by NoRoom e h = none-means 0 (listing s) out (putBytes 0 (listing s) out) record { answer = sym e; bytes = refl } .1
+    by NoRoom e h = listed-keeps (listing s) out e
 
 write-keeps : RefusedWriteKeeps
 write-keeps =
     record {
       writing = λ ns cs out. refused-write-keeps ns cs (writingOf ns cs (length out)) out;
-      listed = listed-keeps;
-      rewriting = λ s at table out. refused-rewriting-keeps s at (rewritingOf s at (length table) (length out)) out;
+      listed = listing-keeps;
+      rewriting = λ s at cells out. refused-rewriting-keeps s at (rewritingOf s at cells (length out)) out;
     }
 
 read-rest : (c : Cells) (table : List ℤ) → drop (readingReply (readingOf c) .written) (tableBy c table) ≡ drop (readingReply (readingOf c) .written) table
@@ -72,11 +73,23 @@ write-rest ns cs out (W.NoField g k) e = refl
 write-rest ns cs out (W.BadDate p) e = refl
 write-rest ns cs out W.NoRoom e = refl
 
+list-rest : (s out : List ℕ) (r : Put) → putAnswer 0 (listing s) out ≡ r → drop (listedReply r .written) (putBytes 0 (listing s) out) ≡ drop (listedReply r .written) out
+list-rest s out (Next n) e = listed-rest (listing s) out n e
+list-rest s out NoRoom e = listed-keeps (listing s) out e
+
+rewrite-rest : (s : List ℕ) (at cells : ℕ) (out : List ℕ) (r : Rewriting) → rewritingOf s at cells (length out) ≡ r → drop (rewritingReply r .written) (bufferBy s at r out) ≡ drop (rewritingReply r .written) out
+rewrite-rest s at cells out (R.Done bytes next) e = done-keeps-rest s at cells (length out) bytes next e out
+rewrite-rest s at cells out (R.Missing r) e = refl
+rewrite-rest s at cells out R.NoRoom e = refl
+rewrite-rest s at cells out (R.Unread g r) e = refl
+
 keeps-rest : KeepsRest
 keeps-rest =
     record {
       reading = λ s at g table. read-rest (readAt s at g (length table)) table;
       writing = λ ns cs out. write-rest ns cs out (writingOf ns cs (length out)) refl;
+      listed = λ s out. list-rest s out (putAnswer 0 (listing s) out) refl;
+      rewriting = λ s at cells out. rewrite-rest s at cells out (rewritingOf s at cells (length out)) refl;
     }
 
 pub demand-1 : Demand1

@@ -1,30 +1,71 @@
 -- The second demand (specs/Demand2.antt).
 -- Assumes nothing.
-use mathlib.Core.Path.{_≡_}
+use mathlib.Core.Path.{_≡_, refl, sym, subst}
 use mathlib.Core.List.{List}
 use Prim.Native.Nat.{ℕ}
 use lib.IntN.{ℤ}
+use lib.ListN.{length}
+use Rattle.place.specs.Placing.{countsAt}
 use Rattle.place.proofs.Due as PlacingDue
+use Rattle.reading.proofs.Promises.{done-read-holds}
 use Rattle.group.proofs.Due as GroupDue
+use Rattle.group.proofs.Holding.{span-end}
 use Rattle.record.specs.declared.Writing.the-variants.{Done}
+use Rattle.record.specs.Canonical.{CanonicalRecord}
 use Rattle.record.specs.Writing.{writingOf}
 use Rattle.record.proofs.Canonical.{canonical-text}
 use Rattle.record.proofs.Due as WritingDue
 use Rattle.record.proofs.ReadsBack.{done-canonical, done-bytes, reads-back}
+use Rattle.record.proofs.Promises.{done-write-begins}
 use Rattle.record.proofs.ReadWrites.{returns-same}
+use Rattle.listing.specs.Listing.{listing, IsListing}
+use Rattle.listing.proofs.Replies as Listed
+use Rattle.rewriting.specs.declared.Rewriting.the-variants.{Done as Rewritten}
+use Rattle.rewriting.specs.Record.{cellsAt, textAt, rewritingOf, bufferBy}
 use Rattle.rewriting.proofs.Due as RewritingDue
+use Rattle.rewriting.proofs.Promises.{done-all, done-writes, done-text, done-front, table-has}
+use Rattle.rewriting.proofs.Whole.{whole-read, whole-joined}
 use Rattle.rewriting.proofs.Canonical.{canonical-printed, printed-canonical, printed-again}
-use Rattle.sao.specs.Demand2.{GivenAsDue, OneCanonical, Demand2}
+use Rattle.sao.specs.Demand2.{GivenAsDue, Rewrites, LentHolds, OneCanonical, Demand2}
 
-as-due : GivenAsDue
+pub as-due : GivenAsDue
 as-due =
     record {
       placing = λ s at. PlacingDue.first-due s at;
+      counts = λ s at. PlacingDue.counts-first-due s at;
       reading = λ s at g room. GroupDue.first-due s at g room;
       lines = λ s at g. GroupDue.found-first-due s at g;
+      part = λ s at g. GroupDue.part-first-due s at g;
+      part-end = span-end;
       characteristic = λ s at k. GroupDue.characteristic-first-due s at k;
       writing = λ ns cs room. WritingDue.first-due ns cs room;
       rewriting = λ s at cells room. RewritingDue.first-due s at cells room;
+      listed = λ s out. Listed.first-due (listing s) out;
+      listing-is = λ s x. (λ e. subst (IsListing s) e (Listed.listing-is s), λ h. sym (Listed.is-listing s x h));
+    }
+
+rewrites : (s : List ℕ) (at cells : ℕ) (out : List ℕ) (bytes next : ℕ) → rewritingOf s at cells (length out) ≡ Rewritten bytes next → Rewrites s at bytes next (bufferBy s at (Rewritten bytes next) out)
+rewrites s at cells out bytes next e =
+    let placed = RewritingDue.first-due s at cells (length out) (Rewritten bytes next) .0 e .roomy .placed in
+    let all = done-all s at cells (length out) bytes next e in
+    let written = done-writes s at cells (length out) bytes next e in
+    record {
+      cells = _;
+      read = whole-read s at next placed all;
+      text = textAt s at;
+      canonical = subst (CanonicalRecord (countsAt s at) (textAt s at)) (whole-joined s at next placed all) (done-canonical (countsAt s at) (cellsAt s at) (length out) bytes written);
+      long = done-text s at cells (length out) bytes next e;
+      front = done-front s at cells (length out) bytes next e out;
+    }
+
+lent-holds : LentHolds
+lent-holds =
+    record {
+      reading = λ s at g table cs e. rw e (done-read-holds cs table);
+      writing = λ ns cs out n e. rw e (done-write-begins ns cs out n e);
+      listed = λ s out n e. Listed.listed-begins (listing s) out n e;
+      rewriting = λ s at cells out bytes next e. rw e (rewrites s at cells out bytes next e);
+      rewriting-table = λ s at room table. table-has s at table (length table) room (rewritingOf s at (length table) room) refl;
     }
 
 one-canonical : (ns : List ℕ) (cs : List ℤ) (room n : ℕ) → writingOf ns cs room ≡ Done n → OneCanonical ns cs n
@@ -39,6 +80,7 @@ pub demand-2 : Demand2
 demand-2 =
     record {
       due = as-due;
+      lent = lent-holds;
       canonical = one-canonical;
       reads-back = λ ns cs room n e a b. reads-back ns cs room n e a b;
       read-writes = record {

@@ -1,55 +1,59 @@
--- "Show that any two outcomes it allows are equal": a contract determines the answer and all lent memory, question by question.
+-- "Show that any two outcomes it allows are equal": of each question's contract itself, as its caller learns it (`Learnt`). A contract that
+-- leaves open a part of the answer or of what is lent has no proof here.
 -- Assumes nothing.
-use mathlib.Core.Path.{_≡_, sym, _∙_}
-use mathlib.Core.List.{List}
-use Prim.Native.Nat.{ℕ}
-use lib.IntN.{ℤ}
-use lib.ListN.{length}
-use Rattle.decimal.specs.Writing.{Puts}
-use Rattle.decimal.specs.declared.Put.{Put}
-use Rattle.place.specs.declared.Placing.{Placing}
-use Rattle.place.specs.Placing.{placingOf, countsAt}
-use Rattle.place.proofs.Numbered.{placing-once}
-use Rattle.reading.specs.declared.Reading.{Reading}
-use Rattle.reading.specs.Read.{readingOf, tableBy}
-use Rattle.reading.proofs.Promises.{read-once}
-use Rattle.group.specs.declared.Found.{Found}
-use Rattle.group.specs.declared.Characteristic.{Characteristic}
-use Rattle.group.specs.Text.{readAt}
-use Rattle.group.specs.Held.{foundAt, partStart, partAt, moved}
-use Rattle.group.specs.Characteristics.{characteristicAt}
-use Rattle.group.proofs.Holding.{found-once, part-once}
-use Rattle.group.proofs.Reported.{characteristic-once}
-use Rattle.listing.specs.Listing.{listing}
-use Rattle.record.specs.declared.Writing.{Writing}
-use Rattle.record.specs.Writing.{writingOf, outputBy}
-use Rattle.record.proofs.Promises.{write-once}
-use Rattle.rewriting.specs.declared.Rewriting.{Rewriting}
-use Rattle.rewriting.specs.Record.{rewritingOf, tableBy as tableAfter, bufferBy}
-use Rattle.rewriting.proofs.Promises.{rewrite-once}
+use mathlib.Core.Path.{_≡_, sym, _∙_, ap}
+use denote.Ref.{now}
+use Rattle.sao.specs.Outcome.{OneOutcome, OneUpTo}
+use Rattle.record.specs.Writing.{outputBy}
+use Rattle.rewriting.specs.Record.{tableBy, bufferBy}
+use Rattle.sao.proofs.place
+use Rattle.sao.proofs.read_group
+use Rattle.sao.proofs.group_lines_at
+use Rattle.sao.proofs.group_lines
+use Rattle.sao.proofs.characteristic
+use Rattle.sao.proofs.write_record
+use Rattle.sao.proofs.list
+use Rattle.sao.proofs.rewrite_record
 
-module _ (s : List ℕ) (at : ℕ) where
-  pub place-one : (r q : Placing) (ns ms : List ℕ) → (r ≡ placingOf s at) × (ns ≡ countsAt s at) → (q ≡ placingOf s at) × (ms ≡ countsAt s at) → (r ≡ q) × (ns ≡ ms)
-  place-one r q ns ms a b = placing-once s at r q ns ms a b
+pub place-one : OneOutcome place.ended place.Reads.Learnt
+place-one κs a r q v w l k =
+    let answer = l .0 ∙ sym (k .0) in
+    let counts = l .1 ∙ sym (k .1) in
+    (λ i. record { answer = answer i; counts = counts i }, λ i. (tt, (tt, tt)))
 
-  pub read-group-one : (g : ℕ) (table : List ℤ) (r q : Reading) (t u : List ℤ) → (r ≡ readingOf (readAt s at g (length table))) × (t ≡ tableBy (readAt s at g (length table)) table) → (q ≡ readingOf (readAt s at g (length table))) × (u ≡ tableBy (readAt s at g (length table)) table) → (r ≡ q) × (t ≡ u)
-  read-group-one g table r q t u a b = read-once (readAt s at g (length table)) table r q t u a b
+pub read-group-one : OneOutcome read_group.ended read_group.Reads.Learnt
+read-group-one κs a r q v w l k =
+    let table = l .1 ∙ sym (k .1) in
+    (l .0 ∙ sym (k .0), λ i. (tt, (tt, (tt, (table i, tt)))))
 
-  pub group-lines-reply-one : (g : ℕ) (r q : Found) → r ≡ foundAt s at g → q ≡ foundAt s at g → r ≡ q
-  group-lines-reply-one g r q a b = found-once s at g r q a b
+pub group-lines-at-one : OneOutcome group_lines_at.ended group_lines_at.Reads.Learnt
+group-lines-at-one κs a r q v w l k =
+    let found = l .0 ∙ sym (k .0) in
+    let from = l .1 ∙ sym (k .1) in
+    let to = l .2 ∙ sym (k .2) in
+    (λ i. record { found = found i; from = from i; to = to i }, λ i. (tt, (tt, (tt, tt))))
 
-  -- the bytes of the part, and where they stand: p is the text's address
-  pub group-lines-one : (g : ℕ) (p : ℕ × ℕ) (x y : List ℕ) (a b : ℕ × ℕ) → (x ≡ partAt s at g) × (a ≡ moved p (partStart s at g)) → (y ≡ partAt s at g) × (b ≡ moved p (partStart s at g)) → (x ≡ y) × (a ≡ b)
-  group-lines-one g p x y a b h k = part-once s at g p x y a b h k
+-- the part's bytes, and where in the caller's text they stand
+pub group-lines-one : OneUpTo group_lines.ended (λ κs r q. (now r ≡ now q) × (r .ptr ≡ q .ptr)) group_lines.Reads.Learnt
+group-lines-one κs a r q v w l k = ((l .0 ∙ sym (k .0), l .1 ∙ sym (k .1)), λ i. (tt, (tt, (tt, tt))))
 
-  pub characteristic-one : (k : ℕ) (r q : Characteristic) → r ≡ characteristicAt s at k → q ≡ characteristicAt s at k → r ≡ q
-  characteristic-one k r q a b = characteristic-once s at k r q a b
+pub characteristic-one : OneOutcome characteristic.ended characteristic.Reads.Learnt
+characteristic-one κs a r q v w l k = (l ∙ sym k, λ i. (tt, (tt, (tt, tt))))
 
-  pub rewrite-record-one : (table : List ℤ) (out : List ℕ) (r q : Rewriting) (t u : List ℤ) (x y : List ℕ) → (r ≡ rewritingOf s at (length table) (length out)) × (t ≡ tableAfter s at r table) × (x ≡ bufferBy s at r out) → (q ≡ rewritingOf s at (length table) (length out)) × (u ≡ tableAfter s at q table) × (y ≡ bufferBy s at q out) → (r ≡ q) × (t ≡ u) × (x ≡ y)
-  rewrite-record-one table out r q t u x y a b = rewrite-once s at table out r q t u x y a b
+pub write-record-one : OneOutcome write_record.ended write_record.Reads.Learnt
+write-record-one κs (counts, (cells, (out, _))) r q v w l k =
+    let answer = l .0 ∙ sym (k .0) in
+    let bytes = l .1 ∙ ap (λ p. outputBy (now counts) (now cells) p (now out)) answer ∙ sym (k .1) in
+    (answer, λ i. (tt, (tt, (bytes i, tt))))
 
-pub write-record-one : (ns : List ℕ) (cs : List ℤ) (out : List ℕ) (r q : Writing) (x y : List ℕ) → (r ≡ writingOf ns cs (length out)) × (x ≡ outputBy ns cs r out) → (q ≡ writingOf ns cs (length out)) × (y ≡ outputBy ns cs q out) → (r ≡ q) × (x ≡ y)
-write-record-one ns cs out r q x y a b = write-once ns cs out r q x y a b
+pub list-one : OneOutcome list.ended list.Reads.Learnt
+list-one κs a r q v w l k =
+    let bytes = l .bytes ∙ sym (k .bytes) in
+    (l .answer ∙ sym (k .answer), λ i. (tt, (bytes i, tt)))
 
-pub list-one : (s out : List ℕ) (r q : Put) (x y : List ℕ) → Puts 0 (listing s) out r x → Puts 0 (listing s) out q y → (r ≡ q) × (x ≡ y)
-list-one s out r q x y a b = (a .answer ∙ sym (b .answer), a .bytes ∙ sym (b .bytes))
+pub rewrite-record-one : OneOutcome rewrite_record.ended rewrite_record.Reads.Learnt
+rewrite-record-one κs (text, (at, (table, (out, _)))) r q v w l k =
+    let answer = l .0 ∙ sym (k .0) in
+    let cells = l .1 ∙ ap (λ p. tableBy (now text) at p (now table)) answer ∙ sym (k .1) in
+    let bytes = l .2 ∙ ap (λ p. bufferBy (now text) at p (now out)) answer ∙ sym (k .2) in
+    (answer, λ i. (tt, (tt, (cells i, (bytes i, tt)))))

@@ -6,37 +6,44 @@
 -- s is a text, out an output; a reply is refused where its number is not 0.
 use mathlib.Core.Path.{_≡_}
 use mathlib.Core.List.{List}
-use Prim.Native.Nat.{ℕ}
+use Prim.Native.Nat.{ℕ, _≤_}
 use lib.IntN.{ℤ}
 use lib.ListN.{length, drop}
 use Rattle.reply.specs.declared.Reply.{Reply}
 use Rattle.reply.specs.Table.{Numbered}
 use Rattle.decimal.specs.Writing.{putAnswer, putBytes}
 use Rattle.place.specs.Placing.{placingOf}
-use Rattle.place.specs.Numbered.{placingReply}
+use Rattle.place.specs.Numbered.{placingReply, placingRows}
 use Rattle.reading.specs.Read.{readingOf, tableBy}
-use Rattle.reading.specs.Numbered.{readingReply}
+use Rattle.reading.specs.Numbered.{readingReply, readingRows}
+use Rattle.reading.specs.declared.Refusal.{Refusal}
 use Rattle.group.specs.Text.{readAt}
-use Rattle.group.specs.Held.{foundAt, foundReply}
-use Rattle.group.specs.Characteristics.{characteristicAt, characteristicReply}
-use Rattle.listing.specs.Listing.{listing, listedReply}
-use Rattle.record.specs.Writing.{writingOf, outputBy, writingReply}
+use Rattle.group.specs.Held.{foundAt, foundReply, foundRows}
+use Rattle.group.specs.Characteristics.{characteristicAt, characteristicReply, characteristicRows}
+use Rattle.listing.specs.Listing.{listing, listedReply, listingRows}
+use Rattle.record.specs.Writing.{writingOf, outputBy, writingReply, writingRows}
 use Rattle.rewriting.specs.Record.{rewritingOf, bufferBy}
-use Rattle.rewriting.specs.Numbered.{rewritingReply}
+use Rattle.rewriting.specs.declared.Rewriting.the-variants.{Unread}
+use Rattle.rewriting.specs.Numbered.{rewritingReply, rewritingRows}
+use Rattle.sao.specs.Numbers.{AnswersTold}
 
 -- done is 0, refused is anything else
 abbrev pub Refused : Reply → Type 0
 Refused r = r .number ≡ 0 → ⊥
 
--- "one of the numbered replies": a number of 01's table, with 0 for what its row doesn't name
+-- "one of the numbered replies": a row of the question's own table, with each number that the row names and 0 for the others
 pub record EndsNumbered : Type 0 where
-  pub placing : (s : List ℕ) (at : ℕ) → Numbered (placingReply (placingOf s at))
-  pub reading : (s : List ℕ) (at g : ℕ) (table : List ℤ) → Numbered (readingReply (readingOf (readAt s at g (length table))))
-  pub lines : (s : List ℕ) (at g : ℕ) → Numbered (foundReply (foundAt s at g))
-  pub characteristic : (s : List ℕ) (at k : ℕ) → Numbered (characteristicReply (characteristicAt s at k))
-  pub writing : (ns : List ℕ) (cs : List ℤ) (out : List ℕ) → Numbered (writingReply (writingOf ns cs (length out)))
-  pub listed : (s out : List ℕ) → Numbered (listedReply (putAnswer 0 (listing s) out))
-  pub rewriting : (s : List ℕ) (at : ℕ) (table : List ℤ) (out : List ℕ) → Numbered (rewritingReply (rewritingOf s at (length table) (length out)))
+  -- which number each answer has, in figures
+  pub told : AnswersTold
+  pub placing : (s : List ℕ) (at : ℕ) → Numbered placingRows (placingReply (placingOf s at))
+  pub reading : (s : List ℕ) (at g room : ℕ) → Numbered readingRows (readingReply (readingOf (readAt s at g room)))
+  pub lines : (s : List ℕ) (at g : ℕ) → Numbered foundRows (foundReply (foundAt s at g))
+  pub characteristic : (s : List ℕ) (at k : ℕ) → Numbered characteristicRows (characteristicReply (characteristicAt s at k))
+  pub writing : (ns : List ℕ) (cs : List ℤ) (room : ℕ) → Numbered writingRows (writingReply (writingOf ns cs room))
+  pub listed : (s out : List ℕ) → Numbered listingRows (listedReply (putAnswer 0 (listing s) out))
+  pub rewriting : (s : List ℕ) (at cells room : ℕ) → Numbered rewritingRows (rewritingReply (rewritingOf s at cells room))
+  -- the group that rewriting tells apart from the reply is one of 1 to 60
+  pub unread : (s : List ℕ) (at cells room g : ℕ) (r : Refusal) → rewritingOf s at cells room ≡ Unread g r → (1 ≤ g) × (g ≤ 60)
 
 -- "A refused read alters no cell of the table lent to it"
 abbrev pub RefusedReadKeeps : Type 0
@@ -47,12 +54,14 @@ RefusedReadKeeps =
 pub record RefusedWriteKeeps : Type 0 where
   pub writing : (ns : List ℕ) (cs : List ℤ) (out : List ℕ) → Refused (writingReply (writingOf ns cs (length out))) → outputBy ns cs (writingOf ns cs (length out)) out ≡ out
   pub listed : (s out : List ℕ) → Refused (listedReply (putAnswer 0 (listing s) out)) → putBytes 0 (listing s) out ≡ out
-  pub rewriting : (s : List ℕ) (at : ℕ) (table : List ℤ) (out : List ℕ) → Refused (rewritingReply (rewritingOf s at (length table) (length out))) → bufferBy s at (rewritingOf s at (length table) (length out)) out ≡ out
+  pub rewriting : (s : List ℕ) (at cells : ℕ) (out : List ℕ) → Refused (rewritingReply (rewritingOf s at cells (length out))) → bufferBy s at (rewritingOf s at cells (length out)) out ≡ out
 
 -- and 01's "Cells behind the last one written keep their content, and so do output bytes in writing"
 pub record KeepsRest : Type 0 where
   pub reading : (s : List ℕ) (at g : ℕ) (table : List ℤ) → drop (readingReply (readingOf (readAt s at g (length table))) .written) (tableBy (readAt s at g (length table)) table) ≡ drop (readingReply (readingOf (readAt s at g (length table))) .written) table
   pub writing : (ns : List ℕ) (cs : List ℤ) (out : List ℕ) → drop (writingReply (writingOf ns cs (length out)) .written) (outputBy ns cs (writingOf ns cs (length out)) out) ≡ drop (writingReply (writingOf ns cs (length out)) .written) out
+  pub listed : (s out : List ℕ) → drop (listedReply (putAnswer 0 (listing s) out) .written) (putBytes 0 (listing s) out) ≡ drop (listedReply (putAnswer 0 (listing s) out) .written) out
+  pub rewriting : (s : List ℕ) (at cells : ℕ) (out : List ℕ) → drop (rewritingReply (rewritingOf s at cells (length out)) .written) (bufferBy s at (rewritingOf s at cells (length out)) out) ≡ drop (rewritingReply (rewritingOf s at cells (length out)) .written) out
 
 pub record Demand1 : Type 0 where
   pub numbered : EndsNumbered

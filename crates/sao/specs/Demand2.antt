@@ -6,18 +6,22 @@
 use mathlib.Core.Path.{_≡_}
 use mathlib.Core.List.{List, _++_}
 use mathlib.Core.Logic.{_↔_}
-use Prim.Native.Nat.{ℕ, _-_, _≤_}
+use Prim.Native.Nat.{ℕ, _+_, _-_, _≤_}
 use lib.IntN.{ℤ}
-use lib.ListN.{length}
+use lib.ListN.{length, take}
 use Rattle.base.specs.Part.{part, over}
+use Rattle.base.specs.Pieces.{done}
+use Rattle.decimal.specs.declared.Put.{Put}
+use Rattle.decimal.specs.declared.Put.the-variants.{Next}
+use Rattle.decimal.specs.Writing.{putAnswer, putBytes}
 use Rattle.place.specs.declared.Placing.{Placing}
 use Rattle.place.specs.Placing.{placingOf, countsAt}
 use Rattle.place.specs.Due as PlacingIs
-use Rattle.reading.specs.Read.{Cells}
+use Rattle.reading.specs.Read.{Cells, tableBy}
 use Rattle.group.specs.declared.Found.{Found}
 use Rattle.group.specs.declared.Characteristic.{Characteristic}
 use Rattle.group.specs.Text.{readAt}
-use Rattle.group.specs.Held.{foundAt}
+use Rattle.group.specs.Held.{foundAt, partStart, partEnd, partAt}
 use Rattle.group.specs.Characteristics.{characteristicAt}
 use Rattle.group.specs.Due as GroupIs
 use Rattle.record.specs.declared.Writing.{Writing}
@@ -27,22 +31,52 @@ use Rattle.record.specs.RoundTrip.{ReadsBack, ReadWhole, joined}
 use Rattle.record.specs.Text.{recordText}
 use Rattle.record.specs.Writing.{writingOf, outputBy}
 use Rattle.record.specs.Due as WritingIs
+use Rattle.listing.specs.Listing.{listing, IsListing, ListingDue}
 use Rattle.rewriting.specs.declared.Rewriting.{Rewriting}
+use Rattle.rewriting.specs.declared.Rewriting.the-variants.{Done as Rewritten}
 use Rattle.rewriting.specs.Canonical.{CanonicalRecords}
 use Rattle.rewriting.specs.Due as RewritingIs
+use Rattle.rewriting.specs.Due.{TableHas, groupsRead}
 use Rattle.rewriting.specs.Printed.{printed}
-use Rattle.rewriting.specs.Record.{rewritingOf}
+use Rattle.rewriting.specs.Record.{rewritingOf, bufferBy, tableBy as tableAfter}
 
 -- "Reading gives the values that the description gives to that text, and refuses with the first reply due under 01's order": every answer is
--- given exactly if it is due. What each Due says stands in 01's words in the layers: of 0 that the cells are the values of the fields where
--- 01 has them (reading's Values), of a refusal that its condition holds and none earlier in the order does.
+-- given exactly if it is due. Where a Due cites another answer (the placing, the counts, what a group reads as), that answer's own Due is a
+-- field here. So a reader comes to plain words: of an index that its columns are entries (place's IsIndex); of a rule that some rule which
+-- blames the group is broken and none that blames a lower one (count's Blame); of 0 that the cells are the values of the fields where 01 has
+-- them (reading's Values), each field blanks, at most one minus, digits (number's Grammar); of a date that the first field which fails alone
+-- is blamed (date's Due); of a refusal that its condition holds and none earlier in the order does.
 pub record GivenAsDue : Type 0 where
   pub placing : (s : List ℕ) (at : ℕ) (p : Placing) → placingOf s at ≡ p ↔ PlacingIs.Due s at p
+  pub counts : (s : List ℕ) (at : ℕ) (ns : List ℕ) → countsAt s at ≡ ns ↔ PlacingIs.CountsDue s at ns
   pub reading : (s : List ℕ) (at g room : ℕ) (c : Cells) → readAt s at g room ≡ c ↔ GroupIs.Due s at g room c
   pub lines : (s : List ℕ) (at g : ℕ) (r : Found) → foundAt s at g ≡ r ↔ GroupIs.FoundDue s at g r
+  -- the part is exactly those lines, and stands there
+  pub part : (s : List ℕ) (at g from : ℕ) (x : List ℕ) → ((partStart s at g ≡ from) × (partAt s at g ≡ x)) ↔ GroupIs.PartDue s at g from x
+  pub part-end : (s : List ℕ) (at g : ℕ) → partEnd s at g ≡ partStart s at g + length (partAt s at g)
   pub characteristic : (s : List ℕ) (at k : ℕ) (c : Characteristic) → characteristicAt s at k ≡ c ↔ GroupIs.CharacteristicDue s at k c
   pub writing : (ns : List ℕ) (cs : List ℤ) (room : ℕ) (r : Writing) → writingOf ns cs room ≡ r ↔ WritingIs.Due ns cs room r
   pub rewriting : (s : List ℕ) (at cells room : ℕ) (r : Rewriting) → rewritingOf s at cells room ≡ r ↔ RewritingIs.Due s at cells room r
+  pub listed : (s out : List ℕ) (r : Put) → putAnswer 0 (listing s) out ≡ r ↔ ListingDue (listing s) (length out) r
+  pub listing-is : (s x : List ℕ) → listing s ≡ x ↔ IsListing s x
+
+-- what rewriting's buffer holds under 0: the canonical text of the counts and of what every group read as
+pub record Rewrites (s : List ℕ) (at bytes next : ℕ) (buffer : List ℕ) : Type 0 where
+  pub cells : ℕ → List ℤ
+  pub read : ReadWhole s at next cells
+  pub text : List ℕ
+  pub canonical : CanonicalRecord (countsAt s at) text (joined cells)
+  pub long : length text ≡ bytes
+  pub front : take bytes buffer ≡ text
+
+-- what is lent holds what the answer says: under 0 the table's first cells are the cells read, and the output's first bytes the text
+pub record LentHolds : Type 0 where
+  pub reading : (s : List ℕ) (at g : ℕ) (table cs : List ℤ) → readAt s at g (length table) ≡ done cs → take (length cs) (tableBy (readAt s at g (length table)) table) ≡ cs
+  pub writing : (ns : List ℕ) (cs : List ℤ) (out : List ℕ) (n : ℕ) → writingOf ns cs (length out) ≡ Done n → take n (outputBy ns cs (writingOf ns cs (length out)) out) ≡ recordText ns cs
+  pub listed : (s out : List ℕ) (n : ℕ) → putAnswer 0 (listing s) out ≡ Next n → take n (putBytes 0 (listing s) out) ≡ listing s
+  pub rewriting : (s : List ℕ) (at cells : ℕ) (out : List ℕ) (bytes next : ℕ) → rewritingOf s at cells (length out) ≡ Rewritten bytes next → Rewrites s at bytes next (bufferBy s at (rewritingOf s at cells (length out)) out)
+  -- rewriting's table begins with the cells of the groups that were read, also where a later group was refused, and is as it was behind them
+  pub rewriting-table : (s : List ℕ) (at room : ℕ) (table : List ℤ) → TableHas s at (groupsRead (rewritingOf s at (length table) room)) table (tableAfter s at (rewritingOf s at (length table) room) table)
 
 -- "Writing gives the one canonical text of the same values": n bytes, canonical with these counts and cells, and no other text is
 pub record OneCanonical (ns : List ℕ) (cs : List ℤ) (n : ℕ) : Type 0 where
@@ -69,6 +103,7 @@ pub record ReadWrites : Type 0 where
 
 pub record Demand2 : Type 0 where
   pub due : GivenAsDue
+  pub lent : LentHolds
   pub canonical : WritesCanonical
   pub reads-back : WrittenReadsBack
   pub read-writes : ReadWrites

@@ -3,7 +3,7 @@
 // with the numbers given besides.
 use decimal::Put;
 use group::Characteristic;
-use group::Found;
+use group::Lines;
 use place::Record;
 use reading::Reading;
 use record::Writing;
@@ -14,7 +14,7 @@ ghost use Rattle.decimal.specs.Writing.{Puts};
 ghost use Rattle.place.specs.Placing.{placingOf, countsAt};
 ghost use Rattle.reading.specs.Read.{readingOf, tableBy};
 ghost use Rattle.group.specs.Text.{readAt};
-ghost use Rattle.group.specs.Held.{foundAt, partStart, partAt, moved};
+ghost use Rattle.group.specs.Held.{foundAt, partStart, partEnd, partAt, moved};
 ghost use Rattle.group.specs.Characteristics.{characteristicAt};
 ghost use Rattle.record.specs.Writing.{writingOf, outputBy};
 ghost use Rattle.rewriting.specs.Record.{rewritingOf, tableBy as tableAfter, bufferBy};
@@ -38,13 +38,13 @@ pub fn read_group(text: &[u8], at: usize, group: usize, table: &mut [i64]) -> Re
     group::read_group(text, at, group, table)
 }
 
-// Asked: whether the lines of a group of the record at a place can be given.
-// Answered: that they can, or why not: 12, or any placing reply but 0.
-// Nothing is lent to be altered.
-pub fn group_lines_reply(text: &[u8], at: usize, group: usize) -> Found
-    ensures { λ r. ⌜ r ≡ foundAt (now (text .entry)) at group ⌝ }
+// Asked: where the lines of a group of the record at a place stand in the text.
+// Answered: that they can be given, and from where to where they stand; with count 0 both places are where they would begin.
+// A refusal has its reply, 12 or any placing reply but 0, and both places are the text's start.
+pub fn group_lines_at(text: &[u8], at: usize, group: usize) -> Lines
+    ensures { λ r. ⌜ (r .found ≡ foundAt (now (text .entry)) at group) × (r .from ≡ partStart (now (text .entry)) at group) × (r .to ≡ partEnd (now (text .entry)) at group) ⌝ }
 {
-    group::lines_reply(text, at, group)
+    group::lines_at(text, at, group)
 }
 
 // Asked: the lines of a group, with their line ends.

@@ -9,13 +9,13 @@ use Rattle.boundary.proofs.Telling.{told-as}
 use Rattle.boundary.proofs.seambeacon_group_lines.Statement.{statement}
 use Rattle.boundary.proofs.seambeacon_group_lines.Tie as tie
 
-lines-at-requires : tie.Need-lines-at-requires
-lines-at-requires c κs = search needs
+group-lines-at-requires : tie.Need-group-lines-at-requires
+group-lines-at-requires c κs = search needs
 
 sub-length : tie.Need-sub-length
 sub-length c =
     let a = c .before .before .before .args in
-    let e = c .before .lines-at .ensures in
+    let e = c .before .group-lines-at .ensures in
     omega (arith, span-range (a .text .now) (a .at) (a .group) .0, e .1, e .2)
 
 found-reply-requires : tie.Need-found-reply-requires
@@ -27,14 +27,14 @@ tell-requires c κs = search needs
 returns : tie.Need-returns
 returns c =
     let a = c .before .before .before .before .before .before .before .args in
-    let e = c .before .before .before .before .before .lines-at .ensures in
+    let e = c .before .before .before .before .before .group-lines-at .ensures in
     (told-as (c .before .before .found-reply .ensures ∙ ap foundReply (e .0)) (c .tell .ensures), rw (e .1, e .2, span-length (a .text .now) (a .at) (a .group)) refl)
 
 pub seambeacon-group-lines-spec : {M : Type 1} → statement M
 seambeacon-group-lines-spec =
     tie.close
     (tie.spec
-    lines-at-requires
+    group-lines-at-requires
     sub-length
     found-reply-requires
     tell-requires

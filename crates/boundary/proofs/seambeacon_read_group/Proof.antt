@@ -22,7 +22,8 @@ same-length c = search needs
 returns : tie.Need-returns
 returns c =
     let e = c .before .before .before .before .read-group .ensures in
-    (told-as (c .before .before .reply-of .ensures ∙ ap readingReply (e .0)) (c .tell .ensures), e .1)
+    let told = told-as (c .before .before .reply-of .ensures ∙ ap readingReply (e .0)) (c .tell .ensures) in
+    search (needs, told, e)
 
 pub seambeacon-read-group-spec : {M : Type 1} → statement M
 seambeacon-read-group-spec =

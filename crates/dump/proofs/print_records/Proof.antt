@@ -37,9 +37,6 @@ slice-aggregate-print-record c = search needs
 print-record-requires : tie.Need-print-record-requires Inv-loop μ-loop
 print-record-requires c κs = search needs
 
-slice-aggregate-print-groups : tie.Need-slice-aggregate-print-groups Inv-loop μ-loop
-slice-aggregate-print-groups c = search needs
-
 print-groups-requires : tie.Need-print-groups-requires Inv-loop μ-loop
 print-groups-requires c κs = search needs
 
@@ -75,7 +72,6 @@ print-records-spec =
     returns
     slice-aggregate-print-record
     print-record-requires
-    slice-aggregate-print-groups
     print-groups-requires
     print-characteristics-requires
     add-k

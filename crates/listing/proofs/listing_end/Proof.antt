@@ -10,7 +10,7 @@ use Rattle.reply.specs.declared.Reply.{Reply}
 use Rattle.decimal.specs.Writing.{endIn}
 use Rattle.place.specs.Walk.{spot}
 use Rattle.place.proofs.Walked.{spot-start}
-use Rattle.listing.specs.Rows.{isPlaced}
+use Rattle.place.specs.Numbered.{isPlaced}
 use Rattle.listing.specs.Records.{recordsIn}
 use Rattle.listing.proofs.Counted.{records-bytes}
 use Rattle.listing.specs.Listing.{listing}

@@ -8,7 +8,7 @@ use borrow.Author.Tests.{not-true, not-false}
 use Rattle.reply.specs.declared.Reply.{Reply}
 use Rattle.place.specs.Walk.{spot}
 use Rattle.place.proofs.Walked.{spot-start}
-use Rattle.listing.specs.Rows.{isPlaced}
+use Rattle.place.specs.Numbered.{isPlaced}
 use Rattle.listing.specs.Records.{recordsIn}
 use Rattle.listing.proofs.Counted.{records-bytes}
 use Rattle.listing.proofs.Turns.{Met, More, Putting, met-more, met-last, put-starts, put-stops, put-more, put-has-room}

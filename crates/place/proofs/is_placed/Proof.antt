@@ -1,9 +1,9 @@
--- `listing::is_placed` meets its contract.
+-- `place::is_placed` meets its contract.
 -- Assumes nothing.
 use mathlib.Core.Path.{sym}
 use borrow.Author.Tests.{eq-eqb, ne-eqb}
-use Rattle.listing.proofs.is_placed.Statement.{statement}
-use Rattle.listing.proofs.is_placed.Tie as tie
+use Rattle.place.proofs.is_placed.Statement.{statement}
+use Rattle.place.proofs.is_placed.Tie as tie
 
 returns : tie.Need-returns
 returns c = sym (rw (eq-eqb (c .before .args .number) 0 (c .if1 .taken)))

@@ -1,0 +1,84 @@
+-- What an answer of placing says of the walk: 0 or 7, and a record is located; any other reply, and none is.
+-- Assumes nothing.
+use mathlib.Core.Path.{_≡_, refl, sym, ap, subst}
+use mathlib.Core.Bool.{true, false}
+use mathlib.Core.List.{List}
+use mathlib.Core.Logic.{_↔_, inl, inr, ⊎-elim}
+use Prim.Native.Nat.{ℕ}
+use native.Mathlib.Omega.{arith}
+use borrow.Author.Tests.{eqb-true}
+use lib.Dec.{T, eqb}
+use Rattle.base.proofs.Choice.{true-T, T-true, or-elim}
+use Rattle.count.specs.Rules.{rulingOf}
+use Rattle.count.specs.declared.Ruling.{Ruling}
+use Rattle.count.specs.declared.Ruling.the-variants.{Kept, Broken}
+use Rattle.place.specs.declared.Placing.{Placing}
+use Rattle.place.specs.declared.Placing.the-variants.{Placed, End, Beyond, TooFewLines, Misformed, OtherRelease, FilledVacant, BrokenRule}
+use Rattle.place.specs.Placing.{Located, located, refused, locate, ruledAt, placingBy, countsBy, placingOf, countsAt}
+use Rattle.place.specs.Numbered.{placingReply, isPlaced}
+use Rattle.place.specs.Walk.{PlacedAt, IsRecord}
+use Rattle.place.proofs.Walked.{Stopping, refused-stopping}
+
+abbrev number : Placing → ℕ
+number p = placingReply p .number
+
+abbrev next : Placing → ℕ
+next p = placingReply p .next
+
+ruled-next : (n : ℕ) (r : Ruling) → next (ruledAt n r) ≡ n
+ruled-next n Kept = refl
+ruled-next n (Broken g) = refl
+
+ruled-placed : (n : ℕ) (r : Ruling) → isPlaced (number (ruledAt n r)) ≡ true
+ruled-placed n Kept = refl
+ruled-placed n (Broken g) = refl
+
+stopping-placed : (p : Placing) → Stopping p → isPlaced (number p) ≡ false
+stopping-placed (Placed n) h = absurd h
+stopping-placed End h = refl
+stopping-placed Beyond h = refl
+stopping-placed TooFewLines h = refl
+stopping-placed Misformed h = refl
+stopping-placed OtherRelease h = refl
+stopping-placed (FilledVacant g) h = refl
+stopping-placed (BrokenRule g n) h = absurd h
+
+module _ (s : List ℕ) (at : ℕ) where
+  -- 0 or 7: a record is located, and its next place and counts are beside the answer
+  pub placed-goes : isPlaced (number (placingOf s at)) ≡ true → locate s at ≡ located (next (placingOf s at)) (countsAt s at)
+  unfolding placingOf countsAt
+  placed-goes e = by (locate s at) refl e
+    where
+      by : (l : Located) → locate s at ≡ l → isPlaced (number (placingBy l)) ≡ true → l ≡ located (next (placingBy l)) (countsBy l)
+      by (located n ns) f e = ap (λ m. located m ns) (sym (ruled-next n (rulingOf ns)))
+      by (refused p) f e = let q = stopping-placed p (refused-stopping s at p f) in let z : _≡_ {A = ℕ} 0 1 = cc in absurd (omega arith)
+
+  -- any other reply: none is
+  pub placed-halts : isPlaced (number (placingOf s at)) ≡ false → locate s at ≡ refused (placingOf s at)
+  unfolding placingOf
+  placed-halts e = by (locate s at) refl e
+    where
+      by : (l : Located) → locate s at ≡ l → isPlaced (number (placingBy l)) ≡ false → l ≡ refused (placingBy l)
+      by (located n ns) f e = let q = ruled-placed n (rulingOf ns) in let z : _≡_ {A = ℕ} 0 1 = cc in absurd (omega arith)
+      by (refused p) f e = refl
+
+  -- the test passes exactly where a record is placed
+  pub placed-test : PlacedAt s at ↔ (isPlaced (number (placingOf s at)) ≡ true)
+  placed-test = (
+    λ p. ⊎-elim (λ (e : number (placingOf s at) ≡ 0). rw e refl) (λ (e : number (placingOf s at) ≡ 7). rw e refl) p,
+    λ t.
+        ⊎-elim
+        (λ (e : T (eqb (number (placingOf s at)) 0)). inl (eqb-true (number (placingOf s at)) 0 (T-true (eqb (number (placingOf s at)) 0) e)))
+        (λ (e : T (eqb (number (placingOf s at)) 7)). inr (eqb-true (number (placingOf s at)) 7 (T-true (eqb (number (placingOf s at)) 7) e)))
+        (or-elim (eqb (number (placingOf s at)) 0) (eqb (number (placingOf s at)) 7) (true-T (isPlaced (number (placingOf s at))) t)),
+  )
+
+  record-placed : IsRecord s at → isPlaced (number (placingOf s at)) ≡ true
+  unfolding placingOf
+  record-placed r = subst (λ l. isPlaced (number (placingBy l)) ≡ true) (sym (r .is)) (ruled-placed (r .next) (rulingOf (r .ns)))
+
+  pub placed-record : PlacedAt s at ↔ IsRecord s at
+  placed-record = (
+    λ p. record { next = next (placingOf s at); ns = countsAt s at; is = placed-goes (placed-test .0 p) },
+    λ r. placed-test .1 (record-placed r),
+  )
