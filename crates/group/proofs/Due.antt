@@ -24,7 +24,7 @@ use Rattle.place.specs.declared.Placing.{Placing}
 use Rattle.place.specs.declared.Placing.the-variants as P
 use Rattle.place.specs.Index.{counts}
 use Rattle.place.specs.Placing.{placingOf, countsAt}
-use Rattle.place.specs.Parts.{groupPart}
+use Rattle.place.specs.Parts.{start, groupPart}
 use Rattle.place.specs.Due as Place
 use Rattle.place.proofs.Due as Placing
 use Rattle.place.proofs.Placed.{located-is}
@@ -117,6 +117,11 @@ counts-are s at n d =
 
 -- ---- its part
 
+placed-part : (s : List ℕ) (at g n : ℕ) (d : PlacingDue s at g (P.Placed n)) → IsPart s at (d .placing .ns) g (start s at (d .placing .ns) g) (groupPart s at (d .placing .ns) g)
+placed-part s at g n d =
+    let q = is-placed s at n (Placing.first-due s at (P.Placed n) .1 (d .placing)) in
+    subst (λ ns. IsPart s at ns g (start s at ns g) (groupPart s at ns g)) (counts-are s at n (d .placing)) (part-is s at n (countsAt s at) (q .located-at) g (d .low) (d .high))
+
 module _ (s : List ℕ) (at g : ℕ) where
   part-placed : foundAt s at g ≡ Given → (d : FoundDue s at g Given) → GivenPart s at g (partStart s at g) (partAt s at g)
   unfolding partStart
@@ -171,7 +176,8 @@ module _ (s : List ℕ) (at g room : ℕ) where
   reading-given : (c : Cells) → ReadingDue s at g room c → readAt s at g room ≡ c
   reading-given c d =
       let ns = d .placed .placing .ns in
-      to-reading (d .next) (d .placed) ∙ Reading.first-due ns g (groupPart s at ns g) room c .1 (d .reading)
+      let these = is-part s at ns g (d .from) (d .x) (d .placed .low) (d .placed .high) (d .lines) .1 in
+      to-reading (d .next) (d .placed) ∙ ap (λ y. readGroup ns g y room) (sym these) ∙ Reading.first-due ns g (d .x) room c .1 (d .reading)
 
   missing-read : (r : Refusal) → MissingDue s at g r → readAt s at g room ≡ bad r
   missing-read r d = read-missing s at g room (missing-given s at g r d)
@@ -188,7 +194,14 @@ module _ (s : List ℕ) (at g room : ℕ) where
   from-found Given e d =
       let ns = d .placed .placing .ns in
       let u = to-reading (d .next) (d .placed) in
-      from-reading (readAt s at g room) record { next = d .next; placed = d .placed; reading = Reading.first-due ns g (groupPart s at ns g) room (readAt s at g room) .0 (sym u) }
+      from-reading (readAt s at g room) record {
+        next = d .next;
+        placed = d .placed;
+        from = start s at ns g;
+        x = groupPart s at ns g;
+        lines = placed-part s at g (d .next) (d .placed);
+        reading = Reading.first-due ns g (groupPart s at ns g) room (readAt s at g room) .0 (sym u);
+      }
   from-found (Missing r) e d = subst (Due s at g room) (sym (read-missing s at g room e)) (inl d)
 
   -- the reply that is given is the one that is due, and no other is

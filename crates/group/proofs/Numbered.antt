@@ -9,9 +9,8 @@ use lib.Dec.{lit<}
 use lib.ListN.{length}
 use Rattle.base.specs.Pieces.{done, bad}
 use Rattle.reply.specs.Table.{row, Numbered, askedRefusals, lineRefusals, dateRefusal}
-use Rattle.reply.proofs.Replies.{fills-plain, fills-on, fills-line, fills-element, fills-done, at-row, numbered-left}
+use Rattle.reply.proofs.Replies.{fills-plain, fills-on, fills-line, fills-element, fills-cells, at-row, numbered-left}
 use Rattle.count.proofs.Rulings.{broken-group}
-use Rattle.place.specs.Parts.{groupPart}
 use Rattle.reading.specs.declared.Refusal.{Refusal}
 use Rattle.reading.specs.declared.Refusal.the-variants.{NoGroup, End, Beyond, TooFewLines, Misformed, OtherRelease, FilledVacant, BrokenRule, NoRoom, BadLine, BadField, BadDate}
 use Rattle.reading.specs.Numbered.{refusalReply, readingReply, readingRows}
@@ -56,8 +55,8 @@ module _ (s : List ℕ) (at g : ℕ) where
   reading-numbered room = by (readAt s at g room) (first-due s at g room (readAt s at g room) .0 refl)
     where
       by : (c : Cells) → Due s at g room c → Numbered readingRows (readingReply (readingOf c))
-      by (done cs) d = inl (fills-done (length cs))
-      by (bad r) d = ⊎-elim (λ m. inr (numbered-left askedRefusals (row 11 [] ∷ (lineRefusals ++ (dateRefusal ∷ []))) (refusalReply r) (missing-numbered r m))) (λ (h : ReadingDue s at g room (bad r)). refusal-numbered (h .placed .placing .ns) g (groupPart s at (h .placed .placing .ns) g) room r (h .reading)) d
+      by (done cs) d = inl (fills-cells (length cs))
+      by (bad r) d = ⊎-elim (λ m. inr (numbered-left askedRefusals (row 11 [] ∷ (lineRefusals ++ (dateRefusal ∷ []))) (refusalReply r) (missing-numbered r m))) (λ (h : ReadingDue s at g room (bad r)). refusal-numbered (h .placed .placing .ns) g (h .x) room r (h .reading)) d
 
 -- of group 4 the lines alone are refused: 49 cells have room, and it has no date
 module _ (s : List ℕ) (at k : ℕ) where

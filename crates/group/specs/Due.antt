@@ -13,7 +13,7 @@ use Rattle.count.specs.Tally.{countOf}
 use Rattle.place.specs.declared.Placing.{Placing}
 use Rattle.place.specs.declared.Placing.the-variants as P
 use Rattle.place.specs.Placing.{countsAt}
-use Rattle.place.specs.Parts.{groupPart, IsPart}
+use Rattle.place.specs.Parts.{IsPart}
 use Rattle.place.specs.Due as Place
 use Rattle.reading.specs.declared.Refusal.{Refusal}
 use Rattle.reading.specs.declared.Refusal.the-variants.{NoGroup, End, Beyond, TooFewLines, Misformed, OtherRelease, FilledVacant, BrokenRule, NoRoom, BadLine, BadField, BadDate}
@@ -84,7 +84,10 @@ module _ (s : List ℕ) (at g : ℕ) where
     pub record ReadingDue (c : Cells) : Type 0 where
       pub next : ℕ
       pub placed : PlacingDue (P.Placed next)
-      pub reading : Reading.Due (placed .placing .ns) g (groupPart s at (placed .placing .ns) g) room c
+      pub from : ℕ
+      pub x : List ℕ
+      pub lines : IsPart s at (placed .placing .ns) g from x
+      pub reading : Reading.Due (placed .placing .ns) g x room c
 
     abbrev pub Due : Cells → Type 0
     Due (done cs) = ReadingDue (done cs)

@@ -2,20 +2,22 @@
 -- between two, and a line feed ends each line" is decimal's `rowText`.
 use mathlib.Core.Path.{_≡_}
 use mathlib.Core.Bool.{cond}
-use mathlib.Core.List.{List, [], _∷_, _++_}
+use mathlib.Core.List.{List, [], _∷_, _++_, flatMap}
 use Prim.Native.Nat.{ℕ, zero, suc, _<_, _≤_}
 use lib.Dec.{leb}
-use lib.ListN.{length}
+use lib.ListN.{length, getD}
 use Rattle.base.specs.Quoted.{bytes}
 use Rattle.reply.specs.declared.Reply.{Reply}
-use Rattle.reply.specs.Table.{replyPlain, replyDone, Row, row, written}
+use Rattle.reply.specs.Table.{replyPlain, replyDone, Row, row, bytes as textBytes}
 use Rattle.decimal.specs.Rows.{rowText}
 use Rattle.decimal.specs.declared.Put.{Put}
 use Rattle.decimal.specs.declared.Put.the-variants.{Next, NoRoom}
 use Rattle.place.specs.Placing.{placingOf, countsAt}
 use Rattle.place.specs.declared.Placing.{Placing}
 use Rattle.place.specs.Walk.{spot, Stops}
-use Rattle.listing.specs.Rows.{recordRow, endRow}
+use Rattle.count.specs.Tally.{recordLines}
+use Rattle.place.specs.Due as Place
+use Rattle.listing.specs.Rows.{nextOf, replyOf, groupOf, filledGroups, recordRow, endRow}
 use Rattle.listing.specs.Records.{recordsIn}
 
 -- the line of the record at the k-th spot, whose number is one more: spots count from 0
@@ -49,14 +51,36 @@ listedReply NoRoom = replyPlain 11
 
 -- the rows of the question
 abbrev pub listingRows : List Row
-listingRows = row 0 (written ∷ []) ∷ row 11 [] ∷ []
+listingRows = row 0 (textBytes ∷ []) ∷ row 11 [] ∷ []
 
--- ---- as a statement: x is the listing of a text, a line for each record of its walk and then that of where it stops
+-- ---- as a statement
+
+-- the numbers of the line of record k, from 0: its number, its place, and of what is due there the next place, the reply and the blamed group;
+-- of its counts the groups with a nonzero one, and the lines
+pub record IsRow (s : List ℕ) (k : ℕ) (row : List ℕ) : Type 0 where
+  pub placing : Placing
+  pub placed : Place.Due s (spot s k) placing
+  pub counts : List ℕ
+  pub counted : Place.CountsDue s (spot s k) counts
+  pub numbers : row ≡ suc k ∷ spot s k ∷ nextOf placing ∷ replyOf placing ∷ groupOf placing ∷ filledGroups counts ∷ recordLines counts ∷ []
+
+-- those of the line `end`: the records listed, the place where the walk stopped, the reply there and the group given with it
+pub record IsEnd (s : List ℕ) (many : ℕ) (row : List ℕ) : Type 0 where
+  pub placing : Placing
+  pub placed : Place.Due s (spot s many) placing
+  pub numbers : row ≡ many ∷ spot s many ∷ replyOf placing ∷ groupOf placing ∷ []
+
+-- x is the listing of a text: a line for each record of its walk, and then the line `end`
 pub record IsListing (s x : List ℕ) : Type 0 where
   pub many : ℕ
   pub answer : Placing
   pub stops : Stops s many answer
-  pub lines : x ≡ listingOf s many
+  pub rows : List (List ℕ)
+  pub as-many : length rows ≡ many
+  pub each : (k : ℕ) → k < many → IsRow s k (getD rows k [])
+  pub last : List ℕ
+  pub end : IsEnd s many last
+  pub text : x ≡ flatMap rowText rows ++ (bytes "end " ++ rowText last)
 
 -- 0 with its bytes where they have room, else 11
 abbrev pub ListingDue : List ℕ → ℕ → Put → Type 0

@@ -3,11 +3,12 @@
 use mathlib.Core.Path.{_≡_, refl, sym, ap, subst}
 use mathlib.Core.Bool.{true, false}
 use mathlib.Core.List.{List}
-use mathlib.Core.Logic.{_↔_}
+use mathlib.Core.Logic.{_↔_, inl, inr, ⊎-elim}
 use Prim.Native.Nat.{ℕ}
 use native.Mathlib.Omega.{arith}
-use lib.Dec.{T}
-use Rattle.base.proofs.Choice.{true-T, T-true}
+use borrow.Author.Tests.{eqb-true}
+use lib.Dec.{T, eqb}
+use Rattle.base.proofs.Choice.{true-T, T-true, or-elim}
 use Rattle.count.specs.Rules.{rulingOf}
 use Rattle.count.specs.declared.Ruling.{Ruling}
 use Rattle.count.specs.declared.Ruling.the-variants.{Kept, Broken}
@@ -61,14 +62,23 @@ module _ (s : List ℕ) (at : ℕ) where
       by (located n ns) f e = let q = ruled-placed n (rulingOf ns) in let z : _≡_ {A = ℕ} 0 1 = cc in absurd (omega arith)
       by (refused p) f e = refl
 
-  pub placed-record : PlacedAt s at ↔ IsRecord s at
-  unfolding placingOf
-  placed-record = (to, back)
-    where
-      to : T (isPlaced (number (placingBy (locate s at)))) → IsRecord s at
-      to z =
-          let e = placed-goes (T-true (isPlaced (number (placingBy (locate s at)))) z) in
-          record { next = next (placingOf s at); ns = countsAt s at; is = e }
+  -- the test passes exactly where a record is placed
+  pub placed-test : PlacedAt s at ↔ (isPlaced (number (placingOf s at)) ≡ true)
+  placed-test = (
+    λ p. ⊎-elim (λ (e : number (placingOf s at) ≡ 0). rw e refl) (λ (e : number (placingOf s at) ≡ 7). rw e refl) p,
+    λ t.
+        ⊎-elim
+        (λ (e : T (eqb (number (placingOf s at)) 0)). inl (eqb-true (number (placingOf s at)) 0 (T-true (eqb (number (placingOf s at)) 0) e)))
+        (λ (e : T (eqb (number (placingOf s at)) 7)). inr (eqb-true (number (placingOf s at)) 7 (T-true (eqb (number (placingOf s at)) 7) e)))
+        (or-elim (eqb (number (placingOf s at)) 0) (eqb (number (placingOf s at)) 7) (true-T (isPlaced (number (placingOf s at))) t)),
+  )
 
-      back : IsRecord s at → T (isPlaced (number (placingBy (locate s at))))
-      back r = subst (λ l. T (isPlaced (number (placingBy l)))) (sym (r .is)) (true-T (isPlaced (number (ruledAt (r .next) (rulingOf (r .ns))))) (ruled-placed (r .next) (rulingOf (r .ns))))
+  record-placed : IsRecord s at → isPlaced (number (placingOf s at)) ≡ true
+  unfolding placingOf
+  record-placed r = subst (λ l. isPlaced (number (placingBy l)) ≡ true) (sym (r .is)) (ruled-placed (r .next) (rulingOf (r .ns)))
+
+  pub placed-record : PlacedAt s at ↔ IsRecord s at
+  placed-record = (
+    λ p. record { next = next (placingOf s at); ns = countsAt s at; is = placed-goes (placed-test .0 p) },
+    λ r. placed-test .1 (record-placed r),
+  )

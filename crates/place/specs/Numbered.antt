@@ -31,6 +31,6 @@ placingRows =
     ∷ row 7 (group ∷ next ∷ [])
     ∷ []
 
--- "A record is placed where the reply is 0 or 7."
+-- the test of a reply's number for what `PlacedAt` of Walk says: 0 or 7
 abbrev pub isPlaced : ℕ → Bool
 isPlaced number = eqb number 0 || eqb number 7

@@ -1,14 +1,14 @@
 -- "A record is placed where the reply is 0 or 7; a walk goes on from its next place, and stops at any other reply."
 use mathlib.Core.Path.{_≡_}
 use mathlib.Core.List.{List}
+use mathlib.Core.Logic.{_⊎_}
 use Prim.Native.Nat.{ℕ, zero, suc, _<_}
-use lib.Dec.{T}
 use Rattle.place.specs.declared.Placing.{Placing}
-use Rattle.place.specs.Numbered.{placingReply, isPlaced}
+use Rattle.place.specs.Numbered.{placingReply}
 use Rattle.place.specs.Placing.{Located, located, refused, locate, placingOf}
 
 abbrev pub PlacedAt : List ℕ → ℕ → Type 0
-PlacedAt s at = T (isPlaced (placingReply (placingOf s at) .number))
+PlacedAt s at = (placingReply (placingOf s at) .number ≡ 0) ⊎ (placingReply (placingOf s at) .number ≡ 7)
 
 abbrev pub onward : ℕ → Located → ℕ
 onward at (located n ns) = n

@@ -22,7 +22,7 @@ use Rattle.form.specs.Count
 use Rattle.form.specs.Count.{elementsOf, linesOf, cellsOf}
 use Rattle.form.proofs.Rounding.{rounded-none}
 use Rattle.reply.specs.Table.{Numbered}
-use Rattle.reply.proofs.Replies.{fills-plain, fills-on, fills-done, fills-line, fills-element, fills-date, at-row}
+use Rattle.reply.proofs.Replies.{fills-plain, fills-on, fills-cells, fills-line, fills-element, fills-date, at-row}
 use Rattle.base.specs.Sign.{sizeOf}
 use Rattle.count.proofs.Rulings.{broken-group}
 use Rattle.date.proofs.Due.{blamed-position}
@@ -58,7 +58,7 @@ refusal-numbered ns g x room (BadField l e) d =
 refusal-numbered ns g x room (BadDate p) d = at-row 12 readingRows (refusalReply (BadDate p)) (lit< tt) (fills-date p (blamed-position (map sizeOf (d .cs)) p (d .wrong)))
 
 pub cells-numbered : (ns : List ℕ) (g : ℕ) (x : List ℕ) (room : ℕ) (c : Cells) → Due ns g x room c → Numbered readingRows (readingReply (readingOf c))
-cells-numbered ns g x room (done cs) d = at-row 0 readingRows (readingReply (Done (length cs))) (lit< tt) (fills-done (length cs))
+cells-numbered ns g x room (done cs) d = at-row 0 readingRows (readingReply (Done (length cs))) (lit< tt) (fills-cells (length cs))
 cells-numbered ns g x room (bad r) d = refusal-numbered ns g x room r d
 
 -- ---- the table

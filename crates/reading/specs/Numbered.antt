@@ -1,7 +1,7 @@
 -- Each answer's number in 01's table of replies, with the numbers given besides.
 use Rattle.reply.specs.declared.Reply.{Reply}
 use mathlib.Core.List.{List, [], _∷_, _++_}
-use Rattle.reply.specs.Table.{replyOn, replyPlain, replyDone, replyLine, replyDate, Row, row, written, askedRefusals, lineRefusals, dateRefusal}
+use Rattle.reply.specs.Table.{replyOn, replyPlain, replyDone, replyLine, replyDate, Row, row, cells, askedRefusals, lineRefusals, dateRefusal}
 use Rattle.reading.specs.declared.Refusal.{Refusal}
 use Rattle.reading.specs.declared.Refusal.the-variants.{NoGroup, End, Beyond, TooFewLines, Misformed, OtherRelease, FilledVacant, BrokenRule, NoRoom, BadLine, BadField, BadDate}
 use Rattle.reading.specs.declared.Reading.{Reading}
@@ -27,4 +27,4 @@ readingReply (Refused r) = refusalReply r
 
 -- the rows of reading a group: "12, then any placing reply but 0, then 11, then line by line 8 and that line's fields 9, then 10 for group 3"
 abbrev pub readingRows : List Row
-readingRows = row 0 (written ∷ []) ∷ (askedRefusals ++ (row 11 [] ∷ (lineRefusals ++ (dateRefusal ∷ []))))
+readingRows = row 0 (cells ∷ []) ∷ (askedRefusals ++ (row 11 [] ∷ (lineRefusals ++ (dateRefusal ∷ []))))

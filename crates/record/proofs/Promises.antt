@@ -3,7 +3,7 @@
 -- Assumes nothing.
 use mathlib.Core.Path.{_≡_, refl, sym, _∙_, ap}
 use mathlib.Core.List.{List}
-use Prim.Native.Nat.{ℕ}
+use Prim.Native.Nat.{ℕ, _≤_}
 use native.Mathlib.Nat.{zero-add}
 use native.Mathlib.Omega.{arith}
 use lib.Dec.{lit<}
@@ -11,13 +11,13 @@ use lib.IntN.{ℤ}
 use lib.ListN.{length, take, drop}
 use lib.Seq.{drop-at, take-at}
 use Rattle.reply.specs.Table.{Numbered}
-use Rattle.reply.proofs.Replies.{fills-plain, fills-on, fills-done, fills-field, fills-date, at-row}
+use Rattle.reply.proofs.Replies.{fills-plain, fills-on, fills-bytes, fills-field, fills-date, at-row}
 use Rattle.form.proofs.Table.{form-range}
 use Rattle.count.proofs.Rulings.{broken-group}
 use Rattle.date.proofs.Due.{blamed-position}
 use Rattle.record.specs.declared.Writing.{Writing}
 use Rattle.record.specs.declared.Writing.the-variants.{Done, Misformed, OtherRelease, FilledVacant, BrokenRule, OtherLength, NoField, BadDate, NoRoom}
-use Rattle.record.specs.Text.{recordText}
+use Rattle.record.specs.Text.{recordText, recordBytes}
 use Rattle.record.specs.Writing.{dateLetters, writingOf, outputBy, writingReply, writingRows}
 use Rattle.record.specs.Due.{Due}
 use Rattle.record.proofs.Due.{first-due}
@@ -26,9 +26,13 @@ use Rattle.record.proofs.Lengths.{record-length}
 
 -- ---- numbered
 
+pub record-some : (ns : List ℕ) → 244 ≤ recordBytes ns
+unfolding recordBytes
+record-some ns = omega arith
+
 module _ (ns : List ℕ) (cs : List ℤ) (room : ℕ) where
   due-numbered : (w : Writing) → Due ns cs room w → Numbered writingRows (writingReply w)
-  due-numbered (Done n) d = at-row 0 writingRows (writingReply (Done n)) (lit< tt) (fills-done n)
+  due-numbered (Done n) d = at-row 0 writingRows (writingReply (Done n)) (lit< tt) (fills-bytes n (omega (arith, d .bytes, record-some ns)))
   due-numbered Misformed d = at-row 1 writingRows (writingReply Misformed) (lit< tt) (fills-plain 4)
   due-numbered OtherRelease d = at-row 2 writingRows (writingReply OtherRelease) (lit< tt) (fills-plain 5)
   due-numbered (FilledVacant g) d = at-row 3 writingRows (writingReply (FilledVacant g)) (lit< tt) (fills-on 6 g (omega (arith, d .release .low)))

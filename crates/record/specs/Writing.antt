@@ -10,7 +10,7 @@ use Rattle.base.specs.Part.{part, over}
 use Rattle.base.specs.Sign.{sizeOf}
 use Rattle.count.specs.Check.{checkedOf}
 use Rattle.reply.specs.declared.Reply.{Reply}
-use Rattle.reply.specs.Table.{replyOn, replyPlain, replyDone, replyField, replyDate, Row, row, written, group, element, dateRefusal}
+use Rattle.reply.specs.Table.{replyOn, replyPlain, replyDone, replyField, replyDate, Row, row, bytes, group, element, dateRefusal}
 use Rattle.count.specs.Reply.{checkRefusals}
 use Rattle.count.specs.Tally.{cellsBefore}
 use Rattle.count.specs.declared.Checked.{Checked}
@@ -82,4 +82,4 @@ writingReply NoRoom = replyPlain 11
 
 -- the rows of writing: "4, 5, 6, 7, 14, 13 (lowest group, then lowest element), 10, 11"
 abbrev pub writingRows : List Row
-writingRows = row 0 (written ∷ []) ∷ (checkRefusals ++ (row 13 (group ∷ element ∷ []) ∷ dateRefusal ∷ row 11 [] ∷ []))
+writingRows = row 0 (bytes ∷ []) ∷ (checkRefusals ++ (row 13 (group ∷ element ∷ []) ∷ dateRefusal ∷ row 11 [] ∷ []))

@@ -13,7 +13,7 @@ use Rattle.reply.specs.declared.Reply.{Reply}
 use Rattle.reply.specs.declared.Refusal.{Refusal}
 use Rattle.reply.specs.declared.Refusal.the-variants.{End, Beyond, TooFewLines, Misformed, OtherRelease, FilledVacant, BrokenRule, BadLine, BadField, BadDate, NoRoom, NoSuchNumber, NoField, OtherLength}
 use Rattle.reply.specs.Refusals.{refusalReply, FromOne}
-use Rattle.reply.specs.Table.{rowAt, rowsOf, Row, row, numbers, replyAt, replyOn, replyPlain, replyDone, Fills, Numbered, next, written, group}
+use Rattle.reply.specs.Table.{rowAt, rowsOf, Row, row, numbers, replyAt, replyOn, replyPlain, replyDone, Fills, Numbered, next, cells, bytes, group}
 
 pub fills-plain : (k : ℕ) → Fills (row k []) (replyPlain k)
 fills-plain k =
@@ -31,13 +31,18 @@ pub fills-at : (k n g : ℕ) → 1 ≤ n → 1 ≤ g → Fills (row k (group ∷
 fills-at k n g h j =
     record { numbered = refl; with-next = h; with-written = refl; with-group = j; with-line = refl; with-element = refl; with-position = refl }
 
-pub fills-done : (n : ℕ) → Fills (row 0 (written ∷ [])) (replyDone n)
-fills-done n =
+-- a group may have no cells, but no text is empty
+pub fills-cells : (n : ℕ) → Fills (row 0 (cells ∷ [])) (replyDone n)
+fills-cells n =
     record { numbered = refl; with-next = refl; with-written = omega arith; with-group = refl; with-line = refl; with-element = refl; with-position = refl }
 
-pub fills-both : (n m : ℕ) → 1 ≤ n → Fills (row 0 (next ∷ written ∷ [])) (numbers 0 n m 0 0 0 0)
-fills-both n m h =
-    record { numbered = refl; with-next = h; with-written = omega arith; with-group = refl; with-line = refl; with-element = refl; with-position = refl }
+pub fills-bytes : (n : ℕ) → 1 ≤ n → Fills (row 0 (bytes ∷ [])) (replyDone n)
+fills-bytes n h =
+    record { numbered = refl; with-next = refl; with-written = h; with-group = refl; with-line = refl; with-element = refl; with-position = refl }
+
+pub fills-both : (n m : ℕ) → 1 ≤ n → 1 ≤ m → Fills (row 0 (next ∷ bytes ∷ [])) (numbers 0 n m 0 0 0 0)
+fills-both n m h j =
+    record { numbered = refl; with-next = h; with-written = j; with-group = refl; with-line = refl; with-element = refl; with-position = refl }
 
 -- a refusal whose numbers count from 1 fills its row
 pub refusal-fills : (r : Refusal) → FromOne r → Fills (rowAt (refusalReply r .number)) (refusalReply r)

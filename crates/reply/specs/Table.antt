@@ -1,7 +1,7 @@
 -- 01's table of replies: each reply's number, with the numbers given besides. "Numbers not named in a row are 0." Each question has a table
 -- of its own, with the rows that it can give; `Numbered` says that a reply is one of these.
 use mathlib.Core.Path.{_≡_}
-use mathlib.Core.Bool.{Bool, true, false}
+use mathlib.Core.Bool.{Bool, true, false, cond, _||_}
 use mathlib.Core.List.{List, [], _∷_, map}
 use mathlib.Core.Logic.{_⊎_}
 use Prim.Native.Nat.{ℕ, _≤_}
@@ -43,7 +43,7 @@ replyDate position = numbers 10 0 0 0 0 0 position
 
 -- the numbers that may stand beside a reply's own
 pub data Beside : Type 0 where
-  next written group line element position : Beside
+  next cells bytes group line element position : Beside
 
 -- a row of a question's table: a reply's number, and what is given besides
 pub record Row : Type 0 where
@@ -55,11 +55,12 @@ row number besides = record { number = number; besides = besides }
 
 abbrev code : Beside → ℕ
 code next = 0
-code written = 1
-code group = 2
-code line = 3
-code element = 4
-code position = 5
+code cells = 1
+code bytes = 2
+code group = 3
+code line = 4
+code element = 5
+code position = 6
 
 abbrev pub names : Row → Beside → Bool
 names w b = has (map code (w .besides)) (code b)
@@ -69,11 +70,12 @@ abbrev pub Shown : Bool → ℕ → ℕ → Type 0
 Shown true least n = least ≤ n
 Shown false least n = n ≡ 0
 
--- "Lines and elements count from 1", and so do groups and positions; a next place is behind something; what was written may be nothing
+-- "Lines and elements count from 1", and so do groups and positions; a next place is behind something, and no text is empty; a group may have
+-- no cells
 pub record Fills (w : Row) (r : Reply) : Type 0 where
   pub numbered : r .number ≡ w .number
   pub with-next : Shown (names w next) 1 (r .next)
-  pub with-written : Shown (names w written) 0 (r .written)
+  pub with-written : Shown (names w cells || names w bytes) (cond (names w bytes) 1 0) (r .written)
   pub with-group : Shown (names w group) 1 (r .group)
   pub with-line : Shown (names w line) 1 (r .line)
   pub with-element : Shown (names w element) 1 (r .element)

@@ -43,6 +43,7 @@ use Rattle.group.proofs.Texts.{read-located}
 use Rattle.record.specs.declared.Writing.the-variants as W
 use Rattle.record.specs.Text.{recordBytes}
 use Rattle.record.specs.Writing.{writingOf}
+use Rattle.record.proofs.Promises.{record-some}
 use Rattle.record.proofs.ReadsBack.{done-bytes, output-bytes}
 use Rattle.rewriting.specs.declared.Groups.the-variants.{All}
 use Rattle.rewriting.specs.declared.Rewriting.{Rewriting}
@@ -197,7 +198,7 @@ module _ (s : List ℕ) (at cells room : ℕ) where
   missing-numbered (P.BrokenRule h n) d never = at-row 7 rewritingRows (refusalReply (BrokenRule h)) (lit< tt) (fills-on 7 h (broken-group (d .ns) (d .broken) .0))
 
   due-numbered : (r : Rewriting) → Due s at cells room r → rewritingOf s at cells room ≡ r → Numbered rewritingRows (rewritingReply r)
-  due-numbered (Done bytes next) d e = at-row 0 rewritingRows (rewritingReply (Done bytes next)) (lit< tt) (fills-both next bytes (omega (arith, done-further s at cells room bytes next e)))
+  due-numbered (Done bytes next) d e = at-row 0 rewritingRows (rewritingReply (Done bytes next)) (lit< tt) (fills-both next bytes (omega (arith, done-further s at cells room bytes next e)) (omega (arith, d .written, record-some (countsAt s at))))
   due-numbered (Missing r) d e =
       subst (λ q. Numbered rewritingRows (refusalReply q)) (d .told) (missing-numbered (d .placing) (Placing.first-due s at (d .placing) .0 (d .placed)) (d .other))
   due-numbered NoRoom d e = at-row 8 rewritingRows (rewritingReply NoRoom) (lit< tt) (fills-plain 11)

@@ -25,18 +25,20 @@ use Rattle.rewriting.specs.declared.Rewriting.{Rewriting}
 use Rattle.rewriting.specs.declared.Rewriting.the-variants as R
 use Rattle.rewriting.specs.Numbered.{rewritingReply}
 use Rattle.rewriting.specs.Record.{rewritingOf, bufferBy}
-use Rattle.rewriting.proofs.Promises.{rewriting-numbered, unread-group, refused-rewriting-keeps, done-keeps-rest, table-has}
+use Rattle.rewriting.proofs.Promises.{rewriting-numbered, unread-group, refused-rewriting-keeps, done-keeps-rest}
+use Rattle.sao.proofs.Numbers.{answers-told}
 use Rattle.sao.specs.Demand1.{Refused, EndsNumbered, RefusedWriteKeeps, KeepsRest, Demand1}
 
 ends-numbered : EndsNumbered
 ends-numbered =
     record {
+      told = answers-told;
       placing = placing-numbered;
       reading = reading-numbered;
       lines = found-numbered;
       characteristic = characteristic-numbered;
       writing = writing-numbered;
-      listed = λ s out. listed-numbered (putAnswer 0 (listing s) out);
+      listed = listed-numbered;
       rewriting = rewriting-numbered;
       unread = unread-group;
     }
@@ -88,7 +90,6 @@ keeps-rest =
       writing = λ ns cs out. write-rest ns cs out (writingOf ns cs (length out)) refl;
       listed = λ s out. list-rest s out (putAnswer 0 (listing s) out) refl;
       rewriting = λ s at cells out. rewrite-rest s at cells out (rewritingOf s at cells (length out)) refl;
-      rewriting-table = λ s at room table. table-has s at table (length table) room (rewritingOf s at (length table) room) refl;
     }
 
 pub demand-1 : Demand1

@@ -1,6 +1,6 @@
 -- The second demand (specs/Demand2.antt).
 -- Assumes nothing.
-use mathlib.Core.Path.{_≡_, sym, subst}
+use mathlib.Core.Path.{_≡_, refl, sym, subst}
 use mathlib.Core.List.{List}
 use Prim.Native.Nat.{ℕ}
 use lib.IntN.{ℤ}
@@ -23,12 +23,12 @@ use Rattle.listing.proofs.Replies as Listed
 use Rattle.rewriting.specs.declared.Rewriting.the-variants.{Done as Rewritten}
 use Rattle.rewriting.specs.Record.{cellsAt, textAt, rewritingOf, bufferBy}
 use Rattle.rewriting.proofs.Due as RewritingDue
-use Rattle.rewriting.proofs.Promises.{done-all, done-writes, done-text, done-front}
+use Rattle.rewriting.proofs.Promises.{done-all, done-writes, done-text, done-front, table-has}
 use Rattle.rewriting.proofs.Whole.{whole-read, whole-joined}
 use Rattle.rewriting.proofs.Canonical.{canonical-printed, printed-canonical, printed-again}
 use Rattle.sao.specs.Demand2.{GivenAsDue, Rewrites, LentHolds, OneCanonical, Demand2}
 
-as-due : GivenAsDue
+pub as-due : GivenAsDue
 as-due =
     record {
       placing = λ s at. PlacingDue.first-due s at;
@@ -65,6 +65,7 @@ lent-holds =
       writing = λ ns cs out n e. rw e (done-write-begins ns cs out n e);
       listed = λ s out n e. Listed.listed-begins (listing s) out n e;
       rewriting = λ s at cells out bytes next e. rw e (rewrites s at cells out bytes next e);
+      rewriting-table = λ s at room table. table-has s at table (length table) room (rewritingOf s at (length table) room) refl;
     }
 
 one-canonical : (ns : List ℕ) (cs : List ℤ) (room n : ℕ) → writingOf ns cs room ≡ Done n → OneCanonical ns cs n

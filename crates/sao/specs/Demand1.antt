@@ -22,10 +22,10 @@ use Rattle.group.specs.Held.{foundAt, foundReply, foundRows}
 use Rattle.group.specs.Characteristics.{characteristicAt, characteristicReply, characteristicRows}
 use Rattle.listing.specs.Listing.{listing, listedReply, listingRows}
 use Rattle.record.specs.Writing.{writingOf, outputBy, writingReply, writingRows}
-use Rattle.rewriting.specs.Record.{rewritingOf, bufferBy, tableBy as tableAfter}
+use Rattle.rewriting.specs.Record.{rewritingOf, bufferBy}
 use Rattle.rewriting.specs.declared.Rewriting.the-variants.{Unread}
-use Rattle.rewriting.specs.Due.{TableHas, groupsRead}
 use Rattle.rewriting.specs.Numbered.{rewritingReply, rewritingRows}
+use Rattle.sao.specs.Numbers.{AnswersTold}
 
 -- done is 0, refused is anything else
 abbrev pub Refused : Reply → Type 0
@@ -33,6 +33,8 @@ Refused r = r .number ≡ 0 → ⊥
 
 -- "one of the numbered replies": a row of the question's own table, with each number that the row names and 0 for the others
 pub record EndsNumbered : Type 0 where
+  -- which number each answer has, in figures
+  pub told : AnswersTold
   pub placing : (s : List ℕ) (at : ℕ) → Numbered placingRows (placingReply (placingOf s at))
   pub reading : (s : List ℕ) (at g room : ℕ) → Numbered readingRows (readingReply (readingOf (readAt s at g room)))
   pub lines : (s : List ℕ) (at g : ℕ) → Numbered foundRows (foundReply (foundAt s at g))
@@ -60,8 +62,6 @@ pub record KeepsRest : Type 0 where
   pub writing : (ns : List ℕ) (cs : List ℤ) (out : List ℕ) → drop (writingReply (writingOf ns cs (length out)) .written) (outputBy ns cs (writingOf ns cs (length out)) out) ≡ drop (writingReply (writingOf ns cs (length out)) .written) out
   pub listed : (s out : List ℕ) → drop (listedReply (putAnswer 0 (listing s) out) .written) (putBytes 0 (listing s) out) ≡ drop (listedReply (putAnswer 0 (listing s) out) .written) out
   pub rewriting : (s : List ℕ) (at cells : ℕ) (out : List ℕ) → drop (rewritingReply (rewritingOf s at cells (length out)) .written) (bufferBy s at (rewritingOf s at cells (length out)) out) ≡ drop (rewritingReply (rewritingOf s at cells (length out)) .written) out
-  -- rewriting is lent a table too: it begins with the cells of the groups that were read, and is as it was behind them
-  pub rewriting-table : (s : List ℕ) (at room : ℕ) (table : List ℤ) → TableHas s at (groupsRead (rewritingOf s at (length table) room)) table (tableAfter s at (rewritingOf s at (length table) room) table)
 
 pub record Demand1 : Type 0 where
   pub numbered : EndsNumbered

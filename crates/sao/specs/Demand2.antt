@@ -36,8 +36,9 @@ use Rattle.rewriting.specs.declared.Rewriting.{Rewriting}
 use Rattle.rewriting.specs.declared.Rewriting.the-variants.{Done as Rewritten}
 use Rattle.rewriting.specs.Canonical.{CanonicalRecords}
 use Rattle.rewriting.specs.Due as RewritingIs
+use Rattle.rewriting.specs.Due.{TableHas, groupsRead}
 use Rattle.rewriting.specs.Printed.{printed}
-use Rattle.rewriting.specs.Record.{rewritingOf, bufferBy}
+use Rattle.rewriting.specs.Record.{rewritingOf, bufferBy, tableBy as tableAfter}
 
 -- "Reading gives the values that the description gives to that text, and refuses with the first reply due under 01's order": every answer is
 -- given exactly if it is due. Where a Due cites another answer (the placing, the counts, what a group reads as), that answer's own Due is a
@@ -59,7 +60,7 @@ pub record GivenAsDue : Type 0 where
   pub listed : (s out : List ℕ) (r : Put) → putAnswer 0 (listing s) out ≡ r ↔ ListingDue (listing s) (length out) r
   pub listing-is : (s x : List ℕ) → listing s ≡ x ↔ IsListing s x
 
--- what is lent holds what the answer says: under 0 the table's first cells are the cells read, and the output's first bytes the text
+-- what rewriting's buffer holds under 0: the canonical text of the counts and of what every group read as
 pub record Rewrites (s : List ℕ) (at bytes next : ℕ) (buffer : List ℕ) : Type 0 where
   pub cells : ℕ → List ℤ
   pub read : ReadWhole s at next cells
@@ -68,11 +69,14 @@ pub record Rewrites (s : List ℕ) (at bytes next : ℕ) (buffer : List ℕ) : T
   pub long : length text ≡ bytes
   pub front : take bytes buffer ≡ text
 
+-- what is lent holds what the answer says: under 0 the table's first cells are the cells read, and the output's first bytes the text
 pub record LentHolds : Type 0 where
   pub reading : (s : List ℕ) (at g : ℕ) (table cs : List ℤ) → readAt s at g (length table) ≡ done cs → take (length cs) (tableBy (readAt s at g (length table)) table) ≡ cs
   pub writing : (ns : List ℕ) (cs : List ℤ) (out : List ℕ) (n : ℕ) → writingOf ns cs (length out) ≡ Done n → take n (outputBy ns cs (writingOf ns cs (length out)) out) ≡ recordText ns cs
   pub listed : (s out : List ℕ) (n : ℕ) → putAnswer 0 (listing s) out ≡ Next n → take n (putBytes 0 (listing s) out) ≡ listing s
   pub rewriting : (s : List ℕ) (at cells : ℕ) (out : List ℕ) (bytes next : ℕ) → rewritingOf s at cells (length out) ≡ Rewritten bytes next → Rewrites s at bytes next (bufferBy s at (rewritingOf s at cells (length out)) out)
+  -- rewriting's table begins with the cells of the groups that were read, also where a later group was refused, and is as it was behind them
+  pub rewriting-table : (s : List ℕ) (at room : ℕ) (table : List ℤ) → TableHas s at (groupsRead (rewritingOf s at (length table) room)) table (tableAfter s at (rewritingOf s at (length table) room) table)
 
 -- "Writing gives the one canonical text of the same values": n bytes, canonical with these counts and cells, and no other text is
 pub record OneCanonical (ns : List ℕ) (cs : List ℤ) (n : ℕ) : Type 0 where

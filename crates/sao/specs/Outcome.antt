@@ -16,3 +16,7 @@ module _ (T : Ended) where
 
   abbrev pub OneOutcome : Contract → Type 0
   OneOutcome learnt = OneUpTo (λ κs x y. x ≡ y) learnt
+
+  -- whatever outcome the contract allows is as `says`, of what was asked, the answer and the last values
+  abbrev pub Gives : Contract → ((κs : Lfts (T .signature .lifetimes)) (a : Args (T .signature) κs) → Res (T .signature) κs → Lasts T κs a → Type 0) → Type 0
+  Gives learnt says = (κs : Lfts (T .signature .lifetimes)) (a : Args (T .signature) κs) (x : Res (T .signature) κs) (v : Lasts T κs a) → learnt κs a x (atExit T κs a v) → says κs a x v

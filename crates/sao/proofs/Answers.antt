@@ -1,0 +1,66 @@
+-- What a caller learns of each question is what is due: the contracts themselves (`Learnt`) are tied to the demands, so that no contract can
+-- speak of another text, place, number or table than the one asked about.
+-- Assumes nothing.
+use mathlib.Core.Path.{_≡_, refl, sym, _∙_, ap}
+use mathlib.Core.List.{List}
+use Prim.Native.Nat.{ℕ, _+_}
+use denote.Ref.{now}
+use lib.ListN.{length}
+use Rattle.decimal.specs.Writing.{putBytes}
+use Rattle.place.specs.Due as PlacingIs
+use Rattle.group.specs.Due as GroupIs
+use Rattle.group.specs.Held.{moved, partStart, partAt}
+use Rattle.group.specs.Text.{readAt}
+use Rattle.reading.specs.Read.{Cells, readingOf, tableBy}
+use Rattle.record.specs.Due as WritingIs
+use Rattle.record.specs.Writing.{outputBy}
+use Rattle.rewriting.specs.Due as RewritingIs
+use Rattle.rewriting.specs.Record.{tableBy as tableAfter, bufferBy}
+use Rattle.listing.specs.Listing.{listing, IsListing, ListingDue}
+use Rattle.sao.specs.Outcome.{Gives}
+use Rattle.sao.proofs.Demand2.{as-due}
+use Rattle.sao.proofs.place
+use Rattle.sao.proofs.read_group
+use Rattle.sao.proofs.group_lines_at
+use Rattle.sao.proofs.group_lines
+use Rattle.sao.proofs.characteristic
+use Rattle.sao.proofs.write_record
+use Rattle.sao.proofs.list
+use Rattle.sao.proofs.rewrite_record
+
+pub place-due : Gives place.ended place.Reads.Learnt (λ κs a r v. PlacingIs.Due (now (a .0)) (a .1 .0) (r .answer) × PlacingIs.CountsDue (now (a .0)) (a .1 .0) (r .counts))
+place-due κs (text, (at, _)) r v l = (as-due .placing (now text) at (r .answer) .0 (sym (l .0)), as-due .counts (now text) at (r .counts) .0 (sym (l .1)))
+
+-- the cells that are due, told and in the table
+pub read-group-due : Gives read_group.ended read_group.Reads.Learnt (λ κs a r v. (c : Cells) × GroupIs.Due (now (a .0)) (a .1 .0) (a .1 .1 .0) (length (now (a .1 .1 .1 .0))) c × (r ≡ readingOf c) × (v .1 .1 .1 .0 ≡ tableBy c (now (a .1 .1 .1 .0))))
+read-group-due κs (text, (at, (g, (table, _)))) r v l =
+    let c = readAt (now text) at g (length (now table)) in
+    (c, as-due .reading (now text) at g (length (now table)) c .0 refl, l .0, l .1)
+
+-- where the lines stand
+pub group-lines-at-due : Gives group_lines_at.ended group_lines_at.Reads.Learnt (λ κs a r v. GroupIs.FoundDue (now (a .0)) (a .1 .0) (a .1 .1 .0) (r .found) × ((x : List ℕ) × GroupIs.PartDue (now (a .0)) (a .1 .0) (a .1 .1 .0) (r .from) x × (r .to ≡ r .from + length x)))
+group-lines-at-due κs (text, (at, (g, _))) r v l =
+    let s = now text in (
+      as-due .lines s at g (r .found) .0 (sym (l .0)),
+      (partAt s at g, as-due .part s at g (r .from) (partAt s at g) .0 (sym (l .1), refl), l .2 ∙ as-due .part-end s at g ∙ ap (λ n. n + length (partAt s at g)) (sym (l .1))),
+    )
+
+-- the caller's own text there: `from` places behind its address
+pub group-lines-due : Gives group_lines.ended group_lines.Reads.Learnt (λ κs a r v. (from : ℕ) × GroupIs.PartDue (now (a .0)) (a .1 .0) (a .1 .1 .0) from (now r) × (r .ptr ≡ moved (a .0 .ptr) from))
+group-lines-due κs (text, (at, (g, _))) r v l =
+    let s = now text in
+    (partStart s at g, as-due .part s at g (partStart s at g) (now r) .0 (refl, sym (l .0)), l .1)
+
+pub characteristic-due : Gives characteristic.ended characteristic.Reads.Learnt (λ κs a r v. GroupIs.CharacteristicDue (now (a .0)) (a .1 .0) (a .1 .1 .0) r)
+characteristic-due κs (text, (at, (k, _))) r v l = as-due .characteristic (now text) at k r .0 (sym l)
+
+pub write-record-due : Gives write_record.ended write_record.Reads.Learnt (λ κs a r v. WritingIs.Due (now (a .0)) (now (a .1 .0)) (length (now (a .1 .1 .0))) r × (v .1 .1 .0 ≡ outputBy (now (a .0)) (now (a .1 .0)) r (now (a .1 .1 .0))))
+write-record-due κs (counts, (cells, (out, _))) r v l = (as-due .writing (now counts) (now cells) (length (now out)) r .0 (sym (l .0)), l .1)
+
+pub list-due : Gives list.ended list.Reads.Learnt (λ κs a r v. (x : List ℕ) × IsListing (now (a .0)) x × ListingDue x (length (now (a .1 .0))) r × (v .1 .0 ≡ putBytes 0 x (now (a .1 .0))))
+list-due κs (text, (out, _)) r v l =
+    let x = listing (now text) in
+    (x, as-due .listing-is (now text) x .0 refl, as-due .listed (now text) (now out) r .0 (sym (l .answer)), l .bytes)
+
+pub rewrite-record-due : Gives rewrite_record.ended rewrite_record.Reads.Learnt (λ κs a r v. RewritingIs.Due (now (a .0)) (a .1 .0) (length (now (a .1 .1 .0))) (length (now (a .1 .1 .1 .0))) r × (v .1 .1 .0 ≡ tableAfter (now (a .0)) (a .1 .0) r (now (a .1 .1 .0))) × (v .1 .1 .1 .0 ≡ bufferBy (now (a .0)) (a .1 .0) r (now (a .1 .1 .1 .0))))
+rewrite-record-due κs (text, (at, (table, (out, _)))) r v l = (as-due .rewriting (now text) at (length (now table)) (length (now out)) r .0 (sym (l .0)), l .1, l .2)
