@@ -29,7 +29,7 @@ linesOf f count = roundedUp (elementsOf f count) (rowOf f .«per_line»)
 unfoldable pub cellsOf : Form → ℕ → ℕ
 cellsOf f count = elementsOf f count * rowOf f .cells
 
--- R44: what the lines before the last leave for it, all of which are full
+-- what the lines before the last leave for it: all but the last are full
 unfoldable pub lastOf : Form → ℕ → ℕ
 lastOf f count = elementsOf f count - (linesOf f count - 1) * rowOf f .«per_line»
 
@@ -40,7 +40,7 @@ pub record Takes (n p k : ℕ) : Type 0 where
   pub enough : n ≤ k * p
   pub needed : 0 < k → (k - 1) * p < n
 
--- R44: k lines, all full but the last, leave it 1 to p of n elements
+-- k lines, all full but the last, leave it 1 to p of n elements
 pub record Leaves (n p k last : ℕ) : Type 0 where
   pub low : 1 ≤ last
   pub high : last ≤ p

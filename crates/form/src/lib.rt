@@ -176,7 +176,7 @@ pub fn cells(form: Form, count: u16) -> usize
     n * row.cells
 }
 
-// R44: the elements on its last line; 0 where it has no line.
+// The elements on its last line; 0 where it has no line.
 pub fn last(form: Form, count: u16) -> usize
     ensures { λ r. ⌜ r ≡ lastOf form count ⌝ }
 {
