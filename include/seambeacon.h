@@ -30,7 +30,7 @@ enum seambeacon_reply {
     SEAMBEACON_MISFORMED = 4,       /* an index line or an entry is misformed; where counts are given, they are not 80 or one is above 999 */
     SEAMBEACON_OTHER_RELEASE = 5,   /* the release, number 80 of the index, is not 5 */
     SEAMBEACON_FILLED_VACANT = 6,   /* a group of 61 to 79 has a count: the lowest such group */
-    SEAMBEACON_BROKEN_RULE = 7,     /* a rule on counts is broken: the blamed group; in placing also the next place */
+    SEAMBEACON_BROKEN_RULE = 7,     /* a rule on counts is broken: the group blamed, and in placing the next place */
     SEAMBEACON_BAD_LINE = 8,        /* a line lacks its carriage return, has a wrong length, or other than blanks behind its fields: the line */
     SEAMBEACON_BAD_FIELD = 9,       /* a field is misformed: its line and its element */
     SEAMBEACON_BAD_DATE = 10,       /* the date in group 3 is wrong: the position blamed */
