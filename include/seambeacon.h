@@ -1,7 +1,7 @@
 /* Seambeacon: places, reads and writes SAO 4.3 records. Link target/staticlib/libboundary.a (`rt staticlib boundary`), x86-64.
 
-   Every function can be asked of every text, place, number, table and output, comes to an end, and returns one of the replies below. A caller
-   never has to check beforehand. Nothing is kept between two calls.
+   Whatever text, place, number, table and output a function is given, it ends and returns one of the replies below; nothing has to be checked
+   before a call. Nothing is kept between two calls. R with a number is a rule of docs/FORMAT.md.
 
    What a caller answers for:
    - A pointer with a length behind it is valid for that many of what it points to; with length 0 it is never followed and may be NULL. Any
@@ -21,23 +21,23 @@
 extern "C" {
 #endif
 
-/* The replies, each with the numbers that are given beside it. */
+/* The replies (reply n is R200 + n), each with the numbers that are given beside it. */
 enum seambeacon_reply {
     SEAMBEACON_DONE = 0,            /* done: the next place in placing and rewriting, the cells or bytes written in all that write */
     SEAMBEACON_END = 1,             /* the place is the text's end */
-    SEAMBEACON_BEYOND = 2,          /* the place lies beyond the text's end */
-    SEAMBEACON_TOO_FEW_LINES = 3,   /* fewer line feeds are left than the index lines or the data lines need */
-    SEAMBEACON_MISFORMED = 4,       /* an index line or entry is misformed; in writing, not 80 counts or a count above 999 */
+    SEAMBEACON_BEYOND = 2,          /* the place lies behind the text's end */
+    SEAMBEACON_TOO_FEW_LINES = 3,   /* from the place on there are fewer line feeds than the record has lines */
+    SEAMBEACON_MISFORMED = 4,       /* an index line or an entry is misformed; where counts are given, they are not 80 or one is above 999 */
     SEAMBEACON_OTHER_RELEASE = 5,   /* the release, number 80 of the index, is not 5 */
     SEAMBEACON_FILLED_VACANT = 6,   /* a group of 61 to 79 has a count: the lowest such group */
-    SEAMBEACON_BROKEN_RULE = 7,     /* a rule on counts is broken: the blamed group; in placing also the next place */
-    SEAMBEACON_BAD_LINE = 8,        /* no carriage return before the line feed, a wrong length, or other bytes than blanks behind: the line */
+    SEAMBEACON_BROKEN_RULE = 7,     /* a rule on counts is broken: the group blamed, and in placing the next place */
+    SEAMBEACON_BAD_LINE = 8,        /* a line lacks its carriage return, has a wrong length, or other than blanks behind its fields: the line */
     SEAMBEACON_BAD_FIELD = 9,       /* a field is misformed: its line and its element */
     SEAMBEACON_BAD_DATE = 10,       /* the date in group 3 is wrong: the position blamed */
-    SEAMBEACON_NO_ROOM = 11,        /* the table or the output is shorter than what would be filled */
-    SEAMBEACON_NO_SUCH_NUMBER = 12, /* there is no group 1 to 60, or no characteristic 1 to 49, of that number */
-    SEAMBEACON_NO_FIELD = 13,       /* in writing, a value fits no field of its form: its group and its element */
-    SEAMBEACON_OTHER_LENGTH = 14    /* in writing, the number of cells is not what the counts need */
+    SEAMBEACON_NO_ROOM = 11,        /* the table or the output is too short for what 0 would put there */
+    SEAMBEACON_NO_SUCH_NUMBER = 12, /* the number is no group (1 to 60), or no characteristic (1 to 49) */
+    SEAMBEACON_NO_FIELD = 13,       /* in writing, no field of its form reads as an element's cells: its group and its element */
+    SEAMBEACON_OTHER_LENGTH = 14    /* in writing, there are more or fewer cells than the counts ask for */
 };
 
 /* The numbers beside a reply. All six are written at every call, and those that the reply does not give are 0. */
@@ -88,8 +88,8 @@ size_t seambeacon_group_lines_reply(const uint8_t *text, size_t text_length, siz
 
 /* Asked: the lines of a group of the record at a place, with their line ends.
    Answered: the reply of seambeacon_group_lines_reply, and which part of the text holds them: part->length bytes from text + part->start on.
-   With count 0 it is the empty part where they would begin.
-   A refusal gives the empty part at the text's start. */
+   With count 0 the part is empty, and lies where the lines would be (R282).
+   A refusal gives the empty part at place 0 (R283). */
 size_t seambeacon_group_lines(const uint8_t *text, size_t text_length, size_t at, size_t group, struct seambeacon_part *part,
                               struct seambeacon_beside *beside);
 
@@ -105,8 +105,8 @@ size_t seambeacon_characteristic(const uint8_t *text, size_t text_length, size_t
 size_t seambeacon_write_record(const uint16_t *counts, size_t counts_length, const int64_t *cells, size_t cells_length, uint8_t *out,
                                size_t out_length, struct seambeacon_beside *beside);
 
-/* Asked: the listing of a text: a line for each placed record (record number, place, next place, reply, blamed group, groups with a count,
-   lines with the index), and last a line with `end`, records listed, the place where the walk stopped, the reply there, its group or 0.
+/* Asked: the listing of a text: a line of seven numbers for each record of the walk (R342), and last a line with `end` and four numbers, which
+   tell how many records there are and where and why the walk stopped (R343).
    Answered: 0 with the number of bytes, which stand in out from its first byte on; what stands behind them is kept. A text of any length is
    listed.
    A refusal (11) leaves the whole output as it was. */

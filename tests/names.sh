@@ -17,7 +17,7 @@ name=names
 . tests/cases
 . tests/words
 
-documents='docs/PROMISES.md docs/FORMAT.md'
+documents='docs/PROMISES.md docs/TRACE.md'
 # the records whose fields PROMISES.md names, each of them
 demands='crates/sao/specs/Demand*.antt crates/group/specs/Damage.antt'
 

@@ -1,4 +1,5 @@
-/* What is due here is what document 01 gives for record S and its neighbours. S has 305 bytes; groups 1, 3 and 4 stand at 244, 274 and 295. */
+/* What is due here is what the rules give for record S and its neighbours (R380 to R382, R411 to R415). S has 305 bytes; groups 1, 3 and 4
+   stand at 244, 274 and 295. */
 #include "questions.h"
 #include "record_s.h"
 #include "texts.h"

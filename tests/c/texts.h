@@ -1,4 +1,4 @@
-/* Record S of document 01, and damaged texts made of it. */
+/* Record S (R380), and damaged texts made of it. */
 #ifndef TEXTS_H
 #define TEXTS_H
 

@@ -78,7 +78,7 @@ static void many_counts(size_t many)
         counts[i] = (uint16_t)number();
 }
 
-/* The two numbers beside a reply: by 01, the first is what was written, a group, a line or a position, and the second an element. */
+/* The two numbers beside a reply (R200 to R214): the first is what was written, a group, a line or a position, and the second an element. */
 static struct seambeacon_beside beside_of(size_t reply)
 {
     struct seambeacon_beside beside = none;
@@ -144,7 +144,7 @@ static void check_list(const char *name)
     ask_list_all(text.bytes, text.length, expected.bytes, expected.length);
 }
 
-/* "until the first reply other than 0 .., or the first record whose canonical text is longer than 8,192 bytes" */
+/* R346: record after record, up to the first that is refused or has no room in 8,192 bytes. */
 static void check_rewrite(const char *name)
 {
     enum { ROOM = 8192 };

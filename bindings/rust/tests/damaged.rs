@@ -50,7 +50,7 @@ fn a_vacant_group_with_a_count() {
     }
 }
 
-/// S with group 11's count 3 and its line, and the other trace counts 0: 7, blamed on group 7; the walk goes on.
+/// R415: group 11 alone of its trace is 7, blamed on group 7; the walk goes on.
 #[test]
 fn a_broken_rule_on_counts() {
     let mut broken = s();
@@ -113,7 +113,7 @@ fn the_first_misformed_field() {
     }
 }
 
-/// Positions of the date's fields: 3 year, 7 day of year, 10 month, 12 day, 14 hour, 16 minute, 18 second; a mismatch is blamed at 7.
+/// R140, the positions of the date's fields: 3 year, 7 day of year, 10 month, 12 day, 14 hour, 16 minute, 18 second; a mismatch is blamed at 7.
 #[test]
 fn a_wrong_date() {
     for (stamp, position) in [

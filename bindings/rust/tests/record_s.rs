@@ -110,7 +110,7 @@ fn characteristics() {
     assert_eq!(seambeacon::characteristic(&text, 610, 50), Characteristic::Refused(Refusal::NoSuchNumber));
 }
 
-/// 9999.000 is no reading, 999.900 a value.
+/// R291: 9999.000 is no reading, 999.900 a value.
 #[test]
 fn no_reading() {
     for (field, want) in [
@@ -142,7 +142,7 @@ fn writing_s_into_outputs_of_each_length() {
     }
 }
 
-/// As the rules list it.
+/// R382.
 const LISTED: &str = "1 0 305 0 0 3 5\n2 305 610 0 0 3 5\nend 2 610 1 0\n";
 
 #[test]

@@ -1,4 +1,4 @@
--- Which cells have a field, and the text that is written for them.
+-- Which cells have a field (R213), and the text that is written for them (R100).
 use mathlib.Core.Path.{_≡_}
 use mathlib.Core.Bool.{Bool, false, cond, _&&_}
 use mathlib.Core.List.{List, map}
@@ -22,7 +22,7 @@ use Rattle.field.specs.Kind.{kindOf}
 abbrev pub cellAt : List ℤ → ℕ → ℤ
 cellAt cs i = getD cs i (pos 0)
 
--- "A 32 to 126"
+-- R80: what a letter's cell may be
 abbrev pub isLetter : ℤ → Bool
 isLetter (pos n) = printable n
 isLetter (negsuc n) = false

@@ -187,7 +187,7 @@ fn is_printable(b: u8) -> bool
     b <= 126
 }
 
-// Whether each byte is 32 to 126.
+// R80: whether each byte is 32 to 126.
 pub fn all_printable(s: &[u8]) -> bool
     ensures { λ r. ⌜ r ≡ every printable (now (s .entry)) ⌝ }
 {
@@ -259,7 +259,7 @@ fn read_as(kind: Kind, field: &[u8]) -> Value
     }
 }
 
-// What the field reads as; a slice of another length than the form's width is misformed.
+// What the field reads as; a slice of another length than the form's width is misformed (R86).
 pub fn read(form: Form, field: &[u8]) -> Value
     ensures { λ r. ⌜ r ≡ fieldOf form (now (field .entry)) ⌝ }
 {
@@ -438,7 +438,7 @@ fn count_in(st: Scan) -> Entry
     }
 }
 
-// The count that an index entry reads as; a slice of another length than three is misformed.
+// R23: the count that an index entry reads as; a slice of another length than three is misformed.
 pub fn read_entry(entry: &[u8]) -> Entry
     ensures { λ r. ⌜ r ≡ entryOf (now (entry .entry)) ⌝ }
 {

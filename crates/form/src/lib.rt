@@ -30,7 +30,7 @@ pub struct Row {
     pub cells: usize,
 }
 
-// "Each field form has its width, its elements per line and its cells", in the order of the enum.
+// R41 as one constant table (R440), in the order of the enum.
 const ROWS: [Row; 10] = [
     Row {
         width: 7,
@@ -84,7 +84,7 @@ const ROWS: [Row; 10] = [
     },
 ];
 
-// "The form follows from the group number by ranges and single numbers."
+// R40 as one match, in which groups that follow one another are a range (R441).
 pub fn form_of(group: usize) -> GroupForm
     ensures { λ r. ⌜ r ≡ formOf group ⌝ }
 {
@@ -120,7 +120,7 @@ pub fn form_of(group: usize) -> GroupForm
     }
 }
 
-// A form's row. A constant table is built anew where a variable indexes it, but not at a constant index: so this costs nothing in a loop.
+// R41: a form's row. A constant table is built anew where a variable indexes it, but not at a constant index: so this costs nothing in a loop.
 pub fn row_of(form: Form) -> Row
     ensures { λ r. ⌜ r ≡ rowOf form ⌝ }
 {
@@ -138,7 +138,7 @@ pub fn row_of(form: Form) -> Row
     }
 }
 
-// The elements of a group of this form and count.
+// R42: the elements of a group of this form and count.
 pub fn elements(form: Form, count: u16) -> usize
     ensures { λ r. ⌜ r ≡ elementsOf form count ⌝ }
 {
@@ -158,7 +158,7 @@ pub fn rounded_up(n: usize, p: usize) -> usize
     (n - 1) / p + 1
 }
 
-// Its lines: rounded up, none for no elements.
+// R43: its lines, rounded up; none for no elements.
 pub fn lines(form: Form, count: u16) -> usize
     ensures { λ r. ⌜ r ≡ linesOf form count ⌝ }
 {
@@ -167,7 +167,7 @@ pub fn lines(form: Form, count: u16) -> usize
     rounded_up(n, row.per_line)
 }
 
-// Its cells.
+// R46: its cells.
 pub fn cells(form: Form, count: u16) -> usize
     ensures { λ r. ⌜ r ≡ cellsOf form count ⌝ }
 {

@@ -1,4 +1,5 @@
--- Which numbers have a field: those in 01's range, a power of ten to a side, have a canonical text; and what some field reads as is in it.
+-- R71, R73, R79: which numbers have a field. Those in the range, a power of ten to a side, have a canonical text; and what some field
+-- reads as is in it.
 -- Assumes nothing.
 use mathlib.Core.Path.{_≡_, refl, sym, ap, ap₂, _∙_, subst}
 use mathlib.Core.Bool.{Bool, true, false, cond}

@@ -1,5 +1,5 @@
--- E fields: what reads as two numbers is exactly what 01's sentence has, with these values; and the shapes before the point of E11 and
--- E8, and of E20.
+-- E fields: what reads as two numbers is exactly what R74 and R77 say, with these values; and the shapes before the point of E11 and E8
+-- (R75), and of E20 (R76).
 -- Assumes nothing.
 use mathlib.Core.Path.{_≡_, refl, sym, ap, ap₂, _∙_}
 use mathlib.Core.Bool.{Bool, true, false, cond}
@@ -216,7 +216,7 @@ sign-is v =
     cond-elim (Signs v) (eqb v 45) (λ e. given (record { down = true; text = eqb-true v 45 e; is = refl })) λ _.
     none (record { is = refl })
 
--- ---- what is read is in the sentence
+-- ---- what is read is as the rule says
 
 record Pair (a b : Number) (m e : ℤ) : Type 0 where
   first : a ≡ One m

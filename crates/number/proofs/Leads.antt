@@ -1,4 +1,4 @@
--- The columns before E's point, where there is one and where there are three: exactly 01's shapes.
+-- R75, R76: the columns before E's point, where there is one and where there are three, are exactly those listed.
 -- Assumes nothing.
 use mathlib.Core.Path.{_≡_, refl, ap, _∙_}
 use mathlib.Core.Bool.{Bool}
@@ -99,10 +99,10 @@ module _ (c d x : ℕ) (shapes : List Shape) (s : List ℕ) (m e : ℤ) where
       }
 
 module _ (d x : ℕ) (s : List ℕ) (m e : ℤ) where
-  -- "first column `0`, blank or minus"
+  -- R75
   pub e-one : IsE 1 d x s m e ↔ IsEBy oneColumn d x s m e
   e-one = (shaped 1 d x oneColumn s m e lead-one, led 1 d x oneColumn s m e one-lead)
 
-  -- "the first three columns are two blanks and `0`, blank minus `0`, three blanks, or two blanks and minus"
+  -- R76
   pub e-three : IsE 3 d x s m e ↔ IsEBy threeColumns d x s m e
   e-three = (shaped 3 d x threeColumns s m e lead-three, led 3 d x threeColumns s m e three-lead)

@@ -1,4 +1,4 @@
--- What an I, F or E field reads as.
+-- R70 to R77 as they are computed: what an I, F or E field reads as.
 use mathlib.Core.Bool.{true, false, cond}
 use mathlib.Core.List.{List}
 use Prim.Native.Nat.{ℕ, _+_, _-_}

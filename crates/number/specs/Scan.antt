@@ -1,4 +1,4 @@
--- What a byte is in a number's columns, and how columns are read, byte by byte: blanks, at most one minus, digits.
+-- What a byte is in a number's columns (a plus is no part of them, R81), and how columns are read: blanks, a minus or none, digits.
 use mathlib.Core.Bool.{true, false, cond}
 use mathlib.Core.List.{List, [], _∷_}
 use Prim.Native.Nat.{ℕ, _+_, _*_, _-_, _<_}

@@ -1,4 +1,4 @@
--- The text that is written for a number, from the last column to the first: each step undoes one of reading.
+-- R103 to R108 as they are computed: the text of a number, from the last column to the first. Each step undoes one of reading.
 use mathlib.Core.Bool.{Bool, true, false, cond}
 use mathlib.Core.List.{List, _∷_, _++_}
 use Prim.Native.Nat.{ℕ, _+_, _-_, _/_, _%_}

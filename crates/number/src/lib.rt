@@ -131,7 +131,7 @@ fn finish(s: &[u8], from: Scan) -> Number
     one(scan_part(s, from))
 }
 
-// An I field of any width up to 12.
+// R70: an I field of any width up to 12.
 pub fn read_i(s: &[u8]) -> Number
     requires { ⌜ length (now s) ≤ 12 ⌝ }
     ensures { λ r. ⌜ r ≡ readI (now (s .entry)) ⌝ }
@@ -151,7 +151,7 @@ fn point(st: Scan) -> Scan
     }
 }
 
-// An F field of any width up to 10.
+// R72: an F field of any width up to 10.
 pub fn read_f(s: &[u8]) -> Number
     requires { ⌜ length (now s) ≤ 10 ⌝ }
     ensures { λ r. ⌜ r ≡ readF (now (s .entry)) ⌝ }
@@ -169,7 +169,7 @@ pub fn read_f(s: &[u8]) -> Number
     finish(&s[q..n], point(head))
 }
 
-// The last column before E's point.
+// R75, R76: the last column before E's point.
 fn lead(st: Scan, b: u8) -> Scan
     ensures { λ r. ⌜ r ≡ leadOf st b ⌝ }
 {
@@ -224,7 +224,7 @@ fn pair(a: Number, b: Number) -> Number
     }
 }
 
-// An E field: c columns, a point, d digits, `E`, a sign and x digits.
+// R74: an E field: c columns, a point, d digits, `E`, a sign and x digits.
 pub fn read_e(s: &[u8], c: usize, d: usize, x: usize) -> Number
     requires { ⌜ (1 ≤ c) × (c ≤ 12) × (d ≤ 12) × (1 ≤ x) × (x ≤ 12) ⌝ }
     ensures { λ r. ⌜ r ≡ readE c d x (now (s .entry)) ⌝ }
@@ -354,7 +354,7 @@ pub fn within(v: i64, low: u64, high: u64) -> bool
     m.size <= high
 }
 
-// ---- I, F and E fields at a place.
+// ---- I, F and E fields at a place, canonical (R103 to R108).
 
 pub fn put_i(out: &mut [u8], at: usize, w: usize, v: i64)
     requires { ⌜ at + w ≤ length (now out) ⌝ }
