@@ -1,4 +1,4 @@
-/* Seambeacon: places, reads and writes SAO 4.3 records. Link target/staticlib/libboundary.a (`rt staticlib boundary`), x86-64.
+/* Seambeacon: places, reads and writes SAO 4.3 records. Link target/staticlib/libseambeacon.a (`rt staticlib seambeacon`), x86-64.
 
    Every function can be asked of every text, place, number, table and output, comes to an end, and returns one of the replies below. A caller
    never has to check beforehand. Nothing is kept between two calls.

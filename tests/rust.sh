@@ -44,6 +44,6 @@ mkdir "$work/empty"
 SEAMBEACON_ARCHIVE=$work/empty cargo check --offline --manifest-path "$wrapper/Cargo.toml" >"$work/said" 2>&1
 status=$?
 counted 'without the archive there is no build' [ "$status" != 0 ]
-counted 'and the build says what to do' grep -q 'there is no .*libboundary\.a: run `rt staticlib boundary`' "$work/said"
+counted 'and the build says what to do' grep -q 'there is no .*libseambeacon\.a: run `rt staticlib seambeacon`' "$work/said"
 echo "rust: $ran tests ran"
 finished 8

@@ -1,12 +1,12 @@
-//! Links the proved library's archive, `libboundary.a`: from the folder that SEAMBEACON_ARCHIVE names, or from the project's
-//! `target/staticlib`, where `rt staticlib boundary` puts it.
+//! Links the proved library's archive, `libseambeacon.a`: from the folder that SEAMBEACON_ARCHIVE names, or from the project's
+//! `target/staticlib`, where `rt staticlib seambeacon` puts it.
 
 use std::env;
 use std::path::PathBuf;
 use std::process::exit;
 
 const VARIABLE: &str = "SEAMBEACON_ARCHIVE";
-const ARCHIVE: &str = "libboundary.a";
+const ARCHIVE: &str = "libseambeacon.a";
 
 fn refuse(why: &str) -> ! {
     eprintln!("seambeacon: {why}");
@@ -27,10 +27,10 @@ fn main() {
     println!("cargo:rerun-if-changed={}", archive.display());
     if !archive.is_file() {
         refuse(&format!(
-            "there is no {}: run `rt staticlib boundary` in the project's folder, or name the archive's folder in {VARIABLE}",
+            "there is no {}: run `rt staticlib seambeacon` in the project's folder, or name the archive's folder in {VARIABLE}",
             archive.display()
         ));
     }
     println!("cargo:rustc-link-search=native={}", folder.display());
-    println!("cargo:rustc-link-lib=static=boundary");
+    println!("cargo:rustc-link-lib=static=seambeacon");
 }

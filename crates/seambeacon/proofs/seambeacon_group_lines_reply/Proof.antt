@@ -1,11 +1,11 @@
--- `boundary::seambeacon_group_lines_reply` meets its contract: whether `sao::group_lines_at` found the lines, in numbers.
+-- `seambeacon::seambeacon_group_lines_reply` meets its contract: whether `sao::group_lines_at` found the lines, in numbers.
 -- Assumes nothing.
 use borrow.Author.Needs.{needs}
 use mathlib.Core.Path.{_∙_, ap}
 use Rattle.group.specs.Held.{foundReply}
-use Rattle.boundary.proofs.Telling.{told-as}
-use Rattle.boundary.proofs.seambeacon_group_lines_reply.Statement.{statement}
-use Rattle.boundary.proofs.seambeacon_group_lines_reply.Tie as tie
+use Rattle.seambeacon.proofs.Telling.{told-as}
+use Rattle.seambeacon.proofs.seambeacon_group_lines_reply.Statement.{statement}
+use Rattle.seambeacon.proofs.seambeacon_group_lines_reply.Tie as tie
 
 group-lines-at-requires : tie.Need-group-lines-at-requires
 group-lines-at-requires c κs = search needs

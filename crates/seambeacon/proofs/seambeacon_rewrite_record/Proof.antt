@@ -1,13 +1,13 @@
--- `boundary::seambeacon_rewrite_record` meets its contract: what `sao::rewrite_record` answers, in numbers.
+-- `seambeacon::seambeacon_rewrite_record` meets its contract: what `sao::rewrite_record` answers, in numbers.
 -- Assumes nothing.
 use borrow.Author.Needs.{needs}
 use mathlib.Core.Path.{_∙_, ap}
 use mathlib.Core.List.{[], _∷_}
 use Rattle.rewriting.specs.Numbered.{rewritingReply, rewritingGroup}
 use Rattle.rewriting.specs.Record.{tableBy, bufferBy}
-use Rattle.boundary.proofs.Telling.{told-as}
-use Rattle.boundary.proofs.seambeacon_rewrite_record.Statement.{statement}
-use Rattle.boundary.proofs.seambeacon_rewrite_record.Tie as tie
+use Rattle.seambeacon.proofs.Telling.{told-as}
+use Rattle.seambeacon.proofs.seambeacon_rewrite_record.Statement.{statement}
+use Rattle.seambeacon.proofs.seambeacon_rewrite_record.Tie as tie
 
 rewrite-record-requires : tie.Need-rewrite-record-requires
 rewrite-record-requires c κs = search needs

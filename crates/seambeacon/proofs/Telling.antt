@@ -9,7 +9,7 @@ use Rattle.reply.specs.declared.Reply.{Reply}
 use Rattle.base.specs.Every.{has}
 use Rattle.reply.specs.Table.{Row, Numbered, numbers}
 use Rattle.reply.proofs.Replies.{numbered-known}
-use Rattle.boundary.specs.Numbers.{besideOf, Told}
+use Rattle.seambeacon.specs.Numbers.{besideOf, Told}
 
 module _ {r q : Reply} where
   pub told-as : {n : ℕ} {bs : List ℕ} → r ≡ q → Told r n bs → Told q n bs

@@ -1,13 +1,13 @@
--- `boundary::seambeacon_group_lines` meets its contract: the reply in numbers, and where the part starts with its length.
+-- `seambeacon::seambeacon_group_lines` meets its contract: the reply in numbers, and where the part starts with its length.
 -- Assumes nothing.
 use borrow.Author.Needs.{needs}
 use mathlib.Core.Path.{refl, _∙_, ap}
 use native.Mathlib.Omega.{arith}
 use Rattle.group.specs.Held.{foundReply}
 use Rattle.group.proofs.Holding.{span-range, span-length}
-use Rattle.boundary.proofs.Telling.{told-as}
-use Rattle.boundary.proofs.seambeacon_group_lines.Statement.{statement}
-use Rattle.boundary.proofs.seambeacon_group_lines.Tie as tie
+use Rattle.seambeacon.proofs.Telling.{told-as}
+use Rattle.seambeacon.proofs.seambeacon_group_lines.Statement.{statement}
+use Rattle.seambeacon.proofs.seambeacon_group_lines.Tie as tie
 
 group-lines-at-requires : tie.Need-group-lines-at-requires
 group-lines-at-requires c κs = search needs

@@ -1,11 +1,11 @@
--- `boundary::seambeacon_write_record` meets its contract: what `sao::write_record` answers, in numbers.
+-- `seambeacon::seambeacon_write_record` meets its contract: what `sao::write_record` answers, in numbers.
 -- Assumes nothing.
 use borrow.Author.Needs.{needs}
 use mathlib.Core.Path.{_∙_, ap}
 use Rattle.record.specs.Writing.{writingReply, outputBy}
-use Rattle.boundary.proofs.Telling.{told-as}
-use Rattle.boundary.proofs.seambeacon_write_record.Statement.{statement}
-use Rattle.boundary.proofs.seambeacon_write_record.Tie as tie
+use Rattle.seambeacon.proofs.Telling.{told-as}
+use Rattle.seambeacon.proofs.seambeacon_write_record.Statement.{statement}
+use Rattle.seambeacon.proofs.seambeacon_write_record.Tie as tie
 
 write-record-requires : tie.Need-write-record-requires
 write-record-requires c κs = search needs

@@ -1,12 +1,12 @@
--- `boundary::seambeacon_characteristic` meets its contract: what `sao::characteristic` answers, in numbers.
+-- `seambeacon::seambeacon_characteristic` meets its contract: what `sao::characteristic` answers, in numbers.
 -- Assumes nothing.
 use borrow.Author.Needs.{needs}
 use mathlib.Core.Path.{_∙_, ap}
 use Rattle.group.specs.Characteristics.{characteristicReply}
-use Rattle.boundary.specs.Numbers.{answerOf}
-use Rattle.boundary.proofs.Telling.{told-as}
-use Rattle.boundary.proofs.seambeacon_characteristic.Statement.{statement}
-use Rattle.boundary.proofs.seambeacon_characteristic.Tie as tie
+use Rattle.seambeacon.specs.Numbers.{answerOf}
+use Rattle.seambeacon.proofs.Telling.{told-as}
+use Rattle.seambeacon.proofs.seambeacon_characteristic.Statement.{statement}
+use Rattle.seambeacon.proofs.seambeacon_characteristic.Tie as tie
 
 characteristic-requires : tie.Need-characteristic-requires
 characteristic-requires c κs = search needs

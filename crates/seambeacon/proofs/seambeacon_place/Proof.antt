@@ -1,11 +1,11 @@
--- `boundary::seambeacon_place` meets its contract: what `sao::place` answers, in numbers.
+-- `seambeacon::seambeacon_place` meets its contract: what `sao::place` answers, in numbers.
 -- Assumes nothing.
 use borrow.Author.Needs.{needs}
 use mathlib.Core.Path.{_∙_, ap}
 use Rattle.place.specs.Numbered.{placingReply}
-use Rattle.boundary.proofs.Telling.{told-as}
-use Rattle.boundary.proofs.seambeacon_place.Statement.{statement}
-use Rattle.boundary.proofs.seambeacon_place.Tie as tie
+use Rattle.seambeacon.proofs.Telling.{told-as}
+use Rattle.seambeacon.proofs.seambeacon_place.Statement.{statement}
+use Rattle.seambeacon.proofs.seambeacon_place.Tie as tie
 
 place-requires : tie.Need-place-requires
 place-requires c κs = search needs

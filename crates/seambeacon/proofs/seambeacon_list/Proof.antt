@@ -1,11 +1,11 @@
--- `boundary::seambeacon_list` meets its contract: what `sao::list` answers, in numbers.
+-- `seambeacon::seambeacon_list` meets its contract: what `sao::list` answers, in numbers.
 -- Assumes nothing.
 use borrow.Author.Needs.{needs}
 use mathlib.Core.Path.{_∙_, ap}
 use Rattle.listing.specs.Listing.{listedReply}
-use Rattle.boundary.proofs.Telling.{told-as}
-use Rattle.boundary.proofs.seambeacon_list.Statement.{statement}
-use Rattle.boundary.proofs.seambeacon_list.Tie as tie
+use Rattle.seambeacon.proofs.Telling.{told-as}
+use Rattle.seambeacon.proofs.seambeacon_list.Statement.{statement}
+use Rattle.seambeacon.proofs.seambeacon_list.Tie as tie
 
 list-requires : tie.Need-list-requires
 list-requires c κs = search needs

@@ -1,4 +1,4 @@
--- `boundary::answer_of` meets its contract: the variant chooses the kind.
+-- `seambeacon::answer_of` meets its contract: the variant chooses the kind.
 -- Assumes nothing.
 use borrow.Author.Needs.{needs, sfits-of}
 use mathlib.Core.Path.{sym, _∙_, ap}
@@ -6,9 +6,9 @@ use mathlib.Core.List.{[], _∷_}
 use lib.IntN.{pos}
 use mir.Syntax.{w64}
 use mir.Facts.{toZ-ofZ}
-use Rattle.boundary.specs.Numbers.{answerOf}
-use Rattle.boundary.proofs.answer_of.Statement.{statement}
-use Rattle.boundary.proofs.answer_of.Tie as tie
+use Rattle.seambeacon.specs.Numbers.{answerOf}
+use Rattle.seambeacon.proofs.answer_of.Statement.{statement}
+use Rattle.seambeacon.proofs.answer_of.Tie as tie
 
 enum-known-c : tie.Need-enum-known-c
 enum-known-c c = search needs

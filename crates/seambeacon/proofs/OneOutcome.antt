@@ -3,14 +3,14 @@
 -- Assumes nothing.
 use mathlib.Core.Path.{sym, _∙_}
 use Rattle.sao.specs.Outcome.{OneOutcome}
-use Rattle.boundary.proofs.seambeacon_place as place
-use Rattle.boundary.proofs.seambeacon_read_group as read-group
-use Rattle.boundary.proofs.seambeacon_group_lines_reply as group-lines-reply
-use Rattle.boundary.proofs.seambeacon_group_lines as group-lines
-use Rattle.boundary.proofs.seambeacon_characteristic as characteristic
-use Rattle.boundary.proofs.seambeacon_write_record as write-record
-use Rattle.boundary.proofs.seambeacon_list as list
-use Rattle.boundary.proofs.seambeacon_rewrite_record as rewrite-record
+use Rattle.seambeacon.proofs.seambeacon_place as place
+use Rattle.seambeacon.proofs.seambeacon_read_group as read-group
+use Rattle.seambeacon.proofs.seambeacon_group_lines_reply as group-lines-reply
+use Rattle.seambeacon.proofs.seambeacon_group_lines as group-lines
+use Rattle.seambeacon.proofs.seambeacon_characteristic as characteristic
+use Rattle.seambeacon.proofs.seambeacon_write_record as write-record
+use Rattle.seambeacon.proofs.seambeacon_list as list
+use Rattle.seambeacon.proofs.seambeacon_rewrite_record as rewrite-record
 
 pub place-one : OneOutcome place.ended place.Reads.Learnt
 place-one κs a n m v w l k =

@@ -1,11 +1,11 @@
--- `boundary::seambeacon_read_group` meets its contract: what `sao::read_group` answers, in numbers.
+-- `seambeacon::seambeacon_read_group` meets its contract: what `sao::read_group` answers, in numbers.
 -- Assumes nothing.
 use borrow.Author.Needs.{needs}
 use mathlib.Core.Path.{_∙_, ap}
 use Rattle.reading.specs.Numbered.{readingReply}
-use Rattle.boundary.proofs.Telling.{told-as}
-use Rattle.boundary.proofs.seambeacon_read_group.Statement.{statement}
-use Rattle.boundary.proofs.seambeacon_read_group.Tie as tie
+use Rattle.seambeacon.proofs.Telling.{told-as}
+use Rattle.seambeacon.proofs.seambeacon_read_group.Statement.{statement}
+use Rattle.seambeacon.proofs.seambeacon_read_group.Tie as tie
 
 read-group-requires : tie.Need-read-group-requires
 read-group-requires c κs = search needs
