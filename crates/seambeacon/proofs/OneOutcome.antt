@@ -5,7 +5,6 @@ use mathlib.Core.Path.{sym, _∙_}
 use Rattle.sao.specs.Outcome.{OneOutcome}
 use Rattle.seambeacon.proofs.seambeacon_place as place
 use Rattle.seambeacon.proofs.seambeacon_read_group as read-group
-use Rattle.seambeacon.proofs.seambeacon_group_lines_reply as group-lines-reply
 use Rattle.seambeacon.proofs.seambeacon_group_lines as group-lines
 use Rattle.seambeacon.proofs.seambeacon_characteristic as characteristic
 use Rattle.seambeacon.proofs.seambeacon_write_record as write-record
@@ -24,11 +23,6 @@ read-group-one κs a n m v w l k =
     let table = l .1 ∙ sym (k .1) in
     (l .0 .number ∙ sym (k .0 .number), λ i. (tt, (tt, (tt, (table i, (beside i, tt))))))
 
-pub group-lines-reply-one : OneOutcome group-lines-reply.ended group-lines-reply.Reads.Learnt
-group-lines-reply-one κs a n m v w l k =
-    let beside = l .besides ∙ sym (k .besides) in
-    (l .number ∙ sym (k .number), λ i. (tt, (tt, (tt, (beside i, tt)))))
-
 pub group-lines-one : OneOutcome group-lines.ended group-lines.Reads.Learnt
 group-lines-one κs a n m v w l k =
     let beside = l .0 .besides ∙ sym (k .0 .besides) in
@@ -38,8 +32,9 @@ group-lines-one κs a n m v w l k =
 pub characteristic-one : OneOutcome characteristic.ended characteristic.Reads.Learnt
 characteristic-one κs a n m v w l k =
     let beside = l .0 .besides ∙ sym (k .0 .besides) in
-    let answer = l .1 ∙ sym (k .1) in
-    (l .0 .number ∙ sym (k .0 .number), λ i. (tt, (tt, (tt, (answer i, (beside i, tt))))))
+    let kind = l .1 ∙ sym (k .1) in
+    let value = l .2 ∙ sym (k .2) in
+    (l .0 .number ∙ sym (k .0 .number), λ i. (tt, (tt, (tt, (kind i, (value i, (beside i, tt)))))))
 
 pub write-record-one : OneOutcome write-record.ended write-record.Reads.Learnt
 write-record-one κs a n m v w l k =

@@ -16,9 +16,15 @@ pub record Told (r : Reply) (n : ℕ) (beside : List ℕ) : Type 0 where
   pub number : n ≡ r .number
   pub besides : beside ≡ besideOf r
 
--- "a value in thousandths, or no reading .., or not reported ..; otherwise it is 12 or group 4's reply": the kinds 0 to 3, and the value or 0
-abbrev pub answerOf : Characteristic → List ℤ
-answerOf (Value z) = pos 0 ∷ z ∷ []
-answerOf NoReading = pos 1 ∷ pos 0 ∷ []
-answerOf NotReported = pos 2 ∷ pos 0 ∷ []
-answerOf (Unread r) = pos 3 ∷ pos 0 ∷ []
+-- "a value in thousandths, or no reading .., or not reported ..; otherwise it is 12 or group 4's reply": the kinds, and the value or 0
+abbrev pub answerKind : Characteristic → ℕ
+answerKind (Value z) = 0
+answerKind NoReading = 1
+answerKind NotReported = 2
+answerKind (Unread r) = 3
+
+abbrev pub answerValue : Characteristic → ℤ
+answerValue (Value z) = z
+answerValue NoReading = pos 0
+answerValue NotReported = pos 0
+answerValue (Unread r) = pos 0

@@ -6,7 +6,7 @@ use reply::Reply;
 ghost use mathlib.Core.Path.{_≡_};
 ghost use mathlib.Core.List.{[], _∷_};
 ghost use lib.ListN.{length};
-ghost use Rattle.seambeacon.specs.Numbers.{Told, answerOf};
+ghost use Rattle.seambeacon.specs.Numbers.{Told, answerKind, answerValue};
 ghost use Rattle.seambeacon.specs.Replies.{placeReply, readReply, linesReply, characteristicReplyAt, writeReply, listReply, rewriteReply};
 ghost use Rattle.decimal.specs.Writing.{putBytes};
 ghost use Rattle.place.specs.Placing.{countsAt};
@@ -22,22 +22,34 @@ ghost use Rattle.listing.specs.Listing.{listing};
 // ---- Numbers.
 
 // A reply as its number, and the numbers beside it.
-fn tell(r: Reply, beside: &mut [usize; 6]) -> usize
+fn tell(r: Reply, beside: &mut [usize; 6]) -> u32
     ensures { λ n. ⌜ Told r n (now (beside .exit)) ⌝ }
 {
     *beside = [r.next, r.written, r.group, r.line, r.element, r.position];
     r.number
 }
 
-// The kind of a characteristic's answer, and its value or 0.
-fn answer_of(c: Characteristic) -> [i64; 2]
-    ensures { λ r. ⌜ r ≡ answerOf c ⌝ }
+// The kind of a characteristic's answer.
+fn kind_of(c: Characteristic) -> u32
+    ensures { λ r. ⌜ r ≡ answerKind c ⌝ }
 {
     match c {
-        Characteristic::Value(value) => [0, value],
-        Characteristic::NoReading => [1, 0],
-        Characteristic::NotReported => [2, 0],
-        Characteristic::Unread(_) => [3, 0],
+        Characteristic::Value(_) => 0,
+        Characteristic::NoReading => 1,
+        Characteristic::NotReported => 2,
+        Characteristic::Unread(_) => 3,
+    }
+}
+
+// Its value, or 0.
+fn value_of(c: Characteristic) -> i64
+    ensures { λ r. ⌜ r ≡ answerValue c ⌝ }
+{
+    match c {
+        Characteristic::Value(value) => value,
+        Characteristic::NoReading => 0,
+        Characteristic::NotReported => 0,
+        Characteristic::Unread(_) => 0,
     }
 }
 
@@ -52,7 +64,7 @@ pub extern "C" fn seambeacon_place(
     at: usize,
     counts: &mut [u16; 80],
     beside: &mut [usize; 6],
-) -> usize
+) -> u32
     ensures { λ n. ⌜ Told (placeReply (now (text .entry)) at) n (now (beside .exit)) × (now (counts .exit) ≡ countsAt (now (text .entry)) at) ⌝ }
 {
     let record = sao::place(text, at);
@@ -72,33 +84,17 @@ pub extern "C" fn seambeacon_read_group(
     group: usize,
     table: &mut [i64],
     beside: &mut [usize; 6],
-) -> usize
+) -> u32
     ensures { λ n. ⌜ Told (readReply (now (text .entry)) at group (length (now (table .entry)))) n (now (beside .exit)) × (now (table .exit) ≡ tableBy (readAt (now (text .entry)) at group (length (now (table .entry)))) (now (table .entry))) ⌝ }
 {
     let answer = sao::read_group(text, at, group, table);
     tell(reading::reply_of(answer), beside)
 }
 
-// Asked: whether the lines of a group of the record at a place can be given.
-// Answered: 0, or why not: 12, or any placing reply but 0.
-// Nothing but the numbers beside the reply is lent to be altered.
-#[no_mangle]
-pub extern "C" fn seambeacon_group_lines_reply(
-    text: &[u8],
-    at: usize,
-    group: usize,
-    beside: &mut [usize; 6],
-) -> usize
-    ensures { λ n. ⌜ Told (linesReply (now (text .entry)) at group) n (now (beside .exit)) ⌝ }
-{
-    let found = sao::group_lines_at(text, at, group).found;
-    tell(group::found_reply(found), beside)
-}
-
-// Asked: the lines of a group, with their line ends.
-// Answered: the same reply, and which part of the text holds them: the place where it starts, and its length. With count 0 it is the empty
-// part where they would begin.
-// A refusal gives the empty part at the text's start.
+// Asked: the lines of a group of the record at a place, with their line ends.
+// Answered: 0, and which part of the text holds them: the place where it starts, and its length. With count 0 it is the empty part where they
+// would begin.
+// A refusal, 12 or any placing reply but 0, gives the empty part at the text's start.
 #[no_mangle]
 pub extern "C" fn seambeacon_group_lines(
     text: &[u8],
@@ -106,7 +102,7 @@ pub extern "C" fn seambeacon_group_lines(
     group: usize,
     part: &mut [usize; 2],
     beside: &mut [usize; 6],
-) -> usize
+) -> u32
     ensures { λ n. ⌜ Told (linesReply (now (text .entry)) at group) n (now (beside .exit)) × (now (part .exit) ≡ partStart (now (text .entry)) at group ∷ length (partAt (now (text .entry)) at group) ∷ []) ⌝ }
 {
     let lines = sao::group_lines_at(text, at, group);
@@ -124,13 +120,15 @@ pub extern "C" fn seambeacon_characteristic(
     text: &[u8],
     at: usize,
     number: usize,
-    answer: &mut [i64; 2],
+    kind: &mut u32,
+    value: &mut i64,
     beside: &mut [usize; 6],
-) -> usize
-    ensures { λ n. ⌜ Told (characteristicReplyAt (now (text .entry)) at number) n (now (beside .exit)) × (now (answer .exit) ≡ answerOf (characteristicAt (now (text .entry)) at number)) ⌝ }
+) -> u32
+    ensures { λ n. ⌜ Told (characteristicReplyAt (now (text .entry)) at number) n (now (beside .exit)) × (now (kind .exit) ≡ answerKind (characteristicAt (now (text .entry)) at number)) × (now (value .exit) ≡ answerValue (characteristicAt (now (text .entry)) at number)) ⌝ }
 {
     let known = sao::characteristic(text, at, number);
-    *answer = answer_of(known);
+    *kind = kind_of(known);
+    *value = value_of(known);
     tell(group::characteristic_reply(known), beside)
 }
 
@@ -143,7 +141,7 @@ pub extern "C" fn seambeacon_write_record(
     cells: &[i64],
     out: &mut [u8],
     beside: &mut [usize; 6],
-) -> usize
+) -> u32
     ensures { λ n. ⌜ Told (writeReply (now (counts .entry)) (now (cells .entry)) (length (now (out .entry)))) n (now (beside .exit)) × (now (out .exit) ≡ outputBy (now (counts .entry)) (now (cells .entry)) (writingOf (now (counts .entry)) (now (cells .entry)) (length (now (out .entry)))) (now (out .entry))) ⌝ }
 {
     let answer = sao::write_record(counts, cells, out);
@@ -154,7 +152,7 @@ pub extern "C" fn seambeacon_write_record(
 // Answered: 0 with the number of bytes, which stand in the output from its first byte on; what stands behind them is kept.
 // A refusal (11) leaves the whole output as it was.
 #[no_mangle]
-pub extern "C" fn seambeacon_list(text: &[u8], out: &mut [u8], beside: &mut [usize; 6]) -> usize
+pub extern "C" fn seambeacon_list(text: &[u8], out: &mut [u8], beside: &mut [usize; 6]) -> u32
     ensures { λ n. ⌜ Told (listReply (now (text .entry)) (now (out .entry))) n (now (beside .exit)) × (now (out .exit) ≡ putBytes 0 (listing (now (text .entry))) (now (out .entry))) ⌝ }
 {
     let answer = sao::list(text, out);
@@ -174,7 +172,7 @@ pub extern "C" fn seambeacon_rewrite_record(
     out: &mut [u8],
     unread: &mut [usize; 1],
     beside: &mut [usize; 6],
-) -> usize
+) -> u32
     ensures { λ n. ⌜ Told (rewriteReply (now (text .entry)) at (length (now (table .entry))) (length (now (out .entry)))) n (now (beside .exit)) × (now (unread .exit) ≡ rewritingGroup (rewritingOf (now (text .entry)) at (length (now (table .entry))) (length (now (out .entry)))) ∷ []) × (now (table .exit) ≡ tableAfter (now (text .entry)) at (rewritingOf (now (text .entry)) at (length (now (table .entry))) (length (now (out .entry)))) (now (table .entry))) × (now (out .exit) ≡ bufferBy (now (text .entry)) at (rewritingOf (now (text .entry)) at (length (now (table .entry))) (length (now (out .entry)))) (now (out .entry))) ⌝ }
 {
     let answer = sao::rewrite_record(text, at, table, out);

@@ -10,7 +10,7 @@ reply-of-requires c κs = search needs
 
 returns : tie.Need-returns
 unfolding endRow
-returns c = rw (c .reply-of .ensures)
+returns c = rw (c .before .reply-of .ensures)
 
 pub end-row-spec : {M : Type 1} → statement M
-end-row-spec = tie.close (tie.spec reply-of-requires returns)
+end-row-spec = tie.close (tie.spec reply-of-requires (λ c. search needs) returns)

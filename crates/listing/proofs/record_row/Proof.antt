@@ -18,8 +18,8 @@ add-up-requires c κs = search needs
 
 returns : tie.Need-returns
 unfolding recordRow
-returns c = rw (c .before .before .reply-of .ensures, c .before .filled-groups .ensures, c .add-up .ensures .lines-are ∙ all-lines _)
+returns c = rw (c .before .before .before .reply-of .ensures, c .before .before .filled-groups .ensures, c .before .add-up .ensures .lines-are ∙ all-lines _)
 
 pub record-row-spec : {M : Type 1} → statement M
 record-row-spec =
-    tie.close (tie.spec reply-of-requires filled-groups-requires add-up-requires returns)
+    tie.close (tie.spec reply-of-requires filled-groups-requires add-up-requires (λ c. search needs) returns)
