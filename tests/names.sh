@@ -7,7 +7,7 @@
 #   `tests/list.sh`, `README.md`                 a path
 #   `name`                                       alone: a crate, or what the same document gives with its file elsewhere
 # Anything else that begins with a letter is an error, so that nothing is passed over. The other way round, PROMISES.md names each field of the
-# demands' records, each theorem and each question of `sao` and the boundary, each must-fail edit and each test. The lookup is tried on made-up
+# demands' records, each theorem and each question of `sao` and `seambeacon`, each must-fail edit and each test. The lookup is tried on made-up
 # documents first.
 set -u
 LC_ALL=C

@@ -310,12 +310,12 @@ mod tests {
     const BESIDE: Beside = Beside { next: 101, written: 102, group: 103, line: 104, element: 105, position: 106 };
 
     fn refusal(number: u32) -> Refusal {
-        Reply { number, beside: BESIDE }.done(107).err().expect("a refusal")
+        Reply { number, beside: BESIDE }.done(107).expect_err("a refusal")
     }
 
     #[test]
     fn done_has_the_numbers_beside_it() {
-        let beside = Reply { number: 0, beside: BESIDE }.done(107).ok().expect("done");
+        let beside = Reply { number: 0, beside: BESIDE }.done(107).expect("done");
         assert_eq!((beside.next, beside.written), (101, 102));
     }
 

@@ -7,7 +7,7 @@
 
 /// The numbers beside a reply, 0 where the reply does not give them.
 #[repr(C)]
-#[derive(Clone, Copy, Default)]
+#[derive(Clone, Copy, Debug, Default)]
 pub struct Beside {
     pub next: usize,
     pub written: usize,
