@@ -7,7 +7,7 @@
 #   `tests/list.sh`, `README.md`                 a path
 #   `name`                                       alone: a crate, or what the same document gives with its file elsewhere
 # Anything else that begins with a letter is an error, so that nothing is passed over. The other way round, PROMISES.md names each field of the
-# demands' records, each theorem and each question of `sao` and the boundary, each must-fail edit and each test. The lookup is tried on made-up
+# demands' records, each theorem and each question of `sao` and `seambeacon`, each must-fail edit and each test. The lookup is tried on made-up
 # documents first.
 set -u
 LC_ALL=C
@@ -221,8 +221,8 @@ demanded() { # DECLARED FILE..
     echo "$*" | tr ' ' '\n' | awk '
         FNR == NR { split($0, part, "/"); demand["law " part[2] " " substr($0, length(part[2]) + 9)] = 1; next }
         $1 == "law" && $4 != "-" && (($1 " " $2 " " $3) in demand) { print }
-        $1 == "law" && $2 ~ /^(sao|boundary)$/ && $3 ~ /^proofs\/[^\/]*$/ && $4 == "-" { print }
-        $1 == "code" && $2 ~ /^(sao|boundary)$/ && $6 == "open" { print $1, $2, $4, $5 }
+        $1 == "law" && $2 ~ /^(sao|seambeacon)$/ && $3 ~ /^proofs\/[^\/]*$/ && $4 == "-" { print }
+        $1 == "code" && $2 ~ /^(sao|seambeacon)$/ && $6 == "open" { print $1, $2, $4, $5 }
         $1 == "edit" { print }
         $1 == "path" && $2 ~ /^tests\/[^\/]*\.sh$/ { print }' - "$from" | sort -u
 }

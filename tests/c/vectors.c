@@ -191,13 +191,12 @@ static void check_group(size_t at)
 static void check_characteristic(size_t at)
 {
     size_t characteristic = size(), reply;
-    struct seambeacon_answer answer;
+    enum seambeacon_kind kind = (enum seambeacon_kind)number();
+    int64_t value = number();
     struct seambeacon_beside beside;
-    answer.kind = number();
-    answer.value = number();
     reply = size();
     beside = beside_of(reply);
-    ask_characteristic(text.bytes, text.length, at, characteristic, reply, beside, answer);
+    ask_characteristic(text.bytes, text.length, at, characteristic, reply, beside, kind, value);
 }
 
 /* A place with its reply, next place and group, and for a placed record its counts: the place. */

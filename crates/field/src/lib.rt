@@ -15,8 +15,7 @@ ghost use Rattle.form.specs.Table.{rowOf};
 ghost use Rattle.number.specs.Scan.{Below};
 ghost use Rattle.field.specs.Kind.{kindOf, widthOf, countOf, Small};
 ghost use Rattle.field.specs.Read.{valueOf, readAs, fieldOf};
-ghost use Rattle.field.specs.Write.{isLetter, rangeOf, fitsOf, textAs, fieldText, Wrote};
-ghost use Rattle.form.specs.Count.{isCount};
+ghost use Rattle.field.specs.Write.{isLetter, rangeOf, fitsOf, textAs, fieldText};
 ghost use Rattle.field.specs.Entry.{countIn, entryOf, entryText};
 
 // What a field reads as: a cell; the two cells of an E field; letters, whose cells are the bytes themselves.
@@ -25,14 +24,6 @@ pub enum Value {
     Pair(i64, i64),
     Letters,
     Misformed,
-}
-
-// What became of a write: the text stands there; no field of the form reads as the cells; no room behind the place. The last two altered
-// nothing.
-pub enum Written {
-    Done,
-    NoField,
-    NoRoom,
 }
 
 // What an index entry reads as.
@@ -404,21 +395,6 @@ pub fn put(form: Form, cells: &[i64], out: &mut [u8], at: usize)
     put_as(kind_of(form), cells, out, at);
 }
 
-// Writes the canonical text of the cells at a place, or nothing: first where no field of the form reads as them, then where there is no room.
-pub fn write(form: Form, cells: &[i64], out: &mut [u8], at: usize) -> Written
-    ensures { λ r. ⌜ Wrote (fitsOf form (now (cells .entry))) (fieldText form (now (cells .entry))) at
-        (rowOf form .width) (now (out .entry)) r (now (out .exit)) ⌝ }
-{
-    if fits(form, cells) {
-        if base::has_room(at, width_of(kind_of(form)), out.len()) {
-            put(form, cells, out, at);
-            return Written::Done;
-        }
-        return Written::NoRoom;
-    }
-    Written::NoField
-}
-
 // ---- Index entries.
 
 fn count_in(st: Scan) -> Entry
@@ -454,18 +430,4 @@ pub fn put_entry(count: u16, out: &mut [u8], at: usize)
     ensures { λ _. ⌜ now (out .exit) ≡ over at (entryText count) (now (out .entry)) ⌝ }
 {
     number::put_at(out, at, 3, false, Scan::Digits(false, count as u64));
-}
-
-// Writes the canonical text of a count at a place, or nothing.
-pub fn write_entry(count: u16, out: &mut [u8], at: usize) -> Written
-    ensures { λ r. ⌜ Wrote (isCount count) (entryText count) at 3 (now (out .entry)) r (now (out .exit)) ⌝ }
-{
-    if 999 < count {
-        return Written::NoField;
-    }
-    if base::has_room(at, 3, out.len()) {
-        put_entry(count, out, at);
-        return Written::Done;
-    }
-    Written::NoRoom
 }

@@ -1,7 +1,6 @@
 -- R42 to R46: which counts there are, and what a group's count comes to: its elements, lines and cells.
 use mathlib.Core.Bool.{Bool}
 use Prim.Native.Nat.{ℕ, _+_, _-_, _*_, _/_, _<_, _≤_}
-use mathlib.Core.Path.{_≡_}
 use lib.Dec.{leb}
 use Rattle.form.specs.declared.Form.{Form}
 use Rattle.form.specs.Table.{rowOf}
@@ -29,19 +28,9 @@ linesOf f count = roundedUp (elementsOf f count) (rowOf f .«per_line»)
 unfoldable pub cellsOf : Form → ℕ → ℕ
 cellsOf f count = elementsOf f count * rowOf f .cells
 
--- what the lines before the last leave for it: all but the last are full
-unfoldable pub lastOf : Form → ℕ → ℕ
-lastOf f count = elementsOf f count - (linesOf f count - 1) * rowOf f .«per_line»
-
 -- ---- the same without dividing, to hold the above to (proofs/Counted.antt)
 
 -- R43: k lines are enough for n elements, p to a line, and k - 1 are not
 pub record Takes (n p k : ℕ) : Type 0 where
   pub enough : n ≤ k * p
   pub needed : 0 < k → (k - 1) * p < n
-
--- k lines, all full but the last, leave it 1 to p of n elements
-pub record Leaves (n p k last : ℕ) : Type 0 where
-  pub low : 1 ≤ last
-  pub high : last ≤ p
-  pub all : (k - 1) * p + last ≡ n

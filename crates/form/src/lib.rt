@@ -1,7 +1,7 @@
 // The ten field forms: which group has which, what each takes, and the lines, elements and cells of a group's count.
 ghost use mathlib.Core.Path.{_≡_};
 ghost use Rattle.form.specs.Table.{rowOf, formOf};
-ghost use Rattle.form.specs.Count.{elementsOf, roundedUp, linesOf, cellsOf, lastOf};
+ghost use Rattle.form.specs.Count.{elementsOf, roundedUp, linesOf, cellsOf};
 
 // A form is named by its letter and its width; the number of decimals follows from these.
 pub enum Form {
@@ -174,16 +174,4 @@ pub fn cells(form: Form, count: u16) -> usize
     let n = elements(form, count);
     let row = row_of(form);
     n * row.cells
-}
-
-// The elements on its last line; 0 where it has no line.
-pub fn last(form: Form, count: u16) -> usize
-    ensures { λ r. ⌜ r ≡ lastOf form count ⌝ }
-{
-    let n = elements(form, count);
-    if n == 0 {
-        return 0;
-    }
-    let row = row_of(form);
-    (n - 1) % row.per_line + 1
 }

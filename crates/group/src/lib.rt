@@ -69,13 +69,6 @@ fn held_at(text: &[u8], at: usize, group: usize) -> Held
     }
 }
 
-// Asks whether the lines of a group of the record at a place can be given: 12, then any placing reply but 0.
-pub fn lines_reply(text: &[u8], at: usize, group: usize) -> Found
-    ensures { λ r. ⌜ r ≡ foundAt (now (text .entry)) at group ⌝ }
-{
-    held_at(text, at, group).found
-}
-
 // Whether the lines of a group can be given, and from where to where they stand in the text.
 pub struct Lines {
     pub found: Found,
@@ -83,8 +76,8 @@ pub struct Lines {
     pub to: usize,
 }
 
-// The same with where the lines stand, their line ends among them. With count 0 both places are where they would begin, and at a refusal both
-// are the text's start.
+// Asks where the lines of a group of the record at a place stand, their line ends among them. With count 0 both places are where they would
+// begin, and at a refusal both are the text's start.
 pub fn lines_at(text: &[u8], at: usize, group: usize) -> Lines
     ensures found { λ r. ⌜ r .found ≡ foundAt (now (text .entry)) at group ⌝ }
     ensures from { λ r. ⌜ r .from ≡ partStart (now (text .entry)) at group ⌝ }

@@ -156,7 +156,7 @@ pub fn reply_of(answer: Placing) -> reply::Reply
 }
 
 // "A record is placed where the reply is 0 or 7."
-pub fn is_placed(number: usize) -> bool
+pub fn is_placed(number: u32) -> bool
     ensures { λ r. ⌜ r ≡ isPlaced number ⌝ }
 {
     if number == 0 {

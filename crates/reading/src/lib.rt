@@ -441,7 +441,8 @@ fn read_form(form: Form, group: usize, count: u16, lines: &[u8], table: &mut [i6
     }
 }
 
-// Reads a group as `read_lines` does, by counts that keep the rules, as those of a record that was placed with 0 do: they are not tried again.
+// Reads a group of a record with these counts, whose lines these are, into a table. It is altered only if all is clean, and then only as far
+// as the group's cells go. The counts keep the rules, as those of a record that was placed with 0 do: they are not tried again.
 pub fn read_kept(counts: &[u16], group: usize, lines: &[u8], table: &mut [i64]) -> Reading
     requires { ⌜ rulingOf (now counts) ≡ Ruling.Kept ⌝ }
     ensures answer { λ r. ⌜ r ≡
@@ -455,24 +456,6 @@ pub fn read_kept(counts: &[u16], group: usize, lines: &[u8], table: &mut [i64]) 
     };
     let count = count::count_of(counts, group);
     read_form(form, group, count, lines, table)
-}
-
-// Reads a group of a record with these counts, whose lines these are, into a table. It is altered only if all is clean, and then only as
-// far as the group's cells go.
-pub fn read_lines(counts: &[u16], group: usize, lines: &[u8], table: &mut [i64]) -> Reading
-    ensures answer { λ r. ⌜ r ≡
-        readingOf (readGroup (now (counts .entry)) group (now (lines .entry)) (length (now (table .entry)))) ⌝ }
-    ensures table { λ _. ⌜ now (table .exit) ≡
-        tableBy (readGroup (now (counts .entry)) group (now (lines .entry)) (length (now (table .entry))))
-        (now (table .entry)) ⌝ }
-{
-    let form::GroupForm::Has(_) = form::form_of(group) else {
-        return Reading::Refused(Refusal::NoGroup);
-    };
-    match count::ruling_of(counts) {
-        Ruling::Broken(g) => Reading::Refused(Refusal::BrokenRule(g)),
-        Ruling::Kept => read_kept(counts, group, lines, table),
-    }
 }
 
 // ---- Replies.

@@ -1,19 +1,18 @@
 -- Replies that fill a row, by the shape of the reply.
 -- Assumes nothing.
-use mathlib.Core.Path.{refl, sym, subst}
-use mathlib.Core.List.{List, [], _∷_, map}
-use mathlib.Core.Logic.{inl, inr, ⊎-elim}
-use Prim.Native.Nat.{ℕ, _≤_}
+use mathlib.Core.Path.{refl, sym}
+use mathlib.Core.List.{List, [], _∷_, _++_, map}
+use mathlib.Core.Logic.{inl, inr}
+use Prim.Native.Nat.{ℕ, zero, suc, _<_, _≤_}
+use native.Mathlib.Nat.{le-of-suc-le-suc}
 use native.Mathlib.Omega.{arith}
-use borrow.Author.Tests.{eq-eqb, eqb-true}
+use borrow.Author.Tests.{eq-eqb}
 use lib.Dec.{T, eqb}
+use lib.ListN.{length, getD}
 use Rattle.base.specs.Every.{has}
-use Rattle.base.proofs.Choice.{T-true, or-elim, or-right}
+use Rattle.base.proofs.Choice.{or-right}
 use Rattle.reply.specs.declared.Reply.{Reply}
-use Rattle.reply.specs.declared.Refusal.{Refusal}
-use Rattle.reply.specs.declared.Refusal.the-variants.{End, Beyond, TooFewLines, Misformed, OtherRelease, FilledVacant, BrokenRule, BadLine, BadField, BadDate, NoRoom, NoSuchNumber, NoField, OtherLength}
-use Rattle.reply.specs.Refusals.{refusalReply, FromOne}
-use Rattle.reply.specs.Table.{rowAt, rowsOf, Row, row, numbers, replyAt, replyOn, replyPlain, replyDone, Fills, Numbered, next, cells, bytes, group}
+use Rattle.reply.specs.Table.{Row, row, numbers, replyAt, replyOn, replyPlain, replyDone, replyLine, replyField, replyDate, Fills, Numbered, next, cells, bytes, group, line, element, position}
 
 pub fills-plain : (k : ℕ) → Fills (row k []) (replyPlain k)
 fills-plain k =
@@ -44,40 +43,34 @@ pub fills-both : (n m : ℕ) → 1 ≤ n → 1 ≤ m → Fills (row 0 (next ∷ 
 fills-both n m h j =
     record { numbered = refl; with-next = h; with-written = j; with-group = refl; with-line = refl; with-element = refl; with-position = refl }
 
--- a refusal whose numbers count from 1 fills its row
-pub refusal-fills : (r : Refusal) → FromOne r → Fills (rowAt (refusalReply r .number)) (refusalReply r)
-refusal-fills End h = fills-plain 1
-refusal-fills Beyond h = fills-plain 2
-refusal-fills TooFewLines h = fills-plain 3
-refusal-fills Misformed h = fills-plain 4
-refusal-fills OtherRelease h = fills-plain 5
-refusal-fills (FilledVacant g) h = fills-on 6 g h
-refusal-fills (BrokenRule g) h = fills-on 7 g h
-refusal-fills (BadLine l) h =
+pub fills-line : (k l : ℕ) → 1 ≤ l → Fills (row k (line ∷ [])) (replyLine k l 0)
+fills-line k l h =
     record { numbered = refl; with-next = refl; with-written = refl; with-group = refl; with-line = h; with-element = refl; with-position = refl }
-refusal-fills (BadField l e) h =
-    record { numbered = refl; with-next = refl; with-written = refl; with-group = refl; with-line = h .0; with-element = h .1; with-position = refl }
-refusal-fills (BadDate p) h =
+
+pub fills-element : (k l e : ℕ) → 1 ≤ l → 1 ≤ e → Fills (row k (line ∷ element ∷ [])) (replyLine k l e)
+fills-element k l e h j =
+    record { numbered = refl; with-next = refl; with-written = refl; with-group = refl; with-line = h; with-element = j; with-position = refl }
+
+pub fills-field : (g e : ℕ) → 1 ≤ g → 1 ≤ e → Fills (row 13 (group ∷ element ∷ [])) (replyField g e)
+fills-field g e h j =
+    record { numbered = refl; with-next = refl; with-written = refl; with-group = h; with-line = refl; with-element = j; with-position = refl }
+
+pub fills-date : (p : ℕ) → 1 ≤ p → Fills (row 10 (position ∷ [])) (replyDate p)
+fills-date p h =
     record { numbered = refl; with-next = refl; with-written = refl; with-group = refl; with-line = refl; with-element = refl; with-position = h }
-refusal-fills NoRoom h = fills-plain 11
-refusal-fills NoSuchNumber h = fills-plain 12
-refusal-fills (NoField g e) h =
-    record { numbered = refl; with-next = refl; with-written = refl; with-group = h .0; with-line = refl; with-element = h .1; with-position = refl }
-refusal-fills OtherLength h = fills-plain 14
 
 -- ---- which row
 
--- a reply that fills the row of its number is in every table that has the number
-pub row-numbered : (ns : List ℕ) (r : Reply) → T (has ns (r .number)) → Fills (rowAt (r .number)) r → Numbered (rowsOf ns) r
-row-numbered [] r t f = t
-row-numbered (n ∷ ns) r t f =
-    ⊎-elim
-    (λ (e : T (eqb n (r .number))). inl (subst (λ m. Fills (rowAt m) r) (sym (eqb-true n (r .number) (T-true (eqb n (r .number)) e))) f))
-    (λ (e : T (has ns (r .number))). inr (row-numbered ns r e f))
-    (or-elim (eqb n (r .number)) (has ns (r .number)) t)
+pub at-row : (k : ℕ) (ws : List Row) (r : Reply) → k < length ws → Fills (getD ws k (row 0 [])) r → Numbered ws r
+at-row k [] r l f = absurd (omega arith)
+at-row zero (w ∷ ws) r l f = inl f
+at-row (suc k) (w ∷ ws) r l f = inr (at-row k ws r (le-of-suc-le-suc l) f)
 
-pub refusal-numbered : (ns : List ℕ) (r : Refusal) → T (has ns (refusalReply r .number)) → FromOne r → Numbered (rowsOf ns) (refusalReply r)
-refusal-numbered ns r t h = row-numbered ns (refusalReply r) t (refusal-fills r h)
+-- a table that begins with another
+pub numbered-left : (a b : List Row) (r : Reply) → Numbered a r → Numbered (a ++ b) r
+numbered-left [] b r n = absurd n
+numbered-left (w ∷ a) b r (inl f) = inl f
+numbered-left (w ∷ a) b r (inr n) = inr (numbered-left a b r n)
 
 -- the number is one of the table's
 pub numbered-known : (ws : List Row) (r : Reply) → Numbered ws r → T (has (map (λ w. w .number) ws) (r .number))

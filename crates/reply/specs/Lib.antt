@@ -1,3 +1,2 @@
--- The table of replies, with the numbers that each row names (Table), and the refusals in it (Refusals).
+-- 01's table of replies.
 pub mod Table
-pub mod Refusals

@@ -5,7 +5,6 @@ use mathlib.Core.Bool.{Bool, true, false, cond, _||_}
 use mathlib.Core.List.{List, [], _∷_, map}
 use mathlib.Core.Logic.{_⊎_}
 use Prim.Native.Nat.{ℕ, _≤_}
-use lib.ListN.{getD}
 use Rattle.base.specs.Every.{has}
 use Rattle.reply.specs.declared.Reply.{Reply}
 
@@ -86,38 +85,19 @@ abbrev pub Numbered : List Row → Reply → Type 0
 Numbered [] r = ⊥
 Numbered (w ∷ ws) r = Fills w r ⊎ Numbered ws r
 
--- ---- the table, from row 0 on; what is given beside 0 is the question's own, and beside 7 placing gives the next place too
+-- ---- rows that several questions share
 
-abbrev pub table : List Row
-table =
-    row 0 []
-    ∷ row 1 []
-    ∷ row 2 []
-    ∷ row 3 []
-    ∷ row 4 []
-    ∷ row 5 []
-    ∷ row 6 (group ∷ [])
-    ∷ row 7 (group ∷ [])
-    ∷ row 8 (line ∷ [])
-    ∷ row 9 (line ∷ element ∷ [])
-    ∷ row 10 (position ∷ [])
-    ∷ row 11 []
-    ∷ row 12 []
-    ∷ row 13 (group ∷ element ∷ [])
-    ∷ row 14 []
-    ∷ []
-
-abbrev pub rowAt : ℕ → Row
-rowAt n = getD table n (row 0 [])
-
--- the rows of these numbers
-abbrev pub rowsOf : List ℕ → List Row
-rowsOf ns = map rowAt ns
-
--- which numbers several questions share: any placing reply but 0 and 7, which has the next place in placing alone
-abbrev pub unplaced : List ℕ
-unplaced = 1 ∷ 2 ∷ 3 ∷ 4 ∷ 5 ∷ 6 ∷ []
+-- any placing reply but 0, as a question that goes no further gives it: 7 without its next place
+abbrev pub placingRefusals : List Row
+placingRefusals = row 1 [] ∷ row 2 [] ∷ row 3 [] ∷ row 4 [] ∷ row 5 [] ∷ row 6 (group ∷ []) ∷ row 7 (group ∷ []) ∷ []
 
 -- "12, then any placing reply but 0"
-abbrev pub asked : List ℕ
-asked = 12 ∷ 7 ∷ unplaced
+abbrev pub askedRefusals : List Row
+askedRefusals = row 12 [] ∷ placingRefusals
+
+-- what the lines of a group are refused with
+abbrev pub lineRefusals : List Row
+lineRefusals = row 8 (line ∷ []) ∷ row 9 (line ∷ element ∷ []) ∷ []
+
+abbrev pub dateRefusal : Row
+dateRefusal = row 10 (position ∷ [])

@@ -1,48 +1,9 @@
-// Replies: why a question is refused, and each reply's number with the numbers given besides. What a reply's row doesn't name is 0.
+// 01's table of replies: a reply's number, with the numbers given besides. What a reply's row doesn't name is 0.
 ghost use mathlib.Core.Path.{_≡_};
 ghost use Rattle.reply.specs.Table.{replyPlain, replyOn, replyAt, replyDone, replyLine, replyField, replyDate};
-ghost use Rattle.reply.specs.Refusals.{refusalReply, answerReply};
-
-// All refusals of the table, in its order; each question gives some of them, as its own `Due` says.
-pub enum Refusal {
-    // 1
-    End,
-    // 2
-    Beyond,
-    // 3
-    TooFewLines,
-    // 4
-    Misformed,
-    // 5
-    OtherRelease,
-    // 6, with the lowest vacant group that has a count
-    FilledVacant(usize),
-    // 7, with the blamed group
-    BrokenRule(usize),
-    // 8, with the line in the group
-    BadLine(usize),
-    // 9, with the line and the element in the group
-    BadField(usize, usize),
-    // 10, with the position blamed
-    BadDate(usize),
-    // 11
-    NoRoom,
-    // 12
-    NoSuchNumber,
-    // 13, with the group and the element
-    NoField(usize, usize),
-    // 14
-    OtherLength,
-}
-
-// What a question answers that fills a table or an output: 0 with the cells or bytes written, or why nothing was.
-pub enum Answer {
-    Done(usize),
-    Refused(Refusal),
-}
 
 pub struct Reply {
-    pub number: usize,
+    pub number: u32,
     pub next: usize,
     pub written: usize,
     pub group: usize,
@@ -52,21 +13,21 @@ pub struct Reply {
 }
 
 // A reply with no number beside it.
-pub fn plain(number: usize) -> Reply
+pub fn plain(number: u32) -> Reply
     ensures { λ r. ⌜ r ≡ replyPlain number ⌝ }
 {
     at_next(number, 0, 0)
 }
 
 // A reply with a group.
-fn on_group(number: usize, group: usize) -> Reply
+pub fn on_group(number: u32, group: usize) -> Reply
     ensures { λ r. ⌜ r ≡ replyOn number group ⌝ }
 {
     at_next(number, 0, group)
 }
 
 // A reply with a next place and a group.
-pub fn at_next(number: usize, next: usize, group: usize) -> Reply
+pub fn at_next(number: u32, next: usize, group: usize) -> Reply
     ensures { λ r. ⌜ r ≡ replyAt number next group ⌝ }
 {
     Reply {
@@ -96,7 +57,7 @@ pub fn done(written: usize) -> Reply
 }
 
 // 8 or 9, with a line and an element.
-fn in_line(number: usize, line: usize, element: usize) -> Reply
+pub fn in_line(number: u32, line: usize, element: usize) -> Reply
     ensures { λ r. ⌜ r ≡ replyLine number line element ⌝ }
 {
     Reply {
@@ -111,7 +72,7 @@ fn in_line(number: usize, line: usize, element: usize) -> Reply
 }
 
 // 13, with a group and an element.
-fn no_field(group: usize, element: usize) -> Reply
+pub fn no_field(group: usize, element: usize) -> Reply
     ensures { λ r. ⌜ r ≡ replyField group element ⌝ }
 {
     Reply {
@@ -126,7 +87,7 @@ fn no_field(group: usize, element: usize) -> Reply
 }
 
 // 10, with the position blamed.
-fn bad_date(position: usize) -> Reply
+pub fn bad_date(position: usize) -> Reply
     ensures { λ r. ⌜ r ≡ replyDate position ⌝ }
 {
     Reply {
@@ -137,37 +98,5 @@ fn bad_date(position: usize) -> Reply
         line: 0,
         element: 0,
         position,
-    }
-}
-
-// A refusal's number, with the numbers given besides.
-pub fn refused(refusal: Refusal) -> Reply
-    ensures { λ r. ⌜ r ≡ refusalReply refusal ⌝ }
-{
-    match refusal {
-        Refusal::End => plain(1),
-        Refusal::Beyond => plain(2),
-        Refusal::TooFewLines => plain(3),
-        Refusal::Misformed => plain(4),
-        Refusal::OtherRelease => plain(5),
-        Refusal::FilledVacant(g) => on_group(6, g),
-        Refusal::BrokenRule(g) => on_group(7, g),
-        Refusal::BadLine(l) => in_line(8, l, 0),
-        Refusal::BadField(l, e) => in_line(9, l, e),
-        Refusal::BadDate(p) => bad_date(p),
-        Refusal::NoRoom => plain(11),
-        Refusal::NoSuchNumber => plain(12),
-        Refusal::NoField(g, e) => no_field(g, e),
-        Refusal::OtherLength => plain(14),
-    }
-}
-
-// An answer's number, with the numbers given besides.
-pub fn answered(answer: Answer) -> Reply
-    ensures { λ r. ⌜ r ≡ answerReply answer ⌝ }
-{
-    match answer {
-        Answer::Done(written) => done(written),
-        Answer::Refused(r) => refused(r),
     }
 }

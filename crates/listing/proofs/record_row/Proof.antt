@@ -9,8 +9,8 @@ use Rattle.listing.proofs.record_row.Tie as tie
 
 returns : tie.Need-returns
 unfolding recordRow
-returns c = rw (c .before .before .reply-of .ensures, c .before .filled-groups .ensures, c .add-up .ensures .lines-are ∙ all-lines _)
+returns c = rw (c .before .before .before .reply-of .ensures, c .before .before .filled-groups .ensures, c .before .add-up .ensures .lines-are ∙ all-lines _)
 
 pub record-row-spec : {M : Type 1} → statement M
 record-row-spec =
-    tie.close (tie.spec (λ c κs. search needs) (λ c κs. search needs) (λ c κs. search needs) returns)
+    tie.close (tie.spec (λ c κs. search needs) (λ c κs. search needs) (λ c κs. search needs) (λ c. search needs) returns)
