@@ -32,8 +32,8 @@ group-lines-one κs a n m v w l k =
 pub characteristic-one : OneOutcome characteristic.ended characteristic.Reads.Learnt
 characteristic-one κs a n m v w l k =
     let beside = l .0 .besides ∙ sym (k .0 .besides) in
-    let kind = l .1 ∙ sym (k .1) in
-    let value = l .2 ∙ sym (k .2) in
+    let kind = l .1 .0 ∙ sym (k .1 .0) in
+    let value = l .1 .1 ∙ sym (k .1 .1) in
     (l .0 .number ∙ sym (k .0 .number), λ i. (tt, (tt, (tt, (kind i, (value i, (beside i, tt)))))))
 
 pub write-record-one : OneOutcome write-record.ended write-record.Reads.Learnt
