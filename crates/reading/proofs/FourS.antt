@@ -1,4 +1,4 @@
--- The line of group 4 of 01's record S, `   7.250`, reads as its cell into any table with room; with a comma in place of the point it is
+-- R381: the line of group 4 of record S, `   7.250`, reads as its cell into any table with room; with a comma in place of the point it is
 -- refused, 9 at line 1, element 1. By computation.
 -- Assumes nothing.
 use mathlib.Core.Path.{_≡_, refl}

@@ -80,7 +80,7 @@ module _ (f : Form) (g count : ℕ) (x : List ℕ) (old : List ℤ) where
           let all : readForm f g count x (length old) ≡ done (r .cells) = roomy ∙ clean-cells g (readLines f count x) e ∙ r .is in
           subst (λ y. Answers y old (Done (cellsOf f count)) new) (sym all) (ap Done (sym (group-size f count x (r .cells) (r .is))), n ∙ ap (λ y. over 0 (cellsGot y) old) (r .is))
 
--- "group 3 at least 19"
+-- R123: group 3 has room for a date
 pub kept-letters : (ns : List ℕ) → rulingOf ns ≡ Kept → 19 ≤ countOf ns 3
 unfolding Blame.Blames Rules.headRules
 kept-letters ns e = by (leb 19 (countOf ns 3)) refl
