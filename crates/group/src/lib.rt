@@ -1,5 +1,5 @@
-// A group of the record at a place of a text: read into a table, its lines as a part of the text, a characteristic. Any text, place, number
-// and table may be given.
+// A group of the record at a place of a text: read into a table (R260), its lines as a part of the text (R280), a characteristic (R290).
+// Any text, place, number and table may be given (R241).
 use reading::Reading;
 use reading::Refusal;
 ghost use mathlib.Core.Path.{_≡_};
@@ -17,7 +17,7 @@ pub enum Found {
     Missing(Refusal),
 }
 
-// A placing reply but 0, as a refusal.
+// R235: a placing reply but 0, as a refusal; 7 has no next place here.
 pub fn refusal_of(answer: place::Placing) -> Refusal
     ensures { λ r. ⌜ r ≡ refusalOf answer ⌝ }
 {
@@ -49,7 +49,7 @@ fn missing(r: Refusal) -> Held
     }
 }
 
-// "12, then any placing reply but 0": what every question about a group asks first.
+// R260, R281: what every question about a group asks first: 12, and the reply of placing, if it is not 0.
 fn held_at(text: &[u8], at: usize, group: usize) -> Held
     ensures found { λ r. ⌜ r .found ≡ foundAt (now (text .entry)) at group ⌝ }
     ensures counts { λ r. ⌜ r .counts ≡ countsHeld (now (text .entry)) at group ⌝ }
@@ -76,8 +76,8 @@ pub struct Lines {
     pub to: usize,
 }
 
-// Asks where the lines of a group of the record at a place stand, their line ends among them. With count 0 both places are where they would
-// begin, and at a refusal both are the text's start.
+// R280: asks where the lines of a group of the record at a place stand, their line ends among them. With count 0 both places are where they
+// would begin (R282), and at a refusal both are the text's start (R283).
 pub fn lines_at(text: &[u8], at: usize, group: usize) -> Lines
     ensures found { λ r. ⌜ r .found ≡ foundAt (now (text .entry)) at group ⌝ }
     ensures from { λ r. ⌜ r .from ≡ partStart (now (text .entry)) at group ⌝ }
@@ -101,7 +101,7 @@ pub fn lines_at(text: &[u8], at: usize, group: usize) -> Lines
     }
 }
 
-// The lines as the part of the caller's own text that holds them.
+// R280, R446: the lines, as a part of the text that was lent; no copy is made.
 pub fn lines_part<'a>(text: &'a [u8], at: usize, group: usize) -> &'a [u8]
     ensures bytes { λ r. ⌜ now r ≡ partAt (now (text .entry)) at group ⌝ }
     ensures address { λ r. ⌜ r .ptr ≡ moved (text .entry .ptr) (partStart (now (text .entry)) at group) ⌝ }
@@ -112,8 +112,8 @@ pub fn lines_part<'a>(text: &'a [u8], at: usize, group: usize) -> &'a [u8]
     &text[from..to]
 }
 
-// Reads a group of the record at a place of a text into a table: 12, then any placing reply but 0, and then by the record's counts and the
-// group's own lines. A refusal alters nothing.
+// R260: reads a group of the record at a place of a text into a table: first as `held_at` says, then by the record's counts and the group's
+// own lines (R269). A refusal alters nothing (R267).
 pub fn read_group(text: &[u8], at: usize, group: usize, table: &mut [i64]) -> Reading
     ensures answer { λ r. ⌜ r ≡ readingOf (readAt (now (text .entry)) at group (length (now (table .entry)))) ⌝ }
     ensures table { λ _. ⌜ now (table .exit) ≡
@@ -135,7 +135,7 @@ pub fn read_group(text: &[u8], at: usize, group: usize, table: &mut [i64]) -> Re
 
 // ---- A characteristic.
 
-// A value in thousandths; no reading; not reported; or why group 4 was not read.
+// R290, R444: a value in thousandths; no reading; not reported; or why group 4 was not read.
 pub enum Characteristic {
     Value(i64),
     NoReading,
@@ -162,7 +162,7 @@ fn told_by(v: i64) -> Characteristic
     Characteristic::Value(v)
 }
 
-// Asks for a characteristic, 1 to 49, of the record at a place of a text.
+// R294: asks for a characteristic, 1 to 49, of the record at a place of a text.
 pub fn characteristic_at(text: &[u8], at: usize, number: usize) -> Characteristic
     ensures { λ r. ⌜ r ≡ characteristicAt (now (text .entry)) at number ⌝ }
 {
@@ -186,7 +186,7 @@ pub fn characteristic_at(text: &[u8], at: usize, number: usize) -> Characteristi
 
 // ---- Replies.
 
-// The answer's number in 01's table, with the numbers given besides.
+// R200 to R212: the answer's number, with the numbers beside it.
 pub fn found_reply(answer: Found) -> reply::Reply
     ensures { λ r. ⌜ r ≡ foundReply answer ⌝ }
 {
