@@ -60,7 +60,7 @@ pub record GivenAsDue : Type 0 where
   pub listed : (s out : List ℕ) (r : Put) → putAnswer 0 (listing s) out ≡ r ↔ ListingDue (listing s) (length out) r
   pub listing-is : (s x : List ℕ) → listing s ≡ x ↔ IsListing s x
 
--- what rewriting's buffer holds under 0: the canonical text of the counts and of what every group read as
+-- what rewriting's output holds under 0: the canonical text of the counts and of what every group read as
 pub record Rewrites (s : List ℕ) (at bytes next : ℕ) (buffer : List ℕ) : Type 0 where
   pub cells : ℕ → List ℤ
   pub read : ReadWhole s at next cells
