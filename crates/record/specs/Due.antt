@@ -47,13 +47,13 @@ module _ (ns : List ℕ) (cs : List ℤ) where
     pub table : HasCells ns (length cs)
     pub each : (g e : ℕ) (f : Form) → Element g e f → HasField f (elementCells g e f)
 
-  -- R304: nor 10
+  -- R304: nor 10: group 3 tells a date
   pub record HasDate : Type 0 where
     pub fields : HasFields
     pub date : Date
     pub right : Letters.Due (dateLetters ns cs) (Right date)
 
-  -- R303: 13: this element's cells have no field; those of each in a lower group, and of each lower one in this group, have
+  -- R303: 13, this element's cells have no field; those of each in a lower group, and of each lower one in this group, have
   pub record LowestNone (g e : ℕ) : Type 0 where
     pub table : HasCells ns (length cs)
     pub form : Form
@@ -62,7 +62,7 @@ module _ (ns : List ℕ) (cs : List ℤ) where
     pub lower : (h d : ℕ) (f : Form) → Element h d f → h < g → HasField f (elementCells h d f)
     pub before : (d : ℕ) → Element g d form → d < e → HasField form (elementCells g d form)
 
-  -- R304: 10
+  -- R304: 10, it tells none
   pub record WrongDate (p : ℕ) : Type 0 where
     pub fields : HasFields
     pub wrong : Letters.Due (dateLetters ns cs) (Wrong p)

@@ -16,7 +16,7 @@ use Rattle.field.specs.Entry.{entryText}
 use Rattle.count.specs.Tally.{countOf, cellsIn}
 use Rattle.reading.specs.Plan.{Line, planOf, elementsIn}
 
--- R101: how every line ends
+-- R101: every line ends so
 abbrev pub lineEnd : List ℕ
 lineEnd = 13 ∷ 10 ∷ []
 

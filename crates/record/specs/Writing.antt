@@ -33,17 +33,17 @@ dateLetters ns cs = map sizeOf (part (cellsBefore ns 3) (cellsBefore ns 4) cs)
 abbrev pub writeRoom : List ℕ → ℕ → Writing
 writeRoom ns room = cond (leb (recordBytes ns) room) (Done (recordBytes ns)) NoRoom
 
--- R304: 10
+-- R304: 10, if group 3 tells no date
 abbrev pub writeDated : List ℕ → ℕ → Dated → Writing
 writeDated ns room (Right d) = writeRoom ns room
 writeDated ns room (Wrong p) = BadDate p
 
--- R303: 13
+-- R303: 13, if an element's cells are those of no field
 abbrev pub writeFit : List ℕ → List ℤ → ℕ → Fit → Writing
 writeFit ns cs room All = writeDated ns room (datedOf (dateLetters ns cs))
 writeFit ns cs room (Not g e) = NoField g e
 
--- R302: 4, 5, 6, 7, 14
+-- R302: 4, 5, 6, 7 or 14, by count's check
 abbrev pub writeChecked : List ℕ → List ℤ → ℕ → Checked → Writing
 writeChecked ns cs room C.Right = writeFit ns cs room (fitOf ns cs)
 writeChecked ns cs room C.Misformed = Misformed

@@ -1,8 +1,8 @@
 -- The third demand, D3: damage stays where it is.
--- D3.1, D3.2: of a text and its walk (R254), bytes are exchanged for others in the data lines of a single group of a single record, and line feeds
--- are where they were. D3.3, D3.4: the walk has as many records, each where it was and with its counts. D3.5: all other groups, in all records,
--- give the reply and the cells that they gave. D3.6: the altered group is read or refused as D2 says, and nothing but its lines, the counts of its
--- record and the table's length decides that (R269). D3.7: what else follows.
+-- D3.1, D3.2: given a text and its walk (R254), bytes are exchanged for others, each for one, in the data lines of a single group of a single
+-- record, and line feeds are where they were. D3.3, D3.4: the walk has the same number of records, each where it was and with its counts. D3.5:
+-- all other groups, in all records, give the reply that they gave, and put the same cells into the same table. D3.6: that group is read or
+-- refused as D2 says, and nothing but its lines, the counts of its record and the table's length decides this (R269). D3.7: what else follows.
 --
 -- group's specs/Damage.antt has it sentence by sentence: Damaged is D3.1 and D3.2, Confined is D3.3 to D3.7.
 use mathlib.Core.List.{List}
