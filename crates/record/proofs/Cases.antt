@@ -1,4 +1,4 @@
--- 01's marked cases hold, by computation.
+-- R425: the marked cases hold, R401 to R410, all rows of the one table, by computation.
 -- Assumes nothing.
 use mathlib.Core.Path.{refl}
 use Rattle.base.specs.Every

@@ -1,4 +1,4 @@
--- Record S of 01: what is written for its counts and cells is its 305 bytes, by computation; so it is canonical, and reads back.
+-- R381, record S: what is written for its counts and cells is its 305 bytes, by computation; so it is canonical, and reads back.
 -- Assumes nothing.
 use mathlib.Core.Path.{_≡_, refl, subst}
 use mathlib.Core.List.{List, [], _∷_, _++_, map}
@@ -28,11 +28,11 @@ use Rattle.record.specs.Text.{lineEnd, entriesText, indexText, fieldsTex
 use Rattle.record.specs.Writing.{writingOf}
 use Rattle.record.proofs.ReadsBack.{done-canonical, reads-back}
 
--- "Record S has counts 4, 0, 19, 1, zeros, release 5"
+-- R380: its counts, and the release
 abbrev pub counts : List ℕ
 counts = 4 ∷ 0 ∷ 19 ∷ 1 ∷ (replicate 75 0 ++ (5 ∷ []))
 
--- "and data lines `  1.200 67.000-23.500143.000`, `AA20062650922142530`, `   7.250`": their cells
+-- R381: the cells of its groups 1, 3 and 4
 abbrev pub cells : List ℤ
 cells =
     pos 1200 ∷ pos 67000 ∷ negℤ (pos 23500) ∷ pos 143000 ∷ (map pos (bytes "AA20062650922142530") ++ (pos 7250 ∷ []))
@@ -52,7 +52,7 @@ pub written : recordText counts cells ≡ text
 unfolding recordText indexText entriesText groupsText groupText linesText lineText fieldsText Pieces.emit Every.upFrom Tally.cellsIn Table.formOf Table.formAmong Table.rowOf Table.entryOf Count.elementsOf Count.linesOf Count.roundedUp Count.cellsOf Plan.planOf Plan.planFrom Write.fieldText
 written = refl
 
--- "It has 305 bytes."
+-- R381: how long it is
 pub size : length text ≡ 305
 size = refl
 

@@ -2,8 +2,8 @@
 -- passes of writing (Checking, Putting), the letters of group 3 (Letters), each answer (Steps), what is promised of them (Promises), and when
 -- each is due (Misfits, Due); a canonical group (CanonicalGroups), index (CanonicalIndex) and record (Canonical), and where it stands in a text
 -- (Standing) with each group's own cells (GroupCells); that what is written is canonical (Written). What reply 0 of
--- writing says (Done). What was written reads back (ReadsBack); what reads fits (ReadFits), the counts of an index (IndexCounts),
--- and what was read is written again (ReadWrites). Record S (Instance) and the marked cases (Cases).
+-- writing says (Done). What was written reads back (ReadsBack); what reads fits (ReadFits), and what was read is written again
+-- (ReadWrites). Record S (Instance) and the marked cases (Cases).
 pub mod Fitting
 pub mod Lengths
 pub mod Checking

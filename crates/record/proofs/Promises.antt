@@ -48,7 +48,7 @@ module _ (ns : List ℕ) (cs : List ℤ) (room : ℕ) where
 
 -- ---- the output
 
--- refused write keeps: "a refused write alters no byte of the output"
+-- refused write keeps (R307): the whole output is what it was
 pub refused-write-keeps : (ns : List ℕ) (cs : List ℤ) (w : Writing) (old : List ℕ) → (writingReply w .number ≡ 0 → ⊥) → outputBy ns cs w old ≡ old
 refused-write-keeps ns cs (Done n) old h = absurd (h refl)
 refused-write-keeps ns cs Misformed old h = refl
@@ -60,7 +60,7 @@ refused-write-keeps ns cs (NoField g e) old h = refl
 refused-write-keeps ns cs (BadDate p) old h = refl
 refused-write-keeps ns cs NoRoom old h = refl
 
--- done write keeps the rest: the output begins with the text, n bytes long, and is as it was behind it
+-- done write keeps the rest (R306): the output begins with the text, n bytes long, and is as it was behind it
 module _ (ns : List ℕ) (cs : List ℤ) (old : List ℕ) (n : ℕ) (d : writingOf ns cs (length old) ≡ Done n) where
   long : length (recordText ns cs) ≡ n
   long =

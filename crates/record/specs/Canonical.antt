@@ -1,5 +1,5 @@
--- Canonical text as a statement about a record's bytes, apart from the function that makes them. "Canonical text has no blanks after a line's
--- fields, A120 lines of 120 bytes, carriage return and line feed on each line"; fields and index entries as field's Canonical and Entry say.
+-- R100: canonical text as a statement about a record's bytes, apart from the function that makes them. Here is how its lines end (R101) and
+-- that they end with their last field (R102); field's Canonical and Entry say how fields and index entries are written (R103 to R109).
 use mathlib.Core.Path.{_≡_}
 use mathlib.Core.List.{List, [], _∷_, _++_}
 use Prim.Native.Nat.{ℕ}
@@ -17,20 +17,20 @@ use Rattle.count.specs.Tally.{countOf}
 use Rattle.reading.specs.Plan.{Line, planOf, elementsIn}
 use Rattle.record.specs.Text.{lineEnd}
 
--- a line whose content is as P says
+-- R101: a line whose content is as P says, with its line end
 pub record Ended (P : List ℕ → Type 0) (x : List ℕ) : Type 0 where
   pub content : List ℕ
   pub good : P content
   pub is : x ≡ content ++ lineEnd
 
--- an index line of these counts
+-- R22, R103: an index line of these counts
 abbrev pub EntryOf : ℕ → List ℕ → List ℕ → Type 0
 EntryOf n x c = CanonicalEntry x n × (c ≡ n ∷ [])
 
 abbrev pub CanonicalIndexLine : List ℕ → List ℕ → Type 0
 CanonicalIndexLine ns x = Ended (λ s. Each EntryOf ns s ns) x
 
--- a line of a group: its elements' fields and nothing behind them
+-- R102: a line of a group: its elements' fields and nothing behind them
 abbrev pub CanonicalLine : Form → Line → List ℕ → List ℤ → Type 0
 CanonicalLine f l x cs = Ended (λ s. Each (λ (e : ℕ). IsCanonical f) (elementsIn l) s cs) x
 
@@ -44,7 +44,7 @@ CanonicalGroupBy NoGroup count x cs = ⊥
 abbrev pub CanonicalGroup : List ℕ → ℕ → List ℕ → List ℤ → Type 0
 CanonicalGroup ns g x cs = CanonicalGroupBy (formOf g) (countOf ns g) x cs
 
--- x is a canonical record with these counts and cells
+-- R20: x is a canonical record with these counts and cells
 pub record CanonicalRecord (ns : List ℕ) (x : List ℕ) (cs : List ℤ) : Type 0 where
   pub many : length ns ≡ 80
   pub first : List ℕ

@@ -1,5 +1,5 @@
--- 01's marked cases in its order, with its reply numbers, and some neighbours: a field on a line of its own as it is read and written, the
--- lines of a count, the letters of group 3.
+-- R401 to R410, the marked cases in their order, and some neighbours: a field on a line of its own as it is read and written, the lines of a
+-- count, the letters of group 3. Replies are given by their numbers.
 use mathlib.Core.Path.{_≡_}
 use mathlib.Core.List.{List, [], _∷_, _++_}
 use Prim.Native.Nat.{ℕ}
@@ -80,53 +80,53 @@ date y n m d h i e = record { year = y; «day_of_year» = n; month = m; day = d;
 
 abbrev pub cases : List Case
 cases =
-    -- 1. F8.3 `9999.999` reads 9,999,999; writing 10,000,000 gives 13.
+    -- R401: the greatest cell of F8.3, and the next one above
     reads F8 "9999.999" 0 (pos 9999999 ∷ [])
     ∷ refuses F8 (pos 10000000 ∷ []) 13
-    -- 2. F8.3 `-999.999` reads -999,999; writing -1,000,000 gives 13.
+    -- R402: the least cell of F8.3, and the next one below
     ∷ reads F8 "-999.999" 0 (minus 999999 ∷ [])
     ∷ refuses F8 (minus 1000000 ∷ []) 13
-    -- 3. F8.3 `   -.500` reads -500; canonical `  -0.500`.
+    -- R403: no digit before the point; canonical text has one there
     ∷ reads F8 "   -.500" 0 (minus 500 ∷ [])
     ∷ writes F8 (minus 500 ∷ []) "  -0.500"
-    -- 4. F8.3 `  -0.000` reads 0; `  123456` is refused, 9.
+    -- R404: a minus before zeros; no point
     ∷ reads F8 "  -0.000" 0 (pos 0 ∷ [])
     ∷ reads F8 "  123456" 9 []
-    -- 5. I3 `007` reads 7; `- 7` is refused, 9.
+    -- R405: zeros in front; a blank behind the minus
     ∷ reads I3 "007" 0 (pos 7 ∷ [])
     ∷ reads I3 "- 7" 9 []
-    -- 6. E8.3E1 `0.123E+6` reads 123 and 6; `1.230E+5` is refused, 9.
+    -- R406: before the point a 0; another digit
     ∷ reads E8 "0.123E+6" 0 (pos 123 ∷ pos 6 ∷ [])
     ∷ reads E8 "1.230E+5" 9 []
-    -- 7. E20.12E2 `  0.100000000000E+01` reads 100,000,000,000 and 1.
+    -- R407: three columns before the point, twelve digits behind it
     ∷ reads E20 "  0.100000000000E+01" 0 (pos 100000000000 ∷ pos 1 ∷ [])
-    -- 8. F8.3 counts 0, 15, 16 have 0, 1, 2 lines.
+    -- R408: no element, a full line, one element more
     ∷ takes F8 0 0
     ∷ takes F8 15 1
     ∷ takes F8 16 2
-    -- 9. 2004, day 60, 29 February is right; the same in 2006 is 10 at 7; 2006, day 60, 1 March is right.
+    -- R409: day 60 is 29 February in a leap year, and 1 March in another
     ∷ dates "AA20040600229142530" (date 2004 60 2 29 14 25 30)
     ∷ blames "AA20060600229142530" 10 7
     ∷ dates "AA20060600301142530" (date 2006 60 3 1 14 25 30)
-    -- 10. 1900, day 366, 31 December is 10 at 7.
+    -- R410: a full century that 400 doesn't divide has no day 366
     ∷ blames "AA19003661231142530" 10 7
-    -- "Index entries are I3 without a minus, so ` -0` is misformed there"
+    -- R23: I3 may have a minus, an index entry may not, even before 0; R84: zeros in front
     ∷ reads I3 " -0" 0 (pos 0 ∷ [])
     ∷ entry " -0" Misformed
     ∷ entry "005" (Count 5)
-    -- "No plus sign stands before a number's digits. A blank I, F or E field is refused"
+    -- R81: a plus in front; R82: nothing but blanks
     ∷ reads I3 " +7" 9 []
     ∷ reads F8 "        " 9 []
     ∷ reads E8 "        " 9 []
-    -- "Zero has no minus, and exponent zero has a plus"
+    -- R107: zero is written without a minus; R108: an exponent of zero with a plus
     ∷ writes F8 (pos 0 ∷ []) "   0.000"
     ∷ writes E20 (minus 5 ∷ pos 0 ∷ []) " -0.000000000005E+00"
-    -- record S's date; "0000 is a leap year"
+    -- R381: the date of record S; R144: 0000 is leap
     ∷ dates "AA20062650922142530" (date 2006 265 9 22 14 25 30)
     ∷ dates "AA00000600229000000" (date 0 60 2 29 0 0 0)
-    -- "Blamed is the first position of the first field that fails alone; if none, 7 for a mismatch"
+    -- R148: the days don't agree, but the hour fails alone, and so it is blamed (R147)
     ∷ blames "AA20060600229240000" 10 14
-    -- "All digits": blanks are none, and neither is what is not there
+    -- R142: a blank is no digit, and neither is what is not there
     ∷ blames "AA2006265 922142530" 10 10
     ∷ blames "AA2006265092214253" 10 18
     ∷ []

@@ -1,5 +1,5 @@
--- When each reply of writing is due: its condition in 01's table, and none earlier in 01's order: "4, 5, 6, 7, 14, 13 (lowest group, then
--- lowest element), 10, 11".
+-- R233, R301: when each reply of writing is due: its condition holds, and none that stands before it in the order 4, 5, 6, 7, 14, 13, 10, 11
+-- is due.
 use mathlib.Core.Path.{_≡_}
 use mathlib.Core.List.{List}
 use Prim.Native.Nat.{ℕ, _+_, _-_, _*_, _<_, _≤_}
@@ -22,7 +22,7 @@ use Rattle.record.specs.declared.Writing.the-variants.{Done, Misformed, 
 use Rattle.record.specs.Text.{recordBytes}
 use Rattle.record.specs.Writing.{dateLetters}
 
--- "13 is given exactly when some cell or pair has no accepted field that reads as it": there is such a field
+-- R303: there is a field of the form, canonical or not, that reads as these cells
 pub record HasField (f : Form) (c : List ℤ) : Type 0 where
   pub field : List ℕ
   pub is : IsField f field c
@@ -32,28 +32,28 @@ abbrev pub HasNone : Form → List ℤ → Type 0
 HasNone f c = (s : List ℕ) → IsField f s c → ⊥
 
 module _ (ns : List ℕ) (cs : List ℤ) where
-  -- element e of group g, which has this form. "Lines and elements count from 1."
+  -- R231: element e of group g, which has this form; elements are counted from 1
   pub record Element (g e : ℕ) (f : Form) : Type 0 where
     pub form : formOf g ≡ Has f
     pub low : 1 ≤ e
     pub high : e ≤ elementsOf f (countOf ns g)
 
-  -- its cells, "in group order"
+  -- R46, R47: its cells, behind those of the groups below and of the elements before it
   abbrev pub elementCells : ℕ → ℕ → Form → List ℤ
   elementCells g e f = take (rowOf f .cells) (drop (cellsBefore ns g + (e - 1) * rowOf f .cells) cs)
 
-  -- none of 4, 5, 6, 7 and 14, by count's Due; nor 13: each element's cells have a field
+  -- R302: none of 4, 5, 6, 7 and 14, by count's Due; R303: nor 13: each element's cells have a field
   pub record HasFields : Type 0 where
     pub table : HasCells ns (length cs)
     pub each : (g e : ℕ) (f : Form) → Element g e f → HasField f (elementCells g e f)
 
-  -- nor 10
+  -- R304: nor 10: group 3 tells a date
   pub record HasDate : Type 0 where
     pub fields : HasFields
     pub date : Date
     pub right : Letters.Due (dateLetters ns cs) (Right date)
 
-  -- 13: this element's cells have no field; those of each in a lower group, and of each lower one in this group, have
+  -- R303: 13, this element's cells have no field; those of each in a lower group, and of each lower one in this group, have
   pub record LowestNone (g e : ℕ) : Type 0 where
     pub table : HasCells ns (length cs)
     pub form : Form
@@ -62,12 +62,12 @@ module _ (ns : List ℕ) (cs : List ℤ) where
     pub lower : (h d : ℕ) (f : Form) → Element h d f → h < g → HasField f (elementCells h d f)
     pub before : (d : ℕ) → Element g d form → d < e → HasField form (elementCells g d form)
 
-  -- 10
+  -- R304: 10, it tells none
   pub record WrongDate (p : ℕ) : Type 0 where
     pub fields : HasFields
     pub wrong : Letters.Due (dateLetters ns cs) (Wrong p)
 
-  -- 11: "output shorter than what reply 0 would fill, and only then"; and 0
+  -- R305: 11, the canonical text is longer than the output; R306: 0, it is not
   pub record Short (room : ℕ) : Type 0 where
     pub date : HasDate
     pub short : room < recordBytes ns

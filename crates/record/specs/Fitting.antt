@@ -1,4 +1,4 @@
--- "13 (lowest group, then lowest element)": the first element of a record whose cells fit no field of its form.
+-- R303: the first element of a record, group after group, whose cells fit no field of its form.
 use mathlib.Core.Bool.{cond}
 use mathlib.Core.List.{List, [], _∷_}
 use Prim.Native.Nat.{ℕ, _*_, _<_}
@@ -28,7 +28,7 @@ firstMisfit size fit (a ∷ bs) cs = firstOf (fit a (take (size a) cs)) (firstMi
 abbrev pub elementFit : Form → ℕ → ℕ → List ℤ → Fit
 elementFit f g e c = cond (fitsOf f c) All (Not g e)
 
--- the elements of group g: "Lines and elements count from 1"
+-- R231: the elements of group g, counted from 1
 unfoldable pub elementsFit : Form → ℕ → ℕ → List ℤ → Fit
 elementsFit f g count cs =
     firstMisfit (λ (e : ℕ). rowOf f .cells) (elementFit f g) (upFrom 1 (elementsOf f count)) cs

@@ -1,4 +1,4 @@
--- "What was written reads back as the values it was made from, and canonical text that is read and written again returns byte for byte."
+-- D2.4: reading what was written gives its counts and cells; D2.5: writing what was read from canonical text gives its bytes.
 use mathlib.Core.Path.{_≡_}
 use mathlib.Core.List.{List, flatMap}
 use Prim.Native.Nat.{ℕ, suc, _+_, _≤_}
@@ -19,7 +19,7 @@ use Rattle.record.specs.Writing.{writingOf}
 abbrev pub groupCells : List ℕ → List ℤ → ℕ → List ℤ
 groupCells ns cs g = part (cellsBefore ns g) (cellsBefore ns (suc g)) cs
 
--- n bytes that stand at a place of a text read back as these counts and cells
+-- D2.4: n bytes that stand at a place of a text read back as these counts and cells
 pub record ReadsBack (ns : List ℕ) (cs : List ℤ) (n : ℕ) (s : List ℕ) (at : ℕ) : Type 0 where
   -- placing gives 0, with the place behind the n bytes and the same counts
   pub placed : placingOf s at ≡ Placed (at + n)
@@ -33,14 +33,14 @@ pub record ReadWhole (s : List ℕ) (at next : ℕ) (cells : ℕ → List ℤ) :
   pub room : ℕ → ℕ
   pub groups : (g : ℕ) → 1 ≤ g → g ≤ 60 → readAt s at g (room g) ≡ done (cells g)
 
--- "one table of all cells in group order"
+-- R47: the cells of all groups, group 1's first
 abbrev pub joined : (ℕ → List ℤ) → List ℤ
 joined cells = flatMap cells (upFrom 1 60)
 
 -- what writing the counts and cells that were read comes to
 pub record WritesAgain (s : List ℕ) (at next : ℕ) (cells : ℕ → List ℤ) : Type 0 where
-  -- 0, where there is room
+  -- R112: 0, where there is room
   pub written : (room : ℕ) → recordBytes (countsAt s at) ≤ room → writingOf (countsAt s at) (joined cells) room ≡ Done (recordBytes (countsAt s at))
-  -- and where the record's bytes are canonical, of whatever cells, these are the cells that were read, and its bytes are what is written
+  -- D2.5: and where the record's bytes are canonical, of whatever cells, these are the cells that were read, and its bytes are what is written
   pub cells-same : (ds : List ℤ) → CanonicalRecord (countsAt s at) (part at next s) ds → ds ≡ joined cells
   pub bytes-same : (ds : List ℤ) → CanonicalRecord (countsAt s at) (part at next s) ds → recordText (countsAt s at) (joined cells) ≡ part at next s

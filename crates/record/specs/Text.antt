@@ -1,4 +1,4 @@
--- The canonical text of counts and cells. "A record is two index lines, then the lines of groups 1 to 60 in number order."
+-- R100: the canonical text of counts and cells. R20: the two lines of the index, and behind them those of group 1, of group 2, up to 60.
 use mathlib.Core.List.{List, [], _∷_, _++_, map}
 use Prim.Native.Nat.{ℕ, _+_, _*_}
 use lib.IntN.{ℤ}
@@ -16,7 +16,7 @@ use Rattle.field.specs.Entry.{entryText}
 use Rattle.count.specs.Tally.{countOf, cellsIn}
 use Rattle.reading.specs.Plan.{Line, planOf, elementsIn}
 
--- "carriage return and line feed on each line"
+-- R101: every line ends so
 abbrev pub lineEnd : List ℕ
 lineEnd = 13 ∷ 10 ∷ []
 
@@ -26,7 +26,7 @@ unfoldable pub entriesText : List ℕ → List ℕ
 entriesText [] = []
 entriesText (n ∷ ns) = entryText n ++ entriesText ns
 
--- "The index (2(40I3))": two lines of 40 counts
+-- R21, R22: two lines of 40 counts
 unfoldable pub indexText : List ℕ → List ℕ
 indexText ns = (entriesText (take 40 ns) ++ lineEnd) ++ (entriesText (drop 40 ns) ++ lineEnd)
 
@@ -39,7 +39,7 @@ lineCells f l = l .many * rowOf f .cells
 unfoldable pub fieldsText : Form → Line → List ℤ → List ℕ
 fieldsText f l cs = emit (λ (e : ℕ). rowOf f .cells) (λ (e : ℕ) c. fieldText f c) (elementsIn l) cs
 
--- "no blanks after a line's fields"
+-- R102: the line ends directly behind its last field
 unfoldable pub lineText : Form → Line → List ℤ → List ℕ
 lineText f l cs = fieldsText f l cs ++ lineEnd
 
@@ -59,14 +59,14 @@ groupText ns g cs = groupTextBy (formOf g) (countOf ns g) cs
 
 -- ---- a record
 
--- the groups' lines, each from its own cells
+-- R47: the groups' lines, each from its own cells
 unfoldable pub groupsText : List ℕ → List ℤ → List ℕ
 groupsText ns cs = emit (cellsIn ns) (groupText ns) (upFrom 1 60) cs
 
 unfoldable pub recordText : List ℕ → List ℤ → List ℕ
 recordText ns cs = indexText ns ++ groupsText ns cs
 
--- ---- how long it is, by the counts alone
+-- ---- R110: how long it is, by the counts alone
 
 abbrev pub bytesOf : Form → ℕ → ℕ
 bytesOf f count = elementsOf f count * rowOf f .width + linesOf f count * 2

@@ -1,5 +1,5 @@
--- "Writing takes the counts, one table of all cells in group order, and the output: 4, 5, 6, 7, 14, 13 (lowest group, then lowest element), 10,
--- 11." What it answers, and what the output is afterwards.
+-- R300: asked with counts, the cells of all groups and an output. What writing answers, by R301 in the order 4, 5, 6, 7, 14, 13, 10, 11, and
+-- what the output is afterwards.
 use mathlib.Core.Bool.{cond}
 use mathlib.Core.List.{List, [], _∷_, _++_, map}
 use Prim.Native.Nat.{ℕ}
@@ -25,25 +25,25 @@ use Rattle.record.specs.declared.Writing.the-variants.{Done, Misformed, 
 use Rattle.record.specs.Fitting.{fitOf}
 use Rattle.record.specs.Text.{recordText, recordBytes}
 
--- the letters of group 3
+-- R304: the letters of group 3
 abbrev pub dateLetters : List ℕ → List ℤ → List ℕ
 dateLetters ns cs = map sizeOf (part (cellsBefore ns 3) (cellsBefore ns 4) cs)
 
--- 11: "output shorter than what reply 0 would fill, and only then"
+-- R305: 11, if the canonical text is longer than the output
 abbrev pub writeRoom : List ℕ → ℕ → Writing
 writeRoom ns room = cond (leb (recordBytes ns) room) (Done (recordBytes ns)) NoRoom
 
--- 10
+-- R304: 10, if group 3 tells no date
 abbrev pub writeDated : List ℕ → ℕ → Dated → Writing
 writeDated ns room (Right d) = writeRoom ns room
 writeDated ns room (Wrong p) = BadDate p
 
--- 13
+-- R303: 13, if an element's cells are those of no field
 abbrev pub writeFit : List ℕ → List ℤ → ℕ → Fit → Writing
 writeFit ns cs room All = writeDated ns room (datedOf (dateLetters ns cs))
 writeFit ns cs room (Not g e) = NoField g e
 
--- 4, 5, 6, 7, 14
+-- R302: 4, 5, 6, 7 or 14, by count's check
 abbrev pub writeChecked : List ℕ → List ℤ → ℕ → Checked → Writing
 writeChecked ns cs room C.Right = writeFit ns cs room (fitOf ns cs)
 writeChecked ns cs room C.Misformed = Misformed
@@ -56,7 +56,7 @@ writeChecked ns cs room C.OtherLength = OtherLength
 unfoldable pub writingOf : List ℕ → List ℤ → ℕ → Writing
 writingOf ns cs room = writeChecked ns cs room (checkedOf ns (length cs))
 
--- "a refused write alters no byte of the output"; "Cells behind the last one written keep their content, and so do output bytes in writing."
+-- R306: under 0 the text stands in the output from its first byte on, and bytes behind it stay; R307: a refusal leaves the whole output
 abbrev pub outputBy : List ℕ → List ℤ → Writing → List ℕ → List ℕ
 outputBy ns cs (Done n) old = over 0 (recordText ns cs) old
 outputBy ns cs Misformed old = old
@@ -68,7 +68,7 @@ outputBy ns cs (NoField g e) old = old
 outputBy ns cs (BadDate p) old = old
 outputBy ns cs NoRoom old = old
 
--- each answer's number in 01's table, with the numbers given besides
+-- R200 to R214: each answer's number, with the numbers beside it
 abbrev pub writingReply : Writing → Reply
 writingReply (Done n) = replyDone n
 writingReply Misformed = replyPlain 4
@@ -80,6 +80,6 @@ writingReply (NoField g e) = replyField g e
 writingReply (BadDate p) = replyDate p
 writingReply NoRoom = replyPlain 11
 
--- the rows of writing: "4, 5, 6, 7, 14, 13 (lowest group, then lowest element), 10, 11"
+-- R301: the rows of writing
 abbrev pub writingRows : List Row
 writingRows = row 0 (bytes ∷ []) ∷ (checkRefusals ++ (row 13 (group ∷ element ∷ []) ∷ dateRefusal ∷ row 11 [] ∷ []))

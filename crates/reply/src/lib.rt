@@ -1,4 +1,4 @@
-// 01's table of replies: a reply's number, with the numbers given besides. What a reply's row doesn't name is 0.
+// R200 to R214: a reply's number, with the numbers beside it. What a reply's row doesn't name is 0 (R230).
 ghost use mathlib.Core.Path.{_≡_};
 ghost use Rattle.reply.specs.Table.{replyPlain, replyOn, replyAt, replyDone, replyLine, replyField, replyDate};
 

@@ -85,7 +85,7 @@ rewritten-same a (more x {y} r l ys) k h =
     ∙ rewritten-done (a ++ (x ++ y)) (k - 1) (length a) (length x) (length a + length x) e
     ∙ ap₂ _++_ (right-text r a y) rest
 
--- "canonical text that is read and written again returns byte for byte"
+-- R348: such a text is printed as it stands
 pub canonical-printed : (s : List ℕ) → CanonicalRecords s → length s ≤ 65536 → printed s ≡ s
 unfolding printed rewritten
 canonical-printed s c l = rw (le-leb (length s) 65536 l) (rewritten-same [] c (length s) (omega arith))

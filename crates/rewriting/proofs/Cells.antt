@@ -1,5 +1,5 @@
--- A record has no more cells than bytes of canonical text: a field gives no more cells than it has columns. So a table that is as long as the
--- buffer always serves.
+-- R111: a record has no more cells than bytes of canonical text: a field gives no more cells than it has columns. So a table that is as long as
+-- the output always serves.
 -- Assumes nothing.
 use mathlib.Core.List.{List}
 use Prim.Native.Nat.{ℕ, _≤_}

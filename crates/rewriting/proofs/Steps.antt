@@ -1,4 +1,4 @@
--- Rewriting a record, reply by reply: each answer, with the table and the buffer that it leaves, by what led to it.
+-- Rewriting a record, reply by reply: each answer, with the table and the output that it leaves, by what led to it.
 -- Assumes nothing.
 use mathlib.Core.Path.{_≡_, refl, sym, _∙_, ap}
 use mathlib.Core.List.{List, _++_}
@@ -29,7 +29,7 @@ use Rattle.rewriting.specs.Record.{Turn, groupsOf, allInTurn, cellsAt, r
 use Rattle.rewriting.proofs.Due.{missing-is, short-is, roomy-is}
 use Rattle.rewriting.proofs.Whole.{whole-length, whole-written}
 
--- what an answer, a table and a buffer at exit owe
+-- what an answer, a table and an output at exit owe
 abbrev pub Outcome : List ℕ → ℕ → List ℤ → List ℕ → Rewriting → List ℤ → List ℕ → Type 0
 Outcome s at table out r new text = (r ≡ rewritingOf s at (length table) (length out)) × (new ≡ tableBy s at r table) × (text ≡ bufferBy s at r out)
 

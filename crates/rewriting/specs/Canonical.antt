@@ -1,5 +1,4 @@
--- "canonical text that is read and written again returns byte for byte": a text of canonical records, one behind the other, within the
--- program's limits.
+-- R348, D2.5: the texts that the program prints as they stand: canonical records, one behind the other, within its limits.
 use mathlib.Core.List.{List, [], _++_}
 use Prim.Native.Nat.{ℕ, _≤_}
 use lib.IntN.{ℤ}

@@ -1,4 +1,4 @@
-// Rewriting: the record at a place of a text as canonical text, over a lent table. Any text, place, table and buffer may be given.
+// R320, rewriting: the record at a place of a text as canonical text, over a lent table. Any text, place, table and output may be given (R241).
 use count::Ruling;
 use reading::Reading;
 use reading::Refusal;
@@ -18,13 +18,13 @@ ghost use Rattle.rewriting.specs.Record.{tableBy as tableAfter};
 
 // What rewriting a record answers.
 pub enum Rewriting {
-    // 0, with the bytes written and the next place
+    // R200: 0, with the bytes that were written and the next place
     Done(usize, usize),
-    // any placing reply but 0
+    // R321: what placing refused with
     Missing(Refusal),
-    // 11
+    // R322: 11
     NoRoom,
-    // the first reply other than 0 of reading groups 1 to 60, with that group's number
+    // R323: the first group that was refused, and what with
     Unread(usize, Refusal),
 }
 
@@ -62,7 +62,7 @@ fn read_part(
     reading::read_kept(counts, group, &text[from..to], &mut table[cell..end])
 }
 
-// Groups 1 to 60 in turn, into consecutive parts of the table, up to the first that is refused.
+// R326: groups 1 to 60 in turn, into consecutive parts of the table, up to the first that is refused.
 fn read_groups(text: &[u8], at: usize, counts: &[u16], table: &mut [i64]) -> Groups
     requires counts { ⌜ now counts ≡ countsAt (now text) at ⌝ }
     requires ready { ⌜ Ready (now text) at (length (now table)) ⌝ }
@@ -107,9 +107,9 @@ fn write_cells(counts: &[u16], table: &[i64], cells: usize, out: &mut [u8])
     record::put_record(counts, &table[0..cells], out);
 }
 
-// Rewrites the record at a place of a text into a buffer, over a table: any placing reply but 0; 11 if its canonical text is longer than the
-// buffer or its cells are more than the table; the first reply other than 0 of reading groups 1 to 60 in turn, with that group's number;
-// else 0 with the bytes written and the next place. A refusal alters no byte of the buffer.
+// Rewrites the record at a place of a text into an output, over a table. R321: what placing refuses with; 11 if output or table is too short
+// (R322); what the first group that is refused is refused with, and which group that is (R323); else 0 with the bytes that were written and
+// the next place. A refusal leaves the whole output as it was (R325).
 pub fn rewrite_record(text: &[u8], at: usize, table: &mut [i64], out: &mut [u8]) -> Rewriting
     ensures answer { λ r. ⌜ r ≡
         rewritingOf (now (text .entry)) at (length (now (table .entry))) (length (now (out .entry))) ⌝ }
@@ -141,7 +141,7 @@ pub fn rewrite_record(text: &[u8], at: usize, table: &mut [i64], out: &mut [u8])
 
 // ---- Replies.
 
-// The answer's number in 01's table, with the numbers given besides.
+// R200 to R214: the answer's number, with the numbers beside it.
 pub fn reply_of(answer: Rewriting) -> reply::Reply
     ensures { λ r. ⌜ r ≡ rewritingReply answer ⌝ }
 {
@@ -161,7 +161,7 @@ pub fn reply_of(answer: Rewriting) -> reply::Reply
     }
 }
 
-// The group that was not read; 0 where none was.
+// R323: the group whose reading was refused; 0 where none was.
 pub fn group_of(answer: Rewriting) -> usize
     ensures { λ r. ⌜ r ≡ rewritingGroup answer ⌝ }
 {

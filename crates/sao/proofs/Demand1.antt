@@ -1,4 +1,4 @@
--- The first demand (specs/Demand1.antt).
+-- D1, the first demand (specs/Demand1.antt).
 -- Assumes nothing.
 use mathlib.Core.Path.{_≡_, refl}
 use mathlib.Core.List.{List}

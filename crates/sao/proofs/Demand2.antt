@@ -1,4 +1,4 @@
--- The second demand (specs/Demand2.antt).
+-- D2, the second demand (specs/Demand2.antt).
 -- Assumes nothing.
 use mathlib.Core.Path.{_≡_, refl, sym, subst}
 use mathlib.Core.List.{List}

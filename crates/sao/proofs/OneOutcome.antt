@@ -1,5 +1,5 @@
--- "Show that any two outcomes it allows are equal": of each question's contract itself, as its caller learns it (`Learnt`). A contract that
--- leaves open a part of the answer or of what is lent has no proof here.
+-- R420, R421: one outcome, of each question's contract itself, as its caller learns it (`Learnt`). A contract that leaves open a part of the
+-- answer or of what is lent has no proof here.
 -- Assumes nothing.
 use mathlib.Core.Path.{_≡_, sym, _∙_, ap}
 use denote.Ref.{now}

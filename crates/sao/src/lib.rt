@@ -1,6 +1,6 @@
-// The questions. Each may be asked of every text, place, number, table and output; a caller never has to check beforehand. The layers answer
-// them; here each has its name, its contract and nothing else. `reply_of` and its like in the layers give an answer's number in 01's table,
-// with the numbers given besides.
+// The questions, R240. Each may be asked of every text, place, number, table and output; nothing has to hold beforehand (R241). The layers
+// answer them; here each has its name, its contract and nothing else. `reply_of` and its like in the layers give an answer's number, with the
+// numbers beside it (R200 to R214).
 use decimal::Put;
 use group::Characteristic;
 use group::Lines;
@@ -20,9 +20,9 @@ ghost use Rattle.record.specs.Writing.{writingOf, outputBy};
 ghost use Rattle.rewriting.specs.Record.{rewritingOf, tableBy as tableAfter, bufferBy};
 ghost use Rattle.listing.specs.Listing.{listing};
 
-// Asked: which record stands at a place of a text.
+// R250 to R253. Asked: which record stands at a place of a text.
 // Answered: the placing, with the next place under 0 and 7, and the record's 80 counts.
-// A refusal has next place 0 and 80 zero counts.
+// A refusal but 7 has next place 0 and 80 zero counts.
 pub fn place(text: &[u8], at: usize) -> Record
     ensures answer { λ r. ⌜ r .answer ≡ placingOf (now (text .entry)) at ⌝ }
     ensures counts { λ r. ⌜ r .counts ≡ countsAt (now (text .entry)) at ⌝ }
@@ -30,7 +30,7 @@ pub fn place(text: &[u8], at: usize) -> Record
     place::place(text, at)
 }
 
-// Asked: the cells of a group, 1 to 60, of the record at a place.
+// R260 to R268. Asked: the cells of a group, 1 to 60, of the record at a place.
 // Answered: 0 with the number of cells, which stand in the table from its first cell on; what stands behind them is kept.
 // A refusal leaves the whole table as it was.
 pub fn read_group(text: &[u8], at: usize, group: usize, table: &mut [i64]) -> Reading
@@ -41,9 +41,9 @@ pub fn read_group(text: &[u8], at: usize, group: usize, table: &mut [i64]) -> Re
     group::read_group(text, at, group, table)
 }
 
-// Asked: where the lines of a group of the record at a place stand in the text.
-// Answered: that they can be given, and from where to where they stand; with count 0 both places are where they would begin.
-// A refusal has its reply, 12 or any placing reply but 0, and both places are the text's start.
+// R280 to R284. Asked: where the lines of a group of the record at a place stand in the text.
+// Answered: that they can be given, and from where to where they stand; with count 0 both places are where they would be.
+// A refusal has its reply, 12 or what placing refuses with, and both places are 0.
 pub fn group_lines_at(text: &[u8], at: usize, group: usize) -> Lines
     ensures found { λ r. ⌜ r .found ≡ foundAt (now (text .entry)) at group ⌝ }
     ensures from { λ r. ⌜ r .from ≡ partStart (now (text .entry)) at group ⌝ }
@@ -52,9 +52,9 @@ pub fn group_lines_at(text: &[u8], at: usize, group: usize) -> Lines
     group::lines_at(text, at, group)
 }
 
-// Asked: the lines of a group, with their line ends.
-// Answered: the part of the caller's own text that holds them; with count 0 the empty part where they would begin.
-// A refusal gives the empty part at the text's start.
+// R280 to R284. Asked: the lines of a group, with their line ends.
+// Answered: that part of the lent text, not a copy; with count 0 it is empty, and lies where the lines would be.
+// A refusal gives the empty part at place 0.
 pub fn group_lines<'a>(text: &'a [u8], at: usize, group: usize) -> &'a [u8]
     ensures bytes { λ r. ⌜ now r ≡ partAt (now (text .entry)) at group ⌝ }
     ensures address { λ r. ⌜ r .ptr ≡ moved (text .entry .ptr) (partStart (now (text .entry)) at group) ⌝ }
@@ -62,7 +62,7 @@ pub fn group_lines<'a>(text: &'a [u8], at: usize, group: usize) -> &'a [u8]
     group::lines_part(text, at, group)
 }
 
-// Asked: a characteristic, 1 to 49, of the record at a place.
+// R290 to R294. Asked: a characteristic, 1 to 49, of the record at a place.
 // Answered: its value in thousandths, or that there is no reading, or that it is not reported.
 // A refusal has its reply: 12, or that of reading group 4.
 pub fn characteristic(text: &[u8], at: usize, number: usize) -> Characteristic
@@ -71,7 +71,7 @@ pub fn characteristic(text: &[u8], at: usize, number: usize) -> Characteristic
     group::characteristic_at(text, at, number)
 }
 
-// Asked: to write a record of these counts and of all cells in group order.
+// R300 to R307. Asked: to write a record of these counts and of the cells of all groups, group 1's first.
 // Answered: 0 with the number of bytes, which stand in the output from its first byte on; what stands behind them is kept.
 // A refusal leaves the whole output as it was.
 pub fn write_record(counts: &[u16], cells: &[i64], out: &mut [u8]) -> Writing
@@ -82,7 +82,7 @@ pub fn write_record(counts: &[u16], cells: &[i64], out: &mut [u8]) -> Writing
     record::write_record(counts, cells, out)
 }
 
-// Asked: the listing of a text, a line for each placed record and the line `end`.
+// R310, R311. Asked: the listing of a text, a line for each record of its walk and the line `end`.
 // Answered: 0 with the number of bytes, which stand in the output from its first byte on; what stands behind them is kept.
 // A refusal (11) leaves the whole output as it was.
 pub fn list(text: &[u8], out: &mut [u8]) -> Put
@@ -91,7 +91,7 @@ pub fn list(text: &[u8], out: &mut [u8]) -> Put
     listing::render(text, out)
 }
 
-// Asked: to rewrite the record at a place as canonical text.
+// R320 to R326. Asked: to rewrite the record at a place as canonical text.
 // Answered: 0 with the number of bytes and the next place; the bytes stand in the output from its first byte on, the record's cells in the
 // table from its first cell on, and what stands behind them is kept.
 // A refusal leaves the whole output as it was; the table has the cells of the groups that were read before it.

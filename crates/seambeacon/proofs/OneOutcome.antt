@@ -1,5 +1,5 @@
--- Any two outcomes that a contract allows are equal, of each exported function's contract itself (`Learnt`): the number, the numbers beside
--- it, and all else that is lent.
+-- R420, R421: one outcome, of each exported function's contract itself (`Learnt`): the number, the numbers beside it, and all else that is
+-- lent.
 -- Assumes nothing.
 use mathlib.Core.Path.{sym, _∙_}
 use Rattle.sao.specs.Outcome.{OneOutcome}

@@ -28,6 +28,6 @@ module _ {r q : Reply} where
       let whole : numbers (r .number) (r .next) (r .written) (r .group) (r .line) (r .element) (r .position) ≡ q = rw (number, next, written, group, line, element, position) refl in
       whole
 
--- "one of the numbered replies": `Numbered` is what `EndsNumbered` of sao says of each question's reply
+-- D1.2: the number that is told is one of the question's rows; `Numbered` is what `EndsNumbered` of sao says of each question's reply
 pub told-known : (rows : List Row) (r : Reply) (n : ℕ) (bs : List ℕ) → Numbered rows r → Told r n bs → T (has (map (λ w. w .number) rows) n)
 told-known rows r n bs k t = rw (t .number) (numbered-known rows r k)

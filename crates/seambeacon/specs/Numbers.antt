@@ -1,4 +1,4 @@
--- Answers in numbers alone. 01's table has a reply's number, with numbers "given besides"; "Numbers not named in a row are 0."
+-- R360: answers in numbers alone: a reply's number, and six numbers beside it, of which those that its row doesn't name are 0 (R230).
 use mathlib.Core.Path.{_≡_}
 use mathlib.Core.List.{List, [], _∷_}
 use Prim.Native.Nat.{ℕ}
@@ -16,7 +16,7 @@ pub record Told (r : Reply) (n : ℕ) (beside : List ℕ) : Type 0 where
   pub number : n ≡ r .number
   pub besides : beside ≡ besideOf r
 
--- "a value in thousandths, or no reading .., or not reported ..; otherwise it is 12 or group 4's reply": the kinds, and the value or 0
+-- R361: the kind of a characteristic, and its value, which is 0 for all kinds but the first
 abbrev pub answerKind : Characteristic → ℕ
 answerKind (Value z) = 0
 answerKind NoReading = 1

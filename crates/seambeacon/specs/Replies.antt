@@ -1,4 +1,4 @@
--- Each question's reply, from what is asked: the layers' answers in 01's table.
+-- R200 to R214: each question's reply, from what is asked: the layers' answers as replies.
 use mathlib.Core.List.{List}
 use Prim.Native.Nat.{ℕ}
 use lib.IntN.{ℤ}

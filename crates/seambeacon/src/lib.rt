@@ -1,6 +1,6 @@
-// The boundary to C: each question of `sao` under a name of its own, in numbers and slices alone. A function answers with the reply's number
-// in 01's table and writes the six numbers beside it, in the order of `besideOf`, into lent memory; numbers that the reply's row doesn't name
-// are 0. What else is lent is altered as the question of the same name says. include/seambeacon.h tells a caller in C.
+// The boundary to C: each question of `sao` under a name of its own, in numbers and slices alone. R360: a function answers with the reply's
+// number and writes the six numbers beside it, in the order of `besideOf`, into lent memory; those that the reply's row doesn't name are 0.
+// What else is lent is altered as the question of the same name says. include/seambeacon.h tells a caller in C.
 use group::Characteristic;
 use reply::Reply;
 ghost use mathlib.Core.Path.{_≡_};
@@ -22,7 +22,7 @@ ghost use Rattle.listing.specs.Listing.{listing};
 
 // ---- Numbers.
 
-// A reply as its number, and the numbers beside it.
+// R360: a reply as its number, and the numbers beside it.
 fn tell(r: Reply, beside: &mut [usize; 6]) -> u32
     ensures { λ n. ⌜ Told r n (now (beside .exit)) ⌝ }
 {
@@ -30,7 +30,7 @@ fn tell(r: Reply, beside: &mut [usize; 6]) -> u32
     r.number
 }
 
-// The kind of a characteristic's answer.
+// R361: the kind of a characteristic's answer.
 fn kind_of(c: Characteristic) -> u32
     ensures { λ r. ⌜ r ≡ answerKind c ⌝ }
 {
@@ -42,7 +42,7 @@ fn kind_of(c: Characteristic) -> u32
     }
 }
 
-// Its value, or 0.
+// R361: its value, or 0.
 fn value_of(c: Characteristic) -> i64
     ensures { λ r. ⌜ r ≡ answerValue c ⌝ }
 {
@@ -56,7 +56,7 @@ fn value_of(c: Characteristic) -> i64
 
 // ---- The questions.
 
-// Asked: which record stands at a place of a text.
+// R250 to R253. Asked: which record stands at a place of a text.
 // Answered: the placing reply, with the next place under 0 and 7; the record's 80 counts.
 // A refusal but 7 leaves 80 zero counts.
 #[no_mangle]
@@ -76,7 +76,7 @@ pub extern "C" fn seambeacon_place(
     tell(place::reply_of(answer), beside)
 }
 
-// Asked: the cells of a group, 1 to 60, of the record at a place.
+// R260 to R268. Asked: the cells of a group, 1 to 60, of the record at a place.
 // Answered: 0 with the number of cells, which stand in the table from its first cell on; what stands behind them is kept.
 // A refusal leaves the whole table as it was.
 #[no_mangle]
@@ -96,10 +96,10 @@ pub extern "C" fn seambeacon_read_group(
     tell(reading::reply_of(answer), beside)
 }
 
-// Asked: the lines of a group of the record at a place, with their line ends.
-// Answered: 0, and which part of the text holds them: the place where it starts, and its length. With count 0 it is the empty part where they
-// would begin.
-// A refusal, 12 or any placing reply but 0, gives the empty part at the text's start.
+// R280 to R283, R362. Asked: the lines of a group of the record at a place, with their line ends.
+// Answered: 0, and which part of the text holds them: the place where it starts, and its length. With count 0 it is empty, and lies where the
+// lines would be.
+// A refusal, 12 or what placing refuses with, gives the empty part at place 0.
 #[no_mangle]
 pub extern "C" fn seambeacon_group_lines(
     text: &[u8],
@@ -119,7 +119,7 @@ pub extern "C" fn seambeacon_group_lines(
     tell(group::found_reply(found), beside)
 }
 
-// Asked: a characteristic, 1 to 49, of the record at a place.
+// R290 to R294, R361. Asked: a characteristic, 1 to 49, of the record at a place.
 // Answered: its kind, and its value in thousandths or 0.
 // A refusal is a kind too, and has its reply: 12, or that of reading group 4.
 #[no_mangle]
@@ -141,7 +141,7 @@ pub extern "C" fn seambeacon_characteristic(
     tell(group::characteristic_reply(known), beside)
 }
 
-// Asked: to write a record of these counts and of all cells in group order.
+// R300 to R307. Asked: to write a record of these counts and of the cells of all groups, group 1's first.
 // Answered: 0 with the number of bytes, which stand in the output from its first byte on; what stands behind them is kept.
 // A refusal leaves the whole output as it was.
 #[no_mangle]
@@ -161,7 +161,7 @@ pub extern "C" fn seambeacon_write_record(
     tell(record::reply_of(answer), beside)
 }
 
-// Asked: the listing of a text, a line for each placed record and the line `end`.
+// R310, R311. Asked: the listing of a text, a line for each record of its walk and the line `end`.
 // Answered: 0 with the number of bytes, which stand in the output from its first byte on; what stands behind them is kept.
 // A refusal (11) leaves the whole output as it was.
 #[no_mangle]
@@ -173,7 +173,7 @@ pub extern "C" fn seambeacon_list(text: &[u8], out: &mut [u8], beside: &mut [usi
     tell(listing::reply_of(answer), beside)
 }
 
-// Asked: to rewrite the record at a place as canonical text.
+// R320 to R326, R363. Asked: to rewrite the record at a place as canonical text.
 // Answered: 0 with the number of bytes and the next place; the bytes stand in the output from its first byte on, the record's cells in the
 // table from its first cell on, and what stands behind them is kept. The group that was not read, or 0, is given apart: a reply's own group
 // is the blamed one.
