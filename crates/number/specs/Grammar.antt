@@ -83,28 +83,9 @@ abbrev pub signByte : Bool → ℕ
 signByte true = 45
 signByte false = 43
 
--- R74: c columns before the point, the point, d digits, `E`, a sign, and an exponent of x digits; R77: its cells, as they stand
-pub record IsE (c d x : ℕ) (s : List ℕ) (m e : ℤ) : Type 0 where
-  pub blanks : ℕ
-  pub lead : Lead
-  pub columns : length (replicate blanks 32 ++ leadText lead) ≡ c
-  pub digits : List ℕ
-  pub each : AllDigits digits
-  pub many : length digits ≡ d
-  pub down : Bool
-  pub exponent : List ℕ
-  pub every : AllDigits exponent
-  pub places : length exponent ≡ x
-  pub text : s ≡ (replicate blanks 32 ++ leadText lead) ++ (46 ∷ (digitText digits ++ (69 ∷ signByte down ∷ digitText exponent)))
-  pub first : m ≡ ofSign (leadMinus lead) (numberOf digits)
-  pub second : e ≡ ofSign down (numberOf exponent)
-
--- R74 with the texts before the point listed: E11.6E1 and E8.3E1 by `oneColumn`, E20.12E2 by `threeColumns` (`e-one`, `e-three` in
--- proofs/Leads.antt)
-pub record IsEBy (shapes : List Shape) (d x : ℕ) (s : List ℕ) (m e : ℤ) : Type 0 where
-  pub minus : Bool
-  pub head : List ℕ
-  pub shape : AnyOf shapes minus head
+-- R74: what stands before the point (`head`, with its sign), the point, d digits, `E`, a sign, and an exponent of x digits; R77: the cells, as
+-- they stand
+pub record EText (d x : ℕ) (minus : Bool) (head s : List ℕ) (m e : ℤ) : Type 0 where
   pub digits : List ℕ
   pub each : AllDigits digits
   pub many : length digits ≡ d
@@ -115,3 +96,18 @@ pub record IsEBy (shapes : List Shape) (d x : ℕ) (s : List ℕ) (m e : ℤ) : 
   pub text : s ≡ head ++ (46 ∷ (digitText digits ++ (69 ∷ signByte down ∷ digitText exponent)))
   pub first : m ≡ ofSign minus (numberOf digits)
   pub second : e ≡ ofSign down (numberOf exponent)
+
+-- R74 over every number of columns before the point: blanks, and one of the four endings
+pub record IsE (c d x : ℕ) (s : List ℕ) (m e : ℤ) : Type 0 where
+  pub blanks : ℕ
+  pub lead : Lead
+  pub columns : length (replicate blanks 32 ++ leadText lead) ≡ c
+  pub rest : EText d x (leadMinus lead) (replicate blanks 32 ++ leadText lead) s m e
+
+-- R74 with the texts before the point listed: E11.6E1 and E8.3E1 by `oneColumn`, E20.12E2 by `threeColumns` (`e-one`, `e-three` in
+-- proofs/Leads.antt)
+pub record IsEBy (shapes : List Shape) (d x : ℕ) (s : List ℕ) (m e : ℤ) : Type 0 where
+  pub minus : Bool
+  pub head : List ℕ
+  pub shape : AnyOf shapes minus head
+  pub rest : EText d x minus head s m e
