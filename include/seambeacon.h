@@ -1,8 +1,9 @@
 /* Seambeacon: places, reads and writes SAO 4.3 records.
    Link target/staticlib/libseambeacon.a (`rt staticlib seambeacon`), x86-64.
 
-   Every function can be asked of every text, place, number, table and output, comes to an end,
-   and returns one of the replies below. A caller never has to check beforehand.
+   Whatever text, place, number, table and output a function is given, it ends and returns one of
+   the replies below; nothing has to be checked before a call. R with a number is a rule of
+   docs/FORMAT.md.
 
    What a caller answers for:
    - A pointer with a length behind it is valid for that many of what it points to; with length 0
@@ -28,39 +29,40 @@
 extern "C" {
 #endif
 
-/* The replies, each with the numbers that are given beside it. */
+/* The replies (reply n is R200 + n), each with the numbers that are given beside it. */
 enum seambeacon_reply {
     /* done: the next place in placing and rewriting, the cells or bytes written in all that
        write */
     SEAMBEACON_DONE = 0,
     /* the place is the text's end */
     SEAMBEACON_END = 1,
-    /* the place lies beyond the text's end */
+    /* the place lies behind the text's end */
     SEAMBEACON_BEYOND = 2,
-    /* fewer line feeds are left than the index lines or the data lines need */
+    /* from the place on there are fewer line feeds than the record has lines */
     SEAMBEACON_TOO_FEW_LINES = 3,
-    /* an index line or entry is misformed; in writing, not 80 counts or a count above 999 */
+    /* an index line or an entry is misformed; where counts are given, they are not 80 or one is
+       above 999 */
     SEAMBEACON_MISFORMED = 4,
     /* the release, number 80 of the index, is not 5 */
     SEAMBEACON_OTHER_RELEASE = 5,
     /* a group of 61 to 79 has a count: the lowest such group */
     SEAMBEACON_FILLED_VACANT = 6,
-    /* a rule on counts is broken: the blamed group; in placing also the next place */
+    /* a rule on counts is broken: the group blamed, and in placing the next place */
     SEAMBEACON_BROKEN_RULE = 7,
-    /* no carriage return before the line feed, a wrong length, or other bytes than blanks behind
-       a line's fields: the line */
+    /* a data line lacks its carriage return, has a wrong length, or something else than blanks
+       behind its fields: the line */
     SEAMBEACON_BAD_LINE = 8,
     /* a field is misformed: its line and its element */
     SEAMBEACON_BAD_FIELD = 9,
     /* the date in group 3 is wrong: the position blamed */
     SEAMBEACON_BAD_DATE = 10,
-    /* the table or the output is shorter than what would be filled */
+    /* the table or the output is too short for what 0 would put there */
     SEAMBEACON_NO_ROOM = 11,
-    /* there is no group 1 to 60, or no characteristic 1 to 49, of that number */
+    /* the number is no group (1 to 60), or no characteristic (1 to 49) */
     SEAMBEACON_NO_SUCH_NUMBER = 12,
-    /* in writing, a value fits no field of its form: its group and its element */
+    /* in writing, no field of its form reads as an element's cells: its group and its element */
     SEAMBEACON_NO_FIELD = 13,
-    /* in writing, the number of cells is not what the counts need */
+    /* in writing, there are more or fewer cells than the counts ask for */
     SEAMBEACON_OTHER_LENGTH = 14
 };
 
@@ -114,9 +116,9 @@ enum seambeacon_reply seambeacon_read_group(const uint8_t *text, size_t text_len
 
 /* Asked: the lines of a group of the record at a place, with their line ends.
    Answered: 0, and which part of the text holds them: part->length bytes from text + part->start
-   on. With count 0 it is the empty part where they would begin.
-   A refusal (12, or a placing reply but 0, of 7 without a next place) gives the empty part at the
-   text's start. */
+   on. With count 0 the part is empty, and lies where the lines would be (R282).
+   A refusal (12, or a placing reply but 0, of 7 without a next place) gives the empty part at
+   place 0 (R283). */
 enum seambeacon_reply seambeacon_group_lines(const uint8_t *text, size_t text_length, size_t at,
                                              size_t group, struct seambeacon_part *part,
                                              struct seambeacon_beside *beside);
@@ -138,9 +140,9 @@ enum seambeacon_reply seambeacon_write_record(const uint16_t *counts, size_t cou
                                               uint8_t *out, size_t out_length,
                                               struct seambeacon_beside *beside);
 
-/* Asked: the listing of a text: a line for each placed record (record number, place, next place,
-   reply, blamed group, groups with a count, lines with the index), and last a line with `end`,
-   records listed, the place where the walk stopped, the reply there, its group or 0.
+/* Asked: the listing of a text: a line of seven numbers for each record of the walk (R342), and
+   last a line with `end` and four numbers, which tell how many records there are and where and
+   why the walk stopped (R343).
    Answered: 0 with the number of bytes, which stand in out from its first byte on; what stands
    behind them is kept. A text of any length is listed.
    A refusal (11) leaves the whole output as it was. */

@@ -1,10 +1,10 @@
 //! Seambeacon: places, reads and writes SAO 4.3 ionogram records. The questions are answered by a library in which every function is proved
 //! to meet its contract; this crate gives each of them a safe function.
 //!
-//! Every question can be asked of every text, place, number, table and output. A caller never has to check beforehand, and no call panics: the
-//! answer is `Ok`, or the one [`Refusal`] that is due. Nothing is kept between two calls, so they may come from several threads. A text is its
-//! bytes, with line ends; a place is a number of bytes from the text's start. Groups, lines, elements, positions and characteristics count
-//! from 1.
+//! Whatever text, place, number, table and output it is given, a question is answered: with `Ok`, or with the one [`Refusal`] that is due.
+//! Nothing has to be checked before a call, and no call panics. Nothing is kept between two calls, so they may come from several threads. A
+//! text is its bytes, with line ends; a place is a number of bytes from the text's start. Groups, lines, elements, positions and
+//! characteristics count from 1. R with a number is a rule of the project's docs/FORMAT.md.
 //!
 //! ```
 //! // Record S: four constants, a date and one characteristic, foF2.
@@ -26,16 +26,16 @@ use std::fmt;
 #[allow(unsafe_code)]
 mod raw;
 
-/// Why a question was refused: the replies 1 to 14, with the numbers that are given beside them.
+/// Why a question was refused: the replies 1 to 14 (R201 to R214), with the numbers that are given beside them.
 #[derive(Clone, Copy, Debug, PartialEq, Eq, Hash)]
 pub enum Refusal {
     /// 1: the place is the text's end.
     End,
-    /// 2: the place lies beyond the text's end.
+    /// 2: the place lies behind the text's end.
     Beyond,
-    /// 3: fewer line feeds are left than the two index lines, or the data lines, need.
+    /// 3: from the place on there are fewer line feeds than the record has lines.
     TooFewLines,
-    /// 4: an index line or entry is misformed; in writing, there are not 80 counts, or a count is above 999.
+    /// 4: an index line or an entry is misformed; where counts are given, they are not 80, or one is above 999.
     Misformed,
     /// 5: the release, number 80 of the index, is not 5.
     OtherRelease,
@@ -49,7 +49,7 @@ pub enum Refusal {
         /// The blamed group.
         group: usize,
     },
-    /// 8: a line has no carriage return, a wrong length, or other bytes than blanks behind its fields.
+    /// 8: a data line lacks its carriage return, has a wrong length, or something else than blanks behind its fields.
     BadLine {
         /// The group that was read.
         group: usize,
@@ -70,21 +70,21 @@ pub enum Refusal {
         /// The position in group 3 that is blamed.
         position: usize,
     },
-    /// 11: the table or the output is shorter than what would be filled.
+    /// 11: the table or the output is too short for what 0 would put there.
     NoRoom,
-    /// 12: there is no group 1 to 60, or no characteristic 1 to 49, of that number.
+    /// 12: the number is no group (1 to 60), or no characteristic (1 to 49).
     NoSuchNumber,
-    /// 13: in writing, a value fits no field of its form.
+    /// 13: in writing, no field of its form reads as an element's cells.
     NoField {
-        /// The value's group.
+        /// The element's group.
         group: usize,
         /// The element in the group.
         element: usize,
     },
-    /// 14: in writing, the number of cells is not what the counts need.
+    /// 14: in writing, there are more or fewer cells than the counts ask for.
     OtherLength,
     /// Something that the library is proved never to answer, so another archive than its own has been linked. It is a refusal and no panic,
-    /// since an editor must not go down with unsaved work in it.
+    /// since an editor that holds unsaved work must survive it.
     Unknown {
         /// The number that was answered.
         number: u32,
@@ -236,8 +236,8 @@ pub fn read_group(text: &[u8], at: usize, group: usize, table: &mut [i64]) -> Re
     Ok(raw::read_group(text, at, group, table).done(group)?.written)
 }
 
-/// The lines of a group, 1 to 60, of the record at a place: the part of the caller's own text that holds them, with their line ends. With count
-/// 0 it is the empty part where they would begin.
+/// The lines of a group, 1 to 60, of the record at a place: the part of the lent text in which they stand, with their line ends (R280). With
+/// count 0 it is empty, where the lines would be (R282).
 ///
 /// # Errors
 ///
@@ -277,8 +277,8 @@ pub fn write_record(counts: &[u16], cells: &[i64], out: &mut [u8]) -> Result<usi
 /// The listing of a text, a line for each placed record and last a line that begins with `end`: how many bytes it has. They stand in the output
 /// from its first byte on, and what stands behind them is kept.
 ///
-/// A record's line has its number, its place, the next place, the reply, the blamed group, its groups with a count and its lines with the
-/// index; the last line the records listed, the place where the walk stopped, the reply there and its group.
+/// A record's line has seven numbers (R342); the last line has four, which tell how many records there are and where and why the walk stopped
+/// (R343).
 ///
 /// # Errors
 ///
@@ -287,13 +287,13 @@ pub fn list(text: &[u8], out: &mut [u8]) -> Result<usize, Refusal> {
     Ok(raw::list(text, out).done(0)?.written)
 }
 
-/// The record at a place as canonical text. The table is room for its cells, which stand in it afterwards; as many cells as the output has bytes
-/// are always enough. What stands in the output and in the table behind what was written is kept.
+/// The record at a place as canonical text. The table is room for its cells, which stand in it afterwards; as many cells as the output has
+/// bytes are always enough. What stands in the output and in the table behind what was written is kept.
 ///
 /// # Errors
 ///
-/// A placing reply but 0, 11, or the first refusal of reading groups 1 to 60. The output is as it was, and the table has the cells of the groups
-/// before the one that could not be read.
+/// A placing reply but 0, 11, or the first refusal of reading groups 1 to 60. The output is as it was, and the table has the cells of the
+/// groups before the one that could not be read.
 pub fn rewrite_record(text: &[u8], at: usize, table: &mut [i64], out: &mut [u8]) -> Result<Rewritten, Refusal> {
     let mut unread = 0;
     let reply = raw::rewrite_record(text, at, table, out, &mut unread);

@@ -1,9 +1,9 @@
 //! The functions of `include/seambeacon.h`, and a safe call of each. All unsafe code is here.
 //!
 //! What the header asks of a caller holds of every call below, whatever is given. A pointer comes from a slice, with that slice's length, or
-//! from a reference to a value of the type that the header names; its enums, of which a reply is one, are 32 bits and never negative. What is lent to be altered is `&mut`, so it overlaps nothing else and nobody
-//! else looks at it during the call; what is lent to be read is `&`, so nobody writes it. All of it has values beforehand. Nothing is kept by
-//! the library when a call has ended.
+//! from a reference to a value of the type that the header names; its enums, of which a reply is one, are 32 bits and never negative. What is
+//! lent to be altered is `&mut`, so it overlaps nothing else and nobody else looks at it during the call; what is lent to be read is `&`, so
+//! nobody writes it. All of it has values beforehand. Nothing is kept by the library when a call has ended.
 
 /// The numbers beside a reply, 0 where the reply does not give them.
 #[repr(C)]
