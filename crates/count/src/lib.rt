@@ -138,10 +138,7 @@ pub fn add_up(counts: &[u16], group: usize) -> Totals
     let mut totals = Totals { lines: 2, cells: 0 };
     let mut g: usize = 1;
     while g < end {
-        // each of 1 to 60 has a form, so this is never taken
-        let form::GroupForm::Has(f) = form::form_of(g) else {
-            return totals;
-        };
+        let f = form::form_in(g);
         totals = with_group(totals, f, count_of(counts, g));
         g += 1;
     }

@@ -1,5 +1,6 @@
 // The ten field forms: which group has which, what each takes, and the lines, elements and cells of a group's count.
 ghost use mathlib.Core.Path.{_≡_};
+ghost use Prim.Native.Nat.{_≤_};
 ghost use Rattle.form.specs.Table.{rowOf, formOf};
 ghost use Rattle.form.specs.Count.{elementsOf, roundedUp, linesOf, cellsOf};
 
@@ -118,6 +119,18 @@ pub fn form_of(group: usize) -> GroupForm
         53 | 60 => GroupForm::Has(Form::E8),
         _ => GroupForm::NoGroup,
     }
+}
+
+// R40 where the number is known to be a group's: each of 1 to 60 has a form, so the other arm is never taken.
+pub fn form_in(group: usize) -> Form
+    requires low { ⌜ 1 ≤ group ⌝ }
+    requires high { ⌜ group ≤ 60 ⌝ }
+    ensures { λ r. ⌜ formOf group ≡ GroupForm.Has r ⌝ }
+{
+    let GroupForm::Has(form) = form_of(group) else {
+        return Form::F7;
+    };
+    form
 }
 
 // R41: a form's row. A constant table is built anew where a variable indexes it, but not at a constant index: so this costs nothing in a loop.

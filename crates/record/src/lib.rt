@@ -88,10 +88,7 @@ fn cells_fit(counts: &[u16], cells: &[i64]) -> Fit
     let mut from: usize = 0;
     let mut g: usize = 1;
     while g < 61 {
-        // each of 1 to 60 has a form, so this is never taken
-        let form::GroupForm::Has(f) = form::form_of(g) else {
-            return Fit::All;
-        };
+        let f = form::form_in(g);
         let n = count::count_of(counts, g);
         let fit = elements_fit(f, g, n, cells, from);
         match fit {
@@ -145,10 +142,7 @@ pub fn canonical_length(counts: &[u16]) -> usize
     let mut total: usize = 244;
     let mut g: usize = 1;
     while g < 61 {
-        // each of 1 to 60 has a form, so this is never taken
-        let form::GroupForm::Has(f) = form::form_of(g) else {
-            return total;
-        };
+        let f = form::form_in(g);
         total += group_bytes(f, count::count_of(counts, g));
         g += 1;
     }
@@ -282,10 +276,7 @@ fn put_groups(counts: &[u16], cells: &[i64], out: &mut [u8], at: usize)
     let mut a = at;
     let mut g: usize = 1;
     while g < 61 {
-        // each of 1 to 60 has a form, so this is never taken
-        let form::GroupForm::Has(f) = form::form_of(g) else {
-            return;
-        };
+        let f = form::form_in(g);
         let n = count::count_of(counts, g);
         a = put_lines(f, n, cells, from, out, a);
         from += form::cells(f, n);
