@@ -188,10 +188,7 @@ fn ruled(group: usize, kept: bool) -> Ruling
 fn within(n: u16, low: u16, high: u16) -> bool
     ensures { λ r. ⌜ r ≡ leb low n && leb n high ⌝ }
 {
-    if n < low {
-        return false;
-    }
-    n <= high
+    low <= n && n <= high
 }
 
 // "Group 1 at least 4; group 2 at most 2; group 3 at least 19; group 4 from 1 to 49."
@@ -209,13 +206,7 @@ fn head_ruling(counts: &[u16]) -> Ruling
 fn differs(seen: u16, n: u16) -> bool
     ensures { λ r. ⌜ r ≡ differ seen n ⌝ }
 {
-    if n == 0 {
-        return false;
-    }
-    if seen == 0 {
-        return false;
-    }
-    n != seen
+    n != 0 && (seen != 0 && n != seen)
 }
 
 // What has been seen behind a count.
@@ -278,10 +269,7 @@ fn set_ruling(counts: &[u16]) -> Ruling
 fn zero_or(x: u16, n: u16) -> bool
     ensures { λ r. ⌜ r ≡ zeroOr x n ⌝ }
 {
-    if x == 0 {
-        return true;
-    }
-    x == n
+    x == 0 || x == n
 }
 
 // "Groups 54 and 55: zero or group 4's count."
