@@ -33,51 +33,61 @@ pub struct Row {
 
 // R41 as one constant table (R440), in the order of the enum.
 const ROWS: [Row; 10] = [
+    // F7
     Row {
         width: 7,
         per_line: 16,
         cells: 1,
     },
+    // A120
     Row {
         width: 120,
         per_line: 1,
         cells: 120,
     },
+    // A1
     Row {
         width: 1,
         per_line: 120,
         cells: 1,
     },
+    // F8
     Row {
         width: 8,
         per_line: 15,
         cells: 1,
     },
+    // I2
     Row {
         width: 2,
         per_line: 60,
         cells: 1,
     },
+    // I3
     Row {
         width: 3,
         per_line: 40,
         cells: 1,
     },
+    // I1
     Row {
         width: 1,
         per_line: 120,
         cells: 1,
     },
+    // E11
     Row {
         width: 11,
         per_line: 10,
         cells: 2,
     },
+    // E20
     Row {
         width: 20,
         per_line: 6,
         cells: 2,
     },
+    // E8
     Row {
         width: 8,
         per_line: 15,
