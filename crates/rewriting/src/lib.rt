@@ -16,7 +16,7 @@ ghost use Rattle.rewriting.specs.Numbered.{rewritingReply, rewritingGrou
 ghost use Rattle.rewriting.specs.Record.{Ready, groupsOf, allInTurn, cellsAt, rewritingOf, bufferBy};
 ghost use Rattle.rewriting.specs.Record.{tableBy as tableAfter};
 
-// What rewriting a record answers.
+// R321: what rewriting a record answers.
 pub enum Rewriting {
     // 0, with the bytes written and the next place
     Done(usize, usize),
@@ -62,7 +62,7 @@ fn read_part(
     reading::read_kept(counts, group, &text[from..to], &mut table[cell..end])
 }
 
-// Groups 1 to 60 in turn, into consecutive parts of the table, up to the first that is refused.
+// R326: groups 1 to 60 in turn, into consecutive parts of the table, up to the first that is refused.
 fn read_groups(text: &[u8], at: usize, counts: &[u16], table: &mut [i64]) -> Groups
     requires counts { ⌜ now counts ≡ countsAt (now text) at ⌝ }
     requires ready { ⌜ Ready (now text) at (length (now table)) ⌝ }
@@ -104,9 +104,9 @@ fn write_cells(counts: &[u16], table: &[i64], cells: usize, out: &mut [u8])
     record::put_record(counts, &table[0..cells], out);
 }
 
-// Rewrites the record at a place of a text into a buffer, over a table: any placing reply but 0; 11 if its canonical text is longer than the
-// buffer or its cells are more than the table; the first reply other than 0 of reading groups 1 to 60 in turn, with that group's number;
-// else 0 with the bytes written and the next place. A refusal alters no byte of the buffer.
+// R320 to R326: rewrites the record at a place of a text into a buffer, over a table. The answer is placing's, if it is not 0; 11, where text
+// or cells lack room; that of the first group which is not read, with its number; else 0 with the bytes written and the next place. A refusal
+// alters no byte of the buffer.
 pub fn rewrite_record(text: &[u8], at: usize, table: &mut [i64], out: &mut [u8]) -> Rewriting
     ensures answer { λ r. ⌜ r ≡
         rewritingOf (now (text .entry)) at (length (now (table .entry))) (length (now (out .entry))) ⌝ }
@@ -138,7 +138,7 @@ pub fn rewrite_record(text: &[u8], at: usize, table: &mut [i64], out: &mut [u8])
 
 // ---- Replies.
 
-// The answer's number in 01's table, with the numbers given besides.
+// The answer's number in R200 to R214, with the numbers given besides.
 pub fn reply_of(answer: Rewriting) -> reply::Reply
     ensures { λ r. ⌜ r ≡ rewritingReply answer ⌝ }
 {
@@ -158,7 +158,7 @@ pub fn reply_of(answer: Rewriting) -> reply::Reply
     }
 }
 
-// The group that was not read; 0 where none was.
+// R323: the group that was not read; 0 where none was.
 pub fn group_of(answer: Rewriting) -> usize
     ensures { λ r. ⌜ r ≡ rewritingGroup answer ⌝ }
 {
