@@ -5,7 +5,6 @@ ghost use Prim.Native.Nat.{_+_, _≤_};
 ghost use lib.ListN.{length};
 ghost use Rattle.base.specs.Columns.{columns};
 ghost use Rattle.base.specs.Part.{over};
-ghost use Rattle.base.specs.Sign.{sizeOf};
 ghost use Rattle.decimal.specs.Numerals.{lastByte, tenth, numeral};
 ghost use Rattle.decimal.specs.Signed.{signedNumeral};
 ghost use Rattle.decimal.specs.Rows.{rowText, endByte};
@@ -72,19 +71,6 @@ pub fn put_number(out: &mut [u8], at: usize, n: u64) -> Put
 
 // ---- Signed numbers
 
-// How far v is from 0, also where v is the least number.
-fn size(v: i64) -> u64
-    ensures { λ r. ⌜ r ≡ sizeOf v ⌝ }
-{
-    if v < 0 {
-        let w = v + 1;
-        let m = 0 - w;
-        m as u64 + 1
-    } else {
-        v as u64
-    }
-}
-
 // Puts a minus and n, which has k digits.
 fn put_minus(out: &mut [u8], at: usize, k: usize, n: u64)
     requires size { ⌜ k ≡ length (numeral n) ⌝ }
@@ -99,8 +85,9 @@ fn put_minus(out: &mut [u8], at: usize, k: usize, n: u64)
 pub fn put_signed(out: &mut [u8], at: usize, v: i64) -> Put
     ensures { λ r. ⌜ Puts at (signedNumeral v) (now (out .entry)) r (now (out .exit)) ⌝ }
 {
-    let n = size(v);
-    if v < 0 {
+    let m = number::signed(v);
+    let n = m.size;
+    if m.neg {
         let k = digits(n);
         if base::has_room(at, k + 1, out.len()) {
             put_minus(out, at, k, n);

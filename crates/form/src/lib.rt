@@ -1,5 +1,6 @@
 // The ten field forms: which group has which, what each takes, and the lines, elements and cells of a group's count.
 ghost use mathlib.Core.Path.{_≡_};
+ghost use Prim.Native.Nat.{_≤_};
 ghost use Rattle.form.specs.Table.{rowOf, formOf};
 ghost use Rattle.form.specs.Count.{elementsOf, roundedUp, linesOf, cellsOf};
 
@@ -32,51 +33,61 @@ pub struct Row {
 
 // R41 as one constant table (R440), in the order of the enum.
 const ROWS: [Row; 10] = [
+    // F7
     Row {
         width: 7,
         per_line: 16,
         cells: 1,
     },
+    // A120
     Row {
         width: 120,
         per_line: 1,
         cells: 120,
     },
+    // A1
     Row {
         width: 1,
         per_line: 120,
         cells: 1,
     },
+    // F8
     Row {
         width: 8,
         per_line: 15,
         cells: 1,
     },
+    // I2
     Row {
         width: 2,
         per_line: 60,
         cells: 1,
     },
+    // I3
     Row {
         width: 3,
         per_line: 40,
         cells: 1,
     },
+    // I1
     Row {
         width: 1,
         per_line: 120,
         cells: 1,
     },
+    // E11
     Row {
         width: 11,
         per_line: 10,
         cells: 2,
     },
+    // E20
     Row {
         width: 20,
         per_line: 6,
         cells: 2,
     },
+    // E8
     Row {
         width: 8,
         per_line: 15,
@@ -118,6 +129,18 @@ pub fn form_of(group: usize) -> GroupForm
         53 | 60 => GroupForm::Has(Form::E8),
         _ => GroupForm::NoGroup,
     }
+}
+
+// R40 where the number is known to be a group's: each of 1 to 60 has a form, so the other arm is never taken.
+pub fn form_in(group: usize) -> Form
+    requires low { ⌜ 1 ≤ group ⌝ }
+    requires high { ⌜ group ≤ 60 ⌝ }
+    ensures { λ r. ⌜ formOf group ≡ GroupForm.Has r ⌝ }
+{
+    let GroupForm::Has(form) = form_of(group) else {
+        return Form::F7;
+    };
+    form
 }
 
 // R41: a form's row. A constant table is built anew where a variable indexes it, but not at a constant index: so this costs nothing in a loop.

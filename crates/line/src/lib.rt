@@ -60,10 +60,8 @@ pub fn content_length(line: &[u8]) -> Content
     if n < 2 {
         return Content::NoReturn;
     }
-    if line[n - 2] == 13 {
-        if line[n - 1] == 10 {
-            return Content::Length(n - 2);
-        }
+    if line[n - 2] == 13 && line[n - 1] == 10 {
+        return Content::Length(n - 2);
     }
     Content::NoReturn
 }

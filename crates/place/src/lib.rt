@@ -21,7 +21,7 @@ pub enum Placing {
     Misformed,
     // 5
     OtherRelease,
-    // 6, with the lowest vacant group that has a count
+    // 6, with the lowest vacant number that has a count
     FilledVacant(usize),
     // 7, with the blamed group and the next place
     BrokenRule(usize, usize),
@@ -159,10 +159,7 @@ pub fn reply_of(answer: Placing) -> reply::Reply
 pub fn is_placed(number: u32) -> bool
     ensures { λ r. ⌜ r ≡ isPlaced number ⌝ }
 {
-    if number == 0 {
-        return true;
-    }
-    number == 7
+    number == 0 || number == 7
 }
 
 // From where to where the lines of a group stand.

@@ -1,5 +1,5 @@
 // Reading the lines of a group under its record's counts. The lines are checked first, and the table is filled only when all of them are
-// clean. The text that they come from is not known here.
+// clean (R267). The text that they come from is not known here (R269).
 use count::Ruling;
 use form::Form;
 use form::GroupForm;
@@ -24,7 +24,7 @@ ghost use Rattle.reading.specs.Numbered.{refusalReply, readingReply};
 ghost use Rattle.reading.specs.Read.{verdictOf, misfitOf, readLines, dated, readForm, readGroup, readingOf};
 ghost use Rattle.reading.specs.Read.{tableBy};
 
-// Why nothing is read; each variant is one of 01's replies.
+// Why nothing is read; each variant is a reply of R201 to R212.
 pub enum Refusal {
     // 12
     NoGroup,
@@ -38,7 +38,7 @@ pub enum Refusal {
     Misformed,
     // 5
     OtherRelease,
-    // 6, with the lowest vacant group that has a count
+    // 6, with the lowest vacant number that has a count
     FilledVacant(usize),
     // 7, with the blamed group
     BrokenRule(usize),
@@ -66,7 +66,7 @@ enum Verdict {
 
 // ---- What a line holds.
 
-// Whether lines of the form may be shorter than their fields.
+// R64: whether lines of the form may be shorter than their fields.
 fn may_be_short(form: Form) -> bool
     ensures { λ r. ⌜ r ≡ mayBeShort form ⌝ }
 {
@@ -84,6 +84,7 @@ fn may_be_short(form: Form) -> bool
     }
 }
 
+// R62, R64: how long the content of fields of so many columns is at least.
 fn least(form: Form, columns: usize) -> usize
     ensures { λ r. ⌜ r ≡ shortest form columns ⌝ }
 {
@@ -106,7 +107,7 @@ fn all_blank(s: &[u8]) -> bool
     true
 }
 
-// Whether a content is right for fields that take so many columns.
+// R62 to R64, R66: whether a content is right for fields that take so many columns.
 fn is_right(form: Form, columns: usize, content: &[u8]) -> bool
     ensures { λ r. ⌜ r ≡ isRight form columns (now (content .entry)) ⌝ }
 {
@@ -123,7 +124,7 @@ fn is_right(form: Form, columns: usize, content: &[u8]) -> bool
     all_blank(&content[columns..n])
 }
 
-// The length of a line's content, if there is one and it is right.
+// R66: the length of a line's content, if there is one and it is right.
 fn right_content(form: Form, columns: usize, line: &[u8]) -> line::Content
     ensures { λ r. ⌜ r ≡ rightContent form columns (now (line .entry)) ⌝ }
 {
@@ -171,7 +172,7 @@ fn is_formed(value: field::Value) -> bool
     }
 }
 
-// Whether bytes of a line are a field of the form.
+// Whether bytes of a line are a field of the form. Where lines may be short, blanks that would be added print too (R65).
 fn is_field(form: Form, bytes: &[u8]) -> bool
     requires { ⌜ length (now bytes) ≤ rowOf form .width ⌝ }
     ensures { λ r. ⌜ r ≡ formed (fieldOf form (asField form (now (bytes .entry)))) ⌝ }
@@ -191,8 +192,8 @@ fn is_field_at(form: Form, lines: &[u8], from: usize, to: usize) -> bool
     is_field(form, &lines[from..to])
 }
 
-// Where the fields of a line are looked for no further, before its end is known. A line of A120 has no length of its own: its content is
-// asked for first, and its bytes are looked at twice.
+// Where the fields of a line are looked for no further, before its end is known. A line that may be short has no length of its own: its
+// content is asked for first, and its bytes are looked at twice.
 fn fields_stop(form: Form, columns: usize, lines: &[u8], at: usize) -> usize
     requires { ⌜ at ≤ length (now lines) ⌝ }
     ensures { λ r. ⌜ r ≡ at + fieldsSpan form columns (now (lines .entry)) at ⌝ }
@@ -207,7 +208,7 @@ fn fields_stop(form: Form, columns: usize, lines: &[u8], at: usize) -> usize
     at + base::lesser(columns, lines.len() - at)
 }
 
-// Which is blamed where a field is misformed: a line that is not right comes before its fields.
+// R262: what is blamed where a field is misformed. A line that is wrong comes before its fields.
 fn misfit(
     form: Form,
     columns: usize,
@@ -227,8 +228,8 @@ fn misfit(
     }
 }
 
-// The first pass: each line's fields, and then what stands behind them, up to the first line that is bad. It looks at no table. No line
-// feed stands in fields that are formed, so the line's end is sought behind them.
+// The first pass, as R443 has it: each line's fields, and then what stands behind them, up to the first line that is bad (R263). It looks
+// at no table. No line feed stands in fields that are formed, so the line's end is sought behind them.
 fn check_lines(form: Form, count: u16, lines: &[u8]) -> Verdict
     ensures { λ r. ⌜ r ≡ verdictOf (readLines form count (now (lines .entry))) ⌝ }
 {
@@ -268,7 +269,7 @@ fn check_lines(form: Form, count: u16, lines: &[u8]) -> Verdict
     verdict
 }
 
-// The letters of a date stand in the first line of group 3: the rule on its count puts 19 there at least.
+// R140, R210: the date stands in the first line of group 3, where R123 puts 19 characters at least.
 fn check_date(count: u16, lines: &[u8]) -> Verdict
     requires date { ⌜ 19 ≤ count ⌝ }
     requires clean { ⌜ verdictOf (readLines Form.A1 count (now lines)) ≡ Verdict.Clean ⌝ }
@@ -283,7 +284,7 @@ fn check_date(count: u16, lines: &[u8]) -> Verdict
     }
 }
 
-// Lines, and then the date of group 3.
+// R262, R265: lines, and then the date of group 3.
 fn check(form: Form, group: usize, count: u16, lines: &[u8]) -> Verdict
     requires form { ⌜ formOf group ≡ GroupForm.Has form ⌝ }
     requires date { ⌜ (group ≡ 3 → 19 ≤ count) ⌝ }
@@ -302,7 +303,7 @@ fn check(form: Form, group: usize, count: u16, lines: &[u8]) -> Verdict
 
 // ---- Filling.
 
-// A byte, or a blank behind the last.
+// R65: a byte, or a blank behind the last.
 fn byte_or_blank(bytes: &[u8], i: usize) -> u8
     ensures { λ r. ⌜ r ≡ getD (now (bytes .entry)) i 32 ⌝ }
 {
@@ -377,7 +378,7 @@ fn put_field_at(
     put_field(form, width, &lines[from..to], table, at);
 }
 
-// The second pass: the cells of lines that were found clean.
+// R266: the second pass, the cells of lines that were found clean.
 fn fill_lines(form: Form, count: u16, lines: &[u8], table: &mut [i64])
     requires clean { ⌜ verdictOf (readLines form count (now lines)) ≡ Verdict.Clean ⌝ }
     requires room { ⌜ cellsOf form count ≤ length (now table) ⌝ }
@@ -395,7 +396,7 @@ fn fill_lines(form: Form, count: u16, lines: &[u8], table: &mut [i64])
     let mut j: usize = 0;
     while j < many {
         let k = base::lesser(per_line, left);
-        // no line feed stands in the columns of these fields; a line of A120 may end anywhere, so its bytes are looked at twice
+        // no line feed stands in the columns of these fields; a line that may be short can end anywhere, so its bytes are looked at twice
         let end = line::behind_or_end(lines, at + least(form, k * width), 1);
         // a clean line has a content, so this is never taken
         let line::Content::Length(n) = content_at(lines, at, end) else {
@@ -419,7 +420,7 @@ fn fill_lines(form: Form, count: u16, lines: &[u8], table: &mut [i64])
 
 // ---- Reading a group's lines.
 
-// A group of a form, whose rules on counts are kept: 11, then the lines and the date, and only then the table.
+// R260, for a group whose record is placed with 0: 11 (R264), then the lines and the date, and only then the table.
 fn read_form(form: Form, group: usize, count: u16, lines: &[u8], table: &mut [i64]) -> Reading
     requires form { ⌜ formOf group ≡ GroupForm.Has form ⌝ }
     requires date { ⌜ (group ≡ 3 → 19 ≤ count) ⌝ }
@@ -441,8 +442,9 @@ fn read_form(form: Form, group: usize, count: u16, lines: &[u8], table: &mut [i6
     }
 }
 
-// Reads a group of a record with these counts, whose lines these are, into a table. It is altered only if all is clean, and then only as far
-// as the group's cells go. The counts keep the rules, as those of a record that was placed with 0 do: they are not tried again.
+// R260: reads a group of a record with these counts, whose lines these are, into a table. It is altered only if all is clean, and then only
+// as far as the group's cells go (R266, R267). The counts keep the rules, as those of a record that was placed with 0 do: they are not tried
+// again.
 pub fn read_kept(counts: &[u16], group: usize, lines: &[u8], table: &mut [i64]) -> Reading
     requires { ⌜ rulingOf (now counts) ≡ Ruling.Kept ⌝ }
     ensures answer { λ r. ⌜ r ≡
@@ -460,7 +462,7 @@ pub fn read_kept(counts: &[u16], group: usize, lines: &[u8], table: &mut [i64]) 
 
 // ---- Replies.
 
-// The refusal's number in 01's table, with the numbers given besides.
+// R201 to R212: the refusal's number, with the numbers given besides.
 pub fn refusal_reply(refusal: Refusal) -> reply::Reply
     ensures { λ r. ⌜ r ≡ refusalReply refusal ⌝ }
 {
@@ -480,7 +482,7 @@ pub fn refusal_reply(refusal: Refusal) -> reply::Reply
     }
 }
 
-// The answer's number, with the numbers given besides.
+// R200: done, with the cells written; or the refusal's reply.
 pub fn reply_of(answer: Reading) -> reply::Reply
     ensures { λ r. ⌜ r ≡ readingReply answer ⌝ }
 {

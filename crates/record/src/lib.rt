@@ -1,4 +1,4 @@
-// Writing a record: counts and cells to canonical text. All is checked first, and a byte is written only when nothing is refused.
+// Writing a record: counts and cells to canonical text. All is checked first, and a byte is written only when nothing is refused (R307).
 use count::Checked;
 use form::Form;
 ghost use mathlib.Core.Path.{_≡_};
@@ -20,13 +20,13 @@ ghost use Rattle.record.specs.Text.{lineEnd, entriesText, indexText, lin
 ghost use Rattle.record.specs.Text.{recordText, bytesOf, recordBytes};
 ghost use Rattle.record.specs.Writing.{dateLetters, writeFit, writeRoom, writingOf, outputBy, writingReply};
 
-// Whether each element's cells have a field of their form, or the group and the element of the first that has none.
+// R303: each element's cells have a field of their form, or the group and the element of the first that have none.
 enum Fit {
     All,
     Not(usize, usize),
 }
 
-// What writing a record answers: 0 with the number of bytes, or why nothing was written.
+// R301: what writing a record answers, 0 with the number of bytes, or why nothing was written.
 pub enum Writing {
     // 0
     Done(usize),
@@ -34,7 +34,7 @@ pub enum Writing {
     Misformed,
     // 5
     OtherRelease,
-    // 6, with the lowest vacant group that has a count
+    // 6, with the lowest vacant number that has a count
     FilledVacant(usize),
     // 7, with the blamed group
     BrokenRule(usize),
@@ -80,7 +80,7 @@ fn elements_fit(form: Form, group: usize, count: u16, cells: &[i64], from: usize
     Fit::All
 }
 
-// The first pass over the cells of all groups.
+// R303: the first pass, over the cells of all groups in their order.
 fn cells_fit(counts: &[u16], cells: &[i64]) -> Fit
     requires { ⌜ length (now cells) ≡ cellsBefore (now counts) 61 ⌝ }
     ensures { λ r. ⌜ r ≡ fitOf (now (counts .entry)) (now (cells .entry)) ⌝ }
@@ -88,10 +88,7 @@ fn cells_fit(counts: &[u16], cells: &[i64]) -> Fit
     let mut from: usize = 0;
     let mut g: usize = 1;
     while g < 61 {
-        // each of 1 to 60 has a form, so this is never taken
-        let form::GroupForm::Has(f) = form::form_of(g) else {
-            return Fit::All;
-        };
+        let f = form::form_in(g);
         let n = count::count_of(counts, g);
         let fit = elements_fit(f, g, n, cells, from);
         match fit {
@@ -106,7 +103,7 @@ fn cells_fit(counts: &[u16], cells: &[i64]) -> Fit
     Fit::All
 }
 
-// The date of letters that begin at a place: the first 19 decide it.
+// R140: the date of letters that begin at a place; 19 decide it.
 fn date_at(cells: &[i64], from: usize) -> date::Dated
     requires cells { ⌜ from + 19 ≤ length (now cells) ⌝ }
     requires letters { ⌜ T (every isLetter (part from (from + 19) (now cells))) ⌝ }
@@ -118,7 +115,7 @@ fn date_at(cells: &[i64], from: usize) -> date::Dated
     date::Date::new(&letters)
 }
 
-// The date of group 3, to which the rule on its count gives 19 letters at least.
+// R304: the date of group 3, to which R123 gives 19 letters at least.
 fn date_of(counts: &[u16], cells: &[i64]) -> date::Dated
     requires checked { ⌜ checkedOf (now counts) (length (now cells)) ≡ Checked.Right ⌝ }
     requires fits { ⌜ fitOf (now counts) (now cells) ≡ Fit.All ⌝ }
@@ -130,6 +127,7 @@ fn date_of(counts: &[u16], cells: &[i64]) -> date::Dated
 
 // ---- How long the text is.
 
+// R110: elements times width, and two bytes for each line.
 fn group_bytes(form: Form, count: u16) -> usize
     ensures { λ r. ⌜ r ≡ bytesOf form count ⌝ }
 {
@@ -138,17 +136,14 @@ fn group_bytes(form: Form, count: u16) -> usize
     n * row.width + form::rounded_up(n, row.per_line) * 2
 }
 
-// The bytes of a record's canonical text, by its counts alone: two index lines of 122 bytes, and the lines of the groups.
+// R110: the bytes of a record's canonical text, by its counts alone: two index lines of 122 bytes, and the lines of the groups.
 pub fn canonical_length(counts: &[u16]) -> usize
     ensures { λ r. ⌜ r ≡ recordBytes (now (counts .entry)) ⌝ }
 {
     let mut total: usize = 244;
     let mut g: usize = 1;
     while g < 61 {
-        // each of 1 to 60 has a form, so this is never taken
-        let form::GroupForm::Has(f) = form::form_of(g) else {
-            return total;
-        };
+        let f = form::form_in(g);
         total += group_bytes(f, count::count_of(counts, g));
         g += 1;
     }
@@ -157,6 +152,7 @@ pub fn canonical_length(counts: &[u16]) -> usize
 
 // ---- Writing: each is `over`, so that two in a row are one.
 
+// R101: a carriage return and a line feed.
 fn put_line_end(out: &mut [u8], at: usize)
     requires { ⌜ at + 2 ≤ length (now out) ⌝ }
     ensures { λ _. ⌜ now (out .exit) ≡ over at lineEnd (now (out .entry)) ⌝ }
@@ -178,7 +174,7 @@ fn put_entries(counts: &[u16], out: &mut [u8], at: usize)
     }
 }
 
-// An index line of 40 counts.
+// R21: an index line of 40 counts.
 fn put_index_line(counts: &[u16], out: &mut [u8], at: usize)
     requires counts { ⌜ length (now counts) ≡ 40 ⌝ }
     requires room { ⌜ at + 122 ≤ length (now out) ⌝ }
@@ -188,6 +184,7 @@ fn put_index_line(counts: &[u16], out: &mut [u8], at: usize)
     put_line_end(out, at + 120);
 }
 
+// R22: both index lines, 1 to 40 and 41 to 80.
 fn put_index(counts: &[u16], out: &mut [u8])
     requires counts { ⌜ length (now counts) ≡ 80 ⌝ }
     requires room { ⌜ 244 ≤ length (now out) ⌝ }
@@ -241,7 +238,7 @@ fn put_fields(
     a
 }
 
-// The lines of a group, whose cells begin at a place of the table; the place behind them.
+// R44, R102: the lines of a group, whose cells begin at a place of the table; the place behind them.
 fn put_lines(form: Form, count: u16, cells: &[i64], from: usize, out: &mut [u8], at: usize) -> usize
     requires cells { ⌜ from + cellsOf form count ≤ length (now cells) ⌝ }
     requires fitted { ⌜ Fitted form (elementsOf form count) (drop from (now cells)) ⌝ }
@@ -270,7 +267,7 @@ fn put_lines(form: Form, count: u16, cells: &[i64], from: usize, out: &mut [u8],
     a
 }
 
-// The second pass: the lines of all groups.
+// The second pass: the lines of all groups (R20).
 fn put_groups(counts: &[u16], cells: &[i64], out: &mut [u8], at: usize)
     requires cells { ⌜ length (now cells) ≡ cellsBefore (now counts) 61 ⌝ }
     requires fits { ⌜ fitOf (now counts) (now cells) ≡ Fit.All ⌝ }
@@ -282,10 +279,7 @@ fn put_groups(counts: &[u16], cells: &[i64], out: &mut [u8], at: usize)
     let mut a = at;
     let mut g: usize = 1;
     while g < 61 {
-        // each of 1 to 60 has a form, so this is never taken
-        let form::GroupForm::Has(f) = form::form_of(g) else {
-            return;
-        };
+        let f = form::form_in(g);
         let n = count::count_of(counts, g);
         a = put_lines(f, n, cells, from, out, a);
         from += form::cells(f, n);
@@ -308,7 +302,7 @@ pub fn put_record(counts: &[u16], cells: &[i64], out: &mut [u8])
     put_groups(counts, cells, out, 244);
 }
 
-// Counts and cells that are right in all but the room for their text: 11, and only then the output.
+// R305, R306: counts and cells that are right in all but the room for their text: 11, and only then the output.
 fn write_right(counts: &[u16], cells: &[i64], out: &mut [u8]) -> Writing
     requires checked { ⌜ checkedOf (now counts) (length (now cells)) ≡ Checked.Right ⌝ }
     requires fits { ⌜ fitOf (now counts) (now cells) ≡ Fit.All ⌝ }
@@ -324,7 +318,7 @@ fn write_right(counts: &[u16], cells: &[i64], out: &mut [u8]) -> Writing
     Writing::Done(n)
 }
 
-// Counts and a table's length that are right: 13, 10, 11.
+// R303 to R305: counts and a table's length that are right: 13, 10, 11.
 fn write_checked(counts: &[u16], cells: &[i64], out: &mut [u8]) -> Writing
     requires { ⌜ checkedOf (now counts) (length (now cells)) ≡ Checked.Right ⌝ }
     ensures answer { λ r. ⌜ r ≡
@@ -342,8 +336,8 @@ fn write_checked(counts: &[u16], cells: &[i64], out: &mut [u8]) -> Writing
     }
 }
 
-// Writes the canonical text of counts and of the cells of all groups, in group order, to the front of the output, and answers 0 with its
-// length; or answers the first of 4, 5, 6, 7, 14, 13, 10 and 11 that is due, and alters no byte. What stands behind the text stays.
+// R300 to R307: writes the canonical text of counts and of the cells of all groups to the front of the output, and answers 0 with its length;
+// or answers the first of 4, 5, 6, 7, 14, 13, 10 and 11 that is due, and alters no byte. What stands behind the text stays.
 pub fn write_record(counts: &[u16], cells: &[i64], out: &mut [u8]) -> Writing
     ensures answer { λ r. ⌜ r ≡ writingOf (now (counts .entry)) (now (cells .entry)) (length (now (out .entry))) ⌝ }
     ensures output { λ r. ⌜ now (out .exit) ≡
@@ -359,7 +353,7 @@ pub fn write_record(counts: &[u16], cells: &[i64], out: &mut [u8]) -> Writing
     }
 }
 
-// The answer's number in 01's table, with the numbers given besides.
+// The answer's number in R200 to R214, with the numbers given besides.
 pub fn reply_of(answer: Writing) -> reply::Reply
     ensures { λ r. ⌜ r ≡ writingReply answer ⌝ }
 {

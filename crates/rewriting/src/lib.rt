@@ -16,7 +16,7 @@ ghost use Rattle.rewriting.specs.Numbered.{rewritingReply, rewritingGrou
 ghost use Rattle.rewriting.specs.Record.{Ready, groupsOf, allInTurn, cellsAt, rewritingOf, bufferBy};
 ghost use Rattle.rewriting.specs.Record.{tableBy as tableAfter};
 
-// What rewriting a record answers.
+// R321: what rewriting a record answers.
 pub enum Rewriting {
     // R200: 0, with the bytes that were written and the next place
     Done(usize, usize),
@@ -73,10 +73,7 @@ fn read_groups(text: &[u8], at: usize, counts: &[u16], table: &mut [i64]) -> Gro
     let mut cell: usize = 0;
     let mut g: usize = 1;
     while g < 61 {
-        // each of 1 to 60 has a form, so this is never taken
-        let form::GroupForm::Has(f) = form::form_of(g) else {
-            return Groups::All;
-        };
+        let f = form::form_in(g);
         let n = count::count_of(counts, g);
         let to = line::behind_or_end(text, from, form::lines(f, n));
         let end = cell + form::cells(f, n);

@@ -2,11 +2,7 @@
 -- Assumes nothing.
 use borrow.Author.Needs.{needs}
 use native.Mathlib.Omega.{arith}
-use mathlib.Core.Path.{_≡_, sym, _∙_}
 use Prim.Native.Nat.{_-_}
-use Rattle.form.specs.declared.GroupForm.the-variants.{Has}
-use Rattle.form.specs.Table.{formOf}
-use Rattle.form.proofs.Table.{has-form}
 use Rattle.record.proofs.Lengths.{Adding, adding-start, adding-end, adding-more}
 use Rattle.record.proofs.canonical_length.Statement.{statement}
 use Rattle.record.proofs.canonical_length.Tie as tie
@@ -20,24 +16,19 @@ abbrev μ-loop : tie.MeasureT-loop
 loop-holds : tie.Need-loop-holds Inv-loop μ-loop
 loop-holds c = adding-start (c .before .args .counts .now)
 
-form-is : (c : tie.After-f Inv-loop μ-loop) → formOf (c .before .before .before .before .loop .g) ≡ Has (c .f .given .0 .0)
-form-is c = sym (c .before .before .form-of .ensures) ∙ c .f .given .1
-
-returns : tie.Need-returns Inv-loop μ-loop
-returns c =
-    let t = c .before .before .before .before in
-    absurd (has-form (t .loop .g) (omega (arith, t .loop .inv .low)) (omega arith) (sym (c .before .before .form-of .ensures) ∙ c .enum-told .given .1))
+form-in-requires : tie.Need-form-in-requires Inv-loop μ-loop
+form-in-requires c κs = (c .before .loop .inv .low, omega arith)
 
 add-total : tie.Need-add-total Inv-loop μ-loop
 add-total c =
-    let b = adding-more (c .before .before .before .before .before .before .before .before .before .args .counts .now) (c .before .before .before .before .before .before .before .loop .inv) (c .before .before .before .before .before .before .loop-test .taken) (c .before .before .before .f .given .0 .0) (form-is (c .before .before .before)) (c .before .count-of .result) (c .before .count-of .ensures) (omega arith) in
+    let b = adding-more (c .before .before .before .before .before .before .args .counts .now) (c .before .before .before .before .loop .inv) (c .before .before .before .loop-test .taken) (c .before .before .form-in .result) (c .before .before .form-in .ensures) (c .before .count-of .result) (c .before .count-of .ensures) (omega arith) in
     record { fits = omega (arith, b .small, c .group-bytes .ensures) }
 
 loop-again : tie.Need-loop-again Inv-loop μ-loop
-loop-again c = rw (c .group-bytes .ensures) (adding-more (c .before .before .before .before .before .before .before .before .before .args .counts .now) (c .before .before .before .before .before .before .before .loop .inv) (c .before .before .before .before .before .before .loop-test .taken) (c .before .before .before .f .given .0 .0) (form-is (c .before .before .before)) (c .before .count-of .result) (c .before .count-of .ensures) (omega arith))
+loop-again c = rw (c .group-bytes .ensures) (adding-more (c .before .before .before .before .before .before .args .counts .now) (c .before .before .before .before .loop .inv) (c .before .before .before .loop-test .taken) (c .before .before .form-in .result) (c .before .before .form-in .ensures) (c .before .count-of .result) (c .before .count-of .ensures) (omega arith))
 
-returns-2 : tie.Need-returns-2 Inv-loop μ-loop
-returns-2 c = adding-end (c .before .before .before .args .counts .now) (c .before .loop .inv) (c .loop-test .left)
+returns : tie.Need-returns Inv-loop μ-loop
+returns c = adding-end (c .before .before .before .args .counts .now) (c .before .loop .inv) (c .loop-test .left)
 
 pub canonical-length-spec : {M : Type 1} → statement M
 canonical-length-spec =
@@ -46,14 +37,11 @@ canonical-length-spec =
     Inv-loop
     μ-loop
     loop-holds
-    (λ c κs. search needs)
-    (λ c. search needs)
-    (λ c. search needs)
-    returns
+    form-in-requires
     (λ c κs. search needs)
     (λ c κs. search needs)
     add-total
     (λ c. search needs)
     (λ c. search needs)
     loop-again
-    returns-2)
+    returns)

@@ -2,11 +2,8 @@
 -- Assumes nothing.
 use borrow.Author.Needs.{needs}
 use native.Mathlib.Omega.{arith}
-use mathlib.Core.Path.{_≡_, sym, _∙_}
+use mathlib.Core.Path.{sym, _∙_}
 use Prim.Native.Nat.{_-_}
-use Rattle.form.specs.declared.GroupForm.the-variants.{Has}
-use Rattle.form.specs.Table.{formOf}
-use Rattle.form.proofs.Table.{has-form}
 use Rattle.record.proofs.Checking.{Groups, groups-start, groups-end, group-range, groups-more, groups-bad}
 use Rattle.record.proofs.cells_fit.Statement.{statement}
 use Rattle.record.proofs.cells_fit.Tie as tie
@@ -20,36 +17,31 @@ abbrev μ-loop : tie.MeasureT-loop
 loop-holds : tie.Need-loop-holds Inv-loop μ-loop
 loop-holds c = groups-start (c .before .args .counts .now) (c .before .args .cells .now)
 
-form-is : (c : tie.After-f Inv-loop μ-loop) → formOf (c .before .before .before .before .loop .g) ≡ Has (c .f .given .0 .0)
-form-is c = sym (c .before .before .form-of .ensures) ∙ c .f .given .1
-
-returns : tie.Need-returns Inv-loop μ-loop
-returns c =
-    let t = c .before .before .before .before in
-    absurd (has-form (t .loop .g) (omega (arith, t .loop .inv .low)) (omega arith) (sym (c .before .before .form-of .ensures) ∙ c .enum-told .given .1))
+form-in-requires : tie.Need-form-in-requires Inv-loop μ-loop
+form-in-requires c κs = (c .before .loop .inv .low, omega arith)
 
 elements-fit-requires : tie.Need-elements-fit-requires Inv-loop μ-loop
 elements-fit-requires c κs =
-    let o = c .before .before .before .before .before .before .before .before in
-    group-range (o .args .counts .now) (o .args .cells .now) (c .before .before .before .before .before .before .loop .inv) (c .before .before .before .before .before .loop-test .taken) (c .before .before .f .given .0 .0) (form-is (c .before .before)) (c .count-of .result) (c .count-of .ensures) (o .pre)
+    let o = c .before .before .before .before .before in
+    group-range (o .args .counts .now) (o .args .cells .now) (c .before .before .before .loop .inv) (c .before .before .loop-test .taken) (c .before .form-in .result) (c .before .form-in .ensures) (c .count-of .result) (c .count-of .ensures) (o .pre)
 
-returns-2 : tie.Need-returns-2 Inv-loop μ-loop
-returns-2 c =
-    let o = c .before .before .before .before .before .before .before .before .before .before .before .before in
-    groups-bad (o .args .counts .now) (o .args .cells .now) (c .before .before .before .before .before .before .before .before .before .before .loop .inv) (c .before .before .before .before .before .before .before .before .before .loop-test .taken) (c .before .before .before .before .before .before .f .given .0 .0) (form-is (c .before .before .before .before .before .before)) (c .before .before .before .before .count-of .result) (c .before .before .before .before .count-of .ensures) (sym (c .before .before .before .elements-fit .ensures) ∙ c .before .fit .given .1)
+returns : tie.Need-returns Inv-loop μ-loop
+returns c =
+    let o = c .before .before .before .before .before .before .before .before .before in
+    groups-bad (o .args .counts .now) (o .args .cells .now) (c .before .before .before .before .before .before .before .loop .inv) (c .before .before .before .before .before .before .loop-test .taken) (c .before .before .before .before .before .form-in .result) (c .before .before .before .before .before .form-in .ensures) (c .before .before .before .before .count-of .result) (c .before .before .before .before .count-of .ensures) (sym (c .before .before .before .elements-fit .ensures) ∙ c .before .fit .given .1)
 
 add-from : tie.Need-add-from Inv-loop μ-loop
 add-from c =
-    let o = c .before .before .before .before .before .before .before .before .before .before .before .before in
-    record { fits = omega (arith, c .cells .ensures, group-range (o .args .counts .now) (o .args .cells .now) (c .before .before .before .before .before .before .before .before .before .before .loop .inv) (c .before .before .before .before .before .before .before .before .before .loop-test .taken) (c .before .before .before .before .before .before .f .given .0 .0) (form-is (c .before .before .before .before .before .before)) (c .before .before .before .before .count-of .result) (c .before .before .before .before .count-of .ensures) (o .pre)) }
+    let o = c .before .before .before .before .before .before .before .before .before in
+    record { fits = omega (arith, c .cells .ensures, group-range (o .args .counts .now) (o .args .cells .now) (c .before .before .before .before .before .before .before .loop .inv) (c .before .before .before .before .before .before .loop-test .taken) (c .before .before .before .before .before .form-in .result) (c .before .before .before .before .before .form-in .ensures) (c .before .before .before .before .count-of .result) (c .before .before .before .before .count-of .ensures) (o .pre)) }
 
 loop-again : tie.Need-loop-again Inv-loop μ-loop
 loop-again c =
-    let o = c .before .before .before .before .before .before .before .before .before .before .before .before in
-    rw (c .cells .ensures) (groups-more (o .args .counts .now) (o .args .cells .now) (c .before .before .before .before .before .before .before .before .before .before .loop .inv) (c .before .before .before .before .before .before .before .before .before .loop-test .taken) (c .before .before .before .before .before .before .f .given .0 .0) (form-is (c .before .before .before .before .before .before)) (c .before .before .before .before .count-of .result) (c .before .before .before .before .count-of .ensures) (sym (c .before .before .before .elements-fit .ensures) ∙ c .before .enum-told2 .given .1))
+    let o = c .before .before .before .before .before .before .before .before .before in
+    rw (c .cells .ensures) (groups-more (o .args .counts .now) (o .args .cells .now) (c .before .before .before .before .before .before .before .loop .inv) (c .before .before .before .before .before .before .loop-test .taken) (c .before .before .before .before .before .form-in .result) (c .before .before .before .before .before .form-in .ensures) (c .before .before .before .before .count-of .result) (c .before .before .before .before .count-of .ensures) (sym (c .before .before .before .elements-fit .ensures) ∙ c .before .enum-told .given .1))
 
-returns-3 : tie.Need-returns-3 Inv-loop μ-loop
-returns-3 c =
+returns-2 : tie.Need-returns-2 Inv-loop μ-loop
+returns-2 c =
     let o = c .before .before .before in
     groups-end (o .args .counts .now) (o .args .cells .now) (c .before .loop .inv) (c .loop-test .left)
 
@@ -60,18 +52,15 @@ cells-fit-spec =
     Inv-loop
     μ-loop
     loop-holds
-    (λ c κs. search needs)
-    (λ c. search needs)
-    (λ c. search needs)
-    returns
+    form-in-requires
     (λ c κs. search needs)
     elements-fit-requires
     (λ c. search needs)
-    returns-2
+    returns
     (λ c. search needs)
     (λ c κs. search needs)
     add-from
     (λ c. search needs)
     (λ c. search needs)
     loop-again
-    returns-3)
+    returns-2)

@@ -2,11 +2,7 @@
 -- Assumes nothing.
 use borrow.Author.Needs.{needs}
 use native.Mathlib.Omega.{arith}
-use mathlib.Core.Path.{_≡_, sym, _∙_}
 use Prim.Native.Nat.{_-_}
-use Rattle.form.specs.declared.GroupForm.the-variants.{Has}
-use Rattle.form.specs.Table.{formOf}
-use Rattle.form.proofs.Table.{has-form}
 use Rattle.record.proofs.Putting.{GroupsPut, groups-put-start, groups-put-end, group-requires, groups-put-next}
 use Rattle.record.proofs.put_groups.Statement.{statement}
 use Rattle.record.proofs.put_groups.Tie as tie
@@ -22,38 +18,30 @@ loop-holds c =
     let o = c .before .before in
     groups-put-start (o .args .counts .now) (o .args .cells .now) (o .args .at) (o .args .out .now) (o .pre .1 .1)
 
-form-is : (c : tie.After-f Inv-loop μ-loop) → formOf (c .before .before .before .before .loop .g) ≡ Has (c .f .given .0 .0)
-form-is c = sym (c .before .before .form-of .ensures) ∙ c .f .given .1
-
-same-length : tie.Need-same-length Inv-loop μ-loop
-same-length c = c .before .before .before .before .loop .inv .put .long
-
-returns : tie.Need-returns Inv-loop μ-loop
-returns c =
-    let t = c .before .before .before .before in
-    absurd (has-form (t .loop .g) (omega (arith, t .loop .inv .low)) (omega arith) (sym (c .before .before .form-of .ensures) ∙ c .enum-told .given .1))
+form-in-requires : tie.Need-form-in-requires Inv-loop μ-loop
+form-in-requires c κs = (c .before .loop .inv .low, omega arith)
 
 put-lines-requires : tie.Need-put-lines-requires Inv-loop μ-loop
 put-lines-requires c κs =
-    let o = c .before .before .before .before .before .before .before .before .before .before in
-    let all = group-requires (o .args .counts .now) (o .args .cells .now) (o .args .at) (o .args .out .now) (c .before .before .before .before .before .before .before .loop .inv) (c .before .before .before .before .before .before .loop-test .taken) (o .pre .1 .0) (o .pre .0) (c .before .before .before .f .given .0 .0) (form-is (c .before .before .before)) (c .before .count-of .result) (c .before .count-of .ensures) in
+    let o = c .before .before .before .before .before .before .before in
+    let all = group-requires (o .args .counts .now) (o .args .cells .now) (o .args .at) (o .args .out .now) (c .before .before .before .before .loop .inv) (c .before .before .before .loop-test .taken) (o .pre .1 .0) (o .pre .0) (c .before .before .form-in .result) (c .before .before .form-in .ensures) (c .before .count-of .result) (c .before .count-of .ensures) in
     (all .0, (all .1, all .2))
 
 add-from : tie.Need-add-from Inv-loop μ-loop
 add-from c =
-    let r = group-requires (c .before .before .before .before .before .before .before .before .before .before .before .before .before .before .args .counts .now) (c .before .before .before .before .before .before .before .before .before .before .before .before .before .before .args .cells .now) (c .before .before .before .before .before .before .before .before .before .before .before .before .before .before .args .at) (c .before .before .before .before .before .before .before .before .before .before .before .before .before .before .args .out .now) (c .before .before .before .before .before .before .before .before .before .before .before .loop .inv) (c .before .before .before .before .before .before .before .before .before .before .loop-test .taken) (c .before .before .before .before .before .before .before .before .before .before .before .before .before .before .pre .1 .0) (c .before .before .before .before .before .before .before .before .before .before .before .before .before .before .pre .0) (c .before .before .before .before .before .before .before .f .given .0 .0) (form-is (c .before .before .before .before .before .before .before)) (c .before .before .before .before .before .count-of .result) (c .before .before .before .before .before .count-of .ensures) in
+    let r = group-requires (c .before .before .before .before .before .before .before .before .before .before .before .args .counts .now) (c .before .before .before .before .before .before .before .before .before .before .before .args .cells .now) (c .before .before .before .before .before .before .before .before .before .before .before .args .at) (c .before .before .before .before .before .before .before .before .before .before .before .args .out .now) (c .before .before .before .before .before .before .before .before .loop .inv) (c .before .before .before .before .before .before .before .loop-test .taken) (c .before .before .before .before .before .before .before .before .before .before .before .pre .1 .0) (c .before .before .before .before .before .before .before .before .before .before .before .pre .0) (c .before .before .before .before .before .before .form-in .result) (c .before .before .before .before .before .before .form-in .ensures) (c .before .before .before .before .before .count-of .result) (c .before .before .before .before .before .count-of .ensures) in
     record { fits = omega (arith, r .0, c .cells .ensures) }
 
 loop-again : tie.Need-loop-again Inv-loop μ-loop
 loop-again c =
-    let o = c .before .before .before .before .before .before .before .before .before .before .before .before .before .before in
-    rw (c .cells .ensures) (groups-put-next (o .args .counts .now) (o .args .cells .now) (o .args .at) (o .args .out .now) (c .before .before .before .before .before .before .before .before .before .before .before .loop .inv) (c .before .before .before .before .before .before .before .before .before .before .loop-test .taken) (o .pre .1 .0) (o .pre .0) (c .before .before .before .before .before .before .before .f .given .0 .0) (form-is (c .before .before .before .before .before .before .before)) (c .before .before .before .before .before .count-of .result) (c .before .before .before .before .before .count-of .ensures) _ _ (c .before .before .before .put-lines .ensures .0) (c .before .before .before .put-lines .ensures .1))
+    let o = c .before .before .before .before .before .before .before .before .before .before .before in
+    rw (c .cells .ensures) (groups-put-next (o .args .counts .now) (o .args .cells .now) (o .args .at) (o .args .out .now) (c .before .before .before .before .before .before .before .before .loop .inv) (c .before .before .before .before .before .before .before .loop-test .taken) (o .pre .1 .0) (o .pre .0) (c .before .before .before .before .before .before .form-in .result) (c .before .before .before .before .before .before .form-in .ensures) (c .before .before .before .before .before .count-of .result) (c .before .before .before .before .before .count-of .ensures) _ _ (c .before .before .before .put-lines .ensures .0) (c .before .before .before .put-lines .ensures .1))
 
-same-length-2 : tie.Need-same-length-2 Inv-loop μ-loop
-same-length-2 c = c .before .loop .inv .put .long
+same-length : tie.Need-same-length Inv-loop μ-loop
+same-length c = c .before .loop .inv .put .long
 
-returns-2 : tie.Need-returns-2 Inv-loop μ-loop
-returns-2 c =
+returns : tie.Need-returns Inv-loop μ-loop
+returns c =
     let o = c .before .before .before .before in
     groups-put-end (o .args .counts .now) (o .args .cells .now) (o .args .at) (o .args .out .now) (c .before .loop .inv) (c .loop-test .left)
 
@@ -64,11 +52,7 @@ put-groups-spec =
     Inv-loop
     μ-loop
     loop-holds
-    (λ c κs. search needs)
-    (λ c. search needs)
-    (λ c. search needs)
-    same-length
-    returns
+    form-in-requires
     (λ c κs. search needs)
     put-lines-requires
     (λ c κs. search needs)
@@ -76,5 +60,5 @@ put-groups-spec =
     (λ c. search needs)
     (λ c. search needs)
     loop-again
-    same-length-2
-    returns-2)
+    same-length
+    returns)
