@@ -14,18 +14,18 @@ use Rattle.base.specs.Pieces.{done}
 use Rattle.base.proofs.Part.{part-middle}
 use Rattle.count.specs.Tally.{cellsIn}
 use Rattle.place.specs.Placing.{countsAt}
-use Rattle.record.specs.Canonical.{CanonicalRecord}
-use Rattle.record.specs.RoundTrip.{groupCells, ReadsBack, ReadWhole}
-use Rattle.record.specs.Text.{recordText, recordBytes}
+use Rattle.writing.specs.Canonical.{CanonicalRecord}
+use Rattle.writing.specs.RoundTrip.{groupCells, ReadsBack, ReadWhole}
+use Rattle.writing.specs.Text.{recordText, recordBytes}
 use Rattle.count.specs.declared.Release.the-variants.{Five}
 use Rattle.count.proofs.Releases.{release-given}
 use Rattle.count.proofs.Rulings.{kept-ruling}
 use Rattle.date.specs.declared.Dated.the-variants.{Right}
 use Rattle.date.proofs.Due as Letters
-use Rattle.record.specs.Writing.{dateLetters}
-use Rattle.record.proofs.Done.{done-is}
-use Rattle.record.proofs.ReadsBack.{canonical-back, done-canonical}
-use Rattle.record.proofs.ReadWrites.{again-bytes, written-again}
+use Rattle.writing.specs.Writing.{dateLetters}
+use Rattle.writing.proofs.Done.{done-is}
+use Rattle.writing.proofs.ReadsBack.{canonical-back, done-canonical}
+use Rattle.writing.proofs.ReadWrites.{again-bytes, written-again}
 use Rattle.rewriting.specs.declared.Groups.the-variants.{All}
 use Rattle.rewriting.specs.declared.Rewriting.{Rewriting}
 use Rattle.rewriting.specs.declared.Rewriting.the-variants.{Done, Missing, NoRoom, Unread}

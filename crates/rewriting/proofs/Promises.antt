@@ -40,11 +40,11 @@ use Rattle.reading.specs.Due.{RefusalDue}
 use Rattle.reading.proofs.Due as Reading
 use Rattle.group.specs.Held.{refusalOf}
 use Rattle.group.proofs.Texts.{read-located}
-use Rattle.record.specs.declared.Writing.the-variants as W
-use Rattle.record.specs.Text.{recordBytes}
-use Rattle.record.specs.Writing.{writingOf}
-use Rattle.record.proofs.Promises.{record-some}
-use Rattle.record.proofs.ReadsBack.{done-bytes, output-bytes}
+use Rattle.writing.specs.declared.Writing.the-variants as W
+use Rattle.writing.specs.Text.{recordBytes}
+use Rattle.writing.specs.Writing.{writingOf}
+use Rattle.writing.proofs.Promises.{record-some}
+use Rattle.writing.proofs.ReadsBack.{done-bytes, output-bytes}
 use Rattle.rewriting.specs.declared.Groups.the-variants.{All}
 use Rattle.rewriting.specs.declared.Rewriting.{Rewriting}
 use Rattle.rewriting.specs.declared.Rewriting.the-variants.{Done, Missing, NoRoom, Unread}

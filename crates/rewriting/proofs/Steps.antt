@@ -18,9 +18,9 @@ use Rattle.place.specs.declared.Placing.the-variants.{Placed}
 use Rattle.place.specs.Placing.{placingOf, countsAt}
 use Rattle.reading.specs.declared.Refusal.{Refusal}
 use Rattle.group.specs.Held.{refusalOf}
-use Rattle.record.specs.declared.Writing.the-variants as W
-use Rattle.record.specs.Text.{recordText, recordBytes}
-use Rattle.record.specs.Writing.{writingOf}
+use Rattle.writing.specs.declared.Writing.the-variants as W
+use Rattle.writing.specs.Text.{recordText, recordBytes}
+use Rattle.writing.specs.Writing.{writingOf}
 use Rattle.rewriting.specs.declared.Groups.the-variants.{All, Refused}
 use Rattle.rewriting.specs.declared.Rewriting.{Rewriting}
 use Rattle.rewriting.specs.declared.Rewriting.the-variants.{Done, Missing, NoRoom, Unread}

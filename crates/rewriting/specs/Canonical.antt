@@ -7,8 +7,8 @@ use Rattle.count.specs.Blame.{KeepsRules}
 use Rattle.count.specs.Due.{ReleaseFive}
 use Rattle.date.specs.Due.{IsDate}
 use Rattle.date.specs.declared.Date.{Date}
-use Rattle.record.specs.Canonical.{CanonicalRecord}
-use Rattle.record.specs.Writing.{dateLetters}
+use Rattle.writing.specs.Canonical.{CanonicalRecord}
+use Rattle.writing.specs.Writing.{dateLetters}
 
 -- a canonical record that nothing but its length could have refused: release 5 and no vacant group, the rules on counts, a right date
 pub record RightRecord (x : List ℕ) : Type 0 where

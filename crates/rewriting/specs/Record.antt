@@ -17,7 +17,7 @@ use Rattle.reading.specs.declared.Refusal.{Refusal}
 use Rattle.reading.specs.Read.{Cells}
 use Rattle.group.specs.Held.{refusalOf}
 use Rattle.group.specs.Text.{readAt}
-use Rattle.record.specs.Text.{recordText, recordBytes}
+use Rattle.writing.specs.Text.{recordText, recordBytes}
 use Rattle.rewriting.specs.declared.Groups.{Groups}
 use Rattle.rewriting.specs.declared.Groups.the-variants.{All, Refused}
 use Rattle.rewriting.specs.declared.Rewriting.{Rewriting}

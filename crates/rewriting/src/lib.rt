@@ -2,7 +2,7 @@
 use count::Ruling;
 use reading::Reading;
 use reading::Refusal;
-use record::Writing;
+use writing::Writing;
 ghost use mathlib.Core.Path.{_≡_};
 ghost use Prim.Native.Nat.{_-_, _≤_};
 ghost use lib.ListN.{length};
@@ -10,8 +10,8 @@ ghost use Rattle.base.specs.Part.{part, over};
 ghost use Rattle.count.specs.Rules.{rulingOf};
 ghost use Rattle.place.specs.Placing.{countsAt};
 ghost use Rattle.reading.specs.Read.{readGroup, readingOf, tableBy};
-ghost use Rattle.record.specs.Text.{recordText, recordBytes};
-ghost use Rattle.record.specs.Writing.{writingOf};
+ghost use Rattle.writing.specs.Text.{recordText, recordBytes};
+ghost use Rattle.writing.specs.Writing.{writingOf};
 ghost use Rattle.rewriting.specs.Numbered.{rewritingReply, rewritingGroup};
 ghost use Rattle.rewriting.specs.Record.{Ready, groupsOf, allInTurn, cellsAt, rewritingOf, bufferBy};
 ghost use Rattle.rewriting.specs.Record.{tableBy as tableAfter};
@@ -101,7 +101,7 @@ fn write_cells(counts: &[u16], table: &[i64], cells: usize, out: &mut [u8])
     ensures { λ _. ⌜ now (out .exit) ≡
         over 0 (recordText (now (counts .entry)) (part 0 cells (now (table .entry)))) (now (out .entry)) ⌝ }
 {
-    record::put_record(counts, &table[0..cells], out);
+    writing::put_record(counts, &table[0..cells], out);
 }
 
 // Rewrites the record at a place of a text into an output, over a table. R321: what placing refuses with; 11 if output or table is too short
@@ -119,7 +119,7 @@ pub fn rewrite_record(text: &[u8], at: usize, table: &mut [i64], out: &mut [u8])
         return Rewriting::Missing(group::refusal_of(answer));
     };
     let counts = placed.counts;
-    let bytes = record::canonical_length(&counts);
+    let bytes = writing::canonical_length(&counts);
     if out.len() < bytes {
         return Rewriting::NoRoom;
     }

@@ -12,8 +12,8 @@ use Rattle.group.specs.Due as GroupIs
 use Rattle.group.specs.Held.{moved, partStart, partAt}
 use Rattle.group.specs.Text.{readAt}
 use Rattle.reading.specs.Read.{Cells, readingOf, tableBy}
-use Rattle.record.specs.Due as WritingIs
-use Rattle.record.specs.Writing.{outputBy}
+use Rattle.writing.specs.Due as WritingIs
+use Rattle.writing.specs.Writing.{outputBy}
 use Rattle.rewriting.specs.Due as RewritingIs
 use Rattle.rewriting.specs.Record.{tableBy as tableAfter, bufferBy}
 use Rattle.listing.specs.Listing.{listing, IsListing, ListingDue}

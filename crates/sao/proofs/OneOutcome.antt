@@ -4,7 +4,7 @@
 use mathlib.Core.Path.{_≡_, sym, _∙_, ap}
 use denote.Ref.{now}
 use Rattle.sao.specs.Outcome.{OneOutcome, OneUpTo}
-use Rattle.record.specs.Writing.{outputBy}
+use Rattle.writing.specs.Writing.{outputBy}
 use Rattle.rewriting.specs.Record.{tableBy, bufferBy}
 use Rattle.sao.proofs.place
 use Rattle.sao.proofs.read_group

@@ -22,7 +22,7 @@ use Rattle.group.specs.Text.{readAt}
 use Rattle.group.specs.Held.{foundAt, foundReply, foundRows}
 use Rattle.group.specs.Characteristics.{characteristicAt, characteristicReply, characteristicRows}
 use Rattle.listing.specs.Listing.{listing, listedReply, listingRows}
-use Rattle.record.specs.Writing.{writingOf, outputBy, writingReply, writingRows}
+use Rattle.writing.specs.Writing.{writingOf, outputBy, writingReply, writingRows}
 use Rattle.rewriting.specs.Record.{rewritingOf, bufferBy}
 use Rattle.rewriting.specs.declared.Rewriting.the-variants.{Unread}
 use Rattle.rewriting.specs.Numbered.{rewritingReply, rewritingRows}

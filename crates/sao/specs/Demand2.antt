@@ -25,13 +25,13 @@ use Rattle.group.specs.Text.{readAt}
 use Rattle.group.specs.Held.{foundAt, partStart, partEnd, partAt}
 use Rattle.group.specs.Characteristics.{characteristicAt}
 use Rattle.group.specs.Due as GroupIs
-use Rattle.record.specs.declared.Writing.{Writing}
-use Rattle.record.specs.declared.Writing.the-variants.{Done}
-use Rattle.record.specs.Canonical.{CanonicalRecord}
-use Rattle.record.specs.RoundTrip.{ReadsBack, ReadWhole, joined}
-use Rattle.record.specs.Text.{recordText}
-use Rattle.record.specs.Writing.{writingOf, outputBy}
-use Rattle.record.specs.Due as WritingIs
+use Rattle.writing.specs.declared.Writing.{Writing}
+use Rattle.writing.specs.declared.Writing.the-variants.{Done}
+use Rattle.writing.specs.Canonical.{CanonicalRecord}
+use Rattle.writing.specs.RoundTrip.{ReadsBack, ReadWhole, joined}
+use Rattle.writing.specs.Text.{recordText}
+use Rattle.writing.specs.Writing.{writingOf, outputBy}
+use Rattle.writing.specs.Due as WritingIs
 use Rattle.listing.specs.Listing.{listing, IsListing, ListingDue}
 use Rattle.rewriting.specs.declared.Rewriting.{Rewriting}
 use Rattle.rewriting.specs.declared.Rewriting.the-variants.{Done as Rewritten}

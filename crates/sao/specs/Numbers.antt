@@ -19,8 +19,8 @@ use Rattle.group.specs.declared.Characteristic.the-variants.{Value, NoReading, 
 use Rattle.group.specs.Characteristics.{characteristicReply}
 use Rattle.group.specs.Held.{foundReply}
 use Rattle.listing.specs.Listing.{listedReply}
-use Rattle.record.specs.declared.Writing.the-variants as W
-use Rattle.record.specs.Writing.{writingReply}
+use Rattle.writing.specs.declared.Writing.the-variants as W
+use Rattle.writing.specs.Writing.{writingReply}
 use Rattle.rewriting.specs.declared.Rewriting.the-variants as A
 use Rattle.rewriting.specs.Numbered.{rewritingReply, rewritingGroup}
 

@@ -6,8 +6,8 @@ use group::Characteristic;
 use group::Lines;
 use place::Record;
 use reading::Reading;
-use record::Writing;
 use rewriting::Rewriting;
+use writing::Writing;
 ghost use mathlib.Core.Path.{_≡_};
 ghost use lib.ListN.{length};
 ghost use Rattle.decimal.specs.Writing.{Puts};
@@ -16,7 +16,7 @@ ghost use Rattle.reading.specs.Read.{readingOf, tableBy};
 ghost use Rattle.group.specs.Text.{readAt};
 ghost use Rattle.group.specs.Held.{foundAt, partStart, partEnd, partAt, moved};
 ghost use Rattle.group.specs.Characteristics.{characteristicAt};
-ghost use Rattle.record.specs.Writing.{writingOf, outputBy};
+ghost use Rattle.writing.specs.Writing.{writingOf, outputBy};
 ghost use Rattle.rewriting.specs.Record.{rewritingOf, tableBy as tableAfter, bufferBy};
 ghost use Rattle.listing.specs.Listing.{listing};
 
@@ -79,7 +79,7 @@ pub fn write_record(counts: &[u16], cells: &[i64], out: &mut [u8]) -> Writing
     ensures output { λ r. ⌜ now (out .exit) ≡
         outputBy (now (counts .entry)) (now (cells .entry)) r (now (out .entry)) ⌝ }
 {
-    record::write_record(counts, cells, out)
+    writing::write_record(counts, cells, out)
 }
 
 // R310, R311. Asked: the listing of a text, a line for each record of its walk and the line `end`.

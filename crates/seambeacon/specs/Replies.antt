@@ -11,7 +11,7 @@ use Rattle.reading.specs.Numbered.{readingReply}
 use Rattle.group.specs.Text.{readAt}
 use Rattle.group.specs.Held.{foundAt, foundReply}
 use Rattle.group.specs.Characteristics.{characteristicAt, characteristicReply}
-use Rattle.record.specs.Writing.{writingOf, writingReply}
+use Rattle.writing.specs.Writing.{writingOf, writingReply}
 use Rattle.rewriting.specs.Record.{rewritingOf}
 use Rattle.rewriting.specs.Numbered.{rewritingReply}
 use Rattle.listing.specs.Listing.{listing, listedReply}

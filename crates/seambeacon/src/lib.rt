@@ -15,7 +15,7 @@ ghost use Rattle.reading.specs.Read.{tableBy};
 ghost use Rattle.group.specs.Text.{readAt};
 ghost use Rattle.group.specs.Held.{partStart, partAt};
 ghost use Rattle.group.specs.Characteristics.{characteristicAt};
-ghost use Rattle.record.specs.Writing.{writingOf, outputBy};
+ghost use Rattle.writing.specs.Writing.{writingOf, outputBy};
 ghost use Rattle.rewriting.specs.Record.{rewritingOf, tableBy as tableAfter, bufferBy};
 ghost use Rattle.rewriting.specs.Numbered.{rewritingGroup};
 ghost use Rattle.listing.specs.Listing.{listing};
@@ -158,7 +158,7 @@ pub extern "C" fn seambeacon_write_record(
         (writingOf (now (counts .entry)) (now (cells .entry)) (length (now (out .entry)))) (now (out .entry)) ⌝ }
 {
     let answer = sao::write_record(counts, cells, out);
-    tell(record::reply_of(answer), beside)
+    tell(writing::reply_of(answer), beside)
 }
 
 // R310, R311. Asked: the listing of a text, a line for each record of its walk and the line `end`.

@@ -15,7 +15,7 @@ use Rattle.place.specs.declared.Placing.the-variants.{Placed}
 use Rattle.place.specs.Placing.{placingOf, countsAt}
 use Rattle.place.proofs.Placing.{the-type}
 use Rattle.group.proofs.Texts.{not-first}
-use Rattle.record.specs.Text.{recordBytes}
+use Rattle.writing.specs.Text.{recordBytes}
 use Rattle.rewriting.specs.declared.Rewriting.the-variants.{Missing}
 use Rattle.rewriting.proofs.Steps.{step-missing, step-no-text, step-no-cells, step-ready, step-unread, step-writes, step-done}
 use Rattle.rewriting.proofs.rewrite_record.Statement.{statement}

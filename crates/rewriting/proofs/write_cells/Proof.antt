@@ -5,8 +5,8 @@ use lib.ListN.{length}
 use Rattle.base.specs.Part.{part}
 use Rattle.count.specs.declared.Checked.the-variants.{Right}
 use Rattle.count.proofs.Due.{first-due}
-use Rattle.record.specs.Text.{recordBytes}
-use Rattle.record.proofs.Done.{done-is}
+use Rattle.writing.specs.Text.{recordBytes}
+use Rattle.writing.proofs.Done.{done-is}
 use Rattle.rewriting.proofs.write_cells.Statement.{statement}
 use Rattle.rewriting.proofs.write_cells.Tie as tie
 

@@ -2,7 +2,7 @@
 -- Assumes nothing.
 use borrow.Author.Needs.{needs}
 use mathlib.Core.Path.{_∙_, ap}
-use Rattle.record.specs.Writing.{writingReply, outputBy}
+use Rattle.writing.specs.Writing.{writingReply, outputBy}
 use Rattle.seambeacon.proofs.Telling.{told-as}
 use Rattle.seambeacon.proofs.seambeacon_write_record.Statement.{statement}
 use Rattle.seambeacon.proofs.seambeacon_write_record.Tie as tie
