@@ -1,16 +1,24 @@
-/* Seambeacon: places, reads and writes SAO 4.3 records. Link target/staticlib/libboundary.a (`rt staticlib boundary`), x86-64.
+/* Seambeacon: places, reads and writes SAO 4.3 records.
+   Link target/staticlib/libseambeacon.a (`rt staticlib seambeacon`), x86-64.
 
-   Every function can be asked of every text, place, number, table and output, comes to an end, and returns one of the replies below. A caller
-   never has to check beforehand. Nothing is kept between two calls.
+   Whatever text, place, number, table and output a function is given, it ends and returns one of
+   the replies below; nothing has to be checked before a call. R with a number is a rule of
+   docs/FORMAT.md.
 
    What a caller answers for:
-   - A pointer with a length behind it is valid for that many of what it points to; with length 0 it is never followed and may be NULL. Any
-     other pointer is valid for the one array or struct that it points to, and is not NULL. All are aligned for their type.
-   - Memory that is lent to be altered (a pointer without const) overlaps nothing else that is lent in the same call, and nobody else reads or
-     writes it during the call. Nobody writes the rest during the call.
+   - A pointer with a length behind it is valid for that many of what it points to; with length 0
+     it is never followed and may be NULL. Any other pointer is valid for the one value, array or
+     struct that it points to, and is not NULL. All are aligned for their type.
+   - Memory that is lent to be altered (a pointer without const) overlaps nothing else that is
+     lent in the same call, and nobody else reads or writes it during the call. Nobody writes the
+     rest during the call.
 
-   A text is its bytes, with line ends; no byte marks its end. A place is a number of bytes from the text's start. Groups, lines, elements,
-   positions and characteristics count from 1. */
+   Several threads may ask at the same time, without a lock: the library has no memory of its own
+   and keeps nothing between two calls. They may lend the same text, counts and cells to be read;
+   each call has a table, an output and numbers of its own to be altered.
+
+   A text is its bytes, with line ends; no byte marks its end. A place is a number of bytes from
+   the text's start. Groups, lines, elements, positions and characteristics count from 1. */
 #ifndef SEAMBEACON_H
 #define SEAMBEACON_H
 
@@ -21,26 +29,58 @@
 extern "C" {
 #endif
 
-/* The replies, each with the numbers that are given beside it. */
+/* The replies (reply n is R200 + n), each with the numbers that are given beside it. */
 enum seambeacon_reply {
-    SEAMBEACON_DONE = 0,            /* done: the next place in placing and rewriting, the cells or bytes written in all that write */
-    SEAMBEACON_END = 1,             /* the place is the text's end */
-    SEAMBEACON_BEYOND = 2,          /* the place lies beyond the text's end */
-    SEAMBEACON_TOO_FEW_LINES = 3,   /* fewer line feeds are left than the index lines or the data lines need */
-    SEAMBEACON_MISFORMED = 4,       /* an index line or entry is misformed; in writing, not 80 counts or a count above 999 */
-    SEAMBEACON_OTHER_RELEASE = 5,   /* the release, number 80 of the index, is not 5 */
-    SEAMBEACON_FILLED_VACANT = 6,   /* a group of 61 to 79 has a count: the lowest such group */
-    SEAMBEACON_BROKEN_RULE = 7,     /* a rule on counts is broken: the blamed group; in placing also the next place */
-    SEAMBEACON_BAD_LINE = 8,        /* no carriage return before the line feed, a wrong length, or other bytes than blanks behind: the line */
-    SEAMBEACON_BAD_FIELD = 9,       /* a field is misformed: its line and its element */
-    SEAMBEACON_BAD_DATE = 10,       /* the date in group 3 is wrong: the position blamed */
-    SEAMBEACON_NO_ROOM = 11,        /* the table or the output is shorter than what would be filled */
-    SEAMBEACON_NO_SUCH_NUMBER = 12, /* there is no group 1 to 60, or no characteristic 1 to 49, of that number */
-    SEAMBEACON_NO_FIELD = 13,       /* in writing, a value fits no field of its form: its group and its element */
-    SEAMBEACON_OTHER_LENGTH = 14    /* in writing, the number of cells is not what the counts need */
+    /* done: the next place in placing and rewriting, the cells or bytes written in all that
+       write */
+    SEAMBEACON_DONE = 0,
+    /* the place is the text's end */
+    SEAMBEACON_END = 1,
+    /* the place lies behind the text's end */
+    SEAMBEACON_BEYOND = 2,
+    /* from the place on there are fewer line feeds than the record has lines */
+    SEAMBEACON_TOO_FEW_LINES = 3,
+    /* an index line or an entry is misformed; where counts are given, they are not 80 or one is
+       above 999 */
+    SEAMBEACON_MISFORMED = 4,
+    /* the release, number 80 of the index, is not 5 */
+    SEAMBEACON_OTHER_RELEASE = 5,
+    /* a group of 61 to 79 has a count: the lowest such group */
+    SEAMBEACON_FILLED_VACANT = 6,
+    /* a rule on counts is broken: the group blamed, and in placing the next place */
+    SEAMBEACON_BROKEN_RULE = 7,
+    /* a data line lacks its carriage return, has a wrong length, or something else than blanks
+       behind its fields: the line */
+    SEAMBEACON_BAD_LINE = 8,
+    /* a field is misformed: its line and its element */
+    SEAMBEACON_BAD_FIELD = 9,
+    /* the date in group 3 is wrong: the position blamed */
+    SEAMBEACON_BAD_DATE = 10,
+    /* the table or the output is too short for what 0 would put there */
+    SEAMBEACON_NO_ROOM = 11,
+    /* the number is no group (1 to 60), or no characteristic (1 to 49) */
+    SEAMBEACON_NO_SUCH_NUMBER = 12,
+    /* in writing, no field of its form reads as an element's cells: its group and its element */
+    SEAMBEACON_NO_FIELD = 13,
+    /* in writing, there are more or fewer cells than the counts ask for */
+    SEAMBEACON_OTHER_LENGTH = 14
 };
 
-/* The numbers beside a reply. All six are written at every call, and those that the reply does not give are 0. */
+/* What is known of a characteristic. */
+enum seambeacon_kind {
+    SEAMBEACON_VALUE = 0,
+    SEAMBEACON_NO_READING = 1,
+    SEAMBEACON_NOT_REPORTED = 2, /* the record has fewer characteristics */
+    SEAMBEACON_REFUSED = 3       /* the reply says why */
+};
+
+/* The library has both enums as 32 bits. A compiler told to make them otherwise (-fshort-enums) is
+   refused here. */
+typedef char seambeacon_enums_have_32_bits
+    [sizeof(enum seambeacon_reply) == 4 && sizeof(enum seambeacon_kind) == 4 ? 1 : -1];
+
+/* The numbers beside a reply. All six are written at every call, and those that the reply does not
+   give are 0. */
 struct seambeacon_beside {
     size_t next;     /* place behind the record */
     size_t written;  /* cells or bytes written */
@@ -56,70 +96,71 @@ struct seambeacon_part {
     size_t length;
 };
 
-/* What is known of a characteristic: one of the kinds, and the value in thousandths, which is 0 for the other kinds. */
-enum seambeacon_kind {
-    SEAMBEACON_VALUE = 0,
-    SEAMBEACON_NO_READING = 1,
-    SEAMBEACON_NOT_REPORTED = 2, /* the record has fewer characteristics */
-    SEAMBEACON_REFUSED = 3       /* the reply says why */
-};
-
-struct seambeacon_answer {
-    int64_t kind;
-    int64_t value;
-};
-
 /* Asked: which record stands at a place of a text.
-   Answered: 0 or 7 with the next place, from which a walk goes on; counts has the record's 80 counts, group g's as counts[g - 1].
+   Answered: 0 or 7 with the next place, from which a walk goes on; counts has the record's 80
+   counts, group g's as counts[g - 1].
    Another refusal (1 to 6) leaves 80 zeros in counts. */
-size_t seambeacon_place(const uint8_t *text, size_t text_length, size_t at, uint16_t counts[80], struct seambeacon_beside *beside);
+enum seambeacon_reply seambeacon_place(const uint8_t *text, size_t text_length, size_t at,
+                                       uint16_t counts[80], struct seambeacon_beside *beside);
 
 /* Asked: the cells of a group, 1 to 60, of the record at a place.
-   Answered: 0 with the number of cells, which stand in the table from its first cell on; what stands behind them is kept. I fields are whole
-   numbers, F fields thousandths, A fields a cell for each byte; an E field has two cells, its digits and its exponent. No group has more than
+   Answered: 0 with the number of cells, which stand in the table from its first cell on; what
+   stands behind them is kept. I fields are whole numbers, F fields thousandths, A fields a cell
+   for each byte; an E field has two cells, its digits and its exponent. No group has more than
    1,998 cells.
-   A refusal (12, a placing reply but 0, 11, 8, 9, 10, in this order) leaves the whole table as it was. */
-size_t seambeacon_read_group(const uint8_t *text, size_t text_length, size_t at, size_t group, int64_t *table, size_t table_length,
-                             struct seambeacon_beside *beside);
-
-/* Asked: whether the lines of a group of the record at a place can be given.
-   Answered: 0, or why not: 12, or a placing reply but 0 (7 without a next place). Only the numbers beside the reply are lent. */
-size_t seambeacon_group_lines_reply(const uint8_t *text, size_t text_length, size_t at, size_t group, struct seambeacon_beside *beside);
+   A refusal (12, a placing reply but 0, 11, 8, 9, 10, in this order) leaves the whole table as it
+   was; of 7 it gives the group, without a next place. */
+enum seambeacon_reply seambeacon_read_group(const uint8_t *text, size_t text_length, size_t at,
+                                            size_t group, int64_t *table, size_t table_length,
+                                            struct seambeacon_beside *beside);
 
 /* Asked: the lines of a group of the record at a place, with their line ends.
-   Answered: the reply of seambeacon_group_lines_reply, and which part of the text holds them: part->length bytes from text + part->start on.
-   With count 0 it is the empty part where they would begin.
-   A refusal gives the empty part at the text's start. */
-size_t seambeacon_group_lines(const uint8_t *text, size_t text_length, size_t at, size_t group, struct seambeacon_part *part,
-                              struct seambeacon_beside *beside);
+   Answered: 0, and which part of the text holds them: part->length bytes from text + part->start
+   on. With count 0 the part is empty, and lies where the lines would be (R282).
+   A refusal (12, or a placing reply but 0, of 7 without a next place) gives the empty part at
+   place 0 (R283). */
+enum seambeacon_reply seambeacon_group_lines(const uint8_t *text, size_t text_length, size_t at,
+                                             size_t group, struct seambeacon_part *part,
+                                             struct seambeacon_beside *beside);
 
 /* Asked: a characteristic, 1 to 49, of the record at a place.
-   Answered: under reply 0 its value, that there is no reading, or that it is not reported.
+   Answered: under reply 0 its kind, and in *value its value in thousandths, 0 for the other
+   kinds.
    A refusal (12, or the reply of reading group 4) has the kind SEAMBEACON_REFUSED. */
-size_t seambeacon_characteristic(const uint8_t *text, size_t text_length, size_t at, size_t number, struct seambeacon_answer *answer,
-                                 struct seambeacon_beside *beside);
+enum seambeacon_reply seambeacon_characteristic(const uint8_t *text, size_t text_length, size_t at,
+                                                size_t number, enum seambeacon_kind *kind,
+                                                int64_t *value, struct seambeacon_beside *beside);
 
 /* Asked: to write a record of these counts, which are 80, and of all its cells in group order.
-   Answered: 0 with the number of bytes of its canonical text, which stand in out from its first byte on; what stands behind them is kept.
+   Answered: 0 with the number of bytes of its canonical text, which stand in out from its first
+   byte on; what stands behind them is kept.
    A refusal (4, 5, 6, 7, 14, 13, 10, 11, in this order) leaves the whole output as it was. */
-size_t seambeacon_write_record(const uint16_t *counts, size_t counts_length, const int64_t *cells, size_t cells_length, uint8_t *out,
-                               size_t out_length, struct seambeacon_beside *beside);
+enum seambeacon_reply seambeacon_write_record(const uint16_t *counts, size_t counts_length,
+                                              const int64_t *cells, size_t cells_length,
+                                              uint8_t *out, size_t out_length,
+                                              struct seambeacon_beside *beside);
 
-/* Asked: the listing of a text: a line for each placed record (record number, place, next place, reply, blamed group, groups with a count,
-   lines with the index), and last a line with `end`, records listed, the place where the walk stopped, the reply there, its group or 0.
-   Answered: 0 with the number of bytes, which stand in out from its first byte on; what stands behind them is kept. A text of any length is
-   listed.
+/* Asked: the listing of a text: a line of seven numbers for each record of the walk (R342), and
+   last a line with `end` and four numbers, which tell how many records there are and where and
+   why the walk stopped (R343).
+   Answered: 0 with the number of bytes, which stand in out from its first byte on; what stands
+   behind them is kept. A text of any length is listed.
    A refusal (11) leaves the whole output as it was. */
-size_t seambeacon_list(const uint8_t *text, size_t text_length, uint8_t *out, size_t out_length, struct seambeacon_beside *beside);
+enum seambeacon_reply seambeacon_list(const uint8_t *text, size_t text_length, uint8_t *out,
+                                      size_t out_length, struct seambeacon_beside *beside);
 
-/* Asked: to rewrite the record at a place as canonical text. The table is room for the record's cells; as many cells as the output
-   has bytes are always enough.
-   Answered: 0 with the number of bytes and the next place. The bytes stand in out from its first byte on, the record's cells in group order in
-   the table from its first cell on; what stands behind them is kept. *unread is 0.
-   A refusal (a placing reply but 0, 11, or the first reply but 0 of reading groups 1 to 60) leaves the whole output as it was. *unread is the
-   group that could not be read, or 0 where none was tried; the table has the cells of the groups before it, and is otherwise as it was. */
-size_t seambeacon_rewrite_record(const uint8_t *text, size_t text_length, size_t at, int64_t *table, size_t table_length, uint8_t *out,
-                                 size_t out_length, size_t *unread, struct seambeacon_beside *beside);
+/* Asked: to rewrite the record at a place as canonical text. The table is room for the record's
+   cells; as many cells as the output has bytes are always enough.
+   Answered: 0 with the number of bytes and the next place. The bytes stand in out from its first
+   byte on, the record's cells in group order in the table from its first cell on; what stands
+   behind them is kept. *unread is 0.
+   A refusal (a placing reply but 0, 11, or the first reply but 0 of reading groups 1 to 60)
+   leaves the whole output as it was. *unread is the group that could not be read, or 0 where
+   none was tried; the table has the cells of the groups before it, and is otherwise as it was. */
+enum seambeacon_reply seambeacon_rewrite_record(const uint8_t *text, size_t text_length, size_t at,
+                                                int64_t *table, size_t table_length, uint8_t *out,
+                                                size_t out_length, size_t *unread,
+                                                struct seambeacon_beside *beside);
 
 #ifdef __cplusplus
 }

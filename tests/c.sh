@@ -1,7 +1,8 @@
 #!/bin/sh
-# The boundary from C: include/seambeacon.h compiles alone as C and as C++, and the program of tests/c asks every question on record S, S twice
+# The library from C: include/seambeacon.h compiles alone as C and as C++, and the program of tests/c asks every question on record S, S twice
 # and damaged texts, every line of tests/vectors/writes.txt and every answer of the texts of tests/vectors (or of the folder that is named), and
-# compares all lent memory. The program counts its checks; so many are demanded that none of its parts can be left out.
+# compares all lent memory. The program counts its checks; so many are demanded that none of its parts can be left out. examples/fof2.c prints
+# a value below zero too.
 set -u
 cd "$(dirname "$0")/.." || exit 2
 name=c
@@ -12,6 +13,8 @@ chosen "$@"
 echo '#include "seambeacon.h"' >"$work/alone.c"
 counted 'the header alone, C99' compiled "$work/alone.c" "$work/alone.o" -std=c99
 counted 'the header alone, C++' compiled "$work/alone.c" "$work/alone.o" -x c++ -std=c++11
+counted 'no line of the header is longer than 100 columns' none "$(awk 'length > 100' include/seambeacon.h)"
+counted 'the header is refused where enums are short' fails compiled "$work/alone.c" "$work/alone.o" -std=c99 -fshort-enums
 for host in 'cc -std=c99' 'c++ -x c++ -std=c++11'; do
     command -v "${host%% *}" >/dev/null || continue
     counted "the header alone, $host with its own headers" $host -Wall -Wextra -pedantic -Werror -Iinclude -fsyntax-only "$work/alone.c"
@@ -34,5 +37,11 @@ counted 'every check of the program' [ "$?" = 0 ] || head -n 21 "$work/said"
 last=$(tail -n 1 "$work/said")
 echo "$name: $last"
 made=${last%% checks,*}
-! own || counted 'as many checks as there are' [ "${made:-0}" -ge 67633 ]
-finished 13
+! own || counted 'as many checks as there are' [ "${made:-0}" -ge 58619 ]
+
+counted 'the example' compiled examples/fof2.c "$work/fof2.o" -std=c99 && linked "$work/fof2" "$work/fof2.o"
+below_zero >"$work/below"
+started "$work/fof2" <"$work/below" >"$work/got"
+below_zero_due >"$work/want"
+compared 'values below zero' "$work/want"
+finished 17

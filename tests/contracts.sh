@@ -1,5 +1,5 @@
 #!/bin/sh
-# Contracts: every public function of every crate has an `ensures`, and no public question of `sao` or of the boundary has a `requires`. The
+# Contracts: every public function of every crate has an `ensures`, and no public question of `sao` or `seambeacon` has a `requires`. The
 # questions are those of README.md and of the header, name for name. The check is tried on made-up functions first.
 set -u
 LC_ALL=C
@@ -109,15 +109,15 @@ made '' 'fn f(n: usize) -> usize requires { n } { n }'
 made '' 'pub struct S { n: usize } fn f(n: usize) -> usize requires { n } { n }'
 
 counted 'every public function has an ensures' none "$(unensured crates/*/src/*.rt)"
-for crate in sao boundary; do
+for crate in sao seambeacon; do
     counted "no question of $crate has a requires" none "$(required crates/$crate/src/*.rt)"
 done
 
 # the questions of README.md, in the first column of its table, and of the header
 awk '/^## / { open = $0 == "## Questions" } open && /^\|/ { split($0, cell, "|"); print cell[2] }' README.md |
     grep -o '`[a-z_]*(' | tr -d '`(' | sort >"$work/sao"
-sed -n 's/^size_t \(seambeacon_[a-z_]*\)(.*/\1/p' include/seambeacon.h | sort >"$work/boundary"
-for crate in sao boundary; do
+sed -n 's/^enum seambeacon_reply \(seambeacon_[a-z_]*\)(.*/\1/p' include/seambeacon.h | sort >"$work/seambeacon"
+for crate in sao seambeacon; do
     contracts crates/$crate/src/*.rt | cut -d ' ' -f 2 | sort >"$work/got"
     counted "there are questions of $crate" [ -s "$work/$crate" ]
     compared "the questions of $crate" "$work/$crate"

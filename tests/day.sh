@@ -1,7 +1,7 @@
 #!/bin/sh
 # The example day and its damaged copy: rewriting returns the day byte for byte, both are listed alike, and one byte that was replaced in a
 # trace is seen in the row of one group alone. Where that group stands, which line and element are refused and what foF2 was are cut out of the
-# text's fixed columns here, by the rules of 01. Prints each case that fails, and how many passed.
+# text's fixed columns here (R41, R61, R140). Prints each case that fails, and how many passed.
 set -u
 LC_ALL=C
 export LC_ALL
@@ -115,7 +115,7 @@ counted 'the row of that group is expected to change' [ "$(cat "$work/rows")" -e
 cp "$work/damaged.dump" "$work/got"
 compared 'the damaged day, dumped' "$work/want"
 
-# "until the first reply other than 0 in placing or reading .. and nothing of that record or later"
+# R346: the records before the damaged one, and nothing else
 head -c "$start" "$day" >"$work/want"
 cp "$work/damaged.rewrite" "$work/got"
 compared 'the damaged day rewritten' "$work/want"

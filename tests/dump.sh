@@ -1,8 +1,8 @@
 #!/bin/sh
 # The test program dump: every answer about every text of tests/vectors, or of the folder that is named, and about 65,536 bytes; and damage by
-# running. Bytes of one group's lines are replaced in each text that has such lines; then only that group's row may differ, and for group 4 the
-# characteristics of that record. Which bytes are replaced by what is drawn from a fixed seed, and is the same in each run. Prints each case
-# that fails, and how many passed.
+# running (D3.2 to D3.7): bytes of one group's lines are replaced in each text that has such lines; then only that group's row may differ, and
+# for group 4 the characteristics of that record. Which bytes are replaced by what is drawn from a fixed seed, and is the same in each run.
+# Prints each case that fails, and how many passed.
 set -u
 cd "$(dirname "$0")/.." || exit 2
 name=dump
@@ -63,7 +63,7 @@ sized '65,537 bytes' "$work/text" 65537
 ./run dump <"$work/text" >"$work/got"
 compared '65,537 bytes' "$work/want"
 
-# S with blanks behind the field of its last line, up to 120 bytes and one more; and with a blank in place of its last carriage return
+# R411, R412: S with blanks behind the field of its last line, up to 120 bytes and one more; R414: with a blank for its last carriage return
 row() { # CASE EXPECTED: the row of group 4 of the text made
     ./run dump <"$work/text" | grep '^group 4 ' >"$work/got"
     echo "$2" >"$work/want"
@@ -76,11 +76,11 @@ behind() { # COUNT: S with so many blanks behind the field of its last line
 }
 
 behind 112 >"$work/text"
-row 'S with 112 blanks behind the last field' 'group 4 0 1 0 295 417 7250'
+row 'S with 112 blanks behind its last field (R411)' 'group 4 0 1 0 295 417 7250'
 behind 113 >"$work/text"
-row 'S with 113 blanks behind the last field' 'group 4 8 1 0 295 418'
+row 'S with 113 blanks behind its last field (R412)' 'group 4 8 1 0 295 418'
 { head -c 303 examples/s.sao && printf ' \n'; } >"$work/text"
-row 'S with a blank in place of its last carriage return' 'group 4 8 1 0 295 305'
+row 'S with a blank for its last carriage return (R414)' 'group 4 8 1 0 295 305'
 
 # Five replacements for each text: the record and the group by their rows in the dump, up to four bytes of its lines, none of them a line
 # feed. One line each: text, number of the row, record's place, group, and then places and bytes.

@@ -1,7 +1,7 @@
 #!/bin/sh
-# The listing program: record S and its neighbours as 01 lists them, inputs at the limit of 65,536 bytes, and every text of tests/vectors, or of
-# the folder that is named. Expected lines come from 01, from its arithmetic, or from the vectors. Prints each case that fails, and how many
-# passed.
+# The listing program (R341 to R344): record S and its neighbours, inputs at the limit of 65,536 bytes, and every text of tests/vectors, or of
+# the folder that is named. Expected lines come from the rules (R382, R411 to R415), from their arithmetic, or from the vectors. Prints each
+# case that fails, and how many passed.
 set -u
 cd "$(dirname "$0")/.." || exit 2
 name=list
@@ -39,17 +39,17 @@ slowly() { # FILE: in four pieces, a second between two
 
 s=examples/s.sao
 
-# record S, and S twice, as 01 lists them
+# R382: record S, and S twice
 lines '1 0 305 0 0 3 5' 'end 1 305 1 0'
 listed 'record S' "$work/want" <"$s"
 cat "$s" "$s" >"$work/in"
 lines '1 0 305 0 0 3 5' '2 305 610 0 0 3 5' 'end 2 610 1 0'
 listed 'S twice' "$work/want" <"$work/in"
 
-# the run-only cases, as far as they are of placing
+# R411 to R415, as far as they are of placing
 bytes "$s" 0 304 >"$work/in"
 lines 'end 0 0 3 0'
-listed 'S without its last byte' "$work/want" <"$work/in"
+listed 'S without its last byte (R413)' "$work/want" <"$work/in"
 {
     bytes "$s" 0 30
     printf '  3'
@@ -57,21 +57,21 @@ listed 'S without its last byte' "$work/want" <"$work/in"
     printf '   1.000   2.000   3.000\r\n'
 } >"$work/in"
 lines '1 0 331 7 7 4 6' 'end 1 331 1 0'
-listed 'S with group 11 alone of its trace set' "$work/want" <"$work/in"
+listed 'S with group 11 alone of its trace set (R415)' "$work/want" <"$work/in"
 for blanks in 112 113; do
     {
         bytes "$s" 0 303
         printf "%${blanks}s\r\n" ''
     } >"$work/in"
     lines "1 0 $((305 + blanks)) 0 0 3 5" "end 1 $((305 + blanks)) 1 0"
-    listed "S with its last line followed by $blanks blanks" "$work/want" <"$work/in"
+    listed "S with $blanks blanks behind its last field (R411, R412)" "$work/want" <"$work/in"
 done
 {
     bytes "$s" 0 303
     printf ' \n'
 } >"$work/in"
 lines '1 0 305 0 0 3 5' 'end 1 305 1 0'
-listed 'S with a blank in place of its last carriage return' "$work/want" <"$work/in"
+listed 'S with a blank for its last carriage return (R414)' "$work/want" <"$work/in"
 
 # short inputs
 lines 'end 0 0 1 0'
@@ -82,7 +82,7 @@ listed 'one byte' "$work/want" <"$work/in"
 printf '\n' >"$work/in"
 listed 'one line feed' "$work/want" <"$work/in"
 
-# 65,536 bytes, the last of them the end of the last record: its 571 bytes are 7 lines with the index
+# R341: 65,536 bytes, the last of them the end of the last record: its 571 bytes are 7 lines with the index
 limit_text 281 >"$work/in"
 sized '65,536 bytes' "$work/in" 65536
 {
@@ -104,7 +104,7 @@ listed '65,537 bytes, from a file' "$work/want" <"$work/in"
 slowly "$work/in" | ./run list >"$work/got"
 compared '65,537 bytes, from a slow pipe' "$work/want"
 
-# as many records as 65,536 bytes hold: 268 of two index lines alone, which break rule 1
+# as many records as 65,536 bytes hold: 268 of two index lines alone, whose count of group 1 is too small (R121)
 awk 'BEGIN { for (i = 0; i < 40; i++) printf "  0"; printf "\r\n"; for (i = 0; i < 39; i++) printf "  0"; printf "  5\r\n" }' >"$work/index"
 {
     repeated 268 "$work/index"

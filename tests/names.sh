@@ -7,8 +7,9 @@
 #   `tests/list.sh`, `README.md`                 a path
 #   `name`                                       alone: a crate, or what the same document gives with its file elsewhere
 # Anything else that begins with a letter is an error, so that nothing is passed over. The other way round, PROMISES.md names each field of the
-# demands' records, each theorem and each question of `sao` and the boundary, each must-fail edit and each test. The lookup is tried on made-up
-# documents first.
+# demands' records, each theorem and each question of `sao` and `seambeacon`, each must-fail edit and each test. A rule that is cited anywhere, as
+# R62 or D2.4, stands in FORMAT.md, and each rule that stands there is cited in one of the documents. The lookup is tried on made-up documents
+# first.
 set -u
 LC_ALL=C
 export LC_ALL
@@ -17,7 +18,7 @@ name=names
 . tests/cases
 . tests/words
 
-documents='docs/PROMISES.md docs/FORMAT.md'
+documents='docs/PROMISES.md docs/TRACE.md'
 # the records whose fields PROMISES.md names, each of them
 demands='crates/sao/specs/Demand*.antt crates/group/specs/Damage.antt'
 
@@ -221,10 +222,55 @@ demanded() { # DECLARED FILE..
     echo "$*" | tr ' ' '\n' | awk '
         FNR == NR { split($0, part, "/"); demand["law " part[2] " " substr($0, length(part[2]) + 9)] = 1; next }
         $1 == "law" && $4 != "-" && (($1 " " $2 " " $3) in demand) { print }
-        $1 == "law" && $2 ~ /^(sao|boundary)$/ && $3 ~ /^proofs\/[^\/]*$/ && $4 == "-" { print }
-        $1 == "code" && $2 ~ /^(sao|boundary)$/ && $6 == "open" { print $1, $2, $4, $5 }
+        $1 == "law" && $2 ~ /^(sao|seambeacon)$/ && $3 ~ /^proofs\/[^\/]*$/ && $4 == "-" { print }
+        $1 == "code" && $2 ~ /^(sao|seambeacon)$/ && $6 == "open" { print $1, $2, $4, $5 }
         $1 == "edit" { print }
         $1 == "path" && $2 ~ /^tests\/[^\/]*\.sh$/ { print }' - "$from" | sort -u
+}
+
+# The rules of a rule book, in its order: those that stand in bold type at the head of an item or a row, and the demands, which are headings.
+standing() { # BOOK
+    sed -nE 's/^(- |\| )\*\*([RD][0-9.]+)\*\*.*/\2/p; s/^#+ (D[0-9]+) .*/\1/p' "$1"
+}
+
+# `RULE FILE:LINE` for each rule that the files cite; from one `to` another all are cited that stand between them. What `+ n` stands behind is
+# no rule.
+cited() { # STANDING FILE..
+    awk '
+        FNR == NR { book[++many] = $1; at[$1] = many; next }
+        {
+            rest = $0; before = ""; from = 0
+            while (match(rest, /[RD][0-9]+/)) {
+                gap = before substr(rest, 1, RSTART - 1)
+                rule = substr(rest, RSTART, RLENGTH)
+                rest = substr(rest, RSTART + RLENGTH)
+                if (rule ~ /^D/ && match(rest, /^\.[0-9]+/)) {
+                    rule = rule substr(rest, 1, RLENGTH)
+                    rest = substr(rest, RLENGTH + 1)
+                }
+                before = rule
+                if (gap ~ /[A-Za-z0-9_]$/ || rest ~ /^([A-Za-z0-9_]| \+ n)/) {
+                    from = 0
+                    continue
+                }
+                if (from && gap ~ /^[RD][0-9.]+ to $/)
+                    while (++from < at[rule])
+                        print book[from], FILENAME ":" FNR
+                print rule, FILENAME ":" FNR
+                from = at[rule]
+            }
+        }' "$@"
+}
+
+# Each rule that is cited and doesn't stand in the book.
+unknown() { # STANDING FILE..
+    cited "$@" | awk 'FNR == NR { stands[$1] = 1; next } !($1 in stands) { print $2 ": no rule " $1 }' "$1" -
+}
+
+# Each rule of the book that no file cites. A demand is cited by its sentences.
+uncited() { # STANDING FILE..
+    cited "$@" | awk 'FILENAME != standing { cited[$1] = 1; next } !($1 in cited) && !/^D[0-9]+$/ { print "not cited: " $1 }' \
+        standing="$1" - "$1"
 }
 
 # ---- made up: a crate with a law, a record, a function and an edit
@@ -275,6 +321,28 @@ printf 'law one specs/A.antt Whole part\nedit one/bad_answer\npath tests/a.sh\n'
 demanded "$work/made.declared" crates/one/specs/A.antt >"$work/got"
 compared 'made up: what has to be named' "$work/want"
 
+# ---- made up: a rule book; its rules have numbers that the project's own has too, since this file is looked at as well
+
+printf '%s\n' '- **R1** is cited by R2' '| **R2** | row |' '- **R3** third' 'no rule: **R4**' '## D1 Demand' '- **D1.1** sentence' '- **D1.2** and another' \
+    >"$work/book.md"
+standing "$work/book.md" >"$work/made.standing"
+
+ruled() { # UNKNOWN UNCITED LINE: so many rules that this line cites don't stand in the book, and so many of the book are not cited
+    printf '%s\n' "$3" >"$work/made.md"
+    counted "made up: $3: unknown rules" [ "$(unknown "$work/made.standing" "$work/made.md" | wc -l)" -eq "$1" ]
+    counted "made up: $3: rules not cited" [ "$(uncited "$work/made.standing" "$work/made.md" | wc -l)" -eq "$2" ]
+}
+
+ruled 0 0 'R1, R2; (R3), D1.1: D1.2.'
+ruled 0 0 'R1 to R3, and D1.1 to D1.2'
+ruled 0 1 'R1 and R3, D1.1 to D1.2'
+ruled 0 5 'no rules: xR1 R2x R3_ 0D1.1'
+ruled 0 5 'case n is R4 + n'
+ruled 0 4 'a demand, D1, and R1'
+ruled 1 4 'R1, R4'
+ruled 1 4 'R1 to R4'
+ruled 2 5 'D1.3 and R20'
+
 # ---- the project
 
 declared . >"$work/declared"
@@ -296,4 +364,14 @@ for kind in law code edit path; do
     counted "there is something to be named: $kind" grep -q "^$kind " "$work/demanded"
 done
 counted 'what must be named in PROMISES.md is' none "$(comm -23 "$work/demanded" "$work/named" | sed 's/^/not named in docs\/PROMISES.md: /')"
-finished 35
+
+standing docs/FORMAT.md >"$work/standing"
+counted 'there are rules' [ "$(wc -l <"$work/standing")" -ge 200 ]
+# shellcheck disable=SC2046
+set -- $(find README.md run .ci crates tests include bindings examples docs -name target -prune -o -name stdout -prune -o -name '*.sao' -prune -o \
+    -path 'tests/vectors/[0-9]*' -prune -o -path tests/vectors/writes.txt -prune -o -type f -print)
+counted 'there are files that may cite them' [ $# -ge 200 ]
+counted 'a rule that is cited stands in FORMAT.md' none "$(unknown "$work/standing" "$@")"
+# shellcheck disable=SC2086
+counted 'a rule of FORMAT.md is cited in the documents' none "$(uncited "$work/standing" $documents)"
+finished 57

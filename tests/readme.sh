@@ -63,7 +63,7 @@ for part in include examples bindings tests crates crates.txt; do
     ln -s "$PWD/$part" "$work/project/$part"
 done
 ln -s "$PWD/target/staticlib" "$work/project/target/staticlib"
-counted 'the archive is made by a command' [ "$(commands 'rt staticlib boundary$' | grep -c .)" -eq 1 ]
+counted 'the archive is made by a command' [ "$(commands 'rt staticlib seambeacon$' | grep -c .)" -eq 1 ]
 if [ "$machine" = x86_64 ] && command -v cc >/dev/null; then
     shown 'for C' "$(commands 'cc ')"
 else

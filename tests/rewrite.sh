@@ -1,7 +1,8 @@
 #!/bin/sh
-# The rewriting program: every text of tests/vectors, or of the folder that is named, and what was printed given to it again; record S with
-# other spellings of its fields; records of 8,192 canonical bytes and of one more; output longer than the input may be; inputs at the limit of 65,536 bytes. Expected texts
-# come from the vectors, from 01, or from its arithmetic. Prints each case that fails, and how many passed.
+# The rewriting program (R341, R345, R346): every text of tests/vectors, or of the folder that is named, and what was printed given to it again;
+# record S with other spellings of its fields; records of 8,192 canonical bytes and of one more; output longer than the input may be; inputs at
+# the limit of 65,536 bytes. Expected texts come from the vectors, from the rules, or from their arithmetic. Prints each case that fails, and
+# how many passed.
 set -u
 LC_ALL=C
 export LC_ALL
@@ -51,15 +52,15 @@ spelled 'needless zeros' '   7\.250' '0007.250' '   7.250'
 spelled 'needless zeros in the index' '  4  0 19' '004000019' '  4  0 19'
 
 { head -c 303 "$s" && printf '%112s\r\n' ''; } >"$work/text"
-rewritten 'S with 112 blanks behind the last field' "$work/text" "$s"
+rewritten 'S with 112 blanks behind its last field (R411)' "$work/text" "$s"
 { head -c 303 "$s" && printf '%113s\r\n' ''; } >"$work/text"
-rewritten 'S with 113 blanks behind the last field' "$work/text" "$work/nothing"
+rewritten 'S with 113 blanks behind its last field (R412)' "$work/text" "$work/nothing"
 { head -c 303 "$s" && printf ' \n'; } >"$work/text"
-rewritten 'S with a blank in place of its last carriage return' "$work/text" "$work/nothing"
+rewritten 'S with a blank for its last carriage return (R414)' "$work/text" "$work/nothing"
 head -c 304 "$s" >"$work/text"
-rewritten 'S without its last byte' "$work/text" "$work/nothing"
+rewritten 'S without its last byte (R413)' "$work/text" "$work/nothing"
 
-# nothing of the first record that is refused, or later: 9, 10, 5, 7
+# R346: of the first record that is refused (9, 10, 5, 7), and of all behind it, nothing
 refused() { # CASE OLD NEW: S, S with NEW in place of OLD, S
     { cat "$s" && sed "s/$2/$3/" "$s" && cat "$s"; } >"$work/text"
     rewritten "$1" "$work/text" "$s"
@@ -71,7 +72,7 @@ refused 'another release in the second record' '  5' '  4'
 refused 'a broken rule in the second record' '  4  0 19' '  4  0 18'
 rewritten 'no input' "$work/nothing" "$work/nothing"
 
-# ---- records at the limit of 8,192 bytes: counts 999, 0, n, 1. Group 1 takes 999 * 7 + 63 * 2 bytes, group 3 n + 7 * 2, group 4 10 bytes.
+# ---- R346: records at the limit of 8,192 bytes: counts 999, 0, n, 1. Group 1 takes 999 * 7 + 63 * 2 bytes, group 3 n + 7 * 2, group 4 10 bytes.
 
 long() { # N: such a canonical record, group 3's lines of 120 letters each
     awk -v n="$1" 'BEGIN {
@@ -100,7 +101,7 @@ rewritten 'a record of 8,193 bytes' "$work/longer" "$work/nothing"
 cat "$s" "$work/full" >"$work/want"
 rewritten 'S, a record of 8,192 bytes, one of 8,193 bytes, S' "$work/text" "$work/want"
 
-# ---- inputs of 65,536 bytes, and of one more
+# ---- R341: inputs of 65,536 bytes, and of one more
 
 repeated 8 "$work/full" >"$work/text"
 sized 'eight records of 8,192 bytes' "$work/text" 65536
@@ -116,7 +117,7 @@ limit_text 282 >"$work/text"
 sized '65,537 bytes' "$work/text" 65537
 rewritten '65,537 bytes, the last of them the end of the last record' "$work/text" "$work/nothing"
 
-# ---- output longer than 65,536 bytes: lines of A120 are filled. S with two empty lines in group 2 has 309 bytes, and 549 when rewritten.
+# ---- output longer than 65,536 bytes: lines of A120 are filled (R102). S with two empty lines in group 2 has 309 bytes, and 549 when rewritten.
 
 lettered() { # LINE: S with group 2's count 2, and this line twice
     head -c 3 "$s"

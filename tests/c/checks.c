@@ -42,7 +42,7 @@ void fresh(void)
     memset(&due, 0xA5, sizeof due);
 }
 
-void answered(const char *question, size_t reply, size_t reply_due)
+void answered(const char *question, enum seambeacon_reply reply, size_t reply_due)
 {
     check(question, reply == reply_due && memcmp(&lent, &due, sizeof lent) == 0);
 }

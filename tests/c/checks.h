@@ -1,4 +1,4 @@
-/* What the tests of the boundary share: counted checks, and lent memory of which every byte is compared afterwards. */
+/* What the tests of the library in C share: counted checks, and lent memory of which every byte is compared afterwards. */
 #ifndef CHECKS_H
 #define CHECKS_H
 
@@ -30,8 +30,10 @@ struct lent {
     struct seambeacon_beside beside;
     size_t before_part;
     struct seambeacon_part part;
-    size_t before_answer;
-    struct seambeacon_answer answer;
+    size_t before_kind;
+    enum seambeacon_kind kind;
+    size_t before_value;
+    int64_t value;
     size_t before_unread;
     size_t unread;
     size_t before_counts;
@@ -42,7 +44,7 @@ struct lent {
 extern struct lent lent, due;
 
 void fresh(void);
-void answered(const char *question, size_t reply, size_t reply_due);
+void answered(const char *question, enum seambeacon_reply reply, size_t reply_due);
 
 /* ---- Lent memory of any size, between guards: bytes and cells. Afterwards the first ones are as due, and all others as they were. */
 

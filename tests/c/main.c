@@ -1,4 +1,4 @@
-/* main WRITES TEXT..: checks the boundary on record S, on a file of write questions, and on texts with their answers. Ends with the number of
+/* main WRITES TEXT..: checks the library in C on record S, on a file of write questions, and on texts with their answers. Ends with the number of
    checks, and with exit 1 where one failed. */
 #include "checks.h"
 #include "record_s.h"

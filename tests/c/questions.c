@@ -25,20 +25,18 @@ void ask_lines(const uint8_t *text, size_t length, size_t at, size_t group, size
 {
     fresh();
     due.beside = beside;
-    answered("group_lines_reply", seambeacon_group_lines_reply(text, length, at, group, &lent.beside), reply);
-    fresh();
-    due.beside = beside;
     due.part = part;
     answered("group_lines", seambeacon_group_lines(text, length, at, group, &lent.part, &lent.beside), reply);
 }
 
 void ask_characteristic(const uint8_t *text, size_t length, size_t at, size_t number, size_t reply, struct seambeacon_beside beside,
-                        struct seambeacon_answer answer)
+                        enum seambeacon_kind kind, int64_t value)
 {
     fresh();
     due.beside = beside;
-    due.answer = answer;
-    answered("characteristic", seambeacon_characteristic(text, length, at, number, &lent.answer, &lent.beside), reply);
+    due.kind = kind;
+    due.value = value;
+    answered("characteristic", seambeacon_characteristic(text, length, at, number, &lent.kind, &lent.value, &lent.beside), reply);
 }
 
 void ask_write(const uint16_t *counts, size_t many, const int64_t *cells, size_t cell_count, size_t room, size_t reply,

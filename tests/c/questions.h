@@ -10,7 +10,7 @@ void ask_read(const uint8_t *text, size_t length, size_t at, size_t group, size_
 void ask_lines(const uint8_t *text, size_t length, size_t at, size_t group, size_t reply, struct seambeacon_beside beside,
                struct seambeacon_part part);
 void ask_characteristic(const uint8_t *text, size_t length, size_t at, size_t number, size_t reply, struct seambeacon_beside beside,
-                        struct seambeacon_answer answer);
+                        enum seambeacon_kind kind, int64_t value);
 void ask_write(const uint16_t *counts, size_t many, const int64_t *cells, size_t cell_count, size_t room, size_t reply,
                struct seambeacon_beside beside, const uint8_t *bytes);
 void ask_list(const uint8_t *text, size_t length, size_t room, size_t reply, struct seambeacon_beside beside, const uint8_t *bytes);

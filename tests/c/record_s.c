@@ -1,4 +1,5 @@
-/* What is due here is what document 01 gives for record S and its neighbours. S has 305 bytes; groups 1, 3 and 4 stand at 244, 274 and 295. */
+/* What is due here is what the rules give for record S and its neighbours (R380 to R382, R411 to R415). S has 305 bytes; groups 1, 3 and 4
+   stand at 244, 274 and 295. */
 #include "questions.h"
 #include "record_s.h"
 #include "texts.h"
@@ -68,6 +69,8 @@ static void check_places(void)
     of_case("placing in no text at all", 0);
     ask_place(NULL, 0, 0, 1, none, no_counts);
     ask_place(NULL, 0, GREATEST, 2, none, no_counts);
+    of_case("placing behind S", 0);
+    ask_place(s_broken.bytes, s_broken.length, 305, 7, (struct seambeacon_beside){.next = 636, .group = 7}, broken.counts);
 }
 
 /* ---- Reading, and the lines of a group. */
@@ -126,6 +129,9 @@ static void check_no_table(void)
     fresh();
     due.beside = none;
     answered("a group with cells", seambeacon_read_group(s.bytes, s.length, 0, 4, NULL, 0, &lent.beside), 11);
+    fresh();
+    due.beside = none;
+    answered("a group with several", seambeacon_read_group(s.bytes, s.length, 0, 1, NULL, 0, &lent.beside), 11);
 }
 
 /* Refusals; a part can be given where the lines are only misread. */
@@ -140,10 +146,14 @@ static const struct {
     {&s, 0, 61, 12, {0}, 0, {0, 0}},
     {&s, 0, GREATEST, 12, {0}, 0, {0, 0}},
     {&s, GREATEST, 0, 12, {0}, 0, {0, 0}},
+    {&s, 306, 61, 12, {0}, 0, {0, 0}},
     {&s, 1, 4, 4, {0}, 0, {0, 0}},
     {&s, 295, 4, 3, {0}, 0, {0, 0}},
+    {&s, 305, 1, 1, {0}, 0, {0, 0}},
     {&s, 305, 4, 1, {0}, 0, {0, 0}},
+    {&s, 306, 1, 2, {0}, 0, {0, 0}},
     {&s, 306, 4, 2, {0}, 0, {0, 0}},
+    {&s, GREATEST, 1, 2, {0}, 0, {0, 0}},
     {&s, GREATEST, 4, 2, {0}, 0, {0, 0}},
     {&nothing, 0, 1, 1, {0}, 0, {0, 0}},
     {&cut, 0, 4, 3, {0}, 0, {0, 0}},
@@ -179,6 +189,8 @@ static void check_refusals(void)
             ask_lines(text, length, at, group, reply, refusals[i].beside, refusals[i].part);
         }
     }
+    of_case("a group that is refused, into a table of its length", 0);
+    ask_read(comma.bytes, comma.length, 0, 4, 1, 9, (struct seambeacon_beside){.line = 1, .element = 1}, NULL);
 }
 
 /* ---- Characteristics. */
@@ -186,32 +198,38 @@ static void check_refusals(void)
 static const struct {
     const struct text *text;
     size_t at, number;
-    struct seambeacon_answer answer;
+    enum seambeacon_kind kind;
+    int64_t value;
     size_t reply;
     struct seambeacon_beside beside;
 } characteristics[] = {
-    {&s, 0, 1, {SEAMBEACON_VALUE, 7250}, 0, {0}},
-    {&s, 0, 2, {SEAMBEACON_NOT_REPORTED, 0}, 0, {0}},
-    {&s, 0, 49, {SEAMBEACON_NOT_REPORTED, 0}, 0, {0}},
-    {&s, 0, 0, {SEAMBEACON_REFUSED, 0}, 12, {0}},
-    {&s, 0, 50, {SEAMBEACON_REFUSED, 0}, 12, {0}},
-    {&s, 0, GREATEST, {SEAMBEACON_REFUSED, 0}, 12, {0}},
-    {&s, GREATEST, 50, {SEAMBEACON_REFUSED, 0}, 12, {0}},
-    {&s, GREATEST, 1, {SEAMBEACON_REFUSED, 0}, 2, {0}},
-    {&s, 306, 1, {SEAMBEACON_REFUSED, 0}, 2, {0}},
-    {&s, 305, 1, {SEAMBEACON_REFUSED, 0}, 1, {0}},
-    {&twice, 305, 1, {SEAMBEACON_VALUE, 7250}, 0, {0}},
-    {&twice_comma, 0, 1, {SEAMBEACON_REFUSED, 0}, 9, {.line = 1, .element = 1}},
-    {&twice_comma, 305, 1, {SEAMBEACON_VALUE, 7250}, 0, {0}},
-    {&cut, 0, 1, {SEAMBEACON_REFUSED, 0}, 3, {0}},
-    {&broken, 0, 1, {SEAMBEACON_REFUSED, 0}, 7, {.group = 7}},
-    {&no_return, 0, 49, {SEAMBEACON_REFUSED, 0}, 8, {.line = 1}},
-    {&comma, 0, 2, {SEAMBEACON_REFUSED, 0}, 9, {.line = 1, .element = 1}},
-    {&wrong_day, 0, 1, {SEAMBEACON_VALUE, 7250}, 0, {0}},
-    {&no_reading, 0, 1, {SEAMBEACON_NO_READING, 0}, 0, {0}},
-    {&scaled, 0, 1, {SEAMBEACON_VALUE, 999900}, 0, {0}},
-    {&two_lines, 0, 16, {SEAMBEACON_VALUE, 16000}, 0, {0}},
-    {&two_lines, 0, 17, {SEAMBEACON_NOT_REPORTED, 0}, 0, {0}},
+    {&s, 0, 1, SEAMBEACON_VALUE, 7250, 0, {0}},
+    {&s, 0, 2, SEAMBEACON_NOT_REPORTED, 0, 0, {0}},
+    {&s, 0, 49, SEAMBEACON_NOT_REPORTED, 0, 0, {0}},
+    {&s, 0, 0, SEAMBEACON_REFUSED, 0, 12, {0}},
+    {&s, 0, 50, SEAMBEACON_REFUSED, 0, 12, {0}},
+    {&s, 0, GREATEST, SEAMBEACON_REFUSED, 0, 12, {0}},
+    {&s, GREATEST, 50, SEAMBEACON_REFUSED, 0, 12, {0}},
+    {&s, GREATEST, 1, SEAMBEACON_REFUSED, 0, 2, {0}},
+    {&s, 306, 50, SEAMBEACON_REFUSED, 0, 12, {0}},
+    {&s, 306, 1, SEAMBEACON_REFUSED, 0, 2, {0}},
+    {&s, 305, 1, SEAMBEACON_REFUSED, 0, 1, {0}},
+    {&twice, 305, 1, SEAMBEACON_VALUE, 7250, 0, {0}},
+    {&twice_comma, 0, 1, SEAMBEACON_REFUSED, 0, 9, {.line = 1, .element = 1}},
+    {&twice_comma, 305, 1, SEAMBEACON_VALUE, 7250, 0, {0}},
+    {&cut, 0, 1, SEAMBEACON_REFUSED, 0, 3, {0}},
+    {&broken, 0, 1, SEAMBEACON_REFUSED, 0, 7, {.group = 7}},
+    {&no_return, 0, 49, SEAMBEACON_REFUSED, 0, 8, {.line = 1}},
+    {&comma, 0, 1, SEAMBEACON_REFUSED, 0, 9, {.line = 1, .element = 1}},
+    {&comma, 0, 2, SEAMBEACON_REFUSED, 0, 9, {.line = 1, .element = 1}},
+    {&comma, 0, 49, SEAMBEACON_REFUSED, 0, 9, {.line = 1, .element = 1}},
+    {&comma, 0, 50, SEAMBEACON_REFUSED, 0, 12, {0}},
+    {&wrong_day, 0, 1, SEAMBEACON_VALUE, 7250, 0, {0}},
+    {&no_reading, 0, 1, SEAMBEACON_NO_READING, 0, 0, {0}},
+    {&below_zero, 0, 1, SEAMBEACON_VALUE, -500, 0, {0}},
+    {&scaled, 0, 1, SEAMBEACON_VALUE, 999900, 0, {0}},
+    {&two_lines, 0, 16, SEAMBEACON_VALUE, 16000, 0, {0}},
+    {&two_lines, 0, 17, SEAMBEACON_NOT_REPORTED, 0, 0, {0}},
 };
 
 static void check_characteristics(void)
@@ -219,7 +237,7 @@ static void check_characteristics(void)
     for (size_t i = 0; i < LENGTH(characteristics); i++) {
         of_case("a characteristic", i);
         ask_characteristic(characteristics[i].text->bytes, characteristics[i].text->length, characteristics[i].at, characteristics[i].number,
-                           characteristics[i].reply, characteristics[i].beside, characteristics[i].answer);
+                           characteristics[i].reply, characteristics[i].beside, characteristics[i].kind, characteristics[i].value);
     }
 }
 

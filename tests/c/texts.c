@@ -2,8 +2,8 @@
 
 struct text s, twice, twice_comma, nothing;
 struct text cut, blanks, too_many_blanks, no_return, comma, second_bad;
-struct text broken, too_few_first, many_messages, letters, other_release, vacant, last_vacant, minus_zero, no_digit;
-struct text wrong_day, wrong_month, no_year, no_reading, scaled;
+struct text broken, s_broken, too_few_first, many_messages, letters, other_release, vacant, last_vacant, minus_zero, no_digit;
+struct text wrong_day, wrong_month, no_year, no_reading, below_zero, scaled;
 struct text two_lines, last_of_two_bad, second_line_long;
 
 /* ---- Pieces. */
@@ -100,6 +100,7 @@ static void make_damaged_counts(void)
 {
     make_s(&broken, 11, 3, date, value);
     put_line(&broken, "   1.000   2.000   3.000");
+    make_twice(&s_broken, &s, &broken);
     make_s(&too_few_first, 1, 3, date, value);
     make_s(&many_messages, 2, 3, date, value);
     make_s(&letters, 54, 2, date, value);
@@ -117,6 +118,7 @@ static void make_fields(void)
     make_s(&wrong_month, 80, 5, "AA20062651322142530", value);
     make_s(&no_year, 80, 5, "AA2 062650922142530", value);
     make_s(&no_reading, 80, 5, date, "9999.000");
+    make_s(&below_zero, 80, 5, date, "   -.500");
     make_s(&scaled, 80, 5, date, " 999.900");
 }
 

@@ -1,4 +1,4 @@
-/* Record S of document 01, and damaged texts made of it. */
+/* Record S (R380), and damaged texts made of it. */
 #ifndef TEXTS_H
 #define TEXTS_H
 
@@ -12,8 +12,8 @@ struct text {
 
 extern struct text s, twice, twice_comma, nothing;
 extern struct text cut, blanks, too_many_blanks, no_return, comma, second_bad;
-extern struct text broken, too_few_first, many_messages, letters, other_release, vacant, last_vacant, minus_zero, no_digit;
-extern struct text wrong_day, wrong_month, no_year, no_reading, scaled;
+extern struct text broken, s_broken, too_few_first, many_messages, letters, other_release, vacant, last_vacant, minus_zero, no_digit;
+extern struct text wrong_day, wrong_month, no_year, no_reading, below_zero, scaled;
 extern struct text two_lines, last_of_two_bad, second_line_long;
 
 void make_texts(void);

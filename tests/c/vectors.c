@@ -78,7 +78,7 @@ static void many_counts(size_t many)
         counts[i] = (uint16_t)number();
 }
 
-/* The two numbers beside a reply: by 01, the first is what was written, a group, a line or a position, and the second an element. */
+/* The two numbers beside a reply (R200 to R214): the first is what was written, a group, a line or a position, and the second an element. */
 static struct seambeacon_beside beside_of(size_t reply)
 {
     struct seambeacon_beside beside = none;
@@ -144,7 +144,7 @@ static void check_list(const char *name)
     ask_list_all(text.bytes, text.length, expected.bytes, expected.length);
 }
 
-/* "until the first reply other than 0 .., or the first record whose canonical text is longer than 8,192 bytes" */
+/* R346: record after record, up to the first that is refused or has no room in 8,192 bytes. */
 static void check_rewrite(const char *name)
 {
     enum { ROOM = 8192 };
@@ -191,13 +191,12 @@ static void check_group(size_t at)
 static void check_characteristic(size_t at)
 {
     size_t characteristic = size(), reply;
-    struct seambeacon_answer answer;
+    enum seambeacon_kind kind = (enum seambeacon_kind)number();
+    int64_t value = number();
     struct seambeacon_beside beside;
-    answer.kind = number();
-    answer.value = number();
     reply = size();
     beside = beside_of(reply);
-    ask_characteristic(text.bytes, text.length, at, characteristic, reply, beside, answer);
+    ask_characteristic(text.bytes, text.length, at, characteristic, reply, beside, kind, value);
 }
 
 /* A place with its reply, next place and group, and for a placed record its counts: the place. */

@@ -1,9 +1,10 @@
 //! Seambeacon: places, reads and writes SAO 4.3 ionogram records. The questions are answered by a library in which every function is proved
-//! to meet its contract; this crate gives each of them a safe function, and each answer an enum.
+//! to meet its contract; this crate gives each of them a safe function.
 //!
-//! Every question can be asked of every text, place, number, table and output. A caller never has to check beforehand, and no call panics.
-//! Nothing is kept between two calls, so they may come from several threads. A text is its bytes, with line ends; a place is a number of bytes
-//! from the text's start. Groups, lines, elements, positions and characteristics count from 1.
+//! Whatever text, place, number, table and output it is given, a question is answered: with `Ok`, or with the one [`Refusal`] that is due.
+//! Nothing has to be checked before a call, and no call panics. Nothing is kept between two calls, so they may come from several threads. A
+//! text is its bytes, with line ends; a place is a number of bytes from the text's start. Groups, lines, elements, positions and
+//! characteristics count from 1. R with a number is a rule of the project's docs/FORMAT.md.
 //!
 //! ```
 //! // Record S: four constants, a date and one characteristic, foF2.
@@ -11,10 +12,11 @@
 //! let text = index + "  1.200 67.000-23.500143.000\r\nAA20062650922142530\r\n   7.250\r\n";
 //! let text = text.as_bytes();
 //!
-//! let seambeacon::Placing::Placed { next, counts } = seambeacon::place(text, 0) else { panic!("no record") };
+//! let seambeacon::Placing::Placed { next, counts } = seambeacon::place(text, 0)? else { panic!("broken") };
 //! assert_eq!((next, counts[0], counts[2], counts[3]), (305, 4, 19, 1));
-//! assert_eq!(seambeacon::characteristic(text, 0, 1), seambeacon::Characteristic::Value(7250));
-//! assert_eq!(seambeacon::place(text, next), seambeacon::Placing::Refused(seambeacon::Refusal::End));
+//! assert_eq!(seambeacon::characteristic(text, 0, 1)?, seambeacon::Characteristic::Value(7250));
+//! assert_eq!(seambeacon::place(text, next), Err(seambeacon::Refusal::End));
+//! # Ok::<(), seambeacon::Refusal>(())
 //! ```
 #![deny(missing_docs, unsafe_code, unsafe_op_in_unsafe_fn)]
 
@@ -24,16 +26,16 @@ use std::fmt;
 #[allow(unsafe_code)]
 mod raw;
 
-/// Why a question was refused: the replies 1 to 14, with the numbers that are given beside them.
+/// Why a question was refused: the replies 1 to 14 (R201 to R214), with the numbers that are given beside them.
 #[derive(Clone, Copy, Debug, PartialEq, Eq, Hash)]
 pub enum Refusal {
     /// 1: the place is the text's end.
     End,
-    /// 2: the place lies beyond the text's end.
+    /// 2: the place lies behind the text's end.
     Beyond,
-    /// 3: fewer line feeds are left than the two index lines, or the data lines, need.
+    /// 3: from the place on there are fewer line feeds than the record has lines.
     TooFewLines,
-    /// 4: an index line or entry is misformed; in writing, there are not 80 counts, or a count is above 999.
+    /// 4: an index line or an entry is misformed; where counts are given, they are not 80, or one is above 999.
     Misformed,
     /// 5: the release, number 80 of the index, is not 5.
     OtherRelease,
@@ -47,13 +49,17 @@ pub enum Refusal {
         /// The blamed group.
         group: usize,
     },
-    /// 8: a line has no carriage return, a wrong length, or other bytes than blanks behind its fields.
+    /// 8: a data line lacks its carriage return, has a wrong length, or something else than blanks behind its fields.
     BadLine {
+        /// The group that was read.
+        group: usize,
         /// The line in the group.
         line: usize,
     },
     /// 9: a field is misformed.
     BadField {
+        /// The group that was read.
+        group: usize,
         /// The line in the group.
         line: usize,
         /// The element in the group, counted through all its lines.
@@ -64,30 +70,31 @@ pub enum Refusal {
         /// The position in group 3 that is blamed.
         position: usize,
     },
-    /// 11: the table or the output is shorter than what would be filled.
+    /// 11: the table or the output is too short for what 0 would put there.
     NoRoom,
-    /// 12: there is no group 1 to 60, or no characteristic 1 to 49, of that number.
+    /// 12: the number is no group (1 to 60), or no characteristic (1 to 49).
     NoSuchNumber,
-    /// 13: in writing, a value fits no field of its form.
+    /// 13: in writing, no field of its form reads as an element's cells.
     NoField {
-        /// The value's group.
+        /// The element's group.
         group: usize,
         /// The element in the group.
         element: usize,
     },
-    /// 14: in writing, the number of cells is not what the counts need.
+    /// 14: in writing, there are more or fewer cells than the counts ask for.
     OtherLength,
     /// Something that the library is proved never to answer, so another archive than its own has been linked. It is a refusal and no panic,
-    /// since an editor must not go down with unsaved work in it.
+    /// since an editor that holds unsaved work must survive it.
     Unknown {
         /// The number that was answered.
-        number: usize,
+        number: u32,
     },
 }
 
 impl Refusal {
     /// The reply's number in the table of replies.
-    pub fn number(self) -> usize {
+    #[must_use]
+    pub fn number(self) -> u32 {
         match self {
             Refusal::End => 1,
             Refusal::Beyond => 2,
@@ -118,9 +125,9 @@ impl fmt::Display for Refusal {
             Refusal::OtherRelease => write!(to, "the release is not SAO 4.3"),
             Refusal::FilledVacant { group } => write!(to, "group {group}, which has no format, has a count"),
             Refusal::BrokenRule { group } => write!(to, "the count of group {group} breaks a rule"),
-            Refusal::BadLine { line } => write!(to, "line {line} of the group has a wrong length or line end"),
-            Refusal::BadField { line, element } => write!(to, "element {element}, in line {line} of the group, is misformed"),
-            Refusal::BadDate { position } => write!(to, "the date is wrong at position {position}"),
+            Refusal::BadLine { group, line } => write!(to, "line {line} of group {group} has a wrong length or line end"),
+            Refusal::BadField { group, line, element } => write!(to, "element {element} of group {group}, in line {line}, is misformed"),
+            Refusal::BadDate { position } => write!(to, "the date in group 3 is wrong at position {position}"),
             Refusal::NoRoom => write!(to, "the table or the output is too short"),
             Refusal::NoSuchNumber => write!(to, "there is no group or characteristic of that number"),
             Refusal::NoField { group, element } => write!(to, "element {element} of group {group} fits no field"),
@@ -132,10 +139,11 @@ impl fmt::Display for Refusal {
 
 impl Error for Refusal {}
 
-/// What stands at a place of a text.
+/// The record that stands at a place of a text.
 #[derive(Clone, Copy, Debug, PartialEq, Eq)]
+#[must_use]
 pub enum Placing {
-    /// 0: a record.
+    /// 0: a record whose groups can be read.
     Placed {
         /// The place behind it, from which a walk goes on.
         next: usize,
@@ -151,128 +159,36 @@ pub enum Placing {
         /// The blamed group.
         group: usize,
     },
-    /// 1 to 6: no record, and a walk stops here.
-    Refused(Refusal),
-}
-
-/// What reading a group came to.
-#[derive(Clone, Copy, Debug, PartialEq, Eq)]
-pub enum Reading {
-    /// 0: the cells stand in the table, from its first cell on.
-    Read {
-        /// How many they are.
-        cells: usize,
-    },
-    /// 12, a placing reply but 0, 11, 8, 9 or 10, whichever is due first: the table is as it was.
-    Refused(Refusal),
-}
-
-/// The lines of a group.
-#[derive(Clone, Copy, Debug, PartialEq, Eq)]
-pub enum Lines<'a> {
-    /// 0: the part of the caller's own text that holds them, with their line ends. With count 0 it is the empty part where they would begin.
-    Part(&'a [u8]),
-    /// 12, or a placing reply but 0.
-    Refused(Refusal),
 }
 
 /// What is known of a characteristic.
-#[derive(Clone, Copy, Debug, PartialEq, Eq)]
+#[derive(Clone, Copy, Debug, PartialEq, Eq, Hash)]
+#[must_use]
 pub enum Characteristic {
-    /// 0: its value in thousandths.
+    /// Its value in thousandths.
     Value(i64),
-    /// 0: there is no reading (9999.000 in the text).
+    /// There is no reading (9999.000 in the text).
     NoReading,
-    /// 0: the record has fewer characteristics.
+    /// The record has fewer characteristics.
     NotReported,
-    /// 12, or the reply of reading group 4.
-    Refused(Refusal),
 }
 
-/// What writing a record came to.
-#[derive(Clone, Copy, Debug, PartialEq, Eq)]
-pub enum Writing {
-    /// 0: the canonical text stands in the output, from its first byte on.
-    Written {
-        /// How many bytes it has.
-        bytes: usize,
-    },
-    /// 4, 5, 6, 7, 14, 13, 10 or 11, whichever is due first: the output is as it was.
-    Refused(Refusal),
-}
-
-/// What listing a text came to.
-#[derive(Clone, Copy, Debug, PartialEq, Eq)]
-pub enum Listing {
-    /// 0: the listing stands in the output, from its first byte on.
-    Listed {
-        /// How many bytes it has.
-        bytes: usize,
-    },
-    /// 11: the output is as it was.
-    Refused(Refusal),
-}
-
-/// What rewriting a record came to.
-#[derive(Clone, Copy, Debug, PartialEq, Eq)]
-pub enum Rewriting {
-    /// 0: the canonical text stands in the output, from its first byte on, and the record's cells in the table.
-    Rewritten {
-        /// How many bytes it has.
-        bytes: usize,
-        /// The place behind the record in the text that was asked.
-        next: usize,
-    },
-    /// A placing reply but 0, or 11: output and table are as they were.
-    Refused(Refusal),
-    /// A group could not be read: the output is as it was, and the table has the cells of the groups before it.
-    Unread {
-        /// The group.
-        group: usize,
-        /// The reply of reading it.
-        refusal: Refusal,
-    },
-}
-
-macro_rules! numbered {
-    ($($answer:ty: $($refused:pat => $why:ident),+;)+) => {$(
-        impl $answer {
-            /// The reply's number in the table of replies.
-            pub fn number(&self) -> usize {
-                match *self {
-                    $($refused => $why.number(),)+
-                    _ => 0,
-                }
-            }
-        }
-    )+};
-}
-
-numbered! {
-    Reading: Reading::Refused(why) => why;
-    Lines<'_>: Lines::Refused(why) => why;
-    Characteristic: Characteristic::Refused(why) => why;
-    Writing: Writing::Refused(why) => why;
-    Listing: Listing::Refused(why) => why;
-    Rewriting: Rewriting::Refused(why) => why, Rewriting::Unread { refusal, .. } => refusal;
-}
-
-impl Placing {
-    /// The reply's number in the table of replies.
-    pub fn number(&self) -> usize {
-        match *self {
-            Placing::Placed { .. } => 0,
-            Placing::Broken { .. } => 7,
-            Placing::Refused(why) => why.number(),
-        }
-    }
+/// A record as canonical text.
+#[derive(Clone, Copy, Debug, PartialEq, Eq, Hash)]
+#[must_use]
+pub struct Rewritten {
+    /// How many bytes it has, which stand in the output from its first byte on.
+    pub bytes: usize,
+    /// The place behind the record in the text that was asked.
+    pub next: usize,
 }
 
 impl raw::Reply {
-    /// The refusal of this number, with its numbers. 0 is none.
-    fn refusal(self) -> Refusal {
+    /// Done, or the refusal of this number with its numbers. `read` is the group whose lines were read.
+    fn done(self, read: usize) -> Result<raw::Beside, Refusal> {
         let raw::Beside { group, line, element, position, .. } = self.beside;
-        match self.number {
+        Err(match self.number {
+            0 => return Ok(self.beside),
             1 => Refusal::End,
             2 => Refusal::Beyond,
             3 => Refusal::TooFewLines,
@@ -280,103 +196,109 @@ impl raw::Reply {
             5 => Refusal::OtherRelease,
             6 => Refusal::FilledVacant { group },
             7 => Refusal::BrokenRule { group },
-            8 => Refusal::BadLine { line },
-            9 => Refusal::BadField { line, element },
+            8 => Refusal::BadLine { group: read, line },
+            9 => Refusal::BadField { group: read, line, element },
             10 => Refusal::BadDate { position },
             11 => Refusal::NoRoom,
             12 => Refusal::NoSuchNumber,
             13 => Refusal::NoField { group, element },
             14 => Refusal::OtherLength,
             number => Refusal::Unknown { number },
-        }
+        })
     }
 }
 
 /// Which record stands at a place of a text.
-pub fn place(text: &[u8], at: usize) -> Placing {
+///
+/// # Errors
+///
+/// 1 to 6: no record, and a walk stops here. 7 is an answer, [`Placing::Broken`], since a walk goes on behind such a record.
+pub fn place(text: &[u8], at: usize) -> Result<Placing, Refusal> {
     let mut counts = [0; 80];
     let reply = raw::place(text, at, &mut counts);
     let raw::Beside { next, group, .. } = reply.beside;
     match reply.number {
-        0 => Placing::Placed { next, counts },
-        7 => Placing::Broken { next, counts, group },
-        _ => Placing::Refused(reply.refusal()),
+        7 => Ok(Placing::Broken { next, counts, group }),
+        _ => reply.done(0).map(|_| Placing::Placed { next, counts }),
     }
 }
 
-/// The cells of a group, 1 to 60, of the record at a place.
+/// The cells of a group, 1 to 60, of the record at a place: how many there are. They stand in the table from its first cell on, and what
+/// stands behind them is kept.
 ///
 /// I fields are whole numbers, F fields thousandths, A fields a cell for each byte; an E field has two cells, its digits and its exponent. No
-/// group has more than 1,998 cells. What stands in the table behind the group's cells is kept.
-pub fn read_group(text: &[u8], at: usize, group: usize, table: &mut [i64]) -> Reading {
-    let reply = raw::read_group(text, at, group, table);
-    match reply.number {
-        0 => Reading::Read { cells: reply.beside.written },
-        _ => Reading::Refused(reply.refusal()),
-    }
+/// group has more than 1,998 cells.
+///
+/// # Errors
+///
+/// 12, a placing reply but 0, 11, 8, 9 or 10, whichever is due first. The table is as it was.
+pub fn read_group(text: &[u8], at: usize, group: usize, table: &mut [i64]) -> Result<usize, Refusal> {
+    Ok(raw::read_group(text, at, group, table).done(group)?.written)
 }
 
-/// The lines of a group, 1 to 60, of the record at a place, as they stand in the text. The part and its reply, which are two questions in C, are
-/// one answer here.
-pub fn group_lines(text: &[u8], at: usize, group: usize) -> Lines<'_> {
+/// The lines of a group, 1 to 60, of the record at a place: the part of the lent text in which they stand, with their line ends (R280). With
+/// count 0 it is empty, where the lines would be (R282).
+///
+/// # Errors
+///
+/// 12, or a placing reply but 0.
+pub fn group_lines(text: &[u8], at: usize, group: usize) -> Result<&[u8], Refusal> {
     let mut part = raw::Part::default();
-    let reply = raw::group_lines(text, at, group, &mut part);
-    let lines = text.get(part.start..).and_then(|rest| rest.get(..part.length));
-    match (reply.number, lines) {
-        (0, Some(lines)) => Lines::Part(lines),
-        (0, None) => Lines::Refused(Refusal::Unknown { number: 0 }),
-        _ => Lines::Refused(reply.refusal()),
-    }
+    raw::group_lines(text, at, group, &mut part).done(group)?;
+    text.get(part.start..).and_then(|rest| rest.get(..part.length)).ok_or(Refusal::Unknown { number: 0 })
 }
 
 /// A characteristic, 1 to 49, of the record at a place. Characteristic 1 is foF2.
-pub fn characteristic(text: &[u8], at: usize, number: usize) -> Characteristic {
-    let mut answer = raw::Answer::default();
-    let reply = raw::characteristic(text, at, number, &mut answer);
-    match (reply.number, answer.kind) {
-        (0, 0) => Characteristic::Value(answer.value),
-        (0, 1) => Characteristic::NoReading,
-        (0, 2) => Characteristic::NotReported,
-        (0, _) => Characteristic::Refused(Refusal::Unknown { number: 0 }),
-        _ => Characteristic::Refused(reply.refusal()),
+///
+/// # Errors
+///
+/// 12, or the refusal of reading group 4.
+pub fn characteristic(text: &[u8], at: usize, number: usize) -> Result<Characteristic, Refusal> {
+    let (mut kind, mut value) = (0, 0);
+    raw::characteristic(text, at, number, &mut kind, &mut value).done(4)?;
+    match kind {
+        0 => Ok(Characteristic::Value(value)),
+        1 => Ok(Characteristic::NoReading),
+        2 => Ok(Characteristic::NotReported),
+        _ => Err(Refusal::Unknown { number: 0 }),
     }
 }
 
-/// The canonical text of a record of these counts, which are 80, and of all its cells in group order.
+/// The canonical text of a record of these counts, which are 80, and of all its cells in group order: how many bytes it has. They stand in the
+/// output from its first byte on, and what stands behind them is kept.
 ///
-/// What stands in the output behind the text is kept.
-pub fn write_record(counts: &[u16], cells: &[i64], out: &mut [u8]) -> Writing {
-    let reply = raw::write_record(counts, cells, out);
-    match reply.number {
-        0 => Writing::Written { bytes: reply.beside.written },
-        _ => Writing::Refused(reply.refusal()),
-    }
+/// # Errors
+///
+/// 4, 5, 6, 7, 14, 13, 10 or 11, whichever is due first. The output is as it was.
+pub fn write_record(counts: &[u16], cells: &[i64], out: &mut [u8]) -> Result<usize, Refusal> {
+    Ok(raw::write_record(counts, cells, out).done(0)?.written)
 }
 
-/// The listing of a text: a line for each placed record, and last a line that begins with `end`.
+/// The listing of a text, a line for each placed record and last a line that begins with `end`: how many bytes it has. They stand in the output
+/// from its first byte on, and what stands behind them is kept.
 ///
-/// A record's line has its number, its place, the next place, the reply, the blamed group, its groups with a count and its lines with the
-/// index; the last line the records listed, the place where the walk stopped, the reply there and its group. What stands in the output behind
-/// the listing is kept.
-pub fn list(text: &[u8], out: &mut [u8]) -> Listing {
-    let reply = raw::list(text, out);
-    match reply.number {
-        0 => Listing::Listed { bytes: reply.beside.written },
-        _ => Listing::Refused(reply.refusal()),
-    }
+/// A record's line has seven numbers (R342); the last line has four, which tell how many records there are and where and why the walk stopped
+/// (R343).
+///
+/// # Errors
+///
+/// 11. The output is as it was.
+pub fn list(text: &[u8], out: &mut [u8]) -> Result<usize, Refusal> {
+    Ok(raw::list(text, out).done(0)?.written)
 }
 
-/// The record at a place as canonical text. The table is room for its cells; as many cells as the output has bytes are always enough.
+/// The record at a place as canonical text. The table is room for its cells, which stand in it afterwards; as many cells as the output has
+/// bytes are always enough. What stands in the output and in the table behind what was written is kept.
 ///
-/// What stands in the output and in the table behind what was written is kept.
-pub fn rewrite_record(text: &[u8], at: usize, table: &mut [i64], out: &mut [u8]) -> Rewriting {
+/// # Errors
+///
+/// A placing reply but 0, 11, or the first refusal of reading groups 1 to 60. The output is as it was, and the table has the cells of the
+/// groups before the one that could not be read.
+pub fn rewrite_record(text: &[u8], at: usize, table: &mut [i64], out: &mut [u8]) -> Result<Rewritten, Refusal> {
     let mut unread = 0;
     let reply = raw::rewrite_record(text, at, table, out, &mut unread);
-    match (reply.number, unread) {
-        (0, _) => Rewriting::Rewritten { bytes: reply.beside.written, next: reply.beside.next },
-        (_, 0) => Rewriting::Refused(reply.refusal()),
-        (_, group) => Rewriting::Unread { group, refusal: reply.refusal() },
-    }
+    let raw::Beside { written, next, .. } = reply.done(unread)?;
+    Ok(Rewritten { bytes: written, next })
 }
 
 #[cfg(test)]
@@ -387,17 +309,23 @@ mod tests {
     /// Numbers that differ from each other, so that one in another's place is seen.
     const BESIDE: Beside = Beside { next: 101, written: 102, group: 103, line: 104, element: 105, position: 106 };
 
-    fn refusal(number: usize) -> Refusal {
-        Reply { number, beside: BESIDE }.refusal()
+    fn refusal(number: u32) -> Refusal {
+        Reply { number, beside: BESIDE }.done(107).expect_err("a refusal")
     }
 
-    /// The rows of the table of replies that give a number beside the reply.
+    #[test]
+    fn done_has_the_numbers_beside_it() {
+        let beside = Reply { number: 0, beside: BESIDE }.done(107).expect("done");
+        assert_eq!((beside.next, beside.written), (101, 102));
+    }
+
+    /// The rows of the table of replies that give a number beside the reply; 8 and 9 have the group that was read, too.
     #[test]
     fn each_refusal_takes_the_numbers_of_its_row() {
         assert_eq!(refusal(6), Refusal::FilledVacant { group: 103 });
         assert_eq!(refusal(7), Refusal::BrokenRule { group: 103 });
-        assert_eq!(refusal(8), Refusal::BadLine { line: 104 });
-        assert_eq!(refusal(9), Refusal::BadField { line: 104, element: 105 });
+        assert_eq!(refusal(8), Refusal::BadLine { group: 107, line: 104 });
+        assert_eq!(refusal(9), Refusal::BadField { group: 107, line: 104, element: 105 });
         assert_eq!(refusal(10), Refusal::BadDate { position: 106 });
         assert_eq!(refusal(13), Refusal::NoField { group: 103, element: 105 });
     }
@@ -413,9 +341,15 @@ mod tests {
 
     #[test]
     fn a_number_outside_the_table_is_kept() {
-        for number in [0, 15, usize::MAX] {
+        for number in [15, u32::MAX] {
             assert_eq!(refusal(number), Refusal::Unknown { number });
             assert_eq!(refusal(number).number(), number);
         }
+    }
+
+    #[test]
+    fn a_refusal_is_an_error() {
+        let why: Box<dyn std::error::Error> = refusal(9).into();
+        assert_eq!(why.to_string(), "element 105 of group 107, in line 104, is misformed");
     }
 }

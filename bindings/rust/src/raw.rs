@@ -1,13 +1,13 @@
 //! The functions of `include/seambeacon.h`, and a safe call of each. All unsafe code is here.
 //!
 //! What the header asks of a caller holds of every call below, whatever is given. A pointer comes from a slice, with that slice's length, or
-//! from a reference to a value of the type that the header names. What is lent to be altered is `&mut`, so it overlaps nothing else and nobody
-//! else looks at it during the call; what is lent to be read is `&`, so nobody writes it. All of it has values beforehand. Nothing is kept by
-//! the library when a call has ended.
+//! from a reference to a value of the type that the header names; its enums, of which a reply is one, are 32 bits and never negative. What is
+//! lent to be altered is `&mut`, so it overlaps nothing else and nobody else looks at it during the call; what is lent to be read is `&`, so
+//! nobody writes it. All of it has values beforehand. Nothing is kept by the library when a call has ended.
 
 /// The numbers beside a reply, 0 where the reply does not give them.
 #[repr(C)]
-#[derive(Clone, Copy, Default)]
+#[derive(Clone, Copy, Debug, Default)]
 pub struct Beside {
     pub next: usize,
     pub written: usize,
@@ -25,23 +25,15 @@ pub struct Part {
     pub length: usize,
 }
 
-/// What is known of a characteristic: its kind, and the value of kind 0.
-#[repr(C)]
-#[derive(Clone, Copy, Default)]
-pub struct Answer {
-    pub kind: i64,
-    pub value: i64,
-}
-
 /// A reply's number with the numbers beside it.
 #[derive(Clone, Copy)]
 pub struct Reply {
-    pub number: usize,
+    pub number: u32,
     pub beside: Beside,
 }
 
 extern "C" {
-    fn seambeacon_place(text: *const u8, text_length: usize, at: usize, counts: *mut u16, beside: *mut Beside) -> usize;
+    fn seambeacon_place(text: *const u8, text_length: usize, at: usize, counts: *mut u16, beside: *mut Beside) -> u32;
     fn seambeacon_read_group(
         text: *const u8,
         text_length: usize,
@@ -50,16 +42,17 @@ extern "C" {
         table: *mut i64,
         table_length: usize,
         beside: *mut Beside,
-    ) -> usize;
-    fn seambeacon_group_lines(text: *const u8, text_length: usize, at: usize, group: usize, part: *mut Part, beside: *mut Beside) -> usize;
+    ) -> u32;
+    fn seambeacon_group_lines(text: *const u8, text_length: usize, at: usize, group: usize, part: *mut Part, beside: *mut Beside) -> u32;
     fn seambeacon_characteristic(
         text: *const u8,
         text_length: usize,
         at: usize,
         number: usize,
-        answer: *mut Answer,
+        kind: *mut u32,
+        value: *mut i64,
         beside: *mut Beside,
-    ) -> usize;
+    ) -> u32;
     fn seambeacon_write_record(
         counts: *const u16,
         counts_length: usize,
@@ -68,8 +61,8 @@ extern "C" {
         out: *mut u8,
         out_length: usize,
         beside: *mut Beside,
-    ) -> usize;
-    fn seambeacon_list(text: *const u8, text_length: usize, out: *mut u8, out_length: usize, beside: *mut Beside) -> usize;
+    ) -> u32;
+    fn seambeacon_list(text: *const u8, text_length: usize, out: *mut u8, out_length: usize, beside: *mut Beside) -> u32;
     fn seambeacon_rewrite_record(
         text: *const u8,
         text_length: usize,
@@ -80,11 +73,11 @@ extern "C" {
         out_length: usize,
         unread: *mut usize,
         beside: *mut Beside,
-    ) -> usize;
+    ) -> u32;
 }
 
 /// The reply of a call that writes the numbers beside it.
-fn reply(call: impl FnOnce(&mut Beside) -> usize) -> Reply {
+fn reply(call: impl FnOnce(&mut Beside) -> u32) -> Reply {
     let mut beside = Beside::default();
     let number = call(&mut beside);
     Reply { number, beside }
@@ -105,9 +98,9 @@ pub fn group_lines(text: &[u8], at: usize, group: usize, part: &mut Part) -> Rep
     reply(|beside| unsafe { seambeacon_group_lines(text.as_ptr(), text.len(), at, group, part, beside) })
 }
 
-pub fn characteristic(text: &[u8], at: usize, number: usize, answer: &mut Answer) -> Reply {
+pub fn characteristic(text: &[u8], at: usize, number: usize, kind: &mut u32, value: &mut i64) -> Reply {
     // SAFETY: as the head of this file says.
-    reply(|beside| unsafe { seambeacon_characteristic(text.as_ptr(), text.len(), at, number, answer, beside) })
+    reply(|beside| unsafe { seambeacon_characteristic(text.as_ptr(), text.len(), at, number, kind, value, beside) })
 }
 
 pub fn write_record(counts: &[u16], cells: &[i64], out: &mut [u8]) -> Reply {

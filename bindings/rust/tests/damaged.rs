@@ -3,11 +3,11 @@
 mod common;
 
 use common::{cells_of_s, counts_of_s, replaced, s};
-use seambeacon::{Characteristic, Lines, Placing, Reading, Refusal, Rewriting};
+use seambeacon::{Characteristic, Placing, Refusal};
 
 const CELL: i64 = -987_654_321;
 
-fn read(text: &[u8], group: usize) -> (Reading, Vec<i64>) {
+fn read(text: &[u8], group: usize) -> (Result<usize, Refusal>, Vec<i64>) {
     let mut table = vec![CELL; 30];
     let answer = seambeacon::read_group(text, 0, group, &mut table);
     (answer, table)
@@ -29,12 +29,12 @@ fn records_that_are_not_placed() {
         ("another release", replaced(&s(), "  5\r\n", "  4\r\n"), Refusal::OtherRelease),
     ];
     for (case, text, why) in cases {
-        assert_eq!(seambeacon::place(&text, 0), Placing::Refused(why), "{case}");
-        assert_eq!(read(&text, 1), (Reading::Refused(why), vec![CELL; 30]), "{case}");
-        assert_eq!(seambeacon::group_lines(&text, 0, 1), Lines::Refused(why), "{case}");
-        assert_eq!(seambeacon::characteristic(&text, 0, 1), Characteristic::Refused(why), "{case}");
+        assert_eq!(seambeacon::place(&text, 0), Err(why), "{case}");
+        assert_eq!(read(&text, 1), (Err(why), vec![CELL; 30]), "{case}");
+        assert_eq!(seambeacon::group_lines(&text, 0, 1), Err(why), "{case}");
+        assert_eq!(seambeacon::characteristic(&text, 0, 1), Err(why), "{case}");
         let (mut table, mut out) = ([CELL; 30], [1; 400]);
-        assert_eq!(seambeacon::rewrite_record(&text, 0, &mut table, &mut out), Rewriting::Refused(why), "{case}");
+        assert_eq!(seambeacon::rewrite_record(&text, 0, &mut table, &mut out), Err(why), "{case}");
         assert_eq!((table, out), ([CELL; 30], [1; 400]), "{case}");
     }
 }
@@ -45,12 +45,12 @@ fn a_vacant_group_with_a_count() {
     for group in [61, 70, 79] {
         let mut text = s();
         text[122 + 3 * (group - 41) + 2] = b'1';
-        assert_eq!(seambeacon::place(&text, 0), Placing::Refused(Refusal::FilledVacant { group }));
-        assert_eq!(read(&text, 1).0, Reading::Refused(Refusal::FilledVacant { group }));
+        assert_eq!(seambeacon::place(&text, 0), Err(Refusal::FilledVacant { group }));
+        assert_eq!(read(&text, 1).0, Err(Refusal::FilledVacant { group }));
     }
 }
 
-/// S with group 11's count 3 and its line, and the other trace counts 0: 7, blamed on group 7; the walk goes on.
+/// R415: group 11 alone of its trace is 7, blamed on group 7; the walk goes on.
 #[test]
 fn a_broken_rule_on_counts() {
     let mut broken = s();
@@ -61,15 +61,14 @@ fn a_broken_rule_on_counts() {
     let mut counts = counts_of_s();
     counts[10] = 3;
     let answer = seambeacon::place(&broken, 0);
-    assert_eq!(answer, Placing::Broken { next, counts, group: 7 });
-    assert_eq!(answer.number(), 7);
-    assert_eq!(seambeacon::place(&broken, next), Placing::Placed { next: next + 305, counts: counts_of_s() });
+    assert_eq!(answer, Ok(Placing::Broken { next, counts, group: 7 }));
+    assert_eq!(seambeacon::place(&broken, next), Ok(Placing::Placed { next: next + 305, counts: counts_of_s() }));
     let why = Refusal::BrokenRule { group: 7 };
     for group in [1, 7, 11, 60] {
-        assert_eq!(read(&broken, group), (Reading::Refused(why), vec![CELL; 30]));
-        assert_eq!(seambeacon::group_lines(&broken, 0, group), Lines::Refused(why));
+        assert_eq!(read(&broken, group), (Err(why), vec![CELL; 30]));
+        assert_eq!(seambeacon::group_lines(&broken, 0, group), Err(why));
     }
-    assert_eq!(seambeacon::characteristic(&broken, 0, 1), Characteristic::Refused(why));
+    assert_eq!(seambeacon::characteristic(&broken, 0, 1), Err(why));
 }
 
 /// Damage in group 4's line: that group is refused, and the characteristics with it; the other groups and S behind it are as they were.
@@ -77,30 +76,30 @@ fn a_broken_rule_on_counts() {
 fn damage_in_group_4() {
     let blanks = |count: usize| replaced(&s(), "   7.250", &format!("   7.250{}", " ".repeat(count)));
     let cases = [
-        (blanks(112), Reading::Read { cells: 1 }),
-        (blanks(113), Reading::Refused(Refusal::BadLine { line: 1 })),
-        (replaced(&s(), "   7.250\r\n", "   7.250 \n"), Reading::Refused(Refusal::BadLine { line: 1 })),
-        (replaced(&s(), "   7.250", "  123456"), Reading::Refused(Refusal::BadField { line: 1, element: 1 })),
-        (replaced(&s(), "   7.250", "   7.2:0"), Reading::Refused(Refusal::BadField { line: 1, element: 1 })),
-        (replaced(&s(), "   7.250", "        "), Reading::Refused(Refusal::BadField { line: 1, element: 1 })),
+        (blanks(112), Ok(1)),
+        (blanks(113), Err(Refusal::BadLine { group: 4, line: 1 })),
+        (replaced(&s(), "   7.250\r\n", "   7.250 \n"), Err(Refusal::BadLine { group: 4, line: 1 })),
+        (replaced(&s(), "   7.250", "  123456"), Err(Refusal::BadField { group: 4, line: 1, element: 1 })),
+        (replaced(&s(), "   7.250", "   7.2:0"), Err(Refusal::BadField { group: 4, line: 1, element: 1 })),
+        (replaced(&s(), "   7.250", "        "), Err(Refusal::BadField { group: 4, line: 1, element: 1 })),
     ];
     for (text, want) in cases {
         let next = text.len();
         let text = [text, s()].concat();
-        assert_eq!(seambeacon::place(&text, 0), Placing::Placed { next, counts: counts_of_s() });
-        assert_eq!(seambeacon::place(&text, next), Placing::Placed { next: next + 305, counts: counts_of_s() });
+        assert_eq!(seambeacon::place(&text, 0), Ok(Placing::Placed { next, counts: counts_of_s() }));
+        assert_eq!(seambeacon::place(&text, next), Ok(Placing::Placed { next: next + 305, counts: counts_of_s() }));
         let (answer, table) = read(&text, 4);
         assert_eq!(answer, want);
         let fof2 = seambeacon::characteristic(&text, 0, 1);
         match want {
-            Reading::Read { .. } => assert_eq!((table[0], fof2), (7250, Characteristic::Value(7250))),
-            Reading::Refused(why) => assert_eq!((table[0], fof2), (CELL, Characteristic::Refused(why))),
+            Ok(_) => assert_eq!((table[0], fof2), (7250, Ok(Characteristic::Value(7250)))),
+            Err(why) => assert_eq!((table[0], fof2), (CELL, Err(why))),
         }
         assert!(table[1..].iter().all(|&cell| cell == CELL));
         let (answer, table) = read(&text, 1);
-        assert_eq!((answer, &table[..4]), (Reading::Read { cells: 4 }, &cells_of_s()[..4]));
-        assert_eq!(read(&text, 3).0, Reading::Read { cells: 19 });
-        assert_eq!(seambeacon::characteristic(&text, next, 1), Characteristic::Value(7250));
+        assert_eq!((answer, &table[..4]), (Ok(4), &cells_of_s()[..4]));
+        assert_eq!(read(&text, 3).0, Ok(19));
+        assert_eq!(seambeacon::characteristic(&text, next, 1), Ok(Characteristic::Value(7250)));
     }
 }
 
@@ -109,11 +108,11 @@ fn damage_in_group_4() {
 fn the_first_misformed_field() {
     for (old, new, element) in [("  1.200", "  1.2 0", 1), (" 67.000", "+67.000", 2), ("-23.500", "--3.500", 3), ("143.000", "143,000", 4)] {
         let text = replaced(&s(), old, new);
-        assert_eq!(read(&text, 1), (Reading::Refused(Refusal::BadField { line: 1, element }), vec![CELL; 30]), "{new}");
+        assert_eq!(read(&text, 1), (Err(Refusal::BadField { group: 1, line: 1, element }), vec![CELL; 30]), "{new}");
     }
 }
 
-/// Positions of the date's fields: 3 year, 7 day of year, 10 month, 12 day, 14 hour, 16 minute, 18 second; a mismatch is blamed at 7.
+/// R140, the positions of the date's fields: 3 year, 7 day of year, 10 month, 12 day, 14 hour, 16 minute, 18 second; a mismatch is blamed at 7.
 #[test]
 fn a_wrong_date() {
     for (stamp, position) in [
@@ -128,23 +127,23 @@ fn a_wrong_date() {
         ("AA20060600229142530", 7),
     ] {
         let text = replaced(&s(), "AA20062650922142530", stamp);
-        assert_eq!(read(&text, 3), (Reading::Refused(Refusal::BadDate { position }), vec![CELL; 30]), "{stamp}");
+        assert_eq!(read(&text, 3), (Err(Refusal::BadDate { position }), vec![CELL; 30]), "{stamp}");
     }
 }
 
 /// A refused group: nothing is written, and the table has the cells of the groups before it.
 #[test]
 fn rewriting_up_to_a_refused_group() {
-    for (old, new, group, refusal, before) in [
-        ("   7.250", "   7.2:0", 4, Refusal::BadField { line: 1, element: 1 }, 23),
-        ("0922", "0923", 3, Refusal::BadDate { position: 7 }, 4),
-        ("  1.200", "  1:200", 1, Refusal::BadField { line: 1, element: 1 }, 0),
+    for (old, new, refusal, before) in [
+        ("   7.250", "   7.2:0", Refusal::BadField { group: 4, line: 1, element: 1 }, 23),
+        ("   7.250\r\n", "   7.250 \n", Refusal::BadLine { group: 4, line: 1 }, 23),
+        ("0922", "0923", Refusal::BadDate { position: 7 }, 4),
+        ("  1.200", "  1:200", Refusal::BadField { group: 1, line: 1, element: 1 }, 0),
     ] {
         let text = replaced(&s(), old, new);
         let (mut table, mut out) = ([CELL; 30], [1; 400]);
         let answer = seambeacon::rewrite_record(&text, 0, &mut table, &mut out);
-        assert_eq!(answer, Rewriting::Unread { group, refusal });
-        assert_eq!(answer.number(), refusal.number());
+        assert_eq!(answer, Err(refusal));
         assert_eq!(out, [1; 400]);
         assert_eq!(&table[..before], &cells_of_s()[..before]);
         assert!(table[before..].iter().all(|&cell| cell == CELL));

@@ -3,16 +3,16 @@
 mod common;
 
 use common::{bytes, rewritten};
-use seambeacon::{Characteristic, Lines, Placing, Reading, Refusal};
+use seambeacon::{Characteristic, Placing, Refusal};
 
 /// The places of the records, and the place where the walk stopped.
 fn places(text: &[u8]) -> Vec<usize> {
     let mut all = vec![0];
-    while let Placing::Placed { next, .. } = seambeacon::place(text, all[all.len() - 1]) {
+    while let Ok(Placing::Placed { next, .. }) = seambeacon::place(text, all[all.len() - 1]) {
         assert!(next > all[all.len() - 1], "a walk goes forward");
         all.push(next);
     }
-    assert_eq!(seambeacon::place(text, all[all.len() - 1]), Placing::Refused(Refusal::End));
+    assert_eq!(seambeacon::place(text, all[all.len() - 1]), Err(Refusal::End));
     all
 }
 
@@ -32,11 +32,11 @@ fn fof2_of_each_hour() {
         let places = places(&text);
         assert_eq!((places.len(), places[24]), (25, text.len()));
         for (&at, value) in places.iter().zip(want) {
-            assert_eq!(seambeacon::characteristic(&text, at, 1), Characteristic::Value(value));
-            assert_eq!(seambeacon::characteristic(&text, at, 41), Characteristic::NotReported);
+            assert_eq!(seambeacon::characteristic(&text, at, 1), Ok(Characteristic::Value(value)));
+            assert_eq!(seambeacon::characteristic(&text, at, 41), Ok(Characteristic::NotReported));
         }
         // no F1 layer by night
-        assert_eq!(seambeacon::characteristic(&text, 0, 2), Characteristic::NoReading);
+        assert_eq!(seambeacon::characteristic(&text, 0, 2), Ok(Characteristic::NoReading));
     }
 }
 
@@ -65,13 +65,13 @@ fn one_bad_character_is_seen_in_its_group_alone() {
             let (mut old, mut new) = ([-1; 2000], [-1; 2000]);
             let before = seambeacon::read_group(&day, at, group, &mut old);
             let after = seambeacon::read_group(&damaged, at, group, &mut new);
-            assert_eq!(before.number(), 0);
+            assert!(before.is_ok());
             if (hour, group) == (13, 7) {
-                let Lines::Part(lines) = seambeacon::group_lines(&damaged, at, group) else { panic!("no lines") };
+                let lines = seambeacon::group_lines(&damaged, at, group).expect("lines");
                 let column = altered[0] - (lines.as_ptr() as usize - damaged.as_ptr() as usize);
                 assert!(column < lines.len());
                 let (line, element) = (column / 122 + 1, column / 122 * 15 + column % 122 / 8 + 1);
-                assert_eq!(after, Reading::Refused(Refusal::BadField { line, element }));
+                assert_eq!(after, Err(Refusal::BadField { group, line, element }));
                 assert!(new.iter().all(|&cell| cell == -1));
                 refused += 1;
             } else {
@@ -81,4 +81,17 @@ fn one_bad_character_is_seen_in_its_group_alone() {
         }
     }
     assert_eq!((same, refused), (24 * 60 - 1, 1));
+}
+
+/// Nothing is shared but the text, so what several threads are answered at the same time is what each would be answered alone.
+#[test]
+fn several_threads_ask_at_the_same_time() {
+    let day = bytes("examples/day.sao");
+    let want = rewritten(&day);
+    std::thread::scope(|scope| {
+        let asked: Vec<_> = (0..8).map(|_| scope.spawn(|| rewritten(&day))).collect();
+        for answer in asked {
+            assert!(answer.join().expect("an answer") == want);
+        }
+    });
 }

@@ -4,7 +4,7 @@
 mod common;
 
 use common::{bytes, project, rewritten};
-use seambeacon::{Characteristic, Lines, Listing, Placing, Reading, Refusal, Writing};
+use seambeacon::{Characteristic, Placing, Refusal};
 use std::fmt::Write;
 use std::fs;
 
@@ -27,7 +27,7 @@ fn texts() -> Vec<(String, Vec<u8>)> {
 fn listings() {
     for (path, text) in texts() {
         let mut out = [0; 8192];
-        let Listing::Listed { bytes: length } = seambeacon::list(&text, &mut out) else { panic!("{path}") };
+        let length = seambeacon::list(&text, &mut out).unwrap_or_else(|why| panic!("{path}: {why}"));
         assert!(out[..length] == bytes(&format!("{path}.list")), "{path}");
     }
 }
@@ -43,27 +43,27 @@ fn rewritten_records() {
 fn numbers(why: Refusal) -> [usize; 3] {
     let (first, second) = match why {
         Refusal::FilledVacant { group } | Refusal::BrokenRule { group } => (group, 0),
-        Refusal::BadLine { line } => (line, 0),
-        Refusal::BadField { line, element } => (line, element),
+        Refusal::BadLine { line, .. } => (line, 0),
+        Refusal::BadField { line, element, .. } => (line, element),
         Refusal::BadDate { position } => (position, 0),
         _ => (0, 0),
     };
-    [why.number(), first, second]
+    [why.number() as usize, first, second]
 }
 
 /// `group G REPLY A B START END CELL1 ..`
 fn group_row(text: &[u8], at: usize, group: usize) -> String {
     let mut table = [0; 2000];
     let ([reply, a, b], cells) = match seambeacon::read_group(text, at, group, &mut table) {
-        Reading::Read { cells } => ([0, cells, 0], cells),
-        Reading::Refused(why) => (numbers(why), 0),
+        Ok(cells) => ([0, cells, 0], cells),
+        Err(why) => (numbers(why), 0),
     };
     let start_end = match seambeacon::group_lines(text, at, group) {
-        Lines::Part(lines) => {
+        Ok(lines) => {
             let start = lines.as_ptr() as usize - text.as_ptr() as usize;
             [start, start + lines.len()]
         }
-        Lines::Refused(_) => [0, 0],
+        Err(_) => [0, 0],
     };
     let mut row = format!("group {group} {reply} {a} {b} {} {}", start_end[0], start_end[1]);
     for cell in &table[..cells] {
@@ -75,10 +75,10 @@ fn group_row(text: &[u8], at: usize, group: usize) -> String {
 /// `char C KIND VALUE REPLY A B`
 fn characteristic_row(text: &[u8], at: usize, number: usize) -> String {
     let (kind, value, [reply, a, b]) = match seambeacon::characteristic(text, at, number) {
-        Characteristic::Value(value) => (0, value, [0; 3]),
-        Characteristic::NoReading => (1, 0, [0; 3]),
-        Characteristic::NotReported => (2, 0, [0; 3]),
-        Characteristic::Refused(why) => (3, 0, numbers(why)),
+        Ok(Characteristic::Value(value)) => (0, value, [0; 3]),
+        Ok(Characteristic::NoReading) => (1, 0, [0; 3]),
+        Ok(Characteristic::NotReported) => (2, 0, [0; 3]),
+        Err(why) => (3, 0, numbers(why)),
     };
     format!("char {number} {kind} {value} {reply} {a} {b}")
 }
@@ -90,9 +90,9 @@ fn every_answer_about_every_record() {
         let (mut at, mut rows) = (0, Vec::new());
         loop {
             let (reply, next, group, counts) = match seambeacon::place(&text, at) {
-                Placing::Placed { next, counts } => (0, next, 0, counts),
-                Placing::Broken { next, counts, group } => (7, next, group, counts),
-                Placing::Refused(why) => {
+                Ok(Placing::Placed { next, counts }) => (0, next, 0, counts),
+                Ok(Placing::Broken { next, counts, group }) => (7, next, group, counts),
+                Err(why) => {
                     let [reply, group, _] = numbers(why);
                     rows.push(format!("stop {at} {reply} 0 {group}"));
                     break;
@@ -131,9 +131,9 @@ fn write_questions() {
 
         let mut out = vec![0xa5; room];
         let got = match seambeacon::write_record(&counts, &cells, &mut out) {
-            Writing::Written { bytes } => [0, bytes, 0],
-            Writing::Refused(Refusal::NoField { group, element }) => [13, group, element],
-            Writing::Refused(why) => numbers(why),
+            Ok(bytes) => [0, bytes, 0],
+            Err(Refusal::NoField { group, element }) => [13, group, element],
+            Err(why) => numbers(why),
         };
         asked += 1;
         written += usize::from(want[0] == 0);

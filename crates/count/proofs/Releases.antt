@@ -1,5 +1,5 @@
--- Replies 5 and 6 in plain words: release 5 with vacant groups empty, another release, the lowest vacant group with a count. Each exactly
--- if its condition holds.
+-- R205, R206: replies 5 and 6 in plain words: release 5 with vacant groups empty, another release, the lowest vacant group with a count.
+-- Each exactly if its condition holds.
 -- Assumes nothing.
 use mathlib.Core.Path.{_≡_, refl, ap}
 use mathlib.Core.Bool.{Bool, true, false, cond}

@@ -1,4 +1,4 @@
--- The lowest blamed group: rules in two parts, and what the answer says in plain words.
+-- R120: the lowest blamed group: rules in two parts, and what the answer says in plain words.
 -- Assumes nothing.
 use mathlib.Core.Path.{_≡_, refl, sym, _∙_, ap, subst}
 use mathlib.Core.Bool.{Bool, true, false, cond, true≢false, _&&_}
@@ -84,7 +84,7 @@ says-one rs Kept (Broken g) s t = absurd (s g (t .broken))
 says-one rs (Broken g) Kept s t = absurd (t g (s .broken))
 says-one rs (Broken g) (Broken h) s t = ap Broken (omega (arith, s .lowest h (t .broken), t .lowest g (s .broken)))
 
--- reply 7 with a group exactly if the group is blamed and no lower one is; no 7 exactly if none is
+-- R207: reply 7 with a group exactly if the group is blamed and no lower one is; no 7 exactly if none is
 pub ruling-says : (ns : List ℕ) (a : Ruling) → rulingOf ns ≡ a ↔ Says (rules ns) a
 unfolding rulingOf
 ruling-says ns a = (λ e. subst (Says (rules ns)) e (lowest-says (rules ns)), λ s. says-one (rules ns) (lowest (rules ns)) a (lowest-says (rules ns)) s)

@@ -1,4 +1,4 @@
--- Reply 7 in plain words: "rule on counts broken: blamed group", "the lowest blamed group is reported".
+-- R120, R207: reply 7 in plain words. A broken rule blames a group, and the lowest of the groups blamed is given.
 use mathlib.Core.Path.{_≡_}
 use mathlib.Core.Bool.{false}
 use mathlib.Core.List.{List, [], _∷_}
@@ -26,7 +26,7 @@ abbrev pub Says : List Rule → Ruling → Type 0
 Says rs Kept = NoneBlamed rs
 Says rs (Broken g) = LowestBlamed rs g
 
--- the rules on these counts
+-- R121 to R128, of these counts
 abbrev pub KeepsRules : List ℕ → Type 0
 KeepsRules ns = NoneBlamed (rules ns)
 

@@ -1,5 +1,5 @@
--- The whole check of counts and a table's length, in the order 4, 5, 6, 7, 14, as writing makes it, and whatever else is lent counts and
--- cells without a text.
+-- R302: the whole check of counts and a table's length, in the order 4, 5, 6, 7, 14, as writing makes it, and whatever else is lent counts
+-- and cells without a text.
 use mathlib.Core.Bool.{Bool, cond, _&&_}
 use mathlib.Core.List.{List}
 use Prim.Native.Nat.{ℕ}
@@ -16,11 +16,11 @@ use Rattle.count.specs.declared.Ruling.the-variants.{Kept, Broken}
 use Rattle.count.specs.declared.Checked.{Checked}
 use Rattle.count.specs.declared.Checked.the-variants.{Right, Misformed, OtherRelease, FilledVacant, BrokenRule, OtherLength}
 
--- "in writing, not 80 counts or a count outside 0 to 999" (4)
+-- R129, R204: counts that are given are 80, and none is above 999; else 4
 unfoldable pub wellFormed : List ℕ → Bool
 wellFormed ns = eqb (length ns) 80 && every isCount ns
 
--- "table's length differs from the cells that the counts need" (14)
+-- R214: as many cells as the counts ask for, no more and no fewer; else 14
 abbrev pub byLength : List ℕ → ℕ → Checked
 byLength ns cells = cond (eqb cells (recordCells ns)) Right OtherLength
 

@@ -1,4 +1,4 @@
--- When each answer about counts is due: its condition in 01's table, and none earlier in the order 4, 5, 6, 7, 14.
+-- R233, R302: when each answer about counts is due: its own condition holds, and none earlier in the order 4, 5, 6, 7, 14.
 use mathlib.Core.Path.{_≡_}
 use mathlib.Core.List.{List}
 use Prim.Native.Nat.{ℕ, _<_, _≤_}
@@ -12,14 +12,14 @@ use Rattle.count.specs.declared.Checked.{Checked}
 use Rattle.count.specs.declared.Checked.the-variants.{Right, Misformed, OtherRelease, FilledVacant, BrokenRule, OtherLength}
 
 module _ (ns : List ℕ) where
-  -- ---- the release: 5 and 6
+  -- ---- R205, R206: the release
 
-  -- neither: the release is 5, and no vacant group has a count
+  -- R24, R25, so neither 5 nor 6: the release is 5, and no vacant group has a count
   pub record ReleaseFive : Type 0 where
     pub five : countOf ns 80 ≡ 5
     pub vacant : (g : ℕ) → 61 ≤ g → g ≤ 79 → countOf ns g ≡ 0
 
-  -- 6: the lowest of 61 to 79 with a nonzero count
+  -- R206: g is the lowest of 61 to 79 that has a count
   pub record LowestFilled (g : ℕ) : Type 0 where
     pub five : countOf ns 80 ≡ 5
     pub low : 61 ≤ g
@@ -34,7 +34,7 @@ module _ (ns : List ℕ) where
 
   -- ---- the whole check
 
-  -- not 4: 80 counts, each 0 to 999
+  -- R129, so not 4: 80 counts, each 0 to 999
   pub record HasCounts : Type 0 where
     pub many : length ns ≡ 80
     pub small : (i : ℕ) → i < 80 → getD ns i 0 ≤ mostCount
@@ -44,7 +44,7 @@ module _ (ns : List ℕ) where
     pub counts : HasCounts
     pub release : ReleaseDue r
 
-  -- none of 4, 5 and 6; and 7
+  -- R207: none of 4, 5 and 6, but a rule is broken
   pub record Breaks (g : ℕ) : Type 0 where
     pub released : Released Five
     pub broken : BreaksRules ns g
@@ -54,7 +54,7 @@ module _ (ns : List ℕ) where
     pub released : Released Five
     pub kept : KeepsRules ns
 
-  -- 14: "table's length differs from the cells that the counts need"
+  -- R214: none of these, but more or fewer cells than the counts ask for
   pub record Differs (cells : ℕ) : Type 0 where
     pub rules : HasRules
     pub other : cells ≡ recordCells ns → ⊥

@@ -1,4 +1,4 @@
--- The whole check's answers as replies, and the rows that it can give.
+-- R204 to R207, R214: the whole check's answers as replies, and the rows that it can give.
 use Rattle.reply.specs.declared.Reply.{Reply}
 use mathlib.Core.List.{List, [], _∷_}
 use Rattle.reply.specs.Table.{replyOn, replyPlain, Row, row, group}
@@ -13,7 +13,7 @@ checkReply (FilledVacant g) = replyOn 6 g
 checkReply (BrokenRule g) = replyOn 7 g
 checkReply OtherLength = replyPlain 14
 
--- "in writing, not 80 counts or a count outside 0 to 999" (4), 5, 6, 7, 14
+-- R302: what the check refuses, in its order; 7 has no next place here (R235)
 abbrev pub checkRefusals : List Row
 checkRefusals = row 4 [] ∷ row 5 [] ∷ row 6 (group ∷ []) ∷ row 7 (group ∷ []) ∷ row 14 [] ∷ []
 

@@ -1,4 +1,4 @@
--- The release and the vacant groups (replies 5 and 6), and 01's "Rules on counts" (reply 7).
+-- R24, R25: the release and the vacant groups (replies 5 and 6). R120 to R128: the rules on counts (reply 7).
 use mathlib.Core.Bool.{Bool, true, false, cond, not, _&&_, _||_}
 use mathlib.Core.List.{List, [], _∷_, _++_, map}
 use Prim.Native.Nat.{ℕ, suc, _-_, min}
@@ -11,9 +11,9 @@ use Rattle.count.specs.declared.Ruling.{Ruling}
 use Rattle.count.specs.declared.Ruling.the-variants.{Kept, Broken}
 use Rattle.count.specs.declared.Set.{Set}
 
--- ---- "Number 80 is the release and must be 5. Groups 61 to 79 have no format."
+-- ---- R24: the number 80 is no count but the release, and only 5 is accepted. R25: 61 to 79 are no groups, so their counts are 0
 
--- the first of these groups with a nonzero count
+-- R206: the first of these groups that has a count
 unfoldable pub filledAmong : List ℕ → List ℕ → Release
 filledAmong ns [] = Five
 filledAmong ns (g ∷ gs) = cond (eqb (countOf ns g) 0) (filledAmong ns gs) (Filled g)
@@ -21,7 +21,7 @@ filledAmong ns (g ∷ gs) = cond (eqb (countOf ns g) 0) (filledAmong ns gs) (Fil
 unfoldable pub releaseOf : List ℕ → Release
 releaseOf ns = cond (eqb (countOf ns 80) 5) (filledAmong ns (upFrom 61 19)) Other
 
--- ---- "Rules on counts". "The blamed group is in brackets; the lowest blamed group is reported."
+-- ---- R120: each rule blames a group; of the groups that broken rules blame, the lowest is reported
 
 pub record Rule : Type 0 where
   pub blamed : ℕ
@@ -43,7 +43,7 @@ unfoldable pub lowest : List Rule → Ruling
 lowest [] = Kept
 lowest (r ∷ rs) = lower (one r) (lowest rs)
 
--- "Group 1 at least 4 [1]; group 2 at most 2 [2]; group 3 at least 19 [3]; group 4 from 1 to 49 [4]."
+-- R121 to R124, one to a line: 4 or more, 0 to 2, 19 or more, 1 to 49
 unfoldable pub headRules : List ℕ → List Rule
 headRules ns =
     rule 1 (leb 4 (countOf ns 1)) ∷
@@ -51,8 +51,8 @@ headRules ns =
     rule 3 (leb 19 (countOf ns 3)) ∷
     rule 4 (leb 1 (countOf ns 4) && leb (countOf ns 4) 49) ∷ []
 
--- "Trace sets 7-11, 12-16, 17-21, 22-25, 26-29, 30-33, 43-46, 47-50 and profile sets 51-53, 58-60": first group, last group, whether
--- the set's first and last must be there if any is ("In the first three sets")
+-- R125: the eight traces and the two profiles: first group, last group, and whether the set is one of the three O traces that have both of
+-- these or nothing (R127)
 abbrev pub set : ℕ → ℕ → Bool → Set
 set first last ends = record { first = first; last = last; ends = ends }
 
@@ -67,11 +67,11 @@ members s = upFrom (s .first) (suc (s .last) - s .first)
 abbrev pub zero? : ℕ → Bool
 zero? n = eqb n 0
 
--- "the nonzero counts of a set are equal": of any two, one is zero or they are equal
+-- R126: of any two counts of a set, one is zero or they are equal
 abbrev pub equalWhereNonzero : List ℕ → Bool
 equalWhereNonzero xs = every (λ x. every (λ y. zero? x || (zero? y || eqb x y)) xs) xs
 
--- "if any count is nonzero, so are the set's first and last"
+-- R127: all counts of the set are zero, or neither its first nor its last is
 abbrev pub endsNonzero : List ℕ → ℕ → ℕ → Bool
 endsNonzero xs first last = every zero? xs || (not (zero? first) && not (zero? last))
 
@@ -80,10 +80,11 @@ keeps ns s =
     equalWhereNonzero (map (countOf ns) (members s)) &&
     (not (s .ends) || endsNonzero (map (countOf ns) (members s)) (countOf ns (s .first)) (countOf ns (s .last)))
 
+-- R126, R127: the first group of the set is blamed
 abbrev pub setRule : List ℕ → Set → Rule
 setRule ns s = rule (s .first) (keeps ns s)
 
--- "Groups 54 and 55: zero or group 4's count [itself]."
+-- R128: 54 and 55 each have no count or that of group 4, and are blamed themselves
 abbrev pub zeroOr : ℕ → ℕ → Bool
 zeroOr x n = zero? x || eqb x n
 

@@ -1,4 +1,4 @@
--- "The index gives 80 numbers; number g is the count of elements of group g." What the counts say of lines and cells.
+-- R22: of the index's 80 numbers, the one at g is group g's count. What the counts say of lines (R28) and cells (R47).
 use mathlib.Core.Path.{_≡_}
 use mathlib.Core.List.{List, _∷_, map}
 use Prim.Native.Nat.{ℕ}
@@ -10,11 +10,11 @@ use Rattle.form.specs.Count.{linesOf, cellsOf}
 use Rattle.form.specs.declared.GroupForm.{GroupForm}
 use Rattle.form.specs.declared.GroupForm.the-variants.{Has, NoGroup}
 
--- number g of the counts, from 1; 0 where there is no such number
+-- R22, R243: number g of the counts, from 1; 0 where there is no such number
 abbrev pub countOf : List ℕ → ℕ → ℕ
 countOf ns g = getD (0 ∷ ns) g 0
 
--- the lines and the cells of n elements in a group's form
+-- R43, R46: the lines and the cells of n elements in a group's form; what is no group has neither
 abbrev pub linesBy : GroupForm → ℕ → ℕ
 linesBy (Has f) n = linesOf f n
 linesBy NoGroup n = 0
@@ -29,20 +29,21 @@ linesIn ns g = linesBy (formOf g) (countOf ns g)
 unfoldable pub cellsIn : List ℕ → ℕ → ℕ
 cellsIn ns g = cellsBy (formOf g) (countOf ns g)
 
--- "A record is two index lines, then the lines of groups 1 to 60 in number order": entry 0 is the index, entry g is group g
+-- R20: the two lines of the index, and behind them those of each group by its number: entry 0 is the index, entry g is group g
 unfoldable pub lineTally : List ℕ → List ℕ
 lineTally ns = 2 ∷ map (linesIn ns) (upFrom 1 60)
 
 unfoldable pub cellTally : List ℕ → List ℕ
 cellTally ns = 0 ∷ map (cellsIn ns) (upFrom 1 60)
 
--- the lines and the cells before those of group g; before 61: of the whole record
+-- R27, R47: the lines and the cells before those of group g; before 61: of the whole record
 unfoldable pub linesBefore : List ℕ → ℕ → ℕ
 linesBefore ns g = sum (take g (lineTally ns))
 
 unfoldable pub cellsBefore : List ℕ → ℕ → ℕ
 cellsBefore ns g = sum (take g (cellTally ns))
 
+-- R28, R47: all lines and all cells of a record
 abbrev pub recordLines : List ℕ → ℕ
 recordLines ns = sum (lineTally ns)
 

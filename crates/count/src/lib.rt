@@ -1,5 +1,5 @@
-// Counts: the lines and cells that they stand for, the rules that 01 lays on them, and the whole check before they are used. Counts are
-// lent as a slice of any length; a count that is not there is 0.
+// Counts: the lines and cells that they stand for, the rules on them, and the whole check before they are used. Counts are lent as a slice
+// of any length; one that is not there is 0 (R243).
 ghost use mathlib.Core.Path.{_≡_};
 ghost use mathlib.Core.Bool.{_&&_};
 ghost use mathlib.Core.List.{map};
@@ -7,23 +7,25 @@ ghost use lib.Dec.{leb};
 ghost use Prim.Native.Nat.{_+_, _^_, _<_, _≤_};
 ghost use Rattle.form.specs.Count.{linesOf, cellsOf};
 ghost use Rattle.count.specs.Tally.{countOf, Before};
-ghost use Rattle.count.specs.Rules.{releaseOf, lower, one, rule, differ, settle, keeps, lowest, headRules, letterRules, setRule, sets, zeroOr, rulingOf};
+ghost use Rattle.count.specs.Rules.{releaseOf, lower, one, rule, differ, settle, keeps, lowest, headRules};
+ghost use Rattle.count.specs.Rules.{letterRules, setRule, sets, zeroOr, rulingOf};
 ghost use Rattle.count.specs.Check.{wellFormed, checkedOf};
 
-// What is under number 80 and the vacant groups: release 5 and nothing, another release, or the lowest vacant group with a count.
+// R24, R25: what stands under the number 80 and under the vacant ones: release 5 and nothing, another release, or the lowest vacant number
+// with a count.
 pub enum Release {
     Five,
     Other,
     Filled(usize),
 }
 
-// Whether the rules on counts are kept, or the lowest group blamed.
+// R120: the rules on counts are kept, or the lowest group blamed.
 pub enum Ruling {
     Kept,
     Broken(usize),
 }
 
-// The whole check: right, or the first reply due, 4, 5, 6, 7 or 14.
+// R302: right, or the first of 4, 5, 6, 7 and 14 that is due.
 pub enum Checked {
     Right,
     Misformed,
@@ -33,14 +35,14 @@ pub enum Checked {
     OtherLength,
 }
 
-// A set of groups whose nonzero counts are equal; where `ends` is true, its first and last are there if any is.
+// R126: a set's nonzero counts are equal; R127: where `ends` is true, its first and last group are there if any is.
 struct Set {
     pub first: usize,
     pub last: usize,
     pub ends: bool,
 }
 
-// "Trace sets .. and profile sets .."
+// R125, in its order: eight traces, two profiles.
 const SETS: [Set; 10] = [
     Set {
         first: 7,
@@ -115,8 +117,10 @@ pub fn count_of(counts: &[u16], group: usize) -> u16
 
 // Totals with those of a group more.
 fn with_group(totals: Totals, form: form::Form, count: u16) -> Totals
-    requires { ⌜ (totals .lines < 2 ^ 32) × (totals .cells < 2 ^ 32) ⌝ }
-    ensures { λ r. ⌜ (r .lines ≡ totals .lines + linesOf form count) × (r .cells ≡ totals .cells + cellsOf form count) ⌝ }
+    requires lines { ⌜ totals .lines < 2 ^ 32 ⌝ }
+    requires cells { ⌜ totals .cells < 2 ^ 32 ⌝ }
+    ensures lines { λ r. ⌜ r .lines ≡ totals .lines + linesOf form count ⌝ }
+    ensures cells { λ r. ⌜ r .cells ≡ totals .cells + cellsOf form count ⌝ }
 {
     Totals {
         lines: totals.lines + form::lines(form, count),
@@ -124,7 +128,7 @@ fn with_group(totals: Totals, form: form::Form, count: u16) -> Totals
     }
 }
 
-// The lines, the index among them, and the cells before those of a group; before 61: of the whole record.
+// R27, R28, R47: the lines, the index among them, and the cells before those of a group; before 61: of the whole record.
 pub fn add_up(counts: &[u16], group: usize) -> Totals
     ensures { λ r. ⌜ Before (now (counts .entry)) group (r .lines) (r .cells) ⌝ }
 {
@@ -135,17 +139,14 @@ pub fn add_up(counts: &[u16], group: usize) -> Totals
     let mut totals = Totals { lines: 2, cells: 0 };
     let mut g: usize = 1;
     while g < end {
-        // each of 1 to 60 has a form, so this is never taken
-        let form::GroupForm::Has(f) = form::form_of(g) else {
-            return totals;
-        };
+        let f = form::form_in(g);
         totals = with_group(totals, f, count_of(counts, g));
         g += 1;
     }
     totals
 }
 
-// Replies 5 and 6.
+// R205, R206: the release is looked at first, and then the vacant numbers from 61 on.
 pub fn release_of(counts: &[u16]) -> Release
     ensures { λ r. ⌜ r ≡ releaseOf (now (counts .entry)) ⌝ }
 {
@@ -188,13 +189,10 @@ fn ruled(group: usize, kept: bool) -> Ruling
 fn within(n: u16, low: u16, high: u16) -> bool
     ensures { λ r. ⌜ r ≡ leb low n && leb n high ⌝ }
 {
-    if n < low {
-        return false;
-    }
-    n <= high
+    low <= n && n <= high
 }
 
-// "Group 1 at least 4; group 2 at most 2; group 3 at least 19; group 4 from 1 to 49."
+// R121 to R124.
 fn head_ruling(counts: &[u16]) -> Ruling
     ensures { λ r. ⌜ r ≡ lowest (headRules (now (counts .entry))) ⌝ }
 {
@@ -209,13 +207,7 @@ fn head_ruling(counts: &[u16]) -> Ruling
 fn differs(seen: u16, n: u16) -> bool
     ensures { λ r. ⌜ r ≡ differ seen n ⌝ }
 {
-    if n == 0 {
-        return false;
-    }
-    if seen == 0 {
-        return false;
-    }
-    n != seen
+    n != 0 && (seen != 0 && n != seen)
 }
 
 // What has been seen behind a count.
@@ -231,7 +223,7 @@ fn settled(seen: u16, n: u16) -> u16
     seen
 }
 
-// Whether a set keeps its rules.
+// R126, R127: whether a set keeps its rules.
 fn kept_by(counts: &[u16], set: Set) -> bool
     requires { ⌜ set .last ≤ 79 ⌝ }
     ensures { λ r. ⌜ r ≡ keeps (now (counts .entry)) set ⌝ }
@@ -260,7 +252,7 @@ fn kept_by(counts: &[u16], set: Set) -> bool
     count_of(counts, last) != 0
 }
 
-// The sets' rules.
+// A set that breaks a rule has its first group blamed.
 fn set_ruling(counts: &[u16]) -> Ruling
     ensures { λ r. ⌜ r ≡ lowest (map (setRule (now (counts .entry))) sets) ⌝ }
 {
@@ -278,13 +270,10 @@ fn set_ruling(counts: &[u16]) -> Ruling
 fn zero_or(x: u16, n: u16) -> bool
     ensures { λ r. ⌜ r ≡ zeroOr x n ⌝ }
 {
-    if x == 0 {
-        return true;
-    }
-    x == n
+    x == 0 || x == n
 }
 
-// "Groups 54 and 55: zero or group 4's count."
+// R128: the letters go with group 4.
 fn letter_ruling(counts: &[u16]) -> Ruling
     ensures { λ r. ⌜ r ≡ lowest (letterRules (now (counts .entry))) ⌝ }
 {
@@ -294,7 +283,7 @@ fn letter_ruling(counts: &[u16]) -> Ruling
     lower_of(first, second)
 }
 
-// Reply 7.
+// R207: each rule is asked, and the lowest group blamed is the answer (R120).
 pub fn ruling_of(counts: &[u16]) -> Ruling
     ensures { λ r. ⌜ r ≡ rulingOf (now (counts .entry)) ⌝ }
 {
@@ -304,7 +293,7 @@ pub fn ruling_of(counts: &[u16]) -> Ruling
     )
 }
 
-// Whether there are 80 counts, each 0 to 999.
+// R129: 80 counts, each 0 to 999.
 fn well_formed(counts: &[u16]) -> bool
     ensures { λ r. ⌜ r ≡ wellFormed (now (counts .entry)) ⌝ }
 {
@@ -321,7 +310,7 @@ fn well_formed(counts: &[u16]) -> bool
     true
 }
 
-// The whole check of counts and the length of the table of all cells: 4, 5, 6, 7, 14.
+// R302: the whole check of counts and the length of the table of all cells, in the order 4, 5, 6, 7, 14.
 pub fn check(counts: &[u16], cells: usize) -> Checked
     ensures { λ r. ⌜ r ≡ checkedOf (now (counts .entry)) cells ⌝ }
 {

@@ -1,5 +1,4 @@
--- "Day of year, month and day must name one day of that year in the Gregorian calendar, whose leap year rule is used for all years 0000 to
--- 9999 (0000 is a leap year)."
+-- R144 to R146, the calendar: leap years, the lengths of months, and the days of a year.
 use mathlib.Core.Path.{_≡_}
 use mathlib.Core.Bool.{Bool, cond, not, _&&_, _||_}
 use mathlib.Core.List.{[], _∷_}
@@ -10,12 +9,12 @@ use Rattle.base.specs.Every.{has}
 abbrev pub divisible : ℕ → ℕ → Bool
 divisible n k = eqb (n % k) 0
 
--- a leap year is divisible by 4, and not by 100 unless by 400
+-- R144: a leap year is divisible by 4, and not by 100 unless by 400; so 0 is one
 unfoldable pub isLeap : ℕ → Bool
 isLeap y = divisible y 4 && (not (divisible y 100) || divisible y 400)
 
--- Thirty days have September, April, June and November; all the rest have thirty-one, but February alone, which has twenty-eight, and
--- twenty-nine in a leap year. Months count from 1.
+-- R145: 30 days have September, April, June and November, February has 28, or 29 in a leap year, and the others have 31. Months count
+-- from 1.
 abbrev pub hasThirty : ℕ → Bool
 hasThirty m = has (9 ∷ 4 ∷ 6 ∷ 11 ∷ []) m
 
@@ -27,7 +26,7 @@ unfoldable pub daysTo : Bool → ℕ → ℕ
 daysTo leap zero = 0
 daysTo leap (suc m) = daysTo leap m + monthLength leap (suc m)
 
--- day of year n, month m and day d name one day: there is such a month, it has such a day, and n counts the days of the earlier months and
+-- R146: day of year n, month m and day d agree: there is such a month, it has such a day, and n counts the days of the earlier months and
 -- those of its own month up to it
 pub record IsDay (leap : Bool) (n m d : ℕ) : Type 0 where
   pub january : 1 ≤ m

@@ -1,5 +1,4 @@
--- "Group 3, positions 3-6 year, 7-9 day of year, 10-11 month, 12-13 day, 14-15 hour, 16-17 minute, 18-19 second. All digits, zero filled; day
--- of year 1-366, month 1-12, day 1-31, hour 0-23, minute and second 0-59."
+-- R140: the seven digit fields of the date; R147, R148: who is blamed.
 use mathlib.Core.Bool.{Bool, true, false, cond}
 use mathlib.Core.List.{List, [], _∷_}
 use Prim.Native.Nat.{ℕ, suc, _-_}
@@ -12,7 +11,7 @@ use Rattle.date.specs.declared.Dated.the-variants.{Right, Wrong}
 use Rattle.date.specs.Digits.{digitsOf}
 use Rattle.date.specs.Calendar.{isLeap, nameDay}
 
--- positions from .. to, and values from .. to
+-- R141: positions from .. to, and values from .. to
 abbrev pub positions : ℕ → ℕ → ℕ → ℕ → DigitField
 positions from to least greatest = record { first = from; length = suc to - from; least = least; greatest = greatest }
 
@@ -40,7 +39,7 @@ second = positions 18 19 0 59
 abbrev pub fields : List DigitField
 fields = year ∷ dayOfYear ∷ month ∷ day ∷ hour ∷ minute ∷ second ∷ []
 
--- a field that fails alone, and the number that it reads as otherwise
+-- R143: a field that fails alone, and the number that it reads as otherwise
 abbrev pub fails : Digits → Bool
 fails (Number v) = false
 fails Fails = true
@@ -49,7 +48,7 @@ abbrev pub number : Digits → ℕ
 number (Number v) = v
 number Fails = 0
 
--- "Day of year, month and day must name one day of that year in the Gregorian calendar"
+-- R146: day of the year, month and day agree, in the date's year
 abbrev pub namesOneDay : Date → Bool
 namesOneDay d = nameDay (isLeap (d .year)) (d .«day_of_year») (d .month) (d .day)
 
@@ -66,12 +65,12 @@ dateOf s =
       second = number (digitsOf second s);
     }
 
--- "Blamed is the first position of the first field that fails alone": of these fields; if none of them does, it is as given
+-- R147: the first of these fields that fails alone is blamed, at its first position; if none of them does, it is as given
 unfoldable pub firstBlamed : List DigitField → List ℕ → Dated → Dated
 firstBlamed [] s given = given
 firstBlamed (f ∷ fs) s given = cond (fails (digitsOf f s)) (Wrong (f .first)) (firstBlamed fs s given)
 
--- "if none, 7 for a mismatch"
+-- R148: where no field fails alone, the date is right if the three agree, and else 7 is blamed
 abbrev pub judged : Date → Dated
 judged d = cond (namesOneDay d) (Right d) (Wrong 7)
 

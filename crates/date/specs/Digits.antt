@@ -1,5 +1,5 @@
--- Digit fields: a run of digits with its first position (counted from 1), its length, its least and its greatest value.
--- "All digits, zero filled": each of its bytes is a digit, so a number that needs fewer digits has zeros before it.
+-- R141, digit fields: a run of digits with its first position (counted from 1), its length, its least and its greatest value.
+-- R142: each of its bytes is a digit, so a number that needs fewer digits has zeros before it.
 use mathlib.Core.Path.{_≡_}
 use mathlib.Core.Bool.{Bool, cond, _&&_}
 use mathlib.Core.List.{List, _++_, map}
@@ -15,7 +15,7 @@ use Rattle.date.specs.declared.Digits.the-variants.{Number, Fails}
 
 -- ---- as a statement on the text
 
--- the text has `before`, then as many digits as the field is long, then `behind`; the first digit stands at the field's first position, and
+-- R143: the text has `before`, then as many digits as the field is long, then `behind`; the first digit stands at the field's first position, and
 -- the number that the digits make is v, from the least to the greatest
 pub record Reads (f : DigitField) (s : List ℕ) (v : ℕ) : Type 0 where
   pub before : List ℕ

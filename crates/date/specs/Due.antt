@@ -1,5 +1,5 @@
--- Who is blamed, and which date it is, as statements on the letters of group 3: "Blamed is the first position of the first field that fails
--- alone; if none, 7 for a mismatch." `first-due` in proofs/Due.antt: the answer is given exactly if it is due.
+-- R140 to R148 as statements on the letters of group 3: which date it is, and who is blamed. `first-due` in proofs/Due.antt: the answer is
+-- given exactly if it is due.
 use mathlib.Core.Path.{_≡_}
 use mathlib.Core.List.{List, [], _∷_, _++_}
 use mathlib.Core.Logic.{_⊎_}
@@ -12,7 +12,7 @@ use Rattle.date.specs.Digits.{Reads}
 use Rattle.date.specs.Calendar.{isLeap, IsDay}
 use Rattle.date.specs.Date.{year, dayOfYear, month, day, hour, minute, second, fields}
 
--- a field reads as some number, or it fails alone
+-- R143: a field reads as some number, or it fails alone
 pub record Holds (f : DigitField) (s : List ℕ) : Type 0 where
   pub value : ℕ
   pub reads : Reads f s value
@@ -24,7 +24,7 @@ abbrev pub AllHold : List DigitField → List ℕ → Type 0
 AllHold [] s = Unit {0}
 AllHold (f ∷ fs) s = Holds f s × AllHold fs s
 
--- one of the fields fails alone, none before it does, and p is its first position
+-- R147: one of the fields fails alone, none before it does, and p is its first position
 pub record FirstFails (fs : List DigitField) (s : List ℕ) (p : ℕ) : Type 0 where
   pub before : List DigitField
   pub field : DigitField
@@ -44,7 +44,7 @@ pub record HasNumbers (s : List ℕ) (d : Date) : Type 0 where
   pub at-minute : Reads minute s (d .minute)
   pub at-second : Reads second s (d .second)
 
--- "Day of year, month and day must name one day of that year"
+-- R146: day of the year, month and day agree, in the date's year
 abbrev pub NamesDay : Date → Type 0
 NamesDay d = IsDay (isLeap (d .year)) (d .«day_of_year») (d .month) (d .day)
 
@@ -52,7 +52,7 @@ pub record IsDate (s : List ℕ) (d : Date) : Type 0 where
   pub numbers : HasNumbers s d
   pub one-day : NamesDay d
 
--- no field fails alone, but the three name no day
+-- R148: no field fails alone, but the three name no day
 pub record Mismatched (s : List ℕ) (p : ℕ) : Type 0 where
   pub date : Date
   pub numbers : HasNumbers s date

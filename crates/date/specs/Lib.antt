@@ -1,4 +1,4 @@
--- The section "Date" of 01: what a digit field reads as (Digits), what a day of a year is (Calendar), and what group 3's letters tell
+-- R140 to R148, the date: what a digit field reads as (Digits), what a day of a year is (Calendar), and what group 3's letters tell
 -- (Date), as a statement too (Due).
 pub mod Digits
 pub mod Calendar

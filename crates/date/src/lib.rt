@@ -5,7 +5,7 @@ ghost use Rattle.date.specs.Digits.{readDigits, digitsOf};
 ghost use Rattle.date.specs.Calendar.{isLeap, daysTo, nameDay};
 ghost use Rattle.date.specs.Date.{datedOf};
 
-// A digit field: its first position, counted from 1, how many digits it has, and its least and its greatest value.
+// R141, a digit field: its first position, counted from 1, how many digits it has, and its least and its greatest value.
 pub struct DigitField {
     pub first: usize,
     pub length: usize,
@@ -19,7 +19,7 @@ pub enum Digits {
     Fails,
 }
 
-// The number that digits make. It fails if a byte is no digit, or if the number is less than `least` or greater than `greatest`.
+// R143: the number that digits make. It fails if a byte is no digit, or if the number is less than `least` or greater than `greatest`.
 fn number(digits: &[u8], least: usize, greatest: usize) -> Digits
     ensures { λ r. ⌜ r ≡ readDigits least greatest (now (digits .entry)) ⌝ }
 {
@@ -52,7 +52,7 @@ fn number(digits: &[u8], least: usize, greatest: usize) -> Digits
 }
 
 impl DigitField {
-    // What the field reads as in a text. Positions beyond the text's end are no digits, and there is no position 0.
+    // R142: what the field reads as in a text. Positions beyond the text's end are no digits, and there is no position 0.
     pub fn read(self, text: &[u8]) -> Digits
         ensures { λ r. ⌜ r ≡ digitsOf self (now (text .entry)) ⌝ }
     {
@@ -73,7 +73,7 @@ impl DigitField {
     }
 }
 
-// The days of each month in a year that is no leap year.
+// R145, in a year that is no leap year: one constant table (R440).
 const MONTHS: [usize; 12] = [31, 28, 31, 30, 31, 30, 31, 31, 30, 31, 30, 31];
 
 fn leap(year: usize) -> bool
@@ -109,7 +109,7 @@ fn days_to(in_leap: bool, month: usize) -> usize
     days
 }
 
-// Whether a day of the year, a month from 1 to 12 and a day of it name one day of a year.
+// R146: whether a day of the year, a month from 1 to 12 and a day of it name one day of a year.
 fn names(year: usize, day_of_year: usize, month: usize, day: usize) -> bool
     requires { ⌜ (1 ≤ month) × (month ≤ 12) ⌝ }
     ensures { λ r. ⌜ r ≡ nameDay (isLeap year) «day_of_year» month day ⌝ }
@@ -135,7 +135,7 @@ pub struct Date {
     pub second: usize,
 }
 
-// A date, or the position that is blamed.
+// R147, R148: a date, or the position that is blamed.
 pub enum Dated {
     Right(Date),
     Wrong(usize),
@@ -191,7 +191,7 @@ impl Date {
         greatest: 59,
     };
 
-    // The date that the letters of group 3 tell, or the first position of the field that is blamed.
+    // R445: the date that the letters of group 3 tell, or the first position of the field that is blamed.
     pub fn new(letters: &[u8]) -> Dated
         ensures { λ r. ⌜ r ≡ datedOf (now (letters .entry)) ⌝ }
     {

@@ -1,4 +1,4 @@
--- Texts of 01, by computation: the listing of record S twice; zero, the greatest u64 and the least i64.
+-- Texts by computation: the listing of record S twice (R382); zero, the greatest u64 and the least i64.
 -- Assumes nothing.
 use mathlib.Core.Path.{_≡_, refl, sym, ap}
 use mathlib.Core.List.{List, [], _∷_, _++_, map}

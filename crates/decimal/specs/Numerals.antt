@@ -1,4 +1,4 @@
--- A decimal numeral: digits without needless zeros, `0` for zero. IsNumeral says so of a text; numeral computes it.
+-- R344, a decimal numeral: digits without needless zeros, `0` for zero. IsNumeral says so of a text; numeral computes it.
 use mathlib.Core.Path.{_≡_}
 use mathlib.Core.Bool.{cond}
 use mathlib.Core.List.{List, [], _∷_, _++_, map}

@@ -1,4 +1,4 @@
--- A row of numbers: "Numbers are decimal, one space stands between two, and a line feed ends each line." A space is 32, a line feed 10.
+-- R344, a row of numbers: a single space (32) parts one from the next, and a line feed (10) ends the row.
 use mathlib.Core.Path.{_≡_}
 use mathlib.Core.List.{List, [], _∷_, _++_}
 use Prim.Native.Nat.{ℕ, zero, suc, _+_, _<_}

@@ -5,7 +5,6 @@ ghost use Prim.Native.Nat.{_+_, _≤_};
 ghost use lib.ListN.{length};
 ghost use Rattle.base.specs.Columns.{columns};
 ghost use Rattle.base.specs.Part.{over};
-ghost use Rattle.base.specs.Sign.{sizeOf};
 ghost use Rattle.decimal.specs.Numerals.{lastByte, tenth, numeral};
 ghost use Rattle.decimal.specs.Signed.{signedNumeral};
 ghost use Rattle.decimal.specs.Rows.{rowText, endByte};
@@ -50,7 +49,8 @@ fn put_digits(out: &mut [u8], n: u64)
 
 // Puts n, which has k digits.
 fn put_numeral(out: &mut [u8], at: usize, k: usize, n: u64)
-    requires { ⌜ (k ≡ length (numeral n)) × (at + k ≤ length (now out)) ⌝ }
+    requires size { ⌜ k ≡ length (numeral n) ⌝ }
+    requires room { ⌜ at + k ≤ length (now out) ⌝ }
     ensures { λ _. ⌜ now (out .exit) ≡ over at (numeral n) (now (out .entry)) ⌝ }
 {
     let e = at + k;
@@ -71,22 +71,10 @@ pub fn put_number(out: &mut [u8], at: usize, n: u64) -> Put
 
 // ---- Signed numbers
 
-// How far v is from 0, also where v is the least number.
-fn size(v: i64) -> u64
-    ensures { λ r. ⌜ r ≡ sizeOf v ⌝ }
-{
-    if v < 0 {
-        let w = v + 1;
-        let m = 0 - w;
-        m as u64 + 1
-    } else {
-        v as u64
-    }
-}
-
 // Puts a minus and n, which has k digits.
 fn put_minus(out: &mut [u8], at: usize, k: usize, n: u64)
-    requires { ⌜ (k ≡ length (numeral n)) × (at + (k + 1) ≤ length (now out)) ⌝ }
+    requires size { ⌜ k ≡ length (numeral n) ⌝ }
+    requires room { ⌜ at + (k + 1) ≤ length (now out) ⌝ }
     ensures { λ _. ⌜ now (out .exit) ≡ over at (45 ∷ numeral n) (now (out .entry)) ⌝ }
 {
     out[at] = b'-';
@@ -97,8 +85,9 @@ fn put_minus(out: &mut [u8], at: usize, k: usize, n: u64)
 pub fn put_signed(out: &mut [u8], at: usize, v: i64) -> Put
     ensures { λ r. ⌜ Puts at (signedNumeral v) (now (out .entry)) r (now (out .exit)) ⌝ }
 {
-    let n = size(v);
-    if v < 0 {
+    let m = number::signed(v);
+    let n = m.size;
+    if m.neg {
         let k = digits(n);
         if base::has_room(at, k + 1, out.len()) {
             put_minus(out, at, k, n);
@@ -158,7 +147,8 @@ fn end_byte(more: usize) -> u8
 // Puts n and the byte behind it; the place behind both.
 fn put_ended(out: &mut [u8], at: usize, n: u64, end: u8) -> usize
     requires { ⌜ at + (length (numeral n) + 1) ≤ length (now out) ⌝ }
-    ensures { λ r. ⌜ (r ≡ at + (length (numeral n) + 1)) × (now (out .exit) ≡ over at (numeral n ++ (end ∷ [])) (now (out .entry))) ⌝ }
+    ensures answer { λ r. ⌜ r ≡ at + (length (numeral n) + 1) ⌝ }
+    ensures output { λ _. ⌜ now (out .exit) ≡ over at (numeral n ++ (end ∷ [])) (now (out .entry)) ⌝ }
 {
     let k = digits(n);
     put_numeral(out, at, k, n);
@@ -198,7 +188,8 @@ fn put_text(out: &mut [u8], at: usize, text: &[u8])
 
 // Puts a row of numbers with the bytes that it begins with, such as `end `, into the bytes from a place on.
 pub fn put_row(out: &mut [u8], at: usize, first: &[u8], numbers: &[u64]) -> Put
-    ensures { λ r. ⌜ Puts at (now (first .entry) ++ rowText (now (numbers .entry))) (now (out .entry)) r (now (out .exit)) ⌝ }
+    ensures { λ r. ⌜ Puts at (now (first .entry) ++ rowText (now (numbers .entry))) (now (out .entry)) r
+        (now (out .exit)) ⌝ }
 {
     let Put::Next(end) = row_end(out.len(), at, first, numbers) else {
         return Put::NoRoom;

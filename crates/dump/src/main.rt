@@ -69,7 +69,7 @@ fn beside(r: Reply) -> usize {
 }
 
 fn put_reply(page: &mut [u8], at: usize, r: Reply) -> usize {
-    let number = put(page, at, r.number);
+    let number = put(page, at, r.number as usize);
     let first = put(page, number, beside(r));
     put(page, first, r.element)
 }
@@ -86,7 +86,7 @@ fn print_row(name: &[u8], page: &mut [u8], end: usize) {
 
 fn print_record(place: usize, r: Reply, counts: &[u16], page: &mut [u8]) {
     let at = put(page, 0, place);
-    let number = put(page, at, r.number);
+    let number = put(page, at, r.number as usize);
     let next = put(page, number, r.next);
     let end = put(page, next, r.group);
     let behind = put_counts(page, end, counts);
@@ -95,7 +95,7 @@ fn print_record(place: usize, r: Reply, counts: &[u16], page: &mut [u8]) {
 
 fn print_stop(place: usize, r: Reply, page: &mut [u8]) {
     let at = put(page, 0, place);
-    let number = put(page, at, r.number);
+    let number = put(page, at, r.number as usize);
     let next = put(page, number, r.next);
     let end = put(page, next, r.group);
     print_row(b"stop", page, end);
@@ -169,7 +169,7 @@ fn print_characteristics(text: &[u8], at: usize, page: &mut [u8]) {
     }
 }
 
-// The records from a place on. A record has 244 bytes at least, so 65,536 bytes hold fewer than 300.
+// The records from a place on. A record has 244 bytes at least (R110), so 65,536 bytes hold fewer than 300.
 fn print_records(text: &[u8], page: &mut [u8]) {
     let mut at: usize = 0;
     let mut k: usize = 0;

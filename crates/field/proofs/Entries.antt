@@ -1,4 +1,4 @@
--- Index entries: reading is 01's grammar, what reads is 0 to 999, and each such count has one canonical text, which is written.
+-- R23, index entries: they read as the rule says, what reads is 0 to 999, and each such count has one canonical text, which is written.
 -- Assumes nothing.
 use mathlib.Core.Path.{_≡_, refl, sym, ap, _∙_}
 use mathlib.Core.Bool.{true, false}

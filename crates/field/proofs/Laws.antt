@@ -1,5 +1,5 @@
--- The laws of a field by its kind, and of every form: reading is 01's grammar, what reads fits, and what fits has one canonical text, which
--- is written and reads back.
+-- The laws of a field by its kind, and of every form: it reads as R70 to R86 say, what reads fits, and what fits has one canonical text,
+-- which is written and reads back.
 -- Assumes nothing.
 use mathlib.Core.Path.{_≡_, refl, sym, ap, _∙_, subst}
 use mathlib.Core.Bool.{Bool, true, false, cond}

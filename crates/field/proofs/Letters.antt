@@ -27,7 +27,7 @@ pub letter-small : (z : ℤ) → T (isLetter z) → sizeOf z < 256
 letter-small (pos n) t = let h = leb→le n 126 (and-right (leb 32 n) (leb n 126) t) in omega arith
 letter-small (negsuc n) t = absurd t
 
--- the test at each byte is 01's statement
+-- the test at each byte is R80
 pub printable-letters : (s : List ℕ) → T (every printable s) → Letters s
 printable-letters [] t = tt
 printable-letters (b ∷ s) t =

@@ -1,4 +1,4 @@
--- The canonical text of a form's cells, as 01's paragraph has it (number's Canonical for I, F and E); a letter is its code.
+-- R103 to R109: the canonical text of a form's cells (number's Canonical for I, F and E); a letter is its code.
 use mathlib.Core.Path.{_≡_}
 use mathlib.Core.List.{List}
 use Prim.Native.Nat.{ℕ}

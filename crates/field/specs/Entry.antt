@@ -1,4 +1,4 @@
--- Index entries: "Index entries are I3 without a minus, so ` -0` is misformed there."
+-- R23, index entries: I3 fields that have no minus, so ` -0` is none.
 use mathlib.Core.Path.{_≡_}
 use mathlib.Core.Bool.{true, false, cond}
 use mathlib.Core.List.{List, _++_}
@@ -28,7 +28,7 @@ pub record HasEntry (n : ℕ) : Type 0 where
   pub columns : List ℕ
   pub entry : IsEntry columns n
 
--- without needless zeros
+-- R103: without needless zeros
 pub record CanonicalEntry (s : List ℕ) (n : ℕ) : Type 0 where
   pub width : length s ≡ 3
   pub blanks : ℕ

@@ -1,4 +1,4 @@
--- A field of each form as 01's sentences have it: which bytes it is, and its cells.
+-- R70 to R86: which bytes are a field of each form, and its cells.
 use mathlib.Core.Path.{_≡_}
 use mathlib.Core.List.{List, [], _∷_, map}
 use Prim.Native.Nat.{ℕ, _≤_}
@@ -11,12 +11,12 @@ use Rattle.field.specs.declared.Kind.{Kind}
 use Rattle.field.specs.declared.Kind.the-variants.{Whole, Fixed, Power, OneLetter, AllLetters}
 use Rattle.field.specs.Kind.{kindOf}
 
--- "each byte 32 to 126"
+-- R80: no byte is below 32 or above 126
 abbrev pub Letters : List ℕ → Type 0
 Letters [] = Unit {0}
 Letters (b ∷ bs) = ((32 ≤ b) × (b ≤ 126)) × Letters bs
 
--- "A: each byte 32 to 126; the cell is its code."
+-- R80: letters, each of them a cell; so a blank is one too (R82)
 pub record IsA (s : List ℕ) (cs : List ℤ) : Type 0 where
   pub letters : Letters s
   pub cells : cs ≡ map pos s
@@ -40,7 +40,7 @@ ShapeOf (Power c d x p q) s cs = Two (IsE c d x s) cs
 ShapeOf OneLetter s cs = IsA s cs
 ShapeOf (AllLetters w) s cs = IsA s cs
 
--- s is a field of the form, with these cells
+-- s is a field of the form, with these cells; of another length it is none (R86)
 pub record IsField (f : Form) (s : List ℕ) (cs : List ℤ) : Type 0 where
   pub width : length s ≡ rowOf f .width
   pub shape : ShapeOf (kindOf f) s cs

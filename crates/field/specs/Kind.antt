@@ -1,4 +1,4 @@
--- What a form's field holds: I, F, E or A, with the numbers that 01 gives for it.
+-- What a form's field holds: I, F, E or A, with its columns and how far its cells go (R71, R73, R74, R79).
 use mathlib.Core.Path.{_≡_}
 use Prim.Native.Nat.{ℕ, suc, _+_, _-_, _^_, _≤_}
 use Rattle.form.specs.declared.Form.{Form}
@@ -6,8 +6,8 @@ use Rattle.form.specs.declared.Form.the-variants.{F7, A120, A1, F8, I2, I3, I1,
 use Rattle.field.specs.declared.Kind.{Kind}
 use Rattle.field.specs.declared.Kind.the-variants.{Whole, Fixed, Power, OneLetter, AllLetters}
 
--- "I3 holds -99 to 999, I2 -9 to 99, I1 0 to 9"; "F7.3 from -99,999 to 999,999; F8.3 from -999,999 to 9,999,999": the width, and the ends of
--- the range. E: the columns before the point, the digits behind it, the exponent's digits, and how far the two cells go from zero
+-- I and F: the width, and how far the cell goes below zero and above it (R71, R73). E: the columns before the point, the digits behind it,
+-- the exponent's digits (R74), and how far the two cells go from zero (R79)
 abbrev pub kindOf : Form → Kind
 kindOf I1 = Whole 1 0 9
 kindOf I2 = Whole 2 9 99

@@ -18,10 +18,10 @@ use Rattle.field.specs.Grammar.{IsField}
 use Rattle.field.specs.Canonical.{IsCanonical}
 
 pub record Lawful (f : Form) : Type 0 where
-  -- a field is what 01's sentences say, both ways
+  -- R70 to R86, both ways
   pub reads-is : (s : List ℕ) (cs : List ℤ) → Reads f s cs → IsField f s cs
   pub is-reads : (s : List ℕ) (cs : List ℤ) → IsField f s cs → Reads f s cs
-  -- what reads fits, and what fits has as many cells as the form
+  -- R303: what reads fits; R46: what fits has as many cells as the form
   pub fitting : (s : List ℕ) (cs : List ℤ) → Reads f s cs → T (fitsOf f cs)
   pub sized : (cs : List ℤ) → T (fitsOf f cs) → length cs ≡ rowOf f .cells
   -- the text of what fits: it reads back, it has the form's width, each byte is 32 to 126, and none is a line feed
@@ -29,24 +29,24 @@ pub record Lawful (f : Form) : Type 0 where
   pub wide : (cs : List ℤ) → T (fitsOf f cs) → length (fieldText f cs) ≡ rowOf f .width
   pub plain : (cs : List ℤ) → T (fitsOf f cs) → T (every printable (fieldText f cs))
   pub unbroken : (cs : List ℤ) → T (fitsOf f cs) → T (every (λ b. not (eqb b 10)) (fieldText f cs))
-  -- it is canonical, and no other text is; a canonical text reads as its cells
+  -- R100: it is canonical, and no other text is; a canonical text reads as its cells
   pub canonical : (cs : List ℤ) → T (fitsOf f cs) → IsCanonical f (fieldText f cs) cs
   pub one : (s : List ℕ) (cs : List ℤ) → IsCanonical f s cs → s ≡ fieldText f cs
   pub again : (s : List ℕ) (cs : List ℤ) → IsCanonical f s cs → Reads f s cs
 
--- 01's ranges, form by form: from minus the first number to the second
+-- the ranges, form by form: from minus the first number to the second
 pub record Ranges : Type 0 where
-  -- "I3 holds -99 to 999, I2 -9 to 99, I1 0 to 9"
+  -- R71
   pub i3 : (z : ℤ) → fitsOf I3 (z ∷ []) ≡ holds 99 999 z
   pub i2 : (z : ℤ) → fitsOf I2 (z ∷ []) ≡ holds 9 99 z
   pub i1 : (z : ℤ) → fitsOf I1 (z ∷ []) ≡ holds 0 9 z
-  -- "F7.3 from -99,999 to 999,999; F8.3 from -999,999 to 9,999,999"
+  -- R73
   pub f7 : (z : ℤ) → fitsOf F7 (z ∷ []) ≡ holds 99999 999999 z
   pub f8 : (z : ℤ) → fitsOf F8 (z ∷ []) ≡ holds 999999 9999999 z
-  -- E: as far as the digits and the exponent's digits go, either way
+  -- R79: as far as the digits and the exponent's digits go, either way
   pub e11 : (m e : ℤ) → fitsOf E11 (m ∷ e ∷ []) ≡ (holds 999999 999999 m && holds 9 9 e)
   pub e8 : (m e : ℤ) → fitsOf E8 (m ∷ e ∷ []) ≡ (holds 999 999 m && holds 9 9 e)
   pub e20 : (m e : ℤ) → fitsOf E20 (m ∷ e ∷ []) ≡ (holds 999999999999 999999999999 m && holds 99 99 e)
-  -- A: "32 to 126"
+  -- R80
   pub a1 : (z : ℤ) → fitsOf A1 (z ∷ []) ≡ isLetter z
   pub a120 : (cs : List ℤ) → fitsOf A120 cs ≡ (eqb (length cs) 120 && every isLetter cs)

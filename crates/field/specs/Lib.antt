@@ -1,5 +1,6 @@
--- One field of each of the ten forms ("Fields" and the canonical paragraph of 01), and an index entry: nothing of groups, lines or records.
--- Kind has 01's ranges, Grammar and Canonical its sentences; Read and Write are what the contracts cite, Law is what callers cite.
+-- One field of each of the ten forms (R70 to R86), its canonical text (R103 to R109), and an index entry (R23): nothing of groups, lines
+-- or records. Kind has the ranges, Grammar and Canonical the rules as statements; Read and Write are what the contracts cite, Law is what
+-- callers cite.
 pub mod Kind
 pub mod Grammar
 pub mod Canonical

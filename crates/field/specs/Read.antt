@@ -1,4 +1,4 @@
--- What a field of a form reads as.
+-- R70 to R86 as they are computed: what a field of a form reads as.
 use mathlib.Core.Path.{_≡_}
 use mathlib.Core.Bool.{Bool, true, false, cond}
 use mathlib.Core.List.{List, [], _∷_, map}
@@ -31,7 +31,7 @@ readAs (Power c d x p q) s = valueOf (readE c d x s)
 readAs OneLetter s = cond (every printable s) (Cell (pos (getD s 0 0))) Misformed
 readAs (AllLetters w) s = cond (every printable s) Letters Misformed
 
--- a field is a part of a text whose length is the form's width
+-- R86: a field is a part of a text whose length is the form's width
 unfoldable pub fieldOf : Form → List ℕ → Value
 fieldOf f s = cond (eqb (length s) (rowOf f .width)) (readAs (kindOf f) s) Misformed
 

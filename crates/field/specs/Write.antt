@@ -1,28 +1,24 @@
--- Which cells have a field, and the text that is written for them.
-use mathlib.Core.Path.{_≡_}
-use mathlib.Core.Bool.{Bool, false, cond, _&&_}
+-- Which cells have a field (R213), and the text that is written for them (R100).
+use mathlib.Core.Bool.{Bool, false, _&&_}
 use mathlib.Core.List.{List, map}
-use Prim.Native.Nat.{ℕ, _+_}
-use lib.Dec.{leb, eqb}
+use Prim.Native.Nat.{ℕ}
+use lib.Dec.{eqb}
 use lib.IntN.{ℤ, pos, negsuc}
 use lib.ListN.{length, getD}
 use Rattle.base.specs.Ascii.{printable}
 use Rattle.base.specs.Every.{every}
-use Rattle.base.specs.Part.{over}
 use Rattle.base.specs.Sign.{holds, sizeOf}
 use Rattle.form.specs.declared.Form.{Form}
 use Rattle.form.specs.Table.{rowOf}
 use Rattle.number.specs.Write.{textI, textF, textE}
 use Rattle.field.specs.declared.Kind.{Kind}
 use Rattle.field.specs.declared.Kind.the-variants.{Whole, Fixed, Power, OneLetter, AllLetters}
-use Rattle.field.specs.declared.Written.{Written}
-use Rattle.field.specs.declared.Written.the-variants.{Done, NoField, NoRoom}
 use Rattle.field.specs.Kind.{kindOf}
 
 abbrev pub cellAt : List ℤ → ℕ → ℤ
 cellAt cs i = getD cs i (pos 0)
 
--- "A 32 to 126"
+-- R80: what a letter's cell may be
 abbrev pub isLetter : ℤ → Bool
 isLetter (pos n) = printable n
 isLetter (negsuc n) = false
@@ -47,18 +43,3 @@ textAs (AllLetters w) cs = map sizeOf cs
 
 unfoldable pub fieldText : Form → List ℤ → List ℕ
 fieldText f cs = textAs (kindOf f) cs
-
--- the answer to a write of w bytes at a place of n: first whether there is a field at all, then whether there is room
-abbrev pub writtenBy : Bool → ℕ → ℕ → ℕ → Written
-writtenBy fits at w n = cond fits (cond (leb (at + w) n) Done NoRoom) NoField
-
--- a refused write alters nothing
-abbrev pub outBy : Written → ℕ → List ℕ → List ℕ → List ℕ
-outBy Done at t xs = over at t xs
-outBy NoField at t xs = xs
-outBy NoRoom at t xs = xs
-
--- what a write of a text of w bytes at a place comes to: the answer, and the whole output afterwards
-pub record Wrote (fits : Bool) (text : List ℕ) (at w : ℕ) (before : List ℕ) (r : Written) (after : List ℕ) : Type 0 where
-  pub answer : r ≡ writtenBy fits at w (length before)
-  pub memory : after ≡ outBy r at text before

@@ -15,8 +15,7 @@ ghost use Rattle.form.specs.Table.{rowOf};
 ghost use Rattle.number.specs.Scan.{Below};
 ghost use Rattle.field.specs.Kind.{kindOf, widthOf, countOf, Small};
 ghost use Rattle.field.specs.Read.{valueOf, readAs, fieldOf};
-ghost use Rattle.field.specs.Write.{isLetter, rangeOf, fitsOf, textAs, fieldText, Wrote};
-ghost use Rattle.form.specs.Count.{isCount};
+ghost use Rattle.field.specs.Write.{isLetter, rangeOf, fitsOf, textAs, fieldText};
 ghost use Rattle.field.specs.Entry.{countIn, entryOf, entryText};
 
 // What a field reads as: a cell; the two cells of an E field; letters, whose cells are the bytes themselves.
@@ -25,14 +24,6 @@ pub enum Value {
     Pair(i64, i64),
     Letters,
     Misformed,
-}
-
-// What became of a write: the text stands there; no field of the form reads as the cells; no room behind the place. The last two altered
-// nothing.
-pub enum Written {
-    Done,
-    NoField,
-    NoRoom,
 }
 
 // What an index entry reads as.
@@ -187,7 +178,7 @@ fn is_printable(b: u8) -> bool
     b <= 126
 }
 
-// Whether each byte is 32 to 126.
+// R80: whether each byte is 32 to 126.
 pub fn all_printable(s: &[u8]) -> bool
     ensures { λ r. ⌜ r ≡ every printable (now (s .entry)) ⌝ }
 {
@@ -232,7 +223,8 @@ fn read_letters(s: &[u8]) -> Value
 }
 
 fn read_as(kind: Kind, field: &[u8]) -> Value
-    requires { ⌜ (length (now field) ≡ widthOf kind) × Small kind ⌝ }
+    requires field { ⌜ length (now field) ≡ widthOf kind ⌝ }
+    requires small { ⌜ Small kind ⌝ }
     ensures { λ r. ⌜ r ≡ readAs kind (now (field .entry)) ⌝ }
 {
     match kind {
@@ -258,7 +250,7 @@ fn read_as(kind: Kind, field: &[u8]) -> Value
     }
 }
 
-// What the field reads as; a slice of another length than the form's width is misformed.
+// What the field reads as; a slice of another length than the form's width is misformed (R86).
 pub fn read(form: Form, field: &[u8]) -> Value
     ensures { λ r. ⌜ r ≡ fieldOf form (now (field .entry)) ⌝ }
 {
@@ -353,7 +345,8 @@ fn letter(v: i64) -> u8
 
 // Writes cells that are letters at a place with room.
 pub fn put_letters(cells: &[i64], out: &mut [u8], at: usize)
-    requires { ⌜ (at + length (now cells) ≤ length (now out)) × T (every isLetter (now cells)) ⌝ }
+    requires room { ⌜ at + length (now cells) ≤ length (now out) ⌝ }
+    requires letters { ⌜ T (every isLetter (now cells)) ⌝ }
     ensures { λ _. ⌜ now (out .exit) ≡ over at (map sizeOf (now (cells .entry))) (now (out .entry)) ⌝ }
 {
     let mut i = 0;
@@ -364,7 +357,10 @@ pub fn put_letters(cells: &[i64], out: &mut [u8], at: usize)
 }
 
 fn put_as(kind: Kind, cells: &[i64], out: &mut [u8], at: usize)
-    requires { ⌜ (length (now cells) ≡ countOf kind) × T (rangeOf kind (now cells)) × (at + widthOf kind ≤ length (now out)) × Small kind ⌝ }
+    requires cells { ⌜ length (now cells) ≡ countOf kind ⌝ }
+    requires range { ⌜ T (rangeOf kind (now cells)) ⌝ }
+    requires room { ⌜ at + widthOf kind ≤ length (now out) ⌝ }
+    requires small { ⌜ Small kind ⌝ }
     ensures { λ _. ⌜ now (out .exit) ≡ over at (textAs kind (now (cells .entry))) (now (out .entry)) ⌝ }
 {
     match kind {
@@ -392,24 +388,11 @@ fn put_as(kind: Kind, cells: &[i64], out: &mut [u8], at: usize)
 
 // Writes the canonical text of cells that fit at a place with room.
 pub fn put(form: Form, cells: &[i64], out: &mut [u8], at: usize)
-    requires { ⌜ T (fitsOf form (now cells)) × (at + rowOf form .width ≤ length (now out)) ⌝ }
+    requires fits { ⌜ T (fitsOf form (now cells)) ⌝ }
+    requires room { ⌜ at + rowOf form .width ≤ length (now out) ⌝ }
     ensures { λ _. ⌜ now (out .exit) ≡ over at (fieldText form (now (cells .entry))) (now (out .entry)) ⌝ }
 {
     put_as(kind_of(form), cells, out, at);
-}
-
-// Writes the canonical text of the cells at a place, or nothing: first where no field of the form reads as them, then where there is no room.
-pub fn write(form: Form, cells: &[i64], out: &mut [u8], at: usize) -> Written
-    ensures { λ r. ⌜ Wrote (fitsOf form (now (cells .entry))) (fieldText form (now (cells .entry))) at (rowOf form .width) (now (out .entry)) r (now (out .exit)) ⌝ }
-{
-    if fits(form, cells) {
-        if base::has_room(at, width_of(kind_of(form)), out.len()) {
-            put(form, cells, out, at);
-            return Written::Done;
-        }
-        return Written::NoRoom;
-    }
-    Written::NoField
 }
 
 // ---- Index entries.
@@ -431,7 +414,7 @@ fn count_in(st: Scan) -> Entry
     }
 }
 
-// The count that an index entry reads as; a slice of another length than three is misformed.
+// R23: the count that an index entry reads as; a slice of another length than three is misformed.
 pub fn read_entry(entry: &[u8]) -> Entry
     ensures { λ r. ⌜ r ≡ entryOf (now (entry .entry)) ⌝ }
 {
@@ -447,18 +430,4 @@ pub fn put_entry(count: u16, out: &mut [u8], at: usize)
     ensures { λ _. ⌜ now (out .exit) ≡ over at (entryText count) (now (out .entry)) ⌝ }
 {
     number::put_at(out, at, 3, false, Scan::Digits(false, count as u64));
-}
-
-// Writes the canonical text of a count at a place, or nothing.
-pub fn write_entry(count: u16, out: &mut [u8], at: usize) -> Written
-    ensures { λ r. ⌜ Wrote (isCount count) (entryText count) at 3 (now (out .entry)) r (now (out .exit)) ⌝ }
-{
-    if 999 < count {
-        return Written::NoField;
-    }
-    if base::has_room(at, 3, out.len()) {
-        put_entry(count, out, at);
-        return Written::Done;
-    }
-    Written::NoRoom
 }

@@ -1,25 +1,20 @@
--- What a reader may hold a group's lines to: k lines are enough for its elements and k - 1 are not; the last line has what the full
--- lines before it leave, at least one element and no more than a full line.
+-- What a reader may hold a group's lines to: k lines are enough for its elements and k - 1 are not.
 -- Assumes nothing.
 use mathlib.Core.Path.{_≡_}
 use mathlib.Core.Logic.{_↔_}
-use Prim.Native.Nat.{ℕ, _<_, _≤_}
+use Prim.Native.Nat.{ℕ, _≤_}
 use native.Mathlib.Nat.{mul-le-mul, le-mul-of-pos-right}
 use native.Mathlib.Omega.{arith}
 use Rattle.form.specs.declared.Form.{Form}
 use Rattle.form.specs.Table.{rowOf}
-use Rattle.form.specs.Count.{elementsOf, linesOf, cellsOf, lastOf, Takes, Leaves}
+use Rattle.form.specs.Count.{elementsOf, linesOf, cellsOf, Takes}
 use Rattle.form.proofs.Rows.{row-fits, elements-few}
-use Rattle.form.proofs.Rounding.{lines-are, lines-least, last-line}
+use Rattle.form.proofs.Rounding.{lines-are, lines-least}
 
 -- both directions: so many lines, and no other number, are what the elements need
 pub lines-needed : (f : Form) (n k : ℕ) → linesOf f n ≡ k ↔ Takes (elementsOf f n) (rowOf f .«per_line») k
 unfolding linesOf
 lines-needed f n k = lines-are (elementsOf f n) (rowOf f .«per_line») (row-fits f .some) k
-
-pub last-left : (f : Form) (n : ℕ) → 0 < elementsOf f n → Leaves (elementsOf f n) (rowOf f .«per_line») (linesOf f n) (lastOf f n)
-unfolding lastOf linesOf
-last-left f n more = last-line (elementsOf f n) (rowOf f .«per_line») (row-fits f .some) more
 
 -- bounds for callers that add them up
 pub lines-few : (f : Form) (n : ℕ) → n ≤ 65535 → linesOf f n ≤ 65535

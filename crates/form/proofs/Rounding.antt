@@ -1,12 +1,12 @@
--- Rounding up: so many lines are enough for n elements, and one fewer are not; what the lines before the last leave for it.
+-- Rounding up: so many lines are enough for n elements, and one fewer are not.
 -- Assumes nothing.
 use mathlib.Core.Path.{_≡_, refl, ap}
 use mathlib.Core.Logic.{_↔_, ⊎-elim}
-use Prim.Native.Nat.{ℕ, zero, suc, _+_, _-_, _*_, _/_, _%_, _<_, _≤_}
+use Prim.Native.Nat.{ℕ, zero, suc, _+_, _-_, _*_, _/_, _<_, _≤_}
 use native.Mathlib.Omega.{arith}
-use native.Mathlib.Nat.{div-add-mod', div-lt-iff-lt-mul, lt-div-mul-add, suc-mul, mul-le-mul-right, add-mul, one-mul, div-mul-le-self, div-zero, div-eq-of-lt}
+use native.Mathlib.Nat.{div-lt-iff-lt-mul, lt-div-mul-add, suc-mul, mul-le-mul-right, add-mul, one-mul, div-mul-le-self, div-zero, div-eq-of-lt}
 use Rattle.base.proofs.Order.{le-or-lt}
-use Rattle.form.specs.Count.{roundedUp, Takes, Leaves}
+use Rattle.form.specs.Count.{roundedUp, Takes}
 
 -- nothing takes no lines, however many go on one
 pub rounded-none : (p : ℕ) → roundedUp 0 p ≡ 0
@@ -48,7 +48,6 @@ module _ (n p : ℕ) (some : 0 < p) where
   pub lines-are : (k : ℕ) → roundedUp n p ≡ k ↔ Takes n p k
   lines-are k = (λ e. record { enough = rw (← e) lines-enough; needed = lines-needed k e }, lines-exact k)
 
-  -- the last line of some elements holds what the others, all full, leave: at least one element, and no more than a full line
   module _ (more : 0 < n) where
     pub quotient : roundedUp n p ≡ (n - 1) / p + 1
     quotient = lines-exact ((n - 1) / p + 1) record {
@@ -58,17 +57,3 @@ module _ (n p : ℕ) (some : 0 < p) where
       where
         before-one : (n - 1) / p * p < n → ((n - 1) / p + 1 - 1) * p < n
         before-one h = let e : (n - 1) / p + 1 - 1 ≡ (n - 1) / p = omega arith in rw e h
-
-    pub last-by-remainder : (n - 1) % p + 1 ≡ n - (roundedUp n p - 1) * p
-    last-by-remainder =
-        let e : roundedUp n p - 1 ≡ (n - 1) / p = omega (arith, quotient) in
-        rw e (omega (arith, div-add-mod' (n - 1) p))
-
-    pub last-line : Leaves n p (roundedUp n p) (n - (roundedUp n p - 1) * p)
-    last-line =
-        let e : roundedUp n p - 1 ≡ (n - 1) / p = omega (arith, quotient) in
-        rw e record {
-          low = omega (arith, div-mul-le-self (n - 1) p);
-          high = omega (arith, lt-div-mul-add {a = n - 1} some);
-          all = rw e (omega (arith, div-mul-le-self (n - 1) p));
-        }

@@ -1,4 +1,4 @@
--- The rule of 01's rows, by one test over the forms: a line's fields take at most 120 columns, and every number of a row is 1 to 120.
+-- R48, the rule of the table, by one test over the forms: a line's fields take at most 120 columns, and every number of a row is 1 to 120.
 -- And the bound of a count's elements.
 -- Assumes nothing.
 use mathlib.Core.Path.{_≡_}

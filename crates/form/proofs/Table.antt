@@ -1,4 +1,4 @@
--- 01's table: each group 1 to 60 stands in exactly one of its lines, and no other number stands in any.
+-- R40: each group 1 to 60 stands in exactly one row of R41, and no other number stands in any.
 -- Assumes nothing.
 use mathlib.Core.Path.{_≡_, refl, sym, _∙_, ap, subst}
 use mathlib.Core.Bool.{Bool, true, false, cond, _&&_}
@@ -85,7 +85,7 @@ unfolding formAmong
 among [] f g e = let z : _≡_ {A = ℕ} 0 1 = cc in absurd (omega arith)
 among (k ∷ fs) f g e = step k f fs g (has (entryOf k .groups) g) refl (among fs f g) e
 
--- a group has a form exactly if 01's line of that form has the group's number
+-- a group has a form exactly if the form's row lists the group
 pub form-listed : (f : Form) (g : ℕ) → formOf g ≡ Has f ↔ T (has (entryOf f .groups) g)
 unfolding formOf
 form-listed f g = (among forms f g, listed-form f g)

@@ -1,19 +1,18 @@
--- Which counts there are, and what a group's count means: its elements, lines and cells.
+-- R42 to R46: which counts there are, and what a group's count comes to: its elements, lines and cells.
 use mathlib.Core.Bool.{Bool}
 use Prim.Native.Nat.{ℕ, _+_, _-_, _*_, _/_, _<_, _≤_}
-use mathlib.Core.Path.{_≡_}
 use lib.Dec.{leb}
 use Rattle.form.specs.declared.Form.{Form}
 use Rattle.form.specs.Table.{rowOf}
 
--- a count is what three columns of an index hold: 0 to 999
+-- R23, R129: a count is what three columns of an index hold, 0 to 999
 abbrev pub mostCount : ℕ
 mostCount = 999
 
 abbrev pub isCount : ℕ → Bool
 isCount n = leb n mostCount
 
--- "Number g is the count of elements of group g." "Group 40's count is taken as a count of elements."
+-- R42: the count is the number of elements, for group 40 as for every other
 unfoldable pub elementsOf : Form → ℕ → ℕ
 elementsOf f count = count
 
@@ -21,27 +20,17 @@ elementsOf f count = count
 unfoldable pub roundedUp : (n p : ℕ) → ℕ
 roundedUp n p = (n + (p - 1)) / p
 
--- "A group of n elements has n divided by the elements per line, rounded up, as its number of lines; none if n is 0."
+-- R43: as many lines as the elements need; no elements, no lines, and no empty line behind full ones
 unfoldable pub linesOf : Form → ℕ → ℕ
 linesOf f count = roundedUp (elementsOf f count) (rowOf f .«per_line»)
 
--- each element has as many cells as the form's row says
+-- R46: each element has as many cells as the form's row says
 unfoldable pub cellsOf : Form → ℕ → ℕ
 cellsOf f count = elementsOf f count * rowOf f .cells
 
--- what the lines before the last leave for it: all but the last are full
-unfoldable pub lastOf : Form → ℕ → ℕ
-lastOf f count = elementsOf f count - (linesOf f count - 1) * rowOf f .«per_line»
-
 -- ---- the same without dividing, to hold the above to (proofs/Counted.antt)
 
--- k lines are enough for n elements, p to a line, and k - 1 are not
+-- R43: k lines are enough for n elements, p to a line, and k - 1 are not
 pub record Takes (n p k : ℕ) : Type 0 where
   pub enough : n ≤ k * p
   pub needed : 0 < k → (k - 1) * p < n
-
--- k lines, all full but the last, leave it 1 to p of n elements
-pub record Leaves (n p k last : ℕ) : Type 0 where
-  pub low : 1 ≤ last
-  pub high : last ≤ p
-  pub all : (k - 1) * p + last ≡ n

@@ -1,3 +1,3 @@
--- The field forms, of 01's "Records and lines": its table (Table), and what a group's count means by it (Count).
+-- R40 to R48, the ten forms: their table (Table), and what a group's count comes to by it (Count).
 pub mod Table
 pub mod Count

@@ -1,4 +1,4 @@
--- "Each field form has its width, its elements per line and its cells", with the groups that have the form.
+-- R40, R41: what a form takes of a line, the cells that it gives, and the groups that have it.
 use mathlib.Core.Bool.{cond}
 use mathlib.Core.List.{List, [], _∷_}
 use Prim.Native.Nat.{ℕ, _≤_}
@@ -17,7 +17,7 @@ abbrev entry : (width perLine cells : ℕ) → List ℕ → Entry
 entry width perLine cells groups =
     record { row = record { width = width; «per_line» = perLine; cells = cells }; groups = groups }
 
--- 01's table, line for line: form, width, per line, cells, groups
+-- R41, row by row: width, elements of a full line, cells, groups
 unfoldable pub entryOf : Form → Entry
 entryOf F7 = entry 7 16 1 (1 ∷ 6 ∷ [])
 entryOf A120 = entry 120 1 120 (2 ∷ [])
@@ -56,10 +56,10 @@ unfoldable pub formAmong : List Form → ℕ → GroupForm
 formAmong [] g = NoGroup
 formAmong (f ∷ fs) g = cond (has (entryOf f .groups) g) (Has f) (formAmong fs g)
 
--- "The form follows from the group number."
+-- R40: a group's number decides its form, and no other number has one
 unfoldable pub formOf : ℕ → GroupForm
 formOf g = formAmong forms g
 
--- 12: "no group 1-60 .. of that number" (`no-group` in proofs/Table.antt: exactly the numbers that have no form)
+-- R212: the number is none of 1 to 60 (`no-group` in proofs/Table.antt: exactly the numbers that have no form)
 abbrev pub NoSuchGroup : ℕ → Type 0
 NoSuchGroup g = (1 ≤ g) × (g ≤ 60) → ⊥

@@ -1,7 +1,8 @@
 // The ten field forms: which group has which, what each takes, and the lines, elements and cells of a group's count.
 ghost use mathlib.Core.Path.{_≡_};
+ghost use Prim.Native.Nat.{_≤_};
 ghost use Rattle.form.specs.Table.{rowOf, formOf};
-ghost use Rattle.form.specs.Count.{elementsOf, roundedUp, linesOf, cellsOf, lastOf};
+ghost use Rattle.form.specs.Count.{elementsOf, roundedUp, linesOf, cellsOf};
 
 // A form is named by its letter and its width; the number of decimals follows from these.
 pub enum Form {
@@ -30,53 +31,63 @@ pub struct Row {
     pub cells: usize,
 }
 
-// "Each field form has its width, its elements per line and its cells", in the order of the enum.
+// R41 as one constant table (R440), in the order of the enum.
 const ROWS: [Row; 10] = [
+    // F7
     Row {
         width: 7,
         per_line: 16,
         cells: 1,
     },
+    // A120
     Row {
         width: 120,
         per_line: 1,
         cells: 120,
     },
+    // A1
     Row {
         width: 1,
         per_line: 120,
         cells: 1,
     },
+    // F8
     Row {
         width: 8,
         per_line: 15,
         cells: 1,
     },
+    // I2
     Row {
         width: 2,
         per_line: 60,
         cells: 1,
     },
+    // I3
     Row {
         width: 3,
         per_line: 40,
         cells: 1,
     },
+    // I1
     Row {
         width: 1,
         per_line: 120,
         cells: 1,
     },
+    // E11
     Row {
         width: 11,
         per_line: 10,
         cells: 2,
     },
+    // E20
     Row {
         width: 20,
         per_line: 6,
         cells: 2,
     },
+    // E8
     Row {
         width: 8,
         per_line: 15,
@@ -84,7 +95,7 @@ const ROWS: [Row; 10] = [
     },
 ];
 
-// "The form follows from the group number by ranges and single numbers."
+// R40 as one match, in which groups that follow one another are a range (R441).
 pub fn form_of(group: usize) -> GroupForm
     ensures { λ r. ⌜ r ≡ formOf group ⌝ }
 {
@@ -120,7 +131,19 @@ pub fn form_of(group: usize) -> GroupForm
     }
 }
 
-// A form's row. A constant table is built anew where a variable indexes it, but not at a constant index: so this costs nothing in a loop.
+// R40 where the number is known to be a group's: each of 1 to 60 has a form, so the other arm is never taken.
+pub fn form_in(group: usize) -> Form
+    requires low { ⌜ 1 ≤ group ⌝ }
+    requires high { ⌜ group ≤ 60 ⌝ }
+    ensures { λ r. ⌜ formOf group ≡ GroupForm.Has r ⌝ }
+{
+    let GroupForm::Has(form) = form_of(group) else {
+        return Form::F7;
+    };
+    form
+}
+
+// R41: a form's row. A constant table is built anew where a variable indexes it, but not at a constant index: so this costs nothing in a loop.
 pub fn row_of(form: Form) -> Row
     ensures { λ r. ⌜ r ≡ rowOf form ⌝ }
 {
@@ -138,7 +161,7 @@ pub fn row_of(form: Form) -> Row
     }
 }
 
-// The elements of a group of this form and count.
+// R42: the elements of a group of this form and count.
 pub fn elements(form: Form, count: u16) -> usize
     ensures { λ r. ⌜ r ≡ elementsOf form count ⌝ }
 {
@@ -158,7 +181,7 @@ pub fn rounded_up(n: usize, p: usize) -> usize
     (n - 1) / p + 1
 }
 
-// Its lines: rounded up, none for no elements.
+// R43: its lines, rounded up; none for no elements.
 pub fn lines(form: Form, count: u16) -> usize
     ensures { λ r. ⌜ r ≡ linesOf form count ⌝ }
 {
@@ -167,23 +190,11 @@ pub fn lines(form: Form, count: u16) -> usize
     rounded_up(n, row.per_line)
 }
 
-// Its cells.
+// R46: its cells.
 pub fn cells(form: Form, count: u16) -> usize
     ensures { λ r. ⌜ r ≡ cellsOf form count ⌝ }
 {
     let n = elements(form, count);
     let row = row_of(form);
     n * row.cells
-}
-
-// The elements on its last line; 0 where it has no line.
-pub fn last(form: Form, count: u16) -> usize
-    ensures { λ r. ⌜ r ≡ lastOf form count ⌝ }
-{
-    let n = elements(form, count);
-    if n == 0 {
-        return 0;
-    }
-    let row = row_of(form);
-    (n - 1) % row.per_line + 1
 }

@@ -142,7 +142,7 @@ module _ (s t : List ℕ) (at : ℕ) (l : SameLines s t) (e : locate s at ≡ lo
 
 -- ---- along the walk
 
--- bytes of s are replaced, one for one, at places among D: no line feed is put in or taken out, and no index line along the walk is touched
+-- D3.2 at places among D: bytes of s are exchanged for others, line feeds stay where they are, and no index line along the walk is touched
 pub record Replaced (D : ℕ → Type 0) (s t : List ℕ) : Type 0 where
   pub lines : SameLines s t
   pub elsewhere : Agree D s t

@@ -1,6 +1,6 @@
--- The third demand (specs/Damage.antt): bytes replaced in the lines of one group of one record alter what that group gives, and nothing
--- else. These are the general laws of Confined, where the places are the lines of one group: by tiling (place, Apart) they miss the index
--- lines of every record and the lines of every other group.
+-- D3, the third demand (specs/Damage.antt): bytes exchanged in the lines of one group of one record alter what that group gives, and
+-- nothing else. These are the general laws of Confined, where the places are the lines of one group: by tiling (place, Apart) they miss
+-- the index lines of every record and the lines of every other group.
 -- Assumes nothing.
 use mathlib.Core.Path.{_≡_, refl, sym, _∙_, ap, subst}
 use mathlib.Core.Bool.{Bool, true, false}

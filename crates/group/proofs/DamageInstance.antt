@@ -1,5 +1,6 @@
--- The third demand has an instance: S twice, with a comma in place of the point in the first record's group 4. That group is refused, 9 at
--- line 1, element 1; two records are placed as before, and all other groups, those of the second record among them, are read as before.
+-- D3, the third demand, has an instance: S twice (R382), with a comma in place of the point in the first record's group 4. That group is
+-- refused, 9 at line 1, element 1; two records are placed as before, and all other groups, those of the second record among them, are read
+-- as before.
 -- Assumes nothing.
 use mathlib.Core.Path.{_≡_, refl, sym, _∙_, ap}
 use mathlib.Core.List.{List, [], _∷_}
@@ -85,7 +86,7 @@ comma-confined = damage-stays twiceS commaS 0 4 comma-damages
 
 -- ---- what that says here
 
--- "as many records can be placed as before"
+-- D3.3: still two records
 pub two-still : Stops commaS 2 End
 two-still = comma-confined .as-many 2 End .0 two-records
 

@@ -26,7 +26,7 @@ use Rattle.group.specs.Text.{readAt}
 use Rattle.group.specs.Due.{MissingDue, FoundDue, ReadingDue, Due, FourReads, CharacteristicDue}
 use Rattle.group.proofs.Due.{first-due, found-first-due, characteristic-first-due, four-has-room}
 
--- "12, then any placing reply but 0", in whatever table has these rows behind its first
+-- 12 and what placing refuses with, in whatever table has these rows behind its first
 module _ (s : List ℕ) (at g : ℕ) where
   pub missing-numbered : (r : Refusal) → MissingDue s at g r → Numbered askedRefusals (refusalReply r)
   missing-numbered NoGroup d = at-row 0 askedRefusals (refusalReply NoGroup) (lit< tt) (fills-plain 12)

@@ -29,7 +29,7 @@ pub natural-reads : (z : ℤ) → negative z ≡ false → isNoReading z ≡ eqb
 unfolding isNoReading
 natural-reads z e = rw e
 
--- "999,900 is a value"
+-- R291: 999,900 is a value
 pub unscaled-value : told (pos 999900) ≡ Value (pos 999900)
 unfolding isNoReading
 unscaled-value = refl
@@ -38,7 +38,7 @@ pub no-reading-cell : told (pos noReading) ≡ NoReading
 unfolding isNoReading
 no-reading-cell = refl
 
--- no reading is one cell, and no other
+-- R291: no reading is one cell, and no other
 pub no-reading-is : (z : ℤ) → isNoReading z ≡ true → z ≡ pos noReading
 unfolding isNoReading
 no-reading-is (pos n) e = ap pos (eqb-true n noReading e)

@@ -38,7 +38,7 @@ pub cells-four : (n : ℕ) → cellsOf F8 n ≡ n
 unfolding Count.cellsOf Count.elementsOf Table.rowOf Table.entryOf
 cells-four n = mul-one n
 
--- "group 4 from 1 to 49"
+-- R124: group 4 has no more than 49
 pub kept-four : (ns : List ℕ) → rulingOf ns ≡ Kept → countOf ns 4 ≤ 49
 unfolding Blame.Blames Rules.headRules
 kept-four ns e = by (leb 1 (countOf ns 4) && leb (countOf ns 4) 49) refl

@@ -1,6 +1,5 @@
--- "A characteristic (1-49) of a record is, each under reply 0, a value in thousandths, or no reading (cell 9,999,000), or not reported
--- (number above group 4's count); otherwise it is 12 or group 4's reply. 12 comes first, then group 4's reply with its numbers, as if read
--- into a table with room, then not reported. .. 999,900 is a value."
+-- R290, R294: a characteristic of the record at a place. 12, if the number is none of 1 to 49; the refusal of group 4, read into a table
+-- that has room; and then, all under 0, not reported (R292), no reading (R291) or the value (R293).
 use mathlib.Core.Path.{_≡_}
 use mathlib.Core.Bool.{Bool, cond, not, _&&_}
 use mathlib.Core.List.{List, [], _∷_, _++_}
@@ -19,7 +18,7 @@ use Rattle.reading.specs.Numbered.{refusalReply}
 use Rattle.reading.specs.Read.{Cells}
 use Rattle.group.specs.Text.{readAt}
 
--- no reading: the cell is 9,999,000
+-- R291: the one cell that means no reading; 999,900 is a value
 abbrev pub noReading : ℕ
 noReading = 9999000
 
@@ -33,22 +32,22 @@ isNoReading z = not (negative z) && eqb (sizeOf z) noReading
 abbrev pub told : ℤ → Characteristic
 told z = cond (isNoReading z) NoReading (Value z)
 
--- number k, from 1, of the cells of group 4
+-- R292, R293: number k, from 1, of the cells of group 4, if it has so many
 abbrev pub reported : ℕ → Cells → Characteristic
 reported k (done cs) = cond (leb k (length cs)) (told (getD cs (k - 1) (pos 0))) NotReported
 reported k (bad r) = Unread r
 
--- a table of 49 cells: the rules on counts let group 4 have at most 49 elements, of one cell each
+-- R294: a table of 49 cells has room: R124 lets group 4 have at most 49 elements, of one cell each
 unfoldable pub characteristicAt : List ℕ → ℕ → ℕ → Characteristic
 characteristicAt s at k = cond (leb 1 k && leb k 49) (reported k (readAt s at 4 49)) (Unread NoGroup)
 
--- the number in 01's table
+-- R290: the answer's number; no other stands beside 0
 abbrev pub characteristicReply : Characteristic → Reply
 characteristicReply (Value z) = replyPlain 0
 characteristicReply NoReading = replyPlain 0
 characteristicReply NotReported = replyPlain 0
 characteristicReply (Unread r) = refusalReply r
 
--- the rows: 12, and what reading group 4 "as if read into a table with room" is refused with, so neither 10 nor 11
+-- R294: the rows: 12, and what group 4 is refused with where there is room, so neither 10 nor 11
 abbrev pub characteristicRows : List Row
 characteristicRows = row 0 [] ∷ (askedRefusals ++ lineRefusals)

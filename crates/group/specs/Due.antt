@@ -1,6 +1,5 @@
--- When each reply of a question about a group at a place is due: its condition, and none earlier in 01's order. "Reading a group goes no
--- further than the placing reply unless that is 0: the order is 12, then any placing reply but 0", and then what place's and reading's own
--- Due say.
+-- R233: when each reply of a question about a group at a place is due: its own condition holds, and none earlier in the order of the
+-- question (R260, R281, R294): 12; the reply of placing, if it is not 0; and then what place's and reading's own Due say.
 use mathlib.Core.Path.{_≡_}
 use mathlib.Core.List.{List, []}
 use mathlib.Core.Logic.{_⊎_}
@@ -32,7 +31,7 @@ module _ (s : List ℕ) (at g : ℕ) where
     pub high : g ≤ 60
     pub placing : Place.Due s at p
 
-  -- 7 has its group; the next place is not asked for
+  -- R235: 7 has its group; the next place is not asked for
   pub record BrokenDue (h : ℕ) : Type 0 where
     pub next : ℕ
     pub broken : PlacingDue (P.BrokenRule h next)
@@ -42,7 +41,7 @@ module _ (s : List ℕ) (at g : ℕ) where
     pub next : ℕ
     pub placed : PlacingDue (P.Placed next)
 
-  -- ---- the lines of a group: "replies are 12, then any placing reply but 0"
+  -- ---- R281: the lines of a group: 12, or what placing refuses with
 
   abbrev pub MissingDue : Refusal → Type 0
   MissingDue NoGroup = NoSuchGroup g
@@ -62,8 +61,8 @@ module _ (s : List ℕ) (at g : ℕ) where
   FoundDue Given = IsPlaced
   FoundDue (Missing r) = MissingDue r
 
-  -- the part: with 0 the lines of the group, which follow those of the index and of the groups before it; else the empty part at the text's
-  -- start
+  -- R280, R283: the part: with 0 the lines of the group, which follow those of the index and of the groups before it; else the empty part
+  -- at the text's start
   pub record GivenPart (from : ℕ) (x : List ℕ) : Type 0 where
     pub placed : IsPlaced
     pub lines : IsPart s at (placed .placed .placing .ns) g from x
@@ -77,10 +76,10 @@ module _ (s : List ℕ) (at g : ℕ) where
   abbrev pub PartDue : ℕ → List ℕ → Type 0
   PartDue from x = GivenPart from x ⊎ NoPart from x
 
-  -- ---- reading a group: the same, "then 11, then line by line 8 and that line's fields 9, then 10 for group 3"
+  -- ---- R260: reading a group: the same, and behind it 11, 8 and 9, 10
 
   module _ (room : ℕ) where
-    -- neither 12 nor a placing reply but 0: the record's counts and the group's own lines decide
+    -- R269: neither 12 nor a placing reply but 0: the record's counts and the group's own lines decide
     pub record ReadingDue (c : Cells) : Type 0 where
       pub next : ℕ
       pub placed : PlacingDue (P.Placed next)
@@ -93,10 +92,10 @@ module _ (s : List ℕ) (at g : ℕ) where
     Due (done cs) = ReadingDue (done cs)
     Due (bad r) = MissingDue r ⊎ ReadingDue (bad r)
 
--- ---- a characteristic: "12 comes first, then group 4's reply with its numbers, as if read into a table with room, then not reported"
+-- ---- R294: a characteristic: 12, or what group 4 is refused with where there is room; then by its number and its cell
 
 module _ (s : List ℕ) (at k : ℕ) where
-  -- 12: "no characteristic 1-49, of that number"
+  -- R212: the number is none of 1 to 49
   pub record NoNumber (r : Refusal) : Type 0 where
     pub none : (1 ≤ k) × (k ≤ 49) → ⊥
     pub twelve : r ≡ NoGroup
@@ -107,7 +106,7 @@ module _ (s : List ℕ) (at k : ℕ) where
     pub high : k ≤ 49
     pub four : (room : ℕ) → 49 ≤ room → Due s at 4 room c
 
-  -- "not reported (number above group 4's count)"
+  -- R292: not reported, since group 4's count is smaller than the number
   pub record Above : Type 0 where
     pub cs : List ℤ
     pub reads : FourReads (done cs)
@@ -120,7 +119,7 @@ module _ (s : List ℕ) (at k : ℕ) where
     pub within : k ≤ countOf (countsAt s at) 4
     pub cell : getD cs (k - 1) (pos 0) ≡ z
 
-  -- "a value in thousandths, or no reading"
+  -- R293: the value is the cell; R291: one cell is no reading
   pub record HasValue (z : ℤ) : Type 0 where
     pub cell : HasCell z
     pub reading : IsNoReading z → ⊥

@@ -1,5 +1,5 @@
--- "The lines of one group can be asked for as the part of the caller's own text that holds them; replies are 12, then any placing reply but
--- 0. A count of 0 gives an empty part where the lines would begin; a refusal gives the empty part at the text's start."
+-- R280: the lines of a group, as a part of the text that the caller lent. R281: 12 first, and then the reply of placing, if it is not 0.
+-- R282: with the count 0 the part is empty, and lies where the lines would be. R283: a refusal gives the empty part at place 0.
 use mathlib.Core.List.{List, [], _∷_}
 use Prim.Native.Nat.{ℕ, suc, _+_}
 use lib.ListN.{replicate}
@@ -19,7 +19,8 @@ use Rattle.group.specs.declared.Found.{Found}
 use Rattle.group.specs.declared.Found.the-variants.{Given, Missing}
 use Rattle.reading.specs.Numbered.{refusalReply}
 
--- a placing reply but 0, as the reply of a question about a group: 7 has its group and no next place. (Placed has none; nobody asks for it.)
+-- R235: a placing reply but 0, as the reply of a question about a group: 7 has its group and no next place. (Placed has none; nobody asks
+-- for it.)
 abbrev pub refusalOf : Placing → Refusal
 refusalOf (P.Placed n) = NoGroup
 refusalOf P.End = End
@@ -49,7 +50,7 @@ abbrev pub foundIn : List ℕ → ℕ → GroupForm → Found
 foundIn s at (Has f) = foundBy (placingOf s at)
 foundIn s at NoForm = Missing NoGroup
 
--- whether the lines of group g of the record at a place can be given
+-- R281: whether the lines of group g of the record at a place can be given
 unfoldable pub foundAt : List ℕ → ℕ → ℕ → Found
 foundAt s at g = foundIn s at (formOf g)
 
@@ -57,7 +58,7 @@ foundAt s at g = foundIn s at (formOf g)
 unfoldable pub countsHeld : List ℕ → ℕ → ℕ → List ℕ
 countsHeld s at g = countsBy (foundAt s at g) (countsAt s at)
 
--- where the lines of group g begin, or the text's start
+-- R280, R283: where the lines of group g begin, or the text's start
 abbrev pub startBy : List ℕ → ℕ → ℕ → Found → ℕ
 startBy s at g Given = start s at (countsAt s at) g
 startBy s at g (Missing r) = 0
@@ -76,11 +77,11 @@ partAt s at g = part (partStart s at g) (partEnd s at g) s
 abbrev pub moved : ℕ × ℕ → ℕ → ℕ × ℕ
 moved p n = (p .0, p .1 + n)
 
--- the number in 01's table
+-- R281: the answer's number; no other stands beside 0
 abbrev pub foundReply : Found → Reply
 foundReply Given = replyPlain 0
 foundReply (Missing r) = refusalReply r
 
--- the rows of the question: "replies are 12, then any placing reply but 0"
+-- R281: the rows of the question: 12, and what placing refuses with
 abbrev pub foundRows : List Row
 foundRows = row 0 [] ∷ askedRefusals

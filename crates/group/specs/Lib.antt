@@ -1,6 +1,6 @@
--- A group of the record at a place of a text ("Replies" of 01): whether its lines can be given, and where they stand (Held); what it reads
--- as (Text); a characteristic, which is a cell of group 4 (Characteristics); when each reply is due (Due); the third demand, that damage to
--- one group stays in it (Damage).
+-- A group of the record at a place of a text: whether its lines can be given, and where they stand (Held: R280 to R284); what it reads as
+-- (Text: R260 to R269); a characteristic, which is a cell of group 4 (Characteristics: R290 to R294); when each reply is due (Due: R233);
+-- the third demand, that damage to one group stays in it (Damage: D3).
 pub mod Held
 pub mod Text
 pub mod Characteristics

@@ -1,5 +1,5 @@
--- Reading a group of the record at a place of a text. "Reading a group goes no further than the placing reply unless that is 0: the order is
--- 12, then any placing reply but 0" (`foundAt`), "then 11, then line by line 8 and that line's fields 9, then 10 for group 3" (`readGroup`).
+-- R260: reading a group of the record at a place of a text: 12 and the reply of placing, if it is not 0 (`foundAt`); then 11, 8 and 9, 10
+-- (`readGroup`).
 use mathlib.Core.List.{List}
 use Prim.Native.Nat.{ℕ}
 use Rattle.base.specs.Pieces.{bad}
@@ -9,7 +9,7 @@ use Rattle.group.specs.declared.Found.{Found}
 use Rattle.group.specs.declared.Found.the-variants.{Given, Missing}
 use Rattle.group.specs.Held.{foundAt, partAt}
 
--- the record's counts and the group's own lines decide
+-- R269: the record's counts and the group's own lines decide
 abbrev pub readFound : List ℕ → ℕ → ℕ → ℕ → Found → Cells
 readFound s at g room Given = readGroup (countsAt s at) g (partAt s at g) room
 readFound s at g room (Missing r) = bad r

@@ -1,5 +1,5 @@
-// A group of the record at a place of a text: read into a table, its lines as a part of the text, a characteristic. Any text, place, number
-// and table may be given.
+// A group of the record at a place of a text: read into a table (R260), its lines as a part of the text (R280), a characteristic (R290).
+// Any text, place, number and table may be given (R241).
 use reading::Reading;
 use reading::Refusal;
 ghost use mathlib.Core.Path.{_≡_};
@@ -17,7 +17,7 @@ pub enum Found {
     Missing(Refusal),
 }
 
-// A placing reply but 0, as a refusal.
+// R235: a placing reply but 0, as a refusal; 7 has no next place here.
 pub fn refusal_of(answer: place::Placing) -> Refusal
     ensures { λ r. ⌜ r ≡ refusalOf answer ⌝ }
 {
@@ -40,7 +40,8 @@ struct Held {
 }
 
 fn missing(r: Refusal) -> Held
-    ensures { λ h. ⌜ (h .found ≡ Found.Missing r) × (h .counts ≡ replicate 80 0) ⌝ }
+    ensures found { λ h. ⌜ h .found ≡ Found.Missing r ⌝ }
+    ensures counts { λ h. ⌜ h .counts ≡ replicate 80 0 ⌝ }
 {
     Held {
         found: Found::Missing(r),
@@ -48,9 +49,10 @@ fn missing(r: Refusal) -> Held
     }
 }
 
-// "12, then any placing reply but 0": what every question about a group asks first.
+// R260, R281: what every question about a group asks first: 12, and the reply of placing, if it is not 0.
 fn held_at(text: &[u8], at: usize, group: usize) -> Held
-    ensures { λ r. ⌜ (r .found ≡ foundAt (now (text .entry)) at group) × (r .counts ≡ countsHeld (now (text .entry)) at group) ⌝ }
+    ensures found { λ r. ⌜ r .found ≡ foundAt (now (text .entry)) at group ⌝ }
+    ensures counts { λ r. ⌜ r .counts ≡ countsHeld (now (text .entry)) at group ⌝ }
 {
     let form::GroupForm::Has(_) = form::form_of(group) else {
         return missing(Refusal::NoGroup);
@@ -67,13 +69,6 @@ fn held_at(text: &[u8], at: usize, group: usize) -> Held
     }
 }
 
-// Asks whether the lines of a group of the record at a place can be given: 12, then any placing reply but 0.
-pub fn lines_reply(text: &[u8], at: usize, group: usize) -> Found
-    ensures { λ r. ⌜ r ≡ foundAt (now (text .entry)) at group ⌝ }
-{
-    held_at(text, at, group).found
-}
-
 // Whether the lines of a group can be given, and from where to where they stand in the text.
 pub struct Lines {
     pub found: Found,
@@ -81,10 +76,12 @@ pub struct Lines {
     pub to: usize,
 }
 
-// The same with where the lines stand, their line ends among them. With count 0 both places are where they would begin, and at a refusal both
-// are the text's start.
+// R280: asks where the lines of a group of the record at a place stand, their line ends among them. With count 0 both places are where they
+// would begin (R282), and at a refusal both are the text's start (R283).
 pub fn lines_at(text: &[u8], at: usize, group: usize) -> Lines
-    ensures { λ r. ⌜ (r .found ≡ foundAt (now (text .entry)) at group) × (r .from ≡ partStart (now (text .entry)) at group) × (r .to ≡ partEnd (now (text .entry)) at group) ⌝ }
+    ensures found { λ r. ⌜ r .found ≡ foundAt (now (text .entry)) at group ⌝ }
+    ensures from { λ r. ⌜ r .from ≡ partStart (now (text .entry)) at group ⌝ }
+    ensures to { λ r. ⌜ r .to ≡ partEnd (now (text .entry)) at group ⌝ }
 {
     let held = held_at(text, at, group);
     let found = held.found;
@@ -104,9 +101,10 @@ pub fn lines_at(text: &[u8], at: usize, group: usize) -> Lines
     }
 }
 
-// The lines as the part of the caller's own text that holds them.
+// R280, R446: the lines, as a part of the text that was lent; no copy is made.
 pub fn lines_part<'a>(text: &'a [u8], at: usize, group: usize) -> &'a [u8]
-    ensures { λ r. ⌜ (now r ≡ partAt (now (text .entry)) at group) × (r .ptr ≡ moved (text .entry .ptr) (partStart (now (text .entry)) at group)) ⌝ }
+    ensures bytes { λ r. ⌜ now r ≡ partAt (now (text .entry)) at group ⌝ }
+    ensures address { λ r. ⌜ r .ptr ≡ moved (text .entry .ptr) (partStart (now (text .entry)) at group) ⌝ }
 {
     let lines = lines_at(text, at, group);
     let from = lines.from;
@@ -114,10 +112,12 @@ pub fn lines_part<'a>(text: &'a [u8], at: usize, group: usize) -> &'a [u8]
     &text[from..to]
 }
 
-// Reads a group of the record at a place of a text into a table: 12, then any placing reply but 0, and then by the record's counts and the
-// group's own lines. A refusal alters nothing.
+// R260: reads a group of the record at a place of a text into a table: first as `held_at` says, then by the record's counts and the group's
+// own lines (R269). A refusal alters nothing (R267).
 pub fn read_group(text: &[u8], at: usize, group: usize, table: &mut [i64]) -> Reading
-    ensures { λ r. ⌜ (r ≡ readingOf (readAt (now (text .entry)) at group (length (now (table .entry))))) × (now (table .exit) ≡ tableBy (readAt (now (text .entry)) at group (length (now (table .entry)))) (now (table .entry))) ⌝ }
+    ensures answer { λ r. ⌜ r ≡ readingOf (readAt (now (text .entry)) at group (length (now (table .entry)))) ⌝ }
+    ensures table { λ _. ⌜ now (table .exit) ≡
+        tableBy (readAt (now (text .entry)) at group (length (now (table .entry)))) (now (table .entry)) ⌝ }
 {
     let held = held_at(text, at, group);
     let found = held.found;
@@ -135,7 +135,7 @@ pub fn read_group(text: &[u8], at: usize, group: usize, table: &mut [i64]) -> Re
 
 // ---- A characteristic.
 
-// A value in thousandths; no reading; not reported; or why group 4 was not read.
+// R290, R444: a value in thousandths; no reading; not reported; or why group 4 was not read.
 pub enum Characteristic {
     Value(i64),
     NoReading,
@@ -162,7 +162,7 @@ fn told_by(v: i64) -> Characteristic
     Characteristic::Value(v)
 }
 
-// Asks for a characteristic, 1 to 49, of the record at a place of a text.
+// R294: asks for a characteristic, 1 to 49, of the record at a place of a text.
 pub fn characteristic_at(text: &[u8], at: usize, number: usize) -> Characteristic
     ensures { λ r. ⌜ r ≡ characteristicAt (now (text .entry)) at number ⌝ }
 {
@@ -186,7 +186,7 @@ pub fn characteristic_at(text: &[u8], at: usize, number: usize) -> Characteristi
 
 // ---- Replies.
 
-// The answer's number in 01's table, with the numbers given besides.
+// R200 to R212: the answer's number, with the numbers beside it.
 pub fn found_reply(answer: Found) -> reply::Reply
     ensures { λ r. ⌜ r ≡ foundReply answer ⌝ }
 {

@@ -1,6 +1,6 @@
--- "Its content is what precedes the carriage return (13) before that line feed."
--- The carriage return is the byte directly before the line feed, and only that one: an earlier one is part of the content. Without it a
--- line has no content, and neither has what doesn't end in a line feed.
+-- R4: a line's content stands in front of its line end, a carriage return (13) and a line feed (10).
+-- R5: the carriage return is the byte directly before the line feed, and only that one: an earlier one is part of the content. Without it
+-- a line has no content, and neither has what doesn't end in a line feed.
 use mathlib.Core.Path.{_≡_}
 use mathlib.Core.Bool.{Bool, false, cond, _&&_}
 use mathlib.Core.List.{List, [], _∷_, _++_}

@@ -1,8 +1,7 @@
--- "A line is the bytes up to and including a line feed (10). Its content is what precedes the carriage return (13) before that line
--- feed."
--- Lines has the first sentence, as two total questions: how many lines there are, and how many bytes the first k of them take. Places
--- asks both from a place of a text. Contents has the second sentence, and is the only definition in reading that knows the carriage
--- return. Texts says when two texts have their lines at the same places.
+-- R2 to R8, the lines of a text.
+-- Lines has R2 and R3, as two total questions: how many lines there are, and how many bytes the first k of them take; and R7. Places asks
+-- both from a place of a text (R6). Contents has R4 and R5, and is the only definition in reading that knows the carriage return. Texts
+-- says when two texts have their lines at the same places (R8).
 pub mod Contents
 pub mod Lines
 pub mod Places

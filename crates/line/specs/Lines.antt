@@ -1,4 +1,4 @@
--- "A line is the bytes up to and including a line feed (10)."
+-- R2, R3: a line ends with its line feed (10), and bytes behind the last line feed are no line.
 use mathlib.Core.Path.{_≡_}
 use mathlib.Core.Bool.{Bool, cond}
 use mathlib.Core.List.{List, [], _∷_}
@@ -27,7 +27,7 @@ lines k xs = take (reach xs k) xs
 abbrev pub behind : ℕ → List ℕ → List ℕ
 behind k xs = drop (reach xs k) xs
 
--- a is exactly k lines, with nothing behind the last line feed
+-- R7: a is exactly k lines, with nothing behind the last line feed
 pub record Whole (k : ℕ) (a : List ℕ) : Type 0 where
   pub many : feeds a ≡ k
   pub ends : reach a k ≡ length a

@@ -1,4 +1,4 @@
--- The place behind k lines from a place of a text, or that fewer line feeds are left. The place may be any number.
+-- R6: the place behind k lines from a place of a text, or that fewer line feeds are left. The place may be any number.
 use mathlib.Core.Bool.{cond}
 use mathlib.Core.List.{List}
 use Prim.Native.Nat.{ℕ, _+_}

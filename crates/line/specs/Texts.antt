@@ -1,4 +1,4 @@
--- Two texts that have their lines at the same places: equally long, and a line feed in one where there is one in the other.
+-- R8: two texts that have their lines at the same places: equally long, and a line feed in one where there is one in the other.
 use mathlib.Core.Path.{_≡_}
 use mathlib.Core.List.{List}
 use Prim.Native.Nat.{ℕ, _<_}

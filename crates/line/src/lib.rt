@@ -12,7 +12,7 @@ pub enum Behind {
     TooFew,
 }
 
-// Asks for the place behind so many lines from a place of a text. Any place may be asked about, also one beyond the text's end.
+// R6: asks for the place behind so many lines from a place of a text. Any place may be asked about, also one beyond the text's end.
 pub fn place_behind(text: &[u8], at: usize, lines: usize) -> Behind
     ensures { λ r. ⌜ r ≡ behindAt (now (text .entry)) at lines ⌝ }
 {
@@ -52,7 +52,7 @@ pub enum Content {
     NoReturn,
 }
 
-// Asks for the content of a line, which is given with its line feed. What doesn't end in a line feed has none.
+// R4, R5: asks for the content of a line, which is given with its line feed. What doesn't end in a line feed has none.
 pub fn content_length(line: &[u8]) -> Content
     ensures { λ r. ⌜ r ≡ contentOf (now (line .entry)) ⌝ }
 {
@@ -60,10 +60,8 @@ pub fn content_length(line: &[u8]) -> Content
     if n < 2 {
         return Content::NoReturn;
     }
-    if line[n - 2] == 13 {
-        if line[n - 1] == 10 {
-            return Content::Length(n - 2);
-        }
+    if line[n - 2] == 13 && line[n - 1] == 10 {
+        return Content::Length(n - 2);
     }
     Content::NoReturn
 }

@@ -1,4 +1,4 @@
-// The listing program of 01: standard input is listed on standard output. What is printed is `listing::print`'s; here it is only read,
+// The program `list` (R341 to R344): standard input is listed on standard output. What is printed is `listing::print`'s; here it is only read,
 // asked for and written.
 use decimal::Put;
 
@@ -6,7 +6,7 @@ fn main() {
     let mut space = [0u8; 65537];
     let n = io::read_full(libc::STDIN_FILENO, &mut space);
     let mut page = [0u8; 8192];
-    // what is printed is shorter than 8,192 bytes, so this is never taken
+    // R347: what is printed is shorter than 8,192 bytes, so this is never taken
     let Put::Next(end) = listing::print(&space[0..n], &mut page) else {
         return;
     };

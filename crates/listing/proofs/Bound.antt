@@ -1,4 +1,4 @@
--- What is printed is shorter than 8,192 bytes. A text of at most 65,536 bytes has at most 268 records, since a record has at least 244
+-- R347: what is printed is shorter than 8,192 bytes. A text of at most 65,536 bytes has at most 268 records, since a record has at least 244
 -- bytes. Its row has at most 30 bytes: 3 digits for the number, 5 for each place, 1 for the reply, 2 for the blamed group, 2 for the
 -- groups with a count, 5 for the lines, and a byte behind each. The end row has at most 19.
 -- Assumes nothing.

@@ -1,4 +1,4 @@
--- "S twice is listed as" three lines: 01's example.
+-- R382: the listing of two copies of record S.
 -- Assumes nothing.
 use mathlib.Core.Path.{_≡_, refl, _∙_}
 use mathlib.Core.List.{[], _∷_, _++_}

@@ -1,5 +1,5 @@
--- The listing ("Programs" of 01): a record's row and the end row (Rows), how many records a text's walk has (Records), the listing of a
--- text as bytes, and what the program prints for its input (Listing).
+-- R341 to R344, the listing: a record's row and the end row (Rows), how many records a text's walk has (Records), the listing of a text as
+-- bytes, and what the program prints for its input (Listing).
 pub mod Rows
 pub mod Records
 pub mod Listing

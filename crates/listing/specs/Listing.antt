@@ -1,5 +1,5 @@
--- The listing of a text: the rows of its records, one behind the other, and then the end row. "Numbers are decimal, one space stands
--- between two, and a line feed ends each line" is decimal's `rowText`.
+-- The listing of a text: the rows of its records, one behind the other (R342), and then the end row (R343). How the numbers of a row make
+-- its line (R344) is decimal's `rowText`.
 use mathlib.Core.Path.{_≡_}
 use mathlib.Core.Bool.{cond}
 use mathlib.Core.List.{List, [], _∷_, _++_, flatMap}
@@ -40,23 +40,23 @@ listingOf s many = rowsFrom s 0 many ++ endAt s many
 unfoldable pub listing : List ℕ → List ℕ
 listing s = listingOf s (recordsIn s)
 
--- "The listing program reads standard input, at most 65,536 bytes .. Longer input gives only `end 0 0 11 0`."
+-- R341: the program takes 65,536 bytes; if there are more, it prints the line `end 0 0 11 0` alone
 unfoldable pub printed : List ℕ → List ℕ
 printed s = cond (leb (length s) 65536) (listing s) (bytes "end " ++ rowText (0 ∷ 0 ∷ 11 ∷ 0 ∷ []))
 
--- 01's reply: 0 with the bytes written, or 11
+-- R310: 0 with the bytes that were written, or 11
 abbrev pub listedReply : Put → Reply
 listedReply (Next n) = replyDone n
 listedReply NoRoom = replyPlain 11
 
--- the rows of the question
+-- R310: the rows of the question
 abbrev pub listingRows : List Row
 listingRows = row 0 (textBytes ∷ []) ∷ row 11 [] ∷ []
 
 -- ---- as a statement
 
--- the numbers of the line of record k, from 0: its number, its place, and of what is due there the next place, the reply and the blamed group;
--- of its counts the groups with a nonzero one, and the lines
+-- R342: the numbers of the line of record k, from 0: its number, its place, and of what is due there the next place, the reply and the group
+-- that is blamed; of its counts how many groups have one, and the lines
 pub record IsRow (s : List ℕ) (k : ℕ) (row : List ℕ) : Type 0 where
   pub placing : Placing
   pub placed : Place.Due s (spot s k) placing
@@ -64,7 +64,7 @@ pub record IsRow (s : List ℕ) (k : ℕ) (row : List ℕ) : Type 0 where
   pub counted : Place.CountsDue s (spot s k) counts
   pub numbers : row ≡ suc k ∷ spot s k ∷ nextOf placing ∷ replyOf placing ∷ groupOf placing ∷ filledGroups counts ∷ recordLines counts ∷ []
 
--- those of the line `end`: the records listed, the place where the walk stopped, the reply there and the group given with it
+-- R343: those of the line `end`: how many records were listed, where the walk stopped, and the reply there with its group
 pub record IsEnd (s : List ℕ) (many : ℕ) (row : List ℕ) : Type 0 where
   pub placing : Placing
   pub placed : Place.Due s (spot s many) placing
@@ -82,7 +82,7 @@ pub record IsListing (s x : List ℕ) : Type 0 where
   pub end : IsEnd s many last
   pub text : x ≡ flatMap rowText rows ++ (bytes "end " ++ rowText last)
 
--- 0 with its bytes where they have room, else 11
+-- R310: 0 with its bytes where they have room, else 11
 abbrev pub ListingDue : List ℕ → ℕ → Put → Type 0
 ListingDue x room (Next n) = (n ≡ length x) × (length x ≤ room)
 ListingDue x room NoRoom = room < length x

@@ -1,4 +1,4 @@
--- How many records the walk of a text has (`spot` and `Stops` of place/specs/Walk.antt). proofs/Counted.antt: it is the number at which
+-- R254: how many records the walk of a text has (`spot` and `Stops` of place/specs/Walk.antt). proofs/Counted.antt: it is the number at which
 -- the walk stops, and there is no other.
 use mathlib.Core.List.{List}
 use Prim.Native.Nat.{ℕ, zero, suc}

@@ -1,5 +1,4 @@
--- "a line per placed record: record number, place, next place, reply, blamed group, groups with a nonzero count, lines with the index.
--- Last comes `end`, records listed, the place where it stopped, the reply there, the group given with it or 0."
+-- R342: the seven numbers that stand in the line of a record; R343: the four that stand behind `end`.
 use mathlib.Core.Bool.{cond}
 use mathlib.Core.List.{List, [], _∷_, map}
 use Prim.Native.Nat.{ℕ}
@@ -10,7 +9,7 @@ use Rattle.count.specs.Tally.{countOf, recordLines}
 use Rattle.place.specs.declared.Placing.{Placing}
 use Rattle.place.specs.Numbered.{placingReply}
 
--- the reply's number in 01's table, and the next place and the group given besides
+-- R200 to R207: the reply's number, and the next place and the group beside it
 abbrev pub replyOf : Placing → ℕ
 replyOf p = placingReply p .number
 
@@ -20,18 +19,18 @@ nextOf p = placingReply p .next
 abbrev pub groupOf : Placing → ℕ
 groupOf p = placingReply p .group
 
--- "groups with a nonzero count", among 1 to 60: 1 for each of them
+-- R342, number 6: which of the groups 1 to 60 have a count; 1 for each of them
 abbrev pub filled : List ℕ → ℕ → ℕ
 filled ns g = cond (eqb (countOf ns g) 0) 0 1
 
 unfoldable pub filledGroups : List ℕ → ℕ
 filledGroups ns = sum (map (filled ns) (upFrom 1 60))
 
--- a record of this number at a place, where placing gave this answer and these counts
+-- R342: a record of this number at a place, where placing gave this answer and these counts
 unfoldable pub recordRow : ℕ → ℕ → Placing → List ℕ → List ℕ
 recordRow number at p ns =
     number ∷ at ∷ nextOf p ∷ replyOf p ∷ groupOf p ∷ filledGroups ns ∷ recordLines ns ∷ []
 
--- so many records were listed, and the walk stopped at a place with this answer
+-- R343: so many records were listed, and the walk stopped at a place with this answer
 unfoldable pub endRow : ℕ → ℕ → Placing → List ℕ
 endRow many at p = many ∷ at ∷ replyOf p ∷ groupOf p ∷ []

@@ -1,4 +1,4 @@
-// The listing of a text: a line for each record of its walk, and then the line `end`.
+// The listing of a text: a line for each record of its walk (R342), and then the line `end` (R343).
 ghost use mathlib.Core.Path.{_≡_};
 ghost use Prim.Native.Nat.{_+_, _≤_};
 ghost use lib.ListN.{length};
@@ -105,8 +105,8 @@ fn put_listing(text: &[u8], out: &mut [u8])
     }
 }
 
-// Puts the listing of a text into the bytes from their start on: the number of bytes written (0), or that there is no room (11), and then
-// nothing is altered. So that nothing is, the text is walked twice: first for where the listing ends, then to put it.
+// R310, R311: puts the listing of a text into the bytes from their start on: the number of bytes written (0), or that there is no room (11),
+// and then nothing is altered. So that nothing is, the text is walked twice: first for where the listing ends, then to put it.
 pub fn render(text: &[u8], out: &mut [u8]) -> Put
     ensures { λ r. ⌜ Puts 0 (listing (now (text .entry))) (now (out .entry)) r (now (out .exit)) ⌝ }
 {
@@ -117,7 +117,7 @@ pub fn render(text: &[u8], out: &mut [u8]) -> Put
     Put::Next(end)
 }
 
-// What the program prints for its input: the listing, or for input longer than 65,536 bytes only `end 0 0 11 0`.
+// R341: what the program prints for its input: the listing, or for more than 65,536 bytes the line `end 0 0 11 0` alone.
 pub fn print(input: &[u8], out: &mut [u8]) -> Put
     ensures { λ r. ⌜ Puts 0 (printed (now (input .entry))) (now (out .entry)) r (now (out .exit)) ⌝ }
 {
@@ -127,7 +127,7 @@ pub fn print(input: &[u8], out: &mut [u8]) -> Put
     render(input, out)
 }
 
-// The answer's number in 01's table, with the bytes written.
+// R310: the answer as a reply: 0 with the bytes that were written, or 11.
 pub fn reply_of(answer: Put) -> reply::Reply
     ensures { λ r. ⌜ r ≡ listedReply answer ⌝ }
 {

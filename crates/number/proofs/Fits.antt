@@ -1,4 +1,5 @@
--- Which numbers have a field: those in 01's range, a power of ten to a side, have a canonical text; and what some field reads as is in it.
+-- R71, R73, R79: which numbers have a field. Those in the range, a power of ten to a side, have a canonical text; and what some field
+-- reads as is in it.
 -- Assumes nothing.
 use mathlib.Core.Path.{_≡_, refl, sym, ap, ap₂, _∙_, subst}
 use mathlib.Core.Bool.{Bool, true, false, cond}
@@ -287,8 +288,8 @@ module _ (c d x p q : ℕ) (l : suc p ≡ 10 ^ d) (h : suc q ≡ 10 ^ x) where
   -- what a field reads as is in the range
   pub e-within : (s : List ℕ) (m e : ℤ) → IsE (suc c) d x s m e → T (holds p p m) × T (holds q q e)
   e-within s m e i =
-      let a = number-within (i .digits) d (i .each) (omega (arith, i .many)) in
-      let b = number-within (i .exponent) x (i .every) (omega (arith, i .places)) in (
-        subst (λ (v : ℤ). T (holds p p v)) (sym (i .first)) (holds-of p p (leadMinus (i .lead)) (numberOf (i .digits)) (λ _. omega arith) (λ _. omega arith)),
-        subst (λ (v : ℤ). T (holds q q v)) (sym (i .second)) (holds-of q q (i .down) (numberOf (i .exponent)) (λ _. omega arith) (λ _. omega arith)),
+      let a = number-within (i .rest .digits) d (i .rest .each) (omega (arith, i .rest .many)) in
+      let b = number-within (i .rest .exponent) x (i .rest .every) (omega (arith, i .rest .places)) in (
+        subst (λ (v : ℤ). T (holds p p v)) (sym (i .rest .first)) (holds-of p p (leadMinus (i .lead)) (numberOf (i .rest .digits)) (λ _. omega arith) (λ _. omega arith)),
+        subst (λ (v : ℤ). T (holds q q v)) (sym (i .rest .second)) (holds-of q q (i .rest .down) (numberOf (i .rest .exponent)) (λ _. omega arith) (λ _. omega arith)),
       )

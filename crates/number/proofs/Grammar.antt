@@ -1,4 +1,4 @@
--- I, F and E fields: what reads as a number is exactly what 01's sentences have, with that value.
+-- I, F and E fields: what reads as a number is exactly what R70, R72 and R74 say, with that value.
 -- Assumes nothing.
 use mathlib.Core.Path.{_≡_, refl, sym, ap, ap₂, _∙_}
 use mathlib.Core.Bool.{Bool, true, false}
@@ -21,7 +21,7 @@ use Rattle.number.specs.Write.{begun}
 use Rattle.number.specs.Grammar.{IsI, minusOf}
 use Rattle.number.proofs.Scanning.{Says, class-says, digit-class, scan-append, scan-fold}
 
--- ---- what the sentences have is read
+-- ---- what the rules say is read
 
 pub digits-read : (g : Bool) (m : ℕ) (ds : List ℕ) → AllDigits ds → scanOf (Digits g m) (digitText ds) ≡ Digits g (numberFrom m ds)
 digits-read g m [] a = refl
@@ -58,7 +58,7 @@ some-read g (d ∷ ds) a h =
     ∙ ap (λ st. scanOf st (digitText ds)) (first-read g d)
     ∙ digits-read g (0 * 10 + d) ds (a .1)
 
--- blanks, at most one minus and digits, as a state
+-- blanks, a minus or none, and digits, as a state
 pub columns-read : (k : ℕ) (g : Bool) (ds : List ℕ) → AllDigits ds → 0 < length ds → scanOf Blanks (replicate k 32 ++ (minusOf g ++ digitText ds)) ≡ Digits g (numberOf ds)
 columns-read k g ds a h = begin-read k g (digitText ds) ∙ some-read g ds a h
 
@@ -77,7 +77,7 @@ pub head-read : (k : ℕ) (g : Bool) (ds : List ℕ) → AllDigits ds → pointO
 head-read k g [] a = ap pointOf (begin-read k g []) ∙ point-begun g
 head-read k g (d ∷ ds) a = ap pointOf (columns-read k g (d ∷ ds) a (omega arith))
 
--- ---- what is read is in the sentences
+-- ---- what is read is as the rules say
 
 -- what a state says of the text before it, from the start of a field on
 pub record Columns (g : Bool) (n : ℕ) (t : List ℕ) : Type 0 where

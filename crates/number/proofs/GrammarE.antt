@@ -1,5 +1,5 @@
--- E fields: what reads as two numbers is exactly what 01's sentence has, with these values; and the shapes before the point of E11 and
--- E8, and of E20.
+-- E fields: what reads as two numbers is exactly what R74 and R77 say, with these values; and the shapes before the point of E11 and E8
+-- (R75), and of E20 (R76).
 -- Assumes nothing.
 use mathlib.Core.Path.{_≡_, refl, sym, ap, ap₂, _∙_}
 use mathlib.Core.Bool.{Bool, true, false, cond}
@@ -156,17 +156,17 @@ pub e-read : (c d x : ℕ) (s : List ℕ) (m e : ℤ) → IsE c d x s m e → re
 e-read c d x s m e i =
     let a = frontOf (i .blanks) (i .lead) in
     let u = lastByte (i .lead) in
-    let ds = digitText (i .digits) in
-    let es = digitText (i .exponent) in
-    let v = signByte (i .down) in
-    let f : s ≡ a ++ (u ∷ 46 ∷ (ds ++ (69 ∷ v ∷ es))) = i .text ∙ ap (λ l. l ++ (46 ∷ (ds ++ (69 ∷ v ∷ es)))) (lead-cut (i .blanks) (i .lead)) ∙ append-assoc a (u ∷ []) (46 ∷ (ds ++ (69 ∷ v ∷ es))) in
+    let ds = digitText (i .rest .digits) in
+    let es = digitText (i .rest .exponent) in
+    let v = signByte (i .rest .down) in
+    let f : s ≡ a ++ (u ∷ 46 ∷ (ds ++ (69 ∷ v ∷ es))) = i .rest .text ∙ ap (λ l. l ++ (46 ∷ (ds ++ (69 ∷ v ∷ es)))) (lead-cut (i .blanks) (i .lead)) ∙ append-assoc a (u ∷ []) (46 ∷ (ds ++ (69 ∷ v ∷ es))) in
     let la : length a + 1 ≡ c = sym (length-append a (u ∷ [])) ∙ sym (ap length (lead-cut (i .blanks) (i .lead))) ∙ i .columns in
     ap (readE c d x) f
-    ∙ e-at a ds es u 46 69 v c d x (omega arith) (omega arith) (simp length-map (i .many)) (simp length-map (i .places))
+    ∙ e-at a ds es u 46 69 v c d x (omega arith) (omega arith) (simp length-map (i .rest .many)) (simp length-map (i .rest .places))
     ∙ ap₂ (λ p q. pairOf (oneOf p) (oneOf q))
-    (ap (λ st. scanOf st ds) (lead-read (i .blanks) (i .lead)) ∙ digits-read (leadMinus (i .lead)) 0 (i .digits) (i .each))
-    (ap (λ st. scanOf st es) (sign-read (i .down)) ∙ digits-read (i .down) 0 (i .exponent) (i .every))
-    ∙ ap₂ Two (sym (i .first)) (sym (i .second))
+    (ap (λ st. scanOf st ds) (lead-read (i .blanks) (i .lead)) ∙ digits-read (leadMinus (i .lead)) 0 (i .rest .digits) (i .rest .each))
+    (ap (λ st. scanOf st es) (sign-read (i .rest .down)) ∙ digits-read (i .rest .down) 0 (i .rest .exponent) (i .rest .every))
+    ∙ ap₂ Two (sym (i .rest .first)) (sym (i .rest .second))
 
 -- what a state before the point says of the columns
 record Led (a : List ℕ) (u : ℕ) (st : Scan) : Type 0 where
@@ -216,7 +216,7 @@ sign-is v =
     cond-elim (Signs v) (eqb v 45) (λ e. given (record { down = true; text = eqb-true v 45 e; is = refl })) λ _.
     none (record { is = refl })
 
--- ---- what is read is in the sentence
+-- ---- what is read is as the rule says
 
 record Pair (a b : Number) (m e : ℤ) : Type 0 where
   first : a ≡ One m
@@ -248,20 +248,22 @@ module _ {c d x : ℕ} {s : List ℕ} (p : Parts c d x s) (m e : ℤ) (h : 1 ≤
         blanks = l .blanks;
         lead = l .lead;
         columns = sym (ap length (l .text)) ∙ w;
-        digits = a .digits;
-        each = a .each;
-        many = simp length-map at (sym (ap length (a .text)) ∙ p .lengths .1);
-        down = k .down;
-        exponent = b .digits;
-        every = b .each;
-        places = simp length-map at (sym (ap length (b .text)) ∙ p .lengths .2);
-        text =
-            p .is
-            ∙ sym (append-assoc (p .front) (p .last ∷ []) (p .point ∷ (p .digits ++ (p .letter ∷ p .sign ∷ p .exponent))))
-            ∙ ap₂ (λ t u. t ++ u) (l .text)
-            (ap₂ (λ y t. y ∷ t) f (ap₂ (λ t u. t ++ u) (a .text) (ap₂ (λ y t. y ∷ t) g (ap₂ (λ y t. y ∷ t) (k .text) (b .text)))));
-        first = a .value;
-        second = b .value;
+        rest = record {
+          digits = a .digits;
+          each = a .each;
+          many = simp length-map at (sym (ap length (a .text)) ∙ p .lengths .1);
+          down = k .down;
+          exponent = b .digits;
+          every = b .each;
+          places = simp length-map at (sym (ap length (b .text)) ∙ p .lengths .2);
+          text =
+              p .is
+              ∙ sym (append-assoc (p .front) (p .last ∷ []) (p .point ∷ (p .digits ++ (p .letter ∷ p .sign ∷ p .exponent))))
+              ∙ ap₂ (λ t u. t ++ u) (l .text)
+              (ap₂ (λ y t. y ∷ t) f (ap₂ (λ t u. t ++ u) (a .text) (ap₂ (λ y t. y ∷ t) g (ap₂ (λ y t. y ∷ t) (k .text) (b .text)))));
+          first = a .value;
+          second = b .value;
+        };
       }
 
   chosen : p .point ≡ 46 → p .letter ≡ 69 → Before (p .front) (p .last) (leadOf (scanOf Blanks (p .front)) (p .last)) → Signs (p .sign) (signOf (p .sign)) → oneOf (scanOf (leadOf (scanOf Blanks (p .front)) (p .last)) (p .digits)) ≡ One m → oneOf (scanOf (signOf (p .sign)) (p .exponent)) ≡ One e → IsE c d x s m e

@@ -1,4 +1,4 @@
--- F fields: what reads as a number is exactly what 01's sentence has, with that value.
+-- F fields: what reads as a number is exactly what R72 and R73 say, with that value.
 -- Assumes nothing.
 use mathlib.Core.Path.{_≡_, refl, sym, ap, ap₂, _∙_, subst}
 use mathlib.Core.Bool.{Bool, true, false, cond}

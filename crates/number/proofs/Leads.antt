@@ -1,16 +1,14 @@
--- The columns before E's point, where there is one and where there are three: exactly 01's shapes.
+-- R75, R76: the columns before E's point, where there is one and where there are three, are exactly those listed.
 -- Assumes nothing.
-use mathlib.Core.Path.{_≡_, refl, ap, _∙_}
+use mathlib.Core.Path.{_≡_, refl, ap, _∙_, subst}
 use mathlib.Core.Bool.{Bool}
-use mathlib.Core.List.{List, _∷_, _++_}
+use mathlib.Core.List.{List, _++_}
 use mathlib.Core.Logic.{_↔_, inl, inr}
 use Prim.Native.Nat.{ℕ, _+_}
 use native.Mathlib.Omega.{arith}
 use lib.IntN.{ℤ}
 use lib.ListN.{length, replicate, length-append, length-replicate}
-use Rattle.base.specs.Digits.{numberOf, digitText}
-use Rattle.base.specs.Sign.{ofSign}
-use Rattle.number.specs.Grammar.{Lead, Shape, leadText, leadMinus, signByte, oneColumn, threeColumns, AnyOf, IsE, IsEBy}
+use Rattle.number.specs.Grammar.{Lead, Shape, leadText, leadMinus, oneColumn, threeColumns, AnyOf, EText, IsE, IsEBy}
 use Rattle.number.specs.Grammar.Lead.{nought, minusNought, bare, minus}
 
 length-lead : (k : ℕ) (l : Lead) → length (replicate k 32 ++ leadText l) ≡ k + length (leadText l)
@@ -63,21 +61,7 @@ three-lead g t (inr (inr (inr (inr p)))) = absurd p
 module _ (c d x : ℕ) (shapes : List Shape) (s : List ℕ) (m e : ℤ) where
   shaped : ((k : ℕ) (l : Lead) → length (text k l) ≡ c → AnyOf shapes (leadMinus l) (text k l)) → IsE c d x s m e → IsEBy shapes d x s m e
   shaped any h =
-      record {
-        minus = leadMinus (h .lead);
-        head = text (h .blanks) (h .lead);
-        shape = any (h .blanks) (h .lead) (h .columns);
-        digits = h .digits;
-        each = h .each;
-        many = h .many;
-        down = h .down;
-        exponent = h .exponent;
-        every = h .every;
-        places = h .places;
-        text = h .text;
-        first = h .first;
-        second = h .second;
-      }
+      record { minus = leadMinus (h .lead); head = text (h .blanks) (h .lead); shape = any (h .blanks) (h .lead) (h .columns); rest = h .rest }
 
   led : ((g : Bool) (t : List ℕ) → AnyOf shapes g t → Lead-of c g t) → IsEBy shapes d x s m e → IsE c d x s m e
   led lead h =
@@ -86,23 +70,14 @@ module _ (c d x : ℕ) (shapes : List Shape) (s : List ℕ) (m e : ℤ) where
         blanks = l .blanks;
         lead = l .lead;
         columns = l .columns;
-        digits = h .digits;
-        each = h .each;
-        many = h .many;
-        down = h .down;
-        exponent = h .exponent;
-        every = h .every;
-        places = h .places;
-        text = h .text ∙ ap (λ t. t ++ (46 ∷ (digitText (h .digits) ++ (69 ∷ signByte (h .down) ∷ digitText (h .exponent))))) (l .is);
-        first = h .first ∙ ap (λ g. ofSign g (numberOf (h .digits))) (l .sign);
-        second = h .second;
+        rest = subst (λ g. EText d x g (text (l .blanks) (l .lead)) s m e) (l .sign) (subst (λ t. EText d x (h .minus) t s m e) (l .is) (h .rest));
       }
 
 module _ (d x : ℕ) (s : List ℕ) (m e : ℤ) where
-  -- "first column `0`, blank or minus"
+  -- R75
   pub e-one : IsE 1 d x s m e ↔ IsEBy oneColumn d x s m e
   e-one = (shaped 1 d x oneColumn s m e lead-one, led 1 d x oneColumn s m e one-lead)
 
-  -- "the first three columns are two blanks and `0`, blank minus `0`, three blanks, or two blanks and minus"
+  -- R76
   pub e-three : IsE 3 d x s m e ↔ IsEBy threeColumns d x s m e
   e-three = (shaped 3 d x threeColumns s m e lead-three, led 3 d x threeColumns s m e three-lead)

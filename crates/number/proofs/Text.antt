@@ -105,16 +105,18 @@ canonical-e c d x s m e i =
       blanks = i .blanks;
       lead = dueLead c (i .sign);
       columns = i .columns;
-      digits = i .digits;
-      each = i .each;
-      many = i .many;
-      down = i .down;
-      exponent = i .exponent;
-      every = i .every;
-      places = i .places;
-      text = i .text;
-      first = i .first ∙ ap (λ g. ofSign g (numberOf (i .digits))) (sym (due-minus c (i .sign)));
-      second = i .second;
+      rest = record {
+        digits = i .digits;
+        each = i .each;
+        many = i .many;
+        down = i .down;
+        exponent = i .exponent;
+        every = i .every;
+        places = i .places;
+        text = i .text;
+        first = i .first ∙ ap (λ g. ofSign g (numberOf (i .digits))) (sym (due-minus c (i .sign)));
+        second = i .second;
+      };
     }
 
 -- ---- each byte of a field prints, canonical or not
@@ -156,9 +158,9 @@ f-prints s z i =
 
 pub e-prints : (c d x : ℕ) (s : List ℕ) (m e : ℤ) → IsE c d x s m e → T (every printable s)
 e-prints c d x s m e i =
-    let exponent = signByte (i .down) ∷ digitText (i .exponent) in
-    let tail = digitText (i .digits) ++ (69 ∷ exponent) in
-    let u : Prints exponent = and-both (printable (signByte (i .down))) (every printable (digitText (i .exponent))) (sign-printable (i .down)) (digits-print (i .exponent) (i .every)) in
-    let t : Prints tail = behind (digitText (i .digits)) (69 ∷ exponent) (digits-print (i .digits) (i .each)) u in
+    let exponent = signByte (i .rest .down) ∷ digitText (i .rest .exponent) in
+    let tail = digitText (i .rest .digits) ++ (69 ∷ exponent) in
+    let u : Prints exponent = and-both (printable (signByte (i .rest .down))) (every printable (digitText (i .rest .exponent))) (sign-printable (i .rest .down)) (digits-print (i .rest .exponent) (i .rest .every)) in
+    let t : Prints tail = behind (digitText (i .rest .digits)) (69 ∷ exponent) (digits-print (i .rest .digits) (i .rest .each)) u in
     let h : Prints (replicate (i .blanks) 32 ++ leadText (i .lead)) = behind (replicate (i .blanks) 32) (leadText (i .lead)) (blanks-print (i .blanks)) (lead-prints (i .lead)) in
-    subst Prints (sym (i .text)) (behind (replicate (i .blanks) 32 ++ leadText (i .lead)) (46 ∷ tail) h t)
+    subst Prints (sym (i .rest .text)) (behind (replicate (i .blanks) 32 ++ leadText (i .lead)) (46 ∷ tail) h t)

@@ -1,6 +1,5 @@
--- 01's paragraph on canonical text, for I, F and E fields of every width: "I and F right-justified without needless zeros, one digit
--- before F's point at least; E with `0` before the point in nonnegative numbers, minus directly before the point (E11, E8) or before `0`
--- (E20) in negative ones. Zero has no minus, and exponent zero has a plus."
+-- R103 to R108: the canonical text of I, F and E fields of every width. `lean` says that a digit is there and no zero that could be left out,
+-- `zero` that only a number below zero has a minus (R107), `plus` that an exponent of zero has none (R108).
 use mathlib.Core.Path.{_≡_}
 use mathlib.Core.Bool.{Bool, true, false, cond}
 use mathlib.Core.List.{List, _∷_, _++_}
@@ -13,7 +12,7 @@ use Rattle.base.specs.Digits.{AllDigits, numberOf, digitText, Lean}
 use Rattle.number.specs.Grammar.{minusOf, Lead, leadText, signByte}
 use Rattle.number.specs.Grammar.Lead.{nought, minusNought, minus}
 
--- the text of z in w columns of an I field
+-- R103: the text of z in w columns of an I field, at their right end
 pub record CanonicalI (w : ℕ) (s : List ℕ) (z : ℤ) : Type 0 where
   pub width : length s ≡ w
   pub blanks : ℕ
@@ -25,7 +24,7 @@ pub record CanonicalI (w : ℕ) (s : List ℕ) (z : ℤ) : Type 0 where
   pub text : s ≡ replicate blanks 32 ++ (minusOf sign ++ digitText digits)
   pub value : z ≡ ofSign sign (numberOf digits)
 
--- the text of z thousandths in w columns of an F field
+-- R104: the text of z thousandths in w columns of an F field, at their right end
 pub record CanonicalF (w : ℕ) (s : List ℕ) (z : ℤ) : Type 0 where
   pub width : length s ≡ w
   pub blanks : ℕ
@@ -40,12 +39,12 @@ pub record CanonicalF (w : ℕ) (s : List ℕ) (z : ℤ) : Type 0 where
   pub text : s ≡ replicate blanks 32 ++ (minusOf sign ++ (digitText units ++ (46 ∷ digitText thousandths)))
   pub value : z ≡ ofSign sign (numberOf (units ++ thousandths))
 
--- what stands before the point in c columns: `0`, or for a negative number a minus where there is one column and minus and `0` in more
+-- R105, R106: what is due before the point in c columns: `0`; of a negative number a minus in the only column, minus and `0` in more
 abbrev pub dueLead : ℕ → Bool → Lead
 dueLead c false = nought
 dueLead c true = cond (eqb c 1) minus minusNought
 
--- the text of m and e in an E field of c columns, a point, d digits and an exponent of x digits
+-- R105 to R108: the text of m and e in an E field of c columns, a point, d digits and an exponent of x digits
 pub record CanonicalE (c d x : ℕ) (s : List ℕ) (m e : ℤ) : Type 0 where
   pub blanks : ℕ
   pub sign : Bool

@@ -1,4 +1,4 @@
--- What a number in columns reads as and how it is written: I, F and E fields of any width ("Fields" and the canonical paragraph of 01).
+-- What a number in columns reads as (R70 to R86) and how it is written (R103 to R108): I, F and E fields of any width (R426).
 -- The rules as plain statements on bytes are Grammar and Canonical; Scan, Read and Write are what the contracts cite.
 pub mod Grammar
 pub mod Canonical

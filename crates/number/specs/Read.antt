@@ -1,4 +1,6 @@
--- What an I, F or E field reads as.
+-- R70 to R77 as they are computed: what an I, F or E field reads as. The plain statements are Grammar's, and these are equal to them:
+-- `readI s ≡ One z` exactly if `IsI s z` (`i-read`, `read-i` in proofs/Grammar.antt), `readF` and `IsF` (`f-read`, `read-f` in
+-- proofs/GrammarF.antt), `readE` and `IsE` with one column before the point at least (`e-read`, `read-e` in proofs/GrammarE.antt).
 use mathlib.Core.Bool.{true, false, cond}
 use mathlib.Core.List.{List}
 use Prim.Native.Nat.{ℕ, _+_, _-_}

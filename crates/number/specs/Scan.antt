@@ -1,4 +1,6 @@
--- What a byte is in a number's columns, and how columns are read, byte by byte: blanks, at most one minus, digits.
+-- What a byte is in a number's columns (a plus is no part of them, R81), and how columns are read: blanks, a minus or none, digits.
+-- The plain statement is in Grammar: blanks, `minusOf` and `digitText` in a row. They end in the state `Digits`, with their sign and number
+-- (`columns-read`), and what ends there is such a row (`held`), both in proofs/Grammar.antt.
 use mathlib.Core.Bool.{true, false, cond}
 use mathlib.Core.List.{List, [], _∷_}
 use Prim.Native.Nat.{ℕ, _+_, _*_, _-_, _<_}

@@ -1,4 +1,7 @@
--- The text that is written for a number, from the last column to the first: each step undoes one of reading.
+-- R103 to R108 as they are computed: the text of a number, from the last column to the first. Each step undoes one of reading.
+-- The plain statements are Canonical's, and these are equal to them: a canonical text is the one given here (`i-unique`, `f-unique`,
+-- `e-unique` in proofs/Unique.antt), and for the numbers that a field can hold, one of F in six columns at least, this text is canonical
+-- (`i-canonical`, `f-canonical`, `e-canonical` in proofs/Fits.antt).
 use mathlib.Core.Bool.{Bool, true, false, cond}
 use mathlib.Core.List.{List, _∷_, _++_}
 use Prim.Native.Nat.{ℕ, _+_, _-_, _/_, _%_}

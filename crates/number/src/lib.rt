@@ -8,7 +8,8 @@ ghost use Rattle.base.specs.Sign.{ofSign, negative, sizeOf, holds};
 ghost use Rattle.number.specs.Grammar.{signByte};
 ghost use Rattle.number.specs.Scan.{classOf, stepOf, scanOf, Small, Below};
 ghost use Rattle.number.specs.Read.{oneOf, pointOf, leadOf, signOf, pairOf, readI, readF, readE};
-ghost use Rattle.number.specs.Write.{lastOf, backOf, textOf, restOf, leadState, exponentText, textI, textF, textE};
+ghost use Rattle.number.specs.Write.{lastOf, backOf, textOf, restOf, leadState, exponentText, textI, textF};
+ghost use Rattle.number.specs.Write.{textE};
 
 // ---- Reading: one pass over the columns.
 
@@ -55,7 +56,8 @@ fn class(b: u8) -> Byte
 
 // One byte more.
 fn step(c: Byte, st: Scan) -> Scan
-    requires { ⌜ Small c × Below 100000000000000000 st ⌝ }
+    requires small { ⌜ Small c ⌝ }
+    requires below { ⌜ Below 100000000000000000 st ⌝ }
     ensures { λ r. ⌜ r ≡ stepOf c st ⌝ }
 {
     match c {
@@ -83,7 +85,8 @@ fn step(c: Byte, st: Scan) -> Scan
 
 // The bytes of a part, from a state on.
 pub fn scan_part(s: &[u8], from: Scan) -> Scan
-    requires { ⌜ (length (now s) ≤ 12) × Below 1000000 from ⌝ }
+    requires short { ⌜ length (now s) ≤ 12 ⌝ }
+    requires below { ⌜ Below 1000000 from ⌝ }
     ensures { λ r. ⌜ r ≡ scanOf from (now (s .entry)) ⌝ }
 {
     let mut st = from;
@@ -121,13 +124,14 @@ fn one(st: Scan) -> Number
 
 // The number that the bytes of a part end, from a state on.
 fn finish(s: &[u8], from: Scan) -> Number
-    requires { ⌜ (length (now s) ≤ 12) × Below 1000000 from ⌝ }
+    requires short { ⌜ length (now s) ≤ 12 ⌝ }
+    requires below { ⌜ Below 1000000 from ⌝ }
     ensures { λ r. ⌜ r ≡ oneOf (scanOf from (now (s .entry))) ⌝ }
 {
     one(scan_part(s, from))
 }
 
-// An I field of any width up to 12.
+// R70: an I field of any width up to 12.
 pub fn read_i(s: &[u8]) -> Number
     requires { ⌜ length (now s) ≤ 12 ⌝ }
     ensures { λ r. ⌜ r ≡ readI (now (s .entry)) ⌝ }
@@ -147,7 +151,7 @@ fn point(st: Scan) -> Scan
     }
 }
 
-// An F field of any width up to 10.
+// R72: an F field of any width up to 10.
 pub fn read_f(s: &[u8]) -> Number
     requires { ⌜ length (now s) ≤ 10 ⌝ }
     ensures { λ r. ⌜ r ≡ readF (now (s .entry)) ⌝ }
@@ -165,7 +169,7 @@ pub fn read_f(s: &[u8]) -> Number
     finish(&s[q..n], point(head))
 }
 
-// The last column before E's point.
+// R75, R76: the last column before E's point.
 fn lead(st: Scan, b: u8) -> Scan
     ensures { λ r. ⌜ r ≡ leadOf st b ⌝ }
 {
@@ -220,7 +224,7 @@ fn pair(a: Number, b: Number) -> Number
     }
 }
 
-// An E field: c columns, a point, d digits, `E`, a sign and x digits.
+// R74: an E field: c columns, a point, d digits, `E`, a sign and x digits.
 pub fn read_e(s: &[u8], c: usize, d: usize, x: usize) -> Number
     requires { ⌜ (1 ≤ c) × (c ≤ 12) × (d ≤ 12) × (1 ≤ x) × (x ≤ 12) ⌝ }
     ensures { λ r. ⌜ r ≡ readE c d x (now (s .entry)) ⌝ }
@@ -285,7 +289,8 @@ fn back(filled: bool, st: Scan) -> Scan
 
 // Fills the columns with it, and gives back what would stand before them.
 fn put(out: &mut [u8], filled: bool, what: Scan) -> Scan
-    ensures { λ r. ⌜ (now (out .exit) ≡ textOf filled (length (now (out .entry))) what) × (r ≡ restOf filled (length (now (out .entry))) what) ⌝ }
+    ensures output { λ _. ⌜ now (out .exit) ≡ textOf filled (length (now (out .entry))) what ⌝ }
+    ensures answer { λ r. ⌜ r ≡ restOf filled (length (now (out .entry))) what ⌝ }
 {
     let mut st = what;
     let mut i = out.len();
@@ -301,7 +306,8 @@ fn put(out: &mut [u8], filled: bool, what: Scan) -> Scan
 
 pub fn put_at(out: &mut [u8], at: usize, w: usize, filled: bool, what: Scan) -> Scan
     requires { ⌜ at + w ≤ length (now out) ⌝ }
-    ensures { λ r. ⌜ (now (out .exit) ≡ over at (textOf filled w what) (now (out .entry))) × (r ≡ restOf filled w what) ⌝ }
+    ensures output { λ _. ⌜ now (out .exit) ≡ over at (textOf filled w what) (now (out .entry)) ⌝ }
+    ensures answer { λ r. ⌜ r ≡ restOf filled w what ⌝ }
 {
     let e = at + w;
     put(&mut out[at..e], filled, what)
@@ -321,7 +327,8 @@ pub struct Magnitude {
 }
 
 pub fn signed(v: i64) -> Magnitude
-    ensures { λ r. ⌜ (r .neg ≡ negative v) × (r .size ≡ sizeOf v) ⌝ }
+    ensures neg { λ r. ⌜ r .neg ≡ negative v ⌝ }
+    ensures size { λ r. ⌜ r .size ≡ sizeOf v ⌝ }
 {
     if v < 0 {
         let m = 0 - (v + 1);
@@ -347,7 +354,7 @@ pub fn within(v: i64, low: u64, high: u64) -> bool
     m.size <= high
 }
 
-// ---- I, F and E fields at a place.
+// ---- I, F and E fields at a place, canonical (R103 to R108).
 
 pub fn put_i(out: &mut [u8], at: usize, w: usize, v: i64)
     requires { ⌜ at + w ≤ length (now out) ⌝ }
@@ -359,7 +366,8 @@ pub fn put_i(out: &mut [u8], at: usize, w: usize, v: i64)
 
 // Thousandths: the last three digits first, and what is left of the number before the point.
 pub fn put_f(out: &mut [u8], at: usize, w: usize, v: i64)
-    requires { ⌜ (at + w ≤ length (now out)) × (4 ≤ w) ⌝ }
+    requires room { ⌜ at + w ≤ length (now out) ⌝ }
+    requires w { ⌜ 4 ≤ w ⌝ }
     ensures { λ _. ⌜ now (out .exit) ≡ over at (textF w v) (now (out .entry)) ⌝ }
 {
     let m = signed(v);

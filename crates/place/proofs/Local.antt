@@ -1,5 +1,5 @@
--- Placing is local. What is answered at a place depends on nothing before it; 4, 5 and 6 only on the bytes up to the second line feed; 0 and
--- 7, with all their numbers, only on these and on where the line feeds are up to the next place.
+-- R255: placing is local. What is answered at a place depends on nothing before it; 4, 5 and 6 only on the bytes up to the second line
+-- feed; 0 and 7, with all their numbers, only on these and on where the line feeds are up to the next place.
 -- Assumes nothing.
 use mathlib.Core.Path.{_≡_, refl, sym, _∙_, ap, subst}
 use mathlib.Core.Bool.{Bool, true, false, cond}

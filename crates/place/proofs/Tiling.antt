@@ -1,5 +1,5 @@
--- Lines and tiling of a located record: from its place to the next it holds exactly its lines and ends with a line feed; the index and the
--- lines of groups 1 to 60 follow one another without gap or overlap, each part holding exactly its lines.
+-- R27, R28: lines and tiling of a located record: from its place to the next it holds exactly its lines and ends with a line feed; the
+-- index and the lines of groups 1 to 60 follow one another without gap or overlap, each part holding exactly its lines.
 -- Assumes nothing.
 use mathlib.Core.Path.{_≡_, sym, _∙_, ap, subst}
 use mathlib.Core.List.{List, _++_}
@@ -77,7 +77,7 @@ module _ (s : List ℕ) (at n : ℕ) (ns : List ℕ) (e : locate s at ≡ locate
   pub start-within : (g : ℕ) → g ≤ 61 → start s at ns g ≤ n
   start-within g l = omega (arith, start-mono s at ns g 61 l, start-end)
 
-  -- "text[p..next) holds exactly two plus the record's data lines line feeds, and ends with one of them"
+  -- R28: from the place to the next it is exactly its lines (R7), and a line feed is its last byte
   pub record-whole : Whole (recordLines ns) (part at n s)
   record-whole =
       let w : n - at ≡ reach (drop at s) (recordLines ns) = omega (arith, p .next) in

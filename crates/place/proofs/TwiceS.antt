@@ -1,4 +1,5 @@
--- S twice, by computation: where its records are, where the lines of group 4 are and what they hold; and its walk, which is two records.
+-- R382: S twice, by computation: where its records are, where the lines of group 4 are and what they hold; and its walk, which is two
+-- records.
 -- Assumes nothing.
 use mathlib.Core.Path.{_≡_, refl}
 use Prim.Native.Nat.{ℕ, zero, suc, _<_}
@@ -23,7 +24,7 @@ use Rattle.place.proofs.Walked.{spot-start, spot-more}
 
 pub record Twice : Type 0 where
   pub long : length twiceS ≡ 610
-  -- "1 0 305", "2 305 610", "end 2 610 1"
+  -- the places of the listing: 0 to 305, 305 to 610, and the end at 610 with 1
   pub first : locate twiceS 0 ≡ located 305 countsS
   pub second : locate twiceS 305 ≡ located 610 countsS
   pub last : locate twiceS 610 ≡ refused End

@@ -1,4 +1,4 @@
--- When each reply of placing is due: its condition in 01's table, and none that "Placing tries" earlier.
+-- R233, R251: when each reply of placing is due: its own condition holds, and none earlier in placing's order.
 use mathlib.Core.Path.{_≡_}
 use mathlib.Core.List.{List}
 use mathlib.Core.Logic.{_⊎_}
@@ -34,7 +34,7 @@ module _ (s : List ℕ) (at : ℕ) where
     pub enough : recordLines ns ≤ feeds (drop at s)
     pub next : n ≡ at + reach (drop at s) (recordLines ns)
 
-  -- 3: fewer line feeds left than the two index lines need, or than the record's lines need
+  -- R203: not as many line feeds are left as an index has lines, or not as many as the record has
   pub record FewForIndex : Type 0 where
     pub inside : at < length s
     pub few : feeds (drop at s) < 2
@@ -44,24 +44,24 @@ module _ (s : List ℕ) (at : ℕ) where
     pub head : HasRelease ns
     pub few : feeds (drop at s) < recordLines ns
 
-  -- 4: they are the index of no counts
+  -- R204: they are the index of no counts
   pub record BadIndex : Type 0 where
     pub place : HasIndex
     pub none : (ns : List ℕ) → IsIndex (drop at s) ns → ⊥
 
-  -- 5
+  -- R205: the release is another than 5
   pub record BadRelease : Type 0 where
     pub ns : List ℕ
     pub index : HasCounts ns
     pub other : countOf ns 80 ≡ 5 → ⊥
 
-  -- 6: the lowest of 61 to 79 with a nonzero count
+  -- R206: g is the lowest of 61 to 79 that has a count
   pub record FillsVacant (g : ℕ) : Type 0 where
     pub ns : List ℕ
     pub index : HasCounts ns
     pub filled : LowestFilled ns g
 
-  -- 7 and 0
+  -- R207 and R200: n is the next place, and the counts break a rule or keep all
   pub record Breaks (g n : ℕ) : Type 0 where
     pub ns : List ℕ
     pub lines : HasLines ns n
@@ -72,7 +72,7 @@ module _ (s : List ℕ) (at : ℕ) where
     pub lines : HasLines ns n
     pub kept : KeepsRules ns
 
-  -- the counts beside the answer: those of the record, or 80 zeros where none stands
+  -- R253: the counts beside the answer: those of the record, or 80 zeros where none stands
   pub record HasRecord (ns : List ℕ) : Type 0 where
     pub next : ℕ
     pub lines : HasLines ns next

@@ -1,4 +1,4 @@
--- "The index (2(40I3)) gives 80 numbers." "An index line's content has exactly 120 bytes." "Index entries are I3 without a minus."
+-- R21 to R23: an index is two lines with contents of 120 bytes, 40 entries each; an entry is an I3 field that has no minus.
 use mathlib.Core.Path.{_≡_}
 use mathlib.Core.Bool.{Bool, true, false, cond}
 use mathlib.Core.List.{List, [], _∷_, _++_}
@@ -25,7 +25,7 @@ entryThen (Count n) (counts ns) = counts (n ∷ ns)
 entryThen (Count n) misformed = misformed
 entryThen Misformed r = misformed
 
--- so many entries of three columns, one behind the other
+-- R21: so many entries of three columns, one behind the other
 unfoldable pub readEntries : ℕ → List ℕ → Indexed
 readEntries zero s = counts []
 readEntries (suc k) s = entryThen (entryOf (take 3 s)) (readEntries k (drop 3 s))
@@ -49,15 +49,15 @@ readIndex xs = joined (readIndexLine (lines 1 xs)) (readIndexLine (lines 1 (behi
 
 -- ---- the same as a statement (proofs/Indexed.antt)
 
--- an index line: its content has 120 bytes, and the columns from 3k to 3k + 3 are an entry of the count that stands behind `before` others
--- and k more
+-- R21, R23: an index line: its content has 120 bytes, and the columns from 3k to 3k + 3 are an entry of the count that stands behind
+-- `before` others and k more
 pub record IsIndexLine (x ns : List ℕ) (before : ℕ) : Type 0 where
   pub content : List ℕ
   pub is : HasContent x content
   pub wide : length content ≡ 120
   pub each : (k : ℕ) → k < 40 → IsEntry (part (k * 3) (k * 3 + 3) content) (countOf ns (before + k + 1))
 
--- the first line of xs has the entries of numbers 1 to 40, the second those of 41 to 80
+-- R22: the first line of xs has the entries of numbers 1 to 40, the second those of 41 to 80
 pub record IsIndex (xs ns : List ℕ) : Type 0 where
   pub many : length ns ≡ 80
   pub first : IsIndexLine (lines 1 xs) ns 0

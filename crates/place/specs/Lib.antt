@@ -1,11 +1,11 @@
--- Records in a text ("Records and lines" and "Replies" of 01): the two index lines (Index), what placing answers (Placing), where each
--- group's lines are (Parts), the records one after another from the text's start (Walk), and each answer's number in 01's table with the
--- numbers beside it (Numbered). Due says when each reply is due, as a statement.
+-- Records in a text: the two index lines (Index: R21 to R23), what placing answers (Placing: R250 to R253), where each group's lines are
+-- (Parts: R20, R27), the records one after another from the text's start (Walk: R254), and each answer's number with the numbers beside it
+-- (Numbered: R200 to R207). Due says when each reply is due, as a statement (R233).
 pub mod Index
 pub mod Placing
 pub mod Parts
 pub mod Walk
 pub mod Numbered
 pub mod Due
--- 01's record S, and S twice
+-- R380, R382: record S, and S twice
 pub mod RecordS

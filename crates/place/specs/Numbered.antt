@@ -1,4 +1,4 @@
--- Each answer's number in 01's table, with the numbers given besides.
+-- R200 to R207: each answer's number, with the numbers beside it.
 use mathlib.Core.Bool.{Bool, _||_}
 use mathlib.Core.List.{List, [], _∷_}
 use Prim.Native.Nat.{ℕ}
@@ -18,7 +18,7 @@ placingReply OtherRelease = replyPlain 5
 placingReply (FilledVacant g) = replyOn 6 g
 placingReply (BrokenRule g n) = replyAt 7 n g
 
--- the rows of placing
+-- the rows of placing: 7 has its next place too (R235)
 abbrev pub placingRows : List Row
 placingRows =
     row 0 (next ∷ [])
@@ -31,6 +31,6 @@ placingRows =
     ∷ row 7 (group ∷ next ∷ [])
     ∷ []
 
--- the test of a reply's number for what `PlacedAt` of Walk says: 0 or 7
+-- R253: the test of a reply's number for what `PlacedAt` of Walk says: 0 or 7
 abbrev pub isPlaced : ℕ → Bool
 isPlaced number = eqb number 0 || eqb number 7

@@ -1,5 +1,5 @@
--- "A record is two index lines, then the lines of groups 1 to 60 in number order": where each group's lines are, for a record at a place
--- with these counts. Group 0 is the index.
+-- R20, R27: where each group's lines are, for a record at a place with these counts: behind the index and all groups below it. Group 0 is
+-- the index.
 use mathlib.Core.Path.{_≡_}
 use mathlib.Core.List.{List, _++_}
 use Prim.Native.Nat.{ℕ, suc, _+_}
@@ -8,7 +8,7 @@ use Rattle.base.specs.Part.{part}
 use Rattle.line.specs.Lines.{reach, Whole}
 use Rattle.count.specs.Tally.{linesIn, linesBefore}
 
--- where the lines of group g begin; they end where those of the next group begin, and 61 begins where the record ends
+-- R27: where the lines of group g begin; they end where those of the next group begin, and 61 begins where the record ends (R28)
 unfoldable pub start : List ℕ → ℕ → List ℕ → ℕ → ℕ
 start s at ns g = at + reach (drop at s) (linesBefore ns g)
 

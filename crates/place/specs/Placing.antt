@@ -1,5 +1,5 @@
--- "Placing tries 2, 1, 3 (index lines), 4, 5, 6, 3 (data lines), 7." In two steps: first whether a record can be located, then the rules on
--- its counts.
+-- R251: what placing answers, in its order: 2, 1, 3 for the index, 4, 5, 6, 3 for the record's other lines, 7. In two steps: first whether
+-- a record can be located, then the rules on its counts.
 use mathlib.Core.Bool.{cond}
 use mathlib.Core.List.{List}
 use Prim.Native.Nat.{ℕ, _+_, _-_}
@@ -27,31 +27,31 @@ pub data Located : Type 0 where
 
 -- xs is the text from the place `at` on
 
--- 3: "fewer line feeds left than .. the data lines need"
+-- R203: from the place on there are fewer line feeds than the record has lines
 abbrev pub locateLines : List ℕ → ℕ → List ℕ → Located
 locateLines xs at ns = cond (leb (recordLines ns) (feeds xs)) (located (at + reach xs (recordLines ns)) ns) (refused TooFewLines)
 
--- 5 and 6
+-- R205, R206: another release, or one of 61 to 79 has a count
 abbrev pub locateRelease : List ℕ → ℕ → List ℕ → Release → Located
 locateRelease xs at ns Five = locateLines xs at ns
 locateRelease xs at ns Other = refused OtherRelease
 locateRelease xs at ns (Filled g) = refused (FilledVacant g)
 
--- 4: "index line or entry misformed"
+-- R204: one of the two is no index line, or an entry is misformed; all 80 are looked at before the release is (R252)
 abbrev pub locateIndex : List ℕ → ℕ → Indexed → Located
 locateIndex xs at (counts ns) = locateRelease xs at ns (releaseOf ns)
 locateIndex xs at misformed = refused Misformed
 
--- 3: "fewer line feeds left than the two index lines .. need"
+-- R203: from the place on there are fewer than two line feeds
 abbrev pub locateHere : List ℕ → ℕ → Located
 locateHere xs at = cond (leb 2 (feeds xs)) (locateIndex xs at (readIndex xs)) (refused TooFewLines)
 
--- 2: "place beyond the end"; 1: "place is the text's end"
+-- R202: the place lies behind where the text ends; R201: it is there
 unfoldable pub locate : List ℕ → ℕ → Located
 locate s at =
     cond (ltb (length s) at) (refused Beyond) (cond (eqb (length s) at) (refused End) (locateHere (drop at s) at))
 
--- 7: "rule on counts broken", with the next place
+-- R207: counts that break a rule have a next place all the same
 abbrev pub ruledAt : ℕ → Ruling → Placing
 ruledAt n Kept = Placed n
 ruledAt n (Broken g) = BrokenRule g n
@@ -60,12 +60,12 @@ abbrev pub placingBy : Located → Placing
 placingBy (located n ns) = ruledAt n (rulingOf ns)
 placingBy (refused p) = p
 
--- zeros where nothing is placed
+-- R253: zeros where nothing is placed
 abbrev pub countsBy : Located → List ℕ
 countsBy (located n ns) = ns
 countsBy (refused p) = replicate 80 0
 
--- what placing answers, and the counts beside it
+-- R250: what placing answers, and the counts beside it
 unfoldable pub placingOf : List ℕ → ℕ → Placing
 placingOf s at = placingBy (locate s at)
 

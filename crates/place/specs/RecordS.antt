@@ -1,12 +1,11 @@
--- "Record S has counts 4, 0, 19, 1, zeros, release 5, and data lines `  1.200 67.000-23.500143.000`, `AA20062650922142530`, `   7.250`.
--- It has 305 bytes."
+-- R380, R381: record S, 305 bytes, line by line: the two of the index, four constants of the station, a date, one characteristic.
 use mathlib.Core.List.{List, [], _∷_, _++_}
 use Prim.Native.Nat.{ℕ}
 use Prim.Native.String.{String}
 use lib.ListN.{replicate}
 use Rattle.base.specs.Quoted.{bytes}
 
--- a line with this content: carriage return and line feed behind it
+-- R4: a line with this content: carriage return and line feed behind it
 abbrev pub lineOf : String → List ℕ
 lineOf content = bytes content ++ (13 ∷ 10 ∷ [])
 
@@ -19,5 +18,6 @@ recordS =
 unfoldable pub countsS : List ℕ
 countsS = 4 ∷ 0 ∷ 19 ∷ 1 ∷ (replicate 75 0 ++ (5 ∷ []))
 
+-- R382: one copy behind the other
 unfoldable pub twiceS : List ℕ
 twiceS = recordS ++ recordS

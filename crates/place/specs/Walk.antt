@@ -1,4 +1,4 @@
--- "A record is placed where the reply is 0 or 7; a walk goes on from its next place, and stops at any other reply."
+-- R253, R254: placed records, and the walk from one to the next.
 use mathlib.Core.Path.{_≡_}
 use mathlib.Core.List.{List}
 use mathlib.Core.Logic.{_⊎_}
@@ -7,14 +7,16 @@ use Rattle.place.specs.declared.Placing.{Placing}
 use Rattle.place.specs.Numbered.{placingReply}
 use Rattle.place.specs.Placing.{Located, located, refused, locate, placingOf}
 
+-- R253: 0 and 7 place a record
 abbrev pub PlacedAt : List ℕ → ℕ → Type 0
 PlacedAt s at = (placingReply (placingOf s at) .number ≡ 0) ⊎ (placingReply (placingOf s at) .number ≡ 7)
 
+-- R254: on to a placed record's next place; any other reply ends the walk
 abbrev pub onward : ℕ → Located → ℕ
 onward at (located n ns) = n
 onward at (refused p) = at
 
--- where the walk stands after k steps from the text's start; once it has stopped it stays
+-- R254: where the walk stands after k steps from the text's start; once it has stopped it stays
 unfoldable pub spot : List ℕ → ℕ → ℕ
 spot s zero = 0
 spot s (suc k) = onward (spot s k) (locate s (spot s k))

@@ -7,7 +7,7 @@ ghost use Rattle.place.specs.Index.{readEntries, readIndexLine, Stored};
 ghost use Rattle.place.specs.Numbered.{placingReply, isPlaced};
 ghost use Rattle.place.specs.Placing.{Answers, placingOf, countsAt, ruledAt, locateLinesFrom, locateFrom};
 
-// What placing answers; each variant is one of 01's replies.
+// R200 to R207: what placing answers, a variant for each reply.
 pub enum Placing {
     // 0, with the next place
     Placed(usize),
@@ -21,22 +21,24 @@ pub enum Placing {
     Misformed,
     // 5
     OtherRelease,
-    // 6, with the lowest vacant group that has a count
+    // 6, with the lowest vacant number that has a count
     FilledVacant(usize),
     // 7, with the blamed group and the next place
     BrokenRule(usize, usize),
 }
 
-// The answer, with the 80 counts of a record that is placed (0 or 7), else zeros.
+// R253: the answer, with the 80 counts of a record that is placed (0 or 7), else zeros.
 pub struct Record {
     pub answer: Placing,
     pub counts: [u16; 80],
 }
 
-// The 40 entries of an index line's content, stored from an index on; whether all are well formed.
+// R21, R23: the 40 entries of an index line's content, stored from an index on; whether all are well formed.
 fn store_entries(content: &[u8], counts: &mut [u16], from: usize) -> bool
-    requires { ⌜ (length (now content) ≡ 120) × (from + 40 ≤ length (now counts)) ⌝ }
-    ensures { λ r. ⌜ Stored (readEntries 40 (now (content .entry))) from (now (counts .entry)) r (now (counts .exit)) ⌝ }
+    requires content { ⌜ length (now content) ≡ 120 ⌝ }
+    requires counts { ⌜ from + 40 ≤ length (now counts) ⌝ }
+    ensures { λ r. ⌜ Stored (readEntries 40 (now (content .entry))) from (now (counts .entry)) r
+        (now (counts .exit)) ⌝ }
 {
     let mut k: usize = 0;
     while k < 40 {
@@ -51,7 +53,7 @@ fn store_entries(content: &[u8], counts: &mut [u16], from: usize) -> bool
     true
 }
 
-// An index line's counts, stored from an index on; whether the line and its entries are well formed.
+// R204: an index line's counts, stored from an index on; whether the line and its entries are well formed.
 fn store_line(line: &[u8], counts: &mut [u16], from: usize) -> bool
     requires { ⌜ from + 40 ≤ length (now counts) ⌝ }
     ensures { λ r. ⌜ Stored (readIndexLine (now (line .entry))) from (now (counts .entry)) r (now (counts .exit)) ⌝ }
@@ -67,7 +69,8 @@ fn store_line(line: &[u8], counts: &mut [u16], from: usize) -> bool
 
 // The answer where nothing is placed.
 fn nothing(answer: Placing) -> Record
-    ensures { λ r. ⌜ (r .answer ≡ answer) × (r .counts ≡ replicate 80 0) ⌝ }
+    ensures answer { λ r. ⌜ r .answer ≡ answer ⌝ }
+    ensures counts { λ r. ⌜ r .counts ≡ replicate 80 0 ⌝ }
 {
     Record {
         answer,
@@ -75,7 +78,7 @@ fn nothing(answer: Placing) -> Record
     }
 }
 
-// A record of release 5 whose data lines begin at a place: data lines, then rules.
+// R203, R207: a record of release 5 whose data lines begin at a place: data lines, then rules.
 fn with_lines(text: &[u8], from: usize, counts: [u16; 80]) -> Record
     ensures { λ r. ⌜ Answers (locateLinesFrom (now (text .entry)) from counts) (r .answer) (r .counts) ⌝ }
 {
@@ -89,7 +92,7 @@ fn with_lines(text: &[u8], from: usize, counts: [u16; 80]) -> Record
     }
 }
 
-// A record whose data lines begin at a place: the release and the vacant groups first.
+// R205, R206: a record whose data lines begin at a place: the release and the vacant groups first.
 fn with_counts(text: &[u8], from: usize, counts: [u16; 80]) -> Record
     ensures { λ r. ⌜ Answers (locateFrom (now (text .entry)) from counts) (r .answer) (r .counts) ⌝ }
 {
@@ -109,9 +112,10 @@ fn ruled_at(next: usize, ruling: count::Ruling) -> Placing
     }
 }
 
-// The record at a place of a text.
+// R250, R251: the record at a place of a text, and what is refused, in placing's order.
 pub fn place(text: &[u8], at: usize) -> Record
-    ensures { λ r. ⌜ (r .answer ≡ placingOf (now (text .entry)) at) × (r .counts ≡ countsAt (now (text .entry)) at) ⌝ }
+    ensures answer { λ r. ⌜ r .answer ≡ placingOf (now (text .entry)) at ⌝ }
+    ensures counts { λ r. ⌜ r .counts ≡ countsAt (now (text .entry)) at ⌝ }
 {
     if text.len() < at {
         return nothing(Placing::Beyond);
@@ -135,7 +139,7 @@ pub fn place(text: &[u8], at: usize) -> Record
     with_counts(text, end, counts)
 }
 
-// The answer's number in 01's table, with the next place and the group given besides.
+// R200 to R207: the answer's number, with the next place and the group beside it.
 pub fn reply_of(answer: Placing) -> reply::Reply
     ensures { λ r. ⌜ r ≡ placingReply answer ⌝ }
 {
@@ -151,14 +155,11 @@ pub fn reply_of(answer: Placing) -> reply::Reply
     }
 }
 
-// "A record is placed where the reply is 0 or 7."
-pub fn is_placed(number: usize) -> bool
+// R253: whether a reply of this number places a record.
+pub fn is_placed(number: u32) -> bool
     ensures { λ r. ⌜ r ≡ isPlaced number ⌝ }
 {
-    if number == 0 {
-        return true;
-    }
-    number == 7
+    number == 0 || number == 7
 }
 
 // From where to where the lines of a group stand.
@@ -167,10 +168,11 @@ pub struct Span {
     pub to: usize,
 }
 
-// The lines of a group in a record at a place with these counts; group 0 is the index, and behind group 60 there are none. Where the text
-// has too few lines, they end where it does.
+// R27: the lines of a group in a record at a place with these counts; group 0 is the index, and behind group 60 there are none. Where the
+// text has too few lines, they end where it does.
 pub fn span_of(text: &[u8], at: usize, counts: &[u16], group: usize) -> Span
-    ensures { λ r. ⌜ (r .from ≡ start (now (text .entry)) at (now (counts .entry)) group) × (r .to ≡ start (now (text .entry)) at (now (counts .entry)) (group + 1)) ⌝ }
+    ensures from { λ r. ⌜ r .from ≡ start (now (text .entry)) at (now (counts .entry)) group ⌝ }
+    ensures to { λ r. ⌜ r .to ≡ start (now (text .entry)) at (now (counts .entry)) (group + 1) ⌝ }
 {
     let before = count::add_up(counts, group);
     let from = line::behind_or_end(text, at, before.lines);

@@ -202,7 +202,7 @@ module _ (f : Form) (count : ℕ) (x : List ℕ) where
             element = refl;
           }
 
-  -- "In A120 the element is the line."
+  -- R232: in A120 a line is an element, so both have the same number
   pub letters-line : f ≡ A120 → (n e : ℕ) → WrongField f count x n e → e ≡ n
   letters-line u n e w =
       let p : rowOf f .«per_line» ≡ 1 = short-one f (ap mayBeShort u) in

@@ -71,12 +71,34 @@ stored-all cs old table base cell b =
 
 -- ---- the state before line j, and before field i of it
 
-pub record Filling (f : Form) (count : ℕ) (s : List ℕ) (old : List ℤ) (width perLine cells many left at cell j : ℕ) (table : List ℤ) : Type 0 where
-  pub walk : Walking f count s width perLine many left at j
-  pub sized : cells ≡ rowOf f .cells
+-- where the pass stands: the row's numbers, the lines of the group, the elements left, the next line's place and number, the next cell
+pub record Reached : Type 0 where
+  pub width : ℕ
+  pub perLine : ℕ
+  pub cells : ℕ
+  pub many : ℕ
+  pub left : ℕ
+  pub at : ℕ
+  pub cell : ℕ
+  pub j : ℕ
+  pub table : List ℤ
+
+pub record Filling (f : Form) (count : ℕ) (s : List ℕ) (old : List ℤ) (r : Reached) : Type 0 where
+  pub walk : Walking f count s (r .width) (r .perLine) (r .many) (r .left) (r .at) (r .j)
+  pub sized : r .cells ≡ rowOf f .cells
   pub more : List ℤ
-  pub rest : readLinesOf f (planFrom (rowOf f .«per_line») (elementsOf f count) j (many - j)) (drop at s) ≡ done more
-  pub store : Stored (cellsGot (readLines f count s)) old 0 cell table more
+  pub rest : readLinesOf f (planFrom (rowOf f .«per_line») (elementsOf f count) (r .j) (r .many - r .j)) (drop (r .at) s) ≡ done more
+  pub store : Stored (cellsGot (readLines f count s)) old 0 (r .cell) (r .table) more
+
+-- it has come to a line, of k elements, that ends at `end`
+pub record OnLine (f : Form) (count : ℕ) (s : List ℕ) (old : List ℤ) (r : Reached) : Type 0 where
+  pub room : length (cellsGot (readLines f count s)) ≤ length old
+  pub state : Filling f count s old r
+  pub further : r .j < r .many
+  pub k : ℕ
+  pub end : ℕ
+  pub elements : k ≡ min (r .perLine) (r .left)
+  pub behind : end ≡ r .at + reach (drop (r .at) s) 1
 
 -- the cells of line l go to the table `old` from `base` on
 pub record FillingFields (f : Form) (l : Line) (text : List ℕ) (old : List ℤ) (base at i from cell : ℕ) (table : List ℤ) : Type 0 where
@@ -91,160 +113,163 @@ enough-room f count s old v room =
     let r = clean-read (readLines f count s) v in
     omega (arith, ap (λ g. length (cellsGot g)) (r .is), group-size f count s (r .cells) (r .is))
 
-pub filling-start : (f : Form) (count : ℕ) (s : List ℕ) (old : List ℤ) (width perLine cells many left : ℕ) → Walking f count s width perLine many left 0 0 → cells ≡ rowOf f .cells → verdictOf (readLines f count s) ≡ Clean → Filling f count s old width perLine cells many left 0 0 0 old
+pub filling-start : {f : Form} {count : ℕ} {s : List ℕ} {r : Reached} → Walking f count s (r .width) (r .perLine) (r .many) (r .left) (r .at) (r .j) → r .cells ≡ rowOf f .cells → verdictOf (readLines f count s) ≡ Clean → (r .at ≡ 0) × (r .cell ≡ 0) × (r .j ≡ 0) → Filling f count s (r .table) r
 unfolding readLines planOf
-filling-start f count s old width perLine cells many left b z v =
-    let r = clean-read (readLines f count s) v in
+filling-start {f} {count} {s} {r} b z v none =
+    let g = clean-read (readLines f count s) v in
     record {
       walk = b;
       sized = z;
       more = cellsGot (readLines f count s);
-      rest = rw (sub-zero many, b .lines, drop-none s) (r .is ∙ ap done (sym (ap cellsGot (r .is))));
-      store = stored-none (cellsGot (readLines f count s)) old 0;
+      rest = rw (none .0, none .2, sub-zero (r .many), b .lines, drop-none s) (g .is ∙ ap done (sym (ap cellsGot (g .is))));
+      store = rw (none .1) (stored-none (cellsGot (readLines f count s)) (r .table) 0);
     }
 
-pub filling-end : (f : Form) (count : ℕ) (s : List ℕ) (old : List ℤ) {width perLine cells many left at cell j : ℕ} {table : List ℤ} → Filling f count s old width perLine cells many left at cell j table → many ≤ j → table ≡ over 0 (cellsGot (readLines f count s)) old
-filling-end f count s old {many = many} {at = at} {cell = cell} {j = j} {table = table} b h =
-    let z : many - j ≡ 0 = omega arith in
-    let e : [] ≡ b .more = done-same (sym (lines-none f s (rowOf f .«per_line») (elementsOf f count) j at) ∙ (rw z at (b .rest))) in
-    stored-all (cellsGot (readLines f count s)) old table 0 cell (subst (λ x. Stored (cellsGot (readLines f count s)) old 0 cell table x) (sym e) (b .store)) .here
+pub filling-end : {f : Form} {count : ℕ} {s : List ℕ} {old : List ℤ} {r : Reached} → Filling f count s old r → r .many ≤ r .j → r .table ≡ over 0 (cellsGot (readLines f count s)) old
+filling-end {f} {count} {s} {old} {r} b h =
+    let z : r .many - r .j ≡ 0 = omega arith in
+    let e : [] ≡ b .more = done-same (sym (lines-none f s (rowOf f .«per_line») (elementsOf f count) (r .j) (r .at)) ∙ (rw z at (b .rest))) in
+    stored-all (cellsGot (readLines f count s)) old (r .table) 0 (r .cell) (subst (λ x. Stored (cellsGot (readLines f count s)) old 0 (r .cell) (r .table) x) (sym e) (b .store)) .here
 
-pub filling-length : (f : Form) (count : ℕ) (s : List ℕ) (old : List ℤ) → length (cellsGot (readLines f count s)) ≤ length old → {width perLine cells many left at cell j : ℕ} {table : List ℤ} → Filling f count s old width perLine cells many left at cell j table → length table ≡ length old
-filling-length f count s old room b = stored-length (omega arith) (b .more) (b .store)
+pub filling-length : {f : Form} {count : ℕ} {s : List ℕ} {old : List ℤ} {r : Reached} → length (cellsGot (readLines f count s)) ≤ length old → Filling f count s old r → length (r .table) ≡ length old
+filling-length room b = stored-length (omega arith) (b .more) (b .store)
 
-module _ (f : Form) (count : ℕ) (s : List ℕ) (old : List ℤ) (room : length (cellsGot (readLines f count s)) ≤ length old) {width perLine cells many left at cell j : ℕ} {table : List ℤ} (b : Filling f count s old width perLine cells many left at cell j table) (h : j < many) (k end : ℕ) (q : k ≡ min perLine left) (w : end ≡ at + reach (drop at s) 1) where
+module _ {f : Form} {count : ℕ} {s : List ℕ} {old : List ℤ} {r : Reached} (o : OnLine f count s old r) where
   abbrev pub l : Line
-  l = lineAt (rowOf f .«per_line») (elementsOf f count) j
+  l = lineAt (rowOf f .«per_line») (elementsOf f count) (r .j)
 
   -- the cells behind this line
   abbrev pub others : Cells
-  others = readLinesOf f (planFrom (rowOf f .«per_line») (elementsOf f count) (j + 1) (many - (j + 1))) (drop end s)
+  others = readLinesOf f (planFrom (rowOf f .«per_line») (elementsOf f count) (r .j + 1) (r .many - (r .j + 1))) (drop (o .end) s)
 
-  split : BothDone (readLine f l (part at end s)) others (b .more)
-  split = both-done (readLine f l (part at end s)) others (b .more) (sym (line-more f count s (b .walk) k end q w h) ∙ b .rest)
+  split : BothDone (readLine f l (part (r .at) (o .end) s)) others (o .state .more)
+  split = both-done (readLine f l (part (r .at) (o .end) s)) others (o .state .more) (sym (line-more f count s (o .state .walk) (o .k) (o .end) (o .elements) (o .behind) (o .further)) ∙ o .state .rest)
 
-  here : LineDone f l (part at end s) (split .first)
-  here = line-done f l (part at end s) (split .first) (split .first-is)
+  here : LineDone f l (part (r .at) (o .end) s) (split .first)
+  here = line-done f l (part (r .at) (o .end) s) (split .first) (split .first-is)
+
+  pub line-inside : (r .at ≤ o .end) × (o .end ≤ length s)
+  line-inside = end-range f count s (o .state .walk) (o .k) (o .end) (o .elements) (o .behind)
 
   -- a clean line has a content
-  pub has-content : contentOf (part at end s) ≡ NoReturn → ⊥
+  pub has-content : contentOf (part (r .at) (o .end) s) ≡ NoReturn → ⊥
   has-content e =
       let y = sym (here .content) ∙ e in
       let z : _≡_ {A = ℕ} 0 1 = cc in
       absurd (omega arith)
 
   -- which is no shorter than the code takes it to be
-  pub end-behind : (m : ℕ) → m ≡ shortest f (k * width) → at + m + reach (drop (at + m) s) 1 ≡ at + reach (drop at s) 1
+  pub end-behind : (m : ℕ) → m ≡ shortest f (o .k * r .width) → r .at + m + reach (drop (r .at + m) s) 1 ≡ r .at + reach (drop (r .at) s) 1
   end-behind m e =
-      let r = right-yes f (columnsOf f l) (part at end s) (here .bytes) (here .content) (here .right) in
-      let i = end-range f count s (b .walk) k end q w .1 in
-      let n : m ≡ shortest f (columnsOf f l) = e ∙ ap (shortest f) (columns-here f count s (b .walk) k end q w) in
-      end-from f l s at end (here .bytes) i r w m (omega (arith, enough f l s at end (here .bytes) i r))
+      let y = right-yes f (columnsOf f l) (part (r .at) (o .end) s) (here .bytes) (here .content) (here .right) in
+      let i = line-inside .1 in
+      let n : m ≡ shortest f (columnsOf f l) = e ∙ ap (shortest f) (columns-here f count s (o .state .walk) (o .k) (o .end) (o .elements) (o .behind)) in
+      end-from f l s (r .at) (o .end) (here .bytes) i y (o .behind) m (omega (arith, enough f l s (r .at) (o .end) (here .bytes) i y))
 
-  module _ (m : ℕ) (e : contentOf (part at end s) ≡ Length m) where
+  module _ (m : ℕ) (e : contentOf (part (r .at) (o .end) s) ≡ Length m) where
     bytes : here .bytes ≡ m
     bytes = same (sym (here .content) ∙ e)
       where
         same : {a b : ℕ} → Length a ≡ Length b → a ≡ b
         same e = cc
 
-    right : rightContent f (columnsOf f l) (part at end s) ≡ Length m
-    right = right-yes f (columnsOf f l) (part at end s) m e (subst (λ x. isRight f (columnsOf f l) (part 0 x (part at end s)) ≡ true) bytes (here .right))
+    right : rightContent f (columnsOf f l) (part (r .at) (o .end) s) ≡ Length m
+    right = right-yes f (columnsOf f l) (part (r .at) (o .end) s) m e (subst (λ x. isRight f (columnsOf f l) (part 0 x (part (r .at) (o .end) s)) ≡ true) bytes (here .right))
 
-    inside : end ≤ length s
-    inside = end-range f count s (b .walk) k end q w .1
+    inside : (o .end) ≤ length s
+    inside = line-inside .1
 
-    pub fill-inside : at + m + 2 ≤ length s
-    fill-inside = omega (arith, line-ends f l s at end m inside right, inside)
+    pub fill-inside : (r .at) + m + 2 ≤ length s
+    fill-inside = omega (arith, line-ends f l s (r .at) (o .end) m inside right, inside)
 
-    text-done : readFields f l (lineText f l s at end m) ≡ done (split .first)
-    text-done = subst (λ x. readFields f l (filledTo (columnsOf f l) (part 0 x (part at end s))) ≡ done (split .first)) bytes (here .fields)
+    text-done : readFields f l (lineText f l s (r .at) (o .end) m) ≡ done (split .first)
+    text-done = subst (λ x. readFields f l (filledTo (columnsOf f l) (part 0 x (part (r .at) (o .end) s))) ≡ done (split .first)) bytes (here .fields)
 
-    line-cells : cellsGot (readFields f l (lineText f l s at end m)) ≡ split .first
+    line-cells : cellsGot (readFields f l (lineText f l s (r .at) (o .end) m)) ≡ split .first
     line-cells = ap cellsGot text-done
 
     -- what is left begins with the cells of this line
-    before : Stored (cellsGot (readLines f count s)) old 0 cell table (split .first ++ split .second)
-    before = subst (λ x. Stored (cellsGot (readLines f count s)) old 0 cell table x) (split .all) (b .store)
+    before : Stored (cellsGot (readLines f count s)) old 0 (r .cell) (r .table) (split .first ++ split .second)
+    before = subst (λ x. Stored (cellsGot (readLines f count s)) old 0 (r .cell) (r .table) x) (split .all) (o .state .store)
 
-    line-room : cell + length (cellsGot (readFields f l (lineText f l s at end m))) ≤ length table
-    line-room = omega (arith, ap length line-cells, stored-room {base = 0} (omega arith) (split .first) (split .second) before, filling-length f count s old room b)
+    line-room : r .cell + length (cellsGot (readFields f l (lineText f l s (r .at) (o .end) m))) ≤ length (r .table)
+    line-room = omega (arith, ap length line-cells, stored-room {base = 0} (omega arith) (split .first) (split .second) before, filling-length (o .room) (o .state))
 
-    pub fields-filling : FillingFields f l (lineText f l s at end m) table cell at 0 at cell table
+    pub fields-filling : FillingFields f l (lineText f l s (r .at) (o .end) m) (r .table) (r .cell) (r .at) 0 (r .at) (r .cell) (r .table)
     fields-filling =
         record {
           place = omega (arith, zero-mul (rowOf f .width));
           within = omega arith;
-          more = cellsGot (readFields f l (lineText f l s at end m));
-          rest = fields-start f l (lineText f l s at end m) ∙ text-done ∙ ap done (sym line-cells);
-          store = stored-none (cellsGot (readFields f l (lineText f l s at end m))) table cell;
+          more = cellsGot (readFields f l (lineText f l s (r .at) (o .end) m));
+          rest = fields-start f l (lineText f l s (r .at) (o .end) m) ∙ text-done ∙ ap done (sym line-cells);
+          store = stored-none (cellsGot (readFields f l (lineText f l s (r .at) (o .end) m))) (r .table) (r .cell);
         }
 
-    module _ {i from spot : ℕ} {now : List ℤ} (g : FillingFields f l (lineText f l s at end m) table cell at i from spot now) where
+    module _ {i from spot : ℕ} {now : List ℤ} (g : FillingFields f l (lineText f l s (r .at) (o .end) m) (r .table) (r .cell) (r .at) i from spot now) where
       pub fill-small : from ≤ length s + 120 * 120
-      fill-small = omega (arith, g .place, b .walk .inside, mul-le-mul few-passed (width-few f))
+      fill-small = omega (arith, g .place, o .state .walk .inside, mul-le-mul few-passed (width-few f))
         where
           few-passed : i ≤ 120
           few-passed = omega (arith, g .within, row-fits f .few)
 
-      pub fill-length : length now ≡ length table
+      pub fill-length : length now ≡ length (r .table)
       fill-length = stored-length line-room (g .more) (g .store)
 
       -- all fields are filled: the next line
-      pub filling-next : k ≤ i → Filling f count s old width perLine cells many (left - k) end spot (j + 1) now
+      pub filling-next : o .k ≤ i → Filling f count s old record { width = r .width; perLine = r .perLine; cells = r .cells; many = r .many; left = r .left - o .k; at = o .end; cell = spot; j = r .j + 1; table = now }
       filling-next d =
           record {
-            walk = walking-next f count s (b .walk) k end q w h;
-            sized = b .sized;
+            walk = walking-next f count s (o .state .walk) (o .k) (o .end) (o .elements) (o .behind) (o .further);
+            sized = o .state .sized;
             more = split .second;
             rest = split .second-is;
-            store = subst (λ n. Stored (cellsGot (readLines f count s)) old 0 n now (split .second)) (sym (whole .next ∙ ap (λ y. cell + length y) line-cells)) (stored-more {base = 0} (omega arith) (split .first) (split .second) now before (whole .here ∙ ap (λ y. over cell y table) line-cells));
+            store = subst (λ n. Stored (cellsGot (readLines f count s)) old 0 n now (split .second)) (sym (whole .next ∙ ap (λ y. r .cell + length y) line-cells)) (stored-more {base = 0} (omega arith) (split .first) (split .second) now before (whole .here ∙ ap (λ y. over (r .cell) y (r .table)) line-cells));
           }
         where
           none : [] ≡ g .more
-          none = done-same (sym (fields-none f l (lineText f l s at end m) i (drop (i * rowOf f .width) (lineText f l s at end m)) (omega (arith, many-here f count s (b .walk) k end q w))) ∙ g .rest)
+          none = done-same (sym (fields-none f l (lineText f l s (r .at) (o .end) m) i (drop (i * rowOf f .width) (lineText f l s (r .at) (o .end) m)) (omega (arith, many-here f count s (o .state .walk) (o .k) (o .end) (o .elements) (o .behind)))) ∙ g .rest)
 
-          whole : AllStored (cellsGot (readFields f l (lineText f l s at end m))) table cell spot now
-          whole = stored-all (cellsGot (readFields f l (lineText f l s at end m))) table now cell spot (subst (λ x. Stored (cellsGot (readFields f l (lineText f l s at end m))) table cell spot now x) (sym none) (g .store))
+          whole : AllStored (cellsGot (readFields f l (lineText f l s (r .at) (o .end) m))) (r .table) (r .cell) spot now
+          whole = stored-all (cellsGot (readFields f l (lineText f l s (r .at) (o .end) m))) (r .table) now (r .cell) spot (subst (λ x. Stored (cellsGot (readFields f l (lineText f l s (r .at) (o .end) m))) (r .table) (r .cell) spot now x) (sym none) (g .store))
 
-      module _ (to : ℕ) (c : i < k) (t : to ≡ min (from + width) (at + m)) where
+      module _ (to : ℕ) (c : i < o .k) (t : to ≡ min (from + r .width) (r .at + m)) where
         inner : i < l .many
-        inner = omega (arith, many-here f count s (b .walk) k end q w)
+        inner = omega (arith, many-here f count s (o .state .walk) (o .k) (o .end) (o .elements) (o .behind))
 
-        to-is : to ≡ min (from + rowOf f .width) (at + m)
-        to-is = t ∙ rw (b .walk .wide)
+        to-is : to ≡ min (from + rowOf f .width) (r .at + m)
+        to-is = t ∙ rw (o .state .walk .wide)
 
-        field-is : filledTo width (part from to s) ≡ take (rowOf f .width) (drop (i * rowOf f .width) (lineText f l s at end m))
-        field-is = ap (λ n. filledTo n (part from to s)) (b .walk .wide) ∙ piece f l s at end m inside right (few-here f count s (b .walk) k end q w) i from to inner (g .place) to-is
+        field-is : filledTo (r .width) (part from to s) ≡ take (rowOf f .width) (drop (i * rowOf f .width) (lineText f l s (r .at) (o .end) m))
+        field-is = ap (λ n. filledTo n (part from to s)) (o .state .walk .wide) ∙ piece f l s (r .at) (o .end) m inside right (few-here f count s (o .state .walk) (o .k) (o .end) (o .elements) (o .behind)) i from to inner (g .place) to-is
 
-        one : BothDone (readField f (l .number) (l .first + i) (filledTo width (part from to s))) (readFields f (restOf l (i + 1)) (drop ((i + 1) * rowOf f .width) (lineText f l s at end m))) (g .more)
+        one : BothDone (readField f (l .number) (l .first + i) (filledTo (r .width) (part from to s))) (readFields f (restOf l (i + 1)) (drop ((i + 1) * rowOf f .width) (lineText f l s (r .at) (o .end) m))) (g .more)
         one =
-            both-done (readField f (l .number) (l .first + i) (filledTo width (part from to s))) (readFields f (restOf l (i + 1)) (drop ((i + 1) * rowOf f .width) (lineText f l s at end m))) (g .more)
-            (ap (λ y. both (readField f (l .number) (l .first + i) y) (readFields f (restOf l (i + 1)) (drop ((i + 1) * rowOf f .width) (lineText f l s at end m)))) field-is ∙ sym (fields-more f l (lineText f l s at end m) i inner) ∙ g .rest)
+            both-done (readField f (l .number) (l .first + i) (filledTo (r .width) (part from to s))) (readFields f (restOf l (i + 1)) (drop ((i + 1) * rowOf f .width) (lineText f l s (r .at) (o .end) m))) (g .more)
+            (ap (λ y. both (readField f (l .number) (l .first + i) y) (readFields f (restOf l (i + 1)) (drop ((i + 1) * rowOf f .width) (lineText f l s (r .at) (o .end) m)))) field-is ∙ sym (fields-more f l (lineText f l s (r .at) (o .end) m) i inner) ∙ g .rest)
 
-        reads : Reads f (filledTo width (part from to s)) (one .first)
-        reads = field-done f (l .number) (l .first + i) (filledTo width (part from to s)) (one .first) (one .first-is)
+        reads : Reads f (filledTo (r .width) (part from to s)) (one .first)
+        reads = field-done f (l .number) (l .first + i) (filledTo (r .width) (part from to s)) (one .first) (one .first-is)
 
         size : length (one .first) ≡ rowOf f .cells
-        size = reads-size f (filledTo width (part from to s)) (one .first) reads
+        size = reads-size f (filledTo (r .width) (part from to s)) (one .first) reads
 
-        store : Stored (cellsGot (readFields f l (lineText f l s at end m))) table cell spot now (one .first ++ one .second)
-        store = subst (λ y. Stored (cellsGot (readFields f l (lineText f l s at end m))) table cell spot now y) (one .all) (g .store)
+        store : Stored (cellsGot (readFields f l (lineText f l s (r .at) (o .end) m))) (r .table) (r .cell) spot now (one .first ++ one .second)
+        store = subst (λ y. Stored (cellsGot (readFields f l (lineText f l s (r .at) (o .end) m))) (r .table) (r .cell) spot now y) (one .all) (g .store)
 
-        pub put-requires : (from ≤ to) × (to ≤ length s) × (width ≡ rowOf f .width) × Fits f (to - from) × T (formed (fieldOf f (filledTo width (part from to s)))) × (spot + rowOf f .cells ≤ length now)
+        pub put-requires : (from ≤ to) × (to ≤ length s) × (r .width ≡ rowOf f .width) × Fits f (to - from) × T (formed (fieldOf f (filledTo (r .width) (part from to s)))) × (spot + rowOf f .cells ≤ length now)
         put-requires =
-            let r = piece-range f l s at end m inside right (few-here f count s (b .walk) k end q w) i from to inner (g .place) to-is in
-            (r .0, r .1, b .walk .wide, r .2, reads .good, omega (arith, size, fill-length, stored-room line-room (one .first) (one .second) store))
+            let p = piece-range f l s (r .at) (o .end) m inside right (few-here f count s (o .state .walk) (o .k) (o .end) (o .elements) (o .behind)) i from to inner (g .place) to-is in
+            (p .0, p .1, o .state .walk .wide, p .2, reads .good, omega (arith, size, fill-length, stored-room line-room (one .first) (one .second) store))
 
-        pub cell-small : spot + cells ≤ length old
-        cell-small = omega (arith, b .sized, put-requires .5, fill-length, filling-length f count s old room b)
+        pub cell-small : spot + r .cells ≤ length old
+        cell-small = omega (arith, o .state .sized, put-requires .5, fill-length, filling-length (o .room) (o .state))
 
-        pub fields-next : {new : List ℤ} → new ≡ over spot (cellsIn (filledTo width (part from to s)) (fieldOf f (filledTo width (part from to s)))) now → FillingFields f l (lineText f l s at end m) table cell at (i + 1) (from + width) (spot + cells) new
+        pub fields-next : {new : List ℤ} → new ≡ over spot (cellsIn (filledTo (r .width) (part from to s)) (fieldOf f (filledTo (r .width) (part from to s)))) now → FillingFields f l (lineText f l s (r .at) (o .end) m) (r .table) (r .cell) (r .at) (i + 1) (from + r .width) (spot + r .cells) new
         fields-next {new = new} y =
             record {
-              place = omega (arith, g .place, b .walk .wide, add-mul i 1 (rowOf f .width), one-mul (rowOf f .width));
+              place = omega (arith, g .place, o .state .walk .wide, add-mul i 1 (rowOf f .width), one-mul (rowOf f .width));
               within = omega (arith, inner);
               more = one .second;
               rest = one .second-is;
-              store = subst (λ n. Stored (cellsGot (readFields f l (lineText f l s at end m))) table cell n new (one .second)) (ap (λ n. spot + n) (size ∙ sym (b .sized))) (stored-more line-room (one .first) (one .second) new store (y ∙ ap (λ z. over spot z now) (reads .cells)));
+              store = subst (λ n. Stored (cellsGot (readFields f l (lineText f l s (r .at) (o .end) m))) (r .table) (r .cell) n new (one .second)) (ap (λ n. spot + n) (size ∙ sym (o .state .sized))) (stored-more line-room (one .first) (one .second) new store (y ∙ ap (λ z. over spot z now) (reads .cells)));
             }

@@ -1,4 +1,4 @@
--- The line of group 4 of 01's record S, `   7.250`, reads as its cell into any table with room; with a comma in place of the point it is
+-- R381: the line of group 4 of record S, `   7.250`, reads as its cell into any table with room; with a comma in place of the point it is
 -- refused, 9 at line 1, element 1. By computation.
 -- Assumes nothing.
 use mathlib.Core.Path.{_≡_, refl}
@@ -22,5 +22,5 @@ use Rattle.reading.specs.Plan.{planFrom, planOf}
 use Rattle.reading.specs.Read.{readFields, readLine, readLinesOf, readLines, readForm}
 
 pub four-reads : (room : ℕ) → 1 ≤ room → (readForm F8 4 1 (bytes "   7.250" ++ (13 ∷ 10 ∷ [])) room ≡ done (pos 7250 ∷ [])) × (readForm F8 4 1 (bytes "   7,250" ++ (13 ∷ 10 ∷ [])) room ≡ bad (BadField 1 1))
-unfolding readForm readLines readLinesOf readLine readFields Pieces.gather planOf planFrom isRight filledTo Field.fieldOf Lines.reach Contents.contentOf Every.upFrom Table.rowOf Table.entryOf Count.linesOf Count.cellsOf Count.roundedUp Count.elementsOf Count.lastOf
+unfolding readForm readLines readLinesOf readLine readFields Pieces.gather planOf planFrom isRight filledTo Field.fieldOf Lines.reach Contents.contentOf Every.upFrom Table.rowOf Table.entryOf Count.linesOf Count.cellsOf Count.roundedUp Count.elementsOf
 four-reads room h = rw (le-leb 1 room h) (refl, refl)

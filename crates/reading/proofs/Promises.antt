@@ -1,6 +1,6 @@
--- What is promised of reading the lines of a group: each answer fills a row of its table; a refusal keeps the table, and 0 keeps what stands
--- behind the cells; a broken rule on counts is 7 for every group; a group reads the same into every table with room; a count of 0 gives 0
--- and no cells.
+-- What is promised of reading the lines of a group: each answer fills a row of its table; a refusal keeps the table, and 0 keeps what
+-- stands behind the cells; a broken rule on counts is 7 for every group; a group reads the same into every table with room; a count of 0
+-- gives 0 and no cells.
 -- Assumes nothing.
 use mathlib.Core.Path.{_≡_, refl, sym, _∙_, ap}
 use mathlib.Core.List.{List, [], map}
@@ -63,28 +63,28 @@ cells-numbered ns g x room (bad r) d = refusal-numbered ns g x room r d
 
 -- ---- the table
 
--- refused read keeps: "reply not 0 → the table at exit is the table at entry"
+-- R267: a refused reading leaves the whole table as it was
 pub refused-read-keeps : (g : Cells) (old : List ℤ) → (readingReply (readingOf g) .number ≡ 0 → ⊥) → tableBy g old ≡ old
 refused-read-keeps (done cs) old n = absurd (n refl)
 refused-read-keeps (bad r) old n = refl
 
--- under 0 the first cells of the table are those that were read
+-- R266: under 0 the first cells of the table are those that were read
 pub done-read-holds : (cs old : List ℤ) → take (length cs) (tableBy (done cs) old) ≡ cs
 done-read-holds cs old = take-at cs (drop (0 + length cs) old) (length cs) refl
 
--- done read keeps the rest: "Cells behind the last one written keep their content"
+-- R266: and those behind them are what they were
 pub done-read-keeps-rest : (g : Cells) (old : List ℤ) (n : ℕ) → readingOf g ≡ Done n → drop n (tableBy g old) ≡ drop n old
 done-read-keeps-rest (done cs) old n e =
     let m : length cs ≡ n = cc in
     rw (← m, zero-add (length cs)) (drop-at cs (drop (length cs) old) (length cs) refl)
 done-read-keeps-rest (bad r) old n e = let z : _≡_ {A = ℕ} 0 1 = cc in absurd (omega arith)
 
--- a record that breaks a rule on counts gives 7 for every group, whatever its lines hold
+-- R261: a record that breaks a rule on counts gives 7 for every group, whatever its lines hold
 pub read-broken : (ns : List ℕ) (g : ℕ) (x : List ℕ) (room h : ℕ) (f : Form) → formOf g ≡ Has f → rulingOf ns ≡ Broken h → readGroup ns g x room ≡ bad (BrokenRule h)
 unfolding readGroup
 read-broken ns g x room h f e r = rw (e, r)
 
--- a group reads the same into every table with room for what its counts, if they keep the rules, let it fill
+-- R264: a group reads the same into every table with room for what its counts, if they keep the rules, let it fill
 pub read-room : (ns : List ℕ) (g : ℕ) (x : List ℕ) (room more : ℕ) (f : Form) → formOf g ≡ Has f → (rulingOf ns ≡ Kept → (cellsOf f (countOf ns g) ≤ room) × (cellsOf f (countOf ns g) ≤ more)) → readGroup ns g x room ≡ readGroup ns g x more
 unfolding readGroup readForm
 read-room ns g x room more f e h = rw e (by (rulingOf ns) refl)
@@ -95,7 +95,7 @@ read-room ns g x room more f e h = rw e (by (rulingOf ns) refl)
         rw (le-leb (cellsOf f (countOf ns g)) room (m .0), le-leb (cellsOf f (countOf ns g)) more (m .1)) refl
     by (Broken b) u = refl
 
--- ---- "A group with count 0 gives 0 and no cells", also into an empty table
+-- ---- R268: a group without elements reads with 0 and no cells, into an empty table too
 
 no-elements : (f : Form) → (linesOf f 0 ≡ 0) × (cellsOf f 0 ≡ 0)
 unfolding Count.linesOf Count.cellsOf Count.elementsOf

@@ -23,11 +23,11 @@ use Rattle.form.specs.Count.{cellsOf}
 use Rattle.count.specs.Tally.{countOf}
 use Rattle.count.specs.Rules
 use Rattle.count.specs.Rules.{rulingOf}
-use Rattle.count.specs.declared.Ruling.the-variants.{Kept, Broken}
+use Rattle.count.specs.declared.Ruling.the-variants.{Kept}
 use Rattle.count.specs.Blame
 use Rattle.count.proofs.Rulings.{ruling-kept}
 use Rattle.reading.specs.declared.Refusal.{Refusal}
-use Rattle.reading.specs.declared.Refusal.the-variants.{NoGroup, BrokenRule, NoRoom}
+use Rattle.reading.specs.declared.Refusal.the-variants.{NoGroup, NoRoom}
 use Rattle.reading.specs.declared.Reading.{Reading}
 use Rattle.reading.specs.declared.Reading.the-variants.{Done, Refused}
 use Rattle.reading.specs.declared.Verdict.the-variants.{Clean, Bad}
@@ -80,7 +80,7 @@ module _ (f : Form) (g count : ℕ) (x : List ℕ) (old : List ℤ) where
           let all : readForm f g count x (length old) ≡ done (r .cells) = roomy ∙ clean-cells g (readLines f count x) e ∙ r .is in
           subst (λ y. Answers y old (Done (cellsOf f count)) new) (sym all) (ap Done (sym (group-size f count x (r .cells) (r .is))), n ∙ ap (λ y. over 0 (cellsGot y) old) (r .is))
 
--- "group 3 at least 19"
+-- R123: group 3 has room for a date
 pub kept-letters : (ns : List ℕ) → rulingOf ns ≡ Kept → 19 ≤ countOf ns 3
 unfolding Blame.Blames Rules.headRules
 kept-letters ns e = by (leb 19 (countOf ns 3)) refl
@@ -97,12 +97,6 @@ module _ (ns : List ℕ) (g : ℕ) (x : List ℕ) (old : List ℤ) where
       refuses old n
 
   module _ (f : Form) (e : formOf g ≡ Has f) where
-    pub group-broken : (h : ℕ) → rulingOf ns ≡ Broken h → Answers (readGroup ns g x (length old)) old (Refused (BrokenRule h)) old
-    unfolding readGroup
-    group-broken h r =
-        let n : readGroup ns g x (length old) ≡ bad (BrokenRule h) = rw (e, r) in
-        refuses old n
-
     pub group-kept : rulingOf ns ≡ Kept → (count : ℕ) → count ≡ countOf ns g → {a : Reading} {new : List ℤ} → Answers (readForm f g count x (length old)) old a new → Answers (readGroup ns g x (length old)) old a new
     unfolding readGroup
     group-kept r count c {a = a} {new = new} b =

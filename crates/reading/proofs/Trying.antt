@@ -118,127 +118,143 @@ pub record Trying (f : Form) (l : Line) (s : List ℕ) (at stop i from : ℕ) : 
   -- if the line is right, they are its first fields
   pub right : (end m : ℕ) → end ≡ at + reach (drop at s) 1 → rightContent f (columnsOf f l) (part at end s) ≡ Length m → Fielding f l (lineText f l s at end m) at i from
 
-module _ (f : Form) (count : ℕ) (s : List ℕ) {width perLine many left at element j : ℕ} (b : Checking f count s width perLine many left at element j) (h : j < many) (k : ℕ) (q : k ≡ min perLine left) (stop : ℕ) (e : stop ≡ at + fieldsSpan f (k * width) s at) where
-  abbrev l : Line
-  l = lineAt (rowOf f .«per_line») (elementsOf f count) j
+-- the pass has come to a line, of k elements, whose fields are looked for up to `stop`
+pub record OnLine (f : Form) (count : ℕ) (s : List ℕ) : Type 0 where
+  pub width : ℕ
+  pub perLine : ℕ
+  pub many : ℕ
+  pub left : ℕ
+  pub at : ℕ
+  pub element : ℕ
+  pub j : ℕ
+  pub state : Checking f count s width perLine many left at element j
+  pub further : j < many
+  pub k : ℕ
+  pub elements : k ≡ min perLine left
+  pub stop : ℕ
+  pub sought : stop ≡ at + fieldsSpan f (k * width) s at
 
-  columns : k * width ≡ columnsOf f l
-  columns = columns-here f count s (b .walk) k (at + reach (drop at s) 1) q refl
+module _ {f : Form} {count : ℕ} {s : List ℕ} (o : OnLine f count s) where
+  abbrev pub l : Line
+  l = lineAt (rowOf f .«per_line») (elementsOf f count) (o .j)
 
-  stops : (at ≤ stop) × (stop ≤ length s)
-  stops = stop-range f (k * width) s at (b .walk .inside) stop e
+  columns : o .k * o .width ≡ columnsOf f l
+  columns = columns-here f count s (o .state .walk) (o .k) (o .at + reach (drop (o .at) s) 1) (o .elements) refl
 
-  pub trying-start : Trying f l s at stop 0 at
+  stops : (o .at ≤ o .stop) × (o .stop ≤ length s)
+  stops = stop-range f (o .k * o .width) s (o .at) (o .state .walk .inside) (o .stop) (o .sought)
+
+  pub trying-start : Trying f l s (o .at) (o .stop) 0 (o .at)
   trying-start =
-      let z : at - at ≡ 0 = omega arith in
+      let z : o .at - o .at ≡ 0 = omega arith in
       record {
         place = omega (arith, zero-mul (rowOf f .width));
         within = omega arith;
         reached = λ u. stops .0;
-        plain = λ u. subst Plain (sym (ap (λ i. take i (drop at s)) z ∙ take-none (drop at s))) plain-nil;
-        right = λ end m w r. fielding-start f count s b h k end q w m (rw (sym columns) at r);
+        plain = λ u. subst Plain (sym (ap (λ i. take i (drop (o .at) s)) z ∙ take-none (drop (o .at) s))) plain-nil;
+        right = λ end m w r. fielding-start f count s (o .state) (o .further) (o .k) end (o .elements) w m (rw (sym columns) at r);
       }
 
-  module _ {i from : ℕ} (g : Trying f l s at stop i from) where
+  module _ {i from : ℕ} (g : Trying f l s (o .at) (o .stop) i from) where
     pub try-small : from ≤ length s + 120 * 120
-    try-small = omega (arith, g .place, b .walk .inside, mul-le-mul few-passed (width-few f))
+    try-small = omega (arith, g .place, o .state .walk .inside, mul-le-mul few-passed (width-few f))
       where
         few-passed : i ≤ 120
         few-passed = omega (arith, g .within, row-fits f .few)
 
-    module _ (to : ℕ) (c : i < k) (t : to ≡ min (from + width) stop) where
+    module _ (to : ℕ) (c : i < o .k) (t : to ≡ min (from + o .width) (o .stop)) where
       inner : i < l .many
-      inner = omega (arith, many-here f count s (b .walk) k (at + reach (drop at s) 1) q refl)
+      inner = omega (arith, many-here f count s (o .state .walk) (o .k) (o .at + reach (drop (o .at) s) 1) (o .elements) refl)
 
-      next : from + rowOf f .width ≤ at + columnsOf f l
+      next : from + rowOf f .width ≤ o .at + columnsOf f l
       next = omega (arith, g .place, add-mul i 1 (rowOf f .width), one-mul (rowOf f .width), mul-le-mul-right {m = i + 1} {n = l .many} (rowOf f .width) (omega (arith, inner)))
 
-      pub element-few : element + i ≤ 65536 * 120
-      element-few = omega (arith, b .first, inner, next-first f count s (b .walk), element-small f count s (b .walk))
+      pub element-few : o .element + i ≤ 65536 * 120
+      element-few = omega (arith, o .state .first, inner, next-first f count s (o .state .walk), element-small f count s (o .state .walk))
 
       -- a line that may be short has one field
-      first : mayBeShort f ≡ true → from ≡ at
+      first : mayBeShort f ≡ true → from ≡ o .at
       first u =
-          let z : i ≡ 0 = omega (arith, inner, few-here f count s (b .walk) k (at + reach (drop at s) 1) q refl, short-one f u) in
+          let z : i ≡ 0 = omega (arith, inner, few-here f count s (o .state .walk) (o .k) (o .at + reach (drop (o .at) s) 1) (o .elements) refl, short-one f u) in
           omega (arith, g .place, ap (λ n. n * rowOf f .width) z, zero-mul (rowOf f .width))
 
-      begun : from ≤ stop
+      begun : from ≤ o .stop
       begun = by (mayBeShort f) refl
         where
-          by : (x : Bool) → mayBeShort f ≡ x → from ≤ stop
+          by : (x : Bool) → mayBeShort f ≡ x → from ≤ o .stop
           by true u = omega (arith, first u, stops)
           by false u = g .reached u
 
       pub try-range : (from ≤ to) × (to ≤ length s) × (to - from ≤ rowOf f .width)
-      try-range = (omega (arith, begun), omega (arith, stops .1), omega (arith, b .walk .wide))
+      try-range = (omega (arith, begun), omega (arith, stops .1), omega (arith, o .state .walk .wide))
 
       long : length (part from to s) ≡ to - from
       long = length-take-le (to - from) (drop from s) (omega (arith, try-range, length-drop from s))
 
       -- where the line is right, this is where the field ends
-      module _ (end m : ℕ) (w : end ≡ at + reach (drop at s) 1) (r : rightContent f (columnsOf f l) (part at end s) ≡ Length m) where
-        given : rightContent f (k * width) (part at end s) ≡ Length m
+      module _ (end m : ℕ) (w : end ≡ o .at + reach (drop (o .at) s) 1) (r : rightContent f (columnsOf f l) (part (o .at) end s) ≡ Length m) where
+        given : rightContent f (o .k * o .width) (part (o .at) end s) ≡ Length m
         given = rw (sym columns) at r
 
-        to-right : to ≡ min (from + width) (at + m)
+        to-right : to ≡ min (from + o .width) (o .at + m)
         to-right = by (mayBeShort f) refl
           where
-            by : (x : Bool) → mayBeShort f ≡ x → to ≡ min (from + width) (at + m)
+            by : (x : Bool) → mayBeShort f ≡ x → to ≡ min (from + o .width) (o .at + m)
             by true u =
-                let v : contentOf (part at (at + reach (drop at s) 1) s) ≡ Length m = rw w at (right-is f (columnsOf f l) (part at end s) m r .content) in
-                t ∙ ap (min (from + width)) (stop-short f (k * width) s at (b .walk .inside) stop e u .content m v)
+                let v : contentOf (part (o .at) (o .at + reach (drop (o .at) s) 1) s) ≡ Length m = rw w at (right-is f (columnsOf f l) (part (o .at) end s) m r .content) in
+                t ∙ ap (min (from + o .width)) (stop-short f (o .k * o .width) s (o .at) (o .state .walk .inside) (o .stop) (o .sought) u .content m v)
             by false u =
-                let n : columnsOf f l ≤ m = rw u at (enough f l s at end m (end-range f count s (b .walk) k end q w .1) r) in
-                omega (arith, next, columns, b .walk .wide, stop-full f (k * width) s at (b .walk .inside) stop e u, content-inside f count s b h k end q w m given)
+                let n : columnsOf f l ≤ m = rw u at (enough f l s (o .at) end m (end-range f count s (o .state .walk) (o .k) end (o .elements) w .1) r) in
+                omega (arith, next, columns, o .state .walk .wide, stop-full f (o .k * o .width) s (o .at) (o .state .walk .inside) (o .stop) (o .sought) u, content-inside f count s (o .state) (o .further) (o .k) end (o .elements) w m given)
 
         same : formed (fieldOf f (asField f (part from to s))) ≡ formed (fieldOf f (filledTo (rowOf f .width) (part from to s)))
         same =
-            let fit = field-range f count s b h k end q w m given (g .right end m w r) to c to-right .2 in
+            let fit = field-range f count s (o .state) (o .further) (o .k) end (o .elements) w m given (g .right end m w r) to c to-right .2 in
             ap (λ x. formed (fieldOf f x)) (as-filled f (part from to s) (subst (Fits f) (sym long) fit))
 
-      pub trying-next : formed (fieldOf f (asField f (part from to s))) ≡ true → Trying f l s at stop (i + 1) (from + width)
+      pub trying-next : formed (fieldOf f (asField f (part from to s))) ≡ true → Trying f l s (o .at) (o .stop) (i + 1) (from + o .width)
       trying-next y =
           record {
-            place = omega (arith, g .place, b .walk .wide, add-mul i 1 (rowOf f .width), one-mul (rowOf f .width));
+            place = omega (arith, g .place, o .state .walk .wide, add-mul i 1 (rowOf f .width), one-mul (rowOf f .width));
             within = omega (arith, inner);
             reached = λ u. omega (arith, whole u);
-            plain = λ u. subst (λ n. Plain (part at n s)) (whole u) (subst Plain (part-append s at from to (omega (arith, g .place)) (try-range .0)) (plain-append (part at from s) (part from to s) (g .plain u) (formed-plain f (part from to s) u y .1)));
-            right = λ end m w r. fielding-next f count s b h k end q w m (given end m w r) (g .right end m w r) to c (to-right end m w r) (sym (same end m w r) ∙ y);
+            plain = λ u. subst (λ n. Plain (part (o .at) n s)) (whole u) (subst Plain (part-append s (o .at) from to (omega (arith, g .place)) (try-range .0)) (plain-append (part (o .at) from s) (part from to s) (g .plain u) (formed-plain f (part from to s) u y .1)));
+            right = λ end m w r. fielding-next f count s (o .state) (o .further) (o .k) end (o .elements) w m (given end m w r) (g .right end m w r) to c (to-right end m w r) (sym (same end m w r) ∙ y);
           }
         where
-          whole : mayBeShort f ≡ false → to ≡ from + width
-          whole u = omega (arith, formed-plain f (part from to s) u y .0, long, b .walk .wide, try-range)
+          whole : mayBeShort f ≡ false → to ≡ from + o .width
+          whole u = omega (arith, formed-plain f (part from to s) u y .0, long, o .state .walk .wide, try-range)
 
       -- a line that is not right is blamed, and otherwise the field
-      pub trying-wrong : formed (fieldOf f (asField f (part from to s))) ≡ false → (r : Refusal) → r ≡ misfitOf (j + 1) (element + i) (rightContent f (k * width) (part at (at + reach (drop at s) 1) s)) → Bad r ≡ verdictOf (readLines f count s)
-      trying-wrong y r z = by (rightContent f (k * width) (part at (at + reach (drop at s) 1) s)) refl
+      pub trying-wrong : formed (fieldOf f (asField f (part from to s))) ≡ false → (r : Refusal) → r ≡ misfitOf (o .j + 1) (o .element + i) (rightContent f (o .k * o .width) (part (o .at) (o .at + reach (drop (o .at) s) 1) s)) → Bad r ≡ verdictOf (readLines f count s)
+      trying-wrong y r z = by (rightContent f (o .k * o .width) (part (o .at) (o .at + reach (drop (o .at) s) 1) s)) refl
         where
           end : ℕ
-          end = at + reach (drop at s) 1
+          end = o .at + reach (drop (o .at) s) 1
 
-          by : (x : Content) → rightContent f (k * width) (part at (at + reach (drop at s) 1) s) ≡ x → Bad r ≡ verdictOf (readLines f count s)
+          by : (x : Content) → rightContent f (o .k * o .width) (part (o .at) (o .at + reach (drop (o .at) s) 1) s) ≡ x → Bad r ≡ verdictOf (readLines f count s)
           by (Length m) v =
-              let n : rightContent f (columnsOf f l) (part at end s) ≡ Length m = rw columns at v in
-              ap Bad (z ∙ ap (misfitOf (j + 1) (element + i)) v) ∙ wrong-field f count s b h k end q refl m v (g .right end m refl n) to c (to-right end m refl n) (sym (same end m refl n) ∙ y)
-          by NoReturn v = ap Bad (z ∙ ap (misfitOf (j + 1) (element + i)) v) ∙ wrong-line f count s b h k end q refl v
+              let n : rightContent f (columnsOf f l) (part (o .at) end s) ≡ Length m = rw columns at v in
+              ap Bad (z ∙ ap (misfitOf (o .j + 1) (o .element + i)) v) ∙ wrong-field f count s (o .state) (o .further) (o .k) end (o .elements) refl m v (g .right end m refl n) to c (to-right end m refl n) (sym (same end m refl n) ∙ y)
+          by NoReturn v = ap Bad (z ∙ ap (misfitOf (o .j + 1) (o .element + i)) v) ∙ wrong-line f count s (o .state) (o .further) (o .k) end (o .elements) refl v
 
     -- all fields are formed: the line's end is sought behind them
-    module _ (d : k ≤ i) (end : ℕ) (w : end ≡ stop + reach (drop stop s) 1) where
-      ends : end ≡ at + reach (drop at s) 1
-      ends = w ∙ reach-past s at stop 0 (stops .0) (stops .1) (by (mayBeShort f) refl)
+    module _ (d : o .k ≤ i) (end : ℕ) (w : end ≡ o .stop + reach (drop (o .stop) s) 1) where
+      ends : end ≡ o .at + reach (drop (o .at) s) 1
+      ends = w ∙ reach-past s (o .at) (o .stop) 0 (stops .0) (stops .1) (by (mayBeShort f) refl)
         where
-          by : (x : Bool) → mayBeShort f ≡ x → Plain (part at stop s)
-          by true u = stop-short f (k * width) s at (b .walk .inside) stop e u .plain
+          by : (x : Bool) → mayBeShort f ≡ x → Plain (part (o .at) (o .stop) s)
+          by true u = stop-short f (o .k * o .width) s (o .at) (o .state .walk .inside) (o .stop) (o .sought) u .plain
           by false u =
-              let z : i ≡ k = omega (arith, g .within, many-here f count s (b .walk) k (at + reach (drop at s) 1) q refl) in
-              let n : from ≡ stop = omega (arith, g .place, ap (λ x. x * rowOf f .width) z, ap (λ x. k * x) (b .walk .wide), g .reached u, stop-full f (k * width) s at (b .walk .inside) stop e u) in
-              subst (λ x. Plain (part at x s)) n (g .plain u)
+              let z : i ≡ (o .k) = omega (arith, g .within, many-here f count s (o .state .walk) (o .k) (o .at + reach (drop (o .at) s) 1) (o .elements) refl) in
+              let n : from ≡ (o .stop) = omega (arith, g .place, ap (λ x. x * rowOf f .width) z, ap (λ x. (o .k) * x) (o .state .walk .wide), g .reached u, stop-full f (o .k * o .width) s (o .at) (o .state .walk .inside) (o .stop) (o .sought) u) in
+              subst (λ x. Plain (part (o .at) x s)) n (g .plain u)
 
-      pub tried-range : (at ≤ end) × (end ≤ length s)
-      tried-range = end-range f count s (b .walk) k end q ends
+      pub tried-range : (o .at ≤ end) × (end ≤ length s)
+      tried-range = end-range f count s (o .state .walk) (o .k) end (o .elements) ends
 
-      pub tried-wrong : rightContent f (k * width) (part at end s) ≡ NoReturn → Bad (BadLine (j + 1)) ≡ verdictOf (readLines f count s)
-      tried-wrong v = wrong-line f count s b h k end q ends v
+      pub tried-wrong : rightContent f (o .k * o .width) (part (o .at) end s) ≡ NoReturn → Bad (BadLine (o .j + 1)) ≡ verdictOf (readLines f count s)
+      tried-wrong v = wrong-line f count s (o .state) (o .further) (o .k) end (o .elements) ends v
 
-      pub tried-next : (m : ℕ) → rightContent f (k * width) (part at end s) ≡ Length m → Checking f count s width perLine many (left - k) end (element + perLine) (j + 1)
-      tried-next m v = checking-next f count s b h k end q ends m v (g .right end m ends (rw columns at v)) d
+      pub tried-next : (m : ℕ) → rightContent f (o .k * o .width) (part (o .at) end s) ≡ Length m → Checking f count s (o .width) (o .perLine) (o .many) (o .left - o .k) end (o .element + o .perLine) (o .j + 1)
+      tried-next m v = checking-next f count s (o .state) (o .further) (o .k) end (o .elements) ends m v (g .right end m ends (rw columns at v)) d

@@ -174,7 +174,7 @@ module _ (f : Form) (count : ℕ) (x : List ℕ) where
     pub read-values : Values f count x cs
     read-values = record { size = group-size f count x cs e; each = stands }
 
-  -- "element i (from 0) stands in line i / per line of the group, in the columns from (i mod per line) times the width"
+  -- R45: counted from 0, element i stands in line i / per line, and i mod per line others stand before it there
   pub values-divided : (cs : List ℤ) → Values f count x cs → (i : ℕ) → i < n → Stands f count x cs i (i / p) (i % p)
   values-divided cs v i h =
       let e = div-add-mod' i p in

@@ -1,5 +1,5 @@
--- "A data line of k elements has k times the width as its length, and may carry blanks after that, up to 120 in all. An A120 line may have 0
--- to 120 bytes and reads as if filled with blanks to 120."
+-- R62, R63: a data line's content has all its fields, and behind them nothing but blanks, 120 bytes at most. R64, R65: in form A120 alone
+-- it may be short, and then reads as if blanks were added.
 use mathlib.Core.Bool.{Bool, true, false, cond, _&&_}
 use mathlib.Core.List.{List, _++_}
 use Prim.Native.Nat.{ℕ, _+_, _-_, _≤_, min}
@@ -18,7 +18,7 @@ use Rattle.line.specs.declared.Content.the-variants.{Length, NoReturn}
 abbrev pub blank : ℕ → Bool
 blank b = eqb b 32
 
--- a form whose lines may be shorter than their fields
+-- R64: a form whose lines may be shorter than their fields
 abbrev pub mayBeShort : Form → Bool
 mayBeShort F7 = false
 mayBeShort A120 = true
@@ -31,19 +31,19 @@ mayBeShort E11 = false
 mayBeShort E20 = false
 mayBeShort E8 = false
 
--- the least length of what stands in so many columns
+-- R62, R64: the least length of what stands in so many columns
 abbrev pub shortest : Form → ℕ → ℕ
 shortest f columns = cond (mayBeShort f) 0 columns
 
--- filled with blanks to n bytes; what is longer stays as it is
+-- R65: filled with blanks to n bytes; what is longer stays as it is
 unfoldable pub filledTo : ℕ → List ℕ → List ℕ
 filledTo n s = s ++ replicate (n - length s) 32
 
--- a line's content is right for fields that take so many columns: long enough, at most 120 bytes, and nothing but blanks behind the fields
+-- R62 to R64: a line's content is right for fields that take so many columns: long enough, at most 120 bytes, blanks alone behind them
 unfoldable pub isRight : Form → ℕ → List ℕ → Bool
 isRight f columns s = leb (shortest f columns) (length s) && (leb (length s) 120 && every blank (drop columns s))
 
--- the field that bytes of a line are: they are filled with blanks only where lines may be short
+-- R65: the field that bytes of a line are: they are filled with blanks only where lines may be short
 abbrev pub asField : Form → List ℕ → List ℕ
 asField f s = cond (mayBeShort f) (filledTo (rowOf f .width) s) s
 

@@ -1,6 +1,5 @@
--- When each reply of reading a group under its record's counts is due: its condition in 01's table, and none earlier in 01's order: "the
--- order is 12, then any placing reply but 0, then 11, then line by line 8 and that line's fields 9, then 10 for group 3." Of placing's
--- replies the counts decide 7.
+-- R233, R260: when each reply of reading a group under its record's counts is due: its own condition holds, and none earlier in the order:
+-- 12; the reply of placing, of which the counts decide 7; 11; 8 and 9, by lines; 10.
 use mathlib.Core.Path.{_≡_}
 use mathlib.Core.List.{List, map}
 use Prim.Native.Nat.{ℕ, _+_, _<_, _≤_}
@@ -26,7 +25,7 @@ use Rattle.reading.specs.Values.{planned, fieldIn, RightLine, Values}
 abbrev pub FieldReads : Form → ℕ → ℕ → List ℕ → ℕ → Type 0
 FieldReads f count j s k = SomeField f (fieldIn f count j s k)
 
--- ---- the lines: 8 and 9. "Lines and elements count from 1": the line with j before it is number j + 1, and Plan gives its first element
+-- ---- R262: the lines, 8 and 9. R231: numbers are from 1: the line with j before it is number j + 1, and Plan gives its first element
 
 module _ (f : Form) (count : ℕ) (x : List ℕ) where
   -- neither 8 nor 9 for line j
@@ -38,19 +37,19 @@ module _ (f : Form) (count : ℕ) (x : List ℕ) where
   abbrev pub AllClean : Type 0
   AllClean = (j : ℕ) → j < linesOf f count → CleanLine j
 
-  -- the reading comes to line j: no line before it is bad
+  -- R263: the reading comes to line j: no line before it is bad
   pub record ComesTo (j : ℕ) : Type 0 where
     pub inside : j < linesOf f count
     pub earlier : (i : ℕ) → i < j → CleanLine i
 
-  -- 8: "no carriage return before the line feed, wrong length, or bytes after the fields that aren't blanks"
+  -- R208: the line is wrong: no content makes it right (R66)
   pub record WrongLine (l : ℕ) : Type 0 where
     pub j : ℕ
     pub comes : ComesTo j
     pub wrong : (s : List ℕ) → RightLine f count x j s → ⊥
     pub number : l ≡ planned f count j .number
 
-  -- 9: "misformed field", the first of its line, in a line that is right
+  -- R209: the first field of its line that is none of the form, in a line that is right
   pub record WrongField (l e : ℕ) : Type 0 where
     pub j : ℕ
     pub k : ℕ
@@ -66,7 +65,7 @@ module _ (f : Form) (count : ℕ) (x : List ℕ) where
 -- ---- the group
 
 module _ (ns : List ℕ) (g : ℕ) (x : List ℕ) (room : ℕ) where
-  -- 7, and not 12
+  -- R207, R261: 7, and not 12
   pub record RuleDue (h : ℕ) : Type 0 where
     pub low : 1 ≤ g
     pub high : g ≤ 60
@@ -77,7 +76,7 @@ module _ (ns : List ℕ) (g : ℕ) (x : List ℕ) (room : ℕ) where
     pub form : formOf g ≡ Has f
     pub kept : KeepsRules ns
 
-  -- 11: "table .. shorter than what reply 0 would fill, and only then"
+  -- R211, R264: the table has fewer cells than the group; for no other reason
   pub record Short : Type 0 where
     pub f : Form
     pub ruled : Ruled f
@@ -88,7 +87,7 @@ module _ (ns : List ℕ) (g : ℕ) (x : List ℕ) (room : ℕ) where
     pub ruled : Ruled f
     pub enough : cellsOf f (countOf ns g) ≤ room
 
-  -- 8 and 9
+  -- R208 and R209
   pub record LineDue (l : ℕ) : Type 0 where
     pub f : Form
     pub roomy : Roomy f
@@ -106,14 +105,14 @@ module _ (ns : List ℕ) (g : ℕ) (x : List ℕ) (room : ℕ) where
     pub clean : AllClean f (countOf ns g) x
     pub values : Values f (countOf ns g) x cs
 
-  -- 10: the letters of group 3 are no date, and p is blamed
+  -- R210, R265: the letters of group 3 are no date, and p is blamed
   pub record DateDue (p : ℕ) : Type 0 where
     pub cs : List ℤ
     pub cells : HasCells cs
     pub three : g ≡ 3
     pub wrong : Letters.Due (map sizeOf cs) (Wrong p)
 
-  -- 0, and of group 3 a date
+  -- R200: 0, and of group 3 a date
   pub record DoneDue (cs : List ℤ) : Type 0 where
     pub cells : HasCells cs
     pub date : g ≡ 3 → (d : Date) × Letters.Due (map sizeOf cs) (Right d)

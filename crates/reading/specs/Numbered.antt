@@ -1,4 +1,4 @@
--- Each answer's number in 01's table of replies, with the numbers given besides.
+-- R200 to R212: each answer's number, with the numbers beside it.
 use Rattle.reply.specs.declared.Reply.{Reply}
 use mathlib.Core.List.{List, [], _∷_, _++_}
 use Rattle.reply.specs.Table.{replyOn, replyPlain, replyDone, replyLine, replyDate, Row, row, cells, askedRefusals, lineRefusals, dateRefusal}
@@ -25,6 +25,6 @@ abbrev pub readingReply : Reading → Reply
 readingReply (Done n) = replyDone n
 readingReply (Refused r) = refusalReply r
 
--- the rows of reading a group: "12, then any placing reply but 0, then 11, then line by line 8 and that line's fields 9, then 10 for group 3"
+-- R260: the rows of reading a group, in its order: 12 and the refusals of placing; 11; 8 and 9; 10
 abbrev pub readingRows : List Row
 readingRows = row 0 (cells ∷ []) ∷ (askedRefusals ++ (row 11 [] ∷ (lineRefusals ++ (dateRefusal ∷ []))))

@@ -1,4 +1,4 @@
--- Which elements stand in which line of a group. Only this says so: nobody else divides or multiplies to know what a line holds.
+-- R44, R45: which elements stand in which line of a group. Only this says so: nobody else divides or multiplies to know what a line holds.
 use mathlib.Core.List.{List, map}
 use Prim.Native.Nat.{ℕ, _+_, _-_, _*_, min}
 use Rattle.base.specs.Every.{upFrom}
@@ -6,7 +6,7 @@ use Rattle.form.specs.declared.Form.{Form}
 use Rattle.form.specs.Table.{rowOf}
 use Rattle.form.specs.Count.{elementsOf, linesOf}
 
--- a line of a group: its number, its first element's number, and how many elements it has. "Lines and elements count from 1."
+-- R60: a line of a group: its number and its first element's number, both from 1, and how many elements it has
 pub record Line : Type 0 where
   pub number : ℕ
   pub first : ℕ

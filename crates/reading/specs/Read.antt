@@ -1,5 +1,5 @@
--- What a group reads as: a definition over the record's counts, the group's number, the bytes of its own lines and the table's length, in
--- which the text does not occur.
+-- R260, R269: what a group reads as: a definition over the record's counts, the group's number, the bytes of its own lines and the table's
+-- length, in which the text does not occur.
 use mathlib.Core.Bool.{cond}
 use mathlib.Core.List.{List, map}
 use Prim.Native.Nat.{ℕ, _*_}
@@ -39,27 +39,27 @@ use Rattle.reading.specs.declared.Verdict.the-variants.{Clean, Bad}
 abbrev pub Cells : Type 0
 Cells = Got Refusal ℤ
 
--- ---- a line: 8, then that line's fields, 9
+-- ---- R262: a line: 8, and its fields after that, 9
 
--- "misformed field: line, element in group"
+-- R209: a field that is none of the form, with its line and its element (R232)
 abbrev pub readField : Form → ℕ → ℕ → List ℕ → Cells
 readField f line e x = cond (formed (fieldOf f x)) (done (cellsIn x (fieldOf f x))) (bad (BadField line e))
 
--- the fields of a line stand one behind the other
+-- R61: the fields of a line stand one behind the other
 unfoldable pub readFields : Form → Line → List ℕ → Cells
 readFields f l s = gather (λ (e : ℕ) x. rowOf f .width) (readField f (l .number)) (elementsIn l) s
 
--- the columns that a line's fields take
+-- R62: the columns that a line's fields take
 abbrev pub columnsOf : Form → Line → ℕ
 columnsOf f l = l .many * rowOf f .width
 
--- "no carriage return before the line feed, wrong length, or bytes after the fields that aren't blanks: line in group"
+-- R66, R208: a line without a content, or with one that isn't right for its fields, is wrong
 abbrev pub readContent : Form → Line → List ℕ → Content → Cells
 readContent f l x (Length n) =
     cond (isRight f (columnsOf f l) (part 0 n x)) (readFields f l (filledTo (columnsOf f l) (part 0 n x))) (bad (BadLine (l .number)))
 readContent f l x NoReturn = bad (BadLine (l .number))
 
--- what is blamed where a field of a line is misformed: the line itself, if it is not right
+-- R262: what is blamed where a field of a line is misformed: the line itself, if it is not right
 abbrev pub misfitOf : ℕ → ℕ → Content → Refusal
 misfitOf line e (Length n) = BadField line e
 misfitOf line e NoReturn = BadLine line
@@ -70,14 +70,14 @@ readLine f l x = readContent f l x (contentOf x)
 
 -- ---- a group
 
--- "then line by line 8 and that line's fields 9". "The first bad field ends the reading, whichever line it is in."
+-- R262, R263: the lines in order; the first wrong line or misformed field ends the reading
 unfoldable pub readLinesOf : Form → List Line → List ℕ → Cells
 readLinesOf f ls x = gather (λ (l : Line) s. reach s 1) (readLine f) ls x
 
 unfoldable pub readLines : Form → ℕ → List ℕ → Cells
 readLines f count x = readLinesOf f (planOf f count) x
 
--- "then 10 for group 3"
+-- R210, R265: the date, of group 3 alone, once its lines and fields are right
 abbrev pub byDate : List ℤ → Dated → Cells
 byDate cs (Right d) = done cs
 byDate cs (Wrong p) = bad (BadDate p)
@@ -86,16 +86,16 @@ abbrev pub dated : ℕ → Cells → Cells
 dated g (done cs) = cond (eqb g 3) (byDate cs (datedOf (map sizeOf cs))) (done cs)
 dated g (bad r) = bad r
 
--- "table or output shorter than what reply 0 would fill, and only then" (11), then the lines, then the date
+-- R211, R264: 11 before any line is looked at; then the lines, then the date
 unfoldable pub readForm : Form → ℕ → ℕ → List ℕ → ℕ → Cells
 readForm f g count x room = cond (leb (cellsOf f count) room) (dated g (readLines f count x)) (bad NoRoom)
 
--- "rule on counts broken: blamed group" (7)
+-- R207, R261: counts that break a rule are 7 for every group
 abbrev pub readRuled : Form → List ℕ → ℕ → List ℕ → ℕ → Ruling → Cells
 readRuled f ns g x room Kept = readForm f g (countOf ns g) x room
 readRuled f ns g x room (Broken h) = bad (BrokenRule h)
 
--- "no group 1-60 .. of that number" (12)
+-- R212: the number is that of no group
 abbrev pub readBy : List ℕ → ℕ → List ℕ → ℕ → GroupForm → Cells
 readBy ns g x room (Has f) = readRuled f ns g x room (rulingOf ns)
 readBy ns g x room NoForm = bad NoGroup
@@ -110,7 +110,7 @@ abbrev pub readingOf : Cells → Reading
 readingOf (done cs) = Done (length cs)
 readingOf (bad r) = Refused r
 
--- "Cells behind the last one written keep their content."
+-- R266, R267: under 0 the cells stand from the table's first on, and what is behind them stays; a refusal leaves the whole table
 abbrev pub tableBy : Cells → List ℤ → List ℤ
 tableBy (done cs) old = over 0 cs old
 tableBy (bad r) old = old

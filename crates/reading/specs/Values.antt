@@ -1,6 +1,6 @@
--- Where an element of a group stands in the group's lines, and which cells it fills. Lines, elements, and the fields of a line count from 0
--- here: element i stands in line i / per line, in the columns from (i mod per line) times the width, and fills the cells from i times the
--- form's cells on (proofs/Values.antt).
+-- R45, R46, R61: where an element of a group stands in the group's lines, and which cells it fills. Lines, elements, and the fields of a
+-- line count from 0 here: element i stands in line i / per line, in the columns from (i mod per line) times the width, and fills the cells
+-- from i times the form's cells on (proofs/Values.antt).
 use mathlib.Core.Path.{_≡_}
 use mathlib.Core.List.{List}
 use Prim.Native.Nat.{ℕ, _+_, _*_, _<_, _≤_}
@@ -17,20 +17,20 @@ use Rattle.reading.specs.Blanks.{shortest, filledTo}
 use Rattle.reading.specs.Plan.{Line, lineAt}
 use Rattle.reading.specs.Read.{columnsOf}
 
--- "A line is the bytes up to and including a line feed": the line with j lines before it
+-- R2, R6: the line with j lines before it, its line feed with it
 abbrev pub lineOf : List ℕ → ℕ → List ℕ
 lineOf x j = lines 1 (behind j x)
 
--- the elements that stand in it
+-- R60: the elements that stand in it
 abbrev pub planned : Form → ℕ → ℕ → Line
 planned f count j = lineAt (rowOf f .«per_line») (elementsOf f count) j
 
--- the field with k fields before it, in line j of content s: its columns of the content filled with blanks
+-- R61, R65: the field with k fields before it, in line j of content s: its columns of the content filled with blanks
 abbrev pub fieldIn : Form → ℕ → ℕ → List ℕ → ℕ → List ℕ
 fieldIn f count j s k = take (rowOf f .width) (drop (k * rowOf f .width) (filledTo (columnsOf f (planned f count j)) s))
 
--- "A data line of k elements has k times the width as its length, and may carry blanks after that, up to 120 in all. An A120 line may have
--- 0 to 120 bytes": what isRight tests (proofs/Blanks.antt)
+-- R62 to R64: the content has the columns of its fields, unless it may be short; it has no more than 120 bytes, and blanks alone behind the
+-- fields: what isRight tests (proofs/Blanks.antt)
 pub record RightContent (f : Form) (columns : ℕ) (s : List ℕ) : Type 0 where
   pub least : shortest f columns ≤ length s
   pub most : length s ≤ 120
@@ -38,12 +38,12 @@ pub record RightContent (f : Form) (columns : ℕ) (s : List ℕ) : Type 0 where
 
 -- a group of this form and count, whose lines are x
 module _ (f : Form) (count : ℕ) (x : List ℕ) where
-  -- line j is right, not 8: it is the content s, a carriage return and a line feed, and s is right for its fields
+  -- R66: line j is right, so not 8: it is the content s, a carriage return and a line feed, and s is right for its fields
   pub record RightLine (j : ℕ) (s : List ℕ) : Type 0 where
     pub content : HasContent (lineOf x j) s
     pub right : RightContent f (columnsOf f (planned f count j)) s
 
-  -- element i stands in line j with k fields before it; its field has (field's Grammar) the cells from i times the form's cells on
+  -- R45, R46: element i stands in line j behind k fields; its field has (field's Grammar) the cells from i times the form's cells on
   pub record Stands (cs : List ℤ) (i j k : ℕ) : Type 0 where
     pub content : List ℕ
     pub line : RightLine j content

@@ -1,5 +1,5 @@
 // Reading the lines of a group under its record's counts. The lines are checked first, and the table is filled only when all of them are
-// clean. The text that they come from is not known here.
+// clean (R267). The text that they come from is not known here (R269).
 use count::Ruling;
 use form::Form;
 use form::GroupForm;
@@ -18,11 +18,13 @@ ghost use Rattle.field.specs.Read.{fieldOf, formed, cellsIn};
 ghost use Rattle.count.specs.Rules.{rulingOf};
 ghost use Rattle.line.specs.Lines.{reach};
 ghost use Rattle.line.specs.Contents.{contentOf};
-ghost use Rattle.reading.specs.Blanks.{blank, mayBeShort, shortest, filledTo, isRight, asField, rightContent, fieldsSpan, Fits};
+ghost use Rattle.reading.specs.Blanks.{blank, mayBeShort, shortest, filledTo, isRight, asField, rightContent};
+ghost use Rattle.reading.specs.Blanks.{fieldsSpan, Fits};
 ghost use Rattle.reading.specs.Numbered.{refusalReply, readingReply};
-ghost use Rattle.reading.specs.Read.{verdictOf, misfitOf, readLines, dated, readForm, readGroup, readingOf, tableBy};
+ghost use Rattle.reading.specs.Read.{verdictOf, misfitOf, readLines, dated, readForm, readGroup, readingOf};
+ghost use Rattle.reading.specs.Read.{tableBy};
 
-// Why nothing is read; each variant is one of 01's replies.
+// Why nothing is read; each variant is a reply of R201 to R212.
 pub enum Refusal {
     // 12
     NoGroup,
@@ -36,7 +38,7 @@ pub enum Refusal {
     Misformed,
     // 5
     OtherRelease,
-    // 6, with the lowest vacant group that has a count
+    // 6, with the lowest vacant number that has a count
     FilledVacant(usize),
     // 7, with the blamed group
     BrokenRule(usize),
@@ -64,7 +66,7 @@ enum Verdict {
 
 // ---- What a line holds.
 
-// Whether lines of the form may be shorter than their fields.
+// R64: whether lines of the form may be shorter than their fields.
 fn may_be_short(form: Form) -> bool
     ensures { λ r. ⌜ r ≡ mayBeShort form ⌝ }
 {
@@ -82,6 +84,7 @@ fn may_be_short(form: Form) -> bool
     }
 }
 
+// R62, R64: how long the content of fields of so many columns is at least.
 fn least(form: Form, columns: usize) -> usize
     ensures { λ r. ⌜ r ≡ shortest form columns ⌝ }
 {
@@ -104,7 +107,7 @@ fn all_blank(s: &[u8]) -> bool
     true
 }
 
-// Whether a content is right for fields that take so many columns.
+// R62 to R64, R66: whether a content is right for fields that take so many columns.
 fn is_right(form: Form, columns: usize, content: &[u8]) -> bool
     ensures { λ r. ⌜ r ≡ isRight form columns (now (content .entry)) ⌝ }
 {
@@ -121,7 +124,7 @@ fn is_right(form: Form, columns: usize, content: &[u8]) -> bool
     all_blank(&content[columns..n])
 }
 
-// The length of a line's content, if there is one and it is right.
+// R66: the length of a line's content, if there is one and it is right.
 fn right_content(form: Form, columns: usize, line: &[u8]) -> line::Content
     ensures { λ r. ⌜ r ≡ rightContent form columns (now (line .entry)) ⌝ }
 {
@@ -141,14 +144,16 @@ fn right_content_at(
     from: usize,
     to: usize,
 ) -> line::Content
-    requires { ⌜ (from ≤ to) × (to ≤ length (now lines)) ⌝ }
+    requires order { ⌜ from ≤ to ⌝ }
+    requires lines { ⌜ to ≤ length (now lines) ⌝ }
     ensures { λ r. ⌜ r ≡ rightContent form columns (part from to (now (lines .entry))) ⌝ }
 {
     right_content(form, columns, &lines[from..to])
 }
 
 fn content_at(lines: &[u8], from: usize, to: usize) -> line::Content
-    requires { ⌜ (from ≤ to) × (to ≤ length (now lines)) ⌝ }
+    requires order { ⌜ from ≤ to ⌝ }
+    requires lines { ⌜ to ≤ length (now lines) ⌝ }
     ensures { λ r. ⌜ r ≡ contentOf (part from to (now (lines .entry))) ⌝ }
 {
     line::content_length(&lines[from..to])
@@ -167,7 +172,7 @@ fn is_formed(value: field::Value) -> bool
     }
 }
 
-// Whether bytes of a line are a field of the form.
+// Whether bytes of a line are a field of the form. Where lines may be short, blanks that would be added print too (R65).
 fn is_field(form: Form, bytes: &[u8]) -> bool
     requires { ⌜ length (now bytes) ≤ rowOf form .width ⌝ }
     ensures { λ r. ⌜ r ≡ formed (fieldOf form (asField form (now (bytes .entry)))) ⌝ }
@@ -179,14 +184,16 @@ fn is_field(form: Form, bytes: &[u8]) -> bool
 }
 
 fn is_field_at(form: Form, lines: &[u8], from: usize, to: usize) -> bool
-    requires { ⌜ (from ≤ to) × (to ≤ length (now lines)) × (to - from ≤ rowOf form .width) ⌝ }
+    requires order { ⌜ from ≤ to ⌝ }
+    requires lines { ⌜ to ≤ length (now lines) ⌝ }
+    requires length { ⌜ to - from ≤ rowOf form .width ⌝ }
     ensures { λ r. ⌜ r ≡ formed (fieldOf form (asField form (part from to (now (lines .entry))))) ⌝ }
 {
     is_field(form, &lines[from..to])
 }
 
-// Where the fields of a line are looked for no further, before its end is known. A line of A120 has no length of its own: its content is
-// asked for first, and its bytes are looked at twice.
+// Where the fields of a line are looked for no further, before its end is known. A line that may be short has no length of its own: its
+// content is asked for first, and its bytes are looked at twice.
 fn fields_stop(form: Form, columns: usize, lines: &[u8], at: usize) -> usize
     requires { ⌜ at ≤ length (now lines) ⌝ }
     ensures { λ r. ⌜ r ≡ at + fieldsSpan form columns (now (lines .entry)) at ⌝ }
@@ -201,7 +208,7 @@ fn fields_stop(form: Form, columns: usize, lines: &[u8], at: usize) -> usize
     at + base::lesser(columns, lines.len() - at)
 }
 
-// Which is blamed where a field is misformed: a line that is not right comes before its fields.
+// R262: what is blamed where a field is misformed. A line that is wrong comes before its fields.
 fn misfit(
     form: Form,
     columns: usize,
@@ -211,7 +218,9 @@ fn misfit(
     element: usize,
 ) -> Refusal
     requires { ⌜ at ≤ length (now lines) ⌝ }
-    ensures { λ r. ⌜ r ≡ misfitOf number element (rightContent form columns (part at (at + reach (drop at (now (lines .entry))) 1) (now (lines .entry)))) ⌝ }
+    ensures { λ r. ⌜ r ≡
+        misfitOf number element
+        (rightContent form columns (part at (at + reach (drop at (now (lines .entry))) 1) (now (lines .entry)))) ⌝ }
 {
     match right_content_at(form, columns, lines, at, line::behind_or_end(lines, at, 1)) {
         line::Content::Length(_) => Refusal::BadField(number, element),
@@ -219,8 +228,8 @@ fn misfit(
     }
 }
 
-// The first pass: each line's fields, and then what stands behind them, up to the first line that is bad. It looks at no table. No line
-// feed stands in fields that are formed, so the line's end is sought behind them.
+// The first pass, as R443 has it: each line's fields, and then what stands behind them, up to the first line that is bad (R263). It looks
+// at no table. No line feed stands in fields that are formed, so the line's end is sought behind them.
 fn check_lines(form: Form, count: u16, lines: &[u8]) -> Verdict
     ensures { λ r. ⌜ r ≡ verdictOf (readLines form count (now (lines .entry))) ⌝ }
 {
@@ -260,9 +269,10 @@ fn check_lines(form: Form, count: u16, lines: &[u8]) -> Verdict
     verdict
 }
 
-// The letters of a date stand in the first line of group 3: the rule on its count puts 19 there at least.
+// R140, R210: the date stands in the first line of group 3, where R123 puts 19 characters at least.
 fn check_date(count: u16, lines: &[u8]) -> Verdict
-    requires { ⌜ (19 ≤ count) × (verdictOf (readLines Form.A1 count (now lines)) ≡ Verdict.Clean) ⌝ }
+    requires date { ⌜ 19 ≤ count ⌝ }
+    requires clean { ⌜ verdictOf (readLines Form.A1 count (now lines)) ≡ Verdict.Clean ⌝ }
     ensures { λ r. ⌜ r ≡ verdictOf (dated 3 (readLines Form.A1 count (now (lines .entry)))) ⌝ }
 {
     let n = form::elements(Form::A1, count);
@@ -274,9 +284,10 @@ fn check_date(count: u16, lines: &[u8]) -> Verdict
     }
 }
 
-// Lines, and then the date of group 3.
+// R262, R265: lines, and then the date of group 3.
 fn check(form: Form, group: usize, count: u16, lines: &[u8]) -> Verdict
-    requires { ⌜ (formOf group ≡ GroupForm.Has form) × (group ≡ 3 → 19 ≤ count) ⌝ }
+    requires form { ⌜ formOf group ≡ GroupForm.Has form ⌝ }
+    requires date { ⌜ (group ≡ 3 → 19 ≤ count) ⌝ }
     ensures { λ r. ⌜ r ≡ verdictOf (dated group (readLines form count (now (lines .entry)))) ⌝ }
 {
     match check_lines(form, count, lines) {
@@ -292,7 +303,7 @@ fn check(form: Form, group: usize, count: u16, lines: &[u8]) -> Verdict
 
 // ---- Filling.
 
-// A byte, or a blank behind the last.
+// R65: a byte, or a blank behind the last.
 fn byte_or_blank(bytes: &[u8], i: usize) -> u8
     ensures { λ r. ⌜ r ≡ getD (now (bytes .entry)) i 32 ⌝ }
 {
@@ -304,8 +315,10 @@ fn byte_or_blank(bytes: &[u8], i: usize) -> u8
 
 // Letters, and blanks behind them up to the width.
 fn put_letters(bytes: &[u8], width: usize, table: &mut [i64], at: usize)
-    requires { ⌜ (length (now bytes) ≤ width) × (at + width ≤ length (now table)) ⌝ }
-    ensures { λ _. ⌜ now (table .exit) ≡ over at (map pos (filledTo width (now (bytes .entry)))) (now (table .entry)) ⌝ }
+    requires bytes { ⌜ length (now bytes) ≤ width ⌝ }
+    requires room { ⌜ at + width ≤ length (now table) ⌝ }
+    ensures { λ _. ⌜ now (table .exit) ≡
+        over at (map pos (filledTo width (now (bytes .entry)))) (now (table .entry)) ⌝ }
 {
     let mut i: usize = 0;
     while i < width {
@@ -316,8 +329,13 @@ fn put_letters(bytes: &[u8], width: usize, table: &mut [i64], at: usize)
 
 // The cells of a field.
 fn put_field(form: Form, width: usize, bytes: &[u8], table: &mut [i64], at: usize)
-    requires { ⌜ (width ≡ rowOf form .width) × Fits form (length (now bytes)) × T (formed (fieldOf form (filledTo width (now bytes)))) × (at + rowOf form .cells ≤ length (now table)) ⌝ }
-    ensures { λ _. ⌜ now (table .exit) ≡ over at (cellsIn (filledTo width (now (bytes .entry))) (fieldOf form (filledTo width (now (bytes .entry))))) (now (table .entry)) ⌝ }
+    requires width { ⌜ width ≡ rowOf form .width ⌝ }
+    requires fits { ⌜ Fits form (length (now bytes)) ⌝ }
+    requires formed { ⌜ T (formed (fieldOf form (filledTo width (now bytes)))) ⌝ }
+    requires room { ⌜ at + rowOf form .cells ≤ length (now table) ⌝ }
+    ensures { λ _. ⌜ now (table .exit) ≡
+        over at (cellsIn (filledTo width (now (bytes .entry))) (fieldOf form (filledTo width (now (bytes .entry)))))
+        (now (table .entry)) ⌝ }
 {
     if may_be_short(form) {
         put_letters(bytes, width, table, at);
@@ -346,16 +364,26 @@ fn put_field_at(
     table: &mut [i64],
     at: usize,
 )
-    requires { ⌜ (from ≤ to) × (to ≤ length (now lines)) × (width ≡ rowOf form .width) × Fits form (to - from) × T (formed (fieldOf form (filledTo width (part from to (now lines))))) × (at + rowOf form .cells ≤ length (now table)) ⌝ }
-    ensures { λ _. ⌜ now (table .exit) ≡ over at (cellsIn (filledTo width (part from to (now (lines .entry)))) (fieldOf form (filledTo width (part from to (now (lines .entry)))))) (now (table .entry)) ⌝ }
+    requires order { ⌜ from ≤ to ⌝ }
+    requires lines { ⌜ to ≤ length (now lines) ⌝ }
+    requires width { ⌜ width ≡ rowOf form .width ⌝ }
+    requires fits { ⌜ Fits form (to - from) ⌝ }
+    requires formed { ⌜ T (formed (fieldOf form (filledTo width (part from to (now lines))))) ⌝ }
+    requires room { ⌜ at + rowOf form .cells ≤ length (now table) ⌝ }
+    ensures { λ _. ⌜ now (table .exit) ≡
+        over at
+        (cellsIn (filledTo width (part from to (now (lines .entry))))
+        (fieldOf form (filledTo width (part from to (now (lines .entry)))))) (now (table .entry)) ⌝ }
 {
     put_field(form, width, &lines[from..to], table, at);
 }
 
-// The second pass: the cells of lines that were found clean.
+// R266: the second pass, the cells of lines that were found clean.
 fn fill_lines(form: Form, count: u16, lines: &[u8], table: &mut [i64])
-    requires { ⌜ (verdictOf (readLines form count (now lines)) ≡ Verdict.Clean) × (cellsOf form count ≤ length (now table)) ⌝ }
-    ensures { λ _. ⌜ now (table .exit) ≡ over 0 (cellsGot (readLines form count (now (lines .entry)))) (now (table .entry)) ⌝ }
+    requires clean { ⌜ verdictOf (readLines form count (now lines)) ≡ Verdict.Clean ⌝ }
+    requires room { ⌜ cellsOf form count ≤ length (now table) ⌝ }
+    ensures { λ _. ⌜ now (table .exit) ≡
+        over 0 (cellsGot (readLines form count (now (lines .entry)))) (now (table .entry)) ⌝ }
 {
     let row = form::row_of(form);
     let width = row.width;
@@ -368,7 +396,7 @@ fn fill_lines(form: Form, count: u16, lines: &[u8], table: &mut [i64])
     let mut j: usize = 0;
     while j < many {
         let k = base::lesser(per_line, left);
-        // no line feed stands in the columns of these fields; a line of A120 may end anywhere, so its bytes are looked at twice
+        // no line feed stands in the columns of these fields; a line that may be short can end anywhere, so its bytes are looked at twice
         let end = line::behind_or_end(lines, at + least(form, k * width), 1);
         // a clean line has a content, so this is never taken
         let line::Content::Length(n) = content_at(lines, at, end) else {
@@ -392,10 +420,14 @@ fn fill_lines(form: Form, count: u16, lines: &[u8], table: &mut [i64])
 
 // ---- Reading a group's lines.
 
-// A group of a form, whose rules on counts are kept: 11, then the lines and the date, and only then the table.
+// R260, for a group whose record is placed with 0: 11 (R264), then the lines and the date, and only then the table.
 fn read_form(form: Form, group: usize, count: u16, lines: &[u8], table: &mut [i64]) -> Reading
-    requires { ⌜ (formOf group ≡ GroupForm.Has form) × (group ≡ 3 → 19 ≤ count) ⌝ }
-    ensures { λ r. ⌜ (r ≡ readingOf (readForm form group count (now (lines .entry)) (length (now (table .entry))))) × (now (table .exit) ≡ tableBy (readForm form group count (now (lines .entry)) (length (now (table .entry)))) (now (table .entry))) ⌝ }
+    requires form { ⌜ formOf group ≡ GroupForm.Has form ⌝ }
+    requires date { ⌜ (group ≡ 3 → 19 ≤ count) ⌝ }
+    ensures answer { λ r. ⌜ r ≡
+        readingOf (readForm form group count (now (lines .entry)) (length (now (table .entry)))) ⌝ }
+    ensures table { λ _. ⌜ now (table .exit) ≡
+        tableBy (readForm form group count (now (lines .entry)) (length (now (table .entry)))) (now (table .entry)) ⌝ }
 {
     let cells = form::cells(form, count);
     if table.len() < cells {
@@ -410,10 +442,16 @@ fn read_form(form: Form, group: usize, count: u16, lines: &[u8], table: &mut [i6
     }
 }
 
-// Reads a group as `read_lines` does, by counts that keep the rules, as those of a record that was placed with 0 do: they are not tried again.
+// R260: reads a group of a record with these counts, whose lines these are, into a table. It is altered only if all is clean, and then only
+// as far as the group's cells go (R266, R267). The counts keep the rules, as those of a record that was placed with 0 do: they are not tried
+// again.
 pub fn read_kept(counts: &[u16], group: usize, lines: &[u8], table: &mut [i64]) -> Reading
     requires { ⌜ rulingOf (now counts) ≡ Ruling.Kept ⌝ }
-    ensures { λ r. ⌜ (r ≡ readingOf (readGroup (now (counts .entry)) group (now (lines .entry)) (length (now (table .entry))))) × (now (table .exit) ≡ tableBy (readGroup (now (counts .entry)) group (now (lines .entry)) (length (now (table .entry)))) (now (table .entry))) ⌝ }
+    ensures answer { λ r. ⌜ r ≡
+        readingOf (readGroup (now (counts .entry)) group (now (lines .entry)) (length (now (table .entry)))) ⌝ }
+    ensures table { λ _. ⌜ now (table .exit) ≡
+        tableBy (readGroup (now (counts .entry)) group (now (lines .entry)) (length (now (table .entry))))
+        (now (table .entry)) ⌝ }
 {
     let form::GroupForm::Has(form) = form::form_of(group) else {
         return Reading::Refused(Refusal::NoGroup);
@@ -422,23 +460,9 @@ pub fn read_kept(counts: &[u16], group: usize, lines: &[u8], table: &mut [i64]) 
     read_form(form, group, count, lines, table)
 }
 
-// Reads a group of a record with these counts, whose lines these are, into a table. It is altered only if all is clean, and then only as
-// far as the group's cells go.
-pub fn read_lines(counts: &[u16], group: usize, lines: &[u8], table: &mut [i64]) -> Reading
-    ensures { λ r. ⌜ (r ≡ readingOf (readGroup (now (counts .entry)) group (now (lines .entry)) (length (now (table .entry))))) × (now (table .exit) ≡ tableBy (readGroup (now (counts .entry)) group (now (lines .entry)) (length (now (table .entry)))) (now (table .entry))) ⌝ }
-{
-    let form::GroupForm::Has(_) = form::form_of(group) else {
-        return Reading::Refused(Refusal::NoGroup);
-    };
-    match count::ruling_of(counts) {
-        Ruling::Broken(g) => Reading::Refused(Refusal::BrokenRule(g)),
-        Ruling::Kept => read_kept(counts, group, lines, table),
-    }
-}
-
 // ---- Replies.
 
-// The refusal's number in 01's table, with the numbers given besides.
+// R201 to R212: the refusal's number, with the numbers given besides.
 pub fn refusal_reply(refusal: Refusal) -> reply::Reply
     ensures { λ r. ⌜ r ≡ refusalReply refusal ⌝ }
 {
@@ -458,7 +482,7 @@ pub fn refusal_reply(refusal: Refusal) -> reply::Reply
     }
 }
 
-// The answer's number, with the numbers given besides.
+// R200: done, with the cells written; or the refusal's reply.
 pub fn reply_of(answer: Reading) -> reply::Reply
     ensures { λ r. ⌜ r ≡ readingReply answer ⌝ }
 {

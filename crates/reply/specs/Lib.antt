@@ -1,2 +1,2 @@
--- 01's table of replies.
+-- R200 to R214 and R230: the table of replies.
 pub mod Table

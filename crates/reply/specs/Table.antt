@@ -1,4 +1,4 @@
--- 01's table of replies: each reply's number, with the numbers given besides. "Numbers not named in a row are 0." Each question has a table
+-- R200 to R214: each reply's number, with the numbers beside it; R230: a number that the row doesn't name is 0. Each question has a table
 -- of its own, with the rows that it can give; `Numbered` says that a reply is one of these.
 use mathlib.Core.Path.{_≡_}
 use mathlib.Core.Bool.{Bool, true, false, cond, _||_}
@@ -22,29 +22,29 @@ replyOn number group = replyAt number 0 group
 abbrev pub replyPlain : ℕ → Reply
 replyPlain number = replyAt number 0 0
 
--- "done: .. cells or bytes written"
+-- R200: 0 has the cells or the bytes that were written
 abbrev pub replyDone : ℕ → Reply
 replyDone written = numbers 0 0 written 0 0 0 0
 
--- 8: "line in group"; 9: "line, element in group"
+-- R208: 8 has its line; R209: 9 has its line and its element
 abbrev pub replyLine : ℕ → ℕ → ℕ → Reply
 replyLine number line element = numbers number 0 0 0 line element 0
 
--- 13: "group, element"
+-- R213: 13 has its group and its element
 abbrev pub replyField : ℕ → ℕ → Reply
 replyField group element = numbers 13 0 0 group 0 element 0
 
--- 10: "position blamed"
+-- R210: 10 has the position that is blamed
 abbrev pub replyDate : ℕ → Reply
 replyDate position = numbers 10 0 0 0 0 0 position
 
--- ---- which replies a question gives, and which numbers besides
+-- ---- which replies a question gives, and which numbers beside them
 
 -- the numbers that may stand beside a reply's own
 pub data Beside : Type 0 where
   next cells bytes group line element position : Beside
 
--- a row of a question's table: a reply's number, and what is given besides
+-- a row of a question's table: a reply's number, and what stands beside it
 pub record Row : Type 0 where
   pub number : ℕ
   pub besides : List Beside
@@ -64,13 +64,13 @@ code position = 6
 abbrev pub names : Row → Beside → Bool
 names w b = has (map code (w .besides)) (code b)
 
--- a number that the row names is at least so much; one that it doesn't name is 0
+-- R230: a number that the row names is at least so much; one that it doesn't name is 0
 abbrev pub Shown : Bool → ℕ → ℕ → Type 0
 Shown true least n = least ≤ n
 Shown false least n = n ≡ 0
 
--- "Lines and elements count from 1", and so do groups and positions; a next place is behind something, and no text is empty; a group may have
--- no cells
+-- R231: lines and elements are counted from 1, and so are groups and positions; a next place is behind something, and no text that is written
+-- is empty; a group may have no cells
 pub record Fills (w : Row) (r : Reply) : Type 0 where
   pub numbered : r .number ≡ w .number
   pub with-next : Shown (names w next) 1 (r .next)
@@ -87,15 +87,15 @@ Numbered (w ∷ ws) r = Fills w r ⊎ Numbered ws r
 
 -- ---- rows that several questions share
 
--- any placing reply but 0, as a question that goes no further gives it: 7 without its next place
+-- R235: what placing refuses with, as a question that goes no further gives it: 7 without its next place
 abbrev pub placingRefusals : List Row
 placingRefusals = row 1 [] ∷ row 2 [] ∷ row 3 [] ∷ row 4 [] ∷ row 5 [] ∷ row 6 (group ∷ []) ∷ row 7 (group ∷ []) ∷ []
 
--- "12, then any placing reply but 0"
+-- R260, R281: 12, and then what placing refuses with
 abbrev pub askedRefusals : List Row
 askedRefusals = row 12 [] ∷ placingRefusals
 
--- what the lines of a group are refused with
+-- R262: what the lines of a group are refused with
 abbrev pub lineRefusals : List Row
 lineRefusals = row 8 (line ∷ []) ∷ row 9 (line ∷ element ∷ []) ∷ []
 

@@ -1,9 +1,9 @@
-// 01's table of replies: a reply's number, with the numbers given besides. What a reply's row doesn't name is 0.
+// R200 to R214: a reply's number, with the numbers beside it. What a reply's row doesn't name is 0 (R230).
 ghost use mathlib.Core.Path.{_≡_};
 ghost use Rattle.reply.specs.Table.{replyPlain, replyOn, replyAt, replyDone, replyLine, replyField, replyDate};
 
 pub struct Reply {
-    pub number: usize,
+    pub number: u32,
     pub next: usize,
     pub written: usize,
     pub group: usize,
@@ -13,21 +13,21 @@ pub struct Reply {
 }
 
 // A reply with no number beside it.
-pub fn plain(number: usize) -> Reply
+pub fn plain(number: u32) -> Reply
     ensures { λ r. ⌜ r ≡ replyPlain number ⌝ }
 {
     at_next(number, 0, 0)
 }
 
 // A reply with a group.
-pub fn on_group(number: usize, group: usize) -> Reply
+pub fn on_group(number: u32, group: usize) -> Reply
     ensures { λ r. ⌜ r ≡ replyOn number group ⌝ }
 {
     at_next(number, 0, group)
 }
 
 // A reply with a next place and a group.
-pub fn at_next(number: usize, next: usize, group: usize) -> Reply
+pub fn at_next(number: u32, next: usize, group: usize) -> Reply
     ensures { λ r. ⌜ r ≡ replyAt number next group ⌝ }
 {
     Reply {
@@ -57,7 +57,7 @@ pub fn done(written: usize) -> Reply
 }
 
 // 8 or 9, with a line and an element.
-pub fn in_line(number: usize, line: usize, element: usize) -> Reply
+pub fn in_line(number: u32, line: usize, element: usize) -> Reply
     ensures { λ r. ⌜ r ≡ replyLine number line element ⌝ }
 {
     Reply {

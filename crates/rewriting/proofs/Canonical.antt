@@ -14,18 +14,18 @@ use Rattle.base.specs.Pieces.{done}
 use Rattle.base.proofs.Part.{part-middle}
 use Rattle.count.specs.Tally.{cellsIn}
 use Rattle.place.specs.Placing.{countsAt}
-use Rattle.record.specs.Canonical.{CanonicalRecord}
-use Rattle.record.specs.RoundTrip.{groupCells, ReadsBack, ReadWhole}
-use Rattle.record.specs.Text.{recordText, recordBytes}
+use Rattle.writing.specs.Canonical.{CanonicalRecord}
+use Rattle.writing.specs.RoundTrip.{groupCells, ReadsBack, ReadWhole}
+use Rattle.writing.specs.Text.{recordText, recordBytes}
 use Rattle.count.specs.declared.Release.the-variants.{Five}
 use Rattle.count.proofs.Releases.{release-given}
 use Rattle.count.proofs.Rulings.{kept-ruling}
 use Rattle.date.specs.declared.Dated.the-variants.{Right}
 use Rattle.date.proofs.Due as Letters
-use Rattle.record.specs.Writing.{dateLetters}
-use Rattle.record.proofs.Done.{done-is}
-use Rattle.record.proofs.ReadsBack.{canonical-back, done-canonical}
-use Rattle.record.proofs.ReadWrites.{again-bytes, written-again}
+use Rattle.writing.specs.Writing.{dateLetters}
+use Rattle.writing.proofs.Done.{done-is}
+use Rattle.writing.proofs.ReadsBack.{canonical-back, done-canonical}
+use Rattle.writing.proofs.ReadWrites.{again-bytes, written-again}
 use Rattle.rewriting.specs.declared.Groups.the-variants.{All}
 use Rattle.rewriting.specs.declared.Rewriting.{Rewriting}
 use Rattle.rewriting.specs.declared.Rewriting.the-variants.{Done, Missing, NoRoom, Unread}
@@ -85,7 +85,7 @@ rewritten-same a (more x {y} r l ys) k h =
     ∙ rewritten-done (a ++ (x ++ y)) (k - 1) (length a) (length x) (length a + length x) e
     ∙ ap₂ _++_ (right-text r a y) rest
 
--- "canonical text that is read and written again returns byte for byte"
+-- R348: such a text is printed as it stands
 pub canonical-printed : (s : List ℕ) → CanonicalRecords s → length s ≤ 65536 → printed s ≡ s
 unfolding printed rewritten
 canonical-printed s c l = rw (le-leb (length s) 65536 l) (rewritten-same [] c (length s) (omega arith))

@@ -1,5 +1,5 @@
--- A record has no more cells than bytes of canonical text: a field gives no more cells than it has columns. So a table that is as long as the
--- buffer always serves.
+-- R111: a record has no more cells than bytes of canonical text: a field gives no more cells than it has columns. So a table that is as long as
+-- the output always serves.
 -- Assumes nothing.
 use mathlib.Core.List.{List}
 use Prim.Native.Nat.{ℕ, _≤_}
@@ -20,8 +20,8 @@ use Rattle.form.specs.Count.{elementsOf}
 use Rattle.form.proofs.Table.{each-form}
 use Rattle.count.specs.Tally
 use Rattle.count.specs.Tally.{countOf, cellsBy, cellsIn, recordCells}
-use Rattle.record.specs.Text
-use Rattle.record.specs.Text.{bytesBy, bytesIn, recordBytes}
+use Rattle.writing.specs.Text
+use Rattle.writing.specs.Text.{bytesBy, bytesIn, recordBytes}
 
 -- by one test over the ten rows
 all-narrow : T (every (λ f. leb (rowOf f .cells) (rowOf f .width)) forms)

@@ -20,7 +20,7 @@ use Rattle.place.specs.Placing.{placingOf, countsAt}
 use Rattle.reading.specs.declared.Refusal.{Refusal}
 use Rattle.reading.specs.Read.{Cells}
 use Rattle.group.specs.Held.{refusalOf}
-use Rattle.record.specs.Text.{recordBytes}
+use Rattle.writing.specs.Text.{recordBytes}
 use Rattle.rewriting.specs.declared.Rewriting.{Rewriting}
 use Rattle.rewriting.specs.declared.Rewriting.the-variants.{Done, Missing, NoRoom, Unread}
 use Rattle.rewriting.specs.Due.{NoRoomDue, Roomy, Due}

@@ -1,5 +1,5 @@
 -- The laws of rewriting's definitions, a file to a subject: groups in turn (Turns), all of them read (Whole), and why a table as long as the
--- buffer serves (Cells); when each answer is given (Due), by what led to it (Steps), and what it leaves (Promises); what the program prints
+-- output serves (Cells); when each answer is given (Due), by what led to it (Steps), and what it leaves (Promises); what the program prints
 -- (Printing), and that canonical text is printed as itself (Canonical).
 pub mod Canonical
 pub mod Cells

@@ -18,7 +18,7 @@ module _ (s : List ℕ) where
   unfolding rewrittenFrom
   rewritten-done k at bytes next e = rw e refl
 
-  -- another reply, in placing or reading, or 11: "nothing of that record or later"
+  -- R346: where another reply is due, nothing is printed of the record and of all behind it
   pub rewritten-stop : (k at : ℕ) → ((bytes next : ℕ) → programRewriting s at ≡ Done bytes next → ⊥) → rewrittenFrom k s at ≡ []
   unfolding rewrittenFrom
   rewritten-stop zero at never = refl
@@ -61,7 +61,7 @@ module _ (s : List ℕ) where
   unfolding rewritten
   printing-first = record { before = []; reached = start; whole = refl }
 
-  -- "Input longer than 65,536 bytes prints nothing."
+  -- R341: of more than 65,536 bytes nothing is printed
   pub printing-none : 65536 < length s → Stopped s 0
   unfolding printed
   printing-none l = record { before = []; reached = start; all = rw (lt-leb (length s) 65536 l) refl }

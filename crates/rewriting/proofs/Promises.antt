@@ -1,5 +1,5 @@
--- What is promised of rewriting a record: a refusal keeps the buffer, and 0 has the record's canonical text at its front and keeps what stands
--- behind it; the table has the cells that were read; a table with a cell for each byte of the buffer always serves; the
+-- What is promised of rewriting a record: a refusal keeps the output, and 0 has the record's canonical text at its front and keeps what stands
+-- behind it; the table has the cells that were read; a table with a cell for each byte of the output always serves; the
 -- next place lies further on; and each answer fills a row of its table.
 -- Assumes nothing.
 use mathlib.Core.Path.{_≡_, refl, sym, _∙_, ap, subst}
@@ -40,11 +40,11 @@ use Rattle.reading.specs.Due.{RefusalDue}
 use Rattle.reading.proofs.Due as Reading
 use Rattle.group.specs.Held.{refusalOf}
 use Rattle.group.proofs.Texts.{read-located}
-use Rattle.record.specs.declared.Writing.the-variants as W
-use Rattle.record.specs.Text.{recordBytes}
-use Rattle.record.specs.Writing.{writingOf}
-use Rattle.record.proofs.Promises.{record-some}
-use Rattle.record.proofs.ReadsBack.{done-bytes, output-bytes}
+use Rattle.writing.specs.declared.Writing.the-variants as W
+use Rattle.writing.specs.Text.{recordBytes}
+use Rattle.writing.specs.Writing.{writingOf}
+use Rattle.writing.proofs.Promises.{record-some}
+use Rattle.writing.proofs.ReadsBack.{done-bytes, output-bytes}
 use Rattle.rewriting.specs.declared.Groups.the-variants.{All}
 use Rattle.rewriting.specs.declared.Rewriting.{Rewriting}
 use Rattle.rewriting.specs.declared.Rewriting.the-variants.{Done, Missing, NoRoom, Unread}
@@ -55,16 +55,16 @@ use Rattle.rewriting.proofs.Cells.{record-cells}
 use Rattle.rewriting.proofs.Due.{first-due, turn-all}
 use Rattle.rewriting.proofs.Whole.{whole-each, whole-joined, whole-written}
 
--- ---- the buffer
+-- ---- the output
 
--- "A refusal alters no byte of the buffer."
+-- R325: a refusal leaves the whole output
 pub refused-rewriting-keeps : (s : List ℕ) (at : ℕ) (r : Rewriting) (old : List ℕ) → (rewritingReply r .number ≡ 0 → ⊥) → bufferBy s at r old ≡ old
 refused-rewriting-keeps s at (Done bytes next) old n = absurd (n refl)
 refused-rewriting-keeps s at (Missing r) old n = refl
 refused-rewriting-keeps s at NoRoom old n = refl
 refused-rewriting-keeps s at (Unread g r) old n = refl
 
--- a table with a cell for each byte of the buffer always serves: 11 is then given only for the text
+-- a table with a cell for each byte of the output always serves: 11 is then given only for the text
 pub table-serves : (s : List ℕ) (at cells room : ℕ) → room ≤ cells → NoRoomDue s at cells room → room < recordBytes (countsAt s at)
 table-serves s at cells room l d =
     ⊎-elim
@@ -87,14 +87,14 @@ module _ (s : List ℕ) (at cells room bytes next : ℕ) (e : rewritingOf s at c
   pub done-writes : writingOf (countsAt s at) (cellsAt s at) room ≡ W.Done bytes
   done-writes = whole-written s at next (d .roomy .placed) done-all room (d .roomy .text-fits) ∙ ap W.Done (d .written)
 
-  -- as many bytes as the reply says, and no more than the buffer has
+  -- as many bytes as the reply says, and no more than the output has
   pub done-text : length (textAt s at) ≡ bytes
   done-text = done-bytes (countsAt s at) (cellsAt s at) room bytes done-writes
 
   pub done-within : bytes ≤ room
   done-within = omega (arith, d .roomy .text-fits, d .written)
 
-  -- they stand at the buffer's front, and what stands behind them stays
+  -- they stand at the output's front, and what stands behind them stays
   pub done-front : (old : List ℕ) → take bytes (bufferBy s at (Done bytes next) old) ≡ textAt s at
   done-front old = output-bytes (countsAt s at) (cellsAt s at) room bytes done-writes old
 
@@ -186,7 +186,7 @@ module _ (s : List ℕ) (at cells room : ℕ) where
           at-row 10 rewritingRows (refusalReply (BadField l e)) (lit< tt) (fills-element 9 l e (omega (arith, d .field .number)) (omega (arith, d .field .element)))
       by (BadDate q) d = at-row 11 rewritingRows (refusalReply (BadDate q)) (lit< tt) (fills-date q (blamed-position (map sizeOf (d .cs)) q (d .wrong)))
 
-  -- any placing reply but 0
+  -- what placing refuses with
   missing-numbered : (p : Placing) → Place.Due s at p → ((n : ℕ) → p ≡ Placed n → ⊥) → Numbered rewritingRows (refusalReply (refusalOf p))
   missing-numbered (Placed n) d never = absurd (never n refl)
   missing-numbered P.End d never = at-row 1 rewritingRows (refusalReply End) (lit< tt) (fills-plain 1)

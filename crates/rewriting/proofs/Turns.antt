@@ -38,7 +38,7 @@ use Rattle.reading.specs.declared.Reading.the-variants as R
 use Rattle.reading.specs.Read.{Cells, readGroup, readingOf, tableBy}
 use Rattle.reading.proofs.GroupRead.{group-reads}
 use Rattle.group.proofs.Texts.{read-located}
-use Rattle.record.proofs.ReadWrites.{reads-cells}
+use Rattle.writing.proofs.ReadWrites.{reads-cells}
 use Rattle.rewriting.specs.declared.Groups.the-variants.{All, Refused}
 use Rattle.rewriting.specs.Record.{Turn, groupRead, inTurn, cellsInTurn, groupsOf, allInTurn, cellsAt, Ready}
 

@@ -16,11 +16,11 @@ use Rattle.count.specs.Tally.{cellsIn, recordCells}
 use Rattle.place.specs.declared.Placing.the-variants.{Placed}
 use Rattle.place.specs.Placing.{placingOf, countsAt}
 use Rattle.reading.specs.Read.{Cells}
-use Rattle.record.specs.declared.Writing.the-variants.{Done}
-use Rattle.record.specs.RoundTrip.{ReadWhole, joined}
-use Rattle.record.specs.Text.{recordBytes}
-use Rattle.record.specs.Writing.{writingOf}
-use Rattle.record.proofs.ReadWrites.{read-writes, joined-cells}
+use Rattle.writing.specs.declared.Writing.the-variants.{Done}
+use Rattle.writing.specs.RoundTrip.{ReadWhole, joined}
+use Rattle.writing.specs.Text.{recordBytes}
+use Rattle.writing.specs.Writing.{writingOf}
+use Rattle.writing.proofs.ReadWrites.{read-writes, joined-cells}
 use Rattle.rewriting.specs.declared.Groups.the-variants.{All}
 use Rattle.rewriting.specs.Record.{Turn, groupRead, onGroup, inTurn, cellsInTurn, groupsOf, allInTurn, cellsAt}
 use Rattle.rewriting.proofs.Turns.{turn-done}

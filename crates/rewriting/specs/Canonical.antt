@@ -1,5 +1,4 @@
--- "canonical text that is read and written again returns byte for byte": a text of canonical records, one behind the other, within the
--- program's limits.
+-- R348, D2.5: the texts that the program prints as they stand: canonical records, one behind the other, within its limits.
 use mathlib.Core.List.{List, [], _++_}
 use Prim.Native.Nat.{ℕ, _≤_}
 use lib.IntN.{ℤ}
@@ -8,8 +7,8 @@ use Rattle.count.specs.Blame.{KeepsRules}
 use Rattle.count.specs.Due.{ReleaseFive}
 use Rattle.date.specs.Due.{IsDate}
 use Rattle.date.specs.declared.Date.{Date}
-use Rattle.record.specs.Canonical.{CanonicalRecord}
-use Rattle.record.specs.Writing.{dateLetters}
+use Rattle.writing.specs.Canonical.{CanonicalRecord}
+use Rattle.writing.specs.Writing.{dateLetters}
 
 -- a canonical record that nothing but its length could have refused: release 5 and no vacant group, the rules on counts, a right date
 pub record RightRecord (x : List ℕ) : Type 0 where

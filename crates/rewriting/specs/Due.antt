@@ -1,6 +1,5 @@
--- When each answer of rewriting a record is due: its condition, and none earlier in this order. "any placing reply but 0; 11 if the canonical
--- text is longer than the buffer or the cells more than the table; the first reply other than 0 of reading groups 1 to 60 in turn, with that
--- group's number; else 0 with the bytes written and the next place."
+-- R233, R321: when each answer of rewriting a record is due: its condition holds, and none that stands before it in the order is due. The
+-- order: what placing refuses with, 11, what the first group that is refused is refused with, 0.
 use mathlib.Core.Path.{_≡_}
 use mathlib.Core.List.{List, flatMap}
 use mathlib.Core.Logic.{_⊎_}
@@ -15,12 +14,12 @@ use Rattle.place.specs.declared.Placing.the-variants.{Placed}
 use Rattle.place.specs.Placing.{placingOf, countsAt}
 use Rattle.reading.specs.declared.Refusal.{Refusal}
 use Rattle.group.specs.Held.{refusalOf}
-use Rattle.record.specs.Text.{recordBytes}
+use Rattle.writing.specs.Text.{recordBytes}
 use Rattle.rewriting.specs.declared.Rewriting.{Rewriting}
 use Rattle.rewriting.specs.declared.Rewriting.the-variants.{Done, Missing, NoRoom, Unread}
 use Rattle.rewriting.specs.Record.{groupRead}
 
--- "any placing reply but 0"
+-- R321: placing refuses, and its reply is told
 pub record MissingDue (s : List ℕ) (at : ℕ) (r : Refusal) : Type 0 where
   pub placing : Placing
   pub placed : placingOf s at ≡ placing
@@ -33,19 +32,19 @@ pub record GroupDone (s : List ℕ) (at g : ℕ) : Type 0 where
   pub reads : groupRead s at g ≡ done cells
 
 module _ (s : List ℕ) (at cells room : ℕ) where
-  -- "11 if the canonical text is longer than the buffer or the cells more than the table"
+  -- R322: 11, for want of bytes in the output or of cells in the table
   pub record NoRoomDue : Type 0 where
     pub next : ℕ
     pub placed : placingOf s at ≡ Placed next
     pub short : (room < recordBytes (countsAt s at)) ⊎ (cells < recordCells (countsAt s at))
 
-  -- placed with 0, and neither is
+  -- placed with 0, and both are long enough
   pub record Roomy (next : ℕ) : Type 0 where
     pub placed : placingOf s at ≡ Placed next
     pub text-fits : recordBytes (countsAt s at) ≤ room
     pub cells-fit : recordCells (countsAt s at) ≤ cells
 
-  -- "the first reply other than 0 of reading groups 1 to 60 in turn"
+  -- R321, R323: this group is refused, and all below it read with 0
   pub record UnreadDue (g : ℕ) (r : Refusal) : Type 0 where
     pub next : ℕ
     pub roomy : Roomy next
@@ -54,7 +53,7 @@ module _ (s : List ℕ) (at cells room : ℕ) where
     pub earlier : (h : ℕ) → 1 ≤ h → h < g → GroupDone s at h
     pub told : groupRead s at g ≡ bad r
 
-  -- "else 0 with the bytes written and the next place"
+  -- R321: 0, all groups read with 0; R200: the bytes of the canonical text, and the next place
   pub record DoneDue (bytes next : ℕ) : Type 0 where
     pub roomy : Roomy next
     pub groups : (g : ℕ) → 1 ≤ g → g ≤ 60 → GroupDone s at g
@@ -74,14 +73,14 @@ pub record ReadTo (s : List ℕ) (at k : ℕ) (cs : List ℤ) : Type 0 where
   pub each : (g : ℕ) → 1 ≤ g → g ≤ k → groupRead s at g ≡ done (cells g)
   pub joined : cs ≡ flatMap cells (upFrom 1 k)
 
--- the table begins with these cells, and is as it was behind them
+-- R324: the table begins with these cells, and is as it was behind them
 pub record TableHas (s : List ℕ) (at k : ℕ) (old new : List ℤ) : Type 0 where
   pub cs : List ℤ
   pub read : ReadTo s at k cs
   pub first : take (length cs) new ≡ cs
   pub rest : drop (length cs) new ≡ drop (length cs) old
 
--- all groups where 0 was given, those before the refused one where one was, none else
+-- R326: all groups where 0 was given, those before the refused one where one was, none else
 abbrev pub groupsRead : Rewriting → ℕ
 groupsRead (Done bytes next) = 60
 groupsRead (Missing r) = 0

@@ -1,5 +1,5 @@
--- Rewriting a record at a place of a text (Record), when each answer is due (Due), the replies in 01's table (Numbered); what the rewriting
--- program prints ("Programs" of 01; Printed), and the texts that it leaves as they are (Canonical).
+-- R320 to R326: rewriting a record at a place of a text (Record), when each answer is due (Due), and each as a reply (Numbered). R345 to R348:
+-- what the rewriting program prints (Printed), and the texts that it leaves as they are (Canonical).
 pub mod Record
 pub mod Due
 pub mod Numbered

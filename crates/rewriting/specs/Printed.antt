@@ -1,6 +1,5 @@
--- "The rewriting program takes the same input, and prints the canonical text of each record until the first reply other than 0 in placing or
--- reading, or the first record whose canonical text is longer than 8,192 bytes, and nothing of that record or later. Input longer than
--- 65,536 bytes prints nothing."
+-- R345: the program prints the canonical text of record after record. R346: it stops before the first that is refused, or whose canonical text
+-- has more than 8,192 bytes. R341: it takes 65,536 bytes; if there are more, it prints nothing.
 use mathlib.Core.Path.{_≡_}
 use mathlib.Core.Bool.{cond}
 use mathlib.Core.List.{List, [], _++_}
@@ -11,11 +10,11 @@ use Rattle.rewriting.specs.declared.Rewriting.{Rewriting}
 use Rattle.rewriting.specs.declared.Rewriting.the-variants.{Done, Missing, NoRoom, Unread}
 use Rattle.rewriting.specs.Record.{rewritingOf, textAt}
 
--- a table of 8,192 cells always serves: no record has more cells than bytes of canonical text
+-- R347: a table of 8,192 cells always serves: no record has more cells than bytes of canonical text (R111)
 abbrev pub programRewriting : List ℕ → ℕ → Rewriting
 programRewriting s at = rewritingOf s at 8192 8192
 
--- a record's text, and more behind it
+-- R346: a record's text, and more behind it; nothing of a record that is refused, and nothing behind it
 abbrev pub textThen : List ℕ → (ℕ → List ℕ) → Rewriting → List ℕ
 textThen text more (Done n next) = text ++ more next
 textThen text more (Missing r) = []
@@ -31,6 +30,7 @@ rewrittenFrom (suc k) s at = textThen (textAt s at) (rewrittenFrom k s) (program
 unfoldable pub rewritten : List ℕ → List ℕ
 rewritten s = rewrittenFrom (length s) s 0
 
+-- R341: of a longer input nothing
 unfoldable pub printed : List ℕ → List ℕ
 printed s = cond (leb (length s) 65536) (rewritten s) []
 

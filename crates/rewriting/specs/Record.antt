@@ -1,6 +1,5 @@
--- The record at a place, read group after group and written as canonical text: "any placing reply but 0; 11 if the canonical text is longer
--- than the buffer or the cells more than the table; the first reply other than 0 of reading groups 1 to 60 in turn, with that group's
--- number; else 0 with the bytes written and the next place".
+-- R320: the record at a place, read group after group and written as canonical text. R321 is the order: what placing refuses with, 11, what
+-- the first group that is refused is refused with, 0.
 use mathlib.Core.Path.{_≡_}
 use mathlib.Core.Bool.{Bool, cond, _&&_}
 use mathlib.Core.List.{List, [], _∷_, _++_}
@@ -18,7 +17,7 @@ use Rattle.reading.specs.declared.Refusal.{Refusal}
 use Rattle.reading.specs.Read.{Cells}
 use Rattle.group.specs.Held.{refusalOf}
 use Rattle.group.specs.Text.{readAt}
-use Rattle.record.specs.Text.{recordText, recordBytes}
+use Rattle.writing.specs.Text.{recordText, recordBytes}
 use Rattle.rewriting.specs.declared.Groups.{Groups}
 use Rattle.rewriting.specs.declared.Groups.the-variants.{All, Refused}
 use Rattle.rewriting.specs.declared.Rewriting.{Rewriting}
@@ -30,7 +29,7 @@ use Rattle.rewriting.specs.declared.Rewriting.the-variants.{Done, Missin
 abbrev pub groupRead : List ℕ → ℕ → ℕ → Cells
 groupRead s at g = readAt s at g (cellsIn (countsAt s at) g)
 
--- all cells in group order, or the first refusal with its group
+-- R323: the cells of all groups, joined, or the first refusal with its group
 abbrev pub Turn : Type 0
 Turn = Got (ℕ × Refusal) ℤ
 
@@ -70,7 +69,7 @@ pub record Ready (s : List ℕ) (at cells : ℕ) : Type 0 where
 
 -- ---- the answer
 
--- room for the canonical text and for all cells
+-- R322: room for the canonical text and for all cells
 abbrev pub hasRoom : List ℕ → ℕ → ℕ → Bool
 hasRoom ns cells room = leb (recordBytes ns) room && leb (recordCells ns) cells
 
@@ -89,7 +88,7 @@ rewritingBy s at cells room P.OtherRelease = Missing (refusalOf P.OtherRelease)
 rewritingBy s at cells room (P.FilledVacant g) = Missing (refusalOf (P.FilledVacant g))
 rewritingBy s at cells room (P.BrokenRule g n) = Missing (refusalOf (P.BrokenRule g n))
 
--- over a table of so many cells and a buffer of so many bytes
+-- over a table of so many cells and an output of so many bytes
 unfoldable pub rewritingOf : List ℕ → ℕ → ℕ → ℕ → Rewriting
 rewritingOf s at cells room = rewritingBy s at cells room (placingOf s at)
 
@@ -99,14 +98,14 @@ rewritingOf s at cells room = rewritingBy s at cells room (placingOf s at)
 abbrev pub textAt : List ℕ → ℕ → List ℕ
 textAt s at = recordText (countsAt s at) (cellsAt s at)
 
--- "A refusal alters no byte of the buffer."
+-- R325: a refusal leaves the whole output; R324: under 0 the text stands there from the first byte on
 abbrev pub bufferBy : List ℕ → ℕ → Rewriting → List ℕ → List ℕ
 bufferBy s at (Done n next) old = over 0 (textAt s at) old
 bufferBy s at (Missing r) old = old
 bufferBy s at NoRoom old = old
 bufferBy s at (Unread g r) old = old
 
--- groups are read into consecutive parts of the table, up to the first that is refused
+-- R326: groups are read into consecutive parts of the table, up to the first that is refused
 abbrev pub tableBy : List ℕ → ℕ → Rewriting → List ℤ → List ℤ
 tableBy s at (Done n next) old = over 0 (cellsAt s at) old
 tableBy s at (Missing r) old = old

@@ -1,8 +1,8 @@
-// Rewriting: the record at a place of a text as canonical text, over a lent table. Any text, place, table and buffer may be given.
+// R320, rewriting: the record at a place of a text as canonical text, over a lent table. Any text, place, table and output may be given (R241).
 use count::Ruling;
 use reading::Reading;
 use reading::Refusal;
-use record::Writing;
+use writing::Writing;
 ghost use mathlib.Core.Path.{_≡_};
 ghost use Prim.Native.Nat.{_-_, _≤_};
 ghost use lib.ListN.{length};
@@ -10,20 +10,21 @@ ghost use Rattle.base.specs.Part.{part, over};
 ghost use Rattle.count.specs.Rules.{rulingOf};
 ghost use Rattle.place.specs.Placing.{countsAt};
 ghost use Rattle.reading.specs.Read.{readGroup, readingOf, tableBy};
-ghost use Rattle.record.specs.Text.{recordText, recordBytes};
-ghost use Rattle.record.specs.Writing.{writingOf};
+ghost use Rattle.writing.specs.Text.{recordText, recordBytes};
+ghost use Rattle.writing.specs.Writing.{writingOf};
 ghost use Rattle.rewriting.specs.Numbered.{rewritingReply, rewritingGroup};
-ghost use Rattle.rewriting.specs.Record.{Ready, groupsOf, allInTurn, cellsAt, rewritingOf, bufferBy, tableBy as tableAfter};
+ghost use Rattle.rewriting.specs.Record.{Ready, groupsOf, allInTurn, cellsAt, rewritingOf, bufferBy};
+ghost use Rattle.rewriting.specs.Record.{tableBy as tableAfter};
 
-// What rewriting a record answers.
+// R321: what rewriting a record answers.
 pub enum Rewriting {
-    // 0, with the bytes written and the next place
+    // R200: 0, with the bytes that were written and the next place
     Done(usize, usize),
-    // any placing reply but 0
+    // R321: what placing refused with
     Missing(Refusal),
-    // 11
+    // R322: 11
     NoRoom,
-    // the first reply other than 0 of reading groups 1 to 60, with that group's number
+    // R323: the first group that was refused, and what with
     Unread(usize, Refusal),
 }
 
@@ -46,25 +47,33 @@ fn read_part(
     cell: usize,
     end: usize,
 ) -> Reading
-    requires { ⌜ (rulingOf (now counts) ≡ Ruling.Kept) × (from ≤ to) × (to ≤ length (now text)) × (cell ≤ end) × (end ≤ length (now table)) ⌝ }
-    ensures { λ r. ⌜ (r ≡ readingOf (readGroup (now (counts .entry)) group (part from to (now (text .entry))) (end - cell))) × (now (table .exit) ≡ over cell (tableBy (readGroup (now (counts .entry)) group (part from to (now (text .entry))) (end - cell)) (part cell end (now (table .entry)))) (now (table .entry))) ⌝ }
+    requires kept { ⌜ rulingOf (now counts) ≡ Ruling.Kept ⌝ }
+    requires order { ⌜ from ≤ to ⌝ }
+    requires text { ⌜ to ≤ length (now text) ⌝ }
+    requires cells { ⌜ cell ≤ end ⌝ }
+    requires room { ⌜ end ≤ length (now table) ⌝ }
+    ensures answer { λ r. ⌜ r ≡
+        readingOf (readGroup (now (counts .entry)) group (part from to (now (text .entry))) (end - cell)) ⌝ }
+    ensures table { λ _. ⌜ now (table .exit) ≡
+        over cell
+        (tableBy (readGroup (now (counts .entry)) group (part from to (now (text .entry))) (end - cell))
+        (part cell end (now (table .entry)))) (now (table .entry)) ⌝ }
 {
     reading::read_kept(counts, group, &text[from..to], &mut table[cell..end])
 }
 
-// Groups 1 to 60 in turn, into consecutive parts of the table, up to the first that is refused.
+// R326: groups 1 to 60 in turn, into consecutive parts of the table, up to the first that is refused.
 fn read_groups(text: &[u8], at: usize, counts: &[u16], table: &mut [i64]) -> Groups
-    requires { ⌜ (now counts ≡ countsAt (now text) at) × Ready (now text) at (length (now table)) ⌝ }
-    ensures { λ r. ⌜ (r ≡ groupsOf (allInTurn (now (text .entry)) at)) × (now (table .exit) ≡ over 0 (cellsAt (now (text .entry)) at) (now (table .entry))) ⌝ }
+    requires counts { ⌜ now counts ≡ countsAt (now text) at ⌝ }
+    requires ready { ⌜ Ready (now text) at (length (now table)) ⌝ }
+    ensures answer { λ r. ⌜ r ≡ groupsOf (allInTurn (now (text .entry)) at) ⌝ }
+    ensures table { λ _. ⌜ now (table .exit) ≡ over 0 (cellsAt (now (text .entry)) at) (now (table .entry)) ⌝ }
 {
     let mut from = line::behind_or_end(text, at, 2);
     let mut cell: usize = 0;
     let mut g: usize = 1;
     while g < 61 {
-        // each of 1 to 60 has a form, so this is never taken
-        let form::GroupForm::Has(f) = form::form_of(g) else {
-            return Groups::All;
-        };
+        let f = form::form_in(g);
         let n = count::count_of(counts, g);
         let to = line::behind_or_end(text, from, form::lines(f, n));
         let end = cell + form::cells(f, n);
@@ -86,17 +95,23 @@ fn read_groups(text: &[u8], at: usize, counts: &[u16], table: &mut [i64]) -> Gro
 
 // The canonical text of counts and of the first cells of a table, which is written with 0.
 fn write_cells(counts: &[u16], table: &[i64], cells: usize, out: &mut [u8])
-    requires { ⌜ (cells ≤ length (now table)) × (writingOf (now counts) (part 0 cells (now table)) (length (now out)) ≡ Writing.Done (recordBytes (now counts))) ⌝ }
-    ensures { λ _. ⌜ now (out .exit) ≡ over 0 (recordText (now (counts .entry)) (part 0 cells (now (table .entry)))) (now (out .entry)) ⌝ }
+    requires room { ⌜ cells ≤ length (now table) ⌝ }
+    requires written { ⌜ writingOf (now counts) (part 0 cells (now table)) (length (now out)) ≡
+        Writing.Done (recordBytes (now counts)) ⌝ }
+    ensures { λ _. ⌜ now (out .exit) ≡
+        over 0 (recordText (now (counts .entry)) (part 0 cells (now (table .entry)))) (now (out .entry)) ⌝ }
 {
-    record::put_record(counts, &table[0..cells], out);
+    writing::put_record(counts, &table[0..cells], out);
 }
 
-// Rewrites the record at a place of a text into a buffer, over a table: any placing reply but 0; 11 if its canonical text is longer than the
-// buffer or its cells are more than the table; the first reply other than 0 of reading groups 1 to 60 in turn, with that group's number;
-// else 0 with the bytes written and the next place. A refusal alters no byte of the buffer.
+// Rewrites the record at a place of a text into an output, over a table. R321: what placing refuses with; 11 if output or table is too short
+// (R322); what the first group that is refused is refused with, and which group that is (R323); else 0 with the bytes that were written and
+// the next place. A refusal leaves the whole output as it was (R325).
 pub fn rewrite_record(text: &[u8], at: usize, table: &mut [i64], out: &mut [u8]) -> Rewriting
-    ensures { λ r. ⌜ (r ≡ rewritingOf (now (text .entry)) at (length (now (table .entry))) (length (now (out .entry)))) × (now (table .exit) ≡ tableAfter (now (text .entry)) at r (now (table .entry))) × (now (out .exit) ≡ bufferBy (now (text .entry)) at r (now (out .entry))) ⌝ }
+    ensures answer { λ r. ⌜ r ≡
+        rewritingOf (now (text .entry)) at (length (now (table .entry))) (length (now (out .entry))) ⌝ }
+    ensures table { λ r. ⌜ now (table .exit) ≡ tableAfter (now (text .entry)) at r (now (table .entry)) ⌝ }
+    ensures output { λ r. ⌜ now (out .exit) ≡ bufferBy (now (text .entry)) at r (now (out .entry)) ⌝ }
 {
     let placed = place::place(text, at);
     let answer = placed.answer;
@@ -104,7 +119,7 @@ pub fn rewrite_record(text: &[u8], at: usize, table: &mut [i64], out: &mut [u8])
         return Rewriting::Missing(group::refusal_of(answer));
     };
     let counts = placed.counts;
-    let bytes = record::canonical_length(&counts);
+    let bytes = writing::canonical_length(&counts);
     if out.len() < bytes {
         return Rewriting::NoRoom;
     }
@@ -123,7 +138,7 @@ pub fn rewrite_record(text: &[u8], at: usize, table: &mut [i64], out: &mut [u8])
 
 // ---- Replies.
 
-// The answer's number in 01's table, with the numbers given besides.
+// R200 to R214: the answer's number, with the numbers beside it.
 pub fn reply_of(answer: Rewriting) -> reply::Reply
     ensures { λ r. ⌜ r ≡ rewritingReply answer ⌝ }
 {
@@ -143,7 +158,7 @@ pub fn reply_of(answer: Rewriting) -> reply::Reply
     }
 }
 
-// The group that was not read; 0 where none was.
+// R323: the group whose reading was refused; 0 where none was.
 pub fn group_of(answer: Rewriting) -> usize
     ensures { λ r. ⌜ r ≡ rewritingGroup answer ⌝ }
 {

@@ -12,8 +12,8 @@ use Rattle.group.specs.Due as GroupIs
 use Rattle.group.specs.Held.{moved, partStart, partAt}
 use Rattle.group.specs.Text.{readAt}
 use Rattle.reading.specs.Read.{Cells, readingOf, tableBy}
-use Rattle.record.specs.Due as WritingIs
-use Rattle.record.specs.Writing.{outputBy}
+use Rattle.writing.specs.Due as WritingIs
+use Rattle.writing.specs.Writing.{outputBy}
 use Rattle.rewriting.specs.Due as RewritingIs
 use Rattle.rewriting.specs.Record.{tableBy as tableAfter, bufferBy}
 use Rattle.listing.specs.Listing.{listing, IsListing, ListingDue}
@@ -42,7 +42,7 @@ pub group-lines-at-due : Gives group_lines_at.ended group_lines_at.Reads.Learnt 
 group-lines-at-due κs (text, (at, (g, _))) r v l =
     let s = now text in (
       as-due .lines s at g (r .found) .0 (sym (l .0)),
-      (partAt s at g, as-due .part s at g (r .from) (partAt s at g) .0 (sym (l .1), refl), l .2 ∙ as-due .part-end s at g ∙ ap (λ n. n + length (partAt s at g)) (sym (l .1))),
+      (partAt s at g, as-due .part s at g (r .from) (partAt s at g) .0 (sym (l .1 .0), refl), l .1 .1 ∙ as-due .part-end s at g ∙ ap (λ n. n + length (partAt s at g)) (sym (l .1 .0))),
     )
 
 -- the caller's own text there: `from` places behind its address
@@ -63,4 +63,4 @@ list-due κs (text, (out, _)) r v l =
     (x, as-due .listing-is (now text) x .0 refl, as-due .listed (now text) (now out) r .0 (sym (l .answer)), l .bytes)
 
 pub rewrite-record-due : Gives rewrite_record.ended rewrite_record.Reads.Learnt (λ κs a r v. RewritingIs.Due (now (a .0)) (a .1 .0) (length (now (a .1 .1 .0))) (length (now (a .1 .1 .1 .0))) r × (v .1 .1 .0 ≡ tableAfter (now (a .0)) (a .1 .0) r (now (a .1 .1 .0))) × (v .1 .1 .1 .0 ≡ bufferBy (now (a .0)) (a .1 .0) r (now (a .1 .1 .1 .0))))
-rewrite-record-due κs (text, (at, (table, (out, _)))) r v l = (as-due .rewriting (now text) at (length (now table)) (length (now out)) r .0 (sym (l .0)), l .1, l .2)
+rewrite-record-due κs (text, (at, (table, (out, _)))) r v l = (as-due .rewriting (now text) at (length (now table)) (length (now out)) r .0 (sym (l .0)), l .1 .0, l .1 .1)

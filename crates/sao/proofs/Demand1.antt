@@ -1,4 +1,4 @@
--- The first demand (specs/Demand1.antt).
+-- D1, the first demand (specs/Demand1.antt).
 -- Assumes nothing.
 use mathlib.Core.Path.{_≡_, refl}
 use mathlib.Core.List.{List}
@@ -17,10 +17,10 @@ use Rattle.group.specs.Text.{readAt}
 use Rattle.group.proofs.Numbered.{reading-numbered, found-numbered, characteristic-numbered}
 use Rattle.listing.specs.Listing.{listing, listedReply}
 use Rattle.listing.proofs.Replies.{listed-numbered, listed-keeps, listed-rest}
-use Rattle.record.specs.declared.Writing.{Writing}
-use Rattle.record.specs.declared.Writing.the-variants as W
-use Rattle.record.specs.Writing.{writingOf, outputBy, writingReply}
-use Rattle.record.proofs.Promises.{writing-numbered, refused-write-keeps, done-write-keeps-rest}
+use Rattle.writing.specs.declared.Writing.{Writing}
+use Rattle.writing.specs.declared.Writing.the-variants as W
+use Rattle.writing.specs.Writing.{writingOf, outputBy, writingReply}
+use Rattle.writing.proofs.Promises.{writing-numbered, refused-write-keeps, done-write-keeps-rest}
 use Rattle.rewriting.specs.declared.Rewriting.{Rewriting}
 use Rattle.rewriting.specs.declared.Rewriting.the-variants as R
 use Rattle.rewriting.specs.Numbered.{rewritingReply}

@@ -1,4 +1,4 @@
--- The second demand (specs/Demand2.antt).
+-- D2, the second demand (specs/Demand2.antt).
 -- Assumes nothing.
 use mathlib.Core.Path.{_≡_, refl, sym, subst}
 use mathlib.Core.List.{List}
@@ -10,14 +10,14 @@ use Rattle.place.proofs.Due as PlacingDue
 use Rattle.reading.proofs.Promises.{done-read-holds}
 use Rattle.group.proofs.Due as GroupDue
 use Rattle.group.proofs.Holding.{span-end}
-use Rattle.record.specs.declared.Writing.the-variants.{Done}
-use Rattle.record.specs.Canonical.{CanonicalRecord}
-use Rattle.record.specs.Writing.{writingOf}
-use Rattle.record.proofs.Canonical.{canonical-text}
-use Rattle.record.proofs.Due as WritingDue
-use Rattle.record.proofs.ReadsBack.{done-canonical, done-bytes, reads-back}
-use Rattle.record.proofs.Promises.{done-write-begins}
-use Rattle.record.proofs.ReadWrites.{returns-same}
+use Rattle.writing.specs.declared.Writing.the-variants.{Done}
+use Rattle.writing.specs.Canonical.{CanonicalRecord}
+use Rattle.writing.specs.Writing.{writingOf}
+use Rattle.writing.proofs.Canonical.{canonical-text}
+use Rattle.writing.proofs.Due as WritingDue
+use Rattle.writing.proofs.ReadsBack.{done-canonical, done-bytes, reads-back}
+use Rattle.writing.proofs.Promises.{done-write-begins}
+use Rattle.writing.proofs.ReadWrites.{returns-same}
 use Rattle.listing.specs.Listing.{listing, IsListing}
 use Rattle.listing.proofs.Replies as Listed
 use Rattle.rewriting.specs.declared.Rewriting.the-variants.{Done as Rewritten}

@@ -1,4 +1,4 @@
--- The third demand (specs/Demand3.antt).
+-- D3, the third demand (specs/Demand3.antt).
 -- Assumes nothing.
 use Rattle.group.proofs.Damage.{damage-stays}
 use Rattle.sao.specs.Demand3.{Demand3}

@@ -1,4 +1,4 @@
--- The table of replies in figures (specs/Numbers.antt), by computation.
+-- R200 to R214 in figures (specs/Numbers.antt), by computation.
 -- Assumes nothing.
 use mathlib.Core.Path.{refl}
 use Rattle.sao.specs.Numbers.{AnswersTold}

@@ -1,10 +1,10 @@
--- "Show that any two outcomes it allows are equal": of each question's contract itself, as its caller learns it (`Learnt`). A contract that
--- leaves open a part of the answer or of what is lent has no proof here.
+-- R420, R421: one outcome, of each question's contract itself, as its caller learns it (`Learnt`). A contract that leaves open a part of the
+-- answer or of what is lent has no proof here.
 -- Assumes nothing.
 use mathlib.Core.Path.{_≡_, sym, _∙_, ap}
 use denote.Ref.{now}
 use Rattle.sao.specs.Outcome.{OneOutcome, OneUpTo}
-use Rattle.record.specs.Writing.{outputBy}
+use Rattle.writing.specs.Writing.{outputBy}
 use Rattle.rewriting.specs.Record.{tableBy, bufferBy}
 use Rattle.sao.proofs.place
 use Rattle.sao.proofs.read_group
@@ -29,8 +29,8 @@ read-group-one κs a r q v w l k =
 pub group-lines-at-one : OneOutcome group_lines_at.ended group_lines_at.Reads.Learnt
 group-lines-at-one κs a r q v w l k =
     let found = l .0 ∙ sym (k .0) in
-    let from = l .1 ∙ sym (k .1) in
-    let to = l .2 ∙ sym (k .2) in
+    let from = l .1 .0 ∙ sym (k .1 .0) in
+    let to = l .1 .1 ∙ sym (k .1 .1) in
     (λ i. record { found = found i; from = from i; to = to i }, λ i. (tt, (tt, (tt, tt))))
 
 -- the part's bytes, and where in the caller's text they stand
@@ -54,6 +54,6 @@ list-one κs a r q v w l k =
 pub rewrite-record-one : OneOutcome rewrite_record.ended rewrite_record.Reads.Learnt
 rewrite-record-one κs (text, (at, (table, (out, _)))) r q v w l k =
     let answer = l .0 ∙ sym (k .0) in
-    let cells = l .1 ∙ ap (λ p. tableBy (now text) at p (now table)) answer ∙ sym (k .1) in
-    let bytes = l .2 ∙ ap (λ p. bufferBy (now text) at p (now out)) answer ∙ sym (k .2) in
+    let cells = l .1 .0 ∙ ap (λ p. tableBy (now text) at p (now table)) answer ∙ sym (k .1 .0) in
+    let bytes = l .1 .1 ∙ ap (λ p. bufferBy (now text) at p (now out)) answer ∙ sym (k .1 .1) in
     (answer, λ i. (tt, (tt, (cells i, (bytes i, tt)))))

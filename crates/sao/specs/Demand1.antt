@@ -1,9 +1,10 @@
--- The first demand: "Every question can be asked of every text, place, group number and table, and comes to an end with one of the numbered
--- replies. A caller never has to check beforehand. A refused read alters no cell of the table lent to it; a refused write alters no byte of
--- the output."
+-- The first demand, D1: a question always has an answer.
+-- D1.1: each question takes whatever text, place, number and table there is. D1.2: it ends, and gives one of the replies R200 to R214. D1.3: so
+-- nothing needs to be tested before asking. D1.4: a refused read leaves each cell of the lent table as it was. D1.5: a refused write leaves each
+-- byte of the output as it was.
 --
--- That a question can be asked of everything and comes to an end is what the gate proves of each function, none of which has a `requires`.
--- s is a text, out an output; a reply is refused where its number is not 0.
+-- D1.1, D1.3 and that a question ends are what the gate proves of each function, none of which has a `requires`. s is a text, out an output; a
+-- reply is refused where its number is not 0.
 use mathlib.Core.Path.{_≡_}
 use mathlib.Core.List.{List}
 use Prim.Native.Nat.{ℕ, _≤_}
@@ -21,7 +22,7 @@ use Rattle.group.specs.Text.{readAt}
 use Rattle.group.specs.Held.{foundAt, foundReply, foundRows}
 use Rattle.group.specs.Characteristics.{characteristicAt, characteristicReply, characteristicRows}
 use Rattle.listing.specs.Listing.{listing, listedReply, listingRows}
-use Rattle.record.specs.Writing.{writingOf, outputBy, writingReply, writingRows}
+use Rattle.writing.specs.Writing.{writingOf, outputBy, writingReply, writingRows}
 use Rattle.rewriting.specs.Record.{rewritingOf, bufferBy}
 use Rattle.rewriting.specs.declared.Rewriting.the-variants.{Unread}
 use Rattle.rewriting.specs.Numbered.{rewritingReply, rewritingRows}
@@ -31,7 +32,7 @@ use Rattle.sao.specs.Numbers.{AnswersTold}
 abbrev pub Refused : Reply → Type 0
 Refused r = r .number ≡ 0 → ⊥
 
--- "one of the numbered replies": a row of the question's own table, with each number that the row names and 0 for the others
+-- D1.2: the reply fills a row of the question's own table, with each number that the row names and 0 for the others (R230)
 pub record EndsNumbered : Type 0 where
   -- which number each answer has, in figures
   pub told : AnswersTold
@@ -42,21 +43,21 @@ pub record EndsNumbered : Type 0 where
   pub writing : (ns : List ℕ) (cs : List ℤ) (room : ℕ) → Numbered writingRows (writingReply (writingOf ns cs room))
   pub listed : (s out : List ℕ) → Numbered listingRows (listedReply (putAnswer 0 (listing s) out))
   pub rewriting : (s : List ℕ) (at cells room : ℕ) → Numbered rewritingRows (rewritingReply (rewritingOf s at cells room))
-  -- the group that rewriting tells apart from the reply is one of 1 to 60
+  -- R323: the group that rewriting tells apart from the reply is one of 1 to 60
   pub unread : (s : List ℕ) (at cells room g : ℕ) (r : Refusal) → rewritingOf s at cells room ≡ Unread g r → (1 ≤ g) × (g ≤ 60)
 
--- "A refused read alters no cell of the table lent to it"
+-- D1.4: after a refused read the table is what it was (R267)
 abbrev pub RefusedReadKeeps : Type 0
 RefusedReadKeeps =
     (s : List ℕ) (at g : ℕ) (table : List ℤ) → Refused (readingReply (readingOf (readAt s at g (length table)))) → tableBy (readAt s at g (length table)) table ≡ table
 
--- "a refused write alters no byte of the output": writing a record, listing a text, rewriting a record
+-- D1.5: after a refused write the output is what it was: writing a record (R307), listing a text (R311), rewriting a record (R325)
 pub record RefusedWriteKeeps : Type 0 where
   pub writing : (ns : List ℕ) (cs : List ℤ) (out : List ℕ) → Refused (writingReply (writingOf ns cs (length out))) → outputBy ns cs (writingOf ns cs (length out)) out ≡ out
   pub listed : (s out : List ℕ) → Refused (listedReply (putAnswer 0 (listing s) out)) → putBytes 0 (listing s) out ≡ out
   pub rewriting : (s : List ℕ) (at cells : ℕ) (out : List ℕ) → Refused (rewritingReply (rewritingOf s at cells (length out))) → bufferBy s at (rewritingOf s at cells (length out)) out ≡ out
 
--- and 01's "Cells behind the last one written keep their content, and so do output bytes in writing"
+-- R266, R306, R311, R324: what stands behind the cells or bytes that were written stays as it was
 pub record KeepsRest : Type 0 where
   pub reading : (s : List ℕ) (at g : ℕ) (table : List ℤ) → drop (readingReply (readingOf (readAt s at g (length table))) .written) (tableBy (readAt s at g (length table)) table) ≡ drop (readingReply (readingOf (readAt s at g (length table))) .written) table
   pub writing : (ns : List ℕ) (cs : List ℤ) (out : List ℕ) → drop (writingReply (writingOf ns cs (length out)) .written) (outputBy ns cs (writingOf ns cs (length out)) out) ≡ drop (writingReply (writingOf ns cs (length out)) .written) out

@@ -1,8 +1,9 @@
--- The second demand: "Reading gives the values that the SAO 4.3 description, as condensed in document 01, gives to that text, and refuses with
--- the first reply due under 01's order. Writing gives the one canonical text of the same values. What was written reads back as the values it
--- was made from, and canonical text that is read and written again returns byte for byte."
+-- The second demand, D2: answers are right.
+-- D2.1: what is read are the values that the rules give to the text. D2.2: what is refused is refused with the first reply that is due in the
+-- order of its question (R233). D2.3: what is written is the canonical text of the values, of which there is one (R100). D2.4: reading what was
+-- written gives these values again, wherever in a text it stands. D2.5: writing what was read from canonical text gives its bytes again.
 --
--- s is a text, ns are counts, cs the cells of all groups in group order.
+-- s is a text, ns are counts, cs the cells of all groups, group 1's first (R47).
 use mathlib.Core.Path.{_≡_}
 use mathlib.Core.List.{List, _++_}
 use mathlib.Core.Logic.{_↔_}
@@ -24,13 +25,13 @@ use Rattle.group.specs.Text.{readAt}
 use Rattle.group.specs.Held.{foundAt, partStart, partEnd, partAt}
 use Rattle.group.specs.Characteristics.{characteristicAt}
 use Rattle.group.specs.Due as GroupIs
-use Rattle.record.specs.declared.Writing.{Writing}
-use Rattle.record.specs.declared.Writing.the-variants.{Done}
-use Rattle.record.specs.Canonical.{CanonicalRecord}
-use Rattle.record.specs.RoundTrip.{ReadsBack, ReadWhole, joined}
-use Rattle.record.specs.Text.{recordText}
-use Rattle.record.specs.Writing.{writingOf, outputBy}
-use Rattle.record.specs.Due as WritingIs
+use Rattle.writing.specs.declared.Writing.{Writing}
+use Rattle.writing.specs.declared.Writing.the-variants.{Done}
+use Rattle.writing.specs.Canonical.{CanonicalRecord}
+use Rattle.writing.specs.RoundTrip.{ReadsBack, ReadWhole, joined}
+use Rattle.writing.specs.Text.{recordText}
+use Rattle.writing.specs.Writing.{writingOf, outputBy}
+use Rattle.writing.specs.Due as WritingIs
 use Rattle.listing.specs.Listing.{listing, IsListing, ListingDue}
 use Rattle.rewriting.specs.declared.Rewriting.{Rewriting}
 use Rattle.rewriting.specs.declared.Rewriting.the-variants.{Done as Rewritten}
@@ -40,18 +41,18 @@ use Rattle.rewriting.specs.Due.{TableHas, groupsRead}
 use Rattle.rewriting.specs.Printed.{printed}
 use Rattle.rewriting.specs.Record.{rewritingOf, bufferBy, tableBy as tableAfter}
 
--- "Reading gives the values that the description gives to that text, and refuses with the first reply due under 01's order": every answer is
--- given exactly if it is due. Where a Due cites another answer (the placing, the counts, what a group reads as), that answer's own Due is a
--- field here. So a reader comes to plain words: of an index that its columns are entries (place's IsIndex); of a rule that some rule which
--- blames the group is broken and none that blames a lower one (count's Blame); of 0 that the cells are the values of the fields where 01 has
--- them (reading's Values), each field blanks, at most one minus, digits (number's Grammar); of a date that the first field which fails alone
--- is blamed (date's Due); of a refusal that its condition holds and none earlier in the order does.
+-- D2.1, D2.2: every answer is given exactly if it is due. Where a Due cites another answer (the placing, the counts, what a group reads as),
+-- that answer's own Due is a field here. So a reader comes to plain words: of an index that its columns are entries (R22, R23; place's IsIndex);
+-- of a rule that some rule which blames the group is broken and none that blames a lower one (R120; count's Blame); of 0 that the cells are the
+-- values of the fields in their columns (R45, R61; reading's Values), each field blanks, at most one minus, digits (R70 to R77; number's
+-- Grammar); of a date that the first field which fails alone is blamed (R147; date's Due); of a refusal that its condition holds and none
+-- earlier in the order does (R233).
 pub record GivenAsDue : Type 0 where
   pub placing : (s : List ℕ) (at : ℕ) (p : Placing) → placingOf s at ≡ p ↔ PlacingIs.Due s at p
   pub counts : (s : List ℕ) (at : ℕ) (ns : List ℕ) → countsAt s at ≡ ns ↔ PlacingIs.CountsDue s at ns
   pub reading : (s : List ℕ) (at g room : ℕ) (c : Cells) → readAt s at g room ≡ c ↔ GroupIs.Due s at g room c
   pub lines : (s : List ℕ) (at g : ℕ) (r : Found) → foundAt s at g ≡ r ↔ GroupIs.FoundDue s at g r
-  -- the part is exactly those lines, and stands there
+  -- R280: the part is exactly those lines, and stands there
   pub part : (s : List ℕ) (at g from : ℕ) (x : List ℕ) → ((partStart s at g ≡ from) × (partAt s at g ≡ x)) ↔ GroupIs.PartDue s at g from x
   pub part-end : (s : List ℕ) (at g : ℕ) → partEnd s at g ≡ partStart s at g + length (partAt s at g)
   pub characteristic : (s : List ℕ) (at k : ℕ) (c : Characteristic) → characteristicAt s at k ≡ c ↔ GroupIs.CharacteristicDue s at k c
@@ -60,7 +61,7 @@ pub record GivenAsDue : Type 0 where
   pub listed : (s out : List ℕ) (r : Put) → putAnswer 0 (listing s) out ≡ r ↔ ListingDue (listing s) (length out) r
   pub listing-is : (s x : List ℕ) → listing s ≡ x ↔ IsListing s x
 
--- what rewriting's buffer holds under 0: the canonical text of the counts and of what every group read as
+-- what rewriting's output holds under 0: the canonical text of the counts and of what every group read as
 pub record Rewrites (s : List ℕ) (at bytes next : ℕ) (buffer : List ℕ) : Type 0 where
   pub cells : ℕ → List ℤ
   pub read : ReadWhole s at next cells
@@ -69,16 +70,17 @@ pub record Rewrites (s : List ℕ) (at bytes next : ℕ) (buffer : List ℕ) : T
   pub long : length text ≡ bytes
   pub front : take bytes buffer ≡ text
 
--- what is lent holds what the answer says: under 0 the table's first cells are the cells read, and the output's first bytes the text
+-- R266, R306, R311, R324: what is lent holds what the answer says: under 0 the table's first cells are the cells read, and the output's first
+-- bytes the text
 pub record LentHolds : Type 0 where
   pub reading : (s : List ℕ) (at g : ℕ) (table cs : List ℤ) → readAt s at g (length table) ≡ done cs → take (length cs) (tableBy (readAt s at g (length table)) table) ≡ cs
   pub writing : (ns : List ℕ) (cs : List ℤ) (out : List ℕ) (n : ℕ) → writingOf ns cs (length out) ≡ Done n → take n (outputBy ns cs (writingOf ns cs (length out)) out) ≡ recordText ns cs
   pub listed : (s out : List ℕ) (n : ℕ) → putAnswer 0 (listing s) out ≡ Next n → take n (putBytes 0 (listing s) out) ≡ listing s
   pub rewriting : (s : List ℕ) (at cells : ℕ) (out : List ℕ) (bytes next : ℕ) → rewritingOf s at cells (length out) ≡ Rewritten bytes next → Rewrites s at bytes next (bufferBy s at (rewritingOf s at cells (length out)) out)
-  -- rewriting's table begins with the cells of the groups that were read, also where a later group was refused, and is as it was behind them
+  -- R326: rewriting's table begins with the cells of the groups that were read, also where a later group was refused, and is as it was behind them
   pub rewriting-table : (s : List ℕ) (at room : ℕ) (table : List ℤ) → TableHas s at (groupsRead (rewritingOf s at (length table) room)) table (tableAfter s at (rewritingOf s at (length table) room) table)
 
--- "Writing gives the one canonical text of the same values": n bytes, canonical with these counts and cells, and no other text is
+-- D2.3: n bytes, canonical with these counts and cells, and no other text is (R100)
 pub record OneCanonical (ns : List ℕ) (cs : List ℤ) (n : ℕ) : Type 0 where
   pub long : length (recordText ns cs) ≡ n
   pub canonical : CanonicalRecord ns (recordText ns cs) cs
@@ -87,16 +89,16 @@ pub record OneCanonical (ns : List ℕ) (cs : List ℤ) (n : ℕ) : Type 0 where
 abbrev pub WritesCanonical : Type 0
 WritesCanonical = (ns : List ℕ) (cs : List ℤ) (room n : ℕ) → writingOf ns cs room ≡ Done n → OneCanonical ns cs n
 
--- "What was written reads back as the values it was made from", wherever it stands in whatever text
+-- D2.4: what was written reads as its counts and cells, wherever it stands in whatever text
 abbrev pub WrittenReadsBack : Type 0
 WrittenReadsBack =
     (ns : List ℕ) (cs : List ℤ) (room n : ℕ) → writingOf ns cs room ≡ Done n → (a b : List ℕ) → ReadsBack ns cs n (a ++ (recordText ns cs ++ b)) (length a)
 
--- "and canonical text that is read and written again returns byte for byte"
+-- D2.5: what was read from canonical text is written as that text
 pub record ReadWrites : Type 0 where
   -- a record of any text whose groups all read with 0 and whose bytes are canonical
   pub record-returns : (s : List ℕ) (at next : ℕ) (cells : ℕ → List ℤ) (ds : List ℤ) → ReadWhole s at next cells → CanonicalRecord (countsAt s at) (part at next s) ds → (out : List ℕ) → next - at ≤ length out → (writingOf (countsAt s at) (joined cells) (length out) ≡ Done (next - at)) × (outputBy (countsAt s at) (joined cells) (writingOf (countsAt s at) (joined cells) (length out)) out ≡ over 0 (part at next s) out)
-  -- what the program prints for a text of canonical records, each of at most 8,192 bytes
+  -- R348: what the program prints for a text of canonical records, each of at most 8,192 bytes
   pub text-returns : (s : List ℕ) → CanonicalRecords s → length s ≤ 65536 → printed s ≡ s
   -- and for what it printed itself
   pub printed-returns : (s : List ℕ) → length (printed s) ≤ 65536 → CanonicalRecords (printed s) × (printed (printed s) ≡ printed s)

@@ -1,9 +1,10 @@
--- The third demand: "Take a text, and the records that can be placed one after another from its start. Replace bytes, one for one, in the data
--- lines of one group of one of them, so long as no line feed is put in or taken out. Then as many records can be placed as before, at the same
--- places with the same counts. Every other group of every record gives the same reply and the same cells into the same table, and the altered
--- group is read or refused by rule 2 from its record's counts, its own lines and the table's length alone."
+-- The third demand, D3: damage stays where it is.
+-- D3.1, D3.2: given a text and its walk (R254), bytes are exchanged for others, each for one, in the data lines of a single group of a single
+-- record, and line feeds are where they were. D3.3, D3.4: the walk has the same number of records, each where it was and with its counts. D3.5:
+-- all other groups, in all records, give the reply that they gave, and put the same cells into the same table. D3.6: that group is read or
+-- refused as D2 says, and nothing but its lines, the counts of its record and the table's length decides this (R269). D3.7: what else follows.
 --
--- group's specs/Damage.antt has it sentence by sentence: Damaged is the first two sentences, Confined the last two.
+-- group's specs/Damage.antt has it sentence by sentence: Damaged is D3.1 and D3.2, Confined is D3.3 to D3.7.
 use mathlib.Core.List.{List}
 use Prim.Native.Nat.{ℕ}
 use Rattle.group.specs.Damage.{Damaged, Confined}

@@ -1,5 +1,5 @@
--- The three demands, each sentence above what it says of the questions' definitions, and what one outcome of a contract is. proofs/ has a
--- theorem for each.
+-- The three demands, D1 to D3, each sentence above what it says of the questions' definitions; what one outcome of a contract is (R421;
+-- Outcome); the replies in figures (R200 to R214; Numbers). proofs/ has a theorem for each.
 pub mod Demand1
 pub mod Demand2
 pub mod Demand3

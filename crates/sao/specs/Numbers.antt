@@ -1,5 +1,5 @@
--- The table of replies in figures: what number each answer has, and which numbers stand besides, in the order number, next place, written,
--- group, line, element, position. The Dues of the second demand say when an answer is given; here stands what is told.
+-- R200 to R214 in figures: what number each answer has, and which numbers stand beside it, in the order number, next place, written, group,
+-- line, element, position. The Dues of the second demand say when an answer is given; here stands what is told.
 use mathlib.Core.Path.{_≡_}
 use mathlib.Core.List.{List}
 use Prim.Native.Nat.{ℕ}
@@ -19,8 +19,8 @@ use Rattle.group.specs.declared.Characteristic.the-variants.{Value, NoReading, 
 use Rattle.group.specs.Characteristics.{characteristicReply}
 use Rattle.group.specs.Held.{foundReply}
 use Rattle.listing.specs.Listing.{listedReply}
-use Rattle.record.specs.declared.Writing.the-variants as W
-use Rattle.record.specs.Writing.{writingReply}
+use Rattle.writing.specs.declared.Writing.the-variants as W
+use Rattle.writing.specs.Writing.{writingReply}
 use Rattle.rewriting.specs.declared.Rewriting.the-variants as A
 use Rattle.rewriting.specs.Numbered.{rewritingReply, rewritingGroup}
 
@@ -49,7 +49,7 @@ pub record RefusalTold : Type 0 where
   pub no-room : refusalReply R.NoRoom ≡ numbers 11 0 0 0 0 0 0
   pub no-group : refusalReply R.NoGroup ≡ numbers 12 0 0 0 0 0 0
 
--- reading, a group's lines, a characteristic: 0 with its own, else the refusal
+-- R200, R281, R290: reading, a group's lines, a characteristic: 0 with its own, else the refusal
 pub record GroupTold : Type 0 where
   pub read : (cs : List ℤ) → readingReply (readingOf (done cs)) ≡ numbers 0 0 (length cs) 0 0 0 0
   pub unread : (r : Refusal) → readingReply (readingOf (bad r)) ≡ refusalReply r
@@ -71,7 +71,7 @@ pub record WritingTold : Type 0 where
   pub no-field : (g e : ℕ) → writingReply (W.NoField g e) ≡ numbers 13 0 0 g 0 e 0
   pub other-length : writingReply W.OtherLength ≡ numbers 14 0 0 0 0 0 0
 
--- listing; and rewriting, with the group that was not read apart
+-- R310: listing; R323: and rewriting, with the group that was not read apart
 pub record TextTold : Type 0 where
   pub listed : (n : ℕ) → listedReply (P.Next n) ≡ numbers 0 0 n 0 0 0 0
   pub unlisted : listedReply P.NoRoom ≡ numbers 11 0 0 0 0 0 0

@@ -1,4 +1,4 @@
--- "Show that any two outcomes it allows are equal", said once for every contract. `learnt` is what a caller learns of a function's `ensures`:
+-- R421: two outcomes of a contract are one and the same; said once for every contract. `learnt` is what a caller learns of a function's `ensures`:
 -- its reading is made from the contract itself, so that nothing is said here a second time. An outcome is the answer, and the last value of
 -- each memory that is lent to be altered.
 use mathlib.Core.Path.{_≡_}

@@ -1,13 +1,13 @@
-// The questions. Each may be asked of every text, place, number, table and output; a caller never has to check beforehand. The layers answer
-// them; here each has its name, its contract and nothing else. `reply_of` and its like in the layers give an answer's number in 01's table,
-// with the numbers given besides.
+// The questions, R240. Each may be asked of every text, place, number, table and output; nothing has to hold beforehand (R241). The layers
+// answer them; here each has its name, its contract and nothing else. `reply_of` and its like in the layers give an answer's number, with the
+// numbers beside it (R200 to R214).
 use decimal::Put;
 use group::Characteristic;
 use group::Lines;
 use place::Record;
 use reading::Reading;
-use record::Writing;
 use rewriting::Rewriting;
+use writing::Writing;
 ghost use mathlib.Core.Path.{_≡_};
 ghost use lib.ListN.{length};
 ghost use Rattle.decimal.specs.Writing.{Puts};
@@ -16,47 +16,53 @@ ghost use Rattle.reading.specs.Read.{readingOf, tableBy};
 ghost use Rattle.group.specs.Text.{readAt};
 ghost use Rattle.group.specs.Held.{foundAt, partStart, partEnd, partAt, moved};
 ghost use Rattle.group.specs.Characteristics.{characteristicAt};
-ghost use Rattle.record.specs.Writing.{writingOf, outputBy};
+ghost use Rattle.writing.specs.Writing.{writingOf, outputBy};
 ghost use Rattle.rewriting.specs.Record.{rewritingOf, tableBy as tableAfter, bufferBy};
 ghost use Rattle.listing.specs.Listing.{listing};
 
-// Asked: which record stands at a place of a text.
+// R250 to R253. Asked: which record stands at a place of a text.
 // Answered: the placing, with the next place under 0 and 7, and the record's 80 counts.
-// A refusal has next place 0 and 80 zero counts.
+// A refusal but 7 has next place 0 and 80 zero counts.
 pub fn place(text: &[u8], at: usize) -> Record
-    ensures { λ r. ⌜ (r .answer ≡ placingOf (now (text .entry)) at) × (r .counts ≡ countsAt (now (text .entry)) at) ⌝ }
+    ensures answer { λ r. ⌜ r .answer ≡ placingOf (now (text .entry)) at ⌝ }
+    ensures counts { λ r. ⌜ r .counts ≡ countsAt (now (text .entry)) at ⌝ }
 {
     place::place(text, at)
 }
 
-// Asked: the cells of a group, 1 to 60, of the record at a place.
+// R260 to R268. Asked: the cells of a group, 1 to 60, of the record at a place.
 // Answered: 0 with the number of cells, which stand in the table from its first cell on; what stands behind them is kept.
 // A refusal leaves the whole table as it was.
 pub fn read_group(text: &[u8], at: usize, group: usize, table: &mut [i64]) -> Reading
-    ensures { λ r. ⌜ (r ≡ readingOf (readAt (now (text .entry)) at group (length (now (table .entry))))) × (now (table .exit) ≡ tableBy (readAt (now (text .entry)) at group (length (now (table .entry)))) (now (table .entry))) ⌝ }
+    ensures answer { λ r. ⌜ r ≡ readingOf (readAt (now (text .entry)) at group (length (now (table .entry)))) ⌝ }
+    ensures table { λ _. ⌜ now (table .exit) ≡
+        tableBy (readAt (now (text .entry)) at group (length (now (table .entry)))) (now (table .entry)) ⌝ }
 {
     group::read_group(text, at, group, table)
 }
 
-// Asked: where the lines of a group of the record at a place stand in the text.
-// Answered: that they can be given, and from where to where they stand; with count 0 both places are where they would begin.
-// A refusal has its reply, 12 or any placing reply but 0, and both places are the text's start.
+// R280 to R284. Asked: where the lines of a group of the record at a place stand in the text.
+// Answered: that they can be given, and from where to where they stand; with count 0 both places are where they would be.
+// A refusal has its reply, 12 or what placing refuses with, and both places are 0.
 pub fn group_lines_at(text: &[u8], at: usize, group: usize) -> Lines
-    ensures { λ r. ⌜ (r .found ≡ foundAt (now (text .entry)) at group) × (r .from ≡ partStart (now (text .entry)) at group) × (r .to ≡ partEnd (now (text .entry)) at group) ⌝ }
+    ensures found { λ r. ⌜ r .found ≡ foundAt (now (text .entry)) at group ⌝ }
+    ensures from { λ r. ⌜ r .from ≡ partStart (now (text .entry)) at group ⌝ }
+    ensures to { λ r. ⌜ r .to ≡ partEnd (now (text .entry)) at group ⌝ }
 {
     group::lines_at(text, at, group)
 }
 
-// Asked: the lines of a group, with their line ends.
-// Answered: the part of the caller's own text that holds them; with count 0 the empty part where they would begin.
-// A refusal gives the empty part at the text's start.
+// R280 to R284. Asked: the lines of a group, with their line ends.
+// Answered: that part of the lent text, not a copy; with count 0 it is empty, and lies where the lines would be.
+// A refusal gives the empty part at place 0.
 pub fn group_lines<'a>(text: &'a [u8], at: usize, group: usize) -> &'a [u8]
-    ensures { λ r. ⌜ (now r ≡ partAt (now (text .entry)) at group) × (r .ptr ≡ moved (text .entry .ptr) (partStart (now (text .entry)) at group)) ⌝ }
+    ensures bytes { λ r. ⌜ now r ≡ partAt (now (text .entry)) at group ⌝ }
+    ensures address { λ r. ⌜ r .ptr ≡ moved (text .entry .ptr) (partStart (now (text .entry)) at group) ⌝ }
 {
     group::lines_part(text, at, group)
 }
 
-// Asked: a characteristic, 1 to 49, of the record at a place.
+// R290 to R294. Asked: a characteristic, 1 to 49, of the record at a place.
 // Answered: its value in thousandths, or that there is no reading, or that it is not reported.
 // A refusal has its reply: 12, or that of reading group 4.
 pub fn characteristic(text: &[u8], at: usize, number: usize) -> Characteristic
@@ -65,16 +71,18 @@ pub fn characteristic(text: &[u8], at: usize, number: usize) -> Characteristic
     group::characteristic_at(text, at, number)
 }
 
-// Asked: to write a record of these counts and of all cells in group order.
+// R300 to R307. Asked: to write a record of these counts and of the cells of all groups, group 1's first.
 // Answered: 0 with the number of bytes, which stand in the output from its first byte on; what stands behind them is kept.
 // A refusal leaves the whole output as it was.
 pub fn write_record(counts: &[u16], cells: &[i64], out: &mut [u8]) -> Writing
-    ensures { λ r. ⌜ (r ≡ writingOf (now (counts .entry)) (now (cells .entry)) (length (now (out .entry)))) × (now (out .exit) ≡ outputBy (now (counts .entry)) (now (cells .entry)) r (now (out .entry))) ⌝ }
+    ensures answer { λ r. ⌜ r ≡ writingOf (now (counts .entry)) (now (cells .entry)) (length (now (out .entry))) ⌝ }
+    ensures output { λ r. ⌜ now (out .exit) ≡
+        outputBy (now (counts .entry)) (now (cells .entry)) r (now (out .entry)) ⌝ }
 {
-    record::write_record(counts, cells, out)
+    writing::write_record(counts, cells, out)
 }
 
-// Asked: the listing of a text, a line for each placed record and the line `end`.
+// R310, R311. Asked: the listing of a text, a line for each record of its walk and the line `end`.
 // Answered: 0 with the number of bytes, which stand in the output from its first byte on; what stands behind them is kept.
 // A refusal (11) leaves the whole output as it was.
 pub fn list(text: &[u8], out: &mut [u8]) -> Put
@@ -83,12 +91,15 @@ pub fn list(text: &[u8], out: &mut [u8]) -> Put
     listing::render(text, out)
 }
 
-// Asked: to rewrite the record at a place as canonical text.
+// R320 to R326. Asked: to rewrite the record at a place as canonical text.
 // Answered: 0 with the number of bytes and the next place; the bytes stand in the output from its first byte on, the record's cells in the
 // table from its first cell on, and what stands behind them is kept.
 // A refusal leaves the whole output as it was; the table has the cells of the groups that were read before it.
 pub fn rewrite_record(text: &[u8], at: usize, table: &mut [i64], out: &mut [u8]) -> Rewriting
-    ensures { λ r. ⌜ (r ≡ rewritingOf (now (text .entry)) at (length (now (table .entry))) (length (now (out .entry)))) × (now (table .exit) ≡ tableAfter (now (text .entry)) at r (now (table .entry))) × (now (out .exit) ≡ bufferBy (now (text .entry)) at r (now (out .entry))) ⌝ }
+    ensures answer { λ r. ⌜ r ≡
+        rewritingOf (now (text .entry)) at (length (now (table .entry))) (length (now (out .entry))) ⌝ }
+    ensures table { λ r. ⌜ now (table .exit) ≡ tableAfter (now (text .entry)) at r (now (table .entry)) ⌝ }
+    ensures output { λ r. ⌜ now (out .exit) ≡ bufferBy (now (text .entry)) at r (now (out .entry)) ⌝ }
 {
     rewriting::rewrite_record(text, at, table, out)
 }

@@ -7,37 +7,10 @@ use Rattle.count.proofs.Checks.{checked-misformed, checked-release, che
 use Rattle.count.proofs.check.Statement.{statement}
 use Rattle.count.proofs.check.Tie as tie
 
-well-formed-requires : tie.Need-well-formed-requires
-well-formed-requires c κs = search needs
-
 returns : tie.Need-returns
 returns c =
     let o = c .before .before .before in
     sym (checked-misformed (o .args .counts .now) (o .args .cells) (sym (c .before .well-formed .ensures) ∙ not-true _ (c .if1 .taken)))
-
-release-of-requires : tie.Need-release-of-requires
-release-of-requires c κs = search needs
-
-enum-told : tie.Need-enum-told
-enum-told c = search needs
-
-enum-known-g : tie.Need-enum-known-g
-enum-known-g c = search needs
-
-enum-told-2 : tie.Need-enum-told-2
-enum-told-2 c = search needs
-
-ruling-of-requires : tie.Need-ruling-of-requires
-ruling-of-requires c κs = search needs
-
-enum-known-g-2 : tie.Need-enum-known-g-2
-enum-known-g-2 c = search needs
-
-enum-told-3 : tie.Need-enum-told-3
-enum-told-3 c = search needs
-
-add-up-requires : tie.Need-add-up-requires
-add-up-requires c κs = search needs
 
 returns-2 : tie.Need-returns-2
 returns-2 c =
@@ -68,16 +41,16 @@ pub check-spec : {M : Type 1} → statement M
 check-spec =
     tie.close
     (tie.spec
-    well-formed-requires
+    (λ c κs. search needs)
     returns
-    release-of-requires
-    enum-told
-    enum-known-g
-    enum-told-2
-    ruling-of-requires
-    enum-known-g-2
-    enum-told-3
-    add-up-requires
+    (λ c κs. search needs)
+    (λ c. search needs)
+    (λ c. search needs)
+    (λ c. search needs)
+    (λ c κs. search needs)
+    (λ c. search needs)
+    (λ c. search needs)
+    (λ c κs. search needs)
     returns-2
     returns-3
     returns-4

@@ -13,18 +13,9 @@ returns c = sym (rw (c .if1 .taken))
 returns-2 : tie.Need-returns-2
 returns-2 c = sym (count-beyond (c .before .before .args .counts .now) _ (c .if2 .taken))
 
-sub-result : tie.Need-sub-result
-sub-result c = search needs
-
-mul-result : tie.Need-mul-result
-mul-result c = search needs
-
-shared-slice-read-result : tie.Need-shared-slice-read-result
-shared-slice-read-result c = search needs
-
 returns-3 : tie.Need-returns-3
 returns-3 c = sym (count-at (c .before .before .before .args .counts .now) (c .before .before .before .args .group) (omega arith))
 
 pub count-of-spec : {M : Type 1} → statement M
 count-of-spec =
-    tie.close (tie.spec returns returns-2 sub-result mul-result shared-slice-read-result returns-3)
+    tie.close (tie.spec returns returns-2 (λ c. search needs) (λ c. search needs) (λ c. search needs) returns-3)

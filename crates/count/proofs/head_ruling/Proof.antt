@@ -7,42 +7,6 @@ use Rattle.count.proofs.Rulings.{lower-kept}
 use Rattle.count.proofs.head_ruling.Statement.{statement}
 use Rattle.count.proofs.head_ruling.Tie as tie
 
-count-of-requires : tie.Need-count-of-requires
-count-of-requires c κs = search needs
-
-ruled-requires : tie.Need-ruled-requires
-ruled-requires c κs = search needs
-
-count-of-requires-2 : tie.Need-count-of-requires-2
-count-of-requires-2 c κs = search needs
-
-ruled-requires-2 : tie.Need-ruled-requires-2
-ruled-requires-2 c κs = search needs
-
-count-of-requires-3 : tie.Need-count-of-requires-3
-count-of-requires-3 c κs = search needs
-
-ruled-requires-3 : tie.Need-ruled-requires-3
-ruled-requires-3 c κs = search needs
-
-count-of-requires-4 : tie.Need-count-of-requires-4
-count-of-requires-4 c κs = search needs
-
-within-requires : tie.Need-within-requires
-within-requires c κs = search needs
-
-ruled-requires-4 : tie.Need-ruled-requires-4
-ruled-requires-4 c κs = search needs
-
-lower-of-requires : tie.Need-lower-of-requires
-lower-of-requires c κs = search needs
-
-lower-of-requires-2 : tie.Need-lower-of-requires-2
-lower-of-requires-2 c κs = search needs
-
-lower-of-requires-3 : tie.Need-lower-of-requires-3
-lower-of-requires-3 c κs = search needs
-
 returns : tie.Need-returns
 unfolding lowest headRules
 returns c =
@@ -53,16 +17,16 @@ pub head-ruling-spec : {M : Type 1} → statement M
 head-ruling-spec =
     tie.close
     (tie.spec
-    count-of-requires
-    ruled-requires
-    count-of-requires-2
-    ruled-requires-2
-    count-of-requires-3
-    ruled-requires-3
-    count-of-requires-4
-    within-requires
-    ruled-requires-4
-    lower-of-requires
-    lower-of-requires-2
-    lower-of-requires-3
+    (λ c κs. search needs)
+    (λ c κs. search needs)
+    (λ c κs. search needs)
+    (λ c κs. search needs)
+    (λ c κs. search needs)
+    (λ c κs. search needs)
+    (λ c κs. search needs)
+    (λ c κs. search needs)
+    (λ c κs. search needs)
+    (λ c κs. search needs)
+    (λ c κs. search needs)
+    (λ c κs. search needs)
     returns)

@@ -19,26 +19,11 @@ abbrev μ-loop : tie.MeasureT-loop
 loop-holds : tie.Need-loop-holds Inv-loop μ-loop
 loop-holds c = seen-start _ _
 
-count-of-requires : tie.Need-count-of-requires Inv-loop μ-loop
-count-of-requires c κs = search needs
-
-differs-requires : tie.Need-differs-requires Inv-loop μ-loop
-differs-requires c κs = search needs
-
 returns : tie.Need-returns Inv-loop μ-loop
 returns c =
     let l = c .before .before .before .before .loop in
     let same = rw (c .before .before .count-of .ensures) at (c .before .differs .ensures) in
     sym (seen-differs (c .before .before .before .before .before .before .args .counts .now) (c .before .before .before .before .before .before .args .set) (l .seen) (l .g) (l .inv) (c .before .before .before .loop-test .taken) (sym same ∙ c .if1 .taken))
-
-settled-requires : tie.Need-settled-requires Inv-loop μ-loop
-settled-requires c κs = search needs
-
-add-g : tie.Need-add-g Inv-loop μ-loop
-add-g c = search needs
-
-loop-less : tie.Need-loop-less Inv-loop μ-loop
-loop-less c = search needs
 
 loop-again : tie.Need-loop-again Inv-loop μ-loop
 loop-again c =
@@ -59,17 +44,11 @@ returns-2 c = sym (ended (c .before .before) ∙ rw (c .if2 .taken))
 returns-3 : tie.Need-returns-3 Inv-loop μ-loop
 returns-3 c = sym (ended (c .before .before .before) ∙ rw (c .before .if2 .left, eq-eqb _ _ (c .if3 .taken)))
 
-count-of-requires-2 : tie.Need-count-of-requires-2 Inv-loop μ-loop
-count-of-requires-2 c κs = search needs
-
 returns-4 : tie.Need-returns-4 Inv-loop μ-loop
 returns-4 c =
     sym
     (ended (c .before .before .before .before .before)
     ∙ rw (c .before .before .before .if2 .left, ne-eqb _ _ (c .before .before .if3 .left), ← c .before .count-of2 .ensures, eq-eqb _ _ (c .if4 .taken)))
-
-count-of-requires-3 : tie.Need-count-of-requires-3 Inv-loop μ-loop
-count-of-requires-3 c κs = search needs
 
 returns-5 : tie.Need-returns-5 Inv-loop μ-loop
 returns-5 c =
@@ -84,16 +63,16 @@ kept-by-spec =
     Inv-loop
     μ-loop
     loop-holds
-    count-of-requires
-    differs-requires
+    (λ c κs. search needs)
+    (λ c κs. search needs)
     returns
-    settled-requires
-    add-g
-    loop-less
+    (λ c κs. search needs)
+    (λ c. search needs)
+    (λ c. search needs)
     loop-again
     returns-2
     returns-3
-    count-of-requires-2
+    (λ c κs. search needs)
     returns-4
-    count-of-requires-3
+    (λ c κs. search needs)
     returns-5)

@@ -7,30 +7,6 @@ use Rattle.count.proofs.Rulings.{lower-kept}
 use Rattle.count.proofs.letter_ruling.Statement.{statement}
 use Rattle.count.proofs.letter_ruling.Tie as tie
 
-count-of-requires : tie.Need-count-of-requires
-count-of-requires c κs = search needs
-
-count-of-requires-2 : tie.Need-count-of-requires-2
-count-of-requires-2 c κs = search needs
-
-zero-or-requires : tie.Need-zero-or-requires
-zero-or-requires c κs = search needs
-
-ruled-requires : tie.Need-ruled-requires
-ruled-requires c κs = search needs
-
-count-of-requires-3 : tie.Need-count-of-requires-3
-count-of-requires-3 c κs = search needs
-
-zero-or-requires-2 : tie.Need-zero-or-requires-2
-zero-or-requires-2 c κs = search needs
-
-ruled-requires-2 : tie.Need-ruled-requires-2
-ruled-requires-2 c κs = search needs
-
-lower-of-requires : tie.Need-lower-of-requires
-lower-of-requires c κs = search needs
-
 returns : tie.Need-returns
 unfolding lowest letterRules
 returns c =
@@ -41,12 +17,12 @@ pub letter-ruling-spec : {M : Type 1} → statement M
 letter-ruling-spec =
     tie.close
     (tie.spec
-    count-of-requires
-    count-of-requires-2
-    zero-or-requires
-    ruled-requires
-    count-of-requires-3
-    zero-or-requires-2
-    ruled-requires-2
-    lower-of-requires
+    (λ c κs. search needs)
+    (λ c κs. search needs)
+    (λ c κs. search needs)
+    (λ c κs. search needs)
+    (λ c κs. search needs)
+    (λ c κs. search needs)
+    (λ c κs. search needs)
+    (λ c κs. search needs)
     returns)

@@ -18,18 +18,12 @@ Inv-loop counts g₀ g = (61 ≤ g) × (g ≤ 80) × (filledAmong counts (upFrom
 abbrev μ-loop : tie.MeasureT-loop
 μ-loop counts g₀ g = 80 - g
 
-count-of-requires : tie.Need-count-of-requires Inv-loop μ-loop
-count-of-requires c κs = search needs
-
 returns : tie.Need-returns Inv-loop μ-loop
 unfolding releaseOf
 returns c = rw (ne-eqb _ 5 (λ e. c .if1 .taken (c .before .count-of .ensures ∙ e)))
 
 loop-holds : tie.Need-loop-holds Inv-loop μ-loop
 loop-holds c = (omega arith, omega arith, refl)
-
-count-of-requires-2 : tie.Need-count-of-requires-2 Inv-loop μ-loop
-count-of-requires-2 c κs = search needs
 
 returns-2 : tie.Need-returns-2 Inv-loop μ-loop
 unfolding releaseOf
@@ -38,12 +32,6 @@ returns-2 c =
     let loop = c .before .before .before .loop in
     rw (eq-eqb (countOf ns 80) 5 (sym (c .before .before .before .before .before .count-of .ensures) ∙ c .before .before .before .before .if1 .left))
     (sym (vacant-found ns (loop .g) (c .before .before .loop-test .taken) (λ e. c .if2 .taken (c .before .count-of2 .ensures ∙ e))) ∙ loop .inv .2)
-
-add-g : tie.Need-add-g Inv-loop μ-loop
-add-g c = search needs
-
-loop-less : tie.Need-loop-less Inv-loop μ-loop
-loop-less c = search needs
 
 loop-again : tie.Need-loop-again Inv-loop μ-loop
 loop-again c =
@@ -64,12 +52,12 @@ release-of-spec =
     (tie.spec
     Inv-loop
     μ-loop
-    count-of-requires
+    (λ c κs. search needs)
     returns
     loop-holds
-    count-of-requires-2
+    (λ c κs. search needs)
     returns-2
-    add-g
-    loop-less
+    (λ c. search needs)
+    (λ c. search needs)
     loop-again
     returns-3)

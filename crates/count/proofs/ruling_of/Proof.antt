@@ -8,21 +8,6 @@ use Rattle.count.proofs.Rulings.{lowest-append}
 use Rattle.count.proofs.ruling_of.Statement.{statement}
 use Rattle.count.proofs.ruling_of.Tie as tie
 
-head-ruling-requires : tie.Need-head-ruling-requires
-head-ruling-requires c κs = search needs
-
-set-ruling-requires : tie.Need-set-ruling-requires
-set-ruling-requires c κs = search needs
-
-letter-ruling-requires : tie.Need-letter-ruling-requires
-letter-ruling-requires c κs = search needs
-
-lower-of-requires : tie.Need-lower-of-requires
-lower-of-requires c κs = search needs
-
-lower-of-requires-2 : tie.Need-lower-of-requires-2
-lower-of-requires-2 c κs = search needs
-
 returns : tie.Need-returns
 unfolding rulingOf
 returns c =
@@ -34,9 +19,9 @@ pub ruling-of-spec : {M : Type 1} → statement M
 ruling-of-spec =
     tie.close
     (tie.spec
-    head-ruling-requires
-    set-ruling-requires
-    letter-ruling-requires
-    lower-of-requires
-    lower-of-requires-2
+    (λ c κs. search needs)
+    (λ c κs. search needs)
+    (λ c κs. search needs)
+    (λ c κs. search needs)
+    (λ c κs. search needs)
     returns)

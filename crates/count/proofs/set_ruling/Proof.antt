@@ -23,27 +23,9 @@ loop-holds : tie.Need-loop-holds Inv-loop μ-loop
 unfolding sets
 loop-holds c = (omega arith, refl)
 
-mul-set : tie.Need-mul-set Inv-loop μ-loop
-mul-set c = search needs
-
-array-copy-out-set : tie.Need-array-copy-out-set Inv-loop μ-loop
-array-copy-out-set c = search needs
-
 kept-by-requires : tie.Need-kept-by-requires Inv-loop μ-loop
 unfolding sets
 kept-by-requires c κs = last-group (c .before .before .loop .k) (set 0 0 false) (omega arith)
-
-ruled-requires : tie.Need-ruled-requires Inv-loop μ-loop
-ruled-requires c κs = search needs
-
-lower-of-requires : tie.Need-lower-of-requires Inv-loop μ-loop
-lower-of-requires c κs = search needs
-
-add-k : tie.Need-add-k Inv-loop μ-loop
-add-k c = search needs
-
-loop-less : tie.Need-loop-less Inv-loop μ-loop
-loop-less c = search needs
 
 loop-again : tie.Need-loop-again Inv-loop μ-loop
 unfolding sets
@@ -65,12 +47,12 @@ set-ruling-spec =
     Inv-loop
     μ-loop
     loop-holds
-    mul-set
-    array-copy-out-set
+    (λ c. search needs)
+    (λ c. search needs)
     kept-by-requires
-    ruled-requires
-    lower-of-requires
-    add-k
-    loop-less
+    (λ c κs. search needs)
+    (λ c κs. search needs)
+    (λ c. search needs)
+    (λ c. search needs)
     loop-again
     returns)

@@ -26,12 +26,6 @@ returns c = rw (ne-eqb _ _ (c .if1 .taken))
 loop-holds : tie.Need-loop-holds Inv-loop μ-loop
 loop-holds c = (omega arith, refl)
 
-mul-if2 : tie.Need-mul-if2 Inv-loop μ-loop
-mul-if2 c = search needs
-
-shared-slice-read-if2 : tie.Need-shared-slice-read-if2 Inv-loop μ-loop
-shared-slice-read-if2 c = search needs
-
 returns-2 : tie.Need-returns-2 Inv-loop μ-loop
 unfolding wellFormed
 returns-2 c =
@@ -39,12 +33,6 @@ returns-2 c =
     let ns = c .before .before .before .before .before .args .counts .now in
     rw (eq-eqb (length ns) 80 (c .before .before .before .before .if1 .left))
     (sym (every-failed (λ n. leb n 999) 0 ns (loop .i) (c .before .before .loop-test .taken) (lt-leb _ _ (c .if2 .taken))) ∙ loop .inv .1)
-
-add-i : tie.Need-add-i Inv-loop μ-loop
-add-i c = search needs
-
-loop-less : tie.Need-loop-less Inv-loop μ-loop
-loop-less c = search needs
 
 loop-again : tie.Need-loop-again Inv-loop μ-loop
 loop-again c =
@@ -67,10 +55,10 @@ well-formed-spec =
     μ-loop
     returns
     loop-holds
-    mul-if2
-    shared-slice-read-if2
+    (λ c. search needs)
+    (λ c. search needs)
     returns-2
-    add-i
-    loop-less
+    (λ c. search needs)
+    (λ c. search needs)
     loop-again
     returns-3)

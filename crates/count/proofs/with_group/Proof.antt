@@ -7,14 +7,8 @@ use Rattle.form.proofs.Counted.{lines-few, cells-few}
 use Rattle.count.proofs.with_group.Statement.{statement}
 use Rattle.count.proofs.with_group.Tie as tie
 
-lines-requires : tie.Need-lines-requires
-lines-requires c κs = search needs
-
 add-t5 : tie.Need-add-t5
 add-t5 c = record { fits = omega (arith, c .before .lines .ensures, lines-few (c .before .before .args .form) (c .before .before .args .count) (omega arith)) }
-
-cells-requires : tie.Need-cells-requires
-cells-requires c κs = search needs
 
 add-t7 : tie.Need-add-t7
 add-t7 c =
@@ -25,4 +19,4 @@ returns : tie.Need-returns
 returns c = rw (c .before .before .before .lines .ensures, c .before .cells .ensures) (refl, refl)
 
 pub with-group-spec : {M : Type 1} → statement M
-with-group-spec = tie.close (tie.spec lines-requires add-t5 cells-requires add-t7 returns)
+with-group-spec = tie.close (tie.spec (λ c κs. search needs) add-t5 (λ c κs. search needs) add-t7 returns)

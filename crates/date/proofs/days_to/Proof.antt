@@ -20,23 +20,11 @@ loop-holds : tie.Need-loop-holds Inv-loop μ-loop
 unfolding daysTo
 loop-holds c = (omega arith, refl)
 
-mul-days : tie.Need-mul-days Inv-loop μ-loop
-mul-days c = search needs
-
-array-read-days : tie.Need-array-read-days Inv-loop μ-loop
-array-read-days c = search needs
-
 -- the days counted so far are few
 add-days : tie.Need-add-days Inv-loop μ-loop
 add-days c =
     let m = c .before .loop .m in
     omega (arith, table-more m (omega arith), days-bound false (m + 1))
-
-add-m : tie.Need-add-m Inv-loop μ-loop
-add-m c = search needs
-
-loop-less : tie.Need-loop-less Inv-loop μ-loop
-loop-less c = search needs
 
 loop-again : tie.Need-loop-again Inv-loop μ-loop
 loop-again c =
@@ -74,11 +62,11 @@ days-to-spec =
     Inv-loop
     μ-loop
     loop-holds
-    mul-days
-    array-read-days
+    (λ c. search needs)
+    (λ c. search needs)
     add-days
-    add-m
-    loop-less
+    (λ c. search needs)
+    (λ c. search needs)
     loop-again
     returns
     add-result

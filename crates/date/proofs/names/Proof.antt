@@ -8,12 +8,6 @@ use Rattle.date.proofs.Days.{named-early, named-late, named-within}
 use Rattle.date.proofs.names.Statement.{statement}
 use Rattle.date.proofs.names.Tie as tie
 
-leap-requires : tie.Need-leap-requires
-leap-requires c κs = search needs
-
-sub-days-to : tie.Need-sub-days-to
-sub-days-to c = search needs
-
 days-to-requires : tie.Need-days-to-requires
 days-to-requires c κs = omega arith
 
@@ -45,8 +39,8 @@ pub names-spec : {M : Type 1} → statement M
 names-spec =
     tie.close
     (tie.spec
-    leap-requires
-    sub-days-to
+    (λ c κs. search needs)
+    (λ c. search needs)
     days-to-requires
     returns
     days-to-requires-2

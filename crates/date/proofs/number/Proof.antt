@@ -17,12 +17,6 @@ Inv-loop digits least greatest most value₀ i₀ value i =
 abbrev μ-loop : tie.MeasureT-loop
 μ-loop digits least greatest most value₀ i₀ value i = length digits - i
 
-loop-holds : tie.Need-loop-holds Inv-loop μ-loop
-loop-holds c = search needs
-
-shared-slice-read-digit : tie.Need-shared-slice-read-digit Inv-loop μ-loop
-shared-slice-read-digit c = search needs
-
 -- no digit
 returns : tie.Need-returns Inv-loop μ-loop
 returns c =
@@ -44,30 +38,12 @@ returns-3 c =
     let d = digit-is _ (c .before .before .if1 .left) (c .before .if2 .left) in
     sym (number-over (a .least) (a .greatest) (a .digits .now) (l .i) (l .value) (omega arith) d (omega arith)) ∙ l .inv .1
 
-mul-tens : tie.Need-mul-tens Inv-loop μ-loop
-mul-tens c = search needs
-
-cast-ones : tie.Need-cast-ones Inv-loop μ-loop
-cast-ones c = search needs
-
-sub-if4 : tie.Need-sub-if4 Inv-loop μ-loop
-sub-if4 c = search needs
-
 returns-4 : tie.Need-returns-4 Inv-loop μ-loop
 returns-4 c =
     let l = c .before .before .before .before .before .before .loop in
     let a = c .before .before .before .before .before .before .before .args in
     let d = digit-is _ (c .before .before .before .if1 .left) (c .before .before .if2 .left) in
     sym (number-over (a .least) (a .greatest) (a .digits .now) (l .i) (l .value) (omega arith) d (omega arith)) ∙ l .inv .1
-
-add-value : tie.Need-add-value Inv-loop μ-loop
-add-value c = search needs
-
-add-i : tie.Need-add-i Inv-loop μ-loop
-add-i c = search needs
-
-loop-less : tie.Need-loop-less Inv-loop μ-loop
-loop-less c = search needs
 
 loop-again : tie.Need-loop-again Inv-loop μ-loop
 loop-again c =
@@ -97,18 +73,18 @@ number-spec =
     (tie.spec
     Inv-loop
     μ-loop
-    loop-holds
-    shared-slice-read-digit
+    (λ c. search needs)
+    (λ c. search needs)
     returns
     returns-2
     returns-3
-    mul-tens
-    cast-ones
-    sub-if4
+    (λ c. search needs)
+    (λ c. search needs)
+    (λ c. search needs)
     returns-4
-    add-value
-    add-i
-    loop-less
+    (λ c. search needs)
+    (λ c. search needs)
+    (λ c. search needs)
     loop-again
     returns-5
     returns-6)

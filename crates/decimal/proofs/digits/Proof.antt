@@ -19,9 +19,6 @@ abbrev μ-loop : tie.MeasureT-loop
 loop-holds : tie.Need-loop-holds Inv-loop μ-loop
 loop-holds c = (omega arith, omega arith, length-some _, refl)
 
-add-k : tie.Need-add-k Inv-loop μ-loop
-add-k c = search needs
-
 -- the power is not above n, so that n has more than k digits
 longer : (c : tie.In-loop Inv-loop μ-loop) → c .before .loop .k < length (numeral (c .before .before .args .n))
 longer c = length-above (c .before .loop .k) (c .before .before .args .n) (rw (c .before .loop .inv .3) at (c .loop-test .taken))
@@ -33,9 +30,6 @@ mul-power : tie.Need-mul-power Inv-loop μ-loop
 mul-power c =
     let l = c .before .before .loop in
     rw (power-next (l .power) (l .k) (l .inv .3)) (record { fits = power-fits (l .k + 1) (omega arith) })
-
-loop-less : tie.Need-loop-less Inv-loop μ-loop
-loop-less c = search needs
 
 loop-again : tie.Need-loop-again Inv-loop μ-loop
 loop-again c =
@@ -50,4 +44,4 @@ returns-2 c =
 pub digits-spec : {M : Type 1} → statement M
 digits-spec =
     tie.close
-    (tie.spec Inv-loop μ-loop loop-holds add-k returns mul-power loop-less loop-again returns-2)
+    (tie.spec Inv-loop μ-loop loop-holds (λ c. search needs) returns mul-power (λ c. search needs) loop-again returns-2)

@@ -11,11 +11,8 @@ more-follow : (k : ℕ) → (k ≡ 0 → ⊥) → 32 ≡ endByte k
 more-follow zero n = absurd (n refl)
 more-follow (suc k) n = refl
 
-returns : tie.Need-returns
-returns c = search needs
-
 returns-2 : tie.Need-returns-2
 returns-2 c = more-follow _ (c .if1 .left)
 
 pub end-byte-spec : {M : Type 1} → statement M
-end-byte-spec = tie.close (tie.spec returns returns-2)
+end-byte-spec = tie.close (tie.spec (λ c. search needs) returns-2)

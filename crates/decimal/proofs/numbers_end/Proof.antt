@@ -18,9 +18,6 @@ Inv-loop size at numbers a₀ i₀ a i = (a ≤ size) × (endIn a (length (rest 
 abbrev μ-loop : tie.MeasureT-loop
 μ-loop size at numbers a₀ i₀ a i = length numbers - i
 
-add-t10 : tie.Need-add-t10 Inv-loop μ-loop
-add-t10 c = search needs
-
 returns : tie.Need-returns Inv-loop μ-loop
 returns c =
     let o = c .before .before .before in
@@ -33,15 +30,6 @@ returns-2 c =
 
 loop-holds : tie.Need-loop-holds Inv-loop μ-loop
 loop-holds c = (c .before .before .pre, end-whole _ _ _ (c .if1 .left))
-
-mul-digits : tie.Need-mul-digits Inv-loop μ-loop
-mul-digits c = search needs
-
-shared-slice-read-digits : tie.Need-shared-slice-read-digits Inv-loop μ-loop
-shared-slice-read-digits c = search needs
-
-digits-requires : tie.Need-digits-requires Inv-loop μ-loop
-digits-requires c κs = search needs
 
 sub-if3 : tie.Need-sub-if3 Inv-loop μ-loop
 sub-if3 c = c .before .before .before .loop .inv .0
@@ -57,12 +45,6 @@ add-a c = omega (arith, c .before .before .before .before .loop .inv .0, c .if3 
 add-a-2 : tie.Need-add-a-2 Inv-loop μ-loop
 add-a-2 c = omega (arith, c .before .before .before .before .loop .inv .0, c .if3 .left)
 
-add-i : tie.Need-add-i Inv-loop μ-loop
-add-i c = search needs
-
-loop-less : tie.Need-loop-less Inv-loop μ-loop
-loop-less c = search needs
-
 loop-again : tie.Need-loop-again Inv-loop μ-loop
 loop-again c =
     let l = c .before .before .before .before .loop in
@@ -77,18 +59,18 @@ numbers-end-spec =
     (tie.spec
     Inv-loop
     μ-loop
-    add-t10
+    (λ c. search needs)
     returns
     returns-2
     loop-holds
-    mul-digits
-    shared-slice-read-digits
-    digits-requires
+    (λ c. search needs)
+    (λ c. search needs)
+    (λ c κs. search needs)
     sub-if3
     returns-3
     add-a
     add-a-2
-    add-i
-    loop-less
+    (λ c. search needs)
+    (λ c. search needs)
     loop-again
     returns-4)

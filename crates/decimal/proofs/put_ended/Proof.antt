@@ -9,26 +9,8 @@ use Rattle.decimal.proofs.Writing.{over-last}
 use Rattle.decimal.proofs.put_ended.Statement.{statement}
 use Rattle.decimal.proofs.put_ended.Tie as tie
 
-digits-requires : tie.Need-digits-requires
-digits-requires c κs = search needs
-
 put-numeral-requires : tie.Need-put-numeral-requires
 put-numeral-requires c κs = (c .before .digits .ensures, omega (arith, c .before .digits .ensures, c .before .before .before .pre))
-
-add-out : tie.Need-add-out
-add-out c = search needs
-
-slice-write-out : tie.Need-slice-write-out
-slice-write-out c = search needs
-
-add-result : tie.Need-add-result
-add-result c = search needs
-
-add-result-2 : tie.Need-add-result-2
-add-result-2 c = search needs
-
-same-length : tie.Need-same-length
-same-length c = search needs
 
 returns : tie.Need-returns
 returns c =
@@ -40,11 +22,11 @@ pub put-ended-spec : {M : Type 1} → statement M
 put-ended-spec =
     tie.close
     (tie.spec
-    digits-requires
+    (λ c κs. search needs)
     put-numeral-requires
-    add-out
-    slice-write-out
-    add-result
-    add-result-2
-    same-length
+    (λ c. search needs)
+    (λ c. search needs)
+    (λ c. search needs)
+    (λ c. search needs)
+    (λ c. search needs)
     returns)

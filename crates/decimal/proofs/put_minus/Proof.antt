@@ -8,12 +8,6 @@ use Rattle.decimal.proofs.Writing.{over-first, first-length}
 use Rattle.decimal.proofs.put_minus.Statement.{statement}
 use Rattle.decimal.proofs.put_minus.Tie as tie
 
-slice-write-out : tie.Need-slice-write-out
-slice-write-out c = search needs
-
-add-put-numeral : tie.Need-add-put-numeral
-add-put-numeral c = search needs
-
 put-numeral-requires : tie.Need-put-numeral-requires
 put-numeral-requires c κs =
     let o = c .before .before in
@@ -31,4 +25,4 @@ returns c =
 
 pub put-minus-spec : {M : Type 1} → statement M
 put-minus-spec =
-    tie.close (tie.spec slice-write-out add-put-numeral put-numeral-requires same-length returns)
+    tie.close (tie.spec (λ c. search needs) (λ c. search needs) put-numeral-requires same-length returns)

@@ -16,20 +16,11 @@ room c = leb-true _ _ (sym (c .before .has-room .ensures) ∙ c .if1 .taken)
 no-room : (c : tie.Else1) → (let a = c .before .before .before .before .args in length (a .out .now) < a .at + c .before .before .digits .result)
 no-room c = leb-false _ _ (sym (c .before .has-room .ensures) ∙ c .if1 .left)
 
-digits-requires : tie.Need-digits-requires
-digits-requires c κs = search needs
-
-has-room-requires : tie.Need-has-room-requires
-has-room-requires c κs = search needs
-
 put-numeral-requires : tie.Need-put-numeral-requires
 put-numeral-requires c κs = (c .before .before .before .digits .ensures, room (c .before))
 
 add-t10 : tie.Need-add-t10
 add-t10 c = omega (arith, room (c .before .before .before .before))
-
-same-length : tie.Need-same-length
-same-length c = search needs
 
 returns : tie.Need-returns
 returns c =
@@ -42,10 +33,10 @@ pub put-number-spec : {M : Type 1} → statement M
 put-number-spec =
     tie.close
     (tie.spec
-    digits-requires
-    has-room-requires
+    (λ c κs. search needs)
+    (λ c κs. search needs)
     put-numeral-requires
     add-t10
-    same-length
+    (λ c. search needs)
     returns
     returns-2)

@@ -23,9 +23,6 @@ abbrev μ-loop : tie.MeasureT-loop
 slice-write-out : tie.Need-slice-write-out Inv-loop μ-loop
 slice-write-out c = omega (arith, row-some (c .before .before .before .args .numbers .now), c .before .before .before .pre)
 
-same-length : tie.Need-same-length Inv-loop μ-loop
-same-length c = search needs
-
 returns : tie.Need-returns Inv-loop μ-loop
 returns c =
     let o = c .before .before .before in
@@ -37,32 +34,11 @@ loop-holds c =
     let e : rest (o .args .numbers .now) ≡ rowText (o .args .numbers .now) = rest-row (o .args .numbers .now) (omega (arith, c .if1 .left)) in
     (refl, rw e, rw e)
 
-add-end-byte : tie.Need-add-end-byte Inv-loop μ-loop
-add-end-byte c = search needs
-
-sub-end-byte : tie.Need-sub-end-byte Inv-loop μ-loop
-sub-end-byte c = search needs
-
-end-byte-requires : tie.Need-end-byte-requires Inv-loop μ-loop
-end-byte-requires c κs = search needs
-
-mul-put-ended : tie.Need-mul-put-ended Inv-loop μ-loop
-mul-put-ended c = search needs
-
-shared-slice-read-put-ended : tie.Need-shared-slice-read-put-ended Inv-loop μ-loop
-shared-slice-read-put-ended c = search needs
-
 put-ended-requires : tie.Need-put-ended-requires Inv-loop μ-loop
 put-ended-requires c κs =
     let o = c .before .before .before .before .before .before .before .before in
     let l = c .before .before .before .before .loop in
     omega (arith, rest-length (o .args .numbers .now) (l .i) (c .before .before .before .loop-test .taken), l .inv .0, l .inv .1, o .pre)
-
-add-i : tie.Need-add-i Inv-loop μ-loop
-add-i c = search needs
-
-loop-less : tie.Need-loop-less Inv-loop μ-loop
-loop-less c = search needs
 
 loop-again : tie.Need-loop-again Inv-loop μ-loop
 loop-again c =
@@ -77,9 +53,6 @@ loop-again c =
       put-turn _ _ _ _ _ _ _ h r (p .ensures .0) q (p .ensures .1) ∙ l .inv .2,
     )
 
-same-length-2 : tie.Need-same-length-2 Inv-loop μ-loop
-same-length-2 c = search needs
-
 returns-2 : tie.Need-returns-2 Inv-loop μ-loop
 returns-2 c =
     let l = c .before .loop in
@@ -93,17 +66,17 @@ put-numbers-spec =
     Inv-loop
     μ-loop
     slice-write-out
-    same-length
+    (λ c. search needs)
     returns
     loop-holds
-    add-end-byte
-    sub-end-byte
-    end-byte-requires
-    mul-put-ended
-    shared-slice-read-put-ended
+    (λ c. search needs)
+    (λ c. search needs)
+    (λ c κs. search needs)
+    (λ c. search needs)
+    (λ c. search needs)
     put-ended-requires
-    add-i
-    loop-less
+    (λ c. search needs)
+    (λ c. search needs)
     loop-again
-    same-length-2
+    (λ c. search needs)
     returns-2)

@@ -9,24 +9,6 @@ use Rattle.decimal.proofs.Lengths.{numeral-filled}
 use Rattle.decimal.proofs.put_numeral.Statement.{statement}
 use Rattle.decimal.proofs.put_numeral.Tie as tie
 
-add-e : tie.Need-add-e
-add-e c = search needs
-
-sub-put-digits : tie.Need-sub-put-digits
-sub-put-digits c = search needs
-
-part-put-digits-start : tie.Need-part-put-digits-start
-part-put-digits-start c = search needs
-
-part-put-digits-end : tie.Need-part-put-digits-end
-part-put-digits-end c = search needs
-
-put-digits-requires : tie.Need-put-digits-requires
-put-digits-requires c κs = search needs
-
-same-length : tie.Need-same-length
-same-length c = search needs
-
 returns : tie.Need-returns
 returns c =
     let o = c .before .before .before .before .before in
@@ -38,10 +20,10 @@ pub put-numeral-spec : {M : Type 1} → statement M
 put-numeral-spec =
     tie.close
     (tie.spec
-    add-e
-    sub-put-digits
-    part-put-digits-start
-    part-put-digits-end
-    put-digits-requires
-    same-length
+    (λ c. search needs)
+    (λ c. search needs)
+    (λ c. search needs)
+    (λ c. search needs)
+    (λ c κs. search needs)
+    (λ c. search needs)
     returns)

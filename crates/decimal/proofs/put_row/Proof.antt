@@ -12,15 +12,6 @@ use Rattle.decimal.proofs.Writing.{end-next, end-full, puts-joined, put
 use Rattle.decimal.proofs.put_row.Statement.{statement}
 use Rattle.decimal.proofs.put_row.Tie as tie
 
-row-end-requires : tie.Need-row-end-requires
-row-end-requires c κs = search needs
-
-enum-known-end : tie.Need-enum-known-end
-enum-known-end c = search needs
-
-enum-told : tie.Need-enum-told
-enum-told c = search needs
-
 returns : tie.Need-returns
 returns c = puts-none _ _ _ (end-full _ _ _ (sym (c .before .before .row-end .ensures) ∙ c .enum-told .given .1))
 
@@ -43,9 +34,6 @@ put-numbers-requires c κs =
     let l = over-length (a .out .now) (a .first .now) (a .at) (omega (arith, r .0, r .1)) in
     omega (arith, ap length (c .before .before .before .put-text .ensures), l, r .0, r .1)
 
-same-length : tie.Need-same-length
-same-length c = search needs
-
 returns-2 : tie.Need-returns-2
 returns-2 c =
     let a = c .before .before .before .before .before .before .before .before .before .before .before .before .before .before .before .args in
@@ -56,12 +44,12 @@ pub put-row-spec : {M : Type 1} → statement M
 put-row-spec =
     tie.close
     (tie.spec
-    row-end-requires
-    enum-known-end
-    enum-told
+    (λ c κs. search needs)
+    (λ c. search needs)
+    (λ c. search needs)
     returns
     put-text-requires
     add-put-numbers
     put-numbers-requires
-    same-length
+    (λ c. search needs)
     returns-2)

@@ -11,9 +11,6 @@ use Rattle.decimal.proofs.Writing.{end-then, end-first}
 use Rattle.decimal.proofs.row_end.Statement.{statement}
 use Rattle.decimal.proofs.row_end.Tie as tie
 
-has-room-requires : tie.Need-has-room-requires
-has-room-requires c κs = search needs
-
 room : (c : tie.Then1) → (let a = c .before .before .before .before .args in a .at + length (a .first .now) ≤ a .size)
 room c = leb-true _ _ (sym (c .before .has-room .ensures) ∙ c .if1 .taken)
 
@@ -35,4 +32,4 @@ returns-2 c =
 
 pub row-end-spec : {M : Type 1} → statement M
 row-end-spec =
-    tie.close (tie.spec has-room-requires add-numbers-end numbers-end-requires returns returns-2)
+    tie.close (tie.spec (λ c κs. search needs) add-numbers-end numbers-end-requires returns returns-2)

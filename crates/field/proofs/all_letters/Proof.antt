@@ -19,24 +19,6 @@ Inv-loop cells i₀ i = (i ≤ length cells) × (every isLetter (drop i cells) �
 abbrev μ-loop : tie.MeasureT-loop
 μ-loop cells i₀ i = length cells - i
 
-loop-holds : tie.Need-loop-holds Inv-loop μ-loop
-loop-holds c = search needs
-
-mul-is-letter : tie.Need-mul-is-letter Inv-loop μ-loop
-mul-is-letter c = search needs
-
-shared-slice-copy-out-is-letter : tie.Need-shared-slice-copy-out-is-letter Inv-loop μ-loop
-shared-slice-copy-out-is-letter c = search needs
-
-is-letter-requires : tie.Need-is-letter-requires Inv-loop μ-loop
-is-letter-requires c κs = search needs
-
-add-i : tie.Need-add-i Inv-loop μ-loop
-add-i c = search needs
-
-loop-less : tie.Need-loop-less Inv-loop μ-loop
-loop-less c = search needs
-
 loop-again : tie.Need-loop-again Inv-loop μ-loop
 loop-again c =
     let l = c .before .before .before .before .loop in
@@ -60,12 +42,12 @@ all-letters-spec =
     (tie.spec
     Inv-loop
     μ-loop
-    loop-holds
-    mul-is-letter
-    shared-slice-copy-out-is-letter
-    is-letter-requires
-    add-i
-    loop-less
+    (λ c. search needs)
+    (λ c. search needs)
+    (λ c. search needs)
+    (λ c κs. search needs)
+    (λ c. search needs)
+    (λ c. search needs)
     loop-again
     returns
     returns-2)

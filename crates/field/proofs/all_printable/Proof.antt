@@ -16,21 +16,6 @@ Inv-loop s i₀ i = (i ≤ length s) × (every printable (drop i s) ≡ every pr
 abbrev μ-loop : tie.MeasureT-loop
 μ-loop s i₀ i = length s - i
 
-loop-holds : tie.Need-loop-holds Inv-loop μ-loop
-loop-holds c = search needs
-
-shared-slice-read-is-printable : tie.Need-shared-slice-read-is-printable Inv-loop μ-loop
-shared-slice-read-is-printable c = search needs
-
-is-printable-requires : tie.Need-is-printable-requires Inv-loop μ-loop
-is-printable-requires c κs = search needs
-
-add-i : tie.Need-add-i Inv-loop μ-loop
-add-i c = search needs
-
-loop-less : tie.Need-loop-less Inv-loop μ-loop
-loop-less c = search needs
-
 loop-again : tie.Need-loop-again Inv-loop μ-loop
 loop-again c =
     let l = c .before .before .before .before .loop in
@@ -52,11 +37,11 @@ all-printable-spec =
     (tie.spec
     Inv-loop
     μ-loop
-    loop-holds
-    shared-slice-read-is-printable
-    is-printable-requires
-    add-i
-    loop-less
+    (λ c. search needs)
+    (λ c. search needs)
+    (λ c κs. search needs)
+    (λ c. search needs)
+    (λ c. search needs)
     loop-again
     returns
     returns-2)

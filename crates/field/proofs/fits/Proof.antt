@@ -13,20 +13,11 @@ use Rattle.field.proofs.fits.Tie as tie
 count : (c : tie.After-count-of) → c .count-of .result ≡ rowOf (c .before .before .args .form) .cells
 count c = c .count-of .ensures ∙ ap countOf (c .before .kind-of .ensures) ∙ kind-cells (c .before .before .args .form)
 
-kind-of-requires : tie.Need-kind-of-requires
-kind-of-requires c κs = search needs
-
-count-of-requires : tie.Need-count-of-requires
-count-of-requires c κs = search needs
-
 returns : tie.Need-returns
 unfolding fitsOf
 returns c =
     let o = c .before .before .before in
     rw (ne-eqb (length (o .args .cells .now)) (rowOf (o .args .form) .cells) (λ e. c .if1 .taken (e ∙ sym (count (c .before)))))
-
-in-range-requires : tie.Need-in-range-requires
-in-range-requires c κs = search needs
 
 returns-2 : tie.Need-returns-2
 unfolding fitsOf
@@ -36,4 +27,4 @@ returns-2 c =
 
 pub fits-spec : {M : Type 1} → statement M
 fits-spec =
-    tie.close (tie.spec kind-of-requires count-of-requires returns in-range-requires returns-2)
+    tie.close (tie.spec (λ c κs. search needs) (λ c κs. search needs) returns (λ c κs. search needs) returns-2)

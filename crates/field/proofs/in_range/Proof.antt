@@ -9,38 +9,17 @@ use Rattle.field.specs.Write.{cellAt}
 use Rattle.field.proofs.in_range.Statement.{statement}
 use Rattle.field.proofs.in_range.Tie as tie
 
-enum-known-kind : tie.Need-enum-known-kind
-enum-known-kind c = search needs
-
 shared-slice-copy-out-within : tie.Need-shared-slice-copy-out-within
 shared-slice-copy-out-within c = let n = ap countOf (c .before .kind .given .1) in omega (arith, c .before .before .before .pre)
-
-within-requires : tie.Need-within-requires
-within-requires c κs = search needs
-
-enum-known-kind-2 : tie.Need-enum-known-kind-2
-enum-known-kind-2 c = search needs
 
 shared-slice-copy-out-within-2 : tie.Need-shared-slice-copy-out-within-2
 shared-slice-copy-out-within-2 c = let n = ap countOf (c .before .kind2 .given .1) in omega (arith, c .before .before .before .pre)
 
-within-requires-2 : tie.Need-within-requires-2
-within-requires-2 c κs = search needs
-
-enum-known-kind-3 : tie.Need-enum-known-kind-3
-enum-known-kind-3 c = search needs
-
 shared-slice-copy-out-within-3 : tie.Need-shared-slice-copy-out-within-3
 shared-slice-copy-out-within-3 c = let n = ap countOf (c .before .kind3 .given .1) in omega (arith, c .before .before .before .pre)
 
-within-requires-3 : tie.Need-within-requires-3
-within-requires-3 c κs = search needs
-
 shared-slice-copy-out-within-4 : tie.Need-shared-slice-copy-out-within-4
 shared-slice-copy-out-within-4 c = let n = ap countOf (c .before .before .before .before .kind3 .given .1) in omega (arith, c .before .before .before .before .before .before .pre)
-
-within-requires-4 : tie.Need-within-requires-4
-within-requires-4 c κs = search needs
 
 returns : tie.Need-returns
 returns c =
@@ -48,18 +27,6 @@ returns c =
     let e = toZ-ofZ {w = w64} {z = cellAt (a .cells .now) 0} (sfits-of {w = w64} (c .before .before .before .before .within-arg3 .given)) in
     let f = toZ-ofZ {w = w64} {z = cellAt (a .cells .now) 1} (sfits-of {w = w64} (c .before .within-arg4 .given)) in
     rw (c .before .before .before .before .before .before .kind3 .given .1, ← e, sym (c .before .before .before .within3 .ensures) ∙ c .before .before .if1 .taken) (rw f at (c .within4 .ensures))
-
-enum-told : tie.Need-enum-told
-enum-told c = search needs
-
-all-letters-requires : tie.Need-all-letters-requires
-all-letters-requires c κs = search needs
-
-enum-told-2 : tie.Need-enum-told-2
-enum-told-2 c = search needs
-
-all-letters-requires-2 : tie.Need-all-letters-requires-2
-all-letters-requires-2 c κs = search needs
 
 returns-2 : tie.Need-returns-2
 returns-2 c =
@@ -76,34 +43,28 @@ returns-4 c =
     let e = toZ-ofZ {w = w64} {z = cellAt (c .before .before .before .before .before .before .args .cells .now) 0} (sfits-of {w = w64} (c .before .before .within-arg3 .given)) in
     rw (c .before .before .before .before .kind3 .given .1, ← e, sym (c .before .within3 .ensures) ∙ c .if1 .left)
 
-returns-5 : tie.Need-returns-5
-returns-5 c = search needs
-
-returns-6 : tie.Need-returns-6
-returns-6 c = search needs
-
 pub in-range-spec : {M : Type 1} → statement M
 in-range-spec =
     tie.close
     (tie.spec
-    enum-known-kind
+    (λ c. search needs)
     shared-slice-copy-out-within
-    within-requires
-    enum-known-kind-2
+    (λ c κs. search needs)
+    (λ c. search needs)
     shared-slice-copy-out-within-2
-    within-requires-2
-    enum-known-kind-3
+    (λ c κs. search needs)
+    (λ c. search needs)
     shared-slice-copy-out-within-3
-    within-requires-3
+    (λ c κs. search needs)
     shared-slice-copy-out-within-4
-    within-requires-4
+    (λ c κs. search needs)
     returns
-    enum-told
-    all-letters-requires
-    enum-told-2
-    all-letters-requires-2
+    (λ c. search needs)
+    (λ c κs. search needs)
+    (λ c. search needs)
+    (λ c κs. search needs)
     returns-2
     returns-3
     returns-4
-    returns-5
-    returns-6)
+    (λ c. search needs)
+    (λ c. search needs))

@@ -10,9 +10,6 @@ use Rattle.field.proofs.Letters.{letter-negative, letter-natural}
 use Rattle.field.proofs.is_letter.Statement.{statement}
 use Rattle.field.proofs.is_letter.Tie as tie
 
-signed-requires : tie.Need-signed-requires
-signed-requires c κs = search needs
-
 returns : tie.Need-returns
 returns c =
     let e = toZ-ofZ {w = w64} (c .before .before .fits .v) in
@@ -31,4 +28,4 @@ returns-3 c =
     sym (letter-natural (c .before .before .before .before .before .args .v) (sym (m .ensures .0 ∙ ap negative e) ∙ c .before .before .before .if1 .left) ∙ ap printable (sym (m .ensures .1 ∙ ap sizeOf e)) ∙ simp (le-leb _ _ (c .before .if2 .left)))
 
 pub is-letter-spec : {M : Type 1} → statement M
-is-letter-spec = tie.close (tie.spec signed-requires returns returns-2 returns-3)
+is-letter-spec = tie.close (tie.spec (λ c κs. search needs) returns returns-2 returns-3)

@@ -9,9 +9,6 @@ use Rattle.field.proofs.Letters.{letter-small}
 use Rattle.field.proofs.letter.Statement.{statement}
 use Rattle.field.proofs.letter.Tie as tie
 
-signed-requires : tie.Need-signed-requires
-signed-requires c κs = search needs
-
 cast-result : tie.Need-cast-result
 cast-result c = let h = c .before .signed .ensures .1 ∙ ap sizeOf (toZ-ofZ {w = w64} (c .before .before .fits .v)) in omega (arith, letter-small (c .before .before .args .v) (c .before .before .pre))
 
@@ -19,4 +16,4 @@ returns : tie.Need-returns
 returns c = c .before .signed .ensures .1 ∙ ap sizeOf (toZ-ofZ {w = w64} (c .before .before .fits .v))
 
 pub letter-spec : {M : Type 1} → statement M
-letter-spec = tie.close (tie.spec signed-requires cast-result returns)
+letter-spec = tie.close (tie.spec (λ c κs. search needs) cast-result returns)

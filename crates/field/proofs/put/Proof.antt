@@ -11,22 +11,20 @@ use Rattle.field.proofs.Fitting.{fits-counted, fits-range}
 use Rattle.field.proofs.put.Statement.{statement}
 use Rattle.field.proofs.put.Tie as tie
 
-kind-of-requires : tie.Need-kind-of-requires
-kind-of-requires c κs = search needs
-
 put-as-requires : tie.Need-put-as-requires
 put-as-requires c κs =
     let a = c .before .before .before .args in
     let k = c .before .kind-of .ensures in
     let p = c .before .before .before .pre in (
       fits-counted (a .form) (a .cells .now) (p .0) ∙ ap countOf (sym k),
-      rw k (fits-range (a .form) (a .cells .now) (p .0)),
-      omega (arith, p .1, ap widthOf k, kind-width (a .form)),
-      rw k (kind-small (a .form)),
+      (
+        rw k (fits-range (a .form) (a .cells .now) (p .0)),
+        (
+          omega (arith, p .1, ap widthOf k, kind-width (a .form)),
+          rw k (kind-small (a .form)),
+        ),
+      ),
     )
-
-same-length : tie.Need-same-length
-same-length c = search needs
 
 returns : tie.Need-returns
 unfolding fieldText
@@ -35,4 +33,4 @@ returns c =
     c .before .before .put-as .ensures ∙ ap (λ k. over (a .at) (textAs k (a .cells .now)) (a .out .now)) (c .before .before .before .before .kind-of .ensures)
 
 pub put-spec : {M : Type 1} → statement M
-put-spec = tie.close (tie.spec kind-of-requires put-as-requires same-length returns)
+put-spec = tie.close (tie.spec (λ c κs. search needs) put-as-requires (λ c. search needs) returns)

@@ -26,29 +26,11 @@ abbrev μ-loop : tie.MeasureT-loop
 loop-holds : tie.Need-loop-holds Inv-loop μ-loop
 loop-holds c = (omega arith, refl, over-none (c .before .args .out .now) (c .before .args .at))
 
-mul-letter : tie.Need-mul-letter Inv-loop μ-loop
-mul-letter c = search needs
-
-shared-slice-copy-out-letter : tie.Need-shared-slice-copy-out-letter Inv-loop μ-loop
-shared-slice-copy-out-letter c = search needs
-
 letter-requires : tie.Need-letter-requires Inv-loop μ-loop
 letter-requires c κs =
     let a = c .before .before .before .before .args in
     let e = toZ-ofZ {w = w64} {z = getD (a .cells .now) (c .before .before .loop .i) (pos 0)} (sfits-of {w = w64} (c .letter-arg .given)) in
     rw e (every-at isLetter (pos 0) (a .cells .now) (c .before .before .before .before .pre .1) (c .before .before .loop .i) (c .before .loop-test .taken))
-
-add-out : tie.Need-add-out Inv-loop μ-loop
-add-out c = search needs
-
-slice-write-out : tie.Need-slice-write-out Inv-loop μ-loop
-slice-write-out c = search needs
-
-add-i : tie.Need-add-i Inv-loop μ-loop
-add-i c = search needs
-
-loop-less : tie.Need-loop-less Inv-loop μ-loop
-loop-less c = search needs
 
 loop-again : tie.Need-loop-again Inv-loop μ-loop
 loop-again c =
@@ -63,9 +45,6 @@ loop-again c =
       ap (λ x. set (l .out) (a .at + l .i) x) v
           ∙ over-turn (a .out .now) (map sizeOf cs) (l .out) (a .at) (l .i) 0 (omega (arith, c .before .before .loop-test .taken)) (omega (arith, c .before .before .before .before .before .pre .0)) (l .inv .2),
     )
-
-same-length : tie.Need-same-length Inv-loop μ-loop
-same-length c = search needs
 
 returns : tie.Need-returns Inv-loop μ-loop
 returns c =
@@ -82,13 +61,13 @@ put-letters-spec =
     Inv-loop
     μ-loop
     loop-holds
-    mul-letter
-    shared-slice-copy-out-letter
+    (λ c. search needs)
+    (λ c. search needs)
     letter-requires
-    add-out
-    slice-write-out
-    add-i
-    loop-less
+    (λ c. search needs)
+    (λ c. search needs)
+    (λ c. search needs)
+    (λ c. search needs)
     loop-again
-    same-length
+    (λ c. search needs)
     returns)

@@ -13,9 +13,6 @@ use Rattle.field.proofs.read.Tie as tie
 width : (c : tie.After-width-of) → c .width-of .result ≡ rowOf (c .before .before .before .args .form) .width
 width c = c .width-of .ensures ∙ ap widthOf (c .before .kind-of .ensures) ∙ kind-width (c .before .before .before .args .form)
 
-kind-of-requires : tie.Need-kind-of-requires
-kind-of-requires c κs = search needs
-
 width-of-requires : tie.Need-width-of-requires
 width-of-requires c κs = rw (c .kind-of .ensures) (kind-small (c .before .before .args .form))
 
@@ -36,4 +33,4 @@ returns-2 c =
 
 pub read-spec : {M : Type 1} → statement M
 read-spec =
-    tie.close (tie.spec kind-of-requires width-of-requires returns read-as-requires returns-2)
+    tie.close (tie.spec (λ c κs. search needs) width-of-requires returns read-as-requires returns-2)

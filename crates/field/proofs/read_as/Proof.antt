@@ -7,47 +7,17 @@ use Rattle.field.specs.Read.{valueOf}
 use Rattle.field.proofs.read_as.Statement.{statement}
 use Rattle.field.proofs.read_as.Tie as tie
 
-enum-told : tie.Need-enum-told
-enum-told c = search needs
-
 read-i-requires : tie.Need-read-i-requires
 read-i-requires c κs = let k = subst Small (c .enum-told .given .1) (c .before .before .before .pre .1) in let w = ap widthOf (c .enum-told .given .1) in omega (arith, c .before .before .before .pre .0)
-
-value-of-requires : tie.Need-value-of-requires
-value-of-requires c κs = search needs
-
-enum-told-2 : tie.Need-enum-told-2
-enum-told-2 c = search needs
 
 read-f-requires : tie.Need-read-f-requires
 read-f-requires c κs = let k = subst Small (c .enum-told2 .given .1) (c .before .before .before .pre .1) in let w = ap widthOf (c .enum-told2 .given .1) in omega (arith, c .before .before .before .pre .0)
 
-value-of-requires-2 : tie.Need-value-of-requires-2
-value-of-requires-2 c κs = search needs
-
-enum-known-kind : tie.Need-enum-known-kind
-enum-known-kind c = search needs
-
 read-e-requires : tie.Need-read-e-requires
 read-e-requires c κs = subst Small (c .before .kind .given .1) (c .before .before .before .before .pre .1)
 
-value-of-requires-3 : tie.Need-value-of-requires-3
-value-of-requires-3 c κs = search needs
-
-enum-told-3 : tie.Need-enum-told-3
-enum-told-3 c = search needs
-
 read-letter-requires : tie.Need-read-letter-requires
 read-letter-requires c κs = c .before .before .before .pre .0 ∙ ap widthOf (c .enum-told3 .given .1)
-
-enum-told-4 : tie.Need-enum-told-4
-enum-told-4 c = search needs
-
-read-letters-requires : tie.Need-read-letters-requires
-read-letters-requires c κs = search needs
-
-returns : tie.Need-returns
-returns c = search needs
 
 returns-2 : tie.Need-returns-2
 returns-2 c = rw (c .before .before .enum-told2 .given .1) (c .value-of2 .ensures ∙ ap valueOf (c .before .read-f .ensures))
@@ -58,28 +28,25 @@ returns-3 c = rw (c .before .before .before .kind .given .1) (c .value-of3 .ensu
 returns-4 : tie.Need-returns-4
 returns-4 c = rw (c .before .enum-told3 .given .1) (c .read-letter .ensures)
 
-returns-5 : tie.Need-returns-5
-returns-5 c = search needs
-
 pub read-as-spec : {M : Type 1} → statement M
 read-as-spec =
     tie.close
     (tie.spec
-    enum-told
+    (λ c. search needs)
     read-i-requires
-    value-of-requires
-    enum-told-2
+    (λ c κs. search needs)
+    (λ c. search needs)
     read-f-requires
-    value-of-requires-2
-    enum-known-kind
+    (λ c κs. search needs)
+    (λ c. search needs)
     read-e-requires
-    value-of-requires-3
-    enum-told-3
+    (λ c κs. search needs)
+    (λ c. search needs)
     read-letter-requires
-    enum-told-4
-    read-letters-requires
-    returns
+    (λ c. search needs)
+    (λ c κs. search needs)
+    (λ c. search needs)
     returns-2
     returns-3
     returns-4
-    returns-5)
+    (λ c. search needs))

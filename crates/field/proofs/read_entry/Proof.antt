@@ -13,9 +13,6 @@ returns : tie.Need-returns
 unfolding entryOf
 returns c = simp (ne-eqb _ _ (c .if1 .taken))
 
-scan-part-requires : tie.Need-scan-part-requires
-scan-part-requires c κs = search needs
-
 count-in-requires : tie.Need-count-in-requires
 count-in-requires c κs = rw (c .scan-part .ensures) (scan-bound (c .before .before .before .args .entry .now) 0 3 Blanks (omega arith) tt)
 
@@ -24,4 +21,4 @@ unfolding entryOf
 returns-2 c = simp (eq-eqb _ _ (c .before .before .if1 .left)) (c .count-in .ensures ∙ ap countIn (c .before .scan-part .ensures))
 
 pub read-entry-spec : {M : Type 1} → statement M
-read-entry-spec = tie.close (tie.spec returns scan-part-requires count-in-requires returns-2)
+read-entry-spec = tie.close (tie.spec returns (λ c κs. search needs) count-in-requires returns-2)

@@ -9,12 +9,6 @@ use Rattle.form.proofs.Rows.{fits-by, elements-few}
 use Rattle.form.proofs.cells.Statement.{statement}
 use Rattle.form.proofs.cells.Tie as tie
 
-elements-requires : tie.Need-elements-requires
-elements-requires c κs = search needs
-
-row-of-requires : tie.Need-row-of-requires
-row-of-requires c κs = search needs
-
 mul-result : tie.Need-mul-result
 mul-result c =
     let few : c .before .before .elements .result ≤ 65535 = omega (arith, elements-few (c .before .before .before .args .form) (c .before .before .before .args .count) (omega arith), c .before .before .elements .ensures) in
@@ -25,4 +19,4 @@ unfolding cellsOf
 returns c = rw (c .before .before .elements .ensures, c .before .row-of .ensures)
 
 pub cells-spec : {M : Type 1} → statement M
-cells-spec = tie.close (tie.spec elements-requires row-of-requires mul-result returns)
+cells-spec = tie.close (tie.spec (λ c κs. search needs) (λ c κs. search needs) mul-result returns)

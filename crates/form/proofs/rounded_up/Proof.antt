@@ -17,12 +17,6 @@ returns-2 : tie.Need-returns-2
 returns-2 c =
     sym (ap (roundedUp (c .before .before .args .n)) (c .if2 .taken) ∙ rounded-by-zero (c .before .before .args .n))
 
-sub-result : tie.Need-sub-result
-sub-result c = search needs
-
-div-result : tie.Need-div-result
-div-result c = search needs
-
 add-result : tie.Need-add-result
 add-result c = record { fits = omega (arith, div-le-self (c .before .before .args .n - 1) (c .before .before .args .p)) }
 
@@ -30,4 +24,4 @@ returns-3 : tie.Need-returns-3
 returns-3 c = sym (quotient (c .before .before .args .n) (c .before .before .args .p) (omega arith) (omega arith))
 
 pub rounded-up-spec : {M : Type 1} → statement M
-rounded-up-spec = tie.close (tie.spec returns returns-2 sub-result div-result add-result returns-3)
+rounded-up-spec = tie.close (tie.spec returns returns-2 (λ c. search needs) (λ c. search needs) add-result returns-3)

@@ -6,66 +6,6 @@ use Rattle.form.specs.Table.{rowOf, entryOf}
 use Rattle.form.proofs.row_of.Statement.{statement}
 use Rattle.form.proofs.row_of.Tie as tie
 
-enum-told : tie.Need-enum-told
-enum-told c = search needs
-
-array-copy-out-result : tie.Need-array-copy-out-result
-array-copy-out-result c = search needs
-
-enum-told-2 : tie.Need-enum-told-2
-enum-told-2 c = search needs
-
-array-copy-out-result-2 : tie.Need-array-copy-out-result-2
-array-copy-out-result-2 c = search needs
-
-enum-told-3 : tie.Need-enum-told-3
-enum-told-3 c = search needs
-
-array-copy-out-result-3 : tie.Need-array-copy-out-result-3
-array-copy-out-result-3 c = search needs
-
-enum-told-4 : tie.Need-enum-told-4
-enum-told-4 c = search needs
-
-array-copy-out-result-4 : tie.Need-array-copy-out-result-4
-array-copy-out-result-4 c = search needs
-
-enum-told-5 : tie.Need-enum-told-5
-enum-told-5 c = search needs
-
-array-copy-out-result-5 : tie.Need-array-copy-out-result-5
-array-copy-out-result-5 c = search needs
-
-enum-told-6 : tie.Need-enum-told-6
-enum-told-6 c = search needs
-
-array-copy-out-result-6 : tie.Need-array-copy-out-result-6
-array-copy-out-result-6 c = search needs
-
-enum-told-7 : tie.Need-enum-told-7
-enum-told-7 c = search needs
-
-array-copy-out-result-7 : tie.Need-array-copy-out-result-7
-array-copy-out-result-7 c = search needs
-
-enum-told-8 : tie.Need-enum-told-8
-enum-told-8 c = search needs
-
-array-copy-out-result-8 : tie.Need-array-copy-out-result-8
-array-copy-out-result-8 c = search needs
-
-enum-told-9 : tie.Need-enum-told-9
-enum-told-9 c = search needs
-
-array-copy-out-result-9 : tie.Need-array-copy-out-result-9
-array-copy-out-result-9 c = search needs
-
-enum-told-10 : tie.Need-enum-told-10
-enum-told-10 c = search needs
-
-array-copy-out-result-10 : tie.Need-array-copy-out-result-10
-array-copy-out-result-10 c = search needs
-
 returns : tie.Need-returns
 unfolding rowOf entryOf
 returns c = ap rowOf (sym (c .before .enum-told .given .1))
@@ -110,26 +50,26 @@ pub row-of-spec : {M : Type 1} → statement M
 row-of-spec =
     tie.close
     (tie.spec
-    enum-told
-    array-copy-out-result
-    enum-told-2
-    array-copy-out-result-2
-    enum-told-3
-    array-copy-out-result-3
-    enum-told-4
-    array-copy-out-result-4
-    enum-told-5
-    array-copy-out-result-5
-    enum-told-6
-    array-copy-out-result-6
-    enum-told-7
-    array-copy-out-result-7
-    enum-told-8
-    array-copy-out-result-8
-    enum-told-9
-    array-copy-out-result-9
-    enum-told-10
-    array-copy-out-result-10
+    (λ c. search needs)
+    (λ c. search needs)
+    (λ c. search needs)
+    (λ c. search needs)
+    (λ c. search needs)
+    (λ c. search needs)
+    (λ c. search needs)
+    (λ c. search needs)
+    (λ c. search needs)
+    (λ c. search needs)
+    (λ c. search needs)
+    (λ c. search needs)
+    (λ c. search needs)
+    (λ c. search needs)
+    (λ c. search needs)
+    (λ c. search needs)
+    (λ c. search needs)
+    (λ c. search needs)
+    (λ c. search needs)
+    (λ c. search needs)
     returns
     returns-2
     returns-3

@@ -18,31 +18,10 @@ returns-2 c =
     let o = c .before .before .before in
     number-high (o .args .text .now) (o .args .at) (o .args .number) (c .before .if1 .left) (c .if2 .taken)
 
-slice-aggregate-read-group : tie.Need-slice-aggregate-read-group
-slice-aggregate-read-group c = search needs
-
-read-group-requires : tie.Need-read-group-requires
-read-group-requires c κs = search needs
-
-enum-known-r : tie.Need-enum-known-r
-enum-known-r c = search needs
-
-enum-known-n : tie.Need-enum-known-n
-enum-known-n c = search needs
-
 returns-3 : tie.Need-returns-3
 returns-3 c =
     let o = c .before .before .before .before .before .before .before .before .before .before in
     four-few (o .args .text .now) (o .args .at) (o .args .number) (c .before .before .before .before .before .before .before .before .if1 .left) (c .before .before .before .before .before .before .before .if2 .left) (sym (c .before .before .n .given .1) ∙ c .before .before .before .before .before .read-group .ensures .0) (c .if3 .taken)
-
-mul-told-by : tie.Need-mul-told-by
-mul-told-by c = search needs
-
-array-copy-out-told-by : tie.Need-array-copy-out-told-by
-array-copy-out-told-by c = search needs
-
-told-by-requires : tie.Need-told-by-requires
-told-by-requires c κs = search needs
 
 returns-4 : tie.Need-returns-4
 returns-4 c =
@@ -60,13 +39,13 @@ characteristic-at-spec =
     (tie.spec
     returns
     returns-2
-    slice-aggregate-read-group
-    read-group-requires
-    enum-known-r
-    enum-known-n
+    (λ c. search needs)
+    (λ c κs. search needs)
+    (λ c. search needs)
+    (λ c. search needs)
     returns-3
-    mul-told-by
-    array-copy-out-told-by
-    told-by-requires
+    (λ c. search needs)
+    (λ c. search needs)
+    (λ c κs. search needs)
     returns-4
     returns-5)

@@ -15,18 +15,6 @@ use Rattle.group.proofs.Texts.{not-first}
 use Rattle.group.proofs.held_at.Statement.{statement}
 use Rattle.group.proofs.held_at.Tie as tie
 
-form-of-requires : tie.Need-form-of-requires
-form-of-requires c κs = search needs
-
-enum-told : tie.Need-enum-told
-enum-told c = search needs
-
-enum-told-2 : tie.Need-enum-told-2
-enum-told-2 c = search needs
-
-missing-requires : tie.Need-missing-requires
-missing-requires c κs = search needs
-
 returns : tie.Need-returns
 returns c =
     let h = held-none (c .before .before .before .before .before .args .text .now) (c .before .before .before .before .before .args .at) (c .before .before .before .before .before .args .group) (sym (c .before .before .before .form-of .ensures) ∙ c .before .enum-told2 .given .1) in
@@ -34,18 +22,6 @@ returns c =
 
 has-form : (c : tie.After-enum-told) → formOf (c .before .before .before .before .args .group) ≡ Has (c .enum-told .given .0 .0)
 has-form c = sym (c .before .before .form-of .ensures) ∙ c .enum-told .given .1
-
-place-requires : tie.Need-place-requires
-place-requires c κs = search needs
-
-enum-told-3 : tie.Need-enum-told-3
-enum-told-3 c = search needs
-
-refusal-of-requires : tie.Need-refusal-of-requires
-refusal-of-requires c κs = search needs
-
-missing-requires-2 : tie.Need-missing-requires-2
-missing-requires-2 c κs = search needs
 
 returns-2 : tie.Need-returns-2
 returns-2 c =
@@ -61,14 +37,14 @@ pub held-at-spec : {M : Type 1} → statement M
 held-at-spec =
     tie.close
     (tie.spec
-    form-of-requires
-    enum-told
-    enum-told-2
-    missing-requires
+    (λ c κs. search needs)
+    (λ c. search needs)
+    (λ c. search needs)
+    (λ c κs. search needs)
     returns
-    place-requires
-    enum-told-3
-    refusal-of-requires
-    missing-requires-2
+    (λ c κs. search needs)
+    (λ c. search needs)
+    (λ c κs. search needs)
+    (λ c κs. search needs)
     returns-2
     returns-3)

@@ -10,9 +10,6 @@ use Rattle.group.proofs.Reported.{negative-reads, natural-reads}
 use Rattle.group.proofs.is_no_reading.Statement.{statement}
 use Rattle.group.proofs.is_no_reading.Tie as tie
 
-signed-requires : tie.Need-signed-requires
-signed-requires c κs = search needs
-
 returns : tie.Need-returns
 returns c =
     let e = toZ-ofZ {w = w64} (c .before .before .fits .v) in
@@ -24,4 +21,4 @@ returns-2 c =
     ap (λ n. eqb n 9999000) (c .before .before .signed .ensures .1 ∙ ap sizeOf e) ∙ sym (natural-reads (c .before .before .before .args .v) (sym (c .before .before .signed .ensures .0 ∙ ap negative e) ∙ c .before .if1 .left))
 
 pub is-no-reading-spec : {M : Type 1} → statement M
-is-no-reading-spec = tie.close (tie.spec signed-requires returns returns-2)
+is-no-reading-spec = tie.close (tie.spec (λ c κs. search needs) returns returns-2)

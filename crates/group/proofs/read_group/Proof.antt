@@ -12,24 +12,6 @@ use Rattle.group.proofs.Texts.{text-missing, text-given}
 use Rattle.group.proofs.read_group.Statement.{statement}
 use Rattle.group.proofs.read_group.Tie as tie
 
-held-at-requires : tie.Need-held-at-requires
-held-at-requires c κs = search needs
-
-enum-known-found : tie.Need-enum-known-found
-enum-known-found c = search needs
-
-enum-told : tie.Need-enum-told
-enum-told c = search needs
-
-slice-aggregate-span-of : tie.Need-slice-aggregate-span-of
-slice-aggregate-span-of c = search needs
-
-span-of-requires : tie.Need-span-of-requires
-span-of-requires c κs = search needs
-
-slice-aggregate-read-kept : tie.Need-slice-aggregate-read-kept
-slice-aggregate-read-kept c = search needs
-
 given : (c : tie.After-span-of) → foundAt (c .before .before .before .before .before .before .before .args .text .now) (c .before .before .before .before .before .before .before .args .at) (c .before .before .before .before .before .before .before .args .group) ≡ Given
 given c = sym (c .before .before .before .before .before .held-at .ensures .0) ∙ c .before .before .before .enum-told .given .1
 
@@ -57,9 +39,6 @@ returns c =
     let o = c .before .before .before .before .before in
     text-missing (o .args .text .now) (o .args .at) (o .args .group) (o .args .table .now) (sym (c .before .found .given .1) ∙ c .before .before .before .held-at .ensures .0)
 
-same-length : tie.Need-same-length
-same-length c = search needs
-
 returns-2 : tie.Need-returns-2
 returns-2 c =
     let o = c .before .before .before .before .before .before .before .before .before .before .before .before in
@@ -69,16 +48,16 @@ pub read-group-spec : {M : Type 1} → statement M
 read-group-spec =
     tie.close
     (tie.spec
-    held-at-requires
-    enum-known-found
-    enum-told
-    slice-aggregate-span-of
-    span-of-requires
-    slice-aggregate-read-kept
+    (λ c κs. search needs)
+    (λ c. search needs)
+    (λ c. search needs)
+    (λ c. search needs)
+    (λ c κs. search needs)
+    (λ c. search needs)
     sub-read-kept
     part-read-kept-start
     part-read-kept-end
     read-kept-requires
     returns
-    same-length
+    (λ c. search needs)
     returns-2)

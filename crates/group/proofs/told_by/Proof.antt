@@ -9,9 +9,6 @@ use Rattle.group.specs.Characteristics.{isNoReading}
 use Rattle.group.proofs.told_by.Statement.{statement}
 use Rattle.group.proofs.told_by.Tie as tie
 
-is-no-reading-requires : tie.Need-is-no-reading-requires
-is-no-reading-requires c κs = search needs
-
 returns : tie.Need-returns
 returns c =
     let e = toZ-ofZ {w = w64} (c .before .before .fits .v) in
@@ -25,4 +22,4 @@ returns-2 c =
     rw (t, e)
 
 pub told-by-spec : {M : Type 1} → statement M
-told-by-spec = tie.close (tie.spec is-no-reading-requires returns returns-2)
+told-by-spec = tie.close (tie.spec (λ c κs. search needs) returns returns-2)

@@ -10,15 +10,6 @@ use Rattle.line.proofs.behind_or_end.Tie as tie
 returns : tie.Need-returns
 returns c = reach-beyond (c .before .before .args .text .now) (c .before .before .args .at) (c .before .before .args .lines) (c .if1 .taken)
 
-place-behind-requires : tie.Need-place-behind-requires
-place-behind-requires c κs = search needs
-
-enum-known-n : tie.Need-enum-known-n
-enum-known-n c = search needs
-
-enum-told : tie.Need-enum-told
-enum-told c = search needs
-
 returns-2 : tie.Need-returns-2
 returns-2 c =
     let o = c .before .before .before .before .before in
@@ -31,4 +22,4 @@ returns-3 c =
 
 pub behind-or-end-spec : {M : Type 1} → statement M
 behind-or-end-spec =
-    tie.close (tie.spec returns place-behind-requires enum-known-n enum-told returns-2 returns-3)
+    tie.close (tie.spec returns (λ c κs. search needs) (λ c. search needs) (λ c. search needs) returns-2 returns-3)

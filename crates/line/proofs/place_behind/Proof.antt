@@ -23,25 +23,10 @@ returns c = let z = c .if1 .taken in rw z (sym (behindAt-none _ _))
 loop-holds : tie.Need-loop-holds Inv-loop μ-loop
 loop-holds c = (omega arith, refl)
 
-shared-slice-read-if2 : tie.Need-shared-slice-read-if2 Inv-loop μ-loop
-shared-slice-read-if2 c = search needs
-
-add-t12 : tie.Need-add-t12 Inv-loop μ-loop
-add-t12 c = search needs
-
 returns-2 : tie.Need-returns-2 Inv-loop μ-loop
 returns-2 c =
     let d = c .before .before .before in
     sym (behindAt-last _ _ _ (d .loop-test .taken) (c .if3 .taken) (c .before .if2 .taken)) ∙ d .before .loop .inv .1
-
-sub-left : tie.Need-sub-left Inv-loop μ-loop
-sub-left c = search needs
-
-add-i : tie.Need-add-i Inv-loop μ-loop
-add-i c = search needs
-
-loop-less : tie.Need-loop-less Inv-loop μ-loop
-loop-less c = search needs
 
 loop-again : tie.Need-loop-again Inv-loop μ-loop
 loop-again c =
@@ -64,11 +49,11 @@ place-behind-spec =
     μ-loop
     returns
     loop-holds
-    shared-slice-read-if2
-    add-t12
+    (λ c. search needs)
+    (λ c. search needs)
     returns-2
-    sub-left
-    add-i
-    loop-less
+    (λ c. search needs)
+    (λ c. search needs)
+    (λ c. search needs)
     loop-again
     returns-3)

@@ -5,12 +5,9 @@ use Rattle.listing.specs.Rows.{endRow}
 use Rattle.listing.proofs.end_row.Statement.{statement}
 use Rattle.listing.proofs.end_row.Tie as tie
 
-reply-of-requires : tie.Need-reply-of-requires
-reply-of-requires c κs = search needs
-
 returns : tie.Need-returns
 unfolding endRow
-returns c = rw (c .reply-of .ensures)
+returns c = rw (c .before .reply-of .ensures)
 
 pub end-row-spec : {M : Type 1} → statement M
-end-row-spec = tie.close (tie.spec reply-of-requires returns)
+end-row-spec = tie.close (tie.spec (λ c κs. search needs) (λ c. search needs) returns)

@@ -24,15 +24,6 @@ abbrev μ-loop : tie.MeasureT-loop
 loop-holds : tie.Need-loop-holds Inv-loop μ-loop
 loop-holds c = (omega arith, spot-start _, put-starts _ _ (c .before .before .pre))
 
-place-requires : tie.Need-place-requires Inv-loop μ-loop
-place-requires c κs = search needs
-
-reply-of-requires : tie.Need-reply-of-requires Inv-loop μ-loop
-reply-of-requires c κs = search needs
-
-is-placed-requires : tie.Need-is-placed-requires Inv-loop μ-loop
-is-placed-requires c κs = search needs
-
 met : (c : tie.After-is-placed Inv-loop μ-loop) → (let s = c .before .before .before .before .before .before .args .text .now in let l = c .before .before .before .loop in let p = c .before .before .place .result in Met s (l .k) (l .at) (p .answer) (p .counts) (c .before .reply-of .result .next) (c .is-placed .result))
 met c =
     let l = c .before .before .before .loop in
@@ -47,21 +38,6 @@ met c =
       told = c .is-placed .ensures ∙ ap (λ (a : Reply). isPlaced (a .number)) (r .ensures);
     }
 
-end-row-requires : tie.Need-end-row-requires Inv-loop μ-loop
-end-row-requires c κs = search needs
-
-slice-aggregate-put-row : tie.Need-slice-aggregate-put-row Inv-loop μ-loop
-slice-aggregate-put-row c = search needs
-
-slice-aggregate-put-row-2 : tie.Need-slice-aggregate-put-row-2 Inv-loop μ-loop
-slice-aggregate-put-row-2 c = search needs
-
-put-row-requires : tie.Need-put-row-requires Inv-loop μ-loop
-put-row-requires c κs = search needs
-
-same-length : tie.Need-same-length Inv-loop μ-loop
-same-length c = search needs
-
 returns : tie.Need-returns Inv-loop μ-loop
 returns c =
     let l = c .before .before .before .before .before .before .before .before .before .before .before .loop in
@@ -70,32 +46,8 @@ returns c =
 add-record-row : tie.Need-add-record-row Inv-loop μ-loop
 add-record-row c = omega (arith, c .before .before .before .before .before .loop .inv .0, records-bytes (c .before .before .before .before .before .before .before .before .args .text .now))
 
-slice-aggregate-record-row : tie.Need-slice-aggregate-record-row Inv-loop μ-loop
-slice-aggregate-record-row c = search needs
-
-record-row-requires : tie.Need-record-row-requires Inv-loop μ-loop
-record-row-requires c κs = search needs
-
 more : (c : tie.After-record-row Inv-loop μ-loop) → (let l = c .before .before .before .before .before .before .before .loop in More (c .before .before .before .before .before .before .before .before .before .before .args .text .now) (l .k) (l .at) (c .record-row .result) (c .before .before .before .before .before .reply-of .result .next))
 more c = met-more (met (c .before .before .before .before)) (not-false _ (c .before .before .before .if1 .left)) (c .record-row .ensures)
-
-slice-aggregate-put-row-3 : tie.Need-slice-aggregate-put-row-3 Inv-loop μ-loop
-slice-aggregate-put-row-3 c = search needs
-
-slice-aggregate-put-row-4 : tie.Need-slice-aggregate-put-row-4 Inv-loop μ-loop
-slice-aggregate-put-row-4 c = search needs
-
-put-row-requires-2 : tie.Need-put-row-requires-2 Inv-loop μ-loop
-put-row-requires-2 c κs = search needs
-
-enum-known-end : tie.Need-enum-known-end Inv-loop μ-loop
-enum-known-end c = search needs
-
-enum-told : tie.Need-enum-told Inv-loop μ-loop
-enum-told c = search needs
-
-same-length-2 : tie.Need-same-length-2 Inv-loop μ-loop
-same-length-2 c = search needs
 
 returns-2 : tie.Need-returns-2 Inv-loop μ-loop
 returns-2 c =
@@ -121,24 +73,24 @@ put-listing-spec =
     Inv-loop
     μ-loop
     loop-holds
-    place-requires
-    reply-of-requires
-    is-placed-requires
-    end-row-requires
-    slice-aggregate-put-row
-    slice-aggregate-put-row-2
-    put-row-requires
-    same-length
+    (λ c κs. search needs)
+    (λ c κs. search needs)
+    (λ c κs. search needs)
+    (λ c κs. search needs)
+    (λ c. search needs)
+    (λ c. search needs)
+    (λ c κs. search needs)
+    (λ c. search needs)
     returns
     add-record-row
-    slice-aggregate-record-row
-    record-row-requires
-    slice-aggregate-put-row-3
-    slice-aggregate-put-row-4
-    put-row-requires-2
-    enum-known-end
-    enum-told
-    same-length-2
+    (λ c. search needs)
+    (λ c κs. search needs)
+    (λ c. search needs)
+    (λ c. search needs)
+    (λ c κs. search needs)
+    (λ c. search needs)
+    (λ c. search needs)
+    (λ c. search needs)
     returns-2
     add-k
     loop-less

@@ -7,19 +7,10 @@ use Rattle.listing.specs.Rows.{recordRow}
 use Rattle.listing.proofs.record_row.Statement.{statement}
 use Rattle.listing.proofs.record_row.Tie as tie
 
-reply-of-requires : tie.Need-reply-of-requires
-reply-of-requires c κs = search needs
-
-filled-groups-requires : tie.Need-filled-groups-requires
-filled-groups-requires c κs = search needs
-
-add-up-requires : tie.Need-add-up-requires
-add-up-requires c κs = search needs
-
 returns : tie.Need-returns
 unfolding recordRow
-returns c = rw (c .before .before .reply-of .ensures, c .before .filled-groups .ensures, c .add-up .ensures .lines-are ∙ all-lines _)
+returns c = rw (c .before .before .before .reply-of .ensures, c .before .before .filled-groups .ensures, c .before .add-up .ensures .lines-are ∙ all-lines _)
 
 pub record-row-spec : {M : Type 1} → statement M
 record-row-spec =
-    tie.close (tie.spec reply-of-requires filled-groups-requires add-up-requires returns)
+    tie.close (tie.spec (λ c κs. search needs) (λ c κs. search needs) (λ c κs. search needs) (λ c. search needs) returns)

@@ -11,15 +11,6 @@ use Rattle.listing.proofs.Turns.{put-room, put-whole}
 use Rattle.listing.proofs.render.Statement.{statement}
 use Rattle.listing.proofs.render.Tie as tie
 
-listing-end-requires : tie.Need-listing-end-requires
-listing-end-requires c κs = search needs
-
-enum-known-end : tie.Need-enum-known-end
-enum-known-end c = search needs
-
-enum-told : tie.Need-enum-told
-enum-told c = search needs
-
 returns : tie.Need-returns
 returns c = puts-none _ _ _ (end-full _ _ _ (sym (c .before .before .listing-end .ensures) ∙ c .enum-told .given .1))
 
@@ -29,9 +20,6 @@ fits c = sym (c .before .before .before .listing-end .ensures) ∙ c .before .en
 put-listing-requires : tie.Need-put-listing-requires
 put-listing-requires c κs = put-room (listing (c .before .before .before .before .before .before .before .args .text .now)) _ _ (fits (c .before))
 
-same-length : tie.Need-same-length
-same-length c = search needs
-
 returns-2 : tie.Need-returns-2
 returns-2 c = put-whole _ _ _ _ (fits (c .before .before .before .before)) (c .before .before .put-listing .ensures)
 
@@ -39,10 +27,10 @@ pub render-spec : {M : Type 1} → statement M
 render-spec =
     tie.close
     (tie.spec
-    listing-end-requires
-    enum-known-end
-    enum-told
+    (λ c κs. search needs)
+    (λ c. search needs)
+    (λ c. search needs)
     returns
     put-listing-requires
-    same-length
+    (λ c. search needs)
     returns-2)

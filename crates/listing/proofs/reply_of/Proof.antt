@@ -6,18 +6,6 @@ use Rattle.listing.specs.Listing.{listedReply}
 use Rattle.listing.proofs.reply_of.Statement.{statement}
 use Rattle.listing.proofs.reply_of.Tie as tie
 
-enum-known-answer : tie.Need-enum-known-answer
-enum-known-answer c = search needs
-
-done-requires : tie.Need-done-requires
-done-requires c κs = search needs
-
-enum-told : tie.Need-enum-told
-enum-told c = search needs
-
-plain-requires : tie.Need-plain-requires
-plain-requires c κs = search needs
-
 returns : tie.Need-returns
 returns c = c .done .ensures ∙ ap listedReply (sym (c .before .before .answer .given .1))
 
@@ -26,4 +14,4 @@ returns-2 c = c .plain .ensures ∙ ap listedReply (sym (c .before .enum-told .g
 
 pub reply-of-spec : {M : Type 1} → statement M
 reply-of-spec =
-    tie.close (tie.spec enum-known-answer done-requires enum-told plain-requires returns returns-2)
+    tie.close (tie.spec (λ c. search needs) (λ c κs. search needs) (λ c. search needs) (λ c κs. search needs) returns returns-2)

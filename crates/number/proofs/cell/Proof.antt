@@ -8,20 +8,14 @@ use Rattle.base.proofs.Sign.{fits-sign, minus}
 use Rattle.number.proofs.cell.Statement.{statement}
 use Rattle.number.proofs.cell.Tie as tie
 
-cast-result : tie.Need-cast-result
-cast-result c = search needs
-
 sub-result : tie.Need-sub-result
 sub-result c = rw (minus _ (c .before .pre)) (fits-sign true _ (c .before .pre))
 
 returns : tie.Need-returns
 returns c = rw (c .if1 .taken) (toZ-ofZ (sub-result c) ∙ minus _ (c .before .pre))
 
-cast-result-2 : tie.Need-cast-result-2
-cast-result-2 c = search needs
-
 returns-2 : tie.Need-returns-2
 returns-2 c = rw (c .if1 .left) (toZ-pos w64 (c .before .pre))
 
 pub cell-spec : {M : Type 1} → statement M
-cell-spec = tie.close (tie.spec cast-result sub-result returns cast-result-2 returns-2)
+cell-spec = tie.close (tie.spec (λ c. search needs) sub-result returns (λ c. search needs) returns-2)

@@ -22,9 +22,6 @@ returns-4 c =
       lt-ltb _ _ (c .if4 .taken),
     )
 
-cast-t4 : tie.Need-cast-t4
-cast-t4 c = search needs
-
 returns-5 : tie.Need-returns-5
 returns-5 c =
     simp (
@@ -35,4 +32,4 @@ returns-5 c =
     )
 
 pub class-spec : {M : Type 1} → statement M
-class-spec = tie.close (tie.spec returns returns-2 returns-3 returns-4 cast-t4 returns-5)
+class-spec = tie.close (tie.spec returns returns-2 returns-3 returns-4 (λ c. search needs) returns-5)

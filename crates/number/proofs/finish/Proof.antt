@@ -6,9 +6,6 @@ use Rattle.number.proofs.Scanning.{scan-bound}
 use Rattle.number.proofs.finish.Statement.{statement}
 use Rattle.number.proofs.finish.Tie as tie
 
-scan-part-requires : tie.Need-scan-part-requires
-scan-part-requires c κs = search needs
-
 one-requires : tie.Need-one-requires
 one-requires c κs =
     let o = c .before .before in
@@ -18,4 +15,4 @@ returns : tie.Need-returns
 returns c = c .one .ensures ∙ ap oneOf (c .before .scan-part .ensures)
 
 pub finish-spec : {M : Type 1} → statement M
-finish-spec = tie.close (tie.spec scan-part-requires one-requires returns)
+finish-spec = tie.close (tie.spec (λ c κs. search needs) one-requires returns)

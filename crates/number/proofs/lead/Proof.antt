@@ -4,9 +4,6 @@ use borrow.Author.Tests.{eq-eqb, ne-eqb}
 use Rattle.number.proofs.lead.Statement.{statement}
 use Rattle.number.proofs.lead.Tie as tie
 
-enum-told : tie.Need-enum-told
-enum-told c = search needs
-
 returns : tie.Need-returns
 returns c = simp (c .before .enum-told .given .1, eq-eqb _ _ (c .if1 .taken))
 
@@ -16,17 +13,8 @@ returns-2 c = simp (c .before .before .enum-told .given .1, ne-eqb _ _ (c .befor
 returns-3 : tie.Need-returns-3
 returns-3 c = simp (c .before .before .before .enum-told .given .1, ne-eqb _ _ (c .before .before .if1 .left), ne-eqb _ _ (c .before .if2 .left), eq-eqb _ _ (c .if3 .taken))
 
-enum-told-2 : tie.Need-enum-told-2
-enum-told-2 c = search needs
-
 returns-4 : tie.Need-returns-4
 returns-4 c = simp (c .before .enum-told2 .given .1, eq-eqb _ _ (c .if4 .taken))
-
-enum-told-3 : tie.Need-enum-told-3
-enum-told-3 c = search needs
-
-enum-told-4 : tie.Need-enum-told-4
-enum-told-4 c = search needs
 
 returns-5 : tie.Need-returns-5
 returns-5 c = simp (c .before .before .before .enum-told .given .1, ne-eqb _ _ (c .before .before .if1 .left), ne-eqb _ _ (c .before .if2 .left), ne-eqb _ _ (c .if3 .left))
@@ -34,25 +22,19 @@ returns-5 c = simp (c .before .before .before .enum-told .given .1, ne-eqb _ _ (
 returns-6 : tie.Need-returns-6
 returns-6 c = simp (c .before .enum-told2 .given .1, ne-eqb _ _ (c .if4 .left))
 
-returns-7 : tie.Need-returns-7
-returns-7 c = search needs
-
-returns-8 : tie.Need-returns-8
-returns-8 c = search needs
-
 pub lead-spec : {M : Type 1} → statement M
 lead-spec =
     tie.close
     (tie.spec
-    enum-told
+    (λ c. search needs)
     returns
     returns-2
     returns-3
-    enum-told-2
+    (λ c. search needs)
     returns-4
-    enum-told-3
-    enum-told-4
+    (λ c. search needs)
+    (λ c. search needs)
     returns-5
     returns-6
-    returns-7
-    returns-8)
+    (λ c. search needs)
+    (λ c. search needs))

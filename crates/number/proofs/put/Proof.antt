@@ -24,21 +24,6 @@ abbrev μ-loop : tie.MeasureT-loop
 loop-holds : tie.Need-loop-holds Inv-loop μ-loop
 loop-holds c = (search needs, refl, columns-whole lastOf (backOf (c .before .args .filled)) (c .before .args .what) (c .before .args .out .now), refl)
 
-sub-i : tie.Need-sub-i Inv-loop μ-loop
-sub-i c = search needs
-
-last-requires : tie.Need-last-requires Inv-loop μ-loop
-last-requires c κs = search needs
-
-slice-write-out : tie.Need-slice-write-out Inv-loop μ-loop
-slice-write-out c = search needs
-
-back-requires : tie.Need-back-requires Inv-loop μ-loop
-back-requires c κs = search needs
-
-loop-less : tie.Need-loop-less Inv-loop μ-loop
-loop-less c = search needs
-
 loop-again : tie.Need-loop-again Inv-loop μ-loop
 loop-again c =
     let l = c .before .before .before .loop in
@@ -48,9 +33,6 @@ loop-again c =
       rw (c .back .ensures, c .before .last .ensures) (columns-turn lastOf f (l .i) (l .st) (l .out) (c .before .before .loop-test .taken) (l .inv .0) ∙ l .inv .2),
       rw (c .back .ensures) (backs-turn lastOf f (l .i) (l .st) (c .before .before .loop-test .taken) ∙ l .inv .3),
     )
-
-same-length : tie.Need-same-length Inv-loop μ-loop
-same-length c = search needs
 
 returns : tie.Need-returns Inv-loop μ-loop
 returns c =
@@ -67,11 +49,11 @@ put-spec =
     Inv-loop
     μ-loop
     loop-holds
-    sub-i
-    last-requires
-    slice-write-out
-    back-requires
-    loop-less
+    (λ c. search needs)
+    (λ c κs. search needs)
+    (λ c. search needs)
+    (λ c κs. search needs)
+    (λ c. search needs)
     loop-again
-    same-length
+    (λ c. search needs)
     returns)

@@ -16,36 +16,6 @@ use Rattle.number.specs.Write.{lastOf, backOf, textOf, leadState, expone
 use Rattle.number.proofs.put_e.Statement.{statement}
 use Rattle.number.proofs.put_e.Tie as tie
 
-signed-requires : tie.Need-signed-requires
-signed-requires c κs = search needs
-
-add-point : tie.Need-add-point
-add-point c = search needs
-
-add-first : tie.Need-add-first
-add-first c = search needs
-
-add-put-exponent : tie.Need-add-put-exponent
-add-put-exponent c = search needs
-
-put-exponent-requires : tie.Need-put-exponent-requires
-put-exponent-requires c κs = search needs
-
-put-at-requires : tie.Need-put-at-requires
-put-at-requires c κs = search needs
-
-put-byte-requires : tie.Need-put-byte-requires
-put-byte-requires c κs = search needs
-
-lead-state-requires : tie.Need-lead-state-requires
-lead-state-requires c κs = search needs
-
-put-at-requires-2 : tie.Need-put-at-requires-2
-put-at-requires-2 c κs = search needs
-
-same-length : tie.Need-same-length
-same-length c = search needs
-
 returns : tie.Need-returns
 returns c =
     let c₄ = c .before .before in
@@ -71,14 +41,14 @@ pub put-e-spec : {M : Type 1} → statement M
 put-e-spec =
     tie.close
     (tie.spec
-    signed-requires
-    add-point
-    add-first
-    add-put-exponent
-    put-exponent-requires
-    put-at-requires
-    put-byte-requires
-    lead-state-requires
-    put-at-requires-2
-    same-length
+    (λ c κs. search needs)
+    (λ c. search needs)
+    (λ c. search needs)
+    (λ c. search needs)
+    (λ c κs. search needs)
+    (λ c κs. search needs)
+    (λ c κs. search needs)
+    (λ c κs. search needs)
+    (λ c κs. search needs)
+    (λ c. search needs)
     returns)

@@ -16,30 +16,6 @@ use Rattle.number.specs.Grammar.{signByte}
 use Rattle.number.proofs.put_exponent.Statement.{statement}
 use Rattle.number.proofs.put_exponent.Tie as tie
 
-signed-requires : tie.Need-signed-requires
-signed-requires c κs = search needs
-
-add-sign : tie.Need-add-sign
-add-sign c = search needs
-
-add-put-at : tie.Need-add-put-at
-add-put-at c = search needs
-
-put-at-requires : tie.Need-put-at-requires
-put-at-requires c κs = search needs
-
-sign-byte-requires : tie.Need-sign-byte-requires
-sign-byte-requires c κs = search needs
-
-put-byte-requires : tie.Need-put-byte-requires
-put-byte-requires c κs = search needs
-
-put-byte-requires-2 : tie.Need-put-byte-requires-2
-put-byte-requires-2 c κs = search needs
-
-same-length : tie.Need-same-length
-same-length c = search needs
-
 returns : tie.Need-returns
 returns c =
     let c₃ = c .before .before in
@@ -60,12 +36,12 @@ pub put-exponent-spec : {M : Type 1} → statement M
 put-exponent-spec =
     tie.close
     (tie.spec
-    signed-requires
-    add-sign
-    add-put-at
-    put-at-requires
-    sign-byte-requires
-    put-byte-requires
-    put-byte-requires-2
-    same-length
+    (λ c κs. search needs)
+    (λ c. search needs)
+    (λ c. search needs)
+    (λ c κs. search needs)
+    (λ c κs. search needs)
+    (λ c κs. search needs)
+    (λ c κs. search needs)
+    (λ c. search needs)
     returns)

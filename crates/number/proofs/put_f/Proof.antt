@@ -20,33 +20,6 @@ use Rattle.number.proofs.put_f.Tie as tie
 thousands : (g : Bool) (n : ℕ) → _≡_ {A = Scan} (restOf true 3 (Digits g n)) (Digits g (n / 1000))
 thousands g n = ap (Digits g) (omega arith)
 
-signed-requires : tie.Need-signed-requires
-signed-requires c κs = search needs
-
-sub-h : tie.Need-sub-h
-sub-h c = search needs
-
-add-put-at : tie.Need-add-put-at
-add-put-at c = search needs
-
-add-put-at-2 : tie.Need-add-put-at-2
-add-put-at-2 c = search needs
-
-put-at-requires : tie.Need-put-at-requires
-put-at-requires c κs = search needs
-
-add-put-byte : tie.Need-add-put-byte
-add-put-byte c = search needs
-
-put-byte-requires : tie.Need-put-byte-requires
-put-byte-requires c κs = search needs
-
-put-at-requires-2 : tie.Need-put-at-requires-2
-put-at-requires-2 c κs = search needs
-
-same-length : tie.Need-same-length
-same-length c = search needs
-
 returns : tie.Need-returns
 returns c =
     let c₃ = c .before .before in
@@ -70,13 +43,13 @@ pub put-f-spec : {M : Type 1} → statement M
 put-f-spec =
     tie.close
     (tie.spec
-    signed-requires
-    sub-h
-    add-put-at
-    add-put-at-2
-    put-at-requires
-    add-put-byte
-    put-byte-requires
-    put-at-requires-2
-    same-length
+    (λ c κs. search needs)
+    (λ c. search needs)
+    (λ c. search needs)
+    (λ c. search needs)
+    (λ c κs. search needs)
+    (λ c. search needs)
+    (λ c κs. search needs)
+    (λ c κs. search needs)
+    (λ c. search needs)
     returns)

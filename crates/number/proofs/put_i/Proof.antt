@@ -7,15 +7,6 @@ use Rattle.base.specs.Sign.{negative, sizeOf}
 use Rattle.number.proofs.put_i.Statement.{statement}
 use Rattle.number.proofs.put_i.Tie as tie
 
-signed-requires : tie.Need-signed-requires
-signed-requires c κs = search needs
-
-put-at-requires : tie.Need-put-at-requires
-put-at-requires c κs = search needs
-
-same-length : tie.Need-same-length
-same-length c = search needs
-
 returns : tie.Need-returns
 returns c =
     let o = c .before .before .before .before .before .before in
@@ -24,4 +15,4 @@ returns c =
     rw (m .ensures .0 ∙ ap negative e, m .ensures .1 ∙ ap sizeOf e) at (c .before .before .put-at .ensures .0)
 
 pub put-i-spec : {M : Type 1} → statement M
-put-i-spec = tie.close (tie.spec signed-requires put-at-requires same-length returns)
+put-i-spec = tie.close (tie.spec (λ c κs. search needs) (λ c κs. search needs) (λ c. search needs) returns)

@@ -16,38 +16,8 @@ use Rattle.number.proofs.read_f.Tie as tie
 returns : tie.Need-returns
 returns c = simp (lt-leb _ _ (c .if1 .taken))
 
-shared-slice-read-if2 : tie.Need-shared-slice-read-if2
-shared-slice-read-if2 c = search needs
-
 returns-2 : tie.Need-returns-2
 returns-2 c = simp (le-leb _ _ (c .before .before .if1 .left), ne-eqb _ _ (c .if2 .taken))
-
-sub-q : tie.Need-sub-q
-sub-q c = search needs
-
-sub-scan-part : tie.Need-sub-scan-part
-sub-scan-part c = search needs
-
-part-scan-part-start : tie.Need-part-scan-part-start
-part-scan-part-start c = search needs
-
-part-scan-part-end : tie.Need-part-scan-part-end
-part-scan-part-end c = search needs
-
-scan-part-requires : tie.Need-scan-part-requires
-scan-part-requires c κs = search needs
-
-sub-finish : tie.Need-sub-finish
-sub-finish c = search needs
-
-part-finish-start : tie.Need-part-finish-start
-part-finish-start c = search needs
-
-part-finish-end : tie.Need-part-finish-end
-part-finish-end c = search needs
-
-point-requires : tie.Need-point-requires
-point-requires c κs = search needs
 
 finish-requires : tie.Need-finish-requires
 finish-requires c κs =
@@ -69,16 +39,16 @@ read-f-spec =
     tie.close
     (tie.spec
     returns
-    shared-slice-read-if2
+    (λ c. search needs)
     returns-2
-    sub-q
-    sub-scan-part
-    part-scan-part-start
-    part-scan-part-end
-    scan-part-requires
-    sub-finish
-    part-finish-start
-    part-finish-end
-    point-requires
+    (λ c. search needs)
+    (λ c. search needs)
+    (λ c. search needs)
+    (λ c. search needs)
+    (λ c κs. search needs)
+    (λ c. search needs)
+    (λ c. search needs)
+    (λ c. search needs)
+    (λ c κs. search needs)
     finish-requires
     returns-3)

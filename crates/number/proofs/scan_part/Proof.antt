@@ -22,9 +22,6 @@ loop-holds c = (omega arith, refl, c .before .pre .1)
 shared-slice-read-class : tie.Need-shared-slice-read-class Inv-loop μ-loop
 shared-slice-read-class c = omega arith
 
-class-requires : tie.Need-class-requires Inv-loop μ-loop
-class-requires c κs = search needs
-
 step-requires : tie.Need-step-requires Inv-loop μ-loop
 step-requires c κs =
     let l = c .before .before .before .loop in
@@ -60,7 +57,7 @@ scan-part-spec =
     μ-loop
     loop-holds
     shared-slice-read-class
-    class-requires
+    (λ c κs. search needs)
     step-requires
     add-i
     loop-less

@@ -10,9 +10,6 @@ use Rattle.base.proofs.Sign.{holds-negative, holds-natural}
 use Rattle.number.proofs.within.Statement.{statement}
 use Rattle.number.proofs.within.Tie as tie
 
-signed-requires : tie.Need-signed-requires
-signed-requires c κs = search needs
-
 returns : tie.Need-returns
 returns c =
     let a = c .before .before .before .args in
@@ -28,4 +25,4 @@ returns-2 c =
     sym (holds-natural (a .low) (a .high) (a .v) g ∙ ap (λ n. leb n (a .high)) (sym (c .before .before .signed .ensures .1 ∙ ap sizeOf e)))
 
 pub within-spec : {M : Type 1} → statement M
-within-spec = tie.close (tie.spec signed-requires returns returns-2)
+within-spec = tie.close (tie.spec (λ c κs. search needs) returns returns-2)

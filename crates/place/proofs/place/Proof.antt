@@ -3,7 +3,8 @@
 use borrow.Author.Needs.{needs}
 use native.Mathlib.Omega.{arith}
 use mathlib.Core.Path.{_≡_, refl, sym, _∙_}
-use Prim.Native.Nat.{_≤_}
+use mathlib.Core.List.{List}
+use Prim.Native.Nat.{ℕ, _≤_}
 use borrow.Author.Tests.{not-true, not-false}
 use lib.ListN.{length, replicate}
 use Rattle.base.specs.Part.{part}
@@ -16,70 +17,65 @@ use Rattle.place.proofs.Steps.{locate-beyond, locate-end, refuses, firs
 use Rattle.place.proofs.place.Statement.{statement}
 use Rattle.place.proofs.place.Tie as tie
 
-nothing-requires : tie.Need-nothing-requires
-nothing-requires c κs = search needs
-
 returns : tie.Need-returns
 returns c =
     let o = c .before .before .before in
-    answers-at (o .args .text .now) (o .args .at) (locate-beyond (o .args .text .now) (o .args .at) (c .before .if1 .taken)) (refuses refl (c .nothing .ensures))
-
-nothing-requires-2 : tie.Need-nothing-requires-2
-nothing-requires-2 c κs = search needs
+    answers-at (o .args .text .now) (o .args .at)
+    (locate-beyond (o .args .text .now) (o .args .at) (c .before .if1 .taken)) (refuses refl (c .nothing .ensures))
 
 returns-2 : tie.Need-returns-2
 returns-2 c =
     let o = c .before .before .before .before in
-    answers-at (o .args .text .now) (o .args .at) (locate-end (o .args .text .now) (o .args .at) (c .before .if2 .taken)) (refuses refl (c .nothing2 .ensures))
-
-place-behind-requires : tie.Need-place-behind-requires
-place-behind-requires c κs = search needs
-
-enum-known-second : tie.Need-enum-known-second
-enum-known-second c = search needs
-
-enum-told : tie.Need-enum-told
-enum-told c = search needs
-
-nothing-requires-3 : tie.Need-nothing-requires-3
-nothing-requires-3 c κs = search needs
+    answers-at (o .args .text .now) (o .args .at)
+    (locate-end (o .args .text .now) (o .args .at) (c .before .if2 .taken)) (refuses refl (c .nothing2 .ensures))
 
 returns-3 : tie.Need-returns-3
 returns-3 c =
     let o = c .before .before .before .before .before .before .before in
-    answers-at (o .args .text .now) (o .args .at) (first-few (o .args .text .now) (o .args .at) (omega arith) (sym (c .before .before .before .place-behind .ensures) ∙ c .before .enum-told .given .1)) (refuses refl (c .nothing3 .ensures))
-
-place-behind-requires-2 : tie.Need-place-behind-requires-2
-place-behind-requires-2 c κs = search needs
-
-enum-known-end : tie.Need-enum-known-end
-enum-known-end c = search needs
-
-enum-told-2 : tie.Need-enum-told-2
-enum-told-2 c = search needs
-
-nothing-requires-4 : tie.Need-nothing-requires-4
-nothing-requires-4 c κs = search needs
+    answers-at (o .args .text .now) (o .args .at)
+    (first-few (o .args .text .now) (o .args .at) (omega arith)
+    (sym (c .before .before .before .place-behind .ensures) ∙ c .before .enum-told .given .1))
+    (refuses refl (c .nothing3 .ensures))
 
 returns-4 : tie.Need-returns-4
 returns-4 c =
-    let o = c .before .before .before .before .before .before .before .before .before .before .before in
-    answers-at (o .args .text .now) (o .args .at) (second-few (o .args .text .now) (o .args .at) (omega arith) (c .before .before .before .before .before .second .given .0 .0) (sym (c .before .before .before .before .before .before .before .place-behind .ensures) ∙ c .before .before .before .before .before .second .given .1) (sym (c .before .before .before .place-behind2 .ensures) ∙ c .before .enum-told2 .given .1)) (refuses refl (c .nothing4 .ensures))
+    let at-second = c .before .before .before .before .before in
+    let at-place-behind = at-second .before .before in
+    let o = at-place-behind .before .before .before .before in
+    answers-at (o .args .text .now) (o .args .at)
+    (second-few (o .args .text .now) (o .args .at) (omega arith) (at-second .second .given .0 .0)
+    (sym (at-place-behind .place-behind .ensures) ∙ at-second .second .given .1)
+    (sym (c .before .before .before .place-behind2 .ensures) ∙ c .before .enum-told2 .given .1))
+    (refuses refl (c .nothing4 .ensures))
 
--- the places behind the two index lines
-first : (c : tie.After-known-told2) → behindAt (c .before .before .before .before .before .before .before .before .before .before .before .args .text .now) (c .before .before .before .before .before .before .before .before .before .before .before .args .at) 1 ≡ At (c .before .before .before .before .before .second .given .0 .0)
-first c = sym (c .before .before .before .before .before .before .before .place-behind .ensures) ∙ c .before .before .before .before .before .second .given .1
+-- ---- the two index lines have ends: the text and the place, where the second line begins and where it ends
 
-then : (c : tie.After-known-told2) → behindAt (c .before .before .before .before .before .before .before .before .before .before .before .args .text .now) (c .before .before .before .before .before .second .given .0 .0) 1 ≡ At (c .before .end .given .0 .0)
+abbrev text : tie.After-known-told2 → List ℕ
+text c = c .before .before .before .before .before .before .before .before .before .before .before .args .text .now
+
+abbrev spot : tie.After-known-told2 → ℕ
+spot c = c .before .before .before .before .before .before .before .before .before .before .before .args .at
+
+abbrev second : tie.After-known-told2 → ℕ
+second c = c .before .before .before .before .before .second .given .0 .0
+
+abbrev end : tie.After-known-told2 → ℕ
+end c = c .before .end .given .0 .0
+
+first : (c : tie.After-known-told2) → behindAt (text c) (spot c) 1 ≡ At (second c)
+first c =
+    let at-second = c .before .before .before .before .before in
+    let at-place-behind = at-second .before .before in
+    sym (at-place-behind .place-behind .ensures) ∙ at-second .second .given .1
+
+then : (c : tie.After-known-told2) → behindAt (text c) (second c) 1 ≡ At (end c)
 then c = sym (c .before .before .before .place-behind2 .ensures) ∙ c .before .end .given .1
 
-first-range : (c : tie.After-known-told2) → (c .before .before .before .before .before .before .before .before .before .before .before .args .at ≤ c .before .before .before .before .before .second .given .0 .0) × (c .before .before .before .before .before .second .given .0 .0 ≤ length (c .before .before .before .before .before .before .before .before .before .before .before .args .text .now))
-first-range c =
-    let o = c .before .before .before .before .before .before .before .before .before .before .before in
-    at-range (o .args .text .now) (o .args .at) 1 (c .before .before .before .before .before .second .given .0 .0) (omega arith) (first c)
+first-range : (c : tie.After-known-told2) → (spot c ≤ second c) × (second c ≤ length (text c))
+first-range c = at-range (text c) (spot c) 1 (second c) (omega arith) (first c)
 
-then-range : (c : tie.After-known-told2) → (c .before .before .before .before .before .second .given .0 .0 ≤ c .before .end .given .0 .0) × (c .before .end .given .0 .0 ≤ length (c .before .before .before .before .before .before .before .before .before .before .before .args .text .now))
-then-range c = at-range (c .before .before .before .before .before .before .before .before .before .before .before .args .text .now) (c .before .before .before .before .before .second .given .0 .0) 1 (c .before .end .given .0 .0) (first-range c .1) (then c)
+then-range : (c : tie.After-known-told2) → (second c ≤ end c) × (end c ≤ length (text c))
+then-range c = at-range (text c) (second c) 1 (end c) (first-range c .1) (then c)
 
 sub-store-line : tie.Need-sub-store-line
 sub-store-line c = first-range c .0
@@ -90,22 +86,26 @@ part-store-line-start c = omega (arith, first-range c .0)
 part-store-line-end : tie.Need-part-store-line-end
 part-store-line-end c = omega (arith, first-range c .1)
 
-slice-aggregate-store-line : tie.Need-slice-aggregate-store-line
-slice-aggregate-store-line c = search needs
-
 store-line-requires : tie.Need-store-line-requires
 store-line-requires c κs = omega arith
 
-nothing-requires-5 : tie.Need-nothing-requires-5
-nothing-requires-5 c κs = search needs
-
 returns-5 : tie.Need-returns-5
 returns-5 c =
-    let o = c .before .before .before .before .before .before .before .before .before .before .before .before .before .before .before .before .before in
-    answers-at (o .args .text .now) (o .args .at) (first-misformed (o .args .text .now) (o .args .at) (omega arith) (c .before .before .before .before .before .before .before .before .before .before .before .second .given .0 .0) (first (c .before .before .before .before .before .before)) (c .before .before .before .before .before .before .before .end .given .0 .0) (then (c .before .before .before .before .before .before)) (stored-none _ 0 _ _ (not-true _ (c .before .if3 .taken)) (c .before .before .before .store-line .ensures))) (refuses refl (c .nothing5 .ensures))
+    let at-first = c .before .before .before .before .before .before in
+    let at-end = at-first .before in
+    let at-second = at-end .before .before .before .before in
+    let o = at-second .before .before .before .before .before .before in
+    answers-at (o .args .text .now) (o .args .at)
+    (first-misformed (o .args .text .now) (o .args .at) (omega arith) (at-second .second .given .0 .0) (first at-first)
+    (at-end .end .given .0 .0) (then at-first)
+    (stored-none _ 0 _ _ (not-true _ (c .before .if3 .taken)) (c .before .before .before .store-line .ensures)))
+    (refuses refl (c .nothing5 .ensures))
+
+abbrev index : tie.Else3 → tie.After-known-told2
+index c = c .before .before .before .before .before
 
 -- the counts of the first line
-first-counts : (c : tie.Else3) → StoredCounts (readIndexLine (part (c .before .before .before .before .before .before .before .before .before .before .before .before .before .before .before .before .args .at) (c .before .before .before .before .before .before .before .before .before .before .second .given .0 .0) (c .before .before .before .before .before .before .before .before .before .before .before .before .before .before .before .before .args .text .now))) 0 (replicate 80 0) (c .before .before .store-line .last .1 .0)
+first-counts : (c : tie.Else3) → StoredCounts (readIndexLine (part (spot (index c)) (second (index c)) (text (index c)))) 0 (replicate 80 0) (c .before .before .store-line .last .1 .0)
 first-counts c = stored-counts _ 0 _ _ (not-false _ (c .if3 .left)) (c .before .before .store-line .ensures)
 
 sub-store-line-2 : tie.Need-sub-store-line-2
@@ -117,63 +117,68 @@ part-store-line-start-2 c = omega (arith, then-range (c .before .before .before 
 part-store-line-end-2 : tie.Need-part-store-line-end-2
 part-store-line-end-2 c = omega (arith, then-range (c .before .before .before .before .before) .1)
 
-slice-aggregate-store-line-2 : tie.Need-slice-aggregate-store-line-2
-slice-aggregate-store-line-2 c = search needs
-
-store-line-requires-2 : tie.Need-store-line-requires-2
-store-line-requires-2 c κs = search needs
-
-nothing-requires-6 : tie.Need-nothing-requires-6
-nothing-requires-6 c κs = search needs
-
 returns-6 : tie.Need-returns-6
 returns-6 c =
-    let line = first-counts (c .before .before .before .before .before .before) in
-    answers-at (c .before .before .before .before .before .before .before .before .before .before .before .before .before .before .before .before .before .before .before .before .before .before .args .text .now) (c .before .before .before .before .before .before .before .before .before .before .before .before .before .before .before .before .before .before .before .before .before .before .args .at)
-    (second-misformed (c .before .before .before .before .before .before .before .before .before .before .before .before .before .before .before .before .before .before .before .before .before .before .args .text .now) (c .before .before .before .before .before .before .before .before .before .before .before .before .before .before .before .before .before .before .before .before .before .before .args .at) (omega arith) (c .before .before .before .before .before .before .before .before .before .before .before .before .before .before .before .before .second .given .0 .0) (first (c .before .before .before .before .before .before .before .before .before .before .before)) (c .before .before .before .before .before .before .before .before .before .before .before .before .end .given .0 .0) (then (c .before .before .before .before .before .before .before .before .before .before .before)) (line .these) (line .read) (stored-none _ 40 _ _ (not-true _ (c .before .if4 .taken)) (c .before .before .before .store-line2 .ensures)))
+    let at-first-counts = c .before .before .before .before .before .before in
+    let at-first = at-first-counts .before .before .before .before .before in
+    let at-end = at-first .before in
+    let at-second = at-end .before .before .before .before in
+    let start = at-second .before .before .before .before .before .before in
+    let line = first-counts at-first-counts in
+    answers-at (start .args .text .now) (start .args .at)
+    (second-misformed (start .args .text .now) (start .args .at) (omega arith) (at-second .second .given .0 .0)
+    (first at-first) (at-end .end .given .0 .0) (then at-first) (line .these) (line .read)
+    (stored-none _ 40 _ _ (not-true _ (c .before .if4 .taken)) (c .before .before .before .store-line2 .ensures)))
     (refuses refl (c .nothing6 .ensures))
-
-with-counts-requires : tie.Need-with-counts-requires
-with-counts-requires c κs = search needs
 
 returns-7 : tie.Need-returns-7
 returns-7 c =
-    let line = first-counts (c .before .before .before .before .before .before) in
-    let next = stored-counts _ 40 _ _ (not-false _ (c .before .if4 .left)) (c .before .before .before .store-line2 .ensures) in
-    let all = both-stored (line .these) (next .these) _ _ _ (line-length _ (line .these) (line .read)) (line-length _ (next .these) (next .read)) refl (line .place) (next .place) in
-    answers-at (c .before .before .before .before .before .before .before .before .before .before .before .before .before .before .before .before .before .before .before .before .before .before .args .text .now) (c .before .before .before .before .before .before .before .before .before .before .before .before .before .before .before .before .before .before .before .before .before .before .args .at) (with-index (c .before .before .before .before .before .before .before .before .before .before .before .before .before .before .before .before .before .before .before .before .before .before .args .text .now) (c .before .before .before .before .before .before .before .before .before .before .before .before .before .before .before .before .before .before .before .before .before .before .args .at) (omega arith) (c .before .before .before .before .before .before .before .before .before .before .before .before .before .before .before .before .second .given .0 .0) (first (c .before .before .before .before .before .before .before .before .before .before .before)) (c .before .before .before .before .before .before .before .before .before .before .before .before .end .given .0 .0) (then (c .before .before .before .before .before .before .before .before .before .before .before)) (line .these) (next .these) (line .read) (next .read)) (rw all at (c .with-counts .ensures))
+    let at-first-counts = c .before .before .before .before .before .before in
+    let at-first = at-first-counts .before .before .before .before .before in
+    let at-end = at-first .before in
+    let at-second = at-end .before .before .before .before in
+    let start = at-second .before .before .before .before .before .before in
+    let line = first-counts at-first-counts in
+    let next = stored-counts _ 40 _ _ (not-false _ (c .before .if4 .left))
+    (c .before .before .before .store-line2 .ensures) in
+    let all = both-stored (line .these) (next .these) _ _ _ (line-length _ (line .these) (line .read))
+    (line-length _ (next .these) (next .read)) refl (line .place) (next .place) in
+    answers-at (start .args .text .now) (start .args .at)
+    (with-index (start .args .text .now) (start .args .at) (omega arith) (at-second .second .given .0 .0)
+    (first at-first) (at-end .end .given .0 .0) (then at-first) (line .these) (next .these) (line .read) (next .read))
+    (rw all at (c .with-counts .ensures))
 
 pub place-spec : {M : Type 1} → statement M
 place-spec =
     tie.close
     (tie.spec
-    nothing-requires
+    (λ c κs. search needs)
     returns
-    nothing-requires-2
+    (λ c κs. search needs)
     returns-2
-    place-behind-requires
-    enum-known-second
-    enum-told
-    nothing-requires-3
+    (λ c κs. search needs)
+    (λ c. search needs)
+    (λ c. search needs)
+    (λ c κs. search needs)
     returns-3
-    place-behind-requires-2
-    enum-known-end
-    enum-told-2
-    nothing-requires-4
+    (λ c κs. search needs)
+    (λ c. search needs)
+    (λ c. search needs)
+    (λ c κs. search needs)
     returns-4
     sub-store-line
     part-store-line-start
     part-store-line-end
-    slice-aggregate-store-line
+    (λ c. search needs)
     store-line-requires
-    nothing-requires-5
+    (λ c κs. search needs)
     returns-5
     sub-store-line-2
     part-store-line-start-2
     part-store-line-end-2
-    slice-aggregate-store-line-2
-    store-line-requires-2
-    nothing-requires-6
+    (λ c. search needs)
+    (λ c κs. search needs)
+    (λ c κs. search needs)
     returns-6
-    with-counts-requires
+    (λ c κs. search needs)
     returns-7)

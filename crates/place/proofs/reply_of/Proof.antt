@@ -6,54 +6,6 @@ use Rattle.place.specs.Numbered.{placingReply}
 use Rattle.place.proofs.reply_of.Statement.{statement}
 use Rattle.place.proofs.reply_of.Tie as tie
 
-enum-known-answer : tie.Need-enum-known-answer
-enum-known-answer c = search needs
-
-at-next-requires : tie.Need-at-next-requires
-at-next-requires c κs = search needs
-
-enum-told : tie.Need-enum-told
-enum-told c = search needs
-
-plain-requires : tie.Need-plain-requires
-plain-requires c κs = search needs
-
-enum-told-2 : tie.Need-enum-told-2
-enum-told-2 c = search needs
-
-plain-requires-2 : tie.Need-plain-requires-2
-plain-requires-2 c κs = search needs
-
-enum-told-3 : tie.Need-enum-told-3
-enum-told-3 c = search needs
-
-plain-requires-3 : tie.Need-plain-requires-3
-plain-requires-3 c κs = search needs
-
-enum-told-4 : tie.Need-enum-told-4
-enum-told-4 c = search needs
-
-plain-requires-4 : tie.Need-plain-requires-4
-plain-requires-4 c κs = search needs
-
-enum-told-5 : tie.Need-enum-told-5
-enum-told-5 c = search needs
-
-plain-requires-5 : tie.Need-plain-requires-5
-plain-requires-5 c κs = search needs
-
-enum-known-answer-2 : tie.Need-enum-known-answer-2
-enum-known-answer-2 c = search needs
-
-on-group-requires : tie.Need-on-group-requires
-on-group-requires c κs = search needs
-
-enum-known-answer-3 : tie.Need-enum-known-answer-3
-enum-known-answer-3 c = search needs
-
-at-next-requires-2 : tie.Need-at-next-requires-2
-at-next-requires-2 c κs = search needs
-
 returns : tie.Need-returns
 returns c = c .at-next .ensures ∙ ap placingReply (sym (c .before .before .answer .given .1))
 
@@ -82,22 +34,22 @@ pub reply-of-spec : {M : Type 1} → statement M
 reply-of-spec =
     tie.close
     (tie.spec
-    enum-known-answer
-    at-next-requires
-    enum-told
-    plain-requires
-    enum-told-2
-    plain-requires-2
-    enum-told-3
-    plain-requires-3
-    enum-told-4
-    plain-requires-4
-    enum-told-5
-    plain-requires-5
-    enum-known-answer-2
-    on-group-requires
-    enum-known-answer-3
-    at-next-requires-2
+    (λ c. search needs)
+    (λ c κs. search needs)
+    (λ c. search needs)
+    (λ c κs. search needs)
+    (λ c. search needs)
+    (λ c κs. search needs)
+    (λ c. search needs)
+    (λ c κs. search needs)
+    (λ c. search needs)
+    (λ c κs. search needs)
+    (λ c. search needs)
+    (λ c κs. search needs)
+    (λ c. search needs)
+    (λ c κs. search needs)
+    (λ c. search needs)
+    (λ c κs. search needs)
     returns
     returns-2
     returns-3

@@ -6,12 +6,6 @@ use Rattle.place.specs.Placing.{ruledAt}
 use Rattle.place.proofs.ruled_at.Statement.{statement}
 use Rattle.place.proofs.ruled_at.Tie as tie
 
-enum-told : tie.Need-enum-told
-enum-told c = search needs
-
-enum-known-ruling : tie.Need-enum-known-ruling
-enum-known-ruling c = search needs
-
 returns : tie.Need-returns
 returns c = sym (ap (ruledAt (c .before .before .args .next)) (c .enum-told .given .1))
 
@@ -19,4 +13,4 @@ returns-2 : tie.Need-returns-2
 returns-2 c = sym (ap (ruledAt (c .before .before .before .args .next)) (c .before .ruling .given .1))
 
 pub ruled-at-spec : {M : Type 1} → statement M
-ruled-at-spec = tie.close (tie.spec enum-told enum-known-ruling returns returns-2)
+ruled-at-spec = tie.close (tie.spec (λ c. search needs) (λ c. search needs) returns returns-2)

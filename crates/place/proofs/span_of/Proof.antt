@@ -12,12 +12,6 @@ use Rattle.place.proofs.Spans.{start-done, start-next}
 use Rattle.place.proofs.span_of.Statement.{statement}
 use Rattle.place.proofs.span_of.Tie as tie
 
-add-up-requires : tie.Need-add-up-requires
-add-up-requires c κs = search needs
-
-behind-or-end-requires : tie.Need-behind-or-end-requires
-behind-or-end-requires c κs = search needs
-
 begins : (c : tie.After-behind-or-end) → c .behind-or-end .result ≡ start (c .before .before .before .before .args .text .now) (c .before .before .before .before .args .at) (c .before .before .before .before .args .counts .now) (c .before .before .before .before .args .group)
 unfolding start
 begins c =
@@ -29,19 +23,10 @@ returns c =
     let o = c .before .before .before .before .before in
     (begins (c .before), begins (c .before) ∙ sym (start-done (o .args .text .now) (o .args .at) (o .args .counts .now) (o .args .group) (c .if1 .taken)))
 
-add-add-up : tie.Need-add-add-up
-add-add-up c = search needs
-
-add-up-requires-2 : tie.Need-add-up-requires-2
-add-up-requires-2 c κs = search needs
-
 sub-behind-or-end : tie.Need-sub-behind-or-end
 sub-behind-or-end c =
     let o = c .before .before .before .before .before .before .before .before in
     omega (arith, c .before .before .before .before .before .add-up .ensures .lines-are, c .before .before .add-up2 .ensures .lines-are, lines-below (o .args .counts .now) (o .args .group) (o .args .group + 1) (omega arith))
-
-behind-or-end-requires-2 : tie.Need-behind-or-end-requires-2
-behind-or-end-requires-2 c κs = search needs
 
 returns-2 : tie.Need-returns-2
 returns-2 c =
@@ -52,11 +37,11 @@ pub span-of-spec : {M : Type 1} → statement M
 span-of-spec =
     tie.close
     (tie.spec
-    add-up-requires
-    behind-or-end-requires
+    (λ c κs. search needs)
+    (λ c κs. search needs)
     returns
-    add-add-up
-    add-up-requires-2
+    (λ c. search needs)
+    (λ c κs. search needs)
     sub-behind-or-end
-    behind-or-end-requires-2
+    (λ c κs. search needs)
     returns-2)

@@ -10,15 +10,6 @@ use Rattle.place.proofs.Steps.{line-no-return, line-other-length, line-
 use Rattle.place.proofs.store_line.Statement.{statement}
 use Rattle.place.proofs.store_line.Tie as tie
 
-content-length-requires : tie.Need-content-length-requires
-content-length-requires c κs = search needs
-
-enum-known-n : tie.Need-enum-known-n
-enum-known-n c = search needs
-
-enum-told : tie.Need-enum-told
-enum-told c = search needs
-
 returns : tie.Need-returns
 returns c = rw (line-no-return (c .before .before .before .before .before .args .line .now) (sym (c .before .before .content-length .ensures) ∙ c .enum-told .given .1)) refl
 
@@ -40,9 +31,6 @@ part-store-entries-end c = omega (arith, long c)
 store-entries-requires : tie.Need-store-entries-requires
 store-entries-requires c κs = (length-take (c .before .before .before .before .n .given .0 .0 - 0) _ ∙ omega (arith, long (c .before .before), c .before .before .if1 .left), omega arith)
 
-same-length : tie.Need-same-length
-same-length c = search needs
-
 returns-3 : tie.Need-returns-3
 returns-3 c = rw (line-entries (c .before .before .before .before .before .before .before .before .before .before .before .before .args .line .now) (c .before .before .before .before .before .before .before .n .given .0 .0) (sym (c .before .before .before .before .before .before .before .before .before .content-length .ensures) ∙ c .before .before .before .before .before .before .before .n .given .1) (c .before .before .before .before .before .if1 .left)) (c .before .before .store-entries .ensures)
 
@@ -50,14 +38,14 @@ pub store-line-spec : {M : Type 1} → statement M
 store-line-spec =
     tie.close
     (tie.spec
-    content-length-requires
-    enum-known-n
-    enum-told
+    (λ c κs. search needs)
+    (λ c. search needs)
+    (λ c. search needs)
     returns
     returns-2
     sub-store-entries
     part-store-entries-start
     part-store-entries-end
     store-entries-requires
-    same-length
+    (λ c. search needs)
     returns-3)

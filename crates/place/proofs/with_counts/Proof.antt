@@ -6,30 +6,6 @@ use Rattle.place.proofs.Steps.{from-release, refuses}
 use Rattle.place.proofs.with_counts.Statement.{statement}
 use Rattle.place.proofs.with_counts.Tie as tie
 
-slice-aggregate-release-of : tie.Need-slice-aggregate-release-of
-slice-aggregate-release-of c = search needs
-
-release-of-requires : tie.Need-release-of-requires
-release-of-requires c κs = search needs
-
-enum-told : tie.Need-enum-told
-enum-told c = search needs
-
-nothing-requires : tie.Need-nothing-requires
-nothing-requires c κs = search needs
-
-enum-known-g : tie.Need-enum-known-g
-enum-known-g c = search needs
-
-nothing-requires-2 : tie.Need-nothing-requires-2
-nothing-requires-2 c κs = search needs
-
-enum-told-2 : tie.Need-enum-told-2
-enum-told-2 c = search needs
-
-with-lines-requires : tie.Need-with-lines-requires
-with-lines-requires c κs = search needs
-
 returns : tie.Need-returns
 returns c =
     let o = c .before .before .before .before .before .before in
@@ -49,14 +25,14 @@ pub with-counts-spec : {M : Type 1} → statement M
 with-counts-spec =
     tie.close
     (tie.spec
-    slice-aggregate-release-of
-    release-of-requires
-    enum-told
-    nothing-requires
-    enum-known-g
-    nothing-requires-2
-    enum-told-2
-    with-lines-requires
+    (λ c. search needs)
+    (λ c κs. search needs)
+    (λ c. search needs)
+    (λ c κs. search needs)
+    (λ c. search needs)
+    (λ c κs. search needs)
+    (λ c. search needs)
+    (λ c κs. search needs)
     returns
     returns-2
     returns-3)

@@ -6,9 +6,6 @@ use Rattle.reading.proofs.Putting.{getD-within, getD-beyond}
 use Rattle.reading.proofs.byte_or_blank.Statement.{statement}
 use Rattle.reading.proofs.byte_or_blank.Tie as tie
 
-shared-slice-read-result : tie.Need-shared-slice-read-result
-shared-slice-read-result c = search needs
-
 returns : tie.Need-returns
 returns c = getD-within (c .before .before .args .bytes .now) (c .before .before .args .i) 0 32 (c .before .if1 .taken)
 
@@ -16,4 +13,4 @@ returns-2 : tie.Need-returns-2
 returns-2 c = sym (getD-beyond (c .before .args .bytes .now) (c .before .args .i) 32 (c .if1 .left))
 
 pub byte-or-blank-spec : {M : Type 1} → statement M
-byte-or-blank-spec = tie.close (tie.spec shared-slice-read-result returns returns-2)
+byte-or-blank-spec = tie.close (tie.spec (λ c. search needs) returns returns-2)

@@ -10,15 +10,6 @@ use Rattle.reading.proofs.Dates.{clean-date, bad-date, date-form}
 use Rattle.reading.proofs.check.Statement.{statement}
 use Rattle.reading.proofs.check.Tie as tie
 
-check-lines-requires : tie.Need-check-lines-requires
-check-lines-requires c κs = search needs
-
-enum-known-r : tie.Need-enum-known-r
-enum-known-r c = search needs
-
-enum-told : tie.Need-enum-told
-enum-told c = search needs
-
 -- group 3 has letters
 letters : (c : tie.Then1) → c .before .before .before .before .before .args .form ≡ A1
 letters c =
@@ -52,9 +43,9 @@ pub check-spec : {M : Type 1} → statement M
 check-spec =
     tie.close
     (tie.spec
-    check-lines-requires
-    enum-known-r
-    enum-told
+    (λ c κs. search needs)
+    (λ c. search needs)
+    (λ c. search needs)
     check-date-requires
     returns
     returns-2

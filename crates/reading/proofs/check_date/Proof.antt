@@ -11,21 +11,6 @@ use Rattle.reading.proofs.Dates.{letters-inside, date-verdict}
 use Rattle.reading.proofs.check_date.Statement.{statement}
 use Rattle.reading.proofs.check_date.Tie as tie
 
-elements-requires : tie.Need-elements-requires
-elements-requires c κs = search needs
-
-row-of-requires : tie.Need-row-of-requires
-row-of-requires c κs = search needs
-
-lesser-requires : tie.Need-lesser-requires
-lesser-requires c κs = search needs
-
-sub-new : tie.Need-sub-new
-sub-new c = search needs
-
-part-new-start : tie.Need-part-new-start
-part-new-start c = search needs
-
 -- as many letters as the first line has
 first-many : (c : tie.After-lesser) → c .lesser .result ≡ min (rowOf A1 .«per_line») (elementsOf A1 (c .before .before .before .before .args .count))
 first-many c = c .lesser .ensures ∙ rw (c .before .row-of .ensures, c .before .before .elements .ensures)
@@ -34,15 +19,6 @@ part-new-end : tie.Need-part-new-end
 part-new-end c =
     let o = c .before .before .before .before in
     omega (arith, letters-inside (o .args .count) (o .args .lines .now) (o .pre .1) (o .pre .0) (c .lesser .result) (first-many c))
-
-new-requires : tie.Need-new-requires
-new-requires c κs = search needs
-
-enum-told : tie.Need-enum-told
-enum-told c = search needs
-
-enum-known-position : tie.Need-enum-known-position
-enum-known-position c = search needs
 
 returns : tie.Need-returns
 returns c =
@@ -58,14 +34,14 @@ pub check-date-spec : {M : Type 1} → statement M
 check-date-spec =
     tie.close
     (tie.spec
-    elements-requires
-    row-of-requires
-    lesser-requires
-    sub-new
-    part-new-start
+    (λ c κs. search needs)
+    (λ c κs. search needs)
+    (λ c κs. search needs)
+    (λ c. search needs)
+    (λ c. search needs)
     part-new-end
-    new-requires
-    enum-told
-    enum-known-position
+    (λ c κs. search needs)
+    (λ c. search needs)
+    (λ c. search needs)
     returns
     returns-2)

@@ -4,143 +4,147 @@
 use borrow.Author.Needs.{needs}
 use native.Mathlib.Omega.{arith}
 use mathlib.Core.Path.{_≡_, refl, sym, _∙_, ap}
-use Prim.Native.Nat.{_-_}
+use Prim.Native.Nat.{_-_, _*_, _≤_}
 use Rattle.form.specs.Table.{rowOf}
 use Rattle.form.specs.Count.{elementsOf}
 use Rattle.reading.specs.Plan.{lineAt}
 use Rattle.reading.specs.declared.Verdict.the-variants.{Clean}
 use Rattle.reading.proofs.Checking.{Checking, walking-start, checking-start, checking-end, element-small, next-first, columns-small, width-few}
-use Rattle.reading.proofs.Trying.{Trying, trying-start, try-small, try-range, element-few, trying-next, trying-wrong, tried-range, tried-wrong, tried-next}
+use Rattle.reading.proofs.Trying.{Trying, OnLine, trying-start, try-small, try-range, element-few, trying-next, trying-wrong, tried-range, tried-wrong, tried-next}
 use Rattle.reading.proofs.check_lines.Statement.{statement}
 use Rattle.reading.proofs.check_lines.Tie as tie
 
 abbrev Inv-loop : tie.InvT-loop
-Inv-loop form count lines width per-line many left verdict₀ at element j k stop from₀ i₀ verdict from i = (verdict ≡ Clean) × Trying form (lineAt (rowOf form .«per_line») (elementsOf form count) j) lines at stop i from
+Inv-loop form count lines width per-line many left verdict₀ at element j k stop from₀ i₀ verdict from i =
+    (verdict ≡ Clean) × Trying form (lineAt (rowOf form .«per_line») (elementsOf form count) j) lines at stop i from
 
 abbrev μ-loop : tie.MeasureT-loop
 μ-loop form count lines width per-line many left verdict₀ at element j k stop from₀ i₀ verdict from i = k - i
 
 abbrev Inv-lines : tie.InvT-lines
-Inv-lines form count lines width per-line many left₀ verdict₀ at₀ element₀ j₀ left verdict at element j = (verdict ≡ Clean) × Checking form count lines width per-line many left at element j
+Inv-lines form count lines width per-line many left₀ verdict₀ at₀ element₀ j₀ left verdict at element j =
+    (verdict ≡ Clean) × Checking form count lines width per-line many left at element j
 
 abbrev μ-lines : tie.MeasureT-lines
 μ-lines form count lines width per-line many left₀ verdict₀ at₀ element₀ j₀ left verdict at element j = many - j
 
-row-of-requires : tie.Need-row-of-requires Inv-loop μ-loop Inv-lines μ-lines
-row-of-requires c κs = search needs
-
-lines-requires : tie.Need-lines-requires Inv-loop μ-loop Inv-lines μ-lines
-lines-requires c κs = search needs
-
-elements-requires : tie.Need-elements-requires Inv-loop μ-loop Inv-lines μ-lines
-elements-requires c κs = search needs
-
 lines-holds : tie.Need-lines-holds Inv-loop μ-loop Inv-lines μ-lines
-lines-holds c = (refl, checking-start _ _ _ _ _ _ _ (walking-start _ _ _ _ _ _ _ (ap (λ r. r .width) (c .before .before .row-of .ensures)) (ap (λ r. r .«per_line») (c .before .before .row-of .ensures)) (c .before .lines2 .ensures) (c .elements .ensures) (omega arith)))
-
-lesser-requires : tie.Need-lesser-requires Inv-loop μ-loop Inv-lines μ-lines
-lesser-requires c κs = search needs
+lines-holds c =
+    let row = c .before .before .row-of .ensures in
+    let walk = walking-start _ _ _ _ _ _ _ (ap (λ r. r .width) row) (ap (λ r. r .«per_line») row) (c .before .lines2 .ensures) (c .elements .ensures) (omega arith) in
+    (refl, checking-start _ _ _ _ _ _ _ walk)
 
 mul-fields-stop : tie.Need-mul-fields-stop Inv-loop μ-loop Inv-lines μ-lines
 mul-fields-stop c =
     let o = c .before .before .before .before .before .before .before in
-    omega (arith, columns-small (o .args .form) (o .args .count) (o .args .lines .now) (c .before .before .lines .inv .1 .walk) (c .lesser .result) _ (c .lesser .ensures) refl)
+    let walk = c .before .before .lines .inv .1 .walk in
+    omega (arith, columns-small (o .args .form) (o .args .count) (o .args .lines .now) walk (c .lesser .result) _ (c .lesser .ensures) refl)
 
 fields-stop-requires : tie.Need-fields-stop-requires Inv-loop μ-loop Inv-lines μ-lines
 fields-stop-requires c κs = c .before .before .lines .inv .1 .walk .inside
 
+-- ---- a line whose fields are tried
+
+abbrev AtLine : Type 0
+AtLine = tie.After-fields-stop Inv-loop μ-loop Inv-lines μ-lines
+
+abbrev start : AtLine → tie.Start Inv-loop μ-loop Inv-lines μ-lines
+start c = c .before .before .before .before .before .before .before .before
+
+abbrev line : (c : AtLine) → OnLine (start c .args .form) (start c .args .count) (start c .args .lines .now)
+line c =
+    let at-lines = c .before .before .before .lines in
+    let row = c .before .before .before .before .before .before .row-of .result in
+    record {
+      width = row .width;
+      perLine = row .«per_line»;
+      many = c .before .before .before .before .before .lines2 .result;
+      left = at-lines .left;
+      at = at-lines .at;
+      element = at-lines .element;
+      j = at-lines .j;
+      state = at-lines .inv .1;
+      further = c .before .before .lines-test .taken;
+      k = c .before .lesser .result;
+      elements = c .before .lesser .ensures;
+      stop = c .fields-stop .result;
+      sought = c .fields-stop .ensures;
+    }
+
+-- the columns of its fields are few
+few-columns : (c : AtLine) → line c .k * line c .width ≤ 120 * 120
+few-columns c = columns-small (start c .args .form) (start c .args .count) (start c .args .lines .now) (line c .state .walk) (line c .k) _ (line c .elements) refl
+
 loop-holds : tie.Need-loop-holds Inv-loop μ-loop Inv-lines μ-lines
-loop-holds c =
-    let o = c .before .before .before .before .before .before .before .before in
-    (c .before .before .before .lines .inv .0, trying-start (o .args .form) (o .args .count) (o .args .lines .now) (c .before .before .before .lines .inv .1) (c .before .before .lines-test .taken) (c .before .lesser .result) (c .before .lesser .ensures) (c .fields-stop .result) (c .fields-stop .ensures))
+loop-holds c = (c .before .before .before .lines .inv .0, trying-start (line c))
 
 add-lesser : tie.Need-add-lesser Inv-loop μ-loop Inv-lines μ-lines
 add-lesser c =
-    let o = c .before .before .before .before .before .before .before .before .before .before in
-    omega (arith, try-small (o .args .form) (o .args .count) (o .args .lines .now) (c .before .before .before .before .before .lines .inv .1) (c .before .before .before .before .lines-test .taken) (c .before .before .before .lesser .result) (c .before .before .before .lesser .ensures) (c .before .before .fields-stop .result) (c .before .before .fields-stop .ensures) (c .before .loop .inv .1), c .before .before .before .before .before .lines .inv .1 .walk .wide, width-few (o .args .form))
-
-lesser-requires-2 : tie.Need-lesser-requires-2 Inv-loop μ-loop Inv-lines μ-lines
-lesser-requires-2 c κs = search needs
+    let at-line = c .before .before in
+    let o = start at-line in
+    omega (arith, try-small (line at-line) (c .before .loop .inv .1), line at-line .state .walk .wide, width-few (o .args .form))
 
 is-field-at-requires : tie.Need-is-field-at-requires Inv-loop μ-loop Inv-lines μ-lines
 is-field-at-requires c κs =
-    let o = c .before .before .before .before .before .before .before .before .before .before .before in
-    try-range (o .args .form) (o .args .count) (o .args .lines .now) (c .before .before .before .before .before .before .lines .inv .1) (c .before .before .before .before .before .lines-test .taken) (c .before .before .before .before .lesser .result) (c .before .before .before .before .lesser .ensures) (c .before .before .before .fields-stop .result) (c .before .before .before .fields-stop .ensures) (c .before .before .loop .inv .1) (c .lesser2 .result) (c .before .loop-test .taken) (c .lesser2 .ensures)
+    let at-loop = c .before .before in
+    let all = try-range (line (at-loop .before)) (at-loop .loop .inv .1) (c .lesser2 .result) (c .before .loop-test .taken) (c .lesser2 .ensures) in
+    (all .0, (all .1, all .2))
 
 add-from : tie.Need-add-from Inv-loop μ-loop Inv-lines μ-lines
 add-from c =
-    let o = c .before .before .before .before .before .before .before .before .before .before .before .before .before in
-    omega (arith, try-small (o .args .form) (o .args .count) (o .args .lines .now) (c .before .before .before .before .before .before .before .before .lines .inv .1) (c .before .before .before .before .before .before .before .lines-test .taken) (c .before .before .before .before .before .before .lesser .result) (c .before .before .before .before .before .before .lesser .ensures) (c .before .before .before .before .before .fields-stop .result) (c .before .before .before .before .before .fields-stop .ensures) (c .before .before .before .before .loop .inv .1), c .before .before .before .before .before .before .before .before .lines .inv .1 .walk .wide, width-few (o .args .form))
-
-add-i : tie.Need-add-i Inv-loop μ-loop Inv-lines μ-lines
-add-i c = search needs
-
-loop-less : tie.Need-loop-less Inv-loop μ-loop Inv-lines μ-lines
-loop-less c = search needs
+    let at-loop = c .before .before .before .before in
+    let at-line = at-loop .before in
+    let o = start at-line in
+    omega (arith, try-small (line at-line) (at-loop .loop .inv .1), line at-line .state .walk .wide, width-few (o .args .form))
 
 loop-again : tie.Need-loop-again Inv-loop μ-loop Inv-lines μ-lines
 loop-again c =
-    let o = c .before .before .before .before .before .before .before .before .before .before .before .before .before in
-    let t = c .before .before .before .before in
-    (t .loop .inv .0, trying-next (o .args .form) (o .args .count) (o .args .lines .now) (c .before .before .before .before .before .before .before .before .lines .inv .1) (c .before .before .before .before .before .before .before .lines-test .taken) (c .before .before .before .before .before .before .lesser .result) (c .before .before .before .before .before .before .lesser .ensures) (c .before .before .before .before .before .fields-stop .result) (c .before .before .before .before .before .fields-stop .ensures) (t .loop .inv .1) (c .before .before .lesser2 .result) (c .before .before .before .loop-test .taken) (c .before .before .lesser2 .ensures) (sym (c .before .is-field-at .ensures) ∙ c .if1 .taken))
+    let to = c .before .before .lesser2 in
+    let in-loop = c .before .before .before in
+    let at-loop = in-loop .before in
+    let good = sym (c .before .is-field-at .ensures) ∙ c .if1 .taken in
+    (at-loop .loop .inv .0, trying-next (line (at-loop .before)) (at-loop .loop .inv .1) (to .result) (in-loop .loop-test .taken) (to .ensures) good)
 
 mul-misfit : tie.Need-mul-misfit Inv-loop μ-loop Inv-lines μ-lines
-mul-misfit c =
-    let o = c .before .before .before .before .before .before .before .before .before .before .before .before .before in
-    omega (arith, columns-small (o .args .form) (o .args .count) (o .args .lines .now) (c .before .before .before .before .before .before .before .before .lines .inv .1 .walk) (c .before .before .before .before .before .before .lesser .result) _ (c .before .before .before .before .before .before .lesser .ensures) refl)
-
-add-misfit : tie.Need-add-misfit Inv-loop μ-loop Inv-lines μ-lines
-add-misfit c = search needs
+mul-misfit c = omega (arith, few-columns (c .before .before .before .before .before))
 
 add-misfit-2 : tie.Need-add-misfit-2 Inv-loop μ-loop Inv-lines μ-lines
 add-misfit-2 c =
-    let o = c .before .before .before .before .before .before .before .before .before .before .before .before .before in
-    omega (arith, element-few (o .args .form) (o .args .count) (o .args .lines .now) (c .before .before .before .before .before .before .before .before .lines .inv .1) (c .before .before .before .before .before .before .before .lines-test .taken) (c .before .before .before .before .before .before .lesser .result) (c .before .before .before .before .before .before .lesser .ensures) (c .before .before .before .before .before .fields-stop .result) (c .before .before .before .before .before .fields-stop .ensures) (c .before .before .before .before .loop .inv .1) (c .before .before .lesser2 .result) (c .before .before .before .loop-test .taken) (c .before .before .lesser2 .ensures))
+    let to = c .before .before .lesser2 in
+    let in-loop = c .before .before .before in
+    let at-loop = in-loop .before in
+    omega (arith, element-few (line (at-loop .before)) (at-loop .loop .inv .1) (to .result) (in-loop .loop-test .taken) (to .ensures))
 
 misfit-requires : tie.Need-misfit-requires Inv-loop μ-loop Inv-lines μ-lines
-misfit-requires c κs = c .before .before .before .before .before .before .before .before .lines .inv .1 .walk .inside
-
-behind-or-end-requires : tie.Need-behind-or-end-requires Inv-loop μ-loop Inv-lines μ-lines
-behind-or-end-requires c κs = search needs
+misfit-requires c κs = line (c .before .before .before .before .before) .state .walk .inside
 
 mul-right-content-at : tie.Need-mul-right-content-at Inv-loop μ-loop Inv-lines μ-lines
-mul-right-content-at c =
-    let o = c .before .before .before .before .before .before .before .before .before .before .before in
-    omega (arith, columns-small (o .args .form) (o .args .count) (o .args .lines .now) (c .before .before .before .before .before .before .lines .inv .1 .walk) (c .before .before .before .before .lesser .result) _ (c .before .before .before .before .lesser .ensures) refl)
+mul-right-content-at c = omega (arith, few-columns (c .before .before .before))
 
 right-content-at-requires : tie.Need-right-content-at-requires Inv-loop μ-loop Inv-lines μ-lines
 right-content-at-requires c κs =
-    let o = c .before .before .before .before .before .before .before .before .before .before .before in
-    tried-range (o .args .form) (o .args .count) (o .args .lines .now) (c .before .before .before .before .before .before .lines .inv .1) (c .before .before .before .before .before .lines-test .taken) (c .before .before .before .before .lesser .result) (c .before .before .before .before .lesser .ensures) (c .before .before .before .fields-stop .result) (c .before .before .before .fields-stop .ensures) (c .before .before .loop .inv .1) (omega arith) (c .behind-or-end .result) (c .behind-or-end .ensures)
+    let at-loop = c .before .before in
+    tried-range (line (at-loop .before)) (at-loop .loop .inv .1) (omega arith) (c .behind-or-end .result) (c .behind-or-end .ensures)
 
-enum-told : tie.Need-enum-told Inv-loop μ-loop Inv-lines μ-lines
-enum-told c = search needs
-
-enum-told-2 : tie.Need-enum-told-2 Inv-loop μ-loop Inv-lines μ-lines
-enum-told-2 c = search needs
-
-add-t29 : tie.Need-add-t29 Inv-loop μ-loop Inv-lines μ-lines
-add-t29 c = search needs
+-- ---- the next line, and the verdict
 
 sub-left : tie.Need-sub-left Inv-loop μ-loop Inv-lines μ-lines
-sub-left c = omega (arith, c .before .before .before .before .before .before .before .lesser .ensures)
+sub-left c = omega (arith, line (c .before .before .before .before .before .before) .elements)
 
 add-element : tie.Need-add-element Inv-loop μ-loop Inv-lines μ-lines
 add-element c =
-    let o = c .before .before .before .before .before .before .before .before .before .before .before .before .before .before in
-    omega (arith, c .before .before .before .before .before .before .before .before .before .lines .inv .1 .first, c .before .before .before .before .before .before .before .before .before .lines .inv .1 .walk .per, next-first (o .args .form) (o .args .count) (o .args .lines .now) (c .before .before .before .before .before .before .before .before .before .lines .inv .1 .walk), element-small (o .args .form) (o .args .count) (o .args .lines .now) (c .before .before .before .before .before .before .before .before .before .lines .inv .1 .walk))
-
-add-j : tie.Need-add-j Inv-loop μ-loop Inv-lines μ-lines
-add-j c = search needs
-
-lines-less : tie.Need-lines-less Inv-loop μ-loop Inv-lines μ-lines
-lines-less c = search needs
+    let at-line = c .before .before .before .before .before .before in
+    let o = start at-line in
+    let state = line at-line .state in
+    let next = next-first (o .args .form) (o .args .count) (o .args .lines .now) (state .walk) in
+    omega (arith, state .first, state .walk .per, next, element-small (o .args .form) (o .args .count) (o .args .lines .now) (state .walk))
 
 lines-again : tie.Need-lines-again Inv-loop μ-loop Inv-lines μ-lines
 lines-again c =
-    let o = c .before .before .before .before .before .before .before .before .before .before .before .before .before .before in
-    let t = c .before .before .before .before .before in
-    (t .loop .inv .0, tried-next (o .args .form) (o .args .count) (o .args .lines .now) (c .before .before .before .before .before .before .before .before .before .lines .inv .1) (c .before .before .before .before .before .before .before .before .lines-test .taken) (c .before .before .before .before .before .before .before .lesser .result) (c .before .before .before .before .before .before .before .lesser .ensures) (c .before .before .before .before .before .before .fields-stop .result) (c .before .before .before .before .before .before .fields-stop .ensures) (t .loop .inv .1) (omega arith) (c .before .before .before .behind-or-end .result) (c .before .before .before .behind-or-end .ensures) (c .enum-told .given .0 .0) (sym (c .before .before .right-content-at .ensures) ∙ c .enum-told .given .1))
+    let end = c .before .before .before .behind-or-end in
+    let at-loop = c .before .before .before .before .before in
+    let right = sym (c .before .before .right-content-at .ensures) ∙ c .enum-told .given .1 in
+    (at-loop .loop .inv .0, tried-next (line (at-loop .before)) (at-loop .loop .inv .1) (omega arith) (end .result) (end .ensures) (c .enum-told .given .0 .0) right)
 
 returns : tie.Need-returns Inv-loop μ-loop Inv-lines μ-lines
 returns c =
@@ -149,13 +153,18 @@ returns c =
 
 returns-2 : tie.Need-returns-2 Inv-loop μ-loop Inv-lines μ-lines
 returns-2 c =
-    let o = c .before .before .before .before .before .before .before .before .before .before .before .before .before .before in
-    trying-wrong (o .args .form) (o .args .count) (o .args .lines .now) (c .before .before .before .before .before .before .before .before .before .lines .inv .1) (c .before .before .before .before .before .before .before .before .lines-test .taken) (c .before .before .before .before .before .before .before .lesser .result) (c .before .before .before .before .before .before .before .lesser .ensures) (c .before .before .before .before .before .before .fields-stop .result) (c .before .before .before .before .before .before .fields-stop .ensures) (c .before .before .before .before .before .loop .inv .1) (c .before .before .before .lesser2 .result) (c .before .before .before .before .loop-test .taken) (c .before .before .before .lesser2 .ensures) (sym (c .before .before .is-field-at .ensures) ∙ c .before .if1 .left) (c .misfit .result) (c .misfit .ensures)
+    let to = c .before .before .before .lesser2 in
+    let in-loop = c .before .before .before .before in
+    let at-loop = in-loop .before in
+    let bad = sym (c .before .before .is-field-at .ensures) ∙ c .before .if1 .left in
+    trying-wrong (line (at-loop .before)) (at-loop .loop .inv .1) (to .result) (in-loop .loop-test .taken) (to .ensures) bad (c .misfit .result) (c .misfit .ensures)
 
 returns-3 : tie.Need-returns-3 Inv-loop μ-loop Inv-lines μ-lines
 returns-3 c =
-    let o = c .before .before .before .before .before .before .before .before .before .before .before .before .before .before in
-    tried-wrong (o .args .form) (o .args .count) (o .args .lines .now) (c .before .before .before .before .before .before .before .before .before .lines .inv .1) (c .before .before .before .before .before .before .before .before .lines-test .taken) (c .before .before .before .before .before .before .before .lesser .result) (c .before .before .before .before .before .before .before .lesser .ensures) (c .before .before .before .before .before .before .fields-stop .result) (c .before .before .before .before .before .before .fields-stop .ensures) (c .before .before .before .before .before .loop .inv .1) (omega arith) (c .before .before .before .behind-or-end .result) (c .before .before .before .behind-or-end .ensures) (sym (c .before .before .right-content-at .ensures) ∙ c .enum-told2 .given .1)
+    let end = c .before .before .before .behind-or-end in
+    let at-loop = c .before .before .before .before .before in
+    let wrong = sym (c .before .before .right-content-at .ensures) ∙ c .enum-told2 .given .1 in
+    tried-wrong (line (at-loop .before)) (at-loop .loop .inv .1) (omega arith) (end .result) (end .ensures) wrong
 
 pub check-lines-spec : {M : Type 1} → statement M
 check-lines-spec =
@@ -165,35 +174,35 @@ check-lines-spec =
     μ-loop
     Inv-lines
     μ-lines
-    row-of-requires
-    lines-requires
-    elements-requires
+    (λ c κs. search needs)
+    (λ c κs. search needs)
+    (λ c κs. search needs)
     lines-holds
-    lesser-requires
+    (λ c κs. search needs)
     mul-fields-stop
     fields-stop-requires
     loop-holds
     add-lesser
-    lesser-requires-2
+    (λ c κs. search needs)
     is-field-at-requires
     add-from
-    add-i
-    loop-less
+    (λ c. search needs)
+    (λ c. search needs)
     loop-again
     mul-misfit
-    add-misfit
+    (λ c. search needs)
     add-misfit-2
     misfit-requires
-    behind-or-end-requires
+    (λ c κs. search needs)
     mul-right-content-at
     right-content-at-requires
-    enum-told
-    enum-told-2
-    add-t29
+    (λ c. search needs)
+    (λ c. search needs)
+    (λ c. search needs)
     sub-left
     add-element
-    add-j
-    lines-less
+    (λ c. search needs)
+    (λ c. search needs)
     lines-again
     returns
     returns-2

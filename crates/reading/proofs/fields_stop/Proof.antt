@@ -10,22 +10,10 @@ use Rattle.reading.proofs.Trying.{line-range, content-fits, span-none, 
 use Rattle.reading.proofs.fields_stop.Statement.{statement}
 use Rattle.reading.proofs.fields_stop.Tie as tie
 
-may-be-short-requires : tie.Need-may-be-short-requires
-may-be-short-requires c κs = search needs
-
-behind-or-end-requires : tie.Need-behind-or-end-requires
-behind-or-end-requires c κs = search needs
-
 content-at-requires : tie.Need-content-at-requires
 content-at-requires c κs =
     let r = line-range (c .before .before .before .before .args .lines .now) (c .before .before .before .before .args .at) (c .before .before .before .before .pre) in
     (omega (arith, c .behind-or-end .ensures), omega (arith, r .1, c .behind-or-end .ensures))
-
-enum-known-n : tie.Need-enum-known-n
-enum-known-n c = search needs
-
-enum-told : tie.Need-enum-told
-enum-told c = search needs
 
 returns : tie.Need-returns
 returns c =
@@ -42,12 +30,6 @@ returns-2 c =
     let o = c .before .before .before .before .before .before .before .before in
     span-content (o .args .form) (o .args .columns) (o .args .lines .now) (o .args .at) (o .pre) (sym (c .before .before .before .before .before .before .may-be-short .ensures) ∙ c .before .before .before .before .before .if1 .taken) (c .before .n .given .0 .0) (ap (λ x. contentOf (part (o .args .at) x (o .args .lines .now))) (sym (c .before .before .before .before .behind-or-end .ensures)) ∙ sym (c .before .before .before .content-at .ensures) ∙ c .before .n .given .1)
 
-sub-lesser : tie.Need-sub-lesser
-sub-lesser c = search needs
-
-lesser-requires : tie.Need-lesser-requires
-lesser-requires c κs = search needs
-
 add-result-2 : tie.Need-add-result-2
 add-result-2 c = omega (arith, c .lesser .ensures, c .before .before .before .before .pre)
 
@@ -60,15 +42,15 @@ pub fields-stop-spec : {M : Type 1} → statement M
 fields-stop-spec =
     tie.close
     (tie.spec
-    may-be-short-requires
-    behind-or-end-requires
+    (λ c κs. search needs)
+    (λ c κs. search needs)
     content-at-requires
-    enum-known-n
-    enum-told
+    (λ c. search needs)
+    (λ c. search needs)
     returns
     add-result
     returns-2
-    sub-lesser
-    lesser-requires
+    (λ c. search needs)
+    (λ c κs. search needs)
     add-result-2
     returns-3)

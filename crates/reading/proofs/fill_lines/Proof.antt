@@ -4,156 +4,202 @@
 use borrow.Author.Needs.{needs}
 use native.Mathlib.Omega.{arith}
 use mathlib.Core.Path.{_≡_, refl, sym, _∙_, ap}
-use Prim.Native.Nat.{_+_, _-_}
-use lib.ListN.{drop}
+use Prim.Native.Nat.{ℕ, _+_, _-_, _≤_}
+use lib.ListN.{length, drop}
+use Rattle.base.specs.Part.{part}
+use Rattle.base.specs.Pieces.{cellsGot}
 use Rattle.form.specs.Table.{rowOf}
 use Rattle.form.specs.Count.{elementsOf}
 use Rattle.line.specs.Lines.{reach}
+use Rattle.line.specs.Contents.{contentOf}
+use Rattle.line.specs.declared.Content.the-variants.{Length}
 use Rattle.reading.specs.Plan.{lineAt}
+use Rattle.reading.specs.Read.{readLines}
 use Rattle.reading.proofs.Fields.{lineText}
-use Rattle.reading.proofs.Checking.{walking-start, columns-small, seek-small, end-range, width-few}
-use Rattle.reading.proofs.Filling.{Filling, FillingFields, enough-room, filling-start, filling-end, filling-length, has-content, end-behind, fill-inside, fields-filling, fill-small, filling-next, put-requires, cell-small, fields-next}
+use Rattle.reading.proofs.Checking.{walking-start, columns-small, seek-small, width-few}
+use Rattle.reading.proofs.Filling.{Reached, Filling, OnLine, FillingFields, enough-room, filling-start, filling-end, filling-length, filling-next}
+use Rattle.reading.proofs.Filling.{line-inside, has-content, end-behind, fill-inside, fields-filling, fill-small, put-requires, cell-small, fields-next}
 use Rattle.reading.proofs.fill_lines.Statement.{statement}
 use Rattle.reading.proofs.fill_lines.Tie as tie
 
 abbrev Inv-loop2 : tie.InvT-loop2
-Inv-loop2 form count lines table₀ width per-line cells many left at cell₀ j k end n stop from₀ i₀ table cell from i = FillingFields form (lineAt (rowOf form .«per_line») (elementsOf form count) j) (lineText form (lineAt (rowOf form .«per_line») (elementsOf form count) j) lines at end n) table₀ cell₀ at i from cell table
+Inv-loop2 form count lines table₀ width per-line cells many left at cell₀ j k end n stop from₀ i₀ table cell from i =
+    let l = lineAt (rowOf form .«per_line») (elementsOf form count) j in
+    FillingFields form l (lineText form l lines at end n) table₀ cell₀ at i from cell table
 
 abbrev μ-loop2 : tie.MeasureT-loop2
 μ-loop2 form count lines table₀ width per-line cells many left at cell₀ j k end n stop from₀ i₀ table cell from i = k - i
 
 abbrev Inv-loop : tie.InvT-loop
-Inv-loop form count lines table₀ width per-line cells many left₀ at₀ cell₀ j₀ table left at cell j = Filling form count lines table₀ width per-line cells many left at cell j table
+Inv-loop form count lines table₀ width per-line cells many left₀ at₀ cell₀ j₀ table left at cell j =
+    Filling form count lines table₀ record {
+      width = width;
+      perLine = per-line;
+      cells = cells;
+      many = many;
+      left = left;
+      at = at;
+      cell = cell;
+      j = j;
+      table = table;
+    }
 
 abbrev μ-loop : tie.MeasureT-loop
 μ-loop form count lines table₀ width per-line cells many left₀ at₀ cell₀ j₀ table left at cell j = many - j
 
-row-of-requires : tie.Need-row-of-requires Inv-loop2 μ-loop2 Inv-loop μ-loop
-row-of-requires c κs = search needs
-
-lines-requires : tie.Need-lines-requires Inv-loop2 μ-loop2 Inv-loop μ-loop
-lines-requires c κs = search needs
-
-elements-requires : tie.Need-elements-requires Inv-loop2 μ-loop2 Inv-loop μ-loop
-elements-requires c κs = search needs
-
 loop-holds : tie.Need-loop-holds Inv-loop2 μ-loop2 Inv-loop μ-loop
-loop-holds c = filling-start _ _ _ _ _ _ _ _ _ (walking-start _ _ _ _ _ _ _ (ap (λ r. r .width) (c .before .before .row-of .ensures)) (ap (λ r. r .«per_line») (c .before .before .row-of .ensures)) (c .before .lines .ensures) (c .elements .ensures) (omega arith)) (ap (λ r. r .cells) (c .before .before .row-of .ensures)) (c .before .before .before .before .pre .0)
-
-lesser-requires : tie.Need-lesser-requires Inv-loop2 μ-loop2 Inv-loop μ-loop
-lesser-requires c κs = search needs
+loop-holds c =
+    let row = c .before .before .row-of .ensures in
+    let walk = walking-start _ _ _ _ _ _ _ (ap (λ r. r .width) row) (ap (λ r. r .«per_line») row) (c .before .lines .ensures) (c .elements .ensures) (omega arith) in
+    filling-start walk (ap (λ r. r .cells) row) (c .before .before .before .before .pre .0) (refl, refl, refl)
 
 mul-least : tie.Need-mul-least Inv-loop2 μ-loop2 Inv-loop μ-loop
 mul-least c =
     let o = c .before .before .before .before .before .before .before in
-    omega (arith, columns-small (o .args .form) (o .args .count) (o .args .lines .now) (c .before .before .loop .inv .walk) (c .lesser .result) _ (c .lesser .ensures) refl)
-
-least-requires : tie.Need-least-requires Inv-loop2 μ-loop2 Inv-loop μ-loop
-least-requires c κs = search needs
+    let walk = c .before .before .loop .inv .walk in
+    omega (arith, columns-small (o .args .form) (o .args .count) (o .args .lines .now) walk (c .lesser .result) _ (c .lesser .ensures) refl)
 
 add-behind-or-end : tie.Need-add-behind-or-end Inv-loop2 μ-loop2 Inv-loop μ-loop
 add-behind-or-end c =
     let o = c .before .before .before .before .before .before .before .before in
-    omega (arith, seek-small (o .args .form) (o .args .count) (o .args .lines .now) (c .before .before .before .loop .inv .walk) (c .before .lesser .result) _ (c .before .lesser .ensures) refl (c .least .result) (c .least .ensures))
+    let walk = c .before .before .before .loop .inv .walk in
+    let k = c .before .lesser in
+    omega (arith, seek-small (o .args .form) (o .args .count) (o .args .lines .now) walk (k .result) _ (k .ensures) refl (c .least .result) (c .least .ensures))
 
-behind-or-end-requires : tie.Need-behind-or-end-requires Inv-loop2 μ-loop2 Inv-loop μ-loop
-behind-or-end-requires c κs = search needs
+-- the table has room for the cells of lines that are clean
+room : (c : tie.Start Inv-loop2 μ-loop2 Inv-loop μ-loop) → length (cellsGot (readLines (c .args .form) (c .args .count) (c .args .lines .now))) ≤ length (c .args .table .now)
+room c = enough-room (c .args .form) (c .args .count) (c .args .lines .now) (c .args .table .now) (c .pre .0) (c .pre .1)
 
-ends : (c : tie.After-behind-or-end Inv-loop2 μ-loop2 Inv-loop μ-loop) → c .behind-or-end .result ≡ c .before .before .before .before .loop .at + reach (drop (c .before .before .before .before .loop .at) (c .before .before .before .before .before .before .before .before .before .args .lines .now)) 1
-ends c =
-    let o = c .before .before .before .before .before .before .before .before .before in
-    c .behind-or-end .ensures ∙ end-behind (o .args .form) (o .args .count) (o .args .lines .now) (o .args .table .now) (enough-room (o .args .form) (o .args .count) (o .args .lines .now) (o .args .table .now) (o .pre .0) (o .pre .1)) (c .before .before .before .before .loop .inv) (c .before .before .before .loop-test .taken) (c .before .before .lesser .result) _ (c .before .before .lesser .ensures) refl (c .before .least .result) (c .before .least .ensures)
+-- ---- a line whose end is known
+
+abbrev AtLine : Type 0
+AtLine = tie.After-behind-or-end Inv-loop2 μ-loop2 Inv-loop μ-loop
+
+abbrev start : AtLine → tie.Start Inv-loop2 μ-loop2 Inv-loop μ-loop
+start c = c .before .before .before .before .before .before .before .before .before
+
+abbrev reached : AtLine → Reached
+reached c =
+    let at-loop = c .before .before .before .before .loop in
+    let row = c .before .before .before .before .before .before .before .row-of .result in
+    record {
+      width = row .width;
+      perLine = row .«per_line»;
+      cells = row .cells;
+      many = c .before .before .before .before .before .before .lines .result;
+      left = at-loop .left;
+      at = at-loop .at;
+      cell = at-loop .cell;
+      j = at-loop .j;
+      table = at-loop .table;
+    }
+
+abbrev OnThis : AtLine → Type 0
+OnThis c = OnLine (start c .args .form) (start c .args .count) (start c .args .lines .now) (start c .args .table .now) (reached c)
+
+abbrev line-to : (c : AtLine) (end : ℕ) → end ≡ reached c .at + reach (drop (reached c .at) (start c .args .lines .now)) 1 → OnThis c
+line-to c end e =
+    record {
+      room = room (start c);
+      state = c .before .before .before .before .loop .inv;
+      further = c .before .before .before .loop-test .taken;
+      k = c .before .before .lesser .result;
+      end = end;
+      elements = c .before .before .lesser .ensures;
+      behind = e;
+    }
+
+-- the end is sought behind the columns of the fields, where no line feed stands
+abbrev line : (c : AtLine) → OnThis c
+line c =
+    let least = c .before .least in
+    line-to c (c .behind-or-end .result) (c .behind-or-end .ensures ∙ end-behind (line-to c _ refl) (least .result) (least .ensures))
 
 content-at-requires : tie.Need-content-at-requires Inv-loop2 μ-loop2 Inv-loop μ-loop
-content-at-requires c κs =
-    let o = c .before .before .before .before .before .before .before .before .before in
-    end-range (o .args .form) (o .args .count) (o .args .lines .now) (c .before .before .before .before .loop .inv .walk) (c .before .before .lesser .result) (c .behind-or-end .result) (c .before .before .lesser .ensures) (ends c)
-
-enum-known-n : tie.Need-enum-known-n Inv-loop2 μ-loop2 Inv-loop μ-loop
-enum-known-n c = search needs
-
-enum-told : tie.Need-enum-told Inv-loop2 μ-loop2 Inv-loop μ-loop
-enum-told c = search needs
+content-at-requires c κs = line-inside (line c)
 
 same-length : tie.Need-same-length Inv-loop2 μ-loop2 Inv-loop μ-loop
 same-length c =
-    let o = c .before .before .before .before .before .before .before .before .before .before .before .before in
-    filling-length (o .args .form) (o .args .count) (o .args .lines .now) (o .args .table .now) (enough-room (o .args .form) (o .args .count) (o .args .lines .now) (o .args .table .now) (o .pre .0) (o .pre .1)) (c .before .before .before .before .before .before .before .loop .inv)
+    let at-line = line (c .before .before .before) in
+    filling-length (at-line .room) (at-line .state)
 
 returns : tie.Need-returns Inv-loop2 μ-loop2 Inv-loop μ-loop
-returns c =
-    let o = c .before .before .before .before .before .before .before .before .before .before .before .before in
-    absurd (has-content (o .args .form) (o .args .count) (o .args .lines .now) (o .args .table .now) (enough-room (o .args .form) (o .args .count) (o .args .lines .now) (o .args .table .now) (o .pre .0) (o .pre .1)) (c .before .before .before .before .before .before .before .loop .inv) (c .before .before .before .before .before .before .loop-test .taken) (c .before .before .before .before .before .lesser .result) (c .before .before .before .behind-or-end .result) (c .before .before .before .before .before .lesser .ensures) (ends (c .before .before .before)) (sym (c .before .before .content-at .ensures) ∙ c .enum-told .given .1))
+returns c = absurd (has-content (line (c .before .before .before)) (sym (c .before .before .content-at .ensures) ∙ c .enum-told .given .1))
+
+-- ---- its fields, where it has a content
+
+abbrev AtFields : Type 0
+AtFields = tie.After-known-told Inv-loop2 μ-loop2 Inv-loop μ-loop
+
+abbrev line-of : AtFields → AtLine
+line-of c = c .before .before .before .before
+
+content : (c : AtFields) → contentOf (part (reached (line-of c) .at) (line (line-of c) .end) (start (line-of c) .args .lines .now)) ≡ Length (c .before .n .given .0 .0)
+content c = sym (c .before .before .before .content-at .ensures) ∙ c .before .n .given .1
 
 add-stop : tie.Need-add-stop Inv-loop2 μ-loop2 Inv-loop μ-loop
-add-stop c =
-    let o = c .before .before .before .before .before .before .before .before .before .before .before .before .before in
-    omega (arith, fill-inside (o .args .form) (o .args .count) (o .args .lines .now) (o .args .table .now) (enough-room (o .args .form) (o .args .count) (o .args .lines .now) (o .args .table .now) (o .pre .0) (o .pre .1)) (c .before .before .before .before .before .before .before .before .loop .inv) (c .before .before .before .before .before .before .before .loop-test .taken) (c .before .before .before .before .before .before .lesser .result) (c .before .before .before .before .behind-or-end .result) (c .before .before .before .before .before .before .lesser .ensures) (ends (c .before .before .before .before)) (c .before .n .given .0 .0) (sym (c .before .before .before .content-at .ensures) ∙ c .before .n .given .1))
+add-stop c = omega (arith, fill-inside (line (line-of c)) _ (content c))
 
 loop2-holds : tie.Need-loop2-holds Inv-loop2 μ-loop2 Inv-loop μ-loop
-loop2-holds c =
-    let o = c .before .before .before .before .before .before .before .before .before .before .before .before .before in
-    fields-filling (o .args .form) (o .args .count) (o .args .lines .now) (o .args .table .now) (enough-room (o .args .form) (o .args .count) (o .args .lines .now) (o .args .table .now) (o .pre .0) (o .pre .1)) (c .before .before .before .before .before .before .before .before .loop .inv) (c .before .before .before .before .before .before .before .loop-test .taken) (c .before .before .before .before .before .before .lesser .result) (c .before .before .before .before .behind-or-end .result) (c .before .before .before .before .before .before .lesser .ensures) (ends (c .before .before .before .before)) (c .before .n .given .0 .0) (sym (c .before .before .before .content-at .ensures) ∙ c .before .n .given .1)
+loop2-holds c = fields-filling (line (line-of c)) _ (content c)
 
 add-lesser : tie.Need-add-lesser Inv-loop2 μ-loop2 Inv-loop μ-loop
 add-lesser c =
-    let o = c .before .before .before .before .before .before .before .before .before .before .before .before .before .before .before in
-    let t = c .before .before .before .before .before .before .before .before .before .before in
-    omega (arith, fill-small (o .args .form) (o .args .count) (o .args .lines .now) (o .args .table .now) (enough-room (o .args .form) (o .args .count) (o .args .lines .now) (o .args .table .now) (o .pre .0) (o .pre .1)) (t .loop .inv) (c .before .before .before .before .before .before .before .before .before .loop-test .taken) (c .before .before .before .before .before .before .before .before .lesser .result) (c .before .before .before .before .before .before .behind-or-end .result) (c .before .before .before .before .before .before .before .before .lesser .ensures) (ends (c .before .before .before .before .before .before)) (c .before .before .before .n .given .0 .0) (sym (c .before .before .before .before .before .content-at .ensures) ∙ c .before .before .before .n .given .1) (c .before .loop2 .inv), t .loop .inv .walk .wide, width-few (o .args .form))
-
-lesser-requires-2 : tie.Need-lesser-requires-2 Inv-loop2 μ-loop2 Inv-loop μ-loop
-lesser-requires-2 c κs = search needs
+    let at-fields = c .before .before in
+    let at-line = line-of at-fields in
+    let o = start at-line in
+    omega (arith, fill-small (line at-line) _ (content at-fields) (c .before .loop2 .inv), line at-line .state .walk .wide, width-few (o .args .form))
 
 put-field-at-requires : tie.Need-put-field-at-requires Inv-loop2 μ-loop2 Inv-loop μ-loop
 put-field-at-requires c κs =
-    let o = c .before .before .before .before .before .before .before .before .before .before .before .before .before .before .before .before .before in
-    put-requires (o .args .form) (o .args .count) (o .args .lines .now) (o .args .table .now) (enough-room (o .args .form) (o .args .count) (o .args .lines .now) (o .args .table .now) (o .pre .0) (o .pre .1)) (c .before .before .before .before .before .before .before .before .before .before .before .before .loop .inv) (c .before .before .before .before .before .before .before .before .before .before .before .loop-test .taken) (c .before .before .before .before .before .before .before .before .before .before .lesser .result) (c .before .before .before .before .before .before .before .before .behind-or-end .result) (c .before .before .before .before .before .before .before .before .before .before .lesser .ensures) (ends (c .before .before .before .before .before .before .before .before)) (c .before .before .before .before .before .n .given .0 .0) (sym (c .before .before .before .before .before .before .before .content-at .ensures) ∙ c .before .before .before .before .before .n .given .1) (c .before .before .before .loop2 .inv) (c .before .lesser2 .result) (c .before .before .loop2-test .taken) (c .before .lesser2 .ensures)
+    let to = c .before .lesser2 in
+    let at-loop = c .before .before .before in
+    let at-fields = at-loop .before in
+    let all = put-requires (line (line-of at-fields)) _ (content at-fields) (at-loop .loop2 .inv) (to .result) (c .before .before .loop2-test .taken) (to .ensures) in
+    (all .0, (all .1, (all .2, (all .3, (all .4, all .5)))))
 
 add-from : tie.Need-add-from Inv-loop2 μ-loop2 Inv-loop μ-loop
 add-from c =
-    let o = c .before .before .before .before .before .before .before .before .before .before .before .before .before .before .before .before .before .before .before in
-    let t = c .before .before .before .before .before .before .before .before .before .before .before .before .before .before in
-    omega (arith, fill-small (o .args .form) (o .args .count) (o .args .lines .now) (o .args .table .now) (enough-room (o .args .form) (o .args .count) (o .args .lines .now) (o .args .table .now) (o .pre .0) (o .pre .1)) (t .loop .inv) (c .before .before .before .before .before .before .before .before .before .before .before .before .before .loop-test .taken) (c .before .before .before .before .before .before .before .before .before .before .before .before .lesser .result) (c .before .before .before .before .before .before .before .before .before .before .behind-or-end .result) (c .before .before .before .before .before .before .before .before .before .before .before .before .lesser .ensures) (ends (c .before .before .before .before .before .before .before .before .before .before)) (c .before .before .before .before .before .before .before .n .given .0 .0) (sym (c .before .before .before .before .before .before .before .before .before .content-at .ensures) ∙ c .before .before .before .before .before .before .before .n .given .1) (c .before .before .before .before .before .loop2 .inv), t .loop .inv .walk .wide, width-few (o .args .form))
+    let at-loop = c .before .before .before .before .before in
+    let at-fields = at-loop .before in
+    let at-line = line-of at-fields in
+    let o = start at-line in
+    omega (arith, fill-small (line at-line) _ (content at-fields) (at-loop .loop2 .inv), line at-line .state .walk .wide, width-few (o .args .form))
 
 add-cell : tie.Need-add-cell Inv-loop2 μ-loop2 Inv-loop μ-loop
 add-cell c =
-    let o = c .before .before .before .before .before .before .before .before .before .before .before .before .before .before .before .before .before .before .before in
-    omega (arith, o .good .1 .1 .1 .0, cell-small (o .args .form) (o .args .count) (o .args .lines .now) (o .args .table .now) (enough-room (o .args .form) (o .args .count) (o .args .lines .now) (o .args .table .now) (o .pre .0) (o .pre .1)) (c .before .before .before .before .before .before .before .before .before .before .before .before .before .before .loop .inv) (c .before .before .before .before .before .before .before .before .before .before .before .before .before .loop-test .taken) (c .before .before .before .before .before .before .before .before .before .before .before .before .lesser .result) (c .before .before .before .before .before .before .before .before .before .before .behind-or-end .result) (c .before .before .before .before .before .before .before .before .before .before .before .before .lesser .ensures) (ends (c .before .before .before .before .before .before .before .before .before .before)) (c .before .before .before .before .before .before .before .n .given .0 .0) (sym (c .before .before .before .before .before .before .before .before .before .content-at .ensures) ∙ c .before .before .before .before .before .before .before .n .given .1) (c .before .before .before .before .before .loop2 .inv) (c .before .before .before .lesser2 .result) (c .before .before .before .before .loop2-test .taken) (c .before .before .before .lesser2 .ensures))
-
-add-i : tie.Need-add-i Inv-loop2 μ-loop2 Inv-loop μ-loop
-add-i c = search needs
-
-loop2-less : tie.Need-loop2-less Inv-loop2 μ-loop2 Inv-loop μ-loop
-loop2-less c = search needs
+    let to = c .before .before .before .lesser2 in
+    let in-loop = c .before .before .before .before in
+    let at-loop = in-loop .before in
+    let at-fields = at-loop .before in
+    let o = start (line-of at-fields) in
+    let small = cell-small (line (line-of at-fields)) _ (content at-fields) (at-loop .loop2 .inv) (to .result) (in-loop .loop2-test .taken) (to .ensures) in
+    omega (arith, o .good .1 .1 .1 .0, small)
 
 loop2-again : tie.Need-loop2-again Inv-loop2 μ-loop2 Inv-loop μ-loop
 loop2-again c =
-    let o = c .before .before .before .before .before .before .before .before .before .before .before .before .before .before .before .before .before .before .before in
-    fields-next (o .args .form) (o .args .count) (o .args .lines .now) (o .args .table .now) (enough-room (o .args .form) (o .args .count) (o .args .lines .now) (o .args .table .now) (o .pre .0) (o .pre .1)) (c .before .before .before .before .before .before .before .before .before .before .before .before .before .before .loop .inv) (c .before .before .before .before .before .before .before .before .before .before .before .before .before .loop-test .taken) (c .before .before .before .before .before .before .before .before .before .before .before .before .lesser .result) (c .before .before .before .before .before .before .before .before .before .before .behind-or-end .result) (c .before .before .before .before .before .before .before .before .before .before .before .before .lesser .ensures) (ends (c .before .before .before .before .before .before .before .before .before .before)) (c .before .before .before .before .before .before .before .n .given .0 .0) (sym (c .before .before .before .before .before .before .before .before .before .content-at .ensures) ∙ c .before .before .before .before .before .before .before .n .given .1) (c .before .before .before .before .before .loop2 .inv) (c .before .before .before .lesser2 .result) (c .before .before .before .before .loop2-test .taken) (c .before .before .before .lesser2 .ensures) (c .before .put-field-at .ensures)
+    let to = c .before .before .before .lesser2 in
+    let in-loop = c .before .before .before .before in
+    let at-loop = in-loop .before in
+    let at-fields = at-loop .before in
+    let put = c .before .put-field-at .ensures in
+    fields-next (line (line-of at-fields)) _ (content at-fields) (at-loop .loop2 .inv) (to .result) (in-loop .loop2-test .taken) (to .ensures) put
+
+-- ---- the next line, and the end
 
 sub-left : tie.Need-sub-left Inv-loop2 μ-loop2 Inv-loop μ-loop
 sub-left c = omega (arith, c .before .before .before .before .before .before .before .before .lesser .ensures)
 
-add-j : tie.Need-add-j Inv-loop2 μ-loop2 Inv-loop μ-loop
-add-j c = search needs
-
-loop-less : tie.Need-loop-less Inv-loop2 μ-loop2 Inv-loop μ-loop
-loop-less c = search needs
-
 loop-again : tie.Need-loop-again Inv-loop2 μ-loop2 Inv-loop μ-loop
 loop-again c =
-    let o = c .before .before .before .before .before .before .before .before .before .before .before .before .before .before .before in
-    filling-next (o .args .form) (o .args .count) (o .args .lines .now) (o .args .table .now) (enough-room (o .args .form) (o .args .count) (o .args .lines .now) (o .args .table .now) (o .pre .0) (o .pre .1)) (c .before .before .before .before .before .before .before .before .before .before .loop .inv) (c .before .before .before .before .before .before .before .before .before .loop-test .taken) (c .before .before .before .before .before .before .before .before .lesser .result) (c .before .before .before .before .before .before .behind-or-end .result) (c .before .before .before .before .before .before .before .before .lesser .ensures) (ends (c .before .before .before .before .before .before)) (c .before .before .before .n .given .0 .0) (sym (c .before .before .before .before .before .content-at .ensures) ∙ c .before .before .before .n .given .1) (c .before .loop2 .inv) (omega arith)
+    let at-fields = c .before .before in
+    filling-next (line (line-of at-fields)) _ (content at-fields) (c .before .loop2 .inv) (omega arith)
 
 same-length-2 : tie.Need-same-length-2 Inv-loop2 μ-loop2 Inv-loop μ-loop
-same-length-2 c =
-    let o = c .before .before .before .before .before .before in
-    filling-length (o .args .form) (o .args .count) (o .args .lines .now) (o .args .table .now) (enough-room (o .args .form) (o .args .count) (o .args .lines .now) (o .args .table .now) (o .pre .0) (o .pre .1)) (c .before .loop .inv)
+same-length-2 c = filling-length (room (c .before .before .before .before .before .before)) (c .before .loop .inv)
 
 returns-2 : tie.Need-returns-2 Inv-loop2 μ-loop2 Inv-loop μ-loop
-returns-2 c =
-    let o = c .before .before .before .before .before .before in
-    filling-end (o .args .form) (o .args .count) (o .args .lines .now) (o .args .table .now) (c .before .loop .inv) (omega arith)
+returns-2 c = filling-end (c .before .loop .inv) (omega arith)
 
 pub fill-lines-spec : {M : Type 1} → statement M
 fill-lines-spec =
@@ -163,33 +209,33 @@ fill-lines-spec =
     μ-loop2
     Inv-loop
     μ-loop
-    row-of-requires
-    lines-requires
-    elements-requires
+    (λ c κs. search needs)
+    (λ c κs. search needs)
+    (λ c κs. search needs)
     loop-holds
-    lesser-requires
+    (λ c κs. search needs)
     mul-least
-    least-requires
+    (λ c κs. search needs)
     add-behind-or-end
-    behind-or-end-requires
+    (λ c κs. search needs)
     content-at-requires
-    enum-known-n
-    enum-told
+    (λ c. search needs)
+    (λ c. search needs)
     same-length
     returns
     add-stop
     loop2-holds
     add-lesser
-    lesser-requires-2
+    (λ c κs. search needs)
     put-field-at-requires
     add-from
     add-cell
-    add-i
-    loop2-less
+    (λ c. search needs)
+    (λ c. search needs)
     loop2-again
     sub-left
-    add-j
-    loop-less
+    (λ c. search needs)
+    (λ c. search needs)
     loop-again
     same-length-2
     returns-2)

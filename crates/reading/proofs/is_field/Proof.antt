@@ -7,20 +7,8 @@ use Rattle.reading.proofs.Blanks.{short-field, as-whole}
 use Rattle.reading.proofs.is_field.Statement.{statement}
 use Rattle.reading.proofs.is_field.Tie as tie
 
-may-be-short-requires : tie.Need-may-be-short-requires
-may-be-short-requires c κs = search needs
-
-all-printable-requires : tie.Need-all-printable-requires
-all-printable-requires c κs = search needs
-
 returns : tie.Need-returns
 returns c = c .all-printable .ensures ∙ short-field _ _ (sym (c .before .before .may-be-short .ensures) ∙ c .before .if1 .taken) (c .before .before .before .before .pre)
-
-read-requires : tie.Need-read-requires
-read-requires c κs = search needs
-
-is-formed-requires : tie.Need-is-formed-requires
-is-formed-requires c κs = search needs
 
 returns-2 : tie.Need-returns-2
 returns-2 c =
@@ -31,9 +19,9 @@ pub is-field-spec : {M : Type 1} → statement M
 is-field-spec =
     tie.close
     (tie.spec
-    may-be-short-requires
-    all-printable-requires
+    (λ c κs. search needs)
+    (λ c κs. search needs)
     returns
-    read-requires
-    is-formed-requires
+    (λ c κs. search needs)
+    (λ c κs. search needs)
     returns-2)

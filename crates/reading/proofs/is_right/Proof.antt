@@ -8,9 +8,6 @@ use Rattle.reading.proofs.Blanks.{right-short, right-long, right-exact,
 use Rattle.reading.proofs.is_right.Statement.{statement}
 use Rattle.reading.proofs.is_right.Tie as tie
 
-least-requires : tie.Need-least-requires
-least-requires c κs = search needs
-
 returns : tie.Need-returns
 returns c = sym (right-short _ _ _ (subst (λ m. length (c .before .before .before .args .content .now) < m) (c .before .least .ensures) (c .if1 .taken)))
 
@@ -20,18 +17,6 @@ returns-2 c = sym (right-long _ _ _ (subst (λ m. m ≤ length (c .before .befor
 returns-3 : tie.Need-returns-3
 returns-3 c = sym (right-exact _ _ _ (subst (λ m. m ≤ length (c .before .before .before .before .before .args .content .now)) (c .before .before .before .least .ensures) (c .before .before .if1 .left)) (c .before .if2 .left) (c .if3 .taken))
 
-sub-all-blank : tie.Need-sub-all-blank
-sub-all-blank c = search needs
-
-part-all-blank-start : tie.Need-part-all-blank-start
-part-all-blank-start c = search needs
-
-part-all-blank-end : tie.Need-part-all-blank-end
-part-all-blank-end c = search needs
-
-all-blank-requires : tie.Need-all-blank-requires
-all-blank-requires c κs = search needs
-
 returns-4 : tie.Need-returns-4
 returns-4 c = c .all-blank .ensures ∙ sym (right-blanks _ _ _ (subst (λ m. m ≤ length (c .before .before .before .before .before .before .before .args .content .now)) (c .before .before .before .before .before .least .ensures) (c .before .before .before .before .if1 .left)) (c .before .before .before .if2 .left))
 
@@ -39,12 +24,12 @@ pub is-right-spec : {M : Type 1} → statement M
 is-right-spec =
     tie.close
     (tie.spec
-    least-requires
+    (λ c κs. search needs)
     returns
     returns-2
     returns-3
-    sub-all-blank
-    part-all-blank-start
-    part-all-blank-end
-    all-blank-requires
+    (λ c. search needs)
+    (λ c. search needs)
+    (λ c. search needs)
+    (λ c κs. search needs)
     returns-4)

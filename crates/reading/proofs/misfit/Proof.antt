@@ -10,19 +10,10 @@ use Rattle.reading.proofs.Trying.{line-range}
 use Rattle.reading.proofs.misfit.Statement.{statement}
 use Rattle.reading.proofs.misfit.Tie as tie
 
-behind-or-end-requires : tie.Need-behind-or-end-requires
-behind-or-end-requires c κs = search needs
-
 right-content-at-requires : tie.Need-right-content-at-requires
 right-content-at-requires c κs =
     let r = line-range (c .before .before .args .lines .now) (c .before .before .args .at) (c .before .before .pre) in
     (omega (arith, c .behind-or-end .ensures), omega (arith, r .1, c .behind-or-end .ensures))
-
-enum-told : tie.Need-enum-told
-enum-told c = search needs
-
-enum-told-2 : tie.Need-enum-told-2
-enum-told-2 c = search needs
 
 returns : tie.Need-returns
 returns c =
@@ -38,9 +29,9 @@ pub misfit-spec : {M : Type 1} → statement M
 misfit-spec =
     tie.close
     (tie.spec
-    behind-or-end-requires
+    (λ c κs. search needs)
     right-content-at-requires
-    enum-told
-    enum-told-2
+    (λ c. search needs)
+    (λ c. search needs)
     returns
     returns-2)

@@ -25,38 +25,11 @@ abbrev μ-loop : tie.MeasureT-loop
 loop-holds : tie.Need-loop-holds Inv-loop μ-loop
 loop-holds c = (omega arith, refl, letters-none (c .before .args .bytes .now) (c .before .args .width) (c .before .args .table .now) (c .before .args .at) (c .before .pre .0) (c .before .pre .1))
 
-byte-or-blank-requires : tie.Need-byte-or-blank-requires Inv-loop μ-loop
-byte-or-blank-requires c κs = search needs
-
-cast-cell : tie.Need-cast-cell Inv-loop μ-loop
-cast-cell c = search needs
-
-cell-requires : tie.Need-cell-requires Inv-loop μ-loop
-cell-requires c κs = search needs
-
-add-t10 : tie.Need-add-t10 Inv-loop μ-loop
-add-t10 c = search needs
-
-mul-t11 : tie.Need-mul-t11 Inv-loop μ-loop
-mul-t11 c = search needs
-
-slice-set-from-table : tie.Need-slice-set-from-table Inv-loop μ-loop
-slice-set-from-table c = search needs
-
-add-i : tie.Need-add-i Inv-loop μ-loop
-add-i c = search needs
-
-loop-less : tie.Need-loop-less Inv-loop μ-loop
-loop-less c = search needs
-
 loop-again : tie.Need-loop-again Inv-loop μ-loop
 loop-again c =
     let o = c .before .before .before .before .before in
     let t = c .before .before .before in
     (omega arith, simp length-set (t .loop .inv .1), letters-more (o .args .bytes .now) (o .args .width) (o .args .table .now) (o .args .at) (o .pre .0) (o .pre .1) (t .loop .i) _ _ (c .before .before .loop-test .taken) (toZ-ofZ (sfits-of {w = w64} (c .cell .ok)) ∙ c .cell .ensures ∙ ap pos (c .before .byte-or-blank .ensures)) (t .loop .inv .2))
-
-same-length : tie.Need-same-length Inv-loop μ-loop
-same-length c = search needs
 
 returns : tie.Need-returns Inv-loop μ-loop
 returns c =
@@ -70,14 +43,14 @@ put-letters-spec =
     Inv-loop
     μ-loop
     loop-holds
-    byte-or-blank-requires
-    cast-cell
-    cell-requires
-    add-t10
-    mul-t11
-    slice-set-from-table
-    add-i
-    loop-less
+    (λ c κs. search needs)
+    (λ c. search needs)
+    (λ c κs. search needs)
+    (λ c. search needs)
+    (λ c. search needs)
+    (λ c. search needs)
+    (λ c. search needs)
+    (λ c. search needs)
     loop-again
-    same-length
+    (λ c. search needs)
     returns)

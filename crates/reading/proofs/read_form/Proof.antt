@@ -9,22 +9,10 @@ use Rattle.reading.proofs.Steps.{form-none, form-bad, lines-clean, form
 use Rattle.reading.proofs.read_form.Statement.{statement}
 use Rattle.reading.proofs.read_form.Tie as tie
 
-cells-requires : tie.Need-cells-requires
-cells-requires c κs = search needs
-
 returns : tie.Need-returns
 returns c =
     let o = c .before .before .before in
     form-none (o .args .form) (o .args .group) (o .args .count) (o .args .lines .now) (o .args .table .now) (subst (λ m. length (o .args .table .now) < m) (c .before .cells .ensures) (c .if1 .taken))
-
-check-requires : tie.Need-check-requires
-check-requires c κs = search needs
-
-enum-known-r : tie.Need-enum-known-r
-enum-known-r c = search needs
-
-enum-told : tie.Need-enum-told
-enum-told c = search needs
 
 fill-lines-requires : tie.Need-fill-lines-requires
 fill-lines-requires c κs =
@@ -36,9 +24,6 @@ returns-2 c =
     let o = c .before .before .before .before .before .before .before in
     form-bad (o .args .form) (o .args .group) (o .args .count) (o .args .lines .now) (o .args .table .now) (subst (λ m. m ≤ length (o .args .table .now)) (c .before .before .before .before .before .cells .ensures) (c .before .before .before .before .if1 .left)) _ (sym (c .before .before .before .check .ensures) ∙ c .before .r .given .1)
 
-same-length : tie.Need-same-length
-same-length c = search needs
-
 returns-3 : tie.Need-returns-3
 returns-3 c =
     let b = form-done (c .before .before .before .before .before .before .before .before .before .args .form) (c .before .before .before .before .before .before .before .before .before .args .group) (c .before .before .before .before .before .before .before .before .before .args .count) (c .before .before .before .before .before .before .before .before .before .args .lines .now) (c .before .before .before .before .before .before .before .before .before .args .table .now) (subst (λ m. m ≤ length (c .before .before .before .before .before .before .before .before .before .args .table .now)) (c .before .before .before .before .before .before .before .cells .ensures) (c .before .before .before .before .before .before .if1 .left)) (sym (c .before .before .before .before .before .check .ensures) ∙ c .before .before .before .enum-told .given .1) (c .before .fill-lines .ensures) in
@@ -48,12 +33,12 @@ pub read-form-spec : {M : Type 1} → statement M
 read-form-spec =
     tie.close
     (tie.spec
-    cells-requires
+    (λ c κs. search needs)
     returns
-    check-requires
-    enum-known-r
-    enum-told
+    (λ c κs. search needs)
+    (λ c. search needs)
+    (λ c. search needs)
     fill-lines-requires
     returns-2
-    same-length
+    (λ c. search needs)
     returns-3)

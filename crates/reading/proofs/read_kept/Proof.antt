@@ -8,31 +8,16 @@ use Rattle.reading.proofs.Steps.{kept-letters, group-none, group-kept}
 use Rattle.reading.proofs.read_kept.Statement.{statement}
 use Rattle.reading.proofs.read_kept.Tie as tie
 
-form-of-requires : tie.Need-form-of-requires
-form-of-requires c κs = search needs
-
-enum-known-form : tie.Need-enum-known-form
-enum-known-form c = search needs
-
-enum-told : tie.Need-enum-told
-enum-told c = search needs
-
 returns : tie.Need-returns
 returns c =
     let o = c .before .before .before .before .before in
     group-none (o .args .counts .now) (o .args .group) (o .args .lines .now) (o .args .table .now) (sym (c .before .before .form-of .ensures) ∙ c .enum-told .given .1)
-
-count-of-requires : tie.Need-count-of-requires
-count-of-requires c κs = search needs
 
 read-form-requires : tie.Need-read-form-requires
 read-form-requires c κs =
     let o = c .before .before .before .before .before .before .before .before in
     let ns = o .args .counts .now in
     (sym (c .before .before .before .before .before .form-of .ensures) ∙ c .before .before .before .form .given .1, λ t. subst (λ n. 19 ≤ n) (sym (c .before .count-of .ensures ∙ ap (countOf ns) t)) (kept-letters ns (o .pre)))
-
-same-length : tie.Need-same-length
-same-length c = search needs
 
 returns-2 : tie.Need-returns-2
 returns-2 c =
@@ -45,11 +30,11 @@ pub read-kept-spec : {M : Type 1} → statement M
 read-kept-spec =
     tie.close
     (tie.spec
-    form-of-requires
-    enum-known-form
-    enum-told
+    (λ c κs. search needs)
+    (λ c. search needs)
+    (λ c. search needs)
     returns
-    count-of-requires
+    (λ c κs. search needs)
     read-form-requires
-    same-length
+    (λ c. search needs)
     returns-2)

@@ -6,78 +6,6 @@ use Rattle.reading.specs.Numbered.{refusalReply}
 use Rattle.reading.proofs.refusal_reply.Statement.{statement}
 use Rattle.reading.proofs.refusal_reply.Tie as tie
 
-enum-told : tie.Need-enum-told
-enum-told c = search needs
-
-plain-requires : tie.Need-plain-requires
-plain-requires c κs = search needs
-
-enum-told-2 : tie.Need-enum-told-2
-enum-told-2 c = search needs
-
-plain-requires-2 : tie.Need-plain-requires-2
-plain-requires-2 c κs = search needs
-
-enum-told-3 : tie.Need-enum-told-3
-enum-told-3 c = search needs
-
-plain-requires-3 : tie.Need-plain-requires-3
-plain-requires-3 c κs = search needs
-
-enum-told-4 : tie.Need-enum-told-4
-enum-told-4 c = search needs
-
-plain-requires-4 : tie.Need-plain-requires-4
-plain-requires-4 c κs = search needs
-
-enum-told-5 : tie.Need-enum-told-5
-enum-told-5 c = search needs
-
-plain-requires-5 : tie.Need-plain-requires-5
-plain-requires-5 c κs = search needs
-
-enum-told-6 : tie.Need-enum-told-6
-enum-told-6 c = search needs
-
-plain-requires-6 : tie.Need-plain-requires-6
-plain-requires-6 c κs = search needs
-
-enum-known-refusal : tie.Need-enum-known-refusal
-enum-known-refusal c = search needs
-
-on-group-requires : tie.Need-on-group-requires
-on-group-requires c κs = search needs
-
-enum-known-refusal-2 : tie.Need-enum-known-refusal-2
-enum-known-refusal-2 c = search needs
-
-on-group-requires-2 : tie.Need-on-group-requires-2
-on-group-requires-2 c κs = search needs
-
-enum-told-7 : tie.Need-enum-told-7
-enum-told-7 c = search needs
-
-plain-requires-7 : tie.Need-plain-requires-7
-plain-requires-7 c κs = search needs
-
-enum-known-refusal-3 : tie.Need-enum-known-refusal-3
-enum-known-refusal-3 c = search needs
-
-in-line-requires : tie.Need-in-line-requires
-in-line-requires c κs = search needs
-
-enum-known-refusal-4 : tie.Need-enum-known-refusal-4
-enum-known-refusal-4 c = search needs
-
-in-line-requires-2 : tie.Need-in-line-requires-2
-in-line-requires-2 c κs = search needs
-
-enum-known-refusal-5 : tie.Need-enum-known-refusal-5
-enum-known-refusal-5 c = search needs
-
-bad-date-requires : tie.Need-bad-date-requires
-bad-date-requires c κs = search needs
-
 returns : tie.Need-returns
 returns c = c .plain .ensures ∙ ap refusalReply (sym (c .before .enum-told .given .1))
 
@@ -118,30 +46,30 @@ pub refusal-reply-spec : {M : Type 1} → statement M
 refusal-reply-spec =
     tie.close
     (tie.spec
-    enum-told
-    plain-requires
-    enum-told-2
-    plain-requires-2
-    enum-told-3
-    plain-requires-3
-    enum-told-4
-    plain-requires-4
-    enum-told-5
-    plain-requires-5
-    enum-told-6
-    plain-requires-6
-    enum-known-refusal
-    on-group-requires
-    enum-known-refusal-2
-    on-group-requires-2
-    enum-told-7
-    plain-requires-7
-    enum-known-refusal-3
-    in-line-requires
-    enum-known-refusal-4
-    in-line-requires-2
-    enum-known-refusal-5
-    bad-date-requires
+    (λ c. search needs)
+    (λ c κs. search needs)
+    (λ c. search needs)
+    (λ c κs. search needs)
+    (λ c. search needs)
+    (λ c κs. search needs)
+    (λ c. search needs)
+    (λ c κs. search needs)
+    (λ c. search needs)
+    (λ c κs. search needs)
+    (λ c. search needs)
+    (λ c κs. search needs)
+    (λ c. search needs)
+    (λ c κs. search needs)
+    (λ c. search needs)
+    (λ c κs. search needs)
+    (λ c. search needs)
+    (λ c κs. search needs)
+    (λ c. search needs)
+    (λ c κs. search needs)
+    (λ c. search needs)
+    (λ c κs. search needs)
+    (λ c. search needs)
+    (λ c κs. search needs)
     returns
     returns-2
     returns-3

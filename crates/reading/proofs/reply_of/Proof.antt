@@ -6,18 +6,6 @@ use Rattle.reading.specs.Numbered.{readingReply}
 use Rattle.reading.proofs.reply_of.Statement.{statement}
 use Rattle.reading.proofs.reply_of.Tie as tie
 
-enum-known-answer : tie.Need-enum-known-answer
-enum-known-answer c = search needs
-
-done-requires : tie.Need-done-requires
-done-requires c κs = search needs
-
-enum-known-answer-2 : tie.Need-enum-known-answer-2
-enum-known-answer-2 c = search needs
-
-refusal-reply-requires : tie.Need-refusal-reply-requires
-refusal-reply-requires c κs = search needs
-
 returns : tie.Need-returns
 returns c = c .done .ensures ∙ ap readingReply (sym (c .before .before .answer .given .1))
 
@@ -28,9 +16,9 @@ pub reply-of-spec : {M : Type 1} → statement M
 reply-of-spec =
     tie.close
     (tie.spec
-    enum-known-answer
-    done-requires
-    enum-known-answer-2
-    refusal-reply-requires
+    (λ c. search needs)
+    (λ c κs. search needs)
+    (λ c. search needs)
+    (λ c κs. search needs)
     returns
     returns-2)

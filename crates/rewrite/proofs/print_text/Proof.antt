@@ -27,34 +27,13 @@ returns c = printing-none (c .before .before .before .args .text .now) (omega ar
 loop-holds : tie.Need-loop-holds Inv-loop μ-loop
 loop-holds c = (c .before .before .before .pre .0, c .before .before .before .pre .1, printing-first (c .before .before .before .args .text .now))
 
-rewrite-record-requires : tie.Need-rewrite-record-requires Inv-loop μ-loop
-rewrite-record-requires c κs = search needs
-
-enum-known-answer : tie.Need-enum-known-answer Inv-loop μ-loop
-enum-known-answer c = search needs
-
-same-length : tie.Need-same-length Inv-loop μ-loop
-same-length c = search needs
-
-same-length-2 : tie.Need-same-length-2 Inv-loop μ-loop
-same-length-2 c = search needs
-
 returns-2 : tie.Need-returns-2 Inv-loop μ-loop
 returns-2 c =
     let t = c .before .before .before .before .before .before .before .before in
     printing-stop (c .before .before .before .before .before .before .before .before .before .before .before .before .args .text .now) (t .loop .at) (t .loop .inv .2) (t .loop .inv .0) (t .loop .inv .1) _ (c .before .before .before .before .rewrite-record .ensures .0) (omega arith) (λ bytes next e. not-first (1 ∷ 2 ∷ 3 ∷ []) tt (subst (λ (r : Rewriting). OneOf (1 ∷ 2 ∷ 3 ∷ []) (tagOf the-type r)) e (c .match .keys2)))
 
-sub-write-all : tie.Need-sub-write-all Inv-loop μ-loop
-sub-write-all c = search needs
-
-part-write-all-start : tie.Need-part-write-all-start Inv-loop μ-loop
-part-write-all-start c = search needs
-
 part-write-all-end : tie.Need-part-write-all-end Inv-loop μ-loop
 part-write-all-end c = let l = printing-room (c .before .before .before .before .before .before .before .before .before .before .before .before .before .before .before .args .text .now) (c .before .before .before .before .before .before .before .before .before .before .before .loop .at) (c .before .before .before .before .before .before .before .before .before .before .before .loop .inv .2) (c .before .before .before .before .before .before .before .before .before .before .before .loop .inv .0) (c .before .before .before .before .before .before .before .before .before .before .before .loop .inv .1) _ (c .before .before .before .before .before .before .before .rewrite-record .ensures .0) _ _ (c .before .before .answer .given .1) in search needs
-
-write-all-requires : tie.Need-write-all-requires Inv-loop μ-loop
-write-all-requires c κs = search needs
 
 loop-less : tie.Need-loop-less Inv-loop μ-loop
 loop-less c = let l = printing-further (c .before .before .before .before .before .before .before .before .before .before .before .before .before .before .before .before .before .args .text .now) (c .before .before .before .before .before .before .before .before .before .before .before .before .before .loop .at) (c .before .before .before .before .before .before .before .before .before .before .before .before .before .loop .inv .2) (c .before .before .before .before .before .before .before .before .before .before .before .before .before .loop .inv .0) (c .before .before .before .before .before .before .before .before .before .before .before .before .before .loop .inv .1) _ (c .before .before .before .before .before .before .before .before .before .rewrite-record .ensures .0) _ _ (c .before .before .before .before .answer .given .1) in search needs
@@ -63,12 +42,6 @@ loop-again : tie.Need-loop-again Inv-loop μ-loop
 loop-again c =
     let t = c .before .before .before .before .before .before .before .before .before .before .before .before .before in
     (search needs, search needs, printing-more (c .before .before .before .before .before .before .before .before .before .before .before .before .before .before .before .before .before .args .text .now) (t .loop .at) (t .loop .inv .2) (t .loop .inv .0) (t .loop .inv .1) _ (c .before .before .before .before .before .before .before .before .before .rewrite-record .ensures .0) _ _ (c .before .before .before .before .answer .given .1))
-
-same-length-3 : tie.Need-same-length-3 Inv-loop μ-loop
-same-length-3 c = search needs
-
-same-length-4 : tie.Need-same-length-4 Inv-loop μ-loop
-same-length-4 c = search needs
 
 returns-3 : tie.Need-returns-3 Inv-loop μ-loop
 returns-3 c = printing-ended (c .before .before .before .before .before .args .text .now) (omega arith) (c .before .loop .at) (c .before .loop .inv .2) (omega arith)
@@ -81,17 +54,17 @@ print-text-spec =
     μ-loop
     returns
     loop-holds
-    rewrite-record-requires
-    enum-known-answer
-    same-length
-    same-length-2
+    (λ c κs. search needs)
+    (λ c. search needs)
+    (λ c. search needs)
+    (λ c. search needs)
     returns-2
-    sub-write-all
-    part-write-all-start
+    (λ c. search needs)
+    (λ c. search needs)
     part-write-all-end
-    write-all-requires
+    (λ c κs. search needs)
     loop-less
     loop-again
-    same-length-3
-    same-length-4
+    (λ c. search needs)
+    (λ c. search needs)
     returns-3)

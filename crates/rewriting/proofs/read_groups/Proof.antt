@@ -2,15 +2,12 @@
 -- Assumes nothing.
 use borrow.Author.Needs.{needs}
 use native.Mathlib.Omega.{arith}
-use mathlib.Core.Path.{_≡_, sym, _∙_, ap}
+use mathlib.Core.Path.{_≡_, ap}
 use Prim.Native.Nat.{_+_, _-_}
 use lib.ListN.{drop}
-use Rattle.form.specs.declared.GroupForm.the-variants.{Has}
-use Rattle.form.specs.Table.{formOf}
 use Rattle.form.specs.Count.{linesOf, cellsOf}
 use Rattle.line.specs.Lines.{reach}
 use Rattle.count.specs.Tally.{countOf}
-use Rattle.form.proofs.Table.{has-form}
 use Rattle.rewriting.proofs.Turns.{Turning, turning-first, turning-all, turning-ready, turning-refused, turning-more}
 use Rattle.rewriting.proofs.read_groups.Statement.{statement}
 use Rattle.rewriting.proofs.read_groups.Tie as tie
@@ -21,90 +18,41 @@ Inv-loop text at counts table₀ from₀ cell₀ g₀ table from cell g = Turnin
 abbrev μ-loop : tie.MeasureT-loop
 μ-loop text at counts table₀ from₀ cell₀ g₀ table from cell g = 61 - g
 
-behind-or-end-requires : tie.Need-behind-or-end-requires Inv-loop μ-loop
-behind-or-end-requires c κs = search needs
-
 loop-holds : tie.Need-loop-holds Inv-loop μ-loop
 loop-holds c =
     let o = c .before .before .before in
     turning-first (o .args .text .now) (o .args .at) (o .args .table .now) (c .behind-or-end .ensures)
 
-form-of-requires : tie.Need-form-of-requires Inv-loop μ-loop
-form-of-requires c κs = search needs
+form-in-requires : tie.Need-form-in-requires Inv-loop μ-loop
+form-in-requires c κs = (c .before .loop .inv .low, omega arith)
 
-enum-known-f : tie.Need-enum-known-f Inv-loop μ-loop
-enum-known-f c = search needs
-
-enum-told : tie.Need-enum-told Inv-loop μ-loop
-enum-told c = search needs
-
-same-length : tie.Need-same-length Inv-loop μ-loop
-same-length c = search needs
-
-returns : tie.Need-returns Inv-loop μ-loop
-returns c =
-    let t = c .before .before .before .before in
-    absurd (has-form (t .loop .g) (omega (arith, t .loop .inv .low)) (omega arith) (sym (c .before .before .form-of .ensures) ∙ c .enum-told .given .1))
-
-count-of-requires : tie.Need-count-of-requires Inv-loop μ-loop
-count-of-requires c κs = search needs
-
-lines-requires : tie.Need-lines-requires Inv-loop μ-loop
-lines-requires c κs = search needs
-
-behind-or-end-requires-2 : tie.Need-behind-or-end-requires-2 Inv-loop μ-loop
-behind-or-end-requires-2 c κs = search needs
-
-cells-requires : tie.Need-cells-requires Inv-loop μ-loop
-cells-requires c κs = search needs
-
-has : (c : tie.After-cells Inv-loop μ-loop) → formOf (c .before .before .before .before .before .before .before .before .before .loop .g) ≡ Has (c .before .before .before .before .before .f .given .0 .0)
-has c = sym (c .before .before .before .before .before .before .before .form-of .ensures) ∙ c .before .before .before .before .before .f .given .1
-
-to-is : (c : tie.After-cells Inv-loop μ-loop) → c .before .behind-or-end2 .result ≡ c .before .before .before .before .before .before .before .before .before .loop .from + reach (drop (c .before .before .before .before .before .before .before .before .before .loop .from) (c .before .before .before .before .before .before .before .before .before .before .before .before .before .args .text .now)) (linesOf (c .before .before .before .before .before .f .given .0 .0) (countOf (c .before .before .before .before .before .before .before .before .before .before .before .before .before .args .counts .now) (c .before .before .before .before .before .before .before .before .before .loop .g)))
+to-is : (c : tie.After-cells Inv-loop μ-loop) → c .before .behind-or-end2 .result ≡ c .before .before .before .before .before .before .loop .from + reach (drop (c .before .before .before .before .before .before .loop .from) (c .before .before .before .before .before .before .before .before .before .before .args .text .now)) (linesOf (c .before .before .before .before .form-in .result) (countOf (c .before .before .before .before .before .before .before .before .before .before .args .counts .now) (c .before .before .before .before .before .before .loop .g)))
 to-is c = rw (c .before .before .lines .ensures, c .before .before .before .count-of .ensures) at (c .before .behind-or-end2 .ensures)
 
-end-is : (c : tie.After-cells Inv-loop μ-loop) → c .before .before .before .before .before .before .before .before .before .loop .cell + c .cells .result ≡ c .before .before .before .before .before .before .before .before .before .loop .cell + cellsOf (c .before .before .before .before .before .f .given .0 .0) (countOf (c .before .before .before .before .before .before .before .before .before .before .before .before .before .args .counts .now) (c .before .before .before .before .before .before .before .before .before .loop .g))
-end-is c = rw (c .before .before .before .count-of .ensures) at (ap (λ n. c .before .before .before .before .before .before .before .before .before .loop .cell + n) (c .cells .ensures))
+end-is : (c : tie.After-cells Inv-loop μ-loop) → c .before .before .before .before .before .before .loop .cell + c .cells .result ≡ c .before .before .before .before .before .before .loop .cell + cellsOf (c .before .before .before .before .form-in .result) (countOf (c .before .before .before .before .before .before .before .before .before .before .args .counts .now) (c .before .before .before .before .before .before .loop .g))
+end-is c = rw (c .before .before .before .count-of .ensures) at (ap (λ n. c .before .before .before .before .before .before .loop .cell + n) (c .cells .ensures))
 
 add-end : tie.Need-add-end Inv-loop μ-loop
-add-end c = let h = turning-ready (c .before .before .before .before .before .before .before .before .before .before .before .before .before .args .text .now) (c .before .before .before .before .before .before .before .before .before .before .before .before .before .args .at) (c .before .before .before .before .before .before .before .before .before .before .before .before .before .args .table .now) _ (c .before .before .before .before .before .before .before .before .before .before .before .before .before .pre .0) (c .before .before .before .before .before .before .before .before .before .before .before .before .before .pre .1) (c .before .before .before .before .before .before .before .before .before .loop .inv) (omega arith) (c .before .before .before .before .before .f .given .0 .0) (has (c)) (to-is (c)) (end-is (c)) in search needs
+add-end c = let h = turning-ready (c .before .before .before .before .before .before .before .before .before .before .args .text .now) (c .before .before .before .before .before .before .before .before .before .before .args .at) (c .before .before .before .before .before .before .before .before .before .before .args .table .now) _ (c .before .before .before .before .before .before .before .before .before .before .pre .0) (c .before .before .before .before .before .before .before .before .before .before .pre .1) (c .before .before .before .before .before .before .loop .inv) (omega arith) (c .before .before .before .before .form-in .result) (c .before .before .before .before .form-in .ensures) (to-is (c)) (end-is (c)) in search needs
 
 read-part-requires : tie.Need-read-part-requires Inv-loop μ-loop
 read-part-requires c κs =
-    let o = c .before .before .before .before .before .before .before .before .before .before .before .before .before .before in
-    turning-ready (o .args .text .now) (o .args .at) (o .args .table .now) _ (o .pre .0) (o .pre .1) (c .before .before .before .before .before .before .before .before .before .before .loop .inv) (omega arith) (c .before .before .before .before .before .before .f .given .0 .0) (has (c .before)) (to-is (c .before)) (end-is (c .before))
+    let o = c .before .before .before .before .before .before .before .before .before .before .before in
+    let all = turning-ready (o .args .text .now) (o .args .at) (o .args .table .now) _ (o .pre .0) (o .pre .1) (c .before .before .before .before .before .before .before .loop .inv) (omega arith) (c .before .before .before .before .before .form-in .result) (c .before .before .before .before .before .form-in .ensures) (to-is (c .before)) (end-is (c .before)) in
+    (all .0, (all .1, (all .2, (all .3, all .4))))
 
-enum-known-answer : tie.Need-enum-known-answer Inv-loop μ-loop
-enum-known-answer c = search needs
-
-same-length-2 : tie.Need-same-length-2 Inv-loop μ-loop
-same-length-2 c = search needs
-
-returns-2 : tie.Need-returns-2 Inv-loop μ-loop
-returns-2 c =
-    let o = c .before .before .before .before .before .before .before .before .before .before .before .before .before .before .before .before .before .before .before in
-    turning-refused (o .args .text .now) (o .args .at) (o .args .table .now) _ (o .pre .0) (o .pre .1) (c .before .before .before .before .before .before .before .before .before .before .before .before .before .before .before .loop .inv) (omega arith) (c .before .before .before .before .before .before .before .before .before .before .before .f .given .0 .0) (has (c .before .before .before .before .before .before)) (to-is (c .before .before .before .before .before .before)) (end-is (c .before .before .before .before .before .before)) (c .before .before .before .before .read-part .ensures .0) (c .before .before .before .before .read-part .ensures .1) (c .before .answer .given .1)
-
-enum-told-2 : tie.Need-enum-told-2 Inv-loop μ-loop
-enum-told-2 c = search needs
-
-add-g : tie.Need-add-g Inv-loop μ-loop
-add-g c = search needs
-
-loop-less : tie.Need-loop-less Inv-loop μ-loop
-loop-less c = search needs
+returns : tie.Need-returns Inv-loop μ-loop
+returns c =
+    let o = c .before .before .before .before .before .before .before .before .before .before .before .before .before .before .before .before in
+    turning-refused (o .args .text .now) (o .args .at) (o .args .table .now) _ (o .pre .0) (o .pre .1) (c .before .before .before .before .before .before .before .before .before .before .before .before .loop .inv) (omega arith) (c .before .before .before .before .before .before .before .before .before .before .form-in .result) (c .before .before .before .before .before .before .before .before .before .before .form-in .ensures) (to-is (c .before .before .before .before .before .before)) (end-is (c .before .before .before .before .before .before)) (c .before .before .before .before .read-part .ensures .0) (c .before .before .before .before .read-part .ensures .1) (c .before .answer .given .1)
 
 loop-again : tie.Need-loop-again Inv-loop μ-loop
 loop-again c =
-    let o = c .before .before .before .before .before .before .before .before .before .before .before .before .before .before .before .before .before .before in
-    turning-more (o .args .text .now) (o .args .at) (o .args .table .now) _ (o .pre .0) (o .pre .1) (c .before .before .before .before .before .before .before .before .before .before .before .before .before .before .loop .inv) (omega arith) (c .before .before .before .before .before .before .before .before .before .before .f .given .0 .0) (has (c .before .before .before .before .before)) (to-is (c .before .before .before .before .before)) (end-is (c .before .before .before .before .before)) (c .before .before .before .read-part .ensures .0) (c .before .before .before .read-part .ensures .1) (c .enum-told2 .given .1)
+    let o = c .before .before .before .before .before .before .before .before .before .before .before .before .before .before .before in
+    turning-more (o .args .text .now) (o .args .at) (o .args .table .now) _ (o .pre .0) (o .pre .1) (c .before .before .before .before .before .before .before .before .before .before .before .loop .inv) (omega arith) (c .before .before .before .before .before .before .before .before .before .form-in .result) (c .before .before .before .before .before .before .before .before .before .form-in .ensures) (to-is (c .before .before .before .before .before)) (end-is (c .before .before .before .before .before)) (c .before .before .before .read-part .ensures .0) (c .before .before .before .read-part .ensures .1) (c .enum-told .given .1)
 
-same-length-3 : tie.Need-same-length-3 Inv-loop μ-loop
-same-length-3 c = search needs
-
-returns-3 : tie.Need-returns-3 Inv-loop μ-loop
-returns-3 c =
+returns-2 : tie.Need-returns-2 Inv-loop μ-loop
+returns-2 c =
     let o = c .before .before .before .before .before in
     turning-all (o .args .text .now) (o .args .at) (o .args .table .now) (c .before .loop .inv) (omega arith)
 
@@ -114,25 +62,21 @@ read-groups-spec =
     (tie.spec
     Inv-loop
     μ-loop
-    behind-or-end-requires
+    (λ c κs. search needs)
     loop-holds
-    form-of-requires
-    enum-known-f
-    enum-told
-    same-length
-    returns
-    count-of-requires
-    lines-requires
-    behind-or-end-requires-2
-    cells-requires
+    form-in-requires
+    (λ c κs. search needs)
+    (λ c κs. search needs)
+    (λ c κs. search needs)
+    (λ c κs. search needs)
     add-end
     read-part-requires
-    enum-known-answer
-    same-length-2
-    returns-2
-    enum-told-2
-    add-g
-    loop-less
+    (λ c. search needs)
+    (λ c. search needs)
+    returns
+    (λ c. search needs)
+    (λ c. search needs)
+    (λ c. search needs)
     loop-again
-    same-length-3
-    returns-3)
+    (λ c. search needs)
+    returns-2)

@@ -5,19 +5,10 @@ use lib.ListN.{length}
 use Rattle.base.specs.Part.{part}
 use Rattle.count.specs.declared.Checked.the-variants.{Right}
 use Rattle.count.proofs.Due.{first-due}
-use Rattle.record.specs.Text.{recordBytes}
-use Rattle.record.proofs.Done.{done-is}
+use Rattle.writing.specs.Text.{recordBytes}
+use Rattle.writing.proofs.Done.{done-is}
 use Rattle.rewriting.proofs.write_cells.Statement.{statement}
 use Rattle.rewriting.proofs.write_cells.Tie as tie
-
-sub-put-record : tie.Need-sub-put-record
-sub-put-record c = search needs
-
-part-put-record-start : tie.Need-part-put-record-start
-part-put-record-start c = search needs
-
-part-put-record-end : tie.Need-part-put-record-end
-part-put-record-end c = search needs
 
 put-record-requires : tie.Need-put-record-requires
 put-record-requires c κs =
@@ -25,21 +16,15 @@ put-record-requires c κs =
     let ns = o .args .counts .now in
     let cs = part 0 (o .args .cells) (o .args .table .now) in
     let d = done-is ns cs (length (o .args .out .now)) (recordBytes ns) (o .pre .1) in
-    (first-due ns (length cs) Right .1 (d .checked), d .fit, d .enough)
-
-same-length : tie.Need-same-length
-same-length c = search needs
-
-returns : tie.Need-returns
-returns c = search needs
+    (first-due ns (length cs) Right .1 (d .checked), (d .fit, d .enough))
 
 pub write-cells-spec : {M : Type 1} → statement M
 write-cells-spec =
     tie.close
     (tie.spec
-    sub-put-record
-    part-put-record-start
-    part-put-record-end
+    (λ c. search needs)
+    (λ c. search needs)
+    (λ c. search needs)
     put-record-requires
-    same-length
-    returns)
+    (λ c. search needs)
+    (λ c. search needs))

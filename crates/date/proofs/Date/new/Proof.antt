@@ -122,86 +122,23 @@ dates c =
 
 -- ---- the needs
 
-read-requires : tie.Need-read-requires
-read-requires c κs = search needs
-
-enum-known-year : tie.Need-enum-known-year
-enum-known-year c = search needs
-
-enum-told : tie.Need-enum-told
-enum-told c = search needs
-
 returns : tie.Need-returns
 returns c = sym (field-fails (all-remain _) (c .before .before .read .ensures) (c .enum-told .given .1))
-
-read-requires-2 : tie.Need-read-requires-2
-read-requires-2 c κs = search needs
-
-enum-known-day-of-year : tie.Need-enum-known-day-of-year
-enum-known-day-of-year c = search needs
-
-enum-told-2 : tie.Need-enum-told-2
-enum-told-2 c = search needs
 
 returns-2 : tie.Need-returns-2
 returns-2 c = sym (field-fails (held₁ (c .before .before .before) .remain) (c .before .before .read2 .ensures) (c .enum-told2 .given .1))
 
-read-requires-3 : tie.Need-read-requires-3
-read-requires-3 c κs = search needs
-
-enum-known-month : tie.Need-enum-known-month
-enum-known-month c = search needs
-
-enum-told-3 : tie.Need-enum-told-3
-enum-told-3 c = search needs
-
 returns-3 : tie.Need-returns-3
 returns-3 c = sym (field-fails (held₂ (c .before .before .before) .remain) (c .before .before .read3 .ensures) (c .enum-told3 .given .1))
-
-read-requires-4 : tie.Need-read-requires-4
-read-requires-4 c κs = search needs
-
-enum-known-day : tie.Need-enum-known-day
-enum-known-day c = search needs
-
-enum-told-4 : tie.Need-enum-told-4
-enum-told-4 c = search needs
 
 returns-4 : tie.Need-returns-4
 returns-4 c = sym (field-fails (held₃ (c .before .before .before) .remain) (c .before .before .read4 .ensures) (c .enum-told4 .given .1))
 
-read-requires-5 : tie.Need-read-requires-5
-read-requires-5 c κs = search needs
-
-enum-known-hour : tie.Need-enum-known-hour
-enum-known-hour c = search needs
-
-enum-told-5 : tie.Need-enum-told-5
-enum-told-5 c = search needs
-
 returns-5 : tie.Need-returns-5
 returns-5 c = sym (field-fails (held₄ (c .before .before .before) .remain) (c .before .before .read5 .ensures) (c .enum-told5 .given .1))
 
-read-requires-6 : tie.Need-read-requires-6
-read-requires-6 c κs = search needs
-
-enum-known-minute : tie.Need-enum-known-minute
-enum-known-minute c = search needs
-
-enum-told-6 : tie.Need-enum-told-6
-enum-told-6 c = search needs
-
 returns-6 : tie.Need-returns-6
 returns-6 c = sym (field-fails (held₅ (c .before .before .before) .remain) (c .before .before .read6 .ensures) (c .enum-told6 .given .1))
-
-read-requires-7 : tie.Need-read-requires-7
-read-requires-7 c κs = search needs
-
-enum-known-second : tie.Need-enum-known-second
-enum-known-second c = search needs
-
-enum-told-7 : tie.Need-enum-told-7
-enum-told-7 c = search needs
 
 returns-7 : tie.Need-returns-7
 returns-7 c = sym (field-fails (held₆ (c .before .before .before) .remain) (c .before .before .read7 .ensures) (c .enum-told7 .given .1))
@@ -225,33 +162,33 @@ pub new-spec : {M : Type 1} → statement M
 new-spec =
     tie.close
     (tie.spec
-    read-requires
-    enum-known-year
-    enum-told
+    (λ c κs. search needs)
+    (λ c. search needs)
+    (λ c. search needs)
     returns
-    read-requires-2
-    enum-known-day-of-year
-    enum-told-2
+    (λ c κs. search needs)
+    (λ c. search needs)
+    (λ c. search needs)
     returns-2
-    read-requires-3
-    enum-known-month
-    enum-told-3
+    (λ c κs. search needs)
+    (λ c. search needs)
+    (λ c. search needs)
     returns-3
-    read-requires-4
-    enum-known-day
-    enum-told-4
+    (λ c κs. search needs)
+    (λ c. search needs)
+    (λ c. search needs)
     returns-4
-    read-requires-5
-    enum-known-hour
-    enum-told-5
+    (λ c κs. search needs)
+    (λ c. search needs)
+    (λ c. search needs)
     returns-5
-    read-requires-6
-    enum-known-minute
-    enum-told-6
+    (λ c κs. search needs)
+    (λ c. search needs)
+    (λ c. search needs)
     returns-6
-    read-requires-7
-    enum-known-second
-    enum-told-7
+    (λ c κs. search needs)
+    (λ c. search needs)
+    (λ c. search needs)
     returns-7
     names-requires
     returns-8

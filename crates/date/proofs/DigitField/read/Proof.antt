@@ -19,29 +19,11 @@ returns-2 c =
     let a = c .before .before .before .args in
     rw (lt-leb (a .self .first - 1 + a .self .length) (length (a .text .now)) (omega arith), and-false _)
 
-sub-if3 : tie.Need-sub-if3
-sub-if3 c = search needs
-
 returns-3 : tie.Need-returns-3
 unfolding digitsOf
 returns-3 c =
     let a = c .before .before .before .before .args in
     rw (lt-leb (a .self .first - 1 + a .self .length) (length (a .text .now)) (omega arith), and-false _)
-
-add-to : tie.Need-add-to
-add-to c = search needs
-
-sub-number : tie.Need-sub-number
-sub-number c = search needs
-
-part-number-start : tie.Need-part-number-start
-part-number-start c = search needs
-
-part-number-end : tie.Need-part-number-end
-part-number-end c = search needs
-
-number-requires : tie.Need-number-requires
-number-requires c κs = search needs
 
 returns-4 : tie.Need-returns-4
 unfolding digitsOf
@@ -56,11 +38,11 @@ read-spec =
     (tie.spec
     returns
     returns-2
-    sub-if3
+    (λ c. search needs)
     returns-3
-    add-to
-    sub-number
-    part-number-start
-    part-number-end
-    number-requires
+    (λ c. search needs)
+    (λ c. search needs)
+    (λ c. search needs)
+    (λ c. search needs)
+    (λ c κs. search needs)
     returns-4)

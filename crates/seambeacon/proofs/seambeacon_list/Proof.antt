@@ -1,0 +1,17 @@
+-- `seambeacon::seambeacon_list` meets its contract: what `sao::list` answers, in numbers.
+-- Assumes nothing.
+use borrow.Author.Needs.{needs}
+use mathlib.Core.Path.{_∙_, ap}
+use Rattle.listing.specs.Listing.{listedReply}
+use Rattle.seambeacon.proofs.Telling.{told-as}
+use Rattle.seambeacon.proofs.seambeacon_list.Statement.{statement}
+use Rattle.seambeacon.proofs.seambeacon_list.Tie as tie
+
+returns : tie.Need-returns
+returns c =
+    let e = c .before .before .before .before .before .list .ensures in
+    (told-as (c .before .before .reply-of .ensures ∙ ap listedReply (e .answer)) (c .tell .ensures), e .bytes)
+
+pub seambeacon-list-spec : {M : Type 1} → statement M
+seambeacon-list-spec =
+    tie.close (tie.spec (λ c κs. search needs) (λ c κs. search needs) (λ c κs. search needs) (λ c. search needs) returns)

@@ -1,0 +1,18 @@
+-- `seambeacon::seambeacon_read_group` meets its contract: what `sao::read_group` answers, in numbers.
+-- Assumes nothing.
+use borrow.Author.Needs.{needs}
+use mathlib.Core.Path.{_∙_, ap}
+use Rattle.reading.specs.Numbered.{readingReply}
+use Rattle.seambeacon.proofs.Telling.{told-as}
+use Rattle.seambeacon.proofs.seambeacon_read_group.Statement.{statement}
+use Rattle.seambeacon.proofs.seambeacon_read_group.Tie as tie
+
+returns : tie.Need-returns
+returns c =
+    let e = c .before .before .before .before .read-group .ensures in
+    let told = told-as (c .before .before .reply-of .ensures ∙ ap readingReply (e .0)) (c .tell .ensures) in
+    search (needs, told, e)
+
+pub seambeacon-read-group-spec : {M : Type 1} → statement M
+seambeacon-read-group-spec =
+    tie.close (tie.spec (λ c κs. search needs) (λ c κs. search needs) (λ c κs. search needs) (λ c. search needs) returns)

@@ -1,0 +1,18 @@
+-- `seambeacon::seambeacon_write_record` meets its contract: what `sao::write_record` answers, in numbers.
+-- Assumes nothing.
+use borrow.Author.Needs.{needs}
+use mathlib.Core.Path.{_∙_, ap}
+use Rattle.writing.specs.Writing.{writingReply, outputBy}
+use Rattle.seambeacon.proofs.Telling.{told-as}
+use Rattle.seambeacon.proofs.seambeacon_write_record.Statement.{statement}
+use Rattle.seambeacon.proofs.seambeacon_write_record.Tie as tie
+
+returns : tie.Need-returns
+returns c =
+    let e = c .before .before .before .before .before .write-record .ensures in
+    let a = c .before .before .before .before .before .before .before .before .before .args in
+    (told-as (c .before .before .reply-of .ensures ∙ ap writingReply (e .0)) (c .tell .ensures), e .1 ∙ ap (λ w. outputBy (a .counts .now) (a .cells .now) w (a .out .now)) (e .0))
+
+pub seambeacon-write-record-spec : {M : Type 1} → statement M
+seambeacon-write-record-spec =
+    tie.close (tie.spec (λ c κs. search needs) (λ c κs. search needs) (λ c κs. search needs) (λ c. search needs) returns)

@@ -1,0 +1,30 @@
+-- R360: answers in numbers alone: a reply's number, and six numbers beside it, of which those that its row doesn't name are 0 (R230).
+use mathlib.Core.Path.{_≡_}
+use mathlib.Core.List.{List, [], _∷_}
+use Prim.Native.Nat.{ℕ}
+use lib.IntN.{ℤ, pos}
+use Rattle.reply.specs.declared.Reply.{Reply}
+use Rattle.group.specs.declared.Characteristic.{Characteristic}
+use Rattle.group.specs.declared.Characteristic.the-variants.{Value, NoReading, NotReported, Unread}
+
+-- the numbers beside a reply's own, in the order of `struct seambeacon_beside`
+abbrev pub besideOf : Reply → List ℕ
+besideOf r = r .next ∷ r .written ∷ r .group ∷ r .line ∷ r .element ∷ r .position ∷ []
+
+-- a reply told as its number n and the numbers beside it
+pub record Told (r : Reply) (n : ℕ) (beside : List ℕ) : Type 0 where
+  pub number : n ≡ r .number
+  pub besides : beside ≡ besideOf r
+
+-- R361: the kind of a characteristic, and its value, which is 0 for all kinds but the first
+abbrev pub answerKind : Characteristic → ℕ
+answerKind (Value z) = 0
+answerKind NoReading = 1
+answerKind NotReported = 2
+answerKind (Unread r) = 3
+
+abbrev pub answerValue : Characteristic → ℤ
+answerValue (Value z) = z
+answerValue NoReading = pos 0
+answerValue NotReported = pos 0
+answerValue (Unread r) = pos 0

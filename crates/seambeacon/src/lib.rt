@@ -1,0 +1,208 @@
+// The boundary to C: each question of `sao` under a name of its own, in numbers and slices alone. R360: a function answers with the reply's
+// number and writes the six numbers beside it, in the order of `besideOf`, into lent memory; those that the reply's row doesn't name are 0.
+// What else is lent is altered as the question of the same name says. include/seambeacon.h tells a caller in C.
+use group::Characteristic;
+use reply::Reply;
+ghost use mathlib.Core.Path.{_≡_};
+ghost use mathlib.Core.List.{[], _∷_};
+ghost use lib.ListN.{length};
+ghost use Rattle.seambeacon.specs.Numbers.{Told, answerKind, answerValue};
+ghost use Rattle.seambeacon.specs.Replies.{placeReply, readReply, linesReply, characteristicReplyAt, writeReply};
+ghost use Rattle.seambeacon.specs.Replies.{listReply, rewriteReply};
+ghost use Rattle.decimal.specs.Writing.{putBytes};
+ghost use Rattle.place.specs.Placing.{countsAt};
+ghost use Rattle.reading.specs.Read.{tableBy};
+ghost use Rattle.group.specs.Text.{readAt};
+ghost use Rattle.group.specs.Held.{partStart, partAt};
+ghost use Rattle.group.specs.Characteristics.{characteristicAt};
+ghost use Rattle.writing.specs.Writing.{writingOf, outputBy};
+ghost use Rattle.rewriting.specs.Record.{rewritingOf, tableBy as tableAfter, bufferBy};
+ghost use Rattle.rewriting.specs.Numbered.{rewritingGroup};
+ghost use Rattle.listing.specs.Listing.{listing};
+
+// ---- Numbers.
+
+// R360: a reply as its number, and the numbers beside it.
+fn tell(r: Reply, beside: &mut [usize; 6]) -> u32
+    ensures { λ n. ⌜ Told r n (now (beside .exit)) ⌝ }
+{
+    *beside = [r.next, r.written, r.group, r.line, r.element, r.position];
+    r.number
+}
+
+// R361: the kind of a characteristic's answer.
+fn kind_of(c: Characteristic) -> u32
+    ensures { λ r. ⌜ r ≡ answerKind c ⌝ }
+{
+    match c {
+        Characteristic::Value(_) => 0,
+        Characteristic::NoReading => 1,
+        Characteristic::NotReported => 2,
+        Characteristic::Unread(_) => 3,
+    }
+}
+
+// R361: its value, or 0.
+fn value_of(c: Characteristic) -> i64
+    ensures { λ r. ⌜ r ≡ answerValue c ⌝ }
+{
+    match c {
+        Characteristic::Value(value) => value,
+        Characteristic::NoReading => 0,
+        Characteristic::NotReported => 0,
+        Characteristic::Unread(_) => 0,
+    }
+}
+
+// ---- The questions.
+
+// R250 to R253. Asked: which record stands at a place of a text.
+// Answered: the placing reply, with the next place under 0 and 7; the record's 80 counts.
+// A refusal but 7 leaves 80 zero counts.
+#[no_mangle]
+pub extern "C" fn seambeacon_place(
+    text: &[u8],
+    at: usize,
+    counts: &mut [u16; 80],
+    beside: &mut [usize; 6],
+) -> u32
+    ensures reply { λ n. ⌜ Told (placeReply (now (text .entry)) at) n (now (beside .exit)) ⌝ }
+    ensures counts { λ _. ⌜ now (counts .exit) ≡ countsAt (now (text .entry)) at ⌝ }
+{
+    let record = sao::place(text, at);
+    let answer = record.answer;
+    let found = record.counts;
+    *counts = found;
+    tell(place::reply_of(answer), beside)
+}
+
+// R260 to R268. Asked: the cells of a group, 1 to 60, of the record at a place.
+// Answered: 0 with the number of cells, which stand in the table from its first cell on; what stands behind them is kept.
+// A refusal leaves the whole table as it was.
+#[no_mangle]
+pub extern "C" fn seambeacon_read_group(
+    text: &[u8],
+    at: usize,
+    group: usize,
+    table: &mut [i64],
+    beside: &mut [usize; 6],
+) -> u32
+    ensures reply { λ n. ⌜ Told (readReply (now (text .entry)) at group (length (now (table .entry)))) n
+        (now (beside .exit)) ⌝ }
+    ensures table { λ _. ⌜ now (table .exit) ≡
+        tableBy (readAt (now (text .entry)) at group (length (now (table .entry)))) (now (table .entry)) ⌝ }
+{
+    let answer = sao::read_group(text, at, group, table);
+    tell(reading::reply_of(answer), beside)
+}
+
+// R280 to R283, R362. Asked: the lines of a group of the record at a place, with their line ends.
+// Answered: 0, and which part of the text holds them: the place where it starts, and its length. With count 0 it is empty, and lies where the
+// lines would be.
+// A refusal, 12 or what placing refuses with, gives the empty part at place 0.
+#[no_mangle]
+pub extern "C" fn seambeacon_group_lines(
+    text: &[u8],
+    at: usize,
+    group: usize,
+    part: &mut [usize; 2],
+    beside: &mut [usize; 6],
+) -> u32
+    ensures reply { λ n. ⌜ Told (linesReply (now (text .entry)) at group) n (now (beside .exit)) ⌝ }
+    ensures part { λ _. ⌜ now (part .exit) ≡
+        partStart (now (text .entry)) at group ∷ length (partAt (now (text .entry)) at group) ∷ [] ⌝ }
+{
+    let lines = sao::group_lines_at(text, at, group);
+    let found = lines.found;
+    let length = lines.to - lines.from;
+    *part = [lines.from, length];
+    tell(group::found_reply(found), beside)
+}
+
+// R290 to R294, R361. Asked: a characteristic, 1 to 49, of the record at a place.
+// Answered: its kind, and its value in thousandths or 0.
+// A refusal is a kind too, and has its reply: 12, or that of reading group 4.
+#[no_mangle]
+pub extern "C" fn seambeacon_characteristic(
+    text: &[u8],
+    at: usize,
+    number: usize,
+    kind: &mut u32,
+    value: &mut i64,
+    beside: &mut [usize; 6],
+) -> u32
+    ensures reply { λ n. ⌜ Told (characteristicReplyAt (now (text .entry)) at number) n (now (beside .exit)) ⌝ }
+    ensures kind { λ _. ⌜ now (kind .exit) ≡ answerKind (characteristicAt (now (text .entry)) at number) ⌝ }
+    ensures value { λ _. ⌜ now (value .exit) ≡ answerValue (characteristicAt (now (text .entry)) at number) ⌝ }
+{
+    let known = sao::characteristic(text, at, number);
+    *kind = kind_of(known);
+    *value = value_of(known);
+    tell(group::characteristic_reply(known), beside)
+}
+
+// R300 to R307. Asked: to write a record of these counts and of the cells of all groups, group 1's first.
+// Answered: 0 with the number of bytes, which stand in the output from its first byte on; what stands behind them is kept.
+// A refusal leaves the whole output as it was.
+#[no_mangle]
+pub extern "C" fn seambeacon_write_record(
+    counts: &[u16],
+    cells: &[i64],
+    out: &mut [u8],
+    beside: &mut [usize; 6],
+) -> u32
+    ensures reply { λ n. ⌜ Told (writeReply (now (counts .entry)) (now (cells .entry)) (length (now (out .entry)))) n
+        (now (beside .exit)) ⌝ }
+    ensures output { λ _. ⌜ now (out .exit) ≡
+        outputBy (now (counts .entry)) (now (cells .entry))
+        (writingOf (now (counts .entry)) (now (cells .entry)) (length (now (out .entry)))) (now (out .entry)) ⌝ }
+{
+    let answer = sao::write_record(counts, cells, out);
+    tell(writing::reply_of(answer), beside)
+}
+
+// R310, R311. Asked: the listing of a text, a line for each record of its walk and the line `end`.
+// Answered: 0 with the number of bytes, which stand in the output from its first byte on; what stands behind them is kept.
+// A refusal (11) leaves the whole output as it was.
+#[no_mangle]
+pub extern "C" fn seambeacon_list(text: &[u8], out: &mut [u8], beside: &mut [usize; 6]) -> u32
+    ensures reply { λ n. ⌜ Told (listReply (now (text .entry)) (now (out .entry))) n (now (beside .exit)) ⌝ }
+    ensures output { λ _. ⌜ now (out .exit) ≡ putBytes 0 (listing (now (text .entry))) (now (out .entry)) ⌝ }
+{
+    let answer = sao::list(text, out);
+    tell(listing::reply_of(answer), beside)
+}
+
+// R320 to R326, R363. Asked: to rewrite the record at a place as canonical text.
+// Answered: 0 with the number of bytes and the next place; the bytes stand in the output from its first byte on, the record's cells in the
+// table from its first cell on, and what stands behind them is kept. The group that was not read, or 0, is given apart: a reply's own group
+// is the blamed one.
+// A refusal leaves the whole output as it was; the table has the cells of the groups that were read before it.
+#[no_mangle]
+pub extern "C" fn seambeacon_rewrite_record(
+    text: &[u8],
+    at: usize,
+    table: &mut [i64],
+    out: &mut [u8],
+    unread: &mut [usize; 1],
+    beside: &mut [usize; 6],
+) -> u32
+    ensures reply { λ n. ⌜ Told
+        (rewriteReply (now (text .entry)) at (length (now (table .entry))) (length (now (out .entry)))) n
+        (now (beside .exit)) ⌝ }
+    ensures unread { λ _. ⌜ now (unread .exit) ≡
+        rewritingGroup (rewritingOf (now (text .entry)) at (length (now (table .entry))) (length (now (out .entry)))) ∷
+        [] ⌝ }
+    ensures table { λ _. ⌜ now (table .exit) ≡
+        tableAfter (now (text .entry)) at
+        (rewritingOf (now (text .entry)) at (length (now (table .entry))) (length (now (out .entry))))
+        (now (table .entry)) ⌝ }
+    ensures output { λ _. ⌜ now (out .exit) ≡
+        bufferBy (now (text .entry)) at
+        (rewritingOf (now (text .entry)) at (length (now (table .entry))) (length (now (out .entry))))
+        (now (out .entry)) ⌝ }
+{
+    let answer = sao::rewrite_record(text, at, table, out);
+    *unread = [rewriting::group_of(answer)];
+    tell(rewriting::reply_of(answer), beside)
+}

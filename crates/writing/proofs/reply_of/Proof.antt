@@ -1,0 +1,66 @@
+-- `writing::reply_of` meets its contract: the variant chooses the reply.
+-- Assumes nothing.
+use borrow.Author.Needs.{needs}
+use mathlib.Core.Path.{sym, _∙_, ap}
+use Rattle.writing.specs.Writing.{writingReply}
+use Rattle.writing.proofs.reply_of.Statement.{statement}
+use Rattle.writing.proofs.reply_of.Tie as tie
+
+returns : tie.Need-returns
+returns c = c .done .ensures ∙ ap writingReply (sym (c .before .before .answer .given .1))
+
+returns-2 : tie.Need-returns-2
+returns-2 c = c .plain .ensures ∙ ap writingReply (sym (c .before .enum-told .given .1))
+
+returns-3 : tie.Need-returns-3
+returns-3 c = c .plain2 .ensures ∙ ap writingReply (sym (c .before .enum-told2 .given .1))
+
+returns-4 : tie.Need-returns-4
+returns-4 c = c .on-group .ensures ∙ ap writingReply (sym (c .before .before .answer2 .given .1))
+
+returns-5 : tie.Need-returns-5
+returns-5 c = c .on-group2 .ensures ∙ ap writingReply (sym (c .before .before .answer3 .given .1))
+
+returns-6 : tie.Need-returns-6
+returns-6 c = c .plain3 .ensures ∙ ap writingReply (sym (c .before .enum-told3 .given .1))
+
+returns-7 : tie.Need-returns-7
+returns-7 c = c .no-field .ensures ∙ ap writingReply (sym (c .before .before .answer4 .given .1))
+
+returns-8 : tie.Need-returns-8
+returns-8 c = c .bad-date .ensures ∙ ap writingReply (sym (c .before .before .answer5 .given .1))
+
+returns-9 : tie.Need-returns-9
+returns-9 c = c .plain4 .ensures ∙ ap writingReply (sym (c .before .enum-told4 .given .1))
+
+pub reply-of-spec : {M : Type 1} → statement M
+reply-of-spec =
+    tie.close
+    (tie.spec
+    (λ c. search needs)
+    (λ c κs. search needs)
+    (λ c. search needs)
+    (λ c κs. search needs)
+    (λ c. search needs)
+    (λ c κs. search needs)
+    (λ c. search needs)
+    (λ c κs. search needs)
+    (λ c. search needs)
+    (λ c κs. search needs)
+    (λ c. search needs)
+    (λ c κs. search needs)
+    (λ c. search needs)
+    (λ c κs. search needs)
+    (λ c. search needs)
+    (λ c κs. search needs)
+    (λ c. search needs)
+    (λ c κs. search needs)
+    returns
+    returns-2
+    returns-3
+    returns-4
+    returns-5
+    returns-6
+    returns-7
+    returns-8
+    returns-9)

@@ -1,0 +1,46 @@
+-- D2.4: reading what was written gives its counts and cells; D2.5: writing what was read from canonical text gives its bytes.
+use mathlib.Core.Path.{_≡_}
+use mathlib.Core.List.{List, flatMap}
+use Prim.Native.Nat.{ℕ, suc, _+_, _≤_}
+use lib.IntN.{ℤ}
+use Rattle.base.specs.Every.{upFrom}
+use Rattle.base.specs.Part.{part}
+use Rattle.base.specs.Pieces.{done}
+use Rattle.count.specs.Tally.{cellsIn, cellsBefore}
+use Rattle.place.specs.declared.Placing.the-variants.{Placed}
+use Rattle.place.specs.Placing.{placingOf, countsAt}
+use Rattle.group.specs.Text.{readAt}
+use Rattle.writing.specs.declared.Writing.the-variants.{Done}
+use Rattle.writing.specs.Canonical.{CanonicalRecord}
+use Rattle.writing.specs.Text.{recordText, recordBytes}
+use Rattle.writing.specs.Writing.{writingOf}
+
+-- the cells of group g: those behind the cells of the groups before it
+abbrev pub groupCells : List ℕ → List ℤ → ℕ → List ℤ
+groupCells ns cs g = part (cellsBefore ns g) (cellsBefore ns (suc g)) cs
+
+-- D2.4: n bytes that stand at a place of a text read back as these counts and cells
+pub record ReadsBack (ns : List ℕ) (cs : List ℤ) (n : ℕ) (s : List ℕ) (at : ℕ) : Type 0 where
+  -- placing gives 0, with the place behind the n bytes and the same counts
+  pub placed : placingOf s at ≡ Placed (at + n)
+  pub counts : countsAt s at ≡ ns
+  -- every group reads with 0 as its own cells, into any table with room
+  pub groups : (g room : ℕ) → 1 ≤ g → g ≤ 60 → cellsIn ns g ≤ room → readAt s at g room ≡ done (groupCells ns cs g)
+
+-- a record is placed with 0 at a place of a text, with its next place, and every group reads with 0 as its cells
+pub record ReadWhole (s : List ℕ) (at next : ℕ) (cells : ℕ → List ℤ) : Type 0 where
+  pub placed : placingOf s at ≡ Placed next
+  pub room : ℕ → ℕ
+  pub groups : (g : ℕ) → 1 ≤ g → g ≤ 60 → readAt s at g (room g) ≡ done (cells g)
+
+-- R47: the cells of all groups, group 1's first
+abbrev pub joined : (ℕ → List ℤ) → List ℤ
+joined cells = flatMap cells (upFrom 1 60)
+
+-- what writing the counts and cells that were read comes to
+pub record WritesAgain (s : List ℕ) (at next : ℕ) (cells : ℕ → List ℤ) : Type 0 where
+  -- R112: 0, where there is room
+  pub written : (room : ℕ) → recordBytes (countsAt s at) ≤ room → writingOf (countsAt s at) (joined cells) room ≡ Done (recordBytes (countsAt s at))
+  -- D2.5: and where the record's bytes are canonical, of whatever cells, these are the cells that were read, and its bytes are what is written
+  pub cells-same : (ds : List ℤ) → CanonicalRecord (countsAt s at) (part at next s) ds → ds ≡ joined cells
+  pub bytes-same : (ds : List ℤ) → CanonicalRecord (countsAt s at) (part at next s) ds → recordText (countsAt s at) (joined cells) ≡ part at next s
