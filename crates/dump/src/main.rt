@@ -169,7 +169,7 @@ fn print_characteristics(text: &[u8], at: usize, page: &mut [u8]) {
     }
 }
 
-// The records from a place on. A record has 244 bytes at least (R110), so 65,536 bytes hold fewer than 300.
+// The records from a place on. A record has 244 bytes at least (R21, R28), so 65,536 bytes hold fewer than 300.
 fn print_records(text: &[u8], page: &mut [u8]) {
     let mut at: usize = 0;
     let mut k: usize = 0;

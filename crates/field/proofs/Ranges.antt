@@ -1,4 +1,4 @@
--- R71, R73, R79, R80: the ranges of the ten forms are those of the ten kinds; and a write's contract allows one outcome.
+-- R71, R73, R79, R80: the ranges of the ten forms are those of the ten kinds.
 -- Assumes nothing.
 use mathlib.Core.Path.{_≡_, refl}
 use mathlib.Core.Bool.{Bool, true, false, _&&_}

@@ -1,10 +1,10 @@
 -- What an answer of placing says of the walk: 0 or 7, and a record is located; any other reply, and none is.
 -- Assumes nothing.
-use mathlib.Core.Path.{_≡_, refl, sym, ap, subst}
-use mathlib.Core.Bool.{true, false}
+use mathlib.Core.Path.{_≡_, refl, sym, _∙_, ap, subst}
+use mathlib.Core.Bool.{Bool, true, false}
 use mathlib.Core.List.{List}
 use mathlib.Core.Logic.{_↔_, inl, inr, ⊎-elim}
-use Prim.Native.Nat.{ℕ}
+use Prim.Native.Nat.{ℕ, suc}
 use native.Mathlib.Omega.{arith}
 use borrow.Author.Tests.{eqb-true}
 use lib.Dec.{T, eqb}
@@ -16,7 +16,8 @@ use Rattle.place.specs.declared.Placing.{Placing}
 use Rattle.place.specs.declared.Placing.the-variants.{Placed, End, Beyond, TooFewLines, Misformed, OtherRelease, FilledVacant, BrokenRule}
 use Rattle.place.specs.Placing.{Located, located, refused, locate, ruledAt, placingBy, countsBy, placingOf, countsAt}
 use Rattle.place.specs.Numbered.{placingReply, isPlaced}
-use Rattle.place.specs.Walk.{PlacedAt, IsRecord}
+use Rattle.place.specs.Walk.{PlacedAt, spot, IsRecord, Stops, StopsAt, Walks}
+use Rattle.place.proofs.Placed.{no-record}
 use Rattle.place.proofs.Walked.{Stopping, refused-stopping}
 
 abbrev number : Placing → ℕ
@@ -82,3 +83,41 @@ module _ (s : List ℕ) (at : ℕ) where
     λ p. record { next = next (placingOf s at); ns = countsAt s at; is = placed-goes (placed-test .0 p) },
     λ r. placed-test .1 (record-placed r),
   )
+
+  placed-not : (PlacedAt s at → ⊥) → isPlaced (number (placingOf s at)) ≡ false
+  placed-not n = by (isPlaced (number (placingOf s at))) refl
+    where
+      by : (t : Bool) → isPlaced (number (placingOf s at)) ≡ t → t ≡ false
+      by true e = absurd (n (placed-test .1 e))
+      by false e = refl
+
+-- ---- the walk
+
+module _ (s : List ℕ) where
+  goes-on : (k : ℕ) → PlacedAt s (spot s k) → spot s (suc k) ≡ next (placingOf s (spot s k))
+  unfolding spot
+  goes-on k p = rw (placed-goes s (spot s k) (placed-test s (spot s k) .0 p))
+
+  stays : (k : ℕ) → (PlacedAt s (spot s k) → ⊥) → spot s (suc k) ≡ spot s k
+  unfolding spot
+  stays k n = rw (placed-halts s (spot s k) (placed-not s (spot s k) n))
+
+  stops-at : (many : ℕ) (p : Placing) → Stops s many p → StopsAt s many p
+  unfolding placingOf
+  stops-at many p h =
+      record {
+        each = λ k l. placed-record s (spot s k) .1 (h .each k l);
+        none = λ y. no-record (sym (h .last) ∙ placed-record s (spot s many) .0 y .is);
+        answer = ap placingBy (h .last);
+      }
+
+  at-stops : (many : ℕ) (p : Placing) → StopsAt s many p → Stops s many p
+  at-stops many p h =
+      record {
+        each = λ k l. placed-record s (spot s k) .0 (h .each k l);
+        last = placed-halts s (spot s many) (placed-not s (spot s many) (h .none)) ∙ ap refused (h .answer);
+      }
+
+  pub walks : Walks s
+  unfolding spot
+  walks = record { begins = refl; goes-on = goes-on; stays = stays; stops = λ many p. (stops-at many p, at-stops many p) }

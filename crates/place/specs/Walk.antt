@@ -1,7 +1,7 @@
 -- R253, R254: placed records, and the walk from one to the next.
 use mathlib.Core.Path.{_≡_}
 use mathlib.Core.List.{List}
-use mathlib.Core.Logic.{_⊎_}
+use mathlib.Core.Logic.{_⊎_, _↔_}
 use Prim.Native.Nat.{ℕ, zero, suc, _<_}
 use Rattle.place.specs.declared.Placing.{Placing}
 use Rattle.place.specs.Numbered.{placingReply}
@@ -31,3 +31,18 @@ pub record IsRecord (s : List ℕ) (at : ℕ) : Type 0 where
 pub record Stops (s : List ℕ) (many : ℕ) (p : Placing) : Type 0 where
   pub each : (k : ℕ) → k < many → IsRecord s (spot s k)
   pub last : locate s (spot s many) ≡ refused p
+
+-- ---- R254 in what placing gives (`walks` in proofs/Stopped.antt)
+
+-- so many records are placed, and behind them none is: there placing gives this answer
+pub record StopsAt (s : List ℕ) (many : ℕ) (p : Placing) : Type 0 where
+  pub each : (k : ℕ) → k < many → PlacedAt s (spot s k)
+  pub none : PlacedAt s (spot s many) → ⊥
+  pub answer : placingOf s (spot s many) ≡ p
+
+-- the walk begins at the text's start; where a record is placed it goes on from the next place, and where none is it stays
+pub record Walks (s : List ℕ) : Type 0 where
+  pub begins : spot s 0 ≡ 0
+  pub goes-on : (k : ℕ) → PlacedAt s (spot s k) → spot s (suc k) ≡ placingReply (placingOf s (spot s k)) .next
+  pub stays : (k : ℕ) → (PlacedAt s (spot s k) → ⊥) → spot s (suc k) ≡ spot s k
+  pub stops : (many : ℕ) (p : Placing) → Stops s many p ↔ StopsAt s many p

@@ -7,6 +7,7 @@ use lib.IntN.{ℤ}
 use lib.ListN.{length}
 use Rattle.place.specs.Placing.{countsAt}
 use Rattle.place.proofs.Due as PlacingDue
+use Rattle.place.proofs.Stopped.{walks}
 use Rattle.reading.proofs.Promises.{done-read-holds}
 use Rattle.group.proofs.Due as GroupDue
 use Rattle.group.proofs.Holding.{span-end}
@@ -33,6 +34,7 @@ as-due =
     record {
       placing = λ s at. PlacingDue.first-due s at;
       counts = λ s at. PlacingDue.counts-first-due s at;
+      walk = walks;
       reading = λ s at g room. GroupDue.first-due s at g room;
       lines = λ s at g. GroupDue.found-first-due s at g;
       part = λ s at g. GroupDue.part-first-due s at g;

@@ -8,7 +8,7 @@ answers-told =
     record {
       placing = record {
         placed = λ n. refl;
-        end = refl;
+        text-end = refl;
         beyond = refl;
         too-few-lines = refl;
         misformed = refl;
@@ -17,7 +17,7 @@ answers-told =
         broken-rule = λ g n. refl;
       };
       refusals = record {
-        end = refl;
+        text-end = refl;
         beyond = refl;
         too-few-lines = refl;
         misformed = refl;

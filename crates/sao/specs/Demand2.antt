@@ -17,6 +17,7 @@ use Rattle.decimal.specs.declared.Put.the-variants.{Next}
 use Rattle.decimal.specs.Writing.{putAnswer, putBytes}
 use Rattle.place.specs.declared.Placing.{Placing}
 use Rattle.place.specs.Placing.{placingOf, countsAt}
+use Rattle.place.specs.Walk.{Walks}
 use Rattle.place.specs.Due as PlacingIs
 use Rattle.reading.specs.Read.{Cells, tableBy}
 use Rattle.group.specs.declared.Found.{Found}
@@ -50,6 +51,8 @@ use Rattle.rewriting.specs.Record.{rewritingOf, bufferBy, tableBy as tableAfter
 pub record GivenAsDue : Type 0 where
   pub placing : (s : List ℕ) (at : ℕ) (p : Placing) → placingOf s at ≡ p ↔ PlacingIs.Due s at p
   pub counts : (s : List ℕ) (at : ℕ) (ns : List ℕ) → countsAt s at ≡ ns ↔ PlacingIs.CountsDue s at ns
+  -- the records one after another, by what placing gives
+  pub walk : (s : List ℕ) → Walks s
   pub reading : (s : List ℕ) (at g room : ℕ) (c : Cells) → readAt s at g room ≡ c ↔ GroupIs.Due s at g room c
   pub lines : (s : List ℕ) (at g : ℕ) (r : Found) → foundAt s at g ≡ r ↔ GroupIs.FoundDue s at g r
   -- R280: the part is exactly those lines, and stands there

@@ -26,7 +26,7 @@ use Rattle.rewriting.specs.Numbered.{rewritingReply, rewritingGroup}
 
 pub record PlacingTold : Type 0 where
   pub placed : (n : ℕ) → placingReply (Placed n) ≡ numbers 0 n 0 0 0 0 0
-  pub end : placingReply End ≡ numbers 1 0 0 0 0 0 0
+  pub text-end : placingReply End ≡ numbers 1 0 0 0 0 0 0
   pub beyond : placingReply Beyond ≡ numbers 2 0 0 0 0 0 0
   pub too-few-lines : placingReply TooFewLines ≡ numbers 3 0 0 0 0 0 0
   pub misformed : placingReply Misformed ≡ numbers 4 0 0 0 0 0 0
@@ -36,7 +36,7 @@ pub record PlacingTold : Type 0 where
 
 -- a refusal of a question about a group
 pub record RefusalTold : Type 0 where
-  pub end : refusalReply R.End ≡ numbers 1 0 0 0 0 0 0
+  pub text-end : refusalReply R.End ≡ numbers 1 0 0 0 0 0 0
   pub beyond : refusalReply R.Beyond ≡ numbers 2 0 0 0 0 0 0
   pub too-few-lines : refusalReply R.TooFewLines ≡ numbers 3 0 0 0 0 0 0
   pub misformed : refusalReply R.Misformed ≡ numbers 4 0 0 0 0 0 0

@@ -1,3 +1,3 @@
--- The laws of the boundary's definitions, and one outcome of each exported function.
+-- The laws of what C is told, and one outcome of each exported function.
 pub mod Telling
 pub mod OneOutcome

@@ -1,4 +1,4 @@
--- A reply told as numbers: the same reply is told the same way, and the numbers tell the reply, so nothing is lost at the boundary.
+-- A reply told as numbers: the same reply is told the same way, and the numbers tell the reply, so nothing is lost on the way to C.
 -- Assumes nothing.
 use mathlib.Core.Path.{_≡_, refl, sym, _∙_, ap}
 use mathlib.Core.List.{List, map}

@@ -1,4 +1,4 @@
-// The boundary to C: each question of `sao` under a name of its own, in numbers and slices alone. R360: a function answers with the reply's
+// For C: each question of `sao` under a name of its own, in numbers and slices alone. R360: a function answers with the reply's
 // number and writes the six numbers beside it, in the order of `besideOf`, into lent memory; those that the reply's row doesn't name are 0.
 // What else is lent is altered as the question of the same name says. include/seambeacon.h tells a caller in C.
 use group::Characteristic;
