@@ -1,5 +1,5 @@
 -- R200 to R214: each refusal's number, with the numbers beside it; which refusals several questions share.
-use mathlib.Core.List.{List, [], _∷_, map}
+use mathlib.Core.List.{List, [], _∷_, _++_, map}
 use Prim.Native.Nat.{ℕ}
 use Rattle.reply.specs.declared.Reply.{Reply}
 use Rattle.reply.specs.declared.Refusal.{Refusal}
@@ -62,9 +62,13 @@ answerReply (A.Refused r) = refusalReply r
 abbrev pub rowOf : Refusal → Row
 rowOf r = row (numberOf r) (kindsOf (besideOf r))
 
--- R235: what placing refuses with, as a question that goes no further gives it: 7 without its next place
+-- R251: what placing refuses with, and places nothing
+abbrev pub unplaced : List Refusal
+unplaced = End ∷ Beyond ∷ TooFewLines ∷ Misformed ∷ OtherRelease ∷ FilledVacant 0 ∷ []
+
+-- R235: a question that goes no further has these and 7, without its next place
 abbrev pub placingRefusals : List Refusal
-placingRefusals = End ∷ Beyond ∷ TooFewLines ∷ Misformed ∷ OtherRelease ∷ FilledVacant 0 ∷ BrokenRule 0 ∷ []
+placingRefusals = unplaced ++ (BrokenRule 0 ∷ [])
 
 -- R260, R281: 12, and then what placing refuses with
 abbrev pub askedRefusals : List Refusal
