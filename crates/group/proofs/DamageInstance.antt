@@ -15,7 +15,6 @@ use Rattle.form.specs.declared.Form.the-variants.{F8}
 use Rattle.form.specs.Table
 use Rattle.line.specs.Lines.{isFeed}
 use Rattle.count.specs.Rules
-use Rattle.place.specs.declared.Placing.the-variants.{End}
 use Rattle.place.specs.Parts.{start, groupPart}
 use Rattle.place.specs.Placing.{located, locate, countsAt}
 use Rattle.place.specs.RecordS
@@ -23,11 +22,11 @@ use Rattle.place.specs.RecordS.{lineOf, countsS, twiceS}
 use Rattle.place.specs.Walk.{spot, Stops}
 use Rattle.place.proofs.TwiceS.{twice, spot-one, two-records}
 use Rattle.place.proofs.Walked.{spot-start}
-use Rattle.reading.specs.declared.Refusal.the-variants.{BadField}
+use Rattle.reply.specs.declared.Refusal.the-variants.{End, BadField}
 use Rattle.reading.specs.Read
 use Rattle.reading.specs.Read.{Cells, readForm, readGroup, readingOf, tableBy}
 use Rattle.reading.proofs.FourS.{four-reads}
-use Rattle.group.specs.declared.Characteristic.the-variants.{Value, Unread}
+use Rattle.group.specs.declared.Characteristic.the-variants.{Value, Refused}
 use Rattle.group.specs.Characteristics.{isNoReading, reported, characteristicAt}
 use Rattle.group.specs.Damage.{linesStart, SameReading, Damaged, Confined}
 use Rattle.group.specs.Text.{readAt}
@@ -122,7 +121,7 @@ module _ (table : List ℤ) (room : 1 ≤ length table) where
       (ap (λ p. readAt twiceS p 4 (length table)) spot-one ∙ read-second (length table) room)
 
 -- so the first record's first characteristic is refused, and the second's is what it was, 7.250
-pub first-characteristic : characteristicAt commaS 0 1 ≡ Unread (BadField 1 1)
+pub first-characteristic : characteristicAt commaS 0 1 ≡ Refused (BadField 1 1)
 first-characteristic =
     let table = replicate 49 (pos 0) in
     sym (four-refused commaS 0 1 (omega arith) (omega arith) (sym (first-refused table (omega arith) .reply)))

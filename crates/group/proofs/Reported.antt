@@ -11,10 +11,10 @@ use lib.IntN.{ℤ, pos, negsuc}
 use lib.ListN.{length, drop, getD, List·getD-append}
 use Rattle.base.specs.Pieces.{done, bad}
 use Rattle.base.specs.Sign.{negative, sizeOf}
-use Rattle.reading.specs.declared.Refusal.{Refusal}
-use Rattle.reading.specs.declared.Refusal.the-variants.{NoGroup}
-use Rattle.reading.specs.declared.Reading.the-variants.{Done, Refused}
-use Rattle.group.specs.declared.Characteristic.the-variants.{Value, NoReading, NotReported, Unread}
+use Rattle.reply.specs.declared.Refusal.{Refusal}
+use Rattle.reply.specs.declared.Refusal.the-variants.{NoSuchNumber}
+use Rattle.reply.specs.declared.Answer.the-variants as A
+use Rattle.group.specs.declared.Characteristic.the-variants.{Value, NoReading, NotReported, Refused}
 use Rattle.reading.specs.Read.{Cells, readingOf, tableBy}
 use Rattle.group.specs.Text.{readAt}
 use Rattle.group.specs.Characteristics.{noReading, isNoReading, told, reported, characteristicAt}
@@ -54,12 +54,12 @@ is-reading z n = by (isNoReading z) refl
 -- ---- by the number
 
 module _ (s : List ℕ) (at k : ℕ) where
-  pub number-low : k < 1 → Unread NoGroup ≡ characteristicAt s at k
+  pub number-low : k < 1 → Refused NoSuchNumber ≡ characteristicAt s at k
   unfolding characteristicAt
   number-low h = rw (lt-leb 1 k h)
 
   module _ (low : 1 ≤ k) where
-    pub number-high : 49 < k → Unread NoGroup ≡ characteristicAt s at k
+    pub number-high : 49 < k → Refused NoSuchNumber ≡ characteristicAt s at k
     unfolding characteristicAt
     number-high h = rw (le-leb 1 k low, lt-leb k 49 h)
 
@@ -68,18 +68,18 @@ module _ (s : List ℕ) (at k : ℕ) where
       unfolding characteristicAt
       number-inside e = rw (le-leb 1 k low, le-leb k 49 high, e)
 
-      pub four-refused : {r : Refusal} → Refused r ≡ readingOf (readAt s at 4 49) → Unread r ≡ characteristicAt s at k
+      pub four-refused : {r : Refusal} → A.Refused r ≡ readingOf (readAt s at 4 49) → Refused r ≡ characteristicAt s at k
       four-refused {r = r} e = by (readAt s at 4 49) refl e
         where
-          by : (g : Cells) → readAt s at 4 49 ≡ g → Refused r ≡ readingOf g → Unread r ≡ characteristicAt s at k
+          by : (g : Cells) → readAt s at 4 49 ≡ g → A.Refused r ≡ readingOf g → Refused r ≡ characteristicAt s at k
           by (done cs) u v = let z : _≡_ {A = ℕ} 0 1 = cc in absurd (omega arith)
-          by (bad q) u v = let p : r ≡ q = cc in ap Unread p ∙ sym (number-inside u)
+          by (bad q) u v = let p : r ≡ q = cc in ap Refused p ∙ sym (number-inside u)
 
-      module _ {n : ℕ} (e : Done n ≡ readingOf (readAt s at 4 49)) where
+      module _ {n : ℕ} (e : A.Done n ≡ readingOf (readAt s at 4 49)) where
         pub four-few : n < k → NotReported ≡ characteristicAt s at k
         four-few h = by (readAt s at 4 49) refl e
           where
-            by : (g : Cells) → readAt s at 4 49 ≡ g → Done n ≡ readingOf g → NotReported ≡ characteristicAt s at k
+            by : (g : Cells) → readAt s at 4 49 ≡ g → A.Done n ≡ readingOf g → NotReported ≡ characteristicAt s at k
             by (done cs) u v =
                 let m : n ≡ length cs = cc in
                 let t : leb k (length cs) ≡ false = lt-leb k (length cs) (omega arith) in
@@ -89,7 +89,7 @@ module _ (s : List ℕ) (at k : ℕ) where
         pub four-told : k ≤ n → (new old : List ℤ) → new ≡ tableBy (readAt s at 4 49) old → told (getD new (k - 1) (pos 0)) ≡ characteristicAt s at k
         four-told h new old t = by (readAt s at 4 49) refl e t
           where
-            by : (g : Cells) → readAt s at 4 49 ≡ g → Done n ≡ readingOf g → new ≡ tableBy g old → told (getD new (k - 1) (pos 0)) ≡ characteristicAt s at k
+            by : (g : Cells) → readAt s at 4 49 ≡ g → A.Done n ≡ readingOf g → new ≡ tableBy g old → told (getD new (k - 1) (pos 0)) ≡ characteristicAt s at k
             by (done cs) u v w =
                 let m : n ≡ length cs = cc in
                 let t : leb k (length cs) ≡ true = le-leb k (length cs) (omega arith) in

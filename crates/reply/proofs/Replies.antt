@@ -15,7 +15,7 @@ use Rattle.base.proofs.Choice.{or-right}
 use Rattle.reply.specs.declared.Reply.{Reply}
 use Rattle.reply.specs.declared.Refusal.{Refusal}
 use Rattle.reply.specs.Table.{Beside, Given, told, given, kindsOf, Row, row, Shown, Fills, Numbered, code, is, next, cells, bytes, group, line, element, position}
-use Rattle.reply.specs.Refusals.{refusalReply, numberOf, besideOf, rowOf}
+use Rattle.reply.specs.Refusals.{refusalReply, numberOf, besideOf, rowOf, rows}
 
 -- each of these numbers is at least 1
 abbrev pub Counted : Given → Type 0
@@ -78,11 +78,11 @@ at-row k [] r l f = absurd (omega arith)
 at-row zero (w ∷ ws) r l f = inl f
 at-row (suc k) (w ∷ ws) r l f = inr (at-row k ws r (le-of-suc-le-suc l) f)
 
--- a table that begins with another
-pub numbered-left : (a b : List Row) (r : Reply) → Numbered a r → Numbered (a ++ b) r
-numbered-left [] b r n = absurd n
-numbered-left (w ∷ a) b r (inl f) = inl f
-numbered-left (w ∷ a) b r (inr n) = inr (numbered-left a b r n)
+-- refusals that begin with others
+pub rows-left : (a b : List Refusal) (r : Reply) → Numbered (rows a) r → Numbered (rows (a ++ b)) r
+rows-left [] b r n = absurd n
+rows-left (x ∷ a) b r (inl f) = inl f
+rows-left (x ∷ a) b r (inr n) = inr (rows-left a b r n)
 
 -- the number is one of the table's
 pub numbered-known : (ws : List Row) (r : Reply) → Numbered ws r → T (has (map (λ w. w .number) ws) (r .number))

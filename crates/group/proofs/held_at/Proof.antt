@@ -9,7 +9,7 @@ use Rattle.form.specs.declared.GroupForm.the-variants.{Has}
 use Rattle.form.specs.Table.{formOf}
 use Rattle.place.specs.declared.Placing.{Placing}
 use Rattle.place.proofs.Placing.{the-type}
-use Rattle.group.specs.declared.Found.the-variants.{Missing}
+use Rattle.reply.specs.declared.Checked.the-variants as C
 use Rattle.group.proofs.Holding.{held-none, held-placed, held-refused}
 use Rattle.group.proofs.Texts.{not-first}
 use Rattle.group.proofs.held_at.Statement.{statement}
@@ -25,8 +25,8 @@ has-form c = sym (c .before .before .form-of .ensures) ∙ c .enum-told .given .
 
 returns-2 : tie.Need-returns-2
 returns-2 c =
-    let h = held-refused (c .before .before .before .before .before .before .before .before .args .text .now) (c .before .before .before .before .before .before .before .before .args .at) (c .before .before .before .before .before .before .before .before .args .group) (c .before .before .before .before .enum-told .given .0 .0) (has-form (c .before .before .before .before)) _ (sym (c .before .before .before .place .ensures .0)) (λ n e. not-first (1 ∷ 2 ∷ 3 ∷ 4 ∷ 5 ∷ 6 ∷ 7 ∷ []) tt (subst (λ (p : Placing). OneOf (1 ∷ 2 ∷ 3 ∷ 4 ∷ 5 ∷ 6 ∷ 7 ∷ []) (tagOf the-type p)) e (c .before .before .match2 .keys2))) in
-    (c .missing2 .ensures .0 ∙ ap Missing (c .before .refusal-of .ensures) ∙ sym (h .0), c .missing2 .ensures .1 ∙ sym (h .1))
+    let h = held-refused (c .before .before .before .before .before .before .before .before .args .text .now) (c .before .before .before .before .before .before .before .before .args .at) (c .before .before .before .before .before .before .before .before .args .group) (c .before .before .before .before .enum-told .given .0 .0) (has-form (c .before .before .before .before)) _ (sym (c .before .before .before .place .ensures .0)) (λ n e. not-first (1 ∷ 2 ∷ []) tt (subst (λ (p : Placing). OneOf (1 ∷ 2 ∷ []) (tagOf the-type p)) e (c .before .before .match2 .keys2))) in
+    (c .missing2 .ensures .0 ∙ c .before .as-checked .ensures ∙ sym (h .0), c .missing2 .ensures .1 ∙ sym (h .1))
 
 returns-3 : tie.Need-returns-3
 returns-3 c =
