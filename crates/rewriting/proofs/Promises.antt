@@ -40,7 +40,7 @@ use Rattle.reading.specs.Due.{RefusalDue}
 use Rattle.reading.proofs.Due as Reading
 use Rattle.group.specs.Held.{refusalOf}
 use Rattle.group.proofs.Texts.{read-located}
-use Rattle.writing.specs.declared.Writing.the-variants as W
+use Rattle.reply.specs.declared.Answer.the-variants as W
 use Rattle.writing.specs.Text.{recordBytes}
 use Rattle.writing.specs.Writing.{writingOf}
 use Rattle.writing.proofs.Promises.{record-some}

@@ -18,7 +18,7 @@ use Rattle.place.specs.declared.Placing.the-variants.{Placed}
 use Rattle.place.specs.Placing.{placingOf, countsAt}
 use Rattle.reading.specs.declared.Refusal.{Refusal}
 use Rattle.group.specs.Held.{refusalOf}
-use Rattle.writing.specs.declared.Writing.the-variants as W
+use Rattle.reply.specs.declared.Answer.the-variants as W
 use Rattle.writing.specs.Text.{recordText, recordBytes}
 use Rattle.writing.specs.Writing.{writingOf}
 use Rattle.rewriting.specs.declared.Groups.the-variants.{All, Refused}

@@ -20,7 +20,7 @@ use Rattle.date.specs.Digits
 use Rattle.date.specs.Calendar
 use Rattle.date.specs.Date
 use Rattle.reading.specs.Plan
-use Rattle.writing.specs.declared.Writing.the-variants.{Done}
+use Rattle.reply.specs.declared.Answer.the-variants.{Done}
 use Rattle.writing.specs.Canonical.{CanonicalRecord}
 use Rattle.writing.specs.Fitting.{firstMisfit, elementsFit, fitOf}
 use Rattle.writing.specs.RoundTrip.{ReadsBack}

@@ -27,7 +27,7 @@ use Rattle.field.specs.Write.{isLetter, fitsOf}
 use Rattle.count.specs.Tally.{countOf, cellsBefore}
 use Rattle.count.proofs.Tallied.{cells-has, cells-next, cells-below, all-cells}
 use Rattle.count.specs.Check.{checkedOf}
-use Rattle.count.specs.declared.Checked.the-variants as C
+use Rattle.reply.specs.declared.Checked.the-variants as C
 use Rattle.date.specs.Date.{datedOf}
 use Rattle.reading.proofs.Dates.{dated-take}
 use Rattle.reading.proofs.Steps.{kept-letters}

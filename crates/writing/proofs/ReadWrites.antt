@@ -30,7 +30,7 @@ use Rattle.place.proofs.Zero.{IsPlaced, is-placed}
 use Rattle.reading.specs.Read.{Cells}
 use Rattle.reading.proofs.Sizes.{group-size}
 use Rattle.writing.specs.declared.Fit.the-variants.{All}
-use Rattle.writing.specs.declared.Writing.the-variants.{Done}
+use Rattle.reply.specs.declared.Answer.the-variants.{Done}
 use Rattle.writing.specs.Canonical.{CanonicalGroup, CanonicalRecord}
 use Rattle.writing.specs.Fitting.{groupFit, fitOf}
 use Rattle.writing.specs.RoundTrip.{groupCells, ReadWhole, joined, WritesAgain}

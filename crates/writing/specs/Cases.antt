@@ -18,14 +18,13 @@ use Rattle.reply.specs.declared.Reply.{Reply}
 use Rattle.date.specs.Date.{datedOf}
 use Rattle.date.specs.declared.Date.{Date}
 use Rattle.date.specs.declared.Dated.the-variants.{Right}
-use Rattle.reading.specs.Numbered.{readingReply}
 use Rattle.reading.specs.Read.{Cells, readLines, readForm, readingOf}
 use Rattle.writing.specs.declared.Fit.{Fit}
 use Rattle.writing.specs.declared.Fit.the-variants.{All, Not}
-use Rattle.writing.specs.declared.Writing.the-variants.{NoField}
+use Rattle.reply.specs.declared.Refusal.the-variants.{NoField}
+use Rattle.reply.specs.Refusals.{numberOf, answerReply}
 use Rattle.writing.specs.Fitting.{elementsFit}
 use Rattle.writing.specs.Text.{lineEnd, linesText}
-use Rattle.writing.specs.Writing.{writingReply}
 
 abbrev pub minus : ℕ → ℤ
 minus n = negℤ (pos n)
@@ -51,11 +50,11 @@ pub data Case : Type 0 where
 
 -- the reply to a reading and to cells that are written, of whatever group
 abbrev pub readReply : Cells → Reply
-readReply g = readingReply (readingOf g)
+readReply g = answerReply (readingOf g)
 
 abbrev pub fitNumber : Fit → ℕ
 fitNumber All = 0
-fitNumber (Not g e) = writingReply (NoField g e) .number
+fitNumber (Not g e) = numberOf (NoField g e)
 
 -- letters as group 3
 abbrev pub lettersRead : String → Cells
