@@ -14,7 +14,7 @@ use Rattle.count.specs.Tally.{recordLines}
 use Rattle.count.specs.declared.Ruling.the-variants.{Kept}
 use Rattle.decimal.specs.Numerals
 use Rattle.decimal.specs.Rows
-use Rattle.place.specs.declared.Placing.the-variants.{End}
+use Rattle.reply.specs.declared.Refusal.the-variants.{End}
 use Rattle.place.specs.Placing
 use Rattle.place.specs.RecordS
 use Rattle.place.specs.RecordS.{countsS, twiceS}
