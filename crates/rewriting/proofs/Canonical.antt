@@ -28,7 +28,7 @@ use Rattle.writing.proofs.ReadsBack.{canonical-back, done-canonical}
 use Rattle.writing.proofs.ReadWrites.{again-bytes, written-again}
 use Rattle.rewriting.specs.declared.Groups.the-variants.{All}
 use Rattle.rewriting.specs.declared.Rewriting.{Rewriting}
-use Rattle.rewriting.specs.declared.Rewriting.the-variants.{Done, Missing, NoRoom, Unread}
+use Rattle.rewriting.specs.declared.Rewriting.the-variants.{Done, Refused, GroupRefused}
 use Rattle.rewriting.specs.Canonical.{RightRecord, CanonicalRecords, none, more}
 use Rattle.rewriting.specs.Record.{groupRead, groupsOf, allInTurn, cellsAt, textAt, rewritingOf}
 use Rattle.rewriting.specs.Printed.{programRewriting, textThen, rewrittenFrom, rewritten, printed}
@@ -113,9 +113,8 @@ rewritten-canonical (suc k) s at = by (programRewriting s at) refl (rewritten-ca
   where
     by : (r : Rewriting) → programRewriting s at ≡ r → ((p : ℕ) → CanonicalRecords (rewrittenFrom k s p)) → CanonicalRecords (textThen (textAt s at) (rewrittenFrom k s) r)
     by (Done bytes next) e rest = more (textAt s at) (text-right s at 8192 8192 bytes next e) (omega (arith, done-text s at 8192 8192 bytes next e, done-within s at 8192 8192 bytes next e)) (rest next)
-    by (Missing r) e rest = none
-    by NoRoom e rest = none
-    by (Unread g r) e rest = none
+    by (Refused r) e rest = none
+    by (GroupRefused g r) e rest = none
 
 pub printed-canonical : (s : List ℕ) → CanonicalRecords (printed s)
 unfolding printed rewritten

@@ -16,14 +16,16 @@ use Rattle.base.proofs.FirstBad.{IsDone, InPieces, first-bad, all-done}
 use Rattle.count.specs.Tally.{recordCells}
 use Rattle.place.specs.declared.Placing.{Placing}
 use Rattle.place.specs.declared.Placing.the-variants as P
+use Rattle.place.specs.Numbered.{asChecked}
 use Rattle.place.specs.Placing.{placingOf, countsAt}
-use Rattle.reading.specs.declared.Refusal.{Refusal}
+use Rattle.reply.specs.declared.Refusal.{Refusal}
+use Rattle.reply.specs.declared.Refusal.the-variants.{NoRoom, BrokenRule}
+use Rattle.reply.specs.declared.Checked.the-variants as C
 use Rattle.reading.specs.Read.{Cells}
-use Rattle.group.specs.Held.{refusalOf}
 use Rattle.writing.specs.Text.{recordBytes}
 use Rattle.rewriting.specs.declared.Rewriting.{Rewriting}
-use Rattle.rewriting.specs.declared.Rewriting.the-variants.{Done, Missing, NoRoom, Unread}
-use Rattle.rewriting.specs.Due.{NoRoomDue, Roomy, Due}
+use Rattle.rewriting.specs.declared.Rewriting.the-variants.{Done, Refused, GroupRefused}
+use Rattle.rewriting.specs.Due.{NoRoomDue, Roomy, RefusedFor, unplaced, no-room, Due}
 use Rattle.rewriting.specs.Record.{Turn, groupRead, onGroup, inTurn, allInTurn, hasRoom, rewrittenAs, rewritingBy, rewritingOf}
 use Rattle.rewriting.proofs.Whole.{on-done, all-read}
 
@@ -81,25 +83,20 @@ module _ (read : ℕ → Cells) where
   turn-all d = all-done in-turn (λ i l. let h = d (suc i) (omega arith) (omega arith) in record { cells = h .cells; is = rw (h .is) refl })
 
 module _ (s : List ℕ) (at cells room : ℕ) where
-  pub missing-is : (p : Placing) → placingOf s at ≡ p → ((n : ℕ) → p ≡ P.Placed n → ⊥) → rewritingOf s at cells room ≡ Missing (refusalOf p)
+  pub missing-is : (r : Refusal) → asChecked (placingOf s at) ≡ C.Refused r → rewritingOf s at cells room ≡ Refused r
   unfolding rewritingOf
-  missing-is p u other = rw u (by p other)
+  missing-is r e = by (placingOf s at) e
     where
-      by : (p : Placing) → ((n : ℕ) → p ≡ P.Placed n → ⊥) → rewritingBy s at cells room p ≡ Missing (refusalOf p)
-      by (P.Placed n) o = absurd (o n refl)
-      by P.End o = refl
-      by P.Beyond o = refl
-      by P.TooFewLines o = refl
-      by P.Misformed o = refl
-      by P.OtherRelease o = refl
-      by (P.FilledVacant g) o = refl
-      by (P.BrokenRule g n) o = refl
+      by : (p : Placing) → asChecked p ≡ C.Refused r → rewritingBy s at cells room p ≡ Refused r
+      by (P.Placed n) e = let z : _≡_ {A = ℕ} 0 1 = cc in absurd (omega arith)
+      by (P.BrokenRule g n) e = let q : BrokenRule g ≡ r = cc in ap Refused q
+      by (P.Refused q) e = let p : q ≡ r = cc in ap Refused p
 
   pub roomy-is : {next : ℕ} → Roomy s at cells room next → rewritingOf s at cells room ≡ rewrittenAs (countsAt s at) next (allInTurn s at)
   unfolding rewritingOf
   roomy-is h = rw (h .placed, le-leb (recordBytes (countsAt s at)) room (h .text-fits), le-leb (recordCells (countsAt s at)) cells (h .cells-fit)) refl
 
-  pub short-is : NoRoomDue s at cells room → rewritingOf s at cells room ≡ NoRoom
+  pub short-is : NoRoomDue s at cells room → rewritingOf s at cells room ≡ Refused NoRoom
   unfolding rewritingOf
   short-is h =
       let ns = countsAt s at in
@@ -107,13 +104,16 @@ module _ (s : List ℕ) (at cells room : ℕ) where
       rw (h .placed, e) refl
 
   -- what is due is given
+  refusal-given : (r : Refusal) → RefusedFor s at cells room r → rewritingOf s at cells room ≡ Refused r
+  refusal-given r (unplaced q d) = missing-is q d
+  refusal-given r (no-room d) = short-is d
+
   due-given : (r : Rewriting) → Due s at cells room r → rewritingOf s at cells room ≡ r
   due-given (Done bytes next) d =
       let i = turn-all (groupRead s at) (λ g low high. let x = d .groups g low high in record { cells = x .cells; is = x .reads }) in
       roomy-is (d .roomy) ∙ ap (rewrittenAs (countsAt s at) next) (i .is) ∙ ap (λ n. Done n next) (d .written)
-  due-given (Missing r) d = missing-is (d .placing) (d .placed) (d .other) ∙ ap Missing (d .told)
-  due-given NoRoom d = short-is d
-  due-given (Unread g r) d =
+  due-given (Refused r) d = refusal-given r d
+  due-given (GroupRefused g r) d =
       roomy-is (d .roomy)
       ∙ ap (rewrittenAs (countsAt s at) (d .next))
       (first-turn (groupRead s at) g r record {
@@ -153,23 +153,18 @@ module _ (s : List ℕ) (at cells room : ℕ) where
           subst D (sym (roomy-is h)) (turn n h (allInTurn s at) refl)
       room-by n u true false a b =
           let d : NoRoomDue s at cells room = record { next = n; placed = u; short = inr (leb-false (recordCells (countsAt s at)) cells b) } in
-          subst D (sym (short-is d)) d
+          subst D (sym (short-is d)) (no-room d)
       room-by n u false t a b =
           let d : NoRoomDue s at cells room = record { next = n; placed = u; short = inl (leb-false (recordBytes (countsAt s at)) room a) } in
-          subst D (sym (short-is d)) d
+          subst D (sym (short-is d)) (no-room d)
 
-      miss : (p : Placing) → placingOf s at ≡ p → ((n : ℕ) → p ≡ P.Placed n → ⊥) → D (rewritingOf s at cells room)
-      miss p u o = subst D (sym (missing-is p u o)) record { placing = p; placed = u; other = o; told = refl }
+      miss : (r : Refusal) → asChecked (placingOf s at) ≡ C.Refused r → D (rewritingOf s at cells room)
+      miss r e = subst D (sym (missing-is r e)) (unplaced r e)
 
       by : (p : Placing) → placingOf s at ≡ p → D (rewritingOf s at cells room)
       by (P.Placed n) u = room-by n u (leb (recordBytes (countsAt s at)) room) (leb (recordCells (countsAt s at)) cells) refl refl
-      by P.End u = miss P.End u (λ n e. let z : _≡_ {A = ℕ} 0 1 = cc in omega arith)
-      by P.Beyond u = miss P.Beyond u (λ n e. let z : _≡_ {A = ℕ} 0 1 = cc in omega arith)
-      by P.TooFewLines u = miss P.TooFewLines u (λ n e. let z : _≡_ {A = ℕ} 0 1 = cc in omega arith)
-      by P.Misformed u = miss P.Misformed u (λ n e. let z : _≡_ {A = ℕ} 0 1 = cc in omega arith)
-      by P.OtherRelease u = miss P.OtherRelease u (λ n e. let z : _≡_ {A = ℕ} 0 1 = cc in omega arith)
-      by (P.FilledVacant g) u = miss (P.FilledVacant g) u (λ n e. let z : _≡_ {A = ℕ} 0 1 = cc in omega arith)
-      by (P.BrokenRule g n) u = miss (P.BrokenRule g n) u (λ m e. let z : _≡_ {A = ℕ} 0 1 = cc in omega arith)
+      by (P.BrokenRule g n) u = miss (BrokenRule g) (ap asChecked u)
+      by (P.Refused r) u = miss r (ap asChecked u)
 
   -- each answer is given exactly if it is due
   pub first-due : (r : Rewriting) → rewritingOf s at cells room ≡ r ↔ Due s at cells room r

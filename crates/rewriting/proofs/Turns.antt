@@ -1,4 +1,4 @@
--- Reading groups 1 to 60 in turn into consecutive parts of a table: what holds before each group, what is read and where, a group more, the
+-- Answer groups 1 to 60 in turn into consecutive parts of a table: what holds before each group, what is read and where, a group more, the
 -- first that is refused, all of them.
 -- Assumes nothing.
 use mathlib.Core.Path.{_≡_, refl, sym, _∙_, ap}
@@ -32,9 +32,9 @@ use Rattle.place.proofs.Placed.{located-range}
 use Rattle.place.proofs.Spans.{start-next}
 use Rattle.place.proofs.Tiling.{start-one, start-mono, start-within}
 use Rattle.place.proofs.Zero.{IsPlaced, is-placed}
-use Rattle.reading.specs.declared.Refusal.{Refusal}
-use Rattle.reading.specs.declared.Reading.{Reading}
-use Rattle.reading.specs.declared.Reading.the-variants as R
+use Rattle.reply.specs.declared.Refusal.{Refusal}
+use Rattle.reply.specs.declared.Answer.{Answer}
+use Rattle.reply.specs.declared.Answer.the-variants as R
 use Rattle.reading.specs.Read.{Cells, readGroup, readingOf, tableBy}
 use Rattle.reading.proofs.GroupRead.{group-reads}
 use Rattle.group.proofs.Texts.{read-located}
@@ -71,7 +71,7 @@ over-same xs a e l m =
     let n : length (part a e xs) ≡ e - a = lent-length xs a e l m in
     sym (over-lent xs (part a e xs) a (e - a) n) ∙ ap (λ b. take a xs ++ (part a b xs ++ drop (e - a) (drop a xs))) (sym k) ∙ sym (part-cut xs a (e - a))
 
-module _ (read : ℕ → Cells) (table new : List ℤ) (a e : ℕ) (l : a ≤ e) (m : e ≤ length table) (answer : Reading) where
+module _ (read : ℕ → Cells) (table new : List ℤ) (a e : ℕ) (l : a ≤ e) (m : e ≤ length table) (answer : Answer) where
   pub lent-read : (answer ≡ readingOf (read (length (part a e table)))) × (new ≡ tableBy (read (length (part a e table))) (part a e table)) → length new ≡ length (part a e table) → (answer ≡ readingOf (read (e - a))) × (take a table ++ (new ++ drop (e - a) (drop a table)) ≡ over a (tableBy (read (e - a)) (part a e table)) table)
   lent-read p same =
       let n = lent-length table a e l m in
@@ -162,7 +162,7 @@ module _ (s : List ℕ) (at : ℕ) (old : List ℤ) where
     rest : upFrom g (61 - g) ≡ g ∷ upFrom (g + 1) (61 - (g + 1))
     rest = up-more g 60 (omega arith)
 
-    module _ {answer : Reading} {new : List ℤ} (a : answer ≡ readingOf (readGroup ms g (part from to s) (end - cell))) (b : new ≡ over cell (tableBy (readGroup ms g (part from to s) (end - cell)) (part cell end table)) table) where
+    module _ {answer : Answer} {new : List ℤ} (a : answer ≡ readingOf (readGroup ms g (part from to s) (end - cell))) (b : new ≡ over cell (tableBy (readGroup ms g (part from to s) (end - cell)) (part cell end table)) table) where
       -- it is refused: the answer has its number, and the table stays as the groups before it left it
       pub turning-refused : {r : Refusal} → answer ≡ R.Refused r → (Refused g r ≡ groupsOf (allInTurn s at)) × (new ≡ over 0 (cellsAt s at) old)
       turning-refused {r} e =

@@ -9,22 +9,16 @@ use lib.ListN.{length, take, drop}
 use Rattle.base.specs.Every.{upFrom}
 use Rattle.base.specs.Pieces.{done, bad}
 use Rattle.count.specs.Tally.{recordCells}
-use Rattle.place.specs.declared.Placing.{Placing}
+use Rattle.place.specs.Numbered.{asChecked}
 use Rattle.place.specs.declared.Placing.the-variants.{Placed}
 use Rattle.place.specs.Placing.{placingOf, countsAt}
-use Rattle.reading.specs.declared.Refusal.{Refusal}
-use Rattle.group.specs.Held.{refusalOf}
+use Rattle.reply.specs.declared.Refusal.{Refusal}
+use Rattle.reply.specs.declared.Refusal.the-variants.{NoRoom}
+use Rattle.reply.specs.declared.Checked.the-variants as C
 use Rattle.writing.specs.Text.{recordBytes}
 use Rattle.rewriting.specs.declared.Rewriting.{Rewriting}
-use Rattle.rewriting.specs.declared.Rewriting.the-variants.{Done, Missing, NoRoom, Unread}
+use Rattle.rewriting.specs.declared.Rewriting.the-variants.{Done, Refused, GroupRefused}
 use Rattle.rewriting.specs.Record.{groupRead}
-
--- R321: placing refuses, and its reply is told
-pub record MissingDue (s : List ℕ) (at : ℕ) (r : Refusal) : Type 0 where
-  pub placing : Placing
-  pub placed : placingOf s at ≡ placing
-  pub other : (n : ℕ) → placing ≡ Placed n → ⊥
-  pub told : refusalOf placing ≡ r
 
 -- a group reads with 0
 pub record GroupDone (s : List ℕ) (at g : ℕ) : Type 0 where
@@ -59,11 +53,15 @@ module _ (s : List ℕ) (at cells room : ℕ) where
     pub groups : (g : ℕ) → 1 ≤ g → g ≤ 60 → GroupDone s at g
     pub written : recordBytes (countsAt s at) ≡ bytes
 
+  -- what it refuses with before a group is read, and when: placing's answer, if that is not 0, without a next place (R235); 11
+  pub data RefusedFor : Refusal → Type 0 where
+    unplaced : (r : Refusal) → asChecked (placingOf s at) ≡ C.Refused r → RefusedFor r
+    no-room : NoRoomDue → RefusedFor NoRoom
+
   abbrev pub Due : Rewriting → Type 0
   Due (Done bytes next) = DoneDue bytes next
-  Due (Missing r) = MissingDue s at r
-  Due NoRoom = NoRoomDue
-  Due (Unread g r) = UnreadDue g r
+  Due (Refused r) = RefusedFor r
+  Due (GroupRefused g r) = UnreadDue g r
 
 -- ---- what is lent, afterwards
 
@@ -83,6 +81,5 @@ pub record TableHas (s : List ℕ) (at k : ℕ) (old new : List ℤ) : Type 0 wh
 -- R326: all groups where 0 was given, those before the refused one where one was, none else
 abbrev pub groupsRead : Rewriting → ℕ
 groupsRead (Done bytes next) = 60
-groupsRead (Missing r) = 0
-groupsRead NoRoom = 0
-groupsRead (Unread g r) = g - 1
+groupsRead (Refused r) = 0
+groupsRead (GroupRefused g r) = g - 1
