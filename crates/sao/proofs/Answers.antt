@@ -60,7 +60,7 @@ write-record-due κs (counts, (cells, (out, _))) r v l = (as-due .writing (now c
 pub list-due : Gives list.ended list.Reads.Learnt (λ κs a r v. (x : List ℕ) × IsListing (now (a .0)) x × ListingDue x (length (now (a .1 .0))) r × (v .1 .0 ≡ putBytes 0 x (now (a .1 .0))))
 list-due κs (text, (out, _)) r v l =
     let x = listing (now text) in
-    (x, as-due .listing-is (now text) x .0 refl, as-due .listed (now text) (now out) r .0 (sym (l .answer)), l .bytes)
+    (x, as-due .listing-is (now text) x .0 refl, as-due .listed (now text) (length (now out)) r .0 (sym (l .0)), l .1)
 
 pub rewrite-record-due : Gives rewrite_record.ended rewrite_record.Reads.Learnt (λ κs a r v. RewritingIs.Due (now (a .0)) (a .1 .0) (length (now (a .1 .1 .0))) (length (now (a .1 .1 .1 .0))) r × (v .1 .1 .0 ≡ tableAfter (now (a .0)) (a .1 .0) r (now (a .1 .1 .0))) × (v .1 .1 .1 .0 ≡ bufferBy (now (a .0)) (a .1 .0) r (now (a .1 .1 .1 .0))))
 rewrite-record-due κs (text, (at, (table, (out, _)))) r v l = (as-due .rewriting (now text) at (length (now table)) (length (now out)) r .0 (sym (l .0)), l .1 .0, l .1 .1)

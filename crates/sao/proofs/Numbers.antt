@@ -1,4 +1,4 @@
--- R200 to R214 in figures (specs/Numbers.antt), by computation.
+-- R200 to R214, what is told (specs/Numbers.antt), by computation.
 -- Assumes nothing.
 use mathlib.Core.Path.{refl}
 use Rattle.sao.specs.Numbers.{AnswersTold}
@@ -6,16 +6,6 @@ use Rattle.sao.specs.Numbers.{AnswersTold}
 pub answers-told : AnswersTold
 answers-told =
     record {
-      placing = record {
-        placed = λ n. refl;
-        text-end = refl;
-        beyond = refl;
-        too-few-lines = refl;
-        misformed = refl;
-        other-release = refl;
-        filled-vacant = λ g. refl;
-        broken-rule = λ g n. refl;
-      };
       refusals = record {
         text-end = refl;
         beyond = refl;
@@ -28,8 +18,11 @@ answers-told =
         bad-field = λ l e. refl;
         bad-date = λ p. refl;
         no-room = refl;
-        no-group = refl;
+        no-such-number = refl;
+        no-field = λ g e. refl;
+        other-length = refl;
       };
+      placing = record { placed = λ n. refl; broken-rule = λ g n. refl; refused = λ r. refl };
       group = record {
         read = λ cs. refl;
         unread = λ r. refl;
@@ -40,23 +33,11 @@ answers-told =
         not-reported = refl;
         unknown = λ r. refl;
       };
-      writing = record {
-        done = λ n. refl;
-        misformed = refl;
-        other-release = refl;
-        filled-vacant = λ g. refl;
-        broken-rule = λ g. refl;
-        bad-date = λ p. refl;
-        no-room = refl;
-        no-field = λ g e. refl;
-        other-length = refl;
-      };
       text = record {
-        listed = λ n. refl;
-        unlisted = refl;
-        rewritten = λ n next. (refl, refl);
-        unplaced = λ r. (refl, refl);
-        no-room = (refl, refl);
+        written = λ n. refl;
+        unwritten = λ r. refl;
+        rewritten = λ n p. (refl, refl);
+        refused = λ r. (refl, refl);
         unread = λ g r. (refl, refl);
       };
     }

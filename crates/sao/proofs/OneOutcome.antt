@@ -48,8 +48,8 @@ write-record-one κs (counts, (cells, (out, _))) r q v w l k =
 
 pub list-one : OneOutcome list.ended list.Reads.Learnt
 list-one κs a r q v w l k =
-    let bytes = l .bytes ∙ sym (k .bytes) in
-    (l .answer ∙ sym (k .answer), λ i. (tt, (bytes i, tt)))
+    let bytes = l .1 ∙ sym (k .1) in
+    (l .0 ∙ sym (k .0), λ i. (tt, (bytes i, tt)))
 
 pub rewrite-record-one : OneOutcome rewrite_record.ended rewrite_record.Reads.Learnt
 rewrite-record-one κs (text, (at, (table, (out, _)))) r q v w l k =

@@ -5,7 +5,7 @@ use Prim.Native.Nat.{ℕ}
 use lib.IntN.{ℤ, pos}
 use Rattle.reply.specs.declared.Reply.{Reply}
 use Rattle.group.specs.declared.Characteristic.{Characteristic}
-use Rattle.group.specs.declared.Characteristic.the-variants.{Value, NoReading, NotReported, Unread}
+use Rattle.group.specs.declared.Characteristic.the-variants.{Value, NoReading, NotReported, Refused}
 
 -- the numbers beside a reply's own, in the order of `struct seambeacon_beside`
 abbrev pub besideOf : Reply → List ℕ
@@ -21,10 +21,10 @@ abbrev pub answerKind : Characteristic → ℕ
 answerKind (Value z) = 0
 answerKind NoReading = 1
 answerKind NotReported = 2
-answerKind (Unread r) = 3
+answerKind (Refused r) = 3
 
 abbrev pub answerValue : Characteristic → ℤ
 answerValue (Value z) = z
 answerValue NoReading = pos 0
 answerValue NotReported = pos 0
-answerValue (Unread r) = pos 0
+answerValue (Refused r) = pos 0

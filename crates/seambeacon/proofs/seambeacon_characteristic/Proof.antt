@@ -4,7 +4,7 @@ use borrow.Author.Needs.{needs, sfits-of}
 use mathlib.Core.Path.{_∙_, ap}
 use mir.Syntax.{w64}
 use mir.Facts.{toZ-ofZ}
-use Rattle.group.specs.Characteristics.{characteristicReply}
+use Rattle.group.specs.Numbered.{characteristicReply}
 use Rattle.seambeacon.specs.Numbers.{answerKind, answerValue}
 use Rattle.seambeacon.proofs.Telling.{told-as}
 use Rattle.seambeacon.proofs.seambeacon_characteristic.Statement.{statement}
