@@ -1,19 +1,12 @@
 -- Reading at a place of a text, by whether the group can be asked about there.
 -- Assumes nothing.
 use mathlib.Core.Path.{_≡_, refl, sym, subst}
-use mathlib.Core.Bool.{true}
-use mathlib.Core.List.{List, [], _∷_}
-use mathlib.Core.Logic.{⊎-elim}
-use types.Run.{OneOf}
+use mathlib.Core.List.{List}
 use Prim.Native.Nat.{ℕ, _+_}
-use native.Mathlib.Omega.{arith}
-use lib.Dec.{T, leb, leb→le}
 use lib.IntN.{ℤ}
 use lib.ListN.{length}
-use Rattle.base.specs.Every.{every}
 use Rattle.base.specs.Part.{part}
 use Rattle.base.specs.Pieces.{bad}
-use Rattle.base.proofs.Choice.{and-left, and-right}
 use Rattle.form.specs.declared.Form.{Form}
 use Rattle.form.specs.declared.GroupForm.{GroupForm}
 use Rattle.form.specs.declared.GroupForm.the-variants.{Has, NoGroup as NoForm}
@@ -75,13 +68,3 @@ module _ (s : List ℕ) (at g : ℕ) (old : List ℤ) where
   text-given e ns c from to a {r} {new} b =
       let same : readGroup ns g (part from to s) (length old) ≡ readAt s at g (length old) = rw (held-part s at g (sym e) ns c from to a, held-counts s at g (sym e) ns c) (sym (read-given s at g (length old) (sym e))) in
       subst (λ y. Answers y old r new) same b
-
--- the answers of placing that are none of these are `Placed`
-pub not-first : (ks : List ℕ) → T (every (leb 1) ks) → OneOf ks 0 → ⊥
-not-first [] t h = h
-not-first (k ∷ []) t h = omega (arith, leb→le 1 k (and-left (leb 1 k) true t), h)
-not-first (k ∷ (j ∷ ks)) t h =
-    ⊎-elim
-    (λ (e : 0 ≡ k). omega (arith, leb→le 1 k (and-left (leb 1 k) (every (leb 1) (j ∷ ks)) t)))
-    (λ r. not-first (j ∷ ks) (and-right (leb 1 k) (every (leb 1) (j ∷ ks)) t) r)
-    h

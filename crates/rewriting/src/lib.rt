@@ -156,7 +156,7 @@ pub fn reply_of(answer: Rewriting) -> reply::Reply
     ensures { λ r. ⌜ r ≡ rewritingReply answer ⌝ }
 {
     match answer {
-        Rewriting::Done(bytes, next) => reply::written(next, bytes),
+        Rewriting::Done(written, next) => reply::written(next, written),
         Rewriting::Refused(why) => reply::of_refusal(why),
         Rewriting::GroupRefused(_, why) => reply::of_refusal(why),
     }

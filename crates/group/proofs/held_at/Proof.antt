@@ -11,7 +11,7 @@ use Rattle.place.specs.declared.Placing.{Placing}
 use Rattle.place.proofs.Placing.{the-type}
 use Rattle.reply.specs.declared.Checked.the-variants as C
 use Rattle.group.proofs.Holding.{held-none, held-placed, held-refused}
-use Rattle.group.proofs.Texts.{not-first}
+use Rattle.base.proofs.Every.{not-first}
 use Rattle.group.proofs.held_at.Statement.{statement}
 use Rattle.group.proofs.held_at.Tie as tie
 

@@ -10,7 +10,7 @@ use denote.Enum.Declared.{tagOf}
 use lib.ListN.{length}
 use Rattle.rewriting.specs.declared.Rewriting.{Rewriting}
 use Rattle.rewriting.proofs.Rewriting.{the-type}
-use Rattle.group.proofs.Texts.{not-first}
+use Rattle.base.proofs.Every.{not-first}
 use Rattle.rewriting.proofs.Printing.{Printing, printing-first, printing-none, printing-ended, printing-stop, printing-room, printing-further, printing-more}
 use Rattle.rewrite.proofs.print_text.Statement.{statement}
 use Rattle.rewrite.proofs.print_text.Tie as tie
