@@ -15,6 +15,11 @@ use Rattle.base.specs.Sum.{sum}
 use Rattle.base.proofs.Choice.{and-left, and-right}
 use Rattle.base.proofs.Pieces.{both-done}
 
+-- pieces read as their cells, each as wide as it is found to be, whatever stands behind it
+pub record Gathers {A B C : Type 0} (P : A → List ℕ → List C → Type 0) (wide : A → List ℕ → ℕ) (read : A → List ℕ → Got B C) : Type 0 where
+  pub back : (a : A) (x : List ℕ) (c : List C) → P a x c → read a x ≡ done c
+  pub exact : (a : A) (x : List ℕ) (c : List C) (b : List ℕ) → P a x c → wide a (x ++ b) ≡ length x
+
 module _ {A C : Type 0} {P : A → List ℕ → List C → Type 0} where
   -- as many cells, and as many bytes, as all pieces together
   pub each-cells : (size : A → ℕ) → ((a : A) (x : List ℕ) (c : List C) → P a x c → length c ≡ size a) → (bs : List A) (s : List ℕ) (cs : List C) → Each P bs s cs → length cs ≡ sum (map size bs)
@@ -40,12 +45,12 @@ module _ {A C : Type 0} {P : A → List ℕ → List C → Type 0} where
   each-passed f (a ∷ bs) s cs t (more x c {y} {d} p h) =
       more x c (and-left (f a) (every f bs) t, p) (each-passed f bs y d (and-right (f a) (every f bs) t) h)
 
-  -- pieces that read as their cells, each as wide as it is found to be: all cells are read, whatever stands behind
-  pub each-gather : {B : Type 0} (wide : A → List ℕ → ℕ) (read : A → List ℕ → Got B C) → ((a : A) (x : List ℕ) (c : List C) → P a x c → read a x ≡ done c) → ((a : A) (x : List ℕ) (c : List C) (b : List ℕ) → P a x c → wide a (x ++ b) ≡ length x) → (bs : List A) (s : List ℕ) (cs : List C) (b : List ℕ) → Each P bs s cs → gather wide read bs (s ++ b) ≡ done cs
+  -- pieces that are gathered so: all cells are read
+  pub each-gather : {B : Type 0} {wide : A → List ℕ → ℕ} {read : A → List ℕ → Got B C} → Gathers P wide read → (bs : List A) (s : List ℕ) (cs : List C) (b : List ℕ) → Each P bs s cs → gather wide read bs (s ++ b) ≡ done cs
   unfolding gather
-  each-gather wide read back exact [] [] [] b none = refl
-  each-gather wide read back exact (a ∷ bs) s cs b (more x c {y} {d} p h) =
-      rw (append-assoc x y b, exact a x c (y ++ b) p, take-append-seam x (y ++ b), drop-append-seam x (y ++ b), back a x c p, each-gather wide read back exact bs y d b h)
+  each-gather g [] [] [] b none = refl
+  each-gather g (a ∷ bs) s cs b (more x c {y} {d} p h) =
+      rw (append-assoc x y b, g .exact a x c (y ++ b) p, take-append-seam x (y ++ b), drop-append-seam x (y ++ b), g .back a x c p, each-gather g bs y d b h)
 
   -- pieces that are the texts of their cells: the whole is what is written for all cells
   pub each-emit : (size : A → ℕ) (text : A → List C → List ℕ) → ((a : A) (x : List ℕ) (c : List C) → P a x c → (x ≡ text a c) × (length c ≡ size a)) → (bs : List A) (s : List ℕ) (cs : List C) → Each P bs s cs → s ≡ emit size text bs cs

@@ -18,7 +18,7 @@ use Rattle.count.specs.Rules
 use Rattle.place.specs.Parts.{start, groupPart}
 use Rattle.place.specs.Placing.{located, locate, countsAt}
 use Rattle.place.specs.RecordS
-use Rattle.place.specs.RecordS.{lineOf, countsS, twiceS}
+use Rattle.place.specs.RecordS.{quotedLine, countsS, twiceS}
 use Rattle.place.specs.Walk.{spot, Stops}
 use Rattle.place.proofs.TwiceS.{twice, spot-one, two-records}
 use Rattle.place.proofs.Walked.{spot-start}
@@ -40,22 +40,22 @@ use Rattle.group.proofs.Reported.{four-refused}
 unfoldable pub commaS : List ℕ
 commaS = set twiceS 299 44
 
-comma-line : part 295 305 commaS ≡ lineOf "   7,250"
+comma-line : part 295 305 commaS ≡ quotedLine "   7,250"
 unfolding commaS RecordS.recordS RecordS.twiceS
 comma-line = refl
 
 -- ---- group 4 of a record with S's counts, into a table with room
 
 four-by : (x : List ℕ) (room : ℕ) → readGroup countsS 4 x room ≡ readForm F8 4 1 x room
-unfolding RecordS.countsS Read.readGroup Every.upFrom Table.entryOf Table.formAmong Table.formOf Rules.rulingOf Rules.lowest Rules.headRules Rules.sets Rules.keeps Rules.letterRules
+unfolding RecordS.countsS Read.readGroup Every.upFrom Table.formEntry Table.formAmong Table.formOf Rules.rulingOf Rules.lowest Rules.headRules Rules.sets Rules.keeps Rules.letterRules
 four-by x room = refl
 
 module _ (room : ℕ) (h : 1 ≤ room) where
-  four-before : (at next : ℕ) → locate twiceS at ≡ located next countsS → groupPart twiceS at countsS 4 ≡ lineOf "   7.250" → readAt twiceS at 4 room ≡ done (pos 7250 ∷ [])
+  four-before : (at next : ℕ) → locate twiceS at ≡ located next countsS → groupPart twiceS at countsS 4 ≡ quotedLine "   7.250" → readAt twiceS at 4 room ≡ done (pos 7250 ∷ [])
   four-before at next e f =
       read-located twiceS at 4 room next countsS e
       ∙ ap (λ x. readGroup countsS 4 x room) f
-      ∙ four-by (lineOf "   7.250") room
+      ∙ four-by (quotedLine "   7.250") room
       ∙ four-reads room h .0
 
   read-first : readAt twiceS 0 4 room ≡ done (pos 7250 ∷ [])
@@ -112,7 +112,7 @@ module _ (table : List ℤ) (room : 1 ≤ length table) where
       lines : readGroup (countsAt twiceS (spot twiceS 0)) 4 (part (linesStart twiceS (spot twiceS 0) 4) (linesStart twiceS (spot twiceS 0) 5) commaS) (length table) ≡ bad (BadField 1 1)
       lines =
           rw (first-starts 4 295 (twice .from), first-starts 5 305 (twice .to), ← spot-start twiceS, counts-at twiceS 0 305 countsS (twice .first), comma-line)
-          (four-by (lineOf "   7,250") (length table) ∙ four-reads (length table) room .1)
+          (four-by (quotedLine "   7,250") (length table) ∙ four-reads (length table) room .1)
 
   -- the second record's gives its cell still
   pub second-still : SameReading (readAt commaS 305 4 (length table)) (done (pos 7250 ∷ [])) table

@@ -34,7 +34,7 @@ use Rattle.place.proofs.Zero.{is-placed}
 use Rattle.reply.specs.declared.Refusal.{Refusal}
 use Rattle.reply.specs.declared.Refusal.the-variants.{NoSuchNumber, NoRoom}
 use Rattle.reading.specs.Read.{Cells, readGroup}
-use Rattle.reading.specs.Due.{Short}
+use Rattle.reading.specs.Due.{TableShort}
 use Rattle.reading.proofs.Due as Reading
 use Rattle.form.proofs.Table.{group-form, form-range}
 use Rattle.reply.specs.declared.Checked.{Checked}
@@ -43,7 +43,7 @@ use Rattle.group.specs.declared.Characteristic.{Characteristic}
 use Rattle.group.specs.declared.Characteristic.the-variants.{Value, NoReading, NotReported, Refused}
 use Rattle.group.specs.Held.{foundIn, foundAt, startBy, partStart, partAt}
 use Rattle.group.specs.Text.{readAt}
-use Rattle.group.specs.Characteristics.{isNoReading, told, reported, characteristicAt}
+use Rattle.group.specs.Characteristics.{isNoReading, toldBy, reported, characteristicAt}
 use Rattle.form.specs.Table.{NoSuchGroup}
 use Rattle.place.specs.Parts.{IsPart}
 use Rattle.place.proofs.Indexed.{index-is}
@@ -96,7 +96,7 @@ module _ (s : List ℕ) (at g : ℕ) where
 -- ---- a group
 
 -- the counts of a placed record are those that stand in its index
-counts-are : (s : List ℕ) (at n : ℕ) (d : Place.Stands s at n) → countsAt s at ≡ d .ns
+counts-are : (s : List ℕ) (at n : ℕ) (d : Place.StandsRight s at n) → countsAt s at ≡ d .ns
 counts-are s at n d =
     let p = is-placed s at n (Placing.first-due s at (P.Placed n) .1 d) in
     let a = located-is s at n (countsAt s at) (p .located-at) .index in
@@ -219,7 +219,7 @@ module _ (s : List ℕ) (at k : ℕ) where
   read-size : (cs : List ℤ) → FourReads s at k (done cs) → length cs ≡ countOf (countsAt s at) 4
   read-size cs d = four-size s at 49 cs (d .four 49 (omega arith))
 
-  to-cell : (z : ℤ) → HasCell s at k z → characteristicAt s at k ≡ told z
+  to-cell : (z : ℤ) → HasCell s at k z → characteristicAt s at k ≡ toldBy z
   to-cell z d =
       let t : leb k (length (d .cs)) ≡ true = le-leb k (length (d .cs)) (omega (arith, read-size (d .cs) (d .reads), d .within)) in
       to-reported (done (d .cs)) (d .reads) ∙ rw (t, d .cell) refl
@@ -240,15 +240,15 @@ module _ (s : List ℕ) (at k : ℕ) where
   told-given NotReported d =
       let t : leb k (length (d .cs)) ≡ false = lt-leb k (length (d .cs)) (omega (arith, read-size (d .cs) (d .reads), d .above)) in
       to-reported (done (d .cs)) (d .reads) ∙ rw t refl
-  told-given NoReading d = to-cell (d .z) (d .cell) ∙ ap told (d .none) ∙ no-reading-cell
+  told-given NoReading d = to-cell (d .z) (d .cell) ∙ ap toldBy (d .none) ∙ no-reading-cell
   told-given (Value z) d = to-cell z (d .cell) ∙ is-reading z (d .reading)
 
   from-cell : (z : ℤ) (t : Bool) → HasCell s at k z → isNoReading z ≡ t → CharacteristicDue s at k (cond t NoReading (Value z))
   from-cell z true h e = record { z = z; cell = h; none = no-reading-is z e }
   from-cell z false h e =
-      record { cell = h; reading = λ u. let w : told z ≡ NoReading = ap told u ∙ no-reading-cell in let v : Value z ≡ NoReading = sym (rw e refl) ∙ w in let y : _≡_ {A = ℕ} 0 1 = cc in omega arith }
+      record { cell = h; reading = λ u. let w : toldBy z ≡ NoReading = ap toldBy u ∙ no-reading-cell in let v : Value z ≡ NoReading = sym (rw e refl) ∙ w in let y : _≡_ {A = ℕ} 0 1 = cc in omega arith }
 
-  from-count : (cs : List ℤ) (t : Bool) → FourReads s at k (done cs) → leb k (length cs) ≡ t → CharacteristicDue s at k (cond t (told (getD cs (k - 1) (pos 0))) NotReported)
+  from-count : (cs : List ℤ) (t : Bool) → FourReads s at k (done cs) → leb k (length cs) ≡ t → CharacteristicDue s at k (cond t (toldBy (getD cs (k - 1) (pos 0))) NotReported)
   from-count cs true h e =
       from-cell (getD cs (k - 1) (pos 0)) (isNoReading (getD cs (k - 1) (pos 0))) record { cs = cs; reads = h; within = omega (arith, leb-true k (length cs) e, read-size cs h); cell = refl } refl
   from-count cs false h e = record { cs = cs; reads = h; above = omega (arith, leb-false k (length cs) e, read-size cs h) }
@@ -275,7 +275,7 @@ module _ (s : List ℕ) (at k : ℕ) where
   characteristic-first-due c = (λ e. subst (CharacteristicDue s at k) e told-is-due, told-given c)
 
 -- 49 cells always have room for group 4
-pub four-has-room : (s : List ℕ) (at n : ℕ) (placed : PlacingDue s at 4 (P.Placed n)) (x : List ℕ) → Short (placed .placing .ns) 4 x 49 → ⊥
+pub four-has-room : (s : List ℕ) (at n : ℕ) (placed : PlacingDue s at 4 (P.Placed n)) (x : List ℕ) → TableShort (placed .placing .ns) 4 x 49 → ⊥
 four-has-room s at n placed x d =
     let ns = placed .placing .ns in
     let f = d .f in

@@ -31,7 +31,7 @@ use Rattle.reply.specs.declared.Refusal.the-variants.{NoSuchNumber}
 use Rattle.form.proofs.Table.{form-range}
 use Rattle.reply.specs.declared.Checked.{Checked}
 use Rattle.reply.specs.declared.Checked.the-variants as C
-use Rattle.group.specs.Held.{countsBy, foundIn, foundAt, countsHeld, partStart, partEnd, partAt, moved}
+use Rattle.group.specs.Held.{countsFound, foundIn, foundAt, countsHeld, partStart, partEnd, partAt, moved}
 
 module _ (s : List ℕ) (at g : ℕ) where
   pub held-none : formOf g ≡ NoForm → (foundAt s at g ≡ C.Refused NoSuchNumber) × (countsHeld s at g ≡ replicate 80 0)
@@ -48,7 +48,7 @@ module _ (s : List ℕ) (at g : ℕ) where
     unfolding foundAt countsHeld
     held-refused p u never = rw (e, u) (refl, by p never)
       where
-        by : (p : Placing) → ((n : ℕ) → p ≡ Placed n → ⊥) → countsBy (asChecked p) (countsAt s at) ≡ replicate 80 0
+        by : (p : Placing) → ((n : ℕ) → p ≡ Placed n → ⊥) → countsFound (asChecked p) (countsAt s at) ≡ replicate 80 0
         by (Placed n) never = absurd (never n refl)
         by (BrokenRule h n) never = refl
         by (Refused r) never = refl

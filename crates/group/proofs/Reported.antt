@@ -17,7 +17,7 @@ use Rattle.reply.specs.declared.Answer.the-variants as A
 use Rattle.group.specs.declared.Characteristic.the-variants.{Value, NoReading, NotReported, Refused}
 use Rattle.reading.specs.Read.{Cells, readingOf, tableBy}
 use Rattle.group.specs.Text.{readAt}
-use Rattle.group.specs.Characteristics.{noReading, isNoReading, told, reported, characteristicAt}
+use Rattle.group.specs.Characteristics.{noReading, isNoReading, toldBy, reported, characteristicAt}
 
 -- ---- no reading
 
@@ -30,11 +30,11 @@ unfolding isNoReading
 natural-reads z e = rw e
 
 -- R291: 999,900 is a value
-pub unscaled-value : told (pos 999900) ≡ Value (pos 999900)
+pub unscaled-value : toldBy (pos 999900) ≡ Value (pos 999900)
 unfolding isNoReading
 unscaled-value = refl
 
-pub no-reading-cell : told (pos noReading) ≡ NoReading
+pub no-reading-cell : toldBy (pos noReading) ≡ NoReading
 unfolding isNoReading
 no-reading-cell = refl
 
@@ -44,7 +44,7 @@ unfolding isNoReading
 no-reading-is (pos n) e = ap pos (eqb-true n noReading e)
 no-reading-is (negsuc n) e = absurd (false≢true e)
 
-pub is-reading : (z : ℤ) → (z ≡ pos noReading → ⊥) → told z ≡ Value z
+pub is-reading : (z : ℤ) → (z ≡ pos noReading → ⊥) → toldBy z ≡ Value z
 is-reading z n = by (isNoReading z) refl
   where
     by : (t : Bool) → isNoReading z ≡ t → cond t NoReading (Value z) ≡ Value z
@@ -86,12 +86,12 @@ module _ (s : List ℕ) (at k : ℕ) where
                 sym (number-inside u ∙ rw t)
             by (bad q) u v = let z : _≡_ {A = ℕ} 0 1 = cc in absurd (omega arith)
 
-        pub four-told : k ≤ n → (new old : List ℤ) → new ≡ tableBy (readAt s at 4 49) old → told (getD new (k - 1) (pos 0)) ≡ characteristicAt s at k
+        pub four-told : k ≤ n → (new old : List ℤ) → new ≡ tableBy (readAt s at 4 49) old → toldBy (getD new (k - 1) (pos 0)) ≡ characteristicAt s at k
         four-told h new old t = by (readAt s at 4 49) refl e t
           where
-            by : (g : Cells) → readAt s at 4 49 ≡ g → A.Done n ≡ readingOf g → new ≡ tableBy g old → told (getD new (k - 1) (pos 0)) ≡ characteristicAt s at k
+            by : (g : Cells) → readAt s at 4 49 ≡ g → A.Done n ≡ readingOf g → new ≡ tableBy g old → toldBy (getD new (k - 1) (pos 0)) ≡ characteristicAt s at k
             by (done cs) u v w =
                 let m : n ≡ length cs = cc in
                 let t : leb k (length cs) ≡ true = le-leb k (length cs) (omega arith) in
-                ap (λ l. told (getD l (k - 1) (pos 0))) w ∙ ap told (List·getD-append cs (drop (0 + length cs) old) (pos 0) (k - 1) (omega arith)) ∙ sym (number-inside u ∙ rw t)
+                ap (λ l. toldBy (getD l (k - 1) (pos 0))) w ∙ ap toldBy (List·getD-append cs (drop (0 + length cs) old) (pos 0) (k - 1) (omega arith)) ∙ sym (number-inside u ∙ rw t)
             by (bad q) u v w = let z : _≡_ {A = ℕ} 0 1 = cc in absurd (omega arith)

@@ -26,12 +26,12 @@ IsNoReading z = z ≡ pos noReading
 unfoldable pub isNoReading : ℤ → Bool
 isNoReading z = not (negative z) && eqb (sizeOf z) noReading
 
-abbrev pub told : ℤ → Characteristic
-told z = cond (isNoReading z) NoReading (Value z)
+abbrev pub toldBy : ℤ → Characteristic
+toldBy z = cond (isNoReading z) NoReading (Value z)
 
 -- R292, R293: number k, from 1, of the cells of group 4, if it has so many
 abbrev pub reported : ℕ → Cells → Characteristic
-reported k (done cs) = cond (leb k (length cs)) (told (getD cs (k - 1) (pos 0))) NotReported
+reported k (done cs) = cond (leb k (length cs)) (toldBy (getD cs (k - 1) (pos 0))) NotReported
 reported k (bad r) = Refused r
 
 -- R294: a table of 49 cells has room: R124 lets group 4 have at most 49 elements, of one cell each

@@ -15,9 +15,9 @@ use Rattle.reply.specs.declared.Checked.{Checked}
 use Rattle.reply.specs.declared.Checked.the-variants as C
 
 -- a refused question has no counts
-abbrev pub countsBy : Checked → List ℕ → List ℕ
-countsBy C.Right ns = ns
-countsBy (C.Refused r) ns = replicate 80 0
+abbrev pub countsFound : Checked → List ℕ → List ℕ
+countsFound C.Right ns = ns
+countsFound (C.Refused r) ns = replicate 80 0
 
 abbrev pub foundIn : List ℕ → ℕ → GroupForm → Checked
 foundIn s at (Has f) = asChecked (placingOf s at)
@@ -29,7 +29,7 @@ foundAt s at g = foundIn s at (formOf g)
 
 -- the counts of the record, or zeros
 unfoldable pub countsHeld : List ℕ → ℕ → ℕ → List ℕ
-countsHeld s at g = countsBy (foundAt s at g) (countsAt s at)
+countsHeld s at g = countsFound (foundAt s at g) (countsAt s at)
 
 -- R280, R283: where the lines of group g begin, or the text's start
 abbrev pub startBy : List ℕ → ℕ → ℕ → Checked → ℕ

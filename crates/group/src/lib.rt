@@ -6,7 +6,7 @@ use reply::Refusal;
 ghost use mathlib.Core.Path.{_≡_};
 ghost use lib.ListN.{length, replicate};
 ghost use Rattle.reading.specs.Read.{readingOf, tableBy};
-ghost use Rattle.group.specs.Characteristics.{isNoReading, told, characteristicAt};
+ghost use Rattle.group.specs.Characteristics.{isNoReading, toldBy, characteristicAt};
 ghost use Rattle.group.specs.Numbered.{characteristicReply};
 ghost use Rattle.group.specs.Held.{foundAt, countsHeld, partStart, partEnd, partAt, moved};
 ghost use Rattle.group.specs.Text.{readAt};
@@ -133,7 +133,7 @@ fn is_no_reading(v: i64) -> bool
 }
 
 fn told_by(v: i64) -> Characteristic
-    ensures { λ r. ⌜ r ≡ told v ⌝ }
+    ensures { λ r. ⌜ r ≡ toldBy v ⌝ }
 {
     if is_no_reading(v) {
         return Characteristic::NoReading;

@@ -1,4 +1,4 @@
--- R347: what is printed is shorter than 8,192 bytes. A text of at most 65,536 bytes has at most 268 records, since a record has at least 244
+-- R347: what is printedListing is shorter than 8,192 bytes. A text of at most 65,536 bytes has at most 268 records, since a record has at least 244
 -- bytes. Its row has at most 30 bytes: 3 digits for the number, 5 for each place, 1 for the reply, 2 for the blamed group, 2 for the
 -- groups with a count, 5 for the lines, and a byte behind each. The end row has at most 19.
 -- Assumes nothing.
@@ -40,18 +40,18 @@ use Rattle.place.proofs.Due.{refused-due}
 use Rattle.place.proofs.Walked.{spot-inside}
 use Rattle.listing.specs.Rows.{replyOf, nextOf, groupOf, filledGroups, recordRow, endRow}
 use Rattle.listing.specs.Records.{recordsIn}
-use Rattle.listing.specs.Listing.{rowAt, rowsFrom, endAt, listingOf, listing, printed}
+use Rattle.listing.specs.Listing.{rowAt, rowsFrom, endAt, listingOf, listing, printedListing}
 use Rattle.listing.proofs.Groups.{blamed-within, filled-within}
 use Rattle.listing.proofs.Counted.{records-stop, records-bytes}
 
--- ---- the two cases of what is printed
+-- ---- the two cases of what is printedListing
 
-pub printed-short : (s : List ℕ) → length s ≤ 65536 → listing s ≡ printed s
-unfolding printed
+pub printed-short : (s : List ℕ) → length s ≤ 65536 → listing s ≡ printedListing s
+unfolding printedListing
 printed-short s h = rw (le-leb (length s) 65536 h)
 
-pub printed-long : (s : List ℕ) → 65536 < length s → bytes "end " ++ rowText (0 ∷ 0 ∷ 11 ∷ 0 ∷ []) ≡ printed s
-unfolding printed
+pub printed-long : (s : List ℕ) → 65536 < length s → bytes "end " ++ rowText (0 ∷ 0 ∷ 11 ∷ 0 ∷ []) ≡ printedListing s
+unfolding printedListing
 printed-long s h = rw (lt-leb (length s) 65536 h)
 
 -- ---- numbers of a row
@@ -170,7 +170,7 @@ long-bytes : length (bytes "end " ++ rowText (0 ∷ 0 ∷ 11 ∷ 0 ∷ [])) ≡ 
 unfolding Rows.rowText Numerals.numeral Numerals.digitsOf Numerals.digitsIn
 long-bytes = refl
 
-pub printed-within : (s : List ℕ) → length (printed s) < 8192
+pub printed-within : (s : List ℕ) → length (printedListing s) < 8192
 printed-within s =
     ⊎-elim
     (λ (h : length s ≤ 65536). rw (← printed-short s h) (listing-short s h))
@@ -178,9 +178,9 @@ printed-within s =
     (le-or-lt (length s) 65536)
 
 -- so the program's 8,192 bytes have room for whatever it is given
-pub print-has-room : (s out : List ℕ) → length out ≡ 8192 → putAnswer 0 (printed s) out ≡ Next (length (printed s))
+pub print-has-room : (s out : List ℕ) → length out ≡ 8192 → putAnswer 0 (printedListing s) out ≡ Next (length (printedListing s))
 unfolding Writing.putAnswer
-print-has-room s out h = end-done 0 (length (printed s)) (length out) (omega (arith, printed-within s)) ∙ ap Next (zero-add (length (printed s)))
+print-has-room s out h = end-done 0 (length (printedListing s)) (length out) (omega (arith, printed-within s)) ∙ ap Next (zero-add (length (printedListing s)))
 
-pub print-no-refusal : (s out new : List ℕ) → length out ≡ 8192 → Puts 0 (printed s) out NoRoom new → ⊥
-print-no-refusal s out new h p = omega (arith, none-means 0 (printed s) out new p .0, printed-within s)
+pub print-no-refusal : (s out new : List ℕ) → length out ≡ 8192 → Puts 0 (printedListing s) out NoRoom new → ⊥
+print-no-refusal s out new h p = omega (arith, none-means 0 (printedListing s) out new p .0, printed-within s)

@@ -41,8 +41,8 @@ unfoldable pub listing : List ℕ → List ℕ
 listing s = listingOf s (recordsIn s)
 
 -- R341: the program takes 65,536 bytes; if there are more, it prints the line `end 0 0 11 0` alone
-unfoldable pub printed : List ℕ → List ℕ
-printed s = cond (leb (length s) 65536) (listing s) (bytes "end " ++ rowText (0 ∷ 0 ∷ 11 ∷ 0 ∷ []))
+unfoldable pub printedListing : List ℕ → List ℕ
+printedListing s = cond (leb (length s) 65536) (listing s) (bytes "end " ++ rowText (0 ∷ 0 ∷ 11 ∷ 0 ∷ []))
 
 -- R310: a listing put into so many bytes: 0 with the bytes that were written, or 11
 abbrev pub listedIn : List ℕ → ℕ → Answer

@@ -5,7 +5,7 @@ ghost use lib.ListN.{length};
 ghost use Rattle.base.specs.Part.{over};
 ghost use Rattle.decimal.specs.Writing.{endIn, putBytes, Puts};
 ghost use Rattle.listing.specs.Rows.{filledGroups, recordRow, endRow};
-ghost use Rattle.listing.specs.Listing.{listing, printed, listedIn};
+ghost use Rattle.listing.specs.Listing.{listing, printedListing, listedIn};
 use decimal::Put;
 use place::Placing;
 use reply::Answer;
@@ -121,7 +121,7 @@ pub fn render(text: &[u8], out: &mut [u8]) -> Put
 
 // R341: what the program prints for its input: the listing, or for more than 65,536 bytes the line `end 0 0 11 0` alone.
 pub fn print(input: &[u8], out: &mut [u8]) -> Put
-    ensures { λ r. ⌜ Puts 0 (printed (now (input .entry))) (now (out .entry)) r (now (out .exit)) ⌝ }
+    ensures { λ r. ⌜ Puts 0 (printedListing (now (input .entry))) (now (out .entry)) r (now (out .exit)) ⌝ }
 {
     if 65536 < input.len() {
         return decimal::put_row(out, 0, b"end ", &[0, 0, 11, 0]);

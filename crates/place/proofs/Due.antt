@@ -26,7 +26,7 @@ use Rattle.reply.specs.declared.Refusal.the-variants.{End, Beyond, TooFewLines,
 use Rattle.place.specs.declared.Placing.the-variants.{Placed, BrokenRule, Refused}
 use Rattle.place.specs.Index.{Indexed, counts, misformed, readIndex}
 use Rattle.place.specs.Placing.{Located, located, refused, locate, locateIndex, locateRelease, locateLines, placingBy, countsBy, ruledAt, placingOf, countsAt}
-use Rattle.place.specs.Due.{HasIndex, HasCounts, HasRelease, HasLines, FewForIndex, FewForData, CountsDue, RefusedFor, beyond, text-end, few-for-index, few-for-data, bad-index, bad-release, fills-vacant, Due}
+use Rattle.place.specs.Due.{HasIndex, HasEntries, HasRelease, HasLines, FewForIndex, FewForData, CountsDue, RefusedFor, beyond, text-end, few-for-index, few-for-data, bad-index, bad-release, fills-vacant, Due}
 use Rattle.place.proofs.Indexed.{index-is, no-index}
 use Rattle.place.proofs.Placed.{located-is}
 use Rattle.place.proofs.Steps.{locate-beyond, locate-end, locate-few, locate-index}
@@ -34,7 +34,7 @@ use Rattle.place.proofs.Steps.{locate-beyond, locate-end, locate-few, l
 module _ (s : List ℕ) (at : ℕ) where
   -- ---- what is due is given
 
-  to-counts : (ns : List ℕ) → HasCounts s at ns → locate s at ≡ locateRelease (drop at s) at ns (releaseOf ns)
+  to-counts : (ns : List ℕ) → HasEntries s at ns → locate s at ≡ locateRelease (drop at s) at ns (releaseOf ns)
   to-counts ns h = locate-index s at (h .place .inside) (h .place .lines) ∙ rw (index-is (drop at s) ns .1 (h .index))
 
   to-lines : (ns : List ℕ) → HasRelease s at ns → locate s at ≡ locateLines (drop at s) at ns
@@ -70,7 +70,7 @@ module _ (s : List ℕ) (at : ℕ) where
       from-ruling ns (at + reach (drop at s) (recordLines ns)) (rulingOf ns) record { head = h; enough = leb-true (recordLines ns) (feeds (drop at s)) e; next = refl } refl
   from-lines ns false h e = few-for-data record { ns = ns; head = h; few = leb-false (recordLines ns) (feeds (drop at s)) e }
 
-  from-release : (ns : List ℕ) (r : Release) → HasCounts s at ns → ReleaseDue ns r → Due s at (placingBy (locateRelease (drop at s) at ns r))
+  from-release : (ns : List ℕ) (r : Release) → HasEntries s at ns → ReleaseDue ns r → Due s at (placingBy (locateRelease (drop at s) at ns r))
   from-release ns Five h f =
       from-lines ns (leb (recordLines ns) (feeds (drop at s))) record { index = h; release = f } refl
   from-release ns Other h f = bad-release record { ns = ns; index = h; other = f }

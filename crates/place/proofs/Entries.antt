@@ -16,7 +16,7 @@ use Rattle.line.specs.declared.Content.the-variants.{Length, NoReturn}
 use Rattle.field.specs.Entry.{entryOf}
 use Rattle.field.specs.declared.Entry.{Entry}
 use Rattle.field.specs.declared.Entry.the-variants.{Count, Misformed}
-use Rattle.place.specs.Index.{Indexed, counts, misformed, entryThen, readEntries, readContent, readIndexLine, Stored}
+use Rattle.place.specs.Index.{Indexed, counts, misformed, entryThen, readEntries, readIndexContent, readIndexLine, Stored}
 
 -- counts that stand before others
 abbrev pub behindThese : List ℕ → Indexed → Indexed
@@ -120,7 +120,7 @@ line-length x ns e = by (contentOf x) e
     forty n true f = entries-length 40 (part 0 n x) ns f
     forty n false f = let z : _≡_ {A = ℕ} 0 1 = cc in absurd (omega arith)
 
-    by : (c : Content) → readContent x c ≡ counts ns → length ns ≡ 40
+    by : (c : Content) → readIndexContent x c ≡ counts ns → length ns ≡ 40
     by (Length n) f = forty n (eqb n 120) f
     by NoReturn f = let z : _≡_ {A = ℕ} 0 1 = cc in absurd (omega arith)
 

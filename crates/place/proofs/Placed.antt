@@ -22,7 +22,7 @@ use Rattle.count.specs.declared.Release.the-variants.{Five, Other, Filled}
 use Rattle.count.proofs.Tallied.{record-two}
 use Rattle.reply.specs.declared.Refusal.{Refusal}
 use Rattle.reply.specs.declared.Refusal.the-variants.{End, Beyond, TooFewLines}
-use Rattle.place.specs.Index.{Indexed, counts, misformed, readContent, readEntries, readIndexLine, joined, readIndex}
+use Rattle.place.specs.Index.{Indexed, counts, misformed, readIndexContent, readEntries, readIndexLine, bothLines, readIndex}
 use Rattle.place.specs.Placing.{located, refused, locate, locateIndex, locateRelease, countsBy, countsAt}
 use Rattle.place.proofs.Steps.{locate-index}
 
@@ -97,7 +97,7 @@ line-bytes x ns e = by (contentOf x) refl e
     whole n true f u g = content-two x n f ∙ omega (arith, eqb-true n 120 u)
     whole n false f u g = let z : _≡_ {A = ℕ} 0 1 = cc in absurd (omega arith)
 
-    by : (c : Content) → contentOf x ≡ c → readContent x c ≡ counts ns → length x ≡ 122
+    by : (c : Content) → contentOf x ≡ c → readIndexContent x c ≡ counts ns → length x ≡ 122
     by (Length n) f g = whole n (eqb n 120) f refl g
     by NoReturn f g = let z : _≡_ {A = ℕ} 0 1 = cc in absurd (omega arith)
 
@@ -109,7 +109,7 @@ pub record TwoLines (a b : Indexed) (ns : List ℕ) : Type 0 where
   pub second-is : b ≡ counts second
   pub all : ns ≡ first ++ second
 
-pub two-lines : (a b : Indexed) (ns : List ℕ) → joined a b ≡ counts ns → TwoLines a b ns
+pub two-lines : (a b : Indexed) (ns : List ℕ) → bothLines a b ≡ counts ns → TwoLines a b ns
 two-lines (counts x) (counts y) ns e = record { first = x; second = y; first-is = refl; second-is = refl; all = cc }
 two-lines (counts x) misformed ns e = let z : _≡_ {A = ℕ} 0 1 = cc in absurd (omega arith)
 two-lines misformed b ns e = let z : _≡_ {A = ℕ} 0 1 = cc in absurd (omega arith)

@@ -109,7 +109,7 @@ not-short e = absurd (false≢true e)
 
 -- a form whose lines may be short is of letters only
 pub short-field : (f : Form) (s : List ℕ) → mayBeShort f ≡ true → length s ≤ rowOf f .width → every printable s ≡ formed (fieldOf f (asField f s))
-unfolding Read.fieldOf Table.rowOf Table.entryOf
+unfolding Read.fieldOf Table.rowOf Table.formEntry
 short-field A120 s e h = sym (filled-printable 120 s) ∙ rw (eq-eqb (length (filledTo 120 s)) 120 (filled-length 120 s h)) (test (every printable (filledTo 120 s)))
   where
     test : (t : Bool) → t ≡ formed (cond t Letters Misformed)

@@ -29,14 +29,14 @@ use Rattle.form.specs.Count
 use Rattle.form.specs.Count.{elementsOf, linesOf, roundedUp}
 use Rattle.form.proofs.Rounding.{quotient}
 use Rattle.field.specs.Read
-use Rattle.field.specs.Read.{fieldOf, formed, cellsIn, Reads}
+use Rattle.field.specs.Read.{fieldOf, formed, valueCells, ReadsAs}
 use Rattle.field.specs.declared.Value.the-variants.{Cell, Misformed}
 use Rattle.field.proofs.Letters.{bytes-back}
 use Rattle.line.specs.Lines.{reach}
 use Rattle.line.proofs.Contents.{content-two}
 use Rattle.line.proofs.Reach.{reach-le}
 use Rattle.date.specs.Digits
-use Rattle.date.specs.Digits.{digitsOf, bytesAt}
+use Rattle.date.specs.Digits.{fieldDigits, bytesAt}
 use Rattle.date.specs.Date
 use Rattle.date.specs.Date.{datedOf, year, dayOfYear, month, day, hour, minute, second}
 use Rattle.date.specs.declared.DigitField.{DigitField}
@@ -54,8 +54,8 @@ use Rattle.reading.proofs.Sizes.{clean-read, field-done, line-done}
 -- ---- only the beginning matters, as far as the fields go
 
 module _ (s : List ℕ) (k : ℕ) (long : 19 ≤ length s) (enough : 19 ≤ k) where
-  digits-take : (f : DigitField) → f .first - 1 + f .length ≤ 19 → digitsOf f (take k s) ≡ digitsOf f s
-  unfolding Digits.digitsOf
+  digits-take : (f : DigitField) → f .first - 1 + f .length ≤ 19 → fieldDigits f (take k s) ≡ fieldDigits f s
+  unfolding Digits.fieldDigits
   digits-take f h =
       let a = f .first - 1 in
       let e = f .first - 1 + f .length in
@@ -70,12 +70,12 @@ module _ (s : List ℕ) (k : ℕ) (long : 19 ≤ length s) (enough : 19 ≤ k) w
 
 -- ---- letters read as their bytes
 
-letter-byte : (x : List ℕ) (cs : List ℤ) → Reads A1 x cs → (length x ≡ 1) × (cs ≡ map pos x)
-unfolding Read.fieldOf Table.rowOf Table.entryOf
+letter-byte : (x : List ℕ) (cs : List ℤ) → ReadsAs A1 x cs → (length x ≡ 1) × (cs ≡ map pos x)
+unfolding Read.fieldOf Table.rowOf Table.formEntry
 letter-byte [] cs r = absurd (r .good)
 letter-byte (b ∷ []) cs r = (refl, by (every printable (b ∷ [])) (r .good) (r .cells))
   where
-    by : (t : Bool) → T (formed (cond t (Cell (pos b)) Misformed)) → cellsIn (b ∷ []) (cond t (Cell (pos b)) Misformed) ≡ cs → cs ≡ pos b ∷ []
+    by : (t : Bool) → T (formed (cond t (Cell (pos b)) Misformed)) → valueCells (b ∷ []) (cond t (Cell (pos b)) Misformed) ≡ cs → cs ≡ pos b ∷ []
     by true g e = sym e
     by false g e = absurd g
 letter-byte (a ∷ b ∷ x) cs r = absurd (no (length x) (r .good))
@@ -84,7 +84,7 @@ letter-byte (a ∷ b ∷ x) cs r = absurd (no (length x) (r .good))
     no n t = rw (ne-eqb (suc (suc n)) 1 (λ e. omega arith)) at t
 
 letters-bytes : (number e k : ℕ) (s : List ℕ) (cs : List ℤ) → readFields A1 (record { number = number; first = e; many = k }) s ≡ done cs → cs ≡ map pos (take k s)
-unfolding readFields Pieces.gather Every.upFrom Table.rowOf Table.entryOf
+unfolding readFields Pieces.gather Every.upFrom Table.rowOf Table.formEntry
 letters-bytes number e zero s cs h =
     let z : cs ≡ [] = cc in
     z ∙ ap (map pos) (sym (take-none s))
@@ -105,7 +105,7 @@ map-append f (x ∷ a) b = ap (λ l. f x ∷ l) (map-append f a b)
 
 -- A1 has 120 elements of one column to a line, and each count is of elements
 letters-row : (rowOf A1 .«per_line» ≡ 120) × (rowOf A1 .width ≡ 1)
-unfolding Table.rowOf Table.entryOf
+unfolding Table.rowOf Table.formEntry
 letters-row = (refl, refl)
 
 letters-count : (count : ℕ) → elementsOf A1 count ≡ count
@@ -206,7 +206,7 @@ bad-date g (bad r) e = sym e
 
 -- group 3 has the form A1
 pub date-form : (g : ℕ) (f : Form) → formOf g ≡ Has f → g ≡ 3 → f ≡ A1
-unfolding Table.formOf Table.formAmong Table.entryOf
+unfolding Table.formOf Table.formAmong Table.formEntry
 date-form g f e t =
     let z : Has A1 ≡ Has f = ap formOf (sym t) ∙ e in
     cc

@@ -67,7 +67,7 @@ module _ (f : Form) (l : Line) (text : List ℕ) where
 
 -- a form whose lines may be short has one element to a line
 pub short-one : (f : Form) → mayBeShort f ≡ true → rowOf f .«per_line» ≡ 1
-unfolding Table.rowOf Table.entryOf
+unfolding Table.rowOf Table.formEntry
 short-one A120 e = refl
 short-one F7 e = absurd (false≢true e)
 short-one A1 e = absurd (false≢true e)

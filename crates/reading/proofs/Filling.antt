@@ -18,7 +18,7 @@ use Rattle.form.specs.declared.Form.{Form}
 use Rattle.form.specs.Table.{rowOf}
 use Rattle.form.specs.Count.{elementsOf, cellsOf}
 use Rattle.form.proofs.Rows.{row-fits}
-use Rattle.field.specs.Read.{fieldOf, formed, cellsIn, Reads}
+use Rattle.field.specs.Read.{fieldOf, formed, valueCells, ReadsAs}
 use Rattle.line.specs.Lines.{reach}
 use Rattle.line.specs.Contents.{contentOf}
 use Rattle.line.specs.declared.Content.the-variants.{Length, NoReturn}
@@ -247,7 +247,7 @@ module _ {f : Form} {count : ℕ} {s : List ℕ} {old : List ℤ} {r : Reached} 
             both-done (readField f (l .number) (l .first + i) (filledTo (r .width) (part from to s))) (readFields f (restOf l (i + 1)) (drop ((i + 1) * rowOf f .width) (lineText f l s (r .at) (o .end) m))) (g .more)
             (ap (λ y. both (readField f (l .number) (l .first + i) y) (readFields f (restOf l (i + 1)) (drop ((i + 1) * rowOf f .width) (lineText f l s (r .at) (o .end) m)))) field-is ∙ sym (fields-more f l (lineText f l s (r .at) (o .end) m) i inner) ∙ g .rest)
 
-        reads : Reads f (filledTo (r .width) (part from to s)) (one .first)
+        reads : ReadsAs f (filledTo (r .width) (part from to s)) (one .first)
         reads = field-done f (l .number) (l .first + i) (filledTo (r .width) (part from to s)) (one .first) (one .first-is)
 
         size : length (one .first) ≡ rowOf f .cells
@@ -264,7 +264,7 @@ module _ {f : Form} {count : ℕ} {s : List ℕ} {old : List ℤ} {r : Reached} 
         pub cell-small : spot + r .cells ≤ length old
         cell-small = omega (arith, o .state .sized, put-requires .5, fill-length, filling-length (o .room) (o .state))
 
-        pub fields-next : {new : List ℤ} → new ≡ over spot (cellsIn (filledTo (r .width) (part from to s)) (fieldOf f (filledTo (r .width) (part from to s)))) now → FillingFields f l (lineText f l s (r .at) (o .end) m) (r .table) (r .cell) (r .at) (i + 1) (from + r .width) (spot + r .cells) new
+        pub fields-next : {new : List ℤ} → new ≡ over spot (valueCells (filledTo (r .width) (part from to s)) (fieldOf f (filledTo (r .width) (part from to s)))) now → FillingFields f l (lineText f l s (r .at) (o .end) m) (r .table) (r .cell) (r .at) (i + 1) (from + r .width) (spot + r .cells) new
         fields-next {new = new} y =
             record {
               place = omega (arith, g .place, o .state .walk .wide, add-mul i 1 (rowOf f .width), one-mul (rowOf f .width));

@@ -23,7 +23,7 @@ use Rattle.form.specs.Count
 use Rattle.form.specs.Count.{elementsOf, linesOf, cellsOf, roundedUp}
 use Rattle.form.proofs.Rows.{row-fits}
 use Rattle.form.proofs.Rounding.{lines-enough}
-use Rattle.field.specs.Read.{fieldOf, formed, cellsIn, Reads}
+use Rattle.field.specs.Read.{fieldOf, formed, valueCells, ReadsAs}
 use Rattle.field.proofs.Laws.{lawful}
 use Rattle.line.specs.Lines.{reach}
 use Rattle.line.specs.Contents.{contentOf}
@@ -47,14 +47,14 @@ clean-read (bad r) e = let z : _≡_ {A = ℕ} 0 1 = cc in absurd (omega arith)
 
 -- ---- a field
 
-pub field-done : (f : Form) (line e : ℕ) (x : List ℕ) (cs : List ℤ) → readField f line e x ≡ done cs → Reads f x cs
+pub field-done : (f : Form) (line e : ℕ) (x : List ℕ) (cs : List ℤ) → readField f line e x ≡ done cs → ReadsAs f x cs
 field-done f line e x cs h = by (formed (fieldOf f x)) refl h
   where
-    by : (t : Bool) → formed (fieldOf f x) ≡ t → cond t (done (cellsIn x (fieldOf f x))) (bad (BadField line e)) ≡ done cs → Reads f x cs
+    by : (t : Bool) → formed (fieldOf f x) ≡ t → cond t (done (valueCells x (fieldOf f x))) (bad (BadField line e)) ≡ done cs → ReadsAs f x cs
     by true u v = record { good = true-T (formed (fieldOf f x)) u; cells = cc }
     by false u v = no-done v
 
-pub reads-size : (f : Form) (x : List ℕ) (cs : List ℤ) → Reads f x cs → length cs ≡ rowOf f .cells
+pub reads-size : (f : Form) (x : List ℕ) (cs : List ℤ) → ReadsAs f x cs → length cs ≡ rowOf f .cells
 reads-size f x cs r = lawful f .sized cs (lawful f .fitting x cs r)
 
 -- ---- a line

@@ -15,7 +15,7 @@ use Rattle.base.proofs.Choice.{or-right}
 use Rattle.reply.specs.declared.Reply.{Reply}
 use Rattle.reply.specs.declared.Refusal.{Refusal}
 use Rattle.reply.specs.Table.{Beside, Given, told, given, kindsOf, Row, row, Shown, Fills, Numbered, code, is, next, cells, bytes, group, line, element, position}
-use Rattle.reply.specs.Refusals.{refusalReply, numberOf, besideOf, rowOf, rows}
+use Rattle.reply.specs.Refusals.{refusalReply, refusalNumber, besideOf, refusalRow, rows}
 
 -- each of these numbers is at least 1
 abbrev pub Counted : Given → Type 0
@@ -63,8 +63,8 @@ fills k bs c =
       with-position = shown-one position bs c;
     }
 
-pub refusal-fills : (r : Refusal) → Counted (besideOf r) → Fills (rowOf r) (refusalReply r)
-refusal-fills r c = fills (numberOf r) (besideOf r) c
+pub refusal-fills : (r : Refusal) → Counted (besideOf r) → Fills (refusalRow r) (refusalReply r)
+refusal-fills r c = fills (refusalNumber r) (besideOf r) c
 
 -- a group may have no cells
 pub fills-cells : (n : ℕ) → Fills (row 0 (cells ∷ [])) (told 0 ((bytes, n) ∷ []))

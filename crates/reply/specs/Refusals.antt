@@ -11,21 +11,21 @@ use Rattle.reply.specs.declared.Answer.the-variants as A
 use Rattle.reply.specs.Table.{Given, told, kindsOf, Row, row, bytes, group, line, element, position}
 
 -- R201 to R214
-abbrev pub numberOf : Refusal → ℕ
-numberOf End = 1
-numberOf Beyond = 2
-numberOf TooFewLines = 3
-numberOf Misformed = 4
-numberOf OtherRelease = 5
-numberOf (FilledVacant g) = 6
-numberOf (BrokenRule g) = 7
-numberOf (BadLine l) = 8
-numberOf (BadField l e) = 9
-numberOf (BadDate p) = 10
-numberOf NoRoom = 11
-numberOf NoSuchNumber = 12
-numberOf (NoField g e) = 13
-numberOf OtherLength = 14
+abbrev pub refusalNumber : Refusal → ℕ
+refusalNumber End = 1
+refusalNumber Beyond = 2
+refusalNumber TooFewLines = 3
+refusalNumber Misformed = 4
+refusalNumber OtherRelease = 5
+refusalNumber (FilledVacant g) = 6
+refusalNumber (BrokenRule g) = 7
+refusalNumber (BadLine l) = 8
+refusalNumber (BadField l e) = 9
+refusalNumber (BadDate p) = 10
+refusalNumber NoRoom = 11
+refusalNumber NoSuchNumber = 12
+refusalNumber (NoField g e) = 13
+refusalNumber OtherLength = 14
 
 -- R206, R207, R208, R209, R210, R213; beside the others nothing stands
 abbrev pub besideOf : Refusal → Given
@@ -45,7 +45,7 @@ besideOf (NoField g e) = (group, g) ∷ (element, e) ∷ []
 besideOf OtherLength = []
 
 abbrev pub refusalReply : Refusal → Reply
-refusalReply r = told (numberOf r) (besideOf r)
+refusalReply r = told (refusalNumber r) (besideOf r)
 
 -- R200: 0, with nothing beside it, or with the cells or bytes that were written
 abbrev pub checkedReply : Checked → Reply
@@ -59,8 +59,8 @@ answerReply (A.Refused r) = refusalReply r
 -- ---- which refusals a question has: variants, whatever numbers stand beside them
 
 -- the row of a refusal
-abbrev pub rowOf : Refusal → Row
-rowOf r = row (numberOf r) (kindsOf (besideOf r))
+abbrev pub refusalRow : Refusal → Row
+refusalRow r = row (refusalNumber r) (kindsOf (besideOf r))
 
 -- R251: what placing refuses with, and places nothing
 abbrev pub unplaced : List Refusal
@@ -79,4 +79,4 @@ abbrev pub lineRefusals : List Refusal
 lineRefusals = BadLine 0 ∷ BadField 0 0 ∷ []
 
 abbrev pub rows : List Refusal → List Row
-rows rs = map rowOf rs
+rows rs = map refusalRow rs

@@ -25,7 +25,7 @@ use Rattle.reading.specs.Read.{Cells}
 use Rattle.writing.specs.Text.{recordBytes}
 use Rattle.rewriting.specs.declared.Rewriting.{Rewriting}
 use Rattle.rewriting.specs.declared.Rewriting.the-variants.{Done, Refused, GroupRefused}
-use Rattle.rewriting.specs.Due.{NoRoomDue, Roomy, RefusedFor, unplaced, no-room, Due}
+use Rattle.rewriting.specs.Due.{NoRoomDue, RoomForBoth, RefusedFor, unplaced, no-room, Due}
 use Rattle.rewriting.specs.Record.{Turn, groupRead, onGroup, inTurn, allInTurn, hasRoom, rewrittenAs, rewritingBy, rewritingOf}
 use Rattle.rewriting.proofs.Whole.{on-done, all-read}
 
@@ -92,7 +92,7 @@ module _ (s : List ℕ) (at cells room : ℕ) where
       by (P.BrokenRule g n) e = let q : BrokenRule g ≡ r = cc in ap Refused q
       by (P.Refused q) e = let p : q ≡ r = cc in ap Refused p
 
-  pub roomy-is : {next : ℕ} → Roomy s at cells room next → rewritingOf s at cells room ≡ rewrittenAs (countsAt s at) next (allInTurn s at)
+  pub roomy-is : {next : ℕ} → RoomForBoth s at cells room next → rewritingOf s at cells room ≡ rewrittenAs (countsAt s at) next (allInTurn s at)
   unfolding rewritingOf
   roomy-is h = rw (h .placed, le-leb (recordBytes (countsAt s at)) room (h .text-fits), le-leb (recordCells (countsAt s at)) cells (h .cells-fit)) refl
 
@@ -130,7 +130,7 @@ module _ (s : List ℕ) (at cells room : ℕ) where
       D : Rewriting → Type 0
       D = Due s at cells room
 
-      turn : (n : ℕ) → Roomy s at cells room n → (t : Turn) → allInTurn s at ≡ t → D (rewrittenAs (countsAt s at) n t)
+      turn : (n : ℕ) → RoomForBoth s at cells room n → (t : Turn) → allInTurn s at ≡ t → D (rewrittenAs (countsAt s at) n t)
       turn n h (done cs) e = record {
         roomy = h;
         groups = λ g low high. record { cells = _; reads = all-read (groupRead s at) 1 60 cs e .each g low (omega arith) };
@@ -149,7 +149,7 @@ module _ (s : List ℕ) (at cells room : ℕ) where
 
       room-by : (n : ℕ) → placingOf s at ≡ P.Placed n → (a b : Bool) → leb (recordBytes (countsAt s at)) room ≡ a → leb (recordCells (countsAt s at)) cells ≡ b → D (rewritingOf s at cells room)
       room-by n u true true a b =
-          let h : Roomy s at cells room n = record { placed = u; text-fits = leb-true (recordBytes (countsAt s at)) room a; cells-fit = leb-true (recordCells (countsAt s at)) cells b } in
+          let h : RoomForBoth s at cells room n = record { placed = u; text-fits = leb-true (recordBytes (countsAt s at)) room a; cells-fit = leb-true (recordCells (countsAt s at)) cells b } in
           subst D (sym (roomy-is h)) (turn n h (allInTurn s at) refl)
       room-by n u true false a b =
           let d : NoRoomDue s at cells room = record { next = n; placed = u; short = inr (leb-false (recordCells (countsAt s at)) cells b) } in

@@ -52,9 +52,9 @@ use Rattle.rewriting.specs.declared.Groups.the-variants.{All}
 use Rattle.rewriting.specs.declared.Rewriting.{Rewriting}
 use Rattle.rewriting.specs.declared.Rewriting.the-variants.{Done, Refused, GroupRefused}
 use Rattle.rewriting.specs.Due as RewritingIs
-use Rattle.rewriting.specs.Due.{NoRoomDue, DoneDue, Due, ReadTo, TableHas, groupsRead}
+use Rattle.rewriting.specs.Due.{NoRoomDue, RewrittenDue, Due, ReadTo, TableHas, groupsRead}
 use Rattle.rewriting.specs.Numbered.{rewritingReply, rewritingRefusals, rewritingRows}
-use Rattle.rewriting.specs.Record.{groupRead, groupsOf, cellsInTurn, allInTurn, cellsAt, rewritingOf, textAt, bufferBy, tableBy}
+use Rattle.rewriting.specs.Record.{groupRead, groupsOf, cellsInTurn, allInTurn, cellsAt, rewritingOf, textAt, bufferBy, tableAfter}
 use Rattle.rewriting.proofs.Cells.{record-cells}
 use Rattle.rewriting.proofs.Due.{first-due, turn-all}
 use Rattle.rewriting.proofs.Whole.{whole-each, whole-joined, whole-written}
@@ -78,7 +78,7 @@ table-serves s at cells room l d =
 -- ---- 0
 
 module _ (s : List ℕ) (at cells room bytes next : ℕ) (e : rewritingOf s at cells room ≡ Done bytes next) where
-  d : DoneDue s at cells room bytes next
+  d : RewrittenDue s at cells room bytes next
   d = first-due s at cells room (Done bytes next) .0 e
 
   pub done-all : All ≡ groupsOf (allInTurn s at)
@@ -137,7 +137,7 @@ module _ (s : List ℕ) (at : ℕ) (table : List ℤ) where
   unfolding Every.upFrom flatMap
   none-read = record { cs = []; read = record { cells = λ g. []; each = λ g low high. absurd (omega arith); joined = refl }; first = refl; rest = refl }
 
-  pub table-has : (cells room : ℕ) (r : Rewriting) → rewritingOf s at cells room ≡ r → TableHas s at (groupsRead r) table (tableBy s at r table)
+  pub table-has : (cells room : ℕ) (r : Rewriting) → rewritingOf s at cells room ≡ r → TableHas s at (groupsRead r) table (tableAfter s at r table)
   table-has cells room (Done bytes next) e =
       let d = first-due s at cells room (Done bytes next) .0 e in
       let all = done-all s at cells room bytes next e in

@@ -25,14 +25,14 @@ use Rattle.writing.specs.Writing.{writingOf}
 use Rattle.rewriting.specs.declared.Groups.the-variants as G
 use Rattle.rewriting.specs.declared.Rewriting.{Rewriting}
 use Rattle.rewriting.specs.declared.Rewriting.the-variants.{Done, Refused, GroupRefused}
-use Rattle.rewriting.specs.Due.{Roomy}
-use Rattle.rewriting.specs.Record.{Turn, groupsOf, allInTurn, cellsAt, rewrittenAs, rewritingOf, bufferBy, tableBy, Ready}
+use Rattle.rewriting.specs.Due.{RoomForBoth}
+use Rattle.rewriting.specs.Record.{Turn, groupsOf, allInTurn, cellsAt, rewrittenAs, rewritingOf, bufferBy, tableAfter, Ready}
 use Rattle.rewriting.proofs.Due.{missing-is, short-is, roomy-is}
 use Rattle.rewriting.proofs.Whole.{whole-length, whole-written}
 
 -- what an answer, a table and an output at exit owe
 abbrev pub Outcome : List ℕ → ℕ → List ℤ → List ℕ → Rewriting → List ℤ → List ℕ → Type 0
-Outcome s at table out r new text = (r ≡ rewritingOf s at (length table) (length out)) × (new ≡ tableBy s at r table) × (text ≡ bufferBy s at r out)
+Outcome s at table out r new text = (r ≡ rewritingOf s at (length table) (length out)) × (new ≡ tableAfter s at r table) × (text ≡ bufferBy s at r out)
 
 -- the front of a list with places overwritten
 front : {A : Type 0} (xs ys : List A) (n : ℕ) → length ys ≡ n → part 0 n (over 0 ys xs) ≡ ys
@@ -50,7 +50,7 @@ module _ (s : List ℕ) (at : ℕ) (table : List ℤ) (out : List ℕ) where
     step-no-cells l = (sym (short-is s at (length table) (length out) record { next = next; placed = placed; short = inr (rw counts at l) }), refl, refl)
 
     module _ (text-fits : recordBytes ms ≤ length out) (cells-fit : recordCells ms ≤ length table) where
-      roomy : Roomy s at (length table) (length out) next
+      roomy : RoomForBoth s at (length table) (length out) next
       roomy = record { placed = placed; text-fits = rw counts at text-fits; cells-fit = rw counts at cells-fit }
 
       -- what reading all groups asks for

@@ -33,7 +33,7 @@ module _ (s : List ℕ) (at cells room : ℕ) where
     pub short : (room < recordBytes (countsAt s at)) ⊎ (cells < recordCells (countsAt s at))
 
   -- placed with 0, and both are long enough
-  pub record Roomy (next : ℕ) : Type 0 where
+  pub record RoomForBoth (next : ℕ) : Type 0 where
     pub placed : placingOf s at ≡ Placed next
     pub text-fits : recordBytes (countsAt s at) ≤ room
     pub cells-fit : recordCells (countsAt s at) ≤ cells
@@ -41,15 +41,15 @@ module _ (s : List ℕ) (at cells room : ℕ) where
   -- R321, R323: this group is refused, and all below it read with 0
   pub record UnreadDue (g : ℕ) (r : Refusal) : Type 0 where
     pub next : ℕ
-    pub roomy : Roomy next
+    pub roomy : RoomForBoth next
     pub low : 1 ≤ g
     pub high : g ≤ 60
     pub earlier : (h : ℕ) → 1 ≤ h → h < g → GroupDone s at h
     pub told : groupRead s at g ≡ bad r
 
   -- R321: 0, all groups read with 0; R200: the bytes of the canonical text, and the next place
-  pub record DoneDue (bytes next : ℕ) : Type 0 where
-    pub roomy : Roomy next
+  pub record RewrittenDue (bytes next : ℕ) : Type 0 where
+    pub roomy : RoomForBoth next
     pub groups : (g : ℕ) → 1 ≤ g → g ≤ 60 → GroupDone s at g
     pub written : recordBytes (countsAt s at) ≡ bytes
 
@@ -59,7 +59,7 @@ module _ (s : List ℕ) (at cells room : ℕ) where
     no-room : NoRoomDue → RefusedFor NoRoom
 
   abbrev pub Due : Rewriting → Type 0
-  Due (Done bytes next) = DoneDue bytes next
+  Due (Done bytes next) = RewrittenDue bytes next
   Due (Refused r) = RefusedFor r
   Due (GroupRefused g r) = UnreadDue g r
 

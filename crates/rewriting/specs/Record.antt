@@ -100,7 +100,7 @@ bufferBy s at (Refused r) old = old
 bufferBy s at (GroupRefused g r) old = old
 
 -- R326: groups are read into consecutive parts of the table, up to the first that is refused
-abbrev pub tableBy : List ℕ → ℕ → Rewriting → List ℤ → List ℤ
-tableBy s at (Done n next) old = over 0 (cellsAt s at) old
-tableBy s at (Refused r) old = old
-tableBy s at (GroupRefused g r) old = over 0 (cellsAt s at) old
+abbrev pub tableAfter : List ℕ → ℕ → Rewriting → List ℤ → List ℤ
+tableAfter s at (Done n next) old = over 0 (cellsAt s at) old
+tableAfter s at (Refused r) old = old
+tableAfter s at (GroupRefused g r) old = over 0 (cellsAt s at) old

@@ -14,7 +14,7 @@ ghost use Rattle.writing.specs.Text.{recordText, recordBytes};
 ghost use Rattle.writing.specs.Writing.{writingOf};
 ghost use Rattle.rewriting.specs.Numbered.{rewritingReply, rewritingGroup};
 ghost use Rattle.rewriting.specs.Record.{Ready, groupsOf, allInTurn, cellsAt, rewritingOf, bufferBy};
-ghost use Rattle.rewriting.specs.Record.{tableBy as tableAfter};
+ghost use Rattle.rewriting.specs.Record.{tableAfter};
 
 // R321: what rewriting a record answers.
 pub enum Rewriting {

@@ -15,7 +15,7 @@ use Rattle.reading.specs.Read.{Cells, readingOf, tableBy}
 use Rattle.writing.specs.Due as WritingIs
 use Rattle.writing.specs.Writing.{outputBy}
 use Rattle.rewriting.specs.Due as RewritingIs
-use Rattle.rewriting.specs.Record.{tableBy as tableAfter, bufferBy}
+use Rattle.rewriting.specs.Record.{tableAfter, bufferBy}
 use Rattle.listing.specs.Listing.{listing, IsListing, ListingDue}
 use Rattle.sao.specs.Outcome.{Gives}
 use Rattle.sao.proofs.Demand2.{as-due}

@@ -38,7 +38,7 @@ use Rattle.rewriting.specs.Canonical.{CanonicalRecords}
 use Rattle.rewriting.specs.Due as RewritingIs
 use Rattle.rewriting.specs.Due.{TableHas, groupsRead}
 use Rattle.rewriting.specs.Printed.{printed}
-use Rattle.rewriting.specs.Record.{rewritingOf, bufferBy, tableBy as tableAfter}
+use Rattle.rewriting.specs.Record.{rewritingOf, bufferBy, tableAfter}
 
 -- D2.1, D2.2: every answer is given exactly if it is due. Where a Due cites another answer (the placing, the counts, what a group reads as),
 -- that answer's own Due is a field here. So a reader comes to plain words: of an index that its columns are entries (R22, R23; place's IsIndex);

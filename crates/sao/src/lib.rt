@@ -15,7 +15,7 @@ ghost use Rattle.group.specs.Text.{readAt};
 ghost use Rattle.group.specs.Held.{foundAt, partStart, partEnd, partAt, moved};
 ghost use Rattle.group.specs.Characteristics.{characteristicAt};
 ghost use Rattle.writing.specs.Writing.{writingOf, outputBy};
-ghost use Rattle.rewriting.specs.Record.{rewritingOf, tableBy as tableAfter, bufferBy};
+ghost use Rattle.rewriting.specs.Record.{rewritingOf, tableAfter, bufferBy};
 ghost use Rattle.listing.specs.Listing.{listing, listedIn};
 
 // R250 to R253. Asked: which record stands at a place of a text.

@@ -9,16 +9,16 @@ use Rattle.reply.specs.declared.Reply.{Reply}
 use Rattle.base.specs.Every.{has}
 use Rattle.reply.specs.Table.{Row, Numbered}
 use Rattle.reply.proofs.Replies.{numbered-known}
-use Rattle.seambeacon.specs.Numbers.{besideOf, Told}
+use Rattle.seambeacon.specs.Numbers.{sixBeside, Told}
 
 module _ {r q : Reply} where
   pub told-as : {n : ℕ} {bs : List ℕ} → r ≡ q → Told r n bs → Told q n bs
-  told-as e t = record { number = t .number ∙ ap (λ x. x .number) e; besides = t .besides ∙ ap besideOf e }
+  told-as e t = record { number = t .number ∙ ap (λ x. x .number) e; besides = t .besides ∙ ap sixBeside e }
 
   pub told-back : {n : ℕ} {bs : List ℕ} → Told r n bs → Told q n bs → r ≡ q
   told-back t u =
       let number : r .number ≡ q .number = sym (t .number) ∙ u .number in
-      let all : besideOf r ≡ besideOf q = sym (t .besides) ∙ u .besides in
+      let all : sixBeside r ≡ sixBeside q = sym (t .besides) ∙ u .besides in
       let next : r .next ≡ q .next = ap (λ xs. getD xs 0 0) all in
       let written : r .written ≡ q .written = ap (λ xs. getD xs 1 0) all in
       let group : r .group ≡ q .group = ap (λ xs. getD xs 2 0) all in

@@ -16,7 +16,7 @@ ghost use Rattle.group.specs.Text.{readAt};
 ghost use Rattle.group.specs.Held.{partStart, partAt};
 ghost use Rattle.group.specs.Characteristics.{characteristicAt};
 ghost use Rattle.writing.specs.Writing.{writingOf, outputBy};
-ghost use Rattle.rewriting.specs.Record.{rewritingOf, tableBy as tableAfter, bufferBy};
+ghost use Rattle.rewriting.specs.Record.{rewritingOf, tableAfter, bufferBy};
 ghost use Rattle.rewriting.specs.Numbered.{rewritingGroup};
 ghost use Rattle.listing.specs.Listing.{listing};
 

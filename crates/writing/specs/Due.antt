@@ -69,11 +69,11 @@ module _ (ns : List ℕ) (cs : List ℤ) where
     pub wrong : Letters.Due (dateLetters ns cs) (Wrong p)
 
   -- R305: 11, the canonical text is longer than the output; R306: 0, it is not
-  pub record Short (room : ℕ) : Type 0 where
+  pub record OutputShort (room : ℕ) : Type 0 where
     pub date : HasDate
     pub short : room < recordBytes ns
 
-  pub record Stands (room n : ℕ) : Type 0 where
+  pub record TextFits (room n : ℕ) : Type 0 where
     pub date : HasDate
     pub enough : recordBytes ns ≤ room
     pub bytes : n ≡ recordBytes ns
@@ -83,8 +83,8 @@ module _ (ns : List ℕ) (cs : List ℤ) where
     wrong-counts : (r : Refusal) → Counts.RefusedFor ns (length cs) r → RefusedFor room r
     no-field : (g e : ℕ) → LowestNone g e → RefusedFor room (NoField g e)
     bad-date : (p : ℕ) → WrongDate p → RefusedFor room (BadDate p)
-    no-room : Short room → RefusedFor room NoRoom
+    no-room : OutputShort room → RefusedFor room NoRoom
 
   abbrev pub Due : ℕ → Answer → Type 0
-  Due room (Done n) = Stands room n
+  Due room (Done n) = TextFits room n
   Due room (Refused r) = RefusedFor room r

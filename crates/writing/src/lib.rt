@@ -18,7 +18,7 @@ ghost use Rattle.count.specs.Check.{checkedOf};
 ghost use Rattle.count.specs.Tally.{cellsBefore};
 ghost use Rattle.date.specs.Date.{datedOf};
 ghost use Rattle.writing.specs.Fitting.{elementsFit, fitOf, Fitted};
-ghost use Rattle.writing.specs.Text.{lineEnd, entriesText, indexText, lineOf, fieldsText, linesText, groupsText};
+ghost use Rattle.writing.specs.Text.{lineEnd, entriesText, indexText, lineOfMany, fieldsText, linesText, groupsText};
 ghost use Rattle.writing.specs.Text.{recordText, bytesOf, recordBytes};
 ghost use Rattle.writing.specs.Writing.{dateLetters, writeFit, writeRoom, writingOf, outputBy};
 
@@ -201,7 +201,7 @@ fn put_fields(
     requires room { ⌜ at + many * rowOf form .width ≤ length (now out) ⌝ }
     ensures answer { λ r. ⌜ r ≡ at + many * rowOf form .width ⌝ }
     ensures output { λ _. ⌜ now (out .exit) ≡
-        over at (fieldsText form (lineOf many) (drop from (now (cells .entry)))) (now (out .entry)) ⌝ }
+        over at (fieldsText form (lineOfMany many) (drop from (now (cells .entry)))) (now (out .entry)) ⌝ }
 {
     let width = row.width;
     let size = row.cells;

@@ -4,14 +4,14 @@ use mathlib.Core.Path.{_≡_, sym, ap, _∙_}
 use borrow.Author.Tests.{eq-eqb, ne-eqb}
 use lib.ListN.{length}
 use Rattle.form.specs.Table.{rowOf}
-use Rattle.field.specs.Kind.{countOf}
+use Rattle.field.specs.Kind.{kindCells}
 use Rattle.field.specs.Write.{rangeOf, fitsOf}
 use Rattle.field.proofs.Forms.{kind-cells}
 use Rattle.field.proofs.fits.Statement.{statement}
 use Rattle.field.proofs.fits.Tie as tie
 
 count : (c : tie.After-count-of) → c .count-of .result ≡ rowOf (c .before .before .args .form) .cells
-count c = c .count-of .ensures ∙ ap countOf (c .before .kind-of .ensures) ∙ kind-cells (c .before .before .args .form)
+count c = c .count-of .ensures ∙ ap kindCells (c .before .kind-of .ensures) ∙ kind-cells (c .before .before .args .form)
 
 returns : tie.Need-returns
 unfolding fitsOf

@@ -5,7 +5,7 @@ use mathlib.Core.Path.{sym, ap, _∙_}
 use borrow.Author.Needs.{sfits-of}
 use mir.Syntax.{w64}
 use mir.Facts.{toZ-ofZ}
-use Rattle.group.specs.Characteristics.{told}
+use Rattle.group.specs.Characteristics.{toldBy}
 use Rattle.group.proofs.Reported.{number-low, number-high, four-refused, four-few, four-told}
 use Rattle.group.proofs.characteristic_at.Statement.{statement}
 use Rattle.group.proofs.characteristic_at.Tie as tie
@@ -31,7 +31,7 @@ returns-4 c =
 returns-5 : tie.Need-returns-5
 returns-5 c =
     let o = c .before .before .before .before .before .before .before .before .before .before .before .before in
-    c .told-by .ensures ∙ ap told (toZ-ofZ {w = w64} (sfits-of {w = w64} (c .before .told-by-arg .given))) ∙ four-told (o .args .text .now) (o .args .at) (o .args .number) (c .before .before .before .before .before .before .before .before .before .before .if1 .left) (c .before .before .before .before .before .before .before .before .before .if2 .left) (sym (c .before .before .before .before .n .given .1) ∙ c .before .before .before .before .before .before .before .read-group .ensures .0) (c .before .before .if3 .left) _ _ (c .before .before .before .before .before .before .before .read-group .ensures .1)
+    c .told-by .ensures ∙ ap toldBy (toZ-ofZ {w = w64} (sfits-of {w = w64} (c .before .told-by-arg .given))) ∙ four-told (o .args .text .now) (o .args .at) (o .args .number) (c .before .before .before .before .before .before .before .before .before .before .if1 .left) (c .before .before .before .before .before .before .before .before .before .if2 .left) (sym (c .before .before .before .before .n .given .1) ∙ c .before .before .before .before .before .before .before .read-group .ensures .0) (c .before .before .if3 .left) _ _ (c .before .before .before .before .before .before .before .read-group .ensures .1)
 
 pub characteristic-at-spec : {M : Type 1} → statement M
 characteristic-at-spec =
