@@ -52,7 +52,7 @@ use Rattle.base.proofs.Taken.{take-none}
 use Rattle.group.specs.Due.{PlacingDue, MissingDue, no-group, broken-rule, unplaced, FoundDue, GivenPart, PartDue, ReadingDue, Due, NoNumber, FourReads, HasCell, CharacteristicDue}
 use Rattle.group.proofs.Holding.{given-part, missing-span}
 use Rattle.group.proofs.Texts.{read-missing, read-given}
-use Rattle.group.proofs.Reported.{no-reading-cell, no-reading-is, is-reading, number-low, number-high, number-inside}
+use Rattle.group.proofs.Reported.{no-reading-cell, no-reading-is, is-reading, number-none, number-inside}
 use Rattle.group.proofs.Rooms.{form-four, cells-four, room-four, same-room}
 
 -- ---- the lines of a group
@@ -224,17 +224,10 @@ module _ (s : List ℕ) (at k : ℕ) where
       let t : leb k (length (d .cs)) ≡ true = le-leb k (length (d .cs)) (omega (arith, read-size (d .cs) (d .reads), d .within)) in
       to-reported (done (d .cs)) (d .reads) ∙ rw (t, d .cell) refl
 
-  out-of-range : ((1 ≤ k) × (k ≤ 49) → ⊥) → characteristicAt s at k ≡ Refused NoSuchNumber
-  out-of-range n =
-      ⊎-elim
-      (λ (low : 1 ≤ k). ⊎-elim (λ (high : k ≤ 49). absurd (n (low, high))) (λ (h : 49 < k). sym (number-high s at k low h)) (le-or-lt k 49))
-      (λ (h : k < 1). sym (number-low s at k h))
-      (le-or-lt 1 k)
-
   told-given : (c : Characteristic) → CharacteristicDue s at k c → characteristicAt s at k ≡ c
   told-given (Refused r) d =
       ⊎-elim
-      (λ (n : NoNumber s at k r). out-of-range (n .none) ∙ ap Refused (sym (n .twelve)))
+      (λ (n : NoNumber s at k r). number-none s at k (λ low high. n .none (low, high)) ∙ ap Refused (sym (n .twelve)))
       (λ (h : FourReads s at k (bad r)). to-reported (bad r) h)
       d
   told-given NotReported d =
@@ -263,13 +256,13 @@ module _ (s : List ℕ) (at k : ℕ) where
       (λ (low : 1 ≤ k).
       ⊎-elim
       (λ (high : k ≤ 49). subst (CharacteristicDue s at k) (sym (number-inside s at k low high refl)) (from-four (readAt s at 4 49) record { low = low; high = high; four = four-is (readAt s at 4 49) .0 refl }))
-      (λ (h : 49 < k). none (λ r. omega (arith, r .1)))
+      (λ (h : 49 < k). none (λ low high. omega arith))
       (le-or-lt k 49))
-      (λ (h : k < 1). none (λ r. omega (arith, r .0)))
+      (λ (h : k < 1). none (λ low high. omega arith))
       (le-or-lt 1 k)
     where
-      none : ((1 ≤ k) × (k ≤ 49) → ⊥) → CharacteristicDue s at k (characteristicAt s at k)
-      none n = subst (CharacteristicDue s at k) (sym (out-of-range n)) (inl record { none = n; twelve = refl })
+      none : (1 ≤ k → k ≤ 49 → ⊥) → CharacteristicDue s at k (characteristicAt s at k)
+      none n = subst (CharacteristicDue s at k) (sym (number-none s at k n)) (inl record { none = λ r. n (r .0) (r .1); twelve = refl })
 
   pub characteristic-first-due : (c : Characteristic) → characteristicAt s at k ≡ c ↔ CharacteristicDue s at k c
   characteristic-first-due c = (λ e. subst (CharacteristicDue s at k) e told-is-due, told-given c)

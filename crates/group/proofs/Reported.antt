@@ -1,16 +1,17 @@
 -- A characteristic: by its number, by what group 4 reads as, and by its cell.
 -- Assumes nothing.
 use mathlib.Core.Path.{_≡_, refl, sym, _∙_, ap}
-use mathlib.Core.Bool.{Bool, true, false, cond, false≢true}
+use mathlib.Core.Bool.{Bool, true, false, cond, _&&_, false≢true}
 use mathlib.Core.List.{List}
 use Prim.Native.Nat.{ℕ, _+_, _-_, _<_, _≤_}
 use native.Mathlib.Omega.{arith}
-use borrow.Author.Tests.{le-leb, lt-leb, eqb-true}
-use lib.Dec.{eqb, leb}
+use borrow.Author.Tests.{le-leb, lt-leb, leb-true, eqb-true}
+use lib.Dec.{eqb, leb, leb→le}
 use lib.IntN.{ℤ, pos, negsuc}
 use lib.ListN.{length, drop, getD, List·getD-append}
 use Rattle.base.specs.Pieces.{done, bad}
 use Rattle.base.specs.Sign.{negative, sizeOf}
+use Rattle.base.proofs.Choice.{and-left, and-right, and-first, and-second, not-T-false}
 use Rattle.reply.specs.declared.Refusal.{Refusal}
 use Rattle.reply.specs.declared.Refusal.the-variants.{NoSuchNumber}
 use Rattle.reply.specs.declared.Answer.the-variants as A
@@ -54,15 +55,21 @@ is-reading z n = by (isNoReading z) refl
 -- ---- by the number
 
 module _ (s : List ℕ) (at k : ℕ) where
-  pub number-low : k < 1 → Refused NoSuchNumber ≡ characteristicAt s at k
+  -- R212: 12 where the number is none of 1 to 49
+  outside : (1 ≤ k → k ≤ 49 → ⊥) → leb 1 k && leb k 49 ≡ false
+  outside n = not-T-false (leb 1 k && leb k 49) (λ t. n (leb→le 1 k (and-left (leb 1 k) (leb k 49) t)) (leb→le k 49 (and-right (leb 1 k) (leb k 49) t)))
+
+  pub number-outside : leb 1 k && leb k 49 ≡ false → Refused NoSuchNumber ≡ characteristicAt s at k
   unfolding characteristicAt
-  number-low h = rw (lt-leb 1 k h)
+  number-outside e = rw e
+
+  pub number-none : (1 ≤ k → k ≤ 49 → ⊥) → characteristicAt s at k ≡ Refused NoSuchNumber
+  number-none n = sym (number-outside (outside n))
+
+  pub number-within : leb 1 k && leb k 49 ≡ true → (1 ≤ k) × (k ≤ 49)
+  number-within e = (leb-true 1 k (and-first (leb 1 k) (leb k 49) e), leb-true k 49 (and-second (leb 1 k) (leb k 49) e))
 
   module _ (low : 1 ≤ k) where
-    pub number-high : 49 < k → Refused NoSuchNumber ≡ characteristicAt s at k
-    unfolding characteristicAt
-    number-high h = rw (le-leb 1 k low, lt-leb k 49 h)
-
     module _ (high : k ≤ 49) where
       pub number-inside : {g : Cells} → readAt s at 4 49 ≡ g → characteristicAt s at k ≡ reported k g
       unfolding characteristicAt

@@ -4,6 +4,8 @@ use reply::Answer;
 use reply::Checked;
 use reply::Refusal;
 ghost use mathlib.Core.Path.{_≡_};
+ghost use mathlib.Core.Bool.{_&&_};
+ghost use lib.Dec.{leb};
 ghost use lib.ListN.{length, replicate};
 ghost use Rattle.reading.specs.Read.{readingOf, tableBy};
 ghost use Rattle.group.specs.Characteristics.{isNoReading, toldBy, characteristicAt};
@@ -141,14 +143,18 @@ fn told_by(v: i64) -> Characteristic
     Characteristic::Value(v)
 }
 
+// R212: whether a characteristic has this number.
+fn is_characteristic(number: usize) -> bool
+    ensures { λ r. ⌜ r ≡ leb 1 number && leb number 49 ⌝ }
+{
+    1 <= number && number <= 49
+}
+
 // R294: asks for a characteristic, 1 to 49, of the record at a place of a text.
 pub fn characteristic_at(text: &[u8], at: usize, number: usize) -> Characteristic
     ensures { λ r. ⌜ r ≡ characteristicAt (now (text .entry)) at number ⌝ }
 {
-    if number < 1 {
-        return Characteristic::Refused(Refusal::NoSuchNumber);
-    }
-    if 49 < number {
+    if !is_characteristic(number) {
         return Characteristic::Refused(Refusal::NoSuchNumber);
     }
     let mut table = [0i64; 49];
