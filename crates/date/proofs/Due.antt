@@ -105,8 +105,11 @@ read-holds : {f : DigitField} {s : List ℕ} {v : ℕ} → Reads f s v → Holds
 read-holds {v = v} r = record { value = v; reads = r }
 
 numbers-hold : (s : List ℕ) (d : Date) → HasNumbers s d → AllHold fields s
-numbers-hold s d n =
-    (read-holds (n .in-year), (read-holds (n .on-day-of-year), (read-holds (n .in-month), (read-holds (n .on-day), (read-holds (n .at-hour), (read-holds (n .at-minute), (read-holds (n .at-second), tt)))))))
+numbers-hold s d n = (
+  read-holds
+      (n .in-year),
+  (read-holds (n .on-day-of-year), (read-holds (n .in-month), (read-holds (n .on-day), (read-holds (n .at-hour), (read-holds (n .at-minute), (read-holds (n .at-second), tt)))))),
+)
 
 numbers-are : (s : List ℕ) (d : Date) → HasNumbers s d → dateOf s ≡ d
 numbers-are s d n =

@@ -40,7 +40,8 @@ digits-fuel (suc k) zero n h g = absurd (omega arith)
 digits-fuel (suc k) (suc m) n h g =
     one (ltb n 10) refl (λ l. digits-fuel k m (n / 10) (omega (arith, less-tenth n l)) (omega (arith, less-tenth n l)))
   where
-    one : (c : Bool) → ltb n 10 ≡ c → (10 ≤ n → digitsIn k (n / 10) ≡ digitsIn m (n / 10)) → cond c (n ∷ []) (digitsIn k (n / 10) ++ (n % 10 ∷ [])) ≡ cond c (n ∷ []) (digitsIn m (n / 10) ++ (n % 10 ∷ []))
+    one : (c : Bool) → ltb n 10 ≡ c → (10 ≤ n → digitsIn k (n / 10) ≡ digitsIn m (n / 10))
+        → cond c (n ∷ []) (digitsIn k (n / 10) ++ (n % 10 ∷ [])) ≡ cond c (n ∷ []) (digitsIn m (n / 10) ++ (n % 10 ∷ []))
     one true e r = refl
     one false e r = ap (λ l. l ++ (n % 10 ∷ [])) (r (ltb-false n 10 e))
 

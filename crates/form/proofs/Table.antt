@@ -74,7 +74,8 @@ listed-form f g h = sym (is-form (Has f) g (every-has (is (Has f)) (formEntry f 
 
 -- ---- a group's form lists the group
 
-step : (k f : Form) (fs : List Form) (g : ℕ) (t : Bool) → has (formEntry k .groups) g ≡ t → (formAmong fs g ≡ Has f → T (has (formEntry f .groups) g)) → cond t (Has k) (formAmong fs g) ≡ Has f → T (has (formEntry f .groups) g)
+step : (k f : Form) (fs : List Form) (g : ℕ) (t : Bool) → has (formEntry k .groups) g ≡ t → (formAmong fs g ≡ Has f → T (has (formEntry f .groups) g))
+    → cond t (Has k) (formAmong fs g) ≡ Has f → T (has (formEntry f .groups) g)
 step k f fs g true u rest e =
     let p : k ≡ f = cc in
     rw (← p, u) tt

@@ -184,7 +184,8 @@ module _ {D : ℕ → Type 0} (s t : List ℕ) (o : Replaced D s t) where
     part-length-kept = there (λ p. length (partAt t p g)) j (part-length-same s t (spot s j) (o .lines) (located-kept j) g)
 
     -- every group, altered or not, is read from the counts that its record had and what now stands in place of its lines
-    pub read-by-lines : IsRecord s (spot s j) → (room : ℕ) → readAt t (spot t j) g room ≡ readGroup (countsAt s (spot s j)) g (part (linesStart s (spot s j) g) (linesStart s (spot s j) (suc g)) t) room
+    pub read-by-lines : IsRecord s (spot s j) → (room : ℕ)
+        → readAt t (spot t j) g room ≡ readGroup (countsAt s (spot s j)) g (part (linesStart s (spot s j) g) (linesStart s (spot s j) (suc g)) t) room
     read-by-lines r room =
         let at = spot s j in
         let c : r .ns ≡ countsAt s at = sym (counts-at s at (r .next) (r .ns) (r .is)) in

@@ -239,7 +239,11 @@ module _ (s : List ℕ) (at k : ℕ) where
   from-cell : (z : ℤ) (t : Bool) → HasCell s at k z → isNoReading z ≡ t → CharacteristicDue s at k (cond t NoReading (Value z))
   from-cell z true h e = record { z = z; cell = h; none = no-reading-is z e }
   from-cell z false h e =
-      record { cell = h; reading = λ u. let w : toldBy z ≡ NoReading = ap toldBy u ∙ no-reading-cell in let v : Value z ≡ NoReading = sym (rw e refl) ∙ w in let y : _≡_ {A = ℕ} 0 1 = cc in omega arith }
+      record {
+        cell = h;
+        reading = λ u. let w : toldBy z ≡ NoReading = ap toldBy u ∙ no-reading-cell in let v : Value z ≡ NoReading = sym (rw e refl)
+            ∙ w in let y : _≡_ {A = ℕ} 0 1 = cc in omega arith;
+      }
 
   from-count : (cs : List ℤ) (t : Bool) → FourReads s at k (done cs) → leb k (length cs) ≡ t → CharacteristicDue s at k (cond t (toldBy (getD cs (k - 1) (pos 0))) NotReported)
   from-count cs true h e =
@@ -255,7 +259,8 @@ module _ (s : List ℕ) (at k : ℕ) where
       ⊎-elim
       (λ (low : 1 ≤ k).
       ⊎-elim
-      (λ (high : k ≤ 49). subst (CharacteristicDue s at k) (sym (number-inside s at k low high refl)) (from-four (readAt s at 4 49) record { low = low; high = high; four = four-is (readAt s at 4 49) .0 refl }))
+      (λ (high : k ≤ 49). subst (CharacteristicDue s at k) (sym (number-inside s at k low high refl))
+      (from-four (readAt s at 4 49) record { low = low; high = high; four = four-is (readAt s at 4 49) .0 refl }))
       (λ (h : 49 < k). none (λ low high. omega arith))
       (le-or-lt k 49))
       (λ (h : k < 1). none (λ low high. omega arith))

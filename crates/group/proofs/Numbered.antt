@@ -58,7 +58,8 @@ module _ (s : List ℕ) (at g : ℕ) where
 
 -- of group 4 the lines alone are refused: 49 cells have room, and it has no date
 module _ (s : List ℕ) (at k : ℕ) where
-  lines-numbered : (n : ℕ) (placed : PlacingDue s at 4 (P.Placed n)) (x : List ℕ) (r : Refusal) → RefusedFor (placed .placing .ns) 4 x 49 r → Numbered (rows (askedRefusals ++ lineRefusals)) (refusalReply r)
+  lines-numbered : (n : ℕ) (placed : PlacingDue s at 4 (P.Placed n)) (x : List ℕ) (r : Refusal) → RefusedFor (placed .placing .ns) 4 x 49 r
+      → Numbered (rows (askedRefusals ++ lineRefusals)) (refusalReply r)
   lines-numbered n placed x r (Reading.no-group d) = inl (refusal-fills NoSuchNumber tt)
   lines-numbered n placed x r (Reading.broken-rule h d) =
       at-row 7 (rows (askedRefusals ++ lineRefusals)) (refusalReply (BrokenRule h)) (lit< tt) (refusal-fills (BrokenRule h) (broken-group (placed .placing .ns) (d .broken) .0, tt))

@@ -64,7 +64,9 @@ module _ (s : List ℕ) (at g : ℕ) (old : List ℤ) where
   pub text-missing : {r : Refusal} → C.Refused r ≡ foundAt s at g → Answers (readAt s at g (length old)) old (A.Refused r) old
   text-missing e = rw (read-missing s at g (length old) (sym e)) (refl, refl)
 
-  pub text-given : C.Right ≡ foundAt s at g → (ns : List ℕ) → ns ≡ countsHeld s at g → (from to : ℕ) → (from ≡ start s at ns g) × (to ≡ start s at ns (g + 1)) → {r : Answer} {new : List ℤ} → Answers (readGroup ns g (part from to s) (length old)) old r new → Answers (readAt s at g (length old)) old r new
+  pub text-given : C.Right ≡ foundAt s at g → (ns : List ℕ) → ns ≡ countsHeld s at g → (from to : ℕ) → (from ≡ start s at ns g) × (to ≡ start s at ns (g + 1))
+      → {r : Answer} {new : List ℤ} → Answers (readGroup ns g (part from to s) (length old)) old r new → Answers (readAt s at g (length old)) old r new
   text-given e ns c from to a {r} {new} b =
-      let same : readGroup ns g (part from to s) (length old) ≡ readAt s at g (length old) = rw (held-part s at g (sym e) ns c from to a, held-counts s at g (sym e) ns c) (sym (read-given s at g (length old) (sym e))) in
+      let same : readGroup ns g (part from to s) (length old) ≡ readAt s at g (length old) =
+      rw (held-part s at g (sym e) ns c from to a, held-counts s at g (sym e) ns c) (sym (read-given s at g (length old) (sym e))) in
       subst (λ y. Answers y old r new) same b

@@ -75,6 +75,7 @@ module _ (t u : List ℕ) (k g : ℕ) where
     pub others : (j h : ℕ) → Other k g j h → (table : List ℤ) → SameReading (readAt u (spot u j) h (length table)) (readAt t (spot t j) h (length table)) table
     -- D3.6: that group is read or refused as D2 says, decided by its lines, the counts of its record and the table's length alone: by
     -- `readGroup`, in which the text does not occur, from the counts that the record has in t and what u has in place of the lines
-    pub altered : (table : List ℤ) → SameReading (readAt u (spot u k) g (length table)) (readGroup (countsAt t (spot t k)) g (part (linesStart t (spot t k) g) (linesStart t (spot t k) (suc g)) u) (length table)) table
+    pub altered : (table : List ℤ)
+        → SameReading (readAt u (spot u k) g (length table)) (readGroup (countsAt t (spot t k)) g (part (linesStart t (spot t k) g) (linesStart t (spot t k) (suc g)) u) (length table)) table
     -- D3.7: a characteristic is a cell of group 4: where that is not the altered group, every one is what it was
     pub characteristics : (j : ℕ) → Other k g j 4 → (number : ℕ) → characteristicAt u (spot u j) number ≡ characteristicAt t (spot t j) number

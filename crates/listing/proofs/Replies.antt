@@ -107,7 +107,9 @@ pub is-listing : (s x : List ℕ) → IsListing s x → x ≡ listing s
 unfolding listing listingOf endAt endRow
 is-listing s x h =
     let many = h .many in
-    let these : h .rows ≡ map (row s) (upFrom 0 many) = ext-getD [] (h .rows) (map (row s) (upFrom 0 many)) (h .as-many ∙ sym (length-map (upFrom 0 many) (row s) ∙ length-up 0 many)) (λ k l. is-row s k (getD (h .rows) k []) (h .each k (omega (arith, l, h .as-many))) ∙ sym (getD-map-up (row s) 0 many k [] (omega (arith, l, h .as-many)) ∙ ap (row s) (zero-add k))) in
+    let these : h .rows ≡ map (row s) (upFrom 0 many) =
+    ext-getD [] (h .rows) (map (row s) (upFrom 0 many)) (h .as-many ∙ sym (length-map (upFrom 0 many) (row s) ∙ length-up 0 many))
+    (λ k l. is-row s k (getD (h .rows) k []) (h .each k (omega (arith, l, h .as-many))) ∙ sym (getD-map-up (row s) 0 many k [] (omega (arith, l, h .as-many)) ∙ ap (row s) (zero-add k))) in
     let final : h .last ≡ last s many = h .end .numbers ∙ rw (Placing.first-due s (spot s many) (h .end .placing) .1 (h .end .placed)) refl in
     h .text
     ∙ ap (λ t. flatMap rowText t ++ (bytes "end " ++ rowText (h .last))) these

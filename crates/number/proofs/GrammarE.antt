@@ -89,9 +89,11 @@ module _ (c d x : ℕ) (s : List ℕ) (h : 1 ≤ c) (t : Parts c d x s) where
         byte-behind s (t .front ++ (t .last ∷ t .point ∷ t .digits)) (t .sign ∷ t .exponent) (t .letter) (c + 1 + d) (t .is ∙ simp append-assoc) to-letter,
         part-behind s [] (t .front) (t .last ∷ t .point ∷ rest) 0 (c - 1) (t .is) refl (omega (arith, t .lengths .0)),
         byte-behind s (t .front) (t .point ∷ rest) (t .last) (c - 1) (t .is) (t .lengths .0),
-        part-behind s (t .front ++ (t .last ∷ t .point ∷ [])) (t .digits) (t .letter ∷ t .sign ∷ t .exponent) (c + 1) (c + 1 + d) (t .is ∙ simp append-assoc) behind-point (omega (arith, t .lengths .1)),
+        part-behind s (t .front ++ (t .last ∷ t .point ∷ [])) (t .digits) (t .letter ∷ t .sign ∷ t .exponent) (c + 1) (c + 1 + d) (t .is ∙ simp append-assoc) behind-point
+            (omega (arith, t .lengths .1)),
         byte-behind s (t .front ++ (t .last ∷ t .point ∷ (t .digits ++ (t .letter ∷ [])))) (t .exponent) (t .sign) (c + 2 + d) (t .is ∙ simp append-assoc) to-sign,
-        part-behind s (t .front ++ (t .last ∷ t .point ∷ (t .digits ++ (t .letter ∷ t .sign ∷ [])))) (t .exponent) [] (c + 3 + d) (length s) (t .is ∙ simp (append-assoc, append-nil)) behind-sign (omega (arith, all, t .lengths .2)),
+        part-behind s (t .front ++ (t .last ∷ t .point ∷ (t .digits ++ (t .letter ∷ t .sign ∷ [])))) (t .exponent) [] (c + 3 + d) (length s)
+            (t .is ∙ simp (append-assoc, append-nil)) behind-sign (omega (arith, all, t .lengths .2)),
       )
 
 record Two-more (l : List ℕ) (n : ℕ) : Type 0 where
@@ -167,7 +169,8 @@ e-read c d x s m e i =
     let ds = digitText (i .rest .digits) in
     let es = digitText (i .rest .exponent) in
     let v = signByte (i .rest .down) in
-    let f : s ≡ a ++ (u ∷ 46 ∷ (ds ++ (69 ∷ v ∷ es))) = i .rest .text ∙ ap (λ l. l ++ (46 ∷ (ds ++ (69 ∷ v ∷ es)))) (lead-cut (i .blanks) (i .lead)) ∙ append-assoc a (u ∷ []) (46 ∷ (ds ++ (69 ∷ v ∷ es))) in
+    let f : s ≡ a ++ (u ∷ 46 ∷ (ds ++ (69 ∷ v ∷ es))) =
+    i .rest .text ∙ ap (λ l. l ++ (46 ∷ (ds ++ (69 ∷ v ∷ es)))) (lead-cut (i .blanks) (i .lead)) ∙ append-assoc a (u ∷ []) (46 ∷ (ds ++ (69 ∷ v ∷ es))) in
     let la : length a + 1 ≡ c = sym (length-append a (u ∷ [])) ∙ sym (ap length (lead-cut (i .blanks) (i .lead))) ∙ i .columns in
     e-at c d x s (omega arith) record {
       front = a;
@@ -209,7 +212,15 @@ led-blank a u h =
 
 led-signed : (a : List ℕ) (u : ℕ) → Held a Signed → Before a u (leadOf Signed u)
 led-signed a u h =
-    cond-elim (Before a u) (eqb u 48) (λ e. led (record { blanks = h .blanks; lead = minusNought; text = ap₂ (λ l y. l ++ (y ∷ [])) (h .text) (eqb-true u 48 e) ∙ append-assoc (replicate (h .blanks) 32) (45 ∷ []) (48 ∷ []); is = refl })) λ _.
+    cond-elim (Before a u) (eqb u 48)
+    (λ e. led
+    (record {
+      blanks = h .blanks;
+      lead = minusNought;
+      text = ap₂ (λ l y. l ++ (y ∷ [])) (h .text) (eqb-true u 48 e)
+          ∙ append-assoc (replicate (h .blanks) 32) (45 ∷ []) (48 ∷ []);
+      is = refl;
+    })) λ _.
     broke (record { is = refl })
 
 lead-is : (a : List ℕ) (u : ℕ) (st : Scan) → Held a st → Before a u (leadOf st u)
@@ -256,7 +267,8 @@ misformed-two : (m e : ℤ) → Misformed ≡ Two m e → ⊥
 misformed-two m e p = let y : _≡_ {A = ℕ} 0 1 = cc in omega arith
 
 module _ {c d x : ℕ} {s : List ℕ} (p : Parts c d x s) (m e : ℤ) (h : 1 ≤ c) where
-  joined : p .point ≡ 46 → p .letter ≡ 69 → Led (p .front) (p .last) (leadOf (scanOf Blanks (p .front)) (p .last)) → Sign (p .sign) (signOf (p .sign)) → oneOf (scanOf (leadOf (scanOf Blanks (p .front)) (p .last)) (p .digits)) ≡ One m → oneOf (scanOf (signOf (p .sign)) (p .exponent)) ≡ One e → IsE c d x s m e
+  joined : p .point ≡ 46 → p .letter ≡ 69 → Led (p .front) (p .last) (leadOf (scanOf Blanks (p .front)) (p .last)) → Sign (p .sign) (signOf (p .sign))
+      → oneOf (scanOf (leadOf (scanOf Blanks (p .front)) (p .last)) (p .digits)) ≡ One m → oneOf (scanOf (signOf (p .sign)) (p .exponent)) ≡ One e → IsE c d x s m e
   joined f g l k q r =
       let a = ends (leadMinus (l .lead)) 0 (p .digits) m (sym (ap (λ st. oneOf (scanOf st (p .digits))) (l .is)) ∙ q) in
       let b = ends (k .down) 0 (p .exponent) e (sym (ap (λ st. oneOf (scanOf st (p .exponent))) (k .is)) ∙ r) in
@@ -283,7 +295,8 @@ module _ {c d x : ℕ} {s : List ℕ} (p : Parts c d x s) (m e : ℤ) (h : 1 ≤
         };
       }
 
-  chosen : p .point ≡ 46 → p .letter ≡ 69 → Before (p .front) (p .last) (leadOf (scanOf Blanks (p .front)) (p .last)) → Signs (p .sign) (signOf (p .sign)) → oneOf (scanOf (leadOf (scanOf Blanks (p .front)) (p .last)) (p .digits)) ≡ One m → oneOf (scanOf (signOf (p .sign)) (p .exponent)) ≡ One e → IsE c d x s m e
+  chosen : p .point ≡ 46 → p .letter ≡ 69 → Before (p .front) (p .last) (leadOf (scanOf Blanks (p .front)) (p .last)) → Signs (p .sign) (signOf (p .sign))
+      → oneOf (scanOf (leadOf (scanOf Blanks (p .front)) (p .last)) (p .digits)) ≡ One m → oneOf (scanOf (signOf (p .sign)) (p .exponent)) ≡ One e → IsE c d x s m e
   chosen f g (led l) (given k) q r = joined f g l k q r
   chosen f g (led l) (none b) q r = no-number (p .exponent) (signOf (p .sign)) e b r
   chosen f g (broke b) k q r = no-number (p .digits) (leadOf (scanOf Blanks (p .front)) (p .last)) m b q
@@ -295,7 +308,8 @@ module _ {c d x : ℕ} {s : List ℕ} (p : Parts c d x s) (m e : ℤ) (h : 1 ≤
       let f : p .point ≡ 46 = eqb-true (p .point) 46 (cond-taken (eqb (p .point) 46) _ Misformed (Two m e) (misformed-two m e) r₁) in
       let r₂ : cond (eqb (p .letter) 69) w Misformed ≡ Two m e = cond-kept (eqb (p .point) 46) _ Misformed (Two m e) (misformed-two m e) r₁ in
       let g : p .letter ≡ 69 = eqb-true (p .letter) 69 (cond-taken (eqb (p .letter) 69) _ Misformed (Two m e) (misformed-two m e) r₂) in
-      let q = pair-is (oneOf (scanOf (leadOf (scanOf Blanks (p .front)) (p .last)) (p .digits))) (oneOf (scanOf (signOf (p .sign)) (p .exponent))) m e (cond-kept (eqb (p .letter) 69) w Misformed (Two m e) (misformed-two m e) r₂) in
+      let q = pair-is (oneOf (scanOf (leadOf (scanOf Blanks (p .front)) (p .last)) (p .digits))) (oneOf (scanOf (signOf (p .sign)) (p .exponent))) m e
+      (cond-kept (eqb (p .letter) 69) w Misformed (Two m e) (misformed-two m e) r₂) in
       chosen f g (lead-is (p .front) (p .last) (scanOf Blanks (p .front)) (held (p .front))) (sign-is (p .sign)) (q .first) (q .second)
 
 pub read-e : (c d x : ℕ) (s : List ℕ) (m e : ℤ) → 1 ≤ c → readE c d x s ≡ Two m e → IsE c d x s m e

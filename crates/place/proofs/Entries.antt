@@ -69,8 +69,10 @@ module _ (s : List ℕ) (from : ℕ) (old : List ℕ) where
         record {
           stored = b .stored ++ (n ∷ []);
           many = length-append (b .stored) (n ∷ []) ∙ omega (arith, b .many);
-          place = over-then old new (set new (from + k) n) (b .stored) (n ∷ []) from (from + k) (omega (arith, b .many)) (omega arith) (b .place) (over-one new (from + k) n (omega (arith, ap length (b .place))));
-          rest = b .rest ∙ ap (behindThese (b .stored)) (next ∙ ap (λ x. entryThen x (readEntries (40 - (k + 1)) (drop ((k + 1) * 3) s))) e) ∙ one-before (b .stored) n (readEntries (40 - (k + 1)) (drop ((k + 1) * 3) s));
+          place = over-then old new (set new (from + k) n) (b .stored) (n ∷ []) from (from + k) (omega (arith, b .many)) (omega arith) (b .place)
+              (over-one new (from + k) n (omega (arith, ap length (b .place))));
+          rest = b .rest ∙ ap (behindThese (b .stored)) (next ∙ ap (λ x. entryThen x (readEntries (40 - (k + 1)) (drop ((k + 1) * 3) s))) e)
+              ∙ one-before (b .stored) n (readEntries (40 - (k + 1)) (drop ((k + 1) * 3) s));
         }
 
 -- all are stored

@@ -50,7 +50,8 @@ module _ (s : List ℕ) (at n : ℕ) (ns : List ℕ) where
   xs : List ℕ
   xs = drop at s
 
-  by-lines : (ms : List ℕ) (t : Bool) → at < length s → 2 ≤ feeds xs → readIndex xs ≡ counts ms → releaseOf ms ≡ Five → leb (recordLines ms) (feeds xs) ≡ t → cond t (located (at + reach xs (recordLines ms)) ms) (refused TooFewLines) ≡ located n ns → IsLocated s at n ns
+  by-lines : (ms : List ℕ) (t : Bool) → at < length s → 2 ≤ feeds xs → readIndex xs ≡ counts ms → releaseOf ms ≡ Five → leb (recordLines ms) (feeds xs) ≡ t
+      → cond t (located (at + reach xs (recordLines ms)) ms) (refused TooFewLines) ≡ located n ns → IsLocated s at n ns
   unfolding xs
   by-lines ms true i h r f u e =
       let p : ms ≡ ns = cc in
@@ -72,7 +73,8 @@ module _ (s : List ℕ) (at n : ℕ) (ns : List ℕ) where
   unfolding locate xs
   located-is e = by (ltb (length s) at) (eqb (length s) at) (leb 2 (feeds xs)) refl refl refl e
     where
-      by : (a b c : Bool) → ltb (length s) at ≡ a → eqb (length s) at ≡ b → leb 2 (feeds xs) ≡ c → cond a (refused Beyond) (cond b (refused End) (cond c (locateIndex xs at (readIndex xs)) (refused TooFewLines))) ≡ located n ns → IsLocated s at n ns
+      by : (a b c : Bool) → ltb (length s) at ≡ a → eqb (length s) at ≡ b → leb 2 (feeds xs) ≡ c
+          → cond a (refused Beyond) (cond b (refused End) (cond c (locateIndex xs at (readIndex xs)) (refused TooFewLines))) ≡ located n ns → IsLocated s at n ns
       by true b c u v w e = no-record e
       by false true c u v w e = no-record e
       by false false false u v w e = no-record e

@@ -37,7 +37,9 @@ pub record Twice : Type 0 where
   pub point : getD twiceS 299 0 ≡ 46
 
 pub twice : Twice
-unfolding recordS twiceS countsS locate readIndex readIndexLine readEntries Entry.entryOf start groupPart Lines.feeds Lines.reach Contents.contentOf Tally.linesIn Tally.lineTally Tally.linesBefore Sum.sum Every.upFrom Table.rowOf Table.formEntry Table.formAmong Table.formOf Count.linesOf Count.roundedUp Count.elementsOf Rules.releaseOf Rules.filledAmong
+unfolding recordS twiceS countsS locate readIndex readIndexLine readEntries Entry.entryOf start groupPart Lines.feeds Lines.reach Contents.contentOf
+    Tally.linesIn Tally.lineTally Tally.linesBefore Sum.sum Every.upFrom Table.rowOf Table.formEntry Table.formAmong Table.formOf Count.linesOf Count.roundedUp
+    Count.elementsOf Rules.releaseOf Rules.filledAmong
 twice = record {
   long = refl;
   first = refl;

@@ -168,7 +168,8 @@ module _ (f : Form) (columns : ℕ) (s : List ℕ) where
 
   pub right-high : isRight f columns s ≡ true → length s ≤ 120
   unfolding isRight
-  right-high e = leb-true (length s) 120 (and-first (leb (length s) 120) (every blank (drop columns s)) (and-second (leb (shortest f columns) (length s)) (leb (length s) 120 && every blank (drop columns s)) e))
+  right-high e =
+      leb-true (length s) 120 (and-first (leb (length s) 120) (every blank (drop columns s)) (and-second (leb (shortest f columns) (length s)) (leb (length s) 120 && every blank (drop columns s)) e))
 
   right-after : isRight f columns s ≡ true → T (every blank (drop columns s))
   right-after e = true-T (every blank (drop columns s)) (sym (right-rest (right-low e) (right-high e)) ∙ e)

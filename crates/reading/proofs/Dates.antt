@@ -66,7 +66,16 @@ module _ (s : List ℕ) (k : ℕ) (long : 19 ≤ length s) (enough : 19 ≤ k) w
   pub dated-take : datedOf (take k s) ≡ datedOf s
   unfolding Date.datedOf Date.firstBlamed
   dated-take =
-      rw (digits-take year (omega arith), digits-take dayOfYear (omega arith), digits-take month (omega arith), digits-take day (omega arith), digits-take hour (omega arith), digits-take minute (omega arith), digits-take second (omega arith))
+      rw (
+        digits-take year (omega arith),
+        digits-take dayOfYear (omega arith),
+        digits-take month (omega arith),
+        digits-take day (omega arith),
+        digits-take hour
+            (omega arith),
+        digits-take minute (omega arith),
+        digits-take second (omega arith),
+      )
 
 -- ---- letters read as their bytes
 
@@ -148,7 +157,8 @@ module _ (count : ℕ) (x : List ℕ) (cs : List ℤ) (h : readLines A1 count x 
 
   pub first-letters : FirstLetters k x (map sizeOf cs)
   unfolding p n line-one readLines planOf Count.linesOf
-  first-letters = by (both-done (readLine A1 line-one (part 0 end x)) (readLinesOf A1 (planFrom p n 1 (roundedUp n p - 1)) (drop end x)) cs (sym (lines-more A1 x p n 0 (roundedUp n p - 1) 0 end refl) ∙ some))
+  first-letters =
+      by (both-done (readLine A1 line-one (part 0 end x)) (readLinesOf A1 (planFrom p n 1 (roundedUp n p - 1)) (drop end x)) cs (sym (lines-more A1 x p n 0 (roundedUp n p - 1) 0 end refl) ∙ some))
     where
       end : ℕ
       end = 0 + reach (drop 0 x) 1
@@ -165,7 +175,8 @@ module _ (count : ℕ) (x : List ℕ) (cs : List ℤ) (h : readLines A1 count x 
       by : BothDone (readLine A1 line-one (part 0 end x)) (readLinesOf A1 (planFrom p n 1 (roundedUp n p - 1)) (drop end x)) cs → FirstLetters k x (map sizeOf cs)
       by d =
           let r = first-line line-one (part 0 end x) (d .first) end many-is refl (omega (arith, reach-le (drop 0 x) 1, ap length (drop-none x))) (d .first-is) in
-          let letters : map sizeOf cs ≡ take k x ++ map sizeOf (d .second) = ap (map sizeOf) (d .all ∙ ap (λ y. y ++ d .second) (r .1)) ∙ map-append sizeOf (map pos (take k x)) (d .second) ∙ ap (λ y. y ++ map sizeOf (d .second)) (bytes-back (take k x)) in
+          let letters : map sizeOf cs ≡ take k x ++ map sizeOf (d .second) =
+          ap (map sizeOf) (d .all ∙ ap (λ y. y ++ d .second) (r .1)) ∙ map-append sizeOf (map pos (take k x)) (d .second) ∙ ap (λ y. y ++ map sizeOf (d .second)) (bytes-back (take k x)) in
           let l : length (take k x) ≡ k = length-take-le k x (r .0) in
           record {
             inside = r .0;
@@ -187,7 +198,8 @@ module _ (count : ℕ) (x : List ℕ) (v : verdictOf (readLines A1 count x) ≡ 
       let r = clean-read (readLines A1 count x) v in
       let b = letters-first in
       let long : 19 ≤ k = omega (arith, letters-row .0, letters-count count) in
-      let same : datedOf (map sizeOf (r .cells)) ≡ d = sym (dated-take (map sizeOf (r .cells)) k (omega (arith, b .many)) long) ∙ ap datedOf (b .same ∙ ap (take k) (sym (drop-none x)) ∙ ap (λ i. take i (drop 0 x)) (sym (sub-zero k))) ∙ e in
+      let same : datedOf (map sizeOf (r .cells)) ≡ d =
+      sym (dated-take (map sizeOf (r .cells)) k (omega (arith, b .many)) long) ∙ ap datedOf (b .same ∙ ap (take k) (sym (drop-none x)) ∙ ap (λ i. take i (drop 0 x)) (sym (sub-zero k))) ∙ e in
       sym (ap (λ g. verdictOf (dated 3 g)) (r .is) ∙ verdict (r .cells) (datedOf (map sizeOf (r .cells))) ∙ ap dateVerdict same)
     where
       verdict : (cs : List ℤ) (d : Dated) → verdictOf (byDate cs d) ≡ dateVerdict d

@@ -45,7 +45,8 @@ use Rattle.reading.specs.Blanks.{mayBeShort, isRight, filledTo, rightCon
 use Rattle.reading.specs.Plan.{Line}
 use Rattle.reading.specs.Read.{Cells, readField, readFields, columnsOf, readLines, byDate, dated, readForm, readRuled, readBy, readGroup}
 use Rattle.reading.specs.Values.{lineOf, planned, fieldIn, RightLine, Values}
-use Rattle.reading.specs.Due.{CleanLine, AllClean, ComesTo, WrongLine, WrongField, Ruled, Roomy, CellsRead, DoneDue, RefusedFor, no-group, broken-rule, no-room, bad-line, bad-field, bad-date, Due}
+use Rattle.reading.specs.Due.{CleanLine, AllClean, ComesTo, WrongLine, WrongField, Ruled, Roomy, CellsRead, DoneDue, RefusedFor, no-group, broken-rule}
+use Rattle.reading.specs.Due.{no-room, bad-line, bad-field, bad-date, Due}
 use Rattle.reading.proofs.Blanks.{right-plain}
 use Rattle.reading.proofs.Lines.{right-yes, right-is, line-right, line-wrong}
 use Rattle.reading.proofs.Fields.{short-one, fields-start}
@@ -107,7 +108,12 @@ module _ (f : Form) (count : ℕ) (x : List ℕ) where
         by : (c : Content) → rightContent f (columnsOf f l) (lineOf x j) ≡ c → LineRight ⊎ LineWrong
         by (Length n) e =
             let i = right-is f (columnsOf f l) (lineOf x j) n e in
-            let r : RightLine f count x j (take n (lineOf x j)) = record { content = is-content (lineOf x j) n (i .content) .0; right = right-plain f (columnsOf f l) (take n (lineOf x j)) .0 (ap (isRight f (columnsOf f l)) (sym (part-zero n (lineOf x j))) ∙ i .right) } in
+            let r : RightLine f count x j (take n (lineOf x j)) =
+            record {
+              content = is-content (lineOf x j) n (i .content) .0;
+              right = right-plain f (columnsOf f l) (take n (lineOf x j)) .0
+                  (ap (isRight f (columnsOf f l)) (sym (part-zero n (lineOf x j))) ∙ i .right);
+            } in
             inl record { content = take n (lineOf x j); line = r; reads = right-reads (take n (lineOf x j)) r }
         by NoReturn e =
             inr record {
@@ -186,7 +192,9 @@ module _ (f : Form) (count : ℕ) (x : List ℕ) where
             content = w .content;
             line = w .line;
             inside = c .inside;
-            earlier = λ i h. some-field f (fieldIn f count (b .at) (w .content) i) .0 (field-done f (l (b .at) .number) (l (b .at) .first + i) (fieldIn f count (b .at) (w .content) i) (c .earlier i h .cells) (c .earlier i h .is) .good);
+            earlier =
+                λ i h. some-field f (fieldIn f count (b .at) (w .content) i) .0
+                (field-done f (l (b .at) .number) (l (b .at) .first + i) (fieldIn f count (b .at) (w .content) i) (c .earlier i h .cells) (c .earlier i h .is) .good);
             misformed = q .none;
             number = refl;
             element = refl;

@@ -49,9 +49,11 @@ module _ (bytes : List ℕ) (width : ℕ) (old : List ℤ) (at : ℕ) (short : l
   pub letters-none : old ≡ over at (take 0 (map pos (filledTo width bytes))) old
   letters-none = over-none old at ∙ ap (λ l. over at l old) (sym (take-none (map pos (filledTo width bytes))))
 
-  pub letters-more : (i : ℕ) (table : List ℤ) (z : ℤ) → i < width → z ≡ pos (getD bytes i 32) → table ≡ over at (take i (map pos (filledTo width bytes))) old → set table (at + i) z ≡ over at (take (i + 1) (map pos (filledTo width bytes))) old
+  pub letters-more : (i : ℕ) (table : List ℤ) (z : ℤ) → i < width → z ≡ pos (getD bytes i 32) → table ≡ over at (take i (map pos (filledTo width bytes))) old
+      → set table (at + i) z ≡ over at (take (i + 1) (map pos (filledTo width bytes))) old
   letters-more i table z h e b =
-      let d : z ≡ getD (map pos (filledTo width bytes)) i (pos 0) = e ∙ ap pos (sym (filled-getD width bytes i)) ∙ sym (getD-map-within pos (filledTo width bytes) i 32 (pos 0) (omega (arith, filled-length width bytes short))) in
+      let d : z ≡ getD (map pos (filledTo width bytes)) i (pos 0) =
+      e ∙ ap pos (sym (filled-getD width bytes i)) ∙ sym (getD-map-within pos (filledTo width bytes) i 32 (pos 0) (omega (arith, filled-length width bytes short))) in
       rw d (over-turn old (map pos (filledTo width bytes)) table at i (pos 0) (omega (arith, many)) (omega (arith, many)) b)
 
   pub letters-all : (i : ℕ) (table : List ℤ) → width ≤ i → table ≡ over at (take i (map pos (filledTo width bytes))) old → table ≡ over at (map pos (filledTo width bytes)) old
@@ -91,8 +93,11 @@ pub record ToPut (f : Form) (width : ℕ) (bytes : List ℕ) (old : List ℤ) (a
 module _ {f : Form} {width : ℕ} {bytes : List ℕ} {old : List ℤ} {at : ℕ} (p : ToPut f width bytes old at) where
   pub short-room : mayBeShort f ≡ true → (length bytes ≤ width) × (at + width ≤ length old)
   short-room e =
-      let l : length bytes ≤ width = omega (arith, p .fit .high) in
-      (l, omega (arith, cells-size f (filledTo width bytes) (p .good), ap length (short-cells f (filledTo width bytes) e (p .good)), length-map (filledTo width bytes) pos, filled-length width bytes l))
+      let l : length bytes ≤ width = omega (arith, p .fit .high) in (
+        l,
+        omega
+            (arith, cells-size f (filledTo width bytes) (p .good), ap length (short-cells f (filledTo width bytes) e (p .good)), length-map (filledTo width bytes) pos, filled-length width bytes l),
+      )
 
   pub short-put : mayBeShort f ≡ true → {new : List ℤ} → new ≡ over at (map pos (filledTo width bytes)) old → new ≡ over at (valueCells (filledTo width bytes) (fieldOf f (filledTo width bytes))) old
   short-put e n = n ∙ ap (λ l. over at l old) (sym (short-cells f (filledTo width bytes) e (p .good)))

@@ -68,7 +68,13 @@ fields-size f number e (suc k) s cs h =
     let w = rowOf f .width in
     let d = both-done (readField f number e (take w s)) (readFields f (record { number = number; first = suc e; many = k }) (drop w s)) cs h in
     ap length (d .all) ∙ length-append (d .first) (d .second)
-    ∙ omega (arith, reads-size f (take w s) (d .first) (field-done f number e (take w s) (d .first) (d .first-is)), fields-size f number (suc e) k (drop w s) (d .second) (d .second-is), suc-mul k (rowOf f .cells))
+    ∙ omega (
+      arith,
+      reads-size f (take w s) (d .first) (field-done f number e (take w s) (d .first) (d .first-is)),
+      fields-size f number (suc e) k (drop w s) (d .second)
+          (d .second-is),
+      suc-mul k (rowOf f .cells),
+    )
 
 -- a line that was read is right, and its fields were
 pub record LineDone (f : Form) (l : Line) (x : List ℕ) (cs : List ℤ) : Type 0 where
@@ -81,7 +87,8 @@ pub line-done : (f : Form) (l : Line) (x : List ℕ) (cs : List ℤ) → readLin
 unfolding readLine
 line-done f l x cs h = by (contentOf x) refl h
   where
-    test : (n : ℕ) (t : Bool) → contentOf x ≡ Length n → isRight f (columnsOf f l) (part 0 n x) ≡ t → cond t (readFields f l (filledTo (columnsOf f l) (part 0 n x))) (bad (BadLine (l .number))) ≡ done cs → LineDone f l x cs
+    test : (n : ℕ) (t : Bool) → contentOf x ≡ Length n → isRight f (columnsOf f l) (part 0 n x) ≡ t
+        → cond t (readFields f l (filledTo (columnsOf f l) (part 0 n x))) (bad (BadLine (l .number))) ≡ done cs → LineDone f l x cs
     test n true u v w = record { bytes = n; content = u; right = v; fields = w }
     test n false u v w = no-done w
 

@@ -116,7 +116,8 @@ module _ (f : Form) (count : ℕ) (x : List ℕ) where
       record {
         content = s;
         line = record { content = is-content y (d .bytes) (d .content) .0; right = right-plain f (columnsOf f l) s .0 (ap (isRight f (columnsOf f l)) (sym t) ∙ d .right) };
-        each = λ k h. field-done f (l .number) (l .first + k) (fieldIn f count j s k) (part (k * rowOf f .cells) (suc k * rowOf f .cells) cs) (piece-done (fields-pieces f l text) (fields-sized f l text) cs fields k h);
+        each = λ k h. field-done f (l .number) (l .first + k) (fieldIn f count j s k) (part (k * rowOf f .cells) (suc k * rowOf f .cells) cs)
+            (piece-done (fields-pieces f l text) (fields-sized f l text) cs fields k h);
       }
 
   -- ---- the group
@@ -167,7 +168,8 @@ module _ (f : Form) (count : ℕ) (x : List ℕ) where
         record {
           content = r .content;
           line = r .line;
-          reads = lawful f .reads-is (fieldIn f count j (r .content) k) (part ((j * p + k) * c) ((j * p + k) * c + c) cs) (subst (ReadsAs f (fieldIn f count j (r .content) k)) (part-part (begins j) (begins (suc j)) (k * c) (suc k * c) cs within ∙ rw (from, to) refl) (r .each k (omega arith)));
+          reads = lawful f .reads-is (fieldIn f count j (r .content) k) (part ((j * p + k) * c) ((j * p + k) * c + c) cs)
+              (subst (ReadsAs f (fieldIn f count j (r .content) k)) (part-part (begins j) (begins (suc j)) (k * c) (suc k * c) cs within ∙ rw (from, to) refl) (r .each k (omega arith)));
         }
 
     -- what was read is the group's values

@@ -74,16 +74,7 @@ fn is_right(form: Form, columns: usize, content: &[u8]) -> bool
     ensures { λ r. ⌜ r ≡ isRight form columns (now (content .entry)) ⌝ }
 {
     let n = content.len();
-    if n < least(form, columns) {
-        return false;
-    }
-    if 120 < n {
-        return false;
-    }
-    if n <= columns {
-        return true;
-    }
-    all_blank(&content[columns..n])
+    least(form, columns) <= n && (n <= 120 && (n <= columns || all_blank(&content[columns..n])))
 }
 
 // R66: the length of a line's content, if there is one and it is right.

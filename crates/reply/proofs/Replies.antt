@@ -39,7 +39,8 @@ shown-written : (bs : Given) → Counted bs → Shown (has (codesOf bs) 1 || has
 shown-written [] c = refl
 shown-written (g ∷ gs) c = by (eqb (code (g .0)) 1) (eqb (code (g .0)) 2) (has (codesOf gs) 1) (shown-written gs (c .1))
   where
-    by : (t u v : Bool) → Shown (v || has (codesOf gs) 2) 1 (given (λ c. is cells c || is bytes c) gs) → Shown ((t || v) || (u || has (codesOf gs) 2)) 1 (cond (t || u) (g .1) (given (λ c. is cells c || is bytes c) gs))
+    by : (t u v : Bool) → Shown (v || has (codesOf gs) 2) 1 (given (λ c. is cells c || is bytes c) gs)
+        → Shown ((t || v) || (u || has (codesOf gs) 2)) 1 (cond (t || u) (g .1) (given (λ c. is cells c || is bytes c) gs))
     by true u v h = c .0
     by false true true h = c .0
     by false true false h = c .0

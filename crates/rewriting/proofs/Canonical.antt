@@ -45,7 +45,8 @@ module _ {x : List ℕ} (r : RightRecord x) (a b : List ℕ) where
   here = a ++ (x ++ b)
 
   back : ReadsBack (r .ns) (r .cs) (length x) here (length a)
-  back = canonical-back (r .canonical) (release-given (r .ns) Five (r .release)) (kept-ruling (r .ns) (r .rules)) record { date = r .date; right = Letters.first-due (dateLetters (r .ns) (r .cs)) (Right (r .date)) .1 (r .dated) } a b
+  back = canonical-back (r .canonical) (release-given (r .ns) Five (r .release))
+      (kept-ruling (r .ns) (r .rules)) record { date = r .date; right = Letters.first-due (dateLetters (r .ns) (r .cs)) (Right (r .date)) .1 (r .dated) } a b
 
   reads : (g : ℕ) → 1 ≤ g → g ≤ 60 → groupRead here (length a) g ≡ done (groupCells (r .ns) (r .cs) g)
   reads g low high = back .groups g (cellsIn (countsAt here (length a)) g) low high (rw (back .counts) (omega arith))
@@ -112,7 +113,8 @@ rewritten-canonical zero s at = none
 rewritten-canonical (suc k) s at = by (programRewriting s at) refl (rewritten-canonical k s)
   where
     by : (r : Rewriting) → programRewriting s at ≡ r → ((p : ℕ) → CanonicalRecords (rewrittenFrom k s p)) → CanonicalRecords (textThen (textAt s at) (rewrittenFrom k s) r)
-    by (Done bytes next) e rest = more (textAt s at) (text-right s at 8192 8192 bytes next e) (omega (arith, done-text s at 8192 8192 bytes next e, done-within s at 8192 8192 bytes next e)) (rest next)
+    by (Done bytes next) e rest =
+        more (textAt s at) (text-right s at 8192 8192 bytes next e) (omega (arith, done-text s at 8192 8192 bytes next e, done-within s at 8192 8192 bytes next e)) (rest next)
     by (Refused r) e rest = none
     by (GroupRefused g r) e rest = none
 

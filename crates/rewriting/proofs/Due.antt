@@ -100,7 +100,9 @@ module _ (s : List ℕ) (at cells room : ℕ) where
   unfolding rewritingOf
   short-is h =
       let ns = countsAt s at in
-      let e : hasRoom ns cells room ≡ false = ⊎-elim (λ (l : room < recordBytes ns). rw (lt-leb (recordBytes ns) room l) refl) (λ (l : cells < recordCells ns). rw (lt-leb (recordCells ns) cells l) (and-false (leb (recordBytes ns) room))) (h .short) in
+      let e : hasRoom ns cells room ≡ false =
+      ⊎-elim (λ (l : room < recordBytes ns). rw (lt-leb (recordBytes ns) room l) refl)
+      (λ (l : cells < recordCells ns). rw (lt-leb (recordCells ns) cells l) (and-false (leb (recordBytes ns) room))) (h .short) in
       rw (h .placed, e) refl
 
   -- what is due is given

@@ -40,7 +40,8 @@ module _ (s : List ℕ) where
   rewritten-enough (suc k) zero at a b = rewritten-stop (suc k) at (end-never at (omega arith))
   rewritten-enough (suc k) (suc m) at a b = by (programRewriting s at) refl (rewritten-enough k m)
     where
-      by : (r : Rewriting) → programRewriting s at ≡ r → ((p : ℕ) → length s ≤ p + k → length s ≤ p + m → rewrittenFrom k s p ≡ rewrittenFrom m s p) → textThen (textAt s at) (rewrittenFrom k s) r ≡ textThen (textAt s at) (rewrittenFrom m s) r
+      by : (r : Rewriting) → programRewriting s at ≡ r → ((p : ℕ) → length s ≤ p + k → length s ≤ p + m → rewrittenFrom k s p ≡ rewrittenFrom m s p)
+          → textThen (textAt s at) (rewrittenFrom k s) r ≡ textThen (textAt s at) (rewrittenFrom m s) r
       by (Done bytes next) e more =
           let h = done-further s at 8192 8192 bytes next e in
           ap (λ y. textAt s at ++ y) (more next (omega arith) (omega arith))
@@ -96,7 +97,8 @@ module _ (s : List ℕ) where
 
       pub printing-more : Printing s next
       printing-more =
-          let f : rewrittenFrom (length s) s at ≡ textAt s at ++ rewrittenFrom (length s) s next = rewritten-enough s (length s) (suc (length s)) at (omega arith) (omega arith) ∙ rewritten-done s (length s) at bytes next e in
+          let f : rewrittenFrom (length s) s at ≡ textAt s at ++ rewrittenFrom (length s) s next =
+          rewritten-enough s (length s) (suc (length s)) at (omega arith) (omega arith) ∙ rewritten-done s (length s) at bytes next e in
           record {
             before = p .before ++ textAt s at;
             reached = one-more at bytes next (p .before) (p .reached) e;

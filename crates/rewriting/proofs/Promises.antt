@@ -114,7 +114,8 @@ module _ (s : List ℕ) (at cells room bytes next : ℕ) (e : rewritingOf s at c
 -- ---- the table
 
 -- groups k in number from a on were read, and the one behind them was refused
-turned : (read : ℕ → Cells) (cells : ℕ → List ℤ) (r : Refusal) (a n k : ℕ) → k < n → ((g : ℕ) → a ≤ g → g < a + k → read g ≡ done (cells g)) → ((g : ℕ) → g ≡ a + k → read g ≡ bad r) → cellsInTurn read (upFrom a n) ≡ flatMap cells (upFrom a k)
+turned : (read : ℕ → Cells) (cells : ℕ → List ℤ) (r : Refusal) (a n k : ℕ) → k < n → ((g : ℕ) → a ≤ g → g < a + k → read g ≡ done (cells g))
+    → ((g : ℕ) → g ≡ a + k → read g ≡ bad r) → cellsInTurn read (upFrom a n) ≡ flatMap cells (upFrom a k)
 unfolding cellsInTurn Every.upFrom flatMap
 turned read cells r a zero k l each none = absurd (omega arith)
 turned read cells r a (suc n) zero l each none = rw (none a (omega arith))
@@ -188,7 +189,8 @@ module _ (s : List ℕ) (at cells room : ℕ) where
   unplaced-numbered (Placed n) r d e = let z : _≡_ {A = ℕ} 0 1 = cc in absurd (omega arith)
   unplaced-numbered (P.BrokenRule h n) r d e =
       let q : BrokenRule h ≡ r = cc in
-      subst (λ x. Numbered (rows placingRefusals) (refusalReply x)) q (at-row 6 (rows placingRefusals) (refusalReply (BrokenRule h)) (lit< tt) (refusal-fills (BrokenRule h) (broken-group (d .ns) (d .broken) .0, tt)))
+      subst (λ x. Numbered (rows placingRefusals) (refusalReply x)) q
+      (at-row 6 (rows placingRefusals) (refusalReply (BrokenRule h)) (lit< tt) (refusal-fills (BrokenRule h) (broken-group (d .ns) (d .broken) .0, tt)))
   unplaced-numbered (P.Refused q) r d e =
       let f : q ≡ r = cc in
       subst (λ x. Numbered (rows placingRefusals) (refusalReply x)) f (rows-left unplacedRefusals (BrokenRule 0 ∷ []) (refusalReply q) (refused-numbered s at q d))

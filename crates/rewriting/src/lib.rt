@@ -103,7 +103,14 @@ fn write_cells(counts: &[u16], table: &[i64], cells: usize, out: &mut [u8])
 }
 
 // R321 to R324, for a record that is placed with 0.
-fn rewrite_placed(text: &[u8], at: usize, next: usize, counts: &[u16], table: &mut [i64], out: &mut [u8]) -> Rewriting
+fn rewrite_placed(
+    text: &[u8],
+    at: usize,
+    next: usize,
+    counts: &[u16],
+    table: &mut [i64],
+    out: &mut [u8],
+) -> Rewriting
     requires placed { ⌜ placingOf (now text) at ≡ Placing.Placed next ⌝ }
     requires counts { ⌜ now counts ≡ countsAt (now text) at ⌝ }
     ensures answer { λ r. ⌜ r ≡

@@ -68,7 +68,8 @@ list-rest : (s out : List ℕ) (r : Answer) → listedIn (listing s) (length out
 list-rest s out (A.Done n) e = listed-rest (listing s) out n e
 list-rest s out (A.Refused r) e = ap (drop (refusalReply r .written)) (listed-keeps (listing s) out r e)
 
-rewrite-rest : (s : List ℕ) (at cells : ℕ) (out : List ℕ) (r : Rewriting) → rewritingOf s at cells (length out) ≡ r → drop (rewritingReply r .written) (bufferBy s at r out) ≡ drop (rewritingReply r .written) out
+rewrite-rest : (s : List ℕ) (at cells : ℕ) (out : List ℕ) (r : Rewriting) → rewritingOf s at cells (length out) ≡ r
+    → drop (rewritingReply r .written) (bufferBy s at r out) ≡ drop (rewritingReply r .written) out
 rewrite-rest s at cells out (R.Done bytes next) e = done-keeps-rest s at cells (length out) bytes next e out
 rewrite-rest s at cells out (R.Refused r) e = refl
 rewrite-rest s at cells out (R.GroupRefused g r) e = refl

@@ -46,7 +46,8 @@ as-due =
       listing-is = λ s x. (λ e. subst (IsListing s) e (Listed.listing-is s), λ h. sym (Listed.is-listing s x h));
     }
 
-rewrites : (s : List ℕ) (at cells : ℕ) (out : List ℕ) (bytes next : ℕ) → rewritingOf s at cells (length out) ≡ Rewritten bytes next → Rewrites s at bytes next (bufferBy s at (Rewritten bytes next) out)
+rewrites : (s : List ℕ) (at cells : ℕ) (out : List ℕ) (bytes next : ℕ) → rewritingOf s at cells (length out) ≡ Rewritten bytes next
+    → Rewrites s at bytes next (bufferBy s at (Rewritten bytes next) out)
 rewrites s at cells out bytes next e =
     let placed = RewritingDue.first-due s at cells (length out) (Rewritten bytes next) .0 e .roomy .placed in
     let all = done-all s at cells (length out) bytes next e in

@@ -63,10 +63,15 @@ pub record RefusedWriteKeeps : Type 0 where
 
 -- R266, R306, R311, R324: what stands behind the cells or bytes that were written stays as it was
 pub record KeepsRest : Type 0 where
-  pub reading : (s : List ℕ) (at g : ℕ) (table : List ℤ) → drop (answerReply (readingOf (readAt s at g (length table))) .written) (tableBy (readAt s at g (length table)) table) ≡ drop (answerReply (readingOf (readAt s at g (length table))) .written) table
-  pub writing : (ns : List ℕ) (cs : List ℤ) (out : List ℕ) → drop (answerReply (writingOf ns cs (length out)) .written) (outputBy ns cs (writingOf ns cs (length out)) out) ≡ drop (answerReply (writingOf ns cs (length out)) .written) out
+  pub reading : (s : List ℕ) (at g : ℕ) (table : List ℤ)
+      → drop (answerReply (readingOf (readAt s at g (length table))) .written) (tableBy (readAt s at g (length table)) table) ≡ drop
+      (answerReply (readingOf (readAt s at g (length table))) .written) table
+  pub writing : (ns : List ℕ) (cs : List ℤ) (out : List ℕ)
+      → drop (answerReply (writingOf ns cs (length out)) .written) (outputBy ns cs (writingOf ns cs (length out)) out) ≡ drop (answerReply (writingOf ns cs (length out)) .written) out
   pub listed : (s out : List ℕ) → drop (answerReply (listedIn (listing s) (length out)) .written) (putBytes 0 (listing s) out) ≡ drop (answerReply (listedIn (listing s) (length out)) .written) out
-  pub rewriting : (s : List ℕ) (at cells : ℕ) (out : List ℕ) → drop (rewritingReply (rewritingOf s at cells (length out)) .written) (bufferBy s at (rewritingOf s at cells (length out)) out) ≡ drop (rewritingReply (rewritingOf s at cells (length out)) .written) out
+  pub rewriting : (s : List ℕ) (at cells : ℕ) (out : List ℕ)
+      → drop (rewritingReply (rewritingOf s at cells (length out)) .written) (bufferBy s at (rewritingOf s at cells (length out)) out) ≡ drop
+      (rewritingReply (rewritingOf s at cells (length out)) .written) out
 
 pub record Demand1 : Type 0 where
   pub numbered : EndsNumbered

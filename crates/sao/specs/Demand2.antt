@@ -77,9 +77,11 @@ pub record LentHolds : Type 0 where
   pub reading : (s : List ℕ) (at g : ℕ) (table cs : List ℤ) → readAt s at g (length table) ≡ done cs → take (length cs) (tableBy (readAt s at g (length table)) table) ≡ cs
   pub writing : (ns : List ℕ) (cs : List ℤ) (out : List ℕ) (n : ℕ) → writingOf ns cs (length out) ≡ Done n → take n (outputBy ns cs (writingOf ns cs (length out)) out) ≡ recordText ns cs
   pub listed : (s out : List ℕ) (n : ℕ) → listedIn (listing s) (length out) ≡ Done n → take n (putBytes 0 (listing s) out) ≡ listing s
-  pub rewriting : (s : List ℕ) (at cells : ℕ) (out : List ℕ) (bytes next : ℕ) → rewritingOf s at cells (length out) ≡ Rewritten bytes next → Rewrites s at bytes next (bufferBy s at (rewritingOf s at cells (length out)) out)
+  pub rewriting : (s : List ℕ) (at cells : ℕ) (out : List ℕ) (bytes next : ℕ) → rewritingOf s at cells (length out) ≡ Rewritten bytes next
+      → Rewrites s at bytes next (bufferBy s at (rewritingOf s at cells (length out)) out)
   -- R326: rewriting's table begins with the cells of the groups that were read, also where a later group was refused, and is as it was behind them
-  pub rewriting-table : (s : List ℕ) (at room : ℕ) (table : List ℤ) → TableHas s at (groupsRead (rewritingOf s at (length table) room)) table (tableAfter s at (rewritingOf s at (length table) room) table)
+  pub rewriting-table : (s : List ℕ) (at room : ℕ) (table : List ℤ)
+      → TableHas s at (groupsRead (rewritingOf s at (length table) room)) table (tableAfter s at (rewritingOf s at (length table) room) table)
 
 -- D2.3: n bytes, canonical with these counts and cells, and no other text is (R100)
 pub record OneCanonical (ns : List ℕ) (cs : List ℤ) (n : ℕ) : Type 0 where
@@ -98,7 +100,10 @@ WrittenReadsBack =
 -- D2.5: what was read from canonical text is written as that text
 pub record ReadWrites : Type 0 where
   -- a record of any text whose groups all read with 0 and whose bytes are canonical
-  pub record-returns : (s : List ℕ) (at next : ℕ) (cells : ℕ → List ℤ) (ds : List ℤ) → ReadWhole s at next cells → CanonicalRecord (countsAt s at) (part at next s) ds → (out : List ℕ) → next - at ≤ length out → (writingOf (countsAt s at) (joined cells) (length out) ≡ Done (next - at)) × (outputBy (countsAt s at) (joined cells) (writingOf (countsAt s at) (joined cells) (length out)) out ≡ over 0 (part at next s) out)
+  pub record-returns : (s : List ℕ) (at next : ℕ) (cells : ℕ → List ℤ) (ds : List ℤ) → ReadWhole s at next cells → CanonicalRecord (countsAt s at) (part at next s) ds
+      → (out : List ℕ) → next - at ≤ length out
+      → (writingOf (countsAt s at) (joined cells) (length out) ≡ Done (next - at)) ×
+      (outputBy (countsAt s at) (joined cells) (writingOf (countsAt s at) (joined cells) (length out)) out ≡ over 0 (part at next s) out)
   -- R348: what the program prints for a text of canonical records, each of at most 8,192 bytes
   pub text-returns : (s : List ℕ) → CanonicalRecords s → length s ≤ 65536 → printed s ≡ s
   -- and for what it printed itself

@@ -7,7 +7,8 @@ use lib.IntN.{ℤ}
 use lib.ListN.{length}
 use Rattle.base.specs.Pieces.{done, bad}
 use Rattle.reply.specs.declared.Refusal.{Refusal}
-use Rattle.reply.specs.declared.Refusal.the-variants.{End, Beyond, TooFewLines, Misformed, OtherRelease, FilledVacant, BrokenRule, BadLine, BadField, BadDate, NoRoom, NoSuchNumber, NoField, OtherLength}
+use Rattle.reply.specs.declared.Refusal.the-variants.{End, Beyond, TooFewLines, Misformed, OtherRelease, FilledVacant, BrokenRule, BadLine, BadField, BadDate}
+use Rattle.reply.specs.declared.Refusal.the-variants.{NoRoom, NoSuchNumber, NoField, OtherLength}
 use Rattle.reply.specs.declared.Checked.the-variants as C
 use Rattle.reply.specs.declared.Answer.the-variants as A
 use Rattle.reply.specs.Table.{told, next, cells, bytes, group, line, element, position}

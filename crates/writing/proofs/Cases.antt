@@ -25,7 +25,10 @@ _also_ : {A B : Type 0} → A → B → A × B
 a also b = (a, b)
 
 pub marked : AllHolding cases
-unfolding Read.readForm Read.readLines Read.readLinesOf Read.readLine Read.readFields Pieces.gather Pieces.emit Plan.planOf Plan.planFrom Every.upFrom Table.rowOf Table.formEntry Count.elementsOf Count.linesOf Count.roundedUp Count.cellsOf Lines.reach Contents.contentOf Blanks.isRight Blanks.filledTo FieldRead.fieldOf Write.fitsOf Write.fieldText Entry.entryOf elementsFit firstMisfit linesText lineText fieldsText Date.datedOf Date.firstBlamed Digits.fieldDigits Calendar.nameDay Calendar.daysTo Calendar.monthLength Calendar.isLeap
+unfolding Read.readForm Read.readLines Read.readLinesOf Read.readLine Read.readFields Pieces.gather Pieces.emit Plan.planOf Plan.planFrom Every.upFrom
+    Table.rowOf Table.formEntry Count.elementsOf Count.linesOf Count.roundedUp Count.cellsOf Lines.reach Contents.contentOf Blanks.isRight Blanks.filledTo
+    FieldRead.fieldOf Write.fitsOf Write.fieldText Entry.entryOf elementsFit firstMisfit linesText lineText fieldsText Date.datedOf Date.firstBlamed
+    Digits.fieldDigits Calendar.nameDay Calendar.daysTo Calendar.monthLength Calendar.isLeap
 marked =
     (refl, refl)
     also (λ g. refl)

@@ -57,7 +57,8 @@ module _ (ns : List ℕ) (cs : List ℤ) where
       let y = found-none ns cs (suc k) (x .0) (x .1) g e (sym (piece k (r .inside)) ∙ r .told) in
       by k (r .inside) (r .earlier) (x .0) (x .1) (y .0) (y .1)
     where
-      by : (k : ℕ) → k < 60 → ((i : ℕ) → i < k → groupFit ns (1 + i) (take (cellsIn ns (1 + i)) (drop (sum (map (cellsIn ns) (upFrom 1 i))) cs)) ≡ All) → (f : Form) (q : formOf (suc k) ≡ Has f) → g ≡ suc k → Lowest ns cs (suc k) f q e → LowestNone ns cs g e
+      by : (k : ℕ) → k < 60 → ((i : ℕ) → i < k → groupFit ns (1 + i) (take (cellsIn ns (1 + i)) (drop (sum (map (cellsIn ns) (upFrom 1 i))) cs)) ≡ All)
+          → (f : Form) (q : formOf (suc k) ≡ Has f) → g ≡ suc k → Lowest ns cs (suc k) f q e → LowestNone ns cs g e
       by k l earlier f q u y =
           subst (λ j. LowestNone ns cs j e) (sym u) record {
             table = t;

@@ -108,7 +108,9 @@ module _ (ns : List ℕ) (cs : List ℤ) (c : checkedOf ns (length cs) ≡ C.Rig
   date-same =
       let b = cellsBefore ns 3 in
       let w : cellsBefore ns 4 - b ≡ countOf ns 3 = omega (arith, behind) in
-      let l : length (dateLetters ns cs) ≡ countOf ns 3 = length-map (part b (cellsBefore ns 4) cs) sizeOf ∙ length-take (cellsBefore ns 4 - b) (drop b cs) ∙ omega (arith, w, length-drop b cs, inside, behind) in
+      let l : length (dateLetters ns cs) ≡ countOf ns 3 =
+      length-map (part b (cellsBefore ns 4) cs) sizeOf ∙ length-take (cellsBefore ns 4 - b) (drop b cs) ∙ omega (arith, w, length-drop b cs, inside, behind) in
       let m : min 19 (cellsBefore ns 4 - b) ≡ b + 19 - b = omega (arith, w, enough) in
-      let t : take 19 (dateLetters ns cs) ≡ map sizeOf (part b (b + 19) cs) = sym (map-take sizeOf 19 (part b (cellsBefore ns 4) cs)) ∙ ap (map sizeOf) (take-both 19 (cellsBefore ns 4 - b) (drop b cs) ∙ ap (λ n. take n (drop b cs)) m) in
+      let t : take 19 (dateLetters ns cs) ≡ map sizeOf (part b (b + 19) cs) =
+      sym (map-take sizeOf 19 (part b (cellsBefore ns 4) cs)) ∙ ap (map sizeOf) (take-both 19 (cellsBefore ns 4 - b) (drop b cs) ∙ ap (λ n. take n (drop b cs)) m) in
       ap datedOf (sym t) ∙ dated-take (dateLetters ns cs) 19 (omega (arith, l, enough)) (omega arith)

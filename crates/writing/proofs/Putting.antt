@@ -81,10 +81,12 @@ module _ (ns old : List ℕ) (at : ℕ) where
           }
 
 -- the index: two lines of 40 counts, each of 122 bytes
-pub index-line-put : (ns old mid new : List ℕ) (at : ℕ) → length ns ≡ 40 → at + 122 ≤ length old → mid ≡ over at (entriesText ns) old → new ≡ over (at + 120) lineEnd mid → new ≡ over at (entriesText ns ++ lineEnd) old
+pub index-line-put : (ns old mid new : List ℕ) (at : ℕ) → length ns ≡ 40 → at + 122 ≤ length old → mid ≡ over at (entriesText ns) old → new ≡ over (at + 120) lineEnd mid
+    → new ≡ over at (entriesText ns ++ lineEnd) old
 index-line-put ns old mid new at l h p q = over-then old mid new (entriesText ns) lineEnd at (at + 120) (omega (arith, entries-length ns)) (omega arith) p q
 
-pub index-put : (ns old mid new : List ℕ) → length ns ≡ 80 → 244 ≤ length old → mid ≡ over 0 (entriesText (part 0 40 ns) ++ lineEnd) old → new ≡ over 122 (entriesText (part 40 80 ns) ++ lineEnd) mid → new ≡ over 0 (indexText ns) old
+pub index-put : (ns old mid new : List ℕ) → length ns ≡ 80 → 244 ≤ length old → mid ≡ over 0 (entriesText (part 0 40 ns) ++ lineEnd) old
+    → new ≡ over 122 (entriesText (part 40 80 ns) ++ lineEnd) mid → new ≡ over 0 (indexText ns) old
 unfolding indexText
 index-put ns old mid new l h p q =
     let a : part 0 40 ns ≡ take 40 ns = ap (take 40) (drop-none ns) in
@@ -218,7 +220,8 @@ module _ (f : Form) (count : ℕ) (cs : List ℤ) (from at : ℕ) (old : List �
   abbrev p : ℕ
   p = rowOf f .«per_line»
 
-  pub lines-start : (row : Row) (left many : ℕ) → row ≡ rowOf f → left ≡ elementsOf f count → many ≡ roundedUp left (row .«per_line») → at + bytesOf f count ≤ length old → Lines f count cs from at old (row .«per_line») (row .cells) many left from at 0 old
+  pub lines-start : (row : Row) (left many : ℕ) → row ≡ rowOf f → left ≡ elementsOf f count → many ≡ roundedUp left (row .«per_line») → at + bytesOf f count ≤ length old
+      → Lines f count cs from at old (row .«per_line») (row .cells) many left from at 0 old
   unfolding linesText Plan.planOf Count.linesOf
   lines-start row left many r l m h =
       let e : many ≡ linesOf f count = m ∙ rw (l, ap (λ x. x .«per_line») r) in
@@ -256,7 +259,8 @@ module _ (f : Form) (count : ℕ) (cs : List ℤ) (from at : ℕ) (old : List �
       step-lines =
           let m : many - j ≡ suc (many - (j + 1)) = omega arith in
           let d : drop (lineAt p n j .many * rowOf f .cells) (drop cell cs) ≡ drop (cell + k * size) cs = ap (λ x. drop (x * rowOf f .cells) (drop cell cs)) many-here ∙ next-cell in
-          let t : lineText f (lineAt p n j) (take (lineCells f (lineAt p n j)) (drop cell cs)) ≡ lineText f (lineOfMany k) (drop cell cs) = line-any f (lineAt p n j) (drop cell cs) ∙ ap (λ x. lineText f (lineOfMany x) (drop cell cs)) many-here in
+          let t : lineText f (lineAt p n j) (take (lineCells f (lineAt p n j)) (drop cell cs)) ≡ lineText f (lineOfMany k) (drop cell cs) =
+          line-any f (lineAt p n j) (drop cell cs) ∙ ap (λ x. lineText f (lineOfMany x) (drop cell cs)) many-here in
           ap (λ x. linesFrom f count j x (drop cell cs)) m ∙ rw (t, d, add-one j)
 
       behind : min n (j * p) + k ≡ min n ((j + 1) * p)
@@ -281,12 +285,14 @@ module _ (f : Form) (count : ℕ) (cs : List ℤ) (from at : ℕ) (old : List �
         omega (arith, putting-room (b .put) (lineText f (lineOfMany k) (drop cell cs)) (linesFrom f count (j + 1) (many - (j + 1)) (drop (cell + k * size) cs)) step-lines, long-here),
       )
 
-      pub lines-next : (mid new : List ℕ) (end : ℕ) → end ≡ a + k * rowOf f .width → mid ≡ over a (fieldsText f (lineOfMany k) (drop cell cs)) out → new ≡ over end lineEnd mid → Lines f count cs from at old perLine size many (left - k) (cell + k * size) (end + 2) (j + 1) new
+      pub lines-next : (mid new : List ℕ) (end : ℕ) → end ≡ a + k * rowOf f .width → mid ≡ over a (fieldsText f (lineOfMany k) (drop cell cs)) out → new ≡ over end lineEnd mid
+          → Lines f count cs from at old perLine size many (left - k) (cell + k * size) (end + 2) (j + 1) new
       unfolding lineText
       lines-next mid new end e x y =
           let l : length (fieldsText f (lineOfMany k) (drop cell cs)) ≡ k * rowOf f .width = fields-length f (lineOfMany k) (drop cell cs) fits-here in
           let r = putting-room (b .put) (lineText f (lineOfMany k) (drop cell cs)) (linesFrom f count (j + 1) (many - (j + 1)) (drop (cell + k * size) cs)) step-lines in
-          let o : new ≡ over a (lineText f (lineOfMany k) (drop cell cs)) out = over-then out mid new (fieldsText f (lineOfMany k) (drop cell cs)) lineEnd a end (omega arith) (omega (arith, r, long-here)) x y in
+          let o : new ≡ over a (lineText f (lineOfMany k) (drop cell cs)) out =
+          over-then out mid new (fieldsText f (lineOfMany k) (drop cell cs)) lineEnd a end (omega arith) (omega (arith, r, long-here)) x y in
           record {
             per = b .per;
             sized = b .sized;
@@ -294,7 +300,8 @@ module _ (f : Form) (count : ℕ) (cs : List ℤ) (from at : ℕ) (old : List �
             few = omega arith;
             rest = omega (arith, b .rest, many-here, add-mul j 1 p, one-mul p);
             cells = ap (λ c. cell + k * c) (b .sized) ∙ cells-here;
-            put = putting-more (b .put) (lineText f (lineOfMany k) (drop cell cs)) (linesFrom f count (j + 1) (many - (j + 1)) (drop (cell + k * size) cs)) new (end + 2) step-lines (omega (arith, long-here)) o;
+            put = putting-more (b .put) (lineText f (lineOfMany k) (drop cell cs)) (linesFrom f count (j + 1) (many - (j + 1)) (drop (cell + k * size) cs)) new (end + 2) step-lines
+                (omega (arith, long-here)) o;
           }
 
 -- ---- the groups of a record

@@ -160,7 +160,8 @@ module _ {s : List ℕ} {at n : ℕ} {cells : ℕ → List ℤ} (r : ReadWhole s
         ∙ part-length s at (n - at) (omega (arith, inside .0, inside .1))
 
     -- D2.5: every byte of the record is there again
-    pub returns-same : (old : List ℕ) → n - at ≤ length old → (writingOf ns (joined cells) (length old) ≡ Done (n - at)) × (outputBy ns (joined cells) (writingOf ns (joined cells) (length old)) old ≡ over 0 (part at n s) old)
+    pub returns-same : (old : List ℕ) → n - at ≤ length old
+        → (writingOf ns (joined cells) (length old) ≡ Done (n - at)) × (outputBy ns (joined cells) (writingOf ns (joined cells) (length old)) old ≡ over 0 (part at n s) old)
     returns-same old enough =
         let w : writingOf ns (joined cells) (length old) ≡ Done (n - at) = read-writes (length old) (omega (arith, again-bytes)) ∙ ap Done again-bytes in
         (w, rw (w, written-again))

@@ -71,11 +71,13 @@ module _ (ns : List ℕ) (cs : List ℤ) (old : List ℕ) where
     pub date-bad : {p : ℕ} → datedOf (dateLetters ns cs) ≡ Wrong p → Answers ns cs old (writeFit ns cs (length old) (fitOf ns cs)) (Refused (BadDate p)) old
     date-bad d = (rw (fit, d), refl)
 
-    pub date-right : {r : Answer} {new : List ℕ} {d : Date} → datedOf (dateLetters ns cs) ≡ Right d → Answers ns cs old (writeRoom ns (length old)) r new → Answers ns cs old (writeFit ns cs (length old) (fitOf ns cs)) r new
+    pub date-right : {r : Answer} {new : List ℕ} {d : Date} → datedOf (dateLetters ns cs) ≡ Right d → Answers ns cs old (writeRoom ns (length old)) r new
+        → Answers ns cs old (writeFit ns cs (length old) (fitOf ns cs)) r new
     date-right e a = (a .0 ∙ rw (fit, e), a .1)
 
   -- ---- 4, 5, 6, 7, 14
 
-  pub checked-by : {k : Checked} {r : Answer} {new : List ℕ} → checkedOf ns (length cs) ≡ k → Answers ns cs old (writeChecked ns cs (length old) k) r new → Answers ns cs old (writingOf ns cs (length old)) r new
+  pub checked-by : {k : Checked} {r : Answer} {new : List ℕ} → checkedOf ns (length cs) ≡ k → Answers ns cs old (writeChecked ns cs (length old) k) r new
+      → Answers ns cs old (writingOf ns cs (length old)) r new
   unfolding writingOf
   checked-by {r = r} {new = new} e a = (a .0 ∙ ap (writeChecked ns cs (length old)) (sym e), a .1)

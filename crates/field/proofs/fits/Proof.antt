@@ -23,7 +23,8 @@ returns-2 : tie.Need-returns-2
 unfolding fitsOf
 returns-2 c =
     let o = c .before .before .before .before in
-    rw (eq-eqb (length (o .args .cells .now)) (rowOf (o .args .form) .cells) (c .before .if1 .left ∙ count (c .before .before))) (c .in-range .ensures ∙ ap (λ k. rangeOf k (o .args .cells .now)) (c .before .before .before .kind-of .ensures))
+    rw (eq-eqb (length (o .args .cells .now)) (rowOf (o .args .form) .cells) (c .before .if1 .left ∙ count (c .before .before)))
+    (c .in-range .ensures ∙ ap (λ k. rangeOf k (o .args .cells .now)) (c .before .before .before .kind-of .ensures))
 
 pub fits-spec : {M : Type 1} → statement M
 fits-spec =

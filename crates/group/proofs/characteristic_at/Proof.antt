@@ -28,7 +28,8 @@ returns-2 c =
     let at-if1 = c .before .before .before .before .before .before .before in
     let o = at-if1 .before .before .before in
     let w = within at-if1 in
-    four-few (o .args .text .now) (o .args .at) (o .args .number) (w .0) (w .1) (sym (c .before .before .n .given .1) ∙ c .before .before .before .before .before .read-group .ensures .0) (c .if2 .taken)
+    four-few (o .args .text .now) (o .args .at) (o .args .number) (w .0) (w .1)
+    (sym (c .before .before .n .given .1) ∙ c .before .before .before .before .before .read-group .ensures .0) (c .if2 .taken)
 
 returns-3 : tie.Need-returns-3
 returns-3 c =

@@ -12,7 +12,8 @@ write-checked-requires c κs = sym (c .before .before .before .check .ensures) �
 returns : tie.Need-returns
 returns c =
     let o = c .before .before .before .before .before .before .before .before .before in
-    checked-by (o .args .counts .now) (o .args .cells .now) (o .args .out .now) (sym (c .before .before .before .before .before .before .check .ensures) ∙ c .before .before .before .before .enum-told .given .1) (c .before .before .write-checked .ensures)
+    checked-by (o .args .counts .now) (o .args .cells .now) (o .args .out .now)
+    (sym (c .before .before .before .before .before .before .check .ensures) ∙ c .before .before .before .before .enum-told .given .1) (c .before .before .write-checked .ensures)
 
 returns-2 : tie.Need-returns-2
 returns-2 c =
