@@ -32,7 +32,7 @@ returns-2 c =
     let t = c .before .before .before .before .before .before .before .before in
     printing-stop (c .before .before .before .before .before .before .before .before .before .before .before .before .args .text .now) (t .loop .at) (t .loop .inv .2)
     (t .loop .inv .0) (t .loop .inv .1) _ (c .before .before .before .before .rewrite-record .ensures .0) (omega arith)
-    (λ bytes next e. not-first (1 ∷ 2 ∷ 3 ∷ []) tt (subst (λ (r : Rewriting). OneOf (1 ∷ 2 ∷ 3 ∷ []) (tagOf the-type r)) e (c .match .keys2)))
+    (λ bytes next e. not-first (1 ∷ 2 ∷ []) tt (subst (λ (r : Rewriting). OneOf (1 ∷ 2 ∷ []) (tagOf the-type r)) e (c .match .keys2)))
 
 part-write-all-end : tie.Need-part-write-all-end Inv-loop μ-loop
 part-write-all-end c = let l =
