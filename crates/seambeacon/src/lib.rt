@@ -1,5 +1,5 @@
 // For C: each question of `sao` under a name of its own, in numbers and slices alone. R360: a function answers with the reply's
-// number and writes the six numbers beside it, in the order of `besideOf`, into lent memory; those that the reply's row doesn't name are 0.
+// number and writes the eight numbers beside it, in the order of `eightBeside`, into lent memory; those that the reply's row doesn't name are 0.
 // What else is lent is altered as the question of the same name says. include/seambeacon.h tells a caller in C.
 use group::Characteristic;
 use reply::Reply;
@@ -23,10 +23,10 @@ ghost use Rattle.listing.specs.Listing.{listing};
 // ---- Numbers.
 
 // R360: a reply as its number, and the numbers beside it.
-fn tell(r: Reply, beside: &mut [usize; 6]) -> u32
+fn tell(r: Reply, beside: &mut [usize; 8]) -> u32
     ensures { λ n. ⌜ Told r n (now (beside .exit)) ⌝ }
 {
-    *beside = [r.next, r.written, r.group, r.line, r.element, r.position];
+    *beside = [r.next, r.written, r.group, r.line, r.element, r.position, r.savepoint, r.place];
     r.number
 }
 
@@ -64,7 +64,7 @@ pub extern "C" fn seambeacon_place(
     text: &[u8],
     at: usize,
     counts: &mut [u16; 80],
-    beside: &mut [usize; 6],
+    beside: &mut [usize; 8],
 ) -> u32
     ensures reply { λ n. ⌜ Told (placeReply (now (text .entry)) at) n (now (beside .exit)) ⌝ }
     ensures counts { λ _. ⌜ now (counts .exit) ≡ countsAt (now (text .entry)) at ⌝ }
@@ -85,7 +85,7 @@ pub extern "C" fn seambeacon_read_group(
     at: usize,
     group: usize,
     table: &mut [i64],
-    beside: &mut [usize; 6],
+    beside: &mut [usize; 8],
 ) -> u32
     ensures reply { λ n. ⌜ Told (readReply (now (text .entry)) at group (length (now (table .entry)))) n
         (now (beside .exit)) ⌝ }
@@ -106,7 +106,7 @@ pub extern "C" fn seambeacon_group_lines(
     at: usize,
     group: usize,
     part: &mut [usize; 2],
-    beside: &mut [usize; 6],
+    beside: &mut [usize; 8],
 ) -> u32
     ensures reply { λ n. ⌜ Told (linesReply (now (text .entry)) at group) n (now (beside .exit)) ⌝ }
     ensures part { λ _. ⌜ now (part .exit) ≡
@@ -129,7 +129,7 @@ pub extern "C" fn seambeacon_characteristic(
     number: usize,
     kind: &mut u32,
     value: &mut i64,
-    beside: &mut [usize; 6],
+    beside: &mut [usize; 8],
 ) -> u32
     ensures reply { λ n. ⌜ Told (characteristicReplyAt (now (text .entry)) at number) n (now (beside .exit)) ⌝ }
     ensures kind { λ _. ⌜ now (kind .exit) ≡ answerKind (characteristicAt (now (text .entry)) at number) ⌝ }
@@ -149,7 +149,7 @@ pub extern "C" fn seambeacon_write_record(
     counts: &[u16],
     cells: &[i64],
     out: &mut [u8],
-    beside: &mut [usize; 6],
+    beside: &mut [usize; 8],
 ) -> u32
     ensures reply { λ n. ⌜ Told (writeReply (now (counts .entry)) (now (cells .entry)) (length (now (out .entry)))) n
         (now (beside .exit)) ⌝ }
@@ -165,7 +165,7 @@ pub extern "C" fn seambeacon_write_record(
 // Answered: 0 with the number of bytes, which stand in the output from its first byte on; what stands behind them is kept.
 // A refusal (11) leaves the whole output as it was.
 #[no_mangle]
-pub extern "C" fn seambeacon_list(text: &[u8], out: &mut [u8], beside: &mut [usize; 6]) -> u32
+pub extern "C" fn seambeacon_list(text: &[u8], out: &mut [u8], beside: &mut [usize; 8]) -> u32
     ensures reply { λ n. ⌜ Told (listReply (now (text .entry)) (length (now (out .entry)))) n (now (beside .exit)) ⌝ }
     ensures output { λ _. ⌜ now (out .exit) ≡ putBytes 0 (listing (now (text .entry))) (now (out .entry)) ⌝ }
 {
@@ -185,7 +185,7 @@ pub extern "C" fn seambeacon_rewrite_record(
     table: &mut [i64],
     out: &mut [u8],
     unread: &mut [usize; 1],
-    beside: &mut [usize; 6],
+    beside: &mut [usize; 8],
 ) -> u32
     ensures reply { λ n. ⌜ Told
         (rewriteReply (now (text .entry)) at (length (now (table .entry))) (length (now (out .entry)))) n
