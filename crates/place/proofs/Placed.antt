@@ -20,8 +20,8 @@ use Rattle.count.specs.Rules.{releaseOf}
 use Rattle.count.specs.declared.Release.{Release}
 use Rattle.count.specs.declared.Release.the-variants.{Five, Other, Filled}
 use Rattle.count.proofs.Tallied.{record-two}
-use Rattle.place.specs.declared.Placing.{Placing}
-use Rattle.place.specs.declared.Placing.the-variants.{End, Beyond, TooFewLines}
+use Rattle.reply.specs.declared.Refusal.{Refusal}
+use Rattle.reply.specs.declared.Refusal.the-variants.{End, Beyond, TooFewLines}
 use Rattle.place.specs.Index.{Indexed, counts, misformed, readContent, readEntries, readIndexLine, joined, readIndex}
 use Rattle.place.specs.Placing.{located, refused, locate, locateIndex, locateRelease, countsBy, countsAt}
 use Rattle.place.proofs.Steps.{locate-index}
@@ -43,7 +43,7 @@ is-located s at n ns p =
 
 -- no answer is two
 -- what is refused is no record
-pub no-record : {A : Type 0} {p : Placing} {n : ℕ} {ns : List ℕ} → refused p ≡ located n ns → A
+pub no-record : {A : Type 0} {p : Refusal} {n : ℕ} {ns : List ℕ} → refused p ≡ located n ns → A
 no-record e = let z : _≡_ {A = ℕ} 0 1 = cc in absurd (omega arith)
 
 module _ (s : List ℕ) (at n : ℕ) (ns : List ℕ) where

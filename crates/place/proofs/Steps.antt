@@ -24,7 +24,9 @@ use Rattle.count.specs.Rules.{releaseOf}
 use Rattle.count.specs.declared.Release.{Release}
 use Rattle.count.specs.declared.Release.the-variants.{Five, Other, Filled}
 use Rattle.place.specs.declared.Placing.{Placing}
-use Rattle.place.specs.declared.Placing.the-variants.{End, Beyond, TooFewLines, Misformed}
+use Rattle.reply.specs.declared.Refusal.{Refusal}
+use Rattle.reply.specs.declared.Refusal.the-variants.{End, Beyond, TooFewLines, Misformed}
+use Rattle.place.specs.declared.Placing.the-variants.{Refused}
 use Rattle.place.specs.Index.{counts, misformed, readEntries, readIndexLine, joined, readIndex}
 use Rattle.place.specs.Placing.{Located, located, refused, locate, locateIndex, locateRelease, locateLines, locateLinesFrom, locateFrom, locateFive, locatedBehind, Answers, placingOf, countsAt}
 
@@ -75,7 +77,7 @@ module _ (s : List ℕ) (from : ℕ) (ns : List ℕ) where
   from-release e = rw e
 
 -- an answer that refuses, with its zeros
-pub refuses : {l : Located} {p answer : Placing} {ns : List ℕ} → l ≡ refused p → (answer ≡ p) × (ns ≡ replicate 80 0) → Answers l answer ns
+pub refuses : {l : Located} {r : Refusal} {answer : Placing} {ns : List ℕ} → l ≡ refused r → (answer ≡ Refused r) × (ns ≡ replicate 80 0) → Answers l answer ns
 refuses e a = rw e record { placing = a .0; beside = a .1 }
 
 -- ---- the two index lines, one after the other

@@ -14,7 +14,7 @@ use Rattle.line.specs.Contents
 use Rattle.line.specs.Lines
 use Rattle.count.specs.Rules
 use Rattle.count.specs.Tally
-use Rattle.place.specs.declared.Placing.the-variants.{End}
+use Rattle.reply.specs.declared.Refusal.the-variants.{End}
 use Rattle.place.specs.Index.{readEntries, readIndexLine, readIndex}
 use Rattle.place.specs.Parts.{start, groupPart}
 use Rattle.place.specs.Placing.{located, refused, locate}

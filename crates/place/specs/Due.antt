@@ -9,7 +9,9 @@ use Rattle.count.specs.Tally.{countOf, recordLines}
 use Rattle.count.specs.Blame.{KeepsRules, BreaksRules}
 use Rattle.count.specs.Due.{ReleaseFive, LowestFilled}
 use Rattle.place.specs.declared.Placing.{Placing}
-use Rattle.place.specs.declared.Placing.the-variants.{Placed, End, Beyond, TooFewLines, Misformed, OtherRelease, FilledVacant, BrokenRule}
+use Rattle.reply.specs.declared.Refusal.{Refusal}
+use Rattle.reply.specs.declared.Refusal.the-variants.{End, Beyond, TooFewLines, Misformed, OtherRelease, FilledVacant}
+use Rattle.place.specs.declared.Placing.the-variants.{Placed, BrokenRule, Refused}
 use Rattle.place.specs.Index.{IsIndex}
 
 module _ (s : List ℕ) (at : ℕ) where
@@ -84,12 +86,17 @@ module _ (s : List ℕ) (at : ℕ) where
   abbrev pub CountsDue : List ℕ → Type 0
   CountsDue ns = HasRecord ns ⊎ NoRecord ns
 
+  -- what placing refuses with, and when
+  pub data RefusedFor : Refusal → Type 0 where
+    beyond : length s < at → RefusedFor Beyond
+    text-end : length s ≡ at → RefusedFor End
+    few-for-index : FewForIndex → RefusedFor TooFewLines
+    few-for-data : FewForData → RefusedFor TooFewLines
+    bad-index : BadIndex → RefusedFor Misformed
+    bad-release : BadRelease → RefusedFor OtherRelease
+    fills-vacant : (g : ℕ) → FillsVacant g → RefusedFor (FilledVacant g)
+
   abbrev pub Due : Placing → Type 0
-  Due Beyond = length s < at
-  Due End = length s ≡ at
-  Due TooFewLines = FewForIndex ⊎ FewForData
-  Due Misformed = BadIndex
-  Due OtherRelease = BadRelease
-  Due (FilledVacant g) = FillsVacant g
-  Due (BrokenRule g n) = Breaks g n
   Due (Placed n) = Stands n
+  Due (BrokenRule g n) = Breaks g n
+  Due (Refused r) = RefusedFor r

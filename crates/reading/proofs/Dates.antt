@@ -44,8 +44,8 @@ use Rattle.date.specs.declared.Dated.{Dated}
 use Rattle.date.specs.declared.Dated.the-variants.{Right, Wrong}
 use Rattle.reading.specs.Blanks.{filledTo}
 use Rattle.reading.specs.Plan.{Line, lineAt, planFrom, planOf}
-use Rattle.reading.specs.declared.Verdict.the-variants.{Clean, Bad}
-use Rattle.reading.specs.declared.Refusal.{Refusal}
+use Rattle.reply.specs.declared.Checked.the-variants as C
+use Rattle.reply.specs.declared.Refusal.{Refusal}
 use Rattle.reading.specs.Read.{Cells, readField, readFields, columnsOf, readLine, readLinesOf, readLines, verdictOf, dated, byDate, dateVerdict}
 use Rattle.reading.proofs.Blanks.{filled-enough, right-low}
 use Rattle.reading.proofs.Checking.{lines-more}
@@ -175,7 +175,7 @@ module _ (count : ℕ) (x : List ℕ) (cs : List ℤ) (h : readLines A1 count x 
 
 -- ---- the date
 
-module _ (count : ℕ) (x : List ℕ) (v : verdictOf (readLines A1 count x) ≡ Clean) (enough : 19 ≤ count) (k : ℕ) (q : k ≡ min (rowOf A1 .«per_line») (elementsOf A1 count)) where
+module _ (count : ℕ) (x : List ℕ) (v : verdictOf (readLines A1 count x) ≡ C.Right) (enough : 19 ≤ count) (k : ℕ) (q : k ≡ min (rowOf A1 .«per_line») (elementsOf A1 count)) where
   letters-first : FirstLetters k x (map sizeOf (clean-read (readLines A1 count x) v .cells))
   letters-first = let r = clean-read (readLines A1 count x) v in first-letters count x (r .cells) (r .is) enough k q
 
@@ -196,11 +196,11 @@ module _ (count : ℕ) (x : List ℕ) (v : verdictOf (readLines A1 count x) ≡ 
 
 -- ---- the whole check
 
-pub clean-date : (g : ℕ) (c : Cells) → (g ≡ 3 → ⊥) → verdictOf c ≡ Clean → Clean ≡ verdictOf (dated g c)
+pub clean-date : (g : ℕ) (c : Cells) → (g ≡ 3 → ⊥) → verdictOf c ≡ C.Right → C.Right ≡ verdictOf (dated g c)
 clean-date g (done cs) n e = rw (ne-eqb g 3 n)
 clean-date g (bad r) n e = sym e
 
-pub bad-date : (g : ℕ) (c : Cells) {r : Refusal} → verdictOf c ≡ Bad r → Bad r ≡ verdictOf (dated g c)
+pub bad-date : (g : ℕ) (c : Cells) {r : Refusal} → verdictOf c ≡ C.Refused r → C.Refused r ≡ verdictOf (dated g c)
 bad-date g (done cs) e = let z : _≡_ {A = ℕ} 0 1 = cc in absurd (omega arith)
 bad-date g (bad r) e = sym e
 

@@ -24,7 +24,7 @@ use Rattle.line.specs.Contents.{contentOf}
 use Rattle.line.specs.declared.Content.the-variants.{Length, NoReturn}
 use Rattle.reading.specs.Blanks.{shortest, filledTo, isRight, rightContent, Fits}
 use Rattle.reading.specs.Plan.{Line, lineAt, planFrom, planOf}
-use Rattle.reading.specs.declared.Verdict.the-variants.{Clean}
+use Rattle.reply.specs.declared.Checked.the-variants as C
 use Rattle.reading.specs.Read.{Cells, readField, readFields, columnsOf, readLine, readLinesOf, readLines, verdictOf}
 use Rattle.reading.proofs.Lines.{right-yes}
 use Rattle.reading.proofs.Fields.{restOf, lineText, fields-start, fields-more, fields-none, line-ends, enough, end-from, piece, piece-range}
@@ -108,12 +108,12 @@ pub record FillingFields (f : Form) (l : Line) (text : List ℕ) (old : List ℤ
   pub rest : readFields f (restOf l i) (drop (i * rowOf f .width) text) ≡ done more
   pub store : Stored (cellsGot (readFields f l text)) old base cell table more
 
-pub enough-room : (f : Form) (count : ℕ) (s : List ℕ) (old : List ℤ) → verdictOf (readLines f count s) ≡ Clean → cellsOf f count ≤ length old → length (cellsGot (readLines f count s)) ≤ length old
+pub enough-room : (f : Form) (count : ℕ) (s : List ℕ) (old : List ℤ) → verdictOf (readLines f count s) ≡ C.Right → cellsOf f count ≤ length old → length (cellsGot (readLines f count s)) ≤ length old
 enough-room f count s old v room =
     let r = clean-read (readLines f count s) v in
     omega (arith, ap (λ g. length (cellsGot g)) (r .is), group-size f count s (r .cells) (r .is))
 
-pub filling-start : {f : Form} {count : ℕ} {s : List ℕ} {r : Reached} → Walking f count s (r .width) (r .perLine) (r .many) (r .left) (r .at) (r .j) → r .cells ≡ rowOf f .cells → verdictOf (readLines f count s) ≡ Clean → (r .at ≡ 0) × (r .cell ≡ 0) × (r .j ≡ 0) → Filling f count s (r .table) r
+pub filling-start : {f : Form} {count : ℕ} {s : List ℕ} {r : Reached} → Walking f count s (r .width) (r .perLine) (r .many) (r .left) (r .at) (r .j) → r .cells ≡ rowOf f .cells → verdictOf (readLines f count s) ≡ C.Right → (r .at ≡ 0) × (r .cell ≡ 0) × (r .j ≡ 0) → Filling f count s (r .table) r
 unfolding readLines planOf
 filling-start {f} {count} {s} {r} b z v none =
     let g = clean-read (readLines f count s) v in

@@ -16,7 +16,7 @@ use Rattle.form.specs.Table
 use Rattle.field.specs.Read as Field
 use Rattle.line.specs.Contents
 use Rattle.line.specs.Lines
-use Rattle.reading.specs.declared.Refusal.the-variants.{BadField}
+use Rattle.reply.specs.declared.Refusal.the-variants.{BadField}
 use Rattle.reading.specs.Blanks.{isRight, filledTo}
 use Rattle.reading.specs.Plan.{planFrom, planOf}
 use Rattle.reading.specs.Read.{readFields, readLine, readLinesOf, readLines, readForm}

@@ -31,9 +31,9 @@ use Rattle.line.specs.declared.Content.{Content}
 use Rattle.line.specs.declared.Content.the-variants.{Length, NoReturn}
 use Rattle.reading.specs.Blanks.{filledTo, isRight}
 use Rattle.reading.specs.Plan.{Line, lineAt, planFrom, planOf}
-use Rattle.reading.specs.declared.Refusal.{Refusal}
-use Rattle.reading.specs.declared.Refusal.the-variants.{BadLine, BadField}
-use Rattle.reading.specs.declared.Verdict.the-variants.{Clean}
+use Rattle.reply.specs.declared.Refusal.{Refusal}
+use Rattle.reply.specs.declared.Refusal.the-variants.{BadLine, BadField}
+use Rattle.reply.specs.declared.Checked.the-variants as C
 use Rattle.reading.specs.Read.{Cells, readField, readFields, columnsOf, readContent, readLine, readLinesOf, readLines, verdictOf}
 use Rattle.reading.proofs.Checking.{lines-more, lines-none}
 
@@ -41,7 +41,7 @@ no-done : {A : Type 0} {r : Refusal} {cs : List ℤ} → _≡_ {A = Cells} (bad 
 no-done e = let z : _≡_ {A = ℕ} 0 1 = cc in absurd (omega arith)
 
 -- what is clean was read
-pub clean-read : (g : Cells) → verdictOf g ≡ Clean → IsDone g
+pub clean-read : (g : Cells) → verdictOf g ≡ C.Right → IsDone g
 clean-read (done cs) e = record { cells = cs; is = refl }
 clean-read (bad r) e = let z : _≡_ {A = ℕ} 0 1 = cc in absurd (omega arith)
 

@@ -28,9 +28,9 @@ use Rattle.line.proofs.Reach.{reach-le, reach-past}
 use Rattle.line.proofs.Contents.{content-two, first-plain}
 use Rattle.reading.specs.Blanks.{mayBeShort, filledTo, asField, rightContent, fieldsSpan, Fits}
 use Rattle.reading.specs.Plan.{Line, lineAt}
-use Rattle.reading.specs.declared.Refusal.{Refusal}
-use Rattle.reading.specs.declared.Refusal.the-variants.{BadLine}
-use Rattle.reading.specs.declared.Verdict.the-variants.{Bad}
+use Rattle.reply.specs.declared.Refusal.{Refusal}
+use Rattle.reply.specs.declared.Refusal.the-variants.{BadLine}
+use Rattle.reply.specs.declared.Checked.the-variants as C
 use Rattle.reading.specs.Read.{columnsOf, misfitOf, readLines, verdictOf}
 use Rattle.reading.proofs.Blanks.{as-whole, as-filled}
 use Rattle.reading.proofs.Lines.{right-is}
@@ -226,17 +226,17 @@ module _ {f : Form} {count : ℕ} {s : List ℕ} (o : OnLine f count s) where
           whole u = omega (arith, formed-plain f (part from to s) u y .0, long, o .state .walk .wide, try-range)
 
       -- a line that is not right is blamed, and otherwise the field
-      pub trying-wrong : formed (fieldOf f (asField f (part from to s))) ≡ false → (r : Refusal) → r ≡ misfitOf (o .j + 1) (o .element + i) (rightContent f (o .k * o .width) (part (o .at) (o .at + reach (drop (o .at) s) 1) s)) → Bad r ≡ verdictOf (readLines f count s)
+      pub trying-wrong : formed (fieldOf f (asField f (part from to s))) ≡ false → (r : Refusal) → r ≡ misfitOf (o .j + 1) (o .element + i) (rightContent f (o .k * o .width) (part (o .at) (o .at + reach (drop (o .at) s) 1) s)) → C.Refused r ≡ verdictOf (readLines f count s)
       trying-wrong y r z = by (rightContent f (o .k * o .width) (part (o .at) (o .at + reach (drop (o .at) s) 1) s)) refl
         where
           end : ℕ
           end = o .at + reach (drop (o .at) s) 1
 
-          by : (x : Content) → rightContent f (o .k * o .width) (part (o .at) (o .at + reach (drop (o .at) s) 1) s) ≡ x → Bad r ≡ verdictOf (readLines f count s)
+          by : (x : Content) → rightContent f (o .k * o .width) (part (o .at) (o .at + reach (drop (o .at) s) 1) s) ≡ x → C.Refused r ≡ verdictOf (readLines f count s)
           by (Length m) v =
               let n : rightContent f (columnsOf f l) (part (o .at) end s) ≡ Length m = rw columns at v in
-              ap Bad (z ∙ ap (misfitOf (o .j + 1) (o .element + i)) v) ∙ wrong-field f count s (o .state) (o .further) (o .k) end (o .elements) refl m v (g .right end m refl n) to c (to-right end m refl n) (sym (same end m refl n) ∙ y)
-          by NoReturn v = ap Bad (z ∙ ap (misfitOf (o .j + 1) (o .element + i)) v) ∙ wrong-line f count s (o .state) (o .further) (o .k) end (o .elements) refl v
+              ap C.Refused (z ∙ ap (misfitOf (o .j + 1) (o .element + i)) v) ∙ wrong-field f count s (o .state) (o .further) (o .k) end (o .elements) refl m v (g .right end m refl n) to c (to-right end m refl n) (sym (same end m refl n) ∙ y)
+          by NoReturn v = ap C.Refused (z ∙ ap (misfitOf (o .j + 1) (o .element + i)) v) ∙ wrong-line f count s (o .state) (o .further) (o .k) end (o .elements) refl v
 
     -- all fields are formed: the line's end is sought behind them
     module _ (d : o .k ≤ i) (end : ℕ) (w : end ≡ o .stop + reach (drop (o .stop) s) 1) where
@@ -253,7 +253,7 @@ module _ {f : Form} {count : ℕ} {s : List ℕ} (o : OnLine f count s) where
       pub tried-range : (o .at ≤ end) × (end ≤ length s)
       tried-range = end-range f count s (o .state .walk) (o .k) end (o .elements) ends
 
-      pub tried-wrong : rightContent f (o .k * o .width) (part (o .at) end s) ≡ NoReturn → Bad (BadLine (o .j + 1)) ≡ verdictOf (readLines f count s)
+      pub tried-wrong : rightContent f (o .k * o .width) (part (o .at) end s) ≡ NoReturn → C.Refused (BadLine (o .j + 1)) ≡ verdictOf (readLines f count s)
       tried-wrong v = wrong-line f count s (o .state) (o .further) (o .k) end (o .elements) ends v
 
       pub tried-next : (m : ℕ) → rightContent f (o .k * o .width) (part (o .at) end s) ≡ Length m → Checking f count s (o .width) (o .perLine) (o .many) (o .left - o .k) end (o .element + o .perLine) (o .j + 1)

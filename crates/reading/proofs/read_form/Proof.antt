@@ -4,7 +4,7 @@ use borrow.Author.Needs.{needs}
 use mathlib.Core.Path.{sym, _∙_, ap, subst}
 use Prim.Native.Nat.{_<_, _≤_}
 use lib.ListN.{length}
-use Rattle.reading.specs.declared.Reading.the-variants.{Done}
+use Rattle.reply.specs.declared.Answer.the-variants.{Done}
 use Rattle.reading.proofs.Steps.{form-none, form-bad, lines-clean, form-done}
 use Rattle.reading.proofs.read_form.Statement.{statement}
 use Rattle.reading.proofs.read_form.Tie as tie
