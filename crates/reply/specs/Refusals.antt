@@ -3,12 +3,12 @@ use mathlib.Core.List.{List, [], _∷_, _++_, map}
 use Prim.Native.Nat.{ℕ}
 use Rattle.reply.specs.declared.Reply.{Reply}
 use Rattle.reply.specs.declared.Refusal.{Refusal}
-use Rattle.reply.specs.declared.Refusal.the-variants.{End, Beyond, TooFewLines, Misformed, OtherRelease, FilledVacant, BrokenRule, BadLine, BadField, BadDate, NoRoom, NoSuchNumber, NoField, OtherLength}
+use Rattle.reply.specs.declared.Refusal.the-variants.{End, Beyond, TooFewLines, Misformed, OtherRelease, FilledVacant, BrokenRule, BadLine, BadField, BadDate, NoRoom, NoSuchNumber, NoField, OtherLength, NotOpen, AllOpen, BadEntry}
 use Rattle.reply.specs.declared.Checked.{Checked}
 use Rattle.reply.specs.declared.Checked.the-variants as C
 use Rattle.reply.specs.declared.Answer.{Answer}
 use Rattle.reply.specs.declared.Answer.the-variants as A
-use Rattle.reply.specs.Table.{Given, told, kindsOf, Row, row, bytes, group, line, element, position}
+use Rattle.reply.specs.Table.{Given, told, kindsOf, Row, row, next, bytes, group, line, element, position}
 
 -- R201 to R214
 abbrev pub numberOf : Refusal → ℕ
@@ -26,6 +26,9 @@ numberOf NoRoom = 11
 numberOf NoSuchNumber = 12
 numberOf (NoField g e) = 13
 numberOf OtherLength = 14
+numberOf NotOpen = 15
+numberOf AllOpen = 16
+numberOf (BadEntry p) = 17
 
 -- R206, R207, R208, R209, R210, R213; beside the others nothing stands
 abbrev pub besideOf : Refusal → Given
@@ -43,6 +46,9 @@ besideOf NoRoom = []
 besideOf NoSuchNumber = []
 besideOf (NoField g e) = (group, g) ∷ (element, e) ∷ []
 besideOf OtherLength = []
+besideOf NotOpen = []
+besideOf AllOpen = []
+besideOf (BadEntry p) = (next, p) ∷ []
 
 abbrev pub refusalReply : Refusal → Reply
 refusalReply r = told (numberOf r) (besideOf r)

@@ -35,6 +35,12 @@ pub enum Refusal {
     NoField(usize, usize),
     // 14
     OtherLength,
+    // 15
+    NotOpen,
+    // 16
+    AllOpen,
+    // 17, with the place of the journal's field
+    BadEntry(usize),
 }
 
 // 0 with nothing beside it, or a refusal.
@@ -167,6 +173,9 @@ pub fn of_refusal(refusal: Refusal) -> Reply
         Refusal::NoSuchNumber => plain(12),
         Refusal::NoField(g, e) => no_field(g, e),
         Refusal::OtherLength => plain(14),
+        Refusal::NotOpen => plain(15),
+        Refusal::AllOpen => plain(16),
+        Refusal::BadEntry(p) => at_next(17, p, 0),
     }
 }
 
