@@ -1,4 +1,4 @@
--- R510 to R514: what is written for an entry reads as the entry, whatever stands behind; what is read from bytes is written as these bytes.
+-- R520 to R524: what is written for an entry reads as the entry, whatever stands behind; what is read from bytes is written as these bytes.
 -- Assumes nothing.
 use mathlib.Core.Path.{_≡_, refl, sym, ap, _∙_, subst}
 use mathlib.Core.Bool.{Bool, true, false, cond}
@@ -47,7 +47,7 @@ one : (n : ℕ) → n < 256 → bytesOf 1 n ≡ n ∷ []
 unfolding bytesOf
 one n h = let m : n % 256 ≡ n = omega arith in rw m
 
--- R511, R512 in figures
+-- R521, R522 in figures
 pub text-set : (g c : ℕ) (o n : ℤ) → textOf (Set g c o n) ≡ 1 ∷ 0 ∷ 19 ∷ setBody g c o n
 unfolding textOf
 text-set g c o n = rw (set-length g c o n, low 19 (omega arith), one 1 (omega arith))

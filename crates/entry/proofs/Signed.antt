@@ -1,4 +1,4 @@
--- R514: a cell and its 64 bits, both ways; and what the machine computes, said of these.
+-- R524: a cell and its 64 bits, both ways; and what the machine computes, said of these.
 -- Assumes nothing.
 use mathlib.Core.Path.{_≡_, refl, ap, _∙_}
 use mathlib.Core.Bool.{Bool, true, false, cond}

@@ -1,4 +1,4 @@
--- R510, R514: numbers as bytes, high byte first, and cells in two's complement of 64 bits.
+-- R520, R524: numbers as bytes, high byte first, and cells in two's complement of 64 bits.
 use mathlib.Core.Bool.{cond}
 use mathlib.Core.List.{List, [], _∷_, _++_}
 use Prim.Native.Nat.{ℕ, zero, suc, _+_, _-_, _*_, _/_, _%_, _^_, _<_}
@@ -15,7 +15,7 @@ unfoldable pub valueFrom : ℕ → List ℕ → ℕ
 valueFrom a [] = a
 valueFrom a (b ∷ s) = valueFrom (a * 256 + b) s
 
--- R514: n, or what is missing to 2 to the power of 64
+-- R524: n, or what is missing to 2 to the power of 64
 unfoldable pub bitsOf : ℤ → ℕ
 bitsOf (pos n) = n
 bitsOf (negsuc n) = 2 ^ 64 - suc n

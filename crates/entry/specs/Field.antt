@@ -1,4 +1,4 @@
--- R510 to R513: a field of the edit journal: what is written for an entry, and the entry that bytes tell.
+-- R520 to R523: a field of the edit journal: what is written for an entry, and the entry that bytes tell.
 use mathlib.Core.Bool.{cond}
 use mathlib.Core.List.{List, [], _++_}
 use Prim.Native.Nat.{ℕ}
@@ -10,11 +10,11 @@ use Rattle.entry.specs.Bytes.{bytesOf, valueFrom, bitsOf, cellOf}
 
 -- ---- writing
 
--- R510: one byte of tag, two bytes of length, and the bytes that the length counts
+-- R520: one byte of tag, two bytes of length, and the bytes that the length counts
 abbrev pub tagged : ℕ → List ℕ → List ℕ
 tagged tag body = bytesOf 1 tag ++ (bytesOf 2 (length body) ++ body)
 
--- R511: group, cell, old value, new value; R512: a savepoint's number
+-- R521: group, cell, old value, new value; R522: a savepoint's number
 unfoldable pub textOf : Entry → List ℕ
 textOf (Set g c old new) = tagged 1 (bytesOf 1 g ++ (bytesOf 2 c ++ (bytesOf 8 (bitsOf old) ++ bytesOf 8 (bitsOf new))))
 textOf (Open k) = tagged 2 (bytesOf 1 k)
@@ -40,7 +40,7 @@ abbrev pub setOf : List ℕ → Entry
 setOf xs =
     Set (valueFrom 0 (take 1 (drop 3 xs))) (valueFrom 0 (take 2 (drop 4 xs))) (cellOf (valueFrom 0 (take 8 (drop 6 xs)))) (cellOf (valueFrom 0 (take 8 (drop 14 xs))))
 
--- R513: the field with which bytes begin: tag 1 with length 19, or one of the tags 2, 3 and 4 with length 1, and as many bytes
+-- R523: the field with which bytes begin: tag 1 with length 19, or one of the tags 2, 3 and 4 with length 1, and as many bytes
 unfoldable pub fieldOf : List ℕ → Entry
 fieldOf xs =
     cond (ltb (length xs) 4) Misformed

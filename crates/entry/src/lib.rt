@@ -1,4 +1,4 @@
-// R510 to R514: one field of the edit journal: its bytes, and the entry that they tell.
+// R520 to R524: one field of the edit journal: its bytes, and the entry that they tell.
 ghost use mathlib.Core.Path.{_≡_};
 ghost use Prim.Native.Nat.{_+_, _<_, _≤_};
 ghost use lib.ListN.{length, take, drop};
@@ -6,8 +6,8 @@ ghost use Rattle.base.specs.Part.{over};
 ghost use Rattle.entry.specs.Bytes.{bytesOf, valueFrom, bitsOf, cellOf};
 ghost use Rattle.entry.specs.Field.{textOf, sizeOf, tagged, numbered, setOf, fieldAt};
 
-// R511, R512: what a field tells: a set with its group, its cell in the group from 1, the old and the new value; an open, a release or an
-// undo with the savepoint's number. R513: or none of these.
+// R521, R522: what a field tells: a set with its group, its cell in the group from 1, the old and the new value; an open, a release or an
+// undo with the savepoint's number. R523: or none of these.
 pub enum Entry {
     Set(usize, usize, i64, i64),
     Open(usize),
@@ -29,7 +29,7 @@ pub fn size(entry: Entry) -> usize
     }
 }
 
-// R514: two's complement. The magnitude of a negative value is made one smaller first, so that the least value has one too.
+// R524: two's complement. The magnitude of a negative value is made one smaller first, so that the least value has one too.
 fn bits_of(value: i64) -> u64
     ensures { λ r. ⌜ r ≡ bitsOf value ⌝ }
 {
@@ -50,7 +50,7 @@ fn cell_of(bits: u64) -> i64
     (0 - less) - 1
 }
 
-// R510: a number in as many bytes as are lent, high byte first.
+// R520: a number in as many bytes as are lent, high byte first.
 fn put_number(out: &mut [u8], n: u64)
     ensures { λ _. ⌜ now (out .exit) ≡ bytesOf (length (now (out .entry))) n ⌝ }
 {
@@ -101,7 +101,7 @@ fn number_at(s: &[u8], at: usize, k: usize) -> u64
     number(&s[at..end])
 }
 
-// R512: an entry with a savepoint's number, by its tag.
+// R522: an entry with a savepoint's number, by its tag.
 fn numbered_of(tag: u8, k: u8) -> Entry
     ensures { λ r. ⌜ r ≡ numbered tag k ⌝ }
 {
@@ -117,7 +117,7 @@ fn numbered_of(tag: u8, k: u8) -> Entry
     Entry::Misformed
 }
 
-// R511: a set's 19 bytes behind its tag and length.
+// R521: a set's 19 bytes behind its tag and length.
 fn set_at(s: &[u8], at: usize) -> Entry
     requires inside { ⌜ at + 22 ≤ length (now s) ⌝ }
     ensures { λ r. ⌜ r ≡ setOf (drop at (now (s .entry))) ⌝ }
@@ -129,7 +129,7 @@ fn set_at(s: &[u8], at: usize) -> Entry
     Entry::Set(group as usize, cell as usize, old, new)
 }
 
-// R513: the field at a place: tag and length are one of four pairs, and all its bytes are there.
+// R523: the field at a place: tag and length are one of four pairs, and all its bytes are there.
 pub fn field_at(s: &[u8], at: usize) -> Entry
     requires inside { ⌜ at ≤ length (now s) ⌝ }
     ensures { λ r. ⌜ r ≡ fieldAt (now (s .entry)) at ⌝ }
@@ -156,7 +156,7 @@ pub fn field_at(s: &[u8], at: usize) -> Entry
     Entry::Misformed
 }
 
-// R511: a set's field, from its last bytes to its first.
+// R521: a set's field, from its last bytes to its first.
 fn put_set_at(out: &mut [u8], at: usize, group: usize, cell: usize, old: i64, new: i64)
     requires room { ⌜ at + 22 ≤ length (now out) ⌝ }
     ensures { λ _. ⌜ now (out .exit) ≡ over at (textOf (Entry.Set group cell old new)) (now (out .entry)) ⌝ }
@@ -169,7 +169,7 @@ fn put_set_at(out: &mut [u8], at: usize, group: usize, cell: usize, old: i64, ne
     put_number_at(out, at, 1, 1);
 }
 
-// R512: the field of an open, a release or an undo.
+// R522: the field of an open, a release or an undo.
 fn put_numbered_at(out: &mut [u8], at: usize, tag: u64, k: usize)
     requires room { ⌜ at + 4 ≤ length (now out) ⌝ }
     ensures { λ _. ⌜ now (out .exit) ≡ over at (tagged tag (bytesOf 1 k)) (now (out .entry)) ⌝ }

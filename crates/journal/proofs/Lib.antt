@@ -1,0 +1,5 @@
+-- The laws of the edit journal, a file to a subject.
+pub mod Spots
+pub mod Restore
+pub mod Places
+pub mod Walking
