@@ -63,5 +63,5 @@ module _ (ns j : List ℕ) (used : ℕ) where
   abbrev pub journalBy : Call → List ℤ → Answer → List ℕ
   journalBy c t a = byAnswer a (over used (textOf (entryFor (startsOf ns) c (length (walkIn .marks)) t)) j) j
 
-  abbrev pub usedBy : Call → Answer → ℕ
-  usedBy c a = byAnswer a (used + bytesFor c) used
+abbrev pub usedBy : ℕ → Call → Answer → ℕ
+usedBy used c a = byAnswer a (used + bytesFor c) used

@@ -53,9 +53,11 @@ numberFor (Releases k) d = 0
 numberFor (Undoes k) d = 0
 
 -- R550: last of all, 11 where the field finds no room
-abbrev pub decided : List ℕ → Call → ℕ → ℕ → Answer
-decided starts c d room =
-    cond (accepts starts c d) (cond (ltb room (bytesFor c)) (Refused NoRoom) (Done (numberFor c d))) (Refused (refusalOf c))
+abbrev pub roomFor : (size room number : ℕ) → Answer
+roomFor size room number = cond (ltb room size) (Refused NoRoom) (Done number)
+
+abbrev pub decided : List ℕ → Call → (d room : ℕ) → Answer
+decided starts c d room = cond (accepts starts c d) (roomFor (bytesFor c) room (numberFor c d)) (Refused (refusalOf c))
 
 -- first of all, what counts and table are refused with
 abbrev pub whenRight : Checked → Answer → Answer

@@ -63,6 +63,10 @@ playOf starts s t = playFrom (length s) starts s 0 0 [] t
 
 -- ---- the question
 
+abbrev pub byChecked : {A : Type 0} → Checked → A → A → A
+byChecked Right new old = new
+byChecked (Refused r) new old = old
+
 module _ (ns j : List ℕ) (used : ℕ) where
   abbrev pub playIn : List ℤ → Run
   playIn t = playOf (startsOf ns) (take used j) t
@@ -73,12 +77,10 @@ module _ (ns j : List ℕ) (used : ℕ) where
 
   -- R542: the cells and the open savepoints behind a replay; a refused one leaves the cells as they were
   abbrev pub replayedCells : List ℤ → Checked → List ℤ
-  replayedCells t Right = playIn t .cells
-  replayedCells t (Refused r) = t
+  replayedCells t r = byChecked r (playIn t .cells) t
 
   abbrev pub replayedOpen : List ℤ → Checked → ℕ
-  replayedOpen t Right = length (playIn t .marks)
-  replayedOpen t (Refused r) = 0
+  replayedOpen t r = byChecked r (length (playIn t .marks)) 0
 
 -- ---- the same with the marks in an array
 

@@ -1,6 +1,11 @@
-use borrow.Author.Needs.{needs}
+-- `journal::restore_at` meets its contract, which it calls upon for its halves. The measure: the number of fields.
+-- Assumes nothing.
+use mathlib.Core.Path.{_≡_, sym, ap, _∙_}
+use Prim.Native.Nat.{ℕ, _-_, _/_, _<_}
 use native.Mathlib.Omega.{arith}
-use Prim.Native.Nat.{ℕ, _<_}
+use Rattle.journal.specs.Entries.{giveBack, restore, entriesAt, placeAt}
+use Rattle.journal.proofs.Places.{back-none, back-one, back-halves}
+use borrow.Author.Needs.{needs}
 use borrow.Fn.Kinds.{In}
 use borrow.Fn.PlainCycle.{Measures, is, falls, and}
 use Rattle.journal.proofs.restore_at.Reads as restore-at
@@ -13,7 +18,7 @@ use Rattle.journal.proofs.+restore_at.{statement}
 use Rattle.journal.proofs.+restore_at.Tie.{close}
 
 abbrev μ-restore-at : Measures 3 restore-at-kinds.ps ℕ
-μ-restore-at κs a = ?
+μ-restore-at κs a = a .1 .1 .1 .1 .0
 
 abbrev restore-at-at : ℕ → In 3 restore-at-kinds.ps
 restore-at-at t =
@@ -23,7 +28,6 @@ abbrev restore-at-below : ℕ → In 3 restore-at-kinds.ps
 restore-at-below t =
     and 3 restore-at-kinds.ps (falls 3 restore-at-kinds.ps _<_ μ-restore-at t) restore-at.Pre
 
--- src/lib.rt:160:9
 restore-at-returns : (t : ℕ) → restore-at-lts.Need-returns (
   field-at-reads.Asked,
   field-at-reads.Learnt,
@@ -34,9 +38,10 @@ restore-at-returns : (t : ℕ) → restore-at-lts.Need-returns (
   restore-at-below t,
   restore-at.Post,
 ) (restore-at-at t) restore-at.Post
-restore-at-returns t c = search needs
+restore-at-returns t c =
+    let a = c .before .before .before .args in
+    rw (c .if1 .taken) (back-none (a .s .now) (a .starts .now) (a .at) (a .cells .now))
 
--- src/lib.rt:163:34
 restore-at-field-at-requires : (t : ℕ) → restore-at-lts.Need-field-at-requires (
   field-at-reads.Asked,
   field-at-reads.Learnt,
@@ -49,7 +54,6 @@ restore-at-field-at-requires : (t : ℕ) → restore-at-lts.Need-field-at-requir
 ) (restore-at-at t) restore-at.Post
 restore-at-field-at-requires t c κs = search needs
 
--- src/lib.rt:163:9
 restore-at-give-back-requires : (t : ℕ) → restore-at-lts.Need-give-back-requires (
   field-at-reads.Asked,
   field-at-reads.Learnt,
@@ -62,7 +66,6 @@ restore-at-give-back-requires : (t : ℕ) → restore-at-lts.Need-give-back-requ
 ) (restore-at-at t) restore-at.Post
 restore-at-give-back-requires t c κs = search needs
 
--- src/lib.rt:164:9
 restore-at-same-length : (t : ℕ) → restore-at-lts.Need-same-length (
   field-at-reads.Asked,
   field-at-reads.Learnt,
@@ -75,7 +78,6 @@ restore-at-same-length : (t : ℕ) → restore-at-lts.Need-same-length (
 ) (restore-at-at t) restore-at.Post
 restore-at-same-length t c = search needs
 
--- src/lib.rt:164:9
 restore-at-returns-2 : (t : ℕ) → restore-at-lts.Need-returns-2 (
   field-at-reads.Asked,
   field-at-reads.Learnt,
@@ -86,9 +88,13 @@ restore-at-returns-2 : (t : ℕ) → restore-at-lts.Need-returns-2 (
   restore-at-below t,
   restore-at.Post,
 ) (restore-at-at t) restore-at.Post
-restore-at-returns-2 t c = search needs
+restore-at-returns-2 t c =
+    let a = c .before .before .before .before .before .before .before .before .args in
+    let ps = a .starts .now in
+    c .before .give-back .ensures ∙ ap (λ e. giveBack ps e (a .cells .now)) (c .before .before .field-at .ensures)
+    ∙ back-one (a .s .now) ps (a .at) (a .cells .now)
+    ∙ ap (λ n. restore ps (entriesAt (a .s .now) (a .at) n) (a .cells .now)) (sym (c .before .before .before .before .if2 .taken))
 
--- src/lib.rt:167:9
 restore-at-place-after-requires : (t : ℕ) → restore-at-lts.Need-place-after-requires (
   field-at-reads.Asked,
   field-at-reads.Learnt,
@@ -101,7 +107,6 @@ restore-at-place-after-requires : (t : ℕ) → restore-at-lts.Need-place-after-
 ) (restore-at-at t) restore-at.Post
 restore-at-place-after-requires t c κs = search needs
 
--- src/lib.rt:168:42
 restore-at-sub-restore-at : (t : ℕ) → restore-at-lts.Need-sub-restore-at (
   field-at-reads.Asked,
   field-at-reads.Learnt,
@@ -114,7 +119,6 @@ restore-at-sub-restore-at : (t : ℕ) → restore-at-lts.Need-sub-restore-at (
 ) (restore-at-at t) restore-at.Post
 restore-at-sub-restore-at t c = search needs
 
--- src/lib.rt:168:5
 restore-at-restore-at-requires : (t : ℕ) → restore-at-lts.Need-restore-at-requires (
   field-at-reads.Asked,
   field-at-reads.Learnt,
@@ -127,7 +131,6 @@ restore-at-restore-at-requires : (t : ℕ) → restore-at-lts.Need-restore-at-re
 ) (restore-at-at t) restore-at.Post
 restore-at-restore-at-requires t c κs = search needs
 
--- src/lib.rt:169:5
 restore-at-restore-at-requires-2 : (t : ℕ) → restore-at-lts.Need-restore-at-requires-2 (
   field-at-reads.Asked,
   field-at-reads.Learnt,
@@ -140,7 +143,6 @@ restore-at-restore-at-requires-2 : (t : ℕ) → restore-at-lts.Need-restore-at-
 ) (restore-at-at t) restore-at.Post
 restore-at-restore-at-requires-2 t c κs = search needs
 
--- src/lib.rt:154:1
 restore-at-same-length-2 : (t : ℕ) → restore-at-lts.Need-same-length-2 (
   field-at-reads.Asked,
   field-at-reads.Learnt,
@@ -153,7 +155,6 @@ restore-at-same-length-2 : (t : ℕ) → restore-at-lts.Need-same-length-2 (
 ) (restore-at-at t) restore-at.Post
 restore-at-same-length-2 t c = search needs
 
--- src/lib.rt:154:1
 restore-at-returns-3 : (t : ℕ) → restore-at-lts.Need-returns-3 (
   field-at-reads.Asked,
   field-at-reads.Learnt,
@@ -164,7 +165,13 @@ restore-at-returns-3 : (t : ℕ) → restore-at-lts.Need-returns-3 (
   restore-at-below t,
   restore-at.Post,
 ) (restore-at-at t) restore-at.Post
-restore-at-returns-3 t c = search needs
+restore-at-returns-3 t c =
+    let a = c .before .before .before .before .before .before .before .before .before .before .before .args in
+    let ps = a .starts .now in
+    let s = a .s .now in
+    let h = a .n / 2 in
+    let e : c .before .before .before .before .restore-at .last .0 ≡ restore ps (entriesAt s (placeAt s (a .at) h) (a .n - h)) (a .cells .now) = c .before .before .before .before .restore-at .ensures ∙ ap (λ m. restore ps (entriesAt s m (a .n - h)) (a .cells .now)) (c .before .before .before .before .before .before .place-after .ensures .0) in
+    c .before .restore-at2 .ensures ∙ ap (restore ps (entriesAt s (a .at) h)) e ∙ back-halves s ps (a .at) (a .cells .now) h (a .n) (omega arith)
 
 pub +restore-at-spec : {M : Type 1} → statement M
 +restore-at-spec = close μ-restore-at λ t. restore-at-lts.spec (

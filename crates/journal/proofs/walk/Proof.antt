@@ -2,12 +2,12 @@
 -- Assumes nothing.
 use mathlib.Core.Path.{_≡_, refl, sym, ap, _∙_}
 use mathlib.Core.Bool.{true, false}
-use Prim.Native.Nat.{ℕ, _+_, _-_, _*_, _<_, _≤_}
+use Prim.Native.Nat.{_+_, _-_, _*_, _≤_}
 use native.Mathlib.Omega.{arith}
-use lib.ListN.{length, getD, set, length-set}
+use lib.ListN.{length, length-set}
 use Rattle.entry.specs.Field.{sizeOf, fieldAt}
 use Rattle.entry.proofs.Reading.{next-within}
-use Rattle.journal.specs.Walks.{okEntry, newDepth, depthAfter, walked, walkFrom, walkOf, down, Walks}
+use Rattle.journal.specs.Walks.{okEntry, newDepth, depthAfter, walked, walkFrom, walkOf, down, Below, Walks}
 use Rattle.journal.proofs.Walking.{depth-no, depth-yes, ok-size, walk-more, walk-stop, walk-end, walk-start, below-more}
 use borrow.Author.Needs.{needs}
 use Rattle.journal.proofs.walk.Statement.{statement}
@@ -15,7 +15,7 @@ use Rattle.journal.proofs.walk.Tie as tie
 
 abbrev Inv-loop : tie.InvT-loop
 Inv-loop starts s place₀ count₀ depth₀ marks₀ place count depth marks =
-    (4 * count ≤ place) × (place ≤ length s) × (depth ≤ 16) × (length marks ≡ 17) × (walkFrom (length s - count) starts s place count (down depth marks) ≡ walkOf starts s) × ((j : ℕ) → j < depth → getD marks j 0 ≤ count)
+    (4 * count ≤ place) × (place ≤ length s) × (depth ≤ 16) × (length marks ≡ 17) × (walkFrom (length s - count) starts s place count (down depth marks) ≡ walkOf starts s) × Below depth marks count
 
 abbrev μ-loop : tie.MeasureT-loop
 μ-loop starts s place₀ count₀ depth₀ marks₀ place count depth marks = length s - place
