@@ -3,3 +3,5 @@ pub mod Spots
 pub mod Restore
 pub mod Places
 pub mod Walking
+pub mod Playing
+pub mod Answers

@@ -75,7 +75,7 @@ down-mark d k a h l =
     rw (down-length d a) (subst (λ m. getD (down m a) (d - k) 0 ≡ getD a (k - 1) 0) z (down-at (d - k) (k - 1) a))
 
 module _ (ps : List ℕ) (d : ℕ) where
-  mark-down : (e : Entry) (n : ℕ) (a : List ℕ) → okEntry ps e d ≡ true → d < length a → markStep e n (down d a) ≡ down (newDepth e d) (set a d n)
+  pub mark-down : (e : Entry) (n : ℕ) (a : List ℕ) → okEntry ps e d ≡ true → d < length a → markStep e n (down d a) ≡ down (newDepth e d) (set a d n)
   mark-down (Set g c o v) n a h l = sym (down-set d d n a (omega arith))
   mark-down (Open k) n a h l = rw (add-one d, getD-set-same a d n 0 l, down-set d d n a (omega arith))
   mark-down (Release k) n a h l =
