@@ -1,0 +1,114 @@
+-- R520 to R524: what is written for an entry reads as the entry, whatever stands behind; what is read from bytes is written as these bytes.
+-- Assumes nothing.
+use mathlib.Core.Path.{_≡_, refl, sym, ap, _∙_, subst}
+use mathlib.Core.Bool.{Bool, true, false, cond}
+use mathlib.Core.List.{List, [], _∷_, _++_, append-assoc}
+use Prim.Native.Nat.{ℕ, zero, suc, _+_, _-_, _*_, _/_, _%_, _^_, _<_, _≤_}
+use native.Mathlib.Nat.{zero-add}
+use native.Mathlib.Omega.{arith}
+use lib.Dec.{ltb, eqb}
+use lib.IntN.{ℤ, pos, negsuc}
+use lib.ListN.{length, getD, take, drop, length-append, length-drop}
+use lib.Seq.{take-at, drop-at, drop-drop, getD-drop}
+use borrow.Author.Tests.{lt-ltb, le-ltb, ne-eqb, eq-eqb, ltb-false, eqb-true}
+use mir.Syntax.{w64}
+use mir.Val.{SFits}
+use Rattle.base.proofs.Choice.{cond-elim}
+use Rattle.entry.specs.declared.Entry.{Entry}
+use Rattle.entry.specs.declared.Entry.the-variants.{Set, Open, Release, Undo, Misformed}
+use Rattle.entry.specs.Bytes.{bytesOf, valueFrom, bitsOf, cellOf, AllBytes}
+use Rattle.entry.specs.Field.{tagged, textOf, sizeOf, numbered, setOf, fieldOf, fieldAt}
+use Rattle.entry.proofs.Numbers.{length-bytes, value-bytes, bytes-value, value-small}
+use Rattle.entry.proofs.Signed.{bits-small, cell-bits, bits-cell}
+
+-- an entry that has a field of its own
+pub data Sized : Entry → Type 0 where
+  sized-set : {g c : ℕ} {o n : ℤ} → g < 256 → c < 65536 → SFits w64 o → SFits w64 n → Sized (Set g c o n)
+  sized-open : {k : ℕ} → k < 256 → Sized (Open k)
+  sized-release : {k : ℕ} → k < 256 → Sized (Release k)
+  sized-undo : {k : ℕ} → k < 256 → Sized (Undo k)
+
+-- ---- the text of a set
+
+module _ (g c : ℕ) (o n : ℤ) where
+  -- what stands behind the length
+  abbrev pub setBody : List ℕ
+  setBody = bytesOf 1 g ++ (bytesOf 2 c ++ (bytesOf 8 (bitsOf o) ++ bytesOf 8 (bitsOf n)))
+
+  pub set-length : length setBody ≡ 19
+  set-length =
+      simp (length-append, length-bytes)
+
+low : (n : ℕ) → n < 256 → bytesOf 2 n ≡ 0 ∷ n ∷ []
+unfolding bytesOf
+low n h = let d : n / 256 ≡ 0 = omega arith in let m : n % 256 ≡ n = omega arith in rw (d, m)
+
+one : (n : ℕ) → n < 256 → bytesOf 1 n ≡ n ∷ []
+unfolding bytesOf
+one n h = let m : n % 256 ≡ n = omega arith in rw m
+
+-- R521, R522 in figures
+pub text-set : (g c : ℕ) (o n : ℤ) → textOf (Set g c o n) ≡ 1 ∷ 0 ∷ 19 ∷ setBody g c o n
+unfolding textOf
+text-set g c o n = rw (set-length g c o n, low 19 (omega arith), one 1 (omega arith))
+
+pub numbered-text : (tag k : ℕ) → tag < 256 → tagged tag (bytesOf 1 k) ≡ tag ∷ 0 ∷ 1 ∷ bytesOf 1 k
+numbered-text tag k h = rw (length-bytes 1 k, low 1 (omega arith), one tag h)
+
+pub length-text : (e : Entry) → length (textOf e) ≡ sizeOf e
+unfolding textOf
+length-text (Set g c o n) = ap length (text-set g c o n) ∙ ap (λ m. suc (suc (suc m))) (set-length g c o n)
+length-text (Open k) = ap length (numbered-text 2 k (omega arith)) ∙ ap (λ m. suc (suc (suc m))) (length-bytes 1 k)
+length-text (Release k) = ap length (numbered-text 3 k (omega arith)) ∙ ap (λ m. suc (suc (suc m))) (length-bytes 1 k)
+length-text (Undo k) = ap length (numbered-text 4 k (omega arith)) ∙ ap (λ m. suc (suc (suc m))) (length-bytes 1 k)
+length-text Misformed = refl
+
+-- ---- what is written reads as it was
+
+numbered-figures : (tag k : ℕ) (r : List ℕ) → fieldOf (tag ∷ 0 ∷ 1 ∷ k ∷ r) ≡ cond (eqb tag 1) Misformed (numbered tag k)
+unfolding fieldOf
+numbered-figures tag k r = rw (le-ltb (suc (suc (suc (suc (length r))))) 4 (omega arith))
+
+numbered-back : (tag k : ℕ) (r : List ℕ) → tag < 256 → k < 256 → fieldOf (tagged tag (bytesOf 1 k) ++ r) ≡ cond (eqb tag 1) Misformed (numbered tag k)
+numbered-back tag k r l h =
+    ap (λ l. fieldOf (l ++ r)) (numbered-text tag k l ∙ ap (λ l. tag ∷ 0 ∷ 1 ∷ l) (one k h)) ∙ numbered-figures tag k r
+
+set-figures : (g c : ℕ) (o n : ℤ) (r : List ℕ) → Sized (Set g c o n) → fieldOf (1 ∷ 0 ∷ 19 ∷ g ∷ ((bytesOf 2 c ++ (bytesOf 8 (bitsOf o) ++ bytesOf 8 (bitsOf n))) ++ r)) ≡ Set g c o n
+unfolding fieldOf valueFrom
+set-figures g c o n r (sized-set hg hc ho hn) =
+    let a = bytesOf 2 c in
+    let b = bytesOf 8 (bitsOf o) in
+    let d = bytesOf 8 (bitsOf n) in
+    let y = (a ++ (b ++ d)) ++ r in
+    let e : y ≡ a ++ (b ++ (d ++ r)) = append-assoc a (b ++ d) r ∙ ap (λ l. a ++ l) (append-assoc b d r) in
+    let l : length y ≡ 18 + length r = ap length e ∙ simp (length-append, length-bytes) (omega arith) in
+    let p : take 2 y ≡ a = ap (take 2) e ∙ take-at a (b ++ (d ++ r)) 2 (length-bytes 2 c) in
+    let f : drop 2 y ≡ b ++ (d ++ r) = ap (drop 2) e ∙ drop-at a (b ++ (d ++ r)) 2 (length-bytes 2 c) in
+    let q : take 8 (drop 2 y) ≡ b = ap (take 8) f ∙ take-at b (d ++ r) 8 (length-bytes 8 (bitsOf o)) in
+    let m : drop 10 y ≡ d ++ r = sym (drop-drop 8 2 y) ∙ ap (drop 8) f ∙ drop-at b (d ++ r) 8 (length-bytes 8 (bitsOf o)) in
+    let s : take 8 (drop 10 y) ≡ d = ap (take 8) m ∙ take-at d r 8 (length-bytes 8 (bitsOf n)) in
+    rw (
+      le-ltb (suc (suc (suc (suc (length y))))) 4 (omega arith),
+      le-ltb (suc (suc (suc (suc (length y))))) 22 (omega arith),
+      p,
+      q,
+      s,
+      zero-add g,
+      value-bytes 2 c (omega arith),
+      value-bytes 8 (bitsOf o) (bits-small o ho),
+      value-bytes 8 (bitsOf n) (bits-small n hn),
+      cell-bits o ho,
+      cell-bits n hn,
+    )
+
+set-back : (g c : ℕ) (o n : ℤ) (r : List ℕ) → Sized (Set g c o n) → fieldOf (textOf (Set g c o n) ++ r) ≡ Set g c o n
+set-back g c o n r (sized-set hg hc ho hn) =
+    ap (λ l. fieldOf (l ++ r)) (text-set g c o n ∙ ap (λ l. 1 ∷ 0 ∷ 19 ∷ (l ++ (bytesOf 2 c ++ (bytesOf 8 (bitsOf o) ++ bytesOf 8 (bitsOf n))))) (one g hg))
+    ∙ set-figures g c o n r (sized-set hg hc ho hn)
+
+pub field-text : (e : Entry) (r : List ℕ) → Sized e → fieldOf (textOf e ++ r) ≡ e
+unfolding textOf
+field-text (Set g c o n) r h = set-back g c o n r h
+field-text (Open k) r (sized-open h) = numbered-back 2 k r (omega arith) h
+field-text (Release k) r (sized-release h) = numbered-back 3 k r (omega arith) h
+field-text (Undo k) r (sized-undo h) = numbered-back 4 k r (omega arith) h

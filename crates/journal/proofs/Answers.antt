@@ -1,0 +1,72 @@
+-- What a walk in code found, said of the definitions that the calls cite.
+-- Assumes nothing.
+use mathlib.Core.Path.{_≡_, refl, sym, ap, _∙_, subst}
+use mathlib.Core.Bool.{Bool, true, false, cond}
+use mathlib.Core.List.{List, []}
+use Prim.Native.Nat.{ℕ, _+_, _-_, _<_, _≤_}
+use native.Mathlib.Omega.{arith}
+use lib.Dec.{eqb}
+use lib.IntN.{ℤ}
+use lib.ListN.{length, take, length-take}
+use borrow.Author.Tests.{eqb-true}
+use Rattle.count.specs.Check.{checkedOf}
+use Rattle.reply.specs.declared.Refusal.{Refusal}
+use Rattle.reply.specs.declared.Refusal.the-variants.{BadEntry}
+use Rattle.reply.specs.declared.Checked.{Checked}
+use Rattle.reply.specs.declared.Checked.the-variants as C
+use Rattle.reply.specs.declared.Answer.{Answer}
+use Rattle.reply.specs.declared.Answer.the-variants.{Refused}
+use Rattle.journal.specs.declared.State.{State}
+use Rattle.journal.specs.Layout.{startsOf}
+use Rattle.journal.specs.Model.{Call, decided}
+use Rattle.journal.specs.Walks.{down, Walks}
+use Rattle.journal.specs.Calls.{andThen, whole, walkIn, standingOf, answerOf}
+use Rattle.journal.proofs.Walking.{no-way, down-length}
+
+no-refused : {A : Type 0} {r : Refusal} → _≡_ {A = Checked} (C.Refused r) C.Right → A
+no-refused e = let z : _≡_ {A = ℕ} 0 1 = cc in absurd (omega arith)
+
+-- a walk over all of the bytes used
+whole-right : (place used : ℕ) → whole place used ≡ C.Right → place ≡ used
+whole-right place used e = by (eqb place used) refl e
+  where
+    by : (b : Bool) → eqb place used ≡ b → cond b C.Right (C.Refused (BadEntry place)) ≡ C.Right → place ≡ used
+    by true q h = eqb-true place used q
+    by false q h = no-refused h
+
+pub then-right : (a b : Checked) → andThen a b ≡ C.Right → (a ≡ C.Right) × (b ≡ C.Right)
+then-right C.Right b e = (refl, e)
+then-right (C.Refused r) b e = no-refused e
+
+module _ (ns j : List ℕ) (used cells : ℕ) where
+  pub answer-refused : {r : Refusal} (c : Call) → standingOf ns j used cells ≡ C.Refused r → Refused r ≡ answerOf ns j used cells c
+  unfolding answerOf
+  answer-refused c e = rw e
+
+  pub answer-right : (c : Call) → standingOf ns j used cells ≡ C.Right → answerOf ns j used cells c ≡ decided (startsOf ns) c (length (walkIn ns j used .marks)) (length j - used)
+  unfolding answerOf
+  answer-right c e = rw e
+
+  -- ---- the walk in code
+
+  module _ (r : State) (w : Walks (startsOf ns) (take used j) r) where
+    pub marks-found : walkIn ns j used .marks ≡ down (r .depth) (r .marks)
+    marks-found = ap (λ x. x .marks) (sym (w .found))
+
+    pub depth-found : length (walkIn ns j used .marks) ≡ r .depth
+    depth-found = ap length marks-found ∙ down-length (r .depth) (r .marks)
+
+    pub count-found : walkIn ns j used .count ≡ r .count
+    count-found = ap (λ x. x .count) (sym (w .found))
+
+    place-found : walkIn ns j used .place ≡ r .place
+    place-found = ap (λ x. x .place) (sym (w .found))
+
+    pub standing-found : (a : Checked) → a ≡ checkedOf ns cells → andThen a (whole (r .place) used) ≡ standingOf ns j used cells
+    unfolding standingOf
+    standing-found a e = rw (e, place-found) refl
+
+    pub used-inside : (a : Checked) → andThen a (whole (r .place) used) ≡ C.Right → used ≤ length j
+    used-inside a e =
+        let q : r .place ≡ used = whole-right (r .place) used (then-right a (whole (r .place) used) e .1) in
+        omega (arith, w .within, length-take used j)

@@ -1,0 +1,7 @@
+-- The laws of the edit journal, a file to a subject.
+pub mod Spots
+pub mod Restore
+pub mod Places
+pub mod Walking
+pub mod Playing
+pub mod Answers

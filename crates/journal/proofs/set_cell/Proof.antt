@@ -1,0 +1,70 @@
+-- `journal::set_cell` meets its contract.
+-- Assumes nothing.
+use mathlib.Core.Path.{_≡_, refl, sym, ap, _∙_, subst}
+use Prim.Native.Nat.{_-_}
+use lib.ListN.{length, take}
+use Rattle.reply.specs.declared.Checked.the-variants as C
+use Rattle.journal.specs.Layout.{startsOf}
+use Rattle.journal.specs.Model.{Sets, decided}
+use Rattle.journal.specs.Walks.{Walks}
+use Rattle.journal.specs.Calls.{standingOf}
+use Rattle.journal.proofs.Spots.{starts-length}
+use Rattle.journal.proofs.Answers.{answer-refused, answer-right, standing-found, used-inside}
+use borrow.Author.Needs.{needs}
+use Rattle.journal.proofs.set_cell.Statement.{statement}
+use Rattle.journal.proofs.set_cell.Tie as tie
+
+put-starts-requires : tie.Need-put-starts-requires
+put-starts-requires c κs = ?
+
+walk-used-requires : tie.Need-walk-used-requires
+walk-used-requires c κs = ?
+
+set-in-requires : tie.Need-set-in-requires
+set-in-requires c κs = ?
+
+returns : tie.Need-returns
+returns c =
+    let a = c .before .before .before .before .before .before .before .before .before .before .before .before .before .before .args in
+    let ns = a .counts .now in
+    let j = a .journal .now in
+    let n = length (a .cells .now) in
+    let p : c .before .before .before .before .before .before .before .before .before .before .put-starts .last .0 ≡ startsOf ns = c .before .before .before .before .before .before .before .before .before .before .put-starts .ensures in
+    let w = subst (λ q. Walks q (take (a .used) j) (c .before .before .before .before .before .before .walk-used .result)) p (c .before .before .before .before .before .before .walk-used .ensures) in
+    let st = sym (standing-found ns j (a .used) n (c .before .before .before .before .before .before .walk-used .result) w (c .before .before .before .before .before .check .result) (c .before .before .before .before .before .check .ensures)) ∙ sym (c .before .before .before .before .standing .ensures) ∙ c .before .before .why .given .1 in
+    let e = c .refused .ensures .0 in
+    (e ∙ answer-refused ns j (a .used) n (Sets (a .group) (a .cell) (a .value)) st, (rw e (c .refused .ensures .1), (rw e refl, rw e refl)))
+
+returns-2 : tie.Need-returns-2
+returns-2 c =
+    let a = c .before .before .before .before .before .before .before .before .before .before .before .before .before .before .before .before .before .before .before .args in
+    let ns = a .counts .now in
+    let j = a .journal .now in
+    let n = length (a .cells .now) in
+    let call = Sets (a .group) (a .cell) (a .value) in
+    let p : c .before .before .before .before .before .before .before .before .before .before .before .before .before .before .before .put-starts .last .0 ≡ startsOf ns = c .before .before .before .before .before .before .before .before .before .before .before .before .before .before .before .put-starts .ensures in
+    let w = subst (λ q. Walks q (take (a .used) j) (c .before .before .before .before .before .before .before .before .before .before .before .walk-used .result)) p (c .before .before .before .before .before .before .before .before .before .before .before .walk-used .ensures) in
+    let st = sym (standing-found ns j (a .used) n (c .before .before .before .before .before .before .before .before .before .before .before .walk-used .result) w (c .before .before .before .before .before .before .before .before .before .before .check .result) (c .before .before .before .before .before .before .before .before .before .before .check .ensures)) ∙ sym (c .before .before .before .before .before .before .before .before .before .standing .ensures) ∙ c .before .before .before .before .before .before .before .enum-told .given .1 in
+    let e = c .before .before .before .set-in .ensures in
+    (?, (?, (?, ?)))
+
+pub set-cell-spec : {M : Type 1} → statement M
+set-cell-spec =
+    tie.close
+    (tie.spec
+    (λ c. search needs)
+    put-starts-requires
+    (λ c. search needs)
+    walk-used-requires
+    (λ c κs. search needs)
+    (λ c κs. search needs)
+    (λ c. search needs)
+    (λ c κs. search needs)
+    (λ c. search needs)
+    (λ c. search needs)
+    set-in-requires
+    (λ c. search needs)
+    returns
+    (λ c. search needs)
+    (λ c. search needs)
+    returns-2)
