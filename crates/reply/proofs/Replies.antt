@@ -1,6 +1,6 @@
 -- Replies that fill a row of a question's table.
 -- Assumes nothing.
-use mathlib.Core.Path.{_≡_, refl, sym}
+use mathlib.Core.Path.{refl, sym}
 use mathlib.Core.Bool.{Bool, true, false, _||_, cond}
 use mathlib.Core.List.{List, [], _∷_, _++_, map}
 use mathlib.Core.Logic.{inl, inr}
@@ -14,7 +14,7 @@ use Rattle.base.specs.Every.{has}
 use Rattle.base.proofs.Choice.{or-right}
 use Rattle.reply.specs.declared.Reply.{Reply}
 use Rattle.reply.specs.declared.Refusal.{Refusal}
-use Rattle.reply.specs.Table.{Beside, Given, told, given, kindsOf, Row, row, Shown, Fills, Numbered, code, is, next, cells, bytes, group, line, element, position}
+use Rattle.reply.specs.Table.{Beside, Given, told, amountOf, kindsOf, Row, row, Shown, Fills, Numbered, kindCode, isKind, next, cells, bytes, group, line, element, position}
 use Rattle.reply.specs.Refusals.{refusalReply, refusalNumber, besideOf, refusalRow, rows}
 
 -- each of these numbers is at least 1
@@ -23,24 +23,24 @@ Counted [] = Unit {0}
 Counted (b ∷ bs) = (1 ≤ b .1) × Counted bs
 
 abbrev codesOf : Given → List ℕ
-codesOf bs = map code (kindsOf bs)
+codesOf bs = map kindCode (kindsOf bs)
 
 -- a kind of number that is named is given, and one that isn't is 0
-shown-one : (b : Beside) (bs : Given) → Counted bs → Shown (has (codesOf bs) (code b)) 1 (given (is b) bs)
+shown-one : (b : Beside) (bs : Given) → Counted bs → Shown (has (codesOf bs) (kindCode b)) 1 (amountOf (isKind b) bs)
 shown-one b [] c = refl
-shown-one b (g ∷ gs) c = by (eqb (code (g .0)) (code b)) (shown-one b gs (c .1))
+shown-one b (g ∷ gs) c = by (eqb (kindCode (g .0)) (kindCode b)) (shown-one b gs (c .1))
   where
-    by : (t : Bool) → Shown (has (codesOf gs) (code b)) 1 (given (is b) gs) → Shown (t || has (codesOf gs) (code b)) 1 (cond t (g .1) (given (is b) gs))
+    by : (t : Bool) → Shown (has (codesOf gs) (kindCode b)) 1 (amountOf (isKind b) gs) → Shown (t || has (codesOf gs) (kindCode b)) 1 (cond t (g .1) (amountOf (isKind b) gs))
     by true h = c .0
     by false h = h
 
 -- the same of cells and bytes, which both are what was written
-shown-written : (bs : Given) → Counted bs → Shown (has (codesOf bs) 1 || has (codesOf bs) 2) 1 (given (λ c. is cells c || is bytes c) bs)
+shown-written : (bs : Given) → Counted bs → Shown (has (codesOf bs) 1 || has (codesOf bs) 2) 1 (amountOf (λ c. isKind cells c || isKind bytes c) bs)
 shown-written [] c = refl
-shown-written (g ∷ gs) c = by (eqb (code (g .0)) 1) (eqb (code (g .0)) 2) (has (codesOf gs) 1) (shown-written gs (c .1))
+shown-written (g ∷ gs) c = by (eqb (kindCode (g .0)) 1) (eqb (kindCode (g .0)) 2) (has (codesOf gs) 1) (shown-written gs (c .1))
   where
-    by : (t u v : Bool) → Shown (v || has (codesOf gs) 2) 1 (given (λ c. is cells c || is bytes c) gs)
-        → Shown ((t || v) || (u || has (codesOf gs) 2)) 1 (cond (t || u) (g .1) (given (λ c. is cells c || is bytes c) gs))
+    by : (t u v : Bool) → Shown (v || has (codesOf gs) 2) 1 (amountOf (λ c. isKind cells c || isKind bytes c) gs)
+        → Shown ((t || v) || (u || has (codesOf gs) 2)) 1 (cond (t || u) (g .1) (amountOf (λ c. isKind cells c || isKind bytes c) gs))
     by true u v h = c .0
     by false true true h = c .0
     by false true false h = c .0
@@ -57,7 +57,7 @@ fills k bs c =
     record {
       numbered = refl;
       with-next = shown-one next bs c;
-      with-written = least (has (codesOf bs) 1 || has (codesOf bs) 2) (has (codesOf bs) 2) (given (λ c. is cells c || is bytes c) bs) (shown-written bs c);
+      with-written = least (has (codesOf bs) 1 || has (codesOf bs) 2) (has (codesOf bs) 2) (amountOf (λ c. isKind cells c || isKind bytes c) bs) (shown-written bs c);
       with-group = shown-one group bs c;
       with-line = shown-one line bs c;
       with-element = shown-one element bs c;
