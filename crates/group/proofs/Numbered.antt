@@ -17,7 +17,6 @@ use Rattle.place.proofs.Numbered.{refused-numbered}
 use Rattle.reply.specs.declared.Refusal.{Refusal}
 use Rattle.reply.specs.declared.Refusal.the-variants.{NoSuchNumber, BrokenRule, NoRoom, BadLine, BadField, BadDate}
 use Rattle.reading.specs.Numbered.{readingRows}
-use Rattle.reading.specs.Due.{RefusedFor}
 use Rattle.reading.specs.Due as Reading
 use Rattle.reading.specs.Read.{Cells, readingOf}
 use Rattle.reading.proofs.Promises.{refusal-numbered}
@@ -58,7 +57,7 @@ module _ (s : List ℕ) (at g : ℕ) where
 
 -- of group 4 the lines alone are refused: 49 cells have room, and it has no date
 module _ (s : List ℕ) (at k : ℕ) where
-  lines-numbered : (n : ℕ) (placed : PlacingDue s at 4 (P.Placed n)) (x : List ℕ) (r : Refusal) → RefusedFor (placed .placing .ns) 4 x 49 r
+  lines-numbered : (n : ℕ) (placed : PlacingDue s at 4 (P.Placed n)) (x : List ℕ) (r : Refusal) → Reading.RefusedFor (placed .placing .ns) 4 x 49 r
       → Numbered (rows (askedRefusals ++ lineRefusals)) (refusalReply r)
   lines-numbered n placed x r (Reading.no-group d) = inl (refusal-fills NoSuchNumber tt)
   lines-numbered n placed x r (Reading.broken-rule h d) =
