@@ -10,25 +10,26 @@ use Rattle.count.specs.Rules.{releaseOf, rulingOf}
 use Rattle.count.specs.Check.{wellFormed, checkedOf}
 use Rattle.count.specs.declared.Release.the-variants.{Five, Other, Filled}
 use Rattle.count.specs.declared.Ruling.the-variants.{Kept, Broken}
-use Rattle.count.specs.declared.Checked.the-variants.{Right, Misformed, OtherRelease, FilledVacant, BrokenRule, OtherLength}
+use Rattle.reply.specs.declared.Refusal.the-variants.{Misformed, OtherRelease, FilledVacant, BrokenRule, OtherLength}
+use Rattle.reply.specs.declared.Checked.the-variants.{Right, Refused}
 use Rattle.count.proofs.Tallied.{all-cells}
 
 module _ (ns : List ℕ) (cells : ℕ) where
-  pub checked-misformed : wellFormed ns ≡ false → checkedOf ns cells ≡ Misformed
+  pub checked-misformed : wellFormed ns ≡ false → checkedOf ns cells ≡ Refused Misformed
   unfolding checkedOf
   checked-misformed w = rw w
 
   module _ (w : wellFormed ns ≡ true) where
-    pub checked-release : releaseOf ns ≡ Other → checkedOf ns cells ≡ OtherRelease
+    pub checked-release : releaseOf ns ≡ Other → checkedOf ns cells ≡ Refused OtherRelease
     unfolding checkedOf
     checked-release r = rw (w, r)
 
-    pub checked-filled : {g : ℕ} → releaseOf ns ≡ Filled g → checkedOf ns cells ≡ FilledVacant g
+    pub checked-filled : {g : ℕ} → releaseOf ns ≡ Filled g → checkedOf ns cells ≡ Refused (FilledVacant g)
     unfolding checkedOf
     checked-filled r = rw (w, r)
 
     module _ (r : releaseOf ns ≡ Five) where
-      pub checked-broken : {g : ℕ} → rulingOf ns ≡ Broken g → checkedOf ns cells ≡ BrokenRule g
+      pub checked-broken : {g : ℕ} → rulingOf ns ≡ Broken g → checkedOf ns cells ≡ Refused (BrokenRule g)
       unfolding checkedOf
       checked-broken k = rw (w, r, k)
 
@@ -37,6 +38,6 @@ module _ (ns : List ℕ) (cells : ℕ) where
         unfolding checkedOf
         checked-right e = rw (w, r, k, eq-eqb cells (recordCells ns) (e ∙ all-cells ns))
 
-        pub checked-length : (cells ≡ cellsBefore ns 61 → ⊥) → checkedOf ns cells ≡ OtherLength
+        pub checked-length : (cells ≡ cellsBefore ns 61 → ⊥) → checkedOf ns cells ≡ Refused OtherLength
         unfolding checkedOf
         checked-length n = rw (w, r, k, ne-eqb cells (recordCells ns) (λ e. n (e ∙ sym (all-cells ns))))

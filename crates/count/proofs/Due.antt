@@ -16,13 +16,15 @@ use Rattle.form.specs.Count.{mostCount, isCount}
 use Rattle.count.specs.Tally.{recordCells}
 use Rattle.count.specs.Rules.{releaseOf, rulingOf}
 use Rattle.count.specs.Check.{wellFormed, byRules, byRelease, checkedOf}
-use Rattle.count.specs.Due.{HasCounts, Released, HasRules, HasCells, Due}
+use Rattle.count.specs.Due.{HasCounts, Released, HasRules, HasCells, RefusedFor, misformed, other-release, filled-vacant, broken-rule, other-length, Due}
 use Rattle.count.specs.declared.Release.{Release}
 use Rattle.count.specs.declared.Release.the-variants.{Five, Other, Filled}
 use Rattle.count.specs.declared.Ruling.{Ruling}
 use Rattle.count.specs.declared.Ruling.the-variants.{Kept, Broken}
-use Rattle.count.specs.declared.Checked.{Checked}
-use Rattle.count.specs.declared.Checked.the-variants.{Right, Misformed, OtherRelease, FilledVacant, BrokenRule, OtherLength}
+use Rattle.reply.specs.declared.Refusal.{Refusal}
+use Rattle.reply.specs.declared.Refusal.the-variants.{Misformed, OtherLength}
+use Rattle.reply.specs.declared.Checked.{Checked}
+use Rattle.reply.specs.declared.Checked.the-variants.{Right, Refused}
 use Rattle.count.proofs.Checks.{checked-misformed, checked-release, checked-filled, checked-broken, checked-right, checked-length}
 use Rattle.count.proofs.Rulings.{kept-ruling, ruling-kept, broken-ruling, ruling-broken}
 use Rattle.count.proofs.Releases.{release-given, release-due}
@@ -62,34 +64,37 @@ module _ (ns : List ℕ) where
 
     -- ---- what is due is given
 
-    given : (c : Checked) → Due ns cells c → checkedOf ns cells ≡ c
-    given Misformed d = checked-misformed ns cells (not-formed d)
-    given OtherRelease d = checked-release ns cells (counts-formed (d .counts)) (released Other d)
-    given (FilledVacant g) d = checked-filled ns cells (counts-formed (d .counts)) (released (Filled g) d)
-    given (BrokenRule g) d = checked-broken ns cells (counts-formed (d .released .counts)) (released Five (d .released)) (broken-ruling ns (d .broken))
-    given OtherLength d =
+    given-refusal : (r : Refusal) → RefusedFor ns cells r → checkedOf ns cells ≡ Refused r
+    given-refusal r (misformed d) = checked-misformed ns cells (not-formed d)
+    given-refusal r (other-release d) = checked-release ns cells (counts-formed (d .counts)) (released Other d)
+    given-refusal r (filled-vacant g d) = checked-filled ns cells (counts-formed (d .counts)) (released (Filled g) d)
+    given-refusal r (broken-rule g d) = checked-broken ns cells (counts-formed (d .released .counts)) (released Five (d .released)) (broken-ruling ns (d .broken))
+    given-refusal r (other-length d) =
         checked-length ns cells (counts-formed (d .rules .released .counts)) (released Five (d .rules .released)) (kept-ruling ns (d .rules .kept)) (λ e. d .other (e ∙ all-cells ns))
+
+    given : (c : Checked) → Due ns cells c → checkedOf ns cells ≡ c
+    given (Refused r) d = given-refusal r d
     given Right d =
         checked-right ns cells (counts-formed (d .rules .released .counts)) (released Five (d .rules .released)) (kept-ruling ns (d .rules .kept)) (d .needed ∙ sym (all-cells ns))
 
     -- ---- what is given is due
 
-    from-length : (t : Bool) → HasRules ns → eqb cells (recordCells ns) ≡ t → Due ns cells (cond t Right OtherLength)
+    from-length : (t : Bool) → HasRules ns → eqb cells (recordCells ns) ≡ t → Due ns cells (cond t Right (Refused OtherLength))
     from-length true h e = record { rules = h; needed = eqb-true cells (recordCells ns) e }
-    from-length false h e = record { rules = h; other = eqb-false cells (recordCells ns) e }
+    from-length false h e = other-length record { rules = h; other = eqb-false cells (recordCells ns) e }
 
     from-ruling : (k : Ruling) → Released ns Five → rulingOf ns ≡ k → Due ns cells (byRules ns cells k)
     from-ruling Kept h e = from-length (eqb cells (recordCells ns)) record { released = h; kept = ruling-kept ns e } refl
-    from-ruling (Broken g) h e = record { released = h; broken = ruling-broken ns e }
+    from-ruling (Broken g) h e = broken-rule g record { released = h; broken = ruling-broken ns e }
 
     from-release : (r : Release) → Released ns r → Due ns cells (byRelease ns cells r)
     from-release Five h = from-ruling (rulingOf ns) h refl
-    from-release Other h = h
-    from-release (Filled g) h = h
+    from-release Other h = other-release h
+    from-release (Filled g) h = filled-vacant g h
 
-    from-formed : (t : Bool) → wellFormed ns ≡ t → Due ns cells (cond t (byRelease ns cells (releaseOf ns)) Misformed)
+    from-formed : (t : Bool) → wellFormed ns ≡ t → Due ns cells (cond t (byRelease ns cells (releaseOf ns)) (Refused Misformed))
     from-formed true e = from-release (releaseOf ns) record { counts = formed-counts e; release = release-due ns }
-    from-formed false e = λ h. let z = sym (counts-formed h) ∙ e in let y : _≡_ {A = ℕ} 0 1 = cc in omega arith
+    from-formed false e = misformed (λ h. let z = sym (counts-formed h) ∙ e in let y : _≡_ {A = ℕ} 0 1 = cc in omega arith)
 
     is-due : Due ns cells (checkedOf ns cells)
     unfolding checkedOf

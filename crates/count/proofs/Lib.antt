@@ -5,5 +5,5 @@ pub mod Tallied
 pub mod Vacant
 pub mod Checks
 pub mod Due
-pub mod Replies
+pub mod Numbered
 pub mod Releases

@@ -13,8 +13,9 @@ use Rattle.count.specs.declared.Release.{Release}
 use Rattle.count.specs.declared.Release.the-variants.{Five, Other, Filled}
 use Rattle.count.specs.declared.Ruling.{Ruling}
 use Rattle.count.specs.declared.Ruling.the-variants.{Kept, Broken}
-use Rattle.count.specs.declared.Checked.{Checked}
-use Rattle.count.specs.declared.Checked.the-variants.{Right, Misformed, OtherRelease, FilledVacant, BrokenRule, OtherLength}
+use Rattle.reply.specs.declared.Refusal.the-variants.{Misformed, OtherRelease, FilledVacant, BrokenRule, OtherLength}
+use Rattle.reply.specs.declared.Checked.{Checked}
+use Rattle.reply.specs.declared.Checked.the-variants.{Right, Refused}
 
 -- R129, R204: counts that are given are 80, and none is above 999; else 4
 unfoldable pub wellFormed : List ℕ → Bool
@@ -22,16 +23,16 @@ wellFormed ns = eqb (length ns) 80 && every isCount ns
 
 -- R214: as many cells as the counts ask for, no more and no fewer; else 14
 abbrev pub byLength : List ℕ → ℕ → Checked
-byLength ns cells = cond (eqb cells (recordCells ns)) Right OtherLength
+byLength ns cells = cond (eqb cells (recordCells ns)) Right (Refused OtherLength)
 
 abbrev pub byRules : List ℕ → ℕ → Ruling → Checked
 byRules ns cells Kept = byLength ns cells
-byRules ns cells (Broken g) = BrokenRule g
+byRules ns cells (Broken g) = Refused (BrokenRule g)
 
 abbrev pub byRelease : List ℕ → ℕ → Release → Checked
 byRelease ns cells Five = byRules ns cells (rulingOf ns)
-byRelease ns cells Other = OtherRelease
-byRelease ns cells (Filled g) = FilledVacant g
+byRelease ns cells Other = Refused OtherRelease
+byRelease ns cells (Filled g) = Refused (FilledVacant g)
 
 unfoldable pub checkedOf : List ℕ → ℕ → Checked
-checkedOf ns cells = cond (wellFormed ns) (byRelease ns cells (releaseOf ns)) Misformed
+checkedOf ns cells = cond (wellFormed ns) (byRelease ns cells (releaseOf ns)) (Refused Misformed)

@@ -8,8 +8,10 @@ use Rattle.count.specs.Tally.{countOf, recordCells}
 use Rattle.count.specs.Blame.{KeepsRules, BreaksRules}
 use Rattle.count.specs.declared.Release.{Release}
 use Rattle.count.specs.declared.Release.the-variants.{Five, Other, Filled}
-use Rattle.count.specs.declared.Checked.{Checked}
-use Rattle.count.specs.declared.Checked.the-variants.{Right, Misformed, OtherRelease, FilledVacant, BrokenRule, OtherLength}
+use Rattle.reply.specs.declared.Refusal.{Refusal}
+use Rattle.reply.specs.declared.Refusal.the-variants.{Misformed, OtherRelease, FilledVacant, BrokenRule, OtherLength}
+use Rattle.reply.specs.declared.Checked.{Checked}
+use Rattle.reply.specs.declared.Checked.the-variants.{Right, Refused}
 
 module _ (ns : List ℕ) where
   -- ---- R205, R206: the release
@@ -64,10 +66,14 @@ module _ (ns : List ℕ) where
     pub rules : HasRules
     pub needed : cells ≡ recordCells ns
 
+  -- what the check refuses with, and when
+  pub data RefusedFor (cells : ℕ) : Refusal → Type 0 where
+    misformed : (HasCounts → ⊥) → RefusedFor cells Misformed
+    other-release : Released Other → RefusedFor cells OtherRelease
+    filled-vacant : (g : ℕ) → Released (Filled g) → RefusedFor cells (FilledVacant g)
+    broken-rule : (g : ℕ) → Breaks g → RefusedFor cells (BrokenRule g)
+    other-length : Differs cells → RefusedFor cells OtherLength
+
   abbrev pub Due : ℕ → Checked → Type 0
-  Due cells Misformed = HasCounts → ⊥
-  Due cells OtherRelease = Released Other
-  Due cells (FilledVacant g) = Released (Filled g)
-  Due cells (BrokenRule g) = Breaks g
-  Due cells OtherLength = Differs cells
   Due cells Right = HasCells cells
+  Due cells (Refused r) = RefusedFor cells r

@@ -1,5 +1,7 @@
 // Counts: the lines and cells that they stand for, the rules on them, and the whole check before they are used. Counts are lent as a slice
 // of any length; one that is not there is 0 (R243).
+use reply::Checked;
+use reply::Refusal;
 ghost use mathlib.Core.Path.{_≡_};
 ghost use mathlib.Core.Bool.{_&&_};
 ghost use mathlib.Core.List.{map};
@@ -23,16 +25,6 @@ pub enum Release {
 pub enum Ruling {
     Kept,
     Broken(usize),
-}
-
-// R302: right, or the first of 4, 5, 6, 7 and 14 that is due.
-pub enum Checked {
-    Right,
-    Misformed,
-    OtherRelease,
-    FilledVacant(usize),
-    BrokenRule(usize),
-    OtherLength,
 }
 
 // R126: a set's nonzero counts are equal; R127: where `ends` is true, its first and last group are there if any is.
@@ -310,24 +302,24 @@ fn well_formed(counts: &[u16]) -> bool
     true
 }
 
-// R302: the whole check of counts and the length of the table of all cells, in the order 4, 5, 6, 7, 14.
+// R302: the whole check of counts and the length of the table of all cells: right, or the first of 4, 5, 6, 7 and 14 that is due.
 pub fn check(counts: &[u16], cells: usize) -> Checked
     ensures { λ r. ⌜ r ≡ checkedOf (now (counts .entry)) cells ⌝ }
 {
     if !well_formed(counts) {
-        return Checked::Misformed;
+        return Checked::Refused(Refusal::Misformed);
     }
     match release_of(counts) {
-        Release::Other => Checked::OtherRelease,
-        Release::Filled(g) => Checked::FilledVacant(g),
+        Release::Other => Checked::Refused(Refusal::OtherRelease),
+        Release::Filled(g) => Checked::Refused(Refusal::FilledVacant(g)),
         Release::Five => match ruling_of(counts) {
-            Ruling::Broken(g) => Checked::BrokenRule(g),
+            Ruling::Broken(g) => Checked::Refused(Refusal::BrokenRule(g)),
             Ruling::Kept => {
                 let all = add_up(counts, 61);
                 if cells == all.cells {
                     return Checked::Right;
                 }
-                Checked::OtherLength
+                Checked::Refused(Refusal::OtherLength)
             }
         },
     }

@@ -21,10 +21,13 @@ use Rattle.count.specs.Due.{ReleaseDue}
 use Rattle.count.proofs.Rulings.{kept-ruling, ruling-kept, broken-ruling, ruling-broken}
 use Rattle.count.proofs.Releases.{release-given, release-due}
 use Rattle.place.specs.declared.Placing.{Placing}
-use Rattle.place.specs.declared.Placing.the-variants.{Placed, End, Beyond, TooFewLines, Misformed, OtherRelease, FilledVacant, BrokenRule}
+use Rattle.reply.specs.declared.Refusal.{Refusal}
+use Rattle.reply.specs.declared.Refusal.the-variants.{End, Beyond, TooFewLines}
+use Rattle.place.specs.declared.Placing.the-variants.{Placed, BrokenRule, Refused}
 use Rattle.place.specs.Index.{Indexed, counts, misformed, readIndex}
 use Rattle.place.specs.Placing.{Located, located, refused, locate, locateIndex, locateRelease, locateLines, placingBy, countsBy, ruledAt, placingOf, countsAt}
-use Rattle.place.specs.Due.{HasIndex, HasCounts, HasRelease, HasLines, FewForIndex, FewForData, CountsDue, Due}
+use Rattle.place.specs.Due.{HasIndex, HasEntries, HasRelease, HasLines, CountsDue, RefusedFor, beyond, text-end, few-for-index}
+use Rattle.place.specs.Due.{few-for-data, bad-index, bad-release, fills-vacant, Due}
 use Rattle.place.proofs.Indexed.{index-is, no-index}
 use Rattle.place.proofs.Placed.{located-is}
 use Rattle.place.proofs.Steps.{locate-beyond, locate-end, locate-few, locate-index}
@@ -32,7 +35,7 @@ use Rattle.place.proofs.Steps.{locate-beyond, locate-end, locate-few, l
 module _ (s : List ℕ) (at : ℕ) where
   -- ---- what is due is given
 
-  to-counts : (ns : List ℕ) → HasCounts s at ns → locate s at ≡ locateRelease (drop at s) at ns (releaseOf ns)
+  to-counts : (ns : List ℕ) → HasEntries s at ns → locate s at ≡ locateRelease (drop at s) at ns (releaseOf ns)
   to-counts ns h = locate-index s at (h .place .inside) (h .place .lines) ∙ rw (index-is (drop at s) ns .1 (h .index))
 
   to-lines : (ns : List ℕ) → HasRelease s at ns → locate s at ≡ locateLines (drop at s) at ns
@@ -43,19 +46,17 @@ module _ (s : List ℕ) (at : ℕ) where
       to-lines ns (h .head)
       ∙ rw (le-leb (recordLines ns) (feeds (drop at s)) (h .enough)) (ap (λ m. located m ns) (sym (h .next)))
 
+  given-refusal : (r : Refusal) → RefusedFor s at r → placingBy (locate s at) ≡ Refused r
+  given-refusal r (beyond d) = rw (locate-beyond s at d)
+  given-refusal r (text-end d) = rw (locate-end s at d)
+  given-refusal r (few-for-index d) = ap placingBy (locate-few s at (d .inside) (d .few))
+  given-refusal r (few-for-data d) = ap placingBy (to-lines (d .ns) (d .head)) ∙ rw (lt-leb (recordLines (d .ns)) (feeds (drop at s)) (d .few))
+  given-refusal r (bad-index d) = ap placingBy (locate-index s at (d .place .inside) (d .place .lines)) ∙ rw (no-index (drop at s) .1 (d .none))
+  given-refusal r (bad-release d) = ap placingBy (to-counts (d .ns) (d .index)) ∙ rw (release-given (d .ns) Other (d .other))
+  given-refusal r (fills-vacant g d) = ap placingBy (to-counts (d .ns) (d .index)) ∙ rw (release-given (d .ns) (Filled g) (d .filled))
+
   given : (p : Placing) → Due s at p → placingBy (locate s at) ≡ p
-  given Beyond d = rw (locate-beyond s at d)
-  given End d = rw (locate-end s at d)
-  given TooFewLines d =
-      ⊎-elim
-      (λ (f : FewForIndex s at). ap placingBy (locate-few s at (f .inside) (f .few)))
-      (λ (f : FewForData s at). ap placingBy (to-lines (f .ns) (f .head)) ∙ rw (lt-leb (recordLines (f .ns)) (feeds (drop at s)) (f .few)))
-      d
-  given Misformed d = ap placingBy (locate-index s at (d .place .inside) (d .place .lines)) ∙ rw (no-index (drop at s) .1 (d .none))
-  given OtherRelease d = ap placingBy (to-counts (d .ns) (d .index)) ∙ rw (release-given (d .ns) Other (d .other))
-  given (FilledVacant g) d =
-      ap placingBy (to-counts (d .ns) (d .index))
-      ∙ rw (release-given (d .ns) (Filled g) (d .filled))
+  given (Refused r) d = given-refusal r d
   given (BrokenRule g n) d = ap placingBy (to-located (d .ns) n (d .lines)) ∙ rw (broken-ruling (d .ns) (d .broken))
   given (Placed n) d = ap placingBy (to-located (d .ns) n (d .lines)) ∙ rw (kept-ruling (d .ns) (d .kept))
 
@@ -65,20 +66,21 @@ module _ (s : List ℕ) (at : ℕ) where
   from-ruling ns n Kept h e = record { ns = ns; lines = h; kept = ruling-kept ns e }
   from-ruling ns n (Broken g) h e = record { ns = ns; lines = h; broken = ruling-broken ns e }
 
-  from-lines : (ns : List ℕ) (t : Bool) → HasRelease s at ns → leb (recordLines ns) (feeds (drop at s)) ≡ t → Due s at (placingBy (cond t (located (at + reach (drop at s) (recordLines ns)) ns) (refused TooFewLines)))
+  from-lines : (ns : List ℕ) (t : Bool) → HasRelease s at ns → leb (recordLines ns) (feeds (drop at s)) ≡ t
+      → Due s at (placingBy (cond t (located (at + reach (drop at s) (recordLines ns)) ns) (refused TooFewLines)))
   from-lines ns true h e =
       from-ruling ns (at + reach (drop at s) (recordLines ns)) (rulingOf ns) record { head = h; enough = leb-true (recordLines ns) (feeds (drop at s)) e; next = refl } refl
-  from-lines ns false h e = inr record { ns = ns; head = h; few = leb-false (recordLines ns) (feeds (drop at s)) e }
+  from-lines ns false h e = few-for-data record { ns = ns; head = h; few = leb-false (recordLines ns) (feeds (drop at s)) e }
 
-  from-release : (ns : List ℕ) (r : Release) → HasCounts s at ns → ReleaseDue ns r → Due s at (placingBy (locateRelease (drop at s) at ns r))
+  from-release : (ns : List ℕ) (r : Release) → HasEntries s at ns → ReleaseDue ns r → Due s at (placingBy (locateRelease (drop at s) at ns r))
   from-release ns Five h f =
       from-lines ns (leb (recordLines ns) (feeds (drop at s))) record { index = h; release = f } refl
-  from-release ns Other h f = record { ns = ns; index = h; other = f }
-  from-release ns (Filled g) h f = record { ns = ns; index = h; filled = f }
+  from-release ns Other h f = bad-release record { ns = ns; index = h; other = f }
+  from-release ns (Filled g) h f = fills-vacant g record { ns = ns; index = h; filled = f }
 
   from-index : (q : Indexed) → HasIndex s at → readIndex (drop at s) ≡ q → Due s at (placingBy (locateIndex (drop at s) at q))
   from-index (counts ns) h e = from-release ns (releaseOf ns) record { place = h; index = index-is (drop at s) ns .0 e } (release-due ns)
-  from-index misformed h e = record { place = h; none = no-index (drop at s) .0 e }
+  from-index misformed h e = bad-index record { place = h; none = no-index (drop at s) .0 e }
 
   is-due : Due s at (placingBy (locate s at))
   unfolding locate
@@ -87,16 +89,21 @@ module _ (s : List ℕ) (at : ℕ) where
       inner : ltb (length s) at ≡ false → eqb (length s) at ≡ false → at < length s
       inner u v = ⊎-elim (λ (e : at ≡ length s). absurd (eqb-false (length s) at v (sym e))) (λ l. l) (eq-or-lt-of-le (ltb-false (length s) at u))
 
-      by : (a b c : Bool) → ltb (length s) at ≡ a → eqb (length s) at ≡ b → leb 2 (feeds (drop at s)) ≡ c → Due s at (placingBy (cond a (refused Beyond) (cond b (refused End) (cond c (locateIndex (drop at s) at (readIndex (drop at s))) (refused TooFewLines)))))
-      by true b c u v w = ltb-true (length s) at u
-      by false true c u v w = eqb-true (length s) at v
-      by false false false u v w = inl record { inside = inner u v; few = leb-false 2 (feeds (drop at s)) w }
+      by : (a b c : Bool) → ltb (length s) at ≡ a → eqb (length s) at ≡ b → leb 2 (feeds (drop at s)) ≡ c
+          → Due s at (placingBy (cond a (refused Beyond) (cond b (refused End) (cond c (locateIndex (drop at s) at (readIndex (drop at s))) (refused TooFewLines)))))
+      by true b c u v w = beyond (ltb-true (length s) at u)
+      by false true c u v w = text-end (eqb-true (length s) at v)
+      by false false false u v w = few-for-index record { inside = inner u v; few = leb-false 2 (feeds (drop at s)) w }
       by false false true u v w = from-index (readIndex (drop at s)) record { inside = inner u v; lines = leb-true 2 (feeds (drop at s)) w } refl
 
   -- the reply that is given is the one that is due, and no other is
   pub first-due : (p : Placing) → placingOf s at ≡ p ↔ Due s at p
   unfolding placingOf
   first-due p = (λ e. subst (Due s at) e is-due, given p)
+
+  -- what is refused
+  pub refused-due : (r : Refusal) → locate s at ≡ refused r → RefusedFor s at r
+  refused-due r e = subst (Due s at) (ap placingBy e) is-due
 
   -- ---- the counts
 

@@ -18,8 +18,8 @@ use Rattle.count.specs.Tally.{recordLines}
 use Rattle.count.specs.Rules.{releaseOf}
 use Rattle.count.specs.declared.Release.{Release}
 use Rattle.count.specs.declared.Release.the-variants.{Five, Other, Filled}
-use Rattle.place.specs.declared.Placing.{Placing}
-use Rattle.place.specs.declared.Placing.the-variants.{Placed, End, Beyond, TooFewLines, Misformed, OtherRelease, FilledVacant, BrokenRule}
+use Rattle.reply.specs.declared.Refusal.{Refusal}
+use Rattle.reply.specs.declared.Refusal.the-variants.{End, Beyond, TooFewLines, Misformed, OtherRelease, FilledVacant}
 use Rattle.place.specs.Index.{Indexed, counts, misformed, readIndex}
 use Rattle.place.specs.Placing.{located, refused, locate, locateIndex, locateRelease, locateLines, placingBy, placingOf, countsBy, countsAt}
 use Rattle.place.proofs.Steps.{locate-index}
@@ -62,22 +62,26 @@ index-local xs ys h e = index-lines xs h ∙ ap readIndex e ∙ sym (index-lines
 -- ---- replies 4, 5 and 6: the bytes up to the second line feed
 
 -- 4, 5 or 6
-abbrev pub ByIndex : Placing → Type 0
-ByIndex (Placed n) = ⊥
-ByIndex End = ⊥
-ByIndex Beyond = ⊥
-ByIndex TooFewLines = ⊥
-ByIndex Misformed = Unit {0}
-ByIndex OtherRelease = Unit {0}
-ByIndex (FilledVacant g) = Unit {0}
-ByIndex (BrokenRule g n) = ⊥
+pub data ByIndex : Refusal → Type 0 where
+  four : ByIndex Misformed
+  five : ByIndex OtherRelease
+  six : (g : ℕ) → ByIndex (FilledVacant g)
 
-not-by : {A : Type 0} {p q : Placing} → refused p ≡ refused q → (ByIndex p → ⊥) → ByIndex q → A
+not-end : ByIndex End → ⊥
+not-end = elim [ ]
+
+not-beyond : ByIndex Beyond → ⊥
+not-beyond = elim [ ]
+
+not-few : ByIndex TooFewLines → ⊥
+not-few = elim [ ]
+
+not-by : {A : Type 0} {p q : Refusal} → refused p ≡ refused q → (ByIndex p → ⊥) → ByIndex q → A
 not-by {p = p} {q = q} e n b =
     let f : p ≡ q = cc in
     absurd (n (subst ByIndex (sym f) b))
 
-module _ (at : ℕ) (p : Placing) (b : ByIndex p) where
+module _ (at : ℕ) (p : Refusal) (b : ByIndex p) where
   -- it was answered from the index, so there is one
   pub record FromIndex (s : List ℕ) : Type 0 where
     pub inner : at < length s
@@ -88,17 +92,18 @@ module _ (at : ℕ) (p : Placing) (b : ByIndex p) where
   unfolding locate
   from-index s e = by (ltb (length s) at) (eqb (length s) at) (leb 2 (feeds (drop at s))) refl e
     where
-      by : (x y z : Bool) → leb 2 (feeds (drop at s)) ≡ z → cond x (refused Beyond) (cond y (refused End) (cond z (locateIndex (drop at s) at (readIndex (drop at s))) (refused TooFewLines))) ≡ refused p → FromIndex s
-      by true y z u f = not-by f (λ w. w) b
-      by false true z u f = not-by f (λ w. w) b
-      by false false false u f = not-by f (λ w. w) b
+      by : (x y z : Bool) → leb 2 (feeds (drop at s)) ≡ z
+          → cond x (refused Beyond) (cond y (refused End) (cond z (locateIndex (drop at s) at (readIndex (drop at s))) (refused TooFewLines))) ≡ refused p → FromIndex s
+      by true y z u f = not-by f not-beyond b
+      by false true z u f = not-by f not-end b
+      by false false false u f = not-by f not-few b
       by false false true u f =
           let h = leb-true 2 (feeds (drop at s)) u in
           record { inner = omega (arith, h, feeds-le (drop at s), length-drop at s); two = h; by = f }
 
   by-lines : (xs ys ns : List ℕ) (t : Bool) → cond t (located (at + reach xs (recordLines ns)) ns) (refused TooFewLines) ≡ refused p → locateLines ys at ns ≡ refused p
   by-lines xs ys ns true e = no-record (sym e)
-  by-lines xs ys ns false e = not-by e (λ w. w) b
+  by-lines xs ys ns false e = not-by e not-few b
 
   by-release : (xs ys ns : List ℕ) (r : Release) → locateRelease xs at ns r ≡ refused p → locateRelease ys at ns r ≡ refused p
   by-release xs ys ns Five e = by-lines xs ys ns (leb (recordLines ns) (feeds xs)) e
@@ -118,7 +123,8 @@ module _ (at : ℕ) (p : Placing) (b : ByIndex p) where
 
 -- ---- replies 0 and 7: these bytes, and where the line feeds are up to the next place
 
-pub located-local : (s t : List ℕ) (at n : ℕ) (ns : List ℕ) → lines 2 (drop at s) ≡ lines 2 (drop at t) → map isFeed (part at n s) ≡ map isFeed (part at n t) → locate s at ≡ located n ns → locate t at ≡ located n ns
+pub located-local : (s t : List ℕ) (at n : ℕ) (ns : List ℕ) → lines 2 (drop at s) ≡ lines 2 (drop at t) → map isFeed (part at n s) ≡ map isFeed (part at n t)
+    → locate s at ≡ located n ns → locate t at ≡ located n ns
 located-local s t at n ns e m f =
     let p = located-is s at n ns f in
     let two = has-two (drop at s) (drop at t) (p .head) e in

@@ -19,8 +19,8 @@ use Rattle.count.specs.Tally.{recordLines}
 use Rattle.count.specs.Rules.{releaseOf}
 use Rattle.count.specs.declared.Release.{Release}
 use Rattle.count.specs.declared.Release.the-variants.{Five, Other, Filled}
-use Rattle.place.specs.declared.Placing.{Placing}
-use Rattle.place.specs.declared.Placing.the-variants.{End, Beyond, TooFewLines}
+use Rattle.reply.specs.declared.Refusal.{Refusal}
+use Rattle.reply.specs.declared.Refusal.the-variants.{End, Beyond, TooFewLines}
 use Rattle.place.specs.Index.{Indexed, counts, misformed, readIndex}
 use Rattle.place.specs.Placing.{refused, locate, locateIndex, locateRelease}
 use Rattle.place.specs.Parts.{start}
@@ -44,7 +44,9 @@ module _ (s t : List ℕ) (h : SameLines s t) where
   locate-same at e =
       rw (← h .long, ← feeds-from s t at h) (by (ltb (length s) at) (eqb (length s) at) (leb 2 (feeds (drop at s))) refl)
     where
-      by : (a b c : Bool) → leb 2 (feeds (drop at s)) ≡ c → cond a (refused Beyond) (cond b (refused End) (cond c (locateIndex (drop at s) at (readIndex (drop at s))) (refused TooFewLines))) ≡ cond a (refused Beyond) (cond b (refused End) (cond c (locateIndex (drop at t) at (readIndex (drop at t))) (refused TooFewLines)))
+      by : (a b c : Bool) → leb 2 (feeds (drop at s)) ≡ c
+          → cond a (refused Beyond) (cond b (refused End) (cond c (locateIndex (drop at s) at (readIndex (drop at s))) (refused TooFewLines))) ≡ cond a (refused Beyond)
+          (cond b (refused End) (cond c (locateIndex (drop at t) at (readIndex (drop at t))) (refused TooFewLines)))
       by true b c u = refl
       by false true c u = refl
       by false false true u =
@@ -83,7 +85,7 @@ module _ (s t : List ℕ) (h : SameLines s t) where
     pub same-answer : (k : ℕ) → locate s (spot s k) ≡ locate t (spot t k)
     same-answer k = same-located k ∙ ap (locate t) (same-spot k)
 
-    pub same-stops : (many : ℕ) (p : Placing) → Stops s many p → Stops t many p
+    pub same-stops : (many : ℕ) (p : Refusal) → Stops s many p → Stops t many p
     same-stops many p w =
         record {
           each = λ k l. let r = w .each k l in record { next = r .next; ns = r .ns; is = sym (same-answer k) ∙ r .is };

@@ -24,8 +24,10 @@ use Rattle.count.specs.Rules.{releaseOf}
 use Rattle.count.specs.declared.Release.{Release}
 use Rattle.count.specs.declared.Release.the-variants.{Five, Other, Filled}
 use Rattle.place.specs.declared.Placing.{Placing}
-use Rattle.place.specs.declared.Placing.the-variants.{End, Beyond, TooFewLines, Misformed}
-use Rattle.place.specs.Index.{counts, misformed, readEntries, readIndexLine, joined, readIndex}
+use Rattle.reply.specs.declared.Refusal.{Refusal}
+use Rattle.reply.specs.declared.Refusal.the-variants.{End, Beyond, TooFewLines, Misformed}
+use Rattle.place.specs.declared.Placing.the-variants.{Refused}
+use Rattle.place.specs.Index.{counts, misformed, readEntries, readIndexLine, bothLines, readIndex}
 use Rattle.place.specs.Placing.{Located, located, refused, locate, locateIndex, locateRelease, locateLines, locateLinesFrom, locateFrom, locateFive, locatedBehind, Answers, placingOf, countsAt}
 
 -- ---- an index line
@@ -75,7 +77,7 @@ module _ (s : List ℕ) (from : ℕ) (ns : List ℕ) where
   from-release e = rw e
 
 -- an answer that refuses, with its zeros
-pub refuses : {l : Located} {p answer : Placing} {ns : List ℕ} → l ≡ refused p → (answer ≡ p) × (ns ≡ replicate 80 0) → Answers l answer ns
+pub refuses : {l : Located} {r : Refusal} {answer : Placing} {ns : List ℕ} → l ≡ refused r → (answer ≡ Refused r) × (ns ≡ replicate 80 0) → Answers l answer ns
 refuses e a = rw e record { placing = a .0; beside = a .1 }
 
 -- ---- the two index lines, one after the other
@@ -107,11 +109,11 @@ module _ (s : List ℕ) (at : ℕ) (inside : at < length s) where
       second-from : behind 1 (drop at s) ≡ drop second s
       second-from = drop-drop (reach (drop at s) 1) at s ∙ ap (λ n. drop n s) (sym (at-is s at 1 second f .place))
 
-      index-lines : readIndex (drop at s) ≡ joined (readIndexLine (part at second s)) (readIndexLine (part second end s))
+      index-lines : readIndex (drop at s) ≡ bothLines (readIndexLine (part at second s)) (readIndexLine (part second end s))
       unfolding readIndex
       index-lines = rw (lines-at s at 1 second f, second-from, lines-at s second 1 end g)
 
-      here : locate s at ≡ locateIndex (drop at s) at (joined (readIndexLine (part at second s)) (readIndexLine (part second end s)))
+      here : locate s at ≡ locateIndex (drop at s) at (bothLines (readIndexLine (part at second s)) (readIndexLine (part second end s)))
       here = locate-index s at inside (at-is s at 2 end both .many) ∙ ap (locateIndex (drop at s) at) index-lines
 
       pub first-misformed : readIndexLine (part at second s) ≡ misformed → locate s at ≡ refused Misformed

@@ -13,12 +13,14 @@ use Rattle.count.specs.Rules.{rulingOf}
 use Rattle.count.specs.declared.Ruling.{Ruling}
 use Rattle.count.specs.declared.Ruling.the-variants.{Kept, Broken}
 use Rattle.place.specs.declared.Placing.{Placing}
-use Rattle.place.specs.declared.Placing.the-variants.{Placed, End, Beyond, TooFewLines, Misformed, OtherRelease, FilledVacant, BrokenRule}
+use Rattle.place.specs.declared.Placing.the-variants.{Refused}
+use Rattle.reply.specs.declared.Refusal.{Refusal}
 use Rattle.place.specs.Placing.{Located, located, refused, locate, ruledAt, placingBy, countsBy, placingOf, countsAt}
 use Rattle.place.specs.Numbered.{placingReply, isPlaced}
 use Rattle.place.specs.Walk.{PlacedAt, spot, IsRecord, Stops, StopsAt, Walks}
 use Rattle.place.proofs.Placed.{no-record}
-use Rattle.place.proofs.Walked.{Stopping, refused-stopping}
+use Rattle.place.proofs.Due.{refused-due}
+use Rattle.place.specs.Due.{RefusedFor, beyond, text-end, few-for-index, few-for-data, bad-index, bad-release, fills-vacant}
 
 abbrev number : Placing → ℕ
 number p = placingReply p .number
@@ -34,17 +36,17 @@ ruled-placed : (n : ℕ) (r : Ruling) → isPlaced (number (ruledAt n r)) ≡ tr
 ruled-placed n Kept = refl
 ruled-placed n (Broken g) = refl
 
-stopping-placed : (p : Placing) → Stopping p → isPlaced (number p) ≡ false
-stopping-placed (Placed n) h = absurd h
-stopping-placed End h = refl
-stopping-placed Beyond h = refl
-stopping-placed TooFewLines h = refl
-stopping-placed Misformed h = refl
-stopping-placed OtherRelease h = refl
-stopping-placed (FilledVacant g) h = refl
-stopping-placed (BrokenRule g n) h = absurd h
-
 module _ (s : List ℕ) (at : ℕ) where
+  -- what placing refuses with is neither 0 nor 7
+  refused-placed : (r : Refusal) → RefusedFor s at r → isPlaced (number (Refused r)) ≡ false
+  refused-placed r (beyond d) = refl
+  refused-placed r (text-end d) = refl
+  refused-placed r (few-for-index d) = refl
+  refused-placed r (few-for-data d) = refl
+  refused-placed r (bad-index d) = refl
+  refused-placed r (bad-release d) = refl
+  refused-placed r (fills-vacant g d) = refl
+
   -- 0 or 7: a record is located, and its next place and counts are beside the answer
   pub placed-goes : isPlaced (number (placingOf s at)) ≡ true → locate s at ≡ located (next (placingOf s at)) (countsAt s at)
   unfolding placingOf countsAt
@@ -52,16 +54,20 @@ module _ (s : List ℕ) (at : ℕ) where
     where
       by : (l : Located) → locate s at ≡ l → isPlaced (number (placingBy l)) ≡ true → l ≡ located (next (placingBy l)) (countsBy l)
       by (located n ns) f e = ap (λ m. located m ns) (sym (ruled-next n (rulingOf ns)))
-      by (refused p) f e = let q = stopping-placed p (refused-stopping s at p f) in let z : _≡_ {A = ℕ} 0 1 = cc in absurd (omega arith)
+      by (refused r) f e = let q = refused-placed r (refused-due s at r f) in let z : _≡_ {A = ℕ} 0 1 = cc in absurd (omega arith)
 
   -- any other reply: none is
-  pub placed-halts : isPlaced (number (placingOf s at)) ≡ false → locate s at ≡ refused (placingOf s at)
+  pub record Halts : Type 0 where
+    pub why : Refusal
+    pub is : locate s at ≡ refused why
+
+  pub placed-halts : isPlaced (number (placingOf s at)) ≡ false → Halts
   unfolding placingOf
   placed-halts e = by (locate s at) refl e
     where
-      by : (l : Located) → locate s at ≡ l → isPlaced (number (placingBy l)) ≡ false → l ≡ refused (placingBy l)
+      by : (l : Located) → locate s at ≡ l → isPlaced (number (placingBy l)) ≡ false → Halts
       by (located n ns) f e = let q = ruled-placed n (rulingOf ns) in let z : _≡_ {A = ℕ} 0 1 = cc in absurd (omega arith)
-      by (refused p) f e = refl
+      by (refused r) f e = record { why = r; is = f }
 
   -- the test passes exactly where a record is placed
   pub placed-test : PlacedAt s at ↔ (isPlaced (number (placingOf s at)) ≡ true)
@@ -100,24 +106,25 @@ module _ (s : List ℕ) where
 
   stays : (k : ℕ) → (PlacedAt s (spot s k) → ⊥) → spot s (suc k) ≡ spot s k
   unfolding spot
-  stays k n = rw (placed-halts s (spot s k) (placed-not s (spot s k) n))
+  stays k n = rw (placed-halts s (spot s k) (placed-not s (spot s k) n) .is)
 
-  stops-at : (many : ℕ) (p : Placing) → Stops s many p → StopsAt s many p
+  stops-at : (many : ℕ) (r : Refusal) → Stops s many r → StopsAt s many r
   unfolding placingOf
-  stops-at many p h =
+  stops-at many r h =
       record {
         each = λ k l. placed-record s (spot s k) .1 (h .each k l);
         none = λ y. no-record (sym (h .last) ∙ placed-record s (spot s many) .0 y .is);
         answer = ap placingBy (h .last);
       }
 
-  at-stops : (many : ℕ) (p : Placing) → StopsAt s many p → Stops s many p
-  at-stops many p h =
-      record {
-        each = λ k l. placed-record s (spot s k) .0 (h .each k l);
-        last = placed-halts s (spot s many) (placed-not s (spot s many) (h .none)) ∙ ap refused (h .answer);
-      }
+  at-stops : (many : ℕ) (r : Refusal) → StopsAt s many r → Stops s many r
+  unfolding placingOf
+  at-stops many r h =
+      let k = placed-halts s (spot s many) (placed-not s (spot s many) (h .none)) in
+      let e : Refused (k .why) ≡ Refused r = sym (ap placingBy (k .is)) ∙ h .answer in
+      let f : k .why ≡ r = cc in
+      record { each = λ k l. placed-record s (spot s k) .0 (h .each k l); last = k .is ∙ ap refused f }
 
   pub walks : Walks s
   unfolding spot
-  walks = record { begins = refl; goes-on = goes-on; stays = stays; stops = λ many p. (stops-at many p, at-stops many p) }
+  walks = record { begins = refl; goes-on = goes-on; stays = stays; stops = λ many r. (stops-at many r, at-stops many r) }

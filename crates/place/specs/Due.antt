@@ -9,7 +9,9 @@ use Rattle.count.specs.Tally.{countOf, recordLines}
 use Rattle.count.specs.Blame.{KeepsRules, BreaksRules}
 use Rattle.count.specs.Due.{ReleaseFive, LowestFilled}
 use Rattle.place.specs.declared.Placing.{Placing}
-use Rattle.place.specs.declared.Placing.the-variants.{Placed, End, Beyond, TooFewLines, Misformed, OtherRelease, FilledVacant, BrokenRule}
+use Rattle.reply.specs.declared.Refusal.{Refusal}
+use Rattle.reply.specs.declared.Refusal.the-variants.{End, Beyond, TooFewLines, Misformed, OtherRelease, FilledVacant}
+use Rattle.place.specs.declared.Placing.the-variants.{Placed, BrokenRule, Refused}
 use Rattle.place.specs.Index.{IsIndex}
 
 module _ (s : List ℕ) (at : ℕ) where
@@ -19,13 +21,13 @@ module _ (s : List ℕ) (at : ℕ) where
     pub lines : 2 ≤ feeds (drop at s)
 
   -- nor 4: the two lines are the index of these counts
-  pub record HasCounts (ns : List ℕ) : Type 0 where
+  pub record HasEntries (ns : List ℕ) : Type 0 where
     pub place : HasIndex
     pub index : IsIndex (drop at s) ns
 
   -- nor 5 and 6: the release is 5, and no vacant group has a count
   pub record HasRelease (ns : List ℕ) : Type 0 where
-    pub index : HasCounts ns
+    pub index : HasEntries ns
     pub release : ReleaseFive ns
 
   -- nor 3 for the data lines: so many line feeds are left, and n is the place behind them
@@ -52,22 +54,22 @@ module _ (s : List ℕ) (at : ℕ) where
   -- R205: the release is another than 5
   pub record BadRelease : Type 0 where
     pub ns : List ℕ
-    pub index : HasCounts ns
+    pub index : HasEntries ns
     pub other : countOf ns 80 ≡ 5 → ⊥
 
   -- R206: g is the lowest of 61 to 79 that has a count
   pub record FillsVacant (g : ℕ) : Type 0 where
     pub ns : List ℕ
-    pub index : HasCounts ns
+    pub index : HasEntries ns
     pub filled : LowestFilled ns g
 
   -- R207 and R200: n is the next place, and the counts break a rule or keep all
-  pub record Breaks (g n : ℕ) : Type 0 where
+  pub record StandsBroken (g n : ℕ) : Type 0 where
     pub ns : List ℕ
     pub lines : HasLines ns n
     pub broken : BreaksRules ns g
 
-  pub record Stands (n : ℕ) : Type 0 where
+  pub record StandsRight (n : ℕ) : Type 0 where
     pub ns : List ℕ
     pub lines : HasLines ns n
     pub kept : KeepsRules ns
@@ -84,12 +86,17 @@ module _ (s : List ℕ) (at : ℕ) where
   abbrev pub CountsDue : List ℕ → Type 0
   CountsDue ns = HasRecord ns ⊎ NoRecord ns
 
+  -- what placing refuses with, and when
+  pub data RefusedFor : Refusal → Type 0 where
+    beyond : length s < at → RefusedFor Beyond
+    text-end : length s ≡ at → RefusedFor End
+    few-for-index : FewForIndex → RefusedFor TooFewLines
+    few-for-data : FewForData → RefusedFor TooFewLines
+    bad-index : BadIndex → RefusedFor Misformed
+    bad-release : BadRelease → RefusedFor OtherRelease
+    fills-vacant : (g : ℕ) → FillsVacant g → RefusedFor (FilledVacant g)
+
   abbrev pub Due : Placing → Type 0
-  Due Beyond = length s < at
-  Due End = length s ≡ at
-  Due TooFewLines = FewForIndex ⊎ FewForData
-  Due Misformed = BadIndex
-  Due OtherRelease = BadRelease
-  Due (FilledVacant g) = FillsVacant g
-  Due (BrokenRule g n) = Breaks g n
-  Due (Placed n) = Stands n
+  Due (Placed n) = StandsRight n
+  Due (BrokenRule g n) = StandsBroken g n
+  Due (Refused r) = RefusedFor r

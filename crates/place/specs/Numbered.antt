@@ -4,32 +4,28 @@ use mathlib.Core.List.{List, [], _∷_}
 use Prim.Native.Nat.{ℕ}
 use lib.Dec.{eqb}
 use Rattle.reply.specs.declared.Reply.{Reply}
-use Rattle.reply.specs.Table.{replyAt, replyOn, replyPlain, Row, row, next, group}
+use Rattle.reply.specs.declared.Refusal.the-variants as R
+use Rattle.reply.specs.declared.Checked.{Checked}
+use Rattle.reply.specs.declared.Checked.the-variants as C
+use Rattle.reply.specs.Table.{told, Row, row, next, group}
 use Rattle.place.specs.declared.Placing.{Placing}
-use Rattle.place.specs.declared.Placing.the-variants.{Placed, End, Beyond, TooFewLines, Misformed, OtherRelease, FilledVacant, BrokenRule}
+use Rattle.place.specs.declared.Placing.the-variants.{Placed, BrokenRule, Refused}
+use Rattle.reply.specs.Refusals.{refusalReply, rows, unplacedRefusals}
 
 abbrev pub placingReply : Placing → Reply
-placingReply (Placed n) = replyAt 0 n 0
-placingReply End = replyPlain 1
-placingReply Beyond = replyPlain 2
-placingReply TooFewLines = replyPlain 3
-placingReply Misformed = replyPlain 4
-placingReply OtherRelease = replyPlain 5
-placingReply (FilledVacant g) = replyOn 6 g
-placingReply (BrokenRule g n) = replyAt 7 n g
+placingReply (Placed n) = told 0 ((next, n) ∷ [])
+placingReply (BrokenRule g n) = told 7 ((group, g) ∷ (next, n) ∷ [])
+placingReply (Refused r) = refusalReply r
 
 -- the rows of placing: 7 has its next place too (R235)
 abbrev pub placingRows : List Row
-placingRows =
-    row 0 (next ∷ [])
-    ∷ row 1 []
-    ∷ row 2 []
-    ∷ row 3 []
-    ∷ row 4 []
-    ∷ row 5 []
-    ∷ row 6 (group ∷ [])
-    ∷ row 7 (group ∷ next ∷ [])
-    ∷ []
+placingRows = row 0 (next ∷ []) ∷ row 7 (group ∷ next ∷ []) ∷ rows unplacedRefusals
+
+-- R235: the answer as that of a question that goes no further: 7 has its group, and no next place
+abbrev pub asChecked : Placing → Checked
+asChecked (Placed n) = C.Right
+asChecked (BrokenRule g n) = C.Refused (R.BrokenRule g)
+asChecked (Refused r) = C.Refused r
 
 -- R253: the test of a reply's number for what `PlacedAt` of Walk says: 0 or 7
 abbrev pub isPlaced : ℕ → Bool

@@ -18,12 +18,14 @@ use Rattle.count.specs.declared.Ruling.{Ruling}
 use Rattle.count.specs.declared.Ruling.the-variants.{Kept, Broken}
 use Rattle.place.specs.Index.{Indexed, counts, misformed, readIndex}
 use Rattle.place.specs.declared.Placing.{Placing}
-use Rattle.place.specs.declared.Placing.the-variants.{Placed, End, Beyond, TooFewLines, Misformed, OtherRelease, FilledVacant, BrokenRule}
+use Rattle.reply.specs.declared.Refusal.{Refusal}
+use Rattle.reply.specs.declared.Refusal.the-variants.{End, Beyond, TooFewLines, Misformed, OtherRelease, FilledVacant}
+use Rattle.place.specs.declared.Placing.the-variants.{Placed, BrokenRule, Refused}
 
--- the next place and the counts, or the answer
+-- the next place and the counts, or why there is no record
 pub data Located : Type 0 where
   located : ℕ → List ℕ → Located
-  refused : Placing → Located
+  refused : Refusal → Located
 
 -- xs is the text from the place `at` on
 
@@ -58,12 +60,12 @@ ruledAt n (Broken g) = BrokenRule g n
 
 abbrev pub placingBy : Located → Placing
 placingBy (located n ns) = ruledAt n (rulingOf ns)
-placingBy (refused p) = p
+placingBy (refused r) = Refused r
 
 -- R253: zeros where nothing is placed
 abbrev pub countsBy : Located → List ℕ
 countsBy (located n ns) = ns
-countsBy (refused p) = replicate 80 0
+countsBy (refused r) = replicate 80 0
 
 -- R250: what placing answers, and the counts beside it
 unfoldable pub placingOf : List ℕ → ℕ → Placing

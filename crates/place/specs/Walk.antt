@@ -3,7 +3,8 @@ use mathlib.Core.Path.{_≡_}
 use mathlib.Core.List.{List}
 use mathlib.Core.Logic.{_⊎_, _↔_}
 use Prim.Native.Nat.{ℕ, zero, suc, _<_}
-use Rattle.place.specs.declared.Placing.{Placing}
+use Rattle.reply.specs.declared.Refusal.{Refusal}
+use Rattle.place.specs.declared.Placing.the-variants.{Refused}
 use Rattle.place.specs.Numbered.{placingReply}
 use Rattle.place.specs.Placing.{Located, located, refused, locate, placingOf}
 
@@ -14,7 +15,7 @@ PlacedAt s at = (placingReply (placingOf s at) .number ≡ 0) ⊎ (placingReply 
 -- R254: on to a placed record's next place; any other reply ends the walk
 abbrev pub onward : ℕ → Located → ℕ
 onward at (located n ns) = n
-onward at (refused p) = at
+onward at (refused r) = at
 
 -- R254: where the walk stands after k steps from the text's start; once it has stopped it stays
 unfoldable pub spot : List ℕ → ℕ → ℕ
@@ -27,22 +28,22 @@ pub record IsRecord (s : List ℕ) (at : ℕ) : Type 0 where
   pub ns : List ℕ
   pub is : locate s at ≡ located next ns
 
--- the walk has so many records, and stops behind them with this answer
-pub record Stops (s : List ℕ) (many : ℕ) (p : Placing) : Type 0 where
+-- the walk has so many records, and stops behind them with this refusal
+pub record Stops (s : List ℕ) (many : ℕ) (r : Refusal) : Type 0 where
   pub each : (k : ℕ) → k < many → IsRecord s (spot s k)
-  pub last : locate s (spot s many) ≡ refused p
+  pub last : locate s (spot s many) ≡ refused r
 
 -- ---- R254 in what placing gives (`walks` in proofs/Stopped.antt)
 
--- so many records are placed, and behind them none is: there placing gives this answer
-pub record StopsAt (s : List ℕ) (many : ℕ) (p : Placing) : Type 0 where
+-- so many records are placed, and behind them none is: there placing refuses so
+pub record StopsAt (s : List ℕ) (many : ℕ) (r : Refusal) : Type 0 where
   pub each : (k : ℕ) → k < many → PlacedAt s (spot s k)
   pub none : PlacedAt s (spot s many) → ⊥
-  pub answer : placingOf s (spot s many) ≡ p
+  pub answer : placingOf s (spot s many) ≡ Refused r
 
 -- the walk begins at the text's start; where a record is placed it goes on from the next place, and where none is it stays
 pub record Walks (s : List ℕ) : Type 0 where
   pub begins : spot s 0 ≡ 0
   pub goes-on : (k : ℕ) → PlacedAt s (spot s k) → spot s (suc k) ≡ placingReply (placingOf s (spot s k)) .next
   pub stays : (k : ℕ) → (PlacedAt s (spot s k) → ⊥) → spot s (suc k) ≡ spot s k
-  pub stops : (many : ℕ) (p : Placing) → Stops s many p ↔ StopsAt s many p
+  pub stops : (many : ℕ) (r : Refusal) → Stops s many r ↔ StopsAt s many r

@@ -1,30 +1,22 @@
 // Records in a text: placing one at a place.
+use reply::Checked;
+use reply::Refusal;
 ghost use mathlib.Core.Path.{_≡_};
 ghost use Prim.Native.Nat.{_+_, _≤_};
 ghost use lib.ListN.{length, replicate};
 ghost use Rattle.place.specs.Parts.{start};
 ghost use Rattle.place.specs.Index.{readEntries, readIndexLine, Stored};
-ghost use Rattle.place.specs.Numbered.{placingReply, isPlaced};
+ghost use Rattle.place.specs.Numbered.{placingReply, asChecked, isPlaced};
 ghost use Rattle.place.specs.Placing.{Answers, placingOf, countsAt, ruledAt, locateLinesFrom, locateFrom};
 
-// R200 to R207: what placing answers, a variant for each reply.
+// R200 to R207: what placing answers. A record whose counts break a rule is placed all the same (R253).
 pub enum Placing {
     // 0, with the next place
     Placed(usize),
-    // 1
-    End,
-    // 2
-    Beyond,
-    // 3
-    TooFewLines,
-    // 4
-    Misformed,
-    // 5
-    OtherRelease,
-    // 6, with the lowest vacant number that has a count
-    FilledVacant(usize),
     // 7, with the blamed group and the next place
     BrokenRule(usize, usize),
+    // 1 to 6
+    Refused(Refusal),
 }
 
 // R253: the answer, with the 80 counts of a record that is placed (0 or 7), else zeros.
@@ -68,12 +60,12 @@ fn store_line(line: &[u8], counts: &mut [u16], from: usize) -> bool
 }
 
 // The answer where nothing is placed.
-fn nothing(answer: Placing) -> Record
-    ensures answer { λ r. ⌜ r .answer ≡ answer ⌝ }
+fn nothing(why: Refusal) -> Record
+    ensures answer { λ r. ⌜ r .answer ≡ Placing.Refused why ⌝ }
     ensures counts { λ r. ⌜ r .counts ≡ replicate 80 0 ⌝ }
 {
     Record {
-        answer,
+        answer: Placing::Refused(why),
         counts: [0u16; 80],
     }
 }
@@ -84,7 +76,7 @@ fn with_lines(text: &[u8], from: usize, counts: [u16; 80]) -> Record
 {
     let all = count::add_up(&counts, 61);
     let line::Behind::At(next) = line::place_behind(text, from, all.lines - 2) else {
-        return nothing(Placing::TooFewLines);
+        return nothing(Refusal::TooFewLines);
     };
     Record {
         answer: ruled_at(next, count::ruling_of(&counts)),
@@ -97,8 +89,8 @@ fn with_counts(text: &[u8], from: usize, counts: [u16; 80]) -> Record
     ensures { λ r. ⌜ Answers (locateFrom (now (text .entry)) from counts) (r .answer) (r .counts) ⌝ }
 {
     match count::release_of(&counts) {
-        count::Release::Other => nothing(Placing::OtherRelease),
-        count::Release::Filled(g) => nothing(Placing::FilledVacant(g)),
+        count::Release::Other => nothing(Refusal::OtherRelease),
+        count::Release::Filled(g) => nothing(Refusal::FilledVacant(g)),
         count::Release::Five => with_lines(text, from, counts),
     }
 }
@@ -118,23 +110,23 @@ pub fn place(text: &[u8], at: usize) -> Record
     ensures counts { λ r. ⌜ r .counts ≡ countsAt (now (text .entry)) at ⌝ }
 {
     if text.len() < at {
-        return nothing(Placing::Beyond);
+        return nothing(Refusal::Beyond);
     }
     if text.len() == at {
-        return nothing(Placing::End);
+        return nothing(Refusal::End);
     }
     let line::Behind::At(second) = line::place_behind(text, at, 1) else {
-        return nothing(Placing::TooFewLines);
+        return nothing(Refusal::TooFewLines);
     };
     let line::Behind::At(end) = line::place_behind(text, second, 1) else {
-        return nothing(Placing::TooFewLines);
+        return nothing(Refusal::TooFewLines);
     };
     let mut counts = [0u16; 80];
     if !store_line(&text[at..second], &mut counts, 0) {
-        return nothing(Placing::Misformed);
+        return nothing(Refusal::Misformed);
     }
     if !store_line(&text[second..end], &mut counts, 40) {
-        return nothing(Placing::Misformed);
+        return nothing(Refusal::Misformed);
     }
     with_counts(text, end, counts)
 }
@@ -145,13 +137,19 @@ pub fn reply_of(answer: Placing) -> reply::Reply
 {
     match answer {
         Placing::Placed(n) => reply::at_next(0, n, 0),
-        Placing::End => reply::plain(1),
-        Placing::Beyond => reply::plain(2),
-        Placing::TooFewLines => reply::plain(3),
-        Placing::Misformed => reply::plain(4),
-        Placing::OtherRelease => reply::plain(5),
-        Placing::FilledVacant(g) => reply::on_group(6, g),
         Placing::BrokenRule(g, n) => reply::at_next(7, n, g),
+        Placing::Refused(why) => reply::of_refusal(why),
+    }
+}
+
+// R235: the answer as that of a question that goes no further: 7 has no next place there.
+pub fn as_checked(answer: Placing) -> Checked
+    ensures { λ r. ⌜ r ≡ asChecked answer ⌝ }
+{
+    match answer {
+        Placing::Placed(_) => Checked::Right,
+        Placing::BrokenRule(g, _) => Checked::Refused(Refusal::BrokenRule(g)),
+        Placing::Refused(why) => Checked::Refused(why),
     }
 }
 

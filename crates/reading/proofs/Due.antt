@@ -23,8 +23,8 @@ use Rattle.form.specs.declared.GroupForm.{GroupForm}
 use Rattle.form.specs.declared.GroupForm.the-variants.{Has, NoGroup as NoForm}
 use Rattle.form.specs.Table.{rowOf, formOf}
 use Rattle.form.specs.Count.{linesOf, cellsOf}
-use Rattle.form.proofs.Table.{no-group, group-form, form-range}
-use Rattle.field.specs.Read.{fieldOf, formed, cellsIn}
+use Rattle.form.proofs.Table.{no-group as none-has, group-form, form-range}
+use Rattle.field.specs.Read.{fieldOf, formed, valueCells}
 use Rattle.field.specs.Grammar.{SomeField}
 use Rattle.field.proofs.Laws.{some-field}
 use Rattle.line.specs.declared.Content.{Content}
@@ -39,13 +39,14 @@ use Rattle.date.proofs.Due as Letters
 use Rattle.date.specs.Date.{datedOf}
 use Rattle.date.specs.declared.Dated.{Dated}
 use Rattle.date.specs.declared.Dated.the-variants.{Right, Wrong}
-use Rattle.reading.specs.declared.Refusal.{Refusal}
-use Rattle.reading.specs.declared.Refusal.the-variants.{NoGroup, End, Beyond, TooFewLines, Misformed, OtherRelease, FilledVacant, BrokenRule, NoRoom, BadLine, BadField, BadDate}
+use Rattle.reply.specs.declared.Refusal.{Refusal}
+use Rattle.reply.specs.declared.Refusal.the-variants.{NoRoom, BadLine, BadField}
 use Rattle.reading.specs.Blanks.{mayBeShort, isRight, filledTo, rightContent}
 use Rattle.reading.specs.Plan.{Line}
 use Rattle.reading.specs.Read.{Cells, readField, readFields, columnsOf, readLines, byDate, dated, readForm, readRuled, readBy, readGroup}
 use Rattle.reading.specs.Values.{lineOf, planned, fieldIn, RightLine, Values}
-use Rattle.reading.specs.Due.{CleanLine, AllClean, ComesTo, WrongLine, WrongField, Ruled, Roomy, HasCells, DoneDue, RefusalDue, Due}
+use Rattle.reading.specs.Due.{CleanLine, AllClean, ComesTo, WrongLine, WrongField, Ruled, Roomy, CellsRead, DoneDue, RefusedFor, no-group, broken-rule}
+use Rattle.reading.specs.Due.{no-room, bad-line, bad-field, bad-date, Due}
 use Rattle.reading.proofs.Blanks.{right-plain}
 use Rattle.reading.proofs.Lines.{right-yes, right-is, line-right, line-wrong}
 use Rattle.reading.proofs.Fields.{short-one, fields-start}
@@ -56,7 +57,7 @@ use Rattle.reading.proofs.Values.{fields-pieces, lineRead, lines-pieces
 
 module _ (f : Form) (line e : ℕ) (y : List ℕ) where
   field-reads : SomeField f y → IsDone (readField f line e y)
-  field-reads h = record { cells = cellsIn y (fieldOf f y); is = rw (T-true (formed (fieldOf f y)) (some-field f y .1 h)) refl }
+  field-reads h = record { cells = valueCells y (fieldOf f y); is = rw (T-true (formed (fieldOf f y)) (some-field f y .1 h)) refl }
 
   field-told : (SomeField f y → ⊥) → readField f line e y ≡ bad (BadField line e)
   field-told n = rw (not-T-false (formed (fieldOf f y)) (λ t. n (some-field f y .0 t))) refl
@@ -68,7 +69,7 @@ module _ (f : Form) (line e : ℕ) (y : List ℕ) where
   field-bad : (r : Refusal) → readField f line e y ≡ bad r → FieldBad r
   field-bad r h = by (formed (fieldOf f y)) refl h
     where
-      by : (t : Bool) → formed (fieldOf f y) ≡ t → cond t (done (cellsIn y (fieldOf f y))) (bad (BadField line e)) ≡ bad r → FieldBad r
+      by : (t : Bool) → formed (fieldOf f y) ≡ t → cond t (done (valueCells y (fieldOf f y))) (bad (BadField line e)) ≡ bad r → FieldBad r
       by true u w = let z : _≡_ {A = ℕ} 0 1 = cc in absurd (omega arith)
       by false u w = record { none = λ h. let v : T false = rw u at (some-field f y .1 h) in v; is = cc }
 
@@ -107,7 +108,12 @@ module _ (f : Form) (count : ℕ) (x : List ℕ) where
         by : (c : Content) → rightContent f (columnsOf f l) (lineOf x j) ≡ c → LineRight ⊎ LineWrong
         by (Length n) e =
             let i = right-is f (columnsOf f l) (lineOf x j) n e in
-            let r : RightLine f count x j (take n (lineOf x j)) = record { content = is-content (lineOf x j) n (i .content) .0; right = right-plain f (columnsOf f l) (take n (lineOf x j)) .0 (ap (isRight f (columnsOf f l)) (sym (part-zero n (lineOf x j))) ∙ i .right) } in
+            let r : RightLine f count x j (take n (lineOf x j)) =
+            record {
+              content = is-content (lineOf x j) n (i .content) .0;
+              right = right-plain f (columnsOf f l) (take n (lineOf x j)) .0
+                  (ap (isRight f (columnsOf f l)) (sym (part-zero n (lineOf x j))) ∙ i .right);
+            } in
             inl record { content = take n (lineOf x j); line = r; reads = right-reads (take n (lineOf x j)) r }
         by NoReturn e =
             inr record {
@@ -133,19 +139,9 @@ module _ (f : Form) (count : ℕ) (x : List ℕ) where
 
   -- ---- the lines
 
-  abbrev LinesDue : Refusal → Type 0
-  LinesDue NoGroup = ⊥
-  LinesDue (BrokenRule h) = ⊥
-  LinesDue NoRoom = ⊥
-  LinesDue (BadLine n) = WrongLine f count x n
-  LinesDue (BadField n e) = WrongField f count x n e
-  LinesDue (BadDate p) = ⊥
-  LinesDue End = ⊥
-  LinesDue Beyond = ⊥
-  LinesDue TooFewLines = ⊥
-  LinesDue Misformed = ⊥
-  LinesDue OtherRelease = ⊥
-  LinesDue (FilledVacant h) = ⊥
+  data LinesDue : Refusal → Type 0 where
+    wrong-line : (n : ℕ) → WrongLine f count x n → LinesDue (BadLine n)
+    wrong-field : (n e : ℕ) → WrongField f count x n e → LinesDue (BadField n e)
 
   lines-told : (r : Refusal) (j : ℕ) → ComesTo f count x j → lineRead f count x j ≡ bad r → readLines f count x ≡ bad r
   lines-told r j c e =
@@ -182,25 +178,27 @@ module _ (f : Form) (count : ℕ) (x : List ℕ) where
       wrong w =
           let t : bad (BadLine (l (b .at) .number)) ≡ bad r = sym (w .told) ∙ b .told in
           let u : BadLine (l (b .at) .number) ≡ r = cc in
-          subst LinesDue u record { j = b .at; comes = comes; wrong = w .none; number = refl }
+          subst LinesDue u (wrong-line (l (b .at) .number) record { j = b .at; comes = comes; wrong = w .none; number = refl })
 
       inside : LineRight (b .at) → LinesDue r
       inside w =
           let t = filledTo (columnsOf f (l (b .at))) (w .content) in
           let c = first-bad (fields-pieces f (l (b .at)) t) r .0 (fields-start f (l (b .at)) t ∙ sym (w .reads) ∙ b .told) in
           let q = field-bad f (l (b .at) .number) (l (b .at) .first + c .at) (fieldIn f count (b .at) (w .content) (c .at)) r (c .told) in
-          subst LinesDue (sym (q .is)) record {
+          subst LinesDue (sym (q .is)) (wrong-field (l (b .at) .number) (l (b .at) .first + c .at) record {
             j = b .at;
             k = c .at;
             comes = comes;
             content = w .content;
             line = w .line;
             inside = c .inside;
-            earlier = λ i h. some-field f (fieldIn f count (b .at) (w .content) i) .0 (field-done f (l (b .at) .number) (l (b .at) .first + i) (fieldIn f count (b .at) (w .content) i) (c .earlier i h .cells) (c .earlier i h .is) .good);
+            earlier =
+                λ i h. some-field f (fieldIn f count (b .at) (w .content) i) .0
+                (field-done f (l (b .at) .number) (l (b .at) .first + i) (fieldIn f count (b .at) (w .content) i) (c .earlier i h .cells) (c .earlier i h .is) .good);
             misformed = q .none;
             number = refl;
             element = refl;
-          }
+          })
 
   -- R232: in A120 a line is an element, so both have the same number
   pub letters-line : f ≡ A120 → (n e : ℕ) → WrongField f count x n e → e ≡ n
@@ -228,23 +226,19 @@ module _ (ns : List ℕ) (g : ℕ) (x : List ℕ) (room : ℕ) where
   unfolding readGroup readForm
   to-lines f r = rw (r .ruled .form, kept-ruling ns (r .ruled .kept), le-leb (cellsOf f (countOf ns g)) room (r .enough)) refl
 
-  to-cells : (cs : List ℤ) → HasCells ns g x room cs → readGroup ns g x room ≡ dated g (done cs)
+  to-cells : (cs : List ℤ) → CellsRead ns g x room cs → readGroup ns g x room ≡ dated g (done cs)
   to-cells cs h = to-lines (h .f) (h .roomy) ∙ ap (dated g) (lines-read (h .f) (countOf ns g) x cs (h .clean) (h .values))
 
-  refusal-given : (r : Refusal) → RefusalDue ns g x room r → readGroup ns g x room ≡ bad r
+  refusal-given : (r : Refusal) → RefusedFor ns g x room r → readGroup ns g x room ≡ bad r
   unfolding readGroup readForm
-  refusal-given NoGroup d = rw (no-group g .1 (λ i. d (i .low, i .high))) refl
-  refusal-given (BrokenRule h) d = rw (group-form g (d .low) (d .high) .1, broken-ruling ns (d .broken)) refl
-  refusal-given NoRoom d = rw (d .ruled .form, kept-ruling ns (d .ruled .kept), lt-leb (cellsOf (d .f) (countOf ns g)) room (d .few)) refl
-  refusal-given (BadLine n) d = to-lines (d .f) (d .roomy) ∙ ap (dated g) (line-given (d .f) (countOf ns g) x n (d .line))
-  refusal-given (BadField n e) d = to-lines (d .f) (d .roomy) ∙ ap (dated g) (field-given (d .f) (countOf ns g) x n e (d .field))
-  refusal-given (BadDate p) d = to-cells (d .cs) (d .cells) ∙ rw (eq-eqb g 3 (d .three), Letters.first-due (map sizeOf (d .cs)) (Wrong p) .1 (d .wrong)) refl
-  refusal-given End d = absurd d
-  refusal-given Beyond d = absurd d
-  refusal-given TooFewLines d = absurd d
-  refusal-given Misformed d = absurd d
-  refusal-given OtherRelease d = absurd d
-  refusal-given (FilledVacant h) d = absurd d
+  refusal-given r (no-group d) = rw (none-has g .1 (λ i. d (i .low, i .high))) refl
+  refusal-given r (broken-rule h d) = rw (group-form g (d .low) (d .high) .1, broken-ruling ns (d .broken)) refl
+  refusal-given r (no-room d) = rw (d .ruled .form, kept-ruling ns (d .ruled .kept), lt-leb (cellsOf (d .f) (countOf ns g)) room (d .few)) refl
+  refusal-given r (bad-line n d) = to-lines (d .f) (d .roomy) ∙ ap (dated g) (line-given (d .f) (countOf ns g) x n (d .line))
+  refusal-given r (bad-field n e d) = to-lines (d .f) (d .roomy) ∙ ap (dated g) (field-given (d .f) (countOf ns g) x n e (d .field))
+  refusal-given r (bad-date p d) =
+      to-cells (d .cs) (d .cells)
+      ∙ rw (eq-eqb g 3 (d .three), Letters.first-due (map sizeOf (d .cs)) (Wrong p) .1 (d .wrong)) refl
 
   done-given : (cs : List ℤ) → DoneDue ns g x room cs → readGroup ns g x room ≡ done cs
   done-given cs d = to-cells cs (d .cells) ∙ by (eqb g 3) refl
@@ -259,23 +253,13 @@ module _ (ns : List ℕ) (g : ℕ) (x : List ℕ) (room : ℕ) where
 
   -- ---- what is given is due
 
-  from-bad : (f : Form) (r : Refusal) → Roomy ns g x room f → LinesDue f (countOf ns g) x r → RefusalDue ns g x room r
-  from-bad f NoGroup h d = absurd d
-  from-bad f (BrokenRule k) h d = absurd d
-  from-bad f NoRoom h d = absurd d
-  from-bad f (BadLine n) h d = record { f = f; roomy = h; line = d }
-  from-bad f (BadField n e) h d = record { f = f; roomy = h; field = d }
-  from-bad f (BadDate p) h d = absurd d
-  from-bad f End h d = d
-  from-bad f Beyond h d = d
-  from-bad f TooFewLines h d = d
-  from-bad f Misformed h d = d
-  from-bad f OtherRelease h d = d
-  from-bad f (FilledVacant k) h d = d
+  from-bad : (f : Form) (r : Refusal) → Roomy ns g x room f → LinesDue f (countOf ns g) x r → RefusedFor ns g x room r
+  from-bad f r h (wrong-line n d) = bad-line n record { f = f; roomy = h; line = d }
+  from-bad f r h (wrong-field n e d) = bad-field n e record { f = f; roomy = h; field = d }
 
-  from-date : (cs : List ℤ) (t : Bool) (c : Dated) → HasCells ns g x room cs → eqb g 3 ≡ t → datedOf (map sizeOf cs) ≡ c → Due ns g x room (cond t (byDate cs c) (done cs))
+  from-date : (cs : List ℤ) (t : Bool) (c : Dated) → CellsRead ns g x room cs → eqb g 3 ≡ t → datedOf (map sizeOf cs) ≡ c → Due ns g x room (cond t (byDate cs c) (done cs))
   from-date cs true (Right d) h e u = record { cells = h; date = λ three. (d, Letters.first-due (map sizeOf cs) (Right d) .0 u) }
-  from-date cs true (Wrong p) h e u = record { cs = cs; cells = h; three = eqb-true g 3 e; wrong = Letters.first-due (map sizeOf cs) (Wrong p) .0 u }
+  from-date cs true (Wrong p) h e u = bad-date p record { cs = cs; cells = h; three = eqb-true g 3 e; wrong = Letters.first-due (map sizeOf cs) (Wrong p) .0 u }
   from-date cs false c h e u = record { cells = h; date = λ three. absurd (eqb-false g 3 e three) }
 
   from-lines : (f : Form) (c : Cells) → Roomy ns g x room f → readLines f (countOf ns g) x ≡ c → Due ns g x room (dated g c)
@@ -285,12 +269,12 @@ module _ (ns : List ℕ) (g : ℕ) (x : List ℕ) (room : ℕ) where
 
   from-room : (f : Form) (t : Bool) → Ruled ns g x room f → leb (cellsOf f (countOf ns g)) room ≡ t → Due ns g x room (cond t (dated g (readLines f (countOf ns g) x)) (bad NoRoom))
   from-room f true h e = from-lines f (readLines f (countOf ns g) x) record { ruled = h; enough = leb-true (cellsOf f (countOf ns g)) room e } refl
-  from-room f false h e = record { f = f; ruled = h; few = leb-false (cellsOf f (countOf ns g)) room e }
+  from-room f false h e = no-room record { f = f; ruled = h; few = leb-false (cellsOf f (countOf ns g)) room e }
 
   from-ruling : (f : Form) (k : Ruling) → formOf g ≡ Has f → rulingOf ns ≡ k → Due ns g x room (readRuled f ns g x room k)
   unfolding readForm
   from-ruling f Kept h e = from-room f (leb (cellsOf f (countOf ns g)) room) record { form = h; kept = ruling-kept ns e } refl
-  from-ruling f (Broken k) h e = let r = form-range g f h in record { low = r .0; high = r .1; broken = ruling-broken ns e }
+  from-ruling f (Broken k) h e = let r = form-range g f h in broken-rule k record { low = r .0; high = r .1; broken = ruling-broken ns e }
 
   is-due : Due ns g x room (readGroup ns g x room)
   unfolding readGroup
@@ -298,7 +282,7 @@ module _ (ns : List ℕ) (g : ℕ) (x : List ℕ) (room : ℕ) where
     where
       by : (h : GroupForm) → formOf g ≡ h → Due ns g x room (readBy ns g x room h)
       by (Has f) e = from-ruling f (rulingOf ns) e refl
-      by NoForm e = λ i. no-group g .0 e record { low = i .0; high = i .1 }
+      by NoForm e = no-group (λ i. none-has g .0 e record { low = i .0; high = i .1 })
 
   -- the reply that is given is the one that is due, and no other is
   pub first-due : (c : Cells) → readGroup ns g x room ≡ c ↔ Due ns g x room c

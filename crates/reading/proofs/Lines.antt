@@ -13,7 +13,7 @@ use Rattle.line.specs.declared.Content.{Content}
 use Rattle.line.specs.declared.Content.the-variants.{Length, NoReturn}
 use Rattle.reading.specs.Blanks.{isRight, filledTo, ifRight, rightContent}
 use Rattle.reading.specs.Plan.{Line}
-use Rattle.reading.specs.declared.Refusal.the-variants.{BadLine}
+use Rattle.reply.specs.declared.Refusal.the-variants.{BadLine}
 use Rattle.reading.specs.Read.{readFields, readContent, readLine, columnsOf}
 
 -- ---- the content, if it is right

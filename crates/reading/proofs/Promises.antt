@@ -4,6 +4,7 @@
 -- Assumes nothing.
 use mathlib.Core.Path.{_≡_, refl, sym, _∙_, ap}
 use mathlib.Core.List.{List, [], map}
+use mathlib.Core.Logic.{inl, inr}
 use Prim.Native.Nat.{ℕ, _+_, _≤_}
 use native.Mathlib.Nat.{zero-add, zero-mul}
 use native.Mathlib.Omega.{arith}
@@ -22,7 +23,8 @@ use Rattle.form.specs.Count
 use Rattle.form.specs.Count.{elementsOf, linesOf, cellsOf}
 use Rattle.form.proofs.Rounding.{rounded-none}
 use Rattle.reply.specs.Table.{Numbered}
-use Rattle.reply.proofs.Replies.{fills-plain, fills-on, fills-cells, fills-line, fills-element, fills-date, at-row}
+use Rattle.reply.specs.Refusals.{refusalReply, answerReply, rows}
+use Rattle.reply.proofs.Replies.{refusal-fills, fills-cells, at-row}
 use Rattle.base.specs.Sign.{sizeOf}
 use Rattle.count.proofs.Rulings.{broken-group}
 use Rattle.date.proofs.Due.{blamed-position}
@@ -30,11 +32,11 @@ use Rattle.count.specs.Tally.{countOf}
 use Rattle.count.specs.Rules.{rulingOf}
 use Rattle.count.specs.declared.Ruling.{Ruling}
 use Rattle.count.specs.declared.Ruling.the-variants.{Kept, Broken}
-use Rattle.reading.specs.declared.Refusal.{Refusal}
-use Rattle.reading.specs.declared.Refusal.the-variants.{NoGroup, End, Beyond, TooFewLines, Misformed, OtherRelease, FilledVacant, BrokenRule, NoRoom, BadLine, BadField, BadDate}
-use Rattle.reading.specs.declared.Reading.the-variants.{Done}
-use Rattle.reading.specs.Numbered.{refusalReply, readingReply, readingRows}
-use Rattle.reading.specs.Due.{RefusalDue, Due}
+use Rattle.reply.specs.declared.Refusal.{Refusal}
+use Rattle.reply.specs.declared.Refusal.the-variants.{NoSuchNumber, BrokenRule, NoRoom, BadLine, BadField, BadDate}
+use Rattle.reply.specs.declared.Answer.the-variants.{Done}
+use Rattle.reading.specs.Numbered.{readingRefusals, readingRows}
+use Rattle.reading.specs.Due.{RefusedFor, no-group, broken-rule, no-room, bad-line, bad-field, bad-date, Due}
 use Rattle.reading.specs.Plan.{planFrom, planOf}
 use Rattle.reading.specs.Read.{Cells, readLinesOf, readLines, readForm, readRuled, readGroup, readingOf, tableBy}
 use Rattle.reading.proofs.Steps.{kept-letters}
@@ -42,29 +44,26 @@ use Rattle.reading.proofs.Steps.{kept-letters}
 -- ---- numbered
 
 -- what is refused by the counts and the lines; 12 and placing's replies are told where they are asked
-pub refusal-numbered : (ns : List ℕ) (g : ℕ) (x : List ℕ) (room : ℕ) (r : Refusal) → RefusalDue ns g x room r → Numbered readingRows (refusalReply r)
-refusal-numbered ns g x room NoGroup d = at-row 1 readingRows (refusalReply NoGroup) (lit< tt) (fills-plain 12)
-refusal-numbered ns g x room End d = absurd d
-refusal-numbered ns g x room Beyond d = absurd d
-refusal-numbered ns g x room TooFewLines d = absurd d
-refusal-numbered ns g x room Misformed d = absurd d
-refusal-numbered ns g x room OtherRelease d = absurd d
-refusal-numbered ns g x room (FilledVacant h) d = absurd d
-refusal-numbered ns g x room (BrokenRule h) d = at-row 8 readingRows (refusalReply (BrokenRule h)) (lit< tt) (fills-on 7 h (broken-group ns (d .broken) .0))
-refusal-numbered ns g x room NoRoom d = at-row 9 readingRows (refusalReply NoRoom) (lit< tt) (fills-plain 11)
-refusal-numbered ns g x room (BadLine l) d = at-row 10 readingRows (refusalReply (BadLine l)) (lit< tt) (fills-line 8 l (omega (arith, d .line .number)))
-refusal-numbered ns g x room (BadField l e) d =
-    at-row 11 readingRows (refusalReply (BadField l e)) (lit< tt) (fills-element 9 l e (omega (arith, d .field .number)) (omega (arith, d .field .element)))
-refusal-numbered ns g x room (BadDate p) d = at-row 12 readingRows (refusalReply (BadDate p)) (lit< tt) (fills-date p (blamed-position (map sizeOf (d .cs)) p (d .wrong)))
+pub refusal-numbered : (ns : List ℕ) (g : ℕ) (x : List ℕ) (room : ℕ) (r : Refusal) → RefusedFor ns g x room r → Numbered (rows readingRefusals) (refusalReply r)
+refusal-numbered ns g x room r (no-group d) = at-row 0 (rows readingRefusals) (refusalReply NoSuchNumber) (lit< tt) (refusal-fills NoSuchNumber tt)
+refusal-numbered ns g x room r (broken-rule h d) =
+    at-row 7 (rows readingRefusals) (refusalReply (BrokenRule h)) (lit< tt) (refusal-fills (BrokenRule h) (broken-group ns (d .broken) .0, tt))
+refusal-numbered ns g x room r (no-room d) = at-row 8 (rows readingRefusals) (refusalReply NoRoom) (lit< tt) (refusal-fills NoRoom tt)
+refusal-numbered ns g x room r (bad-line l d) =
+    at-row 9 (rows readingRefusals) (refusalReply (BadLine l)) (lit< tt) (refusal-fills (BadLine l) (omega (arith, d .line .number), tt))
+refusal-numbered ns g x room r (bad-field l e d) =
+    at-row 10 (rows readingRefusals) (refusalReply (BadField l e)) (lit< tt) (refusal-fills (BadField l e) (omega (arith, d .field .number), (omega (arith, d .field .element), tt)))
+refusal-numbered ns g x room r (bad-date p d) =
+    at-row 11 (rows readingRefusals) (refusalReply (BadDate p)) (lit< tt) (refusal-fills (BadDate p) (blamed-position (map sizeOf (d .cs)) p (d .wrong), tt))
 
-pub cells-numbered : (ns : List ℕ) (g : ℕ) (x : List ℕ) (room : ℕ) (c : Cells) → Due ns g x room c → Numbered readingRows (readingReply (readingOf c))
-cells-numbered ns g x room (done cs) d = at-row 0 readingRows (readingReply (Done (length cs))) (lit< tt) (fills-cells (length cs))
-cells-numbered ns g x room (bad r) d = refusal-numbered ns g x room r d
+pub cells-numbered : (ns : List ℕ) (g : ℕ) (x : List ℕ) (room : ℕ) (c : Cells) → Due ns g x room c → Numbered readingRows (answerReply (readingOf c))
+cells-numbered ns g x room (done cs) d = inl (fills-cells (length cs))
+cells-numbered ns g x room (bad r) d = inr (refusal-numbered ns g x room r d)
 
 -- ---- the table
 
 -- R267: a refused reading leaves the whole table as it was
-pub refused-read-keeps : (g : Cells) (old : List ℤ) → (readingReply (readingOf g) .number ≡ 0 → ⊥) → tableBy g old ≡ old
+pub refused-read-keeps : (g : Cells) (old : List ℤ) → (answerReply (readingOf g) .number ≡ 0 → ⊥) → tableBy g old ≡ old
 refused-read-keeps (done cs) old n = absurd (n refl)
 refused-read-keeps (bad r) old n = refl
 
@@ -85,7 +84,8 @@ unfolding readGroup
 read-broken ns g x room h f e r = rw (e, r)
 
 -- R264: a group reads the same into every table with room for what its counts, if they keep the rules, let it fill
-pub read-room : (ns : List ℕ) (g : ℕ) (x : List ℕ) (room more : ℕ) (f : Form) → formOf g ≡ Has f → (rulingOf ns ≡ Kept → (cellsOf f (countOf ns g) ≤ room) × (cellsOf f (countOf ns g) ≤ more)) → readGroup ns g x room ≡ readGroup ns g x more
+pub read-room : (ns : List ℕ) (g : ℕ) (x : List ℕ) (room more : ℕ) (f : Form) → formOf g ≡ Has f
+    → (rulingOf ns ≡ Kept → (cellsOf f (countOf ns g) ≤ room) × (cellsOf f (countOf ns g) ≤ more)) → readGroup ns g x room ≡ readGroup ns g x more
 unfolding readGroup readForm
 read-room ns g x room more f e h = rw e (by (rulingOf ns) refl)
   where

@@ -26,30 +26,30 @@ use Rattle.count.specs.Rules.{rulingOf}
 use Rattle.count.specs.declared.Ruling.the-variants.{Kept}
 use Rattle.count.specs.Blame
 use Rattle.count.proofs.Rulings.{ruling-kept}
-use Rattle.reading.specs.declared.Refusal.{Refusal}
-use Rattle.reading.specs.declared.Refusal.the-variants.{NoGroup, NoRoom}
-use Rattle.reading.specs.declared.Reading.{Reading}
-use Rattle.reading.specs.declared.Reading.the-variants.{Done, Refused}
-use Rattle.reading.specs.declared.Verdict.the-variants.{Clean, Bad}
+use Rattle.reply.specs.declared.Refusal.{Refusal}
+use Rattle.reply.specs.declared.Refusal.the-variants.{NoSuchNumber, NoRoom}
+use Rattle.reply.specs.declared.Answer.{Answer}
+use Rattle.reply.specs.declared.Answer.the-variants.{Done, Refused}
+use Rattle.reply.specs.declared.Checked.the-variants as C
 use Rattle.reading.specs.Read.{Cells, readLines, dated, byDate, readForm, readGroup, readingOf, tableBy, verdictOf}
 use Rattle.reading.proofs.Sizes.{clean-read, group-size}
 
 -- what an answer and a table at exit owe
-abbrev pub Answers : Cells → List ℤ → Reading → List ℤ → Type 0
+abbrev pub Answers : Cells → List ℤ → Answer → List ℤ → Type 0
 Answers g old r new = (r ≡ readingOf g) × (new ≡ tableBy g old)
 
 refuses : {g : Cells} {r : Refusal} (old : List ℤ) → g ≡ bad r → Answers g old (Refused r) old
 refuses old e = rw e (refl, refl)
 
-bad-is : (g : Cells) (r : Refusal) → verdictOf g ≡ Bad r → g ≡ bad r
+bad-is : (g : Cells) (r : Refusal) → verdictOf g ≡ C.Refused r → g ≡ bad r
 bad-is (done cs) r e = let z : _≡_ {A = ℕ} 0 1 = cc in absurd (omega arith)
 bad-is (bad q) r e = let p : q ≡ r = cc in ap bad p
 
 -- a clean date leaves the cells as they are
-clean-cells : (g : ℕ) (c : Cells) → verdictOf (dated g c) ≡ Clean → dated g c ≡ c
+clean-cells : (g : ℕ) (c : Cells) → verdictOf (dated g c) ≡ C.Right → dated g c ≡ c
 clean-cells g (done cs) e = by (eqb g 3) (datedOf (map sizeOf cs)) e
   where
-    by : (t : Bool) (d : Dated) → verdictOf (cond t (byDate cs d) (done cs)) ≡ Clean → cond t (byDate cs d) (done cs) ≡ done cs
+    by : (t : Bool) (d : Dated) → verdictOf (cond t (byDate cs d) (done cs)) ≡ C.Right → cond t (byDate cs d) (done cs) ≡ done cs
     by true (Right d) e = refl
     by true (Wrong p) e = let z : _≡_ {A = ℕ} 0 1 = cc in absurd (omega arith)
     by false d e = refl
@@ -67,11 +67,11 @@ module _ (f : Form) (g count : ℕ) (x : List ℕ) (old : List ℤ) where
     unfolding readForm
     roomy = rw (le-leb (cellsOf f count) (length old) room)
 
-    pub form-bad : (r : Refusal) → verdictOf (dated g (readLines f count x)) ≡ Bad r → Answers (readForm f g count x (length old)) old (Refused r) old
+    pub form-bad : (r : Refusal) → verdictOf (dated g (readLines f count x)) ≡ C.Refused r → Answers (readForm f g count x (length old)) old (Refused r) old
     form-bad r e = refuses old (roomy ∙ bad-is (dated g (readLines f count x)) r e)
 
-    module _ (e : verdictOf (dated g (readLines f count x)) ≡ Clean) where
-      pub lines-clean : verdictOf (readLines f count x) ≡ Clean
+    module _ (e : verdictOf (dated g (readLines f count x)) ≡ C.Right) where
+      pub lines-clean : verdictOf (readLines f count x) ≡ C.Right
       lines-clean = ap verdictOf (sym (clean-cells g (readLines f count x) e)) ∙ e
 
       pub form-done : {new : List ℤ} → new ≡ over 0 (cellsGot (readLines f count x)) old → Answers (readForm f g count x (length old)) old (Done (cellsOf f count)) new
@@ -90,14 +90,15 @@ kept-letters ns e = by (leb 19 (countOf ns 3)) refl
     by false u = absurd (ruling-kept ns e 3 (inr (inr (inl (u, refl)))))
 
 module _ (ns : List ℕ) (g : ℕ) (x : List ℕ) (old : List ℤ) where
-  pub group-none : formOf g ≡ NoForm → Answers (readGroup ns g x (length old)) old (Refused NoGroup) old
+  pub group-none : formOf g ≡ NoForm → Answers (readGroup ns g x (length old)) old (Refused NoSuchNumber) old
   unfolding readGroup
   group-none e =
-      let n : readGroup ns g x (length old) ≡ bad NoGroup = rw e in
+      let n : readGroup ns g x (length old) ≡ bad NoSuchNumber = rw e in
       refuses old n
 
   module _ (f : Form) (e : formOf g ≡ Has f) where
-    pub group-kept : rulingOf ns ≡ Kept → (count : ℕ) → count ≡ countOf ns g → {a : Reading} {new : List ℤ} → Answers (readForm f g count x (length old)) old a new → Answers (readGroup ns g x (length old)) old a new
+    pub group-kept : rulingOf ns ≡ Kept → (count : ℕ) → count ≡ countOf ns g → {a : Answer} {new : List ℤ} → Answers (readForm f g count x (length old)) old a new
+        → Answers (readGroup ns g x (length old)) old a new
     unfolding readGroup
     group-kept r count c {a = a} {new = new} b =
         let n : readGroup ns g x (length old) ≡ readForm f g (countOf ns g) x (length old) = rw (e, r) in

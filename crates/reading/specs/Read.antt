@@ -14,7 +14,7 @@ use Rattle.form.specs.declared.GroupForm.{GroupForm}
 use Rattle.form.specs.declared.GroupForm.the-variants.{Has, NoGroup as NoForm}
 use Rattle.form.specs.Table.{rowOf, formOf}
 use Rattle.form.specs.Count.{cellsOf}
-use Rattle.field.specs.Read.{fieldOf, formed, cellsIn}
+use Rattle.field.specs.Read.{fieldOf, formed, valueCells}
 use Rattle.line.specs.Lines.{reach}
 use Rattle.line.specs.Contents.{contentOf}
 use Rattle.line.specs.declared.Content.{Content}
@@ -28,12 +28,12 @@ use Rattle.date.specs.declared.Dated.{Dated}
 use Rattle.date.specs.declared.Dated.the-variants.{Right, Wrong}
 use Rattle.reading.specs.Blanks.{isRight, filledTo}
 use Rattle.reading.specs.Plan.{Line, planOf, elementsIn}
-use Rattle.reading.specs.declared.Refusal.{Refusal}
-use Rattle.reading.specs.declared.Refusal.the-variants.{NoGroup, BrokenRule, NoRoom, BadLine, BadField, BadDate}
-use Rattle.reading.specs.declared.Reading.{Reading}
-use Rattle.reading.specs.declared.Reading.the-variants.{Done, Refused}
-use Rattle.reading.specs.declared.Verdict.{Verdict}
-use Rattle.reading.specs.declared.Verdict.the-variants.{Clean, Bad}
+use Rattle.reply.specs.declared.Refusal.{Refusal}
+use Rattle.reply.specs.declared.Refusal.the-variants.{NoSuchNumber, BrokenRule, NoRoom, BadLine, BadField, BadDate}
+use Rattle.reply.specs.declared.Answer.{Answer}
+use Rattle.reply.specs.declared.Answer.the-variants.{Done, Refused}
+use Rattle.reply.specs.declared.Checked.{Checked}
+use Rattle.reply.specs.declared.Checked.the-variants as C
 
 -- the cells read, or the refusal
 abbrev pub Cells : Type 0
@@ -43,7 +43,7 @@ Cells = Got Refusal ℤ
 
 -- R209: a field that is none of the form, with its line and its element (R232)
 abbrev pub readField : Form → ℕ → ℕ → List ℕ → Cells
-readField f line e x = cond (formed (fieldOf f x)) (done (cellsIn x (fieldOf f x))) (bad (BadField line e))
+readField f line e x = cond (formed (fieldOf f x)) (done (valueCells x (fieldOf f x))) (bad (BadField line e))
 
 -- R61: the fields of a line stand one behind the other
 unfoldable pub readFields : Form → Line → List ℕ → Cells
@@ -98,7 +98,7 @@ readRuled f ns g x room (Broken h) = bad (BrokenRule h)
 -- R212: the number is that of no group
 abbrev pub readBy : List ℕ → ℕ → List ℕ → ℕ → GroupForm → Cells
 readBy ns g x room (Has f) = readRuled f ns g x room (rulingOf ns)
-readBy ns g x room NoForm = bad NoGroup
+readBy ns g x room NoForm = bad NoSuchNumber
 
 -- a group of a record with these counts, whose lines are x, read into a table of this length
 unfoldable pub readGroup : List ℕ → ℕ → List ℕ → ℕ → Cells
@@ -106,7 +106,7 @@ readGroup ns g x room = readBy ns g x room (formOf g)
 
 -- ---- the answer and the table
 
-abbrev pub readingOf : Cells → Reading
+abbrev pub readingOf : Cells → Answer
 readingOf (done cs) = Done (length cs)
 readingOf (bad r) = Refused r
 
@@ -117,10 +117,10 @@ tableBy (bad r) old = old
 
 -- ---- whether all is clean, as the first pass finds it
 
-abbrev pub verdictOf : Cells → Verdict
-verdictOf (done cs) = Clean
-verdictOf (bad r) = Bad r
+abbrev pub verdictOf : Cells → Checked
+verdictOf (done cs) = C.Right
+verdictOf (bad r) = C.Refused r
 
-abbrev pub dateVerdict : Dated → Verdict
-dateVerdict (Right d) = Clean
-dateVerdict (Wrong p) = Bad (BadDate p)
+abbrev pub dateVerdict : Dated → Checked
+dateVerdict (Right d) = C.Right
+dateVerdict (Wrong p) = C.Refused (BadDate p)

@@ -3,6 +3,9 @@
 use count::Ruling;
 use form::Form;
 use form::GroupForm;
+use reply::Answer;
+use reply::Checked;
+use reply::Refusal;
 ghost use mathlib.Core.Path.{_≡_};
 ghost use mathlib.Core.List.{map};
 ghost use Prim.Native.Nat.{_+_, _-_, _*_, _≤_};
@@ -14,55 +17,14 @@ ghost use Rattle.base.specs.Part.{part, over};
 ghost use Rattle.base.specs.Pieces.{cellsGot};
 ghost use Rattle.form.specs.Table.{rowOf, formOf};
 ghost use Rattle.form.specs.Count.{cellsOf};
-ghost use Rattle.field.specs.Read.{fieldOf, formed, cellsIn};
+ghost use Rattle.field.specs.Read.{fieldOf, formed, valueCells};
 ghost use Rattle.count.specs.Rules.{rulingOf};
 ghost use Rattle.line.specs.Lines.{reach};
 ghost use Rattle.line.specs.Contents.{contentOf};
 ghost use Rattle.reading.specs.Blanks.{blank, mayBeShort, shortest, filledTo, isRight, asField, rightContent};
 ghost use Rattle.reading.specs.Blanks.{fieldsSpan, Fits};
-ghost use Rattle.reading.specs.Numbered.{refusalReply, readingReply};
 ghost use Rattle.reading.specs.Read.{verdictOf, misfitOf, readLines, dated, readForm, readGroup, readingOf};
 ghost use Rattle.reading.specs.Read.{tableBy};
-
-// Why nothing is read; each variant is a reply of R201 to R212.
-pub enum Refusal {
-    // 12
-    NoGroup,
-    // 1
-    End,
-    // 2
-    Beyond,
-    // 3
-    TooFewLines,
-    // 4
-    Misformed,
-    // 5
-    OtherRelease,
-    // 6, with the lowest vacant number that has a count
-    FilledVacant(usize),
-    // 7, with the blamed group
-    BrokenRule(usize),
-    // 11
-    NoRoom,
-    // 8, with the line in the group
-    BadLine(usize),
-    // 9, with the line and the element in the group
-    BadField(usize, usize),
-    // 10, with the position blamed
-    BadDate(usize),
-}
-
-// What reading a group answers: 0 with the number of cells, or why nothing was read.
-pub enum Reading {
-    Done(usize),
-    Refused(Refusal),
-}
-
-// Whether the lines of a group are clean, or the first thing that is not.
-enum Verdict {
-    Clean,
-    Bad(Refusal),
-}
 
 // ---- What a line holds.
 
@@ -112,16 +74,7 @@ fn is_right(form: Form, columns: usize, content: &[u8]) -> bool
     ensures { λ r. ⌜ r ≡ isRight form columns (now (content .entry)) ⌝ }
 {
     let n = content.len();
-    if n < least(form, columns) {
-        return false;
-    }
-    if 120 < n {
-        return false;
-    }
-    if n <= columns {
-        return true;
-    }
-    all_blank(&content[columns..n])
+    least(form, columns) <= n && (n <= 120 && (n <= columns || all_blank(&content[columns..n])))
 }
 
 // R66: the length of a line's content, if there is one and it is right.
@@ -230,7 +183,7 @@ fn misfit(
 
 // The first pass, as R443 has it: each line's fields, and then what stands behind them, up to the first line that is bad (R263). It looks
 // at no table. No line feed stands in fields that are formed, so the line's end is sought behind them.
-fn check_lines(form: Form, count: u16, lines: &[u8]) -> Verdict
+fn check_lines(form: Form, count: u16, lines: &[u8]) -> Checked
     ensures { λ r. ⌜ r ≡ verdictOf (readLines form count (now (lines .entry))) ⌝ }
 {
     let row = form::row_of(form);
@@ -238,7 +191,7 @@ fn check_lines(form: Form, count: u16, lines: &[u8]) -> Verdict
     let per_line = row.per_line;
     let many = form::lines(form, count);
     let mut left = form::elements(form, count);
-    let mut verdict = Verdict::Clean;
+    let mut verdict = Checked::Right;
     let mut at: usize = 0;
     let mut element: usize = 1;
     let mut j: usize = 0;
@@ -252,13 +205,13 @@ fn check_lines(form: Form, count: u16, lines: &[u8]) -> Verdict
                 from += width;
                 i += 1;
             } else {
-                verdict = Verdict::Bad(misfit(form, k * width, lines, at, j + 1, element + i));
+                verdict = Checked::Refused(misfit(form, k * width, lines, at, j + 1, element + i));
                 break 'lines;
             }
         }
         let end = line::behind_or_end(lines, stop, 1);
         let line::Content::Length(_) = right_content_at(form, k * width, lines, at, end) else {
-            verdict = Verdict::Bad(Refusal::BadLine(j + 1));
+            verdict = Checked::Refused(Refusal::BadLine(j + 1));
             break 'lines;
         };
         at = end;
@@ -270,33 +223,33 @@ fn check_lines(form: Form, count: u16, lines: &[u8]) -> Verdict
 }
 
 // R140, R210: the date stands in the first line of group 3, where R123 puts 19 characters at least.
-fn check_date(count: u16, lines: &[u8]) -> Verdict
+fn check_date(count: u16, lines: &[u8]) -> Checked
     requires date { ⌜ 19 ≤ count ⌝ }
-    requires clean { ⌜ verdictOf (readLines Form.A1 count (now lines)) ≡ Verdict.Clean ⌝ }
+    requires clean { ⌜ verdictOf (readLines Form.A1 count (now lines)) ≡ Checked.Right ⌝ }
     ensures { λ r. ⌜ r ≡ verdictOf (dated 3 (readLines Form.A1 count (now (lines .entry)))) ⌝ }
 {
     let n = form::elements(Form::A1, count);
     let row = form::row_of(Form::A1);
     let k = base::lesser(row.per_line, n);
     match date::Date::new(&lines[0..k]) {
-        date::Dated::Right(_) => Verdict::Clean,
-        date::Dated::Wrong(position) => Verdict::Bad(Refusal::BadDate(position)),
+        date::Dated::Right(_) => Checked::Right,
+        date::Dated::Wrong(position) => Checked::Refused(Refusal::BadDate(position)),
     }
 }
 
 // R262, R265: lines, and then the date of group 3.
-fn check(form: Form, group: usize, count: u16, lines: &[u8]) -> Verdict
+fn check(form: Form, group: usize, count: u16, lines: &[u8]) -> Checked
     requires form { ⌜ formOf group ≡ GroupForm.Has form ⌝ }
     requires date { ⌜ (group ≡ 3 → 19 ≤ count) ⌝ }
     ensures { λ r. ⌜ r ≡ verdictOf (dated group (readLines form count (now (lines .entry)))) ⌝ }
 {
     match check_lines(form, count, lines) {
-        Verdict::Bad(r) => Verdict::Bad(r),
-        Verdict::Clean => {
+        Checked::Refused(r) => Checked::Refused(r),
+        Checked::Right => {
             if group == 3 {
                 return check_date(count, lines);
             }
-            Verdict::Clean
+            Checked::Right
         }
     }
 }
@@ -334,7 +287,7 @@ fn put_field(form: Form, width: usize, bytes: &[u8], table: &mut [i64], at: usiz
     requires formed { ⌜ T (formed (fieldOf form (filledTo width (now bytes)))) ⌝ }
     requires room { ⌜ at + rowOf form .cells ≤ length (now table) ⌝ }
     ensures { λ _. ⌜ now (table .exit) ≡
-        over at (cellsIn (filledTo width (now (bytes .entry))) (fieldOf form (filledTo width (now (bytes .entry)))))
+        over at (valueCells (filledTo width (now (bytes .entry))) (fieldOf form (filledTo width (now (bytes .entry)))))
         (now (table .entry)) ⌝ }
 {
     if may_be_short(form) {
@@ -372,7 +325,7 @@ fn put_field_at(
     requires room { ⌜ at + rowOf form .cells ≤ length (now table) ⌝ }
     ensures { λ _. ⌜ now (table .exit) ≡
         over at
-        (cellsIn (filledTo width (part from to (now (lines .entry))))
+        (valueCells (filledTo width (part from to (now (lines .entry))))
         (fieldOf form (filledTo width (part from to (now (lines .entry)))))) (now (table .entry)) ⌝ }
 {
     put_field(form, width, &lines[from..to], table, at);
@@ -380,7 +333,7 @@ fn put_field_at(
 
 // R266: the second pass, the cells of lines that were found clean.
 fn fill_lines(form: Form, count: u16, lines: &[u8], table: &mut [i64])
-    requires clean { ⌜ verdictOf (readLines form count (now lines)) ≡ Verdict.Clean ⌝ }
+    requires clean { ⌜ verdictOf (readLines form count (now lines)) ≡ Checked.Right ⌝ }
     requires room { ⌜ cellsOf form count ≤ length (now table) ⌝ }
     ensures { λ _. ⌜ now (table .exit) ≡
         over 0 (cellsGot (readLines form count (now (lines .entry)))) (now (table .entry)) ⌝ }
@@ -421,7 +374,7 @@ fn fill_lines(form: Form, count: u16, lines: &[u8], table: &mut [i64])
 // ---- Reading a group's lines.
 
 // R260, for a group whose record is placed with 0: 11 (R264), then the lines and the date, and only then the table.
-fn read_form(form: Form, group: usize, count: u16, lines: &[u8], table: &mut [i64]) -> Reading
+fn read_form(form: Form, group: usize, count: u16, lines: &[u8], table: &mut [i64]) -> Answer
     requires form { ⌜ formOf group ≡ GroupForm.Has form ⌝ }
     requires date { ⌜ (group ≡ 3 → 19 ≤ count) ⌝ }
     ensures answer { λ r. ⌜ r ≡
@@ -431,13 +384,13 @@ fn read_form(form: Form, group: usize, count: u16, lines: &[u8], table: &mut [i6
 {
     let cells = form::cells(form, count);
     if table.len() < cells {
-        return Reading::Refused(Refusal::NoRoom);
+        return Answer::Refused(Refusal::NoRoom);
     }
     match check(form, group, count, lines) {
-        Verdict::Bad(r) => Reading::Refused(r),
-        Verdict::Clean => {
+        Checked::Refused(r) => Answer::Refused(r),
+        Checked::Right => {
             fill_lines(form, count, lines, table);
-            Reading::Done(cells)
+            Answer::Done(cells)
         }
     }
 }
@@ -445,7 +398,7 @@ fn read_form(form: Form, group: usize, count: u16, lines: &[u8], table: &mut [i6
 // R260: reads a group of a record with these counts, whose lines these are, into a table. It is altered only if all is clean, and then only
 // as far as the group's cells go (R266, R267). The counts keep the rules, as those of a record that was placed with 0 do: they are not tried
 // again.
-pub fn read_kept(counts: &[u16], group: usize, lines: &[u8], table: &mut [i64]) -> Reading
+pub fn read_kept(counts: &[u16], group: usize, lines: &[u8], table: &mut [i64]) -> Answer
     requires { ⌜ rulingOf (now counts) ≡ Ruling.Kept ⌝ }
     ensures answer { λ r. ⌜ r ≡
         readingOf (readGroup (now (counts .entry)) group (now (lines .entry)) (length (now (table .entry)))) ⌝ }
@@ -454,40 +407,8 @@ pub fn read_kept(counts: &[u16], group: usize, lines: &[u8], table: &mut [i64]) 
         (now (table .entry)) ⌝ }
 {
     let form::GroupForm::Has(form) = form::form_of(group) else {
-        return Reading::Refused(Refusal::NoGroup);
+        return Answer::Refused(Refusal::NoSuchNumber);
     };
     let count = count::count_of(counts, group);
     read_form(form, group, count, lines, table)
-}
-
-// ---- Replies.
-
-// R201 to R212: the refusal's number, with the numbers given besides.
-pub fn refusal_reply(refusal: Refusal) -> reply::Reply
-    ensures { λ r. ⌜ r ≡ refusalReply refusal ⌝ }
-{
-    match refusal {
-        Refusal::NoGroup => reply::plain(12),
-        Refusal::End => reply::plain(1),
-        Refusal::Beyond => reply::plain(2),
-        Refusal::TooFewLines => reply::plain(3),
-        Refusal::Misformed => reply::plain(4),
-        Refusal::OtherRelease => reply::plain(5),
-        Refusal::FilledVacant(g) => reply::on_group(6, g),
-        Refusal::BrokenRule(g) => reply::on_group(7, g),
-        Refusal::NoRoom => reply::plain(11),
-        Refusal::BadLine(line) => reply::in_line(8, line, 0),
-        Refusal::BadField(line, element) => reply::in_line(9, line, element),
-        Refusal::BadDate(position) => reply::bad_date(position),
-    }
-}
-
-// R200: done, with the cells written; or the refusal's reply.
-pub fn reply_of(answer: Reading) -> reply::Reply
-    ensures { λ r. ⌜ r ≡ readingReply answer ⌝ }
-{
-    match answer {
-        Reading::Done(written) => reply::done(written),
-        Reading::Refused(r) => refusal_reply(r),
-    }
 }

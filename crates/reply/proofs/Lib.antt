@@ -1,2 +1,2 @@
--- The laws of reply's definitions.
+-- The laws of replies and their rows.
 pub mod Replies

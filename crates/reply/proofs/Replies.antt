@@ -1,6 +1,7 @@
--- Replies that fill a row, by the shape of the reply.
+-- Replies that fill a row of a question's table.
 -- Assumes nothing.
 use mathlib.Core.Path.{refl, sym}
+use mathlib.Core.Bool.{Bool, true, false, _||_, cond}
 use mathlib.Core.List.{List, [], _∷_, _++_, map}
 use mathlib.Core.Logic.{inl, inr}
 use Prim.Native.Nat.{ℕ, zero, suc, _<_, _≤_}
@@ -12,52 +13,64 @@ use lib.ListN.{length, getD}
 use Rattle.base.specs.Every.{has}
 use Rattle.base.proofs.Choice.{or-right}
 use Rattle.reply.specs.declared.Reply.{Reply}
-use Rattle.reply.specs.Table.{Row, row, numbers, replyAt, replyOn, replyPlain, replyDone, replyLine, replyField, replyDate, Fills, Numbered, next, cells, bytes, group, line, element, position}
+use Rattle.reply.specs.declared.Refusal.{Refusal}
+use Rattle.reply.specs.Table.{Beside, Given, told, amountOf, kindsOf, Row, row, Shown, Fills, Numbered, kindCode, isKind, next, cells, bytes, group, line, element, position}
+use Rattle.reply.specs.Refusals.{refusalReply, refusalNumber, besideOf, refusalRow, rows}
 
-pub fills-plain : (k : ℕ) → Fills (row k []) (replyPlain k)
-fills-plain k =
-    record { numbered = refl; with-next = refl; with-written = refl; with-group = refl; with-line = refl; with-element = refl; with-position = refl }
+-- each of these numbers is at least 1
+abbrev pub Counted : Given → Type 0
+Counted [] = Unit {0}
+Counted (b ∷ bs) = (1 ≤ b .1) × Counted bs
 
-pub fills-on : (k g : ℕ) → 1 ≤ g → Fills (row k (group ∷ [])) (replyOn k g)
-fills-on k g h =
-    record { numbered = refl; with-next = refl; with-written = refl; with-group = h; with-line = refl; with-element = refl; with-position = refl }
+abbrev codesOf : Given → List ℕ
+codesOf bs = map kindCode (kindsOf bs)
 
-pub fills-next : (k n : ℕ) → 1 ≤ n → Fills (row k (next ∷ [])) (replyAt k n 0)
-fills-next k n h =
-    record { numbered = refl; with-next = h; with-written = refl; with-group = refl; with-line = refl; with-element = refl; with-position = refl }
+-- a kind of number that is named is given, and one that isn't is 0
+shown-one : (b : Beside) (bs : Given) → Counted bs → Shown (has (codesOf bs) (kindCode b)) 1 (amountOf (isKind b) bs)
+shown-one b [] c = refl
+shown-one b (g ∷ gs) c = by (eqb (kindCode (g .0)) (kindCode b)) (shown-one b gs (c .1))
+  where
+    by : (t : Bool) → Shown (has (codesOf gs) (kindCode b)) 1 (amountOf (isKind b) gs) → Shown (t || has (codesOf gs) (kindCode b)) 1 (cond t (g .1) (amountOf (isKind b) gs))
+    by true h = c .0
+    by false h = h
 
-pub fills-at : (k n g : ℕ) → 1 ≤ n → 1 ≤ g → Fills (row k (group ∷ next ∷ [])) (replyAt k n g)
-fills-at k n g h j =
-    record { numbered = refl; with-next = h; with-written = refl; with-group = j; with-line = refl; with-element = refl; with-position = refl }
+-- the same of cells and bytes, which both are what was written
+shown-written : (bs : Given) → Counted bs → Shown (has (codesOf bs) 1 || has (codesOf bs) 2) 1 (amountOf (λ c. isKind cells c || isKind bytes c) bs)
+shown-written [] c = refl
+shown-written (g ∷ gs) c = by (eqb (kindCode (g .0)) 1) (eqb (kindCode (g .0)) 2) (has (codesOf gs) 1) (shown-written gs (c .1))
+  where
+    by : (t u v : Bool) → Shown (v || has (codesOf gs) 2) 1 (amountOf (λ c. isKind cells c || isKind bytes c) gs)
+        → Shown ((t || v) || (u || has (codesOf gs) 2)) 1 (cond (t || u) (g .1) (amountOf (λ c. isKind cells c || isKind bytes c) gs))
+    by true u v h = c .0
+    by false true true h = c .0
+    by false true false h = c .0
+    by false false v h = h
 
--- a group may have no cells, but no text is empty
-pub fills-cells : (n : ℕ) → Fills (row 0 (cells ∷ [])) (replyDone n)
+least : (t u : Bool) (n : ℕ) → Shown t 1 n → Shown t (cond u 1 0) n
+least true true n h = h
+least true false n h = omega arith
+least false u n h = h
+
+-- the numbers beside a reply fill the row that names them
+pub fills : (k : ℕ) (bs : Given) → Counted bs → Fills (row k (kindsOf bs)) (told k bs)
+fills k bs c =
+    record {
+      numbered = refl;
+      with-next = shown-one next bs c;
+      with-written = least (has (codesOf bs) 1 || has (codesOf bs) 2) (has (codesOf bs) 2) (amountOf (λ c. isKind cells c || isKind bytes c) bs) (shown-written bs c);
+      with-group = shown-one group bs c;
+      with-line = shown-one line bs c;
+      with-element = shown-one element bs c;
+      with-position = shown-one position bs c;
+    }
+
+pub refusal-fills : (r : Refusal) → Counted (besideOf r) → Fills (refusalRow r) (refusalReply r)
+refusal-fills r c = fills (refusalNumber r) (besideOf r) c
+
+-- a group may have no cells
+pub fills-cells : (n : ℕ) → Fills (row 0 (cells ∷ [])) (told 0 ((bytes, n) ∷ []))
 fills-cells n =
     record { numbered = refl; with-next = refl; with-written = omega arith; with-group = refl; with-line = refl; with-element = refl; with-position = refl }
-
-pub fills-bytes : (n : ℕ) → 1 ≤ n → Fills (row 0 (bytes ∷ [])) (replyDone n)
-fills-bytes n h =
-    record { numbered = refl; with-next = refl; with-written = h; with-group = refl; with-line = refl; with-element = refl; with-position = refl }
-
-pub fills-both : (n m : ℕ) → 1 ≤ n → 1 ≤ m → Fills (row 0 (next ∷ bytes ∷ [])) (numbers 0 n m 0 0 0 0)
-fills-both n m h j =
-    record { numbered = refl; with-next = h; with-written = j; with-group = refl; with-line = refl; with-element = refl; with-position = refl }
-
-pub fills-line : (k l : ℕ) → 1 ≤ l → Fills (row k (line ∷ [])) (replyLine k l 0)
-fills-line k l h =
-    record { numbered = refl; with-next = refl; with-written = refl; with-group = refl; with-line = h; with-element = refl; with-position = refl }
-
-pub fills-element : (k l e : ℕ) → 1 ≤ l → 1 ≤ e → Fills (row k (line ∷ element ∷ [])) (replyLine k l e)
-fills-element k l e h j =
-    record { numbered = refl; with-next = refl; with-written = refl; with-group = refl; with-line = h; with-element = j; with-position = refl }
-
-pub fills-field : (g e : ℕ) → 1 ≤ g → 1 ≤ e → Fills (row 13 (group ∷ element ∷ [])) (replyField g e)
-fills-field g e h j =
-    record { numbered = refl; with-next = refl; with-written = refl; with-group = h; with-line = refl; with-element = j; with-position = refl }
-
-pub fills-date : (p : ℕ) → 1 ≤ p → Fills (row 10 (position ∷ [])) (replyDate p)
-fills-date p h =
-    record { numbered = refl; with-next = refl; with-written = refl; with-group = refl; with-line = refl; with-element = refl; with-position = h }
 
 -- ---- which row
 
@@ -66,11 +79,11 @@ at-row k [] r l f = absurd (omega arith)
 at-row zero (w ∷ ws) r l f = inl f
 at-row (suc k) (w ∷ ws) r l f = inr (at-row k ws r (le-of-suc-le-suc l) f)
 
--- a table that begins with another
-pub numbered-left : (a b : List Row) (r : Reply) → Numbered a r → Numbered (a ++ b) r
-numbered-left [] b r n = absurd n
-numbered-left (w ∷ a) b r (inl f) = inl f
-numbered-left (w ∷ a) b r (inr n) = inr (numbered-left a b r n)
+-- refusals that begin with others
+pub rows-left : (a b : List Refusal) (r : Reply) → Numbered (rows a) r → Numbered (rows (a ++ b)) r
+rows-left [] b r n = absurd n
+rows-left (x ∷ a) b r (inl f) = inl f
+rows-left (x ∷ a) b r (inr n) = inr (rows-left a b r n)
 
 -- the number is one of the table's
 pub numbered-known : (ws : List Row) (r : Reply) → Numbered ws r → T (has (map (λ w. w .number) ws) (r .number))

@@ -8,7 +8,7 @@ use Prim.Native.Nat.{_-_, _*_, _≤_}
 use Rattle.form.specs.Table.{rowOf}
 use Rattle.form.specs.Count.{elementsOf}
 use Rattle.reading.specs.Plan.{lineAt}
-use Rattle.reading.specs.declared.Verdict.the-variants.{Clean}
+use Rattle.reply.specs.declared.Checked.the-variants as C
 use Rattle.reading.proofs.Checking.{Checking, walking-start, checking-start, checking-end, element-small, next-first, columns-small, width-few}
 use Rattle.reading.proofs.Trying.{Trying, OnLine, trying-start, try-small, try-range, element-few, trying-next, trying-wrong, tried-range, tried-wrong, tried-next}
 use Rattle.reading.proofs.check_lines.Statement.{statement}
@@ -16,14 +16,14 @@ use Rattle.reading.proofs.check_lines.Tie as tie
 
 abbrev Inv-loop : tie.InvT-loop
 Inv-loop form count lines width per-line many left verdict₀ at element j k stop from₀ i₀ verdict from i =
-    (verdict ≡ Clean) × Trying form (lineAt (rowOf form .«per_line») (elementsOf form count) j) lines at stop i from
+    (verdict ≡ C.Right) × Trying form (lineAt (rowOf form .«per_line») (elementsOf form count) j) lines at stop i from
 
 abbrev μ-loop : tie.MeasureT-loop
 μ-loop form count lines width per-line many left verdict₀ at element j k stop from₀ i₀ verdict from i = k - i
 
 abbrev Inv-lines : tie.InvT-lines
 Inv-lines form count lines width per-line many left₀ verdict₀ at₀ element₀ j₀ left verdict at element j =
-    (verdict ≡ Clean) × Checking form count lines width per-line many left at element j
+    (verdict ≡ C.Right) × Checking form count lines width per-line many left at element j
 
 abbrev μ-lines : tie.MeasureT-lines
 μ-lines form count lines width per-line many left₀ verdict₀ at₀ element₀ j₀ left verdict at element j = many - j
