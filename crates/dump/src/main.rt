@@ -145,7 +145,7 @@ fn told(c: Characteristic) -> Shown {
 fn print_characteristic(text: &[u8], at: usize, number: usize, page: &mut [u8]) {
     let answer = sao::characteristic(text, at, number);
     let t = told(answer);
-    let r = group::characteristic_reply(answer);
+    let r = group::reply_of(answer);
     let first = put(page, 0, number);
     let kind = put(page, first, t.kind);
     let value = put_cell(page, kind, t.value);

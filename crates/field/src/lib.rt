@@ -141,7 +141,7 @@ fn width_of(kind: Kind) -> usize
     }
 }
 
-fn count_of(kind: Kind) -> usize
+fn cells_of(kind: Kind) -> usize
     ensures { λ r. ⌜ r ≡ kindCells kind ⌝ }
 {
     match kind {
@@ -327,7 +327,7 @@ pub fn fits(form: Form, cells: &[i64]) -> bool
     ensures { λ r. ⌜ r ≡ fitsOf form (now (cells .entry)) ⌝ }
 {
     let kind = kind_of(form);
-    if cells.len() != count_of(kind) {
+    if cells.len() != cells_of(kind) {
         return false;
     }
     in_range(kind, cells)

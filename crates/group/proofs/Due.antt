@@ -32,7 +32,7 @@ use Rattle.place.proofs.Placed.{located-is}
 use Rattle.count.proofs.Rulings.{kept-ruling}
 use Rattle.place.proofs.Zero.{is-placed}
 use Rattle.reply.specs.declared.Refusal.{Refusal}
-use Rattle.reply.specs.declared.Refusal.the-variants.{NoSuchNumber, NoRoom}
+use Rattle.reply.specs.declared.Refusal.the-variants.{NoSuchNumber}
 use Rattle.reading.specs.Read.{Cells, readGroup}
 use Rattle.reading.specs.Due.{TableShort}
 use Rattle.reading.proofs.Due as Reading
@@ -49,7 +49,7 @@ use Rattle.place.specs.Parts.{IsPart}
 use Rattle.place.proofs.Indexed.{index-is}
 use Rattle.place.proofs.Tiling.{is-part, part-is}
 use Rattle.base.proofs.Taken.{take-none}
-use Rattle.group.specs.Due.{PlacingDue, MissingDue, no-group, broken-rule, unplaced, FoundDue, GivenPart, PartDue, ReadingDue, Due, NoNumber, FourReads, HasCell, CharacteristicDue}
+use Rattle.group.specs.Due.{PlacingDue, RefusedFor, no-group, broken-rule, unplaced, FoundDue, GivenPart, PartDue, ReadingDue, Due, NoNumber, FourReads, HasCell, CharacteristicDue}
 use Rattle.group.proofs.Holding.{given-part, missing-span}
 use Rattle.group.proofs.Texts.{read-missing, read-given}
 use Rattle.group.proofs.Reported.{no-reading-cell, no-reading-is, is-reading, number-none, number-inside}
@@ -66,7 +66,7 @@ module _ (s : List ℕ) (at g : ℕ) where
   unfolding foundAt
   found-placing p d = rw (group-form g (d .low) (d .high) .1, Placing.first-due s at p .1 (d .placing)) refl
 
-  missing-given : (r : Refusal) → MissingDue s at g r → foundAt s at g ≡ C.Refused r
+  missing-given : (r : Refusal) → RefusedFor s at g r → foundAt s at g ≡ C.Refused r
   missing-given r (no-group d) = found-none d
   missing-given r (broken-rule h d) = found-placing (P.BrokenRule h (d .next)) (d .broken)
   missing-given r (unplaced q d) = found-placing (P.Refused q) d
@@ -167,7 +167,7 @@ module _ (s : List ℕ) (at g room : ℕ) where
       let these = is-part s at ns g (d .from) (d .x) (d .placed .low) (d .placed .high) (d .lines) .1 in
       to-reading (d .next) (d .placed) ∙ ap (λ y. readGroup ns g y room) (sym these) ∙ Reading.first-due ns g (d .x) room c .1 (d .reading)
 
-  missing-read : (r : Refusal) → MissingDue s at g r → readAt s at g room ≡ bad r
+  missing-read : (r : Refusal) → RefusedFor s at g r → readAt s at g room ≡ bad r
   missing-read r d = read-missing s at g room (missing-given s at g r d)
 
   given : (c : Cells) → Due s at g room c → readAt s at g room ≡ c

@@ -1,15 +1,15 @@
 -- Each answer of the questions about a group fills a row of the question's table.
 -- Assumes nothing.
-use mathlib.Core.Path.{_≡_, refl}
+use mathlib.Core.Path.{refl}
 use mathlib.Core.List.{List, [], _∷_, _++_}
-use mathlib.Core.Logic.{_⊎_, inl, inr, ⊎-elim}
+use mathlib.Core.Logic.{inl, inr}
 use Prim.Native.Nat.{ℕ}
 use native.Mathlib.Omega.{arith}
 use lib.Dec.{lit<}
 use lib.ListN.{length}
 use Rattle.base.specs.Pieces.{done, bad}
-use Rattle.reply.specs.Table.{row, Numbered, cells}
-use Rattle.reply.specs.Refusals.{refusalReply, checkedReply, answerReply, rows, unplaced as unplacedRefusals, placingRefusals, askedRefusals, lineRefusals}
+use Rattle.reply.specs.Table.{Numbered, cells}
+use Rattle.reply.specs.Refusals.{refusalReply, checkedReply, answerReply, rows, unplacedRefusals, askedRefusals, lineRefusals}
 use Rattle.reply.proofs.Replies.{fills, refusal-fills, at-row, rows-left}
 use Rattle.count.proofs.Rulings.{broken-group}
 use Rattle.place.specs.declared.Placing.the-variants as P
@@ -17,7 +17,6 @@ use Rattle.place.proofs.Numbered.{refused-numbered}
 use Rattle.reply.specs.declared.Refusal.{Refusal}
 use Rattle.reply.specs.declared.Refusal.the-variants.{NoSuchNumber, BrokenRule, NoRoom, BadLine, BadField, BadDate}
 use Rattle.reading.specs.Numbered.{readingRows}
-use Rattle.reading.specs.Due.{RefusedFor}
 use Rattle.reading.specs.Due as Reading
 use Rattle.reading.specs.Read.{Cells, readingOf}
 use Rattle.reading.proofs.Promises.{refusal-numbered}
@@ -29,12 +28,12 @@ use Rattle.group.specs.Characteristics.{characteristicAt}
 use Rattle.group.specs.Numbered.{foundRows, characteristicReply, characteristicRows}
 use Rattle.group.specs.Held.{foundAt}
 use Rattle.group.specs.Text.{readAt}
-use Rattle.group.specs.Due.{PlacingDue, MissingDue, no-group, broken-rule, unplaced, FoundDue, Due, CharacteristicDue}
+use Rattle.group.specs.Due.{PlacingDue, RefusedFor, no-group, broken-rule, unplaced, FoundDue, Due, CharacteristicDue}
 use Rattle.group.proofs.Due.{first-due, found-first-due, characteristic-first-due, four-has-room}
 
 -- 12 and what placing refuses with, in whatever table has these rows behind its first
 module _ (s : List ℕ) (at g : ℕ) where
-  pub missing-numbered : (r : Refusal) → MissingDue s at g r → Numbered (rows askedRefusals) (refusalReply r)
+  pub missing-numbered : (r : Refusal) → RefusedFor s at g r → Numbered (rows askedRefusals) (refusalReply r)
   missing-numbered r (no-group d) = inl (refusal-fills NoSuchNumber tt)
   missing-numbered r (broken-rule h d) =
       let b = d .broken .placing in
@@ -58,7 +57,7 @@ module _ (s : List ℕ) (at g : ℕ) where
 
 -- of group 4 the lines alone are refused: 49 cells have room, and it has no date
 module _ (s : List ℕ) (at k : ℕ) where
-  lines-numbered : (n : ℕ) (placed : PlacingDue s at 4 (P.Placed n)) (x : List ℕ) (r : Refusal) → RefusedFor (placed .placing .ns) 4 x 49 r
+  lines-numbered : (n : ℕ) (placed : PlacingDue s at 4 (P.Placed n)) (x : List ℕ) (r : Refusal) → Reading.RefusedFor (placed .placing .ns) 4 x 49 r
       → Numbered (rows (askedRefusals ++ lineRefusals)) (refusalReply r)
   lines-numbered n placed x r (Reading.no-group d) = inl (refusal-fills NoSuchNumber tt)
   lines-numbered n placed x r (Reading.broken-rule h d) =

@@ -43,14 +43,14 @@ module _ (s : List ℕ) (at g : ℕ) where
 
   -- ---- R281: the lines of a group: 12, or what placing refuses with
 
-  pub data MissingDue : Refusal → Type 0 where
-    no-group : NoSuchGroup g → MissingDue NoSuchNumber
-    broken-rule : (h : ℕ) → BrokenDue h → MissingDue (BrokenRule h)
-    unplaced : (r : Refusal) → PlacingDue (P.Refused r) → MissingDue r
+  pub data RefusedFor : Refusal → Type 0 where
+    no-group : NoSuchGroup g → RefusedFor NoSuchNumber
+    broken-rule : (h : ℕ) → BrokenDue h → RefusedFor (BrokenRule h)
+    unplaced : (r : Refusal) → PlacingDue (P.Refused r) → RefusedFor r
 
   abbrev pub FoundDue : Checked → Type 0
   FoundDue C.Right = IsPlaced
-  FoundDue (C.Refused r) = MissingDue r
+  FoundDue (C.Refused r) = RefusedFor r
 
   -- R280, R283: the part: with 0 the lines of the group, which follow those of the index and of the groups before it; else the empty part
   -- at the text's start
@@ -60,7 +60,7 @@ module _ (s : List ℕ) (at g : ℕ) where
 
   pub record NoPart (from : ℕ) (x : List ℕ) : Type 0 where
     pub why : Refusal
-    pub missing : MissingDue why
+    pub missing : RefusedFor why
     pub text-start : from ≡ 0
     pub empty : x ≡ []
 
@@ -81,7 +81,7 @@ module _ (s : List ℕ) (at g : ℕ) where
 
     abbrev pub Due : Cells → Type 0
     Due (done cs) = ReadingDue (done cs)
-    Due (bad r) = MissingDue r ⊎ ReadingDue (bad r)
+    Due (bad r) = RefusedFor r ⊎ ReadingDue (bad r)
 
 -- ---- R294: a characteristic: 12, or what group 4 is refused with where there is room; then by its number and its cell
 

@@ -172,13 +172,13 @@ pub fn characteristic_at(text: &[u8], at: usize, number: usize) -> Characteristi
 // ---- Replies.
 
 // R200 to R212: the answer's number, with the numbers beside it.
-pub fn characteristic_reply(answer: Characteristic) -> reply::Reply
+pub fn reply_of(answer: Characteristic) -> reply::Reply
     ensures { λ r. ⌜ r ≡ characteristicReply answer ⌝ }
 {
     match answer {
-        Characteristic::Value(_) => reply::of_checked(Checked::Right),
-        Characteristic::NoReading => reply::of_checked(Checked::Right),
-        Characteristic::NotReported => reply::of_checked(Checked::Right),
+        Characteristic::Value(_) => reply::plain(0),
+        Characteristic::NoReading => reply::plain(0),
+        Characteristic::NotReported => reply::plain(0),
         Characteristic::Refused(r) => reply::of_refusal(r),
     }
 }

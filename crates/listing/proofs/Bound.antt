@@ -1,4 +1,4 @@
--- R347: what is printedListing is shorter than 8,192 bytes. A text of at most 65,536 bytes has at most 268 records, since a record has at least 244
+-- R347: what is printed is shorter than 8,192 bytes. A text of at most 65,536 bytes has at most 268 records, since a record has at least 244
 -- bytes. Its row has at most 30 bytes: 3 digits for the number, 5 for each place, 1 for the reply, 2 for the blamed group, 2 for the
 -- groups with a count, 5 for the lines, and a byte behind each. The end row has at most 19.
 -- Assumes nothing.
@@ -44,7 +44,7 @@ use Rattle.listing.specs.Listing.{rowAt, rowsFrom, endAt, listingOf, lis
 use Rattle.listing.proofs.Groups.{blamed-within, filled-within}
 use Rattle.listing.proofs.Counted.{records-stop, records-bytes}
 
--- ---- the two cases of what is printedListing
+-- ---- the two cases of what is printed
 
 pub printed-short : (s : List ℕ) → length s ≤ 65536 → listing s ≡ printedListing s
 unfolding printedListing

@@ -14,7 +14,7 @@ use Rattle.base.specs.Sum
 use Rattle.base.specs.Sum.{sum}
 use Rattle.base.proofs.UpFrom.{length-up, up-more, up-done}
 use Rattle.count.specs.Tally.{countOf}
-use Rattle.count.specs.Rules.{rulingOf, releaseOf}
+use Rattle.count.specs.Rules.{rulingOf}
 use Rattle.count.specs.declared.Ruling.the-variants.{Broken}
 use Rattle.count.proofs.Rulings.{ruling-broken, broken-group}
 use Rattle.listing.specs.Rows.{filled, filledGroups}

@@ -22,11 +22,11 @@ use Rattle.count.proofs.Rulings.{kept-ruling, ruling-kept, broken-ruling, rulin
 use Rattle.count.proofs.Releases.{release-given, release-due}
 use Rattle.place.specs.declared.Placing.{Placing}
 use Rattle.reply.specs.declared.Refusal.{Refusal}
-use Rattle.reply.specs.declared.Refusal.the-variants.{End, Beyond, TooFewLines, Misformed, OtherRelease, FilledVacant}
+use Rattle.reply.specs.declared.Refusal.the-variants.{End, Beyond, TooFewLines}
 use Rattle.place.specs.declared.Placing.the-variants.{Placed, BrokenRule, Refused}
 use Rattle.place.specs.Index.{Indexed, counts, misformed, readIndex}
 use Rattle.place.specs.Placing.{Located, located, refused, locate, locateIndex, locateRelease, locateLines, placingBy, countsBy, ruledAt, placingOf, countsAt}
-use Rattle.place.specs.Due.{HasIndex, HasEntries, HasRelease, HasLines, FewForIndex, FewForData, CountsDue, RefusedFor, beyond, text-end, few-for-index}
+use Rattle.place.specs.Due.{HasIndex, HasEntries, HasRelease, HasLines, CountsDue, RefusedFor, beyond, text-end, few-for-index}
 use Rattle.place.specs.Due.{few-for-data, bad-index, bad-release, fills-vacant, Due}
 use Rattle.place.proofs.Indexed.{index-is, no-index}
 use Rattle.place.proofs.Placed.{located-is}

@@ -10,7 +10,7 @@ use Rattle.reply.specs.declared.Checked.the-variants as C
 use Rattle.reply.specs.Table.{told, Row, row, next, group}
 use Rattle.place.specs.declared.Placing.{Placing}
 use Rattle.place.specs.declared.Placing.the-variants.{Placed, BrokenRule, Refused}
-use Rattle.reply.specs.Refusals.{refusalReply, rows, unplaced}
+use Rattle.reply.specs.Refusals.{refusalReply, rows, unplacedRefusals}
 
 abbrev pub placingReply : Placing → Reply
 placingReply (Placed n) = told 0 ((next, n) ∷ [])
@@ -19,7 +19,7 @@ placingReply (Refused r) = refusalReply r
 
 -- the rows of placing: 7 has its next place too (R235)
 abbrev pub placingRows : List Row
-placingRows = row 0 (next ∷ []) ∷ row 7 (group ∷ next ∷ []) ∷ rows unplaced
+placingRows = row 0 (next ∷ []) ∷ row 7 (group ∷ next ∷ []) ∷ rows unplacedRefusals
 
 -- R235: the answer as that of a question that goes no further: 7 has its group, and no next place
 abbrev pub asChecked : Placing → Checked

@@ -14,7 +14,7 @@ use Rattle.base.specs.Every.{has}
 use Rattle.base.proofs.Choice.{or-right}
 use Rattle.reply.specs.declared.Reply.{Reply}
 use Rattle.reply.specs.declared.Refusal.{Refusal}
-use Rattle.reply.specs.Table.{Beside, Given, told, given, kindsOf, Row, row, Shown, Fills, Numbered, code, is, next, cells, bytes, group, line, element, position, savepoint, place}
+use Rattle.reply.specs.Table.{Beside, Given, told, amountOf, kindsOf, Row, row, Shown, Fills, Numbered, kindCode, isKind, next, cells, bytes, group, line, element, position, savepoint, place}
 use Rattle.reply.specs.Refusals.{refusalReply, refusalNumber, besideOf, refusalRow, rows}
 
 -- the least that a number can be, by the code of its kind: a group may have no cells, and a field of a journal may be its first
@@ -24,30 +24,30 @@ leastOf c = cond (eqb c 1 || eqb c 8) 0 1
 -- each of these numbers is at least that
 abbrev pub Counted : Given → Type 0
 Counted [] = Unit {0}
-Counted (b ∷ bs) = (leastOf (code (b .0)) ≤ b .1) × Counted bs
+Counted (b ∷ bs) = (leastOf (kindCode (b .0)) ≤ b .1) × Counted bs
 
 abbrev codesOf : Given → List ℕ
-codesOf bs = map code (kindsOf bs)
+codesOf bs = map kindCode (kindsOf bs)
 
 -- a kind of number that is named is given, and one that isn't is 0
-shown-one : (b : Beside) (bs : Given) → Counted bs → Shown (has (codesOf bs) (code b)) (leastOf (code b)) (given (is b) bs)
+shown-one : (b : Beside) (bs : Given) → Counted bs → Shown (has (codesOf bs) (kindCode b)) (leastOf (kindCode b)) (amountOf (isKind b) bs)
 shown-one b [] c = refl
-shown-one b (g ∷ gs) c = by (eqb (code (g .0)) (code b)) refl (shown-one b gs (c .1))
+shown-one b (g ∷ gs) c = by (eqb (kindCode (g .0)) (kindCode b)) refl (shown-one b gs (c .1))
     where
-      by : (t : Bool) → eqb (code (g .0)) (code b) ≡ t → Shown (has (codesOf gs) (code b)) (leastOf (code b)) (given (is b) gs) → Shown (t || has (codesOf gs) (code b)) (leastOf (code b)) (cond t (g .1) (given (is b) gs))
-      by true e h = subst (λ k. leastOf k ≤ g .1) (eqb-true (code (g .0)) (code b) e) (c .0)
+      by : (t : Bool) → eqb (kindCode (g .0)) (kindCode b) ≡ t → Shown (has (codesOf gs) (kindCode b)) (leastOf (kindCode b)) (amountOf (isKind b) gs) → Shown (t || has (codesOf gs) (kindCode b)) (leastOf (kindCode b)) (cond t (g .1) (amountOf (isKind b) gs))
+      by true e h = subst (λ k. leastOf k ≤ g .1) (eqb-true (kindCode (g .0)) (kindCode b) e) (c .0)
       by false e h = h
 
 -- the same of cells and bytes, which both are what was written
-shown-written : (bs : Given) → Counted bs → Shown (has (codesOf bs) 1 || has (codesOf bs) 2) (cond (has (codesOf bs) 1) 0 1) (given (λ c. is cells c || is bytes c) bs)
+shown-written : (bs : Given) → Counted bs → Shown (has (codesOf bs) 1 || has (codesOf bs) 2) (cond (has (codesOf bs) 1) 0 1) (amountOf (λ c. isKind cells c || isKind bytes c) bs)
 shown-written [] c = refl
-shown-written (g ∷ gs) c = by (eqb (code (g .0)) 1) (eqb (code (g .0)) 2) (has (codesOf gs) 1) refl (shown-written gs (c .1))
+shown-written (g ∷ gs) c = by (eqb (kindCode (g .0)) 1) (eqb (kindCode (g .0)) 2) (has (codesOf gs) 1) refl (shown-written gs (c .1))
     where
-      by : (t u v : Bool) → eqb (code (g .0)) 2 ≡ u → Shown (v || has (codesOf gs) 2) (cond v 0 1) (given (λ c. is cells c || is bytes c) gs)
-          → Shown ((t || v) || (u || has (codesOf gs) 2)) (cond (t || v) 0 1) (cond (t || u) (g .1) (given (λ c. is cells c || is bytes c) gs))
+      by : (t u v : Bool) → eqb (kindCode (g .0)) 2 ≡ u → Shown (v || has (codesOf gs) 2) (cond v 0 1) (amountOf (λ c. isKind cells c || isKind bytes c) gs)
+          → Shown ((t || v) || (u || has (codesOf gs) 2)) (cond (t || v) 0 1) (cond (t || u) (g .1) (amountOf (λ c. isKind cells c || isKind bytes c) gs))
       by true u v e h = omega arith
       by false true true e h = omega arith
-      by false true false e h = subst (λ k. leastOf k ≤ g .1) (eqb-true (code (g .0)) 2 e) (c .0)
+      by false true false e h = subst (λ k. leastOf k ≤ g .1) (eqb-true (kindCode (g .0)) 2 e) (c .0)
       by false false v e h = h
 
 -- the numbers beside a reply fill the row that names them

@@ -55,7 +55,7 @@ besideOf (BadEntry p) = (place, p) ∷ []
 abbrev pub refusalReply : Refusal → Reply
 refusalReply r = told (refusalNumber r) (besideOf r)
 
--- R200: 0, with nothing beside it, or with the cells or bytes that were written
+-- R200: 0, with nothing beside it, or with how many cells or bytes were written; which of both, the question says, and its row
 abbrev pub checkedReply : Checked → Reply
 checkedReply C.Right = told 0 []
 checkedReply (C.Refused r) = refusalReply r
@@ -64,19 +64,19 @@ abbrev pub answerReply : Answer → Reply
 answerReply (A.Done n) = told 0 ((bytes, n) ∷ [])
 answerReply (A.Refused r) = refusalReply r
 
--- ---- which refusals a question has: variants, whatever numbers stand beside them
+-- ---- the rows of refusals; in a list of variants the numbers beside them stand for any
 
 -- the row of a refusal
 abbrev pub refusalRow : Refusal → Row
 refusalRow r = row (refusalNumber r) (kindsOf (besideOf r))
 
 -- R251: what placing refuses with, and places nothing
-abbrev pub unplaced : List Refusal
-unplaced = End ∷ Beyond ∷ TooFewLines ∷ Misformed ∷ OtherRelease ∷ FilledVacant 0 ∷ []
+abbrev pub unplacedRefusals : List Refusal
+unplacedRefusals = End ∷ Beyond ∷ TooFewLines ∷ Misformed ∷ OtherRelease ∷ FilledVacant 0 ∷ []
 
 -- R235: a question that goes no further has these and 7, without its next place
 abbrev pub placingRefusals : List Refusal
-placingRefusals = unplaced ++ (BrokenRule 0 ∷ [])
+placingRefusals = unplacedRefusals ++ (BrokenRule 0 ∷ [])
 
 -- R260, R281: 12, and then what placing refuses with
 abbrev pub askedRefusals : List Refusal

@@ -17,6 +17,7 @@ use Rattle.count.specs.Tally.{recordCells}
 use Rattle.place.specs.declared.Placing.{Placing}
 use Rattle.place.specs.declared.Placing.the-variants as P
 use Rattle.place.specs.Numbered.{asChecked}
+use Rattle.place.proofs.Due as Placing
 use Rattle.place.specs.Placing.{placingOf, countsAt}
 use Rattle.reply.specs.declared.Refusal.{Refusal}
 use Rattle.reply.specs.declared.Refusal.the-variants.{NoRoom, BrokenRule}
@@ -25,8 +26,8 @@ use Rattle.reading.specs.Read.{Cells}
 use Rattle.writing.specs.Text.{recordBytes}
 use Rattle.rewriting.specs.declared.Rewriting.{Rewriting}
 use Rattle.rewriting.specs.declared.Rewriting.the-variants.{Done, Refused, GroupRefused}
-use Rattle.rewriting.specs.Due.{NoRoomDue, RoomForBoth, RefusedFor, unplaced, no-room, Due}
-use Rattle.rewriting.specs.Record.{Turn, groupRead, onGroup, inTurn, allInTurn, hasRoom, rewrittenAs, rewritingBy, rewritingOf}
+use Rattle.rewriting.specs.Due.{NoRoomDue, RoomForBoth, RefusedFor, unplaced, broken-rule, no-room, Due}
+use Rattle.rewriting.specs.Record.{Turn, groupRead, onGroup, inTurn, allInTurn, hasRoom, rewrittenAs, rewritingOf}
 use Rattle.rewriting.proofs.Whole.{on-done, all-read}
 
 -- ---- groups in turn, as pieces
@@ -85,12 +86,7 @@ module _ (read : ℕ → Cells) where
 module _ (s : List ℕ) (at cells room : ℕ) where
   pub missing-is : (r : Refusal) → asChecked (placingOf s at) ≡ C.Refused r → rewritingOf s at cells room ≡ Refused r
   unfolding rewritingOf
-  missing-is r e = by (placingOf s at) e
-    where
-      by : (p : Placing) → asChecked p ≡ C.Refused r → rewritingBy s at cells room p ≡ Refused r
-      by (P.Placed n) e = let z : _≡_ {A = ℕ} 0 1 = cc in absurd (omega arith)
-      by (P.BrokenRule g n) e = let q : BrokenRule g ≡ r = cc in ap Refused q
-      by (P.Refused q) e = let p : q ≡ r = cc in ap Refused p
+  missing-is r e = rw e
 
   pub roomy-is : {next : ℕ} → RoomForBoth s at cells room next → rewritingOf s at cells room ≡ rewrittenAs (countsAt s at) next (allInTurn s at)
   unfolding rewritingOf
@@ -107,7 +103,8 @@ module _ (s : List ℕ) (at cells room : ℕ) where
 
   -- what is due is given
   refusal-given : (r : Refusal) → RefusedFor s at cells room r → rewritingOf s at cells room ≡ Refused r
-  refusal-given r (unplaced q d) = missing-is q d
+  refusal-given r (unplaced q d) = missing-is q (ap asChecked (Placing.first-due s at (P.Refused q) .1 d))
+  refusal-given r (broken-rule g n d) = missing-is (BrokenRule g) (ap asChecked (Placing.first-due s at (P.BrokenRule g n) .1 d))
   refusal-given r (no-room d) = short-is d
 
   due-given : (r : Rewriting) → Due s at cells room r → rewritingOf s at cells room ≡ r
@@ -160,13 +157,11 @@ module _ (s : List ℕ) (at cells room : ℕ) where
           let d : NoRoomDue s at cells room = record { next = n; placed = u; short = inl (leb-false (recordBytes (countsAt s at)) room a) } in
           subst D (sym (short-is d)) (no-room d)
 
-      miss : (r : Refusal) → asChecked (placingOf s at) ≡ C.Refused r → D (rewritingOf s at cells room)
-      miss r e = subst D (sym (missing-is r e)) (unplaced r e)
-
       by : (p : Placing) → placingOf s at ≡ p → D (rewritingOf s at cells room)
       by (P.Placed n) u = room-by n u (leb (recordBytes (countsAt s at)) room) (leb (recordCells (countsAt s at)) cells) refl refl
-      by (P.BrokenRule g n) u = miss (BrokenRule g) (ap asChecked u)
-      by (P.Refused r) u = miss r (ap asChecked u)
+      by (P.BrokenRule g n) u =
+          subst D (sym (missing-is (BrokenRule g) (ap asChecked u))) (broken-rule g n (Placing.first-due s at (P.BrokenRule g n) .0 u))
+      by (P.Refused r) u = subst D (sym (missing-is r (ap asChecked u))) (unplaced r (Placing.first-due s at (P.Refused r) .0 u))
 
   -- each answer is given exactly if it is due
   pub first-due : (r : Rewriting) → rewritingOf s at cells room ≡ r ↔ Due s at cells room r

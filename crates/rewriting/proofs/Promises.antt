@@ -2,7 +2,7 @@
 -- behind it; the table has the cells that were read; a table with a cell for each byte of the output always serves; the
 -- next place lies further on; and each answer fills a row of its table.
 -- Assumes nothing.
-use mathlib.Core.Path.{_≡_, refl, sym, _∙_, ap, subst}
+use mathlib.Core.Path.{_≡_, refl, sym, _∙_, ap}
 use mathlib.Core.List.{List, [], _∷_, _++_, map, flatMap}
 use mathlib.Core.Logic.{inl, inr, ⊎-elim}
 use Prim.Native.Nat.{ℕ, zero, suc, _+_, _-_, _<_, _≤_}
@@ -21,23 +21,17 @@ use Rattle.count.specs.Tally.{cellsIn, recordCells}
 use Rattle.count.proofs.Rulings.{broken-ruling, broken-group}
 use Rattle.count.proofs.Tallied.{cells-has}
 use Rattle.date.proofs.Due.{blamed-position}
-use Rattle.place.specs.declared.Placing.{Placing}
-use Rattle.place.specs.declared.Placing.the-variants as P
 use Rattle.place.specs.declared.Placing.the-variants.{Placed}
 use Rattle.place.specs.Placing.{placingOf, countsAt}
 use Rattle.place.specs.Parts.{groupPart}
-use Rattle.place.specs.Due as Place
-use Rattle.place.proofs.Due as Placing
 use Rattle.place.proofs.Placed.{located-long, located-range}
 use Rattle.place.proofs.Zero.{IsPlaced, is-placed}
 use Rattle.reply.specs.Table.{Numbered, next as nextPlace, bytes as textBytes}
 use Rattle.reply.proofs.Replies.{fills, refusal-fills, at-row, rows-left}
-use Rattle.place.specs.Numbered.{asChecked}
 use Rattle.place.proofs.Numbered.{refused-numbered}
 use Rattle.reply.specs.declared.Refusal.{Refusal}
 use Rattle.reply.specs.declared.Refusal.the-variants.{BrokenRule, NoRoom, BadLine, BadField, BadDate}
-use Rattle.reply.specs.declared.Checked.the-variants as C
-use Rattle.reply.specs.Refusals.{refusalReply, rows, unplaced as unplacedRefusals, placingRefusals, lineRefusals}
+use Rattle.reply.specs.Refusals.{refusalReply, rows, unplacedRefusals, lineRefusals}
 use Rattle.reading.specs.Read.{Cells}
 use Rattle.reading.specs.Due as ReadingIs
 use Rattle.reading.specs.Due.{RefusedFor}
@@ -184,20 +178,11 @@ module _ (s : List ℕ) (at cells room : ℕ) where
       by r (ReadingIs.bad-date q d) =
           at-row 10 (rows rewritingRefusals) (refusalReply (BadDate q)) (lit< tt) (refusal-fills (BadDate q) (blamed-position (map sizeOf (d .cs)) q (d .wrong), tt))
 
-  -- what placing refuses with
-  unplaced-numbered : (p : Placing) (r : Refusal) → Place.Due s at p → asChecked p ≡ C.Refused r → Numbered (rows placingRefusals) (refusalReply r)
-  unplaced-numbered (Placed n) r d e = let z : _≡_ {A = ℕ} 0 1 = cc in absurd (omega arith)
-  unplaced-numbered (P.BrokenRule h n) r d e =
-      let q : BrokenRule h ≡ r = cc in
-      subst (λ x. Numbered (rows placingRefusals) (refusalReply x)) q
-      (at-row 6 (rows placingRefusals) (refusalReply (BrokenRule h)) (lit< tt) (refusal-fills (BrokenRule h) (broken-group (d .ns) (d .broken) .0, tt)))
-  unplaced-numbered (P.Refused q) r d e =
-      let f : q ≡ r = cc in
-      subst (λ x. Numbered (rows placingRefusals) (refusalReply x)) f (rows-left unplacedRefusals (BrokenRule 0 ∷ []) (refusalReply q) (refused-numbered s at q d))
-
   refusal-numbered : (r : Refusal) → RewritingIs.RefusedFor s at cells room r → Numbered (rows rewritingRefusals) (refusalReply r)
   refusal-numbered r (RewritingIs.unplaced q d) =
-      rows-left placingRefusals (NoRoom ∷ (lineRefusals ++ (BadDate 0 ∷ []))) (refusalReply q) (unplaced-numbered (placingOf s at) q (Placing.first-due s at (placingOf s at) .0 refl) d)
+      rows-left unplacedRefusals (BrokenRule 0 ∷ (NoRoom ∷ (lineRefusals ++ (BadDate 0 ∷ [])))) (refusalReply q) (refused-numbered s at q d)
+  refusal-numbered r (RewritingIs.broken-rule g n d) =
+      at-row 6 (rows rewritingRefusals) (refusalReply (BrokenRule g)) (lit< tt) (refusal-fills (BrokenRule g) (broken-group (d .ns) (d .broken) .0, tt))
   refusal-numbered r (RewritingIs.no-room d) = at-row 7 (rows rewritingRefusals) (refusalReply NoRoom) (lit< tt) (refusal-fills NoRoom tt)
 
   due-numbered : (r : Rewriting) → Due s at cells room r → rewritingOf s at cells room ≡ r → Numbered rewritingRows (rewritingReply r)

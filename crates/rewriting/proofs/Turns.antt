@@ -39,7 +39,7 @@ use Rattle.reading.specs.Read.{Cells, readGroup, readingOf, tableBy}
 use Rattle.reading.proofs.GroupRead.{group-reads}
 use Rattle.group.proofs.Texts.{read-located}
 use Rattle.writing.proofs.ReadWrites.{reads-cells}
-use Rattle.rewriting.specs.declared.Groups.the-variants.{All, Refused}
+use Rattle.rewriting.specs.declared.Groups.the-variants.{All, GroupRefused}
 use Rattle.rewriting.specs.Record.{Turn, groupRead, inTurn, cellsInTurn, groupsOf, allInTurn, cellsAt, Ready}
 
 -- ---- a group before others
@@ -53,7 +53,7 @@ module _ (read : ℕ → Cells) (g : ℕ) (gs : List ℕ) where
       by (done ds) = refl
       by (bad u) = refl
 
-  turn-bad : {r : Refusal} → read g ≡ bad r → (groupsOf (inTurn read (g ∷ gs)) ≡ Refused g r) × (cellsInTurn read (g ∷ gs) ≡ [])
+  turn-bad : {r : Refusal} → read g ≡ bad r → (groupsOf (inTurn read (g ∷ gs)) ≡ GroupRefused g r) × (cellsInTurn read (g ∷ gs) ≡ [])
   unfolding inTurn cellsInTurn
   turn-bad e = rw e (refl, refl)
 
@@ -172,7 +172,7 @@ module _ (s : List ℕ) (at : ℕ) (old : List ℤ) where
     module _ {answer : Answer} {new : List ℤ} (a : answer ≡ readingOf (readGroup ms g (part from to s) (end - cell)))
         (b : new ≡ over cell (tableBy (readGroup ms g (part from to s) (end - cell)) (part cell end table)) table) where
       -- it is refused: the answer has its number, and the table stays as the groups before it left it
-      pub turning-refused : {r : Refusal} → answer ≡ R.Refused r → (Refused g r ≡ groupsOf (allInTurn s at)) × (new ≡ over 0 (cellsAt s at) old)
+      pub turning-refused : {r : Refusal} → answer ≡ R.Refused r → (GroupRefused g r ≡ groupsOf (allInTurn s at)) × (new ≡ over 0 (cellsAt s at) old)
       turning-refused {r} e =
           let q : groupRead s at g ≡ bad r = refused (groupRead s at g) (sym e ∙ a ∙ ap readingOf turning-read) in
           let u = turn-bad (groupRead s at) g (upFrom (g + 1) (61 - (g + 1))) q in

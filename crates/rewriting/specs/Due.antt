@@ -9,12 +9,11 @@ use lib.ListN.{length, take, drop}
 use Rattle.base.specs.Every.{upFrom}
 use Rattle.base.specs.Pieces.{done, bad}
 use Rattle.count.specs.Tally.{recordCells}
-use Rattle.place.specs.Numbered.{asChecked}
+use Rattle.place.specs.Due as Place
 use Rattle.place.specs.declared.Placing.the-variants.{Placed}
 use Rattle.place.specs.Placing.{placingOf, countsAt}
 use Rattle.reply.specs.declared.Refusal.{Refusal}
-use Rattle.reply.specs.declared.Refusal.the-variants.{NoRoom}
-use Rattle.reply.specs.declared.Checked.the-variants as C
+use Rattle.reply.specs.declared.Refusal.the-variants.{NoRoom, BrokenRule}
 use Rattle.writing.specs.Text.{recordBytes}
 use Rattle.rewriting.specs.declared.Rewriting.{Rewriting}
 use Rattle.rewriting.specs.declared.Rewriting.the-variants.{Done, Refused, GroupRefused}
@@ -53,9 +52,10 @@ module _ (s : List ℕ) (at cells room : ℕ) where
     pub groups : (g : ℕ) → 1 ≤ g → g ≤ 60 → GroupDone s at g
     pub written : recordBytes (countsAt s at) ≡ bytes
 
-  -- what it refuses with before a group is read, and when: placing's answer, if that is not 0, without a next place (R235); 11
+  -- what it refuses with before a group is read, and when: as placing does, 7 without its next place (R235); 11
   pub data RefusedFor : Refusal → Type 0 where
-    unplaced : (r : Refusal) → asChecked (placingOf s at) ≡ C.Refused r → RefusedFor r
+    unplaced : (r : Refusal) → Place.RefusedFor s at r → RefusedFor r
+    broken-rule : (g next : ℕ) → Place.StandsBroken s at g next → RefusedFor (BrokenRule g)
     no-room : NoRoomDue → RefusedFor NoRoom
 
   abbrev pub Due : Rewriting → Type 0

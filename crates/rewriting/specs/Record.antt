@@ -10,11 +10,13 @@ use Rattle.base.specs.Every.{upFrom}
 use Rattle.base.specs.Part.{over}
 use Rattle.base.specs.Pieces.{Got, done, bad, both}
 use Rattle.count.specs.Tally.{cellsIn, recordCells}
-use Rattle.place.specs.declared.Placing.{Placing}
+use Rattle.reply.specs.declared.Checked.{Checked}
+use Rattle.reply.specs.declared.Checked.the-variants as C
+use Rattle.place.specs.Numbered.{asChecked, placingReply}
 use Rattle.place.specs.declared.Placing.the-variants as P
 use Rattle.place.specs.Placing.{placingOf, countsAt}
 use Rattle.reply.specs.declared.Refusal.{Refusal}
-use Rattle.reply.specs.declared.Refusal.the-variants.{NoRoom, BrokenRule}
+use Rattle.reply.specs.declared.Refusal.the-variants.{NoRoom}
 use Rattle.reading.specs.Read.{Cells}
 use Rattle.group.specs.Text.{readAt}
 use Rattle.writing.specs.Text.{recordText, recordBytes}
@@ -59,7 +61,7 @@ cellsAt s at = cellsInTurn (groupRead s at) (upFrom 1 60)
 -- whether all were read, or the first refusal
 abbrev pub groupsOf : Turn → Groups
 groupsOf (done cs) = G.All
-groupsOf (bad u) = G.Refused (u .0) (u .1)
+groupsOf (bad u) = G.GroupRefused (u .0) (u .1)
 
 -- what is asked before: the record is placed with 0, and its cells have room in a table of so many
 pub record Ready (s : List ℕ) (at cells : ℕ) : Type 0 where
@@ -77,15 +79,20 @@ abbrev pub rewrittenAs : List ℕ → ℕ → Turn → Rewriting
 rewrittenAs ns next (done cs) = Done (recordBytes ns) next
 rewrittenAs ns next (bad u) = GroupRefused (u .0) (u .1)
 
-abbrev pub rewritingBy : List ℕ → ℕ → ℕ → ℕ → Placing → Rewriting
-rewritingBy s at cells room (P.Placed n) =
-    cond (hasRoom (countsAt s at) cells room) (rewrittenAs (countsAt s at) n (allInTurn s at)) (Refused NoRoom)
-rewritingBy s at cells room (P.BrokenRule g n) = Refused (BrokenRule g)
-rewritingBy s at cells room (P.Refused r) = Refused r
+-- R322: a record that is placed with 0
+abbrev pub rewritingPlaced : List ℕ → ℕ → ℕ → ℕ → ℕ → Rewriting
+rewritingPlaced s at cells room next =
+    cond (hasRoom (countsAt s at) cells room) (rewrittenAs (countsAt s at) next (allInTurn s at)) (Refused NoRoom)
+
+-- R321: what placing refuses with, 7 without its next place (R235)
+abbrev pub unlessRefused : Checked → Rewriting → Rewriting
+unlessRefused C.Right r = r
+unlessRefused (C.Refused why) r = Refused why
 
 -- over a table of so many cells and an output of so many bytes
 unfoldable pub rewritingOf : List ℕ → ℕ → ℕ → ℕ → Rewriting
-rewritingOf s at cells room = rewritingBy s at cells room (placingOf s at)
+rewritingOf s at cells room =
+    unlessRefused (asChecked (placingOf s at)) (rewritingPlaced s at cells room (placingReply (placingOf s at) .next))
 
 -- ---- what is lent, afterwards
 

@@ -29,7 +29,7 @@ pub enum Rewriting {
 // Whether all groups of a record were read, or the first that was refused.
 enum Groups {
     All,
-    Refused(usize, Refusal),
+    GroupRefused(usize, Refusal),
 }
 
 // ---- Reading all groups.
@@ -78,7 +78,7 @@ fn read_groups(text: &[u8], at: usize, counts: &[u16], table: &mut [i64]) -> Gro
         let answer = read_part(counts, g, text, from, to, table, cell, end);
         match answer {
             Answer::Refused(r) => {
-                return Groups::Refused(g, r);
+                return Groups::GroupRefused(g, r);
             }
             Answer::Done(_) => {}
         }
@@ -127,7 +127,7 @@ fn rewrite_placed(
         return Rewriting::Refused(Refusal::NoRoom);
     }
     match read_groups(text, at, counts, table) {
-        Groups::Refused(g, r) => Rewriting::GroupRefused(g, r),
+        Groups::GroupRefused(g, r) => Rewriting::GroupRefused(g, r),
         Groups::All => {
             write_cells(counts, table, all.cells, out);
             Rewriting::Done(bytes, next)

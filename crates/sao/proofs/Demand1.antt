@@ -25,7 +25,7 @@ use Rattle.rewriting.specs.Numbered.{rewritingReply}
 use Rattle.rewriting.specs.Record.{rewritingOf, bufferBy}
 use Rattle.rewriting.proofs.Promises.{rewriting-numbered, unread-group, refused-rewriting-keeps, done-keeps-rest}
 use Rattle.sao.proofs.Numbers.{answers-told}
-use Rattle.sao.specs.Demand1.{Refused, EndsNumbered, RefusedWriteKeeps, KeepsRest, Demand1}
+use Rattle.sao.specs.Demand1.{NotDone, EndsNumbered, RefusedWriteKeeps, KeepsRest, Demand1}
 
 ends-numbered : EndsNumbered
 ends-numbered =
@@ -41,10 +41,10 @@ ends-numbered =
       unread = unread-group;
     }
 
-listing-keeps : (s out : List ℕ) → Refused (answerReply (listedIn (listing s) (length out))) → putBytes 0 (listing s) out ≡ out
+listing-keeps : (s out : List ℕ) → NotDone (answerReply (listedIn (listing s) (length out))) → putBytes 0 (listing s) out ≡ out
 listing-keeps s out refused = by (listedIn (listing s) (length out)) refl refused
   where
-    by : (r : Answer) → listedIn (listing s) (length out) ≡ r → Refused (answerReply r) → putBytes 0 (listing s) out ≡ out
+    by : (r : Answer) → listedIn (listing s) (length out) ≡ r → NotDone (answerReply r) → putBytes 0 (listing s) out ≡ out
     by (A.Done n) e h = absurd (h refl)
     by (A.Refused r) e h = listed-keeps (listing s) out r e
 

@@ -1,4 +1,4 @@
--- R200 to R214, what is told (specs/Numbers.antt), by computation.
+-- R200 to R214 in figures (specs/Numbers.antt), by computation.
 -- Assumes nothing.
 use mathlib.Core.Path.{refl}
 use Rattle.sao.specs.Numbers.{AnswersTold}
@@ -25,19 +25,19 @@ answers-told =
       placing = record { placed = λ n. refl; broken-rule = λ g n. refl; refused = λ r. refl };
       group = record {
         read = λ cs. refl;
-        unread = λ r. refl;
+        read-refused = λ r. refl;
         given = refl;
-        missing = λ r. refl;
+        lines-refused = λ r. refl;
         value = λ z. refl;
         no-reading = refl;
         not-reported = refl;
-        unknown = λ r. refl;
+        characteristic-refused = λ r. refl;
       };
       text = record {
         written = λ n. refl;
-        unwritten = λ r. refl;
+        write-refused = λ r. refl;
         rewritten = λ n p. (refl, refl);
-        refused = λ r. (refl, refl);
-        unread = λ g r. (refl, refl);
+        rewrite-refused = λ r. (refl, refl);
+        group-refused = λ g r. (refl, refl);
       };
     }

@@ -33,8 +33,8 @@ use Rattle.rewriting.specs.Numbered.{rewritingReply, rewritingRows}
 use Rattle.sao.specs.Numbers.{AnswersTold}
 
 -- done is 0, refused is anything else
-abbrev pub Refused : Reply → Type 0
-Refused r = r .number ≡ 0 → ⊥
+abbrev pub NotDone : Reply → Type 0
+NotDone r = r .number ≡ 0 → ⊥
 
 -- D1.2: the reply fills a row of the question's own table, with each number that the row names and 0 for the others (R230)
 pub record EndsNumbered : Type 0 where
@@ -53,25 +53,28 @@ pub record EndsNumbered : Type 0 where
 -- D1.4: after a refused read the table is what it was (R267)
 abbrev pub RefusedReadKeeps : Type 0
 RefusedReadKeeps =
-    (s : List ℕ) (at g : ℕ) (table : List ℤ) → Refused (answerReply (readingOf (readAt s at g (length table)))) → tableBy (readAt s at g (length table)) table ≡ table
+    (s : List ℕ) (at g : ℕ) (table : List ℤ) → NotDone (answerReply (readingOf (readAt s at g (length table)))) → tableBy (readAt s at g (length table)) table ≡ table
 
 -- D1.5: after a refused write the output is what it was: writing a record (R307), listing a text (R311), rewriting a record (R325)
 pub record RefusedWriteKeeps : Type 0 where
-  pub writing : (ns : List ℕ) (cs : List ℤ) (out : List ℕ) → Refused (answerReply (writingOf ns cs (length out))) → outputBy ns cs (writingOf ns cs (length out)) out ≡ out
-  pub listed : (s out : List ℕ) → Refused (answerReply (listedIn (listing s) (length out))) → putBytes 0 (listing s) out ≡ out
-  pub rewriting : (s : List ℕ) (at cells : ℕ) (out : List ℕ) → Refused (rewritingReply (rewritingOf s at cells (length out))) → bufferBy s at (rewritingOf s at cells (length out)) out ≡ out
+  pub writing : (ns : List ℕ) (cs : List ℤ) (out : List ℕ) → NotDone (answerReply (writingOf ns cs (length out))) → outputBy ns cs (writingOf ns cs (length out)) out ≡ out
+  pub listed : (s out : List ℕ) → NotDone (answerReply (listedIn (listing s) (length out))) → putBytes 0 (listing s) out ≡ out
+  pub rewriting : (s : List ℕ) (at cells : ℕ) (out : List ℕ) → NotDone (rewritingReply (rewritingOf s at cells (length out))) → bufferBy s at (rewritingOf s at cells (length out)) out ≡ out
 
 -- R266, R306, R311, R324: what stands behind the cells or bytes that were written stays as it was
 pub record KeepsRest : Type 0 where
   pub reading : (s : List ℕ) (at g : ℕ) (table : List ℤ)
-      → drop (answerReply (readingOf (readAt s at g (length table))) .written) (tableBy (readAt s at g (length table)) table) ≡ drop
-      (answerReply (readingOf (readAt s at g (length table))) .written) table
+      → drop (answerReply (readingOf (readAt s at g (length table))) .written) (tableBy (readAt s at g (length table)) table)
+      ≡ drop (answerReply (readingOf (readAt s at g (length table))) .written) table
   pub writing : (ns : List ℕ) (cs : List ℤ) (out : List ℕ)
-      → drop (answerReply (writingOf ns cs (length out)) .written) (outputBy ns cs (writingOf ns cs (length out)) out) ≡ drop (answerReply (writingOf ns cs (length out)) .written) out
-  pub listed : (s out : List ℕ) → drop (answerReply (listedIn (listing s) (length out)) .written) (putBytes 0 (listing s) out) ≡ drop (answerReply (listedIn (listing s) (length out)) .written) out
+      → drop (answerReply (writingOf ns cs (length out)) .written) (outputBy ns cs (writingOf ns cs (length out)) out)
+      ≡ drop (answerReply (writingOf ns cs (length out)) .written) out
+  pub listed : (s out : List ℕ)
+      → drop (answerReply (listedIn (listing s) (length out)) .written) (putBytes 0 (listing s) out)
+      ≡ drop (answerReply (listedIn (listing s) (length out)) .written) out
   pub rewriting : (s : List ℕ) (at cells : ℕ) (out : List ℕ)
-      → drop (rewritingReply (rewritingOf s at cells (length out)) .written) (bufferBy s at (rewritingOf s at cells (length out)) out) ≡ drop
-      (rewritingReply (rewritingOf s at cells (length out)) .written) out
+      → drop (rewritingReply (rewritingOf s at cells (length out)) .written) (bufferBy s at (rewritingOf s at cells (length out)) out)
+      ≡ drop (rewritingReply (rewritingOf s at cells (length out)) .written) out
 
 pub record Demand1 : Type 0 where
   pub numbered : EndsNumbered

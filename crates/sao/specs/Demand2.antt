@@ -102,8 +102,8 @@ pub record ReadWrites : Type 0 where
   -- a record of any text whose groups all read with 0 and whose bytes are canonical
   pub record-returns : (s : List ℕ) (at next : ℕ) (cells : ℕ → List ℤ) (ds : List ℤ) → ReadWhole s at next cells → CanonicalRecord (countsAt s at) (part at next s) ds
       → (out : List ℕ) → next - at ≤ length out
-      → (writingOf (countsAt s at) (joined cells) (length out) ≡ Done (next - at)) ×
-      (outputBy (countsAt s at) (joined cells) (writingOf (countsAt s at) (joined cells) (length out)) out ≡ over 0 (part at next s) out)
+      → (writingOf (countsAt s at) (joined cells) (length out) ≡ Done (next - at))
+      × (outputBy (countsAt s at) (joined cells) (writingOf (countsAt s at) (joined cells) (length out)) out ≡ over 0 (part at next s) out)
   -- R348: what the program prints for a text of canonical records, each of at most 8,192 bytes
   pub text-returns : (s : List ℕ) → CanonicalRecords s → length s ≤ 65536 → printed s ≡ s
   -- and for what it printed itself

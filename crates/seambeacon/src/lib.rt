@@ -138,7 +138,7 @@ pub extern "C" fn seambeacon_characteristic(
     let known = sao::characteristic(text, at, number);
     *kind = kind_of(known);
     *value = value_of(known);
-    tell(group::characteristic_reply(known), beside)
+    tell(group::reply_of(known), beside)
 }
 
 // R300 to R307. Asked: to write a record of these counts and of the cells of all groups, group 1's first.

@@ -32,7 +32,7 @@ use Rattle.writing.specs.declared.Fit.the-variants.{All, Not}
 use Rattle.reply.specs.declared.Answer.{Answer}
 use Rattle.reply.specs.declared.Answer.the-variants.{Done, Refused}
 use Rattle.reply.specs.declared.Refusal.{Refusal}
-use Rattle.reply.specs.declared.Refusal.the-variants.{NoField, BadDate, NoRoom}
+use Rattle.reply.specs.declared.Refusal.the-variants.{NoRoom}
 use Rattle.writing.specs.Fitting.{groupFit, fitOf}
 use Rattle.writing.specs.Text.{recordBytes}
 use Rattle.writing.specs.Writing.{dateLetters, writeRoom, writeDated, writeFit, writeChecked, writingOf}

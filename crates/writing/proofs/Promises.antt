@@ -16,7 +16,7 @@ use Rattle.reply.specs.Refusals.{refusalReply, answerReply, rows}
 use Rattle.reply.proofs.Replies.{fills, refusal-fills, at-row, rows-left}
 use Rattle.form.proofs.Table.{form-range}
 use Rattle.count.specs.Numbered.{checkRefusals}
-use Rattle.count.proofs.Numbered.{check-numbered}
+use Rattle.count.proofs.Numbered.{check-refusal-numbered}
 use Rattle.date.proofs.Due.{blamed-position}
 use Rattle.reply.specs.declared.Answer.{Answer}
 use Rattle.reply.specs.declared.Answer.the-variants.{Done, Refused}
@@ -38,7 +38,7 @@ record-some ns = omega arith
 
 module _ (ns : List ℕ) (cs : List ℤ) (room : ℕ) where
   refusal-numbered : (r : Refusal) → RefusedFor ns cs room r → Numbered (rows writingRefusals) (refusalReply r)
-  refusal-numbered r (wrong-counts q d) = rows-left checkRefusals (NoField 0 0 ∷ BadDate 0 ∷ NoRoom ∷ []) (refusalReply q) (check-numbered ns (length cs) q d)
+  refusal-numbered r (wrong-counts q d) = rows-left checkRefusals (NoField 0 0 ∷ BadDate 0 ∷ NoRoom ∷ []) (refusalReply q) (check-refusal-numbered ns (length cs) q d)
   refusal-numbered r (no-field g e d) =
       at-row 5 (rows writingRefusals) (refusalReply (NoField g e)) (lit< tt) (refusal-fills (NoField g e) (form-range g (d .form) (d .element .form) .0, (d .element .low, tt)))
   refusal-numbered r (bad-date p d) =

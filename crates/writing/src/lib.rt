@@ -18,8 +18,8 @@ ghost use Rattle.count.specs.Check.{checkedOf};
 ghost use Rattle.count.specs.Tally.{cellsBefore};
 ghost use Rattle.date.specs.Date.{datedOf};
 ghost use Rattle.writing.specs.Fitting.{elementsFit, fitOf, Fitted};
-ghost use Rattle.writing.specs.Text.{lineEnd, entriesText, indexText, lineOfMany, fieldsText, linesText, groupsText};
-ghost use Rattle.writing.specs.Text.{recordText, bytesOf, recordBytes};
+ghost use Rattle.writing.specs.Text.{lineEnd, entriesText, indexText, lineOfMany, fieldsText, linesText};
+ghost use Rattle.writing.specs.Text.{groupsText, recordText, bytesOf, recordBytes};
 ghost use Rattle.writing.specs.Writing.{dateLetters, writeFit, writeRoom, writingOf, outputBy};
 
 // R303: each element's cells have a field of their form, or the group and the element of the first that have none.

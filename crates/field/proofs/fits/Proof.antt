@@ -10,8 +10,8 @@ use Rattle.field.proofs.Forms.{kind-cells}
 use Rattle.field.proofs.fits.Statement.{statement}
 use Rattle.field.proofs.fits.Tie as tie
 
-count : (c : tie.After-count-of) → c .count-of .result ≡ rowOf (c .before .before .args .form) .cells
-count c = c .count-of .ensures ∙ ap kindCells (c .before .kind-of .ensures) ∙ kind-cells (c .before .before .args .form)
+count : (c : tie.After-cells-of) → c .cells-of .result ≡ rowOf (c .before .before .args .form) .cells
+count c = c .cells-of .ensures ∙ ap kindCells (c .before .kind-of .ensures) ∙ kind-cells (c .before .before .args .form)
 
 returns : tie.Need-returns
 unfolding fitsOf

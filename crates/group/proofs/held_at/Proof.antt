@@ -1,7 +1,7 @@
 -- `group::held_at` meets its contract: 12, then what placing answered.
 -- Assumes nothing.
 use borrow.Author.Needs.{needs}
-use mathlib.Core.Path.{_≡_, sym, _∙_, ap, subst}
+use mathlib.Core.Path.{_≡_, sym, _∙_, subst}
 use mathlib.Core.List.{[], _∷_}
 use types.Run.{OneOf}
 use denote.Enum.Declared.{tagOf}
@@ -9,7 +9,6 @@ use Rattle.form.specs.declared.GroupForm.the-variants.{Has}
 use Rattle.form.specs.Table.{formOf}
 use Rattle.place.specs.declared.Placing.{Placing}
 use Rattle.place.proofs.Placing.{the-type}
-use Rattle.reply.specs.declared.Checked.the-variants as C
 use Rattle.group.proofs.Holding.{held-none, held-placed, held-refused}
 use Rattle.base.proofs.Every.{not-first}
 use Rattle.group.proofs.held_at.Statement.{statement}

@@ -33,15 +33,13 @@ returns-2 c =
 
 returns-3 : tie.Need-returns-3
 returns-3 c =
-    let b = form-done (c .before .before .before .before .before .before .before .before .before .args .form)
-    (c .before .before .before .before .before .before .before .before .before .args .group)
-    (c .before .before .before .before .before .before .before .before .before .args .count)
-    (c .before .before .before .before .before .before .before .before .before .args .lines .now)
-    (c .before .before .before .before .before .before .before .before .before .args .table .now)
-    (subst (λ m. m ≤ length (c .before .before .before .before .before .before .before .before .before .args .table .now))
-    (c .before .before .before .before .before .before .before .cells .ensures) (c .before .before .before .before .before .before .if1 .left))
-    (sym (c .before .before .before .before .before .check .ensures) ∙ c .before .before .before .enum-told .given .1) (c .before .fill-lines .ensures) in
-    (ap Done (c .before .before .before .before .before .before .before .cells .ensures) ∙ b .0, b .1)
+    let at-check = c .before .before .before .before .before in
+    let at-cells = at-check .before .before in
+    let o = at-cells .before .before in
+    let b = form-done (o .args .form) (o .args .group) (o .args .count) (o .args .lines .now) (o .args .table .now)
+    (subst (λ m. m ≤ length (o .args .table .now)) (at-cells .cells .ensures) (at-check .before .if1 .left))
+    (sym (at-check .check .ensures) ∙ c .before .before .before .enum-told .given .1) (c .before .fill-lines .ensures) in
+    (ap Done (at-cells .cells .ensures) ∙ b .0, b .1)
 
 pub read-form-spec : {M : Type 1} → statement M
 read-form-spec =

@@ -2,12 +2,8 @@
 -- Assumes nothing.
 use borrow.Author.Needs.{needs}
 use native.Mathlib.Omega.{arith}
-use mathlib.Core.Path.{_≡_, sym, _∙_}
-use Prim.Native.Nat.{_≤_}
-use lib.ListN.{length}
-use Rattle.count.specs.Tally.{recordCells}
+use mathlib.Core.Path.{sym, _∙_}
 use Rattle.count.proofs.Tallied.{all-cells}
-use Rattle.writing.specs.Text.{recordBytes}
 use Rattle.rewriting.proofs.Steps.{step-no-text, step-no-cells, step-ready, step-unread, step-writes, step-done}
 use Rattle.rewriting.proofs.rewrite_placed.Statement.{statement}
 use Rattle.rewriting.proofs.rewrite_placed.Tie as tie

@@ -15,7 +15,7 @@ returns c =
     let valued = c .before .before .before in
     let known = valued .before .before .characteristic .ensures in
     let stored = toZ-ofZ {w = w64} (sfits-of {w = w64} (valued .value-of .ok)) in (
-      told-as (c .before .before .characteristic-reply .ensures ∙ ap characteristicReply known)
+      told-as (c .before .before .reply-of .ensures ∙ ap characteristicReply known)
           (c .tell .ensures),
       (valued .before .kind-of .ensures ∙ ap answerKind known, stored ∙ valued .value-of .ensures ∙ ap answerValue known),
     )
