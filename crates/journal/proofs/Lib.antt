@@ -5,3 +5,5 @@ pub mod Places
 pub mod Walking
 pub mod Playing
 pub mod Answers
+pub mod Held
+pub mod Text
