@@ -7,3 +7,5 @@ pub mod Playing
 pub mod Answers
 pub mod Held
 pub mod Text
+pub mod Small
+pub mod Made
