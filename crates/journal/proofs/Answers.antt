@@ -1,14 +1,17 @@
 -- What a walk in code found, said of the definitions that the calls cite.
 -- Assumes nothing.
-use mathlib.Core.Path.{_≡_, refl, sym, ap, _∙_, subst}
+use mathlib.Core.Path.{_≡_, refl, sym, ap, _∙_}
 use mathlib.Core.Bool.{Bool, true, false, cond}
-use mathlib.Core.List.{List, []}
-use Prim.Native.Nat.{ℕ, _+_, _-_, _<_, _≤_}
+use mathlib.Core.List.{List}
+use Prim.Native.Nat.{ℕ, _-_, _≤_, min}
 use native.Mathlib.Omega.{arith}
 use lib.Dec.{eqb}
 use lib.IntN.{ℤ}
 use lib.ListN.{length, take, length-take}
+use lib.Seq.{take-length}
 use borrow.Author.Tests.{eqb-true}
+use Rattle.base.specs.Part.{part}
+use Rattle.base.proofs.Taken.{part-zero, take-both}
 use Rattle.count.specs.Check.{checkedOf}
 use Rattle.reply.specs.declared.Refusal.{Refusal}
 use Rattle.reply.specs.declared.Refusal.the-variants.{BadEntry}
@@ -21,7 +24,10 @@ use Rattle.journal.specs.Layout.{startsOf}
 use Rattle.journal.specs.Model.{Call, decided}
 use Rattle.journal.specs.Walks.{down, Walks}
 use Rattle.journal.specs.Calls.{andThen, whole, walkIn, standingOf, answerOf}
-use Rattle.journal.proofs.Walking.{no-way, down-length}
+use Rattle.journal.specs.Entries.{restore, entriesAt}
+use Rattle.journal.specs.Plays.{playOf, playIn, replayOf, Plays}
+use Rattle.journal.proofs.Walking.{down-length}
+use Rattle.journal.proofs.Playing.{replay-back}
 
 no-refused : {A : Type 0} {r : Refusal} → _≡_ {A = Checked} (C.Refused r) C.Right → A
 no-refused e = let z : _≡_ {A = ℕ} 0 1 = cc in absurd (omega arith)
@@ -70,3 +76,31 @@ module _ (ns j : List ℕ) (used cells : ℕ) where
     used-inside a e =
         let q : r .place ≡ used = whole-right (r .place) used (then-right a (whole (r .place) used) e .1) in
         omega (arith, w .within, length-take used j)
+
+-- a part that ends with the buffer is all of it that can be used
+pub part-used : (used end : ℕ) (j : List ℕ) → end ≡ min used (length j) → part 0 end j ≡ take used j
+part-used used end j e = part-zero end j ∙ ap (λ n. take n j) e ∙ sym (take-both used (length j) j) ∙ ap (take used) (take-length j)
+
+-- ---- replay
+
+module _ (ns j : List ℕ) (used : ℕ) (t : List ℤ) where
+  pub replay-refused : {r : Refusal} → checkedOf ns (length t) ≡ C.Refused r → C.Refused r ≡ replayOf ns j used t
+  unfolding replayOf
+  replay-refused e = rw e
+
+  pub replay-right : checkedOf ns (length t) ≡ C.Right → whole (playIn ns j used t .place) used ≡ replayOf ns j used t
+  unfolding replayOf
+  replay-right e = rw e
+
+module _ {ps s : List ℕ} {t : List ℤ} {r : State} {t′ : List ℤ} (w : Plays ps s t r t′) where
+  pub played-place : playOf ps s t .place ≡ r .place
+  played-place = ap (λ x. x .place) (sym (w .found))
+
+  pub played-open : r .depth ≡ length (playOf ps s t .marks)
+  played-open = sym (down-length (r .depth) (r .marks)) ∙ ap (λ x. length (x .marks)) (w .found)
+
+  pub played-cells : t′ ≡ playOf ps s t .cells
+  played-cells = ap (λ x. x .cells) (w .found)
+
+  pub played-back : restore ps (entriesAt s 0 (r .count)) t′ ≡ t
+  played-back = ap (λ x. restore ps (entriesAt s 0 (x .count)) (x .cells)) (w .found) ∙ replay-back ps s t

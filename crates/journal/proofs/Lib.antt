@@ -5,3 +5,7 @@ pub mod Places
 pub mod Walking
 pub mod Playing
 pub mod Answers
+pub mod Held
+pub mod Text
+pub mod Small
+pub mod Made

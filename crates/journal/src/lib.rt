@@ -260,7 +260,15 @@ fn walk(starts: &[usize], s: &[u8]) -> State
 // ---- Replay.
 
 // R541: one accepted field over the cells; false, and nothing altered, where its old value is not the cell's.
-fn play_one(cells: &mut [i64], starts: &[usize], s: &[u8], entry: Entry, marks: &[usize; 17], n: usize, d: usize) -> bool
+fn play_one(
+    cells: &mut [i64],
+    starts: &[usize],
+    s: &[u8],
+    entry: Entry,
+    marks: &[usize; 17],
+    n: usize,
+    d: usize,
+) -> bool
     requires many { ⌜ length (now starts) ≡ 62 ⌝ }
     requires ok { ⌜ okEntry (now starts) entry d ≡ true ⌝ }
     requires few { ⌜ d ≤ 16 ⌝ }
@@ -387,7 +395,15 @@ fn refused(why: Refusal, used: usize) -> Edited
 }
 
 // R512: a set on a journal that stands.
-fn set_in(starts: &[usize], cells: &mut [i64], journal: &mut [u8], used: usize, group: usize, cell: usize, value: i64) -> Edited
+fn set_in(
+    starts: &[usize],
+    cells: &mut [i64],
+    journal: &mut [u8],
+    used: usize,
+    group: usize,
+    cell: usize,
+    value: i64,
+) -> Edited
     requires many { ⌜ length (now starts) ≡ 62 ⌝ }
     requires inside { ⌜ used ≤ length (now journal) ⌝ }
     ensures answer { λ r. ⌜ r .answer ≡ decided (now (starts .entry)) (Sets group cell value) 0 (length (now (journal .entry)) - used) ⌝ }
@@ -462,7 +478,16 @@ fn release_in(journal: &mut [u8], used: usize, depth: usize, k: usize) -> Edited
 }
 
 // R515: an undo on a journal that stands, with so many fields and open savepoints. The cells go back before the field is added.
-fn undo_in(starts: &[usize], cells: &mut [i64], journal: &mut [u8], used: usize, marks: &[usize; 17], n: usize, d: usize, k: usize) -> Edited
+fn undo_in(
+    starts: &[usize],
+    cells: &mut [i64],
+    journal: &mut [u8],
+    used: usize,
+    marks: &[usize; 17],
+    n: usize,
+    d: usize,
+    k: usize,
+) -> Edited
     requires many { ⌜ length (now starts) ≡ 62 ⌝ }
     requires inside { ⌜ used ≤ length (now journal) ⌝ }
     requires few { ⌜ d ≤ 16 ⌝ }
@@ -490,7 +515,15 @@ fn undo_in(starts: &[usize], cells: &mut [i64], journal: &mut [u8], used: usize,
 }
 
 // R512: sets a cell of a group, counted from 1.
-pub fn set_cell(counts: &[u16], cells: &mut [i64], journal: &mut [u8], used: usize, group: usize, cell: usize, value: i64) -> Edited
+pub fn set_cell(
+    counts: &[u16],
+    cells: &mut [i64],
+    journal: &mut [u8],
+    used: usize,
+    group: usize,
+    cell: usize,
+    value: i64,
+) -> Edited
     ensures answer { λ r. ⌜ r .answer ≡ answerOf (now (counts .entry)) (now (journal .entry)) used (length (now (cells .entry))) (Sets group cell value) ⌝ }
     ensures used { λ r. ⌜ r .used ≡ usedBy used (Sets group cell value) (r .answer) ⌝ }
     ensures cells { λ r. ⌜ now (cells .exit) ≡ cellsBy (now (counts .entry)) (now (journal .entry)) used (Sets group cell value) (now (cells .entry)) (r .answer) ⌝ }
@@ -521,7 +554,13 @@ pub fn open_savepoint(counts: &[u16], cells: &[i64], journal: &mut [u8], used: u
 }
 
 // R514: releases the innermost savepoint; what was set since it was opened stays, and belongs to the one outside.
-pub fn release_savepoint(counts: &[u16], cells: &[i64], journal: &mut [u8], used: usize, savepoint: usize) -> Edited
+pub fn release_savepoint(
+    counts: &[u16],
+    cells: &[i64],
+    journal: &mut [u8],
+    used: usize,
+    savepoint: usize,
+) -> Edited
     ensures answer { λ r. ⌜ r .answer ≡ answerOf (now (counts .entry)) (now (journal .entry)) used (length (now (cells .entry))) (Releases savepoint) ⌝ }
     ensures used { λ r. ⌜ r .used ≡ usedBy used (Releases savepoint) (r .answer) ⌝ }
     ensures journal { λ r. ⌜ now (journal .exit) ≡ journalBy (now (counts .entry)) (now (journal .entry)) used (Releases savepoint) (now (cells .entry)) (r .answer) ⌝ }
@@ -536,7 +575,13 @@ pub fn release_savepoint(counts: &[u16], cells: &[i64], journal: &mut [u8], used
 }
 
 // R515: brings the cells to what they were when a savepoint was opened; it stays open, and those inside it are closed.
-pub fn undo_to_savepoint(counts: &[u16], cells: &mut [i64], journal: &mut [u8], used: usize, savepoint: usize) -> Edited
+pub fn undo_to_savepoint(
+    counts: &[u16],
+    cells: &mut [i64],
+    journal: &mut [u8],
+    used: usize,
+    savepoint: usize,
+) -> Edited
     ensures answer { λ r. ⌜ r .answer ≡ answerOf (now (counts .entry)) (now (journal .entry)) used (length (now (cells .entry))) (Undoes savepoint) ⌝ }
     ensures used { λ r. ⌜ r .used ≡ usedBy used (Undoes savepoint) (r .answer) ⌝ }
     ensures cells { λ r. ⌜ now (cells .exit) ≡ cellsBy (now (counts .entry)) (now (journal .entry)) used (Undoes savepoint) (now (cells .entry)) (r .answer) ⌝ }
@@ -548,7 +593,16 @@ pub fn undo_to_savepoint(counts: &[u16], cells: &mut [i64], journal: &mut [u8], 
     let marks = state.marks;
     match standing(count::check(counts, cells.len()), state.place, used) {
         Checked::Refused(why) => refused(why, used),
-        Checked::Right => undo_in(&starts, cells, journal, used, &marks, state.count, state.depth, savepoint),
+        Checked::Right => undo_in(
+            &starts,
+            cells,
+            journal,
+            used,
+            &marks,
+            state.count,
+            state.depth,
+            savepoint,
+        ),
     }
 }
 

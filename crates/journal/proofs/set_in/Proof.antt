@@ -34,8 +34,7 @@ returns-3 c =
     let told = c .before .before .before .before .before .before .before .before .before .before .before .spot .given in
     let s : At (told .0 .0) ≡ spot = sym (told .1) ∙ c .before .before .before .before .before .before .before .before .before .before .before .before .before .spot-of .ensures in
     let v : toZ w64 (ofZ w64 (a .value)) ≡ a .value = toZ-ofZ {w = w64} (c .before .before .before .before .before .before .before .before .before .before .before .before .before .before .before .before .fits .value) in
-    let o : toZ w64 (ofZ w64 (c .before .before .before .before .before .before .before .get-at .result)) ≡ getAt spot t = toZ-ofZ (sfits-of {w = w64} (c .before .before .before .before .before .before .before .get-at .ok)) ∙ c .before .before .before .before .before .before .before .get-at .ensures ∙ ap (λ p. getAt p t) s in
-    (
+    let o : toZ w64 (ofZ w64 (c .before .before .before .before .before .before .before .get-at .result)) ≡ getAt spot t = toZ-ofZ (sfits-of {w = w64} (c .before .before .before .before .before .before .before .get-at .ok)) ∙ c .before .before .before .before .before .before .before .get-at .ensures ∙ ap (λ p. getAt p t) s in (
       rw (← s, le-ltb _ _ (c .before .before .before .before .before .before .before .before .before .if1 .left)) refl,
       (refl, (rw (← s) (rw v at (c .before .put-at .ensures)), rw (o, v) at (c .before .before .before .before .before .put-entry .ensures))),
     )

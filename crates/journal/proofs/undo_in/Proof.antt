@@ -38,8 +38,7 @@ returns-4 : tie.Need-returns-4
 returns-4 c =
     let a = c .before .before .before .before .before .before .before .before .before .before .before .before .before .before .before .args in
     let some : 0 < a .k = omega (arith, c .before .before .before .before .before .before .before .before .before .before .before .before .if1 .left) in
-    let low = c .before .before .before .before .before .before .before .before .before .before .before .if2 .left in
-    (
+    let low = c .before .before .before .before .before .before .before .before .before .before .before .if2 .left in (
       rw (lt-ltb 0 (a .k) some, le-leb (a .k) (a .d) low, le-ltb _ _ (c .before .before .before .before .before .before .before .before .before .before .if3 .left)) refl,
       (refl, (rw (down-mark (a .d) (a .k) (a .marks .now) some low, ← part-zero (a .used) (a .journal .now)) (c .before .before .before .before .before .undo-from .ensures), c .before .before .put-entry .ensures)),
     )

@@ -1,12 +1,8 @@
--- `journal::walk_used` meets its contract: a part that ends with the buffer is all of it that can be used.
+-- `journal::walk_used` meets its contract.
 -- Assumes nothing.
-use mathlib.Core.Path.{_≡_, sym, ap, _∙_, subst}
-use Prim.Native.Nat.{min}
-use lib.ListN.{length, take}
-use lib.Seq.{take-length}
-use Rattle.base.specs.Part.{part}
-use Rattle.base.proofs.Taken.{part-zero, take-both}
+use mathlib.Core.Path.{subst}
 use Rattle.journal.specs.Walks.{Walks}
+use Rattle.journal.proofs.Answers.{part-used}
 use borrow.Author.Needs.{needs}
 use Rattle.journal.proofs.walk_used.Statement.{statement}
 use Rattle.journal.proofs.walk_used.Tie as tie
@@ -14,9 +10,7 @@ use Rattle.journal.proofs.walk_used.Tie as tie
 returns : tie.Need-returns
 returns c =
     let a = c .before .before .before .before .before .args in
-    let j = a .journal .now in
-    let e : part 0 (c .before .before .lesser .result) j ≡ take (a .used) j = part-zero (c .before .before .lesser .result) j ∙ ap (λ n. take n j) (c .before .before .lesser .ensures) ∙ sym (take-both (a .used) (length j) j) ∙ ap (take (a .used)) (take-length j) in
-    subst (λ s. Walks (a .starts .now) s (c .walk .result)) e (c .walk .ensures)
+    subst (λ s. Walks (a .starts .now) s (c .walk .result)) (part-used (a .used) (c .before .before .lesser .result) (a .journal .now) (c .before .before .lesser .ensures)) (c .walk .ensures)
 
 pub walk-used-spec : {M : Type 1} → statement M
 walk-used-spec =

@@ -1,0 +1,304 @@
+-- R500, R516: any calls on a fresh journal are a stack of whole tables, reply for reply; by what stands after each call.
+-- Assumes nothing.
+use mathlib.Core.Path.{_≡_, refl, sym, ap, ap₂, _∙_, subst}
+use mathlib.Core.Bool.{Bool, true, false, cond}
+use mathlib.Core.List.{List, [], _∷_, _++_}
+use Prim.Native.Nat.{ℕ, zero, suc, _+_, _-_, _<_, _≤_}
+use native.Mathlib.Nat.{sub-zero}
+use native.Mathlib.Omega.{arith}
+use lib.Dec.{ltb, leb, eqb}
+use lib.IntN.{ℤ, pos}
+use lib.ListN.{length, getD, set, drop, take, length-drop}
+use Rattle.base.proofs.Taken.{drop-none, take-none}
+use lib.Seq.{getD-set-same, getD-set-other, set-out, length-take-le}
+use borrow.Author.Tests.{eqb-true, eqb-false, ltb-true, ltb-false, eq-eqb, lt-ltb}
+use mir.Syntax.{w64}
+use mir.Val.{SFits}
+use Rattle.base.specs.Part.{over}
+use Rattle.base.proofs.Part.{over-length}
+use Rattle.count.specs.Check.{checkedOf}
+use Rattle.reply.specs.declared.Refusal.{Refusal}
+use Rattle.reply.specs.declared.Refusal.the-variants.{NoRoom}
+use Rattle.reply.specs.declared.Checked.{Checked}
+use Rattle.reply.specs.declared.Checked.the-variants as C
+use Rattle.reply.specs.declared.Answer.{Answer}
+use Rattle.reply.specs.declared.Answer.the-variants.{Done, Refused}
+use Rattle.entry.specs.declared.Entry.{Entry}
+use Rattle.entry.specs.declared.Entry.the-variants.{Set, Open, Release, Undo, Misformed}
+use Rattle.entry.specs.Field.{textOf, sizeOf}
+use Rattle.entry.proofs.Codec.{Sized, sized-set, sized-open, sized-release, sized-undo, length-text}
+use Rattle.journal.specs.declared.Spot.{Spot}
+use Rattle.journal.specs.declared.Spot.the-variants.{At, Nowhere}
+use Rattle.journal.specs.Layout.{startsOf, spotOf, exists, getAt, putAt}
+use Rattle.journal.specs.Model.{Call, Sets, Opens, Releases, Undoes, accepts, bytesFor, numberFor, refusalOf, decided, Stack, stacked, onStack, modelAnswer, modelStep, modelAnswers, modelRun, byAnswer}
+use Rattle.journal.specs.Entries.{markStep, marksFrom, marksOf, markOf, giveBack, restore, journalText, backTo}
+use Rattle.journal.specs.Walks.{okEntry, Walked, walked, walkOf}
+use Rattle.journal.specs.Calls.{andThen, whole, entryFor, cellsFor, walkIn, standingOf, answerOf}
+use Rattle.journal.specs.Runs.{Kept, kept, answerTo, leftBy, answersTo, leftTo, openIn, JournalIsStack}
+use Rattle.journal.proofs.Answers.{answer-right, answer-refused}
+use Rattle.journal.proofs.Held.{Holds, none, holds-length, holds-mark, HeldBy, withEntry, cellsOn, marks-entry, held-cells, held-call}
+use Rattle.journal.proofs.Text.{Fine, fine-none, fine-more, fine-last, walk-journal, back-journal, text-more, used-more}
+use Rattle.journal.proofs.Walking.{no-way, ok-open, ok-release, ok-undo}
+use Rattle.journal.proofs.Small.{cell-small}
+
+-- ---- cells of 64 bits
+
+abbrev pub Fit : List ℤ → Type 0
+Fit t = (i : ℕ) → SFits w64 (getD t i (pos 0))
+
+fit-put : (p : Spot) (v : ℤ) (t : List ℤ) → SFits w64 v → Fit t → Fit (putAt p v t)
+fit-put (At i) v t h f j = by (eqb i j) (ltb j (length t)) refl refl
+  where
+    by : (b d : Bool) → eqb i j ≡ b → ltb j (length t) ≡ d → SFits w64 (getD (set t i v) j (pos 0))
+    by true true e l = rw (eqb-true i j e, getD-set-same t j v (pos 0) (ltb-true j (length t) l)) h
+    by true false e l = rw (eqb-true i j e, set-out t j v (ltb-false j (length t) l)) (f j)
+    by false d e l = rw (getD-set-other t i j v (pos 0) (λ q. eqb-false i j e (sym q))) (f j)
+fit-put Nowhere v t h f j = f j
+
+fit-get : (p : Spot) (t : List ℤ) → Fit t → SFits w64 (getAt p t)
+fit-get (At i) t f = f i
+fit-get Nowhere t f = record { sfits = omega arith }
+
+fit-back : (ps : List ℕ) (e : Entry) (t : List ℤ) → Sized e → Fit t → Fit (giveBack ps e t)
+fit-back ps (Set g c o n) t (sized-set hg hc fo fn) f = fit-put (spotOf ps g c) o t fo f
+fit-back ps (Open k) t h f = f
+fit-back ps (Release k) t h f = f
+fit-back ps (Undo k) t h f = f
+fit-back ps Misformed t h f = f
+
+-- what the entries from number m on give back
+fit-restore : {ps : List ℕ} (m : ℕ) (es : List Entry) {i : ℕ} {ms : List ℕ} (t : List ℤ) → Fine ps es i ms → Fit t → Fit (restore ps (drop m es) t)
+unfolding restore
+fit-restore zero [] t fine-none f = f
+fit-restore {ps} zero (e ∷ es) t (fine-more h o r) f = fit-back ps e (restore ps es t) h (rw (drop-none es) at (fit-restore zero es t r f))
+fit-restore (suc m) [] t fine-none f = f
+fit-restore (suc m) (e ∷ es) t (fine-more h o r) f = fit-restore m es t r f
+
+-- a set's value is a cell's
+abbrev pub FitCall : Call → Type 0
+FitCall (Sets g c v) = SFits w64 v
+FitCall Opens = Unit {0}
+FitCall (Releases k) = Unit {0}
+FitCall (Undoes k) = Unit {0}
+
+abbrev pub FitCalls : List Call → Type 0
+FitCalls [] = Unit {0}
+FitCalls (c ∷ cs) = FitCall c × FitCalls cs
+
+-- ---- what stands
+
+module _ (ns : List ℕ) where
+  abbrev ps : List ℕ
+  ps = startsOf ns
+
+  -- the bytes used are those of entries that are in order, which give back the tables that were saved
+  pub record Stands (k : Kept) (ts : List (List ℤ)) : Type 0 where
+    pub entries : List Entry
+    pub inside : k .used ≤ length (k .journal)
+    pub bytes : take (k .used) (k .journal) ≡ journalText entries
+    pub fine : Fine ps entries 0 []
+    pub held : HeldBy ps entries (k .cells) ts
+    pub few : length (marksOf entries) ≤ 16
+    pub fit : (i : ℕ) → SFits w64 (getD (k .cells) i (pos 0))
+
+  abbrev pub stackOf : Kept → List (List ℤ) → Stack
+  stackOf k ts = stacked (k .cells) ts (length (k .journal) - k .used)
+
+  -- ---- the entry of a call that is accepted
+
+  entry-size : (c : Call) (d : ℕ) (t : List ℤ) → sizeOf (entryFor ps c d t) ≡ bytesFor c
+  entry-size (Sets g c v) d t = refl
+  entry-size Opens d t = refl
+  entry-size (Releases k) d t = refl
+  entry-size (Undoes k) d t = refl
+
+  entry-sized : (c : Call) (d n : ℕ) (t : List ℤ) → checkedOf ns n ≡ C.Right → accepts ps c d ≡ true → d ≤ 16 → FitCall c → Fit t → Sized (entryFor ps c d t)
+  entry-sized (Sets g c v) d n t e h l f ft = let m = cell-small ns n e g c h in sized-set (m .0) (m .1) (fit-get (spotOf ps g c) t ft) f
+  entry-sized Opens d n t e h l f ft = sized-open {k = d + 1} (omega arith)
+  entry-sized (Releases k) d n t e h l f ft = sized-release {k = k} (omega (arith, ok-release ps d k h))
+  entry-sized (Undoes k) d n t e h l f ft = sized-undo {k = k} (omega (arith, ok-undo ps d k h))
+
+  entry-ok : (c : Call) (d : ℕ) (t : List ℤ) → accepts ps c d ≡ true → okEntry ps (entryFor ps c d t) d ≡ true
+  entry-ok (Sets g c v) d t h = h
+  entry-ok Opens d t h = rw h (eq-eqb (d + 1) (d + 1) refl)
+  entry-ok (Releases k) d t h = h
+  entry-ok (Undoes k) d t h = h
+
+  marks-few : (c : Call) (ms : List ℕ) (i : ℕ) (t : List ℤ) → accepts ps c (length ms) ≡ true → length ms ≤ 16 → length (markStep (entryFor ps c (length ms) t) i ms) ≤ 16
+  marks-few (Sets g c v) ms i t h l = l
+  marks-few Opens ms i t h l = ltb-true (length ms) 16 h
+  marks-few (Releases k) ms i t h l = omega (arith, length-drop 1 ms)
+  marks-few (Undoes k) ms i t h l = omega (arith, length-drop (length ms - k) ms)
+
+  stack-is : (c : Call) (x : Stack) → onStack ps c x ≡ stacked (onStack ps c x .cells) (onStack ps c x .saved) (x .room - bytesFor c)
+  stack-is (Sets g c v) x = refl
+  stack-is Opens x = refl
+  stack-is (Releases k) x = refl
+  stack-is (Undoes k) x = refl
+
+  fit-call : {es : List Entry} (c : Call) (t : List ℤ) → FitCall c → Fine ps es 0 [] → Fit t → Fit (cellsOn ps c es t)
+  fit-call (Sets g c v) t f r ft = fit-put (spotOf ps g c) v t f ft
+  fit-call Opens t f r ft = ft
+  fit-call (Releases k) t f r ft = ft
+  fit-call {es} (Undoes k) t f r ft = fit-restore (markOf (marksOf es) k) es t r ft
+
+  -- by the bytes as by the entries
+  cells-on : {es : List Entry} {ts : List (List ℤ)} (c : Call) (p : ℕ) (t : List ℤ) → Fine ps es 0 [] → HeldBy ps es t ts → accepts ps c (length (marksOf es)) ≡ true → cellsFor ps c (journalText es) (walked p (length es) (marksOf es)) t ≡ cellsOn ps c es t
+  cells-on (Sets g c v) p t r h o = refl
+  cells-on Opens p t r h o = refl
+  cells-on (Releases k) p t r h o = refl
+  cells-on {es} (Undoes k) p t r h o =
+      let q = ok-undo ps (length (marksOf es)) k o in
+      back-journal es (markOf (marksOf es) k) t r (holds-mark (length (marksOf es) - k) (omega arith) h .0)
+
+  -- a call on what stands: the stack's answer, and what stands behind it
+  pub record Next (c : Call) (k : Kept) (ts : List (List ℤ)) : Type 0 where
+    pub answer : answerTo ns c k ≡ modelAnswer ns c (stackOf k ts)
+    pub saved : List (List ℤ)
+    pub model : modelStep ns c (stackOf k ts) ≡ stackOf (leftBy ns c k (answerTo ns c k)) saved
+    pub stands : Stands (leftBy ns c k (answerTo ns c k)) saved
+
+  module _ (c : Call) (k : Kept) (ts : List (List ℤ)) (s : Stands k ts) where
+    abbrev es : List Entry
+    es = s .entries
+
+    abbrev d : ℕ
+    d = length (marksOf es)
+
+    used-is : length (journalText es) ≡ k .used
+    used-is = ap length (sym (s .bytes)) ∙ length-take-le (k .used) (k .journal) (s .inside)
+
+    walk-is : walkIn ns (k .journal) (k .used) ≡ walked (k .used) (length es) (marksOf es)
+    walk-is = ap (walkOf ps) (s .bytes) ∙ walk-journal es (s .fine) ∙ ap (λ p. walked p (length es) (marksOf es)) used-is
+
+    -- both answers are one
+    next-of : (a : Answer) → answerTo ns c k ≡ a → modelAnswer ns c (stackOf k ts) ≡ a → (saved : List (List ℤ)) → byAnswer a (onStack ps c (stackOf k ts)) (stackOf k ts) ≡ stackOf (leftBy ns c k a) saved → Stands (leftBy ns c k a) saved → Next c k ts
+    next-of a e m saved q st =
+        record {
+          answer = e ∙ sym m;
+          saved = saved;
+          model = ap (λ x. byAnswer x (onStack ps c (stackOf k ts)) (stackOf k ts)) m ∙ q ∙ ap (λ x. stackOf (leftBy ns c k x) saved) (sym e);
+          stands = subst (λ x. Stands (leftBy ns c k x) saved) (sym e) st;
+        }
+
+    next-refused : (r : Refusal) → answerTo ns c k ≡ Refused r → modelAnswer ns c (stackOf k ts) ≡ Refused r → Next c k ts
+    next-refused r e m = next-of (Refused r) e m ts refl s
+
+    standing-is : checkedOf ns (length (k .cells)) ≡ C.Right → standingOf ns (k .journal) (k .used) (length (k .cells)) ≡ C.Right
+    unfolding standingOf
+    standing-is e = rw (e, walk-is, eq-eqb (k .used) (k .used) refl) refl
+
+    refused-standing : (r : Refusal) → checkedOf ns (length (k .cells)) ≡ C.Refused r → standingOf ns (k .journal) (k .used) (length (k .cells)) ≡ C.Refused r
+    unfolding standingOf
+    refused-standing r e = rw e refl
+
+    answer-is : checkedOf ns (length (k .cells)) ≡ C.Right → answerTo ns c k ≡ decided ps c d (length (k .journal) - k .used)
+    answer-is e = answer-right ns (k .journal) (k .used) (length (k .cells)) c (standing-is e) ∙ ap (λ w. decided ps c (length (w .marks)) (length (k .journal) - k .used)) walk-is
+
+    model-is : checkedOf ns (length (k .cells)) ≡ C.Right → modelAnswer ns c (stackOf k ts) ≡ decided ps c d (length (k .journal) - k .used)
+    model-is e = rw (e, ← holds-length (s .held)) refl
+
+    -- a call that is done
+    module _ (right : checkedOf ns (length (k .cells)) ≡ C.Right) (fits : FitCall c) (ok : accepts ps c d ≡ true) (room : bytesFor c ≤ length (k .journal) - k .used) where
+      abbrev t : List ℤ
+      t = k .cells
+
+      abbrev e : Entry
+      e = entryFor ps c d t
+
+      size : length (textOf e) ≡ bytesFor c
+      size = length-text e ∙ entry-size c d t
+
+      long : length (over (k .used) (textOf e) (k .journal)) ≡ length (k .journal)
+      long = over-length (k .journal) (textOf e) (k .used) (omega (arith, size, s .inside))
+
+      abbrev saved : List (List ℤ)
+      saved = onStack ps c (stackOf k ts) .saved
+
+      left-is : (n : ℕ) → leftBy ns c k (Done n) ≡ kept (cellsOn ps c es t) (over (k .used) (textOf e) (k .journal)) (k .used + bytesFor c)
+      left-is n =
+          ap (λ w. kept (cellsFor ps c (take (k .used) (k .journal)) w t) (over (k .used) (textOf (entryFor ps c (length (w .marks)) t)) (k .journal)) (k .used + bytesFor c)) walk-is
+          ∙ ap (λ x. kept (cellsFor ps c x (walked (k .used) (length es) (marksOf es)) t) (over (k .used) (textOf e) (k .journal)) (k .used + bytesFor c)) (s .bytes)
+          ∙ ap (λ x. kept x (over (k .used) (textOf e) (k .journal)) (k .used + bytesFor c)) (cells-on c (k .used) t (s .fine) (s .held) ok)
+
+      stands-done : Stands (kept (cellsOn ps c es t) (over (k .used) (textOf e) (k .journal)) (k .used + bytesFor c)) saved
+      stands-done =
+          record {
+            entries = withEntry es e;
+            inside = omega (arith, long, s .inside);
+            bytes = used-more (k .journal) (textOf e) (k .used) (bytesFor c) (s .inside) size ∙ ap (λ x. x ++ textOf e) (s .bytes) ∙ sym (text-more es e);
+            fine = fine-last e (entry-sized c d (length t) t right ok (s .few) fits (s .fit)) (s .fine) (entry-ok c d t ok);
+            held = held-call ps es t ts (length (k .journal) - k .used) (s .held) c ok;
+            few = rw (marks-entry es e) (marks-few c (marksOf es) (length es) t ok (s .few));
+            fit = fit-call c t fits (s .fine) (s .fit);
+          }
+
+      model-done : onStack ps c (stackOf k ts) ≡ stackOf (kept (cellsOn ps c es t) (over (k .used) (textOf e) (k .journal)) (k .used + bytesFor c)) saved
+      model-done =
+          let z : length (k .journal) - k .used - bytesFor c ≡ length (over (k .used) (textOf e) (k .journal)) - (k .used + bytesFor c) = omega (arith, long) in
+          stack-is c (stackOf k ts) ∙ ap (λ x. stacked x saved (length (k .journal) - k .used - bytesFor c)) (sym (held-cells ps es t ts (length (k .journal) - k .used) (s .held) c ok)) ∙ ap (stacked (cellsOn ps c es t) saved) z
+
+      next-done : (n : ℕ) → answerTo ns c k ≡ Done n → modelAnswer ns c (stackOf k ts) ≡ Done n → Next c k ts
+      next-done n a m =
+          next-of (Done n) a m saved (model-done ∙ ap (λ x. stackOf x saved) (sym (left-is n))) (subst (λ x. Stands x saved) (sym (left-is n)) stands-done)
+
+    -- any call
+    next-right : checkedOf ns (length (k .cells)) ≡ C.Right → FitCall c → Next c k ts
+    next-right r f = by (accepts ps c d) (ltb (length (k .journal) - k .used) (bytesFor c)) refl refl
+      where
+        by : (b l : Bool) → accepts ps c d ≡ b → ltb (length (k .journal) - k .used) (bytesFor c) ≡ l → Next c k ts
+        by false l o q = next-refused (refusalOf c) (answer-is r ∙ rw o refl) (model-is r ∙ rw o refl)
+        by true true o q = next-refused NoRoom (answer-is r ∙ rw (o, q) refl) (model-is r ∙ rw (o, q) refl)
+        by true false o q =
+            next-done r f o (ltb-false (length (k .journal) - k .used) (bytesFor c) q) (numberFor c d) (answer-is r ∙ rw (o, q) refl) (model-is r ∙ rw (o, q) refl)
+
+    pub next : FitCall c → Next c k ts
+    next f = by (checkedOf ns (length (k .cells))) refl
+      where
+        by : (r : Checked) → checkedOf ns (length (k .cells)) ≡ r → Next c k ts
+        by C.Right e = next-right e f
+        by (C.Refused r) e = next-refused r (refused-answer r e) (rw e refl)
+          where
+            refused-answer : (r : Refusal) → checkedOf ns (length (k .cells)) ≡ C.Refused r → answerTo ns c k ≡ Refused r
+            refused-answer r e = sym (answer-refused ns (k .journal) (k .used) (length (k .cells)) c (refused-standing r e))
+
+  -- ---- any calls
+
+  run-answers : (cs : List Call) (k : Kept) (ts : List (List ℤ)) → FitCalls cs → Stands k ts → answersTo ns cs k ≡ modelAnswers ns cs (stackOf k ts)
+  run-answers [] k ts f s = refl
+  run-answers (c ∷ cs) k ts f s =
+      let n = next c k ts s (f .0) in
+      ap₂ _∷_ (n .answer) (run-answers cs (leftBy ns c k (answerTo ns c k)) (n .saved) (f .1) (n .stands) ∙ ap (modelAnswers ns cs) (sym (n .model)))
+
+  -- what is left by calls, and the stack's tables there
+  pub record After (cs : List Call) (k : Kept) (ts : List (List ℤ)) : Type 0 where
+    pub saved : List (List ℤ)
+    pub model : modelRun ns cs (stackOf k ts) ≡ stackOf (leftTo ns cs k) saved
+    pub stands : Stands (leftTo ns cs k) saved
+
+  pub after-calls : (cs : List Call) (k : Kept) (ts : List (List ℤ)) → FitCalls cs → Stands k ts → After cs k ts
+  after-calls [] k ts f s = record { saved = ts; model = refl; stands = s }
+  after-calls (c ∷ cs) k ts f s =
+      let n = next c k ts s (f .0) in
+      let a = after-calls cs (leftBy ns c k (answerTo ns c k)) (n .saved) (f .1) (n .stands) in
+      record { saved = a .saved; model = ap (modelRun ns cs) (n .model) ∙ a .model; stands = a .stands }
+
+  pub fresh : (t : List ℤ) (j : List ℕ) → Fit t → Stands (kept t j 0) []
+  unfolding journalText marksFrom
+  fresh t j f =
+      record { entries = []; inside = omega arith; bytes = take-none j; fine = fine-none; held = none; few = omega arith; fit = f }
+
+  open-is : (k : Kept) (ts : List (List ℤ)) → Stands k ts → openIn ns k ≡ length ts
+  open-is k ts s = ap (λ w. length (w .marks)) (walk-is Opens k ts s) ∙ holds-length (s .held)
+
+  -- R516: every reply, all cells and the open savepoints are those of the stack
+  pub journal-is-stack : (t : List ℤ) (j : List ℕ) (cs : List Call) → Fit t → FitCalls cs → JournalIsStack ns t j cs
+  journal-is-stack t j cs ft fc =
+      let s = fresh t j ft in
+      let a = after-calls cs (kept t j 0) [] fc s in
+      let z : length j - 0 ≡ length j = sub-zero (length j) in
+      record {
+        answers = run-answers cs (kept t j 0) [] fc s ∙ ap (λ n. modelAnswers ns cs (stacked t [] n)) z;
+        cells = sym (ap (λ x. x .cells) (a .model)) ∙ ap (λ n. modelRun ns cs (stacked t [] n) .cells) z;
+        opened = open-is (leftTo ns cs (kept t j 0)) (a .saved) (a .stands) ∙ sym (ap (λ x. length (x .saved)) (a .model)) ∙ ap (λ n. length (modelRun ns cs (stacked t [] n) .saved)) z;
+      }

@@ -1,0 +1,43 @@
+-- R500, R516: calls one after the other, on what the caller keeps: the cells, the journal's buffer and the bytes used. What is promised of them.
+use mathlib.Core.Path.{_≡_}
+use mathlib.Core.List.{List, [], _∷_}
+use Prim.Native.Nat.{ℕ}
+use lib.IntN.{ℤ}
+use lib.ListN.{length}
+use Rattle.reply.specs.declared.Answer.{Answer}
+use Rattle.journal.specs.Model.{Call, stacked, modelAnswers, modelRun}
+use Rattle.journal.specs.Calls.{walkIn, answerOf, cellsBy, journalBy, usedBy}
+
+pub record Kept : Type 0 where
+  pub cells : List ℤ
+  pub journal : List ℕ
+  pub used : ℕ
+
+abbrev pub kept : List ℤ → List ℕ → ℕ → Kept
+kept t j used = record { cells = t; journal = j; used = used }
+
+module _ (ns : List ℕ) where
+  -- what a call answers, and what it leaves, by the definitions that the contracts cite
+  abbrev pub answerTo : Call → Kept → Answer
+  answerTo c k = answerOf ns (k .journal) (k .used) (length (k .cells)) c
+
+  abbrev pub leftBy : Call → Kept → Answer → Kept
+  leftBy c k a = kept (cellsBy ns (k .journal) (k .used) c (k .cells) a) (journalBy ns (k .journal) (k .used) c (k .cells) a) (usedBy (k .used) c a)
+
+  abbrev pub answersTo : List Call → Kept → List Answer
+  answersTo [] k = []
+  answersTo (c ∷ cs) k = answerTo c k ∷ answersTo cs (leftBy c k (answerTo c k))
+
+  abbrev pub leftTo : List Call → Kept → Kept
+  leftTo [] k = k
+  leftTo (c ∷ cs) k = leftTo cs (leftBy c k (answerTo c k))
+
+  -- the savepoints that are open
+  abbrev pub openIn : Kept → ℕ
+  openIn k = length (walkIn ns (k .journal) (k .used) .marks)
+
+  -- for any calls on a fresh journal, every reply, all cells and the open savepoints are the stack's
+  pub record JournalIsStack (t : List ℤ) (j : List ℕ) (cs : List Call) : Type 0 where
+    pub answers : answersTo cs (kept t j 0) ≡ modelAnswers ns cs (stacked t [] (length j))
+    pub cells : leftTo cs (kept t j 0) .cells ≡ modelRun ns cs (stacked t [] (length j)) .cells
+    pub opened : openIn (leftTo cs (kept t j 0)) ≡ length (modelRun ns cs (stacked t [] (length j)) .saved)
