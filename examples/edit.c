@@ -479,10 +479,10 @@ int main(int count, char **words)
         fprintf(stderr, "usage: edit DAY RECORD JOURNAL (two files, and a record's number from 1)\n");
         return 2;
     }
+    setvbuf(stdout, NULL, _IOLBF, 0); /* an answer is said at once, also into a file */
     if (!load_day(words[1]) || !find_record(number) || !load_cells() || !load_journal(words[3]) || !replay())
         return 1;
-    do
-        fflush(stdout);
-    while (read_line(line) && take(command, split(line, command)));
+    while (read_line(line) && take(command, split(line, command)))
+        ;
     return !feof(stdin);
 }

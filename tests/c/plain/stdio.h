@@ -3,10 +3,12 @@
 #define PLAIN_STDIO_H
 #include <stddef.h>
 #define EOF (-1)
+#define _IOLBF 1
 typedef struct _IO_FILE FILE;
 extern FILE *stdin, *stdout, *stderr;
 FILE *fopen(const char *, const char *);
 int fclose(FILE *);
+int setvbuf(FILE *, char *, int, size_t);
 int fflush(FILE *);
 int fileno(FILE *);
 int feof(FILE *);
