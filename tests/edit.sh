@@ -137,22 +137,23 @@ refused 'no folder for the journal' "$loaded" "edit: $work/none/journal: No such
 # ---- a run that is killed between two commands
 
 begin
+trap '' PIPE
 mkfifo "$work/pipe"
 becomes "$work/edit" "$day" 2 "$journal" <"$work/pipe" >"$work/got" 2>&1 &
 running=$!
 exec 3>"$work/pipe"
 : >"$work/all"
 
-awaited() { # LINES: it has said so many, or a minute is over
-    tries=0
-    while [ "$(wc -l <"$work/got")" -lt "$1" ] && [ "$tries" -lt 600 ]; do
+patience=600
+awaited() { # LINES: it has said so many, or a minute of waiting is over in all
+    while [ "$(wc -l <"$work/got")" -lt "$1" ] && [ "$patience" -gt 0 ]; do
         sleep 0.1
-        tries=$((tries + 1))
+        patience=$((patience - 1))
     done
 }
 
 ask() { # COMMAND ANSWER: the answer is awaited, and compared with all others below
-    printf '%s\n' "$1" >&3
+    printf '%s\n' "$1" >&3 2>/dev/null
     printf '%s\n' "$2" >>"$work/all"
     awaited "$(wc -l <"$work/all")"
 }
@@ -195,6 +196,7 @@ ask 'release 2' 'done: savepoint 2 is released'
 kill -9 "$running"
 wait "$running" 2>/dev/null
 exec 3>&-
+trap - PIPE
 cp "$work/all" "$work/want"
 compared 'what is said, up to the kill' "$work/want"
 
