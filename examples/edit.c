@@ -117,16 +117,16 @@ static int read_all(FILE *file, uint8_t **bytes, size_t *length)
     return !ferror(file);
 }
 
-static int load_day(const char *name)
+static int read_day(uint8_t **text, size_t *length)
 {
-    FILE *file = fopen(name, "rb");
+    FILE *file = fopen(day.name, "rb");
     int read;
-    day.name = name;
+    *text = NULL;
     if (file == NULL)
-        return failed(name);
-    read = read_all(file, &day.text, &day.length);
+        return failed(day.name);
+    read = read_all(file, text, length);
     fclose(file);
-    return read || failed(name);
+    return read || failed(day.name);
 }
 
 /* What was written so far is on disk. */
@@ -335,7 +335,17 @@ static int show(size_t group)
 
 /* ---- Saving: the day is written anew beside the old one, which it then replaces at once. The journal is emptied last. */
 
-/* The day with the record's canonical text in its place; its length, or 0 where that was refused. */
+/* The day is as it was loaded; else a save would take back what somebody else has saved there, another record perhaps. */
+static int day_unaltered(void)
+{
+    uint8_t *text;
+    size_t length;
+    int same = read_day(&text, &length) && length == day.length && memcmp(text, day.text, length) == 0;
+    free(text);
+    return same;
+}
+
+/* The day's text, canonical where the record stands; its length, or 0 where that was refused. */
 static size_t new_day(uint8_t **text, size_t *written)
 {
     static uint8_t out[MOST_BYTES];
@@ -362,16 +372,23 @@ static int replace_day(const uint8_t *text, size_t length)
     FILE *file = put > 0 && (size_t)put < sizeof name ? fopen(name, "wb") : NULL;
     if (file == NULL)
         return failed(name);
-    written = fwrite(text, 1, length, file) == length && flushed(file);
-    if (fclose(file) != 0 || !written)
-        return failed(name);
-    return (rename(name, day.name) == 0 && flushed_folder(day.name)) || failed(day.name);
+    written = (fwrite(text, 1, length, file) == length && flushed(file)) || failed(name);
+    fclose(file);
+    if (written && (rename(name, day.name) == 0 || failed(day.name)))
+        return flushed_folder(day.name) || failed(day.name);
+    remove(name);
+    return 0;
 }
 
 static int save(void)
 {
     uint8_t *text;
-    size_t written, length = new_day(&text, &written);
+    size_t written, length;
+    if (!day_unaltered()) {
+        printf("refused: the day is not as it was loaded; the journal has all edits\n");
+        return 1;
+    }
+    length = new_day(&text, &written);
     if (length == 0)
         return 1;
     if (!replace_day(text, length)) {
@@ -480,7 +497,8 @@ int main(int count, char **words)
         return 2;
     }
     setvbuf(stdout, NULL, _IOLBF, 0); /* an answer is said at once, also into a file */
-    if (!load_day(words[1]) || !find_record(number) || !load_cells() || !load_journal(words[3]) || !replay())
+    day.name = words[1];
+    if (!read_day(&day.text, &day.length) || !find_record(number) || !load_cells() || !load_journal(words[3]) || !replay())
         return 1;
     while (read_line(line) && take(command, split(line, command)))
         ;

@@ -70,8 +70,8 @@ enum seambeacon_reply {
     SEAMBEACON_NOT_OPEN = 15,
     /* 16 savepoints are open already */
     SEAMBEACON_ALL_OPEN = 16,
-    /* a field of the journal is misformed, its call would not be accepted there, an open is not
-       numbered next or, in replay, an old value differs: the place of the field */
+    /* a field of the journal is misformed, its call would not be accepted there, an open does not
+       have the next number or, in replay, an old value differs: the place of the field */
     SEAMBEACON_BAD_ENTRY = 17
 };
 

@@ -136,13 +136,16 @@ refused 'no folder for the journal' "$loaded" "edit: $work/none/journal: No such
 
 # ---- a run that is killed between two commands
 
-begin
 trap '' PIPE
 mkfifo "$work/pipe"
-becomes "$work/edit" "$day" 2 "$journal" <"$work/pipe" >"$work/got" 2>&1 &
-running=$!
-exec 3>"$work/pipe"
-: >"$work/all"
+
+run() { # in the background, with commands from the pipe; its number is in `running`
+    becomes "$work/edit" "$day" 2 "$journal" <"$work/pipe" >"$work/got" 2>&1 &
+    running=$!
+    exec 3>"$work/pipe"
+    echo "$loaded" >"$work/all"
+    awaited 1
+}
 
 patience=600
 awaited() { # LINES: it has said so many, or a minute of waiting is over in all
@@ -158,8 +161,8 @@ ask() { # COMMAND ANSWER: the answer is awaited, and compared with all others be
     awaited "$(wc -l <"$work/all")"
 }
 
-echo "$loaded" >>"$work/all"
-awaited 1
+begin
+run
 not_open='refused: that savepoint is not open or, to be released, not the innermost (reply 15)'
 no_cell='refused: there is no such group or cell (reply 12)'
 ask 'show 4' "$four"
@@ -196,7 +199,6 @@ ask 'release 2' 'done: savepoint 2 is released'
 kill -9 "$running"
 wait "$running" 2>/dev/null
 exec 3>&-
-trap - PIPE
 cp "$work/all" "$work/want"
 compared 'what is said, up to the kill' "$work/want"
 
@@ -330,6 +332,42 @@ s/^\(9999\.000 325.*\)  47\.500/\1   0.001/' >"$work/want"
 cp "$day" "$work/got"
 compared 'the day that was saved twice' "$work/want"
 
+# somebody else alters the day meanwhile
+begin
+run
+ask 'set 4 1 7301' 'done: cell 1 of group 4 is 7301'
+printf 'x' >>"$day"
+keep
+ask 'save' 'refused: the day is not as it was loaded; the journal has all edits'
+exec 3>&-
+wait "$running"
+counted 'an altered day: exit status' [ "$?" = 0 ]
+cp "$work/all" "$work/want"
+compared 'an altered day' "$work/want"
+kept 'an altered day'
+edit 2 'save'
+said 'an altered day, loaded again' "$loaded" 'replayed 22 bytes of the journal; savepoints open: 0' \
+    'done: record 2 is saved, in 1992 bytes, and the journal is empty'
+{ edited 's/^   3\.5259999/   7.3019999/' && printf 'x'; } >"$work/want"
+cp "$day" "$work/got"
+compared 'the altered day, saved' "$work/want"
+
+# a new day that can't be written, and one that a killed save has left
+begin
+mkdir "$day.new"
+edit 2 'set 4 1 7301' 'save' 'show 5'
+said 'a day that cannot be written' "$loaded" 'done: cell 1 of group 4 is 7301' "edit: $day.new: Is a directory" \
+    'refused: the day could not be written; the journal has all edits' 'group 5:'
+counted 'a day that cannot be written is as it was' cmp -s "$day" examples/day.sao
+holds 'a day that cannot be written' "$(set_field 4 1 3525 7301)"
+rmdir "$day.new"
+echo 'a part of a day' >"$day.new"
+edit 2 'save'
+edited 's/^   3\.5259999/   7.3019999/' >"$work/want"
+cp "$day" "$work/got"
+compared 'a day that is written over what was left' "$work/want"
+counted 'which is then no more' [ ! -e "$day.new" ]
+
 # records that are not canonical: the edited one becomes so, all others stay as they are, and one byte behind the last is kept
 { below_zero | sed 's/^ -12\.345/000.010 /;s/^000\.010 /0000.010/' && printf 'x'; } >"$day"
 edit 2 'set 1 1 -0' 'save'
@@ -383,4 +421,4 @@ started "$work/edit" "$day" 2 "$journal" <"$work/commands" >"$work/got" 2>&1
 counted 'a part of a line: exit status' [ "$?" = 0 ]
 said 'a part of a line' "$loaded" "$commands" "$commands"
 holds 'a part of a line' ''
-finished 180
+finished 190

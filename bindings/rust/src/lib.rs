@@ -87,8 +87,8 @@ pub enum Refusal {
     NotOpen,
     /// 16: 16 savepoints are open already.
     AllOpen,
-    /// 17: a field of the journal is misformed, its call would not be accepted there, an open is not numbered next or, in replay, an old value
-    /// differs.
+    /// 17: a field of the journal is misformed, its call would not be accepted there, an open does not have the next number or, in replay, an
+    /// old value differs.
     BadEntry {
         /// The place of the field, in bytes from the journal's start.
         place: usize,

@@ -23,4 +23,5 @@ int fprintf(FILE *, const char *, ...);
 int snprintf(char *, size_t, const char *, ...);
 void perror(const char *);
 int rename(const char *, const char *);
+int remove(const char *);
 #endif
