@@ -9,3 +9,4 @@ pub mod Held
 pub mod Text
 pub mod Small
 pub mod Made
+pub mod Numbered

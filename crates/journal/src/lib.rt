@@ -18,6 +18,7 @@ ghost use Rattle.journal.specs.Model.{Sets, Opens, Releases, Undoes, roo
 ghost use Rattle.journal.specs.Entries.{markOf, giveBack, restore, entriesAt, placeAt, backTo};
 ghost use Rattle.journal.specs.Walks.{okEntry, depthAfter, down, Below, Walks};
 ghost use Rattle.journal.specs.Calls.{andThen, whole, answerOf, cellsBy, journalBy, usedBy};
+ghost use Rattle.journal.specs.Numbered.{editReply};
 ghost use Rattle.journal.specs.Plays.{matches, playedBy, playOf, Plays, byChecked, replayOf, replayedCells, replayedOpen};
 
 // What a call answers, and how many bytes of the journal are used behind it. 0 of an open has the savepoint's number.
@@ -623,5 +624,17 @@ pub fn replay(counts: &[u16], cells: &mut [i64], journal: &[u8], used: usize) ->
             let end = base::lesser(used, journal.len());
             replay_in(&starts, cells, &journal[0..end], used)
         }
+    }
+}
+
+// ---- Replies.
+
+// R516: the reply of a call's answer: 0 of an open has the savepoint's number beside it.
+pub fn reply_of(answer: Answer) -> reply::Reply
+    ensures { λ r. ⌜ r ≡ editReply answer ⌝ }
+{
+    match answer {
+        Answer::Done(savepoint) => reply::opened(savepoint),
+        Answer::Refused(why) => reply::of_refusal(why),
     }
 }
