@@ -7,5 +7,6 @@ pub mod Playing
 pub mod Answers
 pub mod Held
 pub mod Text
+pub mod Replays
 pub mod Small
 pub mod Made

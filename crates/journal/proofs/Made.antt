@@ -1,4 +1,5 @@
--- R500, R516: any calls on a fresh journal are a stack of whole tables, reply for reply; by what stands after each call.
+-- R500, R516, R543: any calls on a fresh journal are a stack of whole tables, reply for reply, and a replay of what they made comes to the
+-- same; by what stands after each call.
 -- Assumes nothing.
 use mathlib.Core.Path.{_≡_, refl, sym, ap, ap₂, _∙_, subst}
 use mathlib.Core.Bool.{Bool, true, false, cond}
@@ -34,11 +35,14 @@ use Rattle.journal.specs.Model.{Call, Sets, Opens, Releases, Undoes, acc
 use Rattle.journal.specs.Entries.{markStep, marksFrom, marksOf, markOf, giveBack, restore, journalText, backTo}
 use Rattle.journal.specs.Walks.{okEntry, Walked, walked, walkOf}
 use Rattle.journal.specs.Calls.{andThen, whole, entryFor, cellsFor, walkIn, standingOf, answerOf}
-use Rattle.journal.specs.Runs.{Kept, kept, answerTo, leftBy, answersTo, leftTo, openIn, JournalIsStack}
+use Rattle.journal.specs.Plays.{matches, ran, playOf, playIn, replayOf}
+use Rattle.journal.specs.Runs.{Kept, kept, answerTo, leftBy, answersTo, leftTo, openIn, JournalIsStack, ReplaysTo}
 use Rattle.journal.proofs.Answers.{answer-right, answer-refused}
 use Rattle.journal.proofs.Held.{Holds, none, holds-length, holds-mark, HeldBy, withEntry, cellsOn, marks-entry, held-cells, held-call}
-use Rattle.journal.proofs.Text.{Fine, fine-none, fine-more, fine-last, walk-journal, back-journal, text-more, used-more}
+use Rattle.journal.proofs.Text.{Fine, fine-none, fine-more, fine-last, text-length, walk-journal, back-journal, text-more, used-more}
 use Rattle.journal.proofs.Walking.{no-way, ok-open, ok-release, ok-undo}
+use Rattle.journal.proofs.Playing.{same-same}
+use Rattle.journal.proofs.Replays.{Leads, leads-none, leads-last, playedOn, play-journal}
 use Rattle.journal.proofs.Small.{cell-small}
 
 -- ---- cells of 64 bits
@@ -87,17 +91,18 @@ FitCalls (c ∷ cs) = FitCall c × FitCalls cs
 
 -- ---- what stands
 
-module _ (ns : List ℕ) where
+module _ (ns : List ℕ) (t₀ : List ℤ) where
   abbrev ps : List ℕ
   ps = startsOf ns
 
-  -- the bytes used are those of entries that are in order, which give back the tables that were saved
+  -- the bytes used are those of entries that are in order, lead from t₀ to the cells, and give back the tables that were saved
   pub record Stands (k : Kept) (ts : List (List ℤ)) : Type 0 where
     pub entries : List Entry
     pub inside : k .used ≤ length (k .journal)
     pub bytes : take (k .used) (k .journal) ≡ journalText entries
     pub fine : Fine ps entries 0 []
     pub held : HeldBy ps entries (k .cells) ts
+    pub leads : Leads ps [] entries t₀ (k .cells)
     pub few : length (marksOf entries) ≤ 16
     pub fit : (i : ℕ) → SFits w64 (getD (k .cells) i (pos 0))
 
@@ -123,6 +128,18 @@ module _ (ns : List ℕ) where
   entry-ok Opens d t h = rw h (eq-eqb (d + 1) (d + 1) refl)
   entry-ok (Releases k) d t h = h
   entry-ok (Undoes k) d t h = h
+
+  entry-matches : (c : Call) (d : ℕ) (t : List ℤ) → matches ps (entryFor ps c d t) t ≡ true
+  entry-matches (Sets g c v) d t = same-same (getAt (spotOf ps g c) t)
+  entry-matches Opens d t = refl
+  entry-matches (Releases k) d t = refl
+  entry-matches (Undoes k) d t = refl
+
+  played-call : (es : List Entry) (c : Call) (d : ℕ) (t : List ℤ) → playedOn ps (entryFor ps c d t) es t ≡ cellsOn ps c es t
+  played-call es (Sets g c v) d t = refl
+  played-call es Opens d t = refl
+  played-call es (Releases k) d t = refl
+  played-call es (Undoes k) d t = refl
 
   marks-few : (c : Call) (ms : List ℕ) (i : ℕ) (t : List ℤ) → accepts ps c (length ms) ≡ true → length ms ≤ 16 → length (markStep (entryFor ps c (length ms) t) i ms) ≤ 16
   marks-few (Sets g c v) ms i t h l = l
@@ -212,6 +229,9 @@ module _ (ns : List ℕ) where
       long : length (over (k .used) (textOf e) (k .journal)) ≡ length (k .journal)
       long = over-length (k .journal) (textOf e) (k .used) (omega (arith, size, s .inside))
 
+      sized : Sized e
+      sized = entry-sized c d (length t) t right ok (s .few) fits (s .fit)
+
       abbrev saved : List (List ℤ)
       saved = onStack ps c (stackOf k ts) .saved
 
@@ -227,8 +247,9 @@ module _ (ns : List ℕ) where
             entries = withEntry es e;
             inside = omega (arith, long, s .inside);
             bytes = used-more (k .journal) (textOf e) (k .used) (bytesFor c) (s .inside) size ∙ ap (λ x. x ++ textOf e) (s .bytes) ∙ sym (text-more es e);
-            fine = fine-last e (entry-sized c d (length t) t right ok (s .few) fits (s .fit)) (s .fine) (entry-ok c d t ok);
+            fine = fine-last e sized (s .fine) (entry-ok c d t ok);
             held = held-call ps es t ts (length (k .journal) - k .used) (s .held) c ok;
+            leads = subst (Leads ps [] (withEntry es e) t₀) (played-call es c d t) (leads-last e (s .leads) sized (entry-ok c d t ok) (entry-matches c d t));
             few = rw (marks-entry es e) (marks-few c (marksOf es) (length es) t ok (s .few));
             fit = fit-call c t fits (s .fine) (s .fit);
           }
@@ -283,22 +304,45 @@ module _ (ns : List ℕ) where
       let a = after-calls cs (leftBy ns c k (answerTo ns c k)) (n .saved) (f .1) (n .stands) in
       record { saved = a .saved; model = ap (modelRun ns cs) (n .model) ∙ a .model; stands = a .stands }
 
-  pub fresh : (t : List ℤ) (j : List ℕ) → Fit t → Stands (kept t j 0) []
+  pub fresh : (j : List ℕ) → Fit t₀ → Stands (kept t₀ j 0) []
   unfolding journalText marksFrom
-  fresh t j f =
-      record { entries = []; inside = omega arith; bytes = take-none j; fine = fine-none; held = none; few = omega arith; fit = f }
+  fresh j f =
+      record { entries = []; inside = omega arith; bytes = take-none j; fine = fine-none; held = none; leads = leads-none; few = omega arith; fit = f }
 
-  open-is : (k : Kept) (ts : List (List ℤ)) → Stands k ts → openIn ns k ≡ length ts
+  pub open-is : (k : Kept) (ts : List (List ℤ)) → Stands k ts → openIn ns k ≡ length ts
   open-is k ts s = ap (λ w. length (w .marks)) (walk-is Opens k ts s) ∙ holds-length (s .held)
 
+  -- a replay over t₀
+  play-is : (k : Kept) (ts : List (List ℤ)) (s : Stands k ts) → playIn ns (k .journal) (k .used) t₀ ≡ ran (k .used) (length (s .entries)) (marksOf (s .entries)) (k .cells)
+  play-is k ts s =
+      let used = used-is Opens k ts s in
+      ap (λ x. playOf ps x t₀) (s .bytes) ∙ play-journal (journalText (s .entries)) (s .entries) (s .leads) refl (text-length (s .fine)) ∙ ap (λ p. ran p (length (s .entries)) (marksOf (s .entries)) (k .cells)) used
+
+  pub replay-stands : (k : Kept) (ts : List (List ℤ)) → Stands k ts → checkedOf ns (length t₀) ≡ C.Right → ReplaysTo ns t₀ k
+  unfolding replayOf
+  replay-stands k ts s r =
+      let p = play-is k ts s in
+      record {
+        answer = rw (r, p, eq-eqb (k .used) (k .used) refl) refl;
+        cells = ap (λ x. x .cells) p;
+        opened = ap (λ x. length (x .marks)) p ∙ sym (ap (λ w. length (w .marks)) (walk-is Opens k ts s));
+      }
+
+module _ (ns : List ℕ) (t : List ℤ) (j : List ℕ) (cs : List Call) (ft : Fit t) (fc : FitCalls cs) where
   -- R516: every reply, all cells and the open savepoints are those of the stack
-  pub journal-is-stack : (t : List ℤ) (j : List ℕ) (cs : List Call) → Fit t → FitCalls cs → JournalIsStack ns t j cs
-  journal-is-stack t j cs ft fc =
-      let s = fresh t j ft in
-      let a = after-calls cs (kept t j 0) [] fc s in
+  pub journal-is-stack : JournalIsStack ns t j cs
+  journal-is-stack =
+      let s = fresh ns t j ft in
+      let a = after-calls ns t cs (kept t j 0) [] fc s in
       let z : length j - 0 ≡ length j = sub-zero (length j) in
       record {
-        answers = run-answers cs (kept t j 0) [] fc s ∙ ap (λ n. modelAnswers ns cs (stacked t [] n)) z;
+        answers = run-answers ns t cs (kept t j 0) [] fc s ∙ ap (λ n. modelAnswers ns cs (stacked t [] n)) z;
         cells = sym (ap (λ x. x .cells) (a .model)) ∙ ap (λ n. modelRun ns cs (stacked t [] n) .cells) z;
-        opened = open-is (leftTo ns cs (kept t j 0)) (a .saved) (a .stands) ∙ sym (ap (λ x. length (x .saved)) (a .model)) ∙ ap (λ n. length (modelRun ns cs (stacked t [] n) .saved)) z;
+        opened = open-is ns t (leftTo ns cs (kept t j 0)) (a .saved) (a .stands) ∙ sym (ap (λ x. length (x .saved)) (a .model)) ∙ ap (λ n. length (modelRun ns cs (stacked t [] n) .saved)) z;
       }
+
+  -- R543: a journal that calls made, replayed over the table that they began with
+  pub replay-same : checkedOf ns (length t) ≡ C.Right → ReplaysTo ns t (leftTo ns cs (kept t j 0))
+  replay-same r =
+      let a = after-calls ns t cs (kept t j 0) [] fc (fresh ns t j ft) in
+      replay-stands ns t (leftTo ns cs (kept t j 0)) (a .saved) (a .stands) r

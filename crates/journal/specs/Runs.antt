@@ -5,8 +5,10 @@ use Prim.Native.Nat.{ℕ}
 use lib.IntN.{ℤ}
 use lib.ListN.{length}
 use Rattle.reply.specs.declared.Answer.{Answer}
+use Rattle.reply.specs.declared.Checked.the-variants.{Right}
 use Rattle.journal.specs.Model.{Call, stacked, modelAnswers, modelRun}
 use Rattle.journal.specs.Calls.{walkIn, answerOf, cellsBy, journalBy, usedBy}
+use Rattle.journal.specs.Plays.{replayOf, replayedCells, replayedOpen}
 
 pub record Kept : Type 0 where
   pub cells : List ℤ
@@ -41,3 +43,9 @@ module _ (ns : List ℕ) where
     pub answers : answersTo cs (kept t j 0) ≡ modelAnswers ns cs (stacked t [] (length j))
     pub cells : leftTo cs (kept t j 0) .cells ≡ modelRun ns cs (stacked t [] (length j)) .cells
     pub opened : openIn (leftTo cs (kept t j 0)) ≡ length (modelRun ns cs (stacked t [] (length j)) .saved)
+
+  -- R543: replayed over the table t, what is kept comes to its own cells and open savepoints
+  pub record ReplaysTo (t : List ℤ) (k : Kept) : Type 0 where
+    pub answer : replayOf ns (k .journal) (k .used) t ≡ Right
+    pub cells : replayedCells ns (k .journal) (k .used) t Right ≡ k .cells
+    pub opened : replayedOpen ns (k .journal) (k .used) t Right ≡ openIn k
