@@ -10,3 +10,4 @@ pub mod Text
 pub mod Replays
 pub mod Small
 pub mod Made
+pub mod Reopened

@@ -111,7 +111,7 @@ module _ (ns : List ℕ) (t₀ : List ℤ) where
 
   -- ---- the entry of a call that is accepted
 
-  entry-size : (c : Call) (d : ℕ) (t : List ℤ) → sizeOf (entryFor ps c d t) ≡ bytesFor c
+  pub entry-size : (c : Call) (d : ℕ) (t : List ℤ) → sizeOf (entryFor ps c d t) ≡ bytesFor c
   entry-size (Sets g c v) d t = refl
   entry-size Opens d t = refl
   entry-size (Releases k) d t = refl
@@ -135,7 +135,7 @@ module _ (ns : List ℕ) (t₀ : List ℤ) where
   entry-matches (Releases k) d t = refl
   entry-matches (Undoes k) d t = refl
 
-  played-call : (es : List Entry) (c : Call) (d : ℕ) (t : List ℤ) → playedOn ps (entryFor ps c d t) es t ≡ cellsOn ps c es t
+  pub played-call : (es : List Entry) (c : Call) (d : ℕ) (t : List ℤ) → playedOn ps (entryFor ps c d t) es t ≡ cellsOn ps c es t
   played-call es (Sets g c v) d t = refl
   played-call es Opens d t = refl
   played-call es (Releases k) d t = refl
@@ -185,7 +185,7 @@ module _ (ns : List ℕ) (t₀ : List ℤ) where
     used-is : length (journalText es) ≡ k .used
     used-is = ap length (sym (s .bytes)) ∙ length-take-le (k .used) (k .journal) (s .inside)
 
-    walk-is : walkIn ns (k .journal) (k .used) ≡ walked (k .used) (length es) (marksOf es)
+    pub walk-is : walkIn ns (k .journal) (k .used) ≡ walked (k .used) (length es) (marksOf es)
     walk-is = ap (walkOf ps) (s .bytes) ∙ walk-journal es (s .fine) ∙ ap (λ p. walked p (length es) (marksOf es)) used-is
 
     -- both answers are one
@@ -209,7 +209,7 @@ module _ (ns : List ℕ) (t₀ : List ℤ) where
     unfolding standingOf
     refused-standing r e = rw e refl
 
-    answer-is : checkedOf ns (length (k .cells)) ≡ C.Right → answerTo ns c k ≡ decided ps c d (length (k .journal) - k .used)
+    pub answer-is : checkedOf ns (length (k .cells)) ≡ C.Right → answerTo ns c k ≡ decided ps c d (length (k .journal) - k .used)
     answer-is e = answer-right ns (k .journal) (k .used) (length (k .cells)) c (standing-is e) ∙ ap (λ w. decided ps c (length (w .marks)) (length (k .journal) - k .used)) walk-is
 
     model-is : checkedOf ns (length (k .cells)) ≡ C.Right → modelAnswer ns c (stackOf k ts) ≡ decided ps c d (length (k .journal) - k .used)
@@ -235,13 +235,13 @@ module _ (ns : List ℕ) (t₀ : List ℤ) where
       abbrev saved : List (List ℤ)
       saved = onStack ps c (stackOf k ts) .saved
 
-      left-is : (n : ℕ) → leftBy ns c k (Done n) ≡ kept (cellsOn ps c es t) (over (k .used) (textOf e) (k .journal)) (k .used + bytesFor c)
+      pub left-is : (n : ℕ) → leftBy ns c k (Done n) ≡ kept (cellsOn ps c es t) (over (k .used) (textOf e) (k .journal)) (k .used + bytesFor c)
       left-is n =
           ap (λ w. kept (cellsFor ps c (take (k .used) (k .journal)) w t) (over (k .used) (textOf (entryFor ps c (length (w .marks)) t)) (k .journal)) (k .used + bytesFor c)) walk-is
           ∙ ap (λ x. kept (cellsFor ps c x (walked (k .used) (length es) (marksOf es)) t) (over (k .used) (textOf e) (k .journal)) (k .used + bytesFor c)) (s .bytes)
           ∙ ap (λ x. kept x (over (k .used) (textOf e) (k .journal)) (k .used + bytesFor c)) (cells-on c (k .used) t (s .fine) (s .held) ok)
 
-      stands-done : Stands (kept (cellsOn ps c es t) (over (k .used) (textOf e) (k .journal)) (k .used + bytesFor c)) saved
+      pub stands-done : Stands (kept (cellsOn ps c es t) (over (k .used) (textOf e) (k .journal)) (k .used + bytesFor c)) saved
       stands-done =
           record {
             entries = withEntry es e;

@@ -81,7 +81,7 @@ pub record Tells (s : List ℕ) (pre : List Entry) (at : ℕ) : Type 0 where
   pub ends : placeAt s 0 (length pre) ≡ at
   pub reads : entriesAt s 0 (length pre) ≡ pre
 
-tells-more : (s : List ℕ) (pre : List Entry) (at : ℕ) (e : Entry) → Tells s pre at → fieldAt s at ≡ e → Tells s (withEntry pre e) (at + sizeOf e)
+pub tells-more : (s : List ℕ) (pre : List Entry) (at : ℕ) (e : Entry) → Tells s pre at → fieldAt s at ≡ e → Tells s (withEntry pre e) (at + sizeOf e)
 tells-more s pre at e r x =
     let l : length (withEntry pre e) ≡ length pre + 1 = length-append pre (e ∷ []) in
     record {
@@ -90,7 +90,7 @@ tells-more s pre at e r x =
     }
 
 -- the cells by the bytes are those by the entries
-played-on : (ps s : List ℕ) (pre : List Entry) (e : Entry) (t : List ℤ) → entriesAt s 0 (length pre) ≡ pre → playedBy ps e s (length pre) (marksOf pre) t ≡ playedOn ps e pre t
+pub played-on : (ps s : List ℕ) (pre : List Entry) (e : Entry) (t : List ℤ) → entriesAt s 0 (length pre) ≡ pre → playedBy ps e s (length pre) (marksOf pre) t ≡ playedOn ps e pre t
 played-on ps s pre (Set g c o v) t q = refl
 played-on ps s pre (Open k) t q = refl
 played-on ps s pre (Release k) t q = refl
