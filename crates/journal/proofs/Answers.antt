@@ -33,7 +33,7 @@ no-refused : {A : Type 0} {r : Refusal} → _≡_ {A = Checked} (C.Refused r) C.
 no-refused e = let z : _≡_ {A = ℕ} 0 1 = cc in absurd (omega arith)
 
 -- a walk over all of the bytes used
-whole-right : (place used : ℕ) → whole place used ≡ C.Right → place ≡ used
+pub whole-right : (place used : ℕ) → whole place used ≡ C.Right → place ≡ used
 whole-right place used e = by (eqb place used) refl e
   where
     by : (b : Bool) → eqb place used ≡ b → cond b C.Right (C.Refused (BadEntry place)) ≡ C.Right → place ≡ used

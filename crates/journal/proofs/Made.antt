@@ -254,6 +254,10 @@ module _ (ns : List ℕ) (t₀ : List ℤ) where
             fit = fit-call c t fits (s .fine) (s .fit);
           }
 
+      pub entries-done : stands-done .entries ≡ withEntry es e
+      unfolding stands-done
+      entries-done = refl
+
       model-done : onStack ps c (stackOf k ts) ≡ stackOf (kept (cellsOn ps c es t) (over (k .used) (textOf e) (k .journal)) (k .used + bytesFor c)) saved
       model-done =
           let z : length (k .journal) - k .used - bytesFor c ≡ length (over (k .used) (textOf e) (k .journal)) - (k .used + bytesFor c) = omega (arith, long) in
@@ -304,7 +308,7 @@ module _ (ns : List ℕ) (t₀ : List ℤ) where
       let a = after-calls cs (leftBy ns c k (answerTo ns c k)) (n .saved) (f .1) (n .stands) in
       record { saved = a .saved; model = ap (modelRun ns cs) (n .model) ∙ a .model; stands = a .stands }
 
-  pub fresh : (j : List ℕ) → Fit t₀ → Stands (kept t₀ j 0) []
+  unfoldable pub fresh : (j : List ℕ) → Fit t₀ → Stands (kept t₀ j 0) []
   unfolding journalText marksFrom
   fresh j f =
       record { entries = []; inside = omega arith; bytes = take-none j; fine = fine-none; held = none; leads = leads-none; few = omega arith; fit = f }
