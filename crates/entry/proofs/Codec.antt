@@ -8,7 +8,7 @@ use native.Mathlib.Nat.{zero-add}
 use native.Mathlib.Omega.{arith}
 use lib.Dec.{ltb, eqb}
 use lib.IntN.{ℤ, pos, negsuc}
-use lib.ListN.{length, getD, take, drop, length-append, length-drop, take-append-drop}
+use lib.ListN.{length, getD, take, drop, length-append, length-drop, length-take, take-append-drop}
 use lib.Seq.{take-at, drop-at, drop-drop, take-take, length-take-le}
 use borrow.Author.Tests.{lt-ltb, le-ltb, ne-eqb, eq-eqb, ltb-false, eqb-true}
 use mir.Syntax.{w64}
@@ -202,3 +202,29 @@ field-read (a ∷ []) h n = absurd (n refl)
 field-read (a ∷ b ∷ []) h n = absurd (n refl)
 field-read (a ∷ b ∷ c ∷ []) h n = absurd (n refl)
 field-read (a ∷ b ∷ c ∷ d ∷ r) h n = read-long a b c d r h n
+
+-- ---- a field that is cut short
+
+few-bytes : (xs : List ℕ) → length xs < 4 → fieldOf xs ≡ Misformed
+unfolding fieldOf
+few-bytes xs h = rw (lt-ltb (length xs) 4 h)
+
+set-cut : (d : ℕ) (r : List ℕ) → length r < 18 → fieldOf (1 ∷ 0 ∷ 19 ∷ d ∷ r) ≡ Misformed
+unfolding fieldOf
+set-cut d r h = rw (le-ltb (suc (suc (suc (suc (length r))))) 4 (omega arith), lt-ltb (suc (suc (suc (suc (length r))))) 22 (omega arith))
+
+cut-set : (m : ℕ) (body : List ℕ) → length body ≡ 19 → m < 22 → fieldOf (take m (1 ∷ 0 ∷ 19 ∷ body)) ≡ Misformed
+cut-set zero body l h = few-bytes [] (omega arith)
+cut-set (suc zero) body l h = rw (take-none (0 ∷ 19 ∷ body)) (few-bytes (1 ∷ []) (omega arith))
+cut-set (suc (suc zero)) body l h = rw (take-none (19 ∷ body)) (few-bytes (1 ∷ 0 ∷ []) (omega arith))
+cut-set (suc (suc (suc zero))) body l h = rw (take-none body) (few-bytes (1 ∷ 0 ∷ 19 ∷ []) (omega arith))
+cut-set (suc (suc (suc (suc m)))) [] l h = absurd (omega arith)
+cut-set (suc (suc (suc (suc m)))) (d ∷ r) l h = set-cut d (take m r) (omega (arith, length-take m r))
+
+-- a beginning of a field that is not all of it tells nothing
+pub field-cut : (e : Entry) (m : ℕ) → m < sizeOf e → fieldOf (take m (textOf e)) ≡ Misformed
+field-cut (Set g c o n) m h = rw (text-set g c o n) (cut-set m (setBody g c o n) (set-length g c o n) h)
+field-cut (Open k) m h = few-bytes (take m (textOf (Open k))) (omega (arith, length-take m (textOf (Open k))))
+field-cut (Release k) m h = few-bytes (take m (textOf (Release k))) (omega (arith, length-take m (textOf (Release k))))
+field-cut (Undo k) m h = few-bytes (take m (textOf (Undo k))) (omega (arith, length-take m (textOf (Undo k))))
+field-cut Misformed m h = absurd (omega arith)

@@ -9,9 +9,9 @@ use native.Mathlib.Nat.{sub-zero}
 use native.Mathlib.Omega.{arith}
 use lib.Dec.{ltb, leb, eqb}
 use lib.IntN.{ℤ, pos}
-use lib.ListN.{length, getD, set, drop, take, length-drop}
+use lib.ListN.{length, getD, set, drop, take, length-drop, length-append, take-append-drop}
 use Rattle.base.proofs.Taken.{drop-none, take-none}
-use lib.Seq.{getD-set-same, getD-set-other, set-out, length-take-le}
+use lib.Seq.{take-take, getD-set-same, getD-set-other, set-out, length-take-le}
 use borrow.Author.Tests.{eqb-true, eqb-false, ltb-true, ltb-false, eq-eqb, lt-ltb}
 use mir.Syntax.{w64}
 use mir.Val.{SFits}
@@ -26,7 +26,7 @@ use Rattle.reply.specs.declared.Answer.{Answer}
 use Rattle.reply.specs.declared.Answer.the-variants.{Done, Refused}
 use Rattle.entry.specs.declared.Entry.{Entry}
 use Rattle.entry.specs.declared.Entry.the-variants.{Set, Open, Release, Undo, Misformed}
-use Rattle.entry.specs.Field.{textOf, sizeOf}
+use Rattle.entry.specs.Field.{textOf, sizeOf, fieldOf}
 use Rattle.entry.proofs.Codec.{Sized, sized-set, sized-open, sized-release, sized-undo, length-text}
 use Rattle.journal.specs.declared.Spot.{Spot}
 use Rattle.journal.specs.declared.Spot.the-variants.{At, Nowhere}
@@ -42,7 +42,7 @@ use Rattle.journal.proofs.Held.{Holds, none, holds-length, holds-mark, 
 use Rattle.journal.proofs.Text.{Fine, fine-none, fine-more, fine-last, text-length, walk-journal, back-journal, text-more, used-more}
 use Rattle.journal.proofs.Walking.{no-way, ok-open, ok-release, ok-undo}
 use Rattle.journal.proofs.Playing.{same-same}
-use Rattle.journal.proofs.Replays.{Leads, leads-none, leads-last, playedOn, play-journal}
+use Rattle.journal.proofs.Replays.{Leads, leads-none, leads-last, playedOn, play-cut, play-journal}
 use Rattle.journal.proofs.Small.{cell-small}
 
 -- ---- cells of 64 bits
@@ -331,6 +331,19 @@ module _ (ns : List ℕ) (t₀ : List ℤ) where
         cells = ap (λ x. x .cells) p;
         opened = ap (λ x. length (x .marks)) p ∙ sym (ap (λ w. length (w .marks)) (walk-is Opens k ts s));
       }
+
+-- ---- the first bytes of it
+
+module _ (ns : List ℕ) (t₀ : List ℤ) (right : checkedOf ns (length t₀) ≡ C.Right) where
+  -- bytes that begin as those kept, and go on with what is no field
+  cut-here : (k : Kept) (ts : List (List ℤ)) (j : List ℕ) (n : ℕ) → Stands ns t₀ k ts → k .used ≤ n → take (k .used) j ≡ take (k .used) (k .journal) → fieldOf (drop (k .used) (take n j)) ≡ Misformed → replayOf ns j n t₀ ≡ whole (k .used) n
+  unfolding replayOf
+  cut-here k ts j n s l q x =
+      let es = s .entries in
+      let b : take n j ≡ journalText es ++ drop (k .used) (take n j) = sym (take-append-drop (k .used) (take n j)) ∙ ap (λ y. y ++ drop (k .used) (take n j)) (take-take (k .used) n j l ∙ q ∙ s .bytes) in
+      let m : length es ≤ length (take n j) = omega (arith, ap length b, length-append (journalText es) (drop (k .used) (take n j)), text-length (s .fine)) in
+      let p = ap (λ r. r .place) (play-cut (take n j) (drop (k .used) (take n j)) x es (s .leads) b m) ∙ used-is ns t₀ Opens k ts s in
+      rw (right, p) refl
 
 module _ (ns : List ℕ) (t : List ℤ) (j : List ℕ) (cs : List Call) (ft : Fit t) (fc : FitCalls cs) where
   -- R516: every reply, all cells and the open savepoints are those of the stack

@@ -2,7 +2,8 @@
 -- comes to the same cells and savepoints.
 -- Assumes nothing.
 use mathlib.Core.Path.{_≡_, refl, sym, ap, _∙_, subst}
-use mathlib.Core.Bool.{true}
+use mathlib.Core.Bool.{Bool, true, false, cond}
+use lib.Dec.{ltb}
 use mathlib.Core.List.{List, [], _∷_, _++_, append-assoc, append-nil}
 use Prim.Native.Nat.{ℕ, zero, suc, _+_, _-_, _<_, _≤_}
 use native.Mathlib.Nat.{zero-add}
@@ -22,7 +23,6 @@ use Rattle.journal.specs.Walks.{okEntry}
 use Rattle.journal.specs.Plays.{matches, playedBy, Run, ran, playFrom, playOf}
 use Rattle.journal.proofs.Places.{entries-from, entries-one, place-next}
 use Rattle.journal.proofs.Walking.{ok-size}
-use Rattle.journal.proofs.Playing.{play-end}
 use Rattle.journal.proofs.Held.{withEntry, marks-entry}
 
 -- the cells behind an entry, with those before it
@@ -99,23 +99,45 @@ played-on ps s pre (Undo k) t q =
     ap (λ l. restore ps l t) (entries-from s m (length pre) (marks-below pre (length (marksOf pre) - k)) ∙ ap (drop m) q)
 played-on ps s pre Misformed t q = refl
 
-module _ {ps : List ℕ} (s : List ℕ) where
-  play-text : {t u : List ℤ} (pre es : List Entry) (at f : ℕ) → Leads ps pre es t u → Tells s pre at → drop at s ≡ journalText es → at + length (journalText es) ≡ length s → length es ≤ f → playFrom f ps s at (length pre) (marksOf pre) t ≡ ran (length s) (length (pre ++ es)) (marksOf (pre ++ es)) u
+-- a replay stops at what is no field
+play-stuck : (f : ℕ) (ps s : List ℕ) (p n : ℕ) (ms : List ℕ) (t : List ℤ) → fieldAt s p ≡ Misformed → playFrom f ps s p n ms t ≡ ran p n ms t
+unfolding playFrom
+play-stuck zero ps s p n ms t x = refl
+play-stuck (suc f) ps s p n ms t x = rw x (both (ltb p (length s)))
+  where
+    both : (b : Bool) → cond b (ran p n ms t) (ran p n ms t) ≡ ran p n ms t
+    both true = refl
+    both false = refl
+
+-- x is what stands behind the fields: nothing, or part of a field
+module _ {ps : List ℕ} (s x : List ℕ) (stuck : fieldOf x ≡ Misformed) where
+  play-text : {t u : List ℤ} (pre es : List Entry) (at f : ℕ) → Leads ps pre es t u → Tells s pre at → drop at s ≡ journalText es ++ x → at + length (journalText es) + length x ≡ length s → length es ≤ f → playFrom f ps s at (length pre) (marksOf pre) t ≡ ran (at + length (journalText es)) (length (pre ++ es)) (marksOf (pre ++ es)) u
   unfolding journalText playFrom
   play-text {t} pre [] at f leads-none r q y h =
-      let a : at ≡ length s = omega arith in
-      play-end f ps s at (length pre) (marksOf pre) t (omega arith) ∙ rw (a, append-nil pre)
+      let a : at + 0 ≡ at = omega arith in
+      play-stuck f ps s at (length pre) (marksOf pre) t (ap fieldOf q ∙ stuck) ∙ rw (a, append-nil pre)
   play-text pre (e ∷ es) at zero g r q y h = absurd (omega arith)
   play-text {t} {u} pre (e ∷ es) at (suc f) (leads-more z o m g) r q y h =
-      let x : fieldAt s at ≡ e = ap fieldOf q ∙ field-text e (journalText es) z in
+      let q″ : drop at s ≡ textOf e ++ (journalText es ++ x) = q ∙ append-assoc (textOf e) (journalText es) x in
+      let w : fieldAt s at ≡ e = ap fieldOf q″ ∙ field-text e (journalText es ++ x) z in
       let k = ok-size ps (length (marksOf pre)) e o in
-      let w : length (textOf e ++ journalText es) ≡ sizeOf e + length (journalText es) = length-append (textOf e) (journalText es) ∙ ap (λ n. n + length (journalText es)) (length-text e) in
-      let q′ : drop (at + sizeOf e) s ≡ journalText es = sym (drop-drop (sizeOf e) at s) ∙ ap (drop (sizeOf e)) q ∙ drop-at (textOf e) (journalText es) (sizeOf e) (length-text e) in
+      let v : length (textOf e ++ journalText es) ≡ sizeOf e + length (journalText es) = length-append (textOf e) (journalText es) ∙ ap (λ n. n + length (journalText es)) (length-text e) in
+      let q′ : drop (at + sizeOf e) s ≡ journalText es ++ x = sym (drop-drop (sizeOf e) at s) ∙ ap (drop (sizeOf e)) q″ ∙ drop-at (textOf e) (journalText es ++ x) (sizeOf e) (length-text e) in
       let l : length (withEntry pre e) ≡ length pre + 1 = length-append pre (e ∷ []) in
-      let n = play-text (withEntry pre e) es (at + sizeOf e) f g (tells-more s pre at e r x) q′ (omega arith) (omega arith) in
-      rw (lt-ltb at (length s) (omega arith), x, o, m, played-on ps s pre e t (r .reads), ← append-assoc pre (e ∷ []) es) (rw (l, marks-entry pre e) at n)
+      let a : at + sizeOf e + length (journalText es) ≡ at + length (textOf e ++ journalText es) = omega arith in
+      let n = play-text (withEntry pre e) es (at + sizeOf e) f g (tells-more s pre at e r w) q′ (omega arith) (omega arith) in
+      rw (lt-ltb at (length s) (omega arith), w, o, m, played-on ps s pre e t (r .reads), ← append-assoc pre (e ∷ []) es, ← a) (rw (l, marks-entry pre e) at n)
 
-  pub play-journal : {t u : List ℤ} (es : List Entry) → Leads ps [] es t u → s ≡ journalText es → length es ≤ length s → playOf ps s t ≡ ran (length s) (length es) (marksOf es) u
+  pub play-cut : {t u : List ℤ} (es : List Entry) → Leads ps [] es t u → s ≡ journalText es ++ x → length es ≤ length s → playOf ps s t ≡ ran (length (journalText es)) (length es) (marksOf es) u
   unfolding playOf entriesAt placeAt marksFrom
-  play-journal es g q h =
-      play-text [] es 0 (length s) g (record { ends = refl; reads = refl }) (drop-none s ∙ q) (zero-add (length (journalText es)) ∙ ap length (sym q)) h
+  play-cut es g q h =
+      let z : 0 + length (journalText es) ≡ length (journalText es) = zero-add (length (journalText es)) in
+      let y : 0 + length (journalText es) + length x ≡ length s = rw z (sym (ap length q ∙ length-append (journalText es) x)) in
+      play-text [] es 0 (length s) g (record { ends = refl; reads = refl }) (drop-none s ∙ q) y h ∙ rw z
+
+no-field : fieldOf [] ≡ Misformed
+unfolding fieldOf
+no-field = refl
+
+pub play-journal : {ps : List ℕ} {t u : List ℤ} (s : List ℕ) (es : List Entry) → Leads ps [] es t u → s ≡ journalText es → length es ≤ length s → playOf ps s t ≡ ran (length s) (length es) (marksOf es) u
+play-journal {u = u} s es g q h = play-cut s [] no-field es g (q ∙ sym (append-nil (journalText es))) h ∙ ap (λ n. ran n (length es) (marksOf es) u) (ap length (sym q))
