@@ -4,14 +4,15 @@
 use mathlib.Core.Path.{_≡_, refl, sym, ap, ap₂, _∙_, subst}
 use mathlib.Core.Bool.{Bool, true, false, cond}
 use mathlib.Core.List.{List, [], _∷_, _++_}
+use mathlib.Core.Logic.{_⊎_, inl, inr}
 use Prim.Native.Nat.{ℕ, zero, suc, _+_, _-_, _<_, _≤_}
 use native.Mathlib.Nat.{sub-zero}
 use native.Mathlib.Omega.{arith}
 use lib.Dec.{ltb, leb, eqb}
 use lib.IntN.{ℤ, pos}
 use lib.ListN.{length, getD, set, drop, take, length-drop, length-append, take-append-drop}
-use Rattle.base.proofs.Taken.{drop-none, take-none}
-use lib.Seq.{take-take, getD-set-same, getD-set-other, set-out, length-take-le}
+use Rattle.base.proofs.Taken.{drop-none, take-none, drop-take}
+use lib.Seq.{take-take, take-at, drop-at, take-append-le, getD-set-same, getD-set-other, set-out, length-take-le}
 use borrow.Author.Tests.{eqb-true, eqb-false, ltb-true, ltb-false, eq-eqb, lt-ltb}
 use mir.Syntax.{w64}
 use mir.Val.{SFits}
@@ -345,6 +346,54 @@ module _ (ns : List ℕ) (t₀ : List ℤ) (right : checkedOf ns (length t₀) �
       let p = ap (λ r. r .place) (play-cut (take n j) (drop (k .used) (take n j)) x es (s .leads) b m) ∙ used-is ns t₀ Opens k ts s in
       rw (right, p) refl
 
+  -- what a call leaves: all as it was, or a field behind the bytes used
+  pub record Adds (k k′ : Kept) : Type 0 where
+    pub entry : Entry
+    pub journal : k′ .journal ≡ over (k .used) (textOf entry) (k .journal)
+    pub used : k′ .used ≡ k .used + sizeOf entry
+
+  pub adds : (c : Call) (k : Kept) → (leftBy ns c k (answerTo ns c k) ≡ k) ⊎ Adds k (leftBy ns c k (answerTo ns c k))
+  adds c k = by (answerTo ns c k) refl
+    where
+      by : (a : Answer) → answerTo ns c k ≡ a → (leftBy ns c k (answerTo ns c k) ≡ k) ⊎ Adds k (leftBy ns c k (answerTo ns c k))
+      by (Refused r) q = inl (ap (leftBy ns c k) q)
+      by (Done n) q =
+          let e = entryFor (startsOf ns) c (length (walkIn ns (k .journal) (k .used) .marks)) (k .cells) in
+          inr record {
+            entry = e;
+            journal = ap (λ a. leftBy ns c k a .journal) q;
+            used = ap (λ a. leftBy ns c k a .used) q ∙ ap (λ m. k .used + m) (sym (entry-size ns t₀ c (length (walkIn ns (k .journal) (k .used) .marks)) (k .cells)));
+          }
+
+  module _ (k k′ : Kept) (in′ : k .used ≤ length (k .journal)) where
+    long-used : length (take (k .used) (k .journal)) ≡ k .used
+    long-used = length-take-le (k .used) (k .journal) in′
+
+    adds-keeps : Adds k k′ → take (k .used) (k′ .journal) ≡ take (k .used) (k .journal)
+    adds-keeps a = ap (take (k .used)) (a .journal) ∙ take-at (take (k .used) (k .journal)) _ (k .used) long-used
+
+    adds-cut : (a : Adds k k′) (n : ℕ) → k .used ≤ n → n < k′ .used → drop (k .used) (take n (k′ .journal)) ≡ take (n - k .used) (textOf (a .entry))
+    adds-cut a n l h =
+        let x = textOf (a .entry) in
+        let m : n - k .used ≤ length x = omega (arith, a .used, length-text (a .entry)) in
+        drop-take (k .used) n (k′ .journal) ∙ ap (λ y. take (n - k .used) (drop (k .used) y)) (a .journal)
+        ∙ ap (take (n - k .used)) (drop-at (take (k .used) (k .journal)) (x ++ drop (k .used + length x) (k .journal)) (k .used) long-used) ∙ take-append-le (n - k .used) x (drop (k .used + length x) (k .journal)) m
+
+  -- the bytes used stay
+  keeps : (cs : List Call) (k : Kept) (ts : List (List ℤ)) → FitCalls cs → Stands ns t₀ k ts → (k .used ≤ leftTo ns cs k .used) × (take (k .used) (leftTo ns cs k .journal) ≡ take (k .used) (k .journal))
+  keeps [] k ts f s = (omega arith, refl)
+  keeps (c ∷ cs) k ts f s =
+      let n = next ns t₀ c k ts s (f .0) in
+      let k′ = leftBy ns c k (answerTo ns c k) in
+      let r = keeps cs k′ (n .saved) (f .1) (n .stands) in
+      one (adds c k) r
+    where
+      one : (leftBy ns c k (answerTo ns c k) ≡ k) ⊎ Adds k (leftBy ns c k (answerTo ns c k)) → (leftBy ns c k (answerTo ns c k) .used ≤ leftTo ns (c ∷ cs) k .used) × (take (leftBy ns c k (answerTo ns c k) .used) (leftTo ns (c ∷ cs) k .journal) ≡ take (leftBy ns c k (answerTo ns c k) .used) (leftBy ns c k (answerTo ns c k) .journal)) → (k .used ≤ leftTo ns (c ∷ cs) k .used) × (take (k .used) (leftTo ns (c ∷ cs) k .journal) ≡ take (k .used) (k .journal))
+      one (inl q) r = subst (λ x. (x .used ≤ leftTo ns (c ∷ cs) k .used) × (take (x .used) (leftTo ns (c ∷ cs) k .journal) ≡ take (x .used) (x .journal))) q r
+      one (inr a) r =
+          let k′ = leftBy ns c k (answerTo ns c k) in
+          let l : k .used ≤ k′ .used = omega (arith, a .used) in
+          (omega (arith, r .0), sym (take-take (k .used) (k′ .used) (leftTo ns (c ∷ cs) k .journal) l) ∙ ap (take (k .used)) (r .1) ∙ take-take (k .used) (k′ .used) (k′ .journal) l ∙ adds-keeps k k′ (s .inside) a)
 module _ (ns : List ℕ) (t : List ℤ) (j : List ℕ) (cs : List Call) (ft : Fit t) (fc : FitCalls cs) where
   -- R516: every reply, all cells and the open savepoints are those of the stack
   pub journal-is-stack : JournalIsStack ns t j cs
