@@ -10,7 +10,7 @@ use native.Mathlib.Nat.{sub-zero}
 use native.Mathlib.Omega.{arith}
 use lib.Dec.{ltb, leb, eqb}
 use lib.IntN.{ℤ, pos}
-use lib.ListN.{length, getD, set, drop, take, length-drop, length-append, take-append-drop}
+use lib.ListN.{length, getD, set, drop, take, length-drop, length-append, length-take, take-append-drop, drop-of-length-le}
 use Rattle.base.proofs.Taken.{drop-none, take-none, drop-take}
 use lib.Seq.{take-take, take-at, drop-at, take-append-le, getD-set-same, getD-set-other, set-out, length-take-le}
 use borrow.Author.Tests.{eqb-true, eqb-false, ltb-true, ltb-false, eq-eqb, lt-ltb}
@@ -18,6 +18,7 @@ use mir.Syntax.{w64}
 use mir.Val.{SFits}
 use Rattle.base.specs.Part.{over}
 use Rattle.base.proofs.Part.{over-length}
+use Rattle.base.proofs.Order.{le-or-lt}
 use Rattle.count.specs.Check.{checkedOf}
 use Rattle.reply.specs.declared.Refusal.{Refusal}
 use Rattle.reply.specs.declared.Refusal.the-variants.{NoRoom}
@@ -28,7 +29,7 @@ use Rattle.reply.specs.declared.Answer.the-variants.{Done, Refused}
 use Rattle.entry.specs.declared.Entry.{Entry}
 use Rattle.entry.specs.declared.Entry.the-variants.{Set, Open, Release, Undo, Misformed}
 use Rattle.entry.specs.Field.{textOf, sizeOf, fieldOf}
-use Rattle.entry.proofs.Codec.{Sized, sized-set, sized-open, sized-release, sized-undo, length-text}
+use Rattle.entry.proofs.Codec.{Sized, sized-set, sized-open, sized-release, sized-undo, length-text, field-cut}
 use Rattle.journal.specs.declared.Spot.{Spot}
 use Rattle.journal.specs.declared.Spot.the-variants.{At, Nowhere}
 use Rattle.journal.specs.Layout.{startsOf, spotOf, exists, getAt, putAt}
@@ -37,13 +38,13 @@ use Rattle.journal.specs.Entries.{markStep, marksFrom, marksOf, markOf, 
 use Rattle.journal.specs.Walks.{okEntry, Walked, walked, walkOf}
 use Rattle.journal.specs.Calls.{andThen, whole, entryFor, cellsFor, walkIn, standingOf, answerOf}
 use Rattle.journal.specs.Plays.{matches, ran, playOf, playIn, replayOf}
-use Rattle.journal.specs.Runs.{Kept, kept, answerTo, leftBy, answersTo, leftTo, openIn, JournalIsStack, ReplaysTo}
+use Rattle.journal.specs.Runs.{Kept, kept, answerTo, leftBy, answersTo, leftTo, openIn, JournalIsStack, ReplaysTo, Torn}
 use Rattle.journal.proofs.Answers.{answer-right, answer-refused}
 use Rattle.journal.proofs.Held.{Holds, none, holds-length, holds-mark, HeldBy, withEntry, cellsOn, marks-entry, held-cells, held-call}
 use Rattle.journal.proofs.Text.{Fine, fine-none, fine-more, fine-last, text-length, walk-journal, back-journal, text-more, used-more}
 use Rattle.journal.proofs.Walking.{no-way, ok-open, ok-release, ok-undo}
 use Rattle.journal.proofs.Playing.{same-same}
-use Rattle.journal.proofs.Replays.{Leads, leads-none, leads-last, playedOn, play-cut, play-journal}
+use Rattle.journal.proofs.Replays.{Leads, leads-none, leads-last, playedOn, play-cut, no-field, play-journal}
 use Rattle.journal.proofs.Small.{cell-small}
 
 -- ---- cells of 64 bits
@@ -394,6 +395,54 @@ module _ (ns : List ℕ) (t₀ : List ℤ) (right : checkedOf ns (length t₀) �
           let k′ = leftBy ns c k (answerTo ns c k) in
           let l : k .used ≤ k′ .used = omega (arith, a .used) in
           (omega (arith, r .0), sym (take-take (k .used) (k′ .used) (leftTo ns (c ∷ cs) k .journal) l) ∙ ap (take (k .used)) (r .1) ∙ take-take (k .used) (k′ .used) (k′ .journal) l ∙ adds-keeps k k′ (s .inside) a)
+
+  -- the same bytes used in another buffer
+  moved : (k : Kept) (ts : List (List ℤ)) (j : List ℕ) → Stands ns t₀ k ts → take (k .used) j ≡ take (k .used) (k .journal) → Stands ns t₀ (kept (k .cells) j (k .used)) ts
+  moved k ts j s q =
+      record {
+        entries = s .entries;
+        inside = omega (arith, length-take (k .used) j, ap length q, length-take-le (k .used) (k .journal) (s .inside));
+        bytes = q ∙ s .bytes;
+        fine = s .fine;
+        held = s .held;
+        leads = s .leads;
+        few = s .few;
+        fit = s .fit;
+      }
+
+  pub torn : (cs : List Call) (k : Kept) (ts : List (List ℤ)) (n : ℕ) → FitCalls cs → Stands ns t₀ k ts → k .used ≤ n → n ≤ leftTo ns cs k .used → Torn ns t₀ cs k n
+  torn [] k ts n f s l h =
+      let z : length (take n (k .journal)) ≤ k .used = omega (arith, length-take n (k .journal)) in
+      record {
+        calls = 0;
+        before = l;
+        answer = cut-here k ts (k .journal) n s l refl (ap fieldOf (drop-of-length-le (take n (k .journal)) {i = k .used} z) ∙ no-field);
+        rest = replay-stands ns t₀ k ts s right;
+      }
+  torn (c ∷ cs) k ts n f s l h =
+      let x = next ns t₀ c k ts s (f .0) in
+      let k′ = leftBy ns c k (answerTo ns c k) in
+      by (le-or-lt (k′ .used) n) (λ m. torn cs k′ (x .saved) n (f .1) (x .stands) m h) (keeps (c ∷ cs) k ts f s .1) (keeps cs k′ (x .saved) (f .1) (x .stands) .1) (adds c k)
+    where
+      by : (leftBy ns c k (answerTo ns c k) .used ≤ n) ⊎ (n < leftBy ns c k (answerTo ns c k) .used) → (leftBy ns c k (answerTo ns c k) .used ≤ n → Torn ns t₀ cs (leftBy ns c k (answerTo ns c k)) n) → take (k .used) (leftTo ns (c ∷ cs) k .journal) ≡ take (k .used) (k .journal) → take (leftBy ns c k (answerTo ns c k) .used) (leftTo ns (c ∷ cs) k .journal) ≡ take (leftBy ns c k (answerTo ns c k) .used) (leftBy ns c k (answerTo ns c k) .journal) → (leftBy ns c k (answerTo ns c k) ≡ k) ⊎ Adds k (leftBy ns c k (answerTo ns c k)) → Torn ns t₀ (c ∷ cs) k n
+      by (inl m) ih q r a =
+          let b = ih m in
+          record { calls = suc (b .calls); before = b .before; answer = b .answer; rest = b .rest }
+      by (inr m) ih q r (inl e) = absurd (omega (arith, ap (λ y. y .used) e))
+      by (inr m) ih q r (inr a) =
+          let k′ = leftBy ns c k (answerTo ns c k) in
+          let j = leftTo ns (c ∷ cs) k .journal in
+          let w : n ≤ k′ .used = omega arith in
+          let y : take n j ≡ take n (k′ .journal) = sym (take-take n (k′ .used) j w) ∙ ap (take n) r ∙ take-take n (k′ .used) (k′ .journal) w in
+          let v : drop (k .used) (take n j) ≡ take (n - k .used) (textOf (a .entry)) = ap (drop (k .used)) y ∙ adds-cut k k′ (s .inside) a n l m in
+          let u = field-cut (a .entry) (n - k .used) (omega (arith, a .used)) in
+          record {
+            calls = 0;
+            before = l;
+            answer = cut-here k ts j n s l q (ap fieldOf v ∙ u);
+            rest = replay-stands ns t₀ (kept (k .cells) j (k .used)) ts (moved k ts j s q) right;
+          }
+
 module _ (ns : List ℕ) (t : List ℤ) (j : List ℕ) (cs : List Call) (ft : Fit t) (fc : FitCalls cs) where
   -- R516: every reply, all cells and the open savepoints are those of the stack
   pub journal-is-stack : JournalIsStack ns t j cs
@@ -412,3 +461,7 @@ module _ (ns : List ℕ) (t : List ℤ) (j : List ℕ) (cs : List Call) (ft : Fi
   replay-same r =
       let a = after-calls ns t cs (kept t j 0) [] fc (fresh ns t j ft) in
       replay-stands ns t (leftTo ns cs (kept t j 0)) (a .saved) (a .stands) r
+
+  -- R544: cut at any byte
+  pub torn-calls : checkedOf ns (length t) ≡ C.Right → (n : ℕ) → n ≤ leftTo ns cs (kept t j 0) .used → Torn ns t cs (kept t j 0) n
+  torn-calls r n h = torn ns t r cs (kept t j 0) [] n fc (fresh ns t j ft) (omega arith) h

@@ -135,7 +135,7 @@ module _ {ps : List ℕ} (s x : List ℕ) (stuck : fieldOf x ≡ Misformed) wher
       let y : 0 + length (journalText es) + length x ≡ length s = rw z (sym (ap length q ∙ length-append (journalText es) x)) in
       play-text [] es 0 (length s) g (record { ends = refl; reads = refl }) (drop-none s ∙ q) y h ∙ rw z
 
-no-field : fieldOf [] ≡ Misformed
+pub no-field : fieldOf [] ≡ Misformed
 unfolding fieldOf
 no-field = refl
 
