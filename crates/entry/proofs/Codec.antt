@@ -1,6 +1,6 @@
 -- R520 to R524: what is written for an entry reads as the entry, whatever stands behind; what is read from bytes is written as these bytes.
 -- Assumes nothing.
-use mathlib.Core.Path.{_≡_, refl, sym, ap, _∙_, subst}
+use mathlib.Core.Path.{_≡_, refl, sym, ap, ap₂, _∙_}
 use mathlib.Core.Bool.{Bool, true, false, cond}
 use mathlib.Core.List.{List, [], _∷_, _++_, append-assoc}
 use Prim.Native.Nat.{ℕ, zero, suc, _+_, _-_, _*_, _/_, _%_, _^_, _<_, _≤_}
@@ -8,12 +8,13 @@ use native.Mathlib.Nat.{zero-add}
 use native.Mathlib.Omega.{arith}
 use lib.Dec.{ltb, eqb}
 use lib.IntN.{ℤ, pos, negsuc}
-use lib.ListN.{length, getD, take, drop, length-append, length-drop}
-use lib.Seq.{take-at, drop-at, drop-drop, getD-drop}
+use lib.ListN.{length, getD, take, drop, length-append, length-drop, length-take, take-append-drop}
+use lib.Seq.{take-at, drop-at, drop-drop, take-take, length-take-le}
 use borrow.Author.Tests.{lt-ltb, le-ltb, ne-eqb, eq-eqb, ltb-false, eqb-true}
 use mir.Syntax.{w64}
 use mir.Val.{SFits}
 use Rattle.base.proofs.Choice.{cond-elim}
+use Rattle.base.proofs.Taken.{take-none, drop-take}
 use Rattle.entry.specs.declared.Entry.{Entry}
 use Rattle.entry.specs.declared.Entry.the-variants.{Set, Open, Release, Undo, Misformed}
 use Rattle.entry.specs.Bytes.{bytesOf, valueFrom, bitsOf, cellOf, AllBytes}
@@ -112,3 +113,118 @@ field-text (Set g c o n) r h = set-back g c o n r h
 field-text (Open k) r (sized-open h) = numbered-back 2 k r (omega arith) h
 field-text (Release k) r (sized-release h) = numbered-back 3 k r (omega arith) h
 field-text (Undo k) r (sized-undo h) = numbered-back 4 k r (omega arith) h
+
+-- ---- what is read is written as it stood
+
+pub bytes-take : (n : ℕ) (s : List ℕ) → AllBytes s → AllBytes (take n s)
+bytes-take zero [] h = tt
+bytes-take zero (b ∷ s) h = tt
+bytes-take (suc n) [] h = tt
+bytes-take (suc n) (b ∷ s) h = (h .0, bytes-take n s (h .1))
+
+pub bytes-drop : (n : ℕ) (s : List ℕ) → AllBytes s → AllBytes (drop n s)
+bytes-drop zero [] h = tt
+bytes-drop zero (b ∷ s) h = h
+bytes-drop (suc n) [] h = tt
+bytes-drop (suc n) (b ∷ s) h = bytes-drop n s (h .1)
+
+take-plus : (m n : ℕ) (s : List ℕ) → take (m + n) s ≡ take m s ++ take n (drop m s)
+take-plus m n s =
+    let z : m + n - m ≡ n = omega arith in
+    sym (take-append-drop m (take (m + n) s)) ∙ ap₂ _++_ (take-take m (m + n) s (omega arith)) (drop-take m (m + n) s ∙ ap (λ k. take k (drop m s)) z)
+
+-- the bytes of an entry's field are its text
+pub record Reads (xs : List ℕ) (e : Entry) : Type 0 where
+  pub text : take (sizeOf e) xs ≡ textOf e
+  pub sized : Sized e
+
+module _ (a b c d : ℕ) (r : List ℕ) (h : AllBytes (a ∷ b ∷ c ∷ d ∷ r)) where
+  abbrev xs : List ℕ
+  xs = a ∷ b ∷ c ∷ d ∷ r
+
+  abbrev Read : Entry → Type 0
+  Read e = (e ≡ Misformed → ⊥) → Reads xs e
+
+  bad : Read Misformed
+  bad n = absurd (n refl)
+
+  four : (tag : ℕ) → tag < 256 → a ≡ tag → b ≡ 0 → c ≡ 1 → take 4 xs ≡ tagged tag (bytesOf 1 d)
+  four tag l ea eb ec = rw (ea, eb, ec, take-none r) (sym (numbered-text tag d l ∙ ap (λ x. tag ∷ 0 ∷ 1 ∷ x) (one d (h .1 .1 .1 .0))))
+
+  read-numbered : b ≡ 0 → c ≡ 1 → Read (numbered a d)
+  unfolding textOf
+  read-numbered eb ec =
+      let l : d < 256 = h .1 .1 .1 .0 in
+      cond-elim Read (eqb a 2) (λ q n. record { text = four 2 (omega arith) (eqb-true a 2 q) eb ec; sized = sized-open l }) (λ _.
+      cond-elim Read (eqb a 3) (λ q n. record { text = four 3 (omega arith) (eqb-true a 3 q) eb ec; sized = sized-release l }) (λ _.
+      cond-elim Read (eqb a 4) (λ q n. record { text = four 4 (omega arith) (eqb-true a 4 q) eb ec; sized = sized-undo l }) (λ _. bad)))
+
+  read-set : a ≡ 1 → b ≡ 0 → c ≡ 19 → 18 ≤ length r → Reads xs (setOf xs)
+  read-set ea eb ec l =
+      let g = take 1 (d ∷ r) in
+      let x = take 2 r in
+      let y = take 8 (drop 2 r) in
+      let z = take 8 (drop 10 r) in
+      let rest = h .1 .1 .1 .1 in
+      let hg : AllBytes g = bytes-take 1 (d ∷ r) (h .1 .1 .1) in
+      let hx : AllBytes x = bytes-take 2 r rest in
+      let hy : AllBytes y = bytes-take 8 (drop 2 r) (bytes-drop 2 r rest) in
+      let hz : AllBytes z = bytes-take 8 (drop 10 r) (bytes-drop 10 r rest) in
+      let lg : length g ≡ 1 = length-take-le 1 (d ∷ r) (omega arith) in
+      let lx : length x ≡ 2 = length-take-le 2 r (omega arith) in
+      let ly : length y ≡ 8 = length-take-le 8 (drop 2 r) (omega (arith, length-drop 2 r)) in
+      let lz : length z ≡ 8 = length-take-le 8 (drop 10 r) (omega (arith, length-drop 10 r)) in
+      let vy : valueFrom 0 y < 2 ^ 64 = value-small 8 y ly hy in
+      let vz : valueFrom 0 z < 2 ^ 64 = value-small 8 z lz hz in
+      let ty : bytesOf 8 (bitsOf (cellOf (valueFrom 0 y))) ≡ y = ap (bytesOf 8) (bits-cell (valueFrom 0 y) vy .0) ∙ bytes-value 8 y ly hy in
+      let tz : bytesOf 8 (bitsOf (cellOf (valueFrom 0 z))) ≡ z = ap (bytesOf 8) (bits-cell (valueFrom 0 z) vz .0) ∙ bytes-value 8 z lz hz in
+      let body : setBody (valueFrom 0 g) (valueFrom 0 x) (cellOf (valueFrom 0 y)) (cellOf (valueFrom 0 z)) ≡ g ++ (x ++ (y ++ z)) = rw (ty, tz, bytes-value 1 g lg hg, bytes-value 2 x lx hx) in
+      let cut : take 18 r ≡ x ++ (y ++ z) = take-plus 2 16 r ∙ ap (λ l. x ++ l) (take-plus 8 8 (drop 2 r) ∙ ap (λ l. y ++ take 8 l) (drop-drop 8 2 r)) in
+      record {
+        text = rw (ea, eb, ec, cut) (sym (text-set (valueFrom 0 g) (valueFrom 0 x) (cellOf (valueFrom 0 y)) (cellOf (valueFrom 0 z)) ∙ ap (λ l. 1 ∷ 0 ∷ 19 ∷ l) (body ∙ ap (λ l. (d ∷ l) ++ (x ++ (y ++ z))) (take-none r))));
+        sized = sized-set (value-small 1 g lg hg) (value-small 2 x lx hx) (bits-cell (valueFrom 0 y) vy .1) (bits-cell (valueFrom 0 z) vz .1);
+      }
+
+  read-long : Read (fieldOf xs)
+  unfolding fieldOf
+  read-long =
+      rw (le-ltb (suc (suc (suc (suc (length r))))) 4 (omega arith))
+      (cond-elim Read (eqb b 0) (λ qb.
+      cond-elim Read (eqb a 1)
+      (λ qa. cond-elim Read (eqb c 19) (λ qc. cond-elim Read (ltb (suc (suc (suc (suc (length r))))) 22) (λ _. bad) (λ q n. read-set (eqb-true a 1 qa) (eqb-true b 0 qb) (eqb-true c 19 qc) (omega (arith, ltb-false (suc (suc (suc (suc (length r))))) 22 q)))) (λ _. bad))
+      (λ _. cond-elim Read (eqb c 1) (λ qc. read-numbered (eqb-true b 0 qb) (eqb-true c 1 qc)) (λ _. bad)))
+      (λ _. bad))
+
+pub field-read : (xs : List ℕ) → AllBytes xs → (fieldOf xs ≡ Misformed → ⊥) → Reads xs (fieldOf xs)
+unfolding fieldOf
+field-read [] h n = absurd (n refl)
+field-read (a ∷ []) h n = absurd (n refl)
+field-read (a ∷ b ∷ []) h n = absurd (n refl)
+field-read (a ∷ b ∷ c ∷ []) h n = absurd (n refl)
+field-read (a ∷ b ∷ c ∷ d ∷ r) h n = read-long a b c d r h n
+
+-- ---- a field that is cut short
+
+few-bytes : (xs : List ℕ) → length xs < 4 → fieldOf xs ≡ Misformed
+unfolding fieldOf
+few-bytes xs h = rw (lt-ltb (length xs) 4 h)
+
+set-cut : (d : ℕ) (r : List ℕ) → length r < 18 → fieldOf (1 ∷ 0 ∷ 19 ∷ d ∷ r) ≡ Misformed
+unfolding fieldOf
+set-cut d r h = rw (le-ltb (suc (suc (suc (suc (length r))))) 4 (omega arith), lt-ltb (suc (suc (suc (suc (length r))))) 22 (omega arith))
+
+cut-set : (m : ℕ) (body : List ℕ) → length body ≡ 19 → m < 22 → fieldOf (take m (1 ∷ 0 ∷ 19 ∷ body)) ≡ Misformed
+cut-set zero body l h = few-bytes [] (omega arith)
+cut-set (suc zero) body l h = rw (take-none (0 ∷ 19 ∷ body)) (few-bytes (1 ∷ []) (omega arith))
+cut-set (suc (suc zero)) body l h = rw (take-none (19 ∷ body)) (few-bytes (1 ∷ 0 ∷ []) (omega arith))
+cut-set (suc (suc (suc zero))) body l h = rw (take-none body) (few-bytes (1 ∷ 0 ∷ 19 ∷ []) (omega arith))
+cut-set (suc (suc (suc (suc m)))) [] l h = absurd (omega arith)
+cut-set (suc (suc (suc (suc m)))) (d ∷ r) l h = set-cut d (take m r) (omega (arith, length-take m r))
+
+-- a beginning of a field that is not all of it tells nothing
+pub field-cut : (e : Entry) (m : ℕ) → m < sizeOf e → fieldOf (take m (textOf e)) ≡ Misformed
+field-cut (Set g c o n) m h = rw (text-set g c o n) (cut-set m (setBody g c o n) (set-length g c o n) h)
+field-cut (Open k) m h = few-bytes (take m (textOf (Open k))) (omega (arith, length-take m (textOf (Open k))))
+field-cut (Release k) m h = few-bytes (take m (textOf (Release k))) (omega (arith, length-take m (textOf (Release k))))
+field-cut (Undo k) m h = few-bytes (take m (textOf (Undo k))) (omega (arith, length-take m (textOf (Undo k))))
+field-cut Misformed m h = absurd (omega arith)

@@ -6,7 +6,8 @@ ghost use Rattle.base.specs.Part.{over};
 ghost use Rattle.entry.specs.Bytes.{bytesOf, valueFrom, bitsOf, cellOf};
 ghost use Rattle.entry.specs.Field.{textOf, sizeOf, tagged, numbered, setOf, fieldAt};
 
-// R521, R522: what a field tells: a set with its group, its cell in the group from 1, the old and the new value; an open, a release or an
+// R521, R522: what a field tells: a set with its group, its cell in the group from 1, the old and the new value; an
+// open, a release or an
 // undo with the savepoint's number. R523: or none of these.
 pub enum Entry {
     Set(usize, usize, i64, i64),
@@ -29,7 +30,8 @@ pub fn size(entry: Entry) -> usize
     }
 }
 
-// R524: two's complement. The magnitude of a negative value is made one smaller first, so that the least value has one too.
+// R524: two's complement. The magnitude of a negative value is made one smaller first, so that the least value has
+// one too.
 fn bits_of(value: i64) -> u64
     ensures { λ r. ⌜ r ≡ bitsOf value ⌝ }
 {

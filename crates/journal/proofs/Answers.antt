@@ -23,9 +23,9 @@ use Rattle.journal.specs.declared.State.{State}
 use Rattle.journal.specs.Layout.{startsOf}
 use Rattle.journal.specs.Model.{Call, decided}
 use Rattle.journal.specs.Walks.{down, Walks}
-use Rattle.journal.specs.Calls.{andThen, whole, walkIn, standingOf, answerOf}
+use Rattle.journal.specs.Calls.{andThen, whole, walkIn, standingOf, answerOf, cellsBy, journalBy, usedBy}
 use Rattle.journal.specs.Entries.{restore, entriesAt}
-use Rattle.journal.specs.Plays.{playOf, playIn, replayOf, Plays}
+use Rattle.journal.specs.Plays.{playOf, playIn, replayOf, replayedCells, Plays}
 use Rattle.journal.proofs.Walking.{down-length}
 use Rattle.journal.proofs.Playing.{replay-back}
 
@@ -33,7 +33,7 @@ no-refused : {A : Type 0} {r : Refusal} → _≡_ {A = Checked} (C.Refused r) C.
 no-refused e = let z : _≡_ {A = ℕ} 0 1 = cc in absurd (omega arith)
 
 -- a walk over all of the bytes used
-whole-right : (place used : ℕ) → whole place used ≡ C.Right → place ≡ used
+pub whole-right : (place used : ℕ) → whole place used ≡ C.Right → place ≡ used
 whole-right place used e = by (eqb place used) refl e
   where
     by : (b : Bool) → eqb place used ≡ b → cond b C.Right (C.Refused (BadEntry place)) ≡ C.Right → place ≡ used
@@ -104,3 +104,10 @@ module _ {ps s : List ℕ} {t : List ℤ} {r : State} {t′ : List ℤ} (w : Pla
 
   pub played-back : restore ps (entriesAt s 0 (r .count)) t′ ≡ t
   played-back = ap (λ x. restore ps (entriesAt s 0 (x .count)) (x .cells)) (w .found) ∙ replay-back ps s t
+
+-- R518: a refused call keeps every cell, every byte of the journal, and the bytes used
+pub refused-keeps : (ns j : List ℕ) (used : ℕ) (t : List ℤ) (c : Call) {r : Refusal} → answerOf ns j used (length t) c ≡ Refused r → (cellsBy ns j used c t (answerOf ns j used (length t) c) ≡ t) × (journalBy ns j used c t (answerOf ns j used (length t) c) ≡ j) × (usedBy used c (answerOf ns j used (length t) c) ≡ used)
+refused-keeps ns j used t c e = rw e (refl, refl, refl)
+
+pub refused-replay-keeps : (ns j : List ℕ) (used : ℕ) (t : List ℤ) {r : Refusal} → replayOf ns j used t ≡ C.Refused r → replayedCells ns j used t (replayOf ns j used t) ≡ t
+refused-replay-keeps ns j used t e = rw e refl

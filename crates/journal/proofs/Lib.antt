@@ -7,6 +7,8 @@ pub mod Playing
 pub mod Answers
 pub mod Held
 pub mod Text
+pub mod Replays
 pub mod Small
 pub mod Made
+pub mod Reopened
 pub mod Numbered

@@ -1,21 +1,24 @@
--- R500, R516: any calls on a fresh journal are a stack of whole tables, reply for reply; by what stands after each call.
+-- R500, R516, R543: any calls on a fresh journal are a stack of whole tables, reply for reply, and a replay of what they made comes to the
+-- same; by what stands after each call.
 -- Assumes nothing.
 use mathlib.Core.Path.{_≡_, refl, sym, ap, ap₂, _∙_, subst}
 use mathlib.Core.Bool.{Bool, true, false, cond}
 use mathlib.Core.List.{List, [], _∷_, _++_}
+use mathlib.Core.Logic.{_⊎_, inl, inr}
 use Prim.Native.Nat.{ℕ, zero, suc, _+_, _-_, _<_, _≤_}
 use native.Mathlib.Nat.{sub-zero}
 use native.Mathlib.Omega.{arith}
 use lib.Dec.{ltb, leb, eqb}
 use lib.IntN.{ℤ, pos}
-use lib.ListN.{length, getD, set, drop, take, length-drop}
-use Rattle.base.proofs.Taken.{drop-none, take-none}
-use lib.Seq.{getD-set-same, getD-set-other, set-out, length-take-le}
+use lib.ListN.{length, getD, set, drop, take, length-drop, length-append, length-take, take-append-drop, drop-of-length-le}
+use Rattle.base.proofs.Taken.{drop-none, take-none, drop-take}
+use lib.Seq.{take-take, take-at, drop-at, take-append-le, getD-set-same, getD-set-other, set-out, length-take-le}
 use borrow.Author.Tests.{eqb-true, eqb-false, ltb-true, ltb-false, eq-eqb, lt-ltb}
 use mir.Syntax.{w64}
 use mir.Val.{SFits}
 use Rattle.base.specs.Part.{over}
 use Rattle.base.proofs.Part.{over-length}
+use Rattle.base.proofs.Order.{le-or-lt}
 use Rattle.count.specs.Check.{checkedOf}
 use Rattle.reply.specs.declared.Refusal.{Refusal}
 use Rattle.reply.specs.declared.Refusal.the-variants.{NoRoom}
@@ -25,8 +28,8 @@ use Rattle.reply.specs.declared.Answer.{Answer}
 use Rattle.reply.specs.declared.Answer.the-variants.{Done, Refused}
 use Rattle.entry.specs.declared.Entry.{Entry}
 use Rattle.entry.specs.declared.Entry.the-variants.{Set, Open, Release, Undo, Misformed}
-use Rattle.entry.specs.Field.{textOf, sizeOf}
-use Rattle.entry.proofs.Codec.{Sized, sized-set, sized-open, sized-release, sized-undo, length-text}
+use Rattle.entry.specs.Field.{textOf, sizeOf, fieldOf}
+use Rattle.entry.proofs.Codec.{Sized, sized-set, sized-open, sized-release, sized-undo, length-text, field-cut}
 use Rattle.journal.specs.declared.Spot.{Spot}
 use Rattle.journal.specs.declared.Spot.the-variants.{At, Nowhere}
 use Rattle.journal.specs.Layout.{startsOf, spotOf, exists, getAt, putAt}
@@ -34,11 +37,14 @@ use Rattle.journal.specs.Model.{Call, Sets, Opens, Releases, Undoes, acc
 use Rattle.journal.specs.Entries.{markStep, marksFrom, marksOf, markOf, giveBack, restore, journalText, backTo}
 use Rattle.journal.specs.Walks.{okEntry, Walked, walked, walkOf}
 use Rattle.journal.specs.Calls.{andThen, whole, entryFor, cellsFor, walkIn, standingOf, answerOf}
-use Rattle.journal.specs.Runs.{Kept, kept, answerTo, leftBy, answersTo, leftTo, openIn, JournalIsStack}
+use Rattle.journal.specs.Plays.{matches, ran, playOf, playIn, replayOf}
+use Rattle.journal.specs.Runs.{Kept, kept, answerTo, leftBy, answersTo, leftTo, openIn, JournalIsStack, ReplaysTo, Torn}
 use Rattle.journal.proofs.Answers.{answer-right, answer-refused}
 use Rattle.journal.proofs.Held.{Holds, none, holds-length, holds-mark, HeldBy, withEntry, cellsOn, marks-entry, held-cells, held-call}
-use Rattle.journal.proofs.Text.{Fine, fine-none, fine-more, fine-last, walk-journal, back-journal, text-more, used-more}
+use Rattle.journal.proofs.Text.{Fine, fine-none, fine-more, fine-last, text-length, walk-journal, back-journal, text-more, used-more}
 use Rattle.journal.proofs.Walking.{no-way, ok-open, ok-release, ok-undo}
+use Rattle.journal.proofs.Playing.{same-same}
+use Rattle.journal.proofs.Replays.{Leads, leads-none, leads-last, playedOn, play-cut, no-field, play-journal}
 use Rattle.journal.proofs.Small.{cell-small}
 
 -- ---- cells of 64 bits
@@ -87,17 +93,18 @@ FitCalls (c ∷ cs) = FitCall c × FitCalls cs
 
 -- ---- what stands
 
-module _ (ns : List ℕ) where
+module _ (ns : List ℕ) (t₀ : List ℤ) where
   abbrev ps : List ℕ
   ps = startsOf ns
 
-  -- the bytes used are those of entries that are in order, which give back the tables that were saved
+  -- the bytes used are those of entries that are in order, lead from t₀ to the cells, and give back the tables that were saved
   pub record Stands (k : Kept) (ts : List (List ℤ)) : Type 0 where
     pub entries : List Entry
     pub inside : k .used ≤ length (k .journal)
     pub bytes : take (k .used) (k .journal) ≡ journalText entries
     pub fine : Fine ps entries 0 []
     pub held : HeldBy ps entries (k .cells) ts
+    pub leads : Leads ps [] entries t₀ (k .cells)
     pub few : length (marksOf entries) ≤ 16
     pub fit : (i : ℕ) → SFits w64 (getD (k .cells) i (pos 0))
 
@@ -106,7 +113,7 @@ module _ (ns : List ℕ) where
 
   -- ---- the entry of a call that is accepted
 
-  entry-size : (c : Call) (d : ℕ) (t : List ℤ) → sizeOf (entryFor ps c d t) ≡ bytesFor c
+  pub entry-size : (c : Call) (d : ℕ) (t : List ℤ) → sizeOf (entryFor ps c d t) ≡ bytesFor c
   entry-size (Sets g c v) d t = refl
   entry-size Opens d t = refl
   entry-size (Releases k) d t = refl
@@ -123,6 +130,18 @@ module _ (ns : List ℕ) where
   entry-ok Opens d t h = rw h (eq-eqb (d + 1) (d + 1) refl)
   entry-ok (Releases k) d t h = h
   entry-ok (Undoes k) d t h = h
+
+  entry-matches : (c : Call) (d : ℕ) (t : List ℤ) → matches ps (entryFor ps c d t) t ≡ true
+  entry-matches (Sets g c v) d t = same-same (getAt (spotOf ps g c) t)
+  entry-matches Opens d t = refl
+  entry-matches (Releases k) d t = refl
+  entry-matches (Undoes k) d t = refl
+
+  pub played-call : (es : List Entry) (c : Call) (d : ℕ) (t : List ℤ) → playedOn ps (entryFor ps c d t) es t ≡ cellsOn ps c es t
+  played-call es (Sets g c v) d t = refl
+  played-call es Opens d t = refl
+  played-call es (Releases k) d t = refl
+  played-call es (Undoes k) d t = refl
 
   marks-few : (c : Call) (ms : List ℕ) (i : ℕ) (t : List ℤ) → accepts ps c (length ms) ≡ true → length ms ≤ 16 → length (markStep (entryFor ps c (length ms) t) i ms) ≤ 16
   marks-few (Sets g c v) ms i t h l = l
@@ -168,7 +187,7 @@ module _ (ns : List ℕ) where
     used-is : length (journalText es) ≡ k .used
     used-is = ap length (sym (s .bytes)) ∙ length-take-le (k .used) (k .journal) (s .inside)
 
-    walk-is : walkIn ns (k .journal) (k .used) ≡ walked (k .used) (length es) (marksOf es)
+    pub walk-is : walkIn ns (k .journal) (k .used) ≡ walked (k .used) (length es) (marksOf es)
     walk-is = ap (walkOf ps) (s .bytes) ∙ walk-journal es (s .fine) ∙ ap (λ p. walked p (length es) (marksOf es)) used-is
 
     -- both answers are one
@@ -192,7 +211,7 @@ module _ (ns : List ℕ) where
     unfolding standingOf
     refused-standing r e = rw e refl
 
-    answer-is : checkedOf ns (length (k .cells)) ≡ C.Right → answerTo ns c k ≡ decided ps c d (length (k .journal) - k .used)
+    pub answer-is : checkedOf ns (length (k .cells)) ≡ C.Right → answerTo ns c k ≡ decided ps c d (length (k .journal) - k .used)
     answer-is e = answer-right ns (k .journal) (k .used) (length (k .cells)) c (standing-is e) ∙ ap (λ w. decided ps c (length (w .marks)) (length (k .journal) - k .used)) walk-is
 
     model-is : checkedOf ns (length (k .cells)) ≡ C.Right → modelAnswer ns c (stackOf k ts) ≡ decided ps c d (length (k .journal) - k .used)
@@ -212,26 +231,34 @@ module _ (ns : List ℕ) where
       long : length (over (k .used) (textOf e) (k .journal)) ≡ length (k .journal)
       long = over-length (k .journal) (textOf e) (k .used) (omega (arith, size, s .inside))
 
+      sized : Sized e
+      sized = entry-sized c d (length t) t right ok (s .few) fits (s .fit)
+
       abbrev saved : List (List ℤ)
       saved = onStack ps c (stackOf k ts) .saved
 
-      left-is : (n : ℕ) → leftBy ns c k (Done n) ≡ kept (cellsOn ps c es t) (over (k .used) (textOf e) (k .journal)) (k .used + bytesFor c)
+      pub left-is : (n : ℕ) → leftBy ns c k (Done n) ≡ kept (cellsOn ps c es t) (over (k .used) (textOf e) (k .journal)) (k .used + bytesFor c)
       left-is n =
           ap (λ w. kept (cellsFor ps c (take (k .used) (k .journal)) w t) (over (k .used) (textOf (entryFor ps c (length (w .marks)) t)) (k .journal)) (k .used + bytesFor c)) walk-is
           ∙ ap (λ x. kept (cellsFor ps c x (walked (k .used) (length es) (marksOf es)) t) (over (k .used) (textOf e) (k .journal)) (k .used + bytesFor c)) (s .bytes)
           ∙ ap (λ x. kept x (over (k .used) (textOf e) (k .journal)) (k .used + bytesFor c)) (cells-on c (k .used) t (s .fine) (s .held) ok)
 
-      stands-done : Stands (kept (cellsOn ps c es t) (over (k .used) (textOf e) (k .journal)) (k .used + bytesFor c)) saved
+      pub stands-done : Stands (kept (cellsOn ps c es t) (over (k .used) (textOf e) (k .journal)) (k .used + bytesFor c)) saved
       stands-done =
           record {
             entries = withEntry es e;
             inside = omega (arith, long, s .inside);
             bytes = used-more (k .journal) (textOf e) (k .used) (bytesFor c) (s .inside) size ∙ ap (λ x. x ++ textOf e) (s .bytes) ∙ sym (text-more es e);
-            fine = fine-last e (entry-sized c d (length t) t right ok (s .few) fits (s .fit)) (s .fine) (entry-ok c d t ok);
+            fine = fine-last e sized (s .fine) (entry-ok c d t ok);
             held = held-call ps es t ts (length (k .journal) - k .used) (s .held) c ok;
+            leads = subst (Leads ps [] (withEntry es e) t₀) (played-call es c d t) (leads-last e (s .leads) sized (entry-ok c d t ok) (entry-matches c d t));
             few = rw (marks-entry es e) (marks-few c (marksOf es) (length es) t ok (s .few));
             fit = fit-call c t fits (s .fine) (s .fit);
           }
+
+      pub entries-done : stands-done .entries ≡ withEntry es e
+      unfolding stands-done
+      entries-done = refl
 
       model-done : onStack ps c (stackOf k ts) ≡ stackOf (kept (cellsOn ps c es t) (over (k .used) (textOf e) (k .journal)) (k .used + bytesFor c)) saved
       model-done =
@@ -283,22 +310,158 @@ module _ (ns : List ℕ) where
       let a = after-calls cs (leftBy ns c k (answerTo ns c k)) (n .saved) (f .1) (n .stands) in
       record { saved = a .saved; model = ap (modelRun ns cs) (n .model) ∙ a .model; stands = a .stands }
 
-  pub fresh : (t : List ℤ) (j : List ℕ) → Fit t → Stands (kept t j 0) []
+  unfoldable pub fresh : (j : List ℕ) → Fit t₀ → Stands (kept t₀ j 0) []
   unfolding journalText marksFrom
-  fresh t j f =
-      record { entries = []; inside = omega arith; bytes = take-none j; fine = fine-none; held = none; few = omega arith; fit = f }
+  fresh j f =
+      record { entries = []; inside = omega arith; bytes = take-none j; fine = fine-none; held = none; leads = leads-none; few = omega arith; fit = f }
 
-  open-is : (k : Kept) (ts : List (List ℤ)) → Stands k ts → openIn ns k ≡ length ts
+  pub open-is : (k : Kept) (ts : List (List ℤ)) → Stands k ts → openIn ns k ≡ length ts
   open-is k ts s = ap (λ w. length (w .marks)) (walk-is Opens k ts s) ∙ holds-length (s .held)
 
+  -- a replay over t₀
+  play-is : (k : Kept) (ts : List (List ℤ)) (s : Stands k ts) → playIn ns (k .journal) (k .used) t₀ ≡ ran (k .used) (length (s .entries)) (marksOf (s .entries)) (k .cells)
+  play-is k ts s =
+      let used = used-is Opens k ts s in
+      ap (λ x. playOf ps x t₀) (s .bytes) ∙ play-journal (journalText (s .entries)) (s .entries) (s .leads) refl (text-length (s .fine)) ∙ ap (λ p. ran p (length (s .entries)) (marksOf (s .entries)) (k .cells)) used
+
+  pub replay-stands : (k : Kept) (ts : List (List ℤ)) → Stands k ts → checkedOf ns (length t₀) ≡ C.Right → ReplaysTo ns t₀ k
+  unfolding replayOf
+  replay-stands k ts s r =
+      let p = play-is k ts s in
+      record {
+        answer = rw (r, p, eq-eqb (k .used) (k .used) refl) refl;
+        cells = ap (λ x. x .cells) p;
+        opened = ap (λ x. length (x .marks)) p ∙ sym (ap (λ w. length (w .marks)) (walk-is Opens k ts s));
+      }
+
+-- ---- the first bytes of it
+
+module _ (ns : List ℕ) (t₀ : List ℤ) (right : checkedOf ns (length t₀) ≡ C.Right) where
+  -- bytes that begin as those kept, and go on with what is no field
+  cut-here : (k : Kept) (ts : List (List ℤ)) (j : List ℕ) (n : ℕ) → Stands ns t₀ k ts → k .used ≤ n → take (k .used) j ≡ take (k .used) (k .journal) → fieldOf (drop (k .used) (take n j)) ≡ Misformed → replayOf ns j n t₀ ≡ whole (k .used) n
+  unfolding replayOf
+  cut-here k ts j n s l q x =
+      let es = s .entries in
+      let b : take n j ≡ journalText es ++ drop (k .used) (take n j) = sym (take-append-drop (k .used) (take n j)) ∙ ap (λ y. y ++ drop (k .used) (take n j)) (take-take (k .used) n j l ∙ q ∙ s .bytes) in
+      let m : length es ≤ length (take n j) = omega (arith, ap length b, length-append (journalText es) (drop (k .used) (take n j)), text-length (s .fine)) in
+      let p = ap (λ r. r .place) (play-cut (take n j) (drop (k .used) (take n j)) x es (s .leads) b m) ∙ used-is ns t₀ Opens k ts s in
+      rw (right, p) refl
+
+  -- what a call leaves: all as it was, or a field behind the bytes used
+  pub record Adds (k k′ : Kept) : Type 0 where
+    pub entry : Entry
+    pub journal : k′ .journal ≡ over (k .used) (textOf entry) (k .journal)
+    pub used : k′ .used ≡ k .used + sizeOf entry
+
+  pub adds : (c : Call) (k : Kept) → (leftBy ns c k (answerTo ns c k) ≡ k) ⊎ Adds k (leftBy ns c k (answerTo ns c k))
+  adds c k = by (answerTo ns c k) refl
+    where
+      by : (a : Answer) → answerTo ns c k ≡ a → (leftBy ns c k (answerTo ns c k) ≡ k) ⊎ Adds k (leftBy ns c k (answerTo ns c k))
+      by (Refused r) q = inl (ap (leftBy ns c k) q)
+      by (Done n) q =
+          let e = entryFor (startsOf ns) c (length (walkIn ns (k .journal) (k .used) .marks)) (k .cells) in
+          inr record {
+            entry = e;
+            journal = ap (λ a. leftBy ns c k a .journal) q;
+            used = ap (λ a. leftBy ns c k a .used) q ∙ ap (λ m. k .used + m) (sym (entry-size ns t₀ c (length (walkIn ns (k .journal) (k .used) .marks)) (k .cells)));
+          }
+
+  module _ (k k′ : Kept) (in′ : k .used ≤ length (k .journal)) where
+    long-used : length (take (k .used) (k .journal)) ≡ k .used
+    long-used = length-take-le (k .used) (k .journal) in′
+
+    adds-keeps : Adds k k′ → take (k .used) (k′ .journal) ≡ take (k .used) (k .journal)
+    adds-keeps a = ap (take (k .used)) (a .journal) ∙ take-at (take (k .used) (k .journal)) _ (k .used) long-used
+
+    adds-cut : (a : Adds k k′) (n : ℕ) → k .used ≤ n → n < k′ .used → drop (k .used) (take n (k′ .journal)) ≡ take (n - k .used) (textOf (a .entry))
+    adds-cut a n l h =
+        let x = textOf (a .entry) in
+        let m : n - k .used ≤ length x = omega (arith, a .used, length-text (a .entry)) in
+        drop-take (k .used) n (k′ .journal) ∙ ap (λ y. take (n - k .used) (drop (k .used) y)) (a .journal)
+        ∙ ap (take (n - k .used)) (drop-at (take (k .used) (k .journal)) (x ++ drop (k .used + length x) (k .journal)) (k .used) long-used) ∙ take-append-le (n - k .used) x (drop (k .used + length x) (k .journal)) m
+
+  -- the bytes used stay
+  keeps : (cs : List Call) (k : Kept) (ts : List (List ℤ)) → FitCalls cs → Stands ns t₀ k ts → (k .used ≤ leftTo ns cs k .used) × (take (k .used) (leftTo ns cs k .journal) ≡ take (k .used) (k .journal))
+  keeps [] k ts f s = (omega arith, refl)
+  keeps (c ∷ cs) k ts f s =
+      let n = next ns t₀ c k ts s (f .0) in
+      let k′ = leftBy ns c k (answerTo ns c k) in
+      let r = keeps cs k′ (n .saved) (f .1) (n .stands) in
+      one (adds c k) r
+    where
+      one : (leftBy ns c k (answerTo ns c k) ≡ k) ⊎ Adds k (leftBy ns c k (answerTo ns c k)) → (leftBy ns c k (answerTo ns c k) .used ≤ leftTo ns (c ∷ cs) k .used) × (take (leftBy ns c k (answerTo ns c k) .used) (leftTo ns (c ∷ cs) k .journal) ≡ take (leftBy ns c k (answerTo ns c k) .used) (leftBy ns c k (answerTo ns c k) .journal)) → (k .used ≤ leftTo ns (c ∷ cs) k .used) × (take (k .used) (leftTo ns (c ∷ cs) k .journal) ≡ take (k .used) (k .journal))
+      one (inl q) r = subst (λ x. (x .used ≤ leftTo ns (c ∷ cs) k .used) × (take (x .used) (leftTo ns (c ∷ cs) k .journal) ≡ take (x .used) (x .journal))) q r
+      one (inr a) r =
+          let k′ = leftBy ns c k (answerTo ns c k) in
+          let l : k .used ≤ k′ .used = omega (arith, a .used) in
+          (omega (arith, r .0), sym (take-take (k .used) (k′ .used) (leftTo ns (c ∷ cs) k .journal) l) ∙ ap (take (k .used)) (r .1) ∙ take-take (k .used) (k′ .used) (k′ .journal) l ∙ adds-keeps k k′ (s .inside) a)
+
+  -- the same bytes used in another buffer
+  moved : (k : Kept) (ts : List (List ℤ)) (j : List ℕ) → Stands ns t₀ k ts → take (k .used) j ≡ take (k .used) (k .journal) → Stands ns t₀ (kept (k .cells) j (k .used)) ts
+  moved k ts j s q =
+      record {
+        entries = s .entries;
+        inside = omega (arith, length-take (k .used) j, ap length q, length-take-le (k .used) (k .journal) (s .inside));
+        bytes = q ∙ s .bytes;
+        fine = s .fine;
+        held = s .held;
+        leads = s .leads;
+        few = s .few;
+        fit = s .fit;
+      }
+
+  pub torn : (cs : List Call) (k : Kept) (ts : List (List ℤ)) (n : ℕ) → FitCalls cs → Stands ns t₀ k ts → k .used ≤ n → n ≤ leftTo ns cs k .used → Torn ns t₀ cs k n
+  torn [] k ts n f s l h =
+      let z : length (take n (k .journal)) ≤ k .used = omega (arith, length-take n (k .journal)) in
+      record {
+        calls = 0;
+        before = l;
+        answer = cut-here k ts (k .journal) n s l refl (ap fieldOf (drop-of-length-le (take n (k .journal)) {i = k .used} z) ∙ no-field);
+        rest = replay-stands ns t₀ k ts s right;
+      }
+  torn (c ∷ cs) k ts n f s l h =
+      let x = next ns t₀ c k ts s (f .0) in
+      let k′ = leftBy ns c k (answerTo ns c k) in
+      by (le-or-lt (k′ .used) n) (λ m. torn cs k′ (x .saved) n (f .1) (x .stands) m h) (keeps (c ∷ cs) k ts f s .1) (keeps cs k′ (x .saved) (f .1) (x .stands) .1) (adds c k)
+    where
+      by : (leftBy ns c k (answerTo ns c k) .used ≤ n) ⊎ (n < leftBy ns c k (answerTo ns c k) .used) → (leftBy ns c k (answerTo ns c k) .used ≤ n → Torn ns t₀ cs (leftBy ns c k (answerTo ns c k)) n) → take (k .used) (leftTo ns (c ∷ cs) k .journal) ≡ take (k .used) (k .journal) → take (leftBy ns c k (answerTo ns c k) .used) (leftTo ns (c ∷ cs) k .journal) ≡ take (leftBy ns c k (answerTo ns c k) .used) (leftBy ns c k (answerTo ns c k) .journal) → (leftBy ns c k (answerTo ns c k) ≡ k) ⊎ Adds k (leftBy ns c k (answerTo ns c k)) → Torn ns t₀ (c ∷ cs) k n
+      by (inl m) ih q r a =
+          let b = ih m in
+          record { calls = suc (b .calls); before = b .before; answer = b .answer; rest = b .rest }
+      by (inr m) ih q r (inl e) = absurd (omega (arith, ap (λ y. y .used) e))
+      by (inr m) ih q r (inr a) =
+          let k′ = leftBy ns c k (answerTo ns c k) in
+          let j = leftTo ns (c ∷ cs) k .journal in
+          let w : n ≤ k′ .used = omega arith in
+          let y : take n j ≡ take n (k′ .journal) = sym (take-take n (k′ .used) j w) ∙ ap (take n) r ∙ take-take n (k′ .used) (k′ .journal) w in
+          let v : drop (k .used) (take n j) ≡ take (n - k .used) (textOf (a .entry)) = ap (drop (k .used)) y ∙ adds-cut k k′ (s .inside) a n l m in
+          let u = field-cut (a .entry) (n - k .used) (omega (arith, a .used)) in
+          record {
+            calls = 0;
+            before = l;
+            answer = cut-here k ts j n s l q (ap fieldOf v ∙ u);
+            rest = replay-stands ns t₀ (kept (k .cells) j (k .used)) ts (moved k ts j s q) right;
+          }
+
+module _ (ns : List ℕ) (t : List ℤ) (j : List ℕ) (cs : List Call) (ft : Fit t) (fc : FitCalls cs) where
   -- R516: every reply, all cells and the open savepoints are those of the stack
-  pub journal-is-stack : (t : List ℤ) (j : List ℕ) (cs : List Call) → Fit t → FitCalls cs → JournalIsStack ns t j cs
-  journal-is-stack t j cs ft fc =
-      let s = fresh t j ft in
-      let a = after-calls cs (kept t j 0) [] fc s in
+  pub journal-is-stack : JournalIsStack ns t j cs
+  journal-is-stack =
+      let s = fresh ns t j ft in
+      let a = after-calls ns t cs (kept t j 0) [] fc s in
       let z : length j - 0 ≡ length j = sub-zero (length j) in
       record {
-        answers = run-answers cs (kept t j 0) [] fc s ∙ ap (λ n. modelAnswers ns cs (stacked t [] n)) z;
+        answers = run-answers ns t cs (kept t j 0) [] fc s ∙ ap (λ n. modelAnswers ns cs (stacked t [] n)) z;
         cells = sym (ap (λ x. x .cells) (a .model)) ∙ ap (λ n. modelRun ns cs (stacked t [] n) .cells) z;
-        opened = open-is (leftTo ns cs (kept t j 0)) (a .saved) (a .stands) ∙ sym (ap (λ x. length (x .saved)) (a .model)) ∙ ap (λ n. length (modelRun ns cs (stacked t [] n) .saved)) z;
+        opened = open-is ns t (leftTo ns cs (kept t j 0)) (a .saved) (a .stands) ∙ sym (ap (λ x. length (x .saved)) (a .model)) ∙ ap (λ n. length (modelRun ns cs (stacked t [] n) .saved)) z;
       }
+
+  -- R543: a journal that calls made, replayed over the table that they began with
+  pub replay-same : checkedOf ns (length t) ≡ C.Right → ReplaysTo ns t (leftTo ns cs (kept t j 0))
+  replay-same r =
+      let a = after-calls ns t cs (kept t j 0) [] fc (fresh ns t j ft) in
+      replay-stands ns t (leftTo ns cs (kept t j 0)) (a .saved) (a .stands) r
+
+  -- R544: cut at any byte
+  pub torn-calls : checkedOf ns (length t) ≡ C.Right → (n : ℕ) → n ≤ leftTo ns cs (kept t j 0) .used → Torn ns t cs (kept t j 0) n
+  torn-calls r n h = torn ns t r cs (kept t j 0) [] n fc (fresh ns t j ft) (omega arith) h

@@ -30,7 +30,7 @@ module _ {ps : List ℕ} where
   fine-last e h fine-none o = fine-more h o fine-none
   fine-last e h (fine-more k q r) o = fine-more k q (fine-last e h r o)
 
-  text-length : {es : List Entry} {i : ℕ} {ms : List ℕ} → Fine ps es i ms → length es ≤ length (journalText es)
+  pub text-length : {es : List Entry} {i : ℕ} {ms : List ℕ} → Fine ps es i ms → length es ≤ length (journalText es)
   unfolding journalText
   text-length fine-none = omega arith
   text-length {es = e ∷ es} {ms = ms} (fine-more h o r) = omega (arith, text-length r, length-append (textOf e) (journalText es), length-text e, ok-size ps (length ms) e o)

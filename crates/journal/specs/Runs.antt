@@ -1,12 +1,14 @@
 -- R500, R516: calls one after the other, on what the caller keeps: the cells, the journal's buffer and the bytes used. What is promised of them.
 use mathlib.Core.Path.{_≡_}
 use mathlib.Core.List.{List, [], _∷_}
-use Prim.Native.Nat.{ℕ}
+use Prim.Native.Nat.{ℕ, _≤_}
 use lib.IntN.{ℤ}
-use lib.ListN.{length}
+use lib.ListN.{length, take}
 use Rattle.reply.specs.declared.Answer.{Answer}
+use Rattle.reply.specs.declared.Checked.the-variants.{Right}
 use Rattle.journal.specs.Model.{Call, stacked, modelAnswers, modelRun}
-use Rattle.journal.specs.Calls.{walkIn, answerOf, cellsBy, journalBy, usedBy}
+use Rattle.journal.specs.Calls.{whole, walkIn, answerOf, cellsBy, journalBy, usedBy}
+use Rattle.journal.specs.Plays.{replayOf, replayedCells, replayedOpen}
 
 pub record Kept : Type 0 where
   pub cells : List ℤ
@@ -41,3 +43,17 @@ module _ (ns : List ℕ) where
     pub answers : answersTo cs (kept t j 0) ≡ modelAnswers ns cs (stacked t [] (length j))
     pub cells : leftTo cs (kept t j 0) .cells ≡ modelRun ns cs (stacked t [] (length j)) .cells
     pub opened : openIn (leftTo cs (kept t j 0)) ≡ length (modelRun ns cs (stacked t [] (length j)) .saved)
+
+  -- R543: replayed over the table t, what is kept comes to its own cells and open savepoints
+  pub record ReplaysTo (t : List ℤ) (k : Kept) : Type 0 where
+    pub answer : replayOf ns (k .journal) (k .used) t ≡ Right
+    pub cells : replayedCells ns (k .journal) (k .used) t Right ≡ k .cells
+    pub opened : replayedOpen ns (k .journal) (k .used) t Right ≡ openIn k
+
+  -- R544: the first n bytes of what calls made. So many calls are whole in them; a replay gives 0 at the end of a field, and else 17 with the
+  -- place of the field that was cut, and the bytes before it replay to what those calls left.
+  pub record Torn (t : List ℤ) (cs : List Call) (k : Kept) (n : ℕ) : Type 0 where
+    pub calls : ℕ
+    pub before : leftTo (take calls cs) k .used ≤ n
+    pub answer : replayOf ns (leftTo cs k .journal) n t ≡ whole (leftTo (take calls cs) k .used) n
+    pub rest : ReplaysTo t (kept (leftTo (take calls cs) k .cells) (leftTo cs k .journal) (leftTo (take calls cs) k .used))

@@ -1,4 +1,5 @@
-// R500 to R552: the edit journal. All that is kept between calls is the caller's: the counts and the table of all cells of a record, a buffer
+// R500 to R552: the edit journal. All that is kept between calls is the caller's: the counts and the table of all
+// cells of a record, a buffer
 // of bytes and how many of them are used. No call has a `requires`: whatever is lent is looked at first (R550).
 use entry::Entry;
 use reply::Answer;
@@ -19,7 +20,8 @@ ghost use Rattle.journal.specs.Entries.{markOf, giveBack, restore, entri
 ghost use Rattle.journal.specs.Walks.{okEntry, depthAfter, down, Below, Walks};
 ghost use Rattle.journal.specs.Calls.{andThen, whole, answerOf, cellsBy, journalBy, usedBy};
 ghost use Rattle.journal.specs.Numbered.{editReply};
-ghost use Rattle.journal.specs.Plays.{matches, playedBy, playOf, Plays, byChecked, replayOf, replayedCells, replayedOpen};
+ghost use Rattle.journal.specs.Plays.{matches, playedBy, playOf, Plays, byChecked};
+ghost use Rattle.journal.specs.Plays.{replayOf, replayedCells, replayedOpen};
 
 // What a call answers, and how many bytes of the journal are used behind it. 0 of an open has the savepoint's number.
 pub struct Edited {
@@ -39,7 +41,8 @@ enum Spot {
     Nowhere,
 }
 
-// How far a walk came, with how many fields, and the savepoints open there: `marks` has the number of fields before each one's open.
+// How far a walk came, with how many fields, and the savepoints open there: `marks` has the number of fields before
+// each one's open.
 struct State {
     pub place: usize,
     pub count: usize,
@@ -151,12 +154,14 @@ fn give_back(cells: &mut [i64], starts: &[usize], entry: Entry)
     }
 }
 
-// R515: the sets among n fields give their old values back, the last first: the later half, then the earlier. Fields have two sizes and
+// R515: the sets among n fields give their old values back, the last first: the later half, then the earlier. Fields
+// have two sizes and
 // can't be gone through backward; a half's beginning is found by going forward.
 fn restore_at(cells: &mut [i64], starts: &[usize], s: &[u8], at: usize, n: usize)
     requires many { ⌜ length (now starts) ≡ 62 ⌝ }
     requires inside { ⌜ at ≤ length (now s) ⌝ }
-    ensures { λ _. ⌜ now (cells .exit) ≡ restore (now (starts .entry)) (entriesAt (now (s .entry)) at n) (now (cells .entry)) ⌝ }
+    ensures { λ _. ⌜ now (cells .exit) ≡
+        restore (now (starts .entry)) (entriesAt (now (s .entry)) at n) (now (cells .entry)) ⌝ }
 {
     if n == 0 {
         return;
@@ -275,7 +280,9 @@ fn play_one(
     requires few { ⌜ d ≤ 16 ⌝ }
     requires below { ⌜ Below d (now marks) n ⌝ }
     ensures same { λ r. ⌜ r ≡ matches (now (starts .entry)) entry (now (cells .entry)) ⌝ }
-    ensures cells { λ r. ⌜ now (cells .exit) ≡ cond r (playedBy (now (starts .entry)) entry (now (s .entry)) n (down d (now (marks .entry))) (now (cells .entry))) (now (cells .entry)) ⌝ }
+    ensures cells { λ r. ⌜ now (cells .exit) ≡
+        cond r (playedBy (now (starts .entry)) entry (now (s .entry)) n (down d (now (marks .entry))) (now (cells
+        .entry))) (now (cells .entry)) ⌝ }
 {
     match entry {
         Entry::Set(group, cell, old, new) => {
@@ -337,13 +344,19 @@ fn play(cells: &mut [i64], starts: &[usize], s: &[u8]) -> State
     }
 }
 
-// R540, R542: the bytes s replayed, of which `used` are said to be used. Where a field is refused the cells go back to what they were: each
+// R540, R542: the bytes s replayed, of which `used` are said to be used. Where a field is refused the cells go back
+// to what they were: each
 // set that was played gives its old value back.
 fn replay_in(starts: &[usize], cells: &mut [i64], s: &[u8], used: usize) -> Replayed
     requires many { ⌜ length (now starts) ≡ 62 ⌝ }
-    ensures answer { λ r. ⌜ r .answer ≡ whole (playOf (now (starts .entry)) (now (s .entry)) (now (cells .entry)) .place) used ⌝ }
-    ensures open { λ r. ⌜ r .open ≡ byChecked (r .answer) (length (playOf (now (starts .entry)) (now (s .entry)) (now (cells .entry)) .marks)) 0 ⌝ }
-    ensures cells { λ r. ⌜ now (cells .exit) ≡ byChecked (r .answer) (playOf (now (starts .entry)) (now (s .entry)) (now (cells .entry)) .cells) (now (cells .entry)) ⌝ }
+    ensures answer { λ r. ⌜ r .answer ≡
+        whole (playOf (now (starts .entry)) (now (s .entry)) (now (cells .entry)) .place) used ⌝ }
+    ensures open { λ r. ⌜ r .open ≡
+        byChecked (r .answer) (length (playOf (now (starts .entry)) (now (s .entry)) (now (cells .entry)) .marks))
+        0 ⌝ }
+    ensures cells { λ r. ⌜ now (cells .exit) ≡
+        byChecked (r .answer) (playOf (now (starts .entry)) (now (s .entry)) (now (cells .entry)) .cells) (now
+        (cells .entry)) ⌝ }
 {
     let state = play(cells, starts, s);
     if state.place == used {
@@ -407,10 +420,15 @@ fn set_in(
 ) -> Edited
     requires many { ⌜ length (now starts) ≡ 62 ⌝ }
     requires inside { ⌜ used ≤ length (now journal) ⌝ }
-    ensures answer { λ r. ⌜ r .answer ≡ decided (now (starts .entry)) (Sets group cell value) 0 (length (now (journal .entry)) - used) ⌝ }
+    ensures answer { λ r. ⌜ r .answer ≡
+        decided (now (starts .entry)) (Sets group cell value) 0 (length (now (journal .entry)) - used) ⌝ }
     ensures used { λ r. ⌜ r .used ≡ byAnswer (r .answer) (used + 22) used ⌝ }
-    ensures cells { λ r. ⌜ now (cells .exit) ≡ byAnswer (r .answer) (putAt (spotOf (now (starts .entry)) group cell) value (now (cells .entry))) (now (cells .entry)) ⌝ }
-    ensures journal { λ r. ⌜ now (journal .exit) ≡ byAnswer (r .answer) (over used (textOf (Set group cell (getAt (spotOf (now (starts .entry)) group cell) (now (cells .entry))) value)) (now (journal .entry))) (now (journal .entry)) ⌝ }
+    ensures cells { λ r. ⌜ now (cells .exit) ≡
+        byAnswer (r .answer) (putAt (spotOf (now (starts .entry)) group cell) value (now (cells .entry))) (now
+        (cells .entry)) ⌝ }
+    ensures journal { λ r. ⌜ now (journal .exit) ≡
+        byAnswer (r .answer) (over used (textOf (Set group cell (getAt (spotOf (now (starts .entry)) group cell)
+        (now (cells .entry))) value)) (now (journal .entry))) (now (journal .entry)) ⌝ }
 {
     let spot = spot_of(starts, group, cell);
     match spot {
@@ -436,7 +454,8 @@ fn add(journal: &mut [u8], used: usize, entry: Entry, number: usize) -> Edited
     requires four { ⌜ sizeOf entry ≡ 4 ⌝ }
     ensures answer { λ r. ⌜ r .answer ≡ roomFor 4 (length (now (journal .entry)) - used) number ⌝ }
     ensures used { λ r. ⌜ r .used ≡ byAnswer (r .answer) (used + 4) used ⌝ }
-    ensures journal { λ r. ⌜ now (journal .exit) ≡ byAnswer (r .answer) (over used (textOf entry) (now (journal .entry))) (now (journal .entry)) ⌝ }
+    ensures journal { λ r. ⌜ now (journal .exit) ≡
+        byAnswer (r .answer) (over used (textOf entry) (now (journal .entry))) (now (journal .entry)) ⌝ }
 {
     if journal.len() - used < 4 {
         return refused(Refusal::NoRoom, used);
@@ -454,7 +473,9 @@ fn open_in(journal: &mut [u8], used: usize, depth: usize) -> Edited
     requires few { ⌜ depth ≤ 16 ⌝ }
     ensures answer { λ r. ⌜ r .answer ≡ decided [] Opens depth (length (now (journal .entry)) - used) ⌝ }
     ensures used { λ r. ⌜ r .used ≡ byAnswer (r .answer) (used + 4) used ⌝ }
-    ensures journal { λ r. ⌜ now (journal .exit) ≡ byAnswer (r .answer) (over used (textOf (Open (depth + 1))) (now (journal .entry))) (now (journal .entry)) ⌝ }
+    ensures journal { λ r. ⌜ now (journal .exit) ≡
+        byAnswer (r .answer) (over used (textOf (Open (depth + 1))) (now (journal .entry))) (now (journal .entry))
+        ⌝ }
 {
     if 16 <= depth {
         return refused(Refusal::AllOpen, used);
@@ -467,7 +488,8 @@ fn release_in(journal: &mut [u8], used: usize, depth: usize, k: usize) -> Edited
     requires inside { ⌜ used ≤ length (now journal) ⌝ }
     ensures answer { λ r. ⌜ r .answer ≡ decided [] (Releases k) depth (length (now (journal .entry)) - used) ⌝ }
     ensures used { λ r. ⌜ r .used ≡ byAnswer (r .answer) (used + 4) used ⌝ }
-    ensures journal { λ r. ⌜ now (journal .exit) ≡ byAnswer (r .answer) (over used (textOf (Release k)) (now (journal .entry))) (now (journal .entry)) ⌝ }
+    ensures journal { λ r. ⌜ now (journal .exit) ≡
+        byAnswer (r .answer) (over used (textOf (Release k)) (now (journal .entry))) (now (journal .entry)) ⌝ }
 {
     if k == 0 {
         return refused(Refusal::NotOpen, used);
@@ -478,7 +500,8 @@ fn release_in(journal: &mut [u8], used: usize, depth: usize, k: usize) -> Edited
     add(journal, used, Entry::Release(k), 0)
 }
 
-// R515: an undo on a journal that stands, with so many fields and open savepoints. The cells go back before the field is added.
+// R515: an undo on a journal that stands, with so many fields and open savepoints. The cells go back before the
+// field is added.
 fn undo_in(
     starts: &[usize],
     cells: &mut [i64],
@@ -495,8 +518,11 @@ fn undo_in(
     requires below { ⌜ Below d (now marks) n ⌝ }
     ensures answer { λ r. ⌜ r .answer ≡ decided [] (Undoes k) d (length (now (journal .entry)) - used) ⌝ }
     ensures used { λ r. ⌜ r .used ≡ byAnswer (r .answer) (used + 4) used ⌝ }
-    ensures cells { λ r. ⌜ now (cells .exit) ≡ byAnswer (r .answer) (backTo (now (starts .entry)) (take used (now (journal .entry))) (markOf (down d (now (marks .entry))) k) n (now (cells .entry))) (now (cells .entry)) ⌝ }
-    ensures journal { λ r. ⌜ now (journal .exit) ≡ byAnswer (r .answer) (over used (textOf (Undo k)) (now (journal .entry))) (now (journal .entry)) ⌝ }
+    ensures cells { λ r. ⌜ now (cells .exit) ≡
+        byAnswer (r .answer) (backTo (now (starts .entry)) (take used (now (journal .entry))) (markOf (down d (now
+        (marks .entry))) k) n (now (cells .entry))) (now (cells .entry)) ⌝ }
+    ensures journal { λ r. ⌜ now (journal .exit) ≡
+        byAnswer (r .answer) (over used (textOf (Undo k)) (now (journal .entry))) (now (journal .entry)) ⌝ }
 {
     if k == 0 {
         return refused(Refusal::NotOpen, used);
@@ -525,10 +551,16 @@ pub fn set_cell(
     cell: usize,
     value: i64,
 ) -> Edited
-    ensures answer { λ r. ⌜ r .answer ≡ answerOf (now (counts .entry)) (now (journal .entry)) used (length (now (cells .entry))) (Sets group cell value) ⌝ }
+    ensures answer { λ r. ⌜ r .answer ≡
+        answerOf (now (counts .entry)) (now (journal .entry)) used (length (now (cells .entry))) (Sets group cell
+        value) ⌝ }
     ensures used { λ r. ⌜ r .used ≡ usedBy used (Sets group cell value) (r .answer) ⌝ }
-    ensures cells { λ r. ⌜ now (cells .exit) ≡ cellsBy (now (counts .entry)) (now (journal .entry)) used (Sets group cell value) (now (cells .entry)) (r .answer) ⌝ }
-    ensures journal { λ r. ⌜ now (journal .exit) ≡ journalBy (now (counts .entry)) (now (journal .entry)) used (Sets group cell value) (now (cells .entry)) (r .answer) ⌝ }
+    ensures cells { λ r. ⌜ now (cells .exit) ≡
+        cellsBy (now (counts .entry)) (now (journal .entry)) used (Sets group cell value) (now (cells .entry)) (r
+        .answer) ⌝ }
+    ensures journal { λ r. ⌜ now (journal .exit) ≡
+        journalBy (now (counts .entry)) (now (journal .entry)) used (Sets group cell value) (now (cells .entry)) (r
+        .answer) ⌝ }
 {
     let mut starts = [0usize; 62];
     put_starts(counts, &mut starts);
@@ -541,9 +573,11 @@ pub fn set_cell(
 
 // R513: opens a savepoint inside those that are open; its number is told.
 pub fn open_savepoint(counts: &[u16], cells: &[i64], journal: &mut [u8], used: usize) -> Edited
-    ensures answer { λ r. ⌜ r .answer ≡ answerOf (now (counts .entry)) (now (journal .entry)) used (length (now (cells .entry))) Opens ⌝ }
+    ensures answer { λ r. ⌜ r .answer ≡
+        answerOf (now (counts .entry)) (now (journal .entry)) used (length (now (cells .entry))) Opens ⌝ }
     ensures used { λ r. ⌜ r .used ≡ usedBy used Opens (r .answer) ⌝ }
-    ensures journal { λ r. ⌜ now (journal .exit) ≡ journalBy (now (counts .entry)) (now (journal .entry)) used Opens (now (cells .entry)) (r .answer) ⌝ }
+    ensures journal { λ r. ⌜ now (journal .exit) ≡
+        journalBy (now (counts .entry)) (now (journal .entry)) used Opens (now (cells .entry)) (r .answer) ⌝ }
 {
     let mut starts = [0usize; 62];
     put_starts(counts, &mut starts);
@@ -562,9 +596,13 @@ pub fn release_savepoint(
     used: usize,
     savepoint: usize,
 ) -> Edited
-    ensures answer { λ r. ⌜ r .answer ≡ answerOf (now (counts .entry)) (now (journal .entry)) used (length (now (cells .entry))) (Releases savepoint) ⌝ }
+    ensures answer { λ r. ⌜ r .answer ≡
+        answerOf (now (counts .entry)) (now (journal .entry)) used (length (now (cells .entry))) (Releases
+        savepoint) ⌝ }
     ensures used { λ r. ⌜ r .used ≡ usedBy used (Releases savepoint) (r .answer) ⌝ }
-    ensures journal { λ r. ⌜ now (journal .exit) ≡ journalBy (now (counts .entry)) (now (journal .entry)) used (Releases savepoint) (now (cells .entry)) (r .answer) ⌝ }
+    ensures journal { λ r. ⌜ now (journal .exit) ≡
+        journalBy (now (counts .entry)) (now (journal .entry)) used (Releases savepoint) (now (cells .entry)) (r
+        .answer) ⌝ }
 {
     let mut starts = [0usize; 62];
     put_starts(counts, &mut starts);
@@ -583,10 +621,16 @@ pub fn undo_to_savepoint(
     used: usize,
     savepoint: usize,
 ) -> Edited
-    ensures answer { λ r. ⌜ r .answer ≡ answerOf (now (counts .entry)) (now (journal .entry)) used (length (now (cells .entry))) (Undoes savepoint) ⌝ }
+    ensures answer { λ r. ⌜ r .answer ≡
+        answerOf (now (counts .entry)) (now (journal .entry)) used (length (now (cells .entry))) (Undoes savepoint)
+        ⌝ }
     ensures used { λ r. ⌜ r .used ≡ usedBy used (Undoes savepoint) (r .answer) ⌝ }
-    ensures cells { λ r. ⌜ now (cells .exit) ≡ cellsBy (now (counts .entry)) (now (journal .entry)) used (Undoes savepoint) (now (cells .entry)) (r .answer) ⌝ }
-    ensures journal { λ r. ⌜ now (journal .exit) ≡ journalBy (now (counts .entry)) (now (journal .entry)) used (Undoes savepoint) (now (cells .entry)) (r .answer) ⌝ }
+    ensures cells { λ r. ⌜ now (cells .exit) ≡
+        cellsBy (now (counts .entry)) (now (journal .entry)) used (Undoes savepoint) (now (cells .entry)) (r
+        .answer) ⌝ }
+    ensures journal { λ r. ⌜ now (journal .exit) ≡
+        journalBy (now (counts .entry)) (now (journal .entry)) used (Undoes savepoint) (now (cells .entry)) (r
+        .answer) ⌝ }
 {
     let mut starts = [0usize; 62];
     put_starts(counts, &mut starts);
@@ -609,9 +653,12 @@ pub fn undo_to_savepoint(
 
 // R540: replays a journal over the table that it was begun on, and tells how many savepoints are open.
 pub fn replay(counts: &[u16], cells: &mut [i64], journal: &[u8], used: usize) -> Replayed
-    ensures answer { λ r. ⌜ r .answer ≡ replayOf (now (counts .entry)) (now (journal .entry)) used (now (cells .entry)) ⌝ }
-    ensures open { λ r. ⌜ r .open ≡ replayedOpen (now (counts .entry)) (now (journal .entry)) used (now (cells .entry)) (r .answer) ⌝ }
-    ensures cells { λ r. ⌜ now (cells .exit) ≡ replayedCells (now (counts .entry)) (now (journal .entry)) used (now (cells .entry)) (r .answer) ⌝ }
+    ensures answer { λ r. ⌜ r .answer ≡
+        replayOf (now (counts .entry)) (now (journal .entry)) used (now (cells .entry)) ⌝ }
+    ensures open { λ r. ⌜ r .open ≡
+        replayedOpen (now (counts .entry)) (now (journal .entry)) used (now (cells .entry)) (r .answer) ⌝ }
+    ensures cells { λ r. ⌜ now (cells .exit) ≡
+        replayedCells (now (counts .entry)) (now (journal .entry)) used (now (cells .entry)) (r .answer) ⌝ }
 {
     match count::check(counts, cells.len()) {
         Checked::Refused(why) => Replayed {
