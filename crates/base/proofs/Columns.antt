@@ -26,7 +26,14 @@ module _ {S : Type 0} (last : S → ℕ) (back : S → S) where
   columns-turn zero s out h p = absurd (omega arith)
   columns-turn (suc k) s out h p =
       let q : k < length (set out k (last s)) = simp length-set p in
-      rw (before-last k, drop-cons (set out k (last s)) k 0 q, getD-set-same out k (last s) 0 p, drop-set-lt (suc k) out k (last s) (omega arith), append-assoc (columns last back k (back s)) (last s ∷ []) (drop (suc k) out))
+      rw (
+        before-last k,
+        drop-cons (set out k (last s)) k 0 q,
+        getD-set-same out k (last s) 0 p,
+        drop-set-lt (suc k) out k (last s) (omega arith),
+        append-assoc
+            (columns last back k (back s)) (last s ∷ []) (drop (suc k) out),
+      )
 
   pub columns-done : (i : ℕ) (s : S) (out : List ℕ) → i ≤ 0 → columns last back i s ++ drop i out ≡ out
   columns-done zero s out h = refl
@@ -51,7 +58,8 @@ module _ {S : Type 0} (last : S → ℕ) (back : S → S) where
   backs-done (suc i) s h = absurd (omega arith)
 
   -- columns that a callee put into the part that it was lent
-  pub columns-lent : (xs ys : List ℕ) (at w : ℕ) (s : S) → at + w ≤ length xs → ys ≡ columns last back (length (part at (at + w) xs)) s → take at xs ++ (ys ++ drop (at + w - at) (drop at xs)) ≡ over at (columns last back w s) xs
+  pub columns-lent : (xs ys : List ℕ) (at w : ℕ) (s : S) → at + w ≤ length xs → ys ≡ columns last back (length (part at (at + w) xs)) s
+      → take at xs ++ (ys ++ drop (at + w - at) (drop at xs)) ≡ over at (columns last back w s) xs
   columns-lent xs ys at w s h e =
       let d : at + w - at ≡ w = omega arith in
       let f : ys ≡ columns last back w s = e ∙ ap (λ n. columns last back n s) (part-length xs at w h) in

@@ -15,6 +15,11 @@ use Rattle.base.specs.Sum.{sum}
 use Rattle.base.proofs.Choice.{and-left, and-right}
 use Rattle.base.proofs.Pieces.{both-done}
 
+-- pieces read as their cells, each as wide as it is found to be, whatever stands behind it
+pub record Gathers {A B C : Type 0} (P : A → List ℕ → List C → Type 0) (wide : A → List ℕ → ℕ) (read : A → List ℕ → Got B C) : Type 0 where
+  pub back : (a : A) (x : List ℕ) (c : List C) → P a x c → read a x ≡ done c
+  pub exact : (a : A) (x : List ℕ) (c : List C) (b : List ℕ) → P a x c → wide a (x ++ b) ≡ length x
+
 module _ {A C : Type 0} {P : A → List ℕ → List C → Type 0} where
   -- as many cells, and as many bytes, as all pieces together
   pub each-cells : (size : A → ℕ) → ((a : A) (x : List ℕ) (c : List C) → P a x c → length c ≡ size a) → (bs : List A) (s : List ℕ) (cs : List C) → Each P bs s cs → length cs ≡ sum (map size bs)
@@ -40,15 +45,17 @@ module _ {A C : Type 0} {P : A → List ℕ → List C → Type 0} where
   each-passed f (a ∷ bs) s cs t (more x c {y} {d} p h) =
       more x c (and-left (f a) (every f bs) t, p) (each-passed f bs y d (and-right (f a) (every f bs) t) h)
 
-  -- pieces that read as their cells, each as wide as it is found to be: all cells are read, whatever stands behind
-  pub each-gather : {B : Type 0} (wide : A → List ℕ → ℕ) (read : A → List ℕ → Got B C) → ((a : A) (x : List ℕ) (c : List C) → P a x c → read a x ≡ done c) → ((a : A) (x : List ℕ) (c : List C) (b : List ℕ) → P a x c → wide a (x ++ b) ≡ length x) → (bs : List A) (s : List ℕ) (cs : List C) (b : List ℕ) → Each P bs s cs → gather wide read bs (s ++ b) ≡ done cs
+  -- pieces that are gathered so: all cells are read
+  pub each-gather : {B : Type 0} {wide : A → List ℕ → ℕ} {read : A → List ℕ → Got B C} → Gathers P wide read → (bs : List A) (s : List ℕ) (cs : List C) (b : List ℕ)
+      → Each P bs s cs → gather wide read bs (s ++ b) ≡ done cs
   unfolding gather
-  each-gather wide read back exact [] [] [] b none = refl
-  each-gather wide read back exact (a ∷ bs) s cs b (more x c {y} {d} p h) =
-      rw (append-assoc x y b, exact a x c (y ++ b) p, take-append-seam x (y ++ b), drop-append-seam x (y ++ b), back a x c p, each-gather wide read back exact bs y d b h)
+  each-gather g [] [] [] b none = refl
+  each-gather g (a ∷ bs) s cs b (more x c {y} {d} p h) =
+      rw (append-assoc x y b, g .exact a x c (y ++ b) p, take-append-seam x (y ++ b), drop-append-seam x (y ++ b), g .back a x c p, each-gather g bs y d b h)
 
   -- pieces that are the texts of their cells: the whole is what is written for all cells
-  pub each-emit : (size : A → ℕ) (text : A → List C → List ℕ) → ((a : A) (x : List ℕ) (c : List C) → P a x c → (x ≡ text a c) × (length c ≡ size a)) → (bs : List A) (s : List ℕ) (cs : List C) → Each P bs s cs → s ≡ emit size text bs cs
+  pub each-emit : (size : A → ℕ) (text : A → List C → List ℕ) → ((a : A) (x : List ℕ) (c : List C) → P a x c → (x ≡ text a c) × (length c ≡ size a))
+      → (bs : List A) (s : List ℕ) (cs : List C) → Each P bs s cs → s ≡ emit size text bs cs
   unfolding emit
   each-emit size text t [] [] [] none = refl
   each-emit size text t (a ∷ bs) s cs (more x c {y} {d} p h) =
@@ -56,7 +63,8 @@ module _ {A C : Type 0} {P : A → List ℕ → List C → Type 0} where
       rw (take-at c d (size a) (u .1), drop-at c d (size a) (u .1)) (ap₂ _++_ (u .0) (each-emit size text t bs y d h))
 
 -- what is written for pieces, each of which has its own cells and a text for them
-pub own-each : {A C : Type 0} {P : A → List ℕ → List C → Type 0} (size : A → ℕ) (text : A → List C → List ℕ) (Q : A → List C → Type 0) → ((a : A) (c : List C) → length c ≡ size a → Q a c → P a (text a c) c) → (bs : List A) (cs : List C) → length cs ≡ sum (map size bs) → Own size Q bs cs → Each P bs (emit size text bs cs) cs
+pub own-each : {A C : Type 0} {P : A → List ℕ → List C → Type 0} (size : A → ℕ) (text : A → List C → List ℕ) (Q : A → List C → Type 0)
+    → ((a : A) (c : List C) → length c ≡ size a → Q a c → P a (text a c) c) → (bs : List A) (cs : List C) → length cs ≡ sum (map size bs) → Own size Q bs cs → Each P bs (emit size text bs cs) cs
 unfolding sum emit Own
 own-each size text Q t [] [] l o = none
 own-each size text Q t [] (c ∷ cs) l o = absurd (omega arith)
@@ -69,7 +77,8 @@ own-each {P = P} size text Q t (a ∷ bs) cs l o =
 
 -- and back: each piece has its own cells
 module _ {A C : Type 0} {P : A → List ℕ → List C → Type 0} where
-  pub each-own : (size : A → ℕ) (Q : A → List C → Type 0) → ((a : A) (x : List ℕ) (c : List C) → P a x c → (length c ≡ size a) × Q a c) → (bs : List A) (s : List ℕ) (cs : List C) → Each P bs s cs → Own size Q bs cs
+  pub each-own : (size : A → ℕ) (Q : A → List C → Type 0) → ((a : A) (x : List ℕ) (c : List C) → P a x c → (length c ≡ size a) × Q a c) → (bs : List A) (s : List ℕ) (cs : List C)
+      → Each P bs s cs → Own size Q bs cs
   unfolding Own
   each-own size Q t [] [] [] none = tt
   each-own size Q t (a ∷ bs) s cs (more x c {y} {d} p h) =
@@ -88,7 +97,8 @@ pub record Pieced {A C : Type 0} (P : A → List ℕ → List C → Type 0) (bs 
   pub each : Each P bs text cs
 
 -- what is read as a whole is the pieces that were read
-pub gather-each : {A B C : Type 0} (wide : A → List ℕ → ℕ) (read : A → List ℕ → Got B C) (bs : List A) (s : List ℕ) (cs : List C) → gather wide read bs s ≡ done cs → Pieced (λ a x c. read a x ≡ done c) bs cs
+pub gather-each : {A B C : Type 0} (wide : A → List ℕ → ℕ) (read : A → List ℕ → Got B C) (bs : List A) (s : List ℕ) (cs : List C) → gather wide read bs s ≡ done cs
+    → Pieced (λ a x c. read a x ≡ done c) bs cs
 unfolding gather
 gather-each {A} {B} {C} wide read [] s cs e =
     let z : [] ≡ cs = cc in
@@ -107,7 +117,8 @@ each-append {P = P} (a ∷ ks) bs s t cs ds (more x c {y} {d} p h) k =
     (subst (Each P (a ∷ (ks ++ bs)) (x ++ (y ++ t))) (sym (append-assoc c d ds)) (more x c p (each-append ks bs y t d ds h k)))
 
 -- pieces that are pieces themselves
-pub each-flat : {A B C : Type 0} {P : B → List ℕ → List C → Type 0} (inner : A → List B) (ks : List A) (s : List ℕ) (cs : List C) → Each (λ a x c. Pieced P (inner a) c) ks s cs → Pieced P (flatMap inner ks) cs
+pub each-flat : {A B C : Type 0} {P : B → List ℕ → List C → Type 0} (inner : A → List B) (ks : List A) (s : List ℕ) (cs : List C) → Each (λ a x c. Pieced P (inner a) c) ks s cs
+    → Pieced P (flatMap inner ks) cs
 unfolding flatMap
 each-flat inner [] [] [] none = record { text = []; each = none }
 each-flat inner (a ∷ ks) s cs (more x c {y} {d} p h) =

@@ -8,7 +8,8 @@ use mathlib.Core.Logic.{_⊎_, ⊎-elim}
 use Prim.Native.Nat.{ℕ, zero, suc, _+_, _-_, _<_, _≤_}
 use native.Mathlib.Nat.{add-zero, add-suc, suc-add, le-of-suc-le-suc, not-suc-le-zero}
 use native.Mathlib.Omega.{arith}
-use lib.Dec.{T, eqb, eqb→eq, eqb-refl}
+use types.Run.{OneOf}
+use lib.Dec.{T, eqb, leb, leb→le, eqb→eq, eqb-refl}
 use lib.ListN.{length, getD, take, drop, drop-of-length-le}
 use lib.Seq.{drop-cons}
 use native.Mathlib.Numerals.{add-one}
@@ -102,3 +103,13 @@ pub columns-every : {S : Type 0} (last : S → ℕ) (back : S → S) (f : ℕ �
 columns-every last back f h zero s = tt
 columns-every last back f h (suc k) s =
     every-append f (columns last back k (back s)) (last s ∷ []) (columns-every last back f h k (back s)) (and-both (f (last s)) true (h s) tt)
+
+-- the first variant of an enum is none of the others, which are told by their numbers
+pub not-first : (ks : List ℕ) → T (every (leb 1) ks) → OneOf ks 0 → ⊥
+not-first [] t h = h
+not-first (k ∷ []) t h = omega (arith, leb→le 1 k (and-left (leb 1 k) true t), h)
+not-first (k ∷ (j ∷ ks)) t h =
+    ⊎-elim
+    (λ (e : 0 ≡ k). omega (arith, leb→le 1 k (and-left (leb 1 k) (every (leb 1) (j ∷ ks)) t)))
+    (λ r. not-first (j ∷ ks) (and-right (leb 1 k) (every (leb 1) (j ∷ ks)) t) r)
+    h

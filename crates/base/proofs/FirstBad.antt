@@ -60,7 +60,8 @@ module _ {B C : Type 0} {m : ℕ} {piece from : ℕ → Got B C} (p : InPieces m
       (eq-or-lt-of-le (omega arith))
 
   -- at piece i: it is the first that is bad, or one behind it is
-  bad-here : (r : B) (i : ℕ) → i < m → ((j : ℕ) → j < i → IsDone (piece j)) → (g : Got B C) → piece i ≡ g → both g (from (suc i)) ≡ bad r → (((j : ℕ) → j < suc i → IsDone (piece j)) → from (suc i) ≡ bad r → FirstBad m piece r) → FirstBad m piece r
+  bad-here : (r : B) (i : ℕ) → i < m → ((j : ℕ) → j < i → IsDone (piece j)) → (g : Got B C) → piece i ≡ g → both g (from (suc i)) ≡ bad r
+      → (((j : ℕ) → j < suc i → IsDone (piece j)) → from (suc i) ≡ bad r → FirstBad m piece r) → FirstBad m piece r
   bad-here r i h d (done cs) u w later = later (one-more i d u) (next-bad r cs (from (suc i)) w)
   bad-here r i h d (bad q) u w later = record { at = i; inside = h; earlier = d; told = u ∙ w }
 
@@ -102,7 +103,8 @@ module _ {B C : Type 0} {m : ℕ} {piece from : ℕ → Got B C} (p : InPieces m
         let b = both-done (piece i) (from (suc i)) (drop (at i) cs) (sym (p .more i h) ∙ u) in
         let n = z .size i h (b .first) (b .first-is) in
         let w : at (suc i) - at i ≡ length (b .first) = omega arith in
-        let d : drop (at (suc i)) cs ≡ b .second = ap (λ k. drop k cs) (sym n) ∙ sym (drop-drop (length (b .first)) (at i) cs) ∙ ap (drop (length (b .first))) (b .all) ∙ drop-at (b .first) (b .second) (length (b .first)) refl in
+        let d : drop (at (suc i)) cs ≡ b .second =
+        ap (λ k. drop k cs) (sym n) ∙ sym (drop-drop (length (b .first)) (at i) cs) ∙ ap (drop (length (b .first))) (b .all) ∙ drop-at (b .first) (b .second) (length (b .first)) refl in
         record {
           here = b .first-is ∙ ap done (sym (ap (λ k. take k (drop (at i) cs)) w ∙ ap (take (length (b .first))) (b .all) ∙ take-at (b .first) (b .second) (length (b .first)) refl));
           behind = b .second-is ∙ ap done (sym d);

@@ -85,7 +85,8 @@ put-before {xs = xs} {ys = ys} {t = t} {k = k} p a zs at e q =
     record { room = omega (arith, p .room); is = q ∙ rw (u, v, append-assoc a t (drop (at + length (a ++ t)) xs), w) }
 
 -- a loop that stores the elements of ys
-pub over-turn : {A : Type 0} (xs ys zs : List A) (at i : ℕ) (d : A) → i < length ys → at + length ys ≤ length xs → zs ≡ over at (take i ys) xs → set zs (at + i) (getD ys i d) ≡ over at (take (i + 1) ys) xs
+pub over-turn : {A : Type 0} (xs ys zs : List A) (at i : ℕ) (d : A) → i < length ys → at + length ys ≤ length xs → zs ≡ over at (take i ys) xs
+    → set zs (at + i) (getD ys i d) ≡ over at (take (i + 1) ys) xs
 over-turn xs ys zs at i d h r e =
     let l : length (take i ys) ≡ i = length-take-le i ys (omega arith) in
     let m : length zs ≡ length xs = ap length e ∙ over-length xs (take i ys) at (omega arith) in

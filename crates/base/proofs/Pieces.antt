@@ -73,4 +73,9 @@ module _ {A C : Type 0} (size : A → ℕ) where
     unfolding emit sum
     emit-append [] bs cs = rw (drop-none cs)
     emit-append (a ∷ ks) bs cs =
-        rw (emit-append ks bs (drop (size a) cs), drop-drop (sum (map size ks)) (size a) cs, append-assoc (text a (take (size a) cs)) (emit size text ks (drop (size a) cs)) (emit size text bs (drop (size a + sum (map size ks)) cs)))
+        rw (
+          emit-append ks bs (drop (size a) cs),
+          drop-drop (sum (map size ks)) (size a) cs,
+          append-assoc (text a (take (size a) cs)) (emit size text ks (drop (size a) cs))
+              (emit size text bs (drop (size a + sum (map size ks)) cs)),
+        )

@@ -59,7 +59,8 @@ sum-up-more f a (suc k) =
 
 -- ---- pieces for each of them: piece number a + i has its cells behind those of the i before it
 
-pub own-up : {C : Type 0} (size : ℕ → ℕ) (P : ℕ → List C → Type 0) (a n : ℕ) (cs : List C) → Own size P (upFrom a n) cs → (i : ℕ) → i < n → P (a + i) (take (size (a + i)) (drop (sum (map size (upFrom a i))) cs))
+pub own-up : {C : Type 0} (size : ℕ → ℕ) (P : ℕ → List C → Type 0) (a n : ℕ) (cs : List C) → Own size P (upFrom a n) cs → (i : ℕ) → i < n
+    → P (a + i) (take (size (a + i)) (drop (sum (map size (upFrom a i))) cs))
 unfolding upFrom sum Own
 own-up size P a zero cs o i h = absurd (omega arith)
 own-up size P a (suc n) cs o zero h = rw (add-zero a, drop-none cs) (o .0)
@@ -69,7 +70,8 @@ own-up size P a (suc n) cs o (suc i) h =
     (subst (λ g. P g (take (size g) (drop (sum (map size (upFrom (suc a) i))) (drop (size a) cs)))) e (own-up size P (suc a) n (drop (size a) cs) (o .1) i (omega arith)))
 
 -- and back
-pub up-own : {C : Type 0} (size : ℕ → ℕ) (P : ℕ → List C → Type 0) (a n : ℕ) (cs : List C) → ((i : ℕ) → i < n → P (a + i) (take (size (a + i)) (drop (sum (map size (upFrom a i))) cs))) → Own size P (upFrom a n) cs
+pub up-own : {C : Type 0} (size : ℕ → ℕ) (P : ℕ → List C → Type 0) (a n : ℕ) (cs : List C)
+    → ((i : ℕ) → i < n → P (a + i) (take (size (a + i)) (drop (sum (map size (upFrom a i))) cs))) → Own size P (upFrom a n) cs
 unfolding upFrom sum Own
 up-own size P a zero cs h = tt
 up-own size P a (suc n) cs h =

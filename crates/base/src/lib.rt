@@ -7,10 +7,7 @@ ghost use lib.Dec.{leb};
 pub fn has_room(at: usize, k: usize, n: usize) -> bool
     ensures { λ r. ⌜ r ≡ leb (at + k) n ⌝ }
 {
-    if n < at {
-        return false;
-    }
-    k <= n - at
+    at <= n && k <= n - at
 }
 
 // The lesser of two numbers.

@@ -22,7 +22,7 @@ use Rattle.count.specs.declared.Release.the-variants.{Five, Other, Fille
 use Rattle.count.specs.declared.Ruling.{Ruling}
 use Rattle.count.specs.declared.Ruling.the-variants.{Kept, Broken}
 use Rattle.reply.specs.declared.Refusal.{Refusal}
-use Rattle.reply.specs.declared.Refusal.the-variants.{Misformed, OtherRelease, FilledVacant, BrokenRule, OtherLength}
+use Rattle.reply.specs.declared.Refusal.the-variants.{Misformed, OtherLength}
 use Rattle.reply.specs.declared.Checked.{Checked}
 use Rattle.reply.specs.declared.Checked.the-variants.{Right, Refused}
 use Rattle.count.proofs.Checks.{checked-misformed, checked-release, checked-filled, checked-broken, checked-right, checked-length}

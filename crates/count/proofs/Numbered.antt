@@ -1,23 +1,36 @@
--- What the whole check refuses with fills a row of its own.
+-- Each answer of the whole check fills a row of its table.
 -- Assumes nothing.
-use mathlib.Core.List.{List}
+use mathlib.Core.Path.{refl}
+use mathlib.Core.List.{List, []}
+use mathlib.Core.Logic.{inl, inr}
 use Prim.Native.Nat.{ℕ}
 use native.Mathlib.Omega.{arith}
 use lib.Dec.{lit<}
 use Rattle.reply.specs.declared.Refusal.{Refusal}
 use Rattle.reply.specs.declared.Refusal.the-variants.{Misformed, OtherRelease, FilledVacant, BrokenRule, OtherLength}
 use Rattle.reply.specs.Table.{Numbered}
-use Rattle.reply.specs.Refusals.{refusalReply, rows}
-use Rattle.reply.proofs.Replies.{refusal-fills, at-row}
-use Rattle.count.specs.Numbered.{checkRefusals}
-use Rattle.count.specs.Due.{RefusedFor, misformed, other-release, filled-vacant, broken-rule, other-length}
+use Rattle.reply.specs.declared.Checked.{Checked}
+use Rattle.reply.specs.declared.Checked.the-variants.{Right, Refused}
+use Rattle.reply.specs.Refusals.{refusalReply, checkedReply, rows}
+use Rattle.reply.proofs.Replies.{fills, refusal-fills, at-row}
+use Rattle.count.specs.Numbered.{checkRefusals, checkRows}
+use Rattle.count.specs.Check.{checkedOf}
+use Rattle.count.specs.Due.{RefusedFor, misformed, other-release, filled-vacant, broken-rule, other-length, Due}
+use Rattle.count.proofs.Due.{first-due}
 use Rattle.count.proofs.Rulings.{broken-group}
 
-pub check-numbered : (ns : List ℕ) (cells : ℕ) (r : Refusal) → RefusedFor ns cells r → Numbered (rows checkRefusals) (refusalReply r)
-check-numbered ns cells r (misformed d) = at-row 0 (rows checkRefusals) (refusalReply Misformed) (lit< tt) (refusal-fills Misformed tt)
-check-numbered ns cells r (other-release d) = at-row 1 (rows checkRefusals) (refusalReply OtherRelease) (lit< tt) (refusal-fills OtherRelease tt)
-check-numbered ns cells r (filled-vacant g d) =
+pub check-refusal-numbered : (ns : List ℕ) (cells : ℕ) (r : Refusal) → RefusedFor ns cells r → Numbered (rows checkRefusals) (refusalReply r)
+check-refusal-numbered ns cells r (misformed d) = at-row 0 (rows checkRefusals) (refusalReply Misformed) (lit< tt) (refusal-fills Misformed tt)
+check-refusal-numbered ns cells r (other-release d) = at-row 1 (rows checkRefusals) (refusalReply OtherRelease) (lit< tt) (refusal-fills OtherRelease tt)
+check-refusal-numbered ns cells r (filled-vacant g d) =
     at-row 2 (rows checkRefusals) (refusalReply (FilledVacant g)) (lit< tt) (refusal-fills (FilledVacant g) (omega (arith, d .release .low), tt))
-check-numbered ns cells r (broken-rule g d) =
+check-refusal-numbered ns cells r (broken-rule g d) =
     at-row 3 (rows checkRefusals) (refusalReply (BrokenRule g)) (lit< tt) (refusal-fills (BrokenRule g) (broken-group ns (d .broken) .0, tt))
-check-numbered ns cells r (other-length d) = at-row 4 (rows checkRefusals) (refusalReply OtherLength) (lit< tt) (refusal-fills OtherLength tt)
+check-refusal-numbered ns cells r (other-length d) = at-row 4 (rows checkRefusals) (refusalReply OtherLength) (lit< tt) (refusal-fills OtherLength tt)
+
+pub check-numbered : (ns : List ℕ) (cells : ℕ) → Numbered checkRows (checkedReply (checkedOf ns cells))
+check-numbered ns cells = by (checkedOf ns cells) (first-due ns cells (checkedOf ns cells) .0 refl)
+  where
+    by : (c : Checked) → Due ns cells c → Numbered checkRows (checkedReply c)
+    by Right d = inl (fills 0 [] tt)
+    by (Refused r) d = inr (check-refusal-numbered ns cells r d)

@@ -51,7 +51,8 @@ nothing-seen (x ∷ xs) = nothing-step x xs (zero? x) refl (nothing-seen xs)
 zeroOrIs : ℕ → ℕ → Bool
 zeroOrIs v x = zero? x || eqb x v
 
-agree-step : (v x : ℕ) (xs : List ℕ) (a : Bool) → zero? v ≡ false → agree v xs ≡ every (zeroOrIs v) xs → cond a (agree v xs) (cond (zero? v) (agree x xs) (eqb x v && agree v xs)) ≡ (a || eqb x v) && every (zeroOrIs v) xs
+agree-step : (v x : ℕ) (xs : List ℕ) (a : Bool) → zero? v ≡ false → agree v xs ≡ every (zeroOrIs v) xs
+    → cond a (agree v xs) (cond (zero? v) (agree x xs) (eqb x v && agree v xs)) ≡ (a || eqb x v) && every (zeroOrIs v) xs
 agree-step v x xs true z r = r
 agree-step v x xs false z r = rw (z, r)
 

@@ -10,7 +10,7 @@ use Rattle.date.specs.declared.Digits.{Digits}
 use Rattle.date.specs.declared.Digits.the-variants.{Number, Fails}
 use Rattle.date.specs.declared.Date.{Date}
 use Rattle.date.specs.declared.Dated.the-variants.{Right, Wrong}
-use Rattle.date.specs.Digits.{digitsOf}
+use Rattle.date.specs.Digits.{fieldDigits}
 use Rattle.date.specs.Date.{fields, firstBlamed, datedOf, dateOf, namesOneDay, judged}
 
 -- the answer is that of the fields fs, since those before them hold
@@ -23,11 +23,11 @@ all-remain s = record { decide = refl }
 
 -- a field reads as v, and those behind it remain
 pub record Held (f : DigitField) (fs : List DigitField) (s : List ℕ) (v : ℕ) : Type 0 where
-  pub reads : digitsOf f s ≡ Number v
+  pub reads : fieldDigits f s ≡ Number v
   pub remain : Remain fs s
 
 -- `answer` is what a field was found to read as
-module _ {f : DigitField} {fs : List DigitField} {s : List ℕ} {answer : Digits} (r : Remain (f ∷ fs) s) (found : answer ≡ digitsOf f s) where
+module _ {f : DigitField} {fs : List DigitField} {s : List ℕ} {answer : Digits} (r : Remain (f ∷ fs) s) (found : answer ≡ fieldDigits f s) where
   pub field-holds : {v : ℕ} → answer ≡ Number v → Held f fs s v
   unfolding firstBlamed
   field-holds e = let q = sym found ∙ e in record { reads = q; remain = record { decide = rw q at (r .decide) } }

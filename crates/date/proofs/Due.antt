@@ -16,7 +16,7 @@ use Rattle.date.specs.declared.Digits.the-variants.{Number, Fails}
 use Rattle.date.specs.declared.Date.{Date}
 use Rattle.date.specs.declared.Dated.{Dated}
 use Rattle.date.specs.declared.Dated.the-variants.{Right, Wrong}
-use Rattle.date.specs.Digits.{digitsOf, Reads}
+use Rattle.date.specs.Digits.{fieldDigits, Reads}
 use Rattle.date.specs.Calendar.{isLeap}
 use Rattle.date.specs.Date.{fields, fails, number, firstBlamed, datedOf, dateOf, namesOneDay, judged}
 use Rattle.date.specs.Due.{Holds, FailsAlone, AllHold, FirstFails, HasNumbers, NamesDay, Due}
@@ -28,20 +28,20 @@ held (Number v) e = refl
 held Fails e = let z : _≡_ {A = ℕ} 0 1 = cc in absurd (omega arith)
 
 -- a field holds exactly if the text has its digits, and fails alone exactly if it has none
-holds-passes : (f : DigitField) (s : List ℕ) → Holds f s → fails (digitsOf f s) ≡ false
+holds-passes : (f : DigitField) (s : List ℕ) → Holds f s → fails (fieldDigits f s) ≡ false
 holds-passes f s h = rw (is-read f s (h .value) (h .reads))
 
-passes-reads : (f : DigitField) (s : List ℕ) → fails (digitsOf f s) ≡ false → Reads f s (number (digitsOf f s))
-passes-reads f s e = read-is f s (number (digitsOf f s)) (held (digitsOf f s) e)
+passes-reads : (f : DigitField) (s : List ℕ) → fails (fieldDigits f s) ≡ false → Reads f s (number (fieldDigits f s))
+passes-reads f s e = read-is f s (number (fieldDigits f s)) (held (fieldDigits f s) e)
 
-alone-fails : (f : DigitField) (s : List ℕ) → FailsAlone f s → fails (digitsOf f s) ≡ true
-alone-fails f s h = by (fails (digitsOf f s)) refl
+alone-fails : (f : DigitField) (s : List ℕ) → FailsAlone f s → fails (fieldDigits f s) ≡ true
+alone-fails f s h = by (fails (fieldDigits f s)) refl
   where
-    by : (t : Bool) → fails (digitsOf f s) ≡ t → t ≡ true
+    by : (t : Bool) → fails (fieldDigits f s) ≡ t → t ≡ true
     by true e = refl
-    by false e = absurd (h (number (digitsOf f s)) (passes-reads f s e))
+    by false e = absurd (h (number (fieldDigits f s)) (passes-reads f s e))
 
-fails-alone : (f : DigitField) (s : List ℕ) → fails (digitsOf f s) ≡ true → FailsAlone f s
+fails-alone : (f : DigitField) (s : List ℕ) → fails (fieldDigits f s) ≡ true → FailsAlone f s
 fails-alone f s e v r = absurd (true≢false (sym e ∙ holds-passes f s record { value = v; reads = r }))
 
 -- ---- any list of fields: all hold and the answer is as given, or the first that fails is blamed
@@ -63,10 +63,10 @@ first-fails fs s p given r = rw (r .order, r .position) (before-holds (r .before
 abbrev Found : List DigitField → List ℕ → Type 0
 Found fs s = AllHold fs s ⊎ ((p : ℕ) × FirstFails fs s p)
 
-found-more : (f : DigitField) (fs : List DigitField) (s : List ℕ) (t : Bool) → fails (digitsOf f s) ≡ t → Found fs s → Found (f ∷ fs) s
+found-more : (f : DigitField) (fs : List DigitField) (s : List ℕ) (t : Bool) → fails (fieldDigits f s) ≡ t → Found fs s → Found (f ∷ fs) s
 found-more f fs s true e r =
     inr (f .first, record { before = []; field = f; behind = fs; order = refl; hold = tt; failing = fails-alone f s e; position = refl })
-found-more f fs s false e (inl a) = inl (record { value = number (digitsOf f s); reads = passes-reads f s e }, a)
+found-more f fs s false e (inl a) = inl (record { value = number (fieldDigits f s); reads = passes-reads f s e }, a)
 found-more f fs s false e (inr r) =
     let q = r .1 in
     inr (
@@ -76,7 +76,7 @@ found-more f fs s false e (inr r) =
         field = q .field;
         behind = q .behind;
         order = ap (λ l. f ∷ l) (q .order);
-        hold = (record { value = number (digitsOf f s); reads = passes-reads f s e }, q .hold);
+        hold = (record { value = number (fieldDigits f s); reads = passes-reads f s e }, q .hold);
         failing = q .failing;
         position = q .position;
       },
@@ -84,7 +84,7 @@ found-more f fs s false e (inr r) =
 
 found : (fs : List DigitField) (s : List ℕ) → Found fs s
 found [] s = inl tt
-found (f ∷ fs) s = found-more f fs s (fails (digitsOf f s)) refl (found fs s)
+found (f ∷ fs) s = found-more f fs s (fails (fieldDigits f s)) refl (found fs s)
 
 -- ---- the seven numbers
 
@@ -105,8 +105,11 @@ read-holds : {f : DigitField} {s : List ℕ} {v : ℕ} → Reads f s v → Holds
 read-holds {v = v} r = record { value = v; reads = r }
 
 numbers-hold : (s : List ℕ) (d : Date) → HasNumbers s d → AllHold fields s
-numbers-hold s d n =
-    (read-holds (n .in-year), (read-holds (n .on-day-of-year), (read-holds (n .in-month), (read-holds (n .on-day), (read-holds (n .at-hour), (read-holds (n .at-minute), (read-holds (n .at-second), tt)))))))
+numbers-hold s d n = (
+  read-holds
+      (n .in-year),
+  (read-holds (n .on-day-of-year), (read-holds (n .in-month), (read-holds (n .on-day), (read-holds (n .at-hour), (read-holds (n .at-minute), (read-holds (n .at-second), tt)))))),
+)
 
 numbers-are : (s : List ℕ) (d : Date) → HasNumbers s d → dateOf s ≡ d
 numbers-are s d n =

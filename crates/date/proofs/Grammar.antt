@@ -18,19 +18,19 @@ use Rattle.base.proofs.Choice.{and-first, and-second}
 use Rattle.date.specs.declared.DigitField.{DigitField}
 use Rattle.date.specs.declared.Digits.{Digits}
 use Rattle.date.specs.declared.Digits.the-variants.{Number, Fails}
-use Rattle.date.specs.Digits.{isDigit, digitsIn, within, readDigits, hasPositions, bytesAt, digitsOf, Reads}
+use Rattle.date.specs.Digits.{isDigit, digitsShown, within, readDigits, hasPositions, bytesAt, fieldDigits, Reads}
 use Rattle.date.proofs.Numbers.{digit-is}
 
 -- ---- bytes that are digits, and the digits that they show
 
-bytes-text : (bs : List ℕ) → every isDigit bs ≡ true → bs ≡ digitText (digitsIn bs)
+bytes-text : (bs : List ℕ) → every isDigit bs ≡ true → bs ≡ digitText (digitsShown bs)
 bytes-text [] e = refl
 bytes-text (b ∷ bs) e =
     let h = leb-true 48 b (and-first (leb 48 b) (leb b 57) (and-first (isDigit b) (every isDigit bs) e)) in
     let q : b ≡ 48 + (b - 48) = omega arith in
     ap (λ n. n ∷ bs) q ∙ ap (λ l. (48 + (b - 48)) ∷ l) (bytes-text bs (and-second (isDigit b) (every isDigit bs) e))
 
-bytes-digits : (bs : List ℕ) → every isDigit bs ≡ true → AllDigits (digitsIn bs)
+bytes-digits : (bs : List ℕ) → every isDigit bs ≡ true → AllDigits (digitsShown bs)
 bytes-digits [] e = tt
 bytes-digits (b ∷ bs) e =
     let h = leb-true b 57 (and-second (leb 48 b) (leb b 57) (and-first (isDigit b) (every isDigit bs) e)) in
@@ -40,7 +40,7 @@ text-passes : (ds : List ℕ) → AllDigits ds → every isDigit (digitText ds) 
 text-passes [] a = refl
 text-passes (d ∷ ds) a = rw (digit-is (48 + d) (omega arith) (omega (arith, a .0))) (text-passes ds (a .1))
 
-text-digits : (ds : List ℕ) → digitsIn (digitText ds) ≡ ds
+text-digits : (ds : List ℕ) → digitsShown (digitText ds) ≡ ds
 text-digits [] = refl
 text-digits (d ∷ ds) = let e : 48 + d - 48 ≡ d = omega arith in rw e (ap (λ l. d ∷ l) (text-digits ds))
 
@@ -51,12 +51,12 @@ number-only true x v e = (refl, e)
 number-only false x v e = let z : _≡_ {A = ℕ} 0 1 = cc in absurd (omega arith)
 
 module _ (f : DigitField) (s : List ℕ) (v : ℕ) where
-  pub read-is : digitsOf f s ≡ Number v → Reads f s v
-  unfolding digitsOf
+  pub read-is : fieldDigits f s ≡ Number v → Reads f s v
+  unfolding fieldDigits
   read-is e =
       let at = f .first - 1 in
       let bs = bytesAt f s in
-      let n = numberOf (digitsIn bs) in
+      let n = numberOf (digitsShown bs) in
       let placed = number-only (hasPositions f s) (readDigits (f .least) (f .greatest) bs) v e in
       let one = leb-true 1 (f .first) (and-first (leb 1 (f .first)) (leb (at + f .length) (length s)) (placed .0)) in
       let room = leb-true (at + f .length) (length s) (and-second (leb 1 (f .first)) (leb (at + f .length) (length s)) (placed .0)) in
@@ -66,7 +66,7 @@ module _ (f : DigitField) (s : List ℕ) (v : ℕ) where
       let q : n ≡ v = cc in
       record {
         before = take at s;
-        digits = digitsIn bs;
+        digits = digitsShown bs;
         behind = drop (f .length) (drop at s);
         text = part-cut s at (f .length) ∙ ap (λ l. take at s ++ (l ++ drop (f .length) (drop at s))) (bytes-text bs digits);
         each = bytes-digits bs digits;
@@ -83,11 +83,11 @@ module _ (f : DigitField) (s : List ℕ) (v : ℕ) where
       let k : f .length ≡ length (digitText (r .digits)) = sym (r .many) ∙ sym (length-map (r .digits) (λ d. 48 + d)) in
       rw (e, k, r .text) (part-middle (r .before) (digitText (r .digits)) (r .behind))
 
-  pub is-read : Reads f s v → digitsOf f s ≡ Number v
-  unfolding digitsOf
+  pub is-read : Reads f s v → fieldDigits f s ≡ Number v
+  unfolding fieldDigits
   is-read r =
       let b = reads-bytes r in
-      let q : numberOf (digitsIn (bytesAt f s)) ≡ v = ap (λ l. numberOf (digitsIn l)) b ∙ ap numberOf (text-digits (r .digits)) ∙ sym (r .value) in
+      let q : numberOf (digitsShown (bytesAt f s)) ≡ v = ap (λ l. numberOf (digitsShown l)) b ∙ ap numberOf (text-digits (r .digits)) ∙ sym (r .value) in
       let room : f .first - 1 + f .length ≤ length s = omega (arith, r .position, r .many, simp (length-append, length-map) at (ap length (r .text))) in
       let digits : every isDigit (bytesAt f s) ≡ true = ap (every isDigit) b ∙ text-passes (r .digits) (r .each) in
       rw (

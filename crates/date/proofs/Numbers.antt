@@ -16,7 +16,7 @@ use Rattle.base.specs.Every.{every}
 use Rattle.base.proofs.Choice.{and-false}
 use Rattle.date.specs.declared.Digits.{Digits}
 use Rattle.date.specs.declared.Digits.the-variants.{Number, Fails}
-use Rattle.date.specs.Digits.{isDigit, digitsIn, within}
+use Rattle.date.specs.Digits.{isDigit, digitsShown, within}
 
 -- ---- a byte is a digit, or it is none
 
@@ -33,7 +33,7 @@ digit-high b h = rw (lt-leb b 57 h) (and-false (leb 48 b))
 
 abbrev pub readFrom : ℕ → ℕ → ℕ → List ℕ → Digits
 readFrom m least greatest bs =
-    cond (every isDigit bs && within least greatest (numberFrom m (digitsIn bs))) (Number (numberFrom m (digitsIn bs))) Fails
+    cond (every isDigit bs && within least greatest (numberFrom m (digitsShown bs))) (Number (numberFrom m (digitsShown bs))) Fails
 
 number-grows : (m : ℕ) (ds : List ℕ) → m ≤ numberFrom m ds
 number-grows m [] = omega arith
@@ -43,8 +43,8 @@ module _ (least greatest : ℕ) where
   too-great : (bs : List ℕ) (m : ℕ) → greatest < m → readFrom m least greatest bs ≡ Fails
   too-great bs m h =
       rw (
-        lt-leb (numberFrom m (digitsIn bs)) greatest (omega (arith, number-grows m (digitsIn bs))),
-        and-false (leb least (numberFrom m (digitsIn bs))),
+        lt-leb (numberFrom m (digitsShown bs)) greatest (omega (arith, number-grows m (digitsShown bs))),
+        and-false (leb least (numberFrom m (digitsShown bs))),
         and-false (every isDigit bs),
       )
 

@@ -8,7 +8,7 @@ use Rattle.date.specs.declared.Digits.the-variants.{Number, Fails}
 use Rattle.date.specs.declared.Date.{Date}
 use Rattle.date.specs.declared.Dated.{Dated}
 use Rattle.date.specs.declared.Dated.the-variants.{Right, Wrong}
-use Rattle.date.specs.Digits.{digitsOf}
+use Rattle.date.specs.Digits.{fieldDigits}
 use Rattle.date.specs.Calendar.{isLeap, nameDay}
 
 -- R141: positions from .. to, and values from .. to
@@ -56,19 +56,19 @@ namesOneDay d = nameDay (isLeap (d .year)) (d .«day_of_year») (d .month) (d .d
 abbrev pub dateOf : List ℕ → Date
 dateOf s =
     record {
-      year = number (digitsOf year s);
-      «day_of_year» = number (digitsOf dayOfYear s);
-      month = number (digitsOf month s);
-      day = number (digitsOf day s);
-      hour = number (digitsOf hour s);
-      minute = number (digitsOf minute s);
-      second = number (digitsOf second s);
+      year = number (fieldDigits year s);
+      «day_of_year» = number (fieldDigits dayOfYear s);
+      month = number (fieldDigits month s);
+      day = number (fieldDigits day s);
+      hour = number (fieldDigits hour s);
+      minute = number (fieldDigits minute s);
+      second = number (fieldDigits second s);
     }
 
 -- R147: the first of these fields that fails alone is blamed, at its first position; if none of them does, it is as given
 unfoldable pub firstBlamed : List DigitField → List ℕ → Dated → Dated
 firstBlamed [] s given = given
-firstBlamed (f ∷ fs) s given = cond (fails (digitsOf f s)) (Wrong (f .first)) (firstBlamed fs s given)
+firstBlamed (f ∷ fs) s given = cond (fails (fieldDigits f s)) (Wrong (f .first)) (firstBlamed fs s given)
 
 -- R148: where no field fails alone, the date is right if the three agree, and else 7 is blamed
 abbrev pub judged : Date → Dated

@@ -35,8 +35,8 @@ abbrev pub isDigit : ℕ → Bool
 isDigit b = leb 48 b && leb b 57
 
 -- the digits that bytes show
-abbrev pub digitsIn : List ℕ → List ℕ
-digitsIn bs = map (λ b. b - 48) bs
+abbrev pub digitsShown : List ℕ → List ℕ
+digitsShown bs = map (λ b. b - 48) bs
 
 -- from the least to the greatest value
 abbrev pub within : ℕ → ℕ → ℕ → Bool
@@ -45,7 +45,7 @@ within least greatest v = leb least v && leb v greatest
 -- what bytes read as: the number of their digits
 abbrev pub readDigits : ℕ → ℕ → List ℕ → Digits
 readDigits least greatest bs =
-    cond (every isDigit bs && within least greatest (numberOf (digitsIn bs))) (Number (numberOf (digitsIn bs))) Fails
+    cond (every isDigit bs && within least greatest (numberOf (digitsShown bs))) (Number (numberOf (digitsShown bs))) Fails
 
 -- the text has the positions of the field, which count from 1
 abbrev pub hasPositions : DigitField → List ℕ → Bool
@@ -56,5 +56,5 @@ abbrev pub bytesAt : DigitField → List ℕ → List ℕ
 bytesAt f s = part (f .first - 1) (f .first - 1 + f .length) s
 
 -- what a field reads as in a text
-unfoldable pub digitsOf : DigitField → List ℕ → Digits
-digitsOf f s = cond (hasPositions f s) (readDigits (f .least) (f .greatest) (bytesAt f s)) Fails
+unfoldable pub fieldDigits : DigitField → List ℕ → Digits
+fieldDigits f s = cond (hasPositions f s) (readDigits (f .least) (f .greatest) (bytesAt f s)) Fails

@@ -1,7 +1,7 @@
 // The date in group 3: digit fields, the calendar, and a date type whose constructor checks. specs/ says what is right.
 ghost use mathlib.Core.Path.{_≡_};
 ghost use Prim.Native.Nat.{_≤_};
-ghost use Rattle.date.specs.Digits.{readDigits, digitsOf};
+ghost use Rattle.date.specs.Digits.{readDigits, fieldDigits};
 ghost use Rattle.date.specs.Calendar.{isLeap, daysTo, nameDay};
 ghost use Rattle.date.specs.Date.{datedOf};
 
@@ -54,7 +54,7 @@ fn number(digits: &[u8], least: usize, greatest: usize) -> Digits
 impl DigitField {
     // R142: what the field reads as in a text. Positions beyond the text's end are no digits, and there is no position 0.
     pub fn read(self, text: &[u8]) -> Digits
-        ensures { λ r. ⌜ r ≡ digitsOf self (now (text .entry)) ⌝ }
+        ensures { λ r. ⌜ r ≡ fieldDigits self (now (text .entry)) ⌝ }
     {
         let first = self.first;
         let length = self.length;

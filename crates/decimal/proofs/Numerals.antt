@@ -15,7 +15,7 @@ use Rattle.base.specs.Digits.{AllDigits, numberFrom, numberOf, Lean, digitText}
 use Rattle.base.proofs.Digits.{digits-append, number-append, text-append, lean-more}
 use Rattle.base.proofs.FromLast.{from-last}
 use Rattle.base.proofs.Order.{le-or-lt}
-use Rattle.decimal.specs.Numerals.{IsNumeral, digitsIn, digitsOf, numeral, valueOf, lastByte}
+use Rattle.decimal.specs.Numerals.{IsNumeral, digitsIn, digitsOf, numeral, textNumber, lastByte}
 
 -- ---- digit by digit
 
@@ -40,7 +40,8 @@ digits-fuel (suc k) zero n h g = absurd (omega arith)
 digits-fuel (suc k) (suc m) n h g =
     one (ltb n 10) refl (λ l. digits-fuel k m (n / 10) (omega (arith, less-tenth n l)) (omega (arith, less-tenth n l)))
   where
-    one : (c : Bool) → ltb n 10 ≡ c → (10 ≤ n → digitsIn k (n / 10) ≡ digitsIn m (n / 10)) → cond c (n ∷ []) (digitsIn k (n / 10) ++ (n % 10 ∷ [])) ≡ cond c (n ∷ []) (digitsIn m (n / 10) ++ (n % 10 ∷ []))
+    one : (c : Bool) → ltb n 10 ≡ c → (10 ≤ n → digitsIn k (n / 10) ≡ digitsIn m (n / 10))
+        → cond c (n ∷ []) (digitsIn k (n / 10) ++ (n % 10 ∷ [])) ≡ cond c (n ∷ []) (digitsIn m (n / 10) ++ (n % 10 ∷ []))
     one true e r = refl
     one false e r = ap (λ l. l ++ (n % 10 ∷ [])) (r (ltb-false n 10 e))
 
@@ -133,12 +134,12 @@ value-text (d ∷ ds) =
     let e : 48 + d - 48 ≡ d = omega arith in
     rw (e, value-text ds)
 
-pub numeral-value : (n : ℕ) → valueOf (numeral n) ≡ n
+pub numeral-value : (n : ℕ) → textNumber (numeral n) ≡ n
 unfolding numeral
 numeral-value n = ap numberOf (value-text (digitsOf n)) ∙ digits-value n
 
 pub numeral-same : (m n : ℕ) → numeral m ≡ numeral n → m ≡ n
-numeral-same m n e = sym (numeral-value m) ∙ ap valueOf e ∙ numeral-value n
+numeral-same m n e = sym (numeral-value m) ∙ ap textNumber e ∙ numeral-value n
 
 -- ---- each byte is a digit's
 

@@ -85,7 +85,8 @@ row-some (n ∷ []) = omega (arith, length-append (numeral n) (10 ∷ []))
 row-some (n ∷ m ∷ ns) = omega (arith, length-append (numeral n) (32 ∷ rowText (m ∷ ns)))
 
 -- a number and the byte behind it were put at a, and the others are put behind them
-module _ (ns out new : List ℕ) (i a b e : ℕ) (h : i < length ns) (r : a + length (rest (drop i ns)) ≤ length out) (p : b ≡ a + (length (numeral (getD ns i 0)) + 1)) (q : e ≡ endByte (length ns - (i + 1))) (o : new ≡ over a (numeral (getD ns i 0) ++ (e ∷ [])) out) where
+module _ (ns out new : List ℕ) (i a b e : ℕ) (h : i < length ns) (r : a + length (rest (drop i ns)) ≤ length out) (p : b ≡ a + (length (numeral (getD ns i 0)) + 1))
+    (q : e ≡ endByte (length ns - (i + 1))) (o : new ≡ over a (numeral (getD ns i 0) ++ (e ∷ [])) out) where
   size : length (numeral (getD ns i 0) ++ (e ∷ [])) ≡ length (numeral (getD ns i 0)) + 1
   size = length-append (numeral (getD ns i 0)) (e ∷ [])
 

@@ -91,7 +91,8 @@ puts-none at text old h =
     record { answer = rw l; bytes = rw l }
 
 -- two texts, the second behind the first, are put as one
-pub puts-joined : (at a n : ℕ) (first row old mid new : List ℕ) → a ≡ at + length first → n ≡ a + length row → a + length row ≤ length old → mid ≡ over at first old → new ≡ over a row mid → Puts at (first ++ row) old (Next n) new
+pub puts-joined : (at a n : ℕ) (first row old mid new : List ℕ) → a ≡ at + length first → n ≡ a + length row → a + length row ≤ length old → mid ≡ over at first old
+    → new ≡ over a row mid → Puts at (first ++ row) old (Next n) new
 puts-joined at a n first row old mid new e f h p q =
     let m : n ≡ at + length (first ++ row) = omega (arith, length-append first row) in
     rw m (puts-done at (length (first ++ row)) (first ++ row) old new refl (omega arith) (over-then old mid new first row at a e (omega arith) p q))
@@ -101,7 +102,8 @@ pub next-means : (at n : ℕ) (text old new : List ℕ) → Puts at text old (Ne
 unfolding putAnswer putBytes
 next-means at n text old new h = go (fits at text old) refl (h .answer) (h .bytes)
   where
-    go : (c : Bool) → fits at text old ≡ c → Next n ≡ cond c (Next (at + length text)) NoRoom → new ≡ cond c (over at text old) old → (n ≡ at + length text) × (n ≤ length old) × (new ≡ over at text old)
+    go : (c : Bool) → fits at text old ≡ c → Next n ≡ cond c (Next (at + length text)) NoRoom → new ≡ cond c (over at text old) old
+        → (n ≡ at + length text) × (n ≤ length old) × (new ≡ over at text old)
     go true u e b =
         let p : n ≡ at + length text = cc in
         (p, omega (arith, leb-true (at + length text) (length old) u), b)

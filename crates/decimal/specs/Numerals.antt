@@ -27,8 +27,8 @@ unfoldable pub numeral : ℕ → List ℕ
 numeral n = digitText (digitsOf n)
 
 -- the number that a text of digits is read as: 48 is the code of `0`
-abbrev pub valueOf : List ℕ → ℕ
-valueOf s = numberOf (map (λ b. b - 48) s)
+abbrev pub textNumber : List ℕ → ℕ
+textNumber s = numberOf (map (λ b. b - 48) s)
 
 -- the last digit's byte, and the number without that digit
 abbrev pub lastByte : ℕ → ℕ

@@ -114,7 +114,7 @@ fn part_to(text: &[u8], from: usize, part: &[u8]) -> usize {
 
 fn print_group(text: &[u8], at: usize, g: usize, page: &mut [u8]) {
     let mut table = [0i64; 2048];
-    let r = reading::reply_of(sao::read_group(text, at, g, &mut table));
+    let r = reply::of_answer(sao::read_group(text, at, g, &mut table));
     let from = sao::group_lines_at(text, at, g).from;
     let part = sao::group_lines(text, at, g);
     let number = put(page, 0, g);
@@ -138,14 +138,14 @@ fn told(c: Characteristic) -> Shown {
         Characteristic::Value(value) => Shown { kind: 0, value },
         Characteristic::NoReading => Shown { kind: 1, value: 0 },
         Characteristic::NotReported => Shown { kind: 2, value: 0 },
-        Characteristic::Unread(_) => Shown { kind: 3, value: 0 },
+        Characteristic::Refused(_) => Shown { kind: 3, value: 0 },
     }
 }
 
 fn print_characteristic(text: &[u8], at: usize, number: usize, page: &mut [u8]) {
     let answer = sao::characteristic(text, at, number);
     let t = told(answer);
-    let r = group::characteristic_reply(answer);
+    let r = group::reply_of(answer);
     let first = put(page, 0, number);
     let kind = put(page, first, t.kind);
     let value = put_cell(page, kind, t.value);

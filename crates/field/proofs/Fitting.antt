@@ -9,7 +9,7 @@ use Rattle.base.proofs.Choice.{and-left, and-right, and-both, true-T}
 use borrow.Author.Tests.{eq-eqb}
 use Rattle.form.specs.declared.Form.{Form}
 use Rattle.form.specs.Table.{rowOf}
-use Rattle.field.specs.Kind.{kindOf, countOf}
+use Rattle.field.specs.Kind.{kindOf, kindCells}
 use Rattle.field.specs.Write.{fitsOf, rangeOf}
 use Rattle.field.proofs.Forms.{kind-cells}
 
@@ -27,5 +27,5 @@ range-fits f cs e t =
     and-both (eqb (length cs) (rowOf f .cells)) (rangeOf (kindOf f) cs) (true-T (eqb (length cs) (rowOf f .cells)) (eq-eqb (length cs) (rowOf f .cells) e)) t
 
 -- as many cells as the kind has
-pub fits-counted : (f : Form) (cs : List ℤ) → T (fitsOf f cs) → length cs ≡ countOf (kindOf f)
+pub fits-counted : (f : Form) (cs : List ℤ) → T (fitsOf f cs) → length cs ≡ kindCells (kindOf f)
 fits-counted f cs t = fits-sized f cs t ∙ sym (kind-cells f)

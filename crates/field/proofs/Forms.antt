@@ -8,16 +8,16 @@ use Rattle.form.specs.declared.Form.the-variants.{F7, A120, A1, F8, I2, I3, I1,
 use Rattle.form.specs.Table
 use Rattle.form.specs.Table.{rowOf}
 use Rattle.form.proofs.Table.{each-form}
-use Rattle.field.specs.Kind.{kindOf, widthOf, countOf, Tens, Small}
+use Rattle.field.specs.Kind.{kindOf, widthOf, kindCells, Tens, Small}
 
 -- one computed test over the ten forms for each of the first two
 pub kind-width : (f : Form) → widthOf (kindOf f) ≡ rowOf f .width
-unfolding Table.rowOf Table.entryOf
+unfolding Table.rowOf Table.formEntry
 kind-width f = eqb→eq (widthOf (kindOf f)) (rowOf f .width) (each-form (λ f. eqb (widthOf (kindOf f)) (rowOf f .width)) tt f)
 
-pub kind-cells : (f : Form) → countOf (kindOf f) ≡ rowOf f .cells
-unfolding Table.rowOf Table.entryOf
-kind-cells f = eqb→eq (countOf (kindOf f)) (rowOf f .cells) (each-form (λ f. eqb (countOf (kindOf f)) (rowOf f .cells)) tt f)
+pub kind-cells : (f : Form) → kindCells (kindOf f) ≡ rowOf f .cells
+unfolding Table.rowOf Table.formEntry
+kind-cells f = eqb→eq (kindCells (kindOf f)) (rowOf f .cells) (each-form (λ f. eqb (kindCells (kindOf f)) (rowOf f .cells)) tt f)
 
 pub kind-tens : (f : Form) → Tens (kindOf f)
 kind-tens F7 = (omega arith, refl, refl)

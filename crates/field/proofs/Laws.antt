@@ -37,10 +37,10 @@ use Rattle.field.specs.declared.Kind.{Kind}
 use Rattle.field.specs.declared.Kind.the-variants.{Whole, Fixed, Power, OneLetter, AllLetters}
 use Rattle.field.specs.declared.Value.{Value}
 use Rattle.field.specs.declared.Value.the-variants.{Cell, Letters as LetterBytes, Misformed}
-use Rattle.field.specs.Kind.{kindOf, widthOf, countOf, Tens}
+use Rattle.field.specs.Kind.{kindOf, widthOf, kindCells, Tens}
 use Rattle.field.specs.Grammar.{One, Two, IsA, ShapeOf, IsField, SomeField}
 use Rattle.field.specs.Canonical.{CanonicalAs, IsCanonical}
-use Rattle.field.specs.Read.{valueOf, readAs, fieldOf, cellsIn, formed, Reads}
+use Rattle.field.specs.Read.{valueOf, readAs, fieldOf, valueCells, formed, ReadsAs}
 use Rattle.field.specs.Write.{cellAt, isLetter, rangeOf, fitsOf, textAs, fieldText}
 use Rattle.field.specs.Law.{Lawful}
 use Rattle.field.proofs.Forms.{kind-width, kind-cells, kind-tens}
@@ -91,7 +91,7 @@ e-two c d x s =
 
 -- a value is good, and its cells are these
 abbrev Gives : List ℕ → Value → List ℤ → Type 0
-Gives s v cs = T (formed v) × (cellsIn s v ≡ cs)
+Gives s v cs = T (formed v) × (valueCells s v ≡ cs)
 
 gives-one : (P : ℤ → Type 0) (s : List ℕ) (cs : List ℤ) (n : Number) → NotTwo n → ((z : ℤ) → n ≡ OneNumber z → P z) → Gives s (valueOf n) cs → One P cs
 gives-one P s cs (OneNumber z) t h g = record { cell = z; cells = sym (g .1); holds = h z refl }
@@ -103,7 +103,7 @@ gives-two P s cs (OneNumber z) t h g = absurd t
 gives-two P s cs (TwoNumbers a b) t h g = record { first = a; second = b; cells = sym (g .1); holds = h a b refl }
 gives-two P s cs NoNumber t h g = absurd (g .0)
 
-gives-letters : (s : List ℕ) (cs : List ℤ) (v : Value) (t : Bool) → every printable s ≡ t → cellsIn s v ≡ map pos s → Gives s (cond t v Misformed) cs → IsA s cs
+gives-letters : (s : List ℕ) (cs : List ℤ) (v : Value) (t : Bool) → every printable s ≡ t → valueCells s v ≡ map pos s → Gives s (cond t v Misformed) cs → IsA s cs
 gives-letters s cs v true e f g = record { letters = printable-letters s (true-T (every printable s) e); cells = sym (g .1) ∙ f }
 gives-letters s cs v false e f g = absurd (g .0)
 
@@ -147,7 +147,7 @@ power-within (suc c) d x p q t s m e i = e-within c d x p q (t .1) (t .2) s m e 
 
 -- as many cells as the kind has, in its range
 abbrev Within : Kind → List ℤ → Type 0
-Within k cs = (length cs ≡ countOf k) × T (rangeOf k cs)
+Within k cs = (length cs ≡ kindCells k) × T (rangeOf k cs)
 
 letters-within : (s : List ℕ) (cs : List ℤ) → IsA s cs → (length cs ≡ length s) × T (every isLetter cs)
 letters-within s cs h =
@@ -229,7 +229,7 @@ canonical-one (AllLetters w) s cs h = rw (h .cells) (sym (bytes-back s))
 letters-length : (cs : List ℤ) → length (map sizeOf cs) ≡ length cs
 letters-length cs = simp length-map
 
-text-length : (k : Kind) → Tens k → (cs : List ℤ) → length cs ≡ countOf k → length (textAs k cs) ≡ widthOf k
+text-length : (k : Kind) → Tens k → (cs : List ℤ) → length cs ≡ kindCells k → length (textAs k cs) ≡ widthOf k
 text-length (Whole w low high) t cs h = i-length w (cellAt cs 0)
 text-length (Fixed w low high) t cs h = f-length w (cellAt cs 0) (omega (arith, t .0))
 text-length (Power c d x p q) t cs h = e-length c d x (cellAt cs 0) (cellAt cs 1)
@@ -268,19 +268,19 @@ unfolding fieldOf
 field-as f s e = rw (eq-eqb (length s) (rowOf f .width) e)
 
 module _ (f : Form) where
-  reads-is : (s : List ℕ) (cs : List ℤ) → Reads f s cs → IsField f s cs
+  reads-is : (s : List ℕ) (cs : List ℤ) → ReadsAs f s cs → IsField f s cs
   reads-is s cs r =
       let w = good-width f s (r .good) in
       let e = field-as f s w in
       record { width = w; shape = gives-shape (kindOf f) (kind-tens f) s cs (w ∙ sym (kind-width f)) (rw e at (r .good), rw e at (r .cells)) }
 
-  is-reads : (s : List ℕ) (cs : List ℤ) → IsField f s cs → Reads f s cs
+  is-reads : (s : List ℕ) (cs : List ℤ) → IsField f s cs → ReadsAs f s cs
   is-reads s cs i =
       let e = field-as f s (i .width) in
       let g = shape-gives (kindOf f) s cs (i .width ∙ sym (kind-width f)) (i .shape) in
       record { good = rw e (g .0); cells = rw e (g .1) }
 
-  fitting : (s : List ℕ) (cs : List ℤ) → Reads f s cs → T (fitsOf f cs)
+  fitting : (s : List ℕ) (cs : List ℤ) → ReadsAs f s cs → T (fitsOf f cs)
   fitting s cs r =
       let i = reads-is s cs r in
       let h = shape-within (kindOf f) (kind-tens f) s cs (i .width ∙ sym (kind-width f)) (i .shape) in
@@ -306,11 +306,11 @@ module _ (f : Form) where
   pub canonical-is : (s : List ℕ) (cs : List ℤ) → IsCanonical f s cs → IsField f s cs
   canonical-is s cs c = record { width = c .width; shape = canonical-shape (kindOf f) s cs (c .shape) }
 
-  back : (cs : List ℤ) → T (fitsOf f cs) → Reads f (fieldText f cs) cs
+  back : (cs : List ℤ) → T (fitsOf f cs) → ReadsAs f (fieldText f cs) cs
   back cs t = is-reads (fieldText f cs) cs (canonical-is (fieldText f cs) cs (canonical cs t))
 
   pub good-prints : (s : List ℕ) → T (formed (fieldOf f s)) → T (every printable s)
-  good-prints s t = shape-prints (kindOf f) s (cellsIn s (fieldOf f s)) (reads-is s (cellsIn s (fieldOf f s)) record { good = t; cells = refl } .shape)
+  good-prints s t = shape-prints (kindOf f) s (valueCells s (fieldOf f s)) (reads-is s (valueCells s (fieldOf f s)) record { good = t; cells = refl } .shape)
 
 pub lawful : (f : Form) → Lawful f
 lawful f =
@@ -331,6 +331,6 @@ lawful f =
 -- a field is formed exactly if the grammar has some cells for it
 pub some-field : (f : Form) (s : List ℕ) → T (formed (fieldOf f s)) ↔ SomeField f s
 some-field f s = (
-  λ t. record { cells = cellsIn s (fieldOf f s); is = lawful f .reads-is s (cellsIn s (fieldOf f s)) record { good = t; cells = refl } },
+  λ t. record { cells = valueCells s (fieldOf f s); is = lawful f .reads-is s (valueCells s (fieldOf f s)) record { good = t; cells = refl } },
   λ h. lawful f .is-reads s (h .cells) (h .is) .good,
 )

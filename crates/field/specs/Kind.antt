@@ -28,12 +28,12 @@ widthOf (Power c d x p q) = c + d + x + 3
 widthOf OneLetter = 1
 widthOf (AllLetters w) = w
 
-abbrev pub countOf : Kind → ℕ
-countOf (Whole w low high) = 1
-countOf (Fixed w low high) = 1
-countOf (Power c d x p q) = 2
-countOf OneLetter = 1
-countOf (AllLetters w) = w
+abbrev pub kindCells : Kind → ℕ
+kindCells (Whole w low high) = 1
+kindCells (Fixed w low high) = 1
+kindCells (Power c d x p q) = 2
+kindCells OneLetter = 1
+kindCells (AllLetters w) = w
 
 -- the ends of the ranges are powers of ten less one, once over the width: a column of I goes to the minus; of F one goes to the point, one to
 -- the minus; E's digits and exponent have their signs apart

@@ -12,27 +12,27 @@ use Rattle.base.specs.Sign.{holds}
 use Rattle.form.specs.declared.Form.{Form}
 use Rattle.form.specs.declared.Form.the-variants.{F7, A120, A1, F8, I2, I3, I1, E11, E20, E8}
 use Rattle.form.specs.Table.{rowOf}
-use Rattle.field.specs.Read.{Reads}
+use Rattle.field.specs.Read.{ReadsAs}
 use Rattle.field.specs.Write.{isLetter, fitsOf, fieldText}
 use Rattle.field.specs.Grammar.{IsField}
 use Rattle.field.specs.Canonical.{IsCanonical}
 
 pub record Lawful (f : Form) : Type 0 where
   -- R70 to R86, both ways
-  pub reads-is : (s : List ℕ) (cs : List ℤ) → Reads f s cs → IsField f s cs
-  pub is-reads : (s : List ℕ) (cs : List ℤ) → IsField f s cs → Reads f s cs
+  pub reads-is : (s : List ℕ) (cs : List ℤ) → ReadsAs f s cs → IsField f s cs
+  pub is-reads : (s : List ℕ) (cs : List ℤ) → IsField f s cs → ReadsAs f s cs
   -- R303: what reads fits; R46: what fits has as many cells as the form
-  pub fitting : (s : List ℕ) (cs : List ℤ) → Reads f s cs → T (fitsOf f cs)
+  pub fitting : (s : List ℕ) (cs : List ℤ) → ReadsAs f s cs → T (fitsOf f cs)
   pub sized : (cs : List ℤ) → T (fitsOf f cs) → length cs ≡ rowOf f .cells
   -- the text of what fits: it reads back, it has the form's width, each byte is 32 to 126, and none is a line feed
-  pub back : (cs : List ℤ) → T (fitsOf f cs) → Reads f (fieldText f cs) cs
+  pub back : (cs : List ℤ) → T (fitsOf f cs) → ReadsAs f (fieldText f cs) cs
   pub wide : (cs : List ℤ) → T (fitsOf f cs) → length (fieldText f cs) ≡ rowOf f .width
   pub plain : (cs : List ℤ) → T (fitsOf f cs) → T (every printable (fieldText f cs))
   pub unbroken : (cs : List ℤ) → T (fitsOf f cs) → T (every (λ b. not (eqb b 10)) (fieldText f cs))
   -- R100: it is canonical, and no other text is; a canonical text reads as its cells
   pub canonical : (cs : List ℤ) → T (fitsOf f cs) → IsCanonical f (fieldText f cs) cs
   pub one : (s : List ℕ) (cs : List ℤ) → IsCanonical f s cs → s ≡ fieldText f cs
-  pub again : (s : List ℕ) (cs : List ℤ) → IsCanonical f s cs → Reads f s cs
+  pub again : (s : List ℕ) (cs : List ℤ) → IsCanonical f s cs → ReadsAs f s cs
 
 -- the ranges, form by form: from minus the first number to the second
 pub record Ranges : Type 0 where

@@ -36,11 +36,11 @@ unfoldable pub fieldOf : Form → List ℕ → Value
 fieldOf f s = cond (eqb (length s) (rowOf f .width)) (readAs (kindOf f) s) Misformed
 
 -- the cells of a value of the text s: one, two, or the bytes themselves
-abbrev pub cellsIn : List ℕ → Value → List ℤ
-cellsIn s (Cell z) = z ∷ []
-cellsIn s (Pair a b) = a ∷ b ∷ []
-cellsIn s Letters = map pos s
-cellsIn s Misformed = []
+abbrev pub valueCells : List ℕ → Value → List ℤ
+valueCells s (Cell z) = z ∷ []
+valueCells s (Pair a b) = a ∷ b ∷ []
+valueCells s Letters = map pos s
+valueCells s Misformed = []
 
 abbrev pub formed : Value → Bool
 formed (Cell z) = true
@@ -49,6 +49,6 @@ formed Letters = true
 formed Misformed = false
 
 -- the field s reads as these cells
-pub record Reads (f : Form) (s : List ℕ) (cs : List ℤ) : Type 0 where
+pub record ReadsAs (f : Form) (s : List ℕ) (cs : List ℤ) : Type 0 where
   pub good : T (formed (fieldOf f s))
-  pub cells : cellsIn s (fieldOf f s) ≡ cs
+  pub cells : valueCells s (fieldOf f s) ≡ cs

@@ -13,7 +13,7 @@ ghost use Rattle.base.specs.Part.{over};
 ghost use Rattle.base.specs.Sign.{sizeOf};
 ghost use Rattle.form.specs.Table.{rowOf};
 ghost use Rattle.number.specs.Scan.{Below};
-ghost use Rattle.field.specs.Kind.{kindOf, widthOf, countOf, Small};
+ghost use Rattle.field.specs.Kind.{kindOf, widthOf, kindCells, Small};
 ghost use Rattle.field.specs.Read.{valueOf, readAs, fieldOf};
 ghost use Rattle.field.specs.Write.{isLetter, rangeOf, fitsOf, textAs, fieldText};
 ghost use Rattle.field.specs.Entry.{countIn, entryOf, entryText};
@@ -141,8 +141,8 @@ fn width_of(kind: Kind) -> usize
     }
 }
 
-fn count_of(kind: Kind) -> usize
-    ensures { λ r. ⌜ r ≡ countOf kind ⌝ }
+fn cells_of(kind: Kind) -> usize
+    ensures { λ r. ⌜ r ≡ kindCells kind ⌝ }
 {
     match kind {
         Kind::Whole {
@@ -291,7 +291,7 @@ fn all_letters(cells: &[i64]) -> bool
 }
 
 fn in_range(kind: Kind, cells: &[i64]) -> bool
-    requires { ⌜ length (now cells) ≡ countOf kind ⌝ }
+    requires { ⌜ length (now cells) ≡ kindCells kind ⌝ }
     ensures { λ r. ⌜ r ≡ rangeOf kind (now (cells .entry)) ⌝ }
 {
     match kind {
@@ -327,7 +327,7 @@ pub fn fits(form: Form, cells: &[i64]) -> bool
     ensures { λ r. ⌜ r ≡ fitsOf form (now (cells .entry)) ⌝ }
 {
     let kind = kind_of(form);
-    if cells.len() != count_of(kind) {
+    if cells.len() != cells_of(kind) {
         return false;
     }
     in_range(kind, cells)
@@ -357,7 +357,7 @@ pub fn put_letters(cells: &[i64], out: &mut [u8], at: usize)
 }
 
 fn put_as(kind: Kind, cells: &[i64], out: &mut [u8], at: usize)
-    requires cells { ⌜ length (now cells) ≡ countOf kind ⌝ }
+    requires cells { ⌜ length (now cells) ≡ kindCells kind ⌝ }
     requires range { ⌜ T (rangeOf kind (now cells)) ⌝ }
     requires room { ⌜ at + widthOf kind ≤ length (now out) ⌝ }
     requires small { ⌜ Small kind ⌝ }

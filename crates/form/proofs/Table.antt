@@ -16,11 +16,11 @@ use Rattle.form.specs.declared.Form.{Form}
 use Rattle.form.specs.declared.Form.the-variants.{F7, A120, A1, F8, I2, I3, I1, E11, E20, E8}
 use Rattle.form.specs.declared.GroupForm.{GroupForm}
 use Rattle.form.specs.declared.GroupForm.the-variants.{Has, NoGroup}
-use Rattle.form.specs.Table.{entryOf, forms, numberOf, formAmong, formOf}
+use Rattle.form.specs.Table.{formEntry, forms, formNumber, formAmong, formOf}
 
 -- ---- a test that passes at every form passes at each
 
-pub forms-number : (f : Form) → getD forms (numberOf f) F7 ≡ f
+pub forms-number : (f : Form) → getD forms (formNumber f) F7 ≡ f
 forms-number F7 = refl
 forms-number A120 = refl
 forms-number A1 = refl
@@ -35,22 +35,22 @@ forms-number E8 = refl
 -- the first form passes too, since it is one of them
 pub each-form : (test : Form → Bool) → T (every test forms) → (f : Form) → T (test f)
 each-form test t f =
-    subst (λ (g : Form). T (test g)) (forms-number f) (every-getD test F7 forms t (every-getD test F7 forms t (and-left (test F7) _ t) 0) (numberOf f))
+    subst (λ (g : Form). T (test g)) (forms-number f) (every-getD test F7 forms t (every-getD test F7 forms t (and-left (test F7) _ t) 0) (formNumber f))
 
-pub number-below : (f : Form) → numberOf f < 10
-number-below f = leb→le (suc (numberOf f)) 10 (each-form (λ g. leb (suc (numberOf g)) 10) tt f)
+pub number-below : (f : Form) → formNumber f < 10
+number-below f = leb→le (suc (formNumber f)) 10 (each-form (λ g. leb (suc (formNumber g)) 10) tt f)
 
 -- ---- a computed test of two answers' equality
 
 abbrev pub code : GroupForm → ℕ
-code (Has f) = numberOf f
+code (Has f) = formNumber f
 code NoGroup = 10
 
 abbrev back : ℕ → GroupForm
 back n = cond (ltb n 10) (Has (getD forms n F7)) NoGroup
 
 back-code : (f : GroupForm) → back (code f) ≡ f
-back-code (Has f) = rw (lt-ltb (numberOf f) 10 (number-below f)) (ap Has (forms-number f))
+back-code (Has f) = rw (lt-ltb (formNumber f) 10 (number-below f)) (ap Has (forms-number f))
 back-code NoGroup = refl
 
 -- the group has this form, or there is no such group
@@ -63,30 +63,31 @@ is-form f g t = sym (back-code f) ∙ ap back (eqb→eq (code f) (code (formOf g
 -- ---- a form's groups have the form
 
 abbrev listed : Form → Bool
-listed f = every (is (Has f)) (entryOf f .groups)
+listed f = every (is (Has f)) (formEntry f .groups)
 
 all-listed : T (every listed forms)
-unfolding entryOf formOf formAmong
+unfolding formEntry formOf formAmong
 all-listed = tt
 
-pub listed-form : (f : Form) (g : ℕ) → T (has (entryOf f .groups) g) → formOf g ≡ Has f
-listed-form f g h = sym (is-form (Has f) g (every-has (is (Has f)) (entryOf f .groups) (each-form listed all-listed f) g h))
+pub listed-form : (f : Form) (g : ℕ) → T (has (formEntry f .groups) g) → formOf g ≡ Has f
+listed-form f g h = sym (is-form (Has f) g (every-has (is (Has f)) (formEntry f .groups) (each-form listed all-listed f) g h))
 
 -- ---- a group's form lists the group
 
-step : (k f : Form) (fs : List Form) (g : ℕ) (t : Bool) → has (entryOf k .groups) g ≡ t → (formAmong fs g ≡ Has f → T (has (entryOf f .groups) g)) → cond t (Has k) (formAmong fs g) ≡ Has f → T (has (entryOf f .groups) g)
+step : (k f : Form) (fs : List Form) (g : ℕ) (t : Bool) → has (formEntry k .groups) g ≡ t → (formAmong fs g ≡ Has f → T (has (formEntry f .groups) g))
+    → cond t (Has k) (formAmong fs g) ≡ Has f → T (has (formEntry f .groups) g)
 step k f fs g true u rest e =
     let p : k ≡ f = cc in
     rw (← p, u) tt
 step k f fs g false u rest e = rest e
 
-among : (fs : List Form) (f : Form) (g : ℕ) → formAmong fs g ≡ Has f → T (has (entryOf f .groups) g)
+among : (fs : List Form) (f : Form) (g : ℕ) → formAmong fs g ≡ Has f → T (has (formEntry f .groups) g)
 unfolding formAmong
 among [] f g e = let z : _≡_ {A = ℕ} 0 1 = cc in absurd (omega arith)
-among (k ∷ fs) f g e = step k f fs g (has (entryOf k .groups) g) refl (among fs f g) e
+among (k ∷ fs) f g e = step k f fs g (has (formEntry k .groups) g) refl (among fs f g) e
 
 -- a group has a form exactly if the form's row lists the group
-pub form-listed : (f : Form) (g : ℕ) → formOf g ≡ Has f ↔ T (has (entryOf f .groups) g)
+pub form-listed : (f : Form) (g : ℕ) → formOf g ≡ Has f ↔ T (has (formEntry f .groups) g)
 unfolding formOf
 form-listed f g = (among forms f g, listed-form f g)
 
@@ -97,14 +98,14 @@ abbrev isGroup : ℕ → Bool
 isGroup g = leb (code (formOf g)) 9
 
 all-groups : T (every isGroup (upFrom 1 60))
-unfolding upFrom entryOf formOf formAmong
+unfolding upFrom formEntry formOf formAmong
 all-groups = tt
 
 abbrev inside : ℕ → Bool
 inside g = leb 1 g && leb g 60
 
-all-inside : T (every (λ f. every inside (entryOf f .groups)) forms)
-unfolding entryOf
+all-inside : T (every (λ f. every inside (formEntry f .groups)) forms)
+unfolding formEntry
 all-inside = tt
 
 pub record IsGroup (g : ℕ) : Type 0 where
@@ -113,7 +114,7 @@ pub record IsGroup (g : ℕ) : Type 0 where
 
 has-group : (g : ℕ) (f : Form) → formOf g ≡ Has f → IsGroup g
 has-group g f e =
-    let t = every-has inside (entryOf f .groups) (each-form (λ k. every inside (entryOf k .groups)) all-inside f) g (form-listed f g .0 e) in
+    let t = every-has inside (formEntry f .groups) (each-form (λ k. every inside (formEntry k .groups)) all-inside f) g (form-listed f g .0 e) in
     record {
       low = leb→le 1 g (and-left (leb 1 g) (leb g 60) t);
       high = leb→le g 60 (and-right (leb 1 g) (leb g 60) t);

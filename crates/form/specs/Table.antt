@@ -18,43 +18,43 @@ entry width perLine cells groups =
     record { row = record { width = width; «per_line» = perLine; cells = cells }; groups = groups }
 
 -- R41, row by row: width, elements of a full line, cells, groups
-unfoldable pub entryOf : Form → Entry
-entryOf F7 = entry 7 16 1 (1 ∷ 6 ∷ [])
-entryOf A120 = entry 120 1 120 (2 ∷ [])
-entryOf A1 = entry 1 120 1 (3 ∷ 54 ∷ 55 ∷ [])
-entryOf F8 =
+unfoldable pub formEntry : Form → Entry
+formEntry F7 = entry 7 16 1 (1 ∷ 6 ∷ [])
+formEntry A120 = entry 120 1 120 (2 ∷ [])
+formEntry A1 = entry 1 120 1 (3 ∷ 54 ∷ 55 ∷ [])
+formEntry F8 =
     entry 8 15 1
     (4 ∷ 7 ∷ 8 ∷ 11 ∷ 12 ∷ 13 ∷ 16 ∷ 17 ∷ 18 ∷ 21 ∷ 22 ∷ 25 ∷ 26 ∷ 29 ∷ 30 ∷ 33 ∷ 43 ∷ 46 ∷ 47 ∷ 50 ∷ 51 ∷ 52 ∷ 58 ∷ 59 ∷ [])
-entryOf I2 = entry 2 60 1 (5 ∷ [])
-entryOf I3 = entry 3 40 1 (9 ∷ 14 ∷ 19 ∷ 23 ∷ 27 ∷ 31 ∷ 34 ∷ 35 ∷ 36 ∷ 44 ∷ 48 ∷ [])
-entryOf I1 = entry 1 120 1 (10 ∷ 15 ∷ 20 ∷ 24 ∷ 28 ∷ 32 ∷ 41 ∷ 45 ∷ 49 ∷ 56 ∷ [])
-entryOf E11 = entry 11 10 2 (37 ∷ 38 ∷ 39 ∷ 42 ∷ 57 ∷ [])
-entryOf E20 = entry 20 6 2 (40 ∷ [])
-entryOf E8 = entry 8 15 2 (53 ∷ 60 ∷ [])
+formEntry I2 = entry 2 60 1 (5 ∷ [])
+formEntry I3 = entry 3 40 1 (9 ∷ 14 ∷ 19 ∷ 23 ∷ 27 ∷ 31 ∷ 34 ∷ 35 ∷ 36 ∷ 44 ∷ 48 ∷ [])
+formEntry I1 = entry 1 120 1 (10 ∷ 15 ∷ 20 ∷ 24 ∷ 28 ∷ 32 ∷ 41 ∷ 45 ∷ 49 ∷ 56 ∷ [])
+formEntry E11 = entry 11 10 2 (37 ∷ 38 ∷ 39 ∷ 42 ∷ 57 ∷ [])
+formEntry E20 = entry 20 6 2 (40 ∷ [])
+formEntry E8 = entry 8 15 2 (53 ∷ 60 ∷ [])
 
 -- the ten forms, and the number of each among them, from 0
 abbrev pub forms : List Form
 forms = F7 ∷ A120 ∷ A1 ∷ F8 ∷ I2 ∷ I3 ∷ I1 ∷ E11 ∷ E20 ∷ E8 ∷ []
 
-abbrev pub numberOf : Form → ℕ
-numberOf F7 = 0
-numberOf A120 = 1
-numberOf A1 = 2
-numberOf F8 = 3
-numberOf I2 = 4
-numberOf I3 = 5
-numberOf I1 = 6
-numberOf E11 = 7
-numberOf E20 = 8
-numberOf E8 = 9
+abbrev pub formNumber : Form → ℕ
+formNumber F7 = 0
+formNumber A120 = 1
+formNumber A1 = 2
+formNumber F8 = 3
+formNumber I2 = 4
+formNumber I3 = 5
+formNumber I1 = 6
+formNumber E11 = 7
+formNumber E20 = 8
+formNumber E8 = 9
 
 unfoldable pub rowOf : Form → Row
-rowOf f = entryOf f .row
+rowOf f = formEntry f .row
 
 -- the form among these whose groups have the number; no group where there is none
 unfoldable pub formAmong : List Form → ℕ → GroupForm
 formAmong [] g = NoGroup
-formAmong (f ∷ fs) g = cond (has (entryOf f .groups) g) (Has f) (formAmong fs g)
+formAmong (f ∷ fs) g = cond (has (formEntry f .groups) g) (Has f) (formAmong fs g)
 
 -- R40: a group's number decides its form, and no other number has one
 unfoldable pub formOf : ℕ → GroupForm

@@ -19,48 +19,43 @@ use Rattle.form.specs.declared.GroupForm.the-variants.{Has, NoGroup as NoForm}
 use Rattle.form.specs.Table.{formOf}
 use Rattle.line.specs.Lines.{reach}
 use Rattle.line.specs.Texts.{SameLines}
-use Rattle.place.specs.declared.Placing.{Placing}
+use Rattle.reply.specs.declared.Refusal.{Refusal}
 use Rattle.place.specs.Parts
 use Rattle.place.specs.Parts.{start, groupPart}
 use Rattle.place.specs.Placing
 use Rattle.place.specs.Placing.{Located, located, refused, locate, placingOf, countsAt}
 use Rattle.place.specs.Walk.{spot, IsRecord, Stops}
 use Rattle.place.proofs.Local.{placing-same}
-use Rattle.place.specs.declared.Placing.the-variants.{Placed}
 use Rattle.place.proofs.Placed.{counts-at}
-use Rattle.place.proofs.Walked.{Stopping, refused-stopping}
 use Rattle.place.proofs.Zero.{is-placed}
 use Rattle.place.proofs.SameWalk.{start-same, same-located, same-spot, same-answer, same-stops}
-use Rattle.reading.specs.declared.Refusal.the-variants.{NoGroup}
+use Rattle.reply.specs.declared.Refusal.the-variants.{NoSuchNumber}
 use Rattle.reading.specs.Read.{readGroup}
-use Rattle.group.specs.declared.Characteristic.the-variants.{Unread}
-use Rattle.group.specs.declared.Found.{Found}
-use Rattle.group.specs.declared.Found.the-variants.{Given, Missing}
+use Rattle.group.specs.declared.Characteristic.the-variants.{Refused}
+use Rattle.reply.specs.declared.Checked.{Checked}
+use Rattle.reply.specs.declared.Checked.the-variants as C
 use Rattle.group.specs.Characteristics.{reported, characteristicAt}
 use Rattle.group.specs.Damage.{linesStart}
 use Rattle.group.specs.Held.{foundIn, foundAt, startBy, partStart, partEnd, partAt}
 use Rattle.group.specs.Text.{readFound, readAt}
 use Rattle.group.proofs.Texts.{read-located}
-use Rattle.group.proofs.Holding.{given-is, missing}
+use Rattle.group.proofs.Holding.{given-is}
 use Rattle.group.proofs.Promises.{read-local}
 
 -- ---- a group at one place
 
 -- where no record stands, no line is looked at
-pub read-refused : (s t : List ℕ) (at bt g room : ℕ) (p : Placing) → locate s at ≡ refused p → locate t bt ≡ refused p → readAt s at g room ≡ readAt t bt g room
+pub read-refused : (s t : List ℕ) (at bt g room : ℕ) (r : Refusal) → locate s at ≡ refused r → locate t bt ≡ refused r → readAt s at g room ≡ readAt t bt g room
 unfolding readAt foundAt Placing.placingOf
-read-refused s t at bt g room p a b = by (formOf g)
+read-refused s t at bt g room r a b = by (formOf g)
   where
-    no-stop : Stopping p → (n : ℕ) → p ≡ Placed n → ⊥
-    no-stop h n e = let z : ⊥ = rw e at h in z
-
     by : (h : GroupForm) → readFound s at g room (foundIn s at h) ≡ readFound t bt g room (foundIn t bt h)
-    by (Has f) = rw (a, b, missing p (λ n e. no-stop (refused-stopping s at p a) n e))
+    by (Has f) = rw (a, b)
     by NoForm = refl
 
 pub characteristic-same : (s t : List ℕ) (at bt k : ℕ) → readAt s at 4 49 ≡ readAt t bt 4 49 → characteristicAt s at k ≡ characteristicAt t bt k
 unfolding characteristicAt
-characteristic-same s t at bt k e = ap (λ c. cond (leb 1 k && leb k 49) (reported k c) (Unread NoGroup)) e
+characteristic-same s t at bt k e = ap (λ c. cond (leb 1 k && leb k 49) (reported k c) (Refused NoSuchNumber)) e
 
 pub record-at : (s : List ℕ) (at : ℕ) (r : IsRecord s at) → locate s at ≡ located (r .next) (countsAt s at)
 record-at s at r = r .is ∙ ap (located (r .next)) (sym (counts-at s at (r .next) (r .ns) (r .is)))
@@ -95,9 +90,9 @@ module _ (s t : List ℕ) (at : ℕ) (l : SameLines s t) (e : locate s at ≡ lo
       by (Has f) = rw (placing-same s t at e .0)
       by NoForm = refl
 
-  starts-by : (g : ℕ) (f : Found) → startBy s at g f ≡ startBy t at g f
-  starts-by g Given = starts-same g
-  starts-by g (Missing r) = refl
+  starts-by : (g : ℕ) (f : Checked) → startBy s at g f ≡ startBy t at g f
+  starts-by g C.Right = starts-same g
+  starts-by g (C.Refused r) = refl
 
   pub part-start-same : (g : ℕ) → partStart s at g ≡ partStart t at g
   unfolding partStart
@@ -126,11 +121,11 @@ module _ (s t : List ℕ) (at : ℕ) (l : SameLines s t) (e : locate s at ≡ lo
     unfolding partAt partStart partEnd
     part-same = part-agree s t (from g) (to g) a (by (foundAt s at g) refl) ∙ part-there g
       where
-        by : (f : Found) → foundAt s at g ≡ f → Misses D (startBy s at g f) (startBy s at (suc g) f)
-        by Given u =
+        by : (f : Checked) → foundAt s at g ≡ f → Misses D (startBy s at g f) (startBy s at (suc g) f)
+        by C.Right u =
             let i = given-is s at g u in
             clear (i .next) (countsAt s at) (is-placed s at (i .next) (i .placed) .located-at)
-        by (Missing r) u = λ i low high d. omega arith
+        by (C.Refused r) u = λ i low high d. omega arith
 
     pub read-same : (room : ℕ) → readAt s at g room ≡ readAt t at g room
     read-same room = by (locate s at) refl
@@ -159,7 +154,7 @@ module _ {D : ℕ → Type 0} (s t : List ℕ) (o : Replaced D s t) where
   there : {A : Type 0} (f : ℕ → A) {x : A} (j : ℕ) → x ≡ f (spot s j) → x ≡ f (spot t j)
   there f j e = e ∙ ap f (spot-kept j)
 
-  pub stops-kept : (n : ℕ) (p : Placing) → Stops s n p ↔ Stops t n p
+  pub stops-kept : (n : ℕ) (p : Refusal) → Stops s n p ↔ Stops t n p
   stops-kept n p = (same-stops s t (o .lines) (o .elsewhere) (o .heads) n p, back)
     where
       back : Stops t n p → Stops s n p
@@ -189,7 +184,8 @@ module _ {D : ℕ → Type 0} (s t : List ℕ) (o : Replaced D s t) where
     part-length-kept = there (λ p. length (partAt t p g)) j (part-length-same s t (spot s j) (o .lines) (located-kept j) g)
 
     -- every group, altered or not, is read from the counts that its record had and what now stands in place of its lines
-    pub read-by-lines : IsRecord s (spot s j) → (room : ℕ) → readAt t (spot t j) g room ≡ readGroup (countsAt s (spot s j)) g (part (linesStart s (spot s j) g) (linesStart s (spot s j) (suc g)) t) room
+    pub read-by-lines : IsRecord s (spot s j) → (room : ℕ)
+        → readAt t (spot t j) g room ≡ readGroup (countsAt s (spot s j)) g (part (linesStart s (spot s j) g) (linesStart s (spot s j) (suc g)) t) room
     read-by-lines r room =
         let at = spot s j in
         let c : r .ns ≡ countsAt s at = sym (counts-at s at (r .next) (r .ns) (r .is)) in

@@ -19,7 +19,8 @@ use Rattle.place.proofs.Stopped.{placed-record}
 use Rattle.reading.specs.Read.{Cells, readingOf, tableBy}
 use Rattle.group.specs.Text.{readAt}
 use Rattle.group.specs.Damage.{LinesAt, SameReading, Damaged, Other, Confined}
-use Rattle.group.proofs.Confined.{record-at, Spares, Replaced, characteristic-same, spot-kept, stops-kept, placing-kept, counts-kept, starts-kept, found-kept, part-start-kept, part-length-kept, lines-kept, part-kept, read-kept, read-by-lines}
+use Rattle.group.proofs.Confined.{record-at, Spares, Replaced, characteristic-same, spot-kept, stops-kept, placing-kept, counts-kept, starts-kept}
+use Rattle.group.proofs.Confined.{found-kept, part-start-kept, part-length-kept, lines-kept, part-kept, read-kept, read-by-lines}
 
 -- ---- the demand
 

@@ -15,19 +15,18 @@ use Rattle.form.specs.declared.Form.the-variants.{F8}
 use Rattle.form.specs.Table
 use Rattle.line.specs.Lines.{isFeed}
 use Rattle.count.specs.Rules
-use Rattle.place.specs.declared.Placing.the-variants.{End}
 use Rattle.place.specs.Parts.{start, groupPart}
 use Rattle.place.specs.Placing.{located, locate, countsAt}
 use Rattle.place.specs.RecordS
-use Rattle.place.specs.RecordS.{lineOf, countsS, twiceS}
+use Rattle.place.specs.RecordS.{quotedLine, countsS, twiceS}
 use Rattle.place.specs.Walk.{spot, Stops}
 use Rattle.place.proofs.TwiceS.{twice, spot-one, two-records}
 use Rattle.place.proofs.Walked.{spot-start}
-use Rattle.reading.specs.declared.Refusal.the-variants.{BadField}
+use Rattle.reply.specs.declared.Refusal.the-variants.{End, BadField}
 use Rattle.reading.specs.Read
 use Rattle.reading.specs.Read.{Cells, readForm, readGroup, readingOf, tableBy}
 use Rattle.reading.proofs.FourS.{four-reads}
-use Rattle.group.specs.declared.Characteristic.the-variants.{Value, Unread}
+use Rattle.group.specs.declared.Characteristic.the-variants.{Value, Refused}
 use Rattle.group.specs.Characteristics.{isNoReading, reported, characteristicAt}
 use Rattle.group.specs.Damage.{linesStart, SameReading, Damaged, Confined}
 use Rattle.group.specs.Text.{readAt}
@@ -41,22 +40,22 @@ use Rattle.group.proofs.Reported.{four-refused}
 unfoldable pub commaS : List ℕ
 commaS = set twiceS 299 44
 
-comma-line : part 295 305 commaS ≡ lineOf "   7,250"
+comma-line : part 295 305 commaS ≡ quotedLine "   7,250"
 unfolding commaS RecordS.recordS RecordS.twiceS
 comma-line = refl
 
 -- ---- group 4 of a record with S's counts, into a table with room
 
 four-by : (x : List ℕ) (room : ℕ) → readGroup countsS 4 x room ≡ readForm F8 4 1 x room
-unfolding RecordS.countsS Read.readGroup Every.upFrom Table.entryOf Table.formAmong Table.formOf Rules.rulingOf Rules.lowest Rules.headRules Rules.sets Rules.keeps Rules.letterRules
+unfolding RecordS.countsS Read.readGroup Every.upFrom Table.formEntry Table.formAmong Table.formOf Rules.rulingOf Rules.lowest Rules.headRules Rules.sets Rules.keeps Rules.letterRules
 four-by x room = refl
 
 module _ (room : ℕ) (h : 1 ≤ room) where
-  four-before : (at next : ℕ) → locate twiceS at ≡ located next countsS → groupPart twiceS at countsS 4 ≡ lineOf "   7.250" → readAt twiceS at 4 room ≡ done (pos 7250 ∷ [])
+  four-before : (at next : ℕ) → locate twiceS at ≡ located next countsS → groupPart twiceS at countsS 4 ≡ quotedLine "   7.250" → readAt twiceS at 4 room ≡ done (pos 7250 ∷ [])
   four-before at next e f =
       read-located twiceS at 4 room next countsS e
       ∙ ap (λ x. readGroup countsS 4 x room) f
-      ∙ four-by (lineOf "   7.250") room
+      ∙ four-by (quotedLine "   7.250") room
       ∙ four-reads room h .0
 
   read-first : readAt twiceS 0 4 room ≡ done (pos 7250 ∷ [])
@@ -113,7 +112,7 @@ module _ (table : List ℤ) (room : 1 ≤ length table) where
       lines : readGroup (countsAt twiceS (spot twiceS 0)) 4 (part (linesStart twiceS (spot twiceS 0) 4) (linesStart twiceS (spot twiceS 0) 5) commaS) (length table) ≡ bad (BadField 1 1)
       lines =
           rw (first-starts 4 295 (twice .from), first-starts 5 305 (twice .to), ← spot-start twiceS, counts-at twiceS 0 305 countsS (twice .first), comma-line)
-          (four-by (lineOf "   7,250") (length table) ∙ four-reads (length table) room .1)
+          (four-by (quotedLine "   7,250") (length table) ∙ four-reads (length table) room .1)
 
   -- the second record's gives its cell still
   pub second-still : SameReading (readAt commaS 305 4 (length table)) (done (pos 7250 ∷ [])) table
@@ -122,7 +121,7 @@ module _ (table : List ℤ) (room : 1 ≤ length table) where
       (ap (λ p. readAt twiceS p 4 (length table)) spot-one ∙ read-second (length table) room)
 
 -- so the first record's first characteristic is refused, and the second's is what it was, 7.250
-pub first-characteristic : characteristicAt commaS 0 1 ≡ Unread (BadField 1 1)
+pub first-characteristic : characteristicAt commaS 0 1 ≡ Refused (BadField 1 1)
 first-characteristic =
     let table = replicate 49 (pos 0) in
     sym (four-refused commaS 0 1 (omega arith) (omega arith) (sym (first-refused table (omega arith) .reply)))

@@ -18,11 +18,12 @@ use Rattle.form.specs.declared.GroupForm.{GroupForm}
 use Rattle.form.specs.declared.GroupForm.the-variants.{Has, NoGroup as NoForm}
 use Rattle.form.specs.Table.{formOf}
 use Rattle.form.specs.Count.{cellsOf}
-use Rattle.form.proofs.Table.{no-group}
+use Rattle.form.proofs.Table.{no-group as none-has}
 use Rattle.count.specs.Tally.{countOf}
 use Rattle.place.specs.declared.Placing.{Placing}
 use Rattle.place.specs.declared.Placing.the-variants as P
 use Rattle.place.specs.Index.{counts}
+use Rattle.place.specs.Numbered.{asChecked}
 use Rattle.place.specs.Placing.{placingOf, countsAt}
 use Rattle.place.specs.Parts.{start, groupPart}
 use Rattle.place.specs.Due as Place
@@ -30,67 +31,54 @@ use Rattle.place.proofs.Due as Placing
 use Rattle.place.proofs.Placed.{located-is}
 use Rattle.count.proofs.Rulings.{kept-ruling}
 use Rattle.place.proofs.Zero.{is-placed}
-use Rattle.reading.specs.declared.Refusal.{Refusal}
-use Rattle.reading.specs.declared.Refusal.the-variants.{NoGroup, End, Beyond, TooFewLines, Misformed, OtherRelease, FilledVacant, BrokenRule, NoRoom, BadLine, BadField, BadDate}
+use Rattle.reply.specs.declared.Refusal.{Refusal}
+use Rattle.reply.specs.declared.Refusal.the-variants.{NoSuchNumber}
 use Rattle.reading.specs.Read.{Cells, readGroup}
+use Rattle.reading.specs.Due.{TableShort}
 use Rattle.reading.proofs.Due as Reading
 use Rattle.form.proofs.Table.{group-form, form-range}
-use Rattle.group.specs.declared.Found.{Found}
-use Rattle.group.specs.declared.Found.the-variants.{Given, Missing}
+use Rattle.reply.specs.declared.Checked.{Checked}
+use Rattle.reply.specs.declared.Checked.the-variants as C
 use Rattle.group.specs.declared.Characteristic.{Characteristic}
-use Rattle.group.specs.declared.Characteristic.the-variants.{Value, NoReading, NotReported, Unread}
-use Rattle.group.specs.Held.{foundBy, foundIn, foundAt, startBy, partStart, partAt}
+use Rattle.group.specs.declared.Characteristic.the-variants.{Value, NoReading, NotReported, Refused}
+use Rattle.group.specs.Held.{foundIn, foundAt, startBy, partStart, partAt}
 use Rattle.group.specs.Text.{readAt}
-use Rattle.group.specs.Characteristics.{isNoReading, told, reported, characteristicAt}
+use Rattle.group.specs.Characteristics.{isNoReading, toldBy, reported, characteristicAt}
 use Rattle.form.specs.Table.{NoSuchGroup}
 use Rattle.place.specs.Parts.{IsPart}
 use Rattle.place.proofs.Indexed.{index-is}
 use Rattle.place.proofs.Tiling.{is-part, part-is}
 use Rattle.base.proofs.Taken.{take-none}
-use Rattle.group.specs.Due.{PlacingDue, MissingDue, FoundDue, GivenPart, PartDue, ReadingDue, Due, NoNumber, FourReads, HasCell, CharacteristicDue}
+use Rattle.group.specs.Due.{PlacingDue, RefusedFor, no-group, broken-rule, unplaced, FoundDue, GivenPart, PartDue, ReadingDue, Due, NoNumber, FourReads, HasCell, CharacteristicDue}
 use Rattle.group.proofs.Holding.{given-part, missing-span}
 use Rattle.group.proofs.Texts.{read-missing, read-given}
-use Rattle.group.proofs.Reported.{no-reading-cell, no-reading-is, is-reading, number-low, number-high, number-inside}
+use Rattle.group.proofs.Reported.{no-reading-cell, no-reading-is, is-reading, number-none, number-inside}
 use Rattle.group.proofs.Rooms.{form-four, cells-four, room-four, same-room}
 
 -- ---- the lines of a group
 
 module _ (s : List ℕ) (at g : ℕ) where
-  found-none : NoSuchGroup g → foundAt s at g ≡ Missing NoGroup
+  found-none : NoSuchGroup g → foundAt s at g ≡ C.Refused NoSuchNumber
   unfolding foundAt
-  found-none n = rw (no-group g .1 (λ i. n (i .low, i .high))) refl
+  found-none n = rw (none-has g .1 (λ i. n (i .low, i .high))) refl
 
-  found-placing : (p : Placing) → PlacingDue s at g p → foundAt s at g ≡ foundBy p
+  found-placing : (p : Placing) → PlacingDue s at g p → foundAt s at g ≡ asChecked p
   unfolding foundAt
   found-placing p d = rw (group-form g (d .low) (d .high) .1, Placing.first-due s at p .1 (d .placing)) refl
 
-  missing-given : (r : Refusal) → MissingDue s at g r → foundAt s at g ≡ Missing r
-  missing-given NoGroup d = found-none d
-  missing-given End d = found-placing P.End d
-  missing-given Beyond d = found-placing P.Beyond d
-  missing-given TooFewLines d = found-placing P.TooFewLines d
-  missing-given Misformed d = found-placing P.Misformed d
-  missing-given OtherRelease d = found-placing P.OtherRelease d
-  missing-given (FilledVacant h) d = found-placing (P.FilledVacant h) d
-  missing-given (BrokenRule h) d = found-placing (P.BrokenRule h (d .next)) (d .broken)
-  missing-given NoRoom d = absurd d
-  missing-given (BadLine l) d = absurd d
-  missing-given (BadField l e) d = absurd d
-  missing-given (BadDate p) d = absurd d
+  missing-given : (r : Refusal) → RefusedFor s at g r → foundAt s at g ≡ C.Refused r
+  missing-given r (no-group d) = found-none d
+  missing-given r (broken-rule h d) = found-placing (P.BrokenRule h (d .next)) (d .broken)
+  missing-given r (unplaced q d) = found-placing (P.Refused q) d
 
-  found-given : (r : Found) → FoundDue s at g r → foundAt s at g ≡ r
-  found-given Given d = found-placing (P.Placed (d .next)) (d .placed)
-  found-given (Missing r) d = missing-given r d
+  found-given : (r : Checked) → FoundDue s at g r → foundAt s at g ≡ r
+  found-given C.Right d = found-placing (P.Placed (d .next)) (d .placed)
+  found-given (C.Refused r) d = missing-given r d
 
-  from-placing : (p : Placing) → PlacingDue s at g p → FoundDue s at g (foundBy p)
+  from-placing : (p : Placing) → PlacingDue s at g p → FoundDue s at g (asChecked p)
   from-placing (P.Placed n) d = record { next = n; placed = d }
-  from-placing P.End d = d
-  from-placing P.Beyond d = d
-  from-placing P.TooFewLines d = d
-  from-placing P.Misformed d = d
-  from-placing P.OtherRelease d = d
-  from-placing (P.FilledVacant h) d = d
-  from-placing (P.BrokenRule h n) d = record { next = n; broken = d }
+  from-placing (P.BrokenRule h n) d = broken-rule h record { next = n; broken = d }
+  from-placing (P.Refused r) d = unplaced r d
 
   found-is-due : FoundDue s at g (foundAt s at g)
   unfolding foundAt
@@ -100,15 +88,15 @@ module _ (s : List ℕ) (at g : ℕ) where
       by (Has f) e =
           let r = form-range g f e in
           from-placing (placingOf s at) record { low = r .0; high = r .1; placing = Placing.first-due s at (placingOf s at) .0 refl }
-      by NoForm e = λ i. no-group g .0 e record { low = i .0; high = i .1 }
+      by NoForm e = no-group (λ i. none-has g .0 e record { low = i .0; high = i .1 })
 
-  pub found-first-due : (r : Found) → foundAt s at g ≡ r ↔ FoundDue s at g r
+  pub found-first-due : (r : Checked) → foundAt s at g ≡ r ↔ FoundDue s at g r
   found-first-due r = (λ e. subst (FoundDue s at g) e found-is-due, found-given r)
 
 -- ---- a group
 
 -- the counts of a placed record are those that stand in its index
-counts-are : (s : List ℕ) (at n : ℕ) (d : Place.Stands s at n) → countsAt s at ≡ d .ns
+counts-are : (s : List ℕ) (at n : ℕ) (d : Place.StandsRight s at n) → countsAt s at ≡ d .ns
 counts-are s at n d =
     let p = is-placed s at n (Placing.first-due s at (P.Placed n) .1 d) in
     let a = located-is s at n (countsAt s at) (p .located-at) .index in
@@ -123,7 +111,7 @@ placed-part s at g n d =
     subst (λ ns. IsPart s at ns g (start s at ns g) (groupPart s at ns g)) (counts-are s at n (d .placing)) (part-is s at n (countsAt s at) (q .located-at) g (d .low) (d .high))
 
 module _ (s : List ℕ) (at g : ℕ) where
-  part-placed : foundAt s at g ≡ Given → (d : FoundDue s at g Given) → GivenPart s at g (partStart s at g) (partAt s at g)
+  part-placed : foundAt s at g ≡ C.Right → (d : FoundDue s at g C.Right) → GivenPart s at g (partStart s at g) (partAt s at g)
   unfolding partStart
   part-placed e d =
       let p = d .placed .placing in
@@ -136,10 +124,10 @@ module _ (s : List ℕ) (at g : ℕ) where
             (rw (e, given-part s at g e) (part-is s at (d .next) (countsAt s at) (q .located-at) g (d .placed .low) (d .placed .high)));
       }
 
-  part-due : (r : Found) → foundAt s at g ≡ r → FoundDue s at g r → PartDue s at g (partStart s at g) (partAt s at g)
+  part-due : (r : Checked) → foundAt s at g ≡ r → FoundDue s at g r → PartDue s at g (partStart s at g) (partAt s at g)
   unfolding partAt
-  part-due Given e d = inl (part-placed e d)
-  part-due (Missing r) e d =
+  part-due C.Right e d = inl (part-placed e d)
+  part-due (C.Refused r) e d =
       let b = missing-span s at g e in
       inr record { why = r; missing = d; text-start = sym (b .0); empty = rw (← b .0, ← b .1) (take-none s) }
 
@@ -179,7 +167,7 @@ module _ (s : List ℕ) (at g room : ℕ) where
       let these = is-part s at ns g (d .from) (d .x) (d .placed .low) (d .placed .high) (d .lines) .1 in
       to-reading (d .next) (d .placed) ∙ ap (λ y. readGroup ns g y room) (sym these) ∙ Reading.first-due ns g (d .x) room c .1 (d .reading)
 
-  missing-read : (r : Refusal) → MissingDue s at g r → readAt s at g room ≡ bad r
+  missing-read : (r : Refusal) → RefusedFor s at g r → readAt s at g room ≡ bad r
   missing-read r d = read-missing s at g room (missing-given s at g r d)
 
   given : (c : Cells) → Due s at g room c → readAt s at g room ≡ c
@@ -190,8 +178,8 @@ module _ (s : List ℕ) (at g room : ℕ) where
   from-reading (done cs) d = d
   from-reading (bad r) d = inr d
 
-  from-found : (r : Found) → foundAt s at g ≡ r → FoundDue s at g r → Due s at g room (readAt s at g room)
-  from-found Given e d =
+  from-found : (r : Checked) → foundAt s at g ≡ r → FoundDue s at g r → Due s at g room (readAt s at g room)
+  from-found C.Right e d =
       let ns = d .placed .placing .ns in
       let u = to-reading (d .next) (d .placed) in
       from-reading (readAt s at g room) record {
@@ -202,7 +190,7 @@ module _ (s : List ℕ) (at g room : ℕ) where
         lines = placed-part s at g (d .next) (d .placed);
         reading = Reading.first-due ns g (groupPart s at ns g) room (readAt s at g room) .0 (sym u);
       }
-  from-found (Missing r) e d = subst (Due s at g room) (sym (read-missing s at g room e)) (inl d)
+  from-found (C.Refused r) e d = subst (Due s at g room) (sym (read-missing s at g room e)) (inl d)
 
   -- the reply that is given is the one that is due, and no other is
   pub first-due : (c : Cells) → readAt s at g room ≡ c ↔ Due s at g room c
@@ -231,36 +219,33 @@ module _ (s : List ℕ) (at k : ℕ) where
   read-size : (cs : List ℤ) → FourReads s at k (done cs) → length cs ≡ countOf (countsAt s at) 4
   read-size cs d = four-size s at 49 cs (d .four 49 (omega arith))
 
-  to-cell : (z : ℤ) → HasCell s at k z → characteristicAt s at k ≡ told z
+  to-cell : (z : ℤ) → HasCell s at k z → characteristicAt s at k ≡ toldBy z
   to-cell z d =
       let t : leb k (length (d .cs)) ≡ true = le-leb k (length (d .cs)) (omega (arith, read-size (d .cs) (d .reads), d .within)) in
       to-reported (done (d .cs)) (d .reads) ∙ rw (t, d .cell) refl
 
-  out-of-range : ((1 ≤ k) × (k ≤ 49) → ⊥) → characteristicAt s at k ≡ Unread NoGroup
-  out-of-range n =
-      ⊎-elim
-      (λ (low : 1 ≤ k). ⊎-elim (λ (high : k ≤ 49). absurd (n (low, high))) (λ (h : 49 < k). sym (number-high s at k low h)) (le-or-lt k 49))
-      (λ (h : k < 1). sym (number-low s at k h))
-      (le-or-lt 1 k)
-
   told-given : (c : Characteristic) → CharacteristicDue s at k c → characteristicAt s at k ≡ c
-  told-given (Unread r) d =
+  told-given (Refused r) d =
       ⊎-elim
-      (λ (n : NoNumber s at k r). out-of-range (n .none) ∙ ap Unread (sym (n .twelve)))
+      (λ (n : NoNumber s at k r). number-none s at k (λ low high. n .none (low, high)) ∙ ap Refused (sym (n .twelve)))
       (λ (h : FourReads s at k (bad r)). to-reported (bad r) h)
       d
   told-given NotReported d =
       let t : leb k (length (d .cs)) ≡ false = lt-leb k (length (d .cs)) (omega (arith, read-size (d .cs) (d .reads), d .above)) in
       to-reported (done (d .cs)) (d .reads) ∙ rw t refl
-  told-given NoReading d = to-cell (d .z) (d .cell) ∙ ap told (d .none) ∙ no-reading-cell
+  told-given NoReading d = to-cell (d .z) (d .cell) ∙ ap toldBy (d .none) ∙ no-reading-cell
   told-given (Value z) d = to-cell z (d .cell) ∙ is-reading z (d .reading)
 
   from-cell : (z : ℤ) (t : Bool) → HasCell s at k z → isNoReading z ≡ t → CharacteristicDue s at k (cond t NoReading (Value z))
   from-cell z true h e = record { z = z; cell = h; none = no-reading-is z e }
   from-cell z false h e =
-      record { cell = h; reading = λ u. let w : told z ≡ NoReading = ap told u ∙ no-reading-cell in let v : Value z ≡ NoReading = sym (rw e refl) ∙ w in let y : _≡_ {A = ℕ} 0 1 = cc in omega arith }
+      record {
+        cell = h;
+        reading = λ u. let w : toldBy z ≡ NoReading = ap toldBy u ∙ no-reading-cell in let v : Value z ≡ NoReading = sym (rw e refl)
+            ∙ w in let y : _≡_ {A = ℕ} 0 1 = cc in omega arith;
+      }
 
-  from-count : (cs : List ℤ) (t : Bool) → FourReads s at k (done cs) → leb k (length cs) ≡ t → CharacteristicDue s at k (cond t (told (getD cs (k - 1) (pos 0))) NotReported)
+  from-count : (cs : List ℤ) (t : Bool) → FourReads s at k (done cs) → leb k (length cs) ≡ t → CharacteristicDue s at k (cond t (toldBy (getD cs (k - 1) (pos 0))) NotReported)
   from-count cs true h e =
       from-cell (getD cs (k - 1) (pos 0)) (isNoReading (getD cs (k - 1) (pos 0))) record { cs = cs; reads = h; within = omega (arith, leb-true k (length cs) e, read-size cs h); cell = refl } refl
   from-count cs false h e = record { cs = cs; reads = h; above = omega (arith, leb-false k (length cs) e, read-size cs h) }
@@ -274,25 +259,24 @@ module _ (s : List ℕ) (at k : ℕ) where
       ⊎-elim
       (λ (low : 1 ≤ k).
       ⊎-elim
-      (λ (high : k ≤ 49). subst (CharacteristicDue s at k) (sym (number-inside s at k low high refl)) (from-four (readAt s at 4 49) record { low = low; high = high; four = four-is (readAt s at 4 49) .0 refl }))
-      (λ (h : 49 < k). none (λ r. omega (arith, r .1)))
+      (λ (high : k ≤ 49). subst (CharacteristicDue s at k) (sym (number-inside s at k low high refl))
+      (from-four (readAt s at 4 49) record { low = low; high = high; four = four-is (readAt s at 4 49) .0 refl }))
+      (λ (h : 49 < k). none (λ low high. omega arith))
       (le-or-lt k 49))
-      (λ (h : k < 1). none (λ r. omega (arith, r .0)))
+      (λ (h : k < 1). none (λ low high. omega arith))
       (le-or-lt 1 k)
     where
-      none : ((1 ≤ k) × (k ≤ 49) → ⊥) → CharacteristicDue s at k (characteristicAt s at k)
-      none n = subst (CharacteristicDue s at k) (sym (out-of-range n)) (inl record { none = n; twelve = refl })
+      none : (1 ≤ k → k ≤ 49 → ⊥) → CharacteristicDue s at k (characteristicAt s at k)
+      none n = subst (CharacteristicDue s at k) (sym (number-none s at k n)) (inl record { none = λ r. n (r .0) (r .1); twelve = refl })
 
   pub characteristic-first-due : (c : Characteristic) → characteristicAt s at k ≡ c ↔ CharacteristicDue s at k c
   characteristic-first-due c = (λ e. subst (CharacteristicDue s at k) e told-is-due, told-given c)
 
 -- 49 cells always have room for group 4
-pub four-has-room : (s : List ℕ) (at : ℕ) → readAt s at 4 49 ≡ bad NoRoom → ⊥
-four-has-room s at e = ⊎-elim (λ (n : ⊥). n) short (first-due s at 4 49 (bad NoRoom) .0 e)
-  where
-    short : ReadingDue s at 4 49 (bad NoRoom) → ⊥
-    short d =
-        let f = d .reading .f in
-        let h : Has f ≡ Has F8 = sym (d .reading .ruled .form) ∙ form-four in
-        let u : f ≡ F8 = cc in
-        omega (arith, d .reading .few, ap (λ y. cellsOf y (countOf (d .placed .placing .ns) 4)) u, room-four (d .placed .placing .ns) (kept-ruling (d .placed .placing .ns) (d .reading .ruled .kept)))
+pub four-has-room : (s : List ℕ) (at n : ℕ) (placed : PlacingDue s at 4 (P.Placed n)) (x : List ℕ) → TableShort (placed .placing .ns) 4 x 49 → ⊥
+four-has-room s at n placed x d =
+    let ns = placed .placing .ns in
+    let f = d .f in
+    let h : Has f ≡ Has F8 = sym (d .ruled .form) ∙ form-four in
+    let u : f ≡ F8 = cc in
+    omega (arith, d .few, ap (λ y. cellsOf y (countOf ns 4)) u, room-four ns (kept-ruling ns (d .ruled .kept)))

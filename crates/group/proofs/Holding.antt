@@ -18,44 +18,40 @@ use Rattle.count.specs.Tally.{lineTally}
 use Rattle.count.specs.Rules.{rulingOf}
 use Rattle.count.specs.declared.Ruling.the-variants.{Kept}
 use Rattle.place.specs.declared.Placing.{Placing}
-use Rattle.place.specs.declared.Placing.the-variants.{Placed, End, Beyond, TooFewLines, Misformed, OtherRelease, FilledVacant, BrokenRule}
+use Rattle.place.specs.declared.Placing.the-variants.{Placed, BrokenRule, Refused}
+use Rattle.place.specs.Numbered.{asChecked}
 use Rattle.place.specs.Placing.{placingOf, countsAt}
 use Rattle.place.specs.Parts
 use Rattle.place.specs.Parts.{start, groupPart}
 use Rattle.place.proofs.Placed.{located-range}
 use Rattle.place.proofs.Tiling.{part-whole, start-mono, start-within}
 use Rattle.place.proofs.Zero.{is-placed}
-use Rattle.reading.specs.declared.Refusal.{Refusal}
-use Rattle.reading.specs.declared.Refusal.the-variants.{NoGroup}
+use Rattle.reply.specs.declared.Refusal.{Refusal}
+use Rattle.reply.specs.declared.Refusal.the-variants.{NoSuchNumber}
 use Rattle.form.proofs.Table.{form-range}
-use Rattle.group.specs.declared.Found.{Found}
-use Rattle.group.specs.declared.Found.the-variants.{Given, Missing}
-use Rattle.group.specs.Held.{refusalOf, foundBy, foundIn, foundAt, countsHeld, partStart, partEnd, partAt, moved}
-
--- any placing reply but 0
-pub missing : (p : Placing) → ((n : ℕ) → p ≡ Placed n → ⊥) → foundBy p ≡ Missing (refusalOf p)
-missing (Placed n) never = absurd (never n refl)
-missing End never = refl
-missing Beyond never = refl
-missing TooFewLines never = refl
-missing Misformed never = refl
-missing OtherRelease never = refl
-missing (FilledVacant h) never = refl
-missing (BrokenRule h n) never = refl
+use Rattle.reply.specs.declared.Checked.{Checked}
+use Rattle.reply.specs.declared.Checked.the-variants as C
+use Rattle.group.specs.Held.{countsFound, foundIn, foundAt, countsHeld, partStart, partEnd, partAt, moved}
 
 module _ (s : List ℕ) (at g : ℕ) where
-  pub held-none : formOf g ≡ NoForm → (foundAt s at g ≡ Missing NoGroup) × (countsHeld s at g ≡ replicate 80 0)
+  pub held-none : formOf g ≡ NoForm → (foundAt s at g ≡ C.Refused NoSuchNumber) × (countsHeld s at g ≡ replicate 80 0)
   unfolding foundAt countsHeld
   held-none e = rw e (refl, refl)
 
   module _ (f : Form) (e : formOf g ≡ Has f) where
-    pub held-placed : {n : ℕ} → placingOf s at ≡ Placed n → (foundAt s at g ≡ Given) × (countsHeld s at g ≡ countsAt s at)
+    pub held-placed : {n : ℕ} → placingOf s at ≡ Placed n → (foundAt s at g ≡ C.Right) × (countsHeld s at g ≡ countsAt s at)
     unfolding foundAt countsHeld
     held-placed u = rw (e, u) (refl, refl)
 
-    pub held-refused : (p : Placing) → placingOf s at ≡ p → ((n : ℕ) → p ≡ Placed n → ⊥) → (foundAt s at g ≡ Missing (refusalOf p)) × (countsHeld s at g ≡ replicate 80 0)
+    -- any placing reply but 0
+    pub held-refused : (p : Placing) → placingOf s at ≡ p → ((n : ℕ) → p ≡ Placed n → ⊥) → (foundAt s at g ≡ asChecked p) × (countsHeld s at g ≡ replicate 80 0)
     unfolding foundAt countsHeld
-    held-refused p u never = rw (e, u, missing p never) (refl, refl)
+    held-refused p u never = rw (e, u) (refl, by p never)
+      where
+        by : (p : Placing) → ((n : ℕ) → p ≡ Placed n → ⊥) → countsFound (asChecked p) (countsAt s at) ≡ replicate 80 0
+        by (Placed n) never = absurd (never n refl)
+        by (BrokenRule h n) never = refl
+        by (Refused r) never = refl
 
   -- what it says that the lines can be given
   pub record IsGiven : Type 0 where
@@ -65,24 +61,19 @@ module _ (s : List ℕ) (at g : ℕ) where
     pub placed : placingOf s at ≡ Placed next
     pub counts : countsHeld s at g ≡ countsAt s at
 
-  pub given-is : foundAt s at g ≡ Given → IsGiven
+  pub given-is : foundAt s at g ≡ C.Right → IsGiven
   unfolding foundAt
   given-is e = by (formOf g) refl e
     where
-      no-given : {A : Type 0} {r : Refusal} → Missing r ≡ Given → A
+      no-given : {A : Type 0} {r : Refusal} → C.Refused r ≡ C.Right → A
       no-given e = let z : _≡_ {A = ℕ} 0 1 = cc in absurd (omega arith)
 
-      place : (f : Form) (p : Placing) → formOf g ≡ Has f → placingOf s at ≡ p → foundBy p ≡ Given → IsGiven
+      place : (f : Form) (p : Placing) → formOf g ≡ Has f → placingOf s at ≡ p → asChecked p ≡ C.Right → IsGiven
       place f (Placed n) h u v = record { form = f; has = h; next = n; placed = u; counts = held-placed f h u .1 }
-      place f End h u v = no-given v
-      place f Beyond h u v = no-given v
-      place f TooFewLines h u v = no-given v
-      place f Misformed h u v = no-given v
-      place f OtherRelease h u v = no-given v
-      place f (FilledVacant k) h u v = no-given v
       place f (BrokenRule k n) h u v = no-given v
+      place f (Refused r) h u v = no-given v
 
-      by : (h : GroupForm) → formOf g ≡ h → foundIn s at h ≡ Given → IsGiven
+      by : (h : GroupForm) → formOf g ≡ h → foundIn s at h ≡ C.Right → IsGiven
       by (Has f) h v = place f (placingOf s at) h refl v
       by NoForm h v = no-given v
 
@@ -91,7 +82,7 @@ module _ (s : List ℕ) (at g : ℕ) where
   span-part from to a = rw (a .0, a .1) refl
 
   -- the lines, from where to where they stand in the record that was placed
-  module _ (e : foundAt s at g ≡ Given) (ns : List ℕ) (c : ns ≡ countsHeld s at g) where
+  module _ (e : foundAt s at g ≡ C.Right) (ns : List ℕ) (c : ns ≡ countsHeld s at g) where
     i : IsGiven
     i = given-is e
 
@@ -120,7 +111,7 @@ module _ (s : List ℕ) (at g : ℕ) where
     pub held-part : (from to : ℕ) → (from ≡ start s at ns g) × (to ≡ start s at ns (g + 1)) → part from to s ≡ partAt s at g
     held-part from to a = let b = held-span from to a in span-part from to b
 
-  pub missing-span : {r : Refusal} → foundAt s at g ≡ Missing r → (0 ≡ partStart s at g) × (0 ≡ partEnd s at g)
+  pub missing-span : {r : Refusal} → foundAt s at g ≡ C.Refused r → (0 ≡ partStart s at g) × (0 ≡ partEnd s at g)
   unfolding partStart partEnd
   missing-span e = rw e (refl, refl)
 
@@ -128,13 +119,13 @@ module _ (s : List ℕ) (at g : ℕ) where
   pub span-range : (partStart s at g ≤ partEnd s at g) × (partEnd s at g ≤ length s)
   span-range = by (foundAt s at g) refl
     where
-      by : (r : Found) → foundAt s at g ≡ r → (partStart s at g ≤ partEnd s at g) × (partEnd s at g ≤ length s)
-      by Given e =
+      by : (r : Checked) → foundAt s at g ≡ r → (partStart s at g ≤ partEnd s at g) × (partEnd s at g ≤ length s)
+      by C.Right e =
           let ns = countsHeld s at g in
           let a = held-range e ns refl (start s at ns g) (start s at ns (g + 1)) (refl, refl) in
           let b = held-span e ns refl (start s at ns g) (start s at ns (g + 1)) (refl, refl) in
           (omega (arith, a .0, b .0, b .1), omega (arith, a .1, b .1))
-      by (Missing r) e = let b = missing-span e in (omega (arith, b .0, b .1), omega (arith, b .1))
+      by (C.Refused r) e = let b = missing-span e in (omega (arith, b .0, b .1), omega (arith, b .1))
 
   pub span-length : partEnd s at g - partStart s at g ≡ length (partAt s at g)
   unfolding partAt
@@ -148,11 +139,11 @@ module _ (s : List ℕ) (at g : ℕ) where
   span-end = omega (arith, span-length, span-range .0)
 
   -- the part is the group's part of the record, and holds exactly the group's lines
-  pub given-part : foundAt s at g ≡ Given → partAt s at g ≡ groupPart s at (countsAt s at) g
+  pub given-part : foundAt s at g ≡ C.Right → partAt s at g ≡ groupPart s at (countsAt s at) g
   unfolding partAt partStart partEnd Parts.groupPart
   given-part e = rw e refl
 
-  pub given-lines : foundAt s at g ≡ Given → Whole (getD (lineTally (countsAt s at)) g 0) (partAt s at g)
+  pub given-lines : foundAt s at g ≡ C.Right → Whole (getD (lineTally (countsAt s at)) g 0) (partAt s at g)
   given-lines e =
       let i = given-is e in
       rw (given-part e) (part-whole s at (i .next) (countsAt s at) (is-placed s at (i .next) (i .placed) .located-at) g (omega (arith, form-range g (i .form) (i .has) .1)))

@@ -1,89 +1,84 @@
 -- Each answer of the questions about a group fills a row of the question's table.
 -- Assumes nothing.
-use mathlib.Core.Path.{_≡_, refl}
+use mathlib.Core.Path.{refl}
 use mathlib.Core.List.{List, [], _∷_, _++_}
-use mathlib.Core.Logic.{_⊎_, inl, inr, ⊎-elim}
+use mathlib.Core.Logic.{inl, inr}
 use Prim.Native.Nat.{ℕ}
 use native.Mathlib.Omega.{arith}
 use lib.Dec.{lit<}
 use lib.ListN.{length}
 use Rattle.base.specs.Pieces.{done, bad}
-use Rattle.reply.specs.Table.{row, Numbered, askedRefusals, lineRefusals, dateRefusal}
-use Rattle.reply.proofs.Replies.{fills-plain, fills-on, fills-line, fills-element, fills-cells, at-row, numbered-left}
+use Rattle.reply.specs.Table.{row, Numbered}
+use Rattle.reply.specs.Refusals.{refusalReply, checkedReply, answerReply, rows, unplacedRefusals, askedRefusals, lineRefusals}
+use Rattle.reply.proofs.Replies.{fills, refusal-fills, fills-cells, at-row, rows-left}
 use Rattle.count.proofs.Rulings.{broken-group}
-use Rattle.reading.specs.declared.Refusal.{Refusal}
-use Rattle.reading.specs.declared.Refusal.the-variants.{NoGroup, End, Beyond, TooFewLines, Misformed, OtherRelease, FilledVacant, BrokenRule, NoRoom, BadLine, BadField, BadDate}
-use Rattle.reading.specs.Numbered.{refusalReply, readingReply, readingRows}
+use Rattle.place.specs.declared.Placing.the-variants as P
+use Rattle.place.proofs.Numbered.{refused-numbered}
+use Rattle.reply.specs.declared.Refusal.{Refusal}
+use Rattle.reply.specs.declared.Refusal.the-variants.{NoSuchNumber, BrokenRule, NoRoom, BadLine, BadField, BadDate}
+use Rattle.reading.specs.Numbered.{readingRows}
+use Rattle.reading.specs.Due as Reading
 use Rattle.reading.specs.Read.{Cells, readingOf}
 use Rattle.reading.proofs.Promises.{refusal-numbered}
-use Rattle.group.specs.declared.Found.{Found}
-use Rattle.group.specs.declared.Found.the-variants.{Given, Missing}
+use Rattle.reply.specs.declared.Checked.{Checked}
+use Rattle.reply.specs.declared.Checked.the-variants as C
 use Rattle.group.specs.declared.Characteristic.{Characteristic}
-use Rattle.group.specs.declared.Characteristic.the-variants.{Value, NoReading, NotReported, Unread}
-use Rattle.group.specs.Characteristics.{characteristicAt, characteristicReply, characteristicRows}
-use Rattle.group.specs.Held.{foundAt, foundReply, foundRows}
+use Rattle.group.specs.declared.Characteristic.the-variants.{Value, NoReading, NotReported, Refused}
+use Rattle.group.specs.Characteristics.{characteristicAt}
+use Rattle.group.specs.Numbered.{foundRows, characteristicReply, characteristicRows}
+use Rattle.group.specs.Held.{foundAt}
 use Rattle.group.specs.Text.{readAt}
-use Rattle.group.specs.Due.{MissingDue, FoundDue, ReadingDue, Due, FourReads, CharacteristicDue}
+use Rattle.group.specs.Due.{PlacingDue, RefusedFor, no-group, broken-rule, unplaced, FoundDue, Due, CharacteristicDue}
 use Rattle.group.proofs.Due.{first-due, found-first-due, characteristic-first-due, four-has-room}
 
 -- 12 and what placing refuses with, in whatever table has these rows behind its first
 module _ (s : List ℕ) (at g : ℕ) where
-  pub missing-numbered : (r : Refusal) → MissingDue s at g r → Numbered askedRefusals (refusalReply r)
-  missing-numbered NoGroup d = at-row 0 askedRefusals (refusalReply NoGroup) (lit< tt) (fills-plain 12)
-  missing-numbered End d = at-row 1 askedRefusals (refusalReply End) (lit< tt) (fills-plain 1)
-  missing-numbered Beyond d = at-row 2 askedRefusals (refusalReply Beyond) (lit< tt) (fills-plain 2)
-  missing-numbered TooFewLines d = at-row 3 askedRefusals (refusalReply TooFewLines) (lit< tt) (fills-plain 3)
-  missing-numbered Misformed d = at-row 4 askedRefusals (refusalReply Misformed) (lit< tt) (fills-plain 4)
-  missing-numbered OtherRelease d = at-row 5 askedRefusals (refusalReply OtherRelease) (lit< tt) (fills-plain 5)
-  missing-numbered (FilledVacant h) d = at-row 6 askedRefusals (refusalReply (FilledVacant h)) (lit< tt) (fills-on 6 h (omega (arith, d .placing .filled .low)))
-  missing-numbered (BrokenRule h) d =
+  pub missing-numbered : (r : Refusal) → RefusedFor s at g r → Numbered (rows askedRefusals) (refusalReply r)
+  missing-numbered r (no-group d) = inl (refusal-fills NoSuchNumber tt)
+  missing-numbered r (broken-rule h d) =
       let b = d .broken .placing in
-      at-row 7 askedRefusals (refusalReply (BrokenRule h)) (lit< tt) (fills-on 7 h (broken-group (b .ns) (b .broken) .0))
-  missing-numbered NoRoom d = absurd d
-  missing-numbered (BadLine l) d = absurd d
-  missing-numbered (BadField l e) d = absurd d
-  missing-numbered (BadDate p) d = absurd d
+      at-row 7 (rows askedRefusals) (refusalReply (BrokenRule h)) (lit< tt) (refusal-fills (BrokenRule h) (broken-group (b .ns) (b .broken) .0, tt))
+  missing-numbered r (unplaced q d) = inr (rows-left unplacedRefusals (BrokenRule 0 ∷ []) (refusalReply q) (refused-numbered s at q (d .placing)))
 
-  found-due-numbered : (r : Found) → FoundDue s at g r → Numbered foundRows (foundReply r)
-  found-due-numbered Given d = inl (fills-plain 0)
-  found-due-numbered (Missing r) d = inr (missing-numbered r d)
+  found-due-numbered : (r : Checked) → FoundDue s at g r → Numbered foundRows (checkedReply r)
+  found-due-numbered C.Right d = inl (fills 0 [] tt)
+  found-due-numbered (C.Refused r) d = inr (missing-numbered r d)
 
-  pub found-numbered : Numbered foundRows (foundReply (foundAt s at g))
+  pub found-numbered : Numbered foundRows (checkedReply (foundAt s at g))
   found-numbered = found-due-numbered (foundAt s at g) (found-first-due s at g (foundAt s at g) .0 refl)
 
-  pub reading-numbered : (room : ℕ) → Numbered readingRows (readingReply (readingOf (readAt s at g room)))
+  pub reading-numbered : (room : ℕ) → Numbered readingRows (answerReply (readingOf (readAt s at g room)))
   reading-numbered room = by (readAt s at g room) (first-due s at g room (readAt s at g room) .0 refl)
     where
-      by : (c : Cells) → Due s at g room c → Numbered readingRows (readingReply (readingOf c))
+      by : (c : Cells) → Due s at g room c → Numbered readingRows (answerReply (readingOf c))
       by (done cs) d = inl (fills-cells (length cs))
-      by (bad r) d = ⊎-elim (λ m. inr (numbered-left askedRefusals (row 11 [] ∷ (lineRefusals ++ (dateRefusal ∷ []))) (refusalReply r) (missing-numbered r m))) (λ (h : ReadingDue s at g room (bad r)). refusal-numbered (h .placed .placing .ns) g (h .x) room r (h .reading)) d
+      by (bad r) (inl m) = inr (rows-left askedRefusals (NoRoom ∷ (lineRefusals ++ (BadDate 0 ∷ []))) (refusalReply r) (missing-numbered r m))
+      by (bad r) (inr h) = inr (refusal-numbered (h .placed .placing .ns) g (h .x) room r (h .reading))
 
 -- of group 4 the lines alone are refused: 49 cells have room, and it has no date
 module _ (s : List ℕ) (at k : ℕ) where
-  four-numbered : (r : Refusal) → FourReads s at k (bad r) → Numbered characteristicRows (refusalReply r)
-  four-numbered r d = ⊎-elim (λ m. inr (numbered-left askedRefusals lineRefusals (refusalReply r) (missing-numbered s at 4 r m))) (λ (h : ReadingDue s at 4 49 (bad r)). by r h refl) (d .four 49 (omega arith))
-    where
-      by : (q : Refusal) → ReadingDue s at 4 49 (bad q) → q ≡ r → Numbered characteristicRows (refusalReply q)
-      by NoGroup h e = at-row 1 characteristicRows (refusalReply NoGroup) (lit< tt) (fills-plain 12)
-      by End h e = absurd (h .reading)
-      by Beyond h e = absurd (h .reading)
-      by TooFewLines h e = absurd (h .reading)
-      by Misformed h e = absurd (h .reading)
-      by OtherRelease h e = absurd (h .reading)
-      by (FilledVacant n) h e = absurd (h .reading)
-      by (BrokenRule n) h e = at-row 8 characteristicRows (refusalReply (BrokenRule n)) (lit< tt) (fills-on 7 n (broken-group (h .placed .placing .ns) (h .reading .broken) .0))
-      by NoRoom h e = absurd (four-has-room s at (first-due s at 4 49 (bad NoRoom) .1 (inr h)))
-      by (BadLine l) h e = at-row 9 characteristicRows (refusalReply (BadLine l)) (lit< tt) (fills-line 8 l (omega (arith, h .reading .line .number)))
-      by (BadField l f) h e =
-          at-row 10 characteristicRows (refusalReply (BadField l f)) (lit< tt) (fills-element 9 l f (omega (arith, h .reading .field .number)) (omega (arith, h .reading .field .element)))
-      by (BadDate p) h e = absurd (omega (arith, h .reading .three))
+  lines-numbered : (n : ℕ) (placed : PlacingDue s at 4 (P.Placed n)) (x : List ℕ) (r : Refusal) → Reading.RefusedFor (placed .placing .ns) 4 x 49 r
+      → Numbered (rows (askedRefusals ++ lineRefusals)) (refusalReply r)
+  lines-numbered n placed x r (Reading.no-group d) = inl (refusal-fills NoSuchNumber tt)
+  lines-numbered n placed x r (Reading.broken-rule h d) =
+      at-row 7 (rows (askedRefusals ++ lineRefusals)) (refusalReply (BrokenRule h)) (lit< tt) (refusal-fills (BrokenRule h) (broken-group (placed .placing .ns) (d .broken) .0, tt))
+  lines-numbered n placed x r (Reading.no-room d) = absurd (four-has-room s at n placed x d)
+  lines-numbered n placed x r (Reading.bad-line l d) =
+      at-row 8 (rows (askedRefusals ++ lineRefusals)) (refusalReply (BadLine l)) (lit< tt) (refusal-fills (BadLine l) (omega (arith, d .line .number), tt))
+  lines-numbered n placed x r (Reading.bad-field l e d) =
+      at-row 9 (rows (askedRefusals ++ lineRefusals)) (refusalReply (BadField l e)) (lit< tt) (refusal-fills (BadField l e) (omega (arith, d .field .number), (omega (arith, d .field .element), tt)))
+  lines-numbered n placed x r (Reading.bad-date p d) = absurd (omega (arith, d .three))
+
+  four-numbered : (r : Refusal) → Due s at 4 49 (bad r) → Numbered characteristicRows (refusalReply r)
+  four-numbered r (inl m) = inr (rows-left askedRefusals lineRefusals (refusalReply r) (missing-numbered s at 4 r m))
+  four-numbered r (inr h) = inr (lines-numbered (h .next) (h .placed) (h .x) r (h .reading))
 
   told-numbered : (c : Characteristic) → CharacteristicDue s at k c → Numbered characteristicRows (characteristicReply c)
-  told-numbered (Value z) d = inl (fills-plain 0)
-  told-numbered NoReading d = inl (fills-plain 0)
-  told-numbered NotReported d = inl (fills-plain 0)
-  told-numbered (Unread r) (inl n) = rw (n .twelve) (at-row 1 characteristicRows (refusalReply NoGroup) (lit< tt) (fills-plain 12))
-  told-numbered (Unread r) (inr h) = four-numbered r h
+  told-numbered (Value z) d = inl (fills 0 [] tt)
+  told-numbered NoReading d = inl (fills 0 [] tt)
+  told-numbered NotReported d = inl (fills 0 [] tt)
+  told-numbered (Refused r) (inl n) = rw (n .twelve) (inr (inl (refusal-fills NoSuchNumber tt)))
+  told-numbered (Refused r) (inr h) = four-numbered r (h .four 49 (omega arith))
 
   pub characteristic-numbered : Numbered characteristicRows (characteristicReply (characteristicAt s at k))
   characteristic-numbered = told-numbered (characteristicAt s at k) (characteristic-first-due s at k (characteristicAt s at k) .0 refl)

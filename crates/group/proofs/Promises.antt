@@ -12,6 +12,7 @@ use Rattle.group.proofs.Texts.{read-located}
 -- ---- reading is local
 
 -- located records with the same counts, in whatever texts at whatever places: where the group has the same lines, it reads the same
-pub read-local : (s t : List ℕ) (at bt n m : ℕ) (ns : List ℕ) (g room : ℕ) → locate s at ≡ located n ns → locate t bt ≡ located m ns → groupPart s at ns g ≡ groupPart t bt ns g → readAt s at g room ≡ readAt t bt g room
+pub read-local : (s t : List ℕ) (at bt n m : ℕ) (ns : List ℕ) (g room : ℕ) → locate s at ≡ located n ns → locate t bt ≡ located m ns → groupPart s at ns g ≡ groupPart t bt ns g
+    → readAt s at g room ≡ readAt t bt g room
 read-local s t at bt n m ns g room a b e =
     read-located s at g room n ns a ∙ ap (λ x. readGroup ns g x room) e ∙ sym (read-located t bt g room m ns b)

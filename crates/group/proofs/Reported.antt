@@ -1,23 +1,24 @@
 -- A characteristic: by its number, by what group 4 reads as, and by its cell.
 -- Assumes nothing.
 use mathlib.Core.Path.{_≡_, refl, sym, _∙_, ap}
-use mathlib.Core.Bool.{Bool, true, false, cond, false≢true}
+use mathlib.Core.Bool.{Bool, true, false, cond, _&&_, false≢true}
 use mathlib.Core.List.{List}
 use Prim.Native.Nat.{ℕ, _+_, _-_, _<_, _≤_}
 use native.Mathlib.Omega.{arith}
-use borrow.Author.Tests.{le-leb, lt-leb, eqb-true}
-use lib.Dec.{eqb, leb}
+use borrow.Author.Tests.{le-leb, lt-leb, leb-true, eqb-true}
+use lib.Dec.{eqb, leb, leb→le}
 use lib.IntN.{ℤ, pos, negsuc}
 use lib.ListN.{length, drop, getD, List·getD-append}
 use Rattle.base.specs.Pieces.{done, bad}
 use Rattle.base.specs.Sign.{negative, sizeOf}
-use Rattle.reading.specs.declared.Refusal.{Refusal}
-use Rattle.reading.specs.declared.Refusal.the-variants.{NoGroup}
-use Rattle.reading.specs.declared.Reading.the-variants.{Done, Refused}
-use Rattle.group.specs.declared.Characteristic.the-variants.{Value, NoReading, NotReported, Unread}
+use Rattle.base.proofs.Choice.{and-left, and-right, and-first, and-second, not-T-false}
+use Rattle.reply.specs.declared.Refusal.{Refusal}
+use Rattle.reply.specs.declared.Refusal.the-variants.{NoSuchNumber}
+use Rattle.reply.specs.declared.Answer.the-variants as A
+use Rattle.group.specs.declared.Characteristic.the-variants.{Value, NoReading, NotReported, Refused}
 use Rattle.reading.specs.Read.{Cells, readingOf, tableBy}
 use Rattle.group.specs.Text.{readAt}
-use Rattle.group.specs.Characteristics.{noReading, isNoReading, told, reported, characteristicAt}
+use Rattle.group.specs.Characteristics.{noReading, isNoReading, toldBy, reported, characteristicAt}
 
 -- ---- no reading
 
@@ -30,11 +31,11 @@ unfolding isNoReading
 natural-reads z e = rw e
 
 -- R291: 999,900 is a value
-pub unscaled-value : told (pos 999900) ≡ Value (pos 999900)
+pub unscaled-value : toldBy (pos 999900) ≡ Value (pos 999900)
 unfolding isNoReading
 unscaled-value = refl
 
-pub no-reading-cell : told (pos noReading) ≡ NoReading
+pub no-reading-cell : toldBy (pos noReading) ≡ NoReading
 unfolding isNoReading
 no-reading-cell = refl
 
@@ -44,7 +45,7 @@ unfolding isNoReading
 no-reading-is (pos n) e = ap pos (eqb-true n noReading e)
 no-reading-is (negsuc n) e = absurd (false≢true e)
 
-pub is-reading : (z : ℤ) → (z ≡ pos noReading → ⊥) → told z ≡ Value z
+pub is-reading : (z : ℤ) → (z ≡ pos noReading → ⊥) → toldBy z ≡ Value z
 is-reading z n = by (isNoReading z) refl
   where
     by : (t : Bool) → isNoReading z ≡ t → cond t NoReading (Value z) ≡ Value z
@@ -54,44 +55,50 @@ is-reading z n = by (isNoReading z) refl
 -- ---- by the number
 
 module _ (s : List ℕ) (at k : ℕ) where
-  pub number-low : k < 1 → Unread NoGroup ≡ characteristicAt s at k
+  -- R212: 12 where the number is none of 1 to 49
+  outside : (1 ≤ k → k ≤ 49 → ⊥) → leb 1 k && leb k 49 ≡ false
+  outside n = not-T-false (leb 1 k && leb k 49) (λ t. n (leb→le 1 k (and-left (leb 1 k) (leb k 49) t)) (leb→le k 49 (and-right (leb 1 k) (leb k 49) t)))
+
+  pub number-outside : leb 1 k && leb k 49 ≡ false → Refused NoSuchNumber ≡ characteristicAt s at k
   unfolding characteristicAt
-  number-low h = rw (lt-leb 1 k h)
+  number-outside e = rw e
+
+  pub number-none : (1 ≤ k → k ≤ 49 → ⊥) → characteristicAt s at k ≡ Refused NoSuchNumber
+  number-none n = sym (number-outside (outside n))
+
+  pub number-within : leb 1 k && leb k 49 ≡ true → (1 ≤ k) × (k ≤ 49)
+  number-within e = (leb-true 1 k (and-first (leb 1 k) (leb k 49) e), leb-true k 49 (and-second (leb 1 k) (leb k 49) e))
 
   module _ (low : 1 ≤ k) where
-    pub number-high : 49 < k → Unread NoGroup ≡ characteristicAt s at k
-    unfolding characteristicAt
-    number-high h = rw (le-leb 1 k low, lt-leb k 49 h)
-
     module _ (high : k ≤ 49) where
       pub number-inside : {g : Cells} → readAt s at 4 49 ≡ g → characteristicAt s at k ≡ reported k g
       unfolding characteristicAt
       number-inside e = rw (le-leb 1 k low, le-leb k 49 high, e)
 
-      pub four-refused : {r : Refusal} → Refused r ≡ readingOf (readAt s at 4 49) → Unread r ≡ characteristicAt s at k
+      pub four-refused : {r : Refusal} → A.Refused r ≡ readingOf (readAt s at 4 49) → Refused r ≡ characteristicAt s at k
       four-refused {r = r} e = by (readAt s at 4 49) refl e
         where
-          by : (g : Cells) → readAt s at 4 49 ≡ g → Refused r ≡ readingOf g → Unread r ≡ characteristicAt s at k
+          by : (g : Cells) → readAt s at 4 49 ≡ g → A.Refused r ≡ readingOf g → Refused r ≡ characteristicAt s at k
           by (done cs) u v = let z : _≡_ {A = ℕ} 0 1 = cc in absurd (omega arith)
-          by (bad q) u v = let p : r ≡ q = cc in ap Unread p ∙ sym (number-inside u)
+          by (bad q) u v = let p : r ≡ q = cc in ap Refused p ∙ sym (number-inside u)
 
-      module _ {n : ℕ} (e : Done n ≡ readingOf (readAt s at 4 49)) where
+      module _ {n : ℕ} (e : A.Done n ≡ readingOf (readAt s at 4 49)) where
         pub four-few : n < k → NotReported ≡ characteristicAt s at k
         four-few h = by (readAt s at 4 49) refl e
           where
-            by : (g : Cells) → readAt s at 4 49 ≡ g → Done n ≡ readingOf g → NotReported ≡ characteristicAt s at k
+            by : (g : Cells) → readAt s at 4 49 ≡ g → A.Done n ≡ readingOf g → NotReported ≡ characteristicAt s at k
             by (done cs) u v =
                 let m : n ≡ length cs = cc in
                 let t : leb k (length cs) ≡ false = lt-leb k (length cs) (omega arith) in
                 sym (number-inside u ∙ rw t)
             by (bad q) u v = let z : _≡_ {A = ℕ} 0 1 = cc in absurd (omega arith)
 
-        pub four-told : k ≤ n → (new old : List ℤ) → new ≡ tableBy (readAt s at 4 49) old → told (getD new (k - 1) (pos 0)) ≡ characteristicAt s at k
+        pub four-told : k ≤ n → (new old : List ℤ) → new ≡ tableBy (readAt s at 4 49) old → toldBy (getD new (k - 1) (pos 0)) ≡ characteristicAt s at k
         four-told h new old t = by (readAt s at 4 49) refl e t
           where
-            by : (g : Cells) → readAt s at 4 49 ≡ g → Done n ≡ readingOf g → new ≡ tableBy g old → told (getD new (k - 1) (pos 0)) ≡ characteristicAt s at k
+            by : (g : Cells) → readAt s at 4 49 ≡ g → A.Done n ≡ readingOf g → new ≡ tableBy g old → toldBy (getD new (k - 1) (pos 0)) ≡ characteristicAt s at k
             by (done cs) u v w =
                 let m : n ≡ length cs = cc in
                 let t : leb k (length cs) ≡ true = le-leb k (length cs) (omega arith) in
-                ap (λ l. told (getD l (k - 1) (pos 0))) w ∙ ap told (List·getD-append cs (drop (0 + length cs) old) (pos 0) (k - 1) (omega arith)) ∙ sym (number-inside u ∙ rw t)
+                ap (λ l. toldBy (getD l (k - 1) (pos 0))) w ∙ ap toldBy (List·getD-append cs (drop (0 + length cs) old) (pos 0) (k - 1) (omega arith)) ∙ sym (number-inside u ∙ rw t)
             by (bad q) u v w = let z : _≡_ {A = ℕ} 0 1 = cc in absurd (omega arith)

@@ -25,17 +25,17 @@ use Rattle.count.specs.Blame
 use Rattle.count.proofs.Rulings.{ruling-kept}
 use Rattle.place.specs.Placing.{countsAt}
 use Rattle.reading.proofs.Promises.{read-room}
-use Rattle.group.specs.declared.Found.{Found}
-use Rattle.group.specs.declared.Found.the-variants.{Given, Missing}
+use Rattle.reply.specs.declared.Checked.{Checked}
+use Rattle.reply.specs.declared.Checked.the-variants as C
 use Rattle.group.specs.Held.{foundAt, partAt}
 use Rattle.group.specs.Text.{readFound, readAt}
 
 pub form-four : formOf 4 ≡ Has F8
-unfolding Table.formOf Table.formAmong Table.entryOf
+unfolding Table.formOf Table.formAmong Table.formEntry
 form-four = refl
 
 pub cells-four : (n : ℕ) → cellsOf F8 n ≡ n
-unfolding Count.cellsOf Count.elementsOf Table.rowOf Table.entryOf
+unfolding Count.cellsOf Count.elementsOf Table.rowOf Table.formEntry
 cells-four n = mul-one n
 
 -- R124: group 4 has no more than 49
@@ -54,8 +54,8 @@ pub same-room : (s : List ℕ) (at room more : ℕ) → 49 ≤ room → 49 ≤ m
 unfolding readAt
 same-room s at room more a b = by (foundAt s at 4)
   where
-    by : (r : Found) → readFound s at 4 room r ≡ readFound s at 4 more r
-    by Given =
+    by : (r : Checked) → readFound s at 4 room r ≡ readFound s at 4 more r
+    by C.Right =
         let ns = countsAt s at in
         read-room ns 4 (partAt s at 4) room more F8 form-four (λ e. (omega (arith, room-four ns e), omega (arith, room-four ns e)))
-    by (Missing r) = refl
+    by (C.Refused r) = refl

@@ -1,19 +1,12 @@
 -- Reading at a place of a text, by whether the group can be asked about there.
 -- Assumes nothing.
 use mathlib.Core.Path.{_≡_, refl, sym, subst}
-use mathlib.Core.Bool.{true}
-use mathlib.Core.List.{List, [], _∷_}
-use mathlib.Core.Logic.{⊎-elim}
-use types.Run.{OneOf}
+use mathlib.Core.List.{List}
 use Prim.Native.Nat.{ℕ, _+_}
-use native.Mathlib.Omega.{arith}
-use lib.Dec.{T, leb, leb→le}
 use lib.IntN.{ℤ}
 use lib.ListN.{length}
-use Rattle.base.specs.Every.{every}
 use Rattle.base.specs.Part.{part}
 use Rattle.base.specs.Pieces.{bad}
-use Rattle.base.proofs.Choice.{and-left, and-right}
 use Rattle.form.specs.declared.Form.{Form}
 use Rattle.form.specs.declared.GroupForm.{GroupForm}
 use Rattle.form.specs.declared.GroupForm.the-variants.{Has, NoGroup as NoForm}
@@ -22,29 +15,30 @@ use Rattle.count.specs.Rules.{rulingOf}
 use Rattle.count.specs.declared.Ruling.{Ruling}
 use Rattle.count.specs.declared.Ruling.the-variants.{Kept, Broken}
 use Rattle.place.specs.declared.Placing.the-variants as P
+use Rattle.place.specs.Numbered.{asChecked}
 use Rattle.place.specs.Placing
 use Rattle.place.specs.Placing.{located, locate, placingBy, countsAt, ruledAt}
 use Rattle.place.specs.Parts.{start, groupPart}
 use Rattle.place.proofs.Placed.{counts-at}
-use Rattle.reading.specs.declared.Refusal.{Refusal}
-use Rattle.reading.specs.declared.Reading.{Reading}
-use Rattle.reading.specs.declared.Reading.the-variants.{Refused}
+use Rattle.reply.specs.declared.Refusal.{Refusal}
+use Rattle.reply.specs.declared.Answer.{Answer}
+use Rattle.reply.specs.declared.Answer.the-variants as A
 use Rattle.reading.specs.Read
 use Rattle.reading.specs.Read.{readRuled, readBy, readGroup}
 use Rattle.reading.proofs.Steps.{Answers}
-use Rattle.group.specs.declared.Found.the-variants.{Given, Missing}
-use Rattle.group.specs.Held.{foundBy, foundIn, foundAt, countsHeld, partAt}
+use Rattle.reply.specs.declared.Checked.the-variants as C
+use Rattle.group.specs.Held.{foundIn, foundAt, countsHeld, partAt}
 use Rattle.group.specs.Text.{readFound, readAt}
 use Rattle.group.proofs.Holding.{given-part, held-counts, held-part}
 
 module _ (s : List ℕ) (at g room : ℕ) where
   -- 12, or any placing reply but 0
-  pub read-missing : {r : Refusal} → foundAt s at g ≡ Missing r → readAt s at g room ≡ bad r
+  pub read-missing : {r : Refusal} → foundAt s at g ≡ C.Refused r → readAt s at g room ≡ bad r
   unfolding readAt
   read-missing e = rw e
 
   -- reply 0 in placing: the record's counts and the group's own lines
-  pub read-given : foundAt s at g ≡ Given → readAt s at g room ≡ readGroup (countsAt s at) g (partAt s at g) room
+  pub read-given : foundAt s at g ≡ C.Right → readAt s at g room ≡ readGroup (countsAt s at) g (partAt s at g) room
   unfolding readAt
   read-given e = rw e
 
@@ -53,10 +47,10 @@ module _ (s : List ℕ) (at g room : ℕ) where
   unfolding readAt foundAt Read.readGroup Placing.placingOf
   read-located n ns e = by (formOf g) refl
     where
-      ruled : (f : Form) (k : Ruling) → formOf g ≡ Has f → rulingOf ns ≡ k → readFound s at g room (foundBy (ruledAt n k)) ≡ readRuled f ns g (groupPart s at ns g) room k
+      ruled : (f : Form) (k : Ruling) → formOf g ≡ Has f → rulingOf ns ≡ k → readFound s at g room (asChecked (ruledAt n k)) ≡ readRuled f ns g (groupPart s at ns g) room k
       ruled f Kept h u =
           let q : placingBy (locate s at) ≡ P.Placed n = rw (e, u) in
-          let given : foundIn s at (formOf g) ≡ Given = rw (h, q) in
+          let given : foundIn s at (formOf g) ≡ C.Right = rw (h, q) in
           let c : countsAt s at ≡ ns = counts-at s at n ns e in
           rw (given-part s at g given, c, h, u)
       ruled f (Broken b) h u = refl
@@ -67,20 +61,12 @@ module _ (s : List ℕ) (at g room : ℕ) where
 
 -- the same, with the table
 module _ (s : List ℕ) (at g : ℕ) (old : List ℤ) where
-  pub text-missing : {r : Refusal} → Missing r ≡ foundAt s at g → Answers (readAt s at g (length old)) old (Refused r) old
+  pub text-missing : {r : Refusal} → C.Refused r ≡ foundAt s at g → Answers (readAt s at g (length old)) old (A.Refused r) old
   text-missing e = rw (read-missing s at g (length old) (sym e)) (refl, refl)
 
-  pub text-given : Given ≡ foundAt s at g → (ns : List ℕ) → ns ≡ countsHeld s at g → (from to : ℕ) → (from ≡ start s at ns g) × (to ≡ start s at ns (g + 1)) → {r : Reading} {new : List ℤ} → Answers (readGroup ns g (part from to s) (length old)) old r new → Answers (readAt s at g (length old)) old r new
+  pub text-given : C.Right ≡ foundAt s at g → (ns : List ℕ) → ns ≡ countsHeld s at g → (from to : ℕ) → (from ≡ start s at ns g) × (to ≡ start s at ns (g + 1))
+      → {r : Answer} {new : List ℤ} → Answers (readGroup ns g (part from to s) (length old)) old r new → Answers (readAt s at g (length old)) old r new
   text-given e ns c from to a {r} {new} b =
-      let same : readGroup ns g (part from to s) (length old) ≡ readAt s at g (length old) = rw (held-part s at g (sym e) ns c from to a, held-counts s at g (sym e) ns c) (sym (read-given s at g (length old) (sym e))) in
+      let same : readGroup ns g (part from to s) (length old) ≡ readAt s at g (length old) =
+      rw (held-part s at g (sym e) ns c from to a, held-counts s at g (sym e) ns c) (sym (read-given s at g (length old) (sym e))) in
       subst (λ y. Answers y old r new) same b
-
--- the answers of placing that are none of these are `Placed`
-pub not-first : (ks : List ℕ) → T (every (leb 1) ks) → OneOf ks 0 → ⊥
-not-first [] t h = h
-not-first (k ∷ []) t h = omega (arith, leb→le 1 k (and-left (leb 1 k) true t), h)
-not-first (k ∷ (j ∷ ks)) t h =
-    ⊎-elim
-    (λ (e : 0 ≡ k). omega (arith, leb→le 1 k (and-left (leb 1 k) (every (leb 1) (j ∷ ks)) t)))
-    (λ r. not-first (j ∷ ks) (and-right (leb 1 k) (every (leb 1) (j ∷ ks)) t) r)
-    h

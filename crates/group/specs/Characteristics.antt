@@ -2,19 +2,16 @@
 -- that has room; and then, all under 0, not reported (R292), no reading (R291) or the value (R293).
 use mathlib.Core.Path.{_≡_}
 use mathlib.Core.Bool.{Bool, cond, not, _&&_}
-use mathlib.Core.List.{List, [], _∷_, _++_}
+use mathlib.Core.List.{List}
 use Prim.Native.Nat.{ℕ, _-_}
 use lib.Dec.{eqb, leb}
 use lib.IntN.{ℤ, pos}
 use lib.ListN.{length, getD}
 use Rattle.base.specs.Pieces.{done, bad}
 use Rattle.base.specs.Sign.{negative, sizeOf}
-use Rattle.reply.specs.declared.Reply.{Reply}
-use Rattle.reply.specs.Table.{replyPlain, Row, row, askedRefusals, lineRefusals}
-use Rattle.reading.specs.declared.Refusal.the-variants.{NoGroup}
+use Rattle.reply.specs.declared.Refusal.the-variants.{NoSuchNumber}
 use Rattle.group.specs.declared.Characteristic.{Characteristic}
-use Rattle.group.specs.declared.Characteristic.the-variants.{Value, NoReading, NotReported, Unread}
-use Rattle.reading.specs.Numbered.{refusalReply}
+use Rattle.group.specs.declared.Characteristic.the-variants.{Value, NoReading, NotReported, Refused}
 use Rattle.reading.specs.Read.{Cells}
 use Rattle.group.specs.Text.{readAt}
 
@@ -29,25 +26,14 @@ IsNoReading z = z ≡ pos noReading
 unfoldable pub isNoReading : ℤ → Bool
 isNoReading z = not (negative z) && eqb (sizeOf z) noReading
 
-abbrev pub told : ℤ → Characteristic
-told z = cond (isNoReading z) NoReading (Value z)
+abbrev pub toldBy : ℤ → Characteristic
+toldBy z = cond (isNoReading z) NoReading (Value z)
 
 -- R292, R293: number k, from 1, of the cells of group 4, if it has so many
 abbrev pub reported : ℕ → Cells → Characteristic
-reported k (done cs) = cond (leb k (length cs)) (told (getD cs (k - 1) (pos 0))) NotReported
-reported k (bad r) = Unread r
+reported k (done cs) = cond (leb k (length cs)) (toldBy (getD cs (k - 1) (pos 0))) NotReported
+reported k (bad r) = Refused r
 
 -- R294: a table of 49 cells has room: R124 lets group 4 have at most 49 elements, of one cell each
 unfoldable pub characteristicAt : List ℕ → ℕ → ℕ → Characteristic
-characteristicAt s at k = cond (leb 1 k && leb k 49) (reported k (readAt s at 4 49)) (Unread NoGroup)
-
--- R290: the answer's number; no other stands beside 0
-abbrev pub characteristicReply : Characteristic → Reply
-characteristicReply (Value z) = replyPlain 0
-characteristicReply NoReading = replyPlain 0
-characteristicReply NotReported = replyPlain 0
-characteristicReply (Unread r) = refusalReply r
-
--- R294: the rows: 12, and what group 4 is refused with where there is room, so neither 10 nor 11
-abbrev pub characteristicRows : List Row
-characteristicRows = row 0 [] ∷ (askedRefusals ++ lineRefusals)
+characteristicAt s at k = cond (leb 1 k && leb k 49) (reported k (readAt s at 4 49)) (Refused NoSuchNumber)

@@ -11,7 +11,7 @@ use lib.ListN.{length}
 use Rattle.base.specs.Agree.{Agree, Between}
 use Rattle.base.specs.Part.{part}
 use Rattle.line.specs.Texts.{SameLines}
-use Rattle.place.specs.declared.Placing.{Placing}
+use Rattle.reply.specs.declared.Refusal.{Refusal}
 use Rattle.place.specs.Parts.{start, groupPart}
 use Rattle.place.specs.Placing.{placingOf, countsAt}
 use Rattle.place.specs.Walk.{PlacedAt, spot, Stops}
@@ -53,7 +53,7 @@ module _ (t u : List ℕ) (k g : ℕ) where
   -- the damage is confined to that group
   pub record Confined : Type 0 where
     -- D3.3: the walk has the same number of records; D3.7: and behind them it stops with the reply and group that it had
-    pub as-many : (n : ℕ) (p : Placing) → Stops t n p ↔ Stops u n p
+    pub as-many : (n : ℕ) (r : Refusal) → Stops t n r ↔ Stops u n r
     -- D3.4: each record is where it was; D3.7: and so is the place where the walk stops
     pub places : (j : ℕ) → spot u j ≡ spot t j
     -- D3.4, D3.7: so each has the reply, blamed group and next place that it had
@@ -75,6 +75,7 @@ module _ (t u : List ℕ) (k g : ℕ) where
     pub others : (j h : ℕ) → Other k g j h → (table : List ℤ) → SameReading (readAt u (spot u j) h (length table)) (readAt t (spot t j) h (length table)) table
     -- D3.6: that group is read or refused as D2 says, decided by its lines, the counts of its record and the table's length alone: by
     -- `readGroup`, in which the text does not occur, from the counts that the record has in t and what u has in place of the lines
-    pub altered : (table : List ℤ) → SameReading (readAt u (spot u k) g (length table)) (readGroup (countsAt t (spot t k)) g (part (linesStart t (spot t k) g) (linesStart t (spot t k) (suc g)) u) (length table)) table
+    pub altered : (table : List ℤ)
+        → SameReading (readAt u (spot u k) g (length table)) (readGroup (countsAt t (spot t k)) g (part (linesStart t (spot t k) g) (linesStart t (spot t k) (suc g)) u) (length table)) table
     -- D3.7: a characteristic is a cell of group 4: where that is not the altered group, every one is what it was
     pub characteristics : (j : ℕ) → Other k g j 4 → (number : ℕ) → characteristicAt u (spot u j) number ≡ characteristicAt t (spot t j) number

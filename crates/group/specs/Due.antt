@@ -14,15 +14,15 @@ use Rattle.place.specs.declared.Placing.the-variants as P
 use Rattle.place.specs.Placing.{countsAt}
 use Rattle.place.specs.Parts.{IsPart}
 use Rattle.place.specs.Due as Place
-use Rattle.reading.specs.declared.Refusal.{Refusal}
-use Rattle.reading.specs.declared.Refusal.the-variants.{NoGroup, End, Beyond, TooFewLines, Misformed, OtherRelease, FilledVacant, BrokenRule, NoRoom, BadLine, BadField, BadDate}
+use Rattle.reply.specs.declared.Refusal.{Refusal}
+use Rattle.reply.specs.declared.Refusal.the-variants.{NoSuchNumber, BrokenRule}
 use Rattle.reading.specs.Read.{Cells}
 use Rattle.reading.specs.Due as Reading
 use Rattle.group.specs.Characteristics.{IsNoReading}
-use Rattle.group.specs.declared.Found.{Found}
-use Rattle.group.specs.declared.Found.the-variants.{Given, Missing}
+use Rattle.reply.specs.declared.Checked.{Checked}
+use Rattle.reply.specs.declared.Checked.the-variants as C
 use Rattle.group.specs.declared.Characteristic.{Characteristic}
-use Rattle.group.specs.declared.Characteristic.the-variants.{Value, NoReading, NotReported, Unread}
+use Rattle.group.specs.declared.Characteristic.the-variants.{Value, NoReading, NotReported, Refused}
 
 module _ (s : List ℕ) (at g : ℕ) where
   -- not 12, and placing's reply is p
@@ -43,23 +43,14 @@ module _ (s : List ℕ) (at g : ℕ) where
 
   -- ---- R281: the lines of a group: 12, or what placing refuses with
 
-  abbrev pub MissingDue : Refusal → Type 0
-  MissingDue NoGroup = NoSuchGroup g
-  MissingDue End = PlacingDue P.End
-  MissingDue Beyond = PlacingDue P.Beyond
-  MissingDue TooFewLines = PlacingDue P.TooFewLines
-  MissingDue Misformed = PlacingDue P.Misformed
-  MissingDue OtherRelease = PlacingDue P.OtherRelease
-  MissingDue (FilledVacant h) = PlacingDue (P.FilledVacant h)
-  MissingDue (BrokenRule h) = BrokenDue h
-  MissingDue NoRoom = ⊥
-  MissingDue (BadLine l) = ⊥
-  MissingDue (BadField l e) = ⊥
-  MissingDue (BadDate p) = ⊥
+  pub data RefusedFor : Refusal → Type 0 where
+    no-group : NoSuchGroup g → RefusedFor NoSuchNumber
+    broken-rule : (h : ℕ) → BrokenDue h → RefusedFor (BrokenRule h)
+    unplaced : (r : Refusal) → PlacingDue (P.Refused r) → RefusedFor r
 
-  abbrev pub FoundDue : Found → Type 0
-  FoundDue Given = IsPlaced
-  FoundDue (Missing r) = MissingDue r
+  abbrev pub FoundDue : Checked → Type 0
+  FoundDue C.Right = IsPlaced
+  FoundDue (C.Refused r) = RefusedFor r
 
   -- R280, R283: the part: with 0 the lines of the group, which follow those of the index and of the groups before it; else the empty part
   -- at the text's start
@@ -69,7 +60,7 @@ module _ (s : List ℕ) (at g : ℕ) where
 
   pub record NoPart (from : ℕ) (x : List ℕ) : Type 0 where
     pub why : Refusal
-    pub missing : MissingDue why
+    pub missing : RefusedFor why
     pub text-start : from ≡ 0
     pub empty : x ≡ []
 
@@ -90,7 +81,7 @@ module _ (s : List ℕ) (at g : ℕ) where
 
     abbrev pub Due : Cells → Type 0
     Due (done cs) = ReadingDue (done cs)
-    Due (bad r) = MissingDue r ⊎ ReadingDue (bad r)
+    Due (bad r) = RefusedFor r ⊎ ReadingDue (bad r)
 
 -- ---- R294: a characteristic: 12, or what group 4 is refused with where there is room; then by its number and its cell
 
@@ -98,7 +89,7 @@ module _ (s : List ℕ) (at k : ℕ) where
   -- R212: the number is none of 1 to 49
   pub record NoNumber (r : Refusal) : Type 0 where
     pub none : (1 ≤ k) × (k ≤ 49) → ⊥
-    pub twelve : r ≡ NoGroup
+    pub twelve : r ≡ NoSuchNumber
 
   -- not 12, and group 4 reads as c into every table with room (49 cells have room: proofs/Rooms.antt)
   pub record FourReads (c : Cells) : Type 0 where
@@ -130,7 +121,7 @@ module _ (s : List ℕ) (at k : ℕ) where
     pub none : IsNoReading z
 
   abbrev pub CharacteristicDue : Characteristic → Type 0
-  CharacteristicDue (Unread r) = NoNumber r ⊎ FourReads (bad r)
+  CharacteristicDue (Refused r) = NoNumber r ⊎ FourReads (bad r)
   CharacteristicDue NotReported = Above
   CharacteristicDue NoReading = HasNoReading
   CharacteristicDue (Value z) = HasValue z

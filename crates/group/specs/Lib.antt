@@ -1,8 +1,10 @@
 -- A group of the record at a place of a text: whether its lines can be given, and where they stand (Held: R280 to R284); what it reads as
--- (Text: R260 to R269); a characteristic, which is a cell of group 4 (Characteristics: R290 to R294); when each reply is due (Due: R233);
+-- (Text: R260 to R269); a characteristic, which is a cell of group 4 (Characteristics: R290 to R294); which replies there are
+-- (Numbered: R281, R290, R294); when each is due (Due: R233);
 -- the third demand, that damage to one group stays in it (Damage: D3).
 pub mod Held
 pub mod Text
 pub mod Characteristics
+pub mod Numbered
 pub mod Due
 pub mod Damage

@@ -5,14 +5,14 @@ use Prim.Native.Nat.{ℕ}
 use Rattle.base.specs.Pieces.{bad}
 use Rattle.place.specs.Placing.{countsAt}
 use Rattle.reading.specs.Read.{Cells, readGroup}
-use Rattle.group.specs.declared.Found.{Found}
-use Rattle.group.specs.declared.Found.the-variants.{Given, Missing}
+use Rattle.reply.specs.declared.Checked.{Checked}
+use Rattle.reply.specs.declared.Checked.the-variants as C
 use Rattle.group.specs.Held.{foundAt, partAt}
 
 -- R269: the record's counts and the group's own lines decide
-abbrev pub readFound : List ℕ → ℕ → ℕ → ℕ → Found → Cells
-readFound s at g room Given = readGroup (countsAt s at) g (partAt s at g) room
-readFound s at g room (Missing r) = bad r
+abbrev pub readFound : List ℕ → ℕ → ℕ → ℕ → Checked → Cells
+readFound s at g room C.Right = readGroup (countsAt s at) g (partAt s at g) room
+readFound s at g room (C.Refused r) = bad r
 
 -- group g of the record at a place, read into a table of this length
 unfoldable pub readAt : List ℕ → ℕ → ℕ → ℕ → Cells

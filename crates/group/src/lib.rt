@@ -1,50 +1,31 @@
 // A group of the record at a place of a text: read into a table (R260), its lines as a part of the text (R280), a characteristic (R290).
 // Any text, place, number and table may be given (R241).
-use reading::Reading;
-use reading::Refusal;
+use reply::Answer;
+use reply::Checked;
+use reply::Refusal;
 ghost use mathlib.Core.Path.{_≡_};
+ghost use mathlib.Core.Bool.{_&&_};
+ghost use lib.Dec.{leb};
 ghost use lib.ListN.{length, replicate};
 ghost use Rattle.reading.specs.Read.{readingOf, tableBy};
-ghost use Rattle.group.specs.Characteristics.{isNoReading, told, characteristicAt, characteristicReply};
-ghost use Rattle.group.specs.Held.{refusalOf, foundAt, countsHeld, partStart, partEnd, partAt, moved, foundReply};
+ghost use Rattle.group.specs.Characteristics.{isNoReading, toldBy, characteristicAt};
+ghost use Rattle.group.specs.Numbered.{characteristicReply};
+ghost use Rattle.group.specs.Held.{foundAt, countsHeld, partStart, partEnd, partAt, moved};
 ghost use Rattle.group.specs.Text.{readAt};
-
-// Whether a group can be asked about at a place.
-pub enum Found {
-    // 0
-    Given,
-    // 12, or any placing reply but 0
-    Missing(Refusal),
-}
-
-// R235: a placing reply but 0, as a refusal; 7 has no next place here.
-pub fn refusal_of(answer: place::Placing) -> Refusal
-    ensures { λ r. ⌜ r ≡ refusalOf answer ⌝ }
-{
-    match answer {
-        place::Placing::Placed(_) => Refusal::NoGroup,
-        place::Placing::End => Refusal::End,
-        place::Placing::Beyond => Refusal::Beyond,
-        place::Placing::TooFewLines => Refusal::TooFewLines,
-        place::Placing::Misformed => Refusal::Misformed,
-        place::Placing::OtherRelease => Refusal::OtherRelease,
-        place::Placing::FilledVacant(g) => Refusal::FilledVacant(g),
-        place::Placing::BrokenRule(g, _) => Refusal::BrokenRule(g),
-    }
-}
 
 // The answer, and the counts of the record.
 struct Held {
-    found: Found,
+    found: Checked,
     counts: [u16; 80],
 }
 
-fn missing(r: Refusal) -> Held
-    ensures found { λ h. ⌜ h .found ≡ Found.Missing r ⌝ }
+// What is answered where no group is held.
+fn missing(found: Checked) -> Held
+    ensures found { λ h. ⌜ h .found ≡ found ⌝ }
     ensures counts { λ h. ⌜ h .counts ≡ replicate 80 0 ⌝ }
 {
     Held {
-        found: Found::Missing(r),
+        found,
         counts: [0u16; 80],
     }
 }
@@ -55,23 +36,23 @@ fn held_at(text: &[u8], at: usize, group: usize) -> Held
     ensures counts { λ r. ⌜ r .counts ≡ countsHeld (now (text .entry)) at group ⌝ }
 {
     let form::GroupForm::Has(_) = form::form_of(group) else {
-        return missing(Refusal::NoGroup);
+        return missing(Checked::Refused(Refusal::NoSuchNumber));
     };
     let record = place::place(text, at);
     let answer = record.answer;
     let place::Placing::Placed(_) = answer else {
-        return missing(refusal_of(answer));
+        return missing(place::as_checked(answer));
     };
     let counts = record.counts;
     Held {
-        found: Found::Given,
+        found: Checked::Right,
         counts,
     }
 }
 
 // Whether the lines of a group can be given, and from where to where they stand in the text.
 pub struct Lines {
-    pub found: Found,
+    pub found: Checked,
     pub from: usize,
     pub to: usize,
 }
@@ -85,7 +66,7 @@ pub fn lines_at(text: &[u8], at: usize, group: usize) -> Lines
 {
     let held = held_at(text, at, group);
     let found = held.found;
-    let Found::Given = found else {
+    let Checked::Right = found else {
         return Lines {
             found,
             from: 0,
@@ -114,7 +95,7 @@ pub fn lines_part<'a>(text: &'a [u8], at: usize, group: usize) -> &'a [u8]
 
 // R260: reads a group of the record at a place of a text into a table: first as `held_at` says, then by the record's counts and the group's
 // own lines (R269). A refusal alters nothing (R267).
-pub fn read_group(text: &[u8], at: usize, group: usize, table: &mut [i64]) -> Reading
+pub fn read_group(text: &[u8], at: usize, group: usize, table: &mut [i64]) -> Answer
     ensures answer { λ r. ⌜ r ≡ readingOf (readAt (now (text .entry)) at group (length (now (table .entry)))) ⌝ }
     ensures table { λ _. ⌜ now (table .exit) ≡
         tableBy (readAt (now (text .entry)) at group (length (now (table .entry)))) (now (table .entry)) ⌝ }
@@ -122,8 +103,8 @@ pub fn read_group(text: &[u8], at: usize, group: usize, table: &mut [i64]) -> Re
     let held = held_at(text, at, group);
     let found = held.found;
     match found {
-        Found::Missing(r) => Reading::Refused(r),
-        Found::Given => {
+        Checked::Refused(r) => Answer::Refused(r),
+        Checked::Right => {
             let counts = held.counts;
             let lines = place::span_of(text, at, &counts, group);
             let from = lines.from;
@@ -140,7 +121,7 @@ pub enum Characteristic {
     Value(i64),
     NoReading,
     NotReported,
-    Unread(Refusal),
+    Refused(Refusal),
 }
 
 fn is_no_reading(v: i64) -> bool
@@ -154,7 +135,7 @@ fn is_no_reading(v: i64) -> bool
 }
 
 fn told_by(v: i64) -> Characteristic
-    ensures { λ r. ⌜ r ≡ told v ⌝ }
+    ensures { λ r. ⌜ r ≡ toldBy v ⌝ }
 {
     if is_no_reading(v) {
         return Characteristic::NoReading;
@@ -162,20 +143,24 @@ fn told_by(v: i64) -> Characteristic
     Characteristic::Value(v)
 }
 
+// R212: whether a characteristic has this number.
+fn is_characteristic(number: usize) -> bool
+    ensures { λ r. ⌜ r ≡ leb 1 number && leb number 49 ⌝ }
+{
+    1 <= number && number <= 49
+}
+
 // R294: asks for a characteristic, 1 to 49, of the record at a place of a text.
 pub fn characteristic_at(text: &[u8], at: usize, number: usize) -> Characteristic
     ensures { λ r. ⌜ r ≡ characteristicAt (now (text .entry)) at number ⌝ }
 {
-    if number < 1 {
-        return Characteristic::Unread(Refusal::NoGroup);
-    }
-    if 49 < number {
-        return Characteristic::Unread(Refusal::NoGroup);
+    if !is_characteristic(number) {
+        return Characteristic::Refused(Refusal::NoSuchNumber);
     }
     let mut table = [0i64; 49];
     match read_group(text, at, 4, &mut table) {
-        Reading::Refused(r) => Characteristic::Unread(r),
-        Reading::Done(n) => {
+        Answer::Refused(r) => Characteristic::Refused(r),
+        Answer::Done(n) => {
             if n < number {
                 return Characteristic::NotReported;
             }
@@ -187,22 +172,13 @@ pub fn characteristic_at(text: &[u8], at: usize, number: usize) -> Characteristi
 // ---- Replies.
 
 // R200 to R212: the answer's number, with the numbers beside it.
-pub fn found_reply(answer: Found) -> reply::Reply
-    ensures { λ r. ⌜ r ≡ foundReply answer ⌝ }
-{
-    match answer {
-        Found::Given => reply::plain(0),
-        Found::Missing(r) => reading::refusal_reply(r),
-    }
-}
-
-pub fn characteristic_reply(answer: Characteristic) -> reply::Reply
+pub fn reply_of(answer: Characteristic) -> reply::Reply
     ensures { λ r. ⌜ r ≡ characteristicReply answer ⌝ }
 {
     match answer {
         Characteristic::Value(_) => reply::plain(0),
         Characteristic::NoReading => reply::plain(0),
         Characteristic::NotReported => reply::plain(0),
-        Characteristic::Unread(r) => reading::refusal_reply(r),
+        Characteristic::Refused(r) => reply::of_refusal(r),
     }
 }

@@ -34,7 +34,8 @@ reach-last (x ∷ xs) (suc k) p h = byte (isFeed x) refl h (λ j q l. further j 
         ap (λ n. getD (x ∷ xs) n 0) z ∙ e
     feed (suc j) e l r = r (omega arith)
 
-    byte : (c : Bool) → isFeed x ≡ c → suc k ≤ cond c (suc (feeds xs)) (feeds xs) → ((j : ℕ) → 0 < j → j ≤ feeds xs → getD (x ∷ xs) (suc (reach xs j) - 1) 0 ≡ 10) → getD (x ∷ xs) (suc (reach xs (cond c k (suc k))) - 1) 0 ≡ 10
+    byte : (c : Bool) → isFeed x ≡ c → suc k ≤ cond c (suc (feeds xs)) (feeds xs) → ((j : ℕ) → 0 < j → j ≤ feeds xs → getD (x ∷ xs) (suc (reach xs j) - 1) 0 ≡ 10)
+        → getD (x ∷ xs) (suc (reach xs (cond c k (suc k))) - 1) 0 ≡ 10
     byte true e l r = let m : k ≤ feeds xs = omega arith in feed k (eqb-true x 10 e) m (λ q. r k q m)
     byte false e l r = r (suc k) p l
 

@@ -87,7 +87,8 @@ feeds-behind [] k h = omega arith
 feeds-behind (x ∷ xs) zero h = omega arith
 feeds-behind (x ∷ xs) (suc k) h = one (isFeed x) h (feeds-behind xs (cond (isFeed x) k (suc k)))
   where
-    one : (c : Bool) → suc k ≤ cond c (suc (feeds xs)) (feeds xs) → (cond c k (suc k) ≤ feeds xs → feeds (behind (cond c k (suc k)) xs) + cond c k (suc k) ≡ feeds xs) → feeds (behind (cond c k (suc k)) xs) + suc k ≡ cond c (suc (feeds xs)) (feeds xs)
+    one : (c : Bool) → suc k ≤ cond c (suc (feeds xs)) (feeds xs) → (cond c k (suc k) ≤ feeds xs → feeds (behind (cond c k (suc k)) xs) + cond c k (suc k) ≡ feeds xs)
+        → feeds (behind (cond c k (suc k)) xs) + suc k ≡ cond c (suc (feeds xs)) (feeds xs)
     one true l r = omega (arith, r (omega arith))
     one false l r = r l
 
@@ -135,7 +136,8 @@ unfolding feeds reach
 reach-plain [] b k h = sym (zero-add (reach b (suc k)))
 reach-plain (x ∷ a) b k h = one (isFeed x) h (reach-plain a b k)
   where
-    one : (c : Bool) → cond c (suc (feeds a)) (feeds a) ≡ 0 → (feeds a ≡ 0 → reach (a ++ b) (suc k) ≡ length a + reach b (suc k)) → suc (reach (a ++ b) (cond c k (suc k))) ≡ suc (length a) + reach b (suc k)
+    one : (c : Bool) → cond c (suc (feeds a)) (feeds a) ≡ 0 → (feeds a ≡ 0 → reach (a ++ b) (suc k) ≡ length a + reach b (suc k))
+        → suc (reach (a ++ b) (cond c k (suc k))) ≡ suc (length a) + reach b (suc k)
     one true e r = absurd (omega arith)
     one false e r = omega (arith, r e)
 
@@ -147,5 +149,6 @@ reach-past s at to k h l p =
     let e : at + m ≡ to = omega arith in
     let d : drop m (drop at s) ≡ drop to s = drop-drop m at s ∙ ap (λ n. drop n s) e in
     let n : length (part at to s) ≡ m = length-take-le m (drop at s) (omega (arith, length-drop at s)) in
-    let r : reach (drop at s) (suc k) ≡ length (part at to s) + reach (drop m (drop at s)) (suc k) = ap (λ (y : List ℕ). reach y (suc k)) (sym (take-append-drop m (drop at s))) ∙ reach-plain (part at to s) (drop m (drop at s)) k p in
+    let r : reach (drop at s) (suc k) ≡ length (part at to s) + reach (drop m (drop at s)) (suc k) =
+    ap (λ (y : List ℕ). reach y (suc k)) (sym (take-append-drop m (drop at s))) ∙ reach-plain (part at to s) (drop m (drop at s)) k p in
     omega (arith, r, n, ap (λ y. reach y (suc k)) d)

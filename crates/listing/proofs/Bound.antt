@@ -29,26 +29,29 @@ use Rattle.decimal.proofs.Lengths.{length-within}
 use Rattle.decimal.proofs.Rows.{row-size}
 use Rattle.decimal.proofs.Writing.{end-done, none-means}
 use Rattle.place.specs.declared.Placing.{Placing}
-use Rattle.place.specs.declared.Placing.the-variants.{Placed, End, Beyond, TooFewLines, Misformed, OtherRelease, FilledVacant, BrokenRule}
+use Rattle.reply.specs.declared.Refusal.{Refusal}
+use Rattle.place.specs.declared.Placing.the-variants.{Refused}
 use Rattle.place.specs.Placing
 use Rattle.place.specs.Placing.{Located, located, refused, locate, ruledAt, placingBy, placingOf, countsAt}
 use Rattle.place.specs.Walk.{spot, IsRecord}
 use Rattle.place.proofs.Placed.{located-is, located-range}
-use Rattle.place.proofs.Walked.{Stopping, refused-stopping, spot-inside}
+use Rattle.place.specs.Due.{RefusedFor, beyond, text-end, few-for-index, few-for-data, bad-index, bad-release, fills-vacant}
+use Rattle.place.proofs.Due.{refused-due}
+use Rattle.place.proofs.Walked.{spot-inside}
 use Rattle.listing.specs.Rows.{replyOf, nextOf, groupOf, filledGroups, recordRow, endRow}
 use Rattle.listing.specs.Records.{recordsIn}
-use Rattle.listing.specs.Listing.{rowAt, rowsFrom, endAt, listingOf, listing, printed}
-use Rattle.listing.proofs.Groups.{blamed-within, vacant-within, filled-within}
+use Rattle.listing.specs.Listing.{rowAt, rowsFrom, endAt, listingOf, listing, printedListing}
+use Rattle.listing.proofs.Groups.{blamed-within, filled-within}
 use Rattle.listing.proofs.Counted.{records-stop, records-bytes}
 
 -- ---- the two cases of what is printed
 
-pub printed-short : (s : List ℕ) → length s ≤ 65536 → listing s ≡ printed s
-unfolding printed
+pub printed-short : (s : List ℕ) → length s ≤ 65536 → listing s ≡ printedListing s
+unfolding printedListing
 printed-short s h = rw (le-leb (length s) 65536 h)
 
-pub printed-long : (s : List ℕ) → 65536 < length s → bytes "end " ++ rowText (0 ∷ 0 ∷ 11 ∷ 0 ∷ []) ≡ printed s
-unfolding printed
+pub printed-long : (s : List ℕ) → 65536 < length s → bytes "end " ++ rowText (0 ∷ 0 ∷ 11 ∷ 0 ∷ []) ≡ printedListing s
+unfolding printedListing
 printed-long s h = rw (lt-leb (length s) 65536 h)
 
 -- ---- numbers of a row
@@ -61,15 +64,14 @@ ruled-small : (n : ℕ) (r : Ruling) → ((g : ℕ) → r ≡ Broken g → g ≤
 ruled-small n Kept h = record { reply = omega arith; group = omega arith }
 ruled-small n (Broken g) h = record { reply = omega arith; group = omega (arith, h g refl) }
 
-stopping-small : (p : Placing) → Stopping p → Small p
-stopping-small (Placed n) h = absurd h
-stopping-small End h = record { reply = omega arith; group = omega arith }
-stopping-small Beyond h = record { reply = omega arith; group = omega arith }
-stopping-small TooFewLines h = record { reply = omega arith; group = omega arith }
-stopping-small Misformed h = record { reply = omega arith; group = omega arith }
-stopping-small OtherRelease h = record { reply = omega arith; group = omega arith }
-stopping-small (FilledVacant g) h = record { reply = omega arith; group = vacant-within (h .ns) g (h .release) }
-stopping-small (BrokenRule g n) h = absurd h
+refused-small : (s : List ℕ) (at : ℕ) (r : Refusal) → RefusedFor s at r → Small (Refused r)
+refused-small s at r (beyond d) = record { reply = omega arith; group = omega arith }
+refused-small s at r (text-end d) = record { reply = omega arith; group = omega arith }
+refused-small s at r (few-for-index d) = record { reply = omega arith; group = omega arith }
+refused-small s at r (few-for-data d) = record { reply = omega arith; group = omega arith }
+refused-small s at r (bad-index d) = record { reply = omega arith; group = omega arith }
+refused-small s at r (bad-release d) = record { reply = omega arith; group = omega arith }
+refused-small s at r (fills-vacant g d) = record { reply = omega arith; group = d .filled .high }
 
 pub answer-small : (s : List ℕ) (at : ℕ) → Small (placingOf s at)
 unfolding Placing.placingOf
@@ -77,7 +79,7 @@ answer-small s at = by (locate s at) refl
   where
     by : (l : Located) → locate s at ≡ l → Small (placingBy l)
     by (located n ns) e = ruled-small n (rulingOf ns) (blamed-within ns)
-    by (refused p) e = stopping-small p (refused-stopping s at p e)
+    by (refused r) e = refused-small s at r (refused-due s at r e)
 
 -- what placing answers for a record
 placing-is : (s : List ℕ) (at n : ℕ) (ns : List ℕ) → locate s at ≡ located n ns → placingOf s at ≡ ruledAt n (rulingOf ns)
@@ -168,7 +170,7 @@ long-bytes : length (bytes "end " ++ rowText (0 ∷ 0 ∷ 11 ∷ 0 ∷ [])) ≡ 
 unfolding Rows.rowText Numerals.numeral Numerals.digitsOf Numerals.digitsIn
 long-bytes = refl
 
-pub printed-within : (s : List ℕ) → length (printed s) < 8192
+pub printed-within : (s : List ℕ) → length (printedListing s) < 8192
 printed-within s =
     ⊎-elim
     (λ (h : length s ≤ 65536). rw (← printed-short s h) (listing-short s h))
@@ -176,9 +178,9 @@ printed-within s =
     (le-or-lt (length s) 65536)
 
 -- so the program's 8,192 bytes have room for whatever it is given
-pub print-has-room : (s out : List ℕ) → length out ≡ 8192 → putAnswer 0 (printed s) out ≡ Next (length (printed s))
+pub print-has-room : (s out : List ℕ) → length out ≡ 8192 → putAnswer 0 (printedListing s) out ≡ Next (length (printedListing s))
 unfolding Writing.putAnswer
-print-has-room s out h = end-done 0 (length (printed s)) (length out) (omega (arith, printed-within s)) ∙ ap Next (zero-add (length (printed s)))
+print-has-room s out h = end-done 0 (length (printedListing s)) (length out) (omega (arith, printed-within s)) ∙ ap Next (zero-add (length (printedListing s)))
 
-pub print-no-refusal : (s out new : List ℕ) → length out ≡ 8192 → Puts 0 (printed s) out NoRoom new → ⊥
-print-no-refusal s out new h p = omega (arith, none-means 0 (printed s) out new p .0, printed-within s)
+pub print-no-refusal : (s out new : List ℕ) → length out ≡ 8192 → Puts 0 (printedListing s) out NoRoom new → ⊥
+print-no-refusal s out new h p = omega (arith, none-means 0 (printedListing s) out new p .0, printed-within s)

@@ -5,7 +5,7 @@ use mathlib.Core.List.{List}
 use Prim.Native.Nat.{ℕ, zero, suc, _+_, _*_, _-_, _≤_}
 use native.Mathlib.Omega.{arith}
 use lib.ListN.{length}
-use Rattle.place.specs.declared.Placing.{Placing}
+use Rattle.reply.specs.declared.Refusal.{Refusal}
 use Rattle.place.specs.Placing.{refused, locate}
 use Rattle.place.specs.Walk.{spot, Stops}
 use Rattle.place.proofs.Walked.{stops-some, stops-few}
@@ -13,7 +13,7 @@ use Rattle.listing.specs.Records.{oneMore, recordsFrom, recordsIn}
 
 -- ---- the number of records
 
-module _ (s : List ℕ) (many : ℕ) (p : Placing) (h : Stops s many p) where
+module _ (s : List ℕ) (many : ℕ) (p : Refusal) (h : Stops s many p) where
   from : (d k most : ℕ) → k + d ≡ many → d ≤ most → recordsFrom s k most ≡ d
   unfolding recordsFrom
   from zero k zero e l = refl

@@ -14,11 +14,8 @@ use Rattle.base.specs.Sum
 use Rattle.base.specs.Sum.{sum}
 use Rattle.base.proofs.UpFrom.{length-up, up-more, up-done}
 use Rattle.count.specs.Tally.{countOf}
-use Rattle.count.specs.Rules.{rulingOf, releaseOf}
-use Rattle.count.specs.declared.Release.the-variants.{Filled}
+use Rattle.count.specs.Rules.{rulingOf}
 use Rattle.count.specs.declared.Ruling.the-variants.{Broken}
-use Rattle.count.specs.Due.{LowestFilled}
-use Rattle.count.proofs.Releases.{release-due}
 use Rattle.count.proofs.Rulings.{ruling-broken, broken-group}
 use Rattle.listing.specs.Rows.{filled, filledGroups}
 
@@ -59,10 +56,7 @@ module _ (ns : List ℕ) where
   unfolding filledGroups
   filled-within = omega (arith, among (upFrom 1 60), length-up 1 60)
 
--- ---- the group that reply 7 blames is at most 60, the group that reply 6 names at most 79
+-- ---- the group that reply 7 blames is at most 60
 
 pub blamed-within : (ns : List ℕ) (g : ℕ) → rulingOf ns ≡ Broken g → g ≤ 60
 blamed-within ns g e = broken-group ns (ruling-broken ns e) .1
-
-pub vacant-within : (ns : List ℕ) (g : ℕ) → releaseOf ns ≡ Filled g → g ≤ 79
-vacant-within ns g e = let p : LowestFilled ns g = rw e at (release-due ns) in p .high

@@ -11,7 +11,7 @@ use lib.ListN.{length}
 use Rattle.base.specs.Quoted.{bytes}
 use Rattle.decimal.specs.Rows.{rowText}
 use Rattle.place.specs.Placing.{located, refused, locate, placingOf, countsAt}
-use Rattle.place.specs.declared.Placing.{Placing}
+use Rattle.reply.specs.declared.Refusal.{Refusal}
 use Rattle.place.specs.Walk.{spot, Stops}
 use Rattle.place.proofs.Walked.{spot-more, stops-some, stops-later, stops-here}
 use Rattle.place.proofs.Placed.{located-range, located-long}
@@ -23,7 +23,7 @@ use Rattle.listing.proofs.Counted.{records-are, records-stop}
 use Rattle.place.proofs.Stopped.{placed-goes, placed-halts}
 
 -- for a walk that has so many records the listing has their rows
-pub listing-is : (s : List ℕ) (many : ℕ) (p : Placing) → Stops s many p → listing s ≡ listingOf s many
+pub listing-is : (s : List ℕ) (many : ℕ) (p : Refusal) → Stops s many p → listing s ≡ listingOf s many
 unfolding listing
 listing-is s many p h = ap (listingOf s) (records-are s many p h)
 
@@ -72,7 +72,8 @@ module _ (s : List ℕ) (k at : ℕ) (few : k ≤ recordsIn s) (here : at ≡ sp
   pub last-line : isPlaced (replyOf (placingOf s at)) ≡ false → linesFrom s k ≡ endAt s k
   unfolding linesFrom rowsFrom
   last-line stopped =
-      let q : locate s (spot s k) ≡ refused (placingOf s at) = ap (locate s) (sym here) ∙ placed-halts s at stopped in
-      let f : k ≡ recordsIn s = stops-here s (recordsIn s) (stops-some s .answer) (records-stop s) k few (placingOf s at) q in
+      let h = placed-halts s at stopped in
+      let q : locate s (spot s k) ≡ refused (h .why) = ap (locate s) (sym here) ∙ h .is in
+      let f : k ≡ recordsIn s = stops-here s (recordsIn s) (stops-some s .answer) (records-stop s) k few (h .why) q in
       let e : recordsIn s - k ≡ 0 = omega arith in
       rw e (ap (endAt s) (sym f))

@@ -2,21 +2,30 @@
 -- fewer bytes than that; what is lent afterwards; and each answer fills a row of the question's table.
 -- Assumes nothing.
 use mathlib.Core.Path.{_≡_, refl, sym, _∙_, ap, subst}
-use mathlib.Core.List.{List, [], _++_, map, flatMap}
+use mathlib.Core.Bool.{Bool, true, false, cond}
+use mathlib.Core.List.{List, [], _∷_, _++_, map, flatMap}
 use mathlib.Core.Logic.{_↔_, inl, inr}
 use Prim.Native.Nat.{ℕ, zero, suc, _+_, _≤_}
 use native.Mathlib.Nat.{zero-add}
 use native.Mathlib.Omega.{arith}
+use borrow.Author.Tests.{le-leb, lt-leb, leb-true, leb-false}
+use lib.Dec.{leb}
 use lib.ListN.{length, take, drop, getD, length-append, length-map}
 use lib.Seq.{take-at, drop-at, ext-getD}
-use Rattle.reply.specs.Table.{Numbered}
-use Rattle.reply.proofs.Replies.{fills-plain, fills-bytes}
+use Rattle.reply.specs.declared.Refusal.{Refusal}
+use Rattle.reply.specs.declared.Refusal.the-variants.{NoRoom}
+use Rattle.reply.specs.declared.Answer.{Answer}
+use Rattle.reply.specs.declared.Answer.the-variants.{Done, Refused}
+use Rattle.reply.specs.Table.{Numbered, bytes as textBytes}
+use Rattle.reply.specs.Refusals.{answerReply}
+use Rattle.reply.proofs.Replies.{fills, refusal-fills}
 use Rattle.decimal.specs.Writing
-use Rattle.decimal.specs.Writing.{putAnswer, putBytes}
+use Rattle.decimal.specs.Writing.{putBytes, Puts}
 use Rattle.decimal.specs.declared.Put.{Put}
-use Rattle.decimal.specs.declared.Put.the-variants.{Next, NoRoom}
-use Rattle.decimal.proofs.Writing.{next-means, none-means, end-done, end-none}
+use Rattle.decimal.specs.declared.Put.the-variants as P
+use Rattle.decimal.proofs.Writing.{next-means, none-means}
 use Rattle.place.proofs.Walked.{stops-some}
+use Rattle.base.specs.Part.{over}
 use Rattle.base.specs.Every
 use Rattle.base.specs.Every.{upFrom}
 use Rattle.base.specs.Quoted.{bytes}
@@ -27,7 +36,8 @@ use Rattle.place.proofs.Due as Placing
 use Rattle.place.specs.Walk.{spot}
 use Rattle.listing.specs.Rows.{recordRow, endRow}
 use Rattle.listing.specs.Records.{recordsIn}
-use Rattle.listing.specs.Listing.{rowAt, rowsFrom, endAt, listingOf, listing, listedReply, listingRows, IsRow, IsListing, ListingDue}
+use Rattle.listing.specs.Listing.{rowAt, rowsFrom, endAt, listingOf, listing, listedIn, IsRow, IsListing, RefusedFor, no-room, ListingDue}
+use Rattle.listing.specs.Numbered.{listingRows}
 use Rattle.listing.proofs.Counted.{records-are, records-stop}
 
 -- a listing has its line `end` at least
@@ -38,12 +48,12 @@ some-line s =
     let last = rowText (endRow many (spot s many) (placingOf s (spot s many))) in
     omega (arith, length-append (rowsFrom s 0 many) (bytes "end " ++ last), length-append (bytes "end ") last)
 
-pub listed-numbered : (s out : List ℕ) → Numbered listingRows (listedReply (putAnswer 0 (listing s) out))
-listed-numbered s out = by (putAnswer 0 (listing s) out) refl
+pub listed-numbered : (s : List ℕ) (room : ℕ) → Numbered listingRows (answerReply (listedIn (listing s) room))
+listed-numbered s room = by (leb (length (listing s)) room)
   where
-    by : (r : Put) → putAnswer 0 (listing s) out ≡ r → Numbered listingRows (listedReply r)
-    by (Next n) e = let m = next-means 0 n (listing s) out (putBytes 0 (listing s) out) record { answer = sym e; bytes = refl } in inl (fills-bytes n (omega (arith, m .0, some-line s)))
-    by NoRoom e = inr (inl (fills-plain 11))
+    by : (t : Bool) → Numbered listingRows (answerReply (cond t (Done (length (listing s))) (Refused NoRoom)))
+    by true = inl (fills 0 ((textBytes, length (listing s)) ∷ []) (some-line s, tt))
+    by false = inr (inl (refusal-fills NoRoom tt))
 
 -- ---- which text it is
 
@@ -83,7 +93,7 @@ listing-is s =
     let many = recordsIn s in
     record {
       many = many;
-      answer = stops-some s .answer;
+      why = stops-some s .answer;
       stops = records-stop s;
       rows = map (row s) (upFrom 0 many);
       as-many = length-map (upFrom 0 many) (row s) ∙ length-up 0 many;
@@ -97,41 +107,68 @@ pub is-listing : (s x : List ℕ) → IsListing s x → x ≡ listing s
 unfolding listing listingOf endAt endRow
 is-listing s x h =
     let many = h .many in
-    let these : h .rows ≡ map (row s) (upFrom 0 many) = ext-getD [] (h .rows) (map (row s) (upFrom 0 many)) (h .as-many ∙ sym (length-map (upFrom 0 many) (row s) ∙ length-up 0 many)) (λ k l. is-row s k (getD (h .rows) k []) (h .each k (omega (arith, l, h .as-many))) ∙ sym (getD-map-up (row s) 0 many k [] (omega (arith, l, h .as-many)) ∙ ap (row s) (zero-add k))) in
+    let these : h .rows ≡ map (row s) (upFrom 0 many) =
+    ext-getD [] (h .rows) (map (row s) (upFrom 0 many)) (h .as-many ∙ sym (length-map (upFrom 0 many) (row s) ∙ length-up 0 many))
+    (λ k l. is-row s k (getD (h .rows) k []) (h .each k (omega (arith, l, h .as-many))) ∙ sym (getD-map-up (row s) 0 many k [] (omega (arith, l, h .as-many)) ∙ ap (row s) (zero-add k))) in
     let final : h .last ≡ last s many = h .end .numbers ∙ rw (Placing.first-due s (spot s many) (h .end .placing) .1 (h .end .placed)) refl in
     h .text
     ∙ ap (λ t. flatMap rowText t ++ (bytes "end " ++ rowText (h .last))) these
     ∙ ap (λ t. flatMap rowText (map (row s) (upFrom 0 many)) ++ (bytes "end " ++ rowText t)) final
     ∙ ap (λ t. t ++ (bytes "end " ++ rowText (last s many))) (sym (rows-text s 0 many))
-    ∙ ap (listingOf s) (sym (records-are s many (h .answer) (h .stops)))
+    ∙ ap (listingOf s) (sym (records-are s many (h .why) (h .stops)))
 
 -- ---- which answer
 
+module _ (x : List ℕ) (room : ℕ) where
+  due-given : (r : Answer) → ListingDue x room r → listedIn x room ≡ r
+  due-given (Done n) d = rw (le-leb (length x) room (d .1)) (ap Done (sym (d .0)))
+  due-given (Refused r) (no-room d) = rw (lt-leb (length x) room d)
+
+  is-due : ListingDue x room (listedIn x room)
+  is-due = by (leb (length x) room) refl
+    where
+      by : (t : Bool) → leb (length x) room ≡ t → ListingDue x room (cond t (Done (length x)) (Refused NoRoom))
+      by true e = (refl, leb-true (length x) room e)
+      by false e = no-room (leb-false (length x) room e)
+
+  pub first-due : (r : Answer) → listedIn x room ≡ r ↔ ListingDue x room r
+  first-due r = (λ e. subst (ListingDue x room) e is-due, due-given r)
+
+-- ---- the answer from where the listing was put
+
 module _ (x out : List ℕ) where
-  given-due : (r : Put) → putAnswer 0 x out ≡ r → ListingDue x (length out) r
-  given-due (Next n) e = let m = next-means 0 n x out (putBytes 0 x out) record { answer = sym e; bytes = refl } in (m .0 ∙ zero-add (length x), omega (arith, m .0, m .1))
-  given-due NoRoom e = let m = none-means 0 x out (putBytes 0 x out) record { answer = sym e; bytes = refl } in omega (arith, m .0)
+  pub put-done : {r : Put} {n : ℕ} {new : List ℕ} → r ≡ P.Next n → Puts 0 x out r new → (Done n ≡ listedIn x (length out)) × (new ≡ putBytes 0 x out)
+  put-done {n = n} {new = new} e p =
+      let m = next-means 0 n x out new (subst (λ r. Puts 0 x out r new) e p) in
+      (sym (due-given x (length out) (Done n) (m .0 ∙ zero-add (length x), omega (arith, m .0, m .1))), p .bytes)
 
-  due-given : (r : Put) → ListingDue x (length out) r → putAnswer 0 x out ≡ r
-  unfolding Writing.putAnswer
-  due-given (Next n) d = end-done 0 (length x) (length out) (omega (arith, d .1)) ∙ ap Next (zero-add (length x) ∙ sym (d .0))
-  due-given NoRoom d = end-none 0 (length x) (length out) (omega (arith, d))
-
-  pub first-due : (r : Put) → putAnswer 0 x out ≡ r ↔ ListingDue x (length out) r
-  first-due r = (given-due r, due-given r)
+  pub put-none : {r : Put} {new : List ℕ} → r ≡ P.NoRoom → Puts 0 x out r new → (Refused NoRoom ≡ listedIn x (length out)) × (new ≡ putBytes 0 x out)
+  put-none {new = new} e p =
+      let m = none-means 0 x out new (subst (λ r. Puts 0 x out r new) e p) in
+      (sym (due-given x (length out) (Refused NoRoom) (no-room (omega (arith, m .0)))), p .bytes)
 
   -- ---- what is lent, afterwards
 
-  pub listed-keeps : putAnswer 0 x out ≡ NoRoom → putBytes 0 x out ≡ out
-  listed-keeps e = none-means 0 x out (putBytes 0 x out) record { answer = sym e; bytes = refl } .1
+  room-for : (n : ℕ) → listedIn x (length out) ≡ Done n → (n ≡ length x) × (length x ≤ length out)
+  room-for n e = first-due x (length out) (Done n) .0 e
 
-  pub listed-begins : (n : ℕ) → putAnswer 0 x out ≡ Next n → take n (putBytes 0 x out) ≡ x
+  pub listed-keeps : (r : Refusal) → listedIn x (length out) ≡ Refused r → putBytes 0 x out ≡ out
+  unfolding Writing.putBytes
+  listed-keeps r e = by r (first-due x (length out) (Refused r) .0 e)
+    where
+      by : (r : Refusal) → RefusedFor x (length out) r → cond (leb (0 + length x) (length out)) (over 0 x out) out ≡ out
+      by r (no-room d) = rw (lt-leb (0 + length x) (length out) (omega arith))
+
+  put-front : length x ≤ length out → putBytes 0 x out ≡ over 0 x out
+  unfolding Writing.putBytes
+  put-front h = rw (le-leb (0 + length x) (length out) (omega arith))
+
+  pub listed-begins : (n : ℕ) → listedIn x (length out) ≡ Done n → take n (putBytes 0 x out) ≡ x
   listed-begins n e =
-      let m = next-means 0 n x out (putBytes 0 x out) record { answer = sym e; bytes = refl } in
-      ap (take n) (m .2) ∙ take-at x (drop (0 + length x) out) n (sym (m .0 ∙ zero-add (length x)))
+      let m = room-for n e in
+      ap (take n) (put-front (m .1)) ∙ take-at x (drop (0 + length x) out) n (sym (m .0))
 
-  pub listed-rest : (n : ℕ) → putAnswer 0 x out ≡ Next n → drop n (putBytes 0 x out) ≡ drop n out
+  pub listed-rest : (n : ℕ) → listedIn x (length out) ≡ Done n → drop n (putBytes 0 x out) ≡ drop n out
   listed-rest n e =
-      let m = next-means 0 n x out (putBytes 0 x out) record { answer = sym e; bytes = refl } in
-      let l : length x ≡ n = sym (m .0 ∙ zero-add (length x)) in
-      ap (drop n) (m .2) ∙ drop-at x (drop (0 + length x) out) n l ∙ ap (λ k. drop k out) (zero-add (length x) ∙ l)
+      let m = room-for n e in
+      ap (drop n) (put-front (m .1)) ∙ drop-at x (drop (0 + length x) out) n (sym (m .0)) ∙ ap (λ k. drop k out) (zero-add (length x) ∙ sym (m .0))

@@ -14,7 +14,7 @@ use Rattle.count.specs.Tally.{recordLines}
 use Rattle.count.specs.declared.Ruling.the-variants.{Kept}
 use Rattle.decimal.specs.Numerals
 use Rattle.decimal.specs.Rows
-use Rattle.place.specs.declared.Placing.the-variants.{End}
+use Rattle.reply.specs.declared.Refusal.the-variants.{End}
 use Rattle.place.specs.Placing
 use Rattle.place.specs.RecordS
 use Rattle.place.specs.RecordS.{countsS, twiceS}
@@ -25,7 +25,8 @@ use Rattle.listing.specs.Rows.{filledGroups, recordRow, endRow}
 use Rattle.listing.proofs.Lines.{listing-is}
 
 counted : (filledGroups countsS ≡ 3) × (recordLines countsS ≡ 5) × (rulingOf countsS ≡ Kept)
-unfolding filledGroups RecordS.countsS Tally.linesIn Tally.lineTally Sum.sum Every.upFrom Table.rowOf Table.entryOf Table.formAmong Table.formOf Count.linesOf Count.roundedUp Count.elementsOf Rules.rulingOf Rules.lowest Rules.headRules Rules.sets Rules.keeps Rules.letterRules
+unfolding filledGroups RecordS.countsS Tally.linesIn Tally.lineTally Sum.sum Every.upFrom Table.rowOf Table.formEntry Table.formAmong Table.formOf Count.linesOf
+    Count.roundedUp Count.elementsOf Rules.rulingOf Rules.lowest Rules.headRules Rules.sets Rules.keeps Rules.letterRules
 counted = (refl, refl, refl)
 
 rows : (rowAt twiceS 0 ≡ bytes "1 0 305 0 0 3 5" ++ (10 ∷ [])) × (rowAt twiceS 1 ≡ bytes "2 305 610 0 0 3 5" ++ (10 ∷ [])) × (endAt twiceS 2 ≡ bytes "end 2 610 1 0" ++ (10 ∷ []))

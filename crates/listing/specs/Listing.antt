@@ -7,11 +7,11 @@ use Prim.Native.Nat.{ℕ, zero, suc, _<_, _≤_}
 use lib.Dec.{leb}
 use lib.ListN.{length, getD}
 use Rattle.base.specs.Quoted.{bytes}
-use Rattle.reply.specs.declared.Reply.{Reply}
-use Rattle.reply.specs.Table.{replyPlain, replyDone, Row, row, bytes as textBytes}
+use Rattle.reply.specs.declared.Refusal.{Refusal}
+use Rattle.reply.specs.declared.Refusal.the-variants.{NoRoom}
+use Rattle.reply.specs.declared.Answer.{Answer}
+use Rattle.reply.specs.declared.Answer.the-variants.{Done, Refused}
 use Rattle.decimal.specs.Rows.{rowText}
-use Rattle.decimal.specs.declared.Put.{Put}
-use Rattle.decimal.specs.declared.Put.the-variants.{Next, NoRoom}
 use Rattle.place.specs.Placing.{placingOf, countsAt}
 use Rattle.place.specs.declared.Placing.{Placing}
 use Rattle.place.specs.Walk.{spot, Stops}
@@ -41,17 +41,12 @@ unfoldable pub listing : List ℕ → List ℕ
 listing s = listingOf s (recordsIn s)
 
 -- R341: the program takes 65,536 bytes; if there are more, it prints the line `end 0 0 11 0` alone
-unfoldable pub printed : List ℕ → List ℕ
-printed s = cond (leb (length s) 65536) (listing s) (bytes "end " ++ rowText (0 ∷ 0 ∷ 11 ∷ 0 ∷ []))
+unfoldable pub printedListing : List ℕ → List ℕ
+printedListing s = cond (leb (length s) 65536) (listing s) (bytes "end " ++ rowText (0 ∷ 0 ∷ 11 ∷ 0 ∷ []))
 
--- R310: 0 with the bytes that were written, or 11
-abbrev pub listedReply : Put → Reply
-listedReply (Next n) = replyDone n
-listedReply NoRoom = replyPlain 11
-
--- R310: the rows of the question
-abbrev pub listingRows : List Row
-listingRows = row 0 (textBytes ∷ []) ∷ row 11 [] ∷ []
+-- R310: a listing put into so many bytes: 0 with the bytes that were written, or 11
+abbrev pub listedIn : List ℕ → ℕ → Answer
+listedIn x room = cond (leb (length x) room) (Done (length x)) (Refused NoRoom)
 
 -- ---- as a statement
 
@@ -73,8 +68,8 @@ pub record IsEnd (s : List ℕ) (many : ℕ) (row : List ℕ) : Type 0 where
 -- x is the listing of a text: a line for each record of its walk, and then the line `end`
 pub record IsListing (s x : List ℕ) : Type 0 where
   pub many : ℕ
-  pub answer : Placing
-  pub stops : Stops s many answer
+  pub why : Refusal
+  pub stops : Stops s many why
   pub rows : List (List ℕ)
   pub as-many : length rows ≡ many
   pub each : (k : ℕ) → k < many → IsRow s k (getD rows k [])
@@ -83,6 +78,9 @@ pub record IsListing (s x : List ℕ) : Type 0 where
   pub text : x ≡ flatMap rowText rows ++ (bytes "end " ++ rowText last)
 
 -- R310: 0 with its bytes where they have room, else 11
-abbrev pub ListingDue : List ℕ → ℕ → Put → Type 0
-ListingDue x room (Next n) = (n ≡ length x) × (length x ≤ room)
-ListingDue x room NoRoom = room < length x
+pub data RefusedFor (x : List ℕ) (room : ℕ) : Refusal → Type 0 where
+  no-room : room < length x → RefusedFor x room NoRoom
+
+abbrev pub ListingDue : List ℕ → ℕ → Answer → Type 0
+ListingDue x room (Done n) = (n ≡ length x) × (length x ≤ room)
+ListingDue x room (Refused r) = RefusedFor x room r

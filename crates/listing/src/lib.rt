@@ -3,11 +3,13 @@ ghost use mathlib.Core.Path.{_≡_};
 ghost use Prim.Native.Nat.{_+_, _≤_};
 ghost use lib.ListN.{length};
 ghost use Rattle.base.specs.Part.{over};
-ghost use Rattle.decimal.specs.Writing.{endIn, Puts};
+ghost use Rattle.decimal.specs.Writing.{endIn, putBytes, Puts};
 ghost use Rattle.listing.specs.Rows.{filledGroups, recordRow, endRow};
-ghost use Rattle.listing.specs.Listing.{listing, printed, listedReply};
+ghost use Rattle.listing.specs.Listing.{listing, printedListing, listedIn};
 use decimal::Put;
 use place::Placing;
+use reply::Answer;
+use reply::Refusal;
 
 // How many of the groups 1 to 60 have a nonzero count.
 fn filled_groups(counts: &[u16]) -> u64
@@ -119,7 +121,7 @@ pub fn render(text: &[u8], out: &mut [u8]) -> Put
 
 // R341: what the program prints for its input: the listing, or for more than 65,536 bytes the line `end 0 0 11 0` alone.
 pub fn print(input: &[u8], out: &mut [u8]) -> Put
-    ensures { λ r. ⌜ Puts 0 (printed (now (input .entry))) (now (out .entry)) r (now (out .exit)) ⌝ }
+    ensures { λ r. ⌜ Puts 0 (printedListing (now (input .entry))) (now (out .entry)) r (now (out .exit)) ⌝ }
 {
     if 65536 < input.len() {
         return decimal::put_row(out, 0, b"end ", &[0, 0, 11, 0]);
@@ -127,12 +129,13 @@ pub fn print(input: &[u8], out: &mut [u8]) -> Put
     render(input, out)
 }
 
-// R310: the answer as a reply: 0 with the bytes that were written, or 11.
-pub fn reply_of(answer: Put) -> reply::Reply
-    ensures { λ r. ⌜ r ≡ listedReply answer ⌝ }
+// R310: the same as the question's answer.
+pub fn list(text: &[u8], out: &mut [u8]) -> Answer
+    ensures answer { λ r. ⌜ r ≡ listedIn (listing (now (text .entry))) (length (now (out .entry))) ⌝ }
+    ensures output { λ _. ⌜ now (out .exit) ≡ putBytes 0 (listing (now (text .entry))) (now (out .entry)) ⌝ }
 {
-    match answer {
-        Put::Next(bytes) => reply::done(bytes),
-        Put::NoRoom => reply::plain(11),
+    match render(text, out) {
+        Put::Next(bytes) => Answer::Done(bytes),
+        Put::NoRoom => Answer::Refused(Refusal::NoRoom),
     }
 }

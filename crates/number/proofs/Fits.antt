@@ -81,11 +81,13 @@ right-more g n t h i =
       text =
           ap (λ (l : List ℕ). l ++ ((48 + n % 10) ∷ [])) (i .text)
           ∙ append-assoc (replicate (i .blanks) 32) (minusOf g ++ digitText (i .digits)) ((48 + n % 10) ∷ [])
-          ∙ ap (λ (l : List ℕ). replicate (i .blanks) 32 ++ l) (append-assoc (minusOf g) (digitText (i .digits)) ((48 + n % 10) ∷ []) ∙ ap (λ (l : List ℕ). minusOf g ++ l) (sym (text-append (i .digits) (n % 10 ∷ []))));
+          ∙ ap (λ (l : List ℕ). replicate (i .blanks) 32 ++ l)
+          (append-assoc (minusOf g) (digitText (i .digits)) ((48 + n % 10) ∷ []) ∙ ap (λ (l : List ℕ). minusOf g ++ l) (sym (text-append (i .digits) (n % 10 ∷ []))));
       value = number-append 0 (i .digits) (n % 10 ∷ []) ∙ ap (λ m. m * 10 + n % 10) (i .value) ∙ omega arith;
     }
 
-right-by : (w : ℕ) (g : Bool) (n : ℕ) (t : Bool) → leb 10 n ≡ t → Room g (suc w) n → ((m : ℕ) → 10 ≤ n → Room g w m → Right g m (textOf false w (Digits g m))) → (10 ≤ n → Room g w (n / 10)) → Right g n (textOf false w (cond t (Digits g (n / 10)) (begun g)) ++ ((48 + n % 10) ∷ []))
+right-by : (w : ℕ) (g : Bool) (n : ℕ) (t : Bool) → leb 10 n ≡ t → Room g (suc w) n → ((m : ℕ) → 10 ≤ n → Room g w m → Right g m (textOf false w (Digits g m)))
+    → (10 ≤ n → Room g w (n / 10)) → Right g n (textOf false w (cond t (Digits g (n / 10)) (begun g)) ++ ((48 + n % 10) ∷ []))
 right-by w g n true e r ih k = let h = leb-true 10 n e in right-more g n (textOf false w (Digits g (n / 10))) h (ih (n / 10) h (k h))
 right-by w g n false e r ih k = right-one g n (textOf false w (begun g)) (leb-false 10 n e) (before-one g w n r)
 
@@ -220,7 +222,10 @@ module _ (h low high : ℕ) (l : suc low ≡ 10 ^ (h + 4)) (u : suc high ≡ 10 
   -- what a field of the width reads as is in the range
   pub f-within : (s : List ℕ) (z : ℤ) → length s ≡ h + 6 → IsF s z → T (holds low high z)
   f-within s z w i =
-      let t : length s ≡ i .blanks + (minuses (i .minus) + (length (i .units) + 4)) = ap length (i .text) ∙ length-text (i .blanks) (i .minus) (digitText (i .units) ++ (46 ∷ digitText (i .thousandths))) ∙ ap (λ n. i .blanks + (minuses (i .minus) + n)) (length-append (digitText (i .units)) (46 ∷ digitText (i .thousandths)) ∙ ap₂ (λ a b. a + suc b) (length-digits (i .units)) (length-digits (i .thousandths) ∙ i .three)) in
+      let t : length s ≡ i .blanks + (minuses (i .minus) + (length (i .units) + 4)) =
+      ap length (i .text) ∙ length-text (i .blanks) (i .minus) (digitText (i .units) ++ (46 ∷ digitText (i .thousandths)))
+      ∙ ap (λ n. i .blanks + (minuses (i .minus) + n))
+      (length-append (digitText (i .units)) (46 ∷ digitText (i .thousandths)) ∙ ap₂ (λ a b. a + suc b) (length-digits (i .units)) (length-digits (i .thousandths) ∙ i .three)) in
       let ds = i .units ++ i .thousandths in
       let a = digits-append (i .units) (i .thousandths) (i .each) (i .every) in
       let n : length ds ≡ length (i .units) + 3 = length-append (i .units) (i .thousandths) ∙ ap (λ b. length (i .units) + b) (i .three) in

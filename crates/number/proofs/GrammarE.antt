@@ -31,8 +31,17 @@ use Rattle.number.proofs.Grammar.{blanks-read, digits-read, Held, held,
 abbrev worth : List ℕ → ℕ → List ℕ → ℕ → List ℕ → Number
 worth a u ds v es = pairOf (oneOf (scanOf (leadOf (scanOf Blanks a) u) ds)) (oneOf (scanOf (signOf v) es))
 
-parts-at : (s a ds es : List ℕ) (u p q v c d x : ℕ) → length s ≡ c + d + x + 3 → getD s c 0 ≡ p → getD s (c + 1 + d) 0 ≡ q → part 0 (c - 1) s ≡ a → getD s (c - 1) 0 ≡ u → part (c + 1) (c + 1 + d) s ≡ ds → getD s (c + 2 + d) 0 ≡ v → part (c + 3 + d) (length s) s ≡ es → readE c d x s ≡ cond (eqb p 46) (cond (eqb q 69) (worth a u ds v es) Misformed) Misformed
-parts-at s a ds es u p q v c d x l e₁ e₂ e₃ e₄ e₅ e₆ e₇ = rw (eq-eqb (length s) (c + d + x + 3) l, e₁, e₂, e₃, e₄, e₅, e₆, e₇)
+-- c - 1 columns, the last before the point, the point, d digits, `E`, the sign, x digits
+record Parts (c d x : ℕ) (s : List ℕ) : Type 0 where
+  front : List ℕ
+  last : ℕ
+  point : ℕ
+  digits : List ℕ
+  letter : ℕ
+  sign : ℕ
+  exponent : List ℕ
+  lengths : (length front ≡ c - 1) × (length digits ≡ d) × (length exponent ≡ x)
+  is : s ≡ front ++ (last ∷ point ∷ (digits ++ (letter ∷ sign ∷ exponent)))
 
 -- the byte behind p, and the part behind p
 byte-behind : (s p ys : List ℕ) (y n : ℕ) → s ≡ p ++ (y ∷ ys) → length p ≡ n → getD s n 0 ≡ y
@@ -41,39 +50,51 @@ byte-behind s p ys y n e l = rw e (getD-at p y ys 0 n l)
 part-behind : (s p m q : List ℕ) (a b : ℕ) → s ≡ p ++ (m ++ q) → length p ≡ a → length m ≡ b - a → part a b s ≡ m
 part-behind s p m q a b e l k = rw (e, drop-at p (m ++ q) a l) (take-at m q (b - a) k)
 
--- c - 1 columns, the last before the point, the point, d digits, `E`, the sign, x digits
-module _ (a ds es : List ℕ) (u p q v c d x : ℕ) (h : 1 ≤ c) (la : length a ≡ c - 1) (ld : length ds ≡ d) (lx : length es ≡ x) where
-  abbrev whole : List ℕ
-  whole = a ++ (u ∷ p ∷ (ds ++ (q ∷ v ∷ es)))
+module _ (c d x : ℕ) (s : List ℕ) (h : 1 ≤ c) (t : Parts c d x s) where
+  to-point : length (t .front ++ (t .last ∷ [])) ≡ c
+  to-point = length-append (t .front) (t .last ∷ []) ∙ omega (arith, t .lengths .0)
 
-  p₁ : length (a ++ (u ∷ [])) ≡ c
-  p₁ = length-append a (u ∷ []) ∙ omega arith
+  behind-point : length (t .front ++ (t .last ∷ t .point ∷ [])) ≡ c + 1
+  behind-point = length-append (t .front) (t .last ∷ t .point ∷ []) ∙ omega (arith, t .lengths .0)
 
-  p₂ : length (a ++ (u ∷ p ∷ [])) ≡ c + 1
-  p₂ = length-append a (u ∷ p ∷ []) ∙ omega arith
+  to-letter : length (t .front ++ (t .last ∷ t .point ∷ t .digits)) ≡ c + 1 + d
+  to-letter = length-append (t .front) (t .last ∷ t .point ∷ t .digits) ∙ omega (arith, t .lengths .0, t .lengths .1)
 
-  p₃ : length (a ++ (u ∷ p ∷ ds)) ≡ c + 1 + d
-  p₃ = length-append a (u ∷ p ∷ ds) ∙ omega arith
+  to-sign : length (t .front ++ (t .last ∷ t .point ∷ (t .digits ++ (t .letter ∷ [])))) ≡ c + 2 + d
+  to-sign =
+      length-append (t .front) (t .last ∷ t .point ∷ (t .digits ++ (t .letter ∷ [])))
+      ∙ omega (arith, length-append (t .digits) (t .letter ∷ []), t .lengths .0, t .lengths .1)
 
-  p₄ : length (a ++ (u ∷ p ∷ (ds ++ (q ∷ [])))) ≡ c + 2 + d
-  p₄ = length-append a (u ∷ p ∷ (ds ++ (q ∷ []))) ∙ omega (arith, length-append ds (q ∷ []))
+  behind-sign : length (t .front ++ (t .last ∷ t .point ∷ (t .digits ++ (t .letter ∷ t .sign ∷ [])))) ≡ c + 3 + d
+  behind-sign =
+      length-append (t .front) (t .last ∷ t .point ∷ (t .digits ++ (t .letter ∷ t .sign ∷ [])))
+      ∙ omega (arith, length-append (t .digits) (t .letter ∷ t .sign ∷ []), t .lengths .0, t .lengths .1)
 
-  p₅ : length (a ++ (u ∷ p ∷ (ds ++ (q ∷ v ∷ [])))) ≡ c + 3 + d
-  p₅ = length-append a (u ∷ p ∷ (ds ++ (q ∷ v ∷ []))) ∙ omega (arith, length-append ds (q ∷ v ∷ []))
+  rest : List ℕ
+  rest = t .digits ++ (t .letter ∷ t .sign ∷ t .exponent)
 
-  all : length whole ≡ c + d + x + 3
-  all = length-append a (u ∷ p ∷ (ds ++ (q ∷ v ∷ es))) ∙ omega (arith, length-append ds (q ∷ v ∷ es))
+  all : length s ≡ c + d + x + 3
+  unfolding rest
+  all =
+      ap length (t .is)
+      ∙ length-append (t .front) (t .last ∷ t .point ∷ rest)
+      ∙ omega (arith, length-append (t .digits) (t .letter ∷ t .sign ∷ t .exponent), t .lengths .0, t .lengths .1, t .lengths .2)
 
-  pub e-at : readE c d x whole ≡ cond (eqb p 46) (cond (eqb q 69) (worth a u ds v es) Misformed) Misformed
+  e-at : readE c d x s ≡ cond (eqb (t .point) 46) (cond (eqb (t .letter) 69) (worth (t .front) (t .last) (t .digits) (t .sign) (t .exponent)) Misformed) Misformed
+  unfolding rest
   e-at =
-      parts-at whole a ds es u p q v c d x all
-      (byte-behind whole (a ++ (u ∷ [])) (ds ++ (q ∷ v ∷ es)) p c (simp append-assoc) p₁)
-      (byte-behind whole (a ++ (u ∷ p ∷ ds)) (v ∷ es) q (c + 1 + d) (simp append-assoc) p₃)
-      (part-behind whole [] a (u ∷ p ∷ (ds ++ (q ∷ v ∷ es))) 0 (c - 1) refl refl (omega arith))
-      (byte-behind whole a (p ∷ (ds ++ (q ∷ v ∷ es))) u (c - 1) refl la)
-      (part-behind whole (a ++ (u ∷ p ∷ [])) ds (q ∷ v ∷ es) (c + 1) (c + 1 + d) (simp append-assoc) p₂ (omega arith))
-      (byte-behind whole (a ++ (u ∷ p ∷ (ds ++ (q ∷ [])))) es v (c + 2 + d) (simp append-assoc) p₄)
-      (part-behind whole (a ++ (u ∷ p ∷ (ds ++ (q ∷ v ∷ [])))) es [] (c + 3 + d) (length whole) (simp (append-assoc, append-nil)) p₅ (omega (arith, all)))
+      rw (
+        eq-eqb (length s) (c + d + x + 3) all,
+        byte-behind s (t .front ++ (t .last ∷ [])) rest (t .point) c (t .is ∙ simp append-assoc) to-point,
+        byte-behind s (t .front ++ (t .last ∷ t .point ∷ t .digits)) (t .sign ∷ t .exponent) (t .letter) (c + 1 + d) (t .is ∙ simp append-assoc) to-letter,
+        part-behind s [] (t .front) (t .last ∷ t .point ∷ rest) 0 (c - 1) (t .is) refl (omega (arith, t .lengths .0)),
+        byte-behind s (t .front) (t .point ∷ rest) (t .last) (c - 1) (t .is) (t .lengths .0),
+        part-behind s (t .front ++ (t .last ∷ t .point ∷ [])) (t .digits) (t .letter ∷ t .sign ∷ t .exponent) (c + 1) (c + 1 + d) (t .is ∙ simp append-assoc) behind-point
+            (omega (arith, t .lengths .1)),
+        byte-behind s (t .front ++ (t .last ∷ t .point ∷ (t .digits ++ (t .letter ∷ [])))) (t .exponent) (t .sign) (c + 2 + d) (t .is ∙ simp append-assoc) to-sign,
+        part-behind s (t .front ++ (t .last ∷ t .point ∷ (t .digits ++ (t .letter ∷ t .sign ∷ [])))) (t .exponent) [] (c + 3 + d) (length s)
+            (t .is ∙ simp (append-assoc, append-nil)) behind-sign (omega (arith, all, t .lengths .2)),
+      )
 
 record Two-more (l : List ℕ) (n : ℕ) : Type 0 where
   one : ℕ
@@ -87,24 +108,13 @@ two-more [] n e = absurd (omega arith)
 two-more (a ∷ []) n e = absurd (omega arith)
 two-more (a ∷ b ∷ r) n e = record { one = a; other = b; rest = r; left = omega arith; is = refl }
 
--- any text of the width has these parts
-record Parts (c d x : ℕ) (s : List ℕ) : Type 0 where
-  front : List ℕ
-  last : ℕ
-  point : ℕ
-  digits : List ℕ
-  letter : ℕ
-  sign : ℕ
-  exponent : List ℕ
-  lengths : (length front ≡ c - 1) × (length digits ≡ d) × (length exponent ≡ x)
-  is : s ≡ front ++ (last ∷ point ∷ (digits ++ (letter ∷ sign ∷ exponent)))
-
 rejoined : (k d : ℕ) (s r es : List ℕ) (u p q v : ℕ) → drop k s ≡ u ∷ p ∷ r → drop d r ≡ q ∷ v ∷ es → s ≡ take k s ++ (u ∷ p ∷ (take d r ++ (q ∷ v ∷ es)))
 rejoined k d s r es u p q v e f =
     let g : s ≡ take k s ++ drop k s = sym (take-append-drop k s) in
     let h : r ≡ take d r ++ drop d r = sym (take-append-drop d r) in
     g ∙ ap (λ l. take k s ++ l) (e ∙ ap (λ l. u ∷ p ∷ l) (h ∙ ap (λ l. take d r ++ l) f))
 
+-- any text of the width has them
 parts : (c d x : ℕ) (s : List ℕ) → 1 ≤ c → length s ≡ c + d + x + 3 → Parts c d x s
 parts c d x s h l =
     let t₁ = two-more (drop (c - 1) s) (d + (x + 2)) (simp length-drop (omega arith)) in
@@ -159,10 +169,20 @@ e-read c d x s m e i =
     let ds = digitText (i .rest .digits) in
     let es = digitText (i .rest .exponent) in
     let v = signByte (i .rest .down) in
-    let f : s ≡ a ++ (u ∷ 46 ∷ (ds ++ (69 ∷ v ∷ es))) = i .rest .text ∙ ap (λ l. l ++ (46 ∷ (ds ++ (69 ∷ v ∷ es)))) (lead-cut (i .blanks) (i .lead)) ∙ append-assoc a (u ∷ []) (46 ∷ (ds ++ (69 ∷ v ∷ es))) in
+    let f : s ≡ a ++ (u ∷ 46 ∷ (ds ++ (69 ∷ v ∷ es))) =
+    i .rest .text ∙ ap (λ l. l ++ (46 ∷ (ds ++ (69 ∷ v ∷ es)))) (lead-cut (i .blanks) (i .lead)) ∙ append-assoc a (u ∷ []) (46 ∷ (ds ++ (69 ∷ v ∷ es))) in
     let la : length a + 1 ≡ c = sym (length-append a (u ∷ [])) ∙ sym (ap length (lead-cut (i .blanks) (i .lead))) ∙ i .columns in
-    ap (readE c d x) f
-    ∙ e-at a ds es u 46 69 v c d x (omega arith) (omega arith) (simp length-map (i .rest .many)) (simp length-map (i .rest .places))
+    e-at c d x s (omega arith) record {
+      front = a;
+      last = u;
+      point = 46;
+      digits = ds;
+      letter = 69;
+      sign = v;
+      exponent = es;
+      lengths = (omega arith, simp length-map (i .rest .many), simp length-map (i .rest .places));
+      is = f;
+    }
     ∙ ap₂ (λ p q. pairOf (oneOf p) (oneOf q))
     (ap (λ st. scanOf st ds) (lead-read (i .blanks) (i .lead)) ∙ digits-read (leadMinus (i .lead)) 0 (i .rest .digits) (i .rest .each))
     (ap (λ st. scanOf st es) (sign-read (i .rest .down)) ∙ digits-read (i .rest .down) 0 (i .rest .exponent) (i .rest .every))
@@ -192,7 +212,15 @@ led-blank a u h =
 
 led-signed : (a : List ℕ) (u : ℕ) → Held a Signed → Before a u (leadOf Signed u)
 led-signed a u h =
-    cond-elim (Before a u) (eqb u 48) (λ e. led (record { blanks = h .blanks; lead = minusNought; text = ap₂ (λ l y. l ++ (y ∷ [])) (h .text) (eqb-true u 48 e) ∙ append-assoc (replicate (h .blanks) 32) (45 ∷ []) (48 ∷ []); is = refl })) λ _.
+    cond-elim (Before a u) (eqb u 48)
+    (λ e. led
+    (record {
+      blanks = h .blanks;
+      lead = minusNought;
+      text = ap₂ (λ l y. l ++ (y ∷ [])) (h .text) (eqb-true u 48 e)
+          ∙ append-assoc (replicate (h .blanks) 32) (45 ∷ []) (48 ∷ []);
+      is = refl;
+    })) λ _.
     broke (record { is = refl })
 
 lead-is : (a : List ℕ) (u : ℕ) (st : Scan) → Held a st → Before a u (leadOf st u)
@@ -239,7 +267,8 @@ misformed-two : (m e : ℤ) → Misformed ≡ Two m e → ⊥
 misformed-two m e p = let y : _≡_ {A = ℕ} 0 1 = cc in omega arith
 
 module _ {c d x : ℕ} {s : List ℕ} (p : Parts c d x s) (m e : ℤ) (h : 1 ≤ c) where
-  joined : p .point ≡ 46 → p .letter ≡ 69 → Led (p .front) (p .last) (leadOf (scanOf Blanks (p .front)) (p .last)) → Sign (p .sign) (signOf (p .sign)) → oneOf (scanOf (leadOf (scanOf Blanks (p .front)) (p .last)) (p .digits)) ≡ One m → oneOf (scanOf (signOf (p .sign)) (p .exponent)) ≡ One e → IsE c d x s m e
+  joined : p .point ≡ 46 → p .letter ≡ 69 → Led (p .front) (p .last) (leadOf (scanOf Blanks (p .front)) (p .last)) → Sign (p .sign) (signOf (p .sign))
+      → oneOf (scanOf (leadOf (scanOf Blanks (p .front)) (p .last)) (p .digits)) ≡ One m → oneOf (scanOf (signOf (p .sign)) (p .exponent)) ≡ One e → IsE c d x s m e
   joined f g l k q r =
       let a = ends (leadMinus (l .lead)) 0 (p .digits) m (sym (ap (λ st. oneOf (scanOf st (p .digits))) (l .is)) ∙ q) in
       let b = ends (k .down) 0 (p .exponent) e (sym (ap (λ st. oneOf (scanOf st (p .exponent))) (k .is)) ∙ r) in
@@ -266,7 +295,8 @@ module _ {c d x : ℕ} {s : List ℕ} (p : Parts c d x s) (m e : ℤ) (h : 1 ≤
         };
       }
 
-  chosen : p .point ≡ 46 → p .letter ≡ 69 → Before (p .front) (p .last) (leadOf (scanOf Blanks (p .front)) (p .last)) → Signs (p .sign) (signOf (p .sign)) → oneOf (scanOf (leadOf (scanOf Blanks (p .front)) (p .last)) (p .digits)) ≡ One m → oneOf (scanOf (signOf (p .sign)) (p .exponent)) ≡ One e → IsE c d x s m e
+  chosen : p .point ≡ 46 → p .letter ≡ 69 → Before (p .front) (p .last) (leadOf (scanOf Blanks (p .front)) (p .last)) → Signs (p .sign) (signOf (p .sign))
+      → oneOf (scanOf (leadOf (scanOf Blanks (p .front)) (p .last)) (p .digits)) ≡ One m → oneOf (scanOf (signOf (p .sign)) (p .exponent)) ≡ One e → IsE c d x s m e
   chosen f g (led l) (given k) q r = joined f g l k q r
   chosen f g (led l) (none b) q r = no-number (p .exponent) (signOf (p .sign)) e b r
   chosen f g (broke b) k q r = no-number (p .digits) (leadOf (scanOf Blanks (p .front)) (p .last)) m b q
@@ -274,11 +304,12 @@ module _ {c d x : ℕ} {s : List ℕ} (p : Parts c d x s) (m e : ℤ) (h : 1 ≤
   parts-is : readE c d x s ≡ Two m e → IsE c d x s m e
   parts-is r =
       let w = worth (p .front) (p .last) (p .digits) (p .sign) (p .exponent) in
-      let r₁ : cond (eqb (p .point) 46) (cond (eqb (p .letter) 69) w Misformed) Misformed ≡ Two m e = sym (ap (readE c d x) (p .is) ∙ e-at (p .front) (p .digits) (p .exponent) (p .last) (p .point) (p .letter) (p .sign) c d x h (p .lengths .0) (p .lengths .1) (p .lengths .2)) ∙ r in
+      let r₁ : cond (eqb (p .point) 46) (cond (eqb (p .letter) 69) w Misformed) Misformed ≡ Two m e = sym (e-at c d x s h p) ∙ r in
       let f : p .point ≡ 46 = eqb-true (p .point) 46 (cond-taken (eqb (p .point) 46) _ Misformed (Two m e) (misformed-two m e) r₁) in
       let r₂ : cond (eqb (p .letter) 69) w Misformed ≡ Two m e = cond-kept (eqb (p .point) 46) _ Misformed (Two m e) (misformed-two m e) r₁ in
       let g : p .letter ≡ 69 = eqb-true (p .letter) 69 (cond-taken (eqb (p .letter) 69) _ Misformed (Two m e) (misformed-two m e) r₂) in
-      let q = pair-is (oneOf (scanOf (leadOf (scanOf Blanks (p .front)) (p .last)) (p .digits))) (oneOf (scanOf (signOf (p .sign)) (p .exponent))) m e (cond-kept (eqb (p .letter) 69) w Misformed (Two m e) (misformed-two m e) r₂) in
+      let q = pair-is (oneOf (scanOf (leadOf (scanOf Blanks (p .front)) (p .last)) (p .digits))) (oneOf (scanOf (signOf (p .sign)) (p .exponent))) m e
+      (cond-kept (eqb (p .letter) 69) w Misformed (Two m e) (misformed-two m e) r₂) in
       chosen f g (lead-is (p .front) (p .last) (scanOf Blanks (p .front)) (held (p .front))) (sign-is (p .sign)) (q .first) (q .second)
 
 pub read-e : (c d x : ℕ) (s : List ℕ) (m e : ℤ) → 1 ≤ c → readE c d x s ≡ Two m e → IsE c d x s m e

@@ -18,7 +18,7 @@ use Rattle.number.specs.declared.Byte.the-variants.{Blank, Minus, Digit,
 use Rattle.number.specs.declared.Scan.{Scan}
 use Rattle.number.specs.declared.Scan.the-variants.{Blanks, Signed, Digits, Broken}
 use Rattle.number.specs.Read.{pointOf, leadOf, signOf}
-use Rattle.number.specs.Scan.{classOf, stepOf, scanOf, Below, Small}
+use Rattle.number.specs.Scan.{classOf, stepOf, scanOf, Below, SmallDigit}
 
 -- ---- a byte and its class
 
@@ -37,13 +37,13 @@ class-says b =
     cond-elim (Says b) (ltb 57 b) (λ _. tt) λ f.
     (omega (arith, ltb-false b 48 e), omega (arith, ltb-false b 48 e, ltb-false 57 b f))
 
-small : (b : ℕ) (c : Byte) → Says b c → Small c
+small : (b : ℕ) (c : Byte) → Says b c → SmallDigit c
 small b Blank s = tt
 small b Minus s = tt
 small b (Digit d) s = s .1
 small b Other s = tt
 
-pub class-small : (b : ℕ) → Small (classOf b)
+pub class-small : (b : ℕ) → SmallDigit (classOf b)
 class-small b = small b (classOf b) (class-says b)
 
 pub digit-class : (d : ℕ) → d < 10 → classOf (48 + d) ≡ Digit d
@@ -85,7 +85,7 @@ scan-broken (b ∷ s) = ap (λ t. scanOf t s) (broken-step (classOf b)) ∙ scan
 
 -- ---- bounds
 
-step-below : (m : ℕ) (b : Byte) (st : Scan) → 0 < m → Small b → Below m st → Below (m * 10) (stepOf b st)
+step-below : (m : ℕ) (b : Byte) (st : Scan) → 0 < m → SmallDigit b → Below m st → Below (m * 10) (stepOf b st)
 step-below m Blank Blanks p h k = tt
 step-below m Blank Signed p h k = tt
 step-below m Blank (Digits g n) p h k = tt

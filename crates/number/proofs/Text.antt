@@ -79,7 +79,8 @@ e-printable c d x m e =
     let u = signByte (negative e) in
     every-append printable (textOf false c (leadState c (negative m))) (46 ∷ (textOf true d (stateOf m) ++ (69 ∷ u ∷ f)))
     (text-printable false c (leadState c (negative m)))
-    (every-append printable (textOf true d (stateOf m)) (69 ∷ u ∷ f) (text-printable true d (stateOf m)) (and-both (printable u) (every printable f) (sign-printable (negative e)) (text-printable true x (stateOf e))))
+    (every-append printable (textOf true d (stateOf m)) (69 ∷ u ∷ f) (text-printable true d (stateOf m))
+    (and-both (printable u) (every printable f) (sign-printable (negative e)) (text-printable true x (stateOf e))))
 
 -- ---- a canonical text is a field of its value
 
@@ -148,7 +149,8 @@ digits-print (d ∷ ds) h = and-both (printable (48 + d)) (every printable (digi
 pub i-prints : (s : List ℕ) (z : ℤ) → IsI s z → T (every printable s)
 i-prints s z i =
     let rest = minusOf (i .minus) ++ digitText (i .digits) in
-    subst Prints (sym (i .text)) (behind (replicate (i .blanks) 32) rest (blanks-print (i .blanks)) (behind (minusOf (i .minus)) (digitText (i .digits)) (minus-prints (i .minus)) (digits-print (i .digits) (i .each))))
+    subst Prints (sym (i .text))
+    (behind (replicate (i .blanks) 32) rest (blanks-print (i .blanks)) (behind (minusOf (i .minus)) (digitText (i .digits)) (minus-prints (i .minus)) (digits-print (i .digits) (i .each))))
 
 pub f-prints : (s : List ℕ) (z : ℤ) → IsF s z → T (every printable s)
 f-prints s z i =
@@ -160,7 +162,8 @@ pub e-prints : (c d x : ℕ) (s : List ℕ) (m e : ℤ) → IsE c d x s m e → 
 e-prints c d x s m e i =
     let exponent = signByte (i .rest .down) ∷ digitText (i .rest .exponent) in
     let tail = digitText (i .rest .digits) ++ (69 ∷ exponent) in
-    let u : Prints exponent = and-both (printable (signByte (i .rest .down))) (every printable (digitText (i .rest .exponent))) (sign-printable (i .rest .down)) (digits-print (i .rest .exponent) (i .rest .every)) in
+    let u : Prints exponent =
+    and-both (printable (signByte (i .rest .down))) (every printable (digitText (i .rest .exponent))) (sign-printable (i .rest .down)) (digits-print (i .rest .exponent) (i .rest .every)) in
     let t : Prints tail = behind (digitText (i .rest .digits)) (69 ∷ exponent) (digits-print (i .rest .digits) (i .rest .each)) u in
     let h : Prints (replicate (i .blanks) 32 ++ leadText (i .lead)) = behind (replicate (i .blanks) 32) (leadText (i .lead)) (blanks-print (i .blanks)) (lead-prints (i .lead)) in
     subst Prints (sym (i .rest .text)) (behind (replicate (i .blanks) 32 ++ leadText (i .lead)) (46 ∷ tail) h t)

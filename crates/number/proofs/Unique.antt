@@ -97,7 +97,8 @@ clean-lean true (d ∷ ds) a l = rw (digit-class d (a .0)) ((one-digit d (a .0),
 clean-lean false (d ∷ ds) a l = rw (digit-class d (a .0)) ((one-digit d (a .0), rw (lt-leb 10 d (a .0))), lean-rest false d ds (a .1) l)
 
 -- right-justified without needless zeros: the text of what it reads as
-pub lean-text : (k : ℕ) (g : Bool) (ds : List ℕ) (w : ℕ) → AllDigits ds → Lean ds → length (replicate k 32 ++ (minusOf g ++ digitText ds)) ≡ w → replicate k 32 ++ (minusOf g ++ digitText ds) ≡ textOf false w (Digits g (numberOf ds))
+pub lean-text : (k : ℕ) (g : Bool) (ds : List ℕ) (w : ℕ) → AllDigits ds → Lean ds → length (replicate k 32 ++ (minusOf g ++ digitText ds)) ≡ w
+    → replicate k 32 ++ (minusOf g ++ digitText ds) ≡ textOf false w (Digits g (numberOf ds))
 lean-text k g ds w a l e =
     let s = replicate k 32 ++ (minusOf g ++ digitText ds) in
     let m : AllClean false Blanks (minusOf g ++ digitText ds) = clean-append false (minusOf g) (digitText ds) Blanks (clean-minus g) (rw (minus-read g) (clean-lean g ds a l)) in
@@ -134,10 +135,13 @@ f-unique w s z c =
     let l : length tail ≡ 3 = simp length-map (c .three) in
     let h : length head ≡ w - 4 = omega (arith, sym (length-append head (46 ∷ tail)) ∙ sym (ap length e) ∙ c .width) in
     let p : n ≡ numberFrom (numberOf (c .units)) (c .thousandths) = number-append 0 (c .units) (c .thousandths) in
-    let q : n / 1000 ≡ numberOf (c .units) = ap (λ y. y / 1000) p ∙ subst (λ (j : ℕ). numberFrom (numberOf (c .units)) (c .thousandths) / 10 ^ j ≡ numberOf (c .units)) (c .three) (number-div (numberOf (c .units)) (c .thousandths) (c .every)) in
+    let q : n / 1000 ≡ numberOf (c .units) =
+    ap (λ y. y / 1000) p
+    ∙ subst (λ (j : ℕ). numberFrom (numberOf (c .units)) (c .thousandths) / 10 ^ j ≡ numberOf (c .units)) (c .three) (number-div (numberOf (c .units)) (c .thousandths) (c .every)) in
     let g : c .sign ≡ negative z = sym (ap negative (c .value) ∙ negative-of (c .sign) n (c .zero)) in
     let k : n ≡ sizeOf z = sym (ap sizeOf (c .value) ∙ size-of (c .sign) n) in
-    let u : head ≡ textOf false (w - 4) (Digits (negative z) (sizeOf z / 1000)) = lean-text (c .blanks) (c .sign) (c .units) (w - 4) (c .each) (c .lean) h ∙ ap₂ (λ f m. textOf false (w - 4) (Digits f m)) g (sym q ∙ ap (λ y. y / 1000) k) in
+    let u : head ≡ textOf false (w - 4) (Digits (negative z) (sizeOf z / 1000)) =
+    lean-text (c .blanks) (c .sign) (c .units) (w - 4) (c .each) (c .lean) h ∙ ap₂ (λ f m. textOf false (w - 4) (Digits f m)) g (sym q ∙ ap (λ y. y / 1000) k) in
     let v : tail ≡ textOf true 3 (stateOf z) = filled-text (c .sign) (numberOf (c .units)) (c .thousandths) 3 (c .every) (c .three) ∙ ap₂ (λ f m. textOf true 3 (Digits f m)) g (sym p ∙ k) in
     with-point s head (textOf false (w - 4) (Digits (negative z) (sizeOf z / 1000))) tail (textOf true 3 (stateOf z)) e u v
 
@@ -154,7 +158,8 @@ blanks-text (suc k) = ap (λ (l : List ℕ). l ++ (32 ∷ [])) (blanks-text k) �
 length-blanks : (k : ℕ) (t : List ℕ) → length (replicate k 32 ++ t) ≡ k + length t
 length-blanks k t = length-append (replicate k 32) t ∙ ap (λ n. n + length t) (length-replicate k 32)
 
-lead-minus : (c k : ℕ) (t : Bool) → length (replicate k 32 ++ leadText (cond t minus minusNought)) ≡ c → replicate k 32 ++ leadText (cond t minus minusNought) ≡ textOf false c (cond t Signed (Digits true 0))
+lead-minus : (c k : ℕ) (t : Bool) → length (replicate k 32 ++ leadText (cond t minus minusNought)) ≡ c
+    → replicate k 32 ++ leadText (cond t minus minusNought) ≡ textOf false c (cond t Signed (Digits true 0))
 lead-minus c k true e =
     let f : suc k ≡ c = omega (arith, sym (length-blanks k (45 ∷ [])) ∙ e) in
     ap (λ (l : List ℕ). l ++ (45 ∷ [])) (sym (blanks-text k)) ∙ ap (λ n. textOf false n Signed) f

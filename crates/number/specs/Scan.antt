@@ -41,11 +41,11 @@ scanOf st [] = st
 scanOf st (b ∷ bs) = scanOf (stepOf (classOf b) st) bs
 
 -- a digit is below 10
-abbrev pub Small : Byte → Type 0
-Small Blank = Unit {0}
-Small Minus = Unit {0}
-Small (Digit d) = d < 10
-Small Other = Unit {0}
+abbrev pub SmallDigit : Byte → Type 0
+SmallDigit Blank = Unit {0}
+SmallDigit Minus = Unit {0}
+SmallDigit (Digit d) = d < 10
+SmallDigit Other = Unit {0}
 
 -- the number that has been read is below m
 abbrev pub Below : ℕ → Scan → Type 0

@@ -6,7 +6,7 @@ ghost use lib.ListN.{length};
 ghost use Rattle.base.specs.Part.{over};
 ghost use Rattle.base.specs.Sign.{ofSign, negative, sizeOf, holds};
 ghost use Rattle.number.specs.Grammar.{signByte};
-ghost use Rattle.number.specs.Scan.{classOf, stepOf, scanOf, Small, Below};
+ghost use Rattle.number.specs.Scan.{classOf, stepOf, scanOf, SmallDigit, Below};
 ghost use Rattle.number.specs.Read.{oneOf, pointOf, leadOf, signOf, pairOf, readI, readF, readE};
 ghost use Rattle.number.specs.Write.{lastOf, backOf, textOf, restOf, leadState, exponentText, textI, textF};
 ghost use Rattle.number.specs.Write.{textE};
@@ -56,7 +56,7 @@ fn class(b: u8) -> Byte
 
 // One byte more.
 fn step(c: Byte, st: Scan) -> Scan
-    requires small { ⌜ Small c ⌝ }
+    requires small { ⌜ SmallDigit c ⌝ }
     requires below { ⌜ Below 100000000000000000 st ⌝ }
     ensures { λ r. ⌜ r ≡ stepOf c st ⌝ }
 {

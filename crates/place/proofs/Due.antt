@@ -22,11 +22,12 @@ use Rattle.count.proofs.Rulings.{kept-ruling, ruling-kept, broken-ruling, rulin
 use Rattle.count.proofs.Releases.{release-given, release-due}
 use Rattle.place.specs.declared.Placing.{Placing}
 use Rattle.reply.specs.declared.Refusal.{Refusal}
-use Rattle.reply.specs.declared.Refusal.the-variants.{End, Beyond, TooFewLines, Misformed, OtherRelease, FilledVacant}
+use Rattle.reply.specs.declared.Refusal.the-variants.{End, Beyond, TooFewLines}
 use Rattle.place.specs.declared.Placing.the-variants.{Placed, BrokenRule, Refused}
 use Rattle.place.specs.Index.{Indexed, counts, misformed, readIndex}
 use Rattle.place.specs.Placing.{Located, located, refused, locate, locateIndex, locateRelease, locateLines, placingBy, countsBy, ruledAt, placingOf, countsAt}
-use Rattle.place.specs.Due.{HasIndex, HasCounts, HasRelease, HasLines, FewForIndex, FewForData, CountsDue, RefusedFor, beyond, text-end, few-for-index, few-for-data, bad-index, bad-release, fills-vacant, Due}
+use Rattle.place.specs.Due.{HasIndex, HasEntries, HasRelease, HasLines, CountsDue, RefusedFor, beyond, text-end, few-for-index}
+use Rattle.place.specs.Due.{few-for-data, bad-index, bad-release, fills-vacant, Due}
 use Rattle.place.proofs.Indexed.{index-is, no-index}
 use Rattle.place.proofs.Placed.{located-is}
 use Rattle.place.proofs.Steps.{locate-beyond, locate-end, locate-few, locate-index}
@@ -34,7 +35,7 @@ use Rattle.place.proofs.Steps.{locate-beyond, locate-end, locate-few, l
 module _ (s : List ℕ) (at : ℕ) where
   -- ---- what is due is given
 
-  to-counts : (ns : List ℕ) → HasCounts s at ns → locate s at ≡ locateRelease (drop at s) at ns (releaseOf ns)
+  to-counts : (ns : List ℕ) → HasEntries s at ns → locate s at ≡ locateRelease (drop at s) at ns (releaseOf ns)
   to-counts ns h = locate-index s at (h .place .inside) (h .place .lines) ∙ rw (index-is (drop at s) ns .1 (h .index))
 
   to-lines : (ns : List ℕ) → HasRelease s at ns → locate s at ≡ locateLines (drop at s) at ns
@@ -65,12 +66,13 @@ module _ (s : List ℕ) (at : ℕ) where
   from-ruling ns n Kept h e = record { ns = ns; lines = h; kept = ruling-kept ns e }
   from-ruling ns n (Broken g) h e = record { ns = ns; lines = h; broken = ruling-broken ns e }
 
-  from-lines : (ns : List ℕ) (t : Bool) → HasRelease s at ns → leb (recordLines ns) (feeds (drop at s)) ≡ t → Due s at (placingBy (cond t (located (at + reach (drop at s) (recordLines ns)) ns) (refused TooFewLines)))
+  from-lines : (ns : List ℕ) (t : Bool) → HasRelease s at ns → leb (recordLines ns) (feeds (drop at s)) ≡ t
+      → Due s at (placingBy (cond t (located (at + reach (drop at s) (recordLines ns)) ns) (refused TooFewLines)))
   from-lines ns true h e =
       from-ruling ns (at + reach (drop at s) (recordLines ns)) (rulingOf ns) record { head = h; enough = leb-true (recordLines ns) (feeds (drop at s)) e; next = refl } refl
   from-lines ns false h e = few-for-data record { ns = ns; head = h; few = leb-false (recordLines ns) (feeds (drop at s)) e }
 
-  from-release : (ns : List ℕ) (r : Release) → HasCounts s at ns → ReleaseDue ns r → Due s at (placingBy (locateRelease (drop at s) at ns r))
+  from-release : (ns : List ℕ) (r : Release) → HasEntries s at ns → ReleaseDue ns r → Due s at (placingBy (locateRelease (drop at s) at ns r))
   from-release ns Five h f =
       from-lines ns (leb (recordLines ns) (feeds (drop at s))) record { index = h; release = f } refl
   from-release ns Other h f = bad-release record { ns = ns; index = h; other = f }
@@ -87,7 +89,8 @@ module _ (s : List ℕ) (at : ℕ) where
       inner : ltb (length s) at ≡ false → eqb (length s) at ≡ false → at < length s
       inner u v = ⊎-elim (λ (e : at ≡ length s). absurd (eqb-false (length s) at v (sym e))) (λ l. l) (eq-or-lt-of-le (ltb-false (length s) at u))
 
-      by : (a b c : Bool) → ltb (length s) at ≡ a → eqb (length s) at ≡ b → leb 2 (feeds (drop at s)) ≡ c → Due s at (placingBy (cond a (refused Beyond) (cond b (refused End) (cond c (locateIndex (drop at s) at (readIndex (drop at s))) (refused TooFewLines)))))
+      by : (a b c : Bool) → ltb (length s) at ≡ a → eqb (length s) at ≡ b → leb 2 (feeds (drop at s)) ≡ c
+          → Due s at (placingBy (cond a (refused Beyond) (cond b (refused End) (cond c (locateIndex (drop at s) at (readIndex (drop at s))) (refused TooFewLines)))))
       by true b c u v w = beyond (ltb-true (length s) at u)
       by false true c u v w = text-end (eqb-true (length s) at v)
       by false false false u v w = few-for-index record { inside = inner u v; few = leb-false 2 (feeds (drop at s)) w }

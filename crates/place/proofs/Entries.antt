@@ -16,7 +16,7 @@ use Rattle.line.specs.declared.Content.the-variants.{Length, NoReturn}
 use Rattle.field.specs.Entry.{entryOf}
 use Rattle.field.specs.declared.Entry.{Entry}
 use Rattle.field.specs.declared.Entry.the-variants.{Count, Misformed}
-use Rattle.place.specs.Index.{Indexed, counts, misformed, entryThen, readEntries, readContent, readIndexLine, Stored}
+use Rattle.place.specs.Index.{Indexed, counts, misformed, entryThen, readEntries, readIndexContent, readIndexLine, Stored}
 
 -- counts that stand before others
 abbrev pub behindThese : List ℕ → Indexed → Indexed
@@ -69,8 +69,10 @@ module _ (s : List ℕ) (from : ℕ) (old : List ℕ) where
         record {
           stored = b .stored ++ (n ∷ []);
           many = length-append (b .stored) (n ∷ []) ∙ omega (arith, b .many);
-          place = over-then old new (set new (from + k) n) (b .stored) (n ∷ []) from (from + k) (omega (arith, b .many)) (omega arith) (b .place) (over-one new (from + k) n (omega (arith, ap length (b .place))));
-          rest = b .rest ∙ ap (behindThese (b .stored)) (next ∙ ap (λ x. entryThen x (readEntries (40 - (k + 1)) (drop ((k + 1) * 3) s))) e) ∙ one-before (b .stored) n (readEntries (40 - (k + 1)) (drop ((k + 1) * 3) s));
+          place = over-then old new (set new (from + k) n) (b .stored) (n ∷ []) from (from + k) (omega (arith, b .many)) (omega arith) (b .place)
+              (over-one new (from + k) n (omega (arith, ap length (b .place))));
+          rest = b .rest ∙ ap (behindThese (b .stored)) (next ∙ ap (λ x. entryThen x (readEntries (40 - (k + 1)) (drop ((k + 1) * 3) s))) e)
+              ∙ one-before (b .stored) n (readEntries (40 - (k + 1)) (drop ((k + 1) * 3) s));
         }
 
 -- all are stored
@@ -120,7 +122,7 @@ line-length x ns e = by (contentOf x) e
     forty n true f = entries-length 40 (part 0 n x) ns f
     forty n false f = let z : _≡_ {A = ℕ} 0 1 = cc in absurd (omega arith)
 
-    by : (c : Content) → readContent x c ≡ counts ns → length ns ≡ 40
+    by : (c : Content) → readIndexContent x c ≡ counts ns → length ns ≡ 40
     by (Length n) f = forty n (eqb n 120) f
     by NoReturn f = let z : _≡_ {A = ℕ} 0 1 = cc in absurd (omega arith)
 

@@ -25,7 +25,7 @@ use Rattle.line.specs.Contents.{contentOf, HasContent}
 use Rattle.line.specs.declared.Content.{Content}
 use Rattle.line.specs.declared.Content.the-variants.{Length, NoReturn}
 use Rattle.line.proofs.Contents.{content-is, is-content, content-taken}
-use Rattle.place.specs.Index.{Indexed, counts, misformed, entryThen, readEntries, readContent, readIndexLine, readIndex, IsIndex}
+use Rattle.place.specs.Index.{Indexed, counts, misformed, entryThen, readEntries, readIndexContent, readIndexLine, readIndex, IsIndex}
 use Rattle.place.proofs.Placed.{two-lines}
 
 -- ---- entries one behind the other
@@ -101,7 +101,7 @@ read-line x ns e = by (contentOf x) refl e
         record { content = take n x; is = c .0; wide = c .1 ∙ eqb-true n 120 u; entries = read-entries 40 (take n x) ns (rw p at g) }
     whole n false f u g = let z : _≡_ {A = ℕ} 0 1 = cc in absurd (omega arith)
 
-    by : (c : Content) → contentOf x ≡ c → readContent x c ≡ counts ns → Line x ns
+    by : (c : Content) → contentOf x ≡ c → readIndexContent x c ≡ counts ns → Line x ns
     by (Length n) f g = whole n (eqb n 120) f refl g
     by NoReturn f g = let z : _≡_ {A = ℕ} 0 1 = cc in absurd (omega arith)
 

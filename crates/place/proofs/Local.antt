@@ -92,7 +92,8 @@ module _ (at : ℕ) (p : Refusal) (b : ByIndex p) where
   unfolding locate
   from-index s e = by (ltb (length s) at) (eqb (length s) at) (leb 2 (feeds (drop at s))) refl e
     where
-      by : (x y z : Bool) → leb 2 (feeds (drop at s)) ≡ z → cond x (refused Beyond) (cond y (refused End) (cond z (locateIndex (drop at s) at (readIndex (drop at s))) (refused TooFewLines))) ≡ refused p → FromIndex s
+      by : (x y z : Bool) → leb 2 (feeds (drop at s)) ≡ z
+          → cond x (refused Beyond) (cond y (refused End) (cond z (locateIndex (drop at s) at (readIndex (drop at s))) (refused TooFewLines))) ≡ refused p → FromIndex s
       by true y z u f = not-by f not-beyond b
       by false true z u f = not-by f not-end b
       by false false false u f = not-by f not-few b
@@ -122,7 +123,8 @@ module _ (at : ℕ) (p : Refusal) (b : ByIndex p) where
 
 -- ---- replies 0 and 7: these bytes, and where the line feeds are up to the next place
 
-pub located-local : (s t : List ℕ) (at n : ℕ) (ns : List ℕ) → lines 2 (drop at s) ≡ lines 2 (drop at t) → map isFeed (part at n s) ≡ map isFeed (part at n t) → locate s at ≡ located n ns → locate t at ≡ located n ns
+pub located-local : (s t : List ℕ) (at n : ℕ) (ns : List ℕ) → lines 2 (drop at s) ≡ lines 2 (drop at t) → map isFeed (part at n s) ≡ map isFeed (part at n t)
+    → locate s at ≡ located n ns → locate t at ≡ located n ns
 located-local s t at n ns e m f =
     let p = located-is s at n ns f in
     let two = has-two (drop at s) (drop at t) (p .head) e in

@@ -8,7 +8,7 @@ use native.Mathlib.Omega.{arith}
 use lib.Dec.{lit<}
 use lib.ListN.{drop}
 use Rattle.reply.specs.Table.{Numbered, next, group}
-use Rattle.reply.specs.Refusals.{refusalReply, rows, unplaced}
+use Rattle.reply.specs.Refusals.{refusalReply, rows, unplacedRefusals}
 use Rattle.reply.proofs.Replies.{fills, refusal-fills, at-row}
 use Rattle.count.specs.Tally.{recordLines}
 use Rattle.count.proofs.Rulings.{broken-group}
@@ -28,15 +28,15 @@ module _ (s : List ℕ) (at : ℕ) where
   next-behind : (ns : List ℕ) (n : ℕ) → HasLines s at ns n → 1 ≤ n
   next-behind ns n h = omega (arith, h .next, h .enough, record-two ns, reach-least (drop at s) (recordLines ns) (h .enough))
 
-  pub refused-numbered : (r : Refusal) → RefusedFor s at r → Numbered (rows unplaced) (refusalReply r)
-  refused-numbered r (text-end d) = at-row 0 (rows unplaced) (refusalReply End) (lit< tt) (refusal-fills End tt)
-  refused-numbered r (beyond d) = at-row 1 (rows unplaced) (refusalReply Beyond) (lit< tt) (refusal-fills Beyond tt)
-  refused-numbered r (few-for-index d) = at-row 2 (rows unplaced) (refusalReply TooFewLines) (lit< tt) (refusal-fills TooFewLines tt)
-  refused-numbered r (few-for-data d) = at-row 2 (rows unplaced) (refusalReply TooFewLines) (lit< tt) (refusal-fills TooFewLines tt)
-  refused-numbered r (bad-index d) = at-row 3 (rows unplaced) (refusalReply Misformed) (lit< tt) (refusal-fills Misformed tt)
-  refused-numbered r (bad-release d) = at-row 4 (rows unplaced) (refusalReply OtherRelease) (lit< tt) (refusal-fills OtherRelease tt)
+  pub refused-numbered : (r : Refusal) → RefusedFor s at r → Numbered (rows unplacedRefusals) (refusalReply r)
+  refused-numbered r (text-end d) = at-row 0 (rows unplacedRefusals) (refusalReply End) (lit< tt) (refusal-fills End tt)
+  refused-numbered r (beyond d) = at-row 1 (rows unplacedRefusals) (refusalReply Beyond) (lit< tt) (refusal-fills Beyond tt)
+  refused-numbered r (few-for-index d) = at-row 2 (rows unplacedRefusals) (refusalReply TooFewLines) (lit< tt) (refusal-fills TooFewLines tt)
+  refused-numbered r (few-for-data d) = at-row 2 (rows unplacedRefusals) (refusalReply TooFewLines) (lit< tt) (refusal-fills TooFewLines tt)
+  refused-numbered r (bad-index d) = at-row 3 (rows unplacedRefusals) (refusalReply Misformed) (lit< tt) (refusal-fills Misformed tt)
+  refused-numbered r (bad-release d) = at-row 4 (rows unplacedRefusals) (refusalReply OtherRelease) (lit< tt) (refusal-fills OtherRelease tt)
   refused-numbered r (fills-vacant g d) =
-      at-row 5 (rows unplaced) (refusalReply (FilledVacant g)) (lit< tt) (refusal-fills (FilledVacant g) (omega (arith, d .filled .low), tt))
+      at-row 5 (rows unplacedRefusals) (refusalReply (FilledVacant g)) (lit< tt) (refusal-fills (FilledVacant g) (omega (arith, d .filled .low), tt))
 
   pub due-numbered : (p : Placing) → Due s at p → Numbered placingRows (placingReply p)
   due-numbered (Placed n) d = inl (fills 0 ((next, n) ∷ []) (next-behind (d .ns) n (d .lines), tt))

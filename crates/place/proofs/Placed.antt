@@ -22,7 +22,7 @@ use Rattle.count.specs.declared.Release.the-variants.{Five, Other, Filled}
 use Rattle.count.proofs.Tallied.{record-two}
 use Rattle.reply.specs.declared.Refusal.{Refusal}
 use Rattle.reply.specs.declared.Refusal.the-variants.{End, Beyond, TooFewLines}
-use Rattle.place.specs.Index.{Indexed, counts, misformed, readContent, readEntries, readIndexLine, joined, readIndex}
+use Rattle.place.specs.Index.{Indexed, counts, misformed, readIndexContent, readEntries, readIndexLine, bothLines, readIndex}
 use Rattle.place.specs.Placing.{located, refused, locate, locateIndex, locateRelease, countsBy, countsAt}
 use Rattle.place.proofs.Steps.{locate-index}
 
@@ -50,7 +50,8 @@ module _ (s : List ℕ) (at n : ℕ) (ns : List ℕ) where
   xs : List ℕ
   xs = drop at s
 
-  by-lines : (ms : List ℕ) (t : Bool) → at < length s → 2 ≤ feeds xs → readIndex xs ≡ counts ms → releaseOf ms ≡ Five → leb (recordLines ms) (feeds xs) ≡ t → cond t (located (at + reach xs (recordLines ms)) ms) (refused TooFewLines) ≡ located n ns → IsLocated s at n ns
+  by-lines : (ms : List ℕ) (t : Bool) → at < length s → 2 ≤ feeds xs → readIndex xs ≡ counts ms → releaseOf ms ≡ Five → leb (recordLines ms) (feeds xs) ≡ t
+      → cond t (located (at + reach xs (recordLines ms)) ms) (refused TooFewLines) ≡ located n ns → IsLocated s at n ns
   unfolding xs
   by-lines ms true i h r f u e =
       let p : ms ≡ ns = cc in
@@ -72,7 +73,8 @@ module _ (s : List ℕ) (at n : ℕ) (ns : List ℕ) where
   unfolding locate xs
   located-is e = by (ltb (length s) at) (eqb (length s) at) (leb 2 (feeds xs)) refl refl refl e
     where
-      by : (a b c : Bool) → ltb (length s) at ≡ a → eqb (length s) at ≡ b → leb 2 (feeds xs) ≡ c → cond a (refused Beyond) (cond b (refused End) (cond c (locateIndex xs at (readIndex xs)) (refused TooFewLines))) ≡ located n ns → IsLocated s at n ns
+      by : (a b c : Bool) → ltb (length s) at ≡ a → eqb (length s) at ≡ b → leb 2 (feeds xs) ≡ c
+          → cond a (refused Beyond) (cond b (refused End) (cond c (locateIndex xs at (readIndex xs)) (refused TooFewLines))) ≡ located n ns → IsLocated s at n ns
       by true b c u v w e = no-record e
       by false true c u v w e = no-record e
       by false false false u v w e = no-record e
@@ -97,7 +99,7 @@ line-bytes x ns e = by (contentOf x) refl e
     whole n true f u g = content-two x n f ∙ omega (arith, eqb-true n 120 u)
     whole n false f u g = let z : _≡_ {A = ℕ} 0 1 = cc in absurd (omega arith)
 
-    by : (c : Content) → contentOf x ≡ c → readContent x c ≡ counts ns → length x ≡ 122
+    by : (c : Content) → contentOf x ≡ c → readIndexContent x c ≡ counts ns → length x ≡ 122
     by (Length n) f g = whole n (eqb n 120) f refl g
     by NoReturn f g = let z : _≡_ {A = ℕ} 0 1 = cc in absurd (omega arith)
 
@@ -109,7 +111,7 @@ pub record TwoLines (a b : Indexed) (ns : List ℕ) : Type 0 where
   pub second-is : b ≡ counts second
   pub all : ns ≡ first ++ second
 
-pub two-lines : (a b : Indexed) (ns : List ℕ) → joined a b ≡ counts ns → TwoLines a b ns
+pub two-lines : (a b : Indexed) (ns : List ℕ) → bothLines a b ≡ counts ns → TwoLines a b ns
 two-lines (counts x) (counts y) ns e = record { first = x; second = y; first-is = refl; second-is = refl; all = cc }
 two-lines (counts x) misformed ns e = let z : _≡_ {A = ℕ} 0 1 = cc in absurd (omega arith)
 two-lines misformed b ns e = let z : _≡_ {A = ℕ} 0 1 = cc in absurd (omega arith)

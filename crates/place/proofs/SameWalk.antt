@@ -44,7 +44,9 @@ module _ (s t : List ℕ) (h : SameLines s t) where
   locate-same at e =
       rw (← h .long, ← feeds-from s t at h) (by (ltb (length s) at) (eqb (length s) at) (leb 2 (feeds (drop at s))) refl)
     where
-      by : (a b c : Bool) → leb 2 (feeds (drop at s)) ≡ c → cond a (refused Beyond) (cond b (refused End) (cond c (locateIndex (drop at s) at (readIndex (drop at s))) (refused TooFewLines))) ≡ cond a (refused Beyond) (cond b (refused End) (cond c (locateIndex (drop at t) at (readIndex (drop at t))) (refused TooFewLines)))
+      by : (a b c : Bool) → leb 2 (feeds (drop at s)) ≡ c
+          → cond a (refused Beyond) (cond b (refused End) (cond c (locateIndex (drop at s) at (readIndex (drop at s))) (refused TooFewLines))) ≡ cond a (refused Beyond)
+          (cond b (refused End) (cond c (locateIndex (drop at t) at (readIndex (drop at t))) (refused TooFewLines)))
       by true b c u = refl
       by false true c u = refl
       by false false true u =

@@ -27,7 +27,7 @@ use Rattle.place.specs.declared.Placing.{Placing}
 use Rattle.reply.specs.declared.Refusal.{Refusal}
 use Rattle.reply.specs.declared.Refusal.the-variants.{End, Beyond, TooFewLines, Misformed}
 use Rattle.place.specs.declared.Placing.the-variants.{Refused}
-use Rattle.place.specs.Index.{counts, misformed, readEntries, readIndexLine, joined, readIndex}
+use Rattle.place.specs.Index.{counts, misformed, readEntries, readIndexLine, bothLines, readIndex}
 use Rattle.place.specs.Placing.{Located, located, refused, locate, locateIndex, locateRelease, locateLines, locateLinesFrom, locateFrom, locateFive, locatedBehind, Answers, placingOf, countsAt}
 
 -- ---- an index line
@@ -109,11 +109,11 @@ module _ (s : List ℕ) (at : ℕ) (inside : at < length s) where
       second-from : behind 1 (drop at s) ≡ drop second s
       second-from = drop-drop (reach (drop at s) 1) at s ∙ ap (λ n. drop n s) (sym (at-is s at 1 second f .place))
 
-      index-lines : readIndex (drop at s) ≡ joined (readIndexLine (part at second s)) (readIndexLine (part second end s))
+      index-lines : readIndex (drop at s) ≡ bothLines (readIndexLine (part at second s)) (readIndexLine (part second end s))
       unfolding readIndex
       index-lines = rw (lines-at s at 1 second f, second-from, lines-at s second 1 end g)
 
-      here : locate s at ≡ locateIndex (drop at s) at (joined (readIndexLine (part at second s)) (readIndexLine (part second end s)))
+      here : locate s at ≡ locateIndex (drop at s) at (bothLines (readIndexLine (part at second s)) (readIndexLine (part second end s)))
       here = locate-index s at inside (at-is s at 2 end both .many) ∙ ap (locateIndex (drop at s) at) index-lines
 
       pub first-misformed : readIndexLine (part at second s) ≡ misformed → locate s at ≡ refused Misformed

@@ -18,7 +18,7 @@ use Rattle.reply.specs.declared.Refusal.the-variants.{End}
 use Rattle.place.specs.Index.{readEntries, readIndexLine, readIndex}
 use Rattle.place.specs.Parts.{start, groupPart}
 use Rattle.place.specs.Placing.{located, refused, locate}
-use Rattle.place.specs.RecordS.{lineOf, recordS, countsS, twiceS}
+use Rattle.place.specs.RecordS.{quotedLine, recordS, countsS, twiceS}
 use Rattle.place.specs.Walk.{spot, IsRecord, Stops}
 use Rattle.place.proofs.Walked.{spot-start, spot-more}
 
@@ -31,13 +31,15 @@ pub record Twice : Type 0 where
   -- the lines of group 4: where they are in the first record, and what they are in both
   pub from : start twiceS 0 countsS 4 ≡ 295
   pub to : start twiceS 0 countsS 5 ≡ 305
-  pub first-four : groupPart twiceS 0 countsS 4 ≡ lineOf "   7.250"
-  pub second-four : groupPart twiceS 305 countsS 4 ≡ lineOf "   7.250"
+  pub first-four : groupPart twiceS 0 countsS 4 ≡ quotedLine "   7.250"
+  pub second-four : groupPart twiceS 305 countsS 4 ≡ quotedLine "   7.250"
   -- its point
   pub point : getD twiceS 299 0 ≡ 46
 
 pub twice : Twice
-unfolding recordS twiceS countsS locate readIndex readIndexLine readEntries Entry.entryOf start groupPart Lines.feeds Lines.reach Contents.contentOf Tally.linesIn Tally.lineTally Tally.linesBefore Sum.sum Every.upFrom Table.rowOf Table.entryOf Table.formAmong Table.formOf Count.linesOf Count.roundedUp Count.elementsOf Rules.releaseOf Rules.filledAmong
+unfolding recordS twiceS countsS locate readIndex readIndexLine readEntries Entry.entryOf start groupPart Lines.feeds Lines.reach Contents.contentOf
+    Tally.linesIn Tally.lineTally Tally.linesBefore Sum.sum Every.upFrom Table.rowOf Table.formEntry Table.formAmong Table.formOf Count.linesOf Count.roundedUp
+    Count.elementsOf Rules.releaseOf Rules.filledAmong
 twice = record {
   long = refl;
   first = refl;

@@ -1,22 +1,14 @@
 -- The walk: a step on, a step that stays, spots that go forward; and that every text has one number of records at which the walk stops.
 -- Assumes nothing.
-use mathlib.Core.Path.{_≡_, refl, sym, _∙_, subst}
-use mathlib.Core.Bool.{Bool, true, false, cond}
+use mathlib.Core.Path.{_≡_, refl, sym, _∙_}
 use mathlib.Core.List.{List}
 use mathlib.Core.Logic.{_⊎_, ⊎-elim}
 use Prim.Native.Nat.{ℕ, zero, suc, _+_, _*_, _<_, _≤_}
 use native.Mathlib.Omega.{arith}
-use lib.Dec.{leb, ltb, eqb}
-use lib.ListN.{length, drop}
+use lib.ListN.{length}
 use Rattle.base.proofs.Order.{le-or-lt}
-use Rattle.line.specs.Lines.{feeds, reach}
-use Rattle.count.specs.Tally.{recordLines}
-use Rattle.count.specs.Rules.{releaseOf}
-use Rattle.count.specs.declared.Release.{Release}
-use Rattle.count.specs.declared.Release.the-variants.{Five, Other, Filled}
 use Rattle.reply.specs.declared.Refusal.{Refusal}
-use Rattle.place.specs.Index.{Indexed, counts, misformed, readIndex}
-use Rattle.place.specs.Placing.{Located, located, refused, locate, locateIndex, locateRelease}
+use Rattle.place.specs.Placing.{Located, located, refused, locate}
 use Rattle.place.specs.Walk.{onward, spot, IsRecord, Stops}
 use Rattle.place.proofs.Placed.{no-record, located-range, located-long}
 

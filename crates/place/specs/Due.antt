@@ -21,13 +21,13 @@ module _ (s : List ℕ) (at : ℕ) where
     pub lines : 2 ≤ feeds (drop at s)
 
   -- nor 4: the two lines are the index of these counts
-  pub record HasCounts (ns : List ℕ) : Type 0 where
+  pub record HasEntries (ns : List ℕ) : Type 0 where
     pub place : HasIndex
     pub index : IsIndex (drop at s) ns
 
   -- nor 5 and 6: the release is 5, and no vacant group has a count
   pub record HasRelease (ns : List ℕ) : Type 0 where
-    pub index : HasCounts ns
+    pub index : HasEntries ns
     pub release : ReleaseFive ns
 
   -- nor 3 for the data lines: so many line feeds are left, and n is the place behind them
@@ -54,22 +54,22 @@ module _ (s : List ℕ) (at : ℕ) where
   -- R205: the release is another than 5
   pub record BadRelease : Type 0 where
     pub ns : List ℕ
-    pub index : HasCounts ns
+    pub index : HasEntries ns
     pub other : countOf ns 80 ≡ 5 → ⊥
 
   -- R206: g is the lowest of 61 to 79 that has a count
   pub record FillsVacant (g : ℕ) : Type 0 where
     pub ns : List ℕ
-    pub index : HasCounts ns
+    pub index : HasEntries ns
     pub filled : LowestFilled ns g
 
   -- R207 and R200: n is the next place, and the counts break a rule or keep all
-  pub record Breaks (g n : ℕ) : Type 0 where
+  pub record StandsBroken (g n : ℕ) : Type 0 where
     pub ns : List ℕ
     pub lines : HasLines ns n
     pub broken : BreaksRules ns g
 
-  pub record Stands (n : ℕ) : Type 0 where
+  pub record StandsRight (n : ℕ) : Type 0 where
     pub ns : List ℕ
     pub lines : HasLines ns n
     pub kept : KeepsRules ns
@@ -97,6 +97,6 @@ module _ (s : List ℕ) (at : ℕ) where
     fills-vacant : (g : ℕ) → FillsVacant g → RefusedFor (FilledVacant g)
 
   abbrev pub Due : Placing → Type 0
-  Due (Placed n) = Stands n
-  Due (BrokenRule g n) = Breaks g n
+  Due (Placed n) = StandsRight n
+  Due (BrokenRule g n) = StandsBroken g n
   Due (Refused r) = RefusedFor r

@@ -30,22 +30,22 @@ unfoldable pub readEntries : ℕ → List ℕ → Indexed
 readEntries zero s = counts []
 readEntries (suc k) s = entryThen (entryOf (take 3 s)) (readEntries k (drop 3 s))
 
-abbrev pub readContent : List ℕ → Content → Indexed
-readContent x (Length n) = cond (eqb n 120) (readEntries 40 (part 0 n x)) misformed
-readContent x NoReturn = misformed
+abbrev pub readIndexContent : List ℕ → Content → Indexed
+readIndexContent x (Length n) = cond (eqb n 120) (readEntries 40 (part 0 n x)) misformed
+readIndexContent x NoReturn = misformed
 
 -- an index line, with its line feed
 unfoldable pub readIndexLine : List ℕ → Indexed
-readIndexLine x = readContent x (contentOf x)
+readIndexLine x = readIndexContent x (contentOf x)
 
-abbrev pub joined : Indexed → Indexed → Indexed
-joined (counts a) (counts b) = counts (a ++ b)
-joined (counts a) misformed = misformed
-joined misformed r = misformed
+abbrev pub bothLines : Indexed → Indexed → Indexed
+bothLines (counts a) (counts b) = counts (a ++ b)
+bothLines (counts a) misformed = misformed
+bothLines misformed r = misformed
 
 -- the first two lines
 unfoldable pub readIndex : List ℕ → Indexed
-readIndex xs = joined (readIndexLine (lines 1 xs)) (readIndexLine (lines 1 (behind 1 xs)))
+readIndex xs = bothLines (readIndexLine (lines 1 xs)) (readIndexLine (lines 1 (behind 1 xs)))
 
 -- ---- the same as a statement (proofs/Indexed.antt)
 

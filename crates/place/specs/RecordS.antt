@@ -6,14 +6,14 @@ use lib.ListN.{replicate}
 use Rattle.base.specs.Quoted.{bytes}
 
 -- R4: a line with this content: carriage return and line feed behind it
-abbrev pub lineOf : String → List ℕ
-lineOf content = bytes content ++ (13 ∷ 10 ∷ [])
+abbrev pub quotedLine : String → List ℕ
+quotedLine content = bytes content ++ (13 ∷ 10 ∷ [])
 
 unfoldable pub recordS : List ℕ
 recordS =
-    lineOf "  4  0 19  1  0  0  0  0  0  0  0  0  0  0  0  0  0  0  0  0  0  0  0  0  0  0  0  0  0  0  0  0  0  0  0  0  0  0  0  0"
-    ++ (lineOf "  0  0  0  0  0  0  0  0  0  0  0  0  0  0  0  0  0  0  0  0  0  0  0  0  0  0  0  0  0  0  0  0  0  0  0  0  0  0  0  5"
-    ++ (lineOf "  1.200 67.000-23.500143.000" ++ (lineOf "AA20062650922142530" ++ lineOf "   7.250")))
+    quotedLine "  4  0 19  1  0  0  0  0  0  0  0  0  0  0  0  0  0  0  0  0  0  0  0  0  0  0  0  0  0  0  0  0  0  0  0  0  0  0  0  0"
+    ++ (quotedLine "  0  0  0  0  0  0  0  0  0  0  0  0  0  0  0  0  0  0  0  0  0  0  0  0  0  0  0  0  0  0  0  0  0  0  0  0  0  0  0  5"
+    ++ (quotedLine "  1.200 67.000-23.500143.000" ++ (quotedLine "AA20062650922142530" ++ quotedLine "   7.250")))
 
 unfoldable pub countsS : List ℕ
 countsS = 4 ∷ 0 ∷ 19 ∷ 1 ∷ (replicate 75 0 ++ (5 ∷ []))

@@ -1,11 +1,12 @@
 // Records in a text: placing one at a place.
+use reply::Checked;
 use reply::Refusal;
 ghost use mathlib.Core.Path.{_≡_};
 ghost use Prim.Native.Nat.{_+_, _≤_};
 ghost use lib.ListN.{length, replicate};
 ghost use Rattle.place.specs.Parts.{start};
 ghost use Rattle.place.specs.Index.{readEntries, readIndexLine, Stored};
-ghost use Rattle.place.specs.Numbered.{placingReply, isPlaced};
+ghost use Rattle.place.specs.Numbered.{placingReply, asChecked, isPlaced};
 ghost use Rattle.place.specs.Placing.{Answers, placingOf, countsAt, ruledAt, locateLinesFrom, locateFrom};
 
 // R200 to R207: what placing answers. A record whose counts break a rule is placed all the same (R253).
@@ -138,6 +139,17 @@ pub fn reply_of(answer: Placing) -> reply::Reply
         Placing::Placed(n) => reply::at_next(0, n, 0),
         Placing::BrokenRule(g, n) => reply::at_next(7, n, g),
         Placing::Refused(why) => reply::of_refusal(why),
+    }
+}
+
+// R235: the answer as that of a question that goes no further: 7 has no next place there.
+pub fn as_checked(answer: Placing) -> Checked
+    ensures { λ r. ⌜ r ≡ asChecked answer ⌝ }
+{
+    match answer {
+        Placing::Placed(_) => Checked::Right,
+        Placing::BrokenRule(g, _) => Checked::Refused(Refusal::BrokenRule(g)),
+        Placing::Refused(why) => Checked::Refused(why),
     }
 }
 

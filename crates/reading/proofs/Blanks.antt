@@ -109,7 +109,7 @@ not-short e = absurd (false≢true e)
 
 -- a form whose lines may be short is of letters only
 pub short-field : (f : Form) (s : List ℕ) → mayBeShort f ≡ true → length s ≤ rowOf f .width → every printable s ≡ formed (fieldOf f (asField f s))
-unfolding Read.fieldOf Table.rowOf Table.entryOf
+unfolding Read.fieldOf Table.rowOf Table.formEntry
 short-field A120 s e h = sym (filled-printable 120 s) ∙ rw (eq-eqb (length (filledTo 120 s)) 120 (filled-length 120 s h)) (test (every printable (filledTo 120 s)))
   where
     test : (t : Bool) → t ≡ formed (cond t Letters Misformed)
@@ -168,7 +168,8 @@ module _ (f : Form) (columns : ℕ) (s : List ℕ) where
 
   pub right-high : isRight f columns s ≡ true → length s ≤ 120
   unfolding isRight
-  right-high e = leb-true (length s) 120 (and-first (leb (length s) 120) (every blank (drop columns s)) (and-second (leb (shortest f columns) (length s)) (leb (length s) 120 && every blank (drop columns s)) e))
+  right-high e =
+      leb-true (length s) 120 (and-first (leb (length s) 120) (every blank (drop columns s)) (and-second (leb (shortest f columns) (length s)) (leb (length s) 120 && every blank (drop columns s)) e))
 
   right-after : isRight f columns s ≡ true → T (every blank (drop columns s))
   right-after e = true-T (every blank (drop columns s)) (sym (right-rest (right-low e) (right-high e)) ∙ e)

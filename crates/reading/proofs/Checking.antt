@@ -48,7 +48,8 @@ stuck (bad q) h r e = e
 -- ---- the lines of a plan
 
 module _ (f : Form) (s : List ℕ) (p n : ℕ) where
-  pub lines-more : (j k at end : ℕ) → end ≡ at + reach (drop at s) 1 → readLinesOf f (planFrom p n j (suc k)) (drop at s) ≡ both (readLine f (lineAt p n j) (part at end s)) (readLinesOf f (planFrom p n (j + 1) k) (drop end s))
+  pub lines-more : (j k at end : ℕ) → end ≡ at + reach (drop at s) 1
+      → readLinesOf f (planFrom p n j (suc k)) (drop at s) ≡ both (readLine f (lineAt p n j) (part at end s)) (readLinesOf f (planFrom p n (j + 1) k) (drop end s))
   unfolding readLinesOf planFrom Pieces.gather Every.upFrom
   lines-more j k at end e =
       let r : end - at ≡ reach (drop at s) 1 = omega arith in
@@ -81,7 +82,8 @@ pub record Walking (f : Form) (count : ℕ) (s : List ℕ) (width perLine many l
   pub rest : left ≡ n f count - j * p f count
   pub inside : at ≤ length s
 
-pub walking-start : (f : Form) (count : ℕ) (s : List ℕ) (width perLine many left : ℕ) → width ≡ rowOf f .width → perLine ≡ rowOf f .«per_line» → many ≡ linesOf f count → left ≡ elementsOf f count → count ≤ 65535 → Walking f count s width perLine many left 0 0
+pub walking-start : (f : Form) (count : ℕ) (s : List ℕ) (width perLine many left : ℕ) → width ≡ rowOf f .width → perLine ≡ rowOf f .«per_line» → many ≡ linesOf f count
+    → left ≡ elementsOf f count → count ≤ 65535 → Walking f count s width perLine many left 0 0
 walking-start f count s width perLine many left a b c d e =
     record { wide = a; per = b; lines = c; small = e; few = omega arith; rest = omega (arith, zero-mul (rowOf f .«per_line»)); inside = omega arith }
 
@@ -140,7 +142,8 @@ module _ (f : Form) (count : ℕ) (s : List ℕ) {width perLine many left at j :
       others : Cells
       others = readLinesOf f (planFrom (p f count) (n f count) (j + 1) (many - (j + 1))) (drop end s)
 
-      pub line-more : readLinesOf f (planFrom (p f count) (n f count) j (many - j)) (drop at s) ≡ both (readLine f lineHere (part at end s)) (readLinesOf f (planFrom (p f count) (n f count) (j + 1) (many - (j + 1))) (drop end s))
+      pub line-more : readLinesOf f (planFrom (p f count) (n f count) j (many - j)) (drop at s) ≡ both (readLine f lineHere (part at end s))
+          (readLinesOf f (planFrom (p f count) (n f count) (j + 1) (many - (j + 1))) (drop end s))
       line-more =
           let m : many - j ≡ suc (many - (j + 1)) = omega arith in
           rw m (lines-more f s (p f count) (n f count) j (many - (j + 1)) at end w)
@@ -163,12 +166,14 @@ unfolding readLines planOf
 checking-start f count s width perLine many left b =
     record { walk = b; first = omega (arith, zero-mul (rowOf f .«per_line»)); same = rw (sub-zero many, b .lines, drop-none s) refl }
 
-pub checking-end : (f : Form) (count : ℕ) (s : List ℕ) {width perLine many left at element j : ℕ} → Checking f count s width perLine many left at element j → many ≤ j → C.Right ≡ verdictOf (readLines f count s)
+pub checking-end : (f : Form) (count : ℕ) (s : List ℕ) {width perLine many left at element j : ℕ} → Checking f count s width perLine many left at element j → many ≤ j
+    → C.Right ≡ verdictOf (readLines f count s)
 checking-end f count s {many = many} {at = at} {j = j} b h =
     let z : many - j ≡ 0 = omega arith in
     sym (ap verdictOf (lines-none f s (rowOf f .«per_line») (elementsOf f count) j at)) ∙ (rw z at (b .same))
 
-module _ (f : Form) (count : ℕ) (s : List ℕ) {width perLine many left at element j : ℕ} (b : Checking f count s width perLine many left at element j) (h : j < many) (k end : ℕ) (q : k ≡ min perLine left) (w : end ≡ at + reach (drop at s) 1) where
+module _ (f : Form) (count : ℕ) (s : List ℕ) {width perLine many left at element j : ℕ} (b : Checking f count s width perLine many left at element j) (h : j < many) (k end : ℕ)
+    (q : k ≡ min perLine left) (w : end ≡ at + reach (drop at s) 1) where
   abbrev l : Line
   l = lineAt (rowOf f .«per_line») (elementsOf f count) j
 
@@ -229,15 +234,22 @@ module _ (f : Form) (count : ℕ) (s : List ℕ) {width perLine many left at ele
         field-is : filledTo (rowOf f .width) (part from to s) ≡ take (rowOf f .width) (drop (i * rowOf f .width) (lineText f l s at end m))
         field-is = piece f l s at end m (end-range f count s (b .walk) k end q w .1) right (few-here f count s (b .walk) k end q w) i from to inner (g .place) to-is
 
-        field-more : verdictOf (both (readField f (l .number) (l .first + i) (filledTo (rowOf f .width) (part from to s))) (readFields f (restOf l (i + 1)) (drop ((i + 1) * rowOf f .width) (lineText f l s at end m)))) ≡ verdictOf (readFields f l (lineText f l s at end m))
-        field-more = ap (λ x. verdictOf (both (readField f (l .number) (l .first + i) x) (readFields f (restOf l (i + 1)) (drop ((i + 1) * rowOf f .width) (lineText f l s at end m))))) field-is ∙ sym (ap verdictOf (fields-more f l (lineText f l s at end m) i inner)) ∙ g .same
+        field-more : verdictOf
+            (both (readField f (l .number) (l .first + i) (filledTo (rowOf f .width) (part from to s)))
+            (readFields f (restOf l (i + 1)) (drop ((i + 1) * rowOf f .width) (lineText f l s at end m)))) ≡ verdictOf (readFields f l (lineText f l s at end m))
+        field-more =
+            ap (λ x. verdictOf
+            (both (readField f (l .number) (l .first + i) x) (readFields f (restOf l (i + 1)) (drop ((i + 1) * rowOf f .width) (lineText f l s at end m))))) field-is
+            ∙ sym (ap verdictOf (fields-more f l (lineText f l s at end m) i inner)) ∙ g .same
 
         pub fielding-next : formed (fieldOf f (filledTo (rowOf f .width) (part from to s))) ≡ true → Fielding f l (lineText f l s at end m) at (i + 1) (from + width)
         fielding-next y =
             record {
               place = omega (arith, g .place, b .walk .wide, add-mul i 1 (rowOf f .width), one-mul (rowOf f .width));
               within = omega (arith, inner);
-              same = sym (past (readField f (l .number) (l .first + i) (filledTo (rowOf f .width) (part from to s))) (readFields f (restOf l (i + 1)) (drop ((i + 1) * rowOf f .width) (lineText f l s at end m))) (rw y refl)) ∙ field-more;
+              same = sym
+                  (past (readField f (l .number) (l .first + i) (filledTo (rowOf f .width) (part from to s)))
+                  (readFields f (restOf l (i + 1)) (drop ((i + 1) * rowOf f .width) (lineText f l s at end m))) (rw y refl)) ∙ field-more;
             }
 
         pub wrong-field : formed (fieldOf f (filledTo (rowOf f .width) (part from to s))) ≡ false → C.Refused (BadField (j + 1) (element + i)) ≡ verdictOf (readLines f count s)
@@ -246,4 +258,5 @@ module _ (f : Form) (count : ℕ) (s : List ℕ) {width perLine many left at ele
             ∙ (bad-line (BadField (j + 1) (j * rowOf f .«per_line» + 1 + i))
             (ap verdictOf (line-right f l (part at end s) m right)
             ∙ sym field-more
-            ∙ stuck (readField f (l .number) (l .first + i) (filledTo (rowOf f .width) (part from to s))) (readFields f (restOf l (i + 1)) (drop ((i + 1) * rowOf f .width) (lineText f l s at end m))) (BadField (j + 1) (l .first + i)) (rw y refl)))
+            ∙ stuck (readField f (l .number) (l .first + i) (filledTo (rowOf f .width) (part from to s)))
+            (readFields f (restOf l (i + 1)) (drop ((i + 1) * rowOf f .width) (lineText f l s at end m))) (BadField (j + 1) (l .first + i)) (rw y refl)))

@@ -29,14 +29,14 @@ use Rattle.form.specs.Count
 use Rattle.form.specs.Count.{elementsOf, linesOf, roundedUp}
 use Rattle.form.proofs.Rounding.{quotient}
 use Rattle.field.specs.Read
-use Rattle.field.specs.Read.{fieldOf, formed, cellsIn, Reads}
+use Rattle.field.specs.Read.{fieldOf, formed, valueCells, ReadsAs}
 use Rattle.field.specs.declared.Value.the-variants.{Cell, Misformed}
 use Rattle.field.proofs.Letters.{bytes-back}
 use Rattle.line.specs.Lines.{reach}
 use Rattle.line.proofs.Contents.{content-two}
 use Rattle.line.proofs.Reach.{reach-le}
 use Rattle.date.specs.Digits
-use Rattle.date.specs.Digits.{digitsOf, bytesAt}
+use Rattle.date.specs.Digits.{fieldDigits, bytesAt}
 use Rattle.date.specs.Date
 use Rattle.date.specs.Date.{datedOf, year, dayOfYear, month, day, hour, minute, second}
 use Rattle.date.specs.declared.DigitField.{DigitField}
@@ -54,8 +54,8 @@ use Rattle.reading.proofs.Sizes.{clean-read, field-done, line-done}
 -- ---- only the beginning matters, as far as the fields go
 
 module _ (s : List ℕ) (k : ℕ) (long : 19 ≤ length s) (enough : 19 ≤ k) where
-  digits-take : (f : DigitField) → f .first - 1 + f .length ≤ 19 → digitsOf f (take k s) ≡ digitsOf f s
-  unfolding Digits.digitsOf
+  digits-take : (f : DigitField) → f .first - 1 + f .length ≤ 19 → fieldDigits f (take k s) ≡ fieldDigits f s
+  unfolding Digits.fieldDigits
   digits-take f h =
       let a = f .first - 1 in
       let e = f .first - 1 + f .length in
@@ -66,16 +66,25 @@ module _ (s : List ℕ) (k : ℕ) (long : 19 ≤ length s) (enough : 19 ≤ k) w
   pub dated-take : datedOf (take k s) ≡ datedOf s
   unfolding Date.datedOf Date.firstBlamed
   dated-take =
-      rw (digits-take year (omega arith), digits-take dayOfYear (omega arith), digits-take month (omega arith), digits-take day (omega arith), digits-take hour (omega arith), digits-take minute (omega arith), digits-take second (omega arith))
+      rw (
+        digits-take year (omega arith),
+        digits-take dayOfYear (omega arith),
+        digits-take month (omega arith),
+        digits-take day (omega arith),
+        digits-take hour
+            (omega arith),
+        digits-take minute (omega arith),
+        digits-take second (omega arith),
+      )
 
 -- ---- letters read as their bytes
 
-letter-byte : (x : List ℕ) (cs : List ℤ) → Reads A1 x cs → (length x ≡ 1) × (cs ≡ map pos x)
-unfolding Read.fieldOf Table.rowOf Table.entryOf
+letter-byte : (x : List ℕ) (cs : List ℤ) → ReadsAs A1 x cs → (length x ≡ 1) × (cs ≡ map pos x)
+unfolding Read.fieldOf Table.rowOf Table.formEntry
 letter-byte [] cs r = absurd (r .good)
 letter-byte (b ∷ []) cs r = (refl, by (every printable (b ∷ [])) (r .good) (r .cells))
   where
-    by : (t : Bool) → T (formed (cond t (Cell (pos b)) Misformed)) → cellsIn (b ∷ []) (cond t (Cell (pos b)) Misformed) ≡ cs → cs ≡ pos b ∷ []
+    by : (t : Bool) → T (formed (cond t (Cell (pos b)) Misformed)) → valueCells (b ∷ []) (cond t (Cell (pos b)) Misformed) ≡ cs → cs ≡ pos b ∷ []
     by true g e = sym e
     by false g e = absurd g
 letter-byte (a ∷ b ∷ x) cs r = absurd (no (length x) (r .good))
@@ -84,7 +93,7 @@ letter-byte (a ∷ b ∷ x) cs r = absurd (no (length x) (r .good))
     no n t = rw (ne-eqb (suc (suc n)) 1 (λ e. omega arith)) at t
 
 letters-bytes : (number e k : ℕ) (s : List ℕ) (cs : List ℤ) → readFields A1 (record { number = number; first = e; many = k }) s ≡ done cs → cs ≡ map pos (take k s)
-unfolding readFields Pieces.gather Every.upFrom Table.rowOf Table.entryOf
+unfolding readFields Pieces.gather Every.upFrom Table.rowOf Table.formEntry
 letters-bytes number e zero s cs h =
     let z : cs ≡ [] = cc in
     z ∙ ap (map pos) (sym (take-none s))
@@ -105,7 +114,7 @@ map-append f (x ∷ a) b = ap (λ l. f x ∷ l) (map-append f a b)
 
 -- A1 has 120 elements of one column to a line, and each count is of elements
 letters-row : (rowOf A1 .«per_line» ≡ 120) × (rowOf A1 .width ≡ 1)
-unfolding Table.rowOf Table.entryOf
+unfolding Table.rowOf Table.formEntry
 letters-row = (refl, refl)
 
 letters-count : (count : ℕ) → elementsOf A1 count ≡ count
@@ -148,7 +157,8 @@ module _ (count : ℕ) (x : List ℕ) (cs : List ℤ) (h : readLines A1 count x 
 
   pub first-letters : FirstLetters k x (map sizeOf cs)
   unfolding p n line-one readLines planOf Count.linesOf
-  first-letters = by (both-done (readLine A1 line-one (part 0 end x)) (readLinesOf A1 (planFrom p n 1 (roundedUp n p - 1)) (drop end x)) cs (sym (lines-more A1 x p n 0 (roundedUp n p - 1) 0 end refl) ∙ some))
+  first-letters =
+      by (both-done (readLine A1 line-one (part 0 end x)) (readLinesOf A1 (planFrom p n 1 (roundedUp n p - 1)) (drop end x)) cs (sym (lines-more A1 x p n 0 (roundedUp n p - 1) 0 end refl) ∙ some))
     where
       end : ℕ
       end = 0 + reach (drop 0 x) 1
@@ -165,7 +175,8 @@ module _ (count : ℕ) (x : List ℕ) (cs : List ℤ) (h : readLines A1 count x 
       by : BothDone (readLine A1 line-one (part 0 end x)) (readLinesOf A1 (planFrom p n 1 (roundedUp n p - 1)) (drop end x)) cs → FirstLetters k x (map sizeOf cs)
       by d =
           let r = first-line line-one (part 0 end x) (d .first) end many-is refl (omega (arith, reach-le (drop 0 x) 1, ap length (drop-none x))) (d .first-is) in
-          let letters : map sizeOf cs ≡ take k x ++ map sizeOf (d .second) = ap (map sizeOf) (d .all ∙ ap (λ y. y ++ d .second) (r .1)) ∙ map-append sizeOf (map pos (take k x)) (d .second) ∙ ap (λ y. y ++ map sizeOf (d .second)) (bytes-back (take k x)) in
+          let letters : map sizeOf cs ≡ take k x ++ map sizeOf (d .second) =
+          ap (map sizeOf) (d .all ∙ ap (λ y. y ++ d .second) (r .1)) ∙ map-append sizeOf (map pos (take k x)) (d .second) ∙ ap (λ y. y ++ map sizeOf (d .second)) (bytes-back (take k x)) in
           let l : length (take k x) ≡ k = length-take-le k x (r .0) in
           record {
             inside = r .0;
@@ -187,7 +198,8 @@ module _ (count : ℕ) (x : List ℕ) (v : verdictOf (readLines A1 count x) ≡ 
       let r = clean-read (readLines A1 count x) v in
       let b = letters-first in
       let long : 19 ≤ k = omega (arith, letters-row .0, letters-count count) in
-      let same : datedOf (map sizeOf (r .cells)) ≡ d = sym (dated-take (map sizeOf (r .cells)) k (omega (arith, b .many)) long) ∙ ap datedOf (b .same ∙ ap (take k) (sym (drop-none x)) ∙ ap (λ i. take i (drop 0 x)) (sym (sub-zero k))) ∙ e in
+      let same : datedOf (map sizeOf (r .cells)) ≡ d =
+      sym (dated-take (map sizeOf (r .cells)) k (omega (arith, b .many)) long) ∙ ap datedOf (b .same ∙ ap (take k) (sym (drop-none x)) ∙ ap (λ i. take i (drop 0 x)) (sym (sub-zero k))) ∙ e in
       sym (ap (λ g. verdictOf (dated 3 g)) (r .is) ∙ verdict (r .cells) (datedOf (map sizeOf (r .cells))) ∙ ap dateVerdict same)
     where
       verdict : (cs : List ℤ) (d : Dated) → verdictOf (byDate cs d) ≡ dateVerdict d
@@ -206,7 +218,7 @@ bad-date g (bad r) e = sym e
 
 -- group 3 has the form A1
 pub date-form : (g : ℕ) (f : Form) → formOf g ≡ Has f → g ≡ 3 → f ≡ A1
-unfolding Table.formOf Table.formAmong Table.entryOf
+unfolding Table.formOf Table.formAmong Table.formEntry
 date-form g f e t =
     let z : Has A1 ≡ Has f = ap formOf (sym t) ∙ e in
     cc

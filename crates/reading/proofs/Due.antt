@@ -24,7 +24,7 @@ use Rattle.form.specs.declared.GroupForm.the-variants.{Has, NoGroup as NoForm}
 use Rattle.form.specs.Table.{rowOf, formOf}
 use Rattle.form.specs.Count.{linesOf, cellsOf}
 use Rattle.form.proofs.Table.{no-group as none-has, group-form, form-range}
-use Rattle.field.specs.Read.{fieldOf, formed, cellsIn}
+use Rattle.field.specs.Read.{fieldOf, formed, valueCells}
 use Rattle.field.specs.Grammar.{SomeField}
 use Rattle.field.proofs.Laws.{some-field}
 use Rattle.line.specs.declared.Content.{Content}
@@ -40,12 +40,13 @@ use Rattle.date.specs.Date.{datedOf}
 use Rattle.date.specs.declared.Dated.{Dated}
 use Rattle.date.specs.declared.Dated.the-variants.{Right, Wrong}
 use Rattle.reply.specs.declared.Refusal.{Refusal}
-use Rattle.reply.specs.declared.Refusal.the-variants.{NoSuchNumber, BrokenRule, NoRoom, BadLine, BadField, BadDate}
+use Rattle.reply.specs.declared.Refusal.the-variants.{NoRoom, BadLine, BadField}
 use Rattle.reading.specs.Blanks.{mayBeShort, isRight, filledTo, rightContent}
 use Rattle.reading.specs.Plan.{Line}
 use Rattle.reading.specs.Read.{Cells, readField, readFields, columnsOf, readLines, byDate, dated, readForm, readRuled, readBy, readGroup}
 use Rattle.reading.specs.Values.{lineOf, planned, fieldIn, RightLine, Values}
-use Rattle.reading.specs.Due.{CleanLine, AllClean, ComesTo, WrongLine, WrongField, Ruled, Roomy, HasCells, DoneDue, RefusedFor, no-group, broken-rule, no-room, bad-line, bad-field, bad-date, Due}
+use Rattle.reading.specs.Due.{CleanLine, AllClean, ComesTo, WrongLine, WrongField, Ruled, Roomy, CellsRead, DoneDue, RefusedFor, no-group, broken-rule}
+use Rattle.reading.specs.Due.{no-room, bad-line, bad-field, bad-date, Due}
 use Rattle.reading.proofs.Blanks.{right-plain}
 use Rattle.reading.proofs.Lines.{right-yes, right-is, line-right, line-wrong}
 use Rattle.reading.proofs.Fields.{short-one, fields-start}
@@ -56,7 +57,7 @@ use Rattle.reading.proofs.Values.{fields-pieces, lineRead, lines-pieces
 
 module _ (f : Form) (line e : ℕ) (y : List ℕ) where
   field-reads : SomeField f y → IsDone (readField f line e y)
-  field-reads h = record { cells = cellsIn y (fieldOf f y); is = rw (T-true (formed (fieldOf f y)) (some-field f y .1 h)) refl }
+  field-reads h = record { cells = valueCells y (fieldOf f y); is = rw (T-true (formed (fieldOf f y)) (some-field f y .1 h)) refl }
 
   field-told : (SomeField f y → ⊥) → readField f line e y ≡ bad (BadField line e)
   field-told n = rw (not-T-false (formed (fieldOf f y)) (λ t. n (some-field f y .0 t))) refl
@@ -68,7 +69,7 @@ module _ (f : Form) (line e : ℕ) (y : List ℕ) where
   field-bad : (r : Refusal) → readField f line e y ≡ bad r → FieldBad r
   field-bad r h = by (formed (fieldOf f y)) refl h
     where
-      by : (t : Bool) → formed (fieldOf f y) ≡ t → cond t (done (cellsIn y (fieldOf f y))) (bad (BadField line e)) ≡ bad r → FieldBad r
+      by : (t : Bool) → formed (fieldOf f y) ≡ t → cond t (done (valueCells y (fieldOf f y))) (bad (BadField line e)) ≡ bad r → FieldBad r
       by true u w = let z : _≡_ {A = ℕ} 0 1 = cc in absurd (omega arith)
       by false u w = record { none = λ h. let v : T false = rw u at (some-field f y .1 h) in v; is = cc }
 
@@ -107,7 +108,12 @@ module _ (f : Form) (count : ℕ) (x : List ℕ) where
         by : (c : Content) → rightContent f (columnsOf f l) (lineOf x j) ≡ c → LineRight ⊎ LineWrong
         by (Length n) e =
             let i = right-is f (columnsOf f l) (lineOf x j) n e in
-            let r : RightLine f count x j (take n (lineOf x j)) = record { content = is-content (lineOf x j) n (i .content) .0; right = right-plain f (columnsOf f l) (take n (lineOf x j)) .0 (ap (isRight f (columnsOf f l)) (sym (part-zero n (lineOf x j))) ∙ i .right) } in
+            let r : RightLine f count x j (take n (lineOf x j)) =
+            record {
+              content = is-content (lineOf x j) n (i .content) .0;
+              right = right-plain f (columnsOf f l) (take n (lineOf x j)) .0
+                  (ap (isRight f (columnsOf f l)) (sym (part-zero n (lineOf x j))) ∙ i .right);
+            } in
             inl record { content = take n (lineOf x j); line = r; reads = right-reads (take n (lineOf x j)) r }
         by NoReturn e =
             inr record {
@@ -186,7 +192,9 @@ module _ (f : Form) (count : ℕ) (x : List ℕ) where
             content = w .content;
             line = w .line;
             inside = c .inside;
-            earlier = λ i h. some-field f (fieldIn f count (b .at) (w .content) i) .0 (field-done f (l (b .at) .number) (l (b .at) .first + i) (fieldIn f count (b .at) (w .content) i) (c .earlier i h .cells) (c .earlier i h .is) .good);
+            earlier =
+                λ i h. some-field f (fieldIn f count (b .at) (w .content) i) .0
+                (field-done f (l (b .at) .number) (l (b .at) .first + i) (fieldIn f count (b .at) (w .content) i) (c .earlier i h .cells) (c .earlier i h .is) .good);
             misformed = q .none;
             number = refl;
             element = refl;
@@ -218,7 +226,7 @@ module _ (ns : List ℕ) (g : ℕ) (x : List ℕ) (room : ℕ) where
   unfolding readGroup readForm
   to-lines f r = rw (r .ruled .form, kept-ruling ns (r .ruled .kept), le-leb (cellsOf f (countOf ns g)) room (r .enough)) refl
 
-  to-cells : (cs : List ℤ) → HasCells ns g x room cs → readGroup ns g x room ≡ dated g (done cs)
+  to-cells : (cs : List ℤ) → CellsRead ns g x room cs → readGroup ns g x room ≡ dated g (done cs)
   to-cells cs h = to-lines (h .f) (h .roomy) ∙ ap (dated g) (lines-read (h .f) (countOf ns g) x cs (h .clean) (h .values))
 
   refusal-given : (r : Refusal) → RefusedFor ns g x room r → readGroup ns g x room ≡ bad r
@@ -249,7 +257,7 @@ module _ (ns : List ℕ) (g : ℕ) (x : List ℕ) (room : ℕ) where
   from-bad f r h (wrong-line n d) = bad-line n record { f = f; roomy = h; line = d }
   from-bad f r h (wrong-field n e d) = bad-field n e record { f = f; roomy = h; field = d }
 
-  from-date : (cs : List ℤ) (t : Bool) (c : Dated) → HasCells ns g x room cs → eqb g 3 ≡ t → datedOf (map sizeOf cs) ≡ c → Due ns g x room (cond t (byDate cs c) (done cs))
+  from-date : (cs : List ℤ) (t : Bool) (c : Dated) → CellsRead ns g x room cs → eqb g 3 ≡ t → datedOf (map sizeOf cs) ≡ c → Due ns g x room (cond t (byDate cs c) (done cs))
   from-date cs true (Right d) h e u = record { cells = h; date = λ three. (d, Letters.first-due (map sizeOf cs) (Right d) .0 u) }
   from-date cs true (Wrong p) h e u = bad-date p record { cs = cs; cells = h; three = eqb-true g 3 e; wrong = Letters.first-due (map sizeOf cs) (Wrong p) .0 u }
   from-date cs false c h e u = record { cells = h; date = λ three. absurd (eqb-false g 3 e three) }

@@ -51,7 +51,9 @@ module _ (f : Form) (l : Line) (text : List ℕ) where
   unfolding readFields
   fields-start = rw (add-zero (l .first), sub-zero (l .many), zero-mul width, drop-none text)
 
-  pub fields-more : (i : ℕ) → i < l .many → readFields f (restOf l i) (drop (i * width) text) ≡ both (readField f (l .number) (l .first + i) (take width (drop (i * width) text))) (readFields f (restOf l (i + 1)) (drop ((i + 1) * width) text))
+  pub fields-more : (i : ℕ) → i < l .many
+      → readFields f (restOf l i) (drop (i * width) text) ≡ both (readField f (l .number) (l .first + i) (take width (drop (i * width) text)))
+      (readFields f (restOf l (i + 1)) (drop ((i + 1) * width) text))
   unfolding readFields Pieces.gather Every.upFrom
   fields-more i h =
       let n : l .many - i ≡ suc (l .many - (i + 1)) = omega arith in
@@ -67,7 +69,7 @@ module _ (f : Form) (l : Line) (text : List ℕ) where
 
 -- a form whose lines may be short has one element to a line
 pub short-one : (f : Form) → mayBeShort f ≡ true → rowOf f .«per_line» ≡ 1
-unfolding Table.rowOf Table.entryOf
+unfolding Table.rowOf Table.formEntry
 short-one A120 e = refl
 short-one F7 e = absurd (false≢true e)
 short-one A1 e = absurd (false≢true e)
@@ -120,7 +122,9 @@ module _ (f : Form) (l : Line) (s : List ℕ) (at end n : ℕ) (inside : end ≤
         sym
         (ap (take w) (filled-drop (columnsOf f l) (i * w) (part 0 n (part at end s)))
         ∙ filled-take w (columnsOf f l - i * w) (drop (i * w) (part 0 n (part at end s))) (omega (arith, columns))
-        ∙ ap (filledTo w) (ap (λ c. take w (drop (i * w) c)) content ∙ ap (take w) (drop-take (i * w) n (drop at s)) ∙ take-both w (n - i * w) (drop (i * w) (drop at s)) ∙ ap (take (min w (n - i * w))) (drop-drop (i * w) at s ∙ ap (λ m. drop m s) (sym p)) ∙ ap (λ m. take m (drop from s)) cut))
+        ∙ ap (filledTo w)
+        (ap (λ c. take w (drop (i * w) c)) content ∙ ap (take w) (drop-take (i * w) n (drop at s)) ∙ take-both w (n - i * w) (drop (i * w) (drop at s))
+        ∙ ap (take (min w (n - i * w))) (drop-drop (i * w) at s ∙ ap (λ m. drop m s) (sym p)) ∙ ap (λ m. take m (drop from s)) cut))
       where
         cut : min w (n - i * w) ≡ to - from
         cut = omega arith

@@ -18,7 +18,7 @@ use Rattle.form.specs.declared.Form.{Form}
 use Rattle.form.specs.Table.{rowOf}
 use Rattle.form.specs.Count.{elementsOf, cellsOf}
 use Rattle.form.proofs.Rows.{row-fits}
-use Rattle.field.specs.Read.{fieldOf, formed, cellsIn, Reads}
+use Rattle.field.specs.Read.{fieldOf, formed, valueCells, ReadsAs}
 use Rattle.line.specs.Lines.{reach}
 use Rattle.line.specs.Contents.{contentOf}
 use Rattle.line.specs.declared.Content.the-variants.{Length, NoReturn}
@@ -113,7 +113,8 @@ enough-room f count s old v room =
     let r = clean-read (readLines f count s) v in
     omega (arith, ap (λ g. length (cellsGot g)) (r .is), group-size f count s (r .cells) (r .is))
 
-pub filling-start : {f : Form} {count : ℕ} {s : List ℕ} {r : Reached} → Walking f count s (r .width) (r .perLine) (r .many) (r .left) (r .at) (r .j) → r .cells ≡ rowOf f .cells → verdictOf (readLines f count s) ≡ C.Right → (r .at ≡ 0) × (r .cell ≡ 0) × (r .j ≡ 0) → Filling f count s (r .table) r
+pub filling-start : {f : Form} {count : ℕ} {s : List ℕ} {r : Reached} → Walking f count s (r .width) (r .perLine) (r .many) (r .left) (r .at) (r .j) → r .cells ≡ rowOf f .cells
+    → verdictOf (readLines f count s) ≡ C.Right → (r .at ≡ 0) × (r .cell ≡ 0) × (r .j ≡ 0) → Filling f count s (r .table) r
 unfolding readLines planOf
 filling-start {f} {count} {s} {r} b z v none =
     let g = clean-read (readLines f count s) v in
@@ -143,7 +144,8 @@ module _ {f : Form} {count : ℕ} {s : List ℕ} {old : List ℤ} {r : Reached} 
   others = readLinesOf f (planFrom (rowOf f .«per_line») (elementsOf f count) (r .j + 1) (r .many - (r .j + 1))) (drop (o .end) s)
 
   split : BothDone (readLine f l (part (r .at) (o .end) s)) others (o .state .more)
-  split = both-done (readLine f l (part (r .at) (o .end) s)) others (o .state .more) (sym (line-more f count s (o .state .walk) (o .k) (o .end) (o .elements) (o .behind) (o .further)) ∙ o .state .rest)
+  split = both-done (readLine f l (part (r .at) (o .end) s)) others (o .state .more)
+      (sym (line-more f count s (o .state .walk) (o .k) (o .end) (o .elements) (o .behind) (o .further)) ∙ o .state .rest)
 
   here : LineDone f l (part (r .at) (o .end) s) (split .first)
   here = line-done f l (part (r .at) (o .end) s) (split .first) (split .first-is)
@@ -216,21 +218,26 @@ module _ {f : Form} {count : ℕ} {s : List ℕ} {old : List ℤ} {r : Reached} 
       fill-length = stored-length line-room (g .more) (g .store)
 
       -- all fields are filled: the next line
-      pub filling-next : o .k ≤ i → Filling f count s old record { width = r .width; perLine = r .perLine; cells = r .cells; many = r .many; left = r .left - o .k; at = o .end; cell = spot; j = r .j + 1; table = now }
+      pub filling-next : o .k ≤ i
+          → Filling f count s old record { width = r .width; perLine = r .perLine; cells = r .cells; many = r .many; left = r .left - o .k; at = o .end; cell = spot; j = r .j + 1; table = now }
       filling-next d =
           record {
             walk = walking-next f count s (o .state .walk) (o .k) (o .end) (o .elements) (o .behind) (o .further);
             sized = o .state .sized;
             more = split .second;
             rest = split .second-is;
-            store = subst (λ n. Stored (cellsGot (readLines f count s)) old 0 n now (split .second)) (sym (whole .next ∙ ap (λ y. r .cell + length y) line-cells)) (stored-more {base = 0} (omega arith) (split .first) (split .second) now before (whole .here ∙ ap (λ y. over (r .cell) y (r .table)) line-cells));
+            store = subst (λ n. Stored (cellsGot (readLines f count s)) old 0 n now (split .second)) (sym (whole .next ∙ ap (λ y. r .cell + length y) line-cells))
+                (stored-more {base = 0} (omega arith) (split .first) (split .second) now before (whole .here ∙ ap (λ y. over (r .cell) y (r .table)) line-cells));
           }
         where
           none : [] ≡ g .more
-          none = done-same (sym (fields-none f l (lineText f l s (r .at) (o .end) m) i (drop (i * rowOf f .width) (lineText f l s (r .at) (o .end) m)) (omega (arith, many-here f count s (o .state .walk) (o .k) (o .end) (o .elements) (o .behind)))) ∙ g .rest)
+          none = done-same
+              (sym (fields-none f l (lineText f l s (r .at) (o .end) m) i (drop (i * rowOf f .width) (lineText f l s (r .at) (o .end) m))
+              (omega (arith, many-here f count s (o .state .walk) (o .k) (o .end) (o .elements) (o .behind)))) ∙ g .rest)
 
           whole : AllStored (cellsGot (readFields f l (lineText f l s (r .at) (o .end) m))) (r .table) (r .cell) spot now
-          whole = stored-all (cellsGot (readFields f l (lineText f l s (r .at) (o .end) m))) (r .table) now (r .cell) spot (subst (λ x. Stored (cellsGot (readFields f l (lineText f l s (r .at) (o .end) m))) (r .table) (r .cell) spot now x) (sym none) (g .store))
+          whole = stored-all (cellsGot (readFields f l (lineText f l s (r .at) (o .end) m))) (r .table) now (r .cell) spot
+              (subst (λ x. Stored (cellsGot (readFields f l (lineText f l s (r .at) (o .end) m))) (r .table) (r .cell) spot now x) (sym none) (g .store))
 
       module _ (to : ℕ) (c : i < o .k) (t : to ≡ min (from + r .width) (r .at + m)) where
         inner : i < l .many
@@ -240,14 +247,20 @@ module _ {f : Form} {count : ℕ} {s : List ℕ} {old : List ℤ} {r : Reached} 
         to-is = t ∙ rw (o .state .walk .wide)
 
         field-is : filledTo (r .width) (part from to s) ≡ take (rowOf f .width) (drop (i * rowOf f .width) (lineText f l s (r .at) (o .end) m))
-        field-is = ap (λ n. filledTo n (part from to s)) (o .state .walk .wide) ∙ piece f l s (r .at) (o .end) m inside right (few-here f count s (o .state .walk) (o .k) (o .end) (o .elements) (o .behind)) i from to inner (g .place) to-is
+        field-is =
+            ap (λ n. filledTo n (part from to s)) (o .state .walk .wide)
+            ∙ piece f l s (r .at) (o .end) m inside right (few-here f count s (o .state .walk) (o .k) (o .end) (o .elements) (o .behind)) i from to inner (g .place) to-is
 
-        one : BothDone (readField f (l .number) (l .first + i) (filledTo (r .width) (part from to s))) (readFields f (restOf l (i + 1)) (drop ((i + 1) * rowOf f .width) (lineText f l s (r .at) (o .end) m))) (g .more)
+        one : BothDone (readField f (l .number) (l .first + i) (filledTo (r .width) (part from to s)))
+            (readFields f (restOf l (i + 1)) (drop ((i + 1) * rowOf f .width) (lineText f l s (r .at) (o .end) m))) (g .more)
         one =
-            both-done (readField f (l .number) (l .first + i) (filledTo (r .width) (part from to s))) (readFields f (restOf l (i + 1)) (drop ((i + 1) * rowOf f .width) (lineText f l s (r .at) (o .end) m))) (g .more)
-            (ap (λ y. both (readField f (l .number) (l .first + i) y) (readFields f (restOf l (i + 1)) (drop ((i + 1) * rowOf f .width) (lineText f l s (r .at) (o .end) m)))) field-is ∙ sym (fields-more f l (lineText f l s (r .at) (o .end) m) i inner) ∙ g .rest)
+            both-done (readField f (l .number) (l .first + i) (filledTo (r .width) (part from to s)))
+            (readFields f (restOf l (i + 1)) (drop ((i + 1) * rowOf f .width) (lineText f l s (r .at) (o .end) m))) (g .more)
+            (ap (λ y. both (readField f (l .number) (l .first + i) y)
+            (readFields f (restOf l (i + 1)) (drop ((i + 1) * rowOf f .width) (lineText f l s (r .at) (o .end) m)))) field-is
+            ∙ sym (fields-more f l (lineText f l s (r .at) (o .end) m) i inner) ∙ g .rest)
 
-        reads : Reads f (filledTo (r .width) (part from to s)) (one .first)
+        reads : ReadsAs f (filledTo (r .width) (part from to s)) (one .first)
         reads = field-done f (l .number) (l .first + i) (filledTo (r .width) (part from to s)) (one .first) (one .first-is)
 
         size : length (one .first) ≡ rowOf f .cells
@@ -256,7 +269,8 @@ module _ {f : Form} {count : ℕ} {s : List ℕ} {old : List ℤ} {r : Reached} 
         store : Stored (cellsGot (readFields f l (lineText f l s (r .at) (o .end) m))) (r .table) (r .cell) spot now (one .first ++ one .second)
         store = subst (λ y. Stored (cellsGot (readFields f l (lineText f l s (r .at) (o .end) m))) (r .table) (r .cell) spot now y) (one .all) (g .store)
 
-        pub put-requires : (from ≤ to) × (to ≤ length s) × (r .width ≡ rowOf f .width) × Fits f (to - from) × T (formed (fieldOf f (filledTo (r .width) (part from to s)))) × (spot + rowOf f .cells ≤ length now)
+        pub put-requires : (from ≤ to) × (to ≤ length s) × (r .width ≡ rowOf f .width) × Fits f (to - from) × T (formed (fieldOf f (filledTo (r .width) (part from to s)))) ×
+            (spot + rowOf f .cells ≤ length now)
         put-requires =
             let p = piece-range f l s (r .at) (o .end) m inside right (few-here f count s (o .state .walk) (o .k) (o .end) (o .elements) (o .behind)) i from to inner (g .place) to-is in
             (p .0, p .1, o .state .walk .wide, p .2, reads .good, omega (arith, size, fill-length, stored-room line-room (one .first) (one .second) store))
@@ -264,12 +278,14 @@ module _ {f : Form} {count : ℕ} {s : List ℕ} {old : List ℤ} {r : Reached} 
         pub cell-small : spot + r .cells ≤ length old
         cell-small = omega (arith, o .state .sized, put-requires .5, fill-length, filling-length (o .room) (o .state))
 
-        pub fields-next : {new : List ℤ} → new ≡ over spot (cellsIn (filledTo (r .width) (part from to s)) (fieldOf f (filledTo (r .width) (part from to s)))) now → FillingFields f l (lineText f l s (r .at) (o .end) m) (r .table) (r .cell) (r .at) (i + 1) (from + r .width) (spot + r .cells) new
+        pub fields-next : {new : List ℤ} → new ≡ over spot (valueCells (filledTo (r .width) (part from to s)) (fieldOf f (filledTo (r .width) (part from to s)))) now
+            → FillingFields f l (lineText f l s (r .at) (o .end) m) (r .table) (r .cell) (r .at) (i + 1) (from + r .width) (spot + r .cells) new
         fields-next {new = new} y =
             record {
               place = omega (arith, g .place, o .state .walk .wide, add-mul i 1 (rowOf f .width), one-mul (rowOf f .width));
               within = omega (arith, inner);
               more = one .second;
               rest = one .second-is;
-              store = subst (λ n. Stored (cellsGot (readFields f l (lineText f l s (r .at) (o .end) m))) (r .table) (r .cell) n new (one .second)) (ap (λ n. spot + n) (size ∙ sym (o .state .sized))) (stored-more line-room (one .first) (one .second) new store (y ∙ ap (λ z. over spot z now) (reads .cells)));
+              store = subst (λ n. Stored (cellsGot (readFields f l (lineText f l s (r .at) (o .end) m))) (r .table) (r .cell) n new (one .second))
+                  (ap (λ n. spot + n) (size ∙ sym (o .state .sized))) (stored-more line-room (one .first) (one .second) new store (y ∙ ap (λ z. over spot z now) (reads .cells)));
             }

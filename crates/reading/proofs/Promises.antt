@@ -84,7 +84,8 @@ unfolding readGroup
 read-broken ns g x room h f e r = rw (e, r)
 
 -- R264: a group reads the same into every table with room for what its counts, if they keep the rules, let it fill
-pub read-room : (ns : List ℕ) (g : ℕ) (x : List ℕ) (room more : ℕ) (f : Form) → formOf g ≡ Has f → (rulingOf ns ≡ Kept → (cellsOf f (countOf ns g) ≤ room) × (cellsOf f (countOf ns g) ≤ more)) → readGroup ns g x room ≡ readGroup ns g x more
+pub read-room : (ns : List ℕ) (g : ℕ) (x : List ℕ) (room more : ℕ) (f : Form) → formOf g ≡ Has f
+    → (rulingOf ns ≡ Kept → (cellsOf f (countOf ns g) ≤ room) × (cellsOf f (countOf ns g) ≤ more)) → readGroup ns g x room ≡ readGroup ns g x more
 unfolding readGroup readForm
 read-room ns g x room more f e h = rw e (by (rulingOf ns) refl)
   where

@@ -19,7 +19,7 @@ use Rattle.form.specs.declared.Form.{Form}
 use Rattle.form.specs.declared.Form.the-variants.{F7, A120, A1, F8, I2, I3, I1, E11, E20, E8}
 use Rattle.form.specs.Table.{rowOf}
 use Rattle.field.specs.Read
-use Rattle.field.specs.Read.{fieldOf, formed, cellsIn}
+use Rattle.field.specs.Read.{fieldOf, formed, valueCells}
 use Rattle.field.specs.declared.Value.{Value}
 use Rattle.field.specs.declared.Value.the-variants.{Letters, Misformed}
 use Rattle.reading.specs.Blanks.{mayBeShort, filledTo, Fits}
@@ -49,9 +49,11 @@ module _ (bytes : List ℕ) (width : ℕ) (old : List ℤ) (at : ℕ) (short : l
   pub letters-none : old ≡ over at (take 0 (map pos (filledTo width bytes))) old
   letters-none = over-none old at ∙ ap (λ l. over at l old) (sym (take-none (map pos (filledTo width bytes))))
 
-  pub letters-more : (i : ℕ) (table : List ℤ) (z : ℤ) → i < width → z ≡ pos (getD bytes i 32) → table ≡ over at (take i (map pos (filledTo width bytes))) old → set table (at + i) z ≡ over at (take (i + 1) (map pos (filledTo width bytes))) old
+  pub letters-more : (i : ℕ) (table : List ℤ) (z : ℤ) → i < width → z ≡ pos (getD bytes i 32) → table ≡ over at (take i (map pos (filledTo width bytes))) old
+      → set table (at + i) z ≡ over at (take (i + 1) (map pos (filledTo width bytes))) old
   letters-more i table z h e b =
-      let d : z ≡ getD (map pos (filledTo width bytes)) i (pos 0) = e ∙ ap pos (sym (filled-getD width bytes i)) ∙ sym (getD-map-within pos (filledTo width bytes) i 32 (pos 0) (omega (arith, filled-length width bytes short))) in
+      let d : z ≡ getD (map pos (filledTo width bytes)) i (pos 0) =
+      e ∙ ap pos (sym (filled-getD width bytes i)) ∙ sym (getD-map-within pos (filledTo width bytes) i 32 (pos 0) (omega (arith, filled-length width bytes short))) in
       rw d (over-turn old (map pos (filledTo width bytes)) table at i (pos 0) (omega (arith, many)) (omega (arith, many)) b)
 
   pub letters-all : (i : ℕ) (table : List ℤ) → width ≤ i → table ≡ over at (take i (map pos (filledTo width bytes))) old → table ≡ over at (map pos (filledTo width bytes)) old
@@ -60,11 +62,11 @@ module _ (bytes : List ℕ) (width : ℕ) (old : List ℤ) (at : ℕ) (short : l
 -- ---- a field
 
 -- a form whose lines may be short holds letters
-short-cells : (f : Form) (t : List ℕ) → mayBeShort f ≡ true → T (formed (fieldOf f t)) → cellsIn t (fieldOf f t) ≡ map pos t
+short-cells : (f : Form) (t : List ℕ) → mayBeShort f ≡ true → T (formed (fieldOf f t)) → valueCells t (fieldOf f t) ≡ map pos t
 unfolding Read.fieldOf
 short-cells A120 t e h = by (eqb (length t) (rowOf A120 .width)) (every printable t) h
   where
-    by : (x y : Bool) → T (formed (cond x (cond y Letters Misformed) Misformed)) → cellsIn t (cond x (cond y Letters Misformed) Misformed) ≡ map pos t
+    by : (x y : Bool) → T (formed (cond x (cond y Letters Misformed) Misformed)) → valueCells t (cond x (cond y Letters Misformed) Misformed) ≡ map pos t
     by true true g = refl
     by true false g = absurd g
     by false y g = absurd g
@@ -78,41 +80,51 @@ short-cells E11 t e h = absurd (false≢true e)
 short-cells E20 t e h = absurd (false≢true e)
 short-cells E8 t e h = absurd (false≢true e)
 
-pub cells-size : (f : Form) (t : List ℕ) → T (formed (fieldOf f t)) → length (cellsIn t (fieldOf f t)) ≡ rowOf f .cells
-cells-size f t h = reads-size f t (cellsIn t (fieldOf f t)) record { good = h; cells = refl }
+pub cells-size : (f : Form) (t : List ℕ) → T (formed (fieldOf f t)) → length (valueCells t (fieldOf f t)) ≡ rowOf f .cells
+cells-size f t h = reads-size f t (valueCells t (fieldOf f t)) record { good = h; cells = refl }
 
-module _ (f : Form) (width : ℕ) (bytes : List ℕ) (old : List ℤ) (at : ℕ) (wide : width ≡ rowOf f .width) (fit : Fits f (length bytes)) (good : T (formed (fieldOf f (filledTo width bytes)))) (room : at + rowOf f .cells ≤ length old) where
+-- bytes that are a field of their form once they are filled with blanks, and room for its cells
+pub record ToPut (f : Form) (width : ℕ) (bytes : List ℕ) (old : List ℤ) (at : ℕ) : Type 0 where
+  pub wide : width ≡ rowOf f .width
+  pub fit : Fits f (length bytes)
+  pub good : T (formed (fieldOf f (filledTo width bytes)))
+  pub room : at + rowOf f .cells ≤ length old
+
+module _ {f : Form} {width : ℕ} {bytes : List ℕ} {old : List ℤ} {at : ℕ} (p : ToPut f width bytes old at) where
   pub short-room : mayBeShort f ≡ true → (length bytes ≤ width) × (at + width ≤ length old)
   short-room e =
-      let l : length bytes ≤ width = omega (arith, fit .high) in
-      (l, omega (arith, cells-size f (filledTo width bytes) good, ap length (short-cells f (filledTo width bytes) e good), length-map (filledTo width bytes) pos, filled-length width bytes l))
+      let l : length bytes ≤ width = omega (arith, p .fit .high) in (
+        l,
+        omega
+            (arith, cells-size f (filledTo width bytes) (p .good), ap length (short-cells f (filledTo width bytes) e (p .good)), length-map (filledTo width bytes) pos, filled-length width bytes l),
+      )
 
-  pub short-put : mayBeShort f ≡ true → {new : List ℤ} → new ≡ over at (map pos (filledTo width bytes)) old → new ≡ over at (cellsIn (filledTo width bytes) (fieldOf f (filledTo width bytes))) old
-  short-put e n = n ∙ ap (λ l. over at l old) (sym (short-cells f (filledTo width bytes) e good))
+  pub short-put : mayBeShort f ≡ true → {new : List ℤ} → new ≡ over at (map pos (filledTo width bytes)) old → new ≡ over at (valueCells (filledTo width bytes) (fieldOf f (filledTo width bytes))) old
+  short-put e n = n ∙ ap (λ l. over at l old) (sym (short-cells f (filledTo width bytes) e (p .good)))
 
   module _ (no : mayBeShort f ≡ false) {v : Value} (r : fieldOf f bytes ≡ v) where
     full : filledTo width bytes ≡ bytes
-    full = ap (λ n. filledTo n bytes) wide ∙ full-field f bytes no fit
+    full = ap (λ n. filledTo n bytes) (p .wide) ∙ full-field f bytes no (p .fit)
 
     value : fieldOf f (filledTo width bytes) ≡ v
     value = ap (fieldOf f) full ∙ r
 
-    cells : cellsIn (filledTo width bytes) (fieldOf f (filledTo width bytes)) ≡ cellsIn bytes v
-    cells = ap (cellsIn (filledTo width bytes)) value ∙ ap (λ t. cellsIn t v) full
+    cells : valueCells (filledTo width bytes) (fieldOf f (filledTo width bytes)) ≡ valueCells bytes v
+    cells = ap (valueCells (filledTo width bytes)) value ∙ ap (λ t. valueCells t v) full
 
-    pub full-room : at + length (cellsIn bytes v) ≤ length old
-    full-room = omega (arith, cells-size f (filledTo width bytes) good, ap length cells)
+    pub full-room : at + length (valueCells bytes v) ≤ length old
+    full-room = omega (arith, cells-size f (filledTo width bytes) (p .good), ap length cells)
 
-    pub full-put : {new : List ℤ} → new ≡ over at (cellsIn bytes v) old → new ≡ over at (cellsIn (filledTo width bytes) (fieldOf f (filledTo width bytes))) old
+    pub full-put : {new : List ℤ} → new ≡ over at (valueCells bytes v) old → new ≡ over at (valueCells (filledTo width bytes) (fieldOf f (filledTo width bytes))) old
     full-put n = n ∙ ap (λ l. over at l old) (sym cells)
 
     pub full-formed : T (formed v)
-    full-formed = subst (λ x. T (formed x)) value good
+    full-formed = subst (λ x. T (formed x)) value (p .good)
 
     pub full-letters : v ≡ Letters → (length bytes ≤ width) × (at + width ≤ length old)
     full-letters u =
-        let low : rowOf f .width ≤ length bytes = rw no at (fit .low) in
-        (omega (arith, fit .high), omega (arith, full-room, ap (λ y. length (cellsIn bytes y)) u, length-map bytes pos))
+        let low : rowOf f .width ≤ length bytes = rw no at (p .fit .low) in
+        (omega (arith, p .fit .high), omega (arith, full-room, ap (λ y. length (valueCells bytes y)) u, length-map bytes pos))
 
     pub full-filled : {new : List ℤ} → new ≡ over at (map pos (filledTo width bytes)) old → new ≡ over at (map pos bytes) old
     full-filled n = n ∙ ap (λ t. over at (map pos t) old) full

@@ -23,7 +23,7 @@ use Rattle.form.specs.Count
 use Rattle.form.specs.Count.{elementsOf, linesOf, cellsOf, roundedUp}
 use Rattle.form.proofs.Rows.{row-fits}
 use Rattle.form.proofs.Rounding.{lines-enough}
-use Rattle.field.specs.Read.{fieldOf, formed, cellsIn, Reads}
+use Rattle.field.specs.Read.{fieldOf, formed, valueCells, ReadsAs}
 use Rattle.field.proofs.Laws.{lawful}
 use Rattle.line.specs.Lines.{reach}
 use Rattle.line.specs.Contents.{contentOf}
@@ -47,14 +47,14 @@ clean-read (bad r) e = let z : _≡_ {A = ℕ} 0 1 = cc in absurd (omega arith)
 
 -- ---- a field
 
-pub field-done : (f : Form) (line e : ℕ) (x : List ℕ) (cs : List ℤ) → readField f line e x ≡ done cs → Reads f x cs
+pub field-done : (f : Form) (line e : ℕ) (x : List ℕ) (cs : List ℤ) → readField f line e x ≡ done cs → ReadsAs f x cs
 field-done f line e x cs h = by (formed (fieldOf f x)) refl h
   where
-    by : (t : Bool) → formed (fieldOf f x) ≡ t → cond t (done (cellsIn x (fieldOf f x))) (bad (BadField line e)) ≡ done cs → Reads f x cs
+    by : (t : Bool) → formed (fieldOf f x) ≡ t → cond t (done (valueCells x (fieldOf f x))) (bad (BadField line e)) ≡ done cs → ReadsAs f x cs
     by true u v = record { good = true-T (formed (fieldOf f x)) u; cells = cc }
     by false u v = no-done v
 
-pub reads-size : (f : Form) (x : List ℕ) (cs : List ℤ) → Reads f x cs → length cs ≡ rowOf f .cells
+pub reads-size : (f : Form) (x : List ℕ) (cs : List ℤ) → ReadsAs f x cs → length cs ≡ rowOf f .cells
 reads-size f x cs r = lawful f .sized cs (lawful f .fitting x cs r)
 
 -- ---- a line
@@ -68,7 +68,13 @@ fields-size f number e (suc k) s cs h =
     let w = rowOf f .width in
     let d = both-done (readField f number e (take w s)) (readFields f (record { number = number; first = suc e; many = k }) (drop w s)) cs h in
     ap length (d .all) ∙ length-append (d .first) (d .second)
-    ∙ omega (arith, reads-size f (take w s) (d .first) (field-done f number e (take w s) (d .first) (d .first-is)), fields-size f number (suc e) k (drop w s) (d .second) (d .second-is), suc-mul k (rowOf f .cells))
+    ∙ omega (
+      arith,
+      reads-size f (take w s) (d .first) (field-done f number e (take w s) (d .first) (d .first-is)),
+      fields-size f number (suc e) k (drop w s) (d .second)
+          (d .second-is),
+      suc-mul k (rowOf f .cells),
+    )
 
 -- a line that was read is right, and its fields were
 pub record LineDone (f : Form) (l : Line) (x : List ℕ) (cs : List ℤ) : Type 0 where
@@ -81,7 +87,8 @@ pub line-done : (f : Form) (l : Line) (x : List ℕ) (cs : List ℤ) → readLin
 unfolding readLine
 line-done f l x cs h = by (contentOf x) refl h
   where
-    test : (n : ℕ) (t : Bool) → contentOf x ≡ Length n → isRight f (columnsOf f l) (part 0 n x) ≡ t → cond t (readFields f l (filledTo (columnsOf f l) (part 0 n x))) (bad (BadLine (l .number))) ≡ done cs → LineDone f l x cs
+    test : (n : ℕ) (t : Bool) → contentOf x ≡ Length n → isRight f (columnsOf f l) (part 0 n x) ≡ t
+        → cond t (readFields f l (filledTo (columnsOf f l) (part 0 n x))) (bad (BadLine (l .number))) ≡ done cs → LineDone f l x cs
     test n true u v w = record { bytes = n; content = u; right = v; fields = w }
     test n false u v w = no-done w
 

@@ -97,7 +97,8 @@ module _ (ns : List ℕ) (g : ℕ) (x : List ℕ) (old : List ℤ) where
       refuses old n
 
   module _ (f : Form) (e : formOf g ≡ Has f) where
-    pub group-kept : rulingOf ns ≡ Kept → (count : ℕ) → count ≡ countOf ns g → {a : Answer} {new : List ℤ} → Answers (readForm f g count x (length old)) old a new → Answers (readGroup ns g x (length old)) old a new
+    pub group-kept : rulingOf ns ≡ Kept → (count : ℕ) → count ≡ countOf ns g → {a : Answer} {new : List ℤ} → Answers (readForm f g count x (length old)) old a new
+        → Answers (readGroup ns g x (length old)) old a new
     unfolding readGroup
     group-kept r count c {a = a} {new = new} b =
         let n : readGroup ns g x (length old) ≡ readForm f g (countOf ns g) x (length old) = rw (e, r) in

@@ -35,7 +35,8 @@ use Rattle.reading.specs.Read.{columnsOf, misfitOf, readLines, verdictOf
 use Rattle.reading.proofs.Blanks.{as-whole, as-filled}
 use Rattle.reading.proofs.Lines.{right-is}
 use Rattle.reading.proofs.Fields.{lineText, short-one, enough}
-use Rattle.reading.proofs.Checking.{Checking, Fielding, element-small, next-first, many-here, columns-here, few-here, end-range, width-few, wrong-line, content-inside, fielding-start, checking-next, field-range, fielding-next, wrong-field}
+use Rattle.reading.proofs.Checking.{Checking, Fielding, element-small, next-first, many-here, columns-here, few-here, end-range, width-few, wrong-line}
+use Rattle.reading.proofs.Checking.{content-inside, fielding-start, checking-next, field-range, fielding-next, wrong-field}
 
 -- ---- how far fields are looked for
 
@@ -205,7 +206,15 @@ module _ {f : Form} {count : ℕ} {s : List ℕ} (o : OnLine f count s) where
                 t ∙ ap (min (from + o .width)) (stop-short f (o .k * o .width) s (o .at) (o .state .walk .inside) (o .stop) (o .sought) u .content m v)
             by false u =
                 let n : columnsOf f l ≤ m = rw u at (enough f l s (o .at) end m (end-range f count s (o .state .walk) (o .k) end (o .elements) w .1) r) in
-                omega (arith, next, columns, o .state .walk .wide, stop-full f (o .k * o .width) s (o .at) (o .state .walk .inside) (o .stop) (o .sought) u, content-inside f count s (o .state) (o .further) (o .k) end (o .elements) w m given)
+                omega (
+                  arith,
+                  next,
+                  columns,
+                  o .state .walk .wide,
+                  stop-full f (o .k * o .width) s (o .at) (o .state .walk .inside) (o .stop)
+                      (o .sought) u,
+                  content-inside f count s (o .state) (o .further) (o .k) end (o .elements) w m given,
+                )
 
         same : formed (fieldOf f (asField f (part from to s))) ≡ formed (fieldOf f (filledTo (rowOf f .width) (part from to s)))
         same =
@@ -218,15 +227,19 @@ module _ {f : Form} {count : ℕ} {s : List ℕ} (o : OnLine f count s) where
             place = omega (arith, g .place, o .state .walk .wide, add-mul i 1 (rowOf f .width), one-mul (rowOf f .width));
             within = omega (arith, inner);
             reached = λ u. omega (arith, whole u);
-            plain = λ u. subst (λ n. Plain (part (o .at) n s)) (whole u) (subst Plain (part-append s (o .at) from to (omega (arith, g .place)) (try-range .0)) (plain-append (part (o .at) from s) (part from to s) (g .plain u) (formed-plain f (part from to s) u y .1)));
-            right = λ end m w r. fielding-next f count s (o .state) (o .further) (o .k) end (o .elements) w m (given end m w r) (g .right end m w r) to c (to-right end m w r) (sym (same end m w r) ∙ y);
+            plain = λ u. subst (λ n. Plain (part (o .at) n s)) (whole u)
+                (subst Plain (part-append s (o .at) from to (omega (arith, g .place)) (try-range .0))
+                (plain-append (part (o .at) from s) (part from to s) (g .plain u) (formed-plain f (part from to s) u y .1)));
+            right = λ end m w r. fielding-next f count s (o .state) (o .further) (o .k) end (o .elements) w m (given end m w r) (g .right end m w r) to c (to-right end m w r)
+                (sym (same end m w r) ∙ y);
           }
         where
           whole : mayBeShort f ≡ false → to ≡ from + o .width
           whole u = omega (arith, formed-plain f (part from to s) u y .0, long, o .state .walk .wide, try-range)
 
       -- a line that is not right is blamed, and otherwise the field
-      pub trying-wrong : formed (fieldOf f (asField f (part from to s))) ≡ false → (r : Refusal) → r ≡ misfitOf (o .j + 1) (o .element + i) (rightContent f (o .k * o .width) (part (o .at) (o .at + reach (drop (o .at) s) 1) s)) → C.Refused r ≡ verdictOf (readLines f count s)
+      pub trying-wrong : formed (fieldOf f (asField f (part from to s))) ≡ false → (r : Refusal)
+          → r ≡ misfitOf (o .j + 1) (o .element + i) (rightContent f (o .k * o .width) (part (o .at) (o .at + reach (drop (o .at) s) 1) s)) → C.Refused r ≡ verdictOf (readLines f count s)
       trying-wrong y r z = by (rightContent f (o .k * o .width) (part (o .at) (o .at + reach (drop (o .at) s) 1) s)) refl
         where
           end : ℕ
@@ -235,7 +248,8 @@ module _ {f : Form} {count : ℕ} {s : List ℕ} (o : OnLine f count s) where
           by : (x : Content) → rightContent f (o .k * o .width) (part (o .at) (o .at + reach (drop (o .at) s) 1) s) ≡ x → C.Refused r ≡ verdictOf (readLines f count s)
           by (Length m) v =
               let n : rightContent f (columnsOf f l) (part (o .at) end s) ≡ Length m = rw columns at v in
-              ap C.Refused (z ∙ ap (misfitOf (o .j + 1) (o .element + i)) v) ∙ wrong-field f count s (o .state) (o .further) (o .k) end (o .elements) refl m v (g .right end m refl n) to c (to-right end m refl n) (sym (same end m refl n) ∙ y)
+              ap C.Refused (z ∙ ap (misfitOf (o .j + 1) (o .element + i)) v)
+              ∙ wrong-field f count s (o .state) (o .further) (o .k) end (o .elements) refl m v (g .right end m refl n) to c (to-right end m refl n) (sym (same end m refl n) ∙ y)
           by NoReturn v = ap C.Refused (z ∙ ap (misfitOf (o .j + 1) (o .element + i)) v) ∙ wrong-line f count s (o .state) (o .further) (o .k) end (o .elements) refl v
 
     -- all fields are formed: the line's end is sought behind them
@@ -247,7 +261,16 @@ module _ {f : Form} {count : ℕ} {s : List ℕ} (o : OnLine f count s) where
           by true u = stop-short f (o .k * o .width) s (o .at) (o .state .walk .inside) (o .stop) (o .sought) u .plain
           by false u =
               let z : i ≡ (o .k) = omega (arith, g .within, many-here f count s (o .state .walk) (o .k) (o .at + reach (drop (o .at) s) 1) (o .elements) refl) in
-              let n : from ≡ (o .stop) = omega (arith, g .place, ap (λ x. x * rowOf f .width) z, ap (λ x. (o .k) * x) (o .state .walk .wide), g .reached u, stop-full f (o .k * o .width) s (o .at) (o .state .walk .inside) (o .stop) (o .sought) u) in
+              let n : from ≡ (o .stop) =
+              omega (
+                arith,
+                g .place,
+                ap (λ x. x * rowOf f .width) z,
+                ap (λ x. (o .k) * x) (o .state .walk .wide),
+                g .reached u,
+                stop-full f (o .k * o .width) s (o .at)
+                    (o .state .walk .inside) (o .stop) (o .sought) u,
+              ) in
               subst (λ x. Plain (part (o .at) x s)) n (g .plain u)
 
       pub tried-range : (o .at ≤ end) × (end ≤ length s)
@@ -256,5 +279,6 @@ module _ {f : Form} {count : ℕ} {s : List ℕ} (o : OnLine f count s) where
       pub tried-wrong : rightContent f (o .k * o .width) (part (o .at) end s) ≡ NoReturn → C.Refused (BadLine (o .j + 1)) ≡ verdictOf (readLines f count s)
       tried-wrong v = wrong-line f count s (o .state) (o .further) (o .k) end (o .elements) ends v
 
-      pub tried-next : (m : ℕ) → rightContent f (o .k * o .width) (part (o .at) end s) ≡ Length m → Checking f count s (o .width) (o .perLine) (o .many) (o .left - o .k) end (o .element + o .perLine) (o .j + 1)
+      pub tried-next : (m : ℕ) → rightContent f (o .k * o .width) (part (o .at) end s) ≡ Length m
+          → Checking f count s (o .width) (o .perLine) (o .many) (o .left - o .k) end (o .element + o .perLine) (o .j + 1)
       tried-next m v = checking-next f count s (o .state) (o .further) (o .k) end (o .elements) ends m v (g .right end m ends (rw columns at v)) d

@@ -22,7 +22,7 @@ use Rattle.form.specs.Count
 use Rattle.form.specs.Count.{elementsOf, linesOf, cellsOf}
 use Rattle.form.proofs.Rows.{row-fits}
 use Rattle.form.proofs.Rounding.{lines-enough}
-use Rattle.field.specs.Read.{fieldOf, cellsIn, Reads}
+use Rattle.field.specs.Read.{fieldOf, valueCells, ReadsAs}
 use Rattle.field.proofs.Laws.{lawful}
 use Rattle.line.specs.Lines.{reach, behind}
 use Rattle.line.proofs.Reach.{reach-zero, reach-add}
@@ -102,7 +102,7 @@ module _ (f : Form) (count : ℕ) (x : List ℕ) where
   pub record ReadLine (j : ℕ) (cs : List ℤ) : Type 0 where
     pub content : List ℕ
     pub line : RightLine f count x j content
-    pub each : (k : ℕ) → k < planned f count j .many → Reads f (fieldIn f count j content k) (part (k * rowOf f .cells) (suc k * rowOf f .cells) cs)
+    pub each : (k : ℕ) → k < planned f count j .many → ReadsAs f (fieldIn f count j content k) (part (k * rowOf f .cells) (suc k * rowOf f .cells) cs)
 
   pub line-read : (j : ℕ) (cs : List ℤ) → lineRead f count x j ≡ done cs → ReadLine j cs
   line-read j cs e =
@@ -116,7 +116,8 @@ module _ (f : Form) (count : ℕ) (x : List ℕ) where
       record {
         content = s;
         line = record { content = is-content y (d .bytes) (d .content) .0; right = right-plain f (columnsOf f l) s .0 (ap (isRight f (columnsOf f l)) (sym t) ∙ d .right) };
-        each = λ k h. field-done f (l .number) (l .first + k) (fieldIn f count j s k) (part (k * rowOf f .cells) (suc k * rowOf f .cells) cs) (piece-done (fields-pieces f l text) (fields-sized f l text) cs fields k h);
+        each = λ k h. field-done f (l .number) (l .first + k) (fieldIn f count j s k) (part (k * rowOf f .cells) (suc k * rowOf f .cells) cs)
+            (piece-done (fields-pieces f l text) (fields-sized f l text) cs fields k h);
       }
 
   -- ---- the group
@@ -167,7 +168,8 @@ module _ (f : Form) (count : ℕ) (x : List ℕ) where
         record {
           content = r .content;
           line = r .line;
-          reads = lawful f .reads-is (fieldIn f count j (r .content) k) (part ((j * p + k) * c) ((j * p + k) * c + c) cs) (subst (Reads f (fieldIn f count j (r .content) k)) (part-part (begins j) (begins (suc j)) (k * c) (suc k * c) cs within ∙ rw (from, to) refl) (r .each k (omega arith)));
+          reads = lawful f .reads-is (fieldIn f count j (r .content) k) (part ((j * p + k) * c) ((j * p + k) * c + c) cs)
+              (subst (ReadsAs f (fieldIn f count j (r .content) k)) (part-part (begins j) (begins (suc j)) (k * c) (suc k * c) cs within ∙ rw (from, to) refl) (r .each k (omega arith)));
         }
 
     -- what was read is the group's values
@@ -192,4 +194,4 @@ module _ (f : Form) (count : ℕ) (x : List ℕ) where
           let c : a .content ≡ b .content = content-one (lineOf x (i / p)) (a .content) (b .content) (a .line .content) (b .line .content) in
           let d = lawful f .is-reads (fieldIn f count (i / p) (a .content) (i % p)) (part (i * rowOf f .cells) (i * rowOf f .cells + rowOf f .cells) cs) (a .reads) in
           let g = lawful f .is-reads (fieldIn f count (i / p) (b .content) (i % p)) (part (i * rowOf f .cells) (i * rowOf f .cells + rowOf f .cells) ds) (b .reads) in
-          sym (d .cells) ∙ ap (λ s. cellsIn (fieldIn f count (i / p) s (i % p)) (fieldOf f (fieldIn f count (i / p) s (i % p)))) c ∙ g .cells
+          sym (d .cells) ∙ ap (λ s. valueCells (fieldIn f count (i / p) s (i % p)) (fieldOf f (fieldIn f count (i / p) s (i % p)))) c ∙ g .cells

@@ -77,7 +77,7 @@ module _ (ns : List ℕ) (g : ℕ) (x : List ℕ) (room : ℕ) where
     pub kept : KeepsRules ns
 
   -- R211, R264: the table has fewer cells than the group; for no other reason
-  pub record Short : Type 0 where
+  pub record TableShort : Type 0 where
     pub f : Form
     pub ruled : Ruled f
     pub few : room < cellsOf f (countOf ns g)
@@ -99,7 +99,7 @@ module _ (ns : List ℕ) (g : ℕ) (x : List ℕ) (room : ℕ) where
     pub field : WrongField f (countOf ns g) x l e
 
   -- neither of them: the cells are read
-  pub record HasCells (cs : List ℤ) : Type 0 where
+  pub record CellsRead (cs : List ℤ) : Type 0 where
     pub f : Form
     pub roomy : Roomy f
     pub clean : AllClean f (countOf ns g) x
@@ -108,20 +108,20 @@ module _ (ns : List ℕ) (g : ℕ) (x : List ℕ) (room : ℕ) where
   -- R210, R265: the letters of group 3 are no date, and p is blamed
   pub record DateDue (p : ℕ) : Type 0 where
     pub cs : List ℤ
-    pub cells : HasCells cs
+    pub cells : CellsRead cs
     pub three : g ≡ 3
     pub wrong : Letters.Due (map sizeOf cs) (Wrong p)
 
   -- R200: 0, and of group 3 a date
   pub record DoneDue (cs : List ℤ) : Type 0 where
-    pub cells : HasCells cs
+    pub cells : CellsRead cs
     pub date : g ≡ 3 → (d : Date) × Letters.Due (map sizeOf cs) (Right d)
 
   -- what it refuses with, and when
   pub data RefusedFor : Refusal → Type 0 where
     no-group : NoSuchGroup g → RefusedFor NoSuchNumber
     broken-rule : (h : ℕ) → RuleDue h → RefusedFor (BrokenRule h)
-    no-room : Short → RefusedFor NoRoom
+    no-room : TableShort → RefusedFor NoRoom
     bad-line : (l : ℕ) → LineDue l → RefusedFor (BadLine l)
     bad-field : (l e : ℕ) → FieldDue l e → RefusedFor (BadField l e)
     bad-date : (p : ℕ) → DateDue p → RefusedFor (BadDate p)

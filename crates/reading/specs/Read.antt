@@ -14,7 +14,7 @@ use Rattle.form.specs.declared.GroupForm.{GroupForm}
 use Rattle.form.specs.declared.GroupForm.the-variants.{Has, NoGroup as NoForm}
 use Rattle.form.specs.Table.{rowOf, formOf}
 use Rattle.form.specs.Count.{cellsOf}
-use Rattle.field.specs.Read.{fieldOf, formed, cellsIn}
+use Rattle.field.specs.Read.{fieldOf, formed, valueCells}
 use Rattle.line.specs.Lines.{reach}
 use Rattle.line.specs.Contents.{contentOf}
 use Rattle.line.specs.declared.Content.{Content}
@@ -43,7 +43,7 @@ Cells = Got Refusal ℤ
 
 -- R209: a field that is none of the form, with its line and its element (R232)
 abbrev pub readField : Form → ℕ → ℕ → List ℕ → Cells
-readField f line e x = cond (formed (fieldOf f x)) (done (cellsIn x (fieldOf f x))) (bad (BadField line e))
+readField f line e x = cond (formed (fieldOf f x)) (done (valueCells x (fieldOf f x))) (bad (BadField line e))
 
 -- R61: the fields of a line stand one behind the other
 unfoldable pub readFields : Form → Line → List ℕ → Cells

@@ -17,7 +17,7 @@ ghost use Rattle.base.specs.Part.{part, over};
 ghost use Rattle.base.specs.Pieces.{cellsGot};
 ghost use Rattle.form.specs.Table.{rowOf, formOf};
 ghost use Rattle.form.specs.Count.{cellsOf};
-ghost use Rattle.field.specs.Read.{fieldOf, formed, cellsIn};
+ghost use Rattle.field.specs.Read.{fieldOf, formed, valueCells};
 ghost use Rattle.count.specs.Rules.{rulingOf};
 ghost use Rattle.line.specs.Lines.{reach};
 ghost use Rattle.line.specs.Contents.{contentOf};
@@ -74,16 +74,7 @@ fn is_right(form: Form, columns: usize, content: &[u8]) -> bool
     ensures { λ r. ⌜ r ≡ isRight form columns (now (content .entry)) ⌝ }
 {
     let n = content.len();
-    if n < least(form, columns) {
-        return false;
-    }
-    if 120 < n {
-        return false;
-    }
-    if n <= columns {
-        return true;
-    }
-    all_blank(&content[columns..n])
+    least(form, columns) <= n && (n <= 120 && (n <= columns || all_blank(&content[columns..n])))
 }
 
 // R66: the length of a line's content, if there is one and it is right.
@@ -296,7 +287,7 @@ fn put_field(form: Form, width: usize, bytes: &[u8], table: &mut [i64], at: usiz
     requires formed { ⌜ T (formed (fieldOf form (filledTo width (now bytes)))) ⌝ }
     requires room { ⌜ at + rowOf form .cells ≤ length (now table) ⌝ }
     ensures { λ _. ⌜ now (table .exit) ≡
-        over at (cellsIn (filledTo width (now (bytes .entry))) (fieldOf form (filledTo width (now (bytes .entry)))))
+        over at (valueCells (filledTo width (now (bytes .entry))) (fieldOf form (filledTo width (now (bytes .entry)))))
         (now (table .entry)) ⌝ }
 {
     if may_be_short(form) {
@@ -334,7 +325,7 @@ fn put_field_at(
     requires room { ⌜ at + rowOf form .cells ≤ length (now table) ⌝ }
     ensures { λ _. ⌜ now (table .exit) ≡
         over at
-        (cellsIn (filledTo width (part from to (now (lines .entry))))
+        (valueCells (filledTo width (part from to (now (lines .entry))))
         (fieldOf form (filledTo width (part from to (now (lines .entry)))))) (now (table .entry)) ⌝ }
 {
     put_field(form, width, &lines[from..to], table, at);

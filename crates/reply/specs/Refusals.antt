@@ -3,7 +3,8 @@ use mathlib.Core.List.{List, [], _∷_, _++_, map}
 use Prim.Native.Nat.{ℕ}
 use Rattle.reply.specs.declared.Reply.{Reply}
 use Rattle.reply.specs.declared.Refusal.{Refusal}
-use Rattle.reply.specs.declared.Refusal.the-variants.{End, Beyond, TooFewLines, Misformed, OtherRelease, FilledVacant, BrokenRule, BadLine, BadField, BadDate, NoRoom, NoSuchNumber, NoField, OtherLength, NotOpen, AllOpen, BadEntry}
+use Rattle.reply.specs.declared.Refusal.the-variants.{End, Beyond, TooFewLines, Misformed, OtherRelease, FilledVacant, BrokenRule, BadLine, BadField}
+use Rattle.reply.specs.declared.Refusal.the-variants.{BadDate, NoRoom, NoSuchNumber, NoField, OtherLength, NotOpen, AllOpen, BadEntry}
 use Rattle.reply.specs.declared.Checked.{Checked}
 use Rattle.reply.specs.declared.Checked.the-variants as C
 use Rattle.reply.specs.declared.Answer.{Answer}
@@ -11,24 +12,24 @@ use Rattle.reply.specs.declared.Answer.the-variants as A
 use Rattle.reply.specs.Table.{Given, told, kindsOf, Row, row, next, bytes, group, line, element, position}
 
 -- R201 to R214
-abbrev pub numberOf : Refusal → ℕ
-numberOf End = 1
-numberOf Beyond = 2
-numberOf TooFewLines = 3
-numberOf Misformed = 4
-numberOf OtherRelease = 5
-numberOf (FilledVacant g) = 6
-numberOf (BrokenRule g) = 7
-numberOf (BadLine l) = 8
-numberOf (BadField l e) = 9
-numberOf (BadDate p) = 10
-numberOf NoRoom = 11
-numberOf NoSuchNumber = 12
-numberOf (NoField g e) = 13
-numberOf OtherLength = 14
-numberOf NotOpen = 15
-numberOf AllOpen = 16
-numberOf (BadEntry p) = 17
+abbrev pub refusalNumber : Refusal → ℕ
+refusalNumber End = 1
+refusalNumber Beyond = 2
+refusalNumber TooFewLines = 3
+refusalNumber Misformed = 4
+refusalNumber OtherRelease = 5
+refusalNumber (FilledVacant g) = 6
+refusalNumber (BrokenRule g) = 7
+refusalNumber (BadLine l) = 8
+refusalNumber (BadField l e) = 9
+refusalNumber (BadDate p) = 10
+refusalNumber NoRoom = 11
+refusalNumber NoSuchNumber = 12
+refusalNumber (NoField g e) = 13
+refusalNumber OtherLength = 14
+refusalNumber NotOpen = 15
+refusalNumber AllOpen = 16
+refusalNumber (BadEntry p) = 17
 
 -- R206, R207, R208, R209, R210, R213; beside the others nothing stands
 abbrev pub besideOf : Refusal → Given
@@ -51,9 +52,9 @@ besideOf AllOpen = []
 besideOf (BadEntry p) = (next, p) ∷ []
 
 abbrev pub refusalReply : Refusal → Reply
-refusalReply r = told (numberOf r) (besideOf r)
+refusalReply r = told (refusalNumber r) (besideOf r)
 
--- R200: 0, with nothing beside it, or with the cells or bytes that were written
+-- R200: 0, with nothing beside it, or with how many cells or bytes were written; which of both, the question says, and its row
 abbrev pub checkedReply : Checked → Reply
 checkedReply C.Right = told 0 []
 checkedReply (C.Refused r) = refusalReply r
@@ -62,19 +63,19 @@ abbrev pub answerReply : Answer → Reply
 answerReply (A.Done n) = told 0 ((bytes, n) ∷ [])
 answerReply (A.Refused r) = refusalReply r
 
--- ---- which refusals a question has: variants, whatever numbers stand beside them
+-- ---- the rows of refusals; in a list of variants the numbers beside them stand for any
 
 -- the row of a refusal
-abbrev pub rowOf : Refusal → Row
-rowOf r = row (numberOf r) (kindsOf (besideOf r))
+abbrev pub refusalRow : Refusal → Row
+refusalRow r = row (refusalNumber r) (kindsOf (besideOf r))
 
 -- R251: what placing refuses with, and places nothing
-abbrev pub unplaced : List Refusal
-unplaced = End ∷ Beyond ∷ TooFewLines ∷ Misformed ∷ OtherRelease ∷ FilledVacant 0 ∷ []
+abbrev pub unplacedRefusals : List Refusal
+unplacedRefusals = End ∷ Beyond ∷ TooFewLines ∷ Misformed ∷ OtherRelease ∷ FilledVacant 0 ∷ []
 
 -- R235: a question that goes no further has these and 7, without its next place
 abbrev pub placingRefusals : List Refusal
-placingRefusals = unplaced ++ (BrokenRule 0 ∷ [])
+placingRefusals = unplacedRefusals ++ (BrokenRule 0 ∷ [])
 
 -- R260, R281: 12, and then what placing refuses with
 abbrev pub askedRefusals : List Refusal
@@ -85,4 +86,4 @@ abbrev pub lineRefusals : List Refusal
 lineRefusals = BadLine 0 ∷ BadField 0 0 ∷ []
 
 abbrev pub rows : List Refusal → List Row
-rows rs = map rowOf rs
+rows rs = map refusalRow rs

@@ -13,14 +13,14 @@ use Rattle.reply.specs.declared.Reply.{Reply}
 pub data Beside : Type 0 where
   next cells bytes group line element position : Beside
 
-abbrev pub code : Beside → ℕ
-code next = 0
-code cells = 1
-code bytes = 2
-code group = 3
-code line = 4
-code element = 5
-code position = 6
+abbrev pub kindCode : Beside → ℕ
+kindCode next = 0
+kindCode cells = 1
+kindCode bytes = 2
+kindCode group = 3
+kindCode line = 4
+kindCode element = 5
+kindCode position = 6
 
 abbrev pub Given : Type 0
 Given = List (Beside × ℕ)
@@ -30,24 +30,24 @@ abbrev pub kindsOf : Given → List Beside
 kindsOf bs = map (λ b. b .0) bs
 
 -- how much is given of the kinds that pass a test of their codes: the first; 0 where none is given
-abbrev pub given : (ℕ → Bool) → Given → ℕ
-given test [] = 0
-given test (b ∷ bs) = cond (test (code (b .0))) (b .1) (given test bs)
+abbrev pub amountOf : (ℕ → Bool) → Given → ℕ
+amountOf test [] = 0
+amountOf test (b ∷ bs) = cond (test (kindCode (b .0))) (b .1) (amountOf test bs)
 
-abbrev pub is : Beside → ℕ → Bool
-is b c = eqb c (code b)
+abbrev pub isKind : Beside → ℕ → Bool
+isKind b c = eqb c (kindCode b)
 
 -- R230: a reply's number, and what stands beside it; a number that isn't given is 0
 abbrev pub told : ℕ → Given → Reply
 told number bs =
     record {
       number = number;
-      next = given (is next) bs;
-      written = given (λ c. is cells c || is bytes c) bs;
-      group = given (is group) bs;
-      line = given (is line) bs;
-      element = given (is element) bs;
-      position = given (is position) bs;
+      next = amountOf (isKind next) bs;
+      written = amountOf (λ c. isKind cells c || isKind bytes c) bs;
+      group = amountOf (isKind group) bs;
+      line = amountOf (isKind line) bs;
+      element = amountOf (isKind element) bs;
+      position = amountOf (isKind position) bs;
     }
 
 -- ---- which replies a question gives, and which numbers beside them
@@ -61,7 +61,7 @@ abbrev pub row : ℕ → List Beside → Row
 row number besides = record { number = number; besides = besides }
 
 abbrev pub names : Row → Beside → Bool
-names w b = has (map code (w .besides)) (code b)
+names w b = has (map kindCode (w .besides)) (kindCode b)
 
 -- a number that the row names is at least so much; one that it doesn't name is 0
 abbrev pub Shown : Bool → ℕ → ℕ → Type 0

@@ -65,7 +65,7 @@ pub struct Reply {
     pub position: usize,
 }
 
-// A reply with a next place and a group; a number that is 0 is as none.
+// A reply with a next place and a group; where one is 0, it has none.
 pub fn at_next(number: u32, place: usize, g: usize) -> Reply
     ensures { λ r. ⌜ r ≡ told number ((next, place) ∷ (group, g) ∷ []) ⌝ }
 {
@@ -80,7 +80,7 @@ pub fn at_next(number: u32, place: usize, g: usize) -> Reply
     }
 }
 
-// 0 with a next place and the bytes that were written; in the end 0 is as none.
+// 0 with a next place and the bytes that were written; a next place of 0 is none.
 pub fn written(place: usize, n: usize) -> Reply
     ensures { λ r. ⌜ r ≡ told 0 ((next, place) ∷ (bytes, n) ∷ []) ⌝ }
 {
@@ -96,7 +96,7 @@ pub fn written(place: usize, n: usize) -> Reply
 }
 
 // A reply with no number beside it.
-fn plain(number: u32) -> Reply
+pub fn plain(number: u32) -> Reply
     ensures { λ r. ⌜ r ≡ told number [] ⌝ }
 {
     at_next(number, 0, 0)

@@ -1,5 +1,5 @@
 // The program `rewrite` (R341, R345, R346): standard input is printed again as canonical text, record by record. What a record's text is,
-// and where the next begins, is `rewriting::rewrite_record`'s; here it is only read, asked for and written.
+// and where the next begins, is `sao::rewrite_record`'s; here it is only read, asked for and written.
 use rewriting::Rewriting;
 ghost use mathlib.Core.Path.{_≡_};
 ghost use lib.ListN.{length};
@@ -17,7 +17,7 @@ fn print_text(text: &[u8], table: &mut [i64], page: &mut [u8]) -> usize
     }
     let mut at: usize = 0;
     while at < text.len() {
-        let answer = rewriting::rewrite_record(text, at, table, page);
+        let answer = sao::rewrite_record(text, at, table, page);
         let Rewriting::Done(bytes, next) = answer else {
             return at;
         };

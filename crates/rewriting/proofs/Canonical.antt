@@ -28,7 +28,7 @@ use Rattle.writing.proofs.ReadsBack.{canonical-back, done-canonical}
 use Rattle.writing.proofs.ReadWrites.{again-bytes, written-again}
 use Rattle.rewriting.specs.declared.Groups.the-variants.{All}
 use Rattle.rewriting.specs.declared.Rewriting.{Rewriting}
-use Rattle.rewriting.specs.declared.Rewriting.the-variants.{Done, Missing, NoRoom, Unread}
+use Rattle.rewriting.specs.declared.Rewriting.the-variants.{Done, Refused, GroupRefused}
 use Rattle.rewriting.specs.Canonical.{RightRecord, CanonicalRecords, none, more}
 use Rattle.rewriting.specs.Record.{groupRead, groupsOf, allInTurn, cellsAt, textAt, rewritingOf}
 use Rattle.rewriting.specs.Printed.{programRewriting, textThen, rewrittenFrom, rewritten, printed}
@@ -45,7 +45,8 @@ module _ {x : List ℕ} (r : RightRecord x) (a b : List ℕ) where
   here = a ++ (x ++ b)
 
   back : ReadsBack (r .ns) (r .cs) (length x) here (length a)
-  back = canonical-back (r .canonical) (release-given (r .ns) Five (r .release)) (kept-ruling (r .ns) (r .rules)) record { date = r .date; right = Letters.first-due (dateLetters (r .ns) (r .cs)) (Right (r .date)) .1 (r .dated) } a b
+  back = canonical-back (r .canonical) (release-given (r .ns) Five (r .release))
+      (kept-ruling (r .ns) (r .rules)) record { date = r .date; right = Letters.first-due (dateLetters (r .ns) (r .cs)) (Right (r .date)) .1 (r .dated) } a b
 
   reads : (g : ℕ) → 1 ≤ g → g ≤ 60 → groupRead here (length a) g ≡ done (groupCells (r .ns) (r .cs) g)
   reads g low high = back .groups g (cellsIn (countsAt here (length a)) g) low high (rw (back .counts) (omega arith))
@@ -112,10 +113,10 @@ rewritten-canonical zero s at = none
 rewritten-canonical (suc k) s at = by (programRewriting s at) refl (rewritten-canonical k s)
   where
     by : (r : Rewriting) → programRewriting s at ≡ r → ((p : ℕ) → CanonicalRecords (rewrittenFrom k s p)) → CanonicalRecords (textThen (textAt s at) (rewrittenFrom k s) r)
-    by (Done bytes next) e rest = more (textAt s at) (text-right s at 8192 8192 bytes next e) (omega (arith, done-text s at 8192 8192 bytes next e, done-within s at 8192 8192 bytes next e)) (rest next)
-    by (Missing r) e rest = none
-    by NoRoom e rest = none
-    by (Unread g r) e rest = none
+    by (Done bytes next) e rest =
+        more (textAt s at) (text-right s at 8192 8192 bytes next e) (omega (arith, done-text s at 8192 8192 bytes next e, done-within s at 8192 8192 bytes next e)) (rest next)
+    by (Refused r) e rest = none
+    by (GroupRefused g r) e rest = none
 
 pub printed-canonical : (s : List ℕ) → CanonicalRecords (printed s)
 unfolding printed rewritten

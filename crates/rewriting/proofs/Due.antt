@@ -16,15 +16,18 @@ use Rattle.base.proofs.FirstBad.{IsDone, InPieces, first-bad, all-done}
 use Rattle.count.specs.Tally.{recordCells}
 use Rattle.place.specs.declared.Placing.{Placing}
 use Rattle.place.specs.declared.Placing.the-variants as P
+use Rattle.place.specs.Numbered.{asChecked}
+use Rattle.place.proofs.Due as Placing
 use Rattle.place.specs.Placing.{placingOf, countsAt}
-use Rattle.reading.specs.declared.Refusal.{Refusal}
+use Rattle.reply.specs.declared.Refusal.{Refusal}
+use Rattle.reply.specs.declared.Refusal.the-variants.{NoRoom, BrokenRule}
+use Rattle.reply.specs.declared.Checked.the-variants as C
 use Rattle.reading.specs.Read.{Cells}
-use Rattle.group.specs.Held.{refusalOf}
 use Rattle.writing.specs.Text.{recordBytes}
 use Rattle.rewriting.specs.declared.Rewriting.{Rewriting}
-use Rattle.rewriting.specs.declared.Rewriting.the-variants.{Done, Missing, NoRoom, Unread}
-use Rattle.rewriting.specs.Due.{NoRoomDue, Roomy, Due}
-use Rattle.rewriting.specs.Record.{Turn, groupRead, onGroup, inTurn, allInTurn, hasRoom, rewrittenAs, rewritingBy, rewritingOf}
+use Rattle.rewriting.specs.declared.Rewriting.the-variants.{Done, Refused, GroupRefused}
+use Rattle.rewriting.specs.Due.{NoRoomDue, RoomForBoth, RefusedFor, unplaced, broken-rule, no-room, Due}
+use Rattle.rewriting.specs.Record.{Turn, groupRead, onGroup, inTurn, allInTurn, hasRoom, rewrittenAs, rewritingOf}
 use Rattle.rewriting.proofs.Whole.{on-done, all-read}
 
 -- ---- groups in turn, as pieces
@@ -81,39 +84,35 @@ module _ (read : ℕ → Cells) where
   turn-all d = all-done in-turn (λ i l. let h = d (suc i) (omega arith) (omega arith) in record { cells = h .cells; is = rw (h .is) refl })
 
 module _ (s : List ℕ) (at cells room : ℕ) where
-  pub missing-is : (p : Placing) → placingOf s at ≡ p → ((n : ℕ) → p ≡ P.Placed n → ⊥) → rewritingOf s at cells room ≡ Missing (refusalOf p)
+  pub missing-is : (r : Refusal) → asChecked (placingOf s at) ≡ C.Refused r → rewritingOf s at cells room ≡ Refused r
   unfolding rewritingOf
-  missing-is p u other = rw u (by p other)
-    where
-      by : (p : Placing) → ((n : ℕ) → p ≡ P.Placed n → ⊥) → rewritingBy s at cells room p ≡ Missing (refusalOf p)
-      by (P.Placed n) o = absurd (o n refl)
-      by P.End o = refl
-      by P.Beyond o = refl
-      by P.TooFewLines o = refl
-      by P.Misformed o = refl
-      by P.OtherRelease o = refl
-      by (P.FilledVacant g) o = refl
-      by (P.BrokenRule g n) o = refl
+  missing-is r e = rw e
 
-  pub roomy-is : {next : ℕ} → Roomy s at cells room next → rewritingOf s at cells room ≡ rewrittenAs (countsAt s at) next (allInTurn s at)
+  pub roomy-is : {next : ℕ} → RoomForBoth s at cells room next → rewritingOf s at cells room ≡ rewrittenAs (countsAt s at) next (allInTurn s at)
   unfolding rewritingOf
   roomy-is h = rw (h .placed, le-leb (recordBytes (countsAt s at)) room (h .text-fits), le-leb (recordCells (countsAt s at)) cells (h .cells-fit)) refl
 
-  pub short-is : NoRoomDue s at cells room → rewritingOf s at cells room ≡ NoRoom
+  pub short-is : NoRoomDue s at cells room → rewritingOf s at cells room ≡ Refused NoRoom
   unfolding rewritingOf
   short-is h =
       let ns = countsAt s at in
-      let e : hasRoom ns cells room ≡ false = ⊎-elim (λ (l : room < recordBytes ns). rw (lt-leb (recordBytes ns) room l) refl) (λ (l : cells < recordCells ns). rw (lt-leb (recordCells ns) cells l) (and-false (leb (recordBytes ns) room))) (h .short) in
+      let e : hasRoom ns cells room ≡ false =
+      ⊎-elim (λ (l : room < recordBytes ns). rw (lt-leb (recordBytes ns) room l) refl)
+      (λ (l : cells < recordCells ns). rw (lt-leb (recordCells ns) cells l) (and-false (leb (recordBytes ns) room))) (h .short) in
       rw (h .placed, e) refl
 
   -- what is due is given
+  refusal-given : (r : Refusal) → RefusedFor s at cells room r → rewritingOf s at cells room ≡ Refused r
+  refusal-given r (unplaced q d) = missing-is q (ap asChecked (Placing.first-due s at (P.Refused q) .1 d))
+  refusal-given r (broken-rule g n d) = missing-is (BrokenRule g) (ap asChecked (Placing.first-due s at (P.BrokenRule g n) .1 d))
+  refusal-given r (no-room d) = short-is d
+
   due-given : (r : Rewriting) → Due s at cells room r → rewritingOf s at cells room ≡ r
   due-given (Done bytes next) d =
       let i = turn-all (groupRead s at) (λ g low high. let x = d .groups g low high in record { cells = x .cells; is = x .reads }) in
       roomy-is (d .roomy) ∙ ap (rewrittenAs (countsAt s at) next) (i .is) ∙ ap (λ n. Done n next) (d .written)
-  due-given (Missing r) d = missing-is (d .placing) (d .placed) (d .other) ∙ ap Missing (d .told)
-  due-given NoRoom d = short-is d
-  due-given (Unread g r) d =
+  due-given (Refused r) d = refusal-given r d
+  due-given (GroupRefused g r) d =
       roomy-is (d .roomy)
       ∙ ap (rewrittenAs (countsAt s at) (d .next))
       (first-turn (groupRead s at) g r record {
@@ -130,7 +129,7 @@ module _ (s : List ℕ) (at cells room : ℕ) where
       D : Rewriting → Type 0
       D = Due s at cells room
 
-      turn : (n : ℕ) → Roomy s at cells room n → (t : Turn) → allInTurn s at ≡ t → D (rewrittenAs (countsAt s at) n t)
+      turn : (n : ℕ) → RoomForBoth s at cells room n → (t : Turn) → allInTurn s at ≡ t → D (rewrittenAs (countsAt s at) n t)
       turn n h (done cs) e = record {
         roomy = h;
         groups = λ g low high. record { cells = _; reads = all-read (groupRead s at) 1 60 cs e .each g low (omega arith) };
@@ -149,27 +148,20 @@ module _ (s : List ℕ) (at cells room : ℕ) where
 
       room-by : (n : ℕ) → placingOf s at ≡ P.Placed n → (a b : Bool) → leb (recordBytes (countsAt s at)) room ≡ a → leb (recordCells (countsAt s at)) cells ≡ b → D (rewritingOf s at cells room)
       room-by n u true true a b =
-          let h : Roomy s at cells room n = record { placed = u; text-fits = leb-true (recordBytes (countsAt s at)) room a; cells-fit = leb-true (recordCells (countsAt s at)) cells b } in
+          let h : RoomForBoth s at cells room n = record { placed = u; text-fits = leb-true (recordBytes (countsAt s at)) room a; cells-fit = leb-true (recordCells (countsAt s at)) cells b } in
           subst D (sym (roomy-is h)) (turn n h (allInTurn s at) refl)
       room-by n u true false a b =
           let d : NoRoomDue s at cells room = record { next = n; placed = u; short = inr (leb-false (recordCells (countsAt s at)) cells b) } in
-          subst D (sym (short-is d)) d
+          subst D (sym (short-is d)) (no-room d)
       room-by n u false t a b =
           let d : NoRoomDue s at cells room = record { next = n; placed = u; short = inl (leb-false (recordBytes (countsAt s at)) room a) } in
-          subst D (sym (short-is d)) d
-
-      miss : (p : Placing) → placingOf s at ≡ p → ((n : ℕ) → p ≡ P.Placed n → ⊥) → D (rewritingOf s at cells room)
-      miss p u o = subst D (sym (missing-is p u o)) record { placing = p; placed = u; other = o; told = refl }
+          subst D (sym (short-is d)) (no-room d)
 
       by : (p : Placing) → placingOf s at ≡ p → D (rewritingOf s at cells room)
       by (P.Placed n) u = room-by n u (leb (recordBytes (countsAt s at)) room) (leb (recordCells (countsAt s at)) cells) refl refl
-      by P.End u = miss P.End u (λ n e. let z : _≡_ {A = ℕ} 0 1 = cc in omega arith)
-      by P.Beyond u = miss P.Beyond u (λ n e. let z : _≡_ {A = ℕ} 0 1 = cc in omega arith)
-      by P.TooFewLines u = miss P.TooFewLines u (λ n e. let z : _≡_ {A = ℕ} 0 1 = cc in omega arith)
-      by P.Misformed u = miss P.Misformed u (λ n e. let z : _≡_ {A = ℕ} 0 1 = cc in omega arith)
-      by P.OtherRelease u = miss P.OtherRelease u (λ n e. let z : _≡_ {A = ℕ} 0 1 = cc in omega arith)
-      by (P.FilledVacant g) u = miss (P.FilledVacant g) u (λ n e. let z : _≡_ {A = ℕ} 0 1 = cc in omega arith)
-      by (P.BrokenRule g n) u = miss (P.BrokenRule g n) u (λ m e. let z : _≡_ {A = ℕ} 0 1 = cc in omega arith)
+      by (P.BrokenRule g n) u =
+          subst D (sym (missing-is (BrokenRule g) (ap asChecked u))) (broken-rule g n (Placing.first-due s at (P.BrokenRule g n) .0 u))
+      by (P.Refused r) u = subst D (sym (missing-is r (ap asChecked u))) (unplaced r (Placing.first-due s at (P.Refused r) .0 u))
 
   -- each answer is given exactly if it is due
   pub first-due : (r : Rewriting) → rewritingOf s at cells room ≡ r ↔ Due s at cells room r

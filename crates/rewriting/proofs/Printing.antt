@@ -8,7 +8,7 @@ use native.Mathlib.Omega.{arith}
 use borrow.Author.Tests.{le-leb, lt-leb}
 use lib.ListN.{length}
 use Rattle.rewriting.specs.declared.Rewriting.{Rewriting}
-use Rattle.rewriting.specs.declared.Rewriting.the-variants.{Done, Missing, NoRoom, Unread}
+use Rattle.rewriting.specs.declared.Rewriting.the-variants.{Done, Refused, GroupRefused}
 use Rattle.rewriting.specs.Record.{rewritingOf, textAt}
 use Rattle.rewriting.specs.Printed.{programRewriting, textThen, rewrittenFrom, rewritten, printed, Reached, start, one-more, Stopped}
 use Rattle.rewriting.proofs.Promises.{done-within, done-further, done-inside}
@@ -26,9 +26,8 @@ module _ (s : List ℕ) where
     where
       by : (r : Rewriting) → programRewriting s at ≡ r → textThen (textAt s at) (rewrittenFrom k s) r ≡ []
       by (Done bytes next) e = absurd (never bytes next e)
-      by (Missing r) e = refl
-      by NoRoom e = refl
-      by (Unread g r) e = refl
+      by (Refused r) e = refl
+      by (GroupRefused g r) e = refl
 
   -- there is no record at the text's end
   pub end-never : (at : ℕ) → length s ≤ at → (bytes next : ℕ) → programRewriting s at ≡ Done bytes next → ⊥
@@ -41,13 +40,13 @@ module _ (s : List ℕ) where
   rewritten-enough (suc k) zero at a b = rewritten-stop (suc k) at (end-never at (omega arith))
   rewritten-enough (suc k) (suc m) at a b = by (programRewriting s at) refl (rewritten-enough k m)
     where
-      by : (r : Rewriting) → programRewriting s at ≡ r → ((p : ℕ) → length s ≤ p + k → length s ≤ p + m → rewrittenFrom k s p ≡ rewrittenFrom m s p) → textThen (textAt s at) (rewrittenFrom k s) r ≡ textThen (textAt s at) (rewrittenFrom m s) r
+      by : (r : Rewriting) → programRewriting s at ≡ r → ((p : ℕ) → length s ≤ p + k → length s ≤ p + m → rewrittenFrom k s p ≡ rewrittenFrom m s p)
+          → textThen (textAt s at) (rewrittenFrom k s) r ≡ textThen (textAt s at) (rewrittenFrom m s) r
       by (Done bytes next) e more =
           let h = done-further s at 8192 8192 bytes next e in
           ap (λ y. textAt s at ++ y) (more next (omega arith) (omega arith))
-      by (Missing r) e more = refl
-      by NoRoom e more = refl
-      by (Unread g r) e more = refl
+      by (Refused r) e more = refl
+      by (GroupRefused g r) e more = refl
 
 -- ---- a loop over the records: the texts printed before a place, and what follows from it on, are the whole
 
@@ -98,7 +97,8 @@ module _ (s : List ℕ) where
 
       pub printing-more : Printing s next
       printing-more =
-          let f : rewrittenFrom (length s) s at ≡ textAt s at ++ rewrittenFrom (length s) s next = rewritten-enough s (length s) (suc (length s)) at (omega arith) (omega arith) ∙ rewritten-done s (length s) at bytes next e in
+          let f : rewrittenFrom (length s) s at ≡ textAt s at ++ rewrittenFrom (length s) s next =
+          rewritten-enough s (length s) (suc (length s)) at (omega arith) (omega arith) ∙ rewritten-done s (length s) at bytes next e in
           record {
             before = p .before ++ textAt s at;
             reached = one-more at bytes next (p .before) (p .reached) e;

@@ -2,9 +2,9 @@
 -- behind it; the table has the cells that were read; a table with a cell for each byte of the output always serves; the
 -- next place lies further on; and each answer fills a row of its table.
 -- Assumes nothing.
-use mathlib.Core.Path.{_≡_, refl, sym, _∙_, ap, subst}
-use mathlib.Core.List.{List, [], _++_, map, flatMap}
-use mathlib.Core.Logic.{⊎-elim}
+use mathlib.Core.Path.{_≡_, refl, sym, _∙_, ap}
+use mathlib.Core.List.{List, [], _∷_, _++_, map, flatMap}
+use mathlib.Core.Logic.{inl, inr, ⊎-elim}
 use Prim.Native.Nat.{ℕ, zero, suc, _+_, _-_, _<_, _≤_}
 use native.Mathlib.Nat.{zero-add}
 use native.Mathlib.Omega.{arith}
@@ -21,36 +21,34 @@ use Rattle.count.specs.Tally.{cellsIn, recordCells}
 use Rattle.count.proofs.Rulings.{broken-ruling, broken-group}
 use Rattle.count.proofs.Tallied.{cells-has}
 use Rattle.date.proofs.Due.{blamed-position}
-use Rattle.place.specs.declared.Placing.{Placing}
-use Rattle.place.specs.declared.Placing.the-variants as P
 use Rattle.place.specs.declared.Placing.the-variants.{Placed}
 use Rattle.place.specs.Placing.{placingOf, countsAt}
 use Rattle.place.specs.Parts.{groupPart}
-use Rattle.place.specs.Due as Place
-use Rattle.place.proofs.Due as Placing
 use Rattle.place.proofs.Placed.{located-long, located-range}
 use Rattle.place.proofs.Zero.{IsPlaced, is-placed}
-use Rattle.reply.specs.Table.{Numbered}
-use Rattle.reply.proofs.Replies.{fills-plain, fills-on, fills-both, fills-line, fills-element, fills-date, at-row}
-use Rattle.reading.specs.declared.Refusal.{Refusal}
-use Rattle.reading.specs.declared.Refusal.the-variants.{NoGroup, End, Beyond, TooFewLines, Misformed, OtherRelease, FilledVacant, BrokenRule, NoRoom as LittleRoom, BadLine, BadField, BadDate}
-use Rattle.reading.specs.Numbered.{refusalReply}
+use Rattle.reply.specs.Table.{Numbered, next as nextPlace, bytes as textBytes}
+use Rattle.reply.proofs.Replies.{fills, refusal-fills, at-row, rows-left}
+use Rattle.place.proofs.Numbered.{refused-numbered}
+use Rattle.reply.specs.declared.Refusal.{Refusal}
+use Rattle.reply.specs.declared.Refusal.the-variants.{BrokenRule, NoRoom, BadLine, BadField, BadDate}
+use Rattle.reply.specs.Refusals.{refusalReply, rows, unplacedRefusals, lineRefusals}
 use Rattle.reading.specs.Read.{Cells}
-use Rattle.reading.specs.Due.{RefusalDue}
+use Rattle.reading.specs.Due as ReadingIs
+use Rattle.reading.specs.Due.{RefusedFor}
 use Rattle.reading.proofs.Due as Reading
-use Rattle.group.specs.Held.{refusalOf}
 use Rattle.group.proofs.Texts.{read-located}
-use Rattle.writing.specs.declared.Writing.the-variants as W
+use Rattle.reply.specs.declared.Answer.the-variants as W
 use Rattle.writing.specs.Text.{recordBytes}
 use Rattle.writing.specs.Writing.{writingOf}
 use Rattle.writing.proofs.Promises.{record-some}
 use Rattle.writing.proofs.ReadsBack.{done-bytes, output-bytes}
 use Rattle.rewriting.specs.declared.Groups.the-variants.{All}
 use Rattle.rewriting.specs.declared.Rewriting.{Rewriting}
-use Rattle.rewriting.specs.declared.Rewriting.the-variants.{Done, Missing, NoRoom, Unread}
-use Rattle.rewriting.specs.Due.{NoRoomDue, DoneDue, Due, ReadTo, TableHas, groupsRead}
-use Rattle.rewriting.specs.Numbered.{rewritingReply, rewritingRows}
-use Rattle.rewriting.specs.Record.{groupRead, groupsOf, cellsInTurn, allInTurn, cellsAt, rewritingOf, textAt, bufferBy, tableBy}
+use Rattle.rewriting.specs.declared.Rewriting.the-variants.{Done, Refused, GroupRefused}
+use Rattle.rewriting.specs.Due as RewritingIs
+use Rattle.rewriting.specs.Due.{NoRoomDue, RewrittenDue, Due, ReadTo, TableHas, groupsRead}
+use Rattle.rewriting.specs.Numbered.{rewritingReply, rewritingRefusals, rewritingRows}
+use Rattle.rewriting.specs.Record.{groupRead, groupsOf, cellsInTurn, allInTurn, cellsAt, rewritingOf, textAt, bufferBy, tableAfter}
 use Rattle.rewriting.proofs.Cells.{record-cells}
 use Rattle.rewriting.proofs.Due.{first-due, turn-all}
 use Rattle.rewriting.proofs.Whole.{whole-each, whole-joined, whole-written}
@@ -60,9 +58,8 @@ use Rattle.rewriting.proofs.Whole.{whole-each, whole-joined, whole-writ
 -- R325: a refusal leaves the whole output
 pub refused-rewriting-keeps : (s : List ℕ) (at : ℕ) (r : Rewriting) (old : List ℕ) → (rewritingReply r .number ≡ 0 → ⊥) → bufferBy s at r old ≡ old
 refused-rewriting-keeps s at (Done bytes next) old n = absurd (n refl)
-refused-rewriting-keeps s at (Missing r) old n = refl
-refused-rewriting-keeps s at NoRoom old n = refl
-refused-rewriting-keeps s at (Unread g r) old n = refl
+refused-rewriting-keeps s at (Refused r) old n = refl
+refused-rewriting-keeps s at (GroupRefused g r) old n = refl
 
 -- a table with a cell for each byte of the output always serves: 11 is then given only for the text
 pub table-serves : (s : List ℕ) (at cells room : ℕ) → room ≤ cells → NoRoomDue s at cells room → room < recordBytes (countsAt s at)
@@ -75,7 +72,7 @@ table-serves s at cells room l d =
 -- ---- 0
 
 module _ (s : List ℕ) (at cells room bytes next : ℕ) (e : rewritingOf s at cells room ≡ Done bytes next) where
-  d : DoneDue s at cells room bytes next
+  d : RewrittenDue s at cells room bytes next
   d = first-due s at cells room (Done bytes next) .0 e
 
   pub done-all : All ≡ groupsOf (allInTurn s at)
@@ -111,7 +108,8 @@ module _ (s : List ℕ) (at cells room bytes next : ℕ) (e : rewritingOf s at c
 -- ---- the table
 
 -- groups k in number from a on were read, and the one behind them was refused
-turned : (read : ℕ → Cells) (cells : ℕ → List ℤ) (r : Refusal) (a n k : ℕ) → k < n → ((g : ℕ) → a ≤ g → g < a + k → read g ≡ done (cells g)) → ((g : ℕ) → g ≡ a + k → read g ≡ bad r) → cellsInTurn read (upFrom a n) ≡ flatMap cells (upFrom a k)
+turned : (read : ℕ → Cells) (cells : ℕ → List ℤ) (r : Refusal) (a n k : ℕ) → k < n → ((g : ℕ) → a ≤ g → g < a + k → read g ≡ done (cells g))
+    → ((g : ℕ) → g ≡ a + k → read g ≡ bad r) → cellsInTurn read (upFrom a n) ≡ flatMap cells (upFrom a k)
 unfolding cellsInTurn Every.upFrom flatMap
 turned read cells r a zero k l each none = absurd (omega arith)
 turned read cells r a (suc n) zero l each none = rw (none a (omega arith))
@@ -134,15 +132,14 @@ module _ (s : List ℕ) (at : ℕ) (table : List ℤ) where
   unfolding Every.upFrom flatMap
   none-read = record { cs = []; read = record { cells = λ g. []; each = λ g low high. absurd (omega arith); joined = refl }; first = refl; rest = refl }
 
-  pub table-has : (cells room : ℕ) (r : Rewriting) → rewritingOf s at cells room ≡ r → TableHas s at (groupsRead r) table (tableBy s at r table)
+  pub table-has : (cells room : ℕ) (r : Rewriting) → rewritingOf s at cells room ≡ r → TableHas s at (groupsRead r) table (tableAfter s at r table)
   table-has cells room (Done bytes next) e =
       let d = first-due s at cells room (Done bytes next) .0 e in
       let all = done-all s at cells room bytes next e in
       has 60 (cellsAt s at) record { cells = λ g. cellsGot (groupRead s at g); each = whole-each s at next (d .roomy .placed) all; joined = whole-joined s at next (d .roomy .placed) all }
-  table-has cells room (Missing r) e = none-read
-  table-has cells room NoRoom e = none-read
-  table-has cells room (Unread g r) e =
-      let d = first-due s at cells room (Unread g r) .0 e in
+  table-has cells room (Refused r) e = none-read
+  table-has cells room (GroupRefused g r) e =
+      let d = first-due s at cells room (GroupRefused g r) .0 e in
       let c : ℕ → List ℤ = λ h. cellsGot (groupRead s at h) in
       let each : (h : ℕ) → 1 ≤ h → h ≤ g - 1 → groupRead s at h ≡ done (c h) = λ h low high. let x = d .earlier h low (omega (arith, d .low)) in x .reads ∙ ap done (sym (ap cellsGot (x .reads))) in
       has (g - 1) (cellsAt s at) record {
@@ -158,7 +155,7 @@ module _ (s : List ℕ) (at : ℕ) (table : List ℤ) where
 
 module _ (s : List ℕ) (at cells room : ℕ) where
   -- a group of a placed record, read with room, is refused by its lines or its date alone
-  unread-numbered : (next g : ℕ) (r : Refusal) → placingOf s at ≡ Placed next → 1 ≤ g → g ≤ 60 → groupRead s at g ≡ bad r → Numbered rewritingRows (refusalReply r)
+  unread-numbered : (next g : ℕ) (r : Refusal) → placingOf s at ≡ Placed next → 1 ≤ g → g ≤ 60 → groupRead s at g ≡ bad r → Numbered (rows rewritingRefusals) (refusalReply r)
   unread-numbered next g r placed low high told =
       by r (Reading.first-due ns g x (cellsIn ns g) (bad r) .0 (sym (read-located s at g (cellsIn ns g) next ns (p .located-at)) ∙ told))
     where
@@ -171,42 +168,32 @@ module _ (s : List ℕ) (at cells room : ℕ) where
       p : IsPlaced s at next
       p = is-placed s at next placed
 
-      by : (r : Refusal) → RefusalDue ns g x (cellsIn ns g) r → Numbered rewritingRows (refusalReply r)
-      by NoGroup d = absurd (d (low, high))
-      by End d = absurd d
-      by Beyond d = absurd d
-      by TooFewLines d = absurd d
-      by Misformed d = absurd d
-      by OtherRelease d = absurd d
-      by (FilledVacant h) d = absurd d
-      by (BrokenRule h) d = let e = sym (p .kept) ∙ broken-ruling ns (d .broken) in let z : _≡_ {A = ℕ} 0 1 = cc in absurd (omega arith)
-      by LittleRoom d = absurd (omega (arith, d .few, cells-has ns g (d .f) (d .ruled .form)))
-      by (BadLine l) d = at-row 9 rewritingRows (refusalReply (BadLine l)) (lit< tt) (fills-line 8 l (omega (arith, d .line .number)))
-      by (BadField l e) d =
-          at-row 10 rewritingRows (refusalReply (BadField l e)) (lit< tt) (fills-element 9 l e (omega (arith, d .field .number)) (omega (arith, d .field .element)))
-      by (BadDate q) d = at-row 11 rewritingRows (refusalReply (BadDate q)) (lit< tt) (fills-date q (blamed-position (map sizeOf (d .cs)) q (d .wrong)))
+      by : (r : Refusal) → RefusedFor ns g x (cellsIn ns g) r → Numbered (rows rewritingRefusals) (refusalReply r)
+      by r (ReadingIs.no-group d) = absurd (d (low, high))
+      by r (ReadingIs.broken-rule h d) = let e = sym (p .kept) ∙ broken-ruling ns (d .broken) in let z : _≡_ {A = ℕ} 0 1 = cc in absurd (omega arith)
+      by r (ReadingIs.no-room d) = absurd (omega (arith, d .few, cells-has ns g (d .f) (d .ruled .form)))
+      by r (ReadingIs.bad-line l d) = at-row 8 (rows rewritingRefusals) (refusalReply (BadLine l)) (lit< tt) (refusal-fills (BadLine l) (omega (arith, d .line .number), tt))
+      by r (ReadingIs.bad-field l e d) =
+          at-row 9 (rows rewritingRefusals) (refusalReply (BadField l e)) (lit< tt) (refusal-fills (BadField l e) (omega (arith, d .field .number), (omega (arith, d .field .element), tt)))
+      by r (ReadingIs.bad-date q d) =
+          at-row 10 (rows rewritingRefusals) (refusalReply (BadDate q)) (lit< tt) (refusal-fills (BadDate q) (blamed-position (map sizeOf (d .cs)) q (d .wrong), tt))
 
-  -- what placing refuses with
-  missing-numbered : (p : Placing) → Place.Due s at p → ((n : ℕ) → p ≡ Placed n → ⊥) → Numbered rewritingRows (refusalReply (refusalOf p))
-  missing-numbered (Placed n) d never = absurd (never n refl)
-  missing-numbered P.End d never = at-row 1 rewritingRows (refusalReply End) (lit< tt) (fills-plain 1)
-  missing-numbered P.Beyond d never = at-row 2 rewritingRows (refusalReply Beyond) (lit< tt) (fills-plain 2)
-  missing-numbered P.TooFewLines d never = at-row 3 rewritingRows (refusalReply TooFewLines) (lit< tt) (fills-plain 3)
-  missing-numbered P.Misformed d never = at-row 4 rewritingRows (refusalReply Misformed) (lit< tt) (fills-plain 4)
-  missing-numbered P.OtherRelease d never = at-row 5 rewritingRows (refusalReply OtherRelease) (lit< tt) (fills-plain 5)
-  missing-numbered (P.FilledVacant h) d never = at-row 6 rewritingRows (refusalReply (FilledVacant h)) (lit< tt) (fills-on 6 h (omega (arith, d .filled .low)))
-  missing-numbered (P.BrokenRule h n) d never = at-row 7 rewritingRows (refusalReply (BrokenRule h)) (lit< tt) (fills-on 7 h (broken-group (d .ns) (d .broken) .0))
+  refusal-numbered : (r : Refusal) → RewritingIs.RefusedFor s at cells room r → Numbered (rows rewritingRefusals) (refusalReply r)
+  refusal-numbered r (RewritingIs.unplaced q d) =
+      rows-left unplacedRefusals (BrokenRule 0 ∷ (NoRoom ∷ (lineRefusals ++ (BadDate 0 ∷ [])))) (refusalReply q) (refused-numbered s at q d)
+  refusal-numbered r (RewritingIs.broken-rule g n d) =
+      at-row 6 (rows rewritingRefusals) (refusalReply (BrokenRule g)) (lit< tt) (refusal-fills (BrokenRule g) (broken-group (d .ns) (d .broken) .0, tt))
+  refusal-numbered r (RewritingIs.no-room d) = at-row 7 (rows rewritingRefusals) (refusalReply NoRoom) (lit< tt) (refusal-fills NoRoom tt)
 
   due-numbered : (r : Rewriting) → Due s at cells room r → rewritingOf s at cells room ≡ r → Numbered rewritingRows (rewritingReply r)
-  due-numbered (Done bytes next) d e = at-row 0 rewritingRows (rewritingReply (Done bytes next)) (lit< tt) (fills-both next bytes (omega (arith, done-further s at cells room bytes next e)) (omega (arith, d .written, record-some (countsAt s at))))
-  due-numbered (Missing r) d e =
-      subst (λ q. Numbered rewritingRows (refusalReply q)) (d .told) (missing-numbered (d .placing) (Placing.first-due s at (d .placing) .0 (d .placed)) (d .other))
-  due-numbered NoRoom d e = at-row 8 rewritingRows (rewritingReply NoRoom) (lit< tt) (fills-plain 11)
-  due-numbered (Unread g r) d e = unread-numbered (d .next) g r (d .roomy .placed) (d .low) (d .high) (d .told)
+  due-numbered (Done n next) d e =
+      inl (fills 0 ((nextPlace, next) ∷ (textBytes, n) ∷ []) (omega (arith, done-further s at cells room n next e), (omega (arith, d .written, record-some (countsAt s at)), tt)))
+  due-numbered (Refused r) d e = inr (refusal-numbered r d)
+  due-numbered (GroupRefused g r) d e = inr (unread-numbered (d .next) g r (d .roomy .placed) (d .low) (d .high) (d .told))
 
   pub rewriting-numbered : Numbered rewritingRows (rewritingReply (rewritingOf s at cells room))
   rewriting-numbered = due-numbered (rewritingOf s at cells room) (first-due s at cells room (rewritingOf s at cells room) .0 refl) refl
 
   -- the group that was not read is one of 1 to 60, and is told exactly if a group was not read
-  pub unread-group : (g : ℕ) (r : Refusal) → rewritingOf s at cells room ≡ Unread g r → (1 ≤ g) × (g ≤ 60)
-  unread-group g r e = let d = first-due s at cells room (Unread g r) .0 e in (d .low, d .high)
+  pub unread-group : (g : ℕ) (r : Refusal) → rewritingOf s at cells room ≡ GroupRefused g r → (1 ≤ g) × (g ≤ 60)
+  unread-group g r e = let d = first-due s at cells room (GroupRefused g r) .0 e in (d .low, d .high)

@@ -13,57 +13,58 @@ use Rattle.base.specs.Pieces.{done, bad}
 use Rattle.base.proofs.Part.{over-length}
 use Rattle.base.proofs.Taken.{part-zero, take-none}
 use Rattle.count.specs.Tally.{recordCells}
-use Rattle.place.specs.declared.Placing.{Placing}
+use Rattle.place.specs.Numbered.{asChecked}
 use Rattle.place.specs.declared.Placing.the-variants.{Placed}
 use Rattle.place.specs.Placing.{placingOf, countsAt}
-use Rattle.reading.specs.declared.Refusal.{Refusal}
-use Rattle.group.specs.Held.{refusalOf}
-use Rattle.writing.specs.declared.Writing.the-variants as W
+use Rattle.reply.specs.declared.Refusal.{Refusal}
+use Rattle.reply.specs.declared.Refusal.the-variants.{NoRoom}
+use Rattle.reply.specs.declared.Checked.the-variants as C
+use Rattle.reply.specs.declared.Answer.the-variants as W
 use Rattle.writing.specs.Text.{recordText, recordBytes}
 use Rattle.writing.specs.Writing.{writingOf}
-use Rattle.rewriting.specs.declared.Groups.the-variants.{All, Refused}
+use Rattle.rewriting.specs.declared.Groups.the-variants as G
 use Rattle.rewriting.specs.declared.Rewriting.{Rewriting}
-use Rattle.rewriting.specs.declared.Rewriting.the-variants.{Done, Missing, NoRoom, Unread}
-use Rattle.rewriting.specs.Due.{Roomy}
-use Rattle.rewriting.specs.Record.{Turn, groupsOf, allInTurn, cellsAt, rewrittenAs, rewritingOf, bufferBy, tableBy, Ready}
+use Rattle.rewriting.specs.declared.Rewriting.the-variants.{Done, Refused, GroupRefused}
+use Rattle.rewriting.specs.Due.{RoomForBoth}
+use Rattle.rewriting.specs.Record.{Turn, groupsOf, allInTurn, cellsAt, rewrittenAs, rewritingOf, bufferBy, tableAfter, Ready}
 use Rattle.rewriting.proofs.Due.{missing-is, short-is, roomy-is}
 use Rattle.rewriting.proofs.Whole.{whole-length, whole-written}
 
 -- what an answer, a table and an output at exit owe
 abbrev pub Outcome : List ℕ → ℕ → List ℤ → List ℕ → Rewriting → List ℤ → List ℕ → Type 0
-Outcome s at table out r new text = (r ≡ rewritingOf s at (length table) (length out)) × (new ≡ tableBy s at r table) × (text ≡ bufferBy s at r out)
+Outcome s at table out r new text = (r ≡ rewritingOf s at (length table) (length out)) × (new ≡ tableAfter s at r table) × (text ≡ bufferBy s at r out)
 
 -- the front of a list with places overwritten
 front : {A : Type 0} (xs ys : List A) (n : ℕ) → length ys ≡ n → part 0 n (over 0 ys xs) ≡ ys
 front xs ys n e = part-zero n (over 0 ys xs) ∙ ap (λ t. take n (t ++ (ys ++ drop (0 + length ys) xs))) (take-none xs) ∙ take-at ys (drop (0 + length ys) xs) n e
 
 module _ (s : List ℕ) (at : ℕ) (table : List ℤ) (out : List ℕ) where
-  pub step-missing : (p : Placing) → p ≡ placingOf s at → ((n : ℕ) → p ≡ Placed n → ⊥) → Outcome s at table out (Missing (refusalOf p)) table out
-  step-missing p e never = (sym (missing-is s at (length table) (length out) p (sym e) never), refl, refl)
+  pub step-refused : {r : Refusal} → asChecked (placingOf s at) ≡ C.Refused r → Outcome s at table out (Refused r) table out
+  step-refused {r = r} e = (sym (missing-is s at (length table) (length out) r e), refl, refl)
 
   module _ (next : ℕ) (placed : placingOf s at ≡ Placed next) (ms : List ℕ) (counts : ms ≡ countsAt s at) where
-    pub step-no-text : length out < recordBytes ms → Outcome s at table out NoRoom table out
+    pub step-no-text : length out < recordBytes ms → Outcome s at table out (Refused NoRoom) table out
     step-no-text l = (sym (short-is s at (length table) (length out) record { next = next; placed = placed; short = inl (rw counts at l) }), refl, refl)
 
-    pub step-no-cells : length table < recordCells ms → Outcome s at table out NoRoom table out
+    pub step-no-cells : length table < recordCells ms → Outcome s at table out (Refused NoRoom) table out
     step-no-cells l = (sym (short-is s at (length table) (length out) record { next = next; placed = placed; short = inr (rw counts at l) }), refl, refl)
 
     module _ (text-fits : recordBytes ms ≤ length out) (cells-fit : recordCells ms ≤ length table) where
-      roomy : Roomy s at (length table) (length out) next
+      roomy : RoomForBoth s at (length table) (length out) next
       roomy = record { placed = placed; text-fits = rw counts at text-fits; cells-fit = rw counts at cells-fit }
 
       -- what reading all groups asks for
       pub step-ready : Ready s at (length table)
       step-ready = record { next = next; placed = placed; enough = rw counts at cells-fit }
 
-      pub step-unread : {g : ℕ} {r : Refusal} {new : List ℤ} → (Refused g r ≡ groupsOf (allInTurn s at)) × (new ≡ over 0 (cellsAt s at) table) → Outcome s at table out (Unread g r) new out
+      pub step-unread : {g : ℕ} {r : Refusal} {new : List ℤ} → (G.GroupRefused g r ≡ groupsOf (allInTurn s at)) × (new ≡ over 0 (cellsAt s at) table) → Outcome s at table out (GroupRefused g r) new out
       step-unread {g} {r} a = (sym (roomy-is s at (length table) (length out) roomy ∙ by (allInTurn s at) (a .0)), a .1, refl)
         where
-          by : (t : Turn) → Refused g r ≡ groupsOf t → rewrittenAs (countsAt s at) next t ≡ Unread g r
+          by : (t : Turn) → G.GroupRefused g r ≡ groupsOf t → rewrittenAs (countsAt s at) next t ≡ GroupRefused g r
           by (done cs) e = let z : _≡_ {A = ℕ} 0 1 = cc in absurd (omega arith)
           by (bad u) e = cc
 
-      module _ {new : List ℤ} (a : (All ≡ groupsOf (allInTurn s at)) × (new ≡ over 0 (cellsAt s at) table)) {cells : ℕ} (many : cells ≡ recordCells ms) where
+      module _ {new : List ℤ} (a : (G.All ≡ groupsOf (allInTurn s at)) × (new ≡ over 0 (cellsAt s at) table)) {cells : ℕ} (many : cells ≡ recordCells ms) where
         long : length (cellsAt s at) ≡ cells
         long = whole-length s at next placed (a .0) ∙ ap recordCells (sym counts) ∙ sym many
 
@@ -84,6 +85,6 @@ module _ (s : List ℕ) (at : ℕ) (table : List ℤ) (out : List ℕ) where
           t ∙ ap (λ x. over 0 x out) (ap (λ c. recordText ms c) read ∙ ap (λ n. recordText n (cellsAt s at)) counts),
         )
           where
-            by : (t : Turn) → All ≡ groupsOf t → rewrittenAs (countsAt s at) next t ≡ Done (recordBytes (countsAt s at)) next
+            by : (t : Turn) → G.All ≡ groupsOf t → rewrittenAs (countsAt s at) next t ≡ Done (recordBytes (countsAt s at)) next
             by (done cs) e = refl
             by (bad u) e = let z : _≡_ {A = ℕ} 0 1 = cc in absurd (omega arith)

@@ -1,4 +1,4 @@
--- Reading groups 1 to 60 in turn into consecutive parts of a table: what holds before each group, what is read and where, a group more, the
+-- Answer groups 1 to 60 in turn into consecutive parts of a table: what holds before each group, what is read and where, a group more, the
 -- first that is refused, all of them.
 -- Assumes nothing.
 use mathlib.Core.Path.{_≡_, refl, sym, _∙_, ap}
@@ -32,14 +32,14 @@ use Rattle.place.proofs.Placed.{located-range}
 use Rattle.place.proofs.Spans.{start-next}
 use Rattle.place.proofs.Tiling.{start-one, start-mono, start-within}
 use Rattle.place.proofs.Zero.{IsPlaced, is-placed}
-use Rattle.reading.specs.declared.Refusal.{Refusal}
-use Rattle.reading.specs.declared.Reading.{Reading}
-use Rattle.reading.specs.declared.Reading.the-variants as R
+use Rattle.reply.specs.declared.Refusal.{Refusal}
+use Rattle.reply.specs.declared.Answer.{Answer}
+use Rattle.reply.specs.declared.Answer.the-variants as R
 use Rattle.reading.specs.Read.{Cells, readGroup, readingOf, tableBy}
 use Rattle.reading.proofs.GroupRead.{group-reads}
 use Rattle.group.proofs.Texts.{read-located}
 use Rattle.writing.proofs.ReadWrites.{reads-cells}
-use Rattle.rewriting.specs.declared.Groups.the-variants.{All, Refused}
+use Rattle.rewriting.specs.declared.Groups.the-variants.{All, GroupRefused}
 use Rattle.rewriting.specs.Record.{Turn, groupRead, inTurn, cellsInTurn, groupsOf, allInTurn, cellsAt, Ready}
 
 -- ---- a group before others
@@ -53,7 +53,7 @@ module _ (read : ℕ → Cells) (g : ℕ) (gs : List ℕ) where
       by (done ds) = refl
       by (bad u) = refl
 
-  turn-bad : {r : Refusal} → read g ≡ bad r → (groupsOf (inTurn read (g ∷ gs)) ≡ Refused g r) × (cellsInTurn read (g ∷ gs) ≡ [])
+  turn-bad : {r : Refusal} → read g ≡ bad r → (groupsOf (inTurn read (g ∷ gs)) ≡ GroupRefused g r) × (cellsInTurn read (g ∷ gs) ≡ [])
   unfolding inTurn cellsInTurn
   turn-bad e = rw e (refl, refl)
 
@@ -71,8 +71,9 @@ over-same xs a e l m =
     let n : length (part a e xs) ≡ e - a = lent-length xs a e l m in
     sym (over-lent xs (part a e xs) a (e - a) n) ∙ ap (λ b. take a xs ++ (part a b xs ++ drop (e - a) (drop a xs))) (sym k) ∙ sym (part-cut xs a (e - a))
 
-module _ (read : ℕ → Cells) (table new : List ℤ) (a e : ℕ) (l : a ≤ e) (m : e ≤ length table) (answer : Reading) where
-  pub lent-read : (answer ≡ readingOf (read (length (part a e table)))) × (new ≡ tableBy (read (length (part a e table))) (part a e table)) → length new ≡ length (part a e table) → (answer ≡ readingOf (read (e - a))) × (take a table ++ (new ++ drop (e - a) (drop a table)) ≡ over a (tableBy (read (e - a)) (part a e table)) table)
+module _ (read : ℕ → Cells) (table new : List ℤ) (a e : ℕ) (l : a ≤ e) (m : e ≤ length table) (answer : Answer) where
+  pub lent-read : (answer ≡ readingOf (read (length (part a e table)))) × (new ≡ tableBy (read (length (part a e table))) (part a e table)) → length new ≡ length (part a e table)
+      → (answer ≡ readingOf (read (e - a))) × (take a table ++ (new ++ drop (e - a) (drop a table)) ≡ over a (tableBy (read (e - a)) (part a e table)) table)
   lent-read p same =
       let n = lent-length table a e l m in
       (p .0 ∙ ap (λ k. readingOf (read k)) n, over-lent table new a (e - a) (same ∙ n) ∙ ap (λ xs. over a xs table) (p .1 ∙ ap (λ k. tableBy (read k) (part a e table)) n))
@@ -113,7 +114,8 @@ module _ (s : List ℕ) (at : ℕ) (old : List ℤ) where
 
   -- ---- group g, with the form that it has, from `from` to `to`, into the cells from `cell` to `end`
 
-  module _ (ms : List ℕ) (counts : ms ≡ countsAt s at) (ready : Ready s at (length old)) {table : List ℤ} {g from cell : ℕ} (t : Turning s at old table g from cell) (few : g < 61) (f : Form) (has : formOf g ≡ Has f) {to end : ℕ} (to-told : to ≡ from + reach (drop from s) (linesOf f (countOf ms g))) (end-told : end ≡ cell + cellsOf f (countOf ms g)) where
+  module _ (ms : List ℕ) (counts : ms ≡ countsAt s at) (ready : Ready s at (length old)) {table : List ℤ} {g from cell : ℕ} (t : Turning s at old table g from cell) (few : g < 61)
+      (f : Form) (has : formOf g ≡ Has f) {to end : ℕ} (to-told : to ≡ from + reach (drop from s) (linesOf f (countOf ms g))) (end-told : end ≡ cell + cellsOf f (countOf ms g)) where
     to-is : to ≡ from + reach (drop from s) (linesOf f (countOf (countsAt s at) g))
     to-is = rw counts at to-told
 
@@ -143,8 +145,13 @@ module _ (s : List ℕ) (at : ℕ) (old : List ℤ) where
     turning-range =
         let n = countsAt s at in
         let up = start-mono s at n g (g + 1) (omega arith) in
-        let within = start-within s at (ready .next) n (placed .located-at) (g + 1) (omega arith) in
-        (omega (arith, t .begins, ends, up), omega (arith, ends, within, located-range s at (ready .next) n (placed .located-at)), omega (arith, end-is), omega (arith, behind, cells-below n (g + 1), ready .enough, t .same))
+        let within = start-within s at (ready .next) n (placed .located-at) (g + 1) (omega arith) in (
+          omega (arith, t .begins, ends, up),
+          omega (arith, ends, within, located-range s at (ready .next) n (placed .located-at)),
+          omega (arith, end-is),
+          omega
+              (arith, behind, cells-below n (g + 1), ready .enough, t .same),
+        )
 
     -- and the counts keep the rules
     pub turning-ready : (rulingOf ms ≡ Kept) × (from ≤ to) × (to ≤ length s) × (cell ≤ end) × (end ≤ length table)
@@ -162,9 +169,10 @@ module _ (s : List ℕ) (at : ℕ) (old : List ℤ) where
     rest : upFrom g (61 - g) ≡ g ∷ upFrom (g + 1) (61 - (g + 1))
     rest = up-more g 60 (omega arith)
 
-    module _ {answer : Reading} {new : List ℤ} (a : answer ≡ readingOf (readGroup ms g (part from to s) (end - cell))) (b : new ≡ over cell (tableBy (readGroup ms g (part from to s) (end - cell)) (part cell end table)) table) where
+    module _ {answer : Answer} {new : List ℤ} (a : answer ≡ readingOf (readGroup ms g (part from to s) (end - cell)))
+        (b : new ≡ over cell (tableBy (readGroup ms g (part from to s) (end - cell)) (part cell end table)) table) where
       -- it is refused: the answer has its number, and the table stays as the groups before it left it
-      pub turning-refused : {r : Refusal} → answer ≡ R.Refused r → (Refused g r ≡ groupsOf (allInTurn s at)) × (new ≡ over 0 (cellsAt s at) old)
+      pub turning-refused : {r : Refusal} → answer ≡ R.Refused r → (GroupRefused g r ≡ groupsOf (allInTurn s at)) × (new ≡ over 0 (cellsAt s at) old)
       turning-refused {r} e =
           let q : groupRead s at g ≡ bad r = refused (groupRead s at g) (sym e ∙ a ∙ ap readingOf turning-read) in
           let u = turn-bad (groupRead s at) g (upFrom (g + 1) (61 - (g + 1))) q in
@@ -186,9 +194,12 @@ module _ (s : List ℕ) (at : ℕ) (old : List ℤ) where
           let n = countsAt s at in
           let u = turn-done (groupRead s at) g (upFrom (g + 1) (61 - (g + 1))) (q .is) in
           let range = turning-range in
-          let long : length cs ≡ cellsIn n g = reads-cells (group-reads n g (groupPart s at n g) (cellsIn n g) cs (sym (read-located s at g (cellsIn n g) (ready .next) n (placed .located-at)) ∙ q .is)) in
-          let wide : length (part cell end table) ≡ length cs = ap (λ k. length (part cell k table)) end-is ∙ part-length table cell (cellsOf f (countOf n g)) (omega (arith, range .3, end-is)) ∙ sym cells-have ∙ sym long in
-          let new-is : new ≡ over cell cs table = b ∙ ap (λ c. over cell (tableBy c (part cell end table)) table) (turning-read ∙ q .is) ∙ ap (λ xs. over cell xs table) (over-all (part cell end table) cs (sym wide)) in
+          let long : length cs ≡ cellsIn n g =
+          reads-cells (group-reads n g (groupPart s at n g) (cellsIn n g) cs (sym (read-located s at g (cellsIn n g) (ready .next) n (placed .located-at)) ∙ q .is)) in
+          let wide : length (part cell end table) ≡ length cs =
+          ap (λ k. length (part cell k table)) end-is ∙ part-length table cell (cellsOf f (countOf n g)) (omega (arith, range .3, end-is)) ∙ sym cells-have ∙ sym long in
+          let new-is : new ≡ over cell cs table =
+          b ∙ ap (λ c. over cell (tableBy c (part cell end table)) table) (turning-read ∙ q .is) ∙ ap (λ xs. over cell xs table) (over-all (part cell end table) cs (sym wide)) in
           let at-end : end ≡ cell + length cs = end-is ∙ ap (λ k. cell + k) (sym cells-have ∙ sym long) in
           record {
             low = omega arith;

@@ -16,7 +16,7 @@ use Rattle.count.specs.Tally.{cellsIn, recordCells}
 use Rattle.place.specs.declared.Placing.the-variants.{Placed}
 use Rattle.place.specs.Placing.{placingOf, countsAt}
 use Rattle.reading.specs.Read.{Cells}
-use Rattle.writing.specs.declared.Writing.the-variants.{Done}
+use Rattle.reply.specs.declared.Answer.the-variants.{Done}
 use Rattle.writing.specs.RoundTrip.{ReadWhole, joined}
 use Rattle.writing.specs.Text.{recordBytes}
 use Rattle.writing.specs.Writing.{writingOf}

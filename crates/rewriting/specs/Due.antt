@@ -9,22 +9,15 @@ use lib.ListN.{length, take, drop}
 use Rattle.base.specs.Every.{upFrom}
 use Rattle.base.specs.Pieces.{done, bad}
 use Rattle.count.specs.Tally.{recordCells}
-use Rattle.place.specs.declared.Placing.{Placing}
+use Rattle.place.specs.Due as Place
 use Rattle.place.specs.declared.Placing.the-variants.{Placed}
 use Rattle.place.specs.Placing.{placingOf, countsAt}
-use Rattle.reading.specs.declared.Refusal.{Refusal}
-use Rattle.group.specs.Held.{refusalOf}
+use Rattle.reply.specs.declared.Refusal.{Refusal}
+use Rattle.reply.specs.declared.Refusal.the-variants.{NoRoom, BrokenRule}
 use Rattle.writing.specs.Text.{recordBytes}
 use Rattle.rewriting.specs.declared.Rewriting.{Rewriting}
-use Rattle.rewriting.specs.declared.Rewriting.the-variants.{Done, Missing, NoRoom, Unread}
+use Rattle.rewriting.specs.declared.Rewriting.the-variants.{Done, Refused, GroupRefused}
 use Rattle.rewriting.specs.Record.{groupRead}
-
--- R321: placing refuses, and its reply is told
-pub record MissingDue (s : List ℕ) (at : ℕ) (r : Refusal) : Type 0 where
-  pub placing : Placing
-  pub placed : placingOf s at ≡ placing
-  pub other : (n : ℕ) → placing ≡ Placed n → ⊥
-  pub told : refusalOf placing ≡ r
 
 -- a group reads with 0
 pub record GroupDone (s : List ℕ) (at g : ℕ) : Type 0 where
@@ -39,7 +32,7 @@ module _ (s : List ℕ) (at cells room : ℕ) where
     pub short : (room < recordBytes (countsAt s at)) ⊎ (cells < recordCells (countsAt s at))
 
   -- placed with 0, and both are long enough
-  pub record Roomy (next : ℕ) : Type 0 where
+  pub record RoomForBoth (next : ℕ) : Type 0 where
     pub placed : placingOf s at ≡ Placed next
     pub text-fits : recordBytes (countsAt s at) ≤ room
     pub cells-fit : recordCells (countsAt s at) ≤ cells
@@ -47,23 +40,28 @@ module _ (s : List ℕ) (at cells room : ℕ) where
   -- R321, R323: this group is refused, and all below it read with 0
   pub record UnreadDue (g : ℕ) (r : Refusal) : Type 0 where
     pub next : ℕ
-    pub roomy : Roomy next
+    pub roomy : RoomForBoth next
     pub low : 1 ≤ g
     pub high : g ≤ 60
     pub earlier : (h : ℕ) → 1 ≤ h → h < g → GroupDone s at h
     pub told : groupRead s at g ≡ bad r
 
   -- R321: 0, all groups read with 0; R200: the bytes of the canonical text, and the next place
-  pub record DoneDue (bytes next : ℕ) : Type 0 where
-    pub roomy : Roomy next
+  pub record RewrittenDue (bytes next : ℕ) : Type 0 where
+    pub roomy : RoomForBoth next
     pub groups : (g : ℕ) → 1 ≤ g → g ≤ 60 → GroupDone s at g
     pub written : recordBytes (countsAt s at) ≡ bytes
 
+  -- what it refuses with before a group is read, and when: as placing does, 7 without its next place (R235); 11
+  pub data RefusedFor : Refusal → Type 0 where
+    unplaced : (r : Refusal) → Place.RefusedFor s at r → RefusedFor r
+    broken-rule : (g next : ℕ) → Place.StandsBroken s at g next → RefusedFor (BrokenRule g)
+    no-room : NoRoomDue → RefusedFor NoRoom
+
   abbrev pub Due : Rewriting → Type 0
-  Due (Done bytes next) = DoneDue bytes next
-  Due (Missing r) = MissingDue s at r
-  Due NoRoom = NoRoomDue
-  Due (Unread g r) = UnreadDue g r
+  Due (Done bytes next) = RewrittenDue bytes next
+  Due (Refused r) = RefusedFor r
+  Due (GroupRefused g r) = UnreadDue g r
 
 -- ---- what is lent, afterwards
 
@@ -83,6 +81,5 @@ pub record TableHas (s : List ℕ) (at k : ℕ) (old new : List ℤ) : Type 0 wh
 -- R326: all groups where 0 was given, those before the refused one where one was, none else
 abbrev pub groupsRead : Rewriting → ℕ
 groupsRead (Done bytes next) = 60
-groupsRead (Missing r) = 0
-groupsRead NoRoom = 0
-groupsRead (Unread g r) = g - 1
+groupsRead (Refused r) = 0
+groupsRead (GroupRefused g r) = g - 1

@@ -7,7 +7,7 @@ use Prim.Native.Nat.{ℕ, zero, suc}
 use lib.Dec.{leb}
 use lib.ListN.{length}
 use Rattle.rewriting.specs.declared.Rewriting.{Rewriting}
-use Rattle.rewriting.specs.declared.Rewriting.the-variants.{Done, Missing, NoRoom, Unread}
+use Rattle.rewriting.specs.declared.Rewriting.the-variants.{Done, Refused, GroupRefused}
 use Rattle.rewriting.specs.Record.{rewritingOf, textAt}
 
 -- R347: a table of 8,192 cells always serves: no record has more cells than bytes of canonical text (R111)
@@ -17,9 +17,8 @@ programRewriting s at = rewritingOf s at 8192 8192
 -- R346: a record's text, and more behind it; nothing of a record that is refused, and nothing behind it
 abbrev pub textThen : List ℕ → (ℕ → List ℕ) → Rewriting → List ℕ
 textThen text more (Done n next) = text ++ more next
-textThen text more (Missing r) = []
-textThen text more NoRoom = []
-textThen text more (Unread g r) = []
+textThen text more (Refused r) = []
+textThen text more (GroupRefused g r) = []
 
 -- from a place on, at most so many records
 unfoldable pub rewrittenFrom : ℕ → List ℕ → ℕ → List ℕ

@@ -10,18 +10,20 @@ use Rattle.base.specs.Every.{upFrom}
 use Rattle.base.specs.Part.{over}
 use Rattle.base.specs.Pieces.{Got, done, bad, both}
 use Rattle.count.specs.Tally.{cellsIn, recordCells}
-use Rattle.place.specs.declared.Placing.{Placing}
+use Rattle.reply.specs.declared.Checked.{Checked}
+use Rattle.reply.specs.declared.Checked.the-variants as C
+use Rattle.place.specs.Numbered.{asChecked, placingReply}
 use Rattle.place.specs.declared.Placing.the-variants as P
 use Rattle.place.specs.Placing.{placingOf, countsAt}
-use Rattle.reading.specs.declared.Refusal.{Refusal}
+use Rattle.reply.specs.declared.Refusal.{Refusal}
+use Rattle.reply.specs.declared.Refusal.the-variants.{NoRoom}
 use Rattle.reading.specs.Read.{Cells}
-use Rattle.group.specs.Held.{refusalOf}
 use Rattle.group.specs.Text.{readAt}
 use Rattle.writing.specs.Text.{recordText, recordBytes}
 use Rattle.rewriting.specs.declared.Groups.{Groups}
-use Rattle.rewriting.specs.declared.Groups.the-variants.{All, Refused}
+use Rattle.rewriting.specs.declared.Groups.the-variants as G
 use Rattle.rewriting.specs.declared.Rewriting.{Rewriting}
-use Rattle.rewriting.specs.declared.Rewriting.the-variants.{Done, Missing, NoRoom, Unread}
+use Rattle.rewriting.specs.declared.Rewriting.the-variants.{Done, Refused, GroupRefused}
 
 -- ---- the groups in turn
 
@@ -58,8 +60,8 @@ cellsAt s at = cellsInTurn (groupRead s at) (upFrom 1 60)
 
 -- whether all were read, or the first refusal
 abbrev pub groupsOf : Turn → Groups
-groupsOf (done cs) = All
-groupsOf (bad u) = Refused (u .0) (u .1)
+groupsOf (done cs) = G.All
+groupsOf (bad u) = G.GroupRefused (u .0) (u .1)
 
 -- what is asked before: the record is placed with 0, and its cells have room in a table of so many
 pub record Ready (s : List ℕ) (at cells : ℕ) : Type 0 where
@@ -75,22 +77,22 @@ hasRoom ns cells room = leb (recordBytes ns) room && leb (recordCells ns) cells
 
 abbrev pub rewrittenAs : List ℕ → ℕ → Turn → Rewriting
 rewrittenAs ns next (done cs) = Done (recordBytes ns) next
-rewrittenAs ns next (bad u) = Unread (u .0) (u .1)
+rewrittenAs ns next (bad u) = GroupRefused (u .0) (u .1)
 
-abbrev pub rewritingBy : List ℕ → ℕ → ℕ → ℕ → Placing → Rewriting
-rewritingBy s at cells room (P.Placed n) =
-    cond (hasRoom (countsAt s at) cells room) (rewrittenAs (countsAt s at) n (allInTurn s at)) NoRoom
-rewritingBy s at cells room P.End = Missing (refusalOf P.End)
-rewritingBy s at cells room P.Beyond = Missing (refusalOf P.Beyond)
-rewritingBy s at cells room P.TooFewLines = Missing (refusalOf P.TooFewLines)
-rewritingBy s at cells room P.Misformed = Missing (refusalOf P.Misformed)
-rewritingBy s at cells room P.OtherRelease = Missing (refusalOf P.OtherRelease)
-rewritingBy s at cells room (P.FilledVacant g) = Missing (refusalOf (P.FilledVacant g))
-rewritingBy s at cells room (P.BrokenRule g n) = Missing (refusalOf (P.BrokenRule g n))
+-- R322: a record that is placed with 0
+abbrev pub rewritingPlaced : List ℕ → ℕ → ℕ → ℕ → ℕ → Rewriting
+rewritingPlaced s at cells room next =
+    cond (hasRoom (countsAt s at) cells room) (rewrittenAs (countsAt s at) next (allInTurn s at)) (Refused NoRoom)
+
+-- R321: what placing refuses with, 7 without its next place (R235)
+abbrev pub unlessRefused : Checked → Rewriting → Rewriting
+unlessRefused C.Right r = r
+unlessRefused (C.Refused why) r = Refused why
 
 -- over a table of so many cells and an output of so many bytes
 unfoldable pub rewritingOf : List ℕ → ℕ → ℕ → ℕ → Rewriting
-rewritingOf s at cells room = rewritingBy s at cells room (placingOf s at)
+rewritingOf s at cells room =
+    unlessRefused (asChecked (placingOf s at)) (rewritingPlaced s at cells room (placingReply (placingOf s at) .next))
 
 -- ---- what is lent, afterwards
 
@@ -101,13 +103,11 @@ textAt s at = recordText (countsAt s at) (cellsAt s at)
 -- R325: a refusal leaves the whole output; R324: under 0 the text stands there from the first byte on
 abbrev pub bufferBy : List ℕ → ℕ → Rewriting → List ℕ → List ℕ
 bufferBy s at (Done n next) old = over 0 (textAt s at) old
-bufferBy s at (Missing r) old = old
-bufferBy s at NoRoom old = old
-bufferBy s at (Unread g r) old = old
+bufferBy s at (Refused r) old = old
+bufferBy s at (GroupRefused g r) old = old
 
 -- R326: groups are read into consecutive parts of the table, up to the first that is refused
-abbrev pub tableBy : List ℕ → ℕ → Rewriting → List ℤ → List ℤ
-tableBy s at (Done n next) old = over 0 (cellsAt s at) old
-tableBy s at (Missing r) old = old
-tableBy s at NoRoom old = old
-tableBy s at (Unread g r) old = over 0 (cellsAt s at) old
+abbrev pub tableAfter : List ℕ → ℕ → Rewriting → List ℤ → List ℤ
+tableAfter s at (Done n next) old = over 0 (cellsAt s at) old
+tableAfter s at (Refused r) old = old
+tableAfter s at (GroupRefused g r) old = over 0 (cellsAt s at) old

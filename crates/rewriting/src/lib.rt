@@ -1,37 +1,35 @@
 // R320, rewriting: the record at a place of a text as canonical text, over a lent table. Any text, place, table and output may be given (R241).
 use count::Ruling;
-use reading::Reading;
-use reading::Refusal;
-use writing::Writing;
+use place::Placing;
+use reply::Answer;
+use reply::Refusal;
 ghost use mathlib.Core.Path.{_≡_};
 ghost use Prim.Native.Nat.{_-_, _≤_};
 ghost use lib.ListN.{length};
 ghost use Rattle.base.specs.Part.{part, over};
 ghost use Rattle.count.specs.Rules.{rulingOf};
-ghost use Rattle.place.specs.Placing.{countsAt};
+ghost use Rattle.place.specs.Placing.{placingOf, countsAt};
 ghost use Rattle.reading.specs.Read.{readGroup, readingOf, tableBy};
 ghost use Rattle.writing.specs.Text.{recordText, recordBytes};
 ghost use Rattle.writing.specs.Writing.{writingOf};
 ghost use Rattle.rewriting.specs.Numbered.{rewritingReply, rewritingGroup};
 ghost use Rattle.rewriting.specs.Record.{Ready, groupsOf, allInTurn, cellsAt, rewritingOf, bufferBy};
-ghost use Rattle.rewriting.specs.Record.{tableBy as tableAfter};
+ghost use Rattle.rewriting.specs.Record.{tableAfter};
 
 // R321: what rewriting a record answers.
 pub enum Rewriting {
     // R200: 0, with the bytes that were written and the next place
     Done(usize, usize),
-    // R321: what placing refused with
-    Missing(Refusal),
-    // R322: 11
-    NoRoom,
+    // R321, R322: what placing refused with, or 11
+    Refused(Refusal),
     // R323: the first group that was refused, and what with
-    Unread(usize, Refusal),
+    GroupRefused(usize, Refusal),
 }
 
 // Whether all groups of a record were read, or the first that was refused.
 enum Groups {
     All,
-    Refused(usize, Refusal),
+    GroupRefused(usize, Refusal),
 }
 
 // ---- Reading all groups.
@@ -46,7 +44,7 @@ fn read_part(
     table: &mut [i64],
     cell: usize,
     end: usize,
-) -> Reading
+) -> Answer
     requires kept { ⌜ rulingOf (now counts) ≡ Ruling.Kept ⌝ }
     requires order { ⌜ from ≤ to ⌝ }
     requires text { ⌜ to ≤ length (now text) ⌝ }
@@ -79,10 +77,10 @@ fn read_groups(text: &[u8], at: usize, counts: &[u16], table: &mut [i64]) -> Gro
         let end = cell + form::cells(f, n);
         let answer = read_part(counts, g, text, from, to, table, cell, end);
         match answer {
-            Reading::Refused(r) => {
-                return Groups::Refused(g, r);
+            Answer::Refused(r) => {
+                return Groups::GroupRefused(g, r);
             }
-            Reading::Done(_) => {}
+            Answer::Done(_) => {}
         }
         from = to;
         cell = end;
@@ -97,11 +95,44 @@ fn read_groups(text: &[u8], at: usize, counts: &[u16], table: &mut [i64]) -> Gro
 fn write_cells(counts: &[u16], table: &[i64], cells: usize, out: &mut [u8])
     requires room { ⌜ cells ≤ length (now table) ⌝ }
     requires written { ⌜ writingOf (now counts) (part 0 cells (now table)) (length (now out)) ≡
-        Writing.Done (recordBytes (now counts)) ⌝ }
+        Answer.Done (recordBytes (now counts)) ⌝ }
     ensures { λ _. ⌜ now (out .exit) ≡
         over 0 (recordText (now (counts .entry)) (part 0 cells (now (table .entry)))) (now (out .entry)) ⌝ }
 {
     writing::put_record(counts, &table[0..cells], out);
+}
+
+// R321 to R324, for a record that is placed with 0.
+fn rewrite_placed(
+    text: &[u8],
+    at: usize,
+    next: usize,
+    counts: &[u16],
+    table: &mut [i64],
+    out: &mut [u8],
+) -> Rewriting
+    requires placed { ⌜ placingOf (now text) at ≡ Placing.Placed next ⌝ }
+    requires counts { ⌜ now counts ≡ countsAt (now text) at ⌝ }
+    ensures answer { λ r. ⌜ r ≡
+        rewritingOf (now (text .entry)) at (length (now (table .entry))) (length (now (out .entry))) ⌝ }
+    ensures table { λ r. ⌜ now (table .exit) ≡ tableAfter (now (text .entry)) at r (now (table .entry)) ⌝ }
+    ensures output { λ r. ⌜ now (out .exit) ≡ bufferBy (now (text .entry)) at r (now (out .entry)) ⌝ }
+{
+    let bytes = writing::canonical_length(counts);
+    if out.len() < bytes {
+        return Rewriting::Refused(Refusal::NoRoom);
+    }
+    let all = count::add_up(counts, 61);
+    if table.len() < all.cells {
+        return Rewriting::Refused(Refusal::NoRoom);
+    }
+    match read_groups(text, at, counts, table) {
+        Groups::GroupRefused(g, r) => Rewriting::GroupRefused(g, r),
+        Groups::All => {
+            write_cells(counts, table, all.cells, out);
+            Rewriting::Done(bytes, next)
+        }
+    }
 }
 
 // Rewrites the record at a place of a text into an output, over a table. R321: what placing refuses with; 11 if output or table is too short
@@ -115,23 +146,12 @@ pub fn rewrite_record(text: &[u8], at: usize, table: &mut [i64], out: &mut [u8])
 {
     let placed = place::place(text, at);
     let answer = placed.answer;
-    let place::Placing::Placed(next) = answer else {
-        return Rewriting::Missing(group::refusal_of(answer));
-    };
-    let counts = placed.counts;
-    let bytes = writing::canonical_length(&counts);
-    if out.len() < bytes {
-        return Rewriting::NoRoom;
-    }
-    let all = count::add_up(&counts, 61);
-    if table.len() < all.cells {
-        return Rewriting::NoRoom;
-    }
-    match read_groups(text, at, &counts, table) {
-        Groups::Refused(g, r) => Rewriting::Unread(g, r),
-        Groups::All => {
-            write_cells(&counts, table, all.cells, out);
-            Rewriting::Done(bytes, next)
+    match answer {
+        Placing::BrokenRule(g, _) => Rewriting::Refused(Refusal::BrokenRule(g)),
+        Placing::Refused(why) => Rewriting::Refused(why),
+        Placing::Placed(next) => {
+            let counts = placed.counts;
+            rewrite_placed(text, at, next, &counts, table, out)
         }
     }
 }
@@ -143,18 +163,9 @@ pub fn reply_of(answer: Rewriting) -> reply::Reply
     ensures { λ r. ⌜ r ≡ rewritingReply answer ⌝ }
 {
     match answer {
-        Rewriting::Done(written, next) => reply::Reply {
-            number: 0,
-            next,
-            written,
-            group: 0,
-            line: 0,
-            element: 0,
-            position: 0,
-        },
-        Rewriting::Missing(r) => reading::refusal_reply(r),
-        Rewriting::NoRoom => reply::plain(11),
-        Rewriting::Unread(_, r) => reading::refusal_reply(r),
+        Rewriting::Done(written, next) => reply::written(next, written),
+        Rewriting::Refused(why) => reply::of_refusal(why),
+        Rewriting::GroupRefused(_, why) => reply::of_refusal(why),
     }
 }
 
@@ -164,8 +175,7 @@ pub fn group_of(answer: Rewriting) -> usize
 {
     match answer {
         Rewriting::Done(_, _) => 0,
-        Rewriting::Missing(_) => 0,
-        Rewriting::NoRoom => 0,
-        Rewriting::Unread(g, _) => g,
+        Rewriting::Refused(_) => 0,
+        Rewriting::GroupRefused(g, _) => g,
     }
 }

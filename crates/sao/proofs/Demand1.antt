@@ -1,25 +1,23 @@
 -- D1, the first demand (specs/Demand1.antt).
 -- Assumes nothing.
-use mathlib.Core.Path.{_≡_, refl}
+use mathlib.Core.Path.{_≡_, refl, ap}
 use mathlib.Core.List.{List}
 use Prim.Native.Nat.{ℕ}
 use lib.IntN.{ℤ}
 use lib.ListN.{length, drop}
 use Rattle.base.specs.Pieces.{done, bad}
-use Rattle.decimal.specs.Writing.{putAnswer, putBytes}
-use Rattle.decimal.specs.declared.Put.{Put}
-use Rattle.decimal.specs.declared.Put.the-variants.{Next, NoRoom}
+use Rattle.decimal.specs.Writing.{putBytes}
+use Rattle.reply.specs.declared.Answer.{Answer}
+use Rattle.reply.specs.declared.Answer.the-variants as A
+use Rattle.reply.specs.Refusals.{refusalReply, answerReply}
 use Rattle.place.proofs.Numbered.{placing-numbered}
 use Rattle.reading.specs.Read.{Cells, readingOf, tableBy}
-use Rattle.reading.specs.Numbered.{readingReply}
 use Rattle.reading.proofs.Promises.{refused-read-keeps, done-read-keeps-rest}
 use Rattle.group.specs.Text.{readAt}
 use Rattle.group.proofs.Numbered.{reading-numbered, found-numbered, characteristic-numbered}
-use Rattle.listing.specs.Listing.{listing, listedReply}
+use Rattle.listing.specs.Listing.{listing, listedIn}
 use Rattle.listing.proofs.Replies.{listed-numbered, listed-keeps, listed-rest}
-use Rattle.writing.specs.declared.Writing.{Writing}
-use Rattle.writing.specs.declared.Writing.the-variants as W
-use Rattle.writing.specs.Writing.{writingOf, outputBy, writingReply}
+use Rattle.writing.specs.Writing.{writingOf, outputBy}
 use Rattle.writing.proofs.Promises.{writing-numbered, refused-write-keeps, done-write-keeps-rest}
 use Rattle.rewriting.specs.declared.Rewriting.{Rewriting}
 use Rattle.rewriting.specs.declared.Rewriting.the-variants as R
@@ -27,7 +25,7 @@ use Rattle.rewriting.specs.Numbered.{rewritingReply}
 use Rattle.rewriting.specs.Record.{rewritingOf, bufferBy}
 use Rattle.rewriting.proofs.Promises.{rewriting-numbered, unread-group, refused-rewriting-keeps, done-keeps-rest}
 use Rattle.sao.proofs.Numbers.{answers-told}
-use Rattle.sao.specs.Demand1.{Refused, EndsNumbered, RefusedWriteKeeps, KeepsRest, Demand1}
+use Rattle.sao.specs.Demand1.{NotDone, EndsNumbered, RefusedWriteKeeps, KeepsRest, Demand1}
 
 ends-numbered : EndsNumbered
 ends-numbered =
@@ -43,12 +41,12 @@ ends-numbered =
       unread = unread-group;
     }
 
-listing-keeps : (s out : List ℕ) → Refused (listedReply (putAnswer 0 (listing s) out)) → putBytes 0 (listing s) out ≡ out
-listing-keeps s out refused = by (putAnswer 0 (listing s) out) refl refused
+listing-keeps : (s out : List ℕ) → NotDone (answerReply (listedIn (listing s) (length out))) → putBytes 0 (listing s) out ≡ out
+listing-keeps s out refused = by (listedIn (listing s) (length out)) refl refused
   where
-    by : (r : Put) → putAnswer 0 (listing s) out ≡ r → Refused (listedReply r) → putBytes 0 (listing s) out ≡ out
-    by (Next n) e h = absurd (h refl)
-    by NoRoom e h = listed-keeps (listing s) out e
+    by : (r : Answer) → listedIn (listing s) (length out) ≡ r → NotDone (answerReply r) → putBytes 0 (listing s) out ≡ out
+    by (A.Done n) e h = absurd (h refl)
+    by (A.Refused r) e h = listed-keeps (listing s) out r e
 
 write-keeps : RefusedWriteKeeps
 write-keeps =
@@ -58,37 +56,30 @@ write-keeps =
       rewriting = λ s at cells out. refused-rewriting-keeps s at (rewritingOf s at cells (length out)) out;
     }
 
-read-rest : (c : Cells) (table : List ℤ) → drop (readingReply (readingOf c) .written) (tableBy c table) ≡ drop (readingReply (readingOf c) .written) table
+read-rest : (c : Cells) (table : List ℤ) → drop (answerReply (readingOf c) .written) (tableBy c table) ≡ drop (answerReply (readingOf c) .written) table
 read-rest (done cs) table = done-read-keeps-rest (done cs) table (length cs) refl
 read-rest (bad r) table = refl
 
-write-rest : (ns : List ℕ) (cs : List ℤ) (out : List ℕ) (w : Writing) → writingOf ns cs (length out) ≡ w → drop (writingReply w .written) (outputBy ns cs w out) ≡ drop (writingReply w .written) out
-write-rest ns cs out (W.Done n) e = done-write-keeps-rest ns cs out n e
-write-rest ns cs out W.Misformed e = refl
-write-rest ns cs out W.OtherRelease e = refl
-write-rest ns cs out (W.FilledVacant g) e = refl
-write-rest ns cs out (W.BrokenRule g) e = refl
-write-rest ns cs out W.OtherLength e = refl
-write-rest ns cs out (W.NoField g k) e = refl
-write-rest ns cs out (W.BadDate p) e = refl
-write-rest ns cs out W.NoRoom e = refl
+write-rest : (ns : List ℕ) (cs : List ℤ) (out : List ℕ) (w : Answer) → writingOf ns cs (length out) ≡ w → drop (answerReply w .written) (outputBy ns cs w out) ≡ drop (answerReply w .written) out
+write-rest ns cs out (A.Done n) e = done-write-keeps-rest ns cs out n e
+write-rest ns cs out (A.Refused r) e = refl
 
-list-rest : (s out : List ℕ) (r : Put) → putAnswer 0 (listing s) out ≡ r → drop (listedReply r .written) (putBytes 0 (listing s) out) ≡ drop (listedReply r .written) out
-list-rest s out (Next n) e = listed-rest (listing s) out n e
-list-rest s out NoRoom e = listed-keeps (listing s) out e
+list-rest : (s out : List ℕ) (r : Answer) → listedIn (listing s) (length out) ≡ r → drop (answerReply r .written) (putBytes 0 (listing s) out) ≡ drop (answerReply r .written) out
+list-rest s out (A.Done n) e = listed-rest (listing s) out n e
+list-rest s out (A.Refused r) e = ap (drop (refusalReply r .written)) (listed-keeps (listing s) out r e)
 
-rewrite-rest : (s : List ℕ) (at cells : ℕ) (out : List ℕ) (r : Rewriting) → rewritingOf s at cells (length out) ≡ r → drop (rewritingReply r .written) (bufferBy s at r out) ≡ drop (rewritingReply r .written) out
+rewrite-rest : (s : List ℕ) (at cells : ℕ) (out : List ℕ) (r : Rewriting) → rewritingOf s at cells (length out) ≡ r
+    → drop (rewritingReply r .written) (bufferBy s at r out) ≡ drop (rewritingReply r .written) out
 rewrite-rest s at cells out (R.Done bytes next) e = done-keeps-rest s at cells (length out) bytes next e out
-rewrite-rest s at cells out (R.Missing r) e = refl
-rewrite-rest s at cells out R.NoRoom e = refl
-rewrite-rest s at cells out (R.Unread g r) e = refl
+rewrite-rest s at cells out (R.Refused r) e = refl
+rewrite-rest s at cells out (R.GroupRefused g r) e = refl
 
 keeps-rest : KeepsRest
 keeps-rest =
     record {
       reading = λ s at g table. read-rest (readAt s at g (length table)) table;
       writing = λ ns cs out. write-rest ns cs out (writingOf ns cs (length out)) refl;
-      listed = λ s out. list-rest s out (putAnswer 0 (listing s) out) refl;
+      listed = λ s out. list-rest s out (listedIn (listing s) (length out)) refl;
       rewriting = λ s at cells out. rewrite-rest s at cells out (rewritingOf s at cells (length out)) refl;
     }
 

@@ -11,7 +11,7 @@ use Rattle.place.proofs.Stopped.{walks}
 use Rattle.reading.proofs.Promises.{done-read-holds}
 use Rattle.group.proofs.Due as GroupDue
 use Rattle.group.proofs.Holding.{span-end}
-use Rattle.writing.specs.declared.Writing.the-variants.{Done}
+use Rattle.reply.specs.declared.Answer.the-variants.{Done}
 use Rattle.writing.specs.Canonical.{CanonicalRecord}
 use Rattle.writing.specs.Writing.{writingOf}
 use Rattle.writing.proofs.Canonical.{canonical-text}
@@ -42,11 +42,12 @@ as-due =
       characteristic = λ s at k. GroupDue.characteristic-first-due s at k;
       writing = λ ns cs room. WritingDue.first-due ns cs room;
       rewriting = λ s at cells room. RewritingDue.first-due s at cells room;
-      listed = λ s out. Listed.first-due (listing s) out;
+      listed = λ s room. Listed.first-due (listing s) room;
       listing-is = λ s x. (λ e. subst (IsListing s) e (Listed.listing-is s), λ h. sym (Listed.is-listing s x h));
     }
 
-rewrites : (s : List ℕ) (at cells : ℕ) (out : List ℕ) (bytes next : ℕ) → rewritingOf s at cells (length out) ≡ Rewritten bytes next → Rewrites s at bytes next (bufferBy s at (Rewritten bytes next) out)
+rewrites : (s : List ℕ) (at cells : ℕ) (out : List ℕ) (bytes next : ℕ) → rewritingOf s at cells (length out) ≡ Rewritten bytes next
+    → Rewrites s at bytes next (bufferBy s at (Rewritten bytes next) out)
 rewrites s at cells out bytes next e =
     let placed = RewritingDue.first-due s at cells (length out) (Rewritten bytes next) .0 e .roomy .placed in
     let all = done-all s at cells (length out) bytes next e in

@@ -6,16 +6,6 @@ use Rattle.sao.specs.Numbers.{AnswersTold}
 pub answers-told : AnswersTold
 answers-told =
     record {
-      placing = record {
-        placed = λ n. refl;
-        text-end = refl;
-        beyond = refl;
-        too-few-lines = refl;
-        misformed = refl;
-        other-release = refl;
-        filled-vacant = λ g. refl;
-        broken-rule = λ g n. refl;
-      };
       refusals = record {
         text-end = refl;
         beyond = refl;
@@ -28,35 +18,26 @@ answers-told =
         bad-field = λ l e. refl;
         bad-date = λ p. refl;
         no-room = refl;
-        no-group = refl;
-      };
-      group = record {
-        read = λ cs. refl;
-        unread = λ r. refl;
-        given = refl;
-        missing = λ r. refl;
-        value = λ z. refl;
-        no-reading = refl;
-        not-reported = refl;
-        unknown = λ r. refl;
-      };
-      writing = record {
-        done = λ n. refl;
-        misformed = refl;
-        other-release = refl;
-        filled-vacant = λ g. refl;
-        broken-rule = λ g. refl;
-        bad-date = λ p. refl;
-        no-room = refl;
+        no-such-number = refl;
         no-field = λ g e. refl;
         other-length = refl;
       };
+      placing = record { placed = λ n. refl; broken-rule = λ g n. refl; refused = λ r. refl };
+      group = record {
+        read = λ cs. refl;
+        read-refused = λ r. refl;
+        given = refl;
+        lines-refused = λ r. refl;
+        value = λ z. refl;
+        no-reading = refl;
+        not-reported = refl;
+        characteristic-refused = λ r. refl;
+      };
       text = record {
-        listed = λ n. refl;
-        unlisted = refl;
-        rewritten = λ n next. (refl, refl);
-        unplaced = λ r. (refl, refl);
-        no-room = (refl, refl);
-        unread = λ g r. (refl, refl);
+        written = λ n. refl;
+        write-refused = λ r. refl;
+        rewritten = λ n p. (refl, refl);
+        rewrite-refused = λ r. (refl, refl);
+        group-refused = λ g r. (refl, refl);
       };
     }

@@ -5,7 +5,7 @@ use mathlib.Core.Path.{_≡_, sym, _∙_, ap}
 use denote.Ref.{now}
 use Rattle.sao.specs.Outcome.{OneOutcome, OneUpTo}
 use Rattle.writing.specs.Writing.{outputBy}
-use Rattle.rewriting.specs.Record.{tableBy, bufferBy}
+use Rattle.rewriting.specs.Record.{tableAfter, bufferBy}
 use Rattle.sao.proofs.place
 use Rattle.sao.proofs.read_group
 use Rattle.sao.proofs.group_lines_at
@@ -48,12 +48,12 @@ write-record-one κs (counts, (cells, (out, _))) r q v w l k =
 
 pub list-one : OneOutcome list.ended list.Reads.Learnt
 list-one κs a r q v w l k =
-    let bytes = l .bytes ∙ sym (k .bytes) in
-    (l .answer ∙ sym (k .answer), λ i. (tt, (bytes i, tt)))
+    let bytes = l .1 ∙ sym (k .1) in
+    (l .0 ∙ sym (k .0), λ i. (tt, (bytes i, tt)))
 
 pub rewrite-record-one : OneOutcome rewrite_record.ended rewrite_record.Reads.Learnt
 rewrite-record-one κs (text, (at, (table, (out, _)))) r q v w l k =
     let answer = l .0 ∙ sym (k .0) in
-    let cells = l .1 .0 ∙ ap (λ p. tableBy (now text) at p (now table)) answer ∙ sym (k .1 .0) in
+    let cells = l .1 .0 ∙ ap (λ p. tableAfter (now text) at p (now table)) answer ∙ sym (k .1 .0) in
     let bytes = l .1 .1 ∙ ap (λ p. bufferBy (now text) at p (now out)) answer ∙ sym (k .1 .1) in
     (answer, λ i. (tt, (tt, (cells i, (bytes i, tt)))))

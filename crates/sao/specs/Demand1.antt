@@ -12,57 +12,69 @@ use lib.IntN.{ℤ}
 use lib.ListN.{length, drop}
 use Rattle.reply.specs.declared.Reply.{Reply}
 use Rattle.reply.specs.Table.{Numbered}
-use Rattle.decimal.specs.Writing.{putAnswer, putBytes}
+use Rattle.decimal.specs.Writing.{putBytes}
 use Rattle.place.specs.Placing.{placingOf}
 use Rattle.place.specs.Numbered.{placingReply, placingRows}
 use Rattle.reading.specs.Read.{readingOf, tableBy}
-use Rattle.reading.specs.Numbered.{readingReply, readingRows}
-use Rattle.reading.specs.declared.Refusal.{Refusal}
+use Rattle.reading.specs.Numbered.{readingRows}
+use Rattle.reply.specs.declared.Refusal.{Refusal}
+use Rattle.reply.specs.Refusals.{checkedReply, answerReply}
 use Rattle.group.specs.Text.{readAt}
-use Rattle.group.specs.Held.{foundAt, foundReply, foundRows}
-use Rattle.group.specs.Characteristics.{characteristicAt, characteristicReply, characteristicRows}
-use Rattle.listing.specs.Listing.{listing, listedReply, listingRows}
-use Rattle.writing.specs.Writing.{writingOf, outputBy, writingReply, writingRows}
+use Rattle.group.specs.Held.{foundAt}
+use Rattle.group.specs.Numbered.{foundRows, characteristicReply, characteristicRows}
+use Rattle.group.specs.Characteristics.{characteristicAt}
+use Rattle.listing.specs.Listing.{listing, listedIn}
+use Rattle.listing.specs.Numbered.{listingRows}
+use Rattle.writing.specs.Writing.{writingOf, outputBy}
+use Rattle.writing.specs.Numbered.{writingRows}
 use Rattle.rewriting.specs.Record.{rewritingOf, bufferBy}
-use Rattle.rewriting.specs.declared.Rewriting.the-variants.{Unread}
+use Rattle.rewriting.specs.declared.Rewriting.the-variants.{GroupRefused}
 use Rattle.rewriting.specs.Numbered.{rewritingReply, rewritingRows}
 use Rattle.sao.specs.Numbers.{AnswersTold}
 
 -- done is 0, refused is anything else
-abbrev pub Refused : Reply → Type 0
-Refused r = r .number ≡ 0 → ⊥
+abbrev pub NotDone : Reply → Type 0
+NotDone r = r .number ≡ 0 → ⊥
 
 -- D1.2: the reply fills a row of the question's own table, with each number that the row names and 0 for the others (R230)
 pub record EndsNumbered : Type 0 where
   -- which number each answer has, in figures
   pub told : AnswersTold
   pub placing : (s : List ℕ) (at : ℕ) → Numbered placingRows (placingReply (placingOf s at))
-  pub reading : (s : List ℕ) (at g room : ℕ) → Numbered readingRows (readingReply (readingOf (readAt s at g room)))
-  pub lines : (s : List ℕ) (at g : ℕ) → Numbered foundRows (foundReply (foundAt s at g))
+  pub reading : (s : List ℕ) (at g room : ℕ) → Numbered readingRows (answerReply (readingOf (readAt s at g room)))
+  pub lines : (s : List ℕ) (at g : ℕ) → Numbered foundRows (checkedReply (foundAt s at g))
   pub characteristic : (s : List ℕ) (at k : ℕ) → Numbered characteristicRows (characteristicReply (characteristicAt s at k))
-  pub writing : (ns : List ℕ) (cs : List ℤ) (room : ℕ) → Numbered writingRows (writingReply (writingOf ns cs room))
-  pub listed : (s out : List ℕ) → Numbered listingRows (listedReply (putAnswer 0 (listing s) out))
+  pub writing : (ns : List ℕ) (cs : List ℤ) (room : ℕ) → Numbered writingRows (answerReply (writingOf ns cs room))
+  pub listed : (s : List ℕ) (room : ℕ) → Numbered listingRows (answerReply (listedIn (listing s) room))
   pub rewriting : (s : List ℕ) (at cells room : ℕ) → Numbered rewritingRows (rewritingReply (rewritingOf s at cells room))
   -- R323: the group that rewriting tells apart from the reply is one of 1 to 60
-  pub unread : (s : List ℕ) (at cells room g : ℕ) (r : Refusal) → rewritingOf s at cells room ≡ Unread g r → (1 ≤ g) × (g ≤ 60)
+  pub unread : (s : List ℕ) (at cells room g : ℕ) (r : Refusal) → rewritingOf s at cells room ≡ GroupRefused g r → (1 ≤ g) × (g ≤ 60)
 
 -- D1.4: after a refused read the table is what it was (R267)
 abbrev pub RefusedReadKeeps : Type 0
 RefusedReadKeeps =
-    (s : List ℕ) (at g : ℕ) (table : List ℤ) → Refused (readingReply (readingOf (readAt s at g (length table)))) → tableBy (readAt s at g (length table)) table ≡ table
+    (s : List ℕ) (at g : ℕ) (table : List ℤ) → NotDone (answerReply (readingOf (readAt s at g (length table)))) → tableBy (readAt s at g (length table)) table ≡ table
 
 -- D1.5: after a refused write the output is what it was: writing a record (R307), listing a text (R311), rewriting a record (R325)
 pub record RefusedWriteKeeps : Type 0 where
-  pub writing : (ns : List ℕ) (cs : List ℤ) (out : List ℕ) → Refused (writingReply (writingOf ns cs (length out))) → outputBy ns cs (writingOf ns cs (length out)) out ≡ out
-  pub listed : (s out : List ℕ) → Refused (listedReply (putAnswer 0 (listing s) out)) → putBytes 0 (listing s) out ≡ out
-  pub rewriting : (s : List ℕ) (at cells : ℕ) (out : List ℕ) → Refused (rewritingReply (rewritingOf s at cells (length out))) → bufferBy s at (rewritingOf s at cells (length out)) out ≡ out
+  pub writing : (ns : List ℕ) (cs : List ℤ) (out : List ℕ) → NotDone (answerReply (writingOf ns cs (length out))) → outputBy ns cs (writingOf ns cs (length out)) out ≡ out
+  pub listed : (s out : List ℕ) → NotDone (answerReply (listedIn (listing s) (length out))) → putBytes 0 (listing s) out ≡ out
+  pub rewriting : (s : List ℕ) (at cells : ℕ) (out : List ℕ) → NotDone (rewritingReply (rewritingOf s at cells (length out))) → bufferBy s at (rewritingOf s at cells (length out)) out ≡ out
 
 -- R266, R306, R311, R324: what stands behind the cells or bytes that were written stays as it was
 pub record KeepsRest : Type 0 where
-  pub reading : (s : List ℕ) (at g : ℕ) (table : List ℤ) → drop (readingReply (readingOf (readAt s at g (length table))) .written) (tableBy (readAt s at g (length table)) table) ≡ drop (readingReply (readingOf (readAt s at g (length table))) .written) table
-  pub writing : (ns : List ℕ) (cs : List ℤ) (out : List ℕ) → drop (writingReply (writingOf ns cs (length out)) .written) (outputBy ns cs (writingOf ns cs (length out)) out) ≡ drop (writingReply (writingOf ns cs (length out)) .written) out
-  pub listed : (s out : List ℕ) → drop (listedReply (putAnswer 0 (listing s) out) .written) (putBytes 0 (listing s) out) ≡ drop (listedReply (putAnswer 0 (listing s) out) .written) out
-  pub rewriting : (s : List ℕ) (at cells : ℕ) (out : List ℕ) → drop (rewritingReply (rewritingOf s at cells (length out)) .written) (bufferBy s at (rewritingOf s at cells (length out)) out) ≡ drop (rewritingReply (rewritingOf s at cells (length out)) .written) out
+  pub reading : (s : List ℕ) (at g : ℕ) (table : List ℤ)
+      → drop (answerReply (readingOf (readAt s at g (length table))) .written) (tableBy (readAt s at g (length table)) table)
+      ≡ drop (answerReply (readingOf (readAt s at g (length table))) .written) table
+  pub writing : (ns : List ℕ) (cs : List ℤ) (out : List ℕ)
+      → drop (answerReply (writingOf ns cs (length out)) .written) (outputBy ns cs (writingOf ns cs (length out)) out)
+      ≡ drop (answerReply (writingOf ns cs (length out)) .written) out
+  pub listed : (s out : List ℕ)
+      → drop (answerReply (listedIn (listing s) (length out)) .written) (putBytes 0 (listing s) out)
+      ≡ drop (answerReply (listedIn (listing s) (length out)) .written) out
+  pub rewriting : (s : List ℕ) (at cells : ℕ) (out : List ℕ)
+      → drop (rewritingReply (rewritingOf s at cells (length out)) .written) (bufferBy s at (rewritingOf s at cells (length out)) out)
+      ≡ drop (rewritingReply (rewritingOf s at cells (length out)) .written) out
 
 pub record Demand1 : Type 0 where
   pub numbered : EndsNumbered

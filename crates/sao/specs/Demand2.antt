@@ -12,35 +12,33 @@ use lib.IntN.{ℤ}
 use lib.ListN.{length, take}
 use Rattle.base.specs.Part.{part, over}
 use Rattle.base.specs.Pieces.{done}
-use Rattle.decimal.specs.declared.Put.{Put}
-use Rattle.decimal.specs.declared.Put.the-variants.{Next}
-use Rattle.decimal.specs.Writing.{putAnswer, putBytes}
+use Rattle.decimal.specs.Writing.{putBytes}
+use Rattle.reply.specs.declared.Checked.{Checked}
+use Rattle.reply.specs.declared.Answer.{Answer}
+use Rattle.reply.specs.declared.Answer.the-variants.{Done}
 use Rattle.place.specs.declared.Placing.{Placing}
 use Rattle.place.specs.Placing.{placingOf, countsAt}
 use Rattle.place.specs.Walk.{Walks}
 use Rattle.place.specs.Due as PlacingIs
 use Rattle.reading.specs.Read.{Cells, tableBy}
-use Rattle.group.specs.declared.Found.{Found}
 use Rattle.group.specs.declared.Characteristic.{Characteristic}
 use Rattle.group.specs.Text.{readAt}
 use Rattle.group.specs.Held.{foundAt, partStart, partEnd, partAt}
 use Rattle.group.specs.Characteristics.{characteristicAt}
 use Rattle.group.specs.Due as GroupIs
-use Rattle.writing.specs.declared.Writing.{Writing}
-use Rattle.writing.specs.declared.Writing.the-variants.{Done}
 use Rattle.writing.specs.Canonical.{CanonicalRecord}
 use Rattle.writing.specs.RoundTrip.{ReadsBack, ReadWhole, joined}
 use Rattle.writing.specs.Text.{recordText}
 use Rattle.writing.specs.Writing.{writingOf, outputBy}
 use Rattle.writing.specs.Due as WritingIs
-use Rattle.listing.specs.Listing.{listing, IsListing, ListingDue}
+use Rattle.listing.specs.Listing.{listing, listedIn, IsListing, ListingDue}
 use Rattle.rewriting.specs.declared.Rewriting.{Rewriting}
 use Rattle.rewriting.specs.declared.Rewriting.the-variants.{Done as Rewritten}
 use Rattle.rewriting.specs.Canonical.{CanonicalRecords}
 use Rattle.rewriting.specs.Due as RewritingIs
 use Rattle.rewriting.specs.Due.{TableHas, groupsRead}
 use Rattle.rewriting.specs.Printed.{printed}
-use Rattle.rewriting.specs.Record.{rewritingOf, bufferBy, tableBy as tableAfter}
+use Rattle.rewriting.specs.Record.{rewritingOf, bufferBy, tableAfter}
 
 -- D2.1, D2.2: every answer is given exactly if it is due. Where a Due cites another answer (the placing, the counts, what a group reads as),
 -- that answer's own Due is a field here. So a reader comes to plain words: of an index that its columns are entries (R22, R23; place's IsIndex);
@@ -54,14 +52,14 @@ pub record GivenAsDue : Type 0 where
   -- the records one after another, by what placing gives
   pub walk : (s : List ℕ) → Walks s
   pub reading : (s : List ℕ) (at g room : ℕ) (c : Cells) → readAt s at g room ≡ c ↔ GroupIs.Due s at g room c
-  pub lines : (s : List ℕ) (at g : ℕ) (r : Found) → foundAt s at g ≡ r ↔ GroupIs.FoundDue s at g r
+  pub lines : (s : List ℕ) (at g : ℕ) (r : Checked) → foundAt s at g ≡ r ↔ GroupIs.FoundDue s at g r
   -- R280: the part is exactly those lines, and stands there
   pub part : (s : List ℕ) (at g from : ℕ) (x : List ℕ) → ((partStart s at g ≡ from) × (partAt s at g ≡ x)) ↔ GroupIs.PartDue s at g from x
   pub part-end : (s : List ℕ) (at g : ℕ) → partEnd s at g ≡ partStart s at g + length (partAt s at g)
   pub characteristic : (s : List ℕ) (at k : ℕ) (c : Characteristic) → characteristicAt s at k ≡ c ↔ GroupIs.CharacteristicDue s at k c
-  pub writing : (ns : List ℕ) (cs : List ℤ) (room : ℕ) (r : Writing) → writingOf ns cs room ≡ r ↔ WritingIs.Due ns cs room r
+  pub writing : (ns : List ℕ) (cs : List ℤ) (room : ℕ) (r : Answer) → writingOf ns cs room ≡ r ↔ WritingIs.Due ns cs room r
   pub rewriting : (s : List ℕ) (at cells room : ℕ) (r : Rewriting) → rewritingOf s at cells room ≡ r ↔ RewritingIs.Due s at cells room r
-  pub listed : (s out : List ℕ) (r : Put) → putAnswer 0 (listing s) out ≡ r ↔ ListingDue (listing s) (length out) r
+  pub listed : (s : List ℕ) (room : ℕ) (r : Answer) → listedIn (listing s) room ≡ r ↔ ListingDue (listing s) room r
   pub listing-is : (s x : List ℕ) → listing s ≡ x ↔ IsListing s x
 
 -- what rewriting's output holds under 0: the canonical text of the counts and of what every group read as
@@ -78,10 +76,12 @@ pub record Rewrites (s : List ℕ) (at bytes next : ℕ) (buffer : List ℕ) : T
 pub record LentHolds : Type 0 where
   pub reading : (s : List ℕ) (at g : ℕ) (table cs : List ℤ) → readAt s at g (length table) ≡ done cs → take (length cs) (tableBy (readAt s at g (length table)) table) ≡ cs
   pub writing : (ns : List ℕ) (cs : List ℤ) (out : List ℕ) (n : ℕ) → writingOf ns cs (length out) ≡ Done n → take n (outputBy ns cs (writingOf ns cs (length out)) out) ≡ recordText ns cs
-  pub listed : (s out : List ℕ) (n : ℕ) → putAnswer 0 (listing s) out ≡ Next n → take n (putBytes 0 (listing s) out) ≡ listing s
-  pub rewriting : (s : List ℕ) (at cells : ℕ) (out : List ℕ) (bytes next : ℕ) → rewritingOf s at cells (length out) ≡ Rewritten bytes next → Rewrites s at bytes next (bufferBy s at (rewritingOf s at cells (length out)) out)
+  pub listed : (s out : List ℕ) (n : ℕ) → listedIn (listing s) (length out) ≡ Done n → take n (putBytes 0 (listing s) out) ≡ listing s
+  pub rewriting : (s : List ℕ) (at cells : ℕ) (out : List ℕ) (bytes next : ℕ) → rewritingOf s at cells (length out) ≡ Rewritten bytes next
+      → Rewrites s at bytes next (bufferBy s at (rewritingOf s at cells (length out)) out)
   -- R326: rewriting's table begins with the cells of the groups that were read, also where a later group was refused, and is as it was behind them
-  pub rewriting-table : (s : List ℕ) (at room : ℕ) (table : List ℤ) → TableHas s at (groupsRead (rewritingOf s at (length table) room)) table (tableAfter s at (rewritingOf s at (length table) room) table)
+  pub rewriting-table : (s : List ℕ) (at room : ℕ) (table : List ℤ)
+      → TableHas s at (groupsRead (rewritingOf s at (length table) room)) table (tableAfter s at (rewritingOf s at (length table) room) table)
 
 -- D2.3: n bytes, canonical with these counts and cells, and no other text is (R100)
 pub record OneCanonical (ns : List ℕ) (cs : List ℤ) (n : ℕ) : Type 0 where
@@ -100,7 +100,10 @@ WrittenReadsBack =
 -- D2.5: what was read from canonical text is written as that text
 pub record ReadWrites : Type 0 where
   -- a record of any text whose groups all read with 0 and whose bytes are canonical
-  pub record-returns : (s : List ℕ) (at next : ℕ) (cells : ℕ → List ℤ) (ds : List ℤ) → ReadWhole s at next cells → CanonicalRecord (countsAt s at) (part at next s) ds → (out : List ℕ) → next - at ≤ length out → (writingOf (countsAt s at) (joined cells) (length out) ≡ Done (next - at)) × (outputBy (countsAt s at) (joined cells) (writingOf (countsAt s at) (joined cells) (length out)) out ≡ over 0 (part at next s) out)
+  pub record-returns : (s : List ℕ) (at next : ℕ) (cells : ℕ → List ℤ) (ds : List ℤ) → ReadWhole s at next cells → CanonicalRecord (countsAt s at) (part at next s) ds
+      → (out : List ℕ) → next - at ≤ length out
+      → (writingOf (countsAt s at) (joined cells) (length out) ≡ Done (next - at))
+      × (outputBy (countsAt s at) (joined cells) (writingOf (countsAt s at) (joined cells) (length out)) out ≡ over 0 (part at next s) out)
   -- R348: what the program prints for a text of canonical records, each of at most 8,192 bytes
   pub text-returns : (s : List ℕ) → CanonicalRecords s → length s ≤ 65536 → printed s ≡ s
   -- and for what it printed itself

@@ -1,88 +1,75 @@
--- R200 to R214 in figures: what number each answer has, and which numbers stand beside it, in the order number, next place, written, group,
--- line, element, position. The Dues of the second demand say when an answer is given; here stands what is told.
+-- R200 to R214 in figures: what number each answer has, and which numbers stand beside it. The Dues of the second demand say when an answer is
+-- given; here stands what is told.
 use mathlib.Core.Path.{_≡_}
 use mathlib.Core.List.{List}
 use Prim.Native.Nat.{ℕ}
 use lib.IntN.{ℤ}
 use lib.ListN.{length}
 use Rattle.base.specs.Pieces.{done, bad}
-use Rattle.reply.specs.Table.{numbers}
-use Rattle.decimal.specs.declared.Put.the-variants as P
-use Rattle.place.specs.declared.Placing.the-variants.{Placed, End, Beyond, TooFewLines, Misformed, OtherRelease, FilledVacant, BrokenRule}
+use Rattle.reply.specs.declared.Refusal.{Refusal}
+use Rattle.reply.specs.declared.Refusal.the-variants.{End, Beyond, TooFewLines, Misformed, OtherRelease, FilledVacant, BrokenRule, BadLine, BadField, BadDate}
+use Rattle.reply.specs.declared.Refusal.the-variants.{NoRoom, NoSuchNumber, NoField, OtherLength}
+use Rattle.reply.specs.declared.Checked.the-variants as C
+use Rattle.reply.specs.declared.Answer.the-variants as A
+use Rattle.reply.specs.declared.Reply.{Reply}
+use Rattle.reply.specs.Refusals.{refusalReply, checkedReply, answerReply}
+use Rattle.place.specs.declared.Placing.the-variants as P
 use Rattle.place.specs.Numbered.{placingReply}
-use Rattle.reading.specs.declared.Refusal.{Refusal}
-use Rattle.reading.specs.declared.Refusal.the-variants as R
-use Rattle.reading.specs.Numbered.{refusalReply, readingReply}
 use Rattle.reading.specs.Read.{readingOf}
-use Rattle.group.specs.declared.Found.the-variants.{Given, Missing}
-use Rattle.group.specs.declared.Characteristic.the-variants.{Value, NoReading, NotReported, Unread}
-use Rattle.group.specs.Characteristics.{characteristicReply}
-use Rattle.group.specs.Held.{foundReply}
-use Rattle.listing.specs.Listing.{listedReply}
-use Rattle.writing.specs.declared.Writing.the-variants as W
-use Rattle.writing.specs.Writing.{writingReply}
-use Rattle.rewriting.specs.declared.Rewriting.the-variants as A
+use Rattle.group.specs.declared.Characteristic.the-variants.{Value, NoReading, NotReported, Refused}
+use Rattle.group.specs.Numbered.{characteristicReply}
+use Rattle.rewriting.specs.declared.Rewriting.the-variants as R
 use Rattle.rewriting.specs.Numbered.{rewritingReply, rewritingGroup}
 
-pub record PlacingTold : Type 0 where
-  pub placed : (n : ℕ) → placingReply (Placed n) ≡ numbers 0 n 0 0 0 0 0
-  pub text-end : placingReply End ≡ numbers 1 0 0 0 0 0 0
-  pub beyond : placingReply Beyond ≡ numbers 2 0 0 0 0 0 0
-  pub too-few-lines : placingReply TooFewLines ≡ numbers 3 0 0 0 0 0 0
-  pub misformed : placingReply Misformed ≡ numbers 4 0 0 0 0 0 0
-  pub other-release : placingReply OtherRelease ≡ numbers 5 0 0 0 0 0 0
-  pub filled-vacant : (g : ℕ) → placingReply (FilledVacant g) ≡ numbers 6 0 0 g 0 0 0
-  pub broken-rule : (g n : ℕ) → placingReply (BrokenRule g n) ≡ numbers 7 n 0 g 0 0 0
+-- a reply: its number, and beside it the next place, what was written, group, line, element, position
+abbrev pub figures : (number next written group line element position : ℕ) → Reply
+figures number next written group line element position =
+    record { number = number; next = next; written = written; group = group; line = line; element = element; position = position }
 
--- a refusal of a question about a group
+-- a refusal, whichever question it is
 pub record RefusalTold : Type 0 where
-  pub text-end : refusalReply R.End ≡ numbers 1 0 0 0 0 0 0
-  pub beyond : refusalReply R.Beyond ≡ numbers 2 0 0 0 0 0 0
-  pub too-few-lines : refusalReply R.TooFewLines ≡ numbers 3 0 0 0 0 0 0
-  pub misformed : refusalReply R.Misformed ≡ numbers 4 0 0 0 0 0 0
-  pub other-release : refusalReply R.OtherRelease ≡ numbers 5 0 0 0 0 0 0
-  pub filled-vacant : (g : ℕ) → refusalReply (R.FilledVacant g) ≡ numbers 6 0 0 g 0 0 0
-  pub broken-rule : (g : ℕ) → refusalReply (R.BrokenRule g) ≡ numbers 7 0 0 g 0 0 0
-  pub bad-line : (l : ℕ) → refusalReply (R.BadLine l) ≡ numbers 8 0 0 0 l 0 0
-  pub bad-field : (l e : ℕ) → refusalReply (R.BadField l e) ≡ numbers 9 0 0 0 l e 0
-  pub bad-date : (p : ℕ) → refusalReply (R.BadDate p) ≡ numbers 10 0 0 0 0 0 p
-  pub no-room : refusalReply R.NoRoom ≡ numbers 11 0 0 0 0 0 0
-  pub no-group : refusalReply R.NoGroup ≡ numbers 12 0 0 0 0 0 0
+  pub text-end : refusalReply End ≡ figures 1 0 0 0 0 0 0
+  pub beyond : refusalReply Beyond ≡ figures 2 0 0 0 0 0 0
+  pub too-few-lines : refusalReply TooFewLines ≡ figures 3 0 0 0 0 0 0
+  pub misformed : refusalReply Misformed ≡ figures 4 0 0 0 0 0 0
+  pub other-release : refusalReply OtherRelease ≡ figures 5 0 0 0 0 0 0
+  pub filled-vacant : (g : ℕ) → refusalReply (FilledVacant g) ≡ figures 6 0 0 g 0 0 0
+  pub broken-rule : (g : ℕ) → refusalReply (BrokenRule g) ≡ figures 7 0 0 g 0 0 0
+  pub bad-line : (l : ℕ) → refusalReply (BadLine l) ≡ figures 8 0 0 0 l 0 0
+  pub bad-field : (l e : ℕ) → refusalReply (BadField l e) ≡ figures 9 0 0 0 l e 0
+  pub bad-date : (p : ℕ) → refusalReply (BadDate p) ≡ figures 10 0 0 0 0 0 p
+  pub no-room : refusalReply NoRoom ≡ figures 11 0 0 0 0 0 0
+  pub no-such-number : refusalReply NoSuchNumber ≡ figures 12 0 0 0 0 0 0
+  pub no-field : (g e : ℕ) → refusalReply (NoField g e) ≡ figures 13 0 0 g 0 e 0
+  pub other-length : refusalReply OtherLength ≡ figures 14 0 0 0 0 0 0
+
+-- R235: placing's 7 has a next place
+pub record PlacingTold : Type 0 where
+  pub placed : (n : ℕ) → placingReply (P.Placed n) ≡ figures 0 n 0 0 0 0 0
+  pub broken-rule : (g n : ℕ) → placingReply (P.BrokenRule g n) ≡ figures 7 n 0 g 0 0 0
+  pub refused : (r : Refusal) → placingReply (P.Refused r) ≡ refusalReply r
 
 -- R200, R281, R290: reading, a group's lines, a characteristic: 0 with its own, else the refusal
 pub record GroupTold : Type 0 where
-  pub read : (cs : List ℤ) → readingReply (readingOf (done cs)) ≡ numbers 0 0 (length cs) 0 0 0 0
-  pub unread : (r : Refusal) → readingReply (readingOf (bad r)) ≡ refusalReply r
-  pub given : foundReply Given ≡ numbers 0 0 0 0 0 0 0
-  pub missing : (r : Refusal) → foundReply (Missing r) ≡ refusalReply r
-  pub value : (z : ℤ) → characteristicReply (Value z) ≡ numbers 0 0 0 0 0 0 0
-  pub no-reading : characteristicReply NoReading ≡ numbers 0 0 0 0 0 0 0
-  pub not-reported : characteristicReply NotReported ≡ numbers 0 0 0 0 0 0 0
-  pub unknown : (r : Refusal) → characteristicReply (Unread r) ≡ refusalReply r
+  pub read : (cs : List ℤ) → answerReply (readingOf (done cs)) ≡ figures 0 0 (length cs) 0 0 0 0
+  pub read-refused : (r : Refusal) → answerReply (readingOf (bad r)) ≡ refusalReply r
+  pub given : checkedReply C.Right ≡ figures 0 0 0 0 0 0 0
+  pub lines-refused : (r : Refusal) → checkedReply (C.Refused r) ≡ refusalReply r
+  pub value : (z : ℤ) → characteristicReply (Value z) ≡ figures 0 0 0 0 0 0 0
+  pub no-reading : characteristicReply NoReading ≡ figures 0 0 0 0 0 0 0
+  pub not-reported : characteristicReply NotReported ≡ figures 0 0 0 0 0 0 0
+  pub characteristic-refused : (r : Refusal) → characteristicReply (Refused r) ≡ refusalReply r
 
-pub record WritingTold : Type 0 where
-  pub done : (n : ℕ) → writingReply (W.Done n) ≡ numbers 0 0 n 0 0 0 0
-  pub misformed : writingReply W.Misformed ≡ numbers 4 0 0 0 0 0 0
-  pub other-release : writingReply W.OtherRelease ≡ numbers 5 0 0 0 0 0 0
-  pub filled-vacant : (g : ℕ) → writingReply (W.FilledVacant g) ≡ numbers 6 0 0 g 0 0 0
-  pub broken-rule : (g : ℕ) → writingReply (W.BrokenRule g) ≡ numbers 7 0 0 g 0 0 0
-  pub bad-date : (p : ℕ) → writingReply (W.BadDate p) ≡ numbers 10 0 0 0 0 0 p
-  pub no-room : writingReply W.NoRoom ≡ numbers 11 0 0 0 0 0 0
-  pub no-field : (g e : ℕ) → writingReply (W.NoField g e) ≡ numbers 13 0 0 g 0 e 0
-  pub other-length : writingReply W.OtherLength ≡ numbers 14 0 0 0 0 0 0
-
--- R310: listing; R323: and rewriting, with the group that was not read apart
+-- R300, R310: writing and listing; R323: and rewriting, with the group that was not read apart
 pub record TextTold : Type 0 where
-  pub listed : (n : ℕ) → listedReply (P.Next n) ≡ numbers 0 0 n 0 0 0 0
-  pub unlisted : listedReply P.NoRoom ≡ numbers 11 0 0 0 0 0 0
-  pub rewritten : (n next : ℕ) → (rewritingReply (A.Done n next) ≡ numbers 0 next n 0 0 0 0) × (rewritingGroup (A.Done n next) ≡ 0)
-  pub unplaced : (r : Refusal) → (rewritingReply (A.Missing r) ≡ refusalReply r) × (rewritingGroup (A.Missing r) ≡ 0)
-  pub no-room : (rewritingReply A.NoRoom ≡ numbers 11 0 0 0 0 0 0) × (rewritingGroup A.NoRoom ≡ 0)
-  pub unread : (g : ℕ) (r : Refusal) → (rewritingReply (A.Unread g r) ≡ refusalReply r) × (rewritingGroup (A.Unread g r) ≡ g)
+  pub written : (n : ℕ) → answerReply (A.Done n) ≡ figures 0 0 n 0 0 0 0
+  pub write-refused : (r : Refusal) → answerReply (A.Refused r) ≡ refusalReply r
+  pub rewritten : (n p : ℕ) → (rewritingReply (R.Done n p) ≡ figures 0 p n 0 0 0 0) × (rewritingGroup (R.Done n p) ≡ 0)
+  pub rewrite-refused : (r : Refusal) → (rewritingReply (R.Refused r) ≡ refusalReply r) × (rewritingGroup (R.Refused r) ≡ 0)
+  pub group-refused : (g : ℕ) (r : Refusal) → (rewritingReply (R.GroupRefused g r) ≡ refusalReply r) × (rewritingGroup (R.GroupRefused g r) ≡ g)
 
 pub record AnswersTold : Type 0 where
-  pub placing : PlacingTold
   pub refusals : RefusalTold
+  pub placing : PlacingTold
   pub group : GroupTold
-  pub writing : WritingTold
   pub text : TextTold

@@ -12,7 +12,11 @@ module _ (T : Ended) where
 
   -- answers are compared by `same`: of a part of the caller's own text the bytes and the address
   abbrev pub OneUpTo : ((κs : Lfts (T .signature .lifetimes)) → Res (T .signature) κs → Res (T .signature) κs → Type 0) → Contract → Type 0
-  OneUpTo same learnt = (κs : Lfts (T .signature .lifetimes)) (a : Args (T .signature) κs) (x y : Res (T .signature) κs) (v w : Lasts T κs a) → learnt κs a x (atExit T κs a v) → learnt κs a y (atExit T κs a w) → same κs x y × (v ≡ w)
+  OneUpTo same learnt =
+      (κs : Lfts (T .signature .lifetimes)) (a : Args (T .signature) κs) (x y : Res (T .signature) κs) (v w : Lasts T κs a)
+      → learnt κs a x (atExit T κs a v)
+      → learnt κs a y (atExit T κs a w)
+      → same κs x y × (v ≡ w)
 
   abbrev pub OneOutcome : Contract → Type 0
   OneOutcome learnt = OneUpTo (λ κs x y. x ≡ y) learnt

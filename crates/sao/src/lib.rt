@@ -1,24 +1,22 @@
 // The questions, R240. Each may be asked of every text, place, number, table and output; nothing has to hold beforehand (R241). The layers
-// answer them; here each has its name, its contract and nothing else. `reply_of` and its like in the layers give an answer's number, with the
-// numbers beside it (R200 to R214).
-use decimal::Put;
+// answer them; here each has its name, its contract and nothing else. `reply`, and the layers' `reply_of` for answers of their own, give an
+// answer's number, with the numbers beside it (R200 to R214).
 use group::Characteristic;
 use group::Lines;
 use place::Record;
-use reading::Reading;
+use reply::Answer;
 use rewriting::Rewriting;
-use writing::Writing;
 ghost use mathlib.Core.Path.{_≡_};
 ghost use lib.ListN.{length};
-ghost use Rattle.decimal.specs.Writing.{Puts};
+ghost use Rattle.decimal.specs.Writing.{putBytes};
 ghost use Rattle.place.specs.Placing.{placingOf, countsAt};
 ghost use Rattle.reading.specs.Read.{readingOf, tableBy};
 ghost use Rattle.group.specs.Text.{readAt};
 ghost use Rattle.group.specs.Held.{foundAt, partStart, partEnd, partAt, moved};
 ghost use Rattle.group.specs.Characteristics.{characteristicAt};
 ghost use Rattle.writing.specs.Writing.{writingOf, outputBy};
-ghost use Rattle.rewriting.specs.Record.{rewritingOf, tableBy as tableAfter, bufferBy};
-ghost use Rattle.listing.specs.Listing.{listing};
+ghost use Rattle.rewriting.specs.Record.{rewritingOf, tableAfter, bufferBy};
+ghost use Rattle.listing.specs.Listing.{listing, listedIn};
 
 // R250 to R253. Asked: which record stands at a place of a text.
 // Answered: the placing, with the next place under 0 and 7, and the record's 80 counts.
@@ -33,7 +31,7 @@ pub fn place(text: &[u8], at: usize) -> Record
 // R260 to R268. Asked: the cells of a group, 1 to 60, of the record at a place.
 // Answered: 0 with the number of cells, which stand in the table from its first cell on; what stands behind them is kept.
 // A refusal leaves the whole table as it was.
-pub fn read_group(text: &[u8], at: usize, group: usize, table: &mut [i64]) -> Reading
+pub fn read_group(text: &[u8], at: usize, group: usize, table: &mut [i64]) -> Answer
     ensures answer { λ r. ⌜ r ≡ readingOf (readAt (now (text .entry)) at group (length (now (table .entry)))) ⌝ }
     ensures table { λ _. ⌜ now (table .exit) ≡
         tableBy (readAt (now (text .entry)) at group (length (now (table .entry)))) (now (table .entry)) ⌝ }
@@ -74,7 +72,7 @@ pub fn characteristic(text: &[u8], at: usize, number: usize) -> Characteristic
 // R300 to R307. Asked: to write a record of these counts and of the cells of all groups, group 1's first.
 // Answered: 0 with the number of bytes, which stand in the output from its first byte on; what stands behind them is kept.
 // A refusal leaves the whole output as it was.
-pub fn write_record(counts: &[u16], cells: &[i64], out: &mut [u8]) -> Writing
+pub fn write_record(counts: &[u16], cells: &[i64], out: &mut [u8]) -> Answer
     ensures answer { λ r. ⌜ r ≡ writingOf (now (counts .entry)) (now (cells .entry)) (length (now (out .entry))) ⌝ }
     ensures output { λ r. ⌜ now (out .exit) ≡
         outputBy (now (counts .entry)) (now (cells .entry)) r (now (out .entry)) ⌝ }
@@ -85,10 +83,11 @@ pub fn write_record(counts: &[u16], cells: &[i64], out: &mut [u8]) -> Writing
 // R310, R311. Asked: the listing of a text, a line for each record of its walk and the line `end`.
 // Answered: 0 with the number of bytes, which stand in the output from its first byte on; what stands behind them is kept.
 // A refusal (11) leaves the whole output as it was.
-pub fn list(text: &[u8], out: &mut [u8]) -> Put
-    ensures { λ r. ⌜ Puts 0 (listing (now (text .entry))) (now (out .entry)) r (now (out .exit)) ⌝ }
+pub fn list(text: &[u8], out: &mut [u8]) -> Answer
+    ensures answer { λ r. ⌜ r ≡ listedIn (listing (now (text .entry))) (length (now (out .entry))) ⌝ }
+    ensures output { λ _. ⌜ now (out .exit) ≡ putBytes 0 (listing (now (text .entry))) (now (out .entry)) ⌝ }
 {
-    listing::render(text, out)
+    listing::list(text, out)
 }
 
 // R320 to R326. Asked: to rewrite the record at a place as canonical text.

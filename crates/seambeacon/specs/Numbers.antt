@@ -5,26 +5,26 @@ use Prim.Native.Nat.{ℕ}
 use lib.IntN.{ℤ, pos}
 use Rattle.reply.specs.declared.Reply.{Reply}
 use Rattle.group.specs.declared.Characteristic.{Characteristic}
-use Rattle.group.specs.declared.Characteristic.the-variants.{Value, NoReading, NotReported, Unread}
+use Rattle.group.specs.declared.Characteristic.the-variants.{Value, NoReading, NotReported, Refused}
 
 -- the numbers beside a reply's own, in the order of `struct seambeacon_beside`
-abbrev pub besideOf : Reply → List ℕ
-besideOf r = r .next ∷ r .written ∷ r .group ∷ r .line ∷ r .element ∷ r .position ∷ []
+abbrev pub sixBeside : Reply → List ℕ
+sixBeside r = r .next ∷ r .written ∷ r .group ∷ r .line ∷ r .element ∷ r .position ∷ []
 
 -- a reply told as its number n and the numbers beside it
 pub record Told (r : Reply) (n : ℕ) (beside : List ℕ) : Type 0 where
   pub number : n ≡ r .number
-  pub besides : beside ≡ besideOf r
+  pub besides : beside ≡ sixBeside r
 
 -- R361: the kind of a characteristic, and its value, which is 0 for all kinds but the first
 abbrev pub answerKind : Characteristic → ℕ
 answerKind (Value z) = 0
 answerKind NoReading = 1
 answerKind NotReported = 2
-answerKind (Unread r) = 3
+answerKind (Refused r) = 3
 
 abbrev pub answerValue : Characteristic → ℤ
 answerValue (Value z) = z
 answerValue NoReading = pos 0
 answerValue NotReported = pos 0
-answerValue (Unread r) = pos 0
+answerValue (Refused r) = pos 0

@@ -3,38 +3,38 @@ use mathlib.Core.List.{List}
 use Prim.Native.Nat.{ℕ}
 use lib.IntN.{ℤ}
 use Rattle.reply.specs.declared.Reply.{Reply}
-use Rattle.decimal.specs.Writing.{putAnswer}
+use Rattle.reply.specs.Refusals.{checkedReply, answerReply}
 use Rattle.place.specs.Placing.{placingOf}
 use Rattle.place.specs.Numbered.{placingReply}
 use Rattle.reading.specs.Read.{readingOf}
-use Rattle.reading.specs.Numbered.{readingReply}
 use Rattle.group.specs.Text.{readAt}
-use Rattle.group.specs.Held.{foundAt, foundReply}
-use Rattle.group.specs.Characteristics.{characteristicAt, characteristicReply}
-use Rattle.writing.specs.Writing.{writingOf, writingReply}
+use Rattle.group.specs.Held.{foundAt}
+use Rattle.group.specs.Characteristics.{characteristicAt}
+use Rattle.group.specs.Numbered.{characteristicReply}
+use Rattle.writing.specs.Writing.{writingOf}
 use Rattle.rewriting.specs.Record.{rewritingOf}
 use Rattle.rewriting.specs.Numbered.{rewritingReply}
-use Rattle.listing.specs.Listing.{listing, listedReply}
+use Rattle.listing.specs.Listing.{listing, listedIn}
 
 abbrev pub placeReply : List ℕ → ℕ → Reply
 placeReply s at = placingReply (placingOf s at)
 
 -- into a table of so many cells
 abbrev pub readReply : List ℕ → ℕ → ℕ → ℕ → Reply
-readReply s at g cells = readingReply (readingOf (readAt s at g cells))
+readReply s at g cells = answerReply (readingOf (readAt s at g cells))
 
 abbrev pub linesReply : List ℕ → ℕ → ℕ → Reply
-linesReply s at g = foundReply (foundAt s at g)
+linesReply s at g = checkedReply (foundAt s at g)
 
 abbrev pub characteristicReplyAt : List ℕ → ℕ → ℕ → Reply
 characteristicReplyAt s at k = characteristicReply (characteristicAt s at k)
 
 -- into an output of so many bytes
 abbrev pub writeReply : List ℕ → List ℤ → ℕ → Reply
-writeReply ns cs room = writingReply (writingOf ns cs room)
+writeReply ns cs room = answerReply (writingOf ns cs room)
 
-abbrev pub listReply : List ℕ → List ℕ → Reply
-listReply s out = listedReply (putAnswer 0 (listing s) out)
+abbrev pub listReply : List ℕ → ℕ → Reply
+listReply s room = answerReply (listedIn (listing s) room)
 
 -- with a table of so many cells, into an output of so many bytes
 abbrev pub rewriteReply : List ℕ → ℕ → ℕ → ℕ → Reply

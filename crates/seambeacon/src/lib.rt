@@ -16,7 +16,7 @@ ghost use Rattle.group.specs.Text.{readAt};
 ghost use Rattle.group.specs.Held.{partStart, partAt};
 ghost use Rattle.group.specs.Characteristics.{characteristicAt};
 ghost use Rattle.writing.specs.Writing.{writingOf, outputBy};
-ghost use Rattle.rewriting.specs.Record.{rewritingOf, tableBy as tableAfter, bufferBy};
+ghost use Rattle.rewriting.specs.Record.{rewritingOf, tableAfter, bufferBy};
 ghost use Rattle.rewriting.specs.Numbered.{rewritingGroup};
 ghost use Rattle.listing.specs.Listing.{listing};
 
@@ -38,7 +38,7 @@ fn kind_of(c: Characteristic) -> u32
         Characteristic::Value(_) => 0,
         Characteristic::NoReading => 1,
         Characteristic::NotReported => 2,
-        Characteristic::Unread(_) => 3,
+        Characteristic::Refused(_) => 3,
     }
 }
 
@@ -50,7 +50,7 @@ fn value_of(c: Characteristic) -> i64
         Characteristic::Value(value) => value,
         Characteristic::NoReading => 0,
         Characteristic::NotReported => 0,
-        Characteristic::Unread(_) => 0,
+        Characteristic::Refused(_) => 0,
     }
 }
 
@@ -93,7 +93,7 @@ pub extern "C" fn seambeacon_read_group(
         tableBy (readAt (now (text .entry)) at group (length (now (table .entry)))) (now (table .entry)) ⌝ }
 {
     let answer = sao::read_group(text, at, group, table);
-    tell(reading::reply_of(answer), beside)
+    tell(reply::of_answer(answer), beside)
 }
 
 // R280 to R283, R362. Asked: the lines of a group of the record at a place, with their line ends.
@@ -116,7 +116,7 @@ pub extern "C" fn seambeacon_group_lines(
     let found = lines.found;
     let length = lines.to - lines.from;
     *part = [lines.from, length];
-    tell(group::found_reply(found), beside)
+    tell(reply::of_checked(found), beside)
 }
 
 // R290 to R294, R361. Asked: a characteristic, 1 to 49, of the record at a place.
@@ -138,7 +138,7 @@ pub extern "C" fn seambeacon_characteristic(
     let known = sao::characteristic(text, at, number);
     *kind = kind_of(known);
     *value = value_of(known);
-    tell(group::characteristic_reply(known), beside)
+    tell(group::reply_of(known), beside)
 }
 
 // R300 to R307. Asked: to write a record of these counts and of the cells of all groups, group 1's first.
@@ -158,7 +158,7 @@ pub extern "C" fn seambeacon_write_record(
         (writingOf (now (counts .entry)) (now (cells .entry)) (length (now (out .entry)))) (now (out .entry)) ⌝ }
 {
     let answer = sao::write_record(counts, cells, out);
-    tell(writing::reply_of(answer), beside)
+    tell(reply::of_answer(answer), beside)
 }
 
 // R310, R311. Asked: the listing of a text, a line for each record of its walk and the line `end`.
@@ -166,11 +166,11 @@ pub extern "C" fn seambeacon_write_record(
 // A refusal (11) leaves the whole output as it was.
 #[no_mangle]
 pub extern "C" fn seambeacon_list(text: &[u8], out: &mut [u8], beside: &mut [usize; 6]) -> u32
-    ensures reply { λ n. ⌜ Told (listReply (now (text .entry)) (now (out .entry))) n (now (beside .exit)) ⌝ }
+    ensures reply { λ n. ⌜ Told (listReply (now (text .entry)) (length (now (out .entry)))) n (now (beside .exit)) ⌝ }
     ensures output { λ _. ⌜ now (out .exit) ≡ putBytes 0 (listing (now (text .entry))) (now (out .entry)) ⌝ }
 {
     let answer = sao::list(text, out);
-    tell(listing::reply_of(answer), beside)
+    tell(reply::of_answer(answer), beside)
 }
 
 // R320 to R326, R363. Asked: to rewrite the record at a place as canonical text.

@@ -78,7 +78,7 @@ module _ (f : Form) where
     unfolding Read.readFields
     fields-read =
         ap (readFields f l) (sym (append-nil s))
-        ∙ each-gather (λ (e : ℕ) x. rowOf f .width) (readField f (l .number)) (field-read (l .number)) (λ e x c b p. sym (p .width)) (elementsIn l) s cs [] h
+        ∙ each-gather {wide = λ (e : ℕ) x. rowOf f .width} {read = readField f (l .number)} record { back = field-read (l .number); exact = λ e x c b p. sym (p .width) } (elementsIn l) s cs [] h
 
   -- ---- a line
 
@@ -134,7 +134,11 @@ module _ (f : Form) where
         let p = rowOf f .«per_line» in
         let few = each-passed (λ l. leb (l .many) p) (planOf f count) x cs (plan-few p (elementsOf f count) 0 (linesOf f count)) h in
         ap (readLines f count) (sym (append-nil x))
-        ∙ each-gather (λ (l : Line) s. reach s 1) (readLine f) (λ l y c q. line-read l y c (q .1) (leb→le (l .many) p (q .0))) (λ l y c b q. reach-whole b (line-whole l y c (q .1))) (planOf f count) x cs [] few
+        ∙ each-gather {wide = λ (l : Line) s. reach s 1} {read = readLine f} record {
+          back = λ l y c q. line-read l y c (q .1)
+              (leb→le (l .many) p (q .0));
+          exact = λ l y c b q. reach-whole b (line-whole l y c (q .1));
+        } (planOf f count) x cs [] few
 
     pub lines-cells : length cs ≡ cellsOf f count
     lines-cells = group-size f count x cs lines-read

@@ -76,5 +76,13 @@ module _ (ns first second : List ℕ) (many : length ns ≡ 80) (a : CanonicalIn
   index-read rest =
       let u = index-line-whole (take 40 ns) first a in
       let v = index-line-whole (drop 40 ns) second b in
-      rw (append-assoc first second rest, lines-whole (second ++ rest) u, behind-whole (second ++ rest) u, lines-whole rest v, index-line-read (take 40 ns) first a (length-take-le 40 ns (omega arith)), index-line-read (drop 40 ns) second b (length-drop 40 ns ∙ omega arith))
+      rw (
+        append-assoc first second rest,
+        lines-whole (second ++ rest) u,
+        behind-whole (second ++ rest) u,
+        lines-whole rest v,
+        index-line-read (take 40 ns) first a
+            (length-take-le 40 ns (omega arith)),
+        index-line-read (drop 40 ns) second b (length-drop 40 ns ∙ omega arith),
+      )
       (ap counts (take-append-drop 40 ns))

@@ -16,7 +16,7 @@ use Rattle.date.specs.Date
 use Rattle.reading.specs.Blanks
 use Rattle.reading.specs.Plan
 use Rattle.reading.specs.Read
-use Rattle.writing.specs.Cases.{Holds, cases}
+use Rattle.writing.specs.Cases.{AllHolding, cases}
 use Rattle.writing.specs.Fitting.{firstMisfit, elementsFit}
 use Rattle.writing.specs.Text.{fieldsText, lineText, linesText}
 
@@ -24,8 +24,11 @@ infixr 4 _also_
 _also_ : {A B : Type 0} → A → B → A × B
 a also b = (a, b)
 
-pub marked : Holds cases
-unfolding Read.readForm Read.readLines Read.readLinesOf Read.readLine Read.readFields Pieces.gather Pieces.emit Plan.planOf Plan.planFrom Every.upFrom Table.rowOf Table.entryOf Count.elementsOf Count.linesOf Count.roundedUp Count.cellsOf Lines.reach Contents.contentOf Blanks.isRight Blanks.filledTo FieldRead.fieldOf Write.fitsOf Write.fieldText Entry.entryOf elementsFit firstMisfit linesText lineText fieldsText Date.datedOf Date.firstBlamed Digits.digitsOf Calendar.nameDay Calendar.daysTo Calendar.monthLength Calendar.isLeap
+pub marked : AllHolding cases
+unfolding Read.readForm Read.readLines Read.readLinesOf Read.readLine Read.readFields Pieces.gather Pieces.emit Plan.planOf Plan.planFrom Every.upFrom
+    Table.rowOf Table.formEntry Count.elementsOf Count.linesOf Count.roundedUp Count.cellsOf Lines.reach Contents.contentOf Blanks.isRight Blanks.filledTo
+    FieldRead.fieldOf Write.fitsOf Write.fieldText Entry.entryOf elementsFit firstMisfit linesText lineText fieldsText Date.datedOf Date.firstBlamed
+    Digits.fieldDigits Calendar.nameDay Calendar.daysTo Calendar.monthLength Calendar.isLeap
 marked =
     (refl, refl)
     also (λ g. refl)

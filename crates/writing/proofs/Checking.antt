@@ -51,10 +51,22 @@ module _ (f : Form) (g count : ℕ) (cs : List ℤ) (from : ℕ) where
       -- the cells of the next element
       pub element-range : (room : from + cellsOf f count ≤ length cs) → (at ≤ at + size) × (at + size ≤ length cs)
       unfolding Count.cellsOf
-      element-range room =
-          (omega arith, omega (arith, b .place, b .sized, b .all, mul-le-mul-right {m = e + 1} {n = elementsOf f count} (rowOf f .cells) (omega (arith, b .all)), add-mul e 1 (rowOf f .cells), one-mul (rowOf f .cells)))
+      element-range room = (
+        omega arith,
+        omega (
+          arith,
+          b .place,
+          b .sized,
+          b .all,
+          mul-le-mul-right {m = e + 1} {n = elementsOf f count} (rowOf f .cells) (omega (arith, b .all)),
+          add-mul e 1
+              (rowOf f .cells),
+          one-mul (rowOf f .cells),
+        ),
+      )
 
-      more : firstOf (elementFit f g (e + 1) (part at (at + size) cs)) (firstMisfit (λ (n : ℕ). rowOf f .cells) (elementFit f g) (upFrom (1 + (e + 1)) (many - (e + 1))) (drop (at + size) cs)) ≡ elementsFit f g count (drop from cs)
+      more : firstOf (elementFit f g (e + 1) (part at (at + size) cs))
+          (firstMisfit (λ (n : ℕ). rowOf f .cells) (elementFit f g) (upFrom (1 + (e + 1)) (many - (e + 1))) (drop (at + size) cs)) ≡ elementsFit f g count (drop from cs)
       unfolding firstMisfit Every.upFrom
       more =
           let n : many - e ≡ suc (many - (e + 1)) = omega arith in
@@ -103,7 +115,8 @@ module _ (ns : List ℕ) (cs : List ℤ) where
       pub group-range : length cs ≡ cellsBefore ns 61 → from + cellsOf f n ≤ length cs
       group-range l = omega (arith, next, cells-below ns (g + 1) 61 (omega arith))
 
-      step : firstMisfit (cellsIn ns) (groupFit ns) (upFrom g (61 - g)) (drop from cs) ≡ firstOf (elementsFit f g n (drop from cs)) (firstMisfit (cellsIn ns) (groupFit ns) (upFrom (g + 1) (61 - (g + 1))) (drop (from + cellsOf f n) cs))
+      step : firstMisfit (cellsIn ns) (groupFit ns) (upFrom g (61 - g)) (drop from cs) ≡ firstOf (elementsFit f g n (drop from cs))
+          (firstMisfit (cellsIn ns) (groupFit ns) (upFrom (g + 1) (61 - (g + 1))) (drop (from + cellsOf f n) cs))
       unfolding firstMisfit
       step =
           let z : cellsIn ns g ≡ cellsOf f n = cells-has ns g f e ∙ ap (cellsOf f) (sym c) in

@@ -11,7 +11,7 @@ use Rattle.date.proofs.Due as Letters
 use Rattle.date.specs.declared.Date.{Date}
 use Rattle.date.specs.declared.Dated.the-variants.{Right}
 use Rattle.writing.specs.declared.Fit.the-variants.{All}
-use Rattle.writing.specs.declared.Writing.the-variants.{Done}
+use Rattle.reply.specs.declared.Answer.the-variants.{Done}
 use Rattle.writing.specs.Fitting.{fitOf}
 use Rattle.writing.specs.Text.{recordBytes}
 use Rattle.writing.specs.Writing.{dateLetters, writingOf}

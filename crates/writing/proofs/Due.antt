@@ -19,8 +19,8 @@ use Rattle.count.specs.Tally.{cellsIn}
 use Rattle.count.specs.Check.{checkedOf}
 use Rattle.count.specs.Due as Counted
 use Rattle.count.specs.Due.{HasCells}
-use Rattle.count.specs.declared.Checked.{Checked}
-use Rattle.count.specs.declared.Checked.the-variants as C
+use Rattle.reply.specs.declared.Checked.{Checked}
+use Rattle.reply.specs.declared.Checked.the-variants as C
 use Rattle.count.proofs.Due as Counts
 use Rattle.form.proofs.Table.{group-form, form-range}
 use Rattle.date.specs.Date.{datedOf}
@@ -29,12 +29,14 @@ use Rattle.date.specs.declared.Dated.{Dated}
 use Rattle.date.specs.declared.Dated.the-variants.{Right, Wrong}
 use Rattle.writing.specs.declared.Fit.{Fit}
 use Rattle.writing.specs.declared.Fit.the-variants.{All, Not}
-use Rattle.writing.specs.declared.Writing.{Writing}
-use Rattle.writing.specs.declared.Writing.the-variants.{Done, Misformed, OtherRelease, FilledVacant, BrokenRule, OtherLength, NoField, BadDate, NoRoom}
+use Rattle.reply.specs.declared.Answer.{Answer}
+use Rattle.reply.specs.declared.Answer.the-variants.{Done, Refused}
+use Rattle.reply.specs.declared.Refusal.{Refusal}
+use Rattle.reply.specs.declared.Refusal.the-variants.{NoRoom}
 use Rattle.writing.specs.Fitting.{groupFit, fitOf}
 use Rattle.writing.specs.Text.{recordBytes}
 use Rattle.writing.specs.Writing.{dateLetters, writeRoom, writeDated, writeFit, writeChecked, writingOf}
-use Rattle.writing.specs.Due.{HasField, Element, elementCells, HasFields, HasDate, LowestNone, Due}
+use Rattle.writing.specs.Due.{HasField, Element, elementCells, HasFields, HasDate, LowestNone, RefusedFor, wrong-counts, no-field, bad-date, no-room, Due}
 use Rattle.writing.proofs.Fitting.{cells-before, group-fits}
 use Rattle.writing.proofs.Misfits.{first-found, found-first, groupFound, all-fields, fields-all, Lowest, found-none, none-found, groups-all}
 
@@ -55,7 +57,8 @@ module _ (ns : List ℕ) (cs : List ℤ) where
       let y = found-none ns cs (suc k) (x .0) (x .1) g e (sym (piece k (r .inside)) ∙ r .told) in
       by k (r .inside) (r .earlier) (x .0) (x .1) (y .0) (y .1)
     where
-      by : (k : ℕ) → k < 60 → ((i : ℕ) → i < k → groupFit ns (1 + i) (take (cellsIn ns (1 + i)) (drop (sum (map (cellsIn ns) (upFrom 1 i))) cs)) ≡ All) → (f : Form) (q : formOf (suc k) ≡ Has f) → g ≡ suc k → Lowest ns cs (suc k) f q e → LowestNone ns cs g e
+      by : (k : ℕ) → k < 60 → ((i : ℕ) → i < k → groupFit ns (1 + i) (take (cellsIn ns (1 + i)) (drop (sum (map (cellsIn ns) (upFrom 1 i))) cs)) ≡ All)
+          → (f : Form) (q : formOf (suc k) ≡ Has f) → g ≡ suc k → Lowest ns cs (suc k) f q e → LowestNone ns cs g e
       by k l earlier f q u y =
           subst (λ j. LowestNone ns cs j e) (sym u) record {
             table = t;
@@ -121,44 +124,39 @@ module _ (ns : List ℕ) (cs : List ℤ) where
     to-room : HasDate ns cs → writingOf ns cs room ≡ writeRoom ns room
     to-room h = to-dated (h .fields) ∙ rw (Letters.first-due (dateLetters ns cs) (Right (h .date)) .1 (h .right))
 
-    given : (w : Writing) → Due ns cs room w → writingOf ns cs room ≡ w
+    refusal-given : (r : Refusal) → RefusedFor ns cs room r → writingOf ns cs room ≡ Refused r
     unfolding writingOf
-    given Misformed d = to-refused C.Misformed d
-    given OtherRelease d = to-refused C.OtherRelease d
-    given (FilledVacant g) d = to-refused (C.FilledVacant g) d
-    given (BrokenRule g) d = to-refused (C.BrokenRule g) d
-    given OtherLength d = to-refused C.OtherLength d
-    given (NoField g e) d = rw (to-checked (d .table), lowest-found g e d)
-    given (BadDate p) d = to-dated (d .fields) ∙ rw (Letters.first-due (dateLetters ns cs) (Wrong p) .1 (d .wrong))
-    given NoRoom d = to-room (d .date) ∙ rw (lt-leb (recordBytes ns) room (d .short))
+    refusal-given r (wrong-counts q d) = to-refused (C.Refused q) d
+    refusal-given r (no-field g e d) = rw (to-checked (d .table), lowest-found g e d)
+    refusal-given r (bad-date p d) = to-dated (d .fields) ∙ rw (Letters.first-due (dateLetters ns cs) (Wrong p) .1 (d .wrong))
+    refusal-given r (no-room d) = to-room (d .date) ∙ rw (lt-leb (recordBytes ns) room (d .short))
+
+    given : (w : Answer) → Due ns cs room w → writingOf ns cs room ≡ w
+    given (Refused r) d = refusal-given r d
     given (Done n) d = to-room (d .date) ∙ rw (le-leb (recordBytes ns) room (d .enough)) (ap Done (sym (d .bytes)))
 
     -- ---- what is given is due
 
-    from-room : (t : Bool) → HasDate ns cs → leb (recordBytes ns) room ≡ t → Due ns cs room (cond t (Done (recordBytes ns)) NoRoom)
+    from-room : (t : Bool) → HasDate ns cs → leb (recordBytes ns) room ≡ t → Due ns cs room (cond t (Done (recordBytes ns)) (Refused NoRoom))
     from-room true h e = record { date = h; enough = leb-true (recordBytes ns) room e; bytes = refl }
-    from-room false h e = record { date = h; short = leb-false (recordBytes ns) room e }
+    from-room false h e = no-room record { date = h; short = leb-false (recordBytes ns) room e }
 
     from-dated : (d : Dated) → HasFields ns cs → datedOf (dateLetters ns cs) ≡ d → Due ns cs room (writeDated ns room d)
     from-dated (Right d) h e = from-room (leb (recordBytes ns) room) record { fields = h; date = d; right = Letters.first-due (dateLetters ns cs) (Right d) .0 e } refl
-    from-dated (Wrong p) h e = record { fields = h; wrong = Letters.first-due (dateLetters ns cs) (Wrong p) .0 e }
+    from-dated (Wrong p) h e = bad-date p record { fields = h; wrong = Letters.first-due (dateLetters ns cs) (Wrong p) .0 e }
 
     from-fit : (x : Fit) → HasCells ns (length cs) → fitOf ns cs ≡ x → Due ns cs room (writeFit ns cs room x)
     from-fit All h e = from-dated (datedOf (dateLetters ns cs)) (fits-fields h e) refl
-    from-fit (Not g n) h e = found-lowest h g n e
+    from-fit (Not g n) h e = no-field g n (found-lowest h g n e)
 
     from-checked : (c : Checked) → Counted.Due ns (length cs) c → Due ns cs room (writeChecked ns cs room c)
     from-checked C.Right h = from-fit (fitOf ns cs) h refl
-    from-checked C.Misformed h = h
-    from-checked C.OtherRelease h = h
-    from-checked (C.FilledVacant g) h = h
-    from-checked (C.BrokenRule g) h = h
-    from-checked C.OtherLength h = h
+    from-checked (C.Refused r) h = wrong-counts r h
 
     is-due : Due ns cs room (writingOf ns cs room)
     unfolding writingOf
     is-due = from-checked (checkedOf ns (length cs)) (Counts.first-due ns (length cs) (checkedOf ns (length cs)) .0 refl)
 
     -- the reply that is given is the one that is due, and no other is
-    pub first-due : (w : Writing) → writingOf ns cs room ≡ w ↔ Due ns cs room w
+    pub first-due : (w : Answer) → writingOf ns cs room ≡ w ↔ Due ns cs room w
     first-due w = (λ e. subst (Due ns cs room) e is-due, given w)

@@ -91,7 +91,8 @@ module _ (f : Form) where
   unfolding elementsFit
   elements-fitted g count cs h i l =
       let o = own-up size (λ e c. elementFit f g e c ≡ All) 1 (elementsOf f count) cs (misfit-own size (elementFit f g) (upFrom 1 (elementsOf f count)) cs h) i l in
-      element-fits f g (1 + i) (take (rowOf f .cells) (drop (i * rowOf f .cells) cs)) (subst (λ m. elementFit f g (1 + i) (take (rowOf f .cells) (drop m cs)) ≡ All) (sum-up-same (rowOf f .cells) 1 i) o)
+      element-fits f g (1 + i) (take (rowOf f .cells) (drop (i * rowOf f .cells) cs))
+      (subst (λ m. elementFit f g (1 + i) (take (rowOf f .cells) (drop m cs)) ≡ All) (sum-up-same (rowOf f .cells) 1 i) o)
 
   pub fitted-elements : (g count : ℕ) (cs : List ℤ) → Fitted f (elementsOf f count) cs → elementsFit f g count cs ≡ All
   unfolding elementsFit
@@ -100,7 +101,9 @@ module _ (f : Form) where
       (up-own size (λ e c. elementFit f g e c ≡ All) 1 (elementsOf f count) cs each)
     where
       each : (i : ℕ) → i < elementsOf f count → elementFit f g (1 + i) (take (rowOf f .cells) (drop (sum (map size (upFrom 1 i))) cs)) ≡ All
-      each i l = subst (λ m. elementFit f g (1 + i) (take (rowOf f .cells) (drop m cs)) ≡ All) (sym (sum-up-same (rowOf f .cells) 1 i)) (fits-element f g (1 + i) (take (rowOf f .cells) (drop (i * rowOf f .cells) cs)) (h i l))
+      each i l =
+          subst (λ m. elementFit f g (1 + i) (take (rowOf f .cells) (drop m cs)) ≡ All) (sym (sum-up-same (rowOf f .cells) 1 i))
+          (fits-element f g (1 + i) (take (rowOf f .cells) (drop (i * rowOf f .cells) cs)) (h i l))
 
   -- only the group's own cells matter
   pub elements-take : (g count : ℕ) (cs : List ℤ) → elementsFit f g count (take (cellsOf f count) cs) ≡ elementsFit f g count cs
@@ -111,7 +114,8 @@ module _ (f : Form) where
   -- the elements behind the first j, and those of a line's cells alone
   pub fitted-drop : (k j : ℕ) (cs : List ℤ) → Fitted f k cs → Fitted f (k - j) (drop (j * rowOf f .cells) cs)
   fitted-drop k j cs h i l =
-      let e : drop (i * rowOf f .cells) (drop (j * rowOf f .cells) cs) ≡ drop ((j + i) * rowOf f .cells) cs = drop-drop (i * rowOf f .cells) (j * rowOf f .cells) cs ∙ ap (λ m. drop m cs) (sym (add-mul j i (rowOf f .cells))) in
+      let e : drop (i * rowOf f .cells) (drop (j * rowOf f .cells) cs) ≡ drop ((j + i) * rowOf f .cells) cs =
+      drop-drop (i * rowOf f .cells) (j * rowOf f .cells) cs ∙ ap (λ m. drop m cs) (sym (add-mul j i (rowOf f .cells))) in
       rw e (h (j + i) (omega arith))
 
   pub fitted-take : (k j : ℕ) (cs : List ℤ) → j ≤ k → Fitted f k cs → Fitted f j (take (j * rowOf f .cells) cs)
@@ -144,7 +148,8 @@ module _ (f : Form) where
       let c = rowOf f .cells in
       let m = min n (j * p) in
       let many = min p (n - j * p) in
-      let e : drop (many * c) (drop (m * c) cs) ≡ drop (min n (suc j * p) * c) cs = drop-drop (many * c) (m * c) cs ∙ ap (λ x. drop x cs) (sym (add-mul m many c) ∙ ap (λ x. x * c) (line-behind p n j ∙ ap (λ i. min n (i * p)) (add-one j))) in
+      let e : drop (many * c) (drop (m * c) cs) ≡ drop (min n (suc j * p) * c) cs =
+      drop-drop (many * c) (m * c) cs ∙ ap (λ x. drop x cs) (sym (add-mul m many c) ∙ ap (λ x. x * c) (line-behind p n j ∙ ap (λ i. min n (i * p)) (add-one j))) in
       (fitted-take (n - m) many (drop (m * c) cs) (omega arith) (fitted-drop n m cs h), rw e (fitted-lines p n (suc j) k cs h))
 
   -- each line of a group has its own cells, and they fit

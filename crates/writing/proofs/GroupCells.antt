@@ -33,7 +33,8 @@ pub record GroupAmong (ns : List ℕ) (P : ℕ → List ℕ → List ℤ → Typ
   pub holds : P g itself (groupCells ns cs g)
   pub text : s ≡ first ++ (itself ++ rest)
 
-module _ (ns : List ℕ) {P : ℕ → List ℕ → List ℤ → Type 0} (sized : (g : ℕ) (x : List ℕ) (c : List ℤ) → P g x c → length c ≡ cellsIn ns g) (s : List ℕ) (cs : List ℤ) (h : Each P (upFrom 1 60) s cs) where
+module _ (ns : List ℕ) {P : ℕ → List ℕ → List ℤ → Type 0} (sized : (g : ℕ) (x : List ℕ) (c : List ℤ) → P g x c → length c ≡ cellsIn ns g) (s : List ℕ) (cs : List ℤ)
+    (h : Each P (upFrom 1 60) s cs) where
   module _ (k : ℕ) (few : k < 60) where
     m : Among P (upFrom 1 60) k (getD (upFrom 1 60) k 0) s cs
     m = among 0 (upFrom 1 60) k s cs (omega (arith, length-up 1 60)) h
@@ -51,7 +52,8 @@ module _ (ns : List ℕ) {P : ℕ → List ℕ → List ℤ → Type 0} (sized :
 
     its-cells : groupCells ns cs (suc k) ≡ m .cells
     its-cells =
-        let e : cellsBefore ns (suc (suc k)) ≡ length (m .first-cells) + length (m .cells) = rw (add-one (suc k)) at (cells-next ns (suc k) (omega arith) (omega arith)) ∙ omega (arith, before-cells, sized (suc k) (m .itself) (m .cells) it) in
+        let e : cellsBefore ns (suc (suc k)) ≡ length (m .first-cells) + length (m .cells) =
+        rw (add-one (suc k)) at (cells-next ns (suc k) (omega arith) (omega arith)) ∙ omega (arith, before-cells, sized (suc k) (m .itself) (m .cells) it) in
         ap (part (cellsBefore ns (suc k)) (cellsBefore ns (suc (suc k)))) (m .all)
         ∙ rw (e, ← before-cells) (part-middle (m .first-cells) (m .cells) (m .rest-cells))
 

@@ -20,7 +20,7 @@ use Rattle.date.specs.Digits
 use Rattle.date.specs.Calendar
 use Rattle.date.specs.Date
 use Rattle.reading.specs.Plan
-use Rattle.writing.specs.declared.Writing.the-variants.{Done}
+use Rattle.reply.specs.declared.Answer.the-variants.{Done}
 use Rattle.writing.specs.Canonical.{CanonicalRecord}
 use Rattle.writing.specs.Fitting.{firstMisfit, elementsFit, fitOf}
 use Rattle.writing.specs.RoundTrip.{ReadsBack}
@@ -49,7 +49,8 @@ text =
     ++ line "   7.250")))
 
 pub written : recordText counts cells ≡ text
-unfolding recordText indexText entriesText groupsText groupText linesText lineText fieldsText Pieces.emit Every.upFrom Tally.cellsIn Table.formOf Table.formAmong Table.rowOf Table.entryOf Count.elementsOf Count.linesOf Count.roundedUp Count.cellsOf Plan.planOf Plan.planFrom Write.fieldText
+unfolding recordText indexText entriesText groupsText groupText linesText lineText fieldsText Pieces.emit Every.upFrom Tally.cellsIn Table.formOf
+    Table.formAmong Table.rowOf Table.formEntry Count.elementsOf Count.linesOf Count.roundedUp Count.cellsOf Plan.planOf Plan.planFrom Write.fieldText
 written = refl
 
 -- R381: how long it is
@@ -58,7 +59,10 @@ size = refl
 
 -- writing gives 0 with 305 bytes
 pub done : writingOf counts cells 305 ≡ Done 305
-unfolding writingOf recordBytes bytesIn fitOf elementsFit firstMisfit Check.checkedOf Check.wellFormed Rules.releaseOf Rules.filledAmong Rules.rulingOf Rules.lowest Rules.headRules Rules.sets Rules.keeps Rules.letterRules Every.upFrom Sum.sum Tally.cellsIn Tally.cellTally Tally.cellsBefore Table.formOf Table.formAmong Table.rowOf Table.entryOf Count.elementsOf Count.linesOf Count.roundedUp Count.cellsOf Write.fitsOf Date.datedOf Date.firstBlamed Digits.digitsOf Calendar.nameDay Calendar.daysTo Calendar.monthLength Calendar.isLeap
+unfolding writingOf recordBytes bytesIn fitOf elementsFit firstMisfit Check.checkedOf Check.wellFormed Rules.releaseOf Rules.filledAmong Rules.rulingOf
+    Rules.lowest Rules.headRules Rules.sets Rules.keeps Rules.letterRules Every.upFrom Sum.sum Tally.cellsIn Tally.cellTally Tally.cellsBefore Table.formOf
+    Table.formAmong Table.rowOf Table.formEntry Count.elementsOf Count.linesOf Count.roundedUp Count.cellsOf Write.fitsOf Date.datedOf Date.firstBlamed
+    Digits.fieldDigits Calendar.nameDay Calendar.daysTo Calendar.monthLength Calendar.isLeap
 done = refl
 
 pub is-canonical : CanonicalRecord counts text cells

@@ -33,7 +33,8 @@ use Rattle.reading.specs.Plan
 use Rattle.reading.specs.Plan.{Line, lineAt, planFrom, planOf, elementsIn}
 use Rattle.writing.specs.declared.Fit.the-variants.{All}
 use Rattle.writing.specs.Fitting.{Fitted, groupFitBy, groupFit, fitOf}
-use Rattle.writing.specs.Text.{lineEnd, entriesText, indexText, lineCells, fieldsText, lineText, linesText, groupTextBy, groupText, groupsText, recordText, bytesOf, bytesBy, bytesIn, recordBytes}
+use Rattle.writing.specs.Text.{lineEnd, entriesText, indexText, lineCells, fieldsText, lineText, linesText, groupTextBy, groupText, groupsText}
+use Rattle.writing.specs.Text.{recordText, bytesOf, bytesBy, bytesIn, recordBytes}
 use Rattle.writing.proofs.Fitting.{elements-fitted, fitted-own, lines-own, groups-own}
 
 -- ---- the index
@@ -47,7 +48,16 @@ pub index-length : (ns : List ℕ) → length ns ≡ 80 → length (indexText ns
 unfolding indexText
 index-length ns e =
     length-append (entriesText (take 40 ns) ++ lineEnd) (entriesText (drop 40 ns) ++ lineEnd)
-    ∙ omega (arith, length-append (entriesText (take 40 ns)) lineEnd, length-append (entriesText (drop 40 ns)) lineEnd, entries-length (take 40 ns), entries-length (drop 40 ns), length-take 40 ns, length-drop 40 ns)
+    ∙ omega (
+      arith,
+      length-append (entriesText (take 40 ns)) lineEnd,
+      length-append (entriesText (drop 40 ns)) lineEnd,
+      entries-length (take 40 ns),
+      entries-length
+          (drop 40 ns),
+      length-take 40 ns,
+      length-drop 40 ns,
+    )
 
 -- ---- a line
 

@@ -27,7 +27,7 @@ use Rattle.field.specs.Write.{isLetter, fitsOf}
 use Rattle.count.specs.Tally.{countOf, cellsBefore}
 use Rattle.count.proofs.Tallied.{cells-has, cells-next, cells-below, all-cells}
 use Rattle.count.specs.Check.{checkedOf}
-use Rattle.count.specs.declared.Checked.the-variants as C
+use Rattle.reply.specs.declared.Checked.the-variants as C
 use Rattle.date.specs.Date.{datedOf}
 use Rattle.reading.proofs.Dates.{dated-take}
 use Rattle.reading.proofs.Steps.{kept-letters}
@@ -46,7 +46,7 @@ letters-copied cs from old h l =
 -- ---- cells that fit A1 are letters
 
 letter-row : rowOf A1 .cells ≡ 1
-unfolding Table.rowOf Table.entryOf
+unfolding Table.rowOf Table.formEntry
 letter-row = refl
 
 letter-fits : (c : List ℤ) → T (fitsOf A1 c) → T (every isLetter c)
@@ -72,7 +72,7 @@ letters-fit (suc k) (z ∷ cs) h =
 -- ---- group 3
 
 three : formOf 3 ≡ Has A1
-unfolding Table.formOf Table.formAmong Table.entryOf
+unfolding Table.formOf Table.formAmong Table.formEntry
 three = refl
 
 letters-many : (count : ℕ) → cellsOf A1 count ≡ count
@@ -108,7 +108,9 @@ module _ (ns : List ℕ) (cs : List ℤ) (c : checkedOf ns (length cs) ≡ C.Rig
   date-same =
       let b = cellsBefore ns 3 in
       let w : cellsBefore ns 4 - b ≡ countOf ns 3 = omega (arith, behind) in
-      let l : length (dateLetters ns cs) ≡ countOf ns 3 = length-map (part b (cellsBefore ns 4) cs) sizeOf ∙ length-take (cellsBefore ns 4 - b) (drop b cs) ∙ omega (arith, w, length-drop b cs, inside, behind) in
+      let l : length (dateLetters ns cs) ≡ countOf ns 3 =
+      length-map (part b (cellsBefore ns 4) cs) sizeOf ∙ length-take (cellsBefore ns 4 - b) (drop b cs) ∙ omega (arith, w, length-drop b cs, inside, behind) in
       let m : min 19 (cellsBefore ns 4 - b) ≡ b + 19 - b = omega (arith, w, enough) in
-      let t : take 19 (dateLetters ns cs) ≡ map sizeOf (part b (b + 19) cs) = sym (map-take sizeOf 19 (part b (cellsBefore ns 4) cs)) ∙ ap (map sizeOf) (take-both 19 (cellsBefore ns 4 - b) (drop b cs) ∙ ap (λ n. take n (drop b cs)) m) in
+      let t : take 19 (dateLetters ns cs) ≡ map sizeOf (part b (b + 19) cs) =
+      sym (map-take sizeOf 19 (part b (cellsBefore ns 4) cs)) ∙ ap (map sizeOf) (take-both 19 (cellsBefore ns 4 - b) (drop b cs) ∙ ap (λ n. take n (drop b cs)) m) in
       ap datedOf (sym t) ∙ dated-take (dateLetters ns cs) 19 (omega (arith, l, enough)) (omega arith)

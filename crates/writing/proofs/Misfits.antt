@@ -63,7 +63,8 @@ module _ (size : ℕ → ℕ) (fit : ℕ → List ℤ → Fit) where
   first-found a zero cs g e h = no-not h
   first-found a (suc n) cs g e h = by (fit a (take (size a) cs)) refl h (first-found (suc a) n (drop (size a) cs) g e)
     where
-      by : (x : Fit) → fit a (take (size a) cs) ≡ x → firstOf x (firstMisfit size fit (upFrom (suc a) n) (drop (size a) cs)) ≡ Not g e → (firstMisfit size fit (upFrom (suc a) n) (drop (size a) cs) ≡ Not g e → FirstNot (suc a) n (drop (size a) cs) g e) → FirstNot a (suc n) cs g e
+      by : (x : Fit) → fit a (take (size a) cs) ≡ x → firstOf x (firstMisfit size fit (upFrom (suc a) n) (drop (size a) cs)) ≡ Not g e
+          → (firstMisfit size fit (upFrom (suc a) n) (drop (size a) cs) ≡ Not g e → FirstNot (suc a) n (drop (size a) cs) g e) → FirstNot a (suc n) cs g e
       by All u v rest =
           let r = rest v in
           record {
@@ -83,7 +84,9 @@ module _ (size : ℕ → ℕ) (fit : ℕ → List ℤ → Fit) where
   found-first a zero cs g e r = absurd (omega (arith, r .inside))
   found-first a (suc n) cs g e r = by (r .at) (r .inside) (r .earlier) (r .told) (found-first (suc a) n (drop (size a) cs) g e)
     where
-      by : (k : ℕ) → k < suc n → ((i : ℕ) → i < k → pieceAt a i cs ≡ All) → pieceAt a k cs ≡ Not g e → (FirstNot (suc a) n (drop (size a) cs) g e → firstMisfit size fit (upFrom (suc a) n) (drop (size a) cs) ≡ Not g e) → firstOf (fit a (take (size a) cs)) (firstMisfit size fit (upFrom (suc a) n) (drop (size a) cs)) ≡ Not g e
+      by : (k : ℕ) → k < suc n → ((i : ℕ) → i < k → pieceAt a i cs ≡ All) → pieceAt a k cs ≡ Not g e
+          → (FirstNot (suc a) n (drop (size a) cs) g e → firstMisfit size fit (upFrom (suc a) n) (drop (size a) cs) ≡ Not g e)
+          → firstOf (fit a (take (size a) cs)) (firstMisfit size fit (upFrom (suc a) n) (drop (size a) cs)) ≡ Not g e
       by zero l f t rest = rw (sym (here a cs) ∙ t)
       by (suc k) l f t rest =
           rw (sym (here a cs) ∙ f 0 (omega arith))
@@ -140,7 +143,9 @@ module _ (ns : List ℕ) (cs : List ℤ) where
       pub none : HasNone f (elementCells ns cs g e f)
       pub before : (d : ℕ) → Element ns cs g d f → d < e → HasField f (elementCells ns cs g d f)
 
-    piece-is : (i : ℕ) → elementFit f g (1 + i) (take (rowOf f .cells) (drop (sum (map (λ (e : ℕ). rowOf f .cells) (upFrom 1 i))) (drop (cellsBefore ns g) cs))) ≡ elementFit f g (1 + i) (elementCells ns cs g (suc i) f)
+    piece-is : (i : ℕ)
+        → elementFit f g (1 + i) (take (rowOf f .cells) (drop (sum (map (λ (e : ℕ). rowOf f .cells) (upFrom 1 i))) (drop (cellsBefore ns g) cs))) ≡ elementFit f g (1 + i)
+        (elementCells ns cs g (suc i) f)
     piece-is i = ap (λ n. elementFit f g (1 + i) (take (rowOf f .cells) (drop n (drop (cellsBefore ns g) cs)))) (sum-up-same (rowOf f .cells) 1 i) ∙ ap (elementFit f g (1 + i)) (cells-is i)
 
     pub found-none : (b e : ℕ) → groupFound g ≡ Not b e → (b ≡ g) × Lowest e
@@ -157,7 +162,9 @@ module _ (ns : List ℕ) (cs : List ℤ) where
         misfit i true u = no-not u
         misfit i false u = let p : g ≡ b = cc in let q : 1 + i ≡ e = cc in (refl, sym p, sym q)
 
-        by : (k : ℕ) → k < elementsOf f (countOf ns g) → ((i : ℕ) → i < k → elementFit f g (1 + i) (take (rowOf f .cells) (drop (sum (map (λ (e : ℕ). rowOf f .cells) (upFrom 1 i))) (drop (cellsBefore ns g) cs))) ≡ All) → elementFit f g (1 + k) (elementCells ns cs g (suc k) f) ≡ Not b e → (b ≡ g) × Lowest e
+        by : (k : ℕ) → k < elementsOf f (countOf ns g)
+            → ((i : ℕ) → i < k → elementFit f g (1 + i) (take (rowOf f .cells) (drop (sum (map (λ (e : ℕ). rowOf f .cells) (upFrom 1 i))) (drop (cellsBefore ns g) cs))) ≡ All)
+            → elementFit f g (1 + k) (elementCells ns cs g (suc k) f) ≡ Not b e → (b ≡ g) × Lowest e
         by k l earlier told =
             let m = misfit k (fitsOf f (elementCells ns cs g (suc k) f)) told in
             let q : e ≡ suc k = omega (arith, m .2) in (

@@ -2,7 +2,8 @@
 -- text.
 -- Assumes nothing.
 use mathlib.Core.Path.{_≡_, refl, sym, _∙_, ap}
-use mathlib.Core.List.{List}
+use mathlib.Core.List.{List, [], _∷_}
+use mathlib.Core.Logic.{inl, inr}
 use Prim.Native.Nat.{ℕ, _≤_}
 use native.Mathlib.Nat.{zero-add}
 use native.Mathlib.Omega.{arith}
@@ -10,16 +11,21 @@ use lib.Dec.{lit<}
 use lib.IntN.{ℤ}
 use lib.ListN.{length, take, drop}
 use lib.Seq.{drop-at, take-at}
-use Rattle.reply.specs.Table.{Numbered}
-use Rattle.reply.proofs.Replies.{fills-plain, fills-on, fills-bytes, fills-field, fills-date, at-row}
+use Rattle.reply.specs.Table.{Numbered, bytes}
+use Rattle.reply.specs.Refusals.{refusalReply, answerReply, rows}
+use Rattle.reply.proofs.Replies.{fills, refusal-fills, at-row, rows-left}
 use Rattle.form.proofs.Table.{form-range}
-use Rattle.count.proofs.Rulings.{broken-group}
+use Rattle.count.specs.Numbered.{checkRefusals}
+use Rattle.count.proofs.Numbered.{check-refusal-numbered}
 use Rattle.date.proofs.Due.{blamed-position}
-use Rattle.writing.specs.declared.Writing.{Writing}
-use Rattle.writing.specs.declared.Writing.the-variants.{Done, Misformed, OtherRelease, FilledVacant, BrokenRule, OtherLength, NoField, BadDate, NoRoom}
+use Rattle.reply.specs.declared.Answer.{Answer}
+use Rattle.reply.specs.declared.Answer.the-variants.{Done, Refused}
+use Rattle.reply.specs.declared.Refusal.{Refusal}
+use Rattle.reply.specs.declared.Refusal.the-variants.{NoField, BadDate, NoRoom}
 use Rattle.writing.specs.Text.{recordText, recordBytes}
-use Rattle.writing.specs.Writing.{dateLetters, writingOf, outputBy, writingReply, writingRows}
-use Rattle.writing.specs.Due.{Due}
+use Rattle.writing.specs.Writing.{dateLetters, writingOf, outputBy}
+use Rattle.writing.specs.Numbered.{writingRefusals, writingRows}
+use Rattle.writing.specs.Due.{RefusedFor, wrong-counts, no-field, bad-date, no-room, Due}
 use Rattle.writing.proofs.Due.{first-due}
 use Rattle.writing.proofs.Done.{done-is}
 use Rattle.writing.proofs.Lengths.{record-length}
@@ -31,34 +37,27 @@ unfolding recordBytes
 record-some ns = omega arith
 
 module _ (ns : List ℕ) (cs : List ℤ) (room : ℕ) where
-  due-numbered : (w : Writing) → Due ns cs room w → Numbered writingRows (writingReply w)
-  due-numbered (Done n) d = at-row 0 writingRows (writingReply (Done n)) (lit< tt) (fills-bytes n (omega (arith, d .bytes, record-some ns)))
-  due-numbered Misformed d = at-row 1 writingRows (writingReply Misformed) (lit< tt) (fills-plain 4)
-  due-numbered OtherRelease d = at-row 2 writingRows (writingReply OtherRelease) (lit< tt) (fills-plain 5)
-  due-numbered (FilledVacant g) d = at-row 3 writingRows (writingReply (FilledVacant g)) (lit< tt) (fills-on 6 g (omega (arith, d .release .low)))
-  due-numbered (BrokenRule g) d = at-row 4 writingRows (writingReply (BrokenRule g)) (lit< tt) (fills-on 7 g (broken-group ns (d .broken) .0))
-  due-numbered OtherLength d = at-row 5 writingRows (writingReply OtherLength) (lit< tt) (fills-plain 14)
-  due-numbered (NoField g e) d =
-      at-row 6 writingRows (writingReply (NoField g e)) (lit< tt) (fills-field g e (form-range g (d .form) (d .element .form) .0) (d .element .low))
-  due-numbered (BadDate p) d = at-row 7 writingRows (writingReply (BadDate p)) (lit< tt) (fills-date p (blamed-position (dateLetters ns cs) p (d .wrong)))
-  due-numbered NoRoom d = at-row 8 writingRows (writingReply NoRoom) (lit< tt) (fills-plain 11)
+  refusal-numbered : (r : Refusal) → RefusedFor ns cs room r → Numbered (rows writingRefusals) (refusalReply r)
+  refusal-numbered r (wrong-counts q d) = rows-left checkRefusals (NoField 0 0 ∷ BadDate 0 ∷ NoRoom ∷ []) (refusalReply q) (check-refusal-numbered ns (length cs) q d)
+  refusal-numbered r (no-field g e d) =
+      at-row 5 (rows writingRefusals) (refusalReply (NoField g e)) (lit< tt) (refusal-fills (NoField g e) (form-range g (d .form) (d .element .form) .0, (d .element .low, tt)))
+  refusal-numbered r (bad-date p d) =
+      at-row 6 (rows writingRefusals) (refusalReply (BadDate p)) (lit< tt) (refusal-fills (BadDate p) (blamed-position (dateLetters ns cs) p (d .wrong), tt))
+  refusal-numbered r (no-room d) = at-row 7 (rows writingRefusals) (refusalReply NoRoom) (lit< tt) (refusal-fills NoRoom tt)
 
-  pub writing-numbered : Numbered writingRows (writingReply (writingOf ns cs room))
+  due-numbered : (w : Answer) → Due ns cs room w → Numbered writingRows (answerReply w)
+  due-numbered (Done n) d = inl (fills 0 ((bytes, n) ∷ []) (omega (arith, d .bytes, record-some ns), tt))
+  due-numbered (Refused r) d = inr (refusal-numbered r d)
+
+  pub writing-numbered : Numbered writingRows (answerReply (writingOf ns cs room))
   writing-numbered = due-numbered (writingOf ns cs room) (first-due ns cs room (writingOf ns cs room) .0 refl)
 
 -- ---- the output
 
 -- refused write keeps (R307): the whole output is what it was
-pub refused-write-keeps : (ns : List ℕ) (cs : List ℤ) (w : Writing) (old : List ℕ) → (writingReply w .number ≡ 0 → ⊥) → outputBy ns cs w old ≡ old
+pub refused-write-keeps : (ns : List ℕ) (cs : List ℤ) (w : Answer) (old : List ℕ) → (answerReply w .number ≡ 0 → ⊥) → outputBy ns cs w old ≡ old
 refused-write-keeps ns cs (Done n) old h = absurd (h refl)
-refused-write-keeps ns cs Misformed old h = refl
-refused-write-keeps ns cs OtherRelease old h = refl
-refused-write-keeps ns cs (FilledVacant g) old h = refl
-refused-write-keeps ns cs (BrokenRule g) old h = refl
-refused-write-keeps ns cs OtherLength old h = refl
-refused-write-keeps ns cs (NoField g e) old h = refl
-refused-write-keeps ns cs (BadDate p) old h = refl
-refused-write-keeps ns cs NoRoom old h = refl
+refused-write-keeps ns cs (Refused r) old h = refl
 
 -- done write keeps the rest (R306): the output begins with the text, n bytes long, and is as it was behind it
 module _ (ns : List ℕ) (cs : List ℤ) (old : List ℕ) (n : ℕ) (d : writingOf ns cs (length old) ≡ Done n) where

@@ -37,7 +37,7 @@ use Rattle.reading.specs.Plan
 use Rattle.reading.specs.Plan.{Line, lineAt, planFrom, planOf}
 use Rattle.writing.specs.declared.Fit.the-variants.{All}
 use Rattle.writing.specs.Fitting.{Fitted, fitOf}
-use Rattle.writing.specs.Text.{lineEnd, entriesText, indexText, lineCells, fieldsText, lineText, lineOf, linesText, groupText, groupsText, bytesOf}
+use Rattle.writing.specs.Text.{lineEnd, entriesText, indexText, lineCells, fieldsText, lineText, lineOfMany, linesText, groupText, groupsText, bytesOf}
 use Rattle.writing.proofs.Fitting.{fitted-drop, fitted-fewer, line-behind, group-fitted}
 use Rattle.writing.proofs.Lengths.{entries-length, fields-length, line-length, lines-length, lines-take}
 
@@ -81,10 +81,12 @@ module _ (ns old : List ℕ) (at : ℕ) where
           }
 
 -- the index: two lines of 40 counts, each of 122 bytes
-pub index-line-put : (ns old mid new : List ℕ) (at : ℕ) → length ns ≡ 40 → at + 122 ≤ length old → mid ≡ over at (entriesText ns) old → new ≡ over (at + 120) lineEnd mid → new ≡ over at (entriesText ns ++ lineEnd) old
+pub index-line-put : (ns old mid new : List ℕ) (at : ℕ) → length ns ≡ 40 → at + 122 ≤ length old → mid ≡ over at (entriesText ns) old → new ≡ over (at + 120) lineEnd mid
+    → new ≡ over at (entriesText ns ++ lineEnd) old
 index-line-put ns old mid new at l h p q = over-then old mid new (entriesText ns) lineEnd at (at + 120) (omega (arith, entries-length ns)) (omega arith) p q
 
-pub index-put : (ns old mid new : List ℕ) → length ns ≡ 80 → 244 ≤ length old → mid ≡ over 0 (entriesText (part 0 40 ns) ++ lineEnd) old → new ≡ over 122 (entriesText (part 40 80 ns) ++ lineEnd) mid → new ≡ over 0 (indexText ns) old
+pub index-put : (ns old mid new : List ℕ) → length ns ≡ 80 → 244 ≤ length old → mid ≡ over 0 (entriesText (part 0 40 ns) ++ lineEnd) old
+    → new ≡ over 122 (entriesText (part 40 80 ns) ++ lineEnd) mid → new ≡ over 0 (indexText ns) old
 unfolding indexText
 index-put ns old mid new l h p q =
     let a : part 0 40 ns ≡ take 40 ns = ap (take 40) (drop-none ns) in
@@ -117,7 +119,7 @@ module _ (f : Form) where
   emit-any a b (suc k) cs = ap (λ y. fieldText f (take (rowOf f .cells) cs) ++ y) (emit-any (suc a) (suc b) k (drop (rowOf f .cells) cs))
 
   -- a line's text is the same wherever it stands in its group, and takes no cells but its own
-  pub line-any : (l : Line) (cs : List ℤ) → lineText f l (take (lineCells f l) cs) ≡ lineText f (lineOf (l .many)) cs
+  pub line-any : (l : Line) (cs : List ℤ) → lineText f l (take (lineCells f l) cs) ≡ lineText f (lineOfMany (l .many)) cs
   unfolding lineText fieldsText
   line-any l cs =
       ap (λ y. y ++ lineEnd)
@@ -135,7 +137,7 @@ pub record Fields (f : Form) (many : ℕ) (cs : List ℤ) (from at : ℕ) (old :
   pub few : i ≤ many
   pub cells : cell ≡ from + i * rowOf f .cells
   pub place : a ≡ at + i * rowOf f .width
-  pub put : Putting at (fieldsText f (lineOf many) (drop from cs)) old a (fieldsFrom f (many - i) (drop cell cs)) out
+  pub put : Putting at (fieldsText f (lineOfMany many) (drop from cs)) old a (fieldsFrom f (many - i) (drop cell cs)) out
 
 module _ (f : Form) (many : ℕ) (cs : List ℤ) (from at : ℕ) (old : List ℕ) (fit : Fitted f many (drop from cs)) where
   pub fields-start : (row : Row) → row ≡ rowOf f → at + many * rowOf f .width ≤ length old → Fields f many cs from at old (row .width) (row .cells) at from 0 old
@@ -147,11 +149,11 @@ module _ (f : Form) (many : ℕ) (cs : List ℤ) (from at : ℕ) (old : List ℕ
         few = omega arith;
         cells = omega (arith, zero-mul (rowOf f .cells));
         place = omega (arith, zero-mul (rowOf f .width));
-        put = rw (sub-zero many) (putting-start at (fieldsText f (lineOf many) (drop from cs)) old (omega (arith, fields-length f (lineOf many) (drop from cs) fit)));
+        put = rw (sub-zero many) (putting-start at (fieldsText f (lineOfMany many) (drop from cs)) old (omega (arith, fields-length f (lineOfMany many) (drop from cs) fit)));
       }
 
   module _ {width size a cell i : ℕ} {out : List ℕ} (b : Fields f many cs from at old width size a cell i out) where
-    pub fields-end : many ≤ i → (a ≡ at + many * rowOf f .width) × (out ≡ over at (fieldsText f (lineOf many) (drop from cs)) old)
+    pub fields-end : many ≤ i → (a ≡ at + many * rowOf f .width) × (out ≡ over at (fieldsText f (lineOfMany many) (drop from cs)) old)
     unfolding Pieces.emit Every.upFrom
     fields-end h =
         let z : many - i ≡ 0 = omega arith in
@@ -218,7 +220,8 @@ module _ (f : Form) (count : ℕ) (cs : List ℤ) (from at : ℕ) (old : List �
   abbrev p : ℕ
   p = rowOf f .«per_line»
 
-  pub lines-start : (row : Row) (left many : ℕ) → row ≡ rowOf f → left ≡ elementsOf f count → many ≡ roundedUp left (row .«per_line») → at + bytesOf f count ≤ length old → Lines f count cs from at old (row .«per_line») (row .cells) many left from at 0 old
+  pub lines-start : (row : Row) (left many : ℕ) → row ≡ rowOf f → left ≡ elementsOf f count → many ≡ roundedUp left (row .«per_line») → at + bytesOf f count ≤ length old
+      → Lines f count cs from at old (row .«per_line») (row .cells) many left from at 0 old
   unfolding linesText Plan.planOf Count.linesOf
   lines-start row left many r l m h =
       let e : many ≡ linesOf f count = m ∙ rw (l, ap (λ x. x .«per_line») r) in
@@ -251,12 +254,13 @@ module _ (f : Form) (count : ℕ) (cs : List ℤ) (from at : ℕ) (old : List �
       next-cell : drop (k * rowOf f .cells) (drop cell cs) ≡ drop (cell + k * size) cs
       next-cell = drop-drop (k * rowOf f .cells) cell cs ∙ ap (λ c. drop (cell + k * c) cs) (sym (b .sized))
 
-      step-lines : linesFrom f count j (many - j) (drop cell cs) ≡ lineText f (lineOf k) (drop cell cs) ++ linesFrom f count (j + 1) (many - (j + 1)) (drop (cell + k * size) cs)
+      step-lines : linesFrom f count j (many - j) (drop cell cs) ≡ lineText f (lineOfMany k) (drop cell cs) ++ linesFrom f count (j + 1) (many - (j + 1)) (drop (cell + k * size) cs)
       unfolding Plan.planFrom Pieces.emit Every.upFrom
       step-lines =
           let m : many - j ≡ suc (many - (j + 1)) = omega arith in
           let d : drop (lineAt p n j .many * rowOf f .cells) (drop cell cs) ≡ drop (cell + k * size) cs = ap (λ x. drop (x * rowOf f .cells) (drop cell cs)) many-here ∙ next-cell in
-          let t : lineText f (lineAt p n j) (take (lineCells f (lineAt p n j)) (drop cell cs)) ≡ lineText f (lineOf k) (drop cell cs) = line-any f (lineAt p n j) (drop cell cs) ∙ ap (λ x. lineText f (lineOf x) (drop cell cs)) many-here in
+          let t : lineText f (lineAt p n j) (take (lineCells f (lineAt p n j)) (drop cell cs)) ≡ lineText f (lineOfMany k) (drop cell cs) =
+          line-any f (lineAt p n j) (drop cell cs) ∙ ap (λ x. lineText f (lineOfMany x) (drop cell cs)) many-here in
           ap (λ x. linesFrom f count j x (drop cell cs)) m ∙ rw (t, d, add-one j)
 
       behind : min n (j * p) + k ≡ min n ((j + 1) * p)
@@ -267,8 +271,8 @@ module _ (f : Form) (count : ℕ) (cs : List ℤ) (from at : ℕ) (old : List �
           let d : drop (min n (j * p) * rowOf f .cells) (drop from cs) ≡ drop cell cs = drop-drop (min n (j * p) * rowOf f .cells) from cs ∙ ap (λ x. drop x cs) (sym (b .cells)) in
           rw d at (fitted-fewer f (n - min n (j * p)) k (drop (min n (j * p) * rowOf f .cells) (drop from cs)) (omega (arith, behind)) (fitted-drop f n (min n (j * p)) (drop from cs) fit))
 
-      long-here : length (lineText f (lineOf k) (drop cell cs)) ≡ k * rowOf f .width + 2
-      long-here = line-length f (lineOf k) (drop cell cs) fits-here
+      long-here : length (lineText f (lineOfMany k) (drop cell cs)) ≡ k * rowOf f .width + 2
+      long-here = line-length f (lineOfMany k) (drop cell cs) fits-here
 
       cells-here : cell + k * rowOf f .cells ≡ from + min n ((j + 1) * p) * rowOf f .cells
       cells-here = omega (arith, b .cells, add-mul (min n (j * p)) k (rowOf f .cells), ap (λ x. x * rowOf f .cells) behind)
@@ -278,15 +282,17 @@ module _ (f : Form) (count : ℕ) (cs : List ℤ) (from at : ℕ) (old : List �
       line-requires room = (
         omega (arith, cells-here, mul-le-mul-right {m = min n ((j + 1) * p)} {n = n} (rowOf f .cells) (omega arith)),
         fits-here,
-        omega (arith, putting-room (b .put) (lineText f (lineOf k) (drop cell cs)) (linesFrom f count (j + 1) (many - (j + 1)) (drop (cell + k * size) cs)) step-lines, long-here),
+        omega (arith, putting-room (b .put) (lineText f (lineOfMany k) (drop cell cs)) (linesFrom f count (j + 1) (many - (j + 1)) (drop (cell + k * size) cs)) step-lines, long-here),
       )
 
-      pub lines-next : (mid new : List ℕ) (end : ℕ) → end ≡ a + k * rowOf f .width → mid ≡ over a (fieldsText f (lineOf k) (drop cell cs)) out → new ≡ over end lineEnd mid → Lines f count cs from at old perLine size many (left - k) (cell + k * size) (end + 2) (j + 1) new
+      pub lines-next : (mid new : List ℕ) (end : ℕ) → end ≡ a + k * rowOf f .width → mid ≡ over a (fieldsText f (lineOfMany k) (drop cell cs)) out → new ≡ over end lineEnd mid
+          → Lines f count cs from at old perLine size many (left - k) (cell + k * size) (end + 2) (j + 1) new
       unfolding lineText
       lines-next mid new end e x y =
-          let l : length (fieldsText f (lineOf k) (drop cell cs)) ≡ k * rowOf f .width = fields-length f (lineOf k) (drop cell cs) fits-here in
-          let r = putting-room (b .put) (lineText f (lineOf k) (drop cell cs)) (linesFrom f count (j + 1) (many - (j + 1)) (drop (cell + k * size) cs)) step-lines in
-          let o : new ≡ over a (lineText f (lineOf k) (drop cell cs)) out = over-then out mid new (fieldsText f (lineOf k) (drop cell cs)) lineEnd a end (omega arith) (omega (arith, r, long-here)) x y in
+          let l : length (fieldsText f (lineOfMany k) (drop cell cs)) ≡ k * rowOf f .width = fields-length f (lineOfMany k) (drop cell cs) fits-here in
+          let r = putting-room (b .put) (lineText f (lineOfMany k) (drop cell cs)) (linesFrom f count (j + 1) (many - (j + 1)) (drop (cell + k * size) cs)) step-lines in
+          let o : new ≡ over a (lineText f (lineOfMany k) (drop cell cs)) out =
+          over-then out mid new (fieldsText f (lineOfMany k) (drop cell cs)) lineEnd a end (omega arith) (omega (arith, r, long-here)) x y in
           record {
             per = b .per;
             sized = b .sized;
@@ -294,7 +300,8 @@ module _ (f : Form) (count : ℕ) (cs : List ℤ) (from at : ℕ) (old : List �
             few = omega arith;
             rest = omega (arith, b .rest, many-here, add-mul j 1 p, one-mul p);
             cells = ap (λ c. cell + k * c) (b .sized) ∙ cells-here;
-            put = putting-more (b .put) (lineText f (lineOf k) (drop cell cs)) (linesFrom f count (j + 1) (many - (j + 1)) (drop (cell + k * size) cs)) new (end + 2) step-lines (omega (arith, long-here)) o;
+            put = putting-more (b .put) (lineText f (lineOfMany k) (drop cell cs)) (linesFrom f count (j + 1) (many - (j + 1)) (drop (cell + k * size) cs)) new (end + 2) step-lines
+                (omega (arith, long-here)) o;
           }
 
 -- ---- the groups of a record

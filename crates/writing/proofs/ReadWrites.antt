@@ -30,7 +30,7 @@ use Rattle.place.proofs.Zero.{IsPlaced, is-placed}
 use Rattle.reading.specs.Read.{Cells}
 use Rattle.reading.proofs.Sizes.{group-size}
 use Rattle.writing.specs.declared.Fit.the-variants.{All}
-use Rattle.writing.specs.declared.Writing.the-variants.{Done}
+use Rattle.reply.specs.declared.Answer.the-variants.{Done}
 use Rattle.writing.specs.Canonical.{CanonicalGroup, CanonicalRecord}
 use Rattle.writing.specs.Fitting.{groupFit, fitOf}
 use Rattle.writing.specs.RoundTrip.{groupCells, ReadWhole, joined, WritesAgain}
@@ -160,7 +160,8 @@ module _ {s : List ℕ} {at n : ℕ} {cells : ℕ → List ℤ} (r : ReadWhole s
         ∙ part-length s at (n - at) (omega (arith, inside .0, inside .1))
 
     -- D2.5: every byte of the record is there again
-    pub returns-same : (old : List ℕ) → n - at ≤ length old → (writingOf ns (joined cells) (length old) ≡ Done (n - at)) × (outputBy ns (joined cells) (writingOf ns (joined cells) (length old)) old ≡ over 0 (part at n s) old)
+    pub returns-same : (old : List ℕ) → n - at ≤ length old
+        → (writingOf ns (joined cells) (length old) ≡ Done (n - at)) × (outputBy ns (joined cells) (writingOf ns (joined cells) (length old)) old ≡ over 0 (part at n s) old)
     returns-same old enough =
         let w : writingOf ns (joined cells) (length old) ≡ Done (n - at) = read-writes (length old) (omega (arith, again-bytes)) ∙ ap Done again-bytes in
         (w, rw (w, written-again))

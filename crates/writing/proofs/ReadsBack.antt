@@ -27,7 +27,7 @@ use Rattle.place.specs.Placing.{placingBy, countsBy}
 use Rattle.place.specs.Parts.{groupPart}
 use Rattle.count.proofs.Rulings.{kept-ruling}
 use Rattle.group.proofs.Texts.{read-located}
-use Rattle.writing.specs.declared.Writing.the-variants.{Done}
+use Rattle.reply.specs.declared.Answer.the-variants.{Done}
 use Rattle.writing.specs.Canonical.{CanonicalGroup, CanonicalRecord}
 use Rattle.writing.specs.RoundTrip.{groupCells, ReadsBack}
 use Rattle.writing.specs.Text.{recordText, recordBytes}

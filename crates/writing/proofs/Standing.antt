@@ -49,7 +49,8 @@ module _ {ns x : List ℕ} {cs : List ℤ} (h : CanonicalRecord ns x cs) (a b : 
       let u : Whole (recordLines ns) x = canonical-whole h in
       let d : drop (length a) inText ≡ x ++ b = drop-append-seam a (x ++ b) in
       let n : feeds (x ++ b) ≡ recordLines ns + feeds b = feeds-whole b u in
-      let i : readIndex (x ++ b) ≡ counts ns = rw (h .is, append-assoc (h .first ++ h .second) (h .groups) b) (index-read ns (h .first) (h .second) (h .many) (h .first-line) (h .second-line) (h .groups ++ b)) in
+      let i : readIndex (x ++ b) ≡ counts ns =
+      rw (h .is, append-assoc (h .first ++ h .second) (h .groups) b) (index-read ns (h .first) (h .second) (h .many) (h .first-line) (h .second-line) (h .groups ++ b)) in
       is-located inText (length a) (length a + length x) ns record {
         inside = omega (arith, length-append a (x ++ b), feeds-le (x ++ b), record-two ns);
         head = rw d (omega (arith, record-two ns));
@@ -67,7 +68,8 @@ module _ {ns x : List ℕ} {cs : List ℤ} (h : CanonicalRecord ns x cs) (a b : 
     before-lines : Whole (linesBefore ns g) ((h .first ++ h .second) ++ m .first)
     before-lines =
         subst (λ k. Whole k ((h .first ++ h .second) ++ m .first)) (sym (lines-before ns g low))
-        (whole-append (index-whole ns (h .first) (h .second) (h .many) (h .first-line) (h .second-line)) (each-whole (linesIn ns) (group-whole ns) (take (g - 1) (upFrom 1 60)) (m .first) (m .first-cells) (m .before)))
+        (whole-append (index-whole ns (h .first) (h .second) (h .many) (h .first-line) (h .second-line))
+        (each-whole (linesIn ns) (group-whole ns) (take (g - 1) (upFrom 1 60)) (m .first) (m .first-cells) (m .before)))
 
     its-lines : groupPart inText (length a) ns g ≡ m .itself
     its-lines =

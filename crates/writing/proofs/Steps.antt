@@ -10,16 +10,17 @@ use lib.ListN.{length, length-append}
 use Rattle.base.specs.Part.{over}
 use Rattle.base.proofs.Part.{over-then}
 use Rattle.count.specs.Check.{checkedOf}
-use Rattle.count.specs.declared.Checked.{Checked}
-use Rattle.count.specs.declared.Checked.the-variants as C
+use Rattle.reply.specs.declared.Checked.{Checked}
+use Rattle.reply.specs.declared.Checked.the-variants as C
 use Rattle.count.specs.Tally.{cellsBefore}
 use Rattle.count.proofs.Tallied.{all-cells}
 use Rattle.date.specs.Date.{datedOf}
 use Rattle.date.specs.declared.Date.{Date}
 use Rattle.date.specs.declared.Dated.the-variants.{Right, Wrong}
 use Rattle.writing.specs.declared.Fit.the-variants.{All, Not}
-use Rattle.writing.specs.declared.Writing.{Writing}
-use Rattle.writing.specs.declared.Writing.the-variants.{Done, NoField, BadDate, NoRoom}
+use Rattle.reply.specs.declared.Answer.{Answer}
+use Rattle.reply.specs.declared.Answer.the-variants.{Done, Refused}
+use Rattle.reply.specs.declared.Refusal.the-variants.{NoField, BadDate, NoRoom}
 use Rattle.writing.specs.Fitting.{fitOf}
 use Rattle.writing.specs.Text.{indexText, groupsText, recordText, recordBytes}
 use Rattle.writing.specs.Writing.{dateLetters, writeRoom, writeFit, writeChecked, writingOf, outputBy}
@@ -27,13 +28,13 @@ use Rattle.count.proofs.Due as Counts
 use Rattle.writing.proofs.Lengths.{index-length, record-length}
 
 -- what an answer and an output at exit owe to what writing answers
-abbrev pub Answers : List ℕ → List ℤ → List ℕ → Writing → Writing → List ℕ → Type 0
+abbrev pub Answers : List ℕ → List ℤ → List ℕ → Answer → Answer → List ℕ → Type 0
 Answers ns cs old w r new = (r ≡ w) × (new ≡ outputBy ns cs r old)
 
 module _ (ns : List ℕ) (cs : List ℤ) (old : List ℕ) where
   -- ---- 11, or the text
 
-  pub right-full : length old < recordBytes ns → Answers ns cs old (writeRoom ns (length old)) NoRoom old
+  pub right-full : length old < recordBytes ns → Answers ns cs old (writeRoom ns (length old)) (Refused NoRoom) old
   right-full h = (rw (lt-leb (recordBytes ns) (length old) h), refl)
 
   pub right-done : (new : List ℕ) → recordBytes ns ≤ length old → new ≡ over 0 (recordText ns cs) old → Answers ns cs old (writeRoom ns (length old)) (Done (recordBytes ns)) new
@@ -63,18 +64,20 @@ module _ (ns : List ℕ) (cs : List ℤ) (old : List ℕ) where
 
   -- ---- 13, 10
 
-  pub fit-bad : {g e : ℕ} → fitOf ns cs ≡ Not g e → Answers ns cs old (writeFit ns cs (length old) (fitOf ns cs)) (NoField g e) old
+  pub fit-bad : {g e : ℕ} → fitOf ns cs ≡ Not g e → Answers ns cs old (writeFit ns cs (length old) (fitOf ns cs)) (Refused (NoField g e)) old
   fit-bad e = (rw e, refl)
 
   module _ (fit : fitOf ns cs ≡ All) where
-    pub date-bad : {p : ℕ} → datedOf (dateLetters ns cs) ≡ Wrong p → Answers ns cs old (writeFit ns cs (length old) (fitOf ns cs)) (BadDate p) old
+    pub date-bad : {p : ℕ} → datedOf (dateLetters ns cs) ≡ Wrong p → Answers ns cs old (writeFit ns cs (length old) (fitOf ns cs)) (Refused (BadDate p)) old
     date-bad d = (rw (fit, d), refl)
 
-    pub date-right : {r : Writing} {new : List ℕ} {d : Date} → datedOf (dateLetters ns cs) ≡ Right d → Answers ns cs old (writeRoom ns (length old)) r new → Answers ns cs old (writeFit ns cs (length old) (fitOf ns cs)) r new
+    pub date-right : {r : Answer} {new : List ℕ} {d : Date} → datedOf (dateLetters ns cs) ≡ Right d → Answers ns cs old (writeRoom ns (length old)) r new
+        → Answers ns cs old (writeFit ns cs (length old) (fitOf ns cs)) r new
     date-right e a = (a .0 ∙ rw (fit, e), a .1)
 
   -- ---- 4, 5, 6, 7, 14
 
-  pub checked-by : {k : Checked} {r : Writing} {new : List ℕ} → checkedOf ns (length cs) ≡ k → Answers ns cs old (writeChecked ns cs (length old) k) r new → Answers ns cs old (writingOf ns cs (length old)) r new
+  pub checked-by : {k : Checked} {r : Answer} {new : List ℕ} → checkedOf ns (length cs) ≡ k → Answers ns cs old (writeChecked ns cs (length old) k) r new
+      → Answers ns cs old (writingOf ns cs (length old)) r new
   unfolding writingOf
   checked-by {r = r} {new = new} e a = (a .0 ∙ ap (writeChecked ns cs (length old)) (sym e), a .1)

@@ -59,7 +59,8 @@ module _ (f : Form) where
       let size : ℕ → ℕ = λ e. rowOf f .cells in
       record {
         content = fieldsText f l c;
-        good = own-each size (λ e c. fieldText f c) (λ e c. T (fitsOf f c)) (λ e c n t. lawful f .canonical c t) (elementsIn l) c (n ∙ sym (sum-up-same (rowOf f .cells) (l .first) (l .many))) (fitted-own f (l .first) (l .many) c h);
+        good = own-each size (λ e c. fieldText f c) (λ e c. T (fitsOf f c)) (λ e c n t. lawful f .canonical c t) (elementsIn l) c
+            (n ∙ sym (sum-up-same (rowOf f .cells) (l .first) (l .many))) (fitted-own f (l .first) (l .many) c h);
         is = refl;
       }
 
@@ -93,7 +94,9 @@ module _ (ns : List ℕ) where
   groups-canonical cs n e =
       let size : length cs ≡ sum (map (cellsIn ns) (upFrom 1 60)) = n ∙ zero-add (sum (map (cellsIn ns) (upFrom 1 60))) in
       each-imply (λ g x c p. p .1 (p .0)) (upFrom 1 60) (groupsText ns cs) cs
-      (each-passed (λ g. leb 1 g && leb g 60) (upFrom 1 60) (groupsText ns cs) cs all-groups (own-each {P = λ g x c. T (leb 1 g && leb g 60) → CanonicalGroup ns g x c} (cellsIn ns) (groupText ns) (λ g c. groupFit ns g c ≡ All) group-canonical (upFrom 1 60) cs size (groups-own ns cs e)))
+      (each-passed (λ g. leb 1 g && leb g 60) (upFrom 1 60) (groupsText ns cs) cs all-groups
+      (own-each {P = λ g x c. T (leb 1 g && leb g 60) → CanonicalGroup ns g x c} (cellsIn ns) (groupText ns) (λ g c. groupFit ns g c ≡ All) group-canonical
+      (upFrom 1 60) cs size (groups-own ns cs e)))
 
   pub written-canonical : (cs : List ℤ) → length ns ≡ 80 → T (every isCount ns) → length cs ≡ recordCells ns → fitOf ns cs ≡ All → CanonicalRecord ns (recordText ns cs) cs
   unfolding recordText indexText

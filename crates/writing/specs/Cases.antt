@@ -18,14 +18,13 @@ use Rattle.reply.specs.declared.Reply.{Reply}
 use Rattle.date.specs.Date.{datedOf}
 use Rattle.date.specs.declared.Date.{Date}
 use Rattle.date.specs.declared.Dated.the-variants.{Right}
-use Rattle.reading.specs.Numbered.{readingReply}
 use Rattle.reading.specs.Read.{Cells, readLines, readForm, readingOf}
 use Rattle.writing.specs.declared.Fit.{Fit}
 use Rattle.writing.specs.declared.Fit.the-variants.{All, Not}
-use Rattle.writing.specs.declared.Writing.the-variants.{NoField}
+use Rattle.reply.specs.declared.Refusal.the-variants.{NoField}
+use Rattle.reply.specs.Refusals.{refusalNumber, answerReply}
 use Rattle.writing.specs.Fitting.{elementsFit}
 use Rattle.writing.specs.Text.{lineEnd, linesText}
-use Rattle.writing.specs.Writing.{writingReply}
 
 abbrev pub minus : ℕ → ℤ
 minus n = negℤ (pos n)
@@ -50,29 +49,29 @@ pub data Case : Type 0 where
   blames : String → (number position : ℕ) → Case
 
 -- the reply to a reading and to cells that are written, of whatever group
-abbrev pub readReply : Cells → Reply
-readReply g = readingReply (readingOf g)
+abbrev pub caseReply : Cells → Reply
+caseReply g = answerReply (readingOf g)
 
 abbrev pub fitNumber : Fit → ℕ
 fitNumber All = 0
-fitNumber (Not g e) = writingReply (NoField g e) .number
+fitNumber (Not g e) = refusalNumber (NoField g e)
 
 -- letters as group 3
 abbrev pub lettersRead : String → Cells
 lettersRead t = readForm A1 3 (length (bytes t)) (line t) (length (bytes t))
 
 abbrev pub Holding : Case → Type 0
-Holding (reads f t n cs) = (readReply (readLines f 1 (line t)) .number ≡ n) × (cellsGot (readLines f 1 (line t)) ≡ cs)
+Holding (reads f t n cs) = (caseReply (readLines f 1 (line t)) .number ≡ n) × (cellsGot (readLines f 1 (line t)) ≡ cs)
 Holding (writes f cs t) = (g : ℕ) → (fitNumber (elementsFit f g 1 cs) ≡ 0) × (linesText f 1 cs ≡ line t)
 Holding (refuses f cs n) = (g : ℕ) → fitNumber (elementsFit f g 1 cs) ≡ n
 Holding (entry t e) = entryOf (bytes t) ≡ e
 Holding (takes f count n) = linesOf f count ≡ n
-Holding (dates t d) = (readReply (lettersRead t) .number ≡ 0) × (datedOf (bytes t) ≡ Right d)
-Holding (blames t n p) = (readReply (lettersRead t) .number ≡ n) × (readReply (lettersRead t) .position ≡ p)
+Holding (dates t d) = (caseReply (lettersRead t) .number ≡ 0) × (datedOf (bytes t) ≡ Right d)
+Holding (blames t n p) = (caseReply (lettersRead t) .number ≡ n) × (caseReply (lettersRead t) .position ≡ p)
 
-abbrev pub Holds : List Case → Type 0
-Holds [] = Unit {0}
-Holds (c ∷ cs) = Holding c × Holds cs
+abbrev pub AllHolding : List Case → Type 0
+AllHolding [] = Unit {0}
+AllHolding (c ∷ cs) = Holding c × AllHolding cs
 
 -- year, day of year, month, day, hour, minute, second
 abbrev pub date : ℕ → ℕ → ℕ → ℕ → ℕ → ℕ → ℕ → Date

@@ -13,12 +13,13 @@ use Rattle.field.specs.Grammar.{IsField}
 use Rattle.count.specs.Tally.{countOf, cellsBefore}
 use Rattle.count.specs.Due as Counts
 use Rattle.count.specs.Due.{HasCells}
-use Rattle.count.specs.declared.Checked.the-variants as C
 use Rattle.date.specs.Due as Letters
 use Rattle.date.specs.declared.Date.{Date}
 use Rattle.date.specs.declared.Dated.the-variants.{Right, Wrong}
-use Rattle.writing.specs.declared.Writing.{Writing}
-use Rattle.writing.specs.declared.Writing.the-variants.{Done, Misformed, OtherRelease, FilledVacant, BrokenRule, OtherLength, NoField, BadDate, NoRoom}
+use Rattle.reply.specs.declared.Answer.{Answer}
+use Rattle.reply.specs.declared.Answer.the-variants.{Done, Refused}
+use Rattle.reply.specs.declared.Refusal.{Refusal}
+use Rattle.reply.specs.declared.Refusal.the-variants.{NoField, BadDate, NoRoom}
 use Rattle.writing.specs.Text.{recordBytes}
 use Rattle.writing.specs.Writing.{dateLetters}
 
@@ -68,22 +69,22 @@ module _ (ns : List ℕ) (cs : List ℤ) where
     pub wrong : Letters.Due (dateLetters ns cs) (Wrong p)
 
   -- R305: 11, the canonical text is longer than the output; R306: 0, it is not
-  pub record Short (room : ℕ) : Type 0 where
+  pub record OutputShort (room : ℕ) : Type 0 where
     pub date : HasDate
     pub short : room < recordBytes ns
 
-  pub record Stands (room n : ℕ) : Type 0 where
+  pub record TextFits (room n : ℕ) : Type 0 where
     pub date : HasDate
     pub enough : recordBytes ns ≤ room
     pub bytes : n ≡ recordBytes ns
 
-  abbrev pub Due : ℕ → Writing → Type 0
-  Due room Misformed = Counts.Due ns (length cs) C.Misformed
-  Due room OtherRelease = Counts.Due ns (length cs) C.OtherRelease
-  Due room (FilledVacant g) = Counts.Due ns (length cs) (C.FilledVacant g)
-  Due room (BrokenRule g) = Counts.Due ns (length cs) (C.BrokenRule g)
-  Due room OtherLength = Counts.Due ns (length cs) C.OtherLength
-  Due room (NoField g e) = LowestNone g e
-  Due room (BadDate p) = WrongDate p
-  Due room NoRoom = Short room
-  Due room (Done n) = Stands room n
+  -- what writing refuses with, and when
+  pub data RefusedFor (room : ℕ) : Refusal → Type 0 where
+    wrong-counts : (r : Refusal) → Counts.RefusedFor ns (length cs) r → RefusedFor room r
+    no-field : (g e : ℕ) → LowestNone g e → RefusedFor room (NoField g e)
+    bad-date : (p : ℕ) → WrongDate p → RefusedFor room (BadDate p)
+    no-room : OutputShort room → RefusedFor room NoRoom
+
+  abbrev pub Due : ℕ → Answer → Type 0
+  Due room (Done n) = TextFits room n
+  Due room (Refused r) = RefusedFor room r

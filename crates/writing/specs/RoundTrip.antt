@@ -10,7 +10,7 @@ use Rattle.count.specs.Tally.{cellsIn, cellsBefore}
 use Rattle.place.specs.declared.Placing.the-variants.{Placed}
 use Rattle.place.specs.Placing.{placingOf, countsAt}
 use Rattle.group.specs.Text.{readAt}
-use Rattle.writing.specs.declared.Writing.the-variants.{Done}
+use Rattle.reply.specs.declared.Answer.the-variants.{Done}
 use Rattle.writing.specs.Canonical.{CanonicalRecord}
 use Rattle.writing.specs.Text.{recordText, recordBytes}
 use Rattle.writing.specs.Writing.{writingOf}

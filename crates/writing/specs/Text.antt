@@ -44,8 +44,8 @@ unfoldable pub lineText : Form → Line → List ℤ → List ℕ
 lineText f l cs = fieldsText f l cs ++ lineEnd
 
 -- a line of k elements: where it stands in its group makes no difference to its text (`line-any` in proofs/Putting)
-abbrev pub lineOf : ℕ → Line
-lineOf k = record { number = 1; first = 1; many = k }
+abbrev pub lineOfMany : ℕ → Line
+lineOfMany k = record { number = 1; first = 1; many = k }
 
 unfoldable pub linesText : Form → ℕ → List ℤ → List ℕ
 linesText f count cs = emit (lineCells f) (lineText f) (planOf f count) cs

@@ -1,6 +1,8 @@
 // Writing a record: counts and cells to canonical text. All is checked first, and a byte is written only when nothing is refused (R307).
-use count::Checked;
 use form::Form;
+use reply::Answer;
+use reply::Checked;
+use reply::Refusal;
 ghost use mathlib.Core.Path.{_≡_};
 ghost use mathlib.Core.List.{_++_, map};
 ghost use Prim.Native.Nat.{_+_, _*_, _≤_};
@@ -16,36 +18,14 @@ ghost use Rattle.count.specs.Check.{checkedOf};
 ghost use Rattle.count.specs.Tally.{cellsBefore};
 ghost use Rattle.date.specs.Date.{datedOf};
 ghost use Rattle.writing.specs.Fitting.{elementsFit, fitOf, Fitted};
-ghost use Rattle.writing.specs.Text.{lineEnd, entriesText, indexText, lineOf, fieldsText, linesText, groupsText};
-ghost use Rattle.writing.specs.Text.{recordText, bytesOf, recordBytes};
-ghost use Rattle.writing.specs.Writing.{dateLetters, writeFit, writeRoom, writingOf, outputBy, writingReply};
+ghost use Rattle.writing.specs.Text.{lineEnd, entriesText, indexText, lineOfMany, fieldsText, linesText};
+ghost use Rattle.writing.specs.Text.{groupsText, recordText, bytesOf, recordBytes};
+ghost use Rattle.writing.specs.Writing.{dateLetters, writeFit, writeRoom, writingOf, outputBy};
 
 // R303: each element's cells have a field of their form, or the group and the element of the first that have none.
 enum Fit {
     All,
     Not(usize, usize),
-}
-
-// R301: what writing a record answers, 0 with the number of bytes, or why nothing was written.
-pub enum Writing {
-    // 0
-    Done(usize),
-    // 4
-    Misformed,
-    // 5
-    OtherRelease,
-    // 6, with the lowest vacant number that has a count
-    FilledVacant(usize),
-    // 7, with the blamed group
-    BrokenRule(usize),
-    // 14
-    OtherLength,
-    // 13, with the group and the element
-    NoField(usize, usize),
-    // 10, with the position blamed
-    BadDate(usize),
-    // 11
-    NoRoom,
 }
 
 // ---- Checking.
@@ -221,7 +201,7 @@ fn put_fields(
     requires room { ⌜ at + many * rowOf form .width ≤ length (now out) ⌝ }
     ensures answer { λ r. ⌜ r ≡ at + many * rowOf form .width ⌝ }
     ensures output { λ _. ⌜ now (out .exit) ≡
-        over at (fieldsText form (lineOf many) (drop from (now (cells .entry)))) (now (out .entry)) ⌝ }
+        over at (fieldsText form (lineOfMany many) (drop from (now (cells .entry)))) (now (out .entry)) ⌝ }
 {
     let width = row.width;
     let size = row.cells;
@@ -303,7 +283,7 @@ pub fn put_record(counts: &[u16], cells: &[i64], out: &mut [u8])
 }
 
 // R305, R306: counts and cells that are right in all but the room for their text: 11, and only then the output.
-fn write_right(counts: &[u16], cells: &[i64], out: &mut [u8]) -> Writing
+fn write_right(counts: &[u16], cells: &[i64], out: &mut [u8]) -> Answer
     requires checked { ⌜ checkedOf (now counts) (length (now cells)) ≡ Checked.Right ⌝ }
     requires fits { ⌜ fitOf (now counts) (now cells) ≡ Fit.All ⌝ }
     ensures answer { λ r. ⌜ r ≡ writeRoom (now (counts .entry)) (length (now (out .entry))) ⌝ }
@@ -312,14 +292,14 @@ fn write_right(counts: &[u16], cells: &[i64], out: &mut [u8]) -> Writing
 {
     let n = canonical_length(counts);
     if out.len() < n {
-        return Writing::NoRoom;
+        return Answer::Refused(Refusal::NoRoom);
     }
     put_record(counts, cells, out);
-    Writing::Done(n)
+    Answer::Done(n)
 }
 
 // R303 to R305: counts and a table's length that are right: 13, 10, 11.
-fn write_checked(counts: &[u16], cells: &[i64], out: &mut [u8]) -> Writing
+fn write_checked(counts: &[u16], cells: &[i64], out: &mut [u8]) -> Answer
     requires { ⌜ checkedOf (now counts) (length (now cells)) ≡ Checked.Right ⌝ }
     ensures answer { λ r. ⌜ r ≡
         writeFit (now (counts .entry)) (now (cells .entry)) (length (now (out .entry)))
@@ -328,9 +308,9 @@ fn write_checked(counts: &[u16], cells: &[i64], out: &mut [u8]) -> Writing
         outputBy (now (counts .entry)) (now (cells .entry)) r (now (out .entry)) ⌝ }
 {
     match cells_fit(counts, cells) {
-        Fit::Not(g, e) => Writing::NoField(g, e),
+        Fit::Not(g, e) => Answer::Refused(Refusal::NoField(g, e)),
         Fit::All => match date_of(counts, cells) {
-            date::Dated::Wrong(position) => Writing::BadDate(position),
+            date::Dated::Wrong(position) => Answer::Refused(Refusal::BadDate(position)),
             date::Dated::Right(_) => write_right(counts, cells, out),
         },
     }
@@ -338,34 +318,13 @@ fn write_checked(counts: &[u16], cells: &[i64], out: &mut [u8]) -> Writing
 
 // R300 to R307: writes the canonical text of counts and of the cells of all groups to the front of the output, and answers 0 with its length;
 // or answers the first of 4, 5, 6, 7, 14, 13, 10 and 11 that is due, and alters no byte. What stands behind the text stays.
-pub fn write_record(counts: &[u16], cells: &[i64], out: &mut [u8]) -> Writing
+pub fn write_record(counts: &[u16], cells: &[i64], out: &mut [u8]) -> Answer
     ensures answer { λ r. ⌜ r ≡ writingOf (now (counts .entry)) (now (cells .entry)) (length (now (out .entry))) ⌝ }
     ensures output { λ r. ⌜ now (out .exit) ≡
         outputBy (now (counts .entry)) (now (cells .entry)) r (now (out .entry)) ⌝ }
 {
     match count::check(counts, cells.len()) {
         Checked::Right => write_checked(counts, cells, out),
-        Checked::Misformed => Writing::Misformed,
-        Checked::OtherRelease => Writing::OtherRelease,
-        Checked::FilledVacant(g) => Writing::FilledVacant(g),
-        Checked::BrokenRule(g) => Writing::BrokenRule(g),
-        Checked::OtherLength => Writing::OtherLength,
-    }
-}
-
-// The answer's number in R200 to R214, with the numbers given besides.
-pub fn reply_of(answer: Writing) -> reply::Reply
-    ensures { λ r. ⌜ r ≡ writingReply answer ⌝ }
-{
-    match answer {
-        Writing::Done(bytes) => reply::done(bytes),
-        Writing::Misformed => reply::plain(4),
-        Writing::OtherRelease => reply::plain(5),
-        Writing::FilledVacant(g) => reply::on_group(6, g),
-        Writing::BrokenRule(g) => reply::on_group(7, g),
-        Writing::OtherLength => reply::plain(14),
-        Writing::NoField(g, e) => reply::no_field(g, e),
-        Writing::BadDate(position) => reply::bad_date(position),
-        Writing::NoRoom => reply::plain(11),
+        Checked::Refused(why) => Answer::Refused(why),
     }
 }

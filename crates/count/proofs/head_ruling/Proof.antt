@@ -11,7 +11,20 @@ returns : tie.Need-returns
 unfolding lowest headRules
 returns c =
     c .lower-of3 .ensures
-    ∙ rw (c .before .lower-of2 .ensures, c .before .before .lower-of .ensures, c .before .before .before .ruled4 .ensures, c .before .before .before .before .within .ensures, c .before .before .before .before .before .count-of4 .ensures, c .before .before .before .before .before .before .ruled3 .ensures, c .before .before .before .before .before .before .before .count-of3 .ensures, c .before .before .before .before .before .before .before .before .ruled2 .ensures, c .before .before .before .before .before .before .before .before .before .count-of2 .ensures, c .before .before .before .before .before .before .before .before .before .before .ruled .ensures, c .before .before .before .before .before .before .before .before .before .before .before .count-of .ensures, lower-kept)
+    ∙ rw (
+      c .before .lower-of2 .ensures,
+      c .before .before .lower-of .ensures,
+      c .before .before .before .ruled4 .ensures,
+      c .before .before .before .before .within .ensures,
+      c .before .before .before .before .before .count-of4 .ensures,
+      c .before .before .before .before .before .before .ruled3 .ensures,
+      c .before .before .before .before .before .before .before .count-of3 .ensures,
+      c .before .before .before .before .before .before .before .before .ruled2 .ensures,
+      c .before .before .before .before .before .before .before .before .before .count-of2 .ensures,
+      c .before .before .before .before .before .before .before .before .before .before .ruled .ensures,
+      c .before .before .before .before .before .before .before .before .before .before .before .count-of .ensures,
+      lower-kept,
+    )
 
 pub head-ruling-spec : {M : Type 1} → statement M
 head-ruling-spec =

@@ -23,17 +23,21 @@ returns : tie.Need-returns Inv-loop μ-loop
 returns c =
     let l = c .before .before .before .before .loop in
     let same = rw (c .before .before .count-of .ensures) at (c .before .differs .ensures) in
-    sym (seen-differs (c .before .before .before .before .before .before .args .counts .now) (c .before .before .before .before .before .before .args .set) (l .seen) (l .g) (l .inv) (c .before .before .before .loop-test .taken) (sym same ∙ c .if1 .taken))
+    sym (seen-differs (c .before .before .before .before .before .before .args .counts .now) (c .before .before .before .before .before .before .args .set) (l .seen) (l .g)
+    (l .inv) (c .before .before .before .loop-test .taken) (sym same ∙ c .if1 .taken))
 
 loop-again : tie.Need-loop-again Inv-loop μ-loop
 loop-again c =
     let l = c .before .before .before .before .before .loop in
     let same = rw (c .before .before .before .count-of .ensures) at (c .before .before .differs .ensures) in
     rw (c .settled .ensures, c .before .before .before .count-of .ensures)
-    (seen-more (c .before .before .before .before .before .before .before .args .counts .now) (c .before .before .before .before .before .before .before .args .set) (l .seen) (l .g) (l .inv) (c .before .before .before .before .loop-test .taken) (sym same ∙ c .before .if1 .left))
+    (seen-more (c .before .before .before .before .before .before .before .args .counts .now) (c .before .before .before .before .before .before .before .args .set) (l .seen)
+    (l .g) (l .inv) (c .before .before .before .before .loop-test .taken) (sym same ∙ c .before .if1 .left))
 
 -- what the loop leaves
-ended : (c : tie.After-loop Inv-loop μ-loop) → keeps (c .before .before .before .args .counts .now) (c .before .before .before .args .set) ≡ endsSeen (c .before .before .before .args .counts .now) (c .before .before .before .args .set) (c .before .loop .seen)
+ended : (c : tie.After-loop Inv-loop μ-loop)
+    → keeps (c .before .before .before .args .counts .now) (c .before .before .before .args .set) ≡ endsSeen (c .before .before .before .args .counts .now)
+    (c .before .before .before .args .set) (c .before .loop .seen)
 ended c =
     let o = c .before .before .before in
     seen-end (o .args .counts .now) (o .args .set) (c .before .loop .seen) (c .before .loop .g) (c .before .loop .inv) (omega arith)
@@ -54,7 +58,14 @@ returns-5 : tie.Need-returns-5 Inv-loop μ-loop
 returns-5 c =
     sym
     (ended (c .before .before .before .before .before .before)
-    ∙ rw (c .before .before .before .before .if2 .left, ne-eqb _ _ (c .before .before .before .if3 .left), ← c .before .before .count-of2 .ensures, ne-eqb _ _ (c .before .if4 .left), ← c .count-of3 .ensures))
+    ∙ rw (
+      c .before .before .before .before .if2 .left,
+      ne-eqb _ _ (c .before .before .before .if3 .left),
+      ← c .before .before .count-of2 .ensures,
+      ne-eqb _ _
+          (c .before .if4 .left),
+      ← c .count-of3 .ensures,
+    ))
 
 pub kept-by-spec : {M : Type 1} → statement M
 kept-by-spec =

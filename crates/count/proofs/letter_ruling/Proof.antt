@@ -11,7 +11,16 @@ returns : tie.Need-returns
 unfolding lowest letterRules
 returns c =
     c .lower-of .ensures
-    ∙ rw (c .before .ruled2 .ensures, c .before .before .zero-or2 .ensures, c .before .before .before .count-of3 .ensures, c .before .before .before .before .ruled .ensures, c .before .before .before .before .before .zero-or .ensures, c .before .before .before .before .before .before .count-of2 .ensures, c .before .before .before .before .before .before .before .count-of .ensures, lower-kept)
+    ∙ rw (
+      c .before .ruled2 .ensures,
+      c .before .before .zero-or2 .ensures,
+      c .before .before .before .count-of3 .ensures,
+      c .before .before .before .before .ruled .ensures,
+      c .before .before .before .before .before .zero-or .ensures,
+      c .before .before .before .before .before .before .count-of2 .ensures,
+      c .before .before .before .before .before .before .before .count-of .ensures,
+      lower-kept,
+    )
 
 pub letter-ruling-spec : {M : Type 1} → statement M
 letter-ruling-spec =

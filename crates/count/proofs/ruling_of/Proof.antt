@@ -13,7 +13,14 @@ unfolding rulingOf
 returns c =
     let ns = c .before .before .before .before .before .before .args .counts .now in
     c .lower-of2 .ensures
-    ∙ rw (c .before .lower-of .ensures, c .before .before .letter-ruling .ensures, c .before .before .before .set-ruling .ensures, c .before .before .before .before .head-ruling .ensures, lowest-append (headRules ns) (map (setRule ns) sets ++ letterRules ns), lowest-append (map (setRule ns) sets) (letterRules ns))
+    ∙ rw (
+      c .before .lower-of .ensures,
+      c .before .before .letter-ruling .ensures,
+      c .before .before .before .set-ruling .ensures,
+      c .before .before .before .before .head-ruling .ensures,
+      lowest-append (headRules ns) (map (setRule ns) sets ++ letterRules ns),
+      lowest-append (map (setRule ns) sets) (letterRules ns),
+    )
 
 pub ruling-of-spec : {M : Type 1} → statement M
 ruling-of-spec =

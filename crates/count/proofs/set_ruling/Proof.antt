@@ -33,7 +33,8 @@ loop-again c =
     let l = c .before .before .before .before .before .loop in (
       omega arith,
       rw (c .lower-of .ensures, c .before .ruled .ensures, c .before .before .kept-by .ensures)
-          (sym (lowest-more (setRule (c .before .before .before .before .before .before .before .args .counts .now)) (set 0 0 false) sets (l .low) (l .k) (c .before .before .before .before .loop-test .taken)) ∙ l .inv .1),
+          (sym (lowest-more (setRule (c .before .before .before .before .before .before .before .args .counts .now)) (set 0 0 false) sets (l .low) (l .k)
+          (c .before .before .before .before .loop-test .taken)) ∙ l .inv .1),
     )
 
 returns : tie.Need-returns Inv-loop μ-loop

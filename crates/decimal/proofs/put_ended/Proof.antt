@@ -15,8 +15,11 @@ put-numeral-requires c κs = (c .before .digits .ensures, omega (arith, c .befor
 returns : tie.Need-returns
 returns c =
     let o = c .before .before .before .before .before .before in
-    let e = c .before .before .before .before .digits .ensures in
-    (ap (λ k. o .args .at + (k + 1)) e, over-last (o .args .out .now) (c .before .before .put-numeral .last .0) (numeral (o .args .n)) (o .args .at) (c .before .before .before .before .digits .result) (o .args .end) e (omega (arith, e, o .pre)) (c .before .before .put-numeral .ensures))
+    let e = c .before .before .before .before .digits .ensures in (
+      ap (λ k. o .args .at + (k + 1)) e,
+      over-last (o .args .out .now) (c .before .before .put-numeral .last .0) (numeral (o .args .n)) (o .args .at)
+          (c .before .before .before .before .digits .result) (o .args .end) e (omega (arith, e, o .pre)) (c .before .before .put-numeral .ensures),
+    )
 
 pub put-ended-spec : {M : Type 1} → statement M
 put-ended-spec =

@@ -15,10 +15,13 @@ use Rattle.decimal.proofs.put_row.Tie as tie
 returns : tie.Need-returns
 returns c = puts-none _ _ _ (end-full _ _ _ (sym (c .before .before .row-end .ensures) ∙ c .enum-told .given .1))
 
-room : (c : tie.After-known-told) → (let a = c .before .before .before .before .before .before .before .args in let n = c .before .end .given .0 .0 in (n ≡ a .at + length (a .first .now) + length (rowText (a .numbers .now))) × (n ≤ length (a .out .now)))
+room : (c : tie.After-known-told)
+    → (let a = c .before .before .before .before .before .before .before .args in let n = c .before .end .given .0 .0 in (n ≡ a .at + length (a .first .now) + length
+    (rowText (a .numbers .now))) × (n ≤ length (a .out .now)))
 room c =
     let a = c .before .before .before .before .before .before .before .args in
-    let e = end-next (a .at) (length (a .first .now ++ rowText (a .numbers .now))) (c .before .end .given .0 .0) (length (a .out .now)) (sym (c .before .before .before .row-end .ensures) ∙ c .before .end .given .1) in
+    let e = end-next (a .at) (length (a .first .now ++ rowText (a .numbers .now))) (c .before .end .given .0 .0) (length (a .out .now))
+    (sym (c .before .before .before .row-end .ensures) ∙ c .before .end .given .1) in
     (omega (arith, e .0, length-append (a .first .now) (rowText (a .numbers .now))), e .1)
 
 put-text-requires : tie.Need-put-text-requires
@@ -38,7 +41,8 @@ returns-2 : tie.Need-returns-2
 returns-2 c =
     let a = c .before .before .before .before .before .before .before .before .before .before .before .before .before .before .before .args in
     let r = room (c .before .before .before .before .before .before .before .before) in
-    puts-joined _ _ _ (a .first .now) (rowText (a .numbers .now)) _ _ _ refl (omega (arith, r .0)) (omega (arith, r .0, r .1)) (c .before .before .before .before .before .before .put-text .ensures) (c .before .before .put-numbers .ensures)
+    puts-joined _ _ _ (a .first .now) (rowText (a .numbers .now)) _ _ _ refl (omega (arith, r .0)) (omega (arith, r .0, r .1))
+    (c .before .before .before .before .before .before .put-text .ensures) (c .before .before .put-numbers .ensures)
 
 pub put-row-spec : {M : Type 1} → statement M
 put-row-spec =

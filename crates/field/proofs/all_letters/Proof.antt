@@ -22,14 +22,18 @@ abbrev μ-loop : tie.MeasureT-loop
 loop-again : tie.Need-loop-again Inv-loop μ-loop
 loop-again c =
     let l = c .before .before .before .before .loop in
-    let e = toZ-ofZ {w = w64} {z = getD (c .before .before .before .before .before .args .cells .now) (l .i) (pos 0)} (sfits-of {w = w64} (c .before .before .is-letter-arg .given)) in
-    (omega arith, every-passed isLetter (pos 0) (c .before .before .before .before .before .args .cells .now) (l .i) (c .before .before .before .loop-test .taken) (sym (c .before .is-letter .ensures ∙ ap isLetter e) ∙ c .if1 .taken) ∙ l .inv .1)
+    let e = toZ-ofZ {w = w64} {z = getD (c .before .before .before .before .before .args .cells .now) (l .i) (pos 0)} (sfits-of {w = w64} (c .before .before .is-letter-arg .given)) in (
+      omega arith,
+      every-passed isLetter (pos 0) (c .before .before .before .before .before .args .cells .now) (l .i) (c .before .before .before .loop-test .taken)
+          (sym (c .before .is-letter .ensures ∙ ap isLetter e) ∙ c .if1 .taken) ∙ l .inv .1,
+    )
 
 returns : tie.Need-returns Inv-loop μ-loop
 returns c =
     let l = c .before .before .before .before .loop in
     let e = toZ-ofZ {w = w64} {z = getD (c .before .before .before .before .before .args .cells .now) (l .i) (pos 0)} (sfits-of {w = w64} (c .before .before .is-letter-arg .given)) in
-    sym (every-failed isLetter (pos 0) (c .before .before .before .before .before .args .cells .now) (l .i) (c .before .before .before .loop-test .taken) (sym (c .before .is-letter .ensures ∙ ap isLetter e) ∙ c .if1 .left)) ∙ l .inv .1
+    sym (every-failed isLetter (pos 0) (c .before .before .before .before .before .args .cells .now) (l .i) (c .before .before .before .loop-test .taken)
+    (sym (c .before .is-letter .ensures ∙ ap isLetter e) ∙ c .if1 .left)) ∙ l .inv .1
 
 returns-2 : tie.Need-returns-2 Inv-loop μ-loop
 returns-2 c =

@@ -18,13 +18,17 @@ abbrev μ-loop : tie.MeasureT-loop
 
 loop-again : tie.Need-loop-again Inv-loop μ-loop
 loop-again c =
-    let l = c .before .before .before .before .loop in
-    (omega arith, every-passed printable 0 (c .before .before .before .before .before .before .args .s .now) (l .i) (c .before .before .before .loop-test .taken) (sym (c .before .is-printable .ensures) ∙ c .if1 .taken) ∙ l .inv .1)
+    let l = c .before .before .before .before .loop in (
+      omega arith,
+      every-passed printable 0 (c .before .before .before .before .before .before .args .s .now) (l .i) (c .before .before .before .loop-test .taken)
+          (sym (c .before .is-printable .ensures) ∙ c .if1 .taken) ∙ l .inv .1,
+    )
 
 returns : tie.Need-returns Inv-loop μ-loop
 returns c =
     let l = c .before .before .before .before .loop in
-    sym (every-failed printable 0 (c .before .before .before .before .before .before .args .s .now) (l .i) (c .before .before .before .loop-test .taken) (sym (c .before .is-printable .ensures) ∙ c .if1 .left)) ∙ l .inv .1
+    sym (every-failed printable 0 (c .before .before .before .before .before .before .args .s .now) (l .i) (c .before .before .before .loop-test .taken)
+    (sym (c .before .is-printable .ensures) ∙ c .if1 .left)) ∙ l .inv .1
 
 returns-2 : tie.Need-returns-2 Inv-loop μ-loop
 returns-2 c =

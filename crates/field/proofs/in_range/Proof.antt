@@ -4,22 +4,22 @@ use mathlib.Core.Path.{sym, ap, _∙_}
 use native.Mathlib.Omega.{arith}
 use mir.Syntax.{w64}
 use mir.Facts.{toZ-ofZ}
-use Rattle.field.specs.Kind.{countOf}
+use Rattle.field.specs.Kind.{kindCells}
 use Rattle.field.specs.Write.{cellAt}
 use Rattle.field.proofs.in_range.Statement.{statement}
 use Rattle.field.proofs.in_range.Tie as tie
 
 shared-slice-copy-out-within : tie.Need-shared-slice-copy-out-within
-shared-slice-copy-out-within c = let n = ap countOf (c .before .kind .given .1) in omega (arith, c .before .before .before .pre)
+shared-slice-copy-out-within c = let n = ap kindCells (c .before .kind .given .1) in omega (arith, c .before .before .before .pre)
 
 shared-slice-copy-out-within-2 : tie.Need-shared-slice-copy-out-within-2
-shared-slice-copy-out-within-2 c = let n = ap countOf (c .before .kind2 .given .1) in omega (arith, c .before .before .before .pre)
+shared-slice-copy-out-within-2 c = let n = ap kindCells (c .before .kind2 .given .1) in omega (arith, c .before .before .before .pre)
 
 shared-slice-copy-out-within-3 : tie.Need-shared-slice-copy-out-within-3
-shared-slice-copy-out-within-3 c = let n = ap countOf (c .before .kind3 .given .1) in omega (arith, c .before .before .before .pre)
+shared-slice-copy-out-within-3 c = let n = ap kindCells (c .before .kind3 .given .1) in omega (arith, c .before .before .before .pre)
 
 shared-slice-copy-out-within-4 : tie.Need-shared-slice-copy-out-within-4
-shared-slice-copy-out-within-4 c = let n = ap countOf (c .before .before .before .before .kind3 .given .1) in omega (arith, c .before .before .before .before .before .before .pre)
+shared-slice-copy-out-within-4 c = let n = ap kindCells (c .before .before .before .before .kind3 .given .1) in omega (arith, c .before .before .before .before .before .before .pre)
 
 returns : tie.Need-returns
 returns c =

@@ -4,7 +4,7 @@ use borrow.Author.Needs.{needs}
 use native.Mathlib.Omega.{arith}
 use mathlib.Core.Path.{sym, ap, _∙_}
 use Rattle.base.specs.Part.{over}
-use Rattle.field.specs.Kind.{widthOf, countOf}
+use Rattle.field.specs.Kind.{widthOf, kindCells}
 use Rattle.field.specs.Write.{textAs, fieldText}
 use Rattle.field.proofs.Forms.{kind-width, kind-small}
 use Rattle.field.proofs.Fitting.{fits-counted, fits-range}
@@ -16,7 +16,7 @@ put-as-requires c κs =
     let a = c .before .before .before .args in
     let k = c .before .kind-of .ensures in
     let p = c .before .before .before .pre in (
-      fits-counted (a .form) (a .cells .now) (p .0) ∙ ap countOf (sym k),
+      fits-counted (a .form) (a .cells .now) (p .0) ∙ ap kindCells (sym k),
       (
         rw k (fits-range (a .form) (a .cells .now) (p .0)),
         (

@@ -29,7 +29,8 @@ returns-2 : tie.Need-returns-2
 unfolding fieldOf
 returns-2 c =
     let o = c .before .before .before .before .before in
-    rw (eq-eqb (length (o .args .field .now)) (rowOf (o .args .form) .width) (c .before .if1 .left ∙ width (c .before .before))) (c .read-as .ensures ∙ ap (λ k. readAs k (o .args .field .now)) (c .before .before .before .kind-of .ensures))
+    rw (eq-eqb (length (o .args .field .now)) (rowOf (o .args .form) .width) (c .before .if1 .left ∙ width (c .before .before)))
+    (c .read-as .ensures ∙ ap (λ k. readAs k (o .args .field .now)) (c .before .before .before .kind-of .ensures))
 
 pub read-spec : {M : Type 1} → statement M
 read-spec =

@@ -8,10 +8,12 @@ use Rattle.field.proofs.read_as.Statement.{statement}
 use Rattle.field.proofs.read_as.Tie as tie
 
 read-i-requires : tie.Need-read-i-requires
-read-i-requires c κs = let k = subst Small (c .enum-told .given .1) (c .before .before .before .pre .1) in let w = ap widthOf (c .enum-told .given .1) in omega (arith, c .before .before .before .pre .0)
+read-i-requires c κs = let k = subst Small (c .enum-told .given .1) (c .before .before .before .pre .1) in let w =
+    ap widthOf (c .enum-told .given .1) in omega (arith, c .before .before .before .pre .0)
 
 read-f-requires : tie.Need-read-f-requires
-read-f-requires c κs = let k = subst Small (c .enum-told2 .given .1) (c .before .before .before .pre .1) in let w = ap widthOf (c .enum-told2 .given .1) in omega (arith, c .before .before .before .pre .0)
+read-f-requires c κs = let k = subst Small (c .enum-told2 .given .1) (c .before .before .before .pre .1) in let w =
+    ap widthOf (c .enum-told2 .given .1) in omega (arith, c .before .before .before .pre .0)
 
 read-e-requires : tie.Need-read-e-requires
 read-e-requires c κs = subst Small (c .before .kind .given .1) (c .before .before .before .before .pre .1)

@@ -11,7 +11,8 @@ use Rattle.form.proofs.cells.Tie as tie
 
 mul-result : tie.Need-mul-result
 mul-result c =
-    let few : c .before .before .elements .result ≤ 65535 = omega (arith, elements-few (c .before .before .before .args .form) (c .before .before .before .args .count) (omega arith), c .before .before .elements .ensures) in
+    let few : c .before .before .elements .result ≤ 65535 =
+    omega (arith, elements-few (c .before .before .before .args .form) (c .before .before .before .args .count) (omega arith), c .before .before .elements .ensures) in
     record { fits = omega (arith, mul-le-mul few (fits-by (c .before .before .before .args .form) (c .before .row-of .ensures) .few-cells)) }
 
 returns : tie.Need-returns

@@ -8,7 +8,9 @@ use Rattle.form.proofs.form_in.Statement.{statement}
 use Rattle.form.proofs.form_in.Tie as tie
 
 returns : tie.Need-returns
-returns c = absurd (has-form (c .before .before .before .args .group) (omega (arith, c .before .before .before .pre .0)) (omega (arith, c .before .before .before .pre .1)) (sym (c .before .before .form-of .ensures) ∙ c .enum-told .given .1))
+returns c =
+    absurd (has-form (c .before .before .before .args .group) (omega (arith, c .before .before .before .pre .0)) (omega (arith, c .before .before .before .pre .1))
+    (sym (c .before .before .form-of .ensures) ∙ c .enum-told .given .1))
 
 returns-2 : tie.Need-returns-2
 returns-2 c = sym (c .before .before .before .form-of .ensures) ∙ c .before .form .given .1

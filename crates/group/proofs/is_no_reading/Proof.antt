@@ -18,7 +18,8 @@ returns c =
 returns-2 : tie.Need-returns-2
 returns-2 c =
     let e = toZ-ofZ {w = w64} (c .before .before .before .fits .v) in
-    ap (λ n. eqb n 9999000) (c .before .before .signed .ensures .1 ∙ ap sizeOf e) ∙ sym (natural-reads (c .before .before .before .args .v) (sym (c .before .before .signed .ensures .0 ∙ ap negative e) ∙ c .before .if1 .left))
+    ap (λ n. eqb n 9999000) (c .before .before .signed .ensures .1 ∙ ap sizeOf e)
+    ∙ sym (natural-reads (c .before .before .before .args .v) (sym (c .before .before .signed .ensures .0 ∙ ap negative e) ∙ c .before .if1 .left))
 
 pub is-no-reading-spec : {M : Type 1} → statement M
 is-no-reading-spec = tie.close (tie.spec (λ c κs. search needs) returns returns-2)

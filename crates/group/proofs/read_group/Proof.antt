@@ -5,14 +5,16 @@ use native.Mathlib.Omega.{arith}
 use mathlib.Core.Path.{_≡_, sym, _∙_}
 use Prim.Native.Nat.{_≤_}
 use lib.ListN.{length}
-use Rattle.group.specs.declared.Found.the-variants.{Given}
+use Rattle.reply.specs.declared.Checked.the-variants as C
 use Rattle.group.specs.Held.{foundAt}
 use Rattle.group.proofs.Holding.{held-kept, held-range}
 use Rattle.group.proofs.Texts.{text-missing, text-given}
 use Rattle.group.proofs.read_group.Statement.{statement}
 use Rattle.group.proofs.read_group.Tie as tie
 
-given : (c : tie.After-span-of) → foundAt (c .before .before .before .before .before .before .before .args .text .now) (c .before .before .before .before .before .before .before .args .at) (c .before .before .before .before .before .before .before .args .group) ≡ Given
+given : (c : tie.After-span-of)
+    → foundAt (c .before .before .before .before .before .before .before .args .text .now) (c .before .before .before .before .before .before .before .args .at)
+    (c .before .before .before .before .before .before .before .args .group) ≡ C.Right
 given c = sym (c .before .before .before .before .before .held-at .ensures .0) ∙ c .before .before .before .enum-told .given .1
 
 range : (c : tie.After-span-of) → (c .span-of .result .from ≤ c .span-of .result .to) × (c .span-of .result .to ≤ length (c .before .before .before .before .before .before .before .args .text .now))
@@ -42,7 +44,9 @@ returns c =
 returns-2 : tie.Need-returns-2
 returns-2 c =
     let o = c .before .before .before .before .before .before .before .before .before .before .before .before in
-    text-given (o .args .text .now) (o .args .at) (o .args .group) (o .args .table .now) (sym (given (c .before .before .before .before .before))) _ (c .before .before .before .before .before .before .before .before .before .before .held-at .ensures .1) _ _ (c .before .before .before .before .before .span-of .ensures) (c .before .read-kept .ensures)
+    text-given (o .args .text .now) (o .args .at) (o .args .group) (o .args .table .now) (sym (given (c .before .before .before .before .before))) _
+    (c .before .before .before .before .before .before .before .before .before .before .held-at .ensures .1) _ _ (c .before .before .before .before .before .span-of .ensures)
+    (c .before .read-kept .ensures)
 
 pub read-group-spec : {M : Type 1} → statement M
 read-group-spec =

@@ -28,7 +28,9 @@ abbrev μ-loop : tie.MeasureT-loop
 loop-holds : tie.Need-loop-holds Inv-loop μ-loop
 loop-holds c = (omega arith, spot-start _, ap (λ t. endIn 0 (length t) (c .before .args .size)) (lines-all (c .before .args .text .now)))
 
-met : (c : tie.After-is-placed Inv-loop μ-loop) → (let s = c .before .before .before .before .before .args .text .now in let l = c .before .before .before .loop in let p = c .before .before .place .result in Met s (l .k) (l .at) (p .answer) (p .counts) (c .before .reply-of .result .next) (c .is-placed .result))
+met : (c : tie.After-is-placed Inv-loop μ-loop)
+    → (let s = c .before .before .before .before .before .args .text .now in let l = c .before .before .before .loop in let p = c .before .before .place .result in Met s (l .k)
+    (l .at) (p .answer) (p .counts) (c .before .reply-of .result .next) (c .is-placed .result))
 met c =
     let l = c .before .before .before .loop in
     let p = c .before .before .place in
@@ -46,12 +48,15 @@ returns : tie.Need-returns Inv-loop μ-loop
 returns c =
     let s = c .before .before .before .before .before .before .before .before .before .before .args .text .now in
     let l = c .before .before .before .before .before .before .before .before .loop in
-    end-stops s (l .k) (l .a) _ _ (l .inv .2) _ _ (met-last (met (c .before .before .before .before .before)) (not-true _ (c .before .before .before .before .if1 .taken)) (c .before .before .before .end-row .ensures)) (c .row-end .ensures)
+    end-stops s (l .k) (l .a) _ _ (l .inv .2) _ _
+    (met-last (met (c .before .before .before .before .before)) (not-true _ (c .before .before .before .before .if1 .taken)) (c .before .before .before .end-row .ensures)) (c .row-end .ensures)
 
 add-record-row : tie.Need-add-record-row Inv-loop μ-loop
 add-record-row c = omega (arith, c .before .before .before .before .before .loop .inv .0, records-bytes (c .before .before .before .before .before .before .before .args .text .now))
 
-more : (c : tie.After-record-row Inv-loop μ-loop) → (let l = c .before .before .before .before .before .before .before .loop in More (c .before .before .before .before .before .before .before .before .before .args .text .now) (l .k) (l .at) (c .record-row .result) (c .before .before .before .before .before .reply-of .result .next))
+more : (c : tie.After-record-row Inv-loop μ-loop)
+    → (let l = c .before .before .before .before .before .before .before .loop in More (c .before .before .before .before .before .before .before .before .before .args .text .now)
+    (l .k) (l .at) (c .record-row .result) (c .before .before .before .before .before .reply-of .result .next))
 more c = met-more (met (c .before .before .before .before)) (not-false _ (c .before .before .before .if1 .left)) (c .record-row .ensures)
 
 returns-2 : tie.Need-returns-2 Inv-loop μ-loop
@@ -60,7 +65,15 @@ returns-2 c =
     end-no-room _ (l .k) (l .a) _ _ (l .inv .2) _ (more (c .before .before .before .before .before) .lines) (sym (c .before .before .row-end2 .ensures) ∙ c .enum-told .given .1)
 
 add-k : tie.Need-add-k Inv-loop μ-loop
-add-k c = let m = more (c .before .before .before .before .before .before) in omega (arith, m .forward, m .inside, m .few, records-bytes (c .before .before .before .before .before .before .before .before .before .before .before .before .before .before .before .args .text .now))
+add-k c = let m =
+    more (c .before .before .before .before .before .before) in omega (
+      arith,
+      m .forward,
+      m .inside,
+      m .few,
+      records-bytes
+          (c .before .before .before .before .before .before .before .before .before .before .before .before .before .before .before .args .text .now),
+    )
 
 loop-less : tie.Need-loop-less Inv-loop μ-loop
 loop-less c = omega (arith, c .before .before .before .before .before .before .before .before .before .before .before .before .before .loop .inv .0)

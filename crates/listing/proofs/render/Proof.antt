@@ -14,7 +14,9 @@ use Rattle.listing.proofs.render.Tie as tie
 returns : tie.Need-returns
 returns c = puts-none _ _ _ (end-full _ _ _ (sym (c .before .before .listing-end .ensures) ∙ c .enum-told .given .1))
 
-fits : (c : tie.After-known-told) → endIn 0 (length (listing (c .before .before .before .before .before .before .args .text .now))) (length (c .before .before .before .before .before .before .args .out .now)) ≡ Next (c .before .end .given .0 .0)
+fits : (c : tie.After-known-told)
+    → endIn 0 (length (listing (c .before .before .before .before .before .before .args .text .now)))
+    (length (c .before .before .before .before .before .before .args .out .now)) ≡ Next (c .before .end .given .0 .0)
 fits c = sym (c .before .before .before .listing-end .ensures) ∙ c .before .end .given .1
 
 put-listing-requires : tie.Need-put-listing-requires

@@ -32,7 +32,8 @@ returns c =
     let hl = columns-length lastOf (backOf false) (a .c) (leadState (a .c) (negative (a .v))) in
     let dl = columns-length lastOf (backOf true) (a .d) (stateOf (a .v)) in
     let point = a .at + a .c in
-    let q₁ : Put (a .out .now) (point + 1 + a .d) (exponentText (a .x) (a .e)) (c₁ .put-exponent .last .0) = record { room = omega (arith, o .pre); is = rw (toZ-ofZ {w = w64} (o .fits .e)) at (c₁ .put-exponent .ensures) } in
+    let q₁ : Put (a .out .now) (point + 1 + a .d) (exponentText (a .x) (a .e)) (c₁ .put-exponent .last .0) =
+    record { room = omega (arith, o .pre); is = rw (toZ-ofZ {w = w64} (o .fits .e)) at (c₁ .put-exponent .ensures) } in
     let q₂ = put-before q₁ (textOf true (a .d) (stateOf (a .v))) (c₂ .put-at .last .0) (point + 1) (omega arith) (rw y at (c₂ .put-at .ensures .0)) in
     let q₃ = put-before q₂ (46 ∷ []) (c₃ .put-byte .last .0) point refl (c₃ .put-byte .ensures) in
     put-before q₃ (textOf false (a .c) (leadState (a .c) (negative (a .v)))) (c₄ .put-at2 .last .0) (a .at) (omega arith) (rw l at (c₄ .put-at2 .ensures .0)) .is

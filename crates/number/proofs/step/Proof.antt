@@ -1,7 +1,7 @@
 -- `number::step` meets its contract: byte and state choose the case, and a number below 10 ^ 17 has room for a digit more.
 use mathlib.Core.Path.{subst}
 use native.Mathlib.Omega.{arith}
-use Rattle.number.specs.Scan.{Below, Small}
+use Rattle.number.specs.Scan.{Below, SmallDigit}
 use borrow.Author.Needs.{needs}
 use Rattle.number.proofs.step.Statement.{statement}
 use Rattle.number.proofs.step.Tie as tie
@@ -12,7 +12,7 @@ mul-t10 c = let h = subst (Below 100000000000000000) (c .before .st .given .1) (
 add-t11 : tie.Need-add-t11
 add-t11 c =
     let h = subst (Below 100000000000000000) (c .before .st .given .1) (c .before .before .before .before .before .before .pre .1) in
-    let k = subst Small (c .before .before .before .before .c .given .1) (c .before .before .before .before .before .before .pre .0) in
+    let k = subst SmallDigit (c .before .before .before .before .c .given .1) (c .before .before .before .before .before .before .pre .0) in
     omega arith
 
 returns-9 : tie.Need-returns-9

@@ -12,7 +12,9 @@ use Rattle.place.proofs.Spans.{start-done, start-next}
 use Rattle.place.proofs.span_of.Statement.{statement}
 use Rattle.place.proofs.span_of.Tie as tie
 
-begins : (c : tie.After-behind-or-end) → c .behind-or-end .result ≡ start (c .before .before .before .before .args .text .now) (c .before .before .before .before .args .at) (c .before .before .before .before .args .counts .now) (c .before .before .before .before .args .group)
+begins : (c : tie.After-behind-or-end)
+    → c .behind-or-end .result ≡ start (c .before .before .before .before .args .text .now) (c .before .before .before .before .args .at)
+    (c .before .before .before .before .args .counts .now) (c .before .before .before .before .args .group)
 unfolding start
 begins c =
     let o = c .before .before .before .before in
@@ -26,12 +28,22 @@ returns c =
 sub-behind-or-end : tie.Need-sub-behind-or-end
 sub-behind-or-end c =
     let o = c .before .before .before .before .before .before .before .before in
-    omega (arith, c .before .before .before .before .before .add-up .ensures .lines-are, c .before .before .add-up2 .ensures .lines-are, lines-below (o .args .counts .now) (o .args .group) (o .args .group + 1) (omega arith))
+    omega (
+      arith,
+      c .before .before .before .before .before .add-up .ensures .lines-are,
+      c .before .before .add-up2 .ensures .lines-are,
+      lines-below (o .args .counts .now)
+          (o .args .group) (o .args .group + 1) (omega arith),
+    )
 
 returns-2 : tie.Need-returns-2
 returns-2 c =
-    let o = c .before .before .before .before .before .before .before .before .before in
-    (begins (c .before .before .before .before .before), c .behind-or-end2 .ensures ∙ start-next (o .args .text .now) (o .args .at) (o .args .counts .now) (o .args .group) (begins (c .before .before .before .before .before)) (c .before .before .before .before .before .before .add-up .ensures .lines-are) (c .before .before .before .add-up2 .ensures .lines-are))
+    let o = c .before .before .before .before .before .before .before .before .before in (
+      begins (c .before .before .before .before .before),
+      c .behind-or-end2 .ensures
+          ∙ start-next (o .args .text .now) (o .args .at) (o .args .counts .now) (o .args .group) (begins (c .before .before .before .before .before))
+          (c .before .before .before .before .before .before .add-up .ensures .lines-are) (c .before .before .before .add-up2 .ensures .lines-are),
+    )
 
 pub span-of-spec : {M : Type 1} → statement M
 span-of-spec =

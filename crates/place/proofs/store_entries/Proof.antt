@@ -24,7 +24,9 @@ same-length c = c .before .before .before .before .before .loop .inv .1
 returns : tie.Need-returns Inv-loop μ-loop
 returns c =
     let l = c .before .before .before .before .before .loop in
-    storing-bad (c .before .before .before .before .before .before .before .before .args .content .now) (c .before .before .before .before .before .before .before .before .args .from) (c .before .before .before .before .before .before .before .before .args .counts .now) (l .k) (l .counts) (c .before .before .before .before .loop-test .taken) (l .inv .2) (sym (c .before .before .read-entry .ensures) ∙ c .enum-told .given .1)
+    storing-bad (c .before .before .before .before .before .before .before .before .args .content .now)
+    (c .before .before .before .before .before .before .before .before .args .from) (c .before .before .before .before .before .before .before .before .args .counts .now)
+    (l .k) (l .counts) (c .before .before .before .before .loop-test .taken) (l .inv .2) (sym (c .before .before .read-entry .ensures) ∙ c .enum-told .given .1)
 
 slice-write-counts : tie.Need-slice-write-counts Inv-loop μ-loop
 slice-write-counts c = omega (arith, c .before .before .before .before .before .before .loop .inv .1)
@@ -34,7 +36,11 @@ loop-again c =
     let l = c .before .before .before .before .before .before .loop in (
       omega arith,
       simp length-set (l .inv .1),
-      storing-more (c .before .before .before .before .before .before .before .before .before .args .content .now) (c .before .before .before .before .before .before .before .before .before .args .from) (c .before .before .before .before .before .before .before .before .before .args .counts .now) (l .k) (l .counts) (c .before .before .before .before .before .loop-test .taken) (l .inv .2) (c .before .n .given .0 .0) (omega arith) (sym (c .before .before .before .read-entry .ensures) ∙ c .before .n .given .1),
+      storing-more (c .before .before .before .before .before .before .before .before .before .args .content .now)
+          (c .before .before .before .before .before .before .before .before .before .args .from)
+          (c .before .before .before .before .before .before .before .before .before .args .counts .now) (l .k) (l .counts)
+          (c .before .before .before .before .before .loop-test .taken) (l .inv .2) (c .before .n .given .0 .0) (omega arith)
+          (sym (c .before .before .before .read-entry .ensures) ∙ c .before .n .given .1),
     )
 
 same-length-2 : tie.Need-same-length-2 Inv-loop μ-loop

@@ -14,10 +14,13 @@ returns : tie.Need-returns
 returns c = rw (line-no-return (c .before .before .before .before .before .args .line .now) (sym (c .before .before .content-length .ensures) ∙ c .enum-told .given .1)) refl
 
 returns-2 : tie.Need-returns-2
-returns-2 c = rw (line-other-length (c .before .before .before .before .before .before .before .args .line .now) (c .before .before .n .given .0 .0) (sym (c .before .before .before .before .content-length .ensures) ∙ c .before .before .n .given .1) (c .if1 .taken)) refl
+returns-2 c =
+    rw (line-other-length (c .before .before .before .before .before .before .before .args .line .now) (c .before .before .n .given .0 .0)
+    (sym (c .before .before .before .before .content-length .ensures) ∙ c .before .before .n .given .1) (c .if1 .taken)) refl
 
 long : (c : tie.Else1) → length (c .before .before .before .before .before .before .before .args .line .now) ≡ c .before .before .n .given .0 .0 + 2
-long c = content-two (c .before .before .before .before .before .before .before .args .line .now) (c .before .before .n .given .0 .0) (sym (c .before .before .before .before .content-length .ensures) ∙ c .before .before .n .given .1)
+long c = content-two (c .before .before .before .before .before .before .before .args .line .now) (c .before .before .n .given .0 .0)
+    (sym (c .before .before .before .before .content-length .ensures) ∙ c .before .before .n .given .1)
 
 sub-store-entries : tie.Need-sub-store-entries
 sub-store-entries c = omega arith
@@ -32,7 +35,11 @@ store-entries-requires : tie.Need-store-entries-requires
 store-entries-requires c κs = (length-take (c .before .before .before .before .n .given .0 .0 - 0) _ ∙ omega (arith, long (c .before .before), c .before .before .if1 .left), omega arith)
 
 returns-3 : tie.Need-returns-3
-returns-3 c = rw (line-entries (c .before .before .before .before .before .before .before .before .before .before .before .before .args .line .now) (c .before .before .before .before .before .before .before .n .given .0 .0) (sym (c .before .before .before .before .before .before .before .before .before .content-length .ensures) ∙ c .before .before .before .before .before .before .before .n .given .1) (c .before .before .before .before .before .if1 .left)) (c .before .before .store-entries .ensures)
+returns-3 c =
+    rw (line-entries (c .before .before .before .before .before .before .before .before .before .before .before .before .args .line .now)
+    (c .before .before .before .before .before .before .before .n .given .0 .0)
+    (sym (c .before .before .before .before .before .before .before .before .before .content-length .ensures)
+    ∙ c .before .before .before .before .before .before .before .n .given .1) (c .before .before .before .before .before .if1 .left)) (c .before .before .store-entries .ensures)
 
 pub store-line-spec : {M : Type 1} → statement M
 store-line-spec =

@@ -16,11 +16,17 @@ sub-place-behind c =
 returns : tie.Need-returns
 returns c =
     let o = c .before .before .before .before .before .before .before .before in
-    refuses (from-lines (o .args .text .now) (o .args .from) (o .args .t3) (c .before .before .before .before .before .add-up .ensures .lines-are ∙ all-lines (o .args .t3)) (sym (c .before .before .before .place-behind .ensures) ∙ c .before .enum-told .given .1)) (c .nothing .ensures)
+    refuses (from-lines (o .args .text .now) (o .args .from) (o .args .t3) (c .before .before .before .before .before .add-up .ensures .lines-are ∙ all-lines (o .args .t3))
+    (sym (c .before .before .before .place-behind .ensures) ∙ c .before .enum-told .given .1)) (c .nothing .ensures)
 
 returns-2 : tie.Need-returns-2
 returns-2 c =
-    rw (from-lines (c .before .before .before .before .before .before .before .before .before .before .before .args .text .now) (c .before .before .before .before .before .before .before .before .before .before .before .args .from) (c .before .before .before .before .before .before .before .before .before .before .before .args .t3) (c .before .before .before .before .before .before .before .before .add-up .ensures .lines-are ∙ all-lines (c .before .before .before .before .before .before .before .before .before .before .before .args .t3)) (sym (c .before .before .before .before .before .before .place-behind .ensures) ∙ c .before .before .before .before .next .given .1))
+    rw (from-lines (c .before .before .before .before .before .before .before .before .before .before .before .args .text .now)
+    (c .before .before .before .before .before .before .before .before .before .before .before .args .from)
+    (c .before .before .before .before .before .before .before .before .before .before .before .args .t3)
+    (c .before .before .before .before .before .before .before .before .add-up .ensures .lines-are
+    ∙ all-lines (c .before .before .before .before .before .before .before .before .before .before .before .args .t3))
+    (sym (c .before .before .before .before .before .before .place-behind .ensures) ∙ c .before .before .before .before .next .given .1))
     record { placing = rw (← c .before .ruling-of .ensures) (c .ruled-at .ensures); beside = refl }
 
 pub with-lines-spec : {M : Type 1} → statement M

@@ -27,7 +27,8 @@ check-date-requires c κs = (c .before .before .before .before .before .pre .1 (
 returns : tie.Need-returns
 returns c =
     let o = c .before .before .before .before .before .before in
-    c .check-date .ensures ∙ ap (λ g. verdictOf (dated g (readLines A1 (o .args .count) (o .args .lines .now)))) (sym (c .before .if1 .taken)) ∙ ap (λ f. verdictOf (dated (o .args .group) (readLines f (o .args .count) (o .args .lines .now)))) (sym (letters (c .before)))
+    c .check-date .ensures ∙ ap (λ g. verdictOf (dated g (readLines A1 (o .args .count) (o .args .lines .now)))) (sym (c .before .if1 .taken))
+    ∙ ap (λ f. verdictOf (dated (o .args .group) (readLines f (o .args .count) (o .args .lines .now)))) (sym (letters (c .before)))
 
 returns-2 : tie.Need-returns-2
 returns-2 c =
@@ -37,7 +38,8 @@ returns-2 c =
 returns-3 : tie.Need-returns-3
 returns-3 c =
     let o = c .before .before .before .before .before in
-    clean-date (o .args .group) (readLines (o .args .form) (o .args .count) (o .args .lines .now)) (c .if1 .left) (sym (c .before .before .before .check-lines .ensures) ∙ c .before .enum-told .given .1)
+    clean-date (o .args .group) (readLines (o .args .form) (o .args .count) (o .args .lines .now)) (c .if1 .left)
+    (sym (c .before .before .before .check-lines .ensures) ∙ c .before .enum-told .given .1)
 
 pub check-spec : {M : Type 1} → statement M
 check-spec =

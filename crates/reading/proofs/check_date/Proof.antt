@@ -23,12 +23,14 @@ part-new-end c =
 returns : tie.Need-returns
 returns c =
     let o = c .before .before .before .before .before .before .before .before in
-    date-verdict (o .args .count) (o .args .lines .now) (o .pre .1) (o .pre .0) (c .before .before .before .before .lesser .result) (first-many (c .before .before .before .before)) (sym (c .before .before .new .ensures) ∙ c .enum-told .given .1)
+    date-verdict (o .args .count) (o .args .lines .now) (o .pre .1) (o .pre .0) (c .before .before .before .before .lesser .result) (first-many (c .before .before .before .before))
+    (sym (c .before .before .new .ensures) ∙ c .enum-told .given .1)
 
 returns-2 : tie.Need-returns-2
 returns-2 c =
     let o = c .before .before .before .before .before .before .before .before .before in
-    date-verdict (o .args .count) (o .args .lines .now) (o .pre .1) (o .pre .0) (c .before .before .before .before .before .lesser .result) (first-many (c .before .before .before .before .before)) (sym (c .before .before .before .new .ensures) ∙ c .before .position .given .1)
+    date-verdict (o .args .count) (o .args .lines .now) (o .pre .1) (o .pre .0) (c .before .before .before .before .before .lesser .result)
+    (first-many (c .before .before .before .before .before)) (sym (c .before .before .before .new .ensures) ∙ c .before .position .given .1)
 
 pub check-date-spec : {M : Type 1} → statement M
 check-date-spec =

@@ -18,17 +18,28 @@ content-at-requires c κs =
 returns : tie.Need-returns
 returns c =
     let o = c .before .before .before .before .before .before .before in
-    span-none (o .args .form) (o .args .columns) (o .args .lines .now) (o .args .at) (o .pre) (sym (c .before .before .before .before .before .may-be-short .ensures) ∙ c .before .before .before .before .if1 .taken) (ap (λ x. contentOf (part (o .args .at) x (o .args .lines .now))) (sym (c .before .before .before .behind-or-end .ensures)) ∙ sym (c .before .before .content-at .ensures) ∙ c .enum-told .given .1)
+    span-none (o .args .form) (o .args .columns) (o .args .lines .now) (o .args .at) (o .pre)
+    (sym (c .before .before .before .before .before .may-be-short .ensures) ∙ c .before .before .before .before .if1 .taken)
+    (ap (λ x. contentOf (part (o .args .at) x (o .args .lines .now))) (sym (c .before .before .before .behind-or-end .ensures))
+    ∙ sym (c .before .before .content-at .ensures) ∙ c .enum-told .given .1)
 
 add-result : tie.Need-add-result
 add-result c =
     let o = c .before .before .before .before .before .before .before .before in
-    omega (arith, content-fits (o .args .lines .now) (o .args .at) (o .pre) (c .before .n .given .0 .0) (ap (λ x. contentOf (part (o .args .at) x (o .args .lines .now))) (sym (c .before .before .before .before .behind-or-end .ensures)) ∙ sym (c .before .before .before .content-at .ensures) ∙ c .before .n .given .1))
+    omega (
+      arith,
+      content-fits (o .args .lines .now) (o .args .at) (o .pre) (c .before .n .given .0 .0)
+          (ap (λ x. contentOf (part (o .args .at) x (o .args .lines .now))) (sym (c .before .before .before .before .behind-or-end .ensures))
+          ∙ sym (c .before .before .before .content-at .ensures) ∙ c .before .n .given .1),
+    )
 
 returns-2 : tie.Need-returns-2
 returns-2 c =
     let o = c .before .before .before .before .before .before .before .before in
-    span-content (o .args .form) (o .args .columns) (o .args .lines .now) (o .args .at) (o .pre) (sym (c .before .before .before .before .before .before .may-be-short .ensures) ∙ c .before .before .before .before .before .if1 .taken) (c .before .n .given .0 .0) (ap (λ x. contentOf (part (o .args .at) x (o .args .lines .now))) (sym (c .before .before .before .before .behind-or-end .ensures)) ∙ sym (c .before .before .before .content-at .ensures) ∙ c .before .n .given .1)
+    span-content (o .args .form) (o .args .columns) (o .args .lines .now) (o .args .at) (o .pre)
+    (sym (c .before .before .before .before .before .before .may-be-short .ensures) ∙ c .before .before .before .before .before .if1 .taken) (c .before .n .given .0 .0)
+    (ap (λ x. contentOf (part (o .args .at) x (o .args .lines .now))) (sym (c .before .before .before .before .behind-or-end .ensures))
+    ∙ sym (c .before .before .before .content-at .ensures) ∙ c .before .n .given .1)
 
 add-result-2 : tie.Need-add-result-2
 add-result-2 c = omega (arith, c .lesser .ensures, c .before .before .before .before .pre)
@@ -36,7 +47,8 @@ add-result-2 c = omega (arith, c .lesser .ensures, c .before .before .before .be
 returns-3 : tie.Need-returns-3
 returns-3 c =
     let o = c .before .before .before .before in
-    ap (λ n. o .args .at + n) (c .lesser .ensures) ∙ span-columns (o .args .form) (o .args .columns) (o .args .lines .now) (o .args .at) (o .pre) (sym (c .before .before .may-be-short .ensures) ∙ c .before .if1 .left)
+    ap (λ n. o .args .at + n) (c .lesser .ensures)
+    ∙ span-columns (o .args .form) (o .args .columns) (o .args .lines .now) (o .args .at) (o .pre) (sym (c .before .before .may-be-short .ensures) ∙ c .before .if1 .left)
 
 pub fields-stop-spec : {M : Type 1} → statement M
 fields-stop-spec =

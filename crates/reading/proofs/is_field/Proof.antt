@@ -13,7 +13,9 @@ returns c = c .all-printable .ensures ∙ short-field _ _ (sym (c .before .befor
 returns-2 : tie.Need-returns-2
 returns-2 c =
     let o = c .before .before .before .before .before in
-    c .is-formed .ensures ∙ ap formed (c .before .read .ensures ∙ ap (fieldOf _) (sym (as-whole (o .args .form) (o .args .bytes .now) (sym (c .before .before .before .may-be-short .ensures) ∙ c .before .before .if1 .left))))
+    c .is-formed .ensures
+    ∙ ap formed
+    (c .before .read .ensures ∙ ap (fieldOf _) (sym (as-whole (o .args .form) (o .args .bytes .now) (sym (c .before .before .before .may-be-short .ensures) ∙ c .before .before .if1 .left))))
 
 pub is-field-spec : {M : Type 1} → statement M
 is-field-spec =

@@ -6,23 +6,24 @@ use mathlib.Core.Path.{_≡_, refl, sym, _∙_}
 use mir.Syntax.{w64}
 use mir.Val.{toZ, ofZ}
 use lib.ListN.{length-set}
-use Rattle.reading.proofs.Putting.{short-room, short-put, full-room, full-put, full-formed, full-letters, full-filled, cell-put, pair-put}
+use Rattle.reading.proofs.Putting.{ToPut, short-room, short-put, full-room, full-put, full-formed, full-letters, full-filled, cell-put, pair-put}
 use Rattle.reading.proofs.put_field.Statement.{statement}
 use Rattle.reading.proofs.put_field.Tie as tie
+
+to-put : (o : tie.Start) → ToPut (o .args .form) (o .args .width) (o .args .bytes .now) (o .args .table .now) (o .args .at)
+to-put o = record { wide = o .pre .0; fit = o .pre .1 .0; good = o .pre .1 .1 .0; room = o .pre .1 .1 .1 }
 
 put-letters-requires : tie.Need-put-letters-requires
 put-letters-requires c κs =
     let o = c .before .before .before .before in
-    short-room (o .args .form) (o .args .width) (o .args .bytes .now) (o .args .table .now) (o .args .at) (o .pre .0)
-    (o .pre .1 .0) (o .pre .1 .1 .0) (o .pre .1 .1 .1)
+    short-room (to-put o)
     (sym (c .before .before .may-be-short .ensures) ∙ c .before .if1 .taken)
 
 returns : tie.Need-returns
 returns c =
     let at-may-be-short = c .before .before .before .before in
     let o = at-may-be-short .before .before in
-    short-put (o .args .form) (o .args .width) (o .args .bytes .now) (o .args .table .now) (o .args .at) (o .pre .0)
-    (o .pre .1 .0) (o .pre .1 .1 .0) (o .pre .1 .1 .1)
+    short-put (to-put o)
     (sym (at-may-be-short .may-be-short .ensures) ∙ c .before .before .before .if1 .taken)
     (c .before .put-letters .ensures)
 
@@ -31,36 +32,35 @@ slice-set-from-z c =
     let at-if1 = c .before .before .before .before in
     let at-may-be-short = at-if1 .before in
     let o = at-may-be-short .before .before in
-    omega (arith, full-room (o .args .form) (o .args .width) (o .args .bytes .now) (o .args .table .now) (o .args .at) (o .pre .0) (o .pre .1 .0) (o .pre .1 .1 .0) (o .pre .1 .1 .1) (sym (at-may-be-short .may-be-short .ensures) ∙ at-if1 .if1 .left) (sym (c .before .before .before .read .ensures) ∙ c .before .z .given .1))
+    omega (arith, full-room (to-put o) (sym (at-may-be-short .may-be-short .ensures) ∙ at-if1 .if1 .left) (sym (c .before .before .before .read .ensures) ∙ c .before .z .given .1))
 
 slice-set-from-m : tie.Need-slice-set-from-m
 slice-set-from-m c =
     let at-if1 = c .before .before .before .before in
     let at-may-be-short = at-if1 .before in
     let o = at-may-be-short .before .before in
-    omega (arith, full-room (o .args .form) (o .args .width) (o .args .bytes .now) (o .args .table .now) (o .args .at) (o .pre .0) (o .pre .1 .0) (o .pre .1 .1 .0) (o .pre .1 .1 .1) (sym (at-may-be-short .may-be-short .ensures) ∙ at-if1 .if1 .left) (sym (c .before .before .before .read .ensures) ∙ c .before .m .given .1))
+    omega (arith, full-room (to-put o) (sym (at-may-be-short .may-be-short .ensures) ∙ at-if1 .if1 .left) (sym (c .before .before .before .read .ensures) ∙ c .before .m .given .1))
 
 add-x : tie.Need-add-x
 add-x c =
     let at-if1 = c .before .before .before .before in
     let at-may-be-short = at-if1 .before in
     let o = at-may-be-short .before .before in
-    omega (arith, full-room (o .args .form) (o .args .width) (o .args .bytes .now) (o .args .table .now) (o .args .at) (o .pre .0) (o .pre .1 .0) (o .pre .1 .1 .0) (o .pre .1 .1 .1) (sym (at-may-be-short .may-be-short .ensures) ∙ at-if1 .if1 .left) (sym (c .before .before .before .read .ensures) ∙ c .before .m .given .1))
+    omega (arith, full-room (to-put o) (sym (at-may-be-short .may-be-short .ensures) ∙ at-if1 .if1 .left) (sym (c .before .before .before .read .ensures) ∙ c .before .m .given .1))
 
 slice-set-from-x : tie.Need-slice-set-from-x
 slice-set-from-x c =
     let at-if1 = c .before .before .before .before in
     let at-may-be-short = at-if1 .before in
     let o = at-may-be-short .before .before in
-    simp length-set (omega (arith, full-room (o .args .form) (o .args .width) (o .args .bytes .now) (o .args .table .now) (o .args .at) (o .pre .0) (o .pre .1 .0) (o .pre .1 .1 .0) (o .pre .1 .1 .1) (sym (at-may-be-short .may-be-short .ensures) ∙ at-if1 .if1 .left) (sym (c .before .before .before .read .ensures) ∙ c .before .m .given .1)))
+    simp length-set (omega (arith, full-room (to-put o) (sym (at-may-be-short .may-be-short .ensures) ∙ at-if1 .if1 .left) (sym (c .before .before .before .read .ensures) ∙ c .before .m .given .1)))
 
 put-letters-requires-2 : tie.Need-put-letters-requires-2
 put-letters-requires-2 c κs =
     let at-if1 = c .before .before .before .before in
     let at-may-be-short = at-if1 .before in
     let o = at-may-be-short .before .before in
-    full-letters (o .args .form) (o .args .width) (o .args .bytes .now) (o .args .table .now) (o .args .at) (o .pre .0)
-    (o .pre .1 .0) (o .pre .1 .1 .0) (o .pre .1 .1 .1)
+    full-letters (to-put o)
     (sym (at-may-be-short .may-be-short .ensures) ∙ at-if1 .if1 .left)
     (sym (c .before .before .before .read .ensures) ∙ c .before .enum-told .given .1) refl
 
@@ -72,13 +72,11 @@ returns-2 c =
     let at-may-be-short = at-if1 .before in
     let start = at-may-be-short .before .before in
     let e : toZ w64 (ofZ w64 (at-z .z .given .0 .0)) ≡ at-z .z .given .0 .0 = search needs in
-    full-put (start .args .form) (start .args .width) (start .args .bytes .now) (start .args .table .now)
-    (start .args .at) (start .pre .0) (start .pre .1 .0) (start .pre .1 .1 .0) (start .pre .1 .1 .1)
+    full-put (to-put start)
     (sym (at-may-be-short .may-be-short .ensures) ∙ at-if1 .if1 .left)
     (sym (at-read .read .ensures) ∙ at-z .z .given .1)
     (cell-put (start .args .table .now) (start .args .at) e
-    (full-room (start .args .form) (start .args .width) (start .args .bytes .now) (start .args .table .now)
-    (start .args .at) (start .pre .0) (start .pre .1 .0) (start .pre .1 .1 .0) (start .pre .1 .1 .1)
+    (full-room (to-put start)
     (sym (at-may-be-short .may-be-short .ensures) ∙ at-if1 .if1 .left)
     (sym (at-read .read .ensures) ∙ at-z .z .given .1)))
 
@@ -91,13 +89,11 @@ returns-3 c =
     let start = at-may-be-short .before .before in
     let e : toZ w64 (ofZ w64 (at-m .m .given .0 .0)) ≡ at-m .m .given .0 .0 = search needs in
     let d : toZ w64 (ofZ w64 (at-m .m .given .0 .1 .0)) ≡ at-m .m .given .0 .1 .0 = search needs in
-    full-put (start .args .form) (start .args .width) (start .args .bytes .now) (start .args .table .now)
-    (start .args .at) (start .pre .0) (start .pre .1 .0) (start .pre .1 .1 .0) (start .pre .1 .1 .1)
+    full-put (to-put start)
     (sym (at-may-be-short .may-be-short .ensures) ∙ at-if1 .if1 .left)
     (sym (at-read .read .ensures) ∙ at-m .m .given .1)
     (pair-put (start .args .table .now) (start .args .at) e d
-    (full-room (start .args .form) (start .args .width) (start .args .bytes .now) (start .args .table .now)
-    (start .args .at) (start .pre .0) (start .pre .1 .0) (start .pre .1 .1 .0) (start .pre .1 .1 .1)
+    (full-room (to-put start)
     (sym (at-may-be-short .may-be-short .ensures) ∙ at-if1 .if1 .left)
     (sym (at-read .read .ensures) ∙ at-m .m .given .1)))
 
@@ -108,12 +104,10 @@ returns-4 c =
     let at-if1 = at-read .before in
     let at-may-be-short = at-if1 .before in
     let o = at-may-be-short .before .before in
-    full-put (o .args .form) (o .args .width) (o .args .bytes .now) (o .args .table .now) (o .args .at) (o .pre .0)
-    (o .pre .1 .0) (o .pre .1 .1 .0) (o .pre .1 .1 .1)
+    full-put (to-put o)
     (sym (at-may-be-short .may-be-short .ensures) ∙ at-if1 .if1 .left)
     (sym (at-read .read .ensures) ∙ at-enum-told .enum-told .given .1)
-    (full-filled (o .args .form) (o .args .width) (o .args .bytes .now) (o .args .table .now) (o .args .at) (o .pre .0)
-    (o .pre .1 .0) (o .pre .1 .1 .0) (o .pre .1 .1 .1)
+    (full-filled (to-put o)
     (sym (at-may-be-short .may-be-short .ensures) ∙ at-if1 .if1 .left)
     (sym (at-read .read .ensures) ∙ at-enum-told .enum-told .given .1) (c .before .put-letters2 .ensures))
 
@@ -121,7 +115,7 @@ returns-5 : tie.Need-returns-5
 returns-5 c =
     let at-may-be-short = c .before .before .before .before in
     let o = at-may-be-short .before .before in
-    absurd (full-formed (o .args .form) (o .args .width) (o .args .bytes .now) (o .args .table .now) (o .args .at) (o .pre .0) (o .pre .1 .0) (o .pre .1 .1 .0) (o .pre .1 .1 .1) (sym (at-may-be-short .may-be-short .ensures) ∙ c .before .before .before .if1 .left) (sym (c .before .before .read .ensures) ∙ c .enum-told2 .given .1))
+    absurd (full-formed (to-put o) (sym (at-may-be-short .may-be-short .ensures) ∙ c .before .before .before .if1 .left) (sym (c .before .before .read .ensures) ∙ c .enum-told2 .given .1))
 
 pub put-field-spec : {M : Type 1} → statement M
 put-field-spec =

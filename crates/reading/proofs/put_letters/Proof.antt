@@ -28,8 +28,12 @@ loop-holds c = (omega arith, refl, letters-none (c .before .args .bytes .now) (c
 loop-again : tie.Need-loop-again Inv-loop μ-loop
 loop-again c =
     let o = c .before .before .before .before .before in
-    let t = c .before .before .before in
-    (omega arith, simp length-set (t .loop .inv .1), letters-more (o .args .bytes .now) (o .args .width) (o .args .table .now) (o .args .at) (o .pre .0) (o .pre .1) (t .loop .i) _ _ (c .before .before .loop-test .taken) (toZ-ofZ (sfits-of {w = w64} (c .cell .ok)) ∙ c .cell .ensures ∙ ap pos (c .before .byte-or-blank .ensures)) (t .loop .inv .2))
+    let t = c .before .before .before in (
+      omega arith,
+      simp length-set (t .loop .inv .1),
+      letters-more (o .args .bytes .now) (o .args .width) (o .args .table .now) (o .args .at) (o .pre .0) (o .pre .1)
+          (t .loop .i) _ _ (c .before .before .loop-test .taken) (toZ-ofZ (sfits-of {w = w64} (c .cell .ok)) ∙ c .cell .ensures ∙ ap pos (c .before .byte-or-blank .ensures)) (t .loop .inv .2),
+    )
 
 returns : tie.Need-returns Inv-loop μ-loop
 returns c =

@@ -16,18 +16,30 @@ returns c =
 
 fill-lines-requires : tie.Need-fill-lines-requires
 fill-lines-requires c κs =
-    let o = c .before .before .before .before .before .before .before in
-    (lines-clean (o .args .form) (o .args .group) (o .args .count) (o .args .lines .now) (o .args .table .now) (subst (λ m. m ≤ length (o .args .table .now)) (c .before .before .before .before .before .cells .ensures) (c .before .before .before .before .if1 .left)) (sym (c .before .before .before .check .ensures) ∙ c .before .enum-told .given .1), subst (λ m. m ≤ length (o .args .table .now)) (c .before .before .before .before .before .cells .ensures) (c .before .before .before .before .if1 .left))
+    let o = c .before .before .before .before .before .before .before in (
+      lines-clean (o .args .form) (o .args .group) (o .args .count) (o .args .lines .now) (o .args .table .now)
+          (subst (λ m. m ≤ length (o .args .table .now)) (c .before .before .before .before .before .cells .ensures) (c .before .before .before .before .if1 .left))
+          (sym (c .before .before .before .check .ensures) ∙ c .before .enum-told .given .1),
+      subst (λ m. m ≤ length (o .args .table .now))
+          (c .before .before .before .before .before .cells .ensures) (c .before .before .before .before .if1 .left),
+    )
 
 returns-2 : tie.Need-returns-2
 returns-2 c =
     let o = c .before .before .before .before .before .before .before in
-    form-bad (o .args .form) (o .args .group) (o .args .count) (o .args .lines .now) (o .args .table .now) (subst (λ m. m ≤ length (o .args .table .now)) (c .before .before .before .before .before .cells .ensures) (c .before .before .before .before .if1 .left)) _ (sym (c .before .before .before .check .ensures) ∙ c .before .r .given .1)
+    form-bad (o .args .form) (o .args .group) (o .args .count) (o .args .lines .now) (o .args .table .now)
+    (subst (λ m. m ≤ length (o .args .table .now)) (c .before .before .before .before .before .cells .ensures) (c .before .before .before .before .if1 .left)) _
+    (sym (c .before .before .before .check .ensures) ∙ c .before .r .given .1)
 
 returns-3 : tie.Need-returns-3
 returns-3 c =
-    let b = form-done (c .before .before .before .before .before .before .before .before .before .args .form) (c .before .before .before .before .before .before .before .before .before .args .group) (c .before .before .before .before .before .before .before .before .before .args .count) (c .before .before .before .before .before .before .before .before .before .args .lines .now) (c .before .before .before .before .before .before .before .before .before .args .table .now) (subst (λ m. m ≤ length (c .before .before .before .before .before .before .before .before .before .args .table .now)) (c .before .before .before .before .before .before .before .cells .ensures) (c .before .before .before .before .before .before .if1 .left)) (sym (c .before .before .before .before .before .check .ensures) ∙ c .before .before .before .enum-told .given .1) (c .before .fill-lines .ensures) in
-    (ap Done (c .before .before .before .before .before .before .before .cells .ensures) ∙ b .0, b .1)
+    let at-check = c .before .before .before .before .before in
+    let at-cells = at-check .before .before in
+    let o = at-cells .before .before in
+    let b = form-done (o .args .form) (o .args .group) (o .args .count) (o .args .lines .now) (o .args .table .now)
+    (subst (λ m. m ≤ length (o .args .table .now)) (at-cells .cells .ensures) (at-check .before .if1 .left))
+    (sym (at-check .check .ensures) ∙ c .before .before .before .enum-told .given .1) (c .before .fill-lines .ensures) in
+    (ap Done (at-cells .cells .ensures) ∙ b .0, b .1)
 
 pub read-form-spec : {M : Type 1} → statement M
 read-form-spec =

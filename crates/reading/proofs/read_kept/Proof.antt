@@ -16,15 +16,19 @@ returns c =
 read-form-requires : tie.Need-read-form-requires
 read-form-requires c κs =
     let o = c .before .before .before .before .before .before .before .before in
-    let ns = o .args .counts .now in
-    (sym (c .before .before .before .before .before .form-of .ensures) ∙ c .before .before .before .form .given .1, λ t. subst (λ n. 19 ≤ n) (sym (c .before .count-of .ensures ∙ ap (countOf ns) t)) (kept-letters ns (o .pre)))
+    let ns = o .args .counts .now in (
+      sym (c .before .before .before .before .before .form-of .ensures)
+          ∙ c .before .before .before .form .given .1,
+      λ t. subst (λ n. 19 ≤ n) (sym (c .before .count-of .ensures ∙ ap (countOf ns) t)) (kept-letters ns (o .pre)),
+    )
 
 returns-2 : tie.Need-returns-2
 returns-2 c =
     let o = c .before .before .before .before .before .before .before .before .before .before in
     let f = c .before .before .before .before .before .form .given in
     let has = sym (c .before .before .before .before .before .before .before .form-of .ensures) ∙ f .1 in
-    group-kept (o .args .counts .now) (o .args .group) (o .args .lines .now) (o .args .table .now) (f .0 .0) has (o .pre) _ (c .before .before .before .count-of .ensures) (c .before .read-form .ensures)
+    group-kept (o .args .counts .now) (o .args .group) (o .args .lines .now) (o .args .table .now) (f .0 .0) has (o .pre) _ (c .before .before .before .count-of .ensures)
+    (c .before .read-form .ensures)
 
 pub read-kept-spec : {M : Type 1} → statement M
 read-kept-spec =

@@ -10,7 +10,7 @@ use denote.Enum.Declared.{tagOf}
 use lib.ListN.{length}
 use Rattle.rewriting.specs.declared.Rewriting.{Rewriting}
 use Rattle.rewriting.proofs.Rewriting.{the-type}
-use Rattle.group.proofs.Texts.{not-first}
+use Rattle.base.proofs.Every.{not-first}
 use Rattle.rewriting.proofs.Printing.{Printing, printing-first, printing-none, printing-ended, printing-stop, printing-room, printing-further, printing-more}
 use Rattle.rewrite.proofs.print_text.Statement.{statement}
 use Rattle.rewrite.proofs.print_text.Tie as tie
@@ -30,18 +30,39 @@ loop-holds c = (c .before .before .before .pre .0, c .before .before .before .pr
 returns-2 : tie.Need-returns-2 Inv-loop μ-loop
 returns-2 c =
     let t = c .before .before .before .before .before .before .before .before in
-    printing-stop (c .before .before .before .before .before .before .before .before .before .before .before .before .args .text .now) (t .loop .at) (t .loop .inv .2) (t .loop .inv .0) (t .loop .inv .1) _ (c .before .before .before .before .rewrite-record .ensures .0) (omega arith) (λ bytes next e. not-first (1 ∷ 2 ∷ 3 ∷ []) tt (subst (λ (r : Rewriting). OneOf (1 ∷ 2 ∷ 3 ∷ []) (tagOf the-type r)) e (c .match .keys2)))
+    printing-stop (c .before .before .before .before .before .before .before .before .before .before .before .before .args .text .now) (t .loop .at) (t .loop .inv .2)
+    (t .loop .inv .0) (t .loop .inv .1) _ (c .before .before .before .before .rewrite-record .ensures .0) (omega arith)
+    (λ bytes next e. not-first (1 ∷ 2 ∷ []) tt (subst (λ (r : Rewriting). OneOf (1 ∷ 2 ∷ []) (tagOf the-type r)) e (c .match .keys2)))
 
 part-write-all-end : tie.Need-part-write-all-end Inv-loop μ-loop
-part-write-all-end c = let l = printing-room (c .before .before .before .before .before .before .before .before .before .before .before .before .before .before .before .args .text .now) (c .before .before .before .before .before .before .before .before .before .before .before .loop .at) (c .before .before .before .before .before .before .before .before .before .before .before .loop .inv .2) (c .before .before .before .before .before .before .before .before .before .before .before .loop .inv .0) (c .before .before .before .before .before .before .before .before .before .before .before .loop .inv .1) _ (c .before .before .before .before .before .before .before .rewrite-record .ensures .0) _ _ (c .before .before .answer .given .1) in search needs
+part-write-all-end c = let l =
+    printing-room (c .before .before .before .before .before .before .before .before .before .before .before .before .before .before .before .args .text .now)
+    (c .before .before .before .before .before .before .before .before .before .before .before .loop .at)
+    (c .before .before .before .before .before .before .before .before .before .before .before .loop .inv .2)
+    (c .before .before .before .before .before .before .before .before .before .before .before .loop .inv .0)
+    (c .before .before .before .before .before .before .before .before .before .before .before .loop .inv .1) _
+    (c .before .before .before .before .before .before .before .rewrite-record .ensures .0) _ _ (c .before .before .answer .given .1) in search needs
 
 loop-less : tie.Need-loop-less Inv-loop μ-loop
-loop-less c = let l = printing-further (c .before .before .before .before .before .before .before .before .before .before .before .before .before .before .before .before .before .args .text .now) (c .before .before .before .before .before .before .before .before .before .before .before .before .before .loop .at) (c .before .before .before .before .before .before .before .before .before .before .before .before .before .loop .inv .2) (c .before .before .before .before .before .before .before .before .before .before .before .before .before .loop .inv .0) (c .before .before .before .before .before .before .before .before .before .before .before .before .before .loop .inv .1) _ (c .before .before .before .before .before .before .before .before .before .rewrite-record .ensures .0) _ _ (c .before .before .before .before .answer .given .1) in search needs
+loop-less c = let l =
+    printing-further (c .before .before .before .before .before .before .before .before .before .before .before .before .before .before .before .before .before .args .text .now)
+    (c .before .before .before .before .before .before .before .before .before .before .before .before .before .loop .at)
+    (c .before .before .before .before .before .before .before .before .before .before .before .before .before .loop .inv .2)
+    (c .before .before .before .before .before .before .before .before .before .before .before .before .before .loop .inv .0)
+    (c .before .before .before .before .before .before .before .before .before .before .before .before .before .loop .inv .1) _
+    (c .before .before .before .before .before .before .before .before .before .rewrite-record .ensures .0) _ _
+    (c .before .before .before .before .answer .given .1) in search needs
 
 loop-again : tie.Need-loop-again Inv-loop μ-loop
 loop-again c =
-    let t = c .before .before .before .before .before .before .before .before .before .before .before .before .before in
-    (search needs, search needs, printing-more (c .before .before .before .before .before .before .before .before .before .before .before .before .before .before .before .before .before .args .text .now) (t .loop .at) (t .loop .inv .2) (t .loop .inv .0) (t .loop .inv .1) _ (c .before .before .before .before .before .before .before .before .before .rewrite-record .ensures .0) _ _ (c .before .before .before .before .answer .given .1))
+    let t = c .before .before .before .before .before .before .before .before .before .before .before .before .before in (
+      search needs,
+      search needs,
+      printing-more
+          (c .before .before .before .before .before .before .before .before .before .before .before .before .before .before .before .before .before .args .text .now) (t .loop .at)
+          (t .loop .inv .2) (t .loop .inv .0) (t .loop .inv .1) _ (c .before .before .before .before .before .before .before .before .before .rewrite-record .ensures .0) _ _
+          (c .before .before .before .before .answer .given .1),
+    )
 
 returns-3 : tie.Need-returns-3 Inv-loop μ-loop
 returns-3 c = printing-ended (c .before .before .before .before .before .args .text .now) (omega arith) (c .before .loop .at) (c .before .loop .inv .2) (omega arith)

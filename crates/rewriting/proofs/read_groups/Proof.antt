@@ -26,30 +26,54 @@ loop-holds c =
 form-in-requires : tie.Need-form-in-requires Inv-loop μ-loop
 form-in-requires c κs = (c .before .loop .inv .low, omega arith)
 
-to-is : (c : tie.After-cells Inv-loop μ-loop) → c .before .behind-or-end2 .result ≡ c .before .before .before .before .before .before .loop .from + reach (drop (c .before .before .before .before .before .before .loop .from) (c .before .before .before .before .before .before .before .before .before .before .args .text .now)) (linesOf (c .before .before .before .before .form-in .result) (countOf (c .before .before .before .before .before .before .before .before .before .before .args .counts .now) (c .before .before .before .before .before .before .loop .g)))
+to-is : (c : tie.After-cells Inv-loop μ-loop)
+    → c .before .behind-or-end2 .result ≡ c .before .before .before .before .before .before .loop .from + reach
+    (drop (c .before .before .before .before .before .before .loop .from) (c .before .before .before .before .before .before .before .before .before .before .args .text .now))
+    (linesOf (c .before .before .before .before .form-in .result)
+    (countOf (c .before .before .before .before .before .before .before .before .before .before .args .counts .now) (c .before .before .before .before .before .before .loop .g)))
 to-is c = rw (c .before .before .lines .ensures, c .before .before .before .count-of .ensures) at (c .before .behind-or-end2 .ensures)
 
-end-is : (c : tie.After-cells Inv-loop μ-loop) → c .before .before .before .before .before .before .loop .cell + c .cells .result ≡ c .before .before .before .before .before .before .loop .cell + cellsOf (c .before .before .before .before .form-in .result) (countOf (c .before .before .before .before .before .before .before .before .before .before .args .counts .now) (c .before .before .before .before .before .before .loop .g))
+end-is : (c : tie.After-cells Inv-loop μ-loop)
+    → c .before .before .before .before .before .before .loop .cell + c .cells .result ≡ c .before .before .before .before .before .before .loop .cell + cellsOf
+    (c .before .before .before .before .form-in .result)
+    (countOf (c .before .before .before .before .before .before .before .before .before .before .args .counts .now) (c .before .before .before .before .before .before .loop .g))
 end-is c = rw (c .before .before .before .count-of .ensures) at (ap (λ n. c .before .before .before .before .before .before .loop .cell + n) (c .cells .ensures))
 
 add-end : tie.Need-add-end Inv-loop μ-loop
-add-end c = let h = turning-ready (c .before .before .before .before .before .before .before .before .before .before .args .text .now) (c .before .before .before .before .before .before .before .before .before .before .args .at) (c .before .before .before .before .before .before .before .before .before .before .args .table .now) _ (c .before .before .before .before .before .before .before .before .before .before .pre .0) (c .before .before .before .before .before .before .before .before .before .before .pre .1) (c .before .before .before .before .before .before .loop .inv) (omega arith) (c .before .before .before .before .form-in .result) (c .before .before .before .before .form-in .ensures) (to-is (c)) (end-is (c)) in search needs
+add-end c = let h =
+    turning-ready (c .before .before .before .before .before .before .before .before .before .before .args .text .now)
+    (c .before .before .before .before .before .before .before .before .before .before .args .at)
+    (c .before .before .before .before .before .before .before .before .before .before .args .table .now) _
+    (c .before .before .before .before .before .before .before .before .before .before .pre .0)
+    (c .before .before .before .before .before .before .before .before .before .before .pre .1) (c .before .before .before .before .before .before .loop .inv)
+    (omega arith) (c .before .before .before .before .form-in .result) (c .before .before .before .before .form-in .ensures) (to-is (c)) (end-is (c)) in search needs
 
 read-part-requires : tie.Need-read-part-requires Inv-loop μ-loop
 read-part-requires c κs =
     let o = c .before .before .before .before .before .before .before .before .before .before .before in
-    let all = turning-ready (o .args .text .now) (o .args .at) (o .args .table .now) _ (o .pre .0) (o .pre .1) (c .before .before .before .before .before .before .before .loop .inv) (omega arith) (c .before .before .before .before .before .form-in .result) (c .before .before .before .before .before .form-in .ensures) (to-is (c .before)) (end-is (c .before)) in
+    let all =
+    turning-ready (o .args .text .now) (o .args .at) (o .args .table .now) _ (o .pre .0) (o .pre .1) (c .before .before .before .before .before .before .before .loop .inv)
+    (omega arith) (c .before .before .before .before .before .form-in .result) (c .before .before .before .before .before .form-in .ensures) (to-is (c .before)) (end-is (c .before)) in
     (all .0, (all .1, (all .2, (all .3, all .4))))
 
 returns : tie.Need-returns Inv-loop μ-loop
 returns c =
     let o = c .before .before .before .before .before .before .before .before .before .before .before .before .before .before .before .before in
-    turning-refused (o .args .text .now) (o .args .at) (o .args .table .now) _ (o .pre .0) (o .pre .1) (c .before .before .before .before .before .before .before .before .before .before .before .before .loop .inv) (omega arith) (c .before .before .before .before .before .before .before .before .before .before .form-in .result) (c .before .before .before .before .before .before .before .before .before .before .form-in .ensures) (to-is (c .before .before .before .before .before .before)) (end-is (c .before .before .before .before .before .before)) (c .before .before .before .before .read-part .ensures .0) (c .before .before .before .before .read-part .ensures .1) (c .before .answer .given .1)
+    turning-refused (o .args .text .now) (o .args .at) (o .args .table .now) _ (o .pre .0) (o .pre .1)
+    (c .before .before .before .before .before .before .before .before .before .before .before .before .loop .inv) (omega arith)
+    (c .before .before .before .before .before .before .before .before .before .before .form-in .result)
+    (c .before .before .before .before .before .before .before .before .before .before .form-in .ensures) (to-is (c .before .before .before .before .before .before))
+    (end-is (c .before .before .before .before .before .before)) (c .before .before .before .before .read-part .ensures .0)
+    (c .before .before .before .before .read-part .ensures .1) (c .before .answer .given .1)
 
 loop-again : tie.Need-loop-again Inv-loop μ-loop
 loop-again c =
     let o = c .before .before .before .before .before .before .before .before .before .before .before .before .before .before .before in
-    turning-more (o .args .text .now) (o .args .at) (o .args .table .now) _ (o .pre .0) (o .pre .1) (c .before .before .before .before .before .before .before .before .before .before .before .loop .inv) (omega arith) (c .before .before .before .before .before .before .before .before .before .form-in .result) (c .before .before .before .before .before .before .before .before .before .form-in .ensures) (to-is (c .before .before .before .before .before)) (end-is (c .before .before .before .before .before)) (c .before .before .before .read-part .ensures .0) (c .before .before .before .read-part .ensures .1) (c .enum-told .given .1)
+    turning-more (o .args .text .now) (o .args .at) (o .args .table .now) _ (o .pre .0) (o .pre .1)
+    (c .before .before .before .before .before .before .before .before .before .before .before .loop .inv) (omega arith)
+    (c .before .before .before .before .before .before .before .before .before .form-in .result)
+    (c .before .before .before .before .before .before .before .before .before .form-in .ensures) (to-is (c .before .before .before .before .before))
+    (end-is (c .before .before .before .before .before)) (c .before .before .before .read-part .ensures .0) (c .before .before .before .read-part .ensures .1) (c .enum-told .given .1)
 
 returns-2 : tie.Need-returns-2 Inv-loop μ-loop
 returns-2 c =

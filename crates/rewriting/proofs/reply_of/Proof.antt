@@ -7,16 +7,18 @@ use Rattle.rewriting.proofs.reply_of.Statement.{statement}
 use Rattle.rewriting.proofs.reply_of.Tie as tie
 
 returns : tie.Need-returns
-returns c = ap rewritingReply (sym (c .before .answer .given .1))
+returns c = c .written .ensures ∙ ap rewritingReply (sym (c .before .before .answer .given .1))
+
+returns-2 : tie.Need-returns-2
+returns-2 c = c .of-refusal .ensures ∙ ap rewritingReply (sym (c .before .before .answer2 .given .1))
 
 returns-3 : tie.Need-returns-3
-returns-3 c = c .plain .ensures ∙ ap rewritingReply (sym (c .before .enum-told .given .1))
+returns-3 c = c .of-refusal2 .ensures ∙ ap rewritingReply (sym (c .before .before .answer3 .given .1))
 
 pub reply-of-spec : {M : Type 1} → statement M
 reply-of-spec =
     tie.close
     (tie.spec
-    (λ c. search needs)
     (λ c. search needs)
     (λ c κs. search needs)
     (λ c. search needs)
@@ -24,6 +26,5 @@ reply-of-spec =
     (λ c. search needs)
     (λ c κs. search needs)
     returns
-    (λ c. search needs)
-    returns-3
-    (λ c. search needs))
+    returns-2
+    returns-3)

@@ -3,7 +3,7 @@
 use borrow.Author.Needs.{needs}
 use lib.ListN.{length}
 use Rattle.base.specs.Part.{part}
-use Rattle.count.specs.declared.Checked.the-variants.{Right}
+use Rattle.reply.specs.declared.Checked.the-variants.{Right}
 use Rattle.count.proofs.Due.{first-due}
 use Rattle.writing.specs.Text.{recordBytes}
 use Rattle.writing.proofs.Done.{done-is}

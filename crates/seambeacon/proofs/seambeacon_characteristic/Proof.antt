@@ -4,7 +4,7 @@ use borrow.Author.Needs.{needs, sfits-of}
 use mathlib.Core.Path.{_∙_, ap}
 use mir.Syntax.{w64}
 use mir.Facts.{toZ-ofZ}
-use Rattle.group.specs.Characteristics.{characteristicReply}
+use Rattle.group.specs.Numbered.{characteristicReply}
 use Rattle.seambeacon.specs.Numbers.{answerKind, answerValue}
 use Rattle.seambeacon.proofs.Telling.{told-as}
 use Rattle.seambeacon.proofs.seambeacon_characteristic.Statement.{statement}
@@ -14,8 +14,11 @@ returns : tie.Need-returns
 returns c =
     let valued = c .before .before .before in
     let known = valued .before .before .characteristic .ensures in
-    let stored = toZ-ofZ {w = w64} (sfits-of {w = w64} (valued .value-of .ok)) in
-    (told-as (c .before .before .characteristic-reply .ensures ∙ ap characteristicReply known) (c .tell .ensures), (valued .before .kind-of .ensures ∙ ap answerKind known, stored ∙ valued .value-of .ensures ∙ ap answerValue known))
+    let stored = toZ-ofZ {w = w64} (sfits-of {w = w64} (valued .value-of .ok)) in (
+      told-as (c .before .before .reply-of .ensures ∙ ap characteristicReply known)
+          (c .tell .ensures),
+      (valued .before .kind-of .ensures ∙ ap answerKind known, stored ∙ valued .value-of .ensures ∙ ap answerValue known),
+    )
 
 pub seambeacon-characteristic-spec : {M : Type 1} → statement M
 seambeacon-characteristic-spec =

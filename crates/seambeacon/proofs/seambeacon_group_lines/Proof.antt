@@ -3,7 +3,7 @@
 use borrow.Author.Needs.{needs}
 use mathlib.Core.Path.{refl, _∙_, ap}
 use native.Mathlib.Omega.{arith}
-use Rattle.group.specs.Held.{foundReply}
+use Rattle.reply.specs.Refusals.{checkedReply}
 use Rattle.group.proofs.Holding.{span-range, span-length}
 use Rattle.seambeacon.proofs.Telling.{told-as}
 use Rattle.seambeacon.proofs.seambeacon_group_lines.Statement.{statement}
@@ -19,7 +19,7 @@ returns : tie.Need-returns
 returns c =
     let a = c .before .before .before .before .before .before .before .args in
     let e = c .before .before .before .before .before .group-lines-at .ensures in
-    (told-as (c .before .before .found-reply .ensures ∙ ap foundReply (e .0)) (c .tell .ensures), rw (e .1 .0, e .1 .1, span-length (a .text .now) (a .at) (a .group)) refl)
+    (told-as (c .before .before .of-checked .ensures ∙ ap checkedReply (e .0)) (c .tell .ensures), rw (e .1 .0, e .1 .1, span-length (a .text .now) (a .at) (a .group)) refl)
 
 pub seambeacon-group-lines-spec : {M : Type 1} → statement M
 seambeacon-group-lines-spec =

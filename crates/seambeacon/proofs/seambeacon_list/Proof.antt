@@ -2,7 +2,7 @@
 -- Assumes nothing.
 use borrow.Author.Needs.{needs}
 use mathlib.Core.Path.{_∙_, ap}
-use Rattle.listing.specs.Listing.{listedReply}
+use Rattle.reply.specs.Refusals.{answerReply}
 use Rattle.seambeacon.proofs.Telling.{told-as}
 use Rattle.seambeacon.proofs.seambeacon_list.Statement.{statement}
 use Rattle.seambeacon.proofs.seambeacon_list.Tie as tie
@@ -10,7 +10,7 @@ use Rattle.seambeacon.proofs.seambeacon_list.Tie as tie
 returns : tie.Need-returns
 returns c =
     let e = c .before .before .before .before .before .list .ensures in
-    (told-as (c .before .before .reply-of .ensures ∙ ap listedReply (e .answer)) (c .tell .ensures), e .bytes)
+    (told-as (c .before .before .of-answer .ensures ∙ ap answerReply (e .0)) (c .tell .ensures), e .1)
 
 pub seambeacon-list-spec : {M : Type 1} → statement M
 seambeacon-list-spec =

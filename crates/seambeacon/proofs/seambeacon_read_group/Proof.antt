@@ -2,7 +2,7 @@
 -- Assumes nothing.
 use borrow.Author.Needs.{needs}
 use mathlib.Core.Path.{_∙_, ap}
-use Rattle.reading.specs.Numbered.{readingReply}
+use Rattle.reply.specs.Refusals.{answerReply}
 use Rattle.seambeacon.proofs.Telling.{told-as}
 use Rattle.seambeacon.proofs.seambeacon_read_group.Statement.{statement}
 use Rattle.seambeacon.proofs.seambeacon_read_group.Tie as tie
@@ -10,7 +10,7 @@ use Rattle.seambeacon.proofs.seambeacon_read_group.Tie as tie
 returns : tie.Need-returns
 returns c =
     let e = c .before .before .before .before .read-group .ensures in
-    let told = told-as (c .before .before .reply-of .ensures ∙ ap readingReply (e .0)) (c .tell .ensures) in
+    let told = told-as (c .before .before .of-answer .ensures ∙ ap answerReply (e .0)) (c .tell .ensures) in
     search (needs, told, e)
 
 pub seambeacon-read-group-spec : {M : Type 1} → statement M

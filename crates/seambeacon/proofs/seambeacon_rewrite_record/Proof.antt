@@ -4,7 +4,7 @@ use borrow.Author.Needs.{needs}
 use mathlib.Core.Path.{_∙_, ap}
 use mathlib.Core.List.{[], _∷_}
 use Rattle.rewriting.specs.Numbered.{rewritingReply, rewritingGroup}
-use Rattle.rewriting.specs.Record.{tableBy, bufferBy}
+use Rattle.rewriting.specs.Record.{tableAfter, bufferBy}
 use Rattle.seambeacon.proofs.Telling.{told-as}
 use Rattle.seambeacon.proofs.seambeacon_rewrite_record.Statement.{statement}
 use Rattle.seambeacon.proofs.seambeacon_rewrite_record.Tie as tie
@@ -13,8 +13,15 @@ returns : tie.Need-returns
 returns c =
     let e = c .before .before .before .before .before .before .before .before .rewrite-record .ensures in
     let a = c .before .before .before .before .before .before .before .before .before .before .before .before .before .args in
-    let g = c .before .before .before .before .group-of .ensures in
-    (told-as (c .before .before .reply-of .ensures ∙ ap rewritingReply (e .0)) (c .tell .ensures), (ap (λ k. k ∷ []) (g ∙ ap rewritingGroup (e .0)), (e .1 .0 ∙ ap (λ w. tableBy (a .text .now) (a .at) w (a .table .now)) (e .0), e .1 .1 ∙ ap (λ w. bufferBy (a .text .now) (a .at) w (a .out .now)) (e .0))))
+    let g = c .before .before .before .before .group-of .ensures in (
+      told-as (c .before .before .reply-of .ensures ∙ ap rewritingReply (e .0))
+          (c .tell .ensures),
+      (
+        ap (λ k. k ∷ [])
+            (g ∙ ap rewritingGroup (e .0)),
+        (e .1 .0 ∙ ap (λ w. tableAfter (a .text .now) (a .at) w (a .table .now)) (e .0), e .1 .1 ∙ ap (λ w. bufferBy (a .text .now) (a .at) w (a .out .now)) (e .0)),
+      ),
+    )
 
 pub seambeacon-rewrite-record-spec : {M : Type 1} → statement M
 seambeacon-rewrite-record-spec =

@@ -23,22 +23,38 @@ form-in-requires c κs = (c .before .loop .inv .low, omega arith)
 elements-fit-requires : tie.Need-elements-fit-requires Inv-loop μ-loop
 elements-fit-requires c κs =
     let o = c .before .before .before .before .before in
-    group-range (o .args .counts .now) (o .args .cells .now) (c .before .before .before .loop .inv) (c .before .before .loop-test .taken) (c .before .form-in .result) (c .before .form-in .ensures) (c .count-of .result) (c .count-of .ensures) (o .pre)
+    group-range (o .args .counts .now) (o .args .cells .now) (c .before .before .before .loop .inv) (c .before .before .loop-test .taken) (c .before .form-in .result)
+    (c .before .form-in .ensures) (c .count-of .result) (c .count-of .ensures) (o .pre)
 
 returns : tie.Need-returns Inv-loop μ-loop
 returns c =
     let o = c .before .before .before .before .before .before .before .before .before in
-    groups-bad (o .args .counts .now) (o .args .cells .now) (c .before .before .before .before .before .before .before .loop .inv) (c .before .before .before .before .before .before .loop-test .taken) (c .before .before .before .before .before .form-in .result) (c .before .before .before .before .before .form-in .ensures) (c .before .before .before .before .count-of .result) (c .before .before .before .before .count-of .ensures) (sym (c .before .before .before .elements-fit .ensures) ∙ c .before .fit .given .1)
+    groups-bad (o .args .counts .now) (o .args .cells .now) (c .before .before .before .before .before .before .before .loop .inv)
+    (c .before .before .before .before .before .before .loop-test .taken) (c .before .before .before .before .before .form-in .result)
+    (c .before .before .before .before .before .form-in .ensures) (c .before .before .before .before .count-of .result)
+    (c .before .before .before .before .count-of .ensures) (sym (c .before .before .before .elements-fit .ensures) ∙ c .before .fit .given .1)
 
 add-from : tie.Need-add-from Inv-loop μ-loop
 add-from c =
     let o = c .before .before .before .before .before .before .before .before .before in
-    record { fits = omega (arith, c .cells .ensures, group-range (o .args .counts .now) (o .args .cells .now) (c .before .before .before .before .before .before .before .loop .inv) (c .before .before .before .before .before .before .loop-test .taken) (c .before .before .before .before .before .form-in .result) (c .before .before .before .before .before .form-in .ensures) (c .before .before .before .before .count-of .result) (c .before .before .before .before .count-of .ensures) (o .pre)) }
+    record {
+      fits = omega (
+        arith,
+        c .cells .ensures,
+        group-range (o .args .counts .now) (o .args .cells .now) (c .before .before .before .before .before .before .before .loop .inv)
+            (c .before .before .before .before .before .before .loop-test .taken) (c .before .before .before .before .before .form-in .result)
+            (c .before .before .before .before .before .form-in .ensures) (c .before .before .before .before .count-of .result) (c .before .before .before .before .count-of .ensures) (o .pre),
+      );
+    }
 
 loop-again : tie.Need-loop-again Inv-loop μ-loop
 loop-again c =
     let o = c .before .before .before .before .before .before .before .before .before in
-    rw (c .cells .ensures) (groups-more (o .args .counts .now) (o .args .cells .now) (c .before .before .before .before .before .before .before .loop .inv) (c .before .before .before .before .before .before .loop-test .taken) (c .before .before .before .before .before .form-in .result) (c .before .before .before .before .before .form-in .ensures) (c .before .before .before .before .count-of .result) (c .before .before .before .before .count-of .ensures) (sym (c .before .before .before .elements-fit .ensures) ∙ c .before .enum-told .given .1))
+    rw (c .cells .ensures)
+    (groups-more (o .args .counts .now) (o .args .cells .now) (c .before .before .before .before .before .before .before .loop .inv)
+    (c .before .before .before .before .before .before .loop-test .taken) (c .before .before .before .before .before .form-in .result)
+    (c .before .before .before .before .before .form-in .ensures) (c .before .before .before .before .count-of .result)
+    (c .before .before .before .before .count-of .ensures) (sym (c .before .before .before .elements-fit .ensures) ∙ c .before .enum-told .given .1))
 
 returns-2 : tie.Need-returns-2 Inv-loop μ-loop
 returns-2 c =

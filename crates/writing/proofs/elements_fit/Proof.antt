@@ -21,7 +21,8 @@ loop-holds c =
 
 add-to : tie.Need-add-to Inv-loop μ-loop
 add-to c =
-    let r = element-range (c .before .before .before .before .args .form) (c .before .before .before .before .args .group) (c .before .before .before .before .args .count) (c .before .before .before .before .args .cells .now) (c .before .before .before .before .args .from) (c .before .loop .inv) (c .loop-test .taken) (c .before .before .before .before .pre) in
+    let r = element-range (c .before .before .before .before .args .form) (c .before .before .before .before .args .group) (c .before .before .before .before .args .count)
+    (c .before .before .before .before .args .cells .now) (c .before .before .before .before .args .from) (c .before .loop .inv) (c .loop-test .taken) (c .before .before .before .before .pre) in
     record { fits = omega (arith, r .1) }
 
 fits-at-requires : tie.Need-fits-at-requires Inv-loop μ-loop
@@ -32,12 +33,14 @@ fits-at-requires c κs =
 loop-again : tie.Need-loop-again Inv-loop μ-loop
 loop-again c =
     let o = c .before .before .before .before .before .before in
-    elements-more (o .args .form) (o .args .group) (o .args .count) (o .args .cells .now) (o .args .from) (c .before .before .before .loop .inv) (c .before .before .loop-test .taken) (sym (c .before .fits-at .ensures) ∙ c .if1 .taken)
+    elements-more (o .args .form) (o .args .group) (o .args .count) (o .args .cells .now) (o .args .from) (c .before .before .before .loop .inv)
+    (c .before .before .loop-test .taken) (sym (c .before .fits-at .ensures) ∙ c .if1 .taken)
 
 returns : tie.Need-returns Inv-loop μ-loop
 returns c =
     let o = c .before .before .before .before .before .before in
-    elements-bad (o .args .form) (o .args .group) (o .args .count) (o .args .cells .now) (o .args .from) (c .before .before .before .loop .inv) (c .before .before .loop-test .taken) (sym (c .before .fits-at .ensures) ∙ c .if1 .left)
+    elements-bad (o .args .form) (o .args .group) (o .args .count) (o .args .cells .now) (o .args .from) (c .before .before .before .loop .inv)
+    (c .before .before .loop-test .taken) (sym (c .before .fits-at .ensures) ∙ c .if1 .left)
 
 returns-2 : tie.Need-returns-2 Inv-loop μ-loop
 returns-2 c =

@@ -23,11 +23,26 @@ add-result : tie.Need-add-result
 unfolding Count.linesOf
 add-result c =
     let b = bytes-few (c .before .before .before .before .args .form) (c .before .before .before .before .args .count) (omega arith) in
-    record { fits = rw (c .rounded-up .ensures, c .before .before .elements .ensures, ap (λ r. r .«per_line») (c .before .before .before .row-of .ensures), ap (λ r. r .width) (c .before .before .before .row-of .ensures)) (omega (arith, b .0, b .1)) }
+    record {
+      fits = rw (
+        c .rounded-up .ensures,
+        c .before .before .elements .ensures,
+        ap (λ r. r .«per_line») (c .before .before .before .row-of .ensures),
+        ap (λ r. r .width)
+            (c .before .before .before .row-of .ensures),
+      ) (omega (arith, b .0, b .1));
+    }
 
 returns : tie.Need-returns
 unfolding Count.linesOf
-returns c = rw (c .rounded-up .ensures, c .before .before .elements .ensures, ap (λ r. r .«per_line») (c .before .before .before .row-of .ensures), ap (λ r. r .width) (c .before .before .before .row-of .ensures))
+returns c =
+    rw (
+      c .rounded-up .ensures,
+      c .before .before .elements .ensures,
+      ap (λ r. r .«per_line») (c .before .before .before .row-of .ensures),
+      ap (λ r. r .width)
+          (c .before .before .before .row-of .ensures),
+    )
 
 pub group-bytes-spec : {M : Type 1} → statement M
 group-bytes-spec =

@@ -25,12 +25,19 @@ put-entry-requires c κs =
 add-a : tie.Need-add-a Inv-loop μ-loop
 add-a c =
     let o = c .before .before .before .before .before .before .before .before .before in
-    record { fits = omega (arith, entry-room (o .args .counts .now) (o .args .out .now) (o .args .at) (c .before .before .before .before .before .before .loop .inv) (c .before .before .before .before .before .loop-test .taken)) }
+    record {
+      fits = omega (
+        arith,
+        entry-room (o .args .counts .now) (o .args .out .now) (o .args .at) (c .before .before .before .before .before .before .loop .inv)
+            (c .before .before .before .before .before .loop-test .taken),
+      );
+    }
 
 loop-again : tie.Need-loop-again Inv-loop μ-loop
 loop-again c =
     let o = c .before .before .before .before .before .before .before .before .before in
-    entries-next (o .args .counts .now) (o .args .out .now) (o .args .at) (c .before .before .before .before .before .before .loop .inv) (c .before .before .before .before .before .loop-test .taken) _ (c .before .before .put-entry .ensures)
+    entries-next (o .args .counts .now) (o .args .out .now) (o .args .at) (c .before .before .before .before .before .before .loop .inv)
+    (c .before .before .before .before .before .loop-test .taken) _ (c .before .before .put-entry .ensures)
 
 same-length : tie.Need-same-length Inv-loop μ-loop
 same-length c = c .before .loop .inv .put .long

@@ -24,18 +24,34 @@ form-in-requires c κs = (c .before .loop .inv .low, omega arith)
 put-lines-requires : tie.Need-put-lines-requires Inv-loop μ-loop
 put-lines-requires c κs =
     let o = c .before .before .before .before .before .before .before in
-    let all = group-requires (o .args .counts .now) (o .args .cells .now) (o .args .at) (o .args .out .now) (c .before .before .before .before .loop .inv) (c .before .before .before .loop-test .taken) (o .pre .1 .0) (o .pre .0) (c .before .before .form-in .result) (c .before .before .form-in .ensures) (c .before .count-of .result) (c .before .count-of .ensures) in
+    let all =
+    group-requires (o .args .counts .now) (o .args .cells .now) (o .args .at) (o .args .out .now) (c .before .before .before .before .loop .inv)
+    (c .before .before .before .loop-test .taken) (o .pre .1 .0) (o .pre .0) (c .before .before .form-in .result) (c .before .before .form-in .ensures)
+    (c .before .count-of .result) (c .before .count-of .ensures) in
     (all .0, (all .1, all .2))
 
 add-from : tie.Need-add-from Inv-loop μ-loop
 add-from c =
-    let r = group-requires (c .before .before .before .before .before .before .before .before .before .before .before .args .counts .now) (c .before .before .before .before .before .before .before .before .before .before .before .args .cells .now) (c .before .before .before .before .before .before .before .before .before .before .before .args .at) (c .before .before .before .before .before .before .before .before .before .before .before .args .out .now) (c .before .before .before .before .before .before .before .before .loop .inv) (c .before .before .before .before .before .before .before .loop-test .taken) (c .before .before .before .before .before .before .before .before .before .before .before .pre .1 .0) (c .before .before .before .before .before .before .before .before .before .before .before .pre .0) (c .before .before .before .before .before .before .form-in .result) (c .before .before .before .before .before .before .form-in .ensures) (c .before .before .before .before .before .count-of .result) (c .before .before .before .before .before .count-of .ensures) in
+    let r = group-requires (c .before .before .before .before .before .before .before .before .before .before .before .args .counts .now)
+    (c .before .before .before .before .before .before .before .before .before .before .before .args .cells .now)
+    (c .before .before .before .before .before .before .before .before .before .before .before .args .at)
+    (c .before .before .before .before .before .before .before .before .before .before .before .args .out .now)
+    (c .before .before .before .before .before .before .before .before .loop .inv) (c .before .before .before .before .before .before .before .loop-test .taken)
+    (c .before .before .before .before .before .before .before .before .before .before .before .pre .1 .0)
+    (c .before .before .before .before .before .before .before .before .before .before .before .pre .0)
+    (c .before .before .before .before .before .before .form-in .result) (c .before .before .before .before .before .before .form-in .ensures)
+    (c .before .before .before .before .before .count-of .result) (c .before .before .before .before .before .count-of .ensures) in
     record { fits = omega (arith, r .0, c .cells .ensures) }
 
 loop-again : tie.Need-loop-again Inv-loop μ-loop
 loop-again c =
     let o = c .before .before .before .before .before .before .before .before .before .before .before in
-    rw (c .cells .ensures) (groups-put-next (o .args .counts .now) (o .args .cells .now) (o .args .at) (o .args .out .now) (c .before .before .before .before .before .before .before .before .loop .inv) (c .before .before .before .before .before .before .before .loop-test .taken) (o .pre .1 .0) (o .pre .0) (c .before .before .before .before .before .before .form-in .result) (c .before .before .before .before .before .before .form-in .ensures) (c .before .before .before .before .before .count-of .result) (c .before .before .before .before .before .count-of .ensures) _ _ (c .before .before .before .put-lines .ensures .0) (c .before .before .before .put-lines .ensures .1))
+    rw (c .cells .ensures)
+    (groups-put-next (o .args .counts .now) (o .args .cells .now) (o .args .at) (o .args .out .now)
+    (c .before .before .before .before .before .before .before .before .loop .inv) (c .before .before .before .before .before .before .before .loop-test .taken)
+    (o .pre .1 .0) (o .pre .0) (c .before .before .before .before .before .before .form-in .result)
+    (c .before .before .before .before .before .before .form-in .ensures) (c .before .before .before .before .before .count-of .result)
+    (c .before .before .before .before .before .count-of .ensures) _ _ (c .before .before .before .put-lines .ensures .0) (c .before .before .before .put-lines .ensures .1))
 
 same-length : tie.Need-same-length Inv-loop μ-loop
 same-length c = c .before .loop .inv .put .long

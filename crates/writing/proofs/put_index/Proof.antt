@@ -8,7 +8,8 @@ use Rattle.writing.proofs.put_index.Tie as tie
 returns : tie.Need-returns
 returns c =
     let o = c .before .before .before .before .before .before .before .before .before .before .before .before in
-    index-put (o .args .counts .now) (o .args .out .now) _ _ (o .pre .0) (o .pre .1) (c .before .before .before .before .before .before .before .put-index-line .ensures) (c .before .before .put-index-line2 .ensures)
+    index-put (o .args .counts .now) (o .args .out .now) _ _ (o .pre .0) (o .pre .1) (c .before .before .before .before .before .before .before .put-index-line .ensures)
+    (c .before .before .put-index-line2 .ensures)
 
 pub put-index-spec : {M : Type 1} → statement M
 put-index-spec =

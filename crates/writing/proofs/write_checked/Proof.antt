@@ -15,7 +15,11 @@ date-of-requires : tie.Need-date-of-requires
 date-of-requires c κs = (c .before .before .before .before .before .pre, sym (c .before .before .cells-fit .ensures) ∙ c .enum-told .given .1)
 
 write-right-requires : tie.Need-write-right-requires
-write-right-requires c κs = (c .before .before .before .before .before .before .before .before .before .pre, sym (c .before .before .before .before .before .before .cells-fit .ensures) ∙ c .before .before .before .before .enum-told .given .1)
+write-right-requires c κs = (
+  c .before .before .before .before .before .before .before .before .before .pre,
+  sym (c .before .before .before .before .before .before .cells-fit .ensures)
+      ∙ c .before .before .before .before .enum-told .given .1,
+)
 
 returns : tie.Need-returns
 returns c =
@@ -25,12 +29,17 @@ returns c =
 returns-2 : tie.Need-returns-2
 returns-2 c =
     let o = c .before .before .before .before .before .before .before .before .before in
-    date-bad (o .args .counts .now) (o .args .cells .now) (o .args .out .now) (sym (c .before .before .before .before .before .before .cells-fit .ensures) ∙ c .before .before .before .before .enum-told .given .1) (sym (c .before .before .before .date-of .ensures) ∙ c .before .position .given .1)
+    date-bad (o .args .counts .now) (o .args .cells .now) (o .args .out .now)
+    (sym (c .before .before .before .before .before .before .cells-fit .ensures) ∙ c .before .before .before .before .enum-told .given .1)
+    (sym (c .before .before .before .date-of .ensures) ∙ c .before .position .given .1)
 
 returns-3 : tie.Need-returns-3
 returns-3 c =
     let o = c .before .before .before .before .before .before .before .before .before .before .before .before in
-    date-right (o .args .counts .now) (o .args .cells .now) (o .args .out .now) (sym (c .before .before .before .before .before .before .before .before .before .cells-fit .ensures) ∙ c .before .before .before .before .before .before .before .enum-told .given .1) (sym (c .before .before .before .before .before .before .date-of .ensures) ∙ c .before .before .before .before .enum-told2 .given .1) (c .before .before .write-right .ensures)
+    date-right (o .args .counts .now) (o .args .cells .now) (o .args .out .now)
+    (sym (c .before .before .before .before .before .before .before .before .before .cells-fit .ensures)
+    ∙ c .before .before .before .before .before .before .before .enum-told .given .1)
+    (sym (c .before .before .before .before .before .before .date-of .ensures) ∙ c .before .before .before .before .enum-told2 .given .1) (c .before .before .write-right .ensures)
 
 pub write-checked-spec : {M : Type 1} → statement M
 write-checked-spec =

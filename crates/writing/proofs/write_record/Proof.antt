@@ -12,32 +12,13 @@ write-checked-requires c κs = sym (c .before .before .before .check .ensures) �
 returns : tie.Need-returns
 returns c =
     let o = c .before .before .before .before .before .before .before .before .before in
-    checked-by (o .args .counts .now) (o .args .cells .now) (o .args .out .now) (sym (c .before .before .before .before .before .before .check .ensures) ∙ c .before .before .before .before .enum-told .given .1) (c .before .before .write-checked .ensures)
+    checked-by (o .args .counts .now) (o .args .cells .now) (o .args .out .now)
+    (sym (c .before .before .before .before .before .before .check .ensures) ∙ c .before .before .before .before .enum-told .given .1) (c .before .before .write-checked .ensures)
 
 returns-2 : tie.Need-returns-2
 returns-2 c =
-    let o = c .before .before .before .before .before in
-    checked-by (o .args .counts .now) (o .args .cells .now) (o .args .out .now) (sym (c .before .before .check .ensures) ∙ c .enum-told2 .given .1) (refl, refl)
-
-returns-3 : tie.Need-returns-3
-returns-3 c =
-    let o = c .before .before .before .before .before in
-    checked-by (o .args .counts .now) (o .args .cells .now) (o .args .out .now) (sym (c .before .before .check .ensures) ∙ c .enum-told3 .given .1) (refl, refl)
-
-returns-4 : tie.Need-returns-4
-returns-4 c =
     let o = c .before .before .before .before .before .before in
-    checked-by (o .args .counts .now) (o .args .cells .now) (o .args .out .now) (sym (c .before .before .before .check .ensures) ∙ c .before .g .given .1) (refl, refl)
-
-returns-5 : tie.Need-returns-5
-returns-5 c =
-    let o = c .before .before .before .before .before .before in
-    checked-by (o .args .counts .now) (o .args .cells .now) (o .args .out .now) (sym (c .before .before .before .check .ensures) ∙ c .before .g2 .given .1) (refl, refl)
-
-returns-6 : tie.Need-returns-6
-returns-6 c =
-    let o = c .before .before .before .before .before in
-    checked-by (o .args .counts .now) (o .args .cells .now) (o .args .out .now) (sym (c .before .before .check .ensures) ∙ c .enum-told4 .given .1) (refl, refl)
+    checked-by (o .args .counts .now) (o .args .cells .now) (o .args .out .now) (sym (c .before .before .before .check .ensures) ∙ c .before .why .given .1) (refl, refl)
 
 pub write-record-spec : {M : Type 1} → statement M
 write-record-spec =
@@ -48,13 +29,5 @@ write-record-spec =
     write-checked-requires
     (λ c. search needs)
     (λ c. search needs)
-    (λ c. search needs)
-    (λ c. search needs)
-    (λ c. search needs)
-    (λ c. search needs)
     returns
-    returns-2
-    returns-3
-    returns-4
-    returns-5
-    returns-6)
+    returns-2)

@@ -5,28 +5,28 @@ use Prim.Native.Nat.{_+_, _-_}
 use lib.ListN.{length}
 use borrow.Author.Tests.{lt-leb, le-leb}
 use Rattle.base.proofs.Choice.{and-false}
-use Rattle.date.specs.Digits.{digitsOf}
+use Rattle.date.specs.Digits.{fieldDigits}
 use Rattle.date.proofs.DigitField.read.Statement.{statement}
 use Rattle.date.proofs.DigitField.read.Tie as tie
 
 returns : tie.Need-returns
-unfolding digitsOf
+unfolding fieldDigits
 returns c = rw (lt-leb 1 _ (c .if1 .taken))
 
 returns-2 : tie.Need-returns-2
-unfolding digitsOf
+unfolding fieldDigits
 returns-2 c =
     let a = c .before .before .before .args in
     rw (lt-leb (a .self .first - 1 + a .self .length) (length (a .text .now)) (omega arith), and-false _)
 
 returns-3 : tie.Need-returns-3
-unfolding digitsOf
+unfolding fieldDigits
 returns-3 c =
     let a = c .before .before .before .before .args in
     rw (lt-leb (a .self .first - 1 + a .self .length) (length (a .text .now)) (omega arith), and-false _)
 
 returns-4 : tie.Need-returns-4
-unfolding digitsOf
+unfolding fieldDigits
 returns-4 c =
     let a = c .before .before .before .before .before .before .args in
     rw (le-leb 1 (a .self .first) (omega arith), le-leb (a .self .first - 1 + a .self .length) (length (a .text .now)) (omega arith))
