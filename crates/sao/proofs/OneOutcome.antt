@@ -101,6 +101,6 @@ undo-to-savepoint-one κs (counts, (cells, (journal, (used, (n, _))))) r q v w l
 pub replay-one : OneOutcome replay.ended replay.Reads.Learnt
 replay-one κs (counts, (cells, (journal, (used, _)))) r q v w l k =
     let answer = l .0 ∙ sym (k .0) in
-    let open = l .1 .0 ∙ ap (replayedOpen (now counts) (now journal) used (now cells)) answer ∙ sym (k .1 .0) in
+    let opened = l .1 .0 ∙ ap (replayedOpen (now counts) (now journal) used (now cells)) answer ∙ sym (k .1 .0) in
     let table = l .1 .1 ∙ ap (replayedCells (now counts) (now journal) used (now cells)) answer ∙ sym (k .1 .1) in
-    (λ i. record { answer = answer i; open = open i }, λ i. (tt, (table i, (tt, (tt, tt)))))
+    (λ i. record { answer = answer i; «open» = opened i }, λ i. (tt, (table i, (tt, (tt, tt)))))
