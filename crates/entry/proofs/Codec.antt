@@ -1,16 +1,16 @@
 -- R520 to R524: what is written for an entry reads as the entry, whatever stands behind; what is read from bytes is written as these bytes.
 -- Assumes nothing.
 use mathlib.Core.Path.{_≡_, refl, sym, ap, ap₂, _∙_}
-use mathlib.Core.Bool.{Bool, true, false, cond}
+use mathlib.Core.Bool.{cond}
 use mathlib.Core.List.{List, [], _∷_, _++_, append-assoc}
-use Prim.Native.Nat.{ℕ, zero, suc, _+_, _-_, _*_, _/_, _%_, _^_, _<_, _≤_}
+use Prim.Native.Nat.{ℕ, zero, suc, _+_, _-_, _/_, _%_, _^_, _<_, _≤_}
 use native.Mathlib.Nat.{zero-add}
 use native.Mathlib.Omega.{arith}
 use lib.Dec.{ltb, eqb}
-use lib.IntN.{ℤ, pos, negsuc}
-use lib.ListN.{length, getD, take, drop, length-append, length-drop, length-take, take-append-drop}
+use lib.IntN.{ℤ}
+use lib.ListN.{length, take, drop, length-append, length-drop, length-take, take-append-drop}
 use lib.Seq.{take-at, drop-at, drop-drop, take-take, length-take-le}
-use borrow.Author.Tests.{lt-ltb, le-ltb, ne-eqb, eq-eqb, ltb-false, eqb-true}
+use borrow.Author.Tests.{lt-ltb, le-ltb, ltb-false, eqb-true}
 use mir.Syntax.{w64}
 use mir.Val.{SFits}
 use Rattle.base.proofs.Choice.{cond-elim}
@@ -18,7 +18,7 @@ use Rattle.base.proofs.Taken.{take-none, drop-take}
 use Rattle.entry.specs.declared.Entry.{Entry}
 use Rattle.entry.specs.declared.Entry.the-variants.{Set, Open, Release, Undo, Misformed}
 use Rattle.entry.specs.Bytes.{bytesOf, valueFrom, bitsOf, cellOf, AllBytes}
-use Rattle.entry.specs.Field.{tagged, textOf, sizeOf, numbered, setOf, fieldOf, fieldAt}
+use Rattle.entry.specs.Field.{tagged, textOf, sizeOf, numbered, setOf, fieldOf}
 use Rattle.entry.proofs.Numbers.{length-bytes, value-bytes, bytes-value, value-small}
 use Rattle.entry.proofs.Signed.{bits-small, cell-bits, bits-cell}
 
@@ -181,7 +181,8 @@ module _ (a b c d : ℕ) (r : List ℕ) (h : AllBytes (a ∷ b ∷ c ∷ d ∷ r
       let body : setBody (valueFrom 0 g) (valueFrom 0 x) (cellOf (valueFrom 0 y)) (cellOf (valueFrom 0 z)) ≡ g ++ (x ++ (y ++ z)) = rw (ty, tz, bytes-value 1 g lg hg, bytes-value 2 x lx hx) in
       let cut : take 18 r ≡ x ++ (y ++ z) = take-plus 2 16 r ∙ ap (λ l. x ++ l) (take-plus 8 8 (drop 2 r) ∙ ap (λ l. y ++ take 8 l) (drop-drop 8 2 r)) in
       record {
-        text = rw (ea, eb, ec, cut) (sym (text-set (valueFrom 0 g) (valueFrom 0 x) (cellOf (valueFrom 0 y)) (cellOf (valueFrom 0 z)) ∙ ap (λ l. 1 ∷ 0 ∷ 19 ∷ l) (body ∙ ap (λ l. (d ∷ l) ++ (x ++ (y ++ z))) (take-none r))));
+        text = rw (ea, eb, ec, cut)
+            (sym (text-set (valueFrom 0 g) (valueFrom 0 x) (cellOf (valueFrom 0 y)) (cellOf (valueFrom 0 z)) ∙ ap (λ l. 1 ∷ 0 ∷ 19 ∷ l) (body ∙ ap (λ l. (d ∷ l) ++ (x ++ (y ++ z))) (take-none r))));
         sized = sized-set (value-small 1 g lg hg) (value-small 2 x lx hx) (bits-cell (valueFrom 0 y) vy .1) (bits-cell (valueFrom 0 z) vz .1);
       }
 
@@ -191,7 +192,9 @@ module _ (a b c d : ℕ) (r : List ℕ) (h : AllBytes (a ∷ b ∷ c ∷ d ∷ r
       rw (le-ltb (suc (suc (suc (suc (length r))))) 4 (omega arith))
       (cond-elim Read (eqb b 0) (λ qb.
       cond-elim Read (eqb a 1)
-      (λ qa. cond-elim Read (eqb c 19) (λ qc. cond-elim Read (ltb (suc (suc (suc (suc (length r))))) 22) (λ _. bad) (λ q n. read-set (eqb-true a 1 qa) (eqb-true b 0 qb) (eqb-true c 19 qc) (omega (arith, ltb-false (suc (suc (suc (suc (length r))))) 22 q)))) (λ _. bad))
+      (λ qa. cond-elim Read (eqb c 19)
+      (λ qc. cond-elim Read (ltb (suc (suc (suc (suc (length r))))) 22) (λ _. bad)
+      (λ q n. read-set (eqb-true a 1 qa) (eqb-true b 0 qb) (eqb-true c 19 qc) (omega (arith, ltb-false (suc (suc (suc (suc (length r))))) 22 q)))) (λ _. bad))
       (λ _. cond-elim Read (eqb c 1) (λ qc. read-numbered (eqb-true b 0 qb) (eqb-true c 1 qc)) (λ _. bad)))
       (λ _. bad))
 

@@ -69,7 +69,14 @@ unfolding bytesOf
 bytes-more zero n out h p = absurd (omega arith)
 bytes-more (suc k) n out h p =
     let q : k < length (set out k (n % 256)) = simp length-set p in
-    rw (before-last k, drop-cons (set out k (n % 256)) k 0 q, getD-set-same out k (n % 256) 0 p, drop-set-lt (suc k) out k (n % 256) (omega arith), append-assoc (bytesOf k (n / 256)) (n % 256 ∷ []) (drop (suc k) out))
+    rw (
+      before-last k,
+      drop-cons (set out k (n % 256)) k 0 q,
+      getD-set-same out k (n % 256) 0 p,
+      drop-set-lt (suc k) out k (n % 256) (omega arith),
+      append-assoc
+          (bytesOf k (n / 256)) (n % 256 ∷ []) (drop (suc k) out),
+    )
 
 pub bytes-whole : (n : ℕ) (out : List ℕ) → bytesOf (length out) n ++ drop (length out) out ≡ bytesOf (length out) n
 bytes-whole n out = rw (drop-of-length-le out {i = length out} (omega arith)) (append-nil (bytesOf (length out) n))
@@ -80,7 +87,8 @@ bytes-done zero n out h = refl
 bytes-done (suc i) n out h = absurd (omega arith)
 
 -- in a part that is lent
-pub bytes-lent : (xs ys : List ℕ) (at w n : ℕ) → at + w ≤ length xs → ys ≡ bytesOf (length (take (at + w - at) (drop at xs))) n → take at xs ++ (ys ++ drop (at + w - at) (drop at xs)) ≡ over at (bytesOf w n) xs
+pub bytes-lent : (xs ys : List ℕ) (at w n : ℕ) → at + w ≤ length xs → ys ≡ bytesOf (length (take (at + w - at) (drop at xs))) n
+    → take at xs ++ (ys ++ drop (at + w - at) (drop at xs)) ≡ over at (bytesOf w n) xs
 bytes-lent xs ys at w n h e =
     let d : at + w - at ≡ w = omega arith in
     let f : ys ≡ bytesOf w n = e ∙ ap (λ k. bytesOf k n) (part-length xs at w h) in

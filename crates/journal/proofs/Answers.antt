@@ -17,7 +17,6 @@ use Rattle.reply.specs.declared.Refusal.{Refusal}
 use Rattle.reply.specs.declared.Refusal.the-variants.{BadEntry}
 use Rattle.reply.specs.declared.Checked.{Checked}
 use Rattle.reply.specs.declared.Checked.the-variants as C
-use Rattle.reply.specs.declared.Answer.{Answer}
 use Rattle.reply.specs.declared.Answer.the-variants.{Refused}
 use Rattle.journal.specs.declared.State.{State}
 use Rattle.journal.specs.Layout.{startsOf}
@@ -106,7 +105,8 @@ module _ {ps s : List ℕ} {t : List ℤ} {r : State} {t′ : List ℤ} (w : Pla
   played-back = ap (λ x. restore ps (entriesAt s 0 (x .count)) (x .cells)) (w .found) ∙ replay-back ps s t
 
 -- R518: a refused call keeps every cell, every byte of the journal, and the bytes used
-pub refused-keeps : (ns j : List ℕ) (used : ℕ) (t : List ℤ) (c : Call) {r : Refusal} → answerOf ns j used (length t) c ≡ Refused r → (cellsBy ns j used c t (answerOf ns j used (length t) c) ≡ t) × (journalBy ns j used c t (answerOf ns j used (length t) c) ≡ j) × (usedBy used c (answerOf ns j used (length t) c) ≡ used)
+pub refused-keeps : (ns j : List ℕ) (used : ℕ) (t : List ℤ) (c : Call) {r : Refusal} → answerOf ns j used (length t) c ≡ Refused r
+    → (cellsBy ns j used c t (answerOf ns j used (length t) c) ≡ t) × (journalBy ns j used c t (answerOf ns j used (length t) c) ≡ j) × (usedBy used c (answerOf ns j used (length t) c) ≡ used)
 refused-keeps ns j used t c e = rw e (refl, refl, refl)
 
 pub refused-replay-keeps : (ns j : List ℕ) (used : ℕ) (t : List ℤ) {r : Refusal} → replayOf ns j used t ≡ C.Refused r → replayedCells ns j used t (replayOf ns j used t) ≡ t

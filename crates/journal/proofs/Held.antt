@@ -1,19 +1,18 @@
 -- The tables that a stack saved are what a journal's entries give back: at each opening, and behind each call that is accepted.
 -- Assumes nothing.
-use mathlib.Core.Path.{_≡_, refl, sym, ap, _∙_}
-use mathlib.Core.Bool.{Bool, true, false, _&&_}
+use mathlib.Core.Path.{_≡_, refl, ap, _∙_}
+use mathlib.Core.Bool.{true}
 use mathlib.Core.List.{List, [], _∷_, _++_}
 use Prim.Native.Nat.{ℕ, zero, suc, _+_, _-_, _<_, _≤_}
 use native.Mathlib.Nat.{not-suc-le-zero, le-of-suc-le-suc, le-trans}
 use native.Mathlib.Omega.{arith}
-use lib.Dec.{eqb, leb, ltb}
-use lib.IntN.{ℤ, pos}
+use lib.IntN.{ℤ}
 use lib.ListN.{length, getD, drop, length-append}
 use lib.Seq.{drop-append-le, drop-length}
 use Rattle.entry.specs.declared.Entry.{Entry}
-use Rattle.entry.specs.declared.Entry.the-variants.{Set, Open, Release, Undo, Misformed}
+use Rattle.entry.specs.declared.Entry.the-variants.{Release, Undo}
 use Rattle.journal.specs.Layout.{spotOf, getAt, putAt}
-use Rattle.journal.specs.Model.{Call, Sets, Opens, Releases, Undoes, accepts, Stack, stacked, outer, onStack}
+use Rattle.journal.specs.Model.{Call, Sets, Opens, Releases, Undoes, accepts, Stack, stacked, onStack}
 use Rattle.journal.specs.Entries.{markStep, marksFrom, marksOf, markOf, giveBack, restore}
 use Rattle.journal.specs.Calls.{entryFor}
 use Rattle.journal.proofs.Spots.{put-put, put-get}
@@ -35,7 +34,8 @@ module _ {ps : List ℕ} where
   holds-wide h (more l e r) = more (le-trans l h) e r
 
   -- an entry more, which gives the cells back as they were
-  holds-entry : {es : List Entry} {t : List ℤ} {u : ℕ} {ms : List ℕ} {ts : List (List ℤ)} (e : Entry) (t′ : List ℤ) → u ≤ length es → giveBack ps e t′ ≡ t → Holds ps es t u ms ts → Holds ps (es ++ (e ∷ [])) t′ u ms ts
+  holds-entry : {es : List Entry} {t : List ℤ} {u : ℕ} {ms : List ℕ} {ts : List (List ℤ)} (e : Entry) (t′ : List ℤ) → u ≤ length es → giveBack ps e t′ ≡ t → Holds ps es t u ms ts
+      → Holds ps (es ++ (e ∷ [])) t′ u ms ts
   holds-entry e t′ h g none = none
   holds-entry {es} e t′ h g (more {i = i} l q r) =
       more l (ap (λ l. restore ps l t′) (drop-append-le i es (e ∷ []) (omega arith)) ∙ restore-one ps (drop i es) e t′ ∙ ap (restore ps (drop i es)) g ∙ q) (holds-entry e t′ (omega arith) g r)
@@ -52,13 +52,15 @@ module _ {ps : List ℕ} where
   holds-drop (suc n) (more l e r) = holds-drop n (holds-wide l r)
 
   -- the table at the n-th mark
-  pub holds-mark : {es : List Entry} {t : List ℤ} {u : ℕ} {ms : List ℕ} {ts : List (List ℤ)} (n : ℕ) → n < length ms → Holds ps es t u ms ts → (getD ms n 0 ≤ u) × (restore ps (drop (getD ms n 0) es) t ≡ getD ts n [])
+  pub holds-mark : {es : List Entry} {t : List ℤ} {u : ℕ} {ms : List ℕ} {ts : List (List ℤ)} (n : ℕ) → n < length ms → Holds ps es t u ms ts
+      → (getD ms n 0 ≤ u) × (restore ps (drop (getD ms n 0) es) t ≡ getD ts n [])
   holds-mark n h none = absurd (not-suc-le-zero h)
   holds-mark zero h (more l e r) = (l, e)
   holds-mark (suc n) h (more l e r) = let m = holds-mark n (le-of-suc-le-suc h) r in (le-trans (m .0) l, m .1)
 
   -- and all that is left when the cells are brought to it
-  holds-undo : {es : List Entry} {t : List ℤ} {u : ℕ} {ms : List ℕ} {ts : List (List ℤ)} (n : ℕ) → n < length ms → Holds ps es t u ms ts → Holds ps es (restore ps (drop (getD ms n 0) es) t) u (drop n ms) (drop n ts)
+  holds-undo : {es : List Entry} {t : List ℤ} {u : ℕ} {ms : List ℕ} {ts : List (List ℤ)} (n : ℕ) → n < length ms → Holds ps es t u ms ts
+      → Holds ps es (restore ps (drop (getD ms n 0) es) t) u (drop n ms) (drop n ts)
   holds-undo n h none = absurd (not-suc-le-zero h)
   holds-undo {es} {t} zero h (more {i = i} l e r) = more l (restore-again ps (drop i es) t ∙ e) (holds-back i (omega arith) r)
   holds-undo (suc n) h (more l e r) = holds-wide l (holds-undo n (le-of-suc-le-suc h) r)

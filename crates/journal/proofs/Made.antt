@@ -2,18 +2,18 @@
 -- same; by what stands after each call.
 -- Assumes nothing.
 use mathlib.Core.Path.{_≡_, refl, sym, ap, ap₂, _∙_, subst}
-use mathlib.Core.Bool.{Bool, true, false, cond}
+use mathlib.Core.Bool.{Bool, true, false}
 use mathlib.Core.List.{List, [], _∷_, _++_}
 use mathlib.Core.Logic.{_⊎_, inl, inr}
 use Prim.Native.Nat.{ℕ, zero, suc, _+_, _-_, _<_, _≤_}
 use native.Mathlib.Nat.{sub-zero}
 use native.Mathlib.Omega.{arith}
-use lib.Dec.{ltb, leb, eqb}
+use lib.Dec.{ltb, eqb}
 use lib.IntN.{ℤ, pos}
 use lib.ListN.{length, getD, set, drop, take, length-drop, length-append, length-take, take-append-drop, drop-of-length-le}
 use Rattle.base.proofs.Taken.{drop-none, take-none, drop-take}
 use lib.Seq.{take-take, take-at, drop-at, take-append-le, getD-set-same, getD-set-other, set-out, length-take-le}
-use borrow.Author.Tests.{eqb-true, eqb-false, ltb-true, ltb-false, eq-eqb, lt-ltb}
+use borrow.Author.Tests.{eqb-true, eqb-false, ltb-true, ltb-false, eq-eqb}
 use mir.Syntax.{w64}
 use mir.Val.{SFits}
 use Rattle.base.specs.Part.{over}
@@ -32,17 +32,18 @@ use Rattle.entry.specs.Field.{textOf, sizeOf, fieldOf}
 use Rattle.entry.proofs.Codec.{Sized, sized-set, sized-open, sized-release, sized-undo, length-text, field-cut}
 use Rattle.journal.specs.declared.Spot.{Spot}
 use Rattle.journal.specs.declared.Spot.the-variants.{At, Nowhere}
-use Rattle.journal.specs.Layout.{startsOf, spotOf, exists, getAt, putAt}
-use Rattle.journal.specs.Model.{Call, Sets, Opens, Releases, Undoes, accepts, bytesFor, numberFor, refusalOf, decided, Stack, stacked, onStack, modelAnswer, modelStep, modelAnswers, modelRun, byAnswer}
-use Rattle.journal.specs.Entries.{markStep, marksFrom, marksOf, markOf, giveBack, restore, journalText, backTo}
-use Rattle.journal.specs.Walks.{okEntry, Walked, walked, walkOf}
-use Rattle.journal.specs.Calls.{andThen, whole, entryFor, cellsFor, walkIn, standingOf, answerOf}
+use Rattle.journal.specs.Layout.{startsOf, spotOf, getAt, putAt}
+use Rattle.journal.specs.Model.{Call, Sets, Opens, Releases, Undoes, accepts, bytesFor, numberFor, refusalOf, decided, Stack, stacked, onStack}
+use Rattle.journal.specs.Model.{modelAnswer, modelStep, modelAnswers, modelRun, byAnswer}
+use Rattle.journal.specs.Entries.{markStep, marksFrom, marksOf, markOf, giveBack, restore, journalText}
+use Rattle.journal.specs.Walks.{okEntry, walked, walkOf}
+use Rattle.journal.specs.Calls.{whole, entryFor, cellsFor, walkIn, standingOf}
 use Rattle.journal.specs.Plays.{matches, ran, playOf, playIn, replayOf}
 use Rattle.journal.specs.Runs.{Kept, kept, answerTo, leftBy, answersTo, leftTo, openIn, JournalIsStack, ReplaysTo, Torn}
 use Rattle.journal.proofs.Answers.{answer-right, answer-refused}
-use Rattle.journal.proofs.Held.{Holds, none, holds-length, holds-mark, HeldBy, withEntry, cellsOn, marks-entry, held-cells, held-call}
+use Rattle.journal.proofs.Held.{none, holds-length, holds-mark, HeldBy, withEntry, cellsOn, marks-entry, held-cells, held-call}
 use Rattle.journal.proofs.Text.{Fine, fine-none, fine-more, fine-last, text-length, walk-journal, back-journal, text-more, used-more}
-use Rattle.journal.proofs.Walking.{no-way, ok-open, ok-release, ok-undo}
+use Rattle.journal.proofs.Walking.{ok-release, ok-undo}
 use Rattle.journal.proofs.Playing.{same-same}
 use Rattle.journal.proofs.Replays.{Leads, leads-none, leads-last, playedOn, play-cut, no-field, play-journal}
 use Rattle.journal.proofs.Small.{cell-small}
@@ -162,7 +163,8 @@ module _ (ns : List ℕ) (t₀ : List ℤ) where
   fit-call {es} (Undoes k) t f r ft = fit-restore (markOf (marksOf es) k) es t r ft
 
   -- by the bytes as by the entries
-  cells-on : {es : List Entry} {ts : List (List ℤ)} (c : Call) (p : ℕ) (t : List ℤ) → Fine ps es 0 [] → HeldBy ps es t ts → accepts ps c (length (marksOf es)) ≡ true → cellsFor ps c (journalText es) (walked p (length es) (marksOf es)) t ≡ cellsOn ps c es t
+  cells-on : {es : List Entry} {ts : List (List ℤ)} (c : Call) (p : ℕ) (t : List ℤ) → Fine ps es 0 [] → HeldBy ps es t ts → accepts ps c (length (marksOf es)) ≡ true
+      → cellsFor ps c (journalText es) (walked p (length es) (marksOf es)) t ≡ cellsOn ps c es t
   cells-on (Sets g c v) p t r h o = refl
   cells-on Opens p t r h o = refl
   cells-on (Releases k) p t r h o = refl
@@ -191,7 +193,8 @@ module _ (ns : List ℕ) (t₀ : List ℤ) where
     walk-is = ap (walkOf ps) (s .bytes) ∙ walk-journal es (s .fine) ∙ ap (λ p. walked p (length es) (marksOf es)) used-is
 
     -- both answers are one
-    next-of : (a : Answer) → answerTo ns c k ≡ a → modelAnswer ns c (stackOf k ts) ≡ a → (saved : List (List ℤ)) → byAnswer a (onStack ps c (stackOf k ts)) (stackOf k ts) ≡ stackOf (leftBy ns c k a) saved → Stands (leftBy ns c k a) saved → Next c k ts
+    next-of : (a : Answer) → answerTo ns c k ≡ a → modelAnswer ns c (stackOf k ts) ≡ a → (saved : List (List ℤ))
+        → byAnswer a (onStack ps c (stackOf k ts)) (stackOf k ts) ≡ stackOf (leftBy ns c k a) saved → Stands (leftBy ns c k a) saved → Next c k ts
     next-of a e m saved q st =
         record {
           answer = e ∙ sym m;
@@ -263,7 +266,9 @@ module _ (ns : List ℕ) (t₀ : List ℤ) where
       model-done : onStack ps c (stackOf k ts) ≡ stackOf (kept (cellsOn ps c es t) (over (k .used) (textOf e) (k .journal)) (k .used + bytesFor c)) saved
       model-done =
           let z : length (k .journal) - k .used - bytesFor c ≡ length (over (k .used) (textOf e) (k .journal)) - (k .used + bytesFor c) = omega (arith, long) in
-          stack-is c (stackOf k ts) ∙ ap (λ x. stacked x saved (length (k .journal) - k .used - bytesFor c)) (sym (held-cells ps es t ts (length (k .journal) - k .used) (s .held) c ok)) ∙ ap (stacked (cellsOn ps c es t) saved) z
+          stack-is c (stackOf k ts)
+          ∙ ap (λ x. stacked x saved (length (k .journal) - k .used - bytesFor c)) (sym (held-cells ps es t ts (length (k .journal) - k .used) (s .held) c ok))
+          ∙ ap (stacked (cellsOn ps c es t) saved) z
 
       next-done : (n : ℕ) → answerTo ns c k ≡ Done n → modelAnswer ns c (stackOf k ts) ≡ Done n → Next c k ts
       next-done n a m =
@@ -322,7 +327,8 @@ module _ (ns : List ℕ) (t₀ : List ℤ) where
   play-is : (k : Kept) (ts : List (List ℤ)) (s : Stands k ts) → playIn ns (k .journal) (k .used) t₀ ≡ ran (k .used) (length (s .entries)) (marksOf (s .entries)) (k .cells)
   play-is k ts s =
       let used = used-is Opens k ts s in
-      ap (λ x. playOf ps x t₀) (s .bytes) ∙ play-journal (journalText (s .entries)) (s .entries) (s .leads) refl (text-length (s .fine)) ∙ ap (λ p. ran p (length (s .entries)) (marksOf (s .entries)) (k .cells)) used
+      ap (λ x. playOf ps x t₀) (s .bytes) ∙ play-journal (journalText (s .entries)) (s .entries) (s .leads) refl (text-length (s .fine))
+      ∙ ap (λ p. ran p (length (s .entries)) (marksOf (s .entries)) (k .cells)) used
 
   pub replay-stands : (k : Kept) (ts : List (List ℤ)) → Stands k ts → checkedOf ns (length t₀) ≡ C.Right → ReplaysTo ns t₀ k
   unfolding replayOf
@@ -338,11 +344,13 @@ module _ (ns : List ℕ) (t₀ : List ℤ) where
 
 module _ (ns : List ℕ) (t₀ : List ℤ) (right : checkedOf ns (length t₀) ≡ C.Right) where
   -- bytes that begin as those kept, and go on with what is no field
-  cut-here : (k : Kept) (ts : List (List ℤ)) (j : List ℕ) (n : ℕ) → Stands ns t₀ k ts → k .used ≤ n → take (k .used) j ≡ take (k .used) (k .journal) → fieldOf (drop (k .used) (take n j)) ≡ Misformed → replayOf ns j n t₀ ≡ whole (k .used) n
+  cut-here : (k : Kept) (ts : List (List ℤ)) (j : List ℕ) (n : ℕ) → Stands ns t₀ k ts → k .used ≤ n → take (k .used) j ≡ take (k .used) (k .journal)
+      → fieldOf (drop (k .used) (take n j)) ≡ Misformed → replayOf ns j n t₀ ≡ whole (k .used) n
   unfolding replayOf
   cut-here k ts j n s l q x =
       let es = s .entries in
-      let b : take n j ≡ journalText es ++ drop (k .used) (take n j) = sym (take-append-drop (k .used) (take n j)) ∙ ap (λ y. y ++ drop (k .used) (take n j)) (take-take (k .used) n j l ∙ q ∙ s .bytes) in
+      let b : take n j ≡ journalText es ++ drop (k .used) (take n j) =
+      sym (take-append-drop (k .used) (take n j)) ∙ ap (λ y. y ++ drop (k .used) (take n j)) (take-take (k .used) n j l ∙ q ∙ s .bytes) in
       let m : length es ≤ length (take n j) = omega (arith, ap length b, length-append (journalText es) (drop (k .used) (take n j)), text-length (s .fine)) in
       let p = ap (λ r. r .place) (play-cut (take n j) (drop (k .used) (take n j)) x es (s .leads) b m) ∙ used-is ns t₀ Opens k ts s in
       rw (right, p) refl
@@ -378,10 +386,12 @@ module _ (ns : List ℕ) (t₀ : List ℤ) (right : checkedOf ns (length t₀) �
         let x = textOf (a .entry) in
         let m : n - k .used ≤ length x = omega (arith, a .used, length-text (a .entry)) in
         drop-take (k .used) n (k′ .journal) ∙ ap (λ y. take (n - k .used) (drop (k .used) y)) (a .journal)
-        ∙ ap (take (n - k .used)) (drop-at (take (k .used) (k .journal)) (x ++ drop (k .used + length x) (k .journal)) (k .used) long-used) ∙ take-append-le (n - k .used) x (drop (k .used + length x) (k .journal)) m
+        ∙ ap (take (n - k .used)) (drop-at (take (k .used) (k .journal)) (x ++ drop (k .used + length x) (k .journal)) (k .used) long-used)
+        ∙ take-append-le (n - k .used) x (drop (k .used + length x) (k .journal)) m
 
   -- the bytes used stay
-  keeps : (cs : List Call) (k : Kept) (ts : List (List ℤ)) → FitCalls cs → Stands ns t₀ k ts → (k .used ≤ leftTo ns cs k .used) × (take (k .used) (leftTo ns cs k .journal) ≡ take (k .used) (k .journal))
+  keeps : (cs : List Call) (k : Kept) (ts : List (List ℤ)) → FitCalls cs → Stands ns t₀ k ts
+      → (k .used ≤ leftTo ns cs k .used) × (take (k .used) (leftTo ns cs k .journal) ≡ take (k .used) (k .journal))
   keeps [] k ts f s = (omega arith, refl)
   keeps (c ∷ cs) k ts f s =
       let n = next ns t₀ c k ts s (f .0) in
@@ -389,12 +399,18 @@ module _ (ns : List ℕ) (t₀ : List ℤ) (right : checkedOf ns (length t₀) �
       let r = keeps cs k′ (n .saved) (f .1) (n .stands) in
       one (adds c k) r
     where
-      one : (leftBy ns c k (answerTo ns c k) ≡ k) ⊎ Adds k (leftBy ns c k (answerTo ns c k)) → (leftBy ns c k (answerTo ns c k) .used ≤ leftTo ns (c ∷ cs) k .used) × (take (leftBy ns c k (answerTo ns c k) .used) (leftTo ns (c ∷ cs) k .journal) ≡ take (leftBy ns c k (answerTo ns c k) .used) (leftBy ns c k (answerTo ns c k) .journal)) → (k .used ≤ leftTo ns (c ∷ cs) k .used) × (take (k .used) (leftTo ns (c ∷ cs) k .journal) ≡ take (k .used) (k .journal))
+      one : (leftBy ns c k (answerTo ns c k) ≡ k) ⊎ Adds k (leftBy ns c k (answerTo ns c k))
+          → (leftBy ns c k (answerTo ns c k) .used ≤ leftTo ns (c ∷ cs) k .used) ×
+          (take (leftBy ns c k (answerTo ns c k) .used) (leftTo ns (c ∷ cs) k .journal) ≡ take (leftBy ns c k (answerTo ns c k) .used)
+          (leftBy ns c k (answerTo ns c k) .journal)) → (k .used ≤ leftTo ns (c ∷ cs) k .used) × (take (k .used) (leftTo ns (c ∷ cs) k .journal) ≡ take (k .used) (k .journal))
       one (inl q) r = subst (λ x. (x .used ≤ leftTo ns (c ∷ cs) k .used) × (take (x .used) (leftTo ns (c ∷ cs) k .journal) ≡ take (x .used) (x .journal))) q r
       one (inr a) r =
           let k′ = leftBy ns c k (answerTo ns c k) in
-          let l : k .used ≤ k′ .used = omega (arith, a .used) in
-          (omega (arith, r .0), sym (take-take (k .used) (k′ .used) (leftTo ns (c ∷ cs) k .journal) l) ∙ ap (take (k .used)) (r .1) ∙ take-take (k .used) (k′ .used) (k′ .journal) l ∙ adds-keeps k k′ (s .inside) a)
+          let l : k .used ≤ k′ .used = omega (arith, a .used) in (
+            omega (arith, r .0),
+            sym (take-take (k .used) (k′ .used) (leftTo ns (c ∷ cs) k .journal) l) ∙ ap (take (k .used)) (r .1) ∙ take-take (k .used) (k′ .used) (k′ .journal) l
+                ∙ adds-keeps k k′ (s .inside) a,
+          )
 
   -- the same bytes used in another buffer
   moved : (k : Kept) (ts : List (List ℤ)) (j : List ℕ) → Stands ns t₀ k ts → take (k .used) j ≡ take (k .used) (k .journal) → Stands ns t₀ (kept (k .cells) j (k .used)) ts
@@ -424,7 +440,11 @@ module _ (ns : List ℕ) (t₀ : List ℤ) (right : checkedOf ns (length t₀) �
       let k′ = leftBy ns c k (answerTo ns c k) in
       by (le-or-lt (k′ .used) n) (λ m. torn cs k′ (x .saved) n (f .1) (x .stands) m h) (keeps (c ∷ cs) k ts f s .1) (keeps cs k′ (x .saved) (f .1) (x .stands) .1) (adds c k)
     where
-      by : (leftBy ns c k (answerTo ns c k) .used ≤ n) ⊎ (n < leftBy ns c k (answerTo ns c k) .used) → (leftBy ns c k (answerTo ns c k) .used ≤ n → Torn ns t₀ cs (leftBy ns c k (answerTo ns c k)) n) → take (k .used) (leftTo ns (c ∷ cs) k .journal) ≡ take (k .used) (k .journal) → take (leftBy ns c k (answerTo ns c k) .used) (leftTo ns (c ∷ cs) k .journal) ≡ take (leftBy ns c k (answerTo ns c k) .used) (leftBy ns c k (answerTo ns c k) .journal) → (leftBy ns c k (answerTo ns c k) ≡ k) ⊎ Adds k (leftBy ns c k (answerTo ns c k)) → Torn ns t₀ (c ∷ cs) k n
+      by : (leftBy ns c k (answerTo ns c k) .used ≤ n) ⊎ (n < leftBy ns c k (answerTo ns c k) .used)
+          → (leftBy ns c k (answerTo ns c k) .used ≤ n → Torn ns t₀ cs (leftBy ns c k (answerTo ns c k)) n)
+          → take (k .used) (leftTo ns (c ∷ cs) k .journal) ≡ take (k .used) (k .journal)
+          → take (leftBy ns c k (answerTo ns c k) .used) (leftTo ns (c ∷ cs) k .journal) ≡ take (leftBy ns c k (answerTo ns c k) .used)
+          (leftBy ns c k (answerTo ns c k) .journal) → (leftBy ns c k (answerTo ns c k) ≡ k) ⊎ Adds k (leftBy ns c k (answerTo ns c k)) → Torn ns t₀ (c ∷ cs) k n
       by (inl m) ih q r a =
           let b = ih m in
           record { calls = suc (b .calls); before = b .before; answer = b .answer; rest = b .rest }

@@ -2,7 +2,7 @@
 -- Assumes nothing.
 use mathlib.Core.Path.{_≡_, refl, subst}
 use mathlib.Core.Bool.{Bool, true, false, cond}
-use mathlib.Core.List.{List, [], _∷_, _++_}
+use mathlib.Core.List.{List, [], _∷_}
 use mathlib.Core.Logic.{inl, inr}
 use Prim.Native.Nat.{ℕ, _+_, _-_}
 use native.Mathlib.Omega.{arith}
@@ -13,7 +13,6 @@ use Rattle.reply.specs.declared.Refusal.{Refusal}
 use Rattle.reply.specs.declared.Refusal.the-variants.{NoSuchNumber, NoRoom, NotOpen, AllOpen, BadEntry}
 use Rattle.reply.specs.declared.Checked.{Checked}
 use Rattle.reply.specs.declared.Checked.the-variants as C
-use Rattle.reply.specs.declared.Answer.{Answer}
 use Rattle.reply.specs.declared.Answer.the-variants.{Done, Refused}
 use Rattle.reply.specs.Table.{Numbered, savepoint}
 use Rattle.reply.specs.Refusals.{refusalReply, checkedReply, rows}
@@ -23,7 +22,7 @@ use Rattle.count.specs.Numbered.{checkRefusals}
 use Rattle.count.proofs.Due.{first-due}
 use Rattle.count.proofs.Numbered.{check-refusal-numbered}
 use Rattle.journal.specs.Layout.{startsOf}
-use Rattle.journal.specs.Model.{Call, Sets, Opens, Releases, Undoes, accepts, refusalOf, bytesFor, numberFor, roomFor, decided, whenRight}
+use Rattle.journal.specs.Model.{Call, Sets, Opens, Releases, Undoes, accepts, refusalOf, bytesFor, numberFor, decided, whenRight}
 use Rattle.journal.specs.Calls.{andThen, whole, walkIn, standingOf, answerOf}
 use Rattle.journal.specs.Plays.{playIn, replayOf}
 use Rattle.journal.specs.Numbered.{editReply, replayRefusals, replayRows, callRefusals, callRows}

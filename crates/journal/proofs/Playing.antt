@@ -1,11 +1,11 @@
 -- A replay over bytes, field by field; and that a replay that is refused gives the table back.
 -- Assumes nothing.
 use mathlib.Core.Path.{_≡_, refl, sym, ap, _∙_, subst}
-use mathlib.Core.Bool.{Bool, true, false, cond}
+use mathlib.Core.Bool.{Bool, true, false}
 use mathlib.Core.List.{List, [], _∷_, _++_}
 use Prim.Native.Nat.{ℕ, zero, suc, _+_, _-_, _<_, _≤_}
 use native.Mathlib.Omega.{arith}
-use lib.Dec.{ltb, leb, eqb}
+use lib.Dec.{ltb, leb}
 use lib.IntN.{ℤ, pos, negsuc}
 use lib.ListN.{length, set, drop}
 use borrow.Author.Tests.{lt-ltb, le-ltb, leb-true, leb-false, eqb-true, eq-eqb}
@@ -58,7 +58,9 @@ told-undo ps d e k h q = ok-undo ps d k (subst (λ x. okEntry ps x d ≡ true) q
 -- ---- the loop
 
 module _ (ps s : List ℕ) (p n d : ℕ) (a : List ℕ) (t : List ℤ) where
-  pub play-more : n < length s → p < length s → okEntry ps (fieldAt s p) d ≡ true → matches ps (fieldAt s p) t ≡ true → d < length a → playFrom (length s - (n + 1)) ps s (nextAt s p) (n + 1) (down (newDepth (fieldAt s p) d) (set a d n)) (playedBy ps (fieldAt s p) s n (down d a) t) ≡ playFrom (length s - n) ps s p n (down d a) t
+  pub play-more : n < length s → p < length s → okEntry ps (fieldAt s p) d ≡ true → matches ps (fieldAt s p) t ≡ true → d < length a
+      → playFrom (length s - (n + 1)) ps s (nextAt s p) (n + 1) (down (newDepth (fieldAt s p) d) (set a d n)) (playedBy ps (fieldAt s p) s n (down d a) t) ≡ playFrom
+      (length s - n) ps s p n (down d a) t
   unfolding playFrom
   play-more h l o m k =
       let z : length s - n ≡ suc (length s - (n + 1)) = omega arith in
@@ -128,7 +130,8 @@ module _ (ps s : List ℕ) where
       let e = fieldAt s p in
       cond-elim (Returns t₀) (ltb p (length s)) (λ _. cond-elim (Returns t₀) (okEntry ps e (length ms)) (λ _. cond-elim (Returns t₀) (matches ps e t) (λ m.
       play-back f (nextAt s p) (n + 1) (markStep e n ms) (playedBy ps e s n ms t) t₀ (ap (nextAt s) q ∙ sym (place-next s 0 n))
-      (ap (λ l. restore ps l (playedBy ps e s n ms t)) (entries-one s n ∙ ap (λ x. entriesAt s 0 n ++ (fieldAt s x ∷ [])) (sym q)) ∙ restore-one ps (entriesAt s 0 n) e (playedBy ps e s n ms t) ∙ step-back e n ms t m ∙ h)) (λ _. h)) (λ _. h)) (λ _. h)
+      (ap (λ l. restore ps l (playedBy ps e s n ms t)) (entries-one s n ∙ ap (λ x. entriesAt s 0 n ++ (fieldAt s x ∷ [])) (sym q))
+      ∙ restore-one ps (entriesAt s 0 n) e (playedBy ps e s n ms t) ∙ step-back e n ms t m ∙ h)) (λ _. h)) (λ _. h)) (λ _. h)
 
   pub replay-back : (t : List ℤ) → restore ps (entriesAt s 0 (playOf ps s t .count)) (playOf ps s t .cells) ≡ t
   unfolding playOf

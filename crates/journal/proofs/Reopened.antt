@@ -2,13 +2,13 @@
 -- never been left.
 -- Assumes nothing.
 use mathlib.Core.Path.{_≡_, refl, sym, ap, _∙_, subst}
-use mathlib.Core.Bool.{Bool, true, false, cond}
+use mathlib.Core.Bool.{true}
 use mathlib.Core.List.{List, [], _∷_, _++_}
 use Prim.Native.Nat.{ℕ, zero, suc, _+_, _-_, _<_, _≤_}
 use native.Mathlib.Omega.{arith}
 use lib.Dec.{ltb}
 use lib.IntN.{ℤ}
-use lib.ListN.{length, drop, take, length-append, length-take, length-drop}
+use lib.ListN.{length, drop, take, length-append, length-take}
 use lib.Seq.{take-take, drop-drop}
 use borrow.Author.Tests.{ltb-true, lt-ltb, le-ltb}
 use Rattle.base.specs.Part.{part, over}
@@ -180,10 +180,13 @@ module _ (ns : List ℕ) (t₀ : List ℤ) (j : List ℕ) (used : ℕ) where
             subst (λ n. Tells s (withEntry es (entryFor ps c d t)) (k .used + n)) size-is
             (subst (λ x. Tells s (withEntry es x) (k .used + sizeOf e)) (sym entry-is) (tells-more s es (k .used) e tells refl))
 
-        run-same : (f : ℕ) → Tells s es (k .used) → playFrom f ps s (nextAt s (k .used)) (length es + 1) (markStep e (length es) (marksOf es)) (playedBy ps e s (length es) (marksOf es) t) ≡ playFrom f ps s (k′ .used) (length (withEntry es (entryFor ps c d t))) (marksOf (withEntry es (entryFor ps c d t))) (k′ .cells)
+        run-same : (f : ℕ) → Tells s es (k .used)
+            → playFrom f ps s (nextAt s (k .used)) (length es + 1) (markStep e (length es) (marksOf es)) (playedBy ps e s (length es) (marksOf es) t) ≡ playFrom f ps s (k′ .used)
+            (length (withEntry es (entryFor ps c d t))) (marksOf (withEntry es (entryFor ps c d t))) (k′ .cells)
         run-same f tells =
             let l : length es + 1 ≡ length (withEntry es (entryFor ps c d t)) = sym (length-append es (entryFor ps c d t ∷ [])) in
-            let m : markStep e (length es) (marksOf es) ≡ marksOf (withEntry es (entryFor ps c d t)) = ap (λ x. markStep x (length es) (marksOf es)) (sym entry-is) ∙ sym (marks-entry es (entryFor ps c d t)) in
+            let m : markStep e (length es) (marksOf es) ≡ marksOf (withEntry es (entryFor ps c d t)) =
+            ap (λ x. markStep x (length es) (marksOf es)) (sym entry-is) ∙ sym (marks-entry es (entryFor ps c d t)) in
             ap (λ p. playFrom f ps s p (length es + 1) (markStep e (length es) (marksOf es)) (playedBy ps e s (length es) (marksOf es) t)) used-same
             ∙ ap (λ n. playFrom f ps s (k′ .used) n (markStep e (length es) (marksOf es)) (playedBy ps e s (length es) (marksOf es) t)) l
             ∙ ap (λ x. playFrom f ps s (k′ .used) (length (withEntry es (entryFor ps c d t))) x (playedBy ps e s (length es) (marksOf es) t)) m
@@ -193,7 +196,8 @@ module _ (ns : List ℕ) (t₀ : List ℤ) (j : List ℕ) (used : ℕ) where
         call-more b =
             record { calls = c ∷ b .calls; fits = (call-fits e (reads .sized), b .fits); left = ap (leftTo ns (b .calls)) left-by ∙ b .left }
 
-    comes : (f : ℕ) (k : Kept) (ts : List (List ℤ)) → k .journal ≡ j → (st : Stands ns t₀ k ts) → length (k .cells) ≡ length t₀ → Tells s (st .entries) (k .used) → Comes k (playFrom f ps s (k .used) (length (st .entries)) (marksOf (st .entries)) (k .cells))
+    comes : (f : ℕ) (k : Kept) (ts : List (List ℤ)) → k .journal ≡ j → (st : Stands ns t₀ k ts) → length (k .cells) ≡ length t₀ → Tells s (st .entries) (k .used)
+        → Comes k (playFrom f ps s (k .used) (length (st .entries)) (marksOf (st .entries)) (k .cells))
     unfolding playFrom
     comes zero k ts q st same tells = stops k q (length (st .entries)) (marksOf (st .entries))
     comes (suc f) k ts q st same tells =
@@ -204,7 +208,8 @@ module _ (ns : List ℕ) (t₀ : List ℤ) (j : List ℕ) (used : ℕ) where
         let low = ltb-true (k .used) (length s) lo in
         let c = callFor e in
         let z = cells-length ps es c (k .cells) ∙ same in
-        let ih = comes f (k′ k ts q st same low ok m) (onStack ps c (stackOf ns t₀ k ts) .saved) (journal-same k ts q st same low ok m) (stands′ k ts q st same low ok m) z (subst (λ l. Tells s l (k .used + bytesFor c)) (entries′ k ts q st same low ok m) (tells′ k ts q st same low ok m tells)) in
+        let ih = comes f (k′ k ts q st same low ok m) (onStack ps c (stackOf ns t₀ k ts) .saved) (journal-same k ts q st same low ok m) (stands′ k ts q st same low ok m) z
+        (subst (λ l. Tells s l (k .used + bytesFor c)) (entries′ k ts q st same low ok m) (tells′ k ts q st same low ok m tells)) in
         let run = run-same k ts q st same low ok m f tells ∙ ap (λ l. playFrom f ps s (k .used + bytesFor c) (length l) (marksOf l) (cellsOn ps c es (k .cells))) (entries′ k ts q st same low ok m) in
         subst (Comes k) (sym run) (λ p. call-more k ts q st same low ok m (ih p))) (λ _. stop)) (λ _. stop)) (λ _. stop)
 

@@ -5,7 +5,7 @@ use mathlib.Core.Path.{_≡_, refl, sym, ap, _∙_, subst}
 use mathlib.Core.Bool.{Bool, true, false, cond}
 use lib.Dec.{ltb}
 use mathlib.Core.List.{List, [], _∷_, _++_, append-assoc, append-nil}
-use Prim.Native.Nat.{ℕ, zero, suc, _+_, _-_, _<_, _≤_}
+use Prim.Native.Nat.{ℕ, zero, suc, _+_, _-_, _≤_}
 use native.Mathlib.Nat.{zero-add}
 use native.Mathlib.Omega.{arith}
 use lib.IntN.{ℤ}
@@ -20,7 +20,7 @@ use Rattle.entry.proofs.Codec.{Sized, length-text, field-text}
 use Rattle.journal.specs.Layout.{spotOf, putAt}
 use Rattle.journal.specs.Entries.{markStep, marksFrom, marksOf, markOf, restore, journalText, nextAt, entriesAt, placeAt}
 use Rattle.journal.specs.Walks.{okEntry}
-use Rattle.journal.specs.Plays.{matches, playedBy, Run, ran, playFrom, playOf}
+use Rattle.journal.specs.Plays.{matches, playedBy, ran, playFrom, playOf}
 use Rattle.journal.proofs.Places.{entries-from, entries-one, place-next}
 use Rattle.journal.proofs.Walking.{ok-size}
 use Rattle.journal.proofs.Held.{withEntry, marks-entry}
@@ -36,10 +36,12 @@ playedOn ps Misformed pre t = t
 -- behind `pre`, the entries lead from cells t to cells u
 pub data Leads (ps : List ℕ) : List Entry → List Entry → List ℤ → List ℤ → Type 0 where
   leads-none : {pre : List Entry} {t : List ℤ} → Leads ps pre [] t t
-  leads-more : {pre es : List Entry} {e : Entry} {t u : List ℤ} → Sized e → okEntry ps e (length (marksOf pre)) ≡ true → matches ps e t ≡ true → Leads ps (withEntry pre e) es (playedOn ps e pre t) u → Leads ps pre (e ∷ es) t u
+  leads-more : {pre es : List Entry} {e : Entry} {t u : List ℤ} → Sized e → okEntry ps e (length (marksOf pre)) ≡ true → matches ps e t ≡ true
+      → Leads ps (withEntry pre e) es (playedOn ps e pre t) u → Leads ps pre (e ∷ es) t u
 
 module _ {ps : List ℕ} where
-  pub leads-last : {pre es : List Entry} {t u : List ℤ} (e : Entry) → Leads ps pre es t u → Sized e → okEntry ps e (length (marksOf (pre ++ es))) ≡ true → matches ps e u ≡ true → Leads ps pre (withEntry es e) t (playedOn ps e (pre ++ es) u)
+  pub leads-last : {pre es : List Entry} {t u : List ℤ} (e : Entry) → Leads ps pre es t u → Sized e → okEntry ps e (length (marksOf (pre ++ es))) ≡ true → matches ps e u ≡ true
+      → Leads ps pre (withEntry es e) t (playedOn ps e (pre ++ es) u)
   leads-last {pre} {u = u} e leads-none z o m = rw (append-nil pre) (leads-more z (rw (append-nil pre) at o) m leads-none)
   leads-last {pre} {es = x ∷ es} {t} {u} e (leads-more zx ox mx r) z o m =
       let q : (withEntry pre x) ++ es ≡ pre ++ (x ∷ es) = append-assoc pre (x ∷ []) es in
@@ -86,7 +88,8 @@ tells-more s pre at e r x =
     let l : length (withEntry pre e) ≡ length pre + 1 = length-append pre (e ∷ []) in
     record {
       ends = ap (placeAt s 0) l ∙ place-next s 0 (length pre) ∙ ap (nextAt s) (r .ends) ∙ ap (λ y. at + sizeOf y) x;
-      reads = ap (entriesAt s 0) l ∙ entries-one s (length pre) ∙ ap (λ y. y ++ (fieldAt s (placeAt s 0 (length pre)) ∷ [])) (r .reads) ∙ ap (λ y. pre ++ (fieldAt s y ∷ [])) (r .ends) ∙ ap (λ y. pre ++ (y ∷ [])) x;
+      reads = ap (entriesAt s 0) l ∙ entries-one s (length pre) ∙ ap (λ y. y ++ (fieldAt s (placeAt s 0 (length pre)) ∷ [])) (r .reads)
+          ∙ ap (λ y. pre ++ (fieldAt s y ∷ [])) (r .ends) ∙ ap (λ y. pre ++ (y ∷ [])) x;
     }
 
 -- the cells by the bytes are those by the entries
@@ -111,7 +114,9 @@ play-stuck (suc f) ps s p n ms t x = rw x (both (ltb p (length s)))
 
 -- x is what stands behind the fields: nothing, or part of a field
 module _ {ps : List ℕ} (s x : List ℕ) (stuck : fieldOf x ≡ Misformed) where
-  play-text : {t u : List ℤ} (pre es : List Entry) (at f : ℕ) → Leads ps pre es t u → Tells s pre at → drop at s ≡ journalText es ++ x → at + length (journalText es) + length x ≡ length s → length es ≤ f → playFrom f ps s at (length pre) (marksOf pre) t ≡ ran (at + length (journalText es)) (length (pre ++ es)) (marksOf (pre ++ es)) u
+  play-text : {t u : List ℤ} (pre es : List Entry) (at f : ℕ) → Leads ps pre es t u → Tells s pre at → drop at s ≡ journalText es ++ x
+      → at + length (journalText es) + length x ≡ length s → length es ≤ f
+      → playFrom f ps s at (length pre) (marksOf pre) t ≡ ran (at + length (journalText es)) (length (pre ++ es)) (marksOf (pre ++ es)) u
   unfolding journalText playFrom
   play-text {t} pre [] at f leads-none r q y h =
       let a : at + 0 ≡ at = omega arith in
@@ -139,5 +144,6 @@ pub no-field : fieldOf [] ≡ Misformed
 unfolding fieldOf
 no-field = refl
 
-pub play-journal : {ps : List ℕ} {t u : List ℤ} (s : List ℕ) (es : List Entry) → Leads ps [] es t u → s ≡ journalText es → length es ≤ length s → playOf ps s t ≡ ran (length s) (length es) (marksOf es) u
+pub play-journal : {ps : List ℕ} {t u : List ℤ} (s : List ℕ) (es : List Entry) → Leads ps [] es t u → s ≡ journalText es → length es ≤ length s
+    → playOf ps s t ≡ ran (length s) (length es) (marksOf es) u
 play-journal {u = u} s es g q h = play-cut s [] no-field es g (q ∙ sym (append-nil (journalText es))) h ∙ ap (λ n. ran n (length es) (marksOf es) u) (ap length (sym q))

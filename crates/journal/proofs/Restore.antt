@@ -110,7 +110,8 @@ module _ (ps : List ℕ) where
       let l : length (restore ps es t) ≡ length t = length-restore ps es t in
       let k : length (restore ps es (restore ps es t)) ≡ length (restore ps es t) = length-restore ps es (restore ps es t) in
       ext-getD (pos 0) (restore ps es (restore ps es t)) (restore ps es t) k
-      (λ i h. restore-cell es (restore ps es t) i (omega arith) ∙ ap (firstOld ps es i) (restore-cell es t i (omega arith)) ∙ first-again es i (getD t i (pos 0)) ∙ sym (restore-cell es t i (omega arith)))
+      (λ i h. restore-cell es (restore ps es t) i (omega arith) ∙ ap (firstOld ps es i) (restore-cell es t i (omega arith)) ∙ first-again es i (getD t i (pos 0))
+      ∙ sym (restore-cell es t i (omega arith)))
 
   -- a shorter stretch first makes no difference
   pub restore-within : (es : List Entry) (i k : ℕ) (t : List ℤ) → i ≤ k → restore ps (drop i es) (restore ps (drop k es) t) ≡ restore ps (drop i es) t

@@ -4,10 +4,10 @@ use mathlib.Core.Path.{_≡_, refl, sym, ap, _∙_}
 use mathlib.Core.Bool.{Bool, true, false, cond, _&&_, _||_}
 use mathlib.Core.List.{List}
 use mathlib.Core.Logic.{_⊎_, inl, inr}
-use Prim.Native.Nat.{ℕ, _+_, _-_, _*_, _<_, _≤_}
+use Prim.Native.Nat.{ℕ, _+_, _-_, _<_, _≤_}
 use native.Mathlib.Omega.{arith}
 use lib.Dec.{leb, eqb, T}
-use lib.ListN.{length, getD, List·getD-eq-default}
+use lib.ListN.{getD, List·getD-eq-default}
 use borrow.Author.Tests.{leb-true, eqb-true}
 use Rattle.base.specs.Every.{has}
 use Rattle.base.proofs.Choice.{and-first, and-second}
@@ -15,15 +15,15 @@ use Rattle.base.proofs.Order.{le-or-lt}
 use Rattle.form.specs.declared.Form.{Form}
 use Rattle.form.specs.declared.Form.the-variants.{F7, A120, A1, F8, I2, I3, I1, E11, E20, E8}
 use Rattle.form.specs.declared.GroupForm.the-variants.{Has}
-use Rattle.form.specs.Table.{formEntry, rowOf, formOf}
+use Rattle.form.specs.Table.{formEntry, rowOf}
 use Rattle.form.specs.Count.{elementsOf, cellsOf}
 use Rattle.form.proofs.Table.{form-listed, group-form}
 use Rattle.count.specs.Tally.{countOf, cellsBefore, cellsIn}
 use Rattle.count.specs.Rules.{headRules}
 use Rattle.count.specs.Blame.{Blames, KeepsRules}
 use Rattle.count.specs.Check.{checkedOf}
-use Rattle.count.specs.Due.{HasCounts, HasCells}
-use Rattle.count.proofs.Tallied.{count-at, cells-has, cells-next, cells-below, cells-first}
+use Rattle.count.specs.Due.{HasCells}
+use Rattle.count.proofs.Tallied.{count-at, cells-has, cells-next, cells-first}
 use Rattle.count.proofs.Due.{first-due}
 use Rattle.reply.specs.declared.Checked.the-variants as C
 use Rattle.journal.specs.declared.Spot.the-variants.{At, Nowhere}

@@ -1,10 +1,10 @@
 -- The bytes of a journal that calls made: a walk finds all of it in order, with its own marks; going back over the bytes is going back over
 -- the entries; and a field more.
 -- Assumes nothing.
-use mathlib.Core.Path.{_≡_, refl, sym, ap, _∙_, subst}
-use mathlib.Core.Bool.{true, false}
+use mathlib.Core.Path.{_≡_, refl, sym, ap, _∙_}
+use mathlib.Core.Bool.{true}
 use mathlib.Core.List.{List, [], _∷_, _++_, append-assoc, append-nil}
-use Prim.Native.Nat.{ℕ, zero, suc, _+_, _-_, _<_, _≤_}
+use Prim.Native.Nat.{ℕ, zero, suc, _+_, _-_, _≤_}
 use native.Mathlib.Omega.{arith}
 use lib.IntN.{ℤ}
 use lib.ListN.{length, drop, take, length-append}
@@ -14,8 +14,8 @@ use Rattle.base.specs.Part.{over}
 use Rattle.entry.specs.declared.Entry.{Entry}
 use Rattle.entry.specs.Field.{textOf, sizeOf, fieldOf, fieldAt}
 use Rattle.entry.proofs.Codec.{Sized, length-text, field-text}
-use Rattle.journal.specs.Entries.{markStep, marksFrom, marksOf, markOf, restore, journalText, nextAt, entriesAt, placeAt, backTo}
-use Rattle.journal.specs.Walks.{okEntry, Walked, walked, walkFrom, walkOf}
+use Rattle.journal.specs.Entries.{markStep, marksFrom, marksOf, restore, journalText, entriesAt, backTo}
+use Rattle.journal.specs.Walks.{okEntry, walked, walkFrom, walkOf}
 use Rattle.journal.proofs.Places.{entries-from}
 use Rattle.journal.proofs.Walking.{ok-size, walk-end}
 
@@ -36,7 +36,8 @@ module _ {ps : List ℕ} where
   text-length {es = e ∷ es} {ms = ms} (fine-more h o r) = omega (arith, text-length r, length-append (textOf e) (journalText es), length-text e, ok-size ps (length ms) e o)
 
   -- the walk over a journal's bytes
-  walk-text : (es : List Entry) (i : ℕ) (ms p s : List ℕ) (at f : ℕ) → Fine ps es i ms → length p ≡ at → s ≡ p ++ journalText es → length es ≤ f → walkFrom f ps s at i ms ≡ walked (length s) (i + length es) (marksFrom es i ms)
+  walk-text : (es : List Entry) (i : ℕ) (ms p s : List ℕ) (at f : ℕ) → Fine ps es i ms → length p ≡ at → s ≡ p ++ journalText es → length es ≤ f
+      → walkFrom f ps s at i ms ≡ walked (length s) (i + length es) (marksFrom es i ms)
   unfolding marksFrom journalText walkFrom
   walk-text [] i ms p s at f fine-none l q h =
       let e : s ≡ p = q ∙ append-nil p in
@@ -48,7 +49,8 @@ module _ {ps : List ℕ} where
       let d : drop at s ≡ textOf e ++ journalText es = ap (drop at) q ∙ drop-at p (textOf e ++ journalText es) at l in
       let x : fieldAt s at ≡ e = ap fieldOf d ∙ field-text e (journalText es) k in
       let t = ok-size ps (length ms) e o in
-      let y : length s ≡ at + (sizeOf e + length (journalText es)) = ap length q ∙ length-append p (textOf e ++ journalText es) ∙ ap (λ m. length p + m) (length-append (textOf e) (journalText es)) ∙ rw (l, length-text e) in
+      let y : length s ≡ at + (sizeOf e + length (journalText es)) =
+      ap length q ∙ length-append p (textOf e ++ journalText es) ∙ ap (λ m. length p + m) (length-append (textOf e) (journalText es)) ∙ rw (l, length-text e) in
       let m : length (p ++ textOf e) ≡ at + sizeOf e = length-append p (textOf e) ∙ rw (l, length-text e) in
       let q′ : s ≡ (p ++ textOf e) ++ journalText es = q ∙ sym (append-assoc p (textOf e) (journalText es)) in
       let z : i + suc (length es) ≡ i + 1 + length es = omega arith in

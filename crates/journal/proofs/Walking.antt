@@ -1,9 +1,9 @@
 -- A walk over a journal's bytes, field by field, with the marks in an array.
 -- Assumes nothing.
 use mathlib.Core.Path.{_≡_, refl, sym, ap, _∙_, subst}
-use mathlib.Core.Bool.{Bool, true, false, cond, _&&_}
-use mathlib.Core.List.{List, [], _∷_, _++_}
-use Prim.Native.Nat.{ℕ, zero, suc, _+_, _-_, _*_, _<_, _≤_}
+use mathlib.Core.Bool.{Bool, true, false, cond}
+use mathlib.Core.List.{List, []}
+use Prim.Native.Nat.{ℕ, zero, suc, _+_, _-_, _<_, _≤_}
 use native.Mathlib.Omega.{arith}
 use native.Mathlib.Numerals.{add-one}
 use lib.Dec.{ltb, leb, eqb}
@@ -14,10 +14,9 @@ use Rattle.base.proofs.Choice.{and-first, and-second}
 use Rattle.entry.specs.declared.Entry.{Entry}
 use Rattle.entry.specs.declared.Entry.the-variants.{Set, Open, Release, Undo, Misformed}
 use Rattle.entry.specs.Field.{sizeOf, fieldAt}
-use Rattle.journal.specs.Layout.{spotOf}
 use Rattle.journal.specs.Model.{outer}
 use Rattle.journal.specs.Entries.{markStep, markOf, nextAt}
-use Rattle.journal.specs.Walks.{okEntry, newDepth, depthAfter, Walked, walked, walkFrom, walkOf, down}
+use Rattle.journal.specs.Walks.{okEntry, newDepth, depthAfter, walked, walkFrom, walkOf, down}
 
 pub no-way : {A : Type 0} → true ≡ false → A
 no-way e = let z : _≡_ {A = ℕ} 0 1 = cc in absurd (omega arith)
@@ -136,7 +135,8 @@ module _ (ps s : List ℕ) (p n d : ℕ) (a : List ℕ) where
 
   -- ---- the walk
 
-  pub walk-more : n < length s → p < length s → okEntry ps (fieldAt s p) d ≡ true → d < length a → walkFrom (length s - (n + 1)) ps s (nextAt s p) (n + 1) (down (newDepth (fieldAt s p) d) (set a d n)) ≡ walkFrom (length s - n) ps s p n (down d a)
+  pub walk-more : n < length s → p < length s → okEntry ps (fieldAt s p) d ≡ true → d < length a
+      → walkFrom (length s - (n + 1)) ps s (nextAt s p) (n + 1) (down (newDepth (fieldAt s p) d) (set a d n)) ≡ walkFrom (length s - n) ps s p n (down d a)
   unfolding walkFrom
   walk-more h l o k =
       let z : length s - n ≡ suc (length s - (n + 1)) = omega arith in

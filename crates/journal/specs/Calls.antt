@@ -1,6 +1,6 @@
 -- R510 to R519, R530 to R532, R550: what a call replies and leaves, from the counts, the cells, the journal's bytes and how many are used.
 use mathlib.Core.Bool.{cond}
-use mathlib.Core.List.{List, []}
+use mathlib.Core.List.{List}
 use Prim.Native.Nat.{ℕ, _+_, _-_}
 use lib.Dec.{eqb}
 use lib.IntN.{ℤ}

@@ -1,4 +1,4 @@
-// R500 to R552: the edit journal. All that is kept between calls is the caller's: the counts and the table of all
+// R500 to R550: the edit journal. All that is kept between calls is the caller's: the counts and the table of all
 // cells of a record, a buffer
 // of bytes and how many of them are used. No call has a `requires`: whatever is lent is looked at first (R550).
 use entry::Entry;

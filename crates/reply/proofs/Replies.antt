@@ -33,22 +33,23 @@ codesOf bs = map kindCode (kindsOf bs)
 shown-one : (b : Beside) (bs : Given) → Counted bs → Shown (has (codesOf bs) (kindCode b)) (leastOf (kindCode b)) (amountOf (isKind b) bs)
 shown-one b [] c = refl
 shown-one b (g ∷ gs) c = by (eqb (kindCode (g .0)) (kindCode b)) refl (shown-one b gs (c .1))
-    where
-      by : (t : Bool) → eqb (kindCode (g .0)) (kindCode b) ≡ t → Shown (has (codesOf gs) (kindCode b)) (leastOf (kindCode b)) (amountOf (isKind b) gs) → Shown (t || has (codesOf gs) (kindCode b)) (leastOf (kindCode b)) (cond t (g .1) (amountOf (isKind b) gs))
-      by true e h = subst (λ k. leastOf k ≤ g .1) (eqb-true (kindCode (g .0)) (kindCode b) e) (c .0)
-      by false e h = h
+  where
+    by : (t : Bool) → eqb (kindCode (g .0)) (kindCode b) ≡ t → Shown (has (codesOf gs) (kindCode b)) (leastOf (kindCode b)) (amountOf (isKind b) gs)
+        → Shown (t || has (codesOf gs) (kindCode b)) (leastOf (kindCode b)) (cond t (g .1) (amountOf (isKind b) gs))
+    by true e h = subst (λ k. leastOf k ≤ g .1) (eqb-true (kindCode (g .0)) (kindCode b) e) (c .0)
+    by false e h = h
 
 -- the same of cells and bytes, which both are what was written
 shown-written : (bs : Given) → Counted bs → Shown (has (codesOf bs) 1 || has (codesOf bs) 2) (cond (has (codesOf bs) 1) 0 1) (amountOf (λ c. isKind cells c || isKind bytes c) bs)
 shown-written [] c = refl
 shown-written (g ∷ gs) c = by (eqb (kindCode (g .0)) 1) (eqb (kindCode (g .0)) 2) (has (codesOf gs) 1) refl (shown-written gs (c .1))
-    where
-      by : (t u v : Bool) → eqb (kindCode (g .0)) 2 ≡ u → Shown (v || has (codesOf gs) 2) (cond v 0 1) (amountOf (λ c. isKind cells c || isKind bytes c) gs)
-          → Shown ((t || v) || (u || has (codesOf gs) 2)) (cond (t || v) 0 1) (cond (t || u) (g .1) (amountOf (λ c. isKind cells c || isKind bytes c) gs))
-      by true u v e h = omega arith
-      by false true true e h = omega arith
-      by false true false e h = subst (λ k. leastOf k ≤ g .1) (eqb-true (kindCode (g .0)) 2 e) (c .0)
-      by false false v e h = h
+  where
+    by : (t u v : Bool) → eqb (kindCode (g .0)) 2 ≡ u → Shown (v || has (codesOf gs) 2) (cond v 0 1) (amountOf (λ c. isKind cells c || isKind bytes c) gs)
+        → Shown ((t || v) || (u || has (codesOf gs) 2)) (cond (t || v) 0 1) (cond (t || u) (g .1) (amountOf (λ c. isKind cells c || isKind bytes c) gs))
+    by true u v e h = omega arith
+    by false true true e h = omega arith
+    by false true false e h = subst (λ k. leastOf k ≤ g .1) (eqb-true (kindCode (g .0)) 2 e) (c .0)
+    by false false v e h = h
 
 -- the numbers beside a reply fill the row that names them
 pub fills : (k : ℕ) (bs : Given) → Counted bs → Fills (row k (kindsOf bs)) (told k bs)

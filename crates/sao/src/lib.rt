@@ -108,7 +108,7 @@ pub fn rewrite_record(text: &[u8], at: usize, table: &mut [i64], out: &mut [u8])
     rewriting::rewrite_record(text, at, table, out)
 }
 
-// ---- The edit journal, R500 to R552. What is kept between two calls is the caller's: the counts of a record, the table of its cells in group
+// ---- The edit journal, R500 to R550. What is kept between two calls is the caller's: the counts of a record, the table of its cells in group
 // order, a journal and how many of its bytes are used; a fresh journal has 0 used.
 
 // R512. Asked: to set a cell, counted from 1, of a group.
@@ -136,12 +136,7 @@ pub fn set_cell(
 
 // R513. Asked: to open a savepoint inside those that are open, at most 16.
 // Answered: 0 with its number.
-pub fn open_savepoint(
-    counts: &[u16],
-    cells: &[i64],
-    journal: &mut [u8],
-    used: usize,
-) -> Edited
+pub fn open_savepoint(counts: &[u16], cells: &[i64], journal: &mut [u8], used: usize) -> Edited
     ensures answer { λ r. ⌜ r .answer ≡
         answerOf (now (counts .entry)) (now (journal .entry)) used (length (now (cells .entry))) Opens ⌝ }
     ensures used { λ r. ⌜ r .used ≡ usedBy used Opens (r .answer) ⌝ }

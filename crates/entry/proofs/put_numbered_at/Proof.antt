@@ -1,6 +1,5 @@
 -- `entry::put_numbered_at` meets its contract: each write stands before the last.
 -- Assumes nothing.
-use mathlib.Core.Path.{_≡_}
 use Prim.Native.Nat.{_+_}
 use native.Mathlib.Omega.{arith}
 use Rattle.base.proofs.Part.{Put, put-before}
@@ -14,8 +13,15 @@ returns : tie.Need-returns
 returns c =
     let a = c .before .before .before .before .before .before .before .before .before .before .before .before .before .args in
     let k = bytesOf 1 (a .k) in
-    let p : Put (a .out .now) (a .at + 3) k (c .before .before .before .before .before .before .before .before .before .before .put-number-at .last .0) = record { room = omega (arith, c .before .before .before .before .before .before .before .before .before .before .before .before .before .pre); is = c .before .before .before .before .before .before .before .before .before .before .put-number-at .ensures } in
-    let q = put-before p (bytesOf 2 1) (c .before .before .before .before .before .before .put-number-at2 .last .0) (a .at + 1) (omega (arith, length-bytes 2 1)) (c .before .before .before .before .before .before .put-number-at2 .ensures) in
+    let p : Put (a .out .now) (a .at + 3) k (c .before .before .before .before .before .before .before .before .before .before .put-number-at .last .0) =
+    record {
+      room = omega
+          (arith, c .before .before .before .before .before .before .before .before .before .before .before .before .before .pre);
+      is =
+          c .before .before .before .before .before .before .before .before .before .before .put-number-at .ensures;
+    } in
+    let q = put-before p (bytesOf 2 1) (c .before .before .before .before .before .before .put-number-at2 .last .0) (a .at + 1) (omega (arith, length-bytes 2 1))
+    (c .before .before .before .before .before .before .put-number-at2 .ensures) in
     let r = put-before q (bytesOf 1 (a .tag)) (c .before .before .put-number-at3 .last .0) (a .at) (omega (arith, length-bytes 1 (a .tag))) (c .before .before .put-number-at3 .ensures) in
     rw (length-bytes 1 (a .k)) (r .is)
 

@@ -19,19 +19,40 @@ returns : tie.Need-returns
 unfolding textOf
 returns c =
     let a = c .before .before .before .before .before .before .before .before .before .before .before .before .before .before .before .before .before .before .before .before .before .before .before .before .before .before .before .args in
-    let n : c .before .before .before .before .before .before .before .before .before .before .before .before .before .before .before .before .before .before .before .before .before .before .before .before .bits-of .result ≡ bitsOf (a .new) = c .before .before .before .before .before .before .before .before .before .before .before .before .before .before .before .before .before .before .before .before .before .before .before .before .bits-of .ensures ∙ ap bitsOf (toZ-ofZ {w = w64} (c .before .before .before .before .before .before .before .before .before .before .before .before .before .before .before .before .before .before .before .before .before .before .before .before .before .before .before .fits .new)) in
-    let o : c .before .before .before .before .before .before .before .before .before .before .before .before .before .before .before .before .before .before .before .bits-of2 .result ≡ bitsOf (a .old) = c .before .before .before .before .before .before .before .before .before .before .before .before .before .before .before .before .before .before .before .bits-of2 .ensures ∙ ap bitsOf (toZ-ofZ {w = w64} (c .before .before .before .before .before .before .before .before .before .before .before .before .before .before .before .before .before .before .before .before .before .before .before .before .before .before .before .fits .old)) in
+    let n : c .before .before .before .before .before .before .before .before .before .before .before .before .before .before .before .before .before .before .before .before .before .before .before .before .bits-of .result ≡ bitsOf (a .new) =
+    c .before .before .before .before .before .before .before .before .before .before .before .before .before .before .before .before .before .before .before .before .before .before .before .before .bits-of .ensures
+    ∙ ap bitsOf
+    (toZ-ofZ {w = w64}
+    (c .before .before .before .before .before .before .before .before .before .before .before .before .before .before .before .before .before .before .before .before .before .before .before .before .before .before .before .fits .new)) in
+    let o : c .before .before .before .before .before .before .before .before .before .before .before .before .before .before .before .before .before .before .before .bits-of2 .result ≡ bitsOf (a .old) =
+    c .before .before .before .before .before .before .before .before .before .before .before .before .before .before .before .before .before .before .before .bits-of2 .ensures
+    ∙ ap bitsOf
+    (toZ-ofZ {w = w64}
+    (c .before .before .before .before .before .before .before .before .before .before .before .before .before .before .before .before .before .before .before .before .before .before .before .before .before .before .before .fits .old)) in
     let new = bytesOf 8 (bitsOf (a .new)) in
     let old = bytesOf 8 (bitsOf (a .old)) in
     let y = c .before .before .before .before .before .before .before .before .before .before .before .before .before .before .before .before .before .before .before .before .before .before .before .put-number-at .last .0 in
     let z = c .before .before .before .before .before .before .before .before .before .before .before .before .before .before .before .before .before .before .put-number-at2 .last .0 in
-    let ny : y ≡ over (a .at + 14) new (a .out .now) = c .before .before .before .before .before .before .before .before .before .before .before .before .before .before .before .before .before .before .before .before .before .before .before .put-number-at .ensures ∙ ap (λ m. over (a .at + 14) (bytesOf 8 m) (a .out .now)) n in
-    let oz : z ≡ over (a .at + 6) old y = c .before .before .before .before .before .before .before .before .before .before .before .before .before .before .before .before .before .before .put-number-at2 .ensures ∙ ap (λ m. over (a .at + 6) (bytesOf 8 m) y) o in
-    let p : Put (a .out .now) (a .at + 14) new y = record { room = omega (arith, c .before .before .before .before .before .before .before .before .before .before .before .before .before .before .before .before .before .before .before .before .before .before .before .before .before .before .before .pre); is = ny } in
+    let ny : y ≡ over (a .at + 14) new (a .out .now) =
+    c .before .before .before .before .before .before .before .before .before .before .before .before .before .before .before .before .before .before .before .before .before .before .before .put-number-at .ensures
+    ∙ ap (λ m. over (a .at + 14) (bytesOf 8 m) (a .out .now)) n in
+    let oz : z ≡ over (a .at + 6) old y =
+    c .before .before .before .before .before .before .before .before .before .before .before .before .before .before .before .before .before .before .put-number-at2 .ensures
+    ∙ ap (λ m. over (a .at + 6) (bytesOf 8 m) y) o in
+    let p : Put (a .out .now) (a .at + 14) new y =
+    record {
+      room = omega
+          (arith, c .before .before .before .before .before .before .before .before .before .before .before .before .before .before .before .before .before .before .before .before .before .before .before .before .before .before .before .pre);
+      is = ny;
+    } in
     let q = put-before p old z (a .at + 6) (omega (arith, length-bytes 8 (bitsOf (a .old)))) oz in
-    let r = put-before q (bytesOf 2 (a .cell)) (c .before .before .before .before .before .before .before .before .before .before .before .before .before .before .put-number-at3 .last .0) (a .at + 4) (omega (arith, length-bytes 2 (a .cell))) (c .before .before .before .before .before .before .before .before .before .before .before .before .before .before .put-number-at3 .ensures) in
-    let s = put-before r (bytesOf 1 (a .group)) (c .before .before .before .before .before .before .before .before .before .before .put-number-at4 .last .0) (a .at + 3) (omega (arith, length-bytes 1 (a .group))) (c .before .before .before .before .before .before .before .before .before .before .put-number-at4 .ensures) in
-    let t = put-before s (bytesOf 2 19) (c .before .before .before .before .before .before .put-number-at5 .last .0) (a .at + 1) (omega (arith, length-bytes 2 19)) (c .before .before .before .before .before .before .put-number-at5 .ensures) in
+    let r = put-before q (bytesOf 2 (a .cell))
+    (c .before .before .before .before .before .before .before .before .before .before .before .before .before .before .put-number-at3 .last .0) (a .at + 4)
+    (omega (arith, length-bytes 2 (a .cell))) (c .before .before .before .before .before .before .before .before .before .before .before .before .before .before .put-number-at3 .ensures) in
+    let s = put-before r (bytesOf 1 (a .group)) (c .before .before .before .before .before .before .before .before .before .before .put-number-at4 .last .0) (a .at + 3)
+    (omega (arith, length-bytes 1 (a .group))) (c .before .before .before .before .before .before .before .before .before .before .put-number-at4 .ensures) in
+    let t = put-before s (bytesOf 2 19) (c .before .before .before .before .before .before .put-number-at5 .last .0) (a .at + 1) (omega (arith, length-bytes 2 19))
+    (c .before .before .before .before .before .before .put-number-at5 .ensures) in
     let u = put-before t (bytesOf 1 1) (c .before .before .put-number-at6 .last .0) (a .at) (omega (arith, length-bytes 1 1)) (c .before .before .put-number-at6 .ensures) in
     rw (set-length (a .group) (a .cell) (a .old) (a .new)) (u .is)
 

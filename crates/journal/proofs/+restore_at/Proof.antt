@@ -8,12 +8,6 @@ use Rattle.journal.proofs.Places.{back-none, back-one, back-halves}
 use borrow.Author.Needs.{needs}
 use borrow.Fn.Kinds.{In}
 use borrow.Fn.PlainCycle.{Measures, is, falls, and}
-use Rattle.journal.proofs.restore_at.Reads as restore-at
-use Rattle.journal.proofs.restore_at.Kinds as restore-at-kinds
-use Rattle.journal.proofs.+restore_at.Lts-restore_at as restore-at-lts
-use Rattle.entry.proofs.field_at.Reads as field-at-reads
-use Rattle.journal.proofs.give_back.Reads as give-back-reads
-use Rattle.journal.proofs.place_after.Reads as place-after-reads
 use Rattle.journal.proofs.+restore_at.{statement}
 use Rattle.journal.proofs.+restore_at.Tie.{close}
 
@@ -170,7 +164,9 @@ restore-at-returns-3 t c =
     let ps = a .starts .now in
     let s = a .s .now in
     let h = a .n / 2 in
-    let e : c .before .before .before .before .restore-at .last .0 ≡ restore ps (entriesAt s (placeAt s (a .at) h) (a .n - h)) (a .cells .now) = c .before .before .before .before .restore-at .ensures ∙ ap (λ m. restore ps (entriesAt s m (a .n - h)) (a .cells .now)) (c .before .before .before .before .before .before .place-after .ensures .0) in
+    let e : c .before .before .before .before .restore-at .last .0 ≡ restore ps (entriesAt s (placeAt s (a .at) h) (a .n - h)) (a .cells .now) =
+    c .before .before .before .before .restore-at .ensures
+    ∙ ap (λ m. restore ps (entriesAt s m (a .n - h)) (a .cells .now)) (c .before .before .before .before .before .before .place-after .ensures .0) in
     c .before .restore-at2 .ensures ∙ ap (restore ps (entriesAt s (a .at) h)) e ∙ back-halves s ps (a .at) (a .cells .now) h (a .n) (omega arith)
 
 pub +restore-at-spec : {M : Type 1} → statement M

@@ -11,7 +11,8 @@ returns : tie.Need-returns
 returns c = rw (c .before .before .before .spot .given .1) (search needs)
 
 returns-2 : tie.Need-returns-2
-returns-2 c = rw (c .before .before .spot .given .1) (sym (List·getD-eq-default (c .before .before .before .before .args .cells .now) (pos 0) {n = c .before .before .spot .given .0 .0} (c .if1 .left)))
+returns-2 c =
+    rw (c .before .before .spot .given .1) (sym (List·getD-eq-default (c .before .before .before .before .args .cells .now) (pos 0) {n = c .before .before .spot .given .0 .0} (c .if1 .left)))
 
 returns-3 : tie.Need-returns-3
 returns-3 c = rw (c .enum-told .given .1) refl

@@ -1,7 +1,7 @@
 -- `journal::play` meets its contract. The invariant: the replay from here on, with the cells and marks so far, is the replay asked for.
 -- Assumes nothing.
 use mathlib.Core.Path.{_≡_, refl, sym, ap, _∙_}
-use mathlib.Core.Bool.{true, false, cond}
+use mathlib.Core.Bool.{true, false}
 use Prim.Native.Nat.{_+_, _-_, _*_, _≤_}
 use native.Mathlib.Omega.{arith}
 use lib.ListN.{length, length-set}
@@ -18,7 +18,8 @@ use Rattle.journal.proofs.play.Tie as tie
 
 abbrev Inv-loop : tie.InvT-loop
 Inv-loop cells₀ starts s place₀ count₀ depth₀ marks₀ cells place count depth marks =
-    (4 * count ≤ place) × (place ≤ length s) × (depth ≤ 16) × (length marks ≡ 17) × (playFrom (length s - count) starts s place count (down depth marks) cells ≡ playOf starts s cells₀) × Below depth marks count × (length cells ≡ length cells₀)
+    (4 * count ≤ place) × (place ≤ length s) × (depth ≤ 16) × (length marks ≡ 17) ×
+    (playFrom (length s - count) starts s place count (down depth marks) cells ≡ playOf starts s cells₀) × Below depth marks count × (length cells ≡ length cells₀)
 
 abbrev μ-loop : tie.MeasureT-loop
 μ-loop cells₀ starts s place₀ count₀ depth₀ marks₀ cells place count depth marks = length s - place
@@ -57,25 +58,47 @@ returns-2 c =
     let ps = a .starts .now in
     let x = fieldAt (a .s .now) (l .place) in
     let e : c .before .before .before .before .before .before .before .field-at .result ≡ x = c .before .before .before .before .before .before .before .field-at .ensures in
-    let d : c .before .before .before .before .before .before .depth-after .result ≡ depthAfter ps x (l .depth) = c .before .before .before .before .before .before .depth-after .ensures ∙ ap (λ y. depthAfter ps y (l .depth)) e in
+    let d : c .before .before .before .before .before .before .depth-after .result ≡ depthAfter ps x (l .depth) =
+    c .before .before .before .before .before .before .depth-after .ensures ∙ ap (λ y. depthAfter ps y (l .depth)) e in
     let y = depth-yes ps x (l .depth) (rw d at (c .before .before .before .before .before .if1 .left)) in
     let no : c .before .before .play-one .result ≡ false = not-true _ (c .if2 .taken) in
     let m : matches ps x (l .cells) ≡ false = ap (λ z. matches ps z (l .cells)) (sym e) ∙ sym (c .before .before .play-one .ensures .0) ∙ no in
     let k : c .before .before .play-one .last .0 ≡ l .cells = rw no at (c .before .before .play-one .ensures .1) in
     record {
-      found = ap (λ t. ran (l .place) (l .count) (down (l .depth) (l .marks)) t) k ∙ play-other ps (a .s .now) (l .place) (l .count) (l .depth) (l .marks) (l .cells) (omega arith) (omega arith) (y .0) m ∙ l .inv .4;
+      found = ap (λ t. ran (l .place) (l .count) (down (l .depth) (l .marks)) t) k
+          ∙ play-other ps (a .s .now) (l .place) (l .count) (l .depth) (l .marks) (l .cells) (omega arith) (omega arith) (y .0) m ∙ l .inv .4;
       within = l .inv .1;
     }
 
 -- one turn: the field at the place, what is open behind it, how far it goes, and the cells behind it
 record Turn (c : tie.After-size Inv-loop μ-loop) : Type 0 where
-  ok : okEntry (c .before .before .before .before .before .before .before .before .before .before .before .before .before .args .starts .now) (fieldAt (c .before .before .before .before .before .before .before .before .before .before .before .before .before .args .s .now) (c .before .before .before .before .before .before .before .before .before .before .loop .place)) (c .before .before .before .before .before .before .before .before .before .before .loop .depth) ≡ true
-  same : matches (c .before .before .before .before .before .before .before .before .before .before .before .before .before .args .starts .now) (fieldAt (c .before .before .before .before .before .before .before .before .before .before .before .before .before .args .s .now) (c .before .before .before .before .before .before .before .before .before .before .loop .place)) (c .before .before .before .before .before .before .before .before .before .before .loop .cells) ≡ true
-  after : c .before .before .before .before .before .before .before .depth-after .result ≡ newDepth (fieldAt (c .before .before .before .before .before .before .before .before .before .before .before .before .before .args .s .now) (c .before .before .before .before .before .before .before .before .before .before .loop .place)) (c .before .before .before .before .before .before .before .before .before .before .loop .depth)
-  size : c .size .result ≡ sizeOf (fieldAt (c .before .before .before .before .before .before .before .before .before .before .before .before .before .args .s .now) (c .before .before .before .before .before .before .before .before .before .before .loop .place))
+  ok : okEntry (c .before .before .before .before .before .before .before .before .before .before .before .before .before .args .starts .now)
+      (fieldAt (c .before .before .before .before .before .before .before .before .before .before .before .before .before .args .s .now)
+      (c .before .before .before .before .before .before .before .before .before .before .loop .place))
+      (c .before .before .before .before .before .before .before .before .before .before .loop .depth) ≡ true
+  same : matches (c .before .before .before .before .before .before .before .before .before .before .before .before .before .args .starts .now)
+      (fieldAt (c .before .before .before .before .before .before .before .before .before .before .before .before .before .args .s .now)
+      (c .before .before .before .before .before .before .before .before .before .before .loop .place))
+      (c .before .before .before .before .before .before .before .before .before .before .loop .cells) ≡ true
+  after : c .before .before .before .before .before .before .before .depth-after .result ≡ newDepth
+      (fieldAt (c .before .before .before .before .before .before .before .before .before .before .before .before .before .args .s .now)
+      (c .before .before .before .before .before .before .before .before .before .before .loop .place))
+      (c .before .before .before .before .before .before .before .before .before .before .loop .depth)
+  size : c .size .result ≡ sizeOf
+      (fieldAt (c .before .before .before .before .before .before .before .before .before .before .before .before .before .args .s .now)
+      (c .before .before .before .before .before .before .before .before .before .before .loop .place))
   some : 4 ≤ c .size .result
-  within : c .before .before .before .before .before .before .before .before .before .before .loop .place + c .size .result ≤ length (c .before .before .before .before .before .before .before .before .before .before .before .before .before .args .s .now)
-  cells : c .before .before .before .play-one .last .0 ≡ playedBy (c .before .before .before .before .before .before .before .before .before .before .before .before .before .args .starts .now) (fieldAt (c .before .before .before .before .before .before .before .before .before .before .before .before .before .args .s .now) (c .before .before .before .before .before .before .before .before .before .before .loop .place)) (c .before .before .before .before .before .before .before .before .before .before .before .before .before .args .s .now) (c .before .before .before .before .before .before .before .before .before .before .loop .count) (down (c .before .before .before .before .before .before .before .before .before .before .loop .depth) (c .before .before .before .before .before .before .before .before .before .before .loop .marks)) (c .before .before .before .before .before .before .before .before .before .before .loop .cells)
+  within : c .before .before .before .before .before .before .before .before .before .before .loop .place + c .size .result ≤ length
+      (c .before .before .before .before .before .before .before .before .before .before .before .before .before .args .s .now)
+  cells : c .before .before .before .play-one .last .0 ≡ playedBy
+      (c .before .before .before .before .before .before .before .before .before .before .before .before .before .args .starts .now)
+      (fieldAt (c .before .before .before .before .before .before .before .before .before .before .before .before .before .args .s .now)
+      (c .before .before .before .before .before .before .before .before .before .before .loop .place))
+      (c .before .before .before .before .before .before .before .before .before .before .before .before .before .args .s .now)
+      (c .before .before .before .before .before .before .before .before .before .before .loop .count)
+      (down (c .before .before .before .before .before .before .before .before .before .before .loop .depth)
+      (c .before .before .before .before .before .before .before .before .before .before .loop .marks))
+      (c .before .before .before .before .before .before .before .before .before .before .loop .cells)
 
 turn : (c : tie.After-size Inv-loop μ-loop) → Turn c
 turn c =
@@ -84,7 +107,8 @@ turn c =
     let ps = a .starts .now in
     let x = fieldAt (a .s .now) (l .place) in
     let e : c .before .before .before .before .before .before .before .before .field-at .result ≡ x = c .before .before .before .before .before .before .before .before .field-at .ensures in
-    let d : c .before .before .before .before .before .before .before .depth-after .result ≡ depthAfter ps x (l .depth) = c .before .before .before .before .before .before .before .depth-after .ensures ∙ ap (λ y. depthAfter ps y (l .depth)) e in
+    let d : c .before .before .before .before .before .before .before .depth-after .result ≡ depthAfter ps x (l .depth) =
+    c .before .before .before .before .before .before .before .depth-after .ensures ∙ ap (λ y. depthAfter ps y (l .depth)) e in
     let z : c .size .result ≡ sizeOf x = c .size .ensures ∙ ap sizeOf e in
     let y = depth-yes ps x (l .depth) (rw d at (c .before .before .before .before .before .before .if1 .left)) in
     let yes : c .before .before .before .play-one .result ≡ true = not-false _ (c .before .if2 .left) in
@@ -111,8 +135,20 @@ loop-again c =
     let l = c .before .before .before .before .before .before .before .before .before .before .loop in
     let ps = a .starts .now in
     let x = fieldAt (a .s .now) (l .place) in
-    let t = turn c in
-    (omega (arith, t .some), t .within, c .before .before .before .before .before .before .if1 .left, length-set (l .marks) (l .depth) (l .count) ∙ l .inv .3, rw (t .size, t .after, t .cells) (play-more ps (a .s .now) (l .place) (l .count) (l .depth) (l .marks) (l .cells) (omega arith) (c .before .before .before .before .before .before .before .before .before .loop-test .taken) (t .ok) (t .same) (omega arith) ∙ l .inv .4), rw (t .after) (below-more ps (a .s .now) (l .place) (l .count) (l .depth) (l .marks) x (t .ok) (omega arith) (l .inv .5)), rw (t .cells) (length-played ps (a .s .now) x (l .count) (down (l .depth) (l .marks)) (l .cells) ∙ l .inv .6))
+    let t = turn c in (
+      omega (arith, t .some),
+      t .within,
+      c .before .before .before .before .before .before .if1 .left,
+      length-set (l .marks) (l .depth) (l .count)
+          ∙ l .inv .3,
+      rw (t .size, t .after, t .cells)
+          (play-more ps (a .s .now) (l .place) (l .count) (l .depth) (l .marks) (l .cells) (omega arith)
+          (c .before .before .before .before .before .before .before .before .before .loop-test .taken) (t .ok) (t .same) (omega arith) ∙ l .inv .4),
+      rw (t .after)
+          (below-more ps (a .s .now) (l .place) (l .count) (l .depth) (l .marks) x (t .ok) (omega arith) (l .inv .5)),
+      rw (t .cells)
+          (length-played ps (a .s .now) x (l .count) (down (l .depth) (l .marks)) (l .cells) ∙ l .inv .6),
+    )
 
 returns-3 : tie.Need-returns-3 Inv-loop μ-loop
 returns-3 c =

@@ -24,7 +24,8 @@ returns c =
     let f : SFits w64 got = sfits-of {w = w64} (c .before .before .before .before .get-at .ok) in
     let g : SFits w64 (told .0 .1 .1 .0) = search needs in
     let n : SFits w64 (told .0 .1 .1 .1 .0) = search needs in
-    let e : got ≡ getAt (spotOf (a .starts .now) (told .0 .0) (told .0 .1 .0)) t = c .before .before .before .before .get-at .ensures ∙ ap (λ p. getAt p t) (c .before .before .before .before .before .before .spot-of .ensures) in
+    let e : got ≡ getAt (spotOf (a .starts .now) (told .0 .0) (told .0 .1 .0)) t =
+    c .before .before .before .before .get-at .ensures ∙ ap (λ p. getAt p t) (c .before .before .before .before .before .before .spot-of .ensures) in
     let q : sameCell got (told .0 .1 .1 .0) ≡ true = bits-same got (told .0 .1 .1 .0) f g (c .before .before .before .if1 .taken) in
     rw (told .1) (sym (rw e at q), rw (c .before .before .before .before .before .before .spot-of .ensures, toZ-ofZ n) at (c .before .put-at .ensures))
 
@@ -33,7 +34,8 @@ returns-2 c =
     let a = c .before .before .before .before .before .before .before .before .before .args in
     let told = c .before .before .before .before .before .entry .given in
     let got = c .before .get-at .result in
-    let e : got ≡ getAt (spotOf (a .starts .now) (told .0 .0) (told .0 .1 .0)) (a .cells .now) = c .before .get-at .ensures ∙ ap (λ p. getAt p (a .cells .now)) (c .before .before .before .spot-of .ensures) in
+    let e : got ≡ getAt (spotOf (a .starts .now) (told .0 .0) (told .0 .1 .0)) (a .cells .now) =
+    c .before .get-at .ensures ∙ ap (λ p. getAt p (a .cells .now)) (c .before .before .before .spot-of .ensures) in
     let q : sameCell got (told .0 .1 .1 .0) ≡ false = bits-other got (told .0 .1 .1 .0) (c .if1 .left) in
     rw (told .1) (sym (rw e at q), refl)
 

@@ -44,8 +44,15 @@ loop-again c =
     let n : c .before .count-of .result ≤ 65535 = omega arith in
     let m : c .cells .result ≡ cellsIn ns (l .g) = c .cells .ensures ∙ ap (cellsOf f) (c .before .count-of .ensures) ∙ sym (cells-has ns (l .g) f (c .before .before .form-in .ensures)) in
     let k = cells-few f (c .before .count-of .result) n in
-    let e : l .sum + c .cells .result ≡ cellsBefore ns (l .g + 1) = rw (l .inv .4, m) (sym (cells-next ns (l .g) (omega arith) (omega arith))) in
-    (omega arith, omega arith, length-set (l .starts) (l .g + 1) (l .sum + c .cells .result) ∙ l .inv .2, omega (arith, c .cells .ensures), e, filled-more ns (l .starts) (l .g) (l .sum + c .cells .result) (omega arith) e (l .inv .5))
+    let e : l .sum + c .cells .result ≡ cellsBefore ns (l .g + 1) = rw (l .inv .4, m) (sym (cells-next ns (l .g) (omega arith) (omega arith))) in (
+      omega arith,
+      omega arith,
+      length-set (l .starts) (l .g + 1) (l .sum + c .cells .result)
+          ∙ l .inv .2,
+      omega (arith, c .cells .ensures),
+      e,
+      filled-more ns (l .starts) (l .g) (l .sum + c .cells .result) (omega arith) e (l .inv .5),
+    )
 
 returns : tie.Need-returns Inv-loop μ-loop
 returns c =

@@ -1,13 +1,13 @@
 -- `journal::release_savepoint` meets its contract.
 -- Assumes nothing.
-use mathlib.Core.Path.{_≡_, refl, sym, ap, _∙_, subst}
+use mathlib.Core.Path.{_≡_, refl, sym, _∙_, subst}
 use Prim.Native.Nat.{_-_}
 use lib.ListN.{length, take}
 use Rattle.journal.specs.Layout.{startsOf}
-use Rattle.journal.specs.Model.{Releases, decided}
+use Rattle.journal.specs.Model.{Releases}
 use Rattle.journal.specs.Walks.{Walks}
 use Rattle.journal.proofs.Spots.{starts-length}
-use Rattle.journal.proofs.Answers.{answer-refused, answer-right, standing-found, used-inside, depth-found, marks-found, count-found}
+use Rattle.journal.proofs.Answers.{answer-refused, answer-right, standing-found, used-inside, depth-found}
 use borrow.Author.Needs.{needs}
 use Rattle.journal.proofs.release_savepoint.Statement.{statement}
 use Rattle.journal.proofs.release_savepoint.Tie as tie
@@ -21,9 +21,12 @@ release-in-requires c κs =
     let ns = a .counts .now in
     let j = a .journal .now in
     let r = c .before .before .before .before .before .walk-used .result in
-    let p : c .before .before .before .before .before .before .before .before .before .put-starts .last .1 .0 ≡ startsOf ns = c .before .before .before .before .before .before .before .before .before .put-starts .ensures in
+    let p : c .before .before .before .before .before .before .before .before .before .put-starts .last .1 .0 ≡ startsOf ns =
+    c .before .before .before .before .before .before .before .before .before .put-starts .ensures in
     let w = subst (λ q. Walks q (take (a .used) j) r) p (c .before .before .before .before .before .walk-used .ensures) in
-    let inside = used-inside ns j (a .used) (length (a .cells .now)) r w (c .before .before .before .before .check .result) (sym (c .before .before .before .standing .ensures) ∙ c .before .enum-told .given .1) in
+    let inside =
+    used-inside ns j (a .used) (length (a .cells .now)) r w (c .before .before .before .before .check .result)
+    (sym (c .before .before .before .standing .ensures) ∙ c .before .enum-told .given .1) in
     inside
 
 returns : tie.Need-returns
@@ -33,9 +36,11 @@ returns c =
     let j = a .journal .now in
     let n = length (a .cells .now) in
     let r = c .before .before .before .before .before .before .walk-used .result in
-    let p : c .before .before .before .before .before .before .before .before .before .before .put-starts .last .1 .0 ≡ startsOf ns = c .before .before .before .before .before .before .before .before .before .before .put-starts .ensures in
+    let p : c .before .before .before .before .before .before .before .before .before .before .put-starts .last .1 .0 ≡ startsOf ns =
+    c .before .before .before .before .before .before .before .before .before .before .put-starts .ensures in
     let w = subst (λ q. Walks q (take (a .used) j) r) p (c .before .before .before .before .before .before .walk-used .ensures) in
-    let st = sym (standing-found ns j (a .used) n r w (c .before .before .before .before .before .check .result) (c .before .before .before .before .before .check .ensures)) ∙ sym (c .before .before .before .before .standing .ensures) ∙ c .before .before .why .given .1 in
+    let st = sym (standing-found ns j (a .used) n r w (c .before .before .before .before .before .check .result) (c .before .before .before .before .before .check .ensures))
+    ∙ sym (c .before .before .before .before .standing .ensures) ∙ c .before .before .why .given .1 in
     let e = c .refused .ensures .0 in
     (e ∙ answer-refused ns j (a .used) n (Releases (a .savepoint)) st, (rw e (c .refused .ensures .1), rw e refl))
 
@@ -46,9 +51,13 @@ returns-2 c =
     let j = a .journal .now in
     let n = length (a .cells .now) in
     let r = c .before .before .before .before .before .before .before .before .walk-used .result in
-    let p : c .before .before .before .before .before .before .before .before .before .before .before .before .put-starts .last .1 .0 ≡ startsOf ns = c .before .before .before .before .before .before .before .before .before .before .before .before .put-starts .ensures in
+    let p : c .before .before .before .before .before .before .before .before .before .before .before .before .put-starts .last .1 .0 ≡ startsOf ns =
+    c .before .before .before .before .before .before .before .before .before .before .before .before .put-starts .ensures in
     let w = subst (λ q. Walks q (take (a .used) j) r) p (c .before .before .before .before .before .before .before .before .walk-used .ensures) in
-    let st = sym (standing-found ns j (a .used) n r w (c .before .before .before .before .before .before .before .check .result) (c .before .before .before .before .before .before .before .check .ensures)) ∙ sym (c .before .before .before .before .before .before .standing .ensures) ∙ c .before .before .before .before .enum-told .given .1 in
+    let st = sym
+    (standing-found ns j (a .used) n r w (c .before .before .before .before .before .before .before .check .result)
+    (c .before .before .before .before .before .before .before .check .ensures)) ∙ sym (c .before .before .before .before .before .before .standing .ensures)
+    ∙ c .before .before .before .before .enum-told .given .1 in
     let e = c .before .before .release-in .ensures in
     let d = depth-found ns j (a .used) n r w in
     let right = answer-right ns j (a .used) n (Releases (a .savepoint)) st in

@@ -1,7 +1,6 @@
 -- `journal::replay` meets its contract.
 -- Assumes nothing.
 use mathlib.Core.Path.{_≡_, refl, sym, _∙_}
-use lib.ListN.{length}
 use Rattle.journal.specs.Layout.{startsOf}
 use Rattle.journal.proofs.Spots.{starts-length}
 use Rattle.journal.proofs.Answers.{part-used, replay-refused, replay-right}
@@ -20,10 +19,15 @@ returns c =
 returns-2 : tie.Need-returns-2
 returns-2 c =
     let a = c .before .before .before .before .before .before .before .before .before .before .before .before .before .before .args in
-    let p : c .before .before .before .before .before .before .before .put-starts .last .1 .0 ≡ startsOf (a .counts .now) = c .before .before .before .before .before .before .before .put-starts .ensures in
+    let p : c .before .before .before .before .before .before .before .put-starts .last .1 .0 ≡ startsOf (a .counts .now) =
+    c .before .before .before .before .before .before .before .put-starts .ensures in
     let s = part-used (a .used) (c .before .before .before .before .before .lesser .result) (a .journal .now) (c .before .before .before .before .before .lesser .ensures) in
-    let e = rw (p, s) at (c .before .replay-in .ensures) in
-    (e .0 ∙ replay-right (a .counts .now) (a .journal .now) (a .used) (a .cells .now) (sym (c .before .before .before .before .before .before .before .before .before .before .before .check .ensures) ∙ c .before .before .before .before .before .before .before .before .before .enum-told .given .1), e .1)
+    let e = rw (p, s) at (c .before .replay-in .ensures) in (
+      e .0 ∙ replay-right (a .counts .now) (a .journal .now) (a .used) (a .cells .now)
+          (sym (c .before .before .before .before .before .before .before .before .before .before .before .check .ensures)
+          ∙ c .before .before .before .before .before .before .before .before .before .enum-told .given .1),
+      e .1,
+    )
 
 pub replay-spec : {M : Type 1} → statement M
 replay-spec =

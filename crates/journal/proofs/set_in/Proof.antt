@@ -15,8 +15,10 @@ use Rattle.journal.proofs.set_in.Tie as tie
 
 returns : tie.Need-returns
 returns c =
-    let e = c .refused2 .ensures .0 in
-    (rw (← c .before .before .before .before .before .spot-of .ensures, c .before .before .before .spot .given .1, lt-ltb _ _ (c .before .if1 .taken)) e, (rw e (c .refused2 .ensures .1), (rw e refl, rw e refl)))
+    let e = c .refused2 .ensures .0 in (
+      rw (← c .before .before .before .before .before .spot-of .ensures, c .before .before .before .spot .given .1, lt-ltb _ _ (c .before .if1 .taken)) e,
+      (rw e (c .refused2 .ensures .1), (rw e refl, rw e refl)),
+    )
 
 put-entry-requires : tie.Need-put-entry-requires
 put-entry-requires c κs = omega (arith, c .before .before .before .before .before .before .before .before .before .before .pre)
@@ -33,8 +35,11 @@ returns-3 c =
     let spot = spotOf (a .starts .now) (a .group) (a .cell) in
     let told = c .before .before .before .before .before .before .before .before .before .before .before .spot .given in
     let s : At (told .0 .0) ≡ spot = sym (told .1) ∙ c .before .before .before .before .before .before .before .before .before .before .before .before .before .spot-of .ensures in
-    let v : toZ w64 (ofZ w64 (a .value)) ≡ a .value = toZ-ofZ {w = w64} (c .before .before .before .before .before .before .before .before .before .before .before .before .before .before .before .before .fits .value) in
-    let o : toZ w64 (ofZ w64 (c .before .before .before .before .before .before .before .get-at .result)) ≡ getAt spot t = toZ-ofZ (sfits-of {w = w64} (c .before .before .before .before .before .before .before .get-at .ok)) ∙ c .before .before .before .before .before .before .before .get-at .ensures ∙ ap (λ p. getAt p t) s in (
+    let v : toZ w64 (ofZ w64 (a .value)) ≡ a .value =
+    toZ-ofZ {w = w64} (c .before .before .before .before .before .before .before .before .before .before .before .before .before .before .before .before .fits .value) in
+    let o : toZ w64 (ofZ w64 (c .before .before .before .before .before .before .before .get-at .result)) ≡ getAt spot t =
+    toZ-ofZ (sfits-of {w = w64} (c .before .before .before .before .before .before .before .get-at .ok))
+    ∙ c .before .before .before .before .before .before .before .get-at .ensures ∙ ap (λ p. getAt p t) s in (
       rw (← s, le-ltb _ _ (c .before .before .before .before .before .before .before .before .before .if1 .left)) refl,
       (refl, (rw (← s) (rw v at (c .before .put-at .ensures)), rw (o, v) at (c .before .before .before .before .before .put-entry .ensures))),
     )

@@ -26,8 +26,10 @@ returns-2 c =
 returns-3 : tie.Need-returns-3
 returns-3 c =
     let e = c .refused3 .ensures .0 in
-    let a = c .before .before .before .before .before .before .args in
-    (rw (lt-ltb 0 (a .k) (omega (arith, c .before .before .before .if1 .left)), le-leb (a .k) (a .d) (c .before .before .if2 .left), lt-ltb _ _ (c .before .if3 .taken)) e, (rw e (c .refused3 .ensures .1), (rw e refl, rw e refl)))
+    let a = c .before .before .before .before .before .before .args in (
+      rw (lt-ltb 0 (a .k) (omega (arith, c .before .before .before .if1 .left)), le-leb (a .k) (a .d) (c .before .before .if2 .left), lt-ltb _ _ (c .before .if3 .taken)) e,
+      (rw e (c .refused3 .ensures .1), (rw e refl, rw e refl)),
+    )
 
 undo-from-requires : tie.Need-undo-from-requires
 undo-from-requires c κs =
@@ -40,7 +42,14 @@ returns-4 c =
     let some : 0 < a .k = omega (arith, c .before .before .before .before .before .before .before .before .before .before .before .before .if1 .left) in
     let low = c .before .before .before .before .before .before .before .before .before .before .before .if2 .left in (
       rw (lt-ltb 0 (a .k) some, le-leb (a .k) (a .d) low, le-ltb _ _ (c .before .before .before .before .before .before .before .before .before .before .if3 .left)) refl,
-      (refl, (rw (down-mark (a .d) (a .k) (a .marks .now) some low, ← part-zero (a .used) (a .journal .now)) (c .before .before .before .before .before .undo-from .ensures), c .before .before .put-entry .ensures)),
+      (
+        refl,
+        (
+          rw (down-mark (a .d) (a .k) (a .marks .now) some low, ← part-zero (a .used) (a .journal .now))
+              (c .before .before .before .before .before .undo-from .ensures),
+          c .before .before .put-entry .ensures,
+        ),
+      ),
     )
 
 pub undo-in-spec : {M : Type 1} → statement M

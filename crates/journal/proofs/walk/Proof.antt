@@ -7,7 +7,7 @@ use native.Mathlib.Omega.{arith}
 use lib.ListN.{length, length-set}
 use Rattle.entry.specs.Field.{sizeOf, fieldAt}
 use Rattle.entry.proofs.Reading.{next-within}
-use Rattle.journal.specs.Walks.{okEntry, newDepth, depthAfter, walked, walkFrom, walkOf, down, Below, Walks}
+use Rattle.journal.specs.Walks.{okEntry, newDepth, depthAfter, walkFrom, walkOf, down, Below}
 use Rattle.journal.proofs.Walking.{depth-no, depth-yes, ok-size, walk-more, walk-stop, walk-end, walk-start, below-more}
 use borrow.Author.Needs.{needs}
 use Rattle.journal.proofs.walk.Statement.{statement}
@@ -26,8 +26,12 @@ loop-holds c =
 
 -- one turn: the field at the place, what is open behind it, and how far it goes
 record Turn (c : tie.After-size Inv-loop μ-loop) : Type 0 where
-  ok : okEntry (c .before .before .before .before .before .before .before .before .args .starts .now) (fieldAt (c .before .before .before .before .before .before .before .before .args .s .now) (c .before .before .before .before .before .loop .place)) (c .before .before .before .before .before .loop .depth) ≡ true
-  after : c .before .before .depth-after .result ≡ newDepth (fieldAt (c .before .before .before .before .before .before .before .before .args .s .now) (c .before .before .before .before .before .loop .place)) (c .before .before .before .before .before .loop .depth)
+  ok : okEntry (c .before .before .before .before .before .before .before .before .args .starts .now)
+      (fieldAt (c .before .before .before .before .before .before .before .before .args .s .now) (c .before .before .before .before .before .loop .place))
+      (c .before .before .before .before .before .loop .depth) ≡ true
+  after : c .before .before .depth-after .result ≡ newDepth
+      (fieldAt (c .before .before .before .before .before .before .before .before .args .s .now) (c .before .before .before .before .before .loop .place))
+      (c .before .before .before .before .before .loop .depth)
   size : c .size .result ≡ sizeOf (fieldAt (c .before .before .before .before .before .before .before .before .args .s .now) (c .before .before .before .before .before .loop .place))
   some : 4 ≤ c .size .result
   within : c .before .before .before .before .before .loop .place + c .size .result ≤ length (c .before .before .before .before .before .before .before .before .args .s .now)
@@ -77,8 +81,17 @@ loop-again c =
     let l = c .before .before .before .before .before .loop in
     let ps = a .starts .now in
     let x = fieldAt (a .s .now) (l .place) in
-    let t = turn c in
-    (omega (arith, t .some), t .within, c .before .if1 .left, length-set (l .marks) (l .depth) (l .count) ∙ l .inv .3, rw (t .size, t .after) (walk-more ps (a .s .now) (l .place) (l .count) (l .depth) (l .marks) (omega arith) (c .before .before .before .before .loop-test .taken) (t .ok) (omega arith) ∙ l .inv .4), rw (t .after) (below-more ps (a .s .now) (l .place) (l .count) (l .depth) (l .marks) x (t .ok) (omega arith) (l .inv .5)))
+    let t = turn c in (
+      omega (arith, t .some),
+      t .within,
+      c .before .if1 .left,
+      length-set (l .marks) (l .depth) (l .count)
+          ∙ l .inv .3,
+      rw (t .size, t .after)
+          (walk-more ps (a .s .now) (l .place) (l .count) (l .depth) (l .marks) (omega arith) (c .before .before .before .before .loop-test .taken) (t .ok) (omega arith)
+          ∙ l .inv .4),
+      rw (t .after) (below-more ps (a .s .now) (l .place) (l .count) (l .depth) (l .marks) x (t .ok) (omega arith) (l .inv .5)),
+    )
 
 returns-2 : tie.Need-returns-2 Inv-loop μ-loop
 returns-2 c =
