@@ -12,3 +12,4 @@ pub mod Small
 pub mod Made
 pub mod Reopened
 pub mod Numbered
+pub mod Due

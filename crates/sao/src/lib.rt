@@ -124,12 +124,15 @@ pub fn set_cell(
     value: i64,
 ) -> Edited
     ensures answer { λ r. ⌜ r .answer ≡
-        answerOf (now (counts .entry)) (now (journal .entry)) used (length (now (cells .entry))) (Sets group cell value) ⌝ }
+        answerOf (now (counts .entry)) (now (journal .entry)) used (length (now (cells .entry)))
+        (Sets group cell value) ⌝ }
     ensures used { λ r. ⌜ r .used ≡ usedBy used (Sets group cell value) (r .answer) ⌝ }
     ensures cells { λ r. ⌜ now (cells .exit) ≡
-        cellsBy (now (counts .entry)) (now (journal .entry)) used (Sets group cell value) (now (cells .entry)) (r .answer) ⌝ }
+        cellsBy (now (counts .entry)) (now (journal .entry)) used (Sets group cell value)
+        (now (cells .entry)) (r .answer) ⌝ }
     ensures journal { λ r. ⌜ now (journal .exit) ≡
-        journalBy (now (counts .entry)) (now (journal .entry)) used (Sets group cell value) (now (cells .entry)) (r .answer) ⌝ }
+        journalBy (now (counts .entry)) (now (journal .entry)) used (Sets group cell value)
+        (now (cells .entry)) (r .answer) ⌝ }
 {
     journal::set_cell(counts, cells, journal, used, group, cell, value)
 }
@@ -156,10 +159,12 @@ pub fn release_savepoint(
     savepoint: usize,
 ) -> Edited
     ensures answer { λ r. ⌜ r .answer ≡
-        answerOf (now (counts .entry)) (now (journal .entry)) used (length (now (cells .entry))) (Releases savepoint) ⌝ }
+        answerOf (now (counts .entry)) (now (journal .entry)) used (length (now (cells .entry)))
+        (Releases savepoint) ⌝ }
     ensures used { λ r. ⌜ r .used ≡ usedBy used (Releases savepoint) (r .answer) ⌝ }
     ensures journal { λ r. ⌜ now (journal .exit) ≡
-        journalBy (now (counts .entry)) (now (journal .entry)) used (Releases savepoint) (now (cells .entry)) (r .answer) ⌝ }
+        journalBy (now (counts .entry)) (now (journal .entry)) used (Releases savepoint)
+        (now (cells .entry)) (r .answer) ⌝ }
 {
     journal::release_savepoint(counts, cells, journal, used, savepoint)
 }
@@ -177,9 +182,11 @@ pub fn undo_to_savepoint(
         answerOf (now (counts .entry)) (now (journal .entry)) used (length (now (cells .entry))) (Undoes savepoint) ⌝ }
     ensures used { λ r. ⌜ r .used ≡ usedBy used (Undoes savepoint) (r .answer) ⌝ }
     ensures cells { λ r. ⌜ now (cells .exit) ≡
-        cellsBy (now (counts .entry)) (now (journal .entry)) used (Undoes savepoint) (now (cells .entry)) (r .answer) ⌝ }
+        cellsBy (now (counts .entry)) (now (journal .entry)) used (Undoes savepoint)
+        (now (cells .entry)) (r .answer) ⌝ }
     ensures journal { λ r. ⌜ now (journal .exit) ≡
-        journalBy (now (counts .entry)) (now (journal .entry)) used (Undoes savepoint) (now (cells .entry)) (r .answer) ⌝ }
+        journalBy (now (counts .entry)) (now (journal .entry)) used (Undoes savepoint)
+        (now (cells .entry)) (r .answer) ⌝ }
 {
     journal::undo_to_savepoint(counts, cells, journal, used, savepoint)
 }

@@ -245,11 +245,13 @@ pub extern "C" fn seambeacon_set_cell(
         (callAnswer (now (counts .entry)) (now (journal .entry)) (now (used .entry)) (now (cells .entry))
         (Sets group cell value)) ⌝ }
     ensures cells { λ _. ⌜ now (cells .exit) ≡
-        cellsBy (now (counts .entry)) (now (journal .entry)) (now (used .entry)) (Sets group cell value) (now (cells .entry))
+        cellsBy (now (counts .entry)) (now (journal .entry)) (now (used .entry)) (Sets group cell value)
+        (now (cells .entry))
         (callAnswer (now (counts .entry)) (now (journal .entry)) (now (used .entry)) (now (cells .entry))
         (Sets group cell value)) ⌝ }
     ensures journal { λ _. ⌜ now (journal .exit) ≡
-        journalBy (now (counts .entry)) (now (journal .entry)) (now (used .entry)) (Sets group cell value) (now (cells .entry))
+        journalBy (now (counts .entry)) (now (journal .entry)) (now (used .entry)) (Sets group cell value)
+        (now (cells .entry))
         (callAnswer (now (counts .entry)) (now (journal .entry)) (now (used .entry)) (now (cells .entry))
         (Sets group cell value)) ⌝ }
 {
@@ -306,7 +308,8 @@ pub extern "C" fn seambeacon_release_savepoint(
         (callAnswer (now (counts .entry)) (now (journal .entry)) (now (used .entry)) (now (cells .entry))
         (Releases savepoint)) ⌝ }
     ensures journal { λ _. ⌜ now (journal .exit) ≡
-        journalBy (now (counts .entry)) (now (journal .entry)) (now (used .entry)) (Releases savepoint) (now (cells .entry))
+        journalBy (now (counts .entry)) (now (journal .entry)) (now (used .entry)) (Releases savepoint)
+        (now (cells .entry))
         (callAnswer (now (counts .entry)) (now (journal .entry)) (now (used .entry)) (now (cells .entry))
         (Releases savepoint)) ⌝ }
 {
@@ -339,7 +342,8 @@ pub extern "C" fn seambeacon_undo_to_savepoint(
         (callAnswer (now (counts .entry)) (now (journal .entry)) (now (used .entry)) (now (cells .entry))
         (Undoes savepoint)) ⌝ }
     ensures journal { λ _. ⌜ now (journal .exit) ≡
-        journalBy (now (counts .entry)) (now (journal .entry)) (now (used .entry)) (Undoes savepoint) (now (cells .entry))
+        journalBy (now (counts .entry)) (now (journal .entry)) (now (used .entry)) (Undoes savepoint)
+        (now (cells .entry))
         (callAnswer (now (counts .entry)) (now (journal .entry)) (now (used .entry)) (now (cells .entry))
         (Undoes savepoint)) ⌝ }
 {

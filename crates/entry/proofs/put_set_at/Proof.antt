@@ -19,12 +19,14 @@ returns : tie.Need-returns
 unfolding textOf
 returns c =
     let a = c .before .before .before .before .before .before .before .before .before .before .before .before .before .before .before .before .before .before .before .before .before .before .before .before .before .before .before .args in
-    let n : c .before .before .before .before .before .before .before .before .before .before .before .before .before .before .before .before .before .before .before .before .before .before .before .before .bits-of .result ≡ bitsOf (a .new) =
+    let n : c .before .before .before .before .before .before .before .before .before .before .before .before .before .before .before .before .before .before .before .before .before .before .before .before .bits-of .result ≡ bitsOf
+    (a .new) =
     c .before .before .before .before .before .before .before .before .before .before .before .before .before .before .before .before .before .before .before .before .before .before .before .before .bits-of .ensures
     ∙ ap bitsOf
     (toZ-ofZ {w = w64}
     (c .before .before .before .before .before .before .before .before .before .before .before .before .before .before .before .before .before .before .before .before .before .before .before .before .before .before .before .fits .new)) in
-    let o : c .before .before .before .before .before .before .before .before .before .before .before .before .before .before .before .before .before .before .before .bits-of2 .result ≡ bitsOf (a .old) =
+    let o : c .before .before .before .before .before .before .before .before .before .before .before .before .before .before .before .before .before .before .before .bits-of2 .result ≡ bitsOf
+    (a .old) =
     c .before .before .before .before .before .before .before .before .before .before .before .before .before .before .before .before .before .before .before .bits-of2 .ensures
     ∙ ap bitsOf
     (toZ-ofZ {w = w64}

@@ -8,6 +8,12 @@ use Rattle.journal.proofs.Places.{back-none, back-one, back-halves}
 use borrow.Author.Needs.{needs}
 use borrow.Fn.Kinds.{In}
 use borrow.Fn.PlainCycle.{Measures, is, falls, and}
+use Rattle.journal.proofs.restore_at.Reads as restore-at
+use Rattle.journal.proofs.restore_at.Kinds as restore-at-kinds
+use Rattle.journal.proofs.+restore_at.Lts-restore_at as restore-at-lts
+use Rattle.entry.proofs.field_at.Reads as field-at-reads
+use Rattle.journal.proofs.give_back.Reads as give-back-reads
+use Rattle.journal.proofs.place_after.Reads as place-after-reads
 use Rattle.journal.proofs.+restore_at.{statement}
 use Rattle.journal.proofs.+restore_at.Tie.{close}
 
