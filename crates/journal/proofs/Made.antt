@@ -39,7 +39,7 @@ use Rattle.journal.specs.Entries.{markStep, marksFrom, marksOf, markOf, 
 use Rattle.journal.specs.Walks.{okEntry, walked, walkOf}
 use Rattle.journal.specs.Calls.{whole, entryFor, cellsFor, walkIn, standingOf}
 use Rattle.journal.specs.Plays.{matches, ran, playOf, playIn, replayOf}
-use Rattle.journal.specs.Runs.{Kept, kept, answerTo, leftBy, answersTo, leftTo, openIn, JournalIsStack, ReplaysTo, Torn}
+use Rattle.journal.specs.Runs.{Fit, FitCall, FitCalls, Kept, kept, answerTo, leftBy, answersTo, leftTo, openIn, JournalIsStack, ReplaysTo, Torn}
 use Rattle.journal.proofs.Answers.{answer-right, answer-refused}
 use Rattle.journal.proofs.Held.{none, holds-length, holds-mark, HeldBy, withEntry, cellsOn, marks-entry, held-cells, held-call}
 use Rattle.journal.proofs.Text.{Fine, fine-none, fine-more, fine-last, text-length, walk-journal, back-journal, text-more, used-more}
@@ -49,9 +49,6 @@ use Rattle.journal.proofs.Replays.{Leads, leads-none, leads-last, playe
 use Rattle.journal.proofs.Small.{cell-small}
 
 -- ---- cells of 64 bits
-
-abbrev pub Fit : List ℤ → Type 0
-Fit t = (i : ℕ) → SFits w64 (getD t i (pos 0))
 
 fit-put : (p : Spot) (v : ℤ) (t : List ℤ) → SFits w64 v → Fit t → Fit (putAt p v t)
 fit-put (At i) v t h f j = by (eqb i j) (ltb j (length t)) refl refl
@@ -80,17 +77,6 @@ fit-restore zero [] t fine-none f = f
 fit-restore {ps} zero (e ∷ es) t (fine-more h o r) f = fit-back ps e (restore ps es t) h (rw (drop-none es) at (fit-restore zero es t r f))
 fit-restore (suc m) [] t fine-none f = f
 fit-restore (suc m) (e ∷ es) t (fine-more h o r) f = fit-restore m es t r f
-
--- a set's value is a cell's
-abbrev pub FitCall : Call → Type 0
-FitCall (Sets g c v) = SFits w64 v
-FitCall Opens = Unit {0}
-FitCall (Releases k) = Unit {0}
-FitCall (Undoes k) = Unit {0}
-
-abbrev pub FitCalls : List Call → Type 0
-FitCalls [] = Unit {0}
-FitCalls (c ∷ cs) = FitCall c × FitCalls cs
 
 -- ---- what stands
 

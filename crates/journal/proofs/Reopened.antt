@@ -30,7 +30,7 @@ use Rattle.journal.specs.Entries.{markStep, marksFrom, marksOf, markOf, 
 use Rattle.journal.specs.Walks.{okEntry}
 use Rattle.journal.specs.Calls.{entryFor, whole}
 use Rattle.journal.specs.Plays.{matches, playedBy, Run, ran, playFrom, playOf, playIn, replayOf}
-use Rattle.journal.specs.Runs.{Kept, kept, answerTo, leftBy, leftTo}
+use Rattle.journal.specs.Runs.{Fit, FitCall, FitCalls, MadeBy, Kept, kept, answerTo, leftBy, leftTo}
 use Rattle.journal.proofs.Spots.{length-put}
 use Rattle.journal.proofs.Restore.{length-restore}
 use Rattle.journal.proofs.Answers.{whole-right, then-right}
@@ -38,7 +38,7 @@ use Rattle.journal.proofs.Walking.{no-way, ok-open}
 use Rattle.journal.proofs.Playing.{same-cell}
 use Rattle.journal.proofs.Held.{withEntry, marks-entry, cellsOn}
 use Rattle.journal.proofs.Replays.{Tells, tells-more, played-on, playedOn}
-use Rattle.journal.proofs.Made.{Fit, fresh, FitCall, FitCalls, Stands, stackOf, entry-size, played-call, answer-is, left-is, stands-done, entries-done}
+use Rattle.journal.proofs.Made.{fresh, Stands, stackOf, entry-size, played-call, answer-is, left-is, stands-done, entries-done}
 
 -- the call of an entry
 abbrev callFor : Entry → Call
@@ -88,12 +88,6 @@ over-same j x at used h q =
     sym (part-cut j at (length x) ∙ ap (λ y. take at j ++ (y ++ drop (length x) (drop at j))) p ∙ ap (λ y. take at j ++ (x ++ y)) (drop-drop (length x) at j))
 
 module _ (ns : List ℕ) (t₀ : List ℤ) (j : List ℕ) (used : ℕ) where
-  -- calls that lead from what is kept to the whole
-  pub record MadeBy (k : Kept) (end : Kept) : Type 0 where
-    pub calls : List Call
-    pub fits : FitCalls calls
-    pub left : leftTo ns calls k ≡ end
-
   abbrev ps : List ℕ
   ps = startsOf ns
 
@@ -103,7 +97,7 @@ module _ (ns : List ℕ) (t₀ : List ℤ) (j : List ℕ) (used : ℕ) where
   module _ (right : checkedOf ns (length t₀) ≡ C.Right) (bytes : AllBytes j) where
     -- the whole is made from here, if a replay from here comes to its end
     abbrev Comes : Kept → Run → Type 0
-    Comes k r = r .place ≡ used → MadeBy k (kept (r .cells) j used)
+    Comes k r = r .place ≡ used → MadeBy ns k (kept (r .cells) j used)
 
     stops : (k : Kept) → k .journal ≡ j → (n : ℕ) (ms : List ℕ) → Comes k (ran (k .used) n ms (k .cells))
     stops k q n ms p = record { calls = []; fits = tt; left = ap (λ x. kept (k .cells) x (k .used)) q ∙ ap (kept (k .cells) j) p }
@@ -192,7 +186,7 @@ module _ (ns : List ℕ) (t₀ : List ℤ) (j : List ℕ) (used : ℕ) where
             ∙ ap (λ x. playFrom f ps s (k′ .used) (length (withEntry es (entryFor ps c d t))) x (playedBy ps e s (length es) (marksOf es) t)) m
             ∙ ap (playFrom f ps s (k′ .used) (length (withEntry es (entryFor ps c d t))) (marksOf (withEntry es (entryFor ps c d t)))) (cells-same tells)
 
-        call-more : {end : Kept} → MadeBy k′ end → MadeBy k end
+        call-more : {end : Kept} → MadeBy ns k′ end → MadeBy ns k end
         call-more b =
             record { calls = c ∷ b .calls; fits = (call-fits e (reads .sized), b .fits); left = ap (leftTo ns (b .calls)) left-by ∙ b .left }
 
@@ -214,7 +208,7 @@ module _ (ns : List ℕ) (t₀ : List ℤ) (j : List ℕ) (used : ℕ) where
         subst (Comes k) (sym run) (λ p. call-more k ts q st same low ok m (ih p))) (λ _. stop)) (λ _. stop)) (λ _. stop)
 
     -- a replay that gives 0: the journal is one that calls made on the table, and the cells are theirs
-    pub reopened : Fit t₀ → replayOf ns j used t₀ ≡ C.Right → MadeBy (kept t₀ j 0) (kept (playIn ns j used t₀ .cells) j used)
+    pub reopened : Fit t₀ → replayOf ns j used t₀ ≡ C.Right → MadeBy ns (kept t₀ j 0) (kept (playIn ns j used t₀ .cells) j used)
     unfolding playOf placeAt entriesAt marksFrom replayOf fresh
     reopened f r =
         let p = whole-right (playIn ns j used t₀ .place) used (then-right (checkedOf ns (length t₀)) (whole (playIn ns j used t₀ .place) used) r .1) in

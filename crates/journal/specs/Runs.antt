@@ -2,11 +2,13 @@
 use mathlib.Core.Path.{_≡_}
 use mathlib.Core.List.{List, [], _∷_}
 use Prim.Native.Nat.{ℕ, _≤_}
-use lib.IntN.{ℤ}
-use lib.ListN.{length, take}
+use lib.IntN.{ℤ, pos}
+use lib.ListN.{length, take, getD}
+use mir.Syntax.{w64}
+use mir.Val.{SFits}
 use Rattle.reply.specs.declared.Answer.{Answer}
 use Rattle.reply.specs.declared.Checked.the-variants.{Right}
-use Rattle.journal.specs.Model.{Call, stacked, modelAnswers, modelRun}
+use Rattle.journal.specs.Model.{Call, Sets, Opens, Releases, Undoes, stacked, modelAnswers, modelRun}
 use Rattle.journal.specs.Calls.{whole, walkIn, answerOf, cellsBy, journalBy, usedBy}
 use Rattle.journal.specs.Plays.{replayOf, replayedCells, replayedOpen}
 
@@ -17,6 +19,20 @@ pub record Kept : Type 0 where
 
 abbrev pub kept : List ℤ → List ℕ → ℕ → Kept
 kept t j used = record { cells = t; journal = j; used = used }
+
+-- a table's cells, and the value of a set, have 64 bits
+abbrev pub Fit : List ℤ → Type 0
+Fit t = (i : ℕ) → SFits w64 (getD t i (pos 0))
+
+abbrev pub FitCall : Call → Type 0
+FitCall (Sets g c v) = SFits w64 v
+FitCall Opens = Unit {0}
+FitCall (Releases k) = Unit {0}
+FitCall (Undoes k) = Unit {0}
+
+abbrev pub FitCalls : List Call → Type 0
+FitCalls [] = Unit {0}
+FitCalls (c ∷ cs) = FitCall c × FitCalls cs
 
 module _ (ns : List ℕ) where
   -- what a call answers, and what it leaves, by the definitions that the contracts cite
@@ -57,3 +73,9 @@ module _ (ns : List ℕ) where
     pub before : leftTo (take calls cs) k .used ≤ n
     pub answer : replayOf ns (leftTo cs k .journal) n t ≡ whole (leftTo (take calls cs) k .used) n
     pub rest : ReplaysTo t (kept (leftTo (take calls cs) k .cells) (leftTo cs k .journal) (leftTo (take calls cs) k .used))
+
+  -- R543: calls that lead from what was kept to what is
+  pub record MadeBy (k end : Kept) : Type 0 where
+    pub calls : List Call
+    pub fits : FitCalls calls
+    pub left : leftTo calls k ≡ end
