@@ -1,4 +1,4 @@
--- R510 to R519, R530 to R532, R550: what a call replies and leaves, from the counts, the cells, the journal's bytes and how many are used.
+-- R510 to R518, R530 to R532, R550: what a call replies and leaves, from the counts, the cells, the journal's bytes and how many are used.
 use mathlib.Core.Bool.{cond}
 use mathlib.Core.List.{List}
 use Prim.Native.Nat.{ℕ, _+_, _-_}

@@ -1,4 +1,4 @@
--- R510 to R519, what the calls mean: a plain stack of whole tables, the cells now and those at each opening. No journal occurs here but as the
+-- R510 to R518, what the calls mean: a plain stack of whole tables, the cells now and those at each opening. No journal occurs here but as the
 -- room that is left in it.
 use mathlib.Core.Bool.{Bool, cond, _&&_}
 use mathlib.Core.List.{List, [], _∷_}
