@@ -13,7 +13,7 @@ use Rattle.base.proofs.Choice.{cond-elim}
 use Rattle.entry.specs.declared.Entry.{Entry}
 use Rattle.entry.specs.declared.Entry.the-variants.{Set, Misformed}
 use Rattle.entry.specs.Bytes.{valueFrom, cellOf}
-use Rattle.entry.specs.Field.{sizeOf, numbered, setOf, fieldOf, fieldAt}
+use Rattle.entry.specs.Field.{entrySize, numbered, setOf, entryIn, fieldAt}
 
 abbrev pub setBy : List ℕ → ℕ → Entry
 setBy s at =
@@ -32,7 +32,7 @@ fieldBy s at =
     Misformed)
 
 pub field-by : (s : List ℕ) (at : ℕ) → fieldAt s at ≡ fieldBy s at
-unfolding fieldOf
+unfolding entryIn
 field-by s at =
     let z : at + 0 ≡ at = omega arith in
     let a : getD (drop at s) 0 0 ≡ getD s at 0 = getD-drop at s 0 0 ∙ ap (λ n. getD s n 0) z in
@@ -42,14 +42,14 @@ field-by s at =
 
 module _ (n : ℕ) where
   abbrev Within : Entry → Type 0
-  Within e = sizeOf e ≤ n
+  Within e = entrySize e ≤ n
 
   numbered-within : (t k : ℕ) → 4 ≤ n → Within (numbered t k)
   numbered-within t k h =
       cond-elim Within (eqb t 2) (λ q. h) (λ q. cond-elim Within (eqb t 3) (λ q. h) (λ q. cond-elim Within (eqb t 4) (λ q. h) (λ q. omega arith)))
 
-pub field-size : (xs : List ℕ) → sizeOf (fieldOf xs) ≤ length xs
-unfolding fieldOf
+pub field-size : (xs : List ℕ) → entrySize (entryIn xs) ≤ length xs
+unfolding entryIn
 field-size xs =
     let n = length xs in
     cond-elim (Within n) (ltb n 4) (λ q. omega arith) (λ q.
@@ -60,5 +60,5 @@ field-size xs =
     (λ q. cond-elim (Within n) (eqb (getD xs 2 0) 1) (λ q. numbered-within n (getD xs 0 0) (getD xs 3 0) h) (λ q. omega arith)))
     (λ q. omega arith))
 
-pub next-within : (s : List ℕ) (p : ℕ) → p ≤ length s → p + sizeOf (fieldAt s p) ≤ length s
+pub next-within : (s : List ℕ) (p : ℕ) → p ≤ length s → p + entrySize (fieldAt s p) ≤ length s
 next-within s p h = omega (arith, field-size (drop p s), length-drop p s)

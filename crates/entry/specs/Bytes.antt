@@ -6,9 +6,9 @@ use lib.Dec.{ltb}
 use lib.IntN.{ℤ, pos, negsuc}
 
 -- k bytes of n, high byte first
-unfoldable pub bytesOf : ℕ → ℕ → List ℕ
-bytesOf zero n = []
-bytesOf (suc k) n = bytesOf k (n / 256) ++ (n % 256 ∷ [])
+unfoldable pub numberBytes : ℕ → ℕ → List ℕ
+numberBytes zero n = []
+numberBytes (suc k) n = numberBytes k (n / 256) ++ (n % 256 ∷ [])
 
 -- the number that bytes hold, high byte first, behind those that hold a
 unfoldable pub valueFrom : ℕ → List ℕ → ℕ

@@ -6,29 +6,29 @@ use lib.Dec.{ltb, eqb}
 use lib.ListN.{length, getD, take, drop}
 use Rattle.entry.specs.declared.Entry.{Entry}
 use Rattle.entry.specs.declared.Entry.the-variants.{Set, Open, Release, Undo, Misformed}
-use Rattle.entry.specs.Bytes.{bytesOf, valueFrom, bitsOf, cellOf}
+use Rattle.entry.specs.Bytes.{numberBytes, valueFrom, bitsOf, cellOf}
 
 -- ---- writing
 
 -- R520: one byte of tag, two bytes of length, and the bytes that the length counts
 abbrev pub tagged : ℕ → List ℕ → List ℕ
-tagged tag body = bytesOf 1 tag ++ (bytesOf 2 (length body) ++ body)
+tagged tag body = numberBytes 1 tag ++ (numberBytes 2 (length body) ++ body)
 
 -- R521: group, cell, old value, new value; R522: a savepoint's number
-unfoldable pub textOf : Entry → List ℕ
-textOf (Set g c old new) = tagged 1 (bytesOf 1 g ++ (bytesOf 2 c ++ (bytesOf 8 (bitsOf old) ++ bytesOf 8 (bitsOf new))))
-textOf (Open k) = tagged 2 (bytesOf 1 k)
-textOf (Release k) = tagged 3 (bytesOf 1 k)
-textOf (Undo k) = tagged 4 (bytesOf 1 k)
-textOf Misformed = []
+unfoldable pub entryText : Entry → List ℕ
+entryText (Set g c old new) = tagged 1 (numberBytes 1 g ++ (numberBytes 2 c ++ (numberBytes 8 (bitsOf old) ++ numberBytes 8 (bitsOf new))))
+entryText (Open k) = tagged 2 (numberBytes 1 k)
+entryText (Release k) = tagged 3 (numberBytes 1 k)
+entryText (Undo k) = tagged 4 (numberBytes 1 k)
+entryText Misformed = []
 
 -- the bytes of that
-abbrev pub sizeOf : Entry → ℕ
-sizeOf (Set g c old new) = 22
-sizeOf (Open k) = 4
-sizeOf (Release k) = 4
-sizeOf (Undo k) = 4
-sizeOf Misformed = 0
+abbrev pub entrySize : Entry → ℕ
+entrySize (Set g c old new) = 22
+entrySize (Open k) = 4
+entrySize (Release k) = 4
+entrySize (Undo k) = 4
+entrySize Misformed = 0
 
 -- ---- reading
 
@@ -41,8 +41,8 @@ setOf xs =
     Set (valueFrom 0 (take 1 (drop 3 xs))) (valueFrom 0 (take 2 (drop 4 xs))) (cellOf (valueFrom 0 (take 8 (drop 6 xs)))) (cellOf (valueFrom 0 (take 8 (drop 14 xs))))
 
 -- R523: the field with which bytes begin: tag 1 with length 19, or one of the tags 2, 3 and 4 with length 1, and as many bytes
-unfoldable pub fieldOf : List ℕ → Entry
-fieldOf xs =
+unfoldable pub entryIn : List ℕ → Entry
+entryIn xs =
     cond (ltb (length xs) 4) Misformed
     (cond (eqb (getD xs 1 0) 0)
     (cond (eqb (getD xs 0 0) 1)
@@ -52,4 +52,4 @@ fieldOf xs =
 
 -- the field at a place
 abbrev pub fieldAt : List ℕ → ℕ → Entry
-fieldAt s p = fieldOf (drop p s)
+fieldAt s p = entryIn (drop p s)

@@ -3,8 +3,8 @@ ghost use mathlib.Core.Path.{_≡_};
 ghost use Prim.Native.Nat.{_+_, _<_, _≤_};
 ghost use lib.ListN.{length, take, drop};
 ghost use Rattle.base.specs.Part.{over};
-ghost use Rattle.entry.specs.Bytes.{bytesOf, valueFrom, bitsOf, cellOf};
-ghost use Rattle.entry.specs.Field.{textOf, sizeOf, tagged, numbered, setOf, fieldAt};
+ghost use Rattle.entry.specs.Bytes.{numberBytes, valueFrom, bitsOf, cellOf};
+ghost use Rattle.entry.specs.Field.{entryText, entrySize, tagged, numbered, setOf, fieldAt};
 
 // R521, R522: what a field tells: a set with its group, its cell in the group from 1, the old and the new value; an
 // open, a release or an
@@ -19,7 +19,7 @@ pub enum Entry {
 
 // The bytes that an entry's field takes.
 pub fn size(entry: Entry) -> usize
-    ensures { λ r. ⌜ r ≡ sizeOf entry ⌝ }
+    ensures { λ r. ⌜ r ≡ entrySize entry ⌝ }
 {
     match entry {
         Entry::Set(group, cell, old, new) => 22,
@@ -54,7 +54,7 @@ fn cell_of(bits: u64) -> i64
 
 // R520: a number in as many bytes as are lent, high byte first.
 fn put_number(out: &mut [u8], n: u64)
-    ensures { λ _. ⌜ now (out .exit) ≡ bytesOf (length (now (out .entry))) n ⌝ }
+    ensures { λ _. ⌜ now (out .exit) ≡ numberBytes (length (now (out .entry))) n ⌝ }
 {
     let mut m = n;
     let mut i = out.len();
@@ -67,7 +67,7 @@ fn put_number(out: &mut [u8], n: u64)
 
 fn put_number_at(out: &mut [u8], at: usize, k: usize, n: u64)
     requires room { ⌜ at + k ≤ length (now out) ⌝ }
-    ensures { λ _. ⌜ now (out .exit) ≡ over at (bytesOf k n) (now (out .entry)) ⌝ }
+    ensures { λ _. ⌜ now (out .exit) ≡ over at (numberBytes k n) (now (out .entry)) ⌝ }
 {
     let end = at + k;
     put_number(&mut out[at..end], n);
@@ -161,7 +161,7 @@ pub fn field_at(s: &[u8], at: usize) -> Entry
 // R521: a set's field, from its last bytes to its first.
 fn put_set_at(out: &mut [u8], at: usize, group: usize, cell: usize, old: i64, new: i64)
     requires room { ⌜ at + 22 ≤ length (now out) ⌝ }
-    ensures { λ _. ⌜ now (out .exit) ≡ over at (textOf (Entry.Set group cell old new)) (now (out .entry)) ⌝ }
+    ensures { λ _. ⌜ now (out .exit) ≡ over at (entryText (Entry.Set group cell old new)) (now (out .entry)) ⌝ }
 {
     put_number_at(out, at + 14, 8, bits_of(new));
     put_number_at(out, at + 6, 8, bits_of(old));
@@ -174,7 +174,7 @@ fn put_set_at(out: &mut [u8], at: usize, group: usize, cell: usize, old: i64, ne
 // R522: the field of an open, a release or an undo.
 fn put_numbered_at(out: &mut [u8], at: usize, tag: u64, k: usize)
     requires room { ⌜ at + 4 ≤ length (now out) ⌝ }
-    ensures { λ _. ⌜ now (out .exit) ≡ over at (tagged tag (bytesOf 1 k)) (now (out .entry)) ⌝ }
+    ensures { λ _. ⌜ now (out .exit) ≡ over at (tagged tag (numberBytes 1 k)) (now (out .entry)) ⌝ }
 {
     put_number_at(out, at + 3, 1, k as u64);
     put_number_at(out, at + 1, 2, 1);
@@ -183,8 +183,8 @@ fn put_numbered_at(out: &mut [u8], at: usize, tag: u64, k: usize)
 
 // The field of an entry at a place; what is misformed has none.
 pub fn put_entry(out: &mut [u8], at: usize, entry: Entry)
-    requires room { ⌜ at + sizeOf entry ≤ length (now out) ⌝ }
-    ensures { λ _. ⌜ now (out .exit) ≡ over at (textOf entry) (now (out .entry)) ⌝ }
+    requires room { ⌜ at + entrySize entry ≤ length (now out) ⌝ }
+    ensures { λ _. ⌜ now (out .exit) ≡ over at (entryText entry) (now (out .entry)) ⌝ }
 {
     match entry {
         Entry::Set(group, cell, old, new) => put_set_at(out, at, group, cell, old, new),

@@ -21,8 +21,8 @@ use Rattle.reply.specs.declared.Answer.the-variants.{Refused}
 use Rattle.journal.specs.declared.State.{State}
 use Rattle.journal.specs.Layout.{startsOf}
 use Rattle.journal.specs.Model.{Call, decided}
-use Rattle.journal.specs.Walks.{down, Walks}
-use Rattle.journal.specs.Calls.{andThen, whole, walkIn, standingOf, answerOf, cellsBy, journalBy, usedBy}
+use Rattle.journal.specs.Walks.{down, WalksTo}
+use Rattle.journal.specs.Calls.{andThen, whole, walkIn, standingOf, answerOf, cellsAfter, journalBy, usedBy}
 use Rattle.journal.specs.Entries.{restore, entriesAt}
 use Rattle.journal.specs.Plays.{playOf, playIn, replayOf, replayedCells, Plays}
 use Rattle.journal.proofs.Walking.{down-length}
@@ -54,7 +54,7 @@ module _ (ns j : List ℕ) (used cells : ℕ) where
 
   -- ---- the walk in code
 
-  module _ (r : State) (w : Walks (startsOf ns) (take used j) r) where
+  module _ (r : State) (w : WalksTo (startsOf ns) (take used j) r) where
     pub marks-found : walkIn ns j used .marks ≡ down (r .depth) (r .marks)
     marks-found = ap (λ x. x .marks) (sym (w .found))
 
@@ -106,7 +106,7 @@ module _ {ps s : List ℕ} {t : List ℤ} {r : State} {t′ : List ℤ} (w : Pla
 
 -- R518: a refused call keeps every cell, every byte of the journal, and the bytes used
 pub refused-keeps : (ns j : List ℕ) (used : ℕ) (t : List ℤ) (c : Call) {r : Refusal} → answerOf ns j used (length t) c ≡ Refused r
-    → (cellsBy ns j used c t (answerOf ns j used (length t) c) ≡ t) × (journalBy ns j used c t (answerOf ns j used (length t) c) ≡ j) × (usedBy used c (answerOf ns j used (length t) c) ≡ used)
+    → (cellsAfter ns j used c t (answerOf ns j used (length t) c) ≡ t) × (journalBy ns j used c t (answerOf ns j used (length t) c) ≡ j) × (usedBy used c (answerOf ns j used (length t) c) ≡ used)
 refused-keeps ns j used t c e = rw e (refl, refl, refl)
 
 pub refused-replay-keeps : (ns j : List ℕ) (used : ℕ) (t : List ℤ) {r : Refusal} → replayOf ns j used t ≡ C.Refused r → replayedCells ns j used t (replayOf ns j used t) ≡ t

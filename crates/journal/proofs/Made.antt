@@ -28,7 +28,7 @@ use Rattle.reply.specs.declared.Answer.{Answer}
 use Rattle.reply.specs.declared.Answer.the-variants.{Done, Refused}
 use Rattle.entry.specs.declared.Entry.{Entry}
 use Rattle.entry.specs.declared.Entry.the-variants.{Set, Open, Release, Undo, Misformed}
-use Rattle.entry.specs.Field.{textOf, sizeOf, fieldOf}
+use Rattle.entry.specs.Field.{entryText, entrySize, entryIn}
 use Rattle.entry.proofs.Codec.{Sized, sized-set, sized-open, sized-release, sized-undo, length-text, field-cut}
 use Rattle.journal.specs.declared.Spot.{Spot}
 use Rattle.journal.specs.declared.Spot.the-variants.{At, Nowhere}
@@ -100,7 +100,7 @@ module _ (ns : List ℕ) (t₀ : List ℤ) where
 
   -- ---- the entry of a call that is accepted
 
-  pub entry-size : (c : Call) (d : ℕ) (t : List ℤ) → sizeOf (entryFor ps c d t) ≡ bytesFor c
+  pub entry-size : (c : Call) (d : ℕ) (t : List ℤ) → entrySize (entryFor ps c d t) ≡ bytesFor c
   entry-size (Sets g c v) d t = refl
   entry-size Opens d t = refl
   entry-size (Releases k) d t = refl
@@ -214,11 +214,11 @@ module _ (ns : List ℕ) (t₀ : List ℤ) where
       abbrev e : Entry
       e = entryFor ps c d t
 
-      size : length (textOf e) ≡ bytesFor c
+      size : length (entryText e) ≡ bytesFor c
       size = length-text e ∙ entry-size c d t
 
-      long : length (over (k .used) (textOf e) (k .journal)) ≡ length (k .journal)
-      long = over-length (k .journal) (textOf e) (k .used) (omega (arith, size, s .inside))
+      long : length (over (k .used) (entryText e) (k .journal)) ≡ length (k .journal)
+      long = over-length (k .journal) (entryText e) (k .used) (omega (arith, size, s .inside))
 
       sized : Sized e
       sized = entry-sized c d (length t) t right ok (s .few) fits (s .fit)
@@ -226,18 +226,18 @@ module _ (ns : List ℕ) (t₀ : List ℤ) where
       abbrev saved : List (List ℤ)
       saved = onStack ps c (stackOf k ts) .saved
 
-      pub left-is : (n : ℕ) → leftBy ns c k (Done n) ≡ kept (cellsOn ps c es t) (over (k .used) (textOf e) (k .journal)) (k .used + bytesFor c)
+      pub left-is : (n : ℕ) → leftBy ns c k (Done n) ≡ kept (cellsOn ps c es t) (over (k .used) (entryText e) (k .journal)) (k .used + bytesFor c)
       left-is n =
-          ap (λ w. kept (cellsFor ps c (take (k .used) (k .journal)) w t) (over (k .used) (textOf (entryFor ps c (length (w .marks)) t)) (k .journal)) (k .used + bytesFor c)) walk-is
-          ∙ ap (λ x. kept (cellsFor ps c x (walked (k .used) (length es) (marksOf es)) t) (over (k .used) (textOf e) (k .journal)) (k .used + bytesFor c)) (s .bytes)
-          ∙ ap (λ x. kept x (over (k .used) (textOf e) (k .journal)) (k .used + bytesFor c)) (cells-on c (k .used) t (s .fine) (s .held) ok)
+          ap (λ w. kept (cellsFor ps c (take (k .used) (k .journal)) w t) (over (k .used) (entryText (entryFor ps c (length (w .marks)) t)) (k .journal)) (k .used + bytesFor c)) walk-is
+          ∙ ap (λ x. kept (cellsFor ps c x (walked (k .used) (length es) (marksOf es)) t) (over (k .used) (entryText e) (k .journal)) (k .used + bytesFor c)) (s .bytes)
+          ∙ ap (λ x. kept x (over (k .used) (entryText e) (k .journal)) (k .used + bytesFor c)) (cells-on c (k .used) t (s .fine) (s .held) ok)
 
-      pub stands-done : Stands (kept (cellsOn ps c es t) (over (k .used) (textOf e) (k .journal)) (k .used + bytesFor c)) saved
+      pub stands-done : Stands (kept (cellsOn ps c es t) (over (k .used) (entryText e) (k .journal)) (k .used + bytesFor c)) saved
       stands-done =
           record {
             entries = withEntry es e;
             inside = omega (arith, long, s .inside);
-            bytes = used-more (k .journal) (textOf e) (k .used) (bytesFor c) (s .inside) size ∙ ap (λ x. x ++ textOf e) (s .bytes) ∙ sym (text-more es e);
+            bytes = used-more (k .journal) (entryText e) (k .used) (bytesFor c) (s .inside) size ∙ ap (λ x. x ++ entryText e) (s .bytes) ∙ sym (text-more es e);
             fine = fine-last e sized (s .fine) (entry-ok c d t ok);
             held = held-call ps es t ts (length (k .journal) - k .used) (s .held) c ok;
             leads = subst (Leads ps [] (withEntry es e) t₀) (played-call es c d t) (leads-last e (s .leads) sized (entry-ok c d t ok) (entry-matches c d t));
@@ -249,9 +249,9 @@ module _ (ns : List ℕ) (t₀ : List ℤ) where
       unfolding stands-done
       entries-done = refl
 
-      model-done : onStack ps c (stackOf k ts) ≡ stackOf (kept (cellsOn ps c es t) (over (k .used) (textOf e) (k .journal)) (k .used + bytesFor c)) saved
+      model-done : onStack ps c (stackOf k ts) ≡ stackOf (kept (cellsOn ps c es t) (over (k .used) (entryText e) (k .journal)) (k .used + bytesFor c)) saved
       model-done =
-          let z : length (k .journal) - k .used - bytesFor c ≡ length (over (k .used) (textOf e) (k .journal)) - (k .used + bytesFor c) = omega (arith, long) in
+          let z : length (k .journal) - k .used - bytesFor c ≡ length (over (k .used) (entryText e) (k .journal)) - (k .used + bytesFor c) = omega (arith, long) in
           stack-is c (stackOf k ts)
           ∙ ap (λ x. stacked x saved (length (k .journal) - k .used - bytesFor c)) (sym (held-cells ps es t ts (length (k .journal) - k .used) (s .held) c ok))
           ∙ ap (stacked (cellsOn ps c es t) saved) z
@@ -331,7 +331,7 @@ module _ (ns : List ℕ) (t₀ : List ℤ) where
 module _ (ns : List ℕ) (t₀ : List ℤ) (right : checkedOf ns (length t₀) ≡ C.Right) where
   -- bytes that begin as those kept, and go on with what is no field
   cut-here : (k : Kept) (ts : List (List ℤ)) (j : List ℕ) (n : ℕ) → Stands ns t₀ k ts → k .used ≤ n → take (k .used) j ≡ take (k .used) (k .journal)
-      → fieldOf (drop (k .used) (take n j)) ≡ Misformed → replayOf ns j n t₀ ≡ whole (k .used) n
+      → entryIn (drop (k .used) (take n j)) ≡ Misformed → replayOf ns j n t₀ ≡ whole (k .used) n
   unfolding replayOf
   cut-here k ts j n s l q x =
       let es = s .entries in
@@ -344,8 +344,8 @@ module _ (ns : List ℕ) (t₀ : List ℤ) (right : checkedOf ns (length t₀) �
   -- what a call leaves: all as it was, or a field behind the bytes used
   pub record Adds (k k′ : Kept) : Type 0 where
     pub entry : Entry
-    pub journal : k′ .journal ≡ over (k .used) (textOf entry) (k .journal)
-    pub used : k′ .used ≡ k .used + sizeOf entry
+    pub journal : k′ .journal ≡ over (k .used) (entryText entry) (k .journal)
+    pub used : k′ .used ≡ k .used + entrySize entry
 
   pub adds : (c : Call) (k : Kept) → (leftBy ns c k (answerTo ns c k) ≡ k) ⊎ Adds k (leftBy ns c k (answerTo ns c k))
   adds c k = by (answerTo ns c k) refl
@@ -367,9 +367,9 @@ module _ (ns : List ℕ) (t₀ : List ℤ) (right : checkedOf ns (length t₀) �
     adds-keeps : Adds k k′ → take (k .used) (k′ .journal) ≡ take (k .used) (k .journal)
     adds-keeps a = ap (take (k .used)) (a .journal) ∙ take-at (take (k .used) (k .journal)) _ (k .used) long-used
 
-    adds-cut : (a : Adds k k′) (n : ℕ) → k .used ≤ n → n < k′ .used → drop (k .used) (take n (k′ .journal)) ≡ take (n - k .used) (textOf (a .entry))
+    adds-cut : (a : Adds k k′) (n : ℕ) → k .used ≤ n → n < k′ .used → drop (k .used) (take n (k′ .journal)) ≡ take (n - k .used) (entryText (a .entry))
     adds-cut a n l h =
-        let x = textOf (a .entry) in
+        let x = entryText (a .entry) in
         let m : n - k .used ≤ length x = omega (arith, a .used, length-text (a .entry)) in
         drop-take (k .used) n (k′ .journal) ∙ ap (λ y. take (n - k .used) (drop (k .used) y)) (a .journal)
         ∙ ap (take (n - k .used)) (drop-at (take (k .used) (k .journal)) (x ++ drop (k .used + length x) (k .journal)) (k .used) long-used)
@@ -418,7 +418,7 @@ module _ (ns : List ℕ) (t₀ : List ℤ) (right : checkedOf ns (length t₀) �
       record {
         calls = 0;
         before = l;
-        answer = cut-here k ts (k .journal) n s l refl (ap fieldOf (drop-of-length-le (take n (k .journal)) {i = k .used} z) ∙ no-field);
+        answer = cut-here k ts (k .journal) n s l refl (ap entryIn (drop-of-length-le (take n (k .journal)) {i = k .used} z) ∙ no-field);
         rest = replay-stands ns t₀ k ts s right;
       }
   torn (c ∷ cs) k ts n f s l h =
@@ -440,12 +440,12 @@ module _ (ns : List ℕ) (t₀ : List ℤ) (right : checkedOf ns (length t₀) �
           let j = leftTo ns (c ∷ cs) k .journal in
           let w : n ≤ k′ .used = omega arith in
           let y : take n j ≡ take n (k′ .journal) = sym (take-take n (k′ .used) j w) ∙ ap (take n) r ∙ take-take n (k′ .used) (k′ .journal) w in
-          let v : drop (k .used) (take n j) ≡ take (n - k .used) (textOf (a .entry)) = ap (drop (k .used)) y ∙ adds-cut k k′ (s .inside) a n l m in
+          let v : drop (k .used) (take n j) ≡ take (n - k .used) (entryText (a .entry)) = ap (drop (k .used)) y ∙ adds-cut k k′ (s .inside) a n l m in
           let u = field-cut (a .entry) (n - k .used) (omega (arith, a .used)) in
           record {
             calls = 0;
             before = l;
-            answer = cut-here k ts j n s l q (ap fieldOf v ∙ u);
+            answer = cut-here k ts j n s l q (ap entryIn v ∙ u);
             rest = replay-stands ns t₀ (kept (k .cells) j (k .used)) ts (moved k ts j s q) right;
           }
 

@@ -21,7 +21,7 @@ use Rattle.reply.specs.declared.Answer.the-variants.{Done}
 use Rattle.entry.specs.declared.Entry.{Entry}
 use Rattle.entry.specs.declared.Entry.the-variants.{Set, Open, Release, Undo, Misformed}
 use Rattle.entry.specs.Bytes.{AllBytes}
-use Rattle.entry.specs.Field.{textOf, sizeOf, fieldAt}
+use Rattle.entry.specs.Field.{entryText, entrySize, fieldAt}
 use Rattle.entry.proofs.Codec.{Sized, sized-set, Reads, field-read, bytes-take, bytes-drop, length-text}
 use Rattle.entry.proofs.Reading.{next-within}
 use Rattle.journal.specs.Layout.{startsOf, spotOf, getAt}
@@ -125,10 +125,10 @@ module _ (ns : List ℕ) (t₀ : List ℤ) (j : List ℕ) (used : ℕ) where
         entry-is : entryFor ps c d t ≡ e
         entry-is = call-entry ps d e t ok m
 
-        size-is : sizeOf e ≡ bytesFor c
-        size-is = ap sizeOf (sym entry-is) ∙ entry-size ns t₀ c d t
+        size-is : entrySize e ≡ bytesFor c
+        size-is = ap entrySize (sym entry-is) ∙ entry-size ns t₀ c d t
 
-        within : k .used + sizeOf e ≤ length s
+        within : k .used + entrySize e ≤ length s
         within = next-within s (k .used) (omega arith)
 
         right-here : checkedOf ns (length t) ≡ C.Right
@@ -144,7 +144,7 @@ module _ (ns : List ℕ) (t₀ : List ℤ) (j : List ℕ) (used : ℕ) where
 
         -- what the call leaves
         abbrev k′ : Kept
-        k′ = kept (cellsOn ps c es t) (over (k .used) (textOf (entryFor ps c d t)) (k .journal)) (k .used + bytesFor c)
+        k′ = kept (cellsOn ps c es t) (over (k .used) (entryText (entryFor ps c d t)) (k .journal)) (k .used + bytesFor c)
 
         left-by : leftBy ns c k (answerTo ns c k) ≡ k′
         left-by = ap (leftBy ns c k) answers ∙ left-is ns t₀ c k ts st right-here (call-fits e (reads .sized)) (call-ok ps d e ok) room (numberFor c d)
@@ -156,11 +156,11 @@ module _ (ns : List ℕ) (t₀ : List ℤ) (j : List ℕ) (used : ℕ) where
         unfolding stands′
         entries′ = sym (entries-done ns t₀ c k ts st right-here (call-fits e (reads .sized)) (call-ok ps d e ok) room)
 
-        journal-same : over (k .used) (textOf (entryFor ps c d t)) (k .journal) ≡ j
+        journal-same : over (k .used) (entryText (entryFor ps c d t)) (k .journal) ≡ j
         journal-same =
-            let x : length (textOf e) ≡ sizeOf e = length-text e in
-            ap (λ y. over (k .used) (textOf y) (k .journal)) entry-is ∙ ap (over (k .used) (textOf e)) q
-            ∙ over-same j (textOf e) (k .used) used (omega (arith, within, length-take used j)) (ap (λ n. take n (drop (k .used) s)) x ∙ reads .text)
+            let x : length (entryText e) ≡ entrySize e = length-text e in
+            ap (λ y. over (k .used) (entryText y) (k .journal)) entry-is ∙ ap (over (k .used) (entryText e)) q
+            ∙ over-same j (entryText e) (k .used) used (omega (arith, within, length-take used j)) (ap (λ n. take n (drop (k .used) s)) x ∙ reads .text)
 
         used-same : nextAt s (k .used) ≡ k .used + bytesFor c
         used-same = ap (λ n. k .used + n) size-is
@@ -172,7 +172,7 @@ module _ (ns : List ℕ) (t₀ : List ℤ) (j : List ℕ) (used : ℕ) where
         tells′ : Tells s es (k .used) → Tells s (withEntry es (entryFor ps c d t)) (k .used + bytesFor c)
         tells′ tells =
             subst (λ n. Tells s (withEntry es (entryFor ps c d t)) (k .used + n)) size-is
-            (subst (λ x. Tells s (withEntry es x) (k .used + sizeOf e)) (sym entry-is) (tells-more s es (k .used) e tells refl))
+            (subst (λ x. Tells s (withEntry es x) (k .used + entrySize e)) (sym entry-is) (tells-more s es (k .used) e tells refl))
 
         run-same : (f : ℕ) → Tells s es (k .used)
             → playFrom f ps s (nextAt s (k .used)) (length es + 1) (markStep e (length es) (marksOf es)) (playedBy ps e s (length es) (marksOf es) t) ≡ playFrom f ps s (k′ .used)

@@ -15,7 +15,7 @@ use Rattle.base.proofs.Taken.{drop-none}
 use borrow.Author.Tests.{lt-ltb}
 use Rattle.entry.specs.declared.Entry.{Entry}
 use Rattle.entry.specs.declared.Entry.the-variants.{Set, Open, Release, Undo, Misformed}
-use Rattle.entry.specs.Field.{textOf, sizeOf, fieldOf, fieldAt}
+use Rattle.entry.specs.Field.{entryText, entrySize, entryIn, fieldAt}
 use Rattle.entry.proofs.Codec.{Sized, length-text, field-text}
 use Rattle.journal.specs.Layout.{spotOf, putAt}
 use Rattle.journal.specs.Entries.{markStep, marksFrom, marksOf, markOf, restore, journalText, nextAt, entriesAt, placeAt}
@@ -83,11 +83,11 @@ pub record Tells (s : List ℕ) (pre : List Entry) (at : ℕ) : Type 0 where
   pub ends : placeAt s 0 (length pre) ≡ at
   pub reads : entriesAt s 0 (length pre) ≡ pre
 
-pub tells-more : (s : List ℕ) (pre : List Entry) (at : ℕ) (e : Entry) → Tells s pre at → fieldAt s at ≡ e → Tells s (withEntry pre e) (at + sizeOf e)
+pub tells-more : (s : List ℕ) (pre : List Entry) (at : ℕ) (e : Entry) → Tells s pre at → fieldAt s at ≡ e → Tells s (withEntry pre e) (at + entrySize e)
 tells-more s pre at e r x =
     let l : length (withEntry pre e) ≡ length pre + 1 = length-append pre (e ∷ []) in
     record {
-      ends = ap (placeAt s 0) l ∙ place-next s 0 (length pre) ∙ ap (nextAt s) (r .ends) ∙ ap (λ y. at + sizeOf y) x;
+      ends = ap (placeAt s 0) l ∙ place-next s 0 (length pre) ∙ ap (nextAt s) (r .ends) ∙ ap (λ y. at + entrySize y) x;
       reads = ap (entriesAt s 0) l ∙ entries-one s (length pre) ∙ ap (λ y. y ++ (fieldAt s (placeAt s 0 (length pre)) ∷ [])) (r .reads)
           ∙ ap (λ y. pre ++ (fieldAt s y ∷ [])) (r .ends) ∙ ap (λ y. pre ++ (y ∷ [])) x;
     }
@@ -113,24 +113,24 @@ play-stuck (suc f) ps s p n ms t x = rw x (both (ltb p (length s)))
     both false = refl
 
 -- x is what stands behind the fields: nothing, or part of a field
-module _ {ps : List ℕ} (s x : List ℕ) (stuck : fieldOf x ≡ Misformed) where
+module _ {ps : List ℕ} (s x : List ℕ) (stuck : entryIn x ≡ Misformed) where
   play-text : {t u : List ℤ} (pre es : List Entry) (at f : ℕ) → Leads ps pre es t u → Tells s pre at → drop at s ≡ journalText es ++ x
       → at + length (journalText es) + length x ≡ length s → length es ≤ f
       → playFrom f ps s at (length pre) (marksOf pre) t ≡ ran (at + length (journalText es)) (length (pre ++ es)) (marksOf (pre ++ es)) u
   unfolding journalText playFrom
   play-text {t} pre [] at f leads-none r q y h =
       let a : at + 0 ≡ at = omega arith in
-      play-stuck f ps s at (length pre) (marksOf pre) t (ap fieldOf q ∙ stuck) ∙ rw (a, append-nil pre)
+      play-stuck f ps s at (length pre) (marksOf pre) t (ap entryIn q ∙ stuck) ∙ rw (a, append-nil pre)
   play-text pre (e ∷ es) at zero g r q y h = absurd (omega arith)
   play-text {t} {u} pre (e ∷ es) at (suc f) (leads-more z o m g) r q y h =
-      let q″ : drop at s ≡ textOf e ++ (journalText es ++ x) = q ∙ append-assoc (textOf e) (journalText es) x in
-      let w : fieldAt s at ≡ e = ap fieldOf q″ ∙ field-text e (journalText es ++ x) z in
+      let q″ : drop at s ≡ entryText e ++ (journalText es ++ x) = q ∙ append-assoc (entryText e) (journalText es) x in
+      let w : fieldAt s at ≡ e = ap entryIn q″ ∙ field-text e (journalText es ++ x) z in
       let k = ok-size ps (length (marksOf pre)) e o in
-      let v : length (textOf e ++ journalText es) ≡ sizeOf e + length (journalText es) = length-append (textOf e) (journalText es) ∙ ap (λ n. n + length (journalText es)) (length-text e) in
-      let q′ : drop (at + sizeOf e) s ≡ journalText es ++ x = sym (drop-drop (sizeOf e) at s) ∙ ap (drop (sizeOf e)) q″ ∙ drop-at (textOf e) (journalText es ++ x) (sizeOf e) (length-text e) in
+      let v : length (entryText e ++ journalText es) ≡ entrySize e + length (journalText es) = length-append (entryText e) (journalText es) ∙ ap (λ n. n + length (journalText es)) (length-text e) in
+      let q′ : drop (at + entrySize e) s ≡ journalText es ++ x = sym (drop-drop (entrySize e) at s) ∙ ap (drop (entrySize e)) q″ ∙ drop-at (entryText e) (journalText es ++ x) (entrySize e) (length-text e) in
       let l : length (withEntry pre e) ≡ length pre + 1 = length-append pre (e ∷ []) in
-      let a : at + sizeOf e + length (journalText es) ≡ at + length (textOf e ++ journalText es) = omega arith in
-      let n = play-text (withEntry pre e) es (at + sizeOf e) f g (tells-more s pre at e r w) q′ (omega arith) (omega arith) in
+      let a : at + entrySize e + length (journalText es) ≡ at + length (entryText e ++ journalText es) = omega arith in
+      let n = play-text (withEntry pre e) es (at + entrySize e) f g (tells-more s pre at e r w) q′ (omega arith) (omega arith) in
       rw (lt-ltb at (length s) (omega arith), w, o, m, played-on ps s pre e t (r .reads), ← append-assoc pre (e ∷ []) es, ← a) (rw (l, marks-entry pre e) at n)
 
   pub play-cut : {t u : List ℤ} (es : List Entry) → Leads ps [] es t u → s ≡ journalText es ++ x → length es ≤ length s → playOf ps s t ≡ ran (length (journalText es)) (length es) (marksOf es) u
@@ -140,8 +140,8 @@ module _ {ps : List ℕ} (s x : List ℕ) (stuck : fieldOf x ≡ Misformed) wher
       let y : 0 + length (journalText es) + length x ≡ length s = rw z (sym (ap length q ∙ length-append (journalText es) x)) in
       play-text [] es 0 (length s) g (record { ends = refl; reads = refl }) (drop-none s ∙ q) y h ∙ rw z
 
-pub no-field : fieldOf [] ≡ Misformed
-unfolding fieldOf
+pub no-field : entryIn [] ≡ Misformed
+unfolding entryIn
 no-field = refl
 
 pub play-journal : {ps : List ℕ} {t u : List ℤ} (s : List ℕ) (es : List Entry) → Leads ps [] es t u → s ≡ journalText es → length es ≤ length s

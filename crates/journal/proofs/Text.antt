@@ -12,7 +12,7 @@ use lib.Seq.{drop-at, take-at, length-take-le}
 use borrow.Author.Tests.{lt-ltb}
 use Rattle.base.specs.Part.{over}
 use Rattle.entry.specs.declared.Entry.{Entry}
-use Rattle.entry.specs.Field.{textOf, sizeOf, fieldOf, fieldAt}
+use Rattle.entry.specs.Field.{entryText, entrySize, entryIn, fieldAt}
 use Rattle.entry.proofs.Codec.{Sized, length-text, field-text}
 use Rattle.journal.specs.Entries.{markStep, marksFrom, marksOf, restore, journalText, entriesAt, backTo}
 use Rattle.journal.specs.Walks.{okEntry, walked, walkFrom, walkOf}
@@ -33,7 +33,7 @@ module _ {ps : List ℕ} where
   pub text-length : {es : List Entry} {i : ℕ} {ms : List ℕ} → Fine ps es i ms → length es ≤ length (journalText es)
   unfolding journalText
   text-length fine-none = omega arith
-  text-length {es = e ∷ es} {ms = ms} (fine-more h o r) = omega (arith, text-length r, length-append (textOf e) (journalText es), length-text e, ok-size ps (length ms) e o)
+  text-length {es = e ∷ es} {ms = ms} (fine-more h o r) = omega (arith, text-length r, length-append (entryText e) (journalText es), length-text e, ok-size ps (length ms) e o)
 
   -- the walk over a journal's bytes
   walk-text : (es : List Entry) (i : ℕ) (ms p s : List ℕ) (at f : ℕ) → Fine ps es i ms → length p ≡ at → s ≡ p ++ journalText es → length es ≤ f
@@ -46,15 +46,15 @@ module _ {ps : List ℕ} where
       walk-end f ps s at i ms (omega arith) ∙ rw (a, z)
   walk-text (e ∷ es) i ms p s at zero r l q h = absurd (omega arith)
   walk-text (e ∷ es) i ms p s at (suc f) (fine-more k o r) l q h =
-      let d : drop at s ≡ textOf e ++ journalText es = ap (drop at) q ∙ drop-at p (textOf e ++ journalText es) at l in
-      let x : fieldAt s at ≡ e = ap fieldOf d ∙ field-text e (journalText es) k in
+      let d : drop at s ≡ entryText e ++ journalText es = ap (drop at) q ∙ drop-at p (entryText e ++ journalText es) at l in
+      let x : fieldAt s at ≡ e = ap entryIn d ∙ field-text e (journalText es) k in
       let t = ok-size ps (length ms) e o in
-      let y : length s ≡ at + (sizeOf e + length (journalText es)) =
-      ap length q ∙ length-append p (textOf e ++ journalText es) ∙ ap (λ m. length p + m) (length-append (textOf e) (journalText es)) ∙ rw (l, length-text e) in
-      let m : length (p ++ textOf e) ≡ at + sizeOf e = length-append p (textOf e) ∙ rw (l, length-text e) in
-      let q′ : s ≡ (p ++ textOf e) ++ journalText es = q ∙ sym (append-assoc p (textOf e) (journalText es)) in
+      let y : length s ≡ at + (entrySize e + length (journalText es)) =
+      ap length q ∙ length-append p (entryText e ++ journalText es) ∙ ap (λ m. length p + m) (length-append (entryText e) (journalText es)) ∙ rw (l, length-text e) in
+      let m : length (p ++ entryText e) ≡ at + entrySize e = length-append p (entryText e) ∙ rw (l, length-text e) in
+      let q′ : s ≡ (p ++ entryText e) ++ journalText es = q ∙ sym (append-assoc p (entryText e) (journalText es)) in
       let z : i + suc (length es) ≡ i + 1 + length es = omega arith in
-      rw (lt-ltb at (length s) (omega arith), x, o, z) (walk-text es (i + 1) (markStep e i ms) (p ++ textOf e) s (at + sizeOf e) f r m q′ (omega arith))
+      rw (lt-ltb at (length s) (omega arith), x, o, z) (walk-text es (i + 1) (markStep e i ms) (p ++ entryText e) s (at + entrySize e) f r m q′ (omega arith))
 
   pub walk-journal : (es : List Entry) → Fine ps es 0 [] → walkOf ps (journalText es) ≡ walked (length (journalText es)) (length es) (marksOf es)
   unfolding walkOf
@@ -67,12 +67,12 @@ module _ {ps : List ℕ} where
   unfolding entriesAt journalText
   read-written [] p r s at fine-none l q = refl
   read-written (e ∷ es) p r s at (fine-more h o hs) l q =
-      let q′ : s ≡ p ++ (textOf e ++ (journalText es ++ r)) = q ∙ ap (λ l. p ++ l) (append-assoc (textOf e) (journalText es) r) in
-      let d : drop at s ≡ textOf e ++ (journalText es ++ r) = ap (drop at) q′ ∙ drop-at p (textOf e ++ (journalText es ++ r)) at l in
-      let f : fieldAt s at ≡ e = ap fieldOf d ∙ field-text e (journalText es ++ r) h in
-      let m : length (p ++ textOf e) ≡ at + sizeOf e = length-append p (textOf e) ∙ rw (l, length-text e) in
-      let q″ : s ≡ (p ++ textOf e) ++ (journalText es ++ r) = q′ ∙ sym (append-assoc p (textOf e) (journalText es ++ r)) in
-      ap (λ x. x ∷ entriesAt s (at + sizeOf x) (length es)) f ∙ ap (λ l. e ∷ l) (read-written es (p ++ textOf e) r s (at + sizeOf e) hs m q″)
+      let q′ : s ≡ p ++ (entryText e ++ (journalText es ++ r)) = q ∙ ap (λ l. p ++ l) (append-assoc (entryText e) (journalText es) r) in
+      let d : drop at s ≡ entryText e ++ (journalText es ++ r) = ap (drop at) q′ ∙ drop-at p (entryText e ++ (journalText es ++ r)) at l in
+      let f : fieldAt s at ≡ e = ap entryIn d ∙ field-text e (journalText es ++ r) h in
+      let m : length (p ++ entryText e) ≡ at + entrySize e = length-append p (entryText e) ∙ rw (l, length-text e) in
+      let q″ : s ≡ (p ++ entryText e) ++ (journalText es ++ r) = q′ ∙ sym (append-assoc p (entryText e) (journalText es ++ r)) in
+      ap (λ x. x ∷ entriesAt s (at + entrySize x) (length es)) f ∙ ap (λ l. e ∷ l) (read-written es (p ++ entryText e) r s (at + entrySize e) hs m q″)
 
   -- going back over the bytes is going back over the entries
   pub back-journal : (es : List Entry) (m : ℕ) (t : List ℤ) → Fine ps es 0 [] → m ≤ length es → backTo ps (journalText es) m (length es) t ≡ restore ps (drop m es) t
@@ -81,10 +81,10 @@ module _ {ps : List ℕ} where
 
 -- ---- a field more
 
-pub text-more : (es : List Entry) (e : Entry) → journalText (es ++ (e ∷ [])) ≡ journalText es ++ textOf e
+pub text-more : (es : List Entry) (e : Entry) → journalText (es ++ (e ∷ [])) ≡ journalText es ++ entryText e
 unfolding journalText
-text-more [] e = append-nil (textOf e)
-text-more (d ∷ es) e = ap (λ l. textOf d ++ l) (text-more es e) ∙ sym (append-assoc (textOf d) (journalText es) (textOf e))
+text-more [] e = append-nil (entryText e)
+text-more (d ∷ es) e = ap (λ l. entryText d ++ l) (text-more es e) ∙ sym (append-assoc (entryText d) (journalText es) (entryText e))
 
 -- the bytes used behind a write at their end
 pub used-more : (j x : List ℕ) (used n : ℕ) → used ≤ length j → length x ≡ n → take (used + n) (over used x j) ≡ take used j ++ x

@@ -13,7 +13,7 @@ use borrow.Author.Tests.{lt-ltb, le-ltb, ltb-true, leb-true, eqb-true, eqb-false
 use Rattle.base.proofs.Choice.{and-first, and-second}
 use Rattle.entry.specs.declared.Entry.{Entry}
 use Rattle.entry.specs.declared.Entry.the-variants.{Set, Open, Release, Undo, Misformed}
-use Rattle.entry.specs.Field.{sizeOf, fieldAt}
+use Rattle.entry.specs.Field.{entrySize, fieldAt}
 use Rattle.journal.specs.Model.{outer}
 use Rattle.journal.specs.Entries.{markStep, markOf, nextAt}
 use Rattle.journal.specs.Walks.{okEntry, newDepth, depthAfter, walked, walkFrom, walkOf, down}
@@ -34,7 +34,7 @@ module _ (ps : List ℕ) (d : ℕ) where
   pub ok-undo : (k : ℕ) → okEntry ps (Undo k) d ≡ true → (0 < k) × (k ≤ d)
   ok-undo k h = (ltb-true 0 k (and-first (ltb 0 k) (leb k d) h), leb-true k d (and-second (ltb 0 k) (leb k d) h))
 
-  pub ok-size : (e : Entry) → okEntry ps e d ≡ true → 4 ≤ sizeOf e
+  pub ok-size : (e : Entry) → okEntry ps e d ≡ true → 4 ≤ entrySize e
   ok-size (Set g c o v) h = omega arith
   ok-size (Open k) h = omega arith
   ok-size (Release k) h = omega arith

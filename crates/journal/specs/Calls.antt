@@ -13,7 +13,7 @@ use Rattle.reply.specs.declared.Checked.the-variants.{Right, Refused}
 use Rattle.reply.specs.declared.Answer.{Answer}
 use Rattle.entry.specs.declared.Entry.{Entry}
 use Rattle.entry.specs.declared.Entry.the-variants.{Set, Open, Release, Undo}
-use Rattle.entry.specs.Field.{textOf}
+use Rattle.entry.specs.Field.{entryText}
 use Rattle.journal.specs.Layout.{startsOf, spotOf, getAt, putAt}
 use Rattle.journal.specs.Model.{Call, Sets, Opens, Releases, Undoes, decided, whenRight, byAnswer, bytesFor}
 use Rattle.journal.specs.Entries.{markOf, backTo}
@@ -56,12 +56,12 @@ module _ (ns j : List ℕ) (used : ℕ) where
   answerOf cells c = whenRight (standingOf cells) (decided (startsOf ns) c (length (walkIn .marks)) (length j - used))
 
   -- R518: cells, journal and bytes used are left as they were by a refused call
-  abbrev pub cellsBy : Call → List ℤ → Answer → List ℤ
-  cellsBy c t a = byAnswer a (cellsFor (startsOf ns) c (take used j) walkIn t) t
+  abbrev pub cellsAfter : Call → List ℤ → Answer → List ℤ
+  cellsAfter c t a = byAnswer a (cellsFor (startsOf ns) c (take used j) walkIn t) t
 
   -- R520: the field behind the bytes used; what stands further on is kept
   abbrev pub journalBy : Call → List ℤ → Answer → List ℕ
-  journalBy c t a = byAnswer a (over used (textOf (entryFor (startsOf ns) c (length (walkIn .marks)) t)) j) j
+  journalBy c t a = byAnswer a (over used (entryText (entryFor (startsOf ns) c (length (walkIn .marks)) t)) j) j
 
 abbrev pub usedBy : ℕ → Call → Answer → ℕ
 usedBy used c a = byAnswer a (used + bytesFor c) used

@@ -5,7 +5,7 @@ use lib.IntN.{ℤ}
 use lib.ListN.{length, getD, drop}
 use Rattle.entry.specs.declared.Entry.{Entry}
 use Rattle.entry.specs.declared.Entry.the-variants.{Set, Open, Release, Undo, Misformed}
-use Rattle.entry.specs.Field.{textOf, sizeOf, fieldAt}
+use Rattle.entry.specs.Field.{entryText, entrySize, fieldAt}
 use Rattle.journal.specs.Layout.{spotOf, putAt}
 use Rattle.journal.specs.Model.{outer}
 
@@ -48,10 +48,10 @@ restore starts (e ∷ es) t = giveBack starts e (restore starts es t)
 
 unfoldable pub journalText : List Entry → List ℕ
 journalText [] = []
-journalText (e ∷ es) = textOf e ++ journalText es
+journalText (e ∷ es) = entryText e ++ journalText es
 
 abbrev pub nextAt : List ℕ → ℕ → ℕ
-nextAt s p = p + sizeOf (fieldAt s p)
+nextAt s p = p + entrySize (fieldAt s p)
 
 -- n fields from a place on, and the place behind them
 unfoldable pub entriesAt : List ℕ → ℕ → ℕ → List Entry

@@ -9,7 +9,7 @@ use mir.Val.{SFits}
 use Rattle.reply.specs.declared.Answer.{Answer}
 use Rattle.reply.specs.declared.Checked.the-variants.{Right}
 use Rattle.journal.specs.Model.{Call, Sets, Opens, Releases, Undoes, stacked, modelAnswers, modelRun}
-use Rattle.journal.specs.Calls.{whole, walkIn, answerOf, cellsBy, journalBy, usedBy}
+use Rattle.journal.specs.Calls.{whole, walkIn, answerOf, cellsAfter, journalBy, usedBy}
 use Rattle.journal.specs.Plays.{replayOf, replayedCells, replayedOpen}
 
 pub record Kept : Type 0 where
@@ -40,7 +40,7 @@ module _ (ns : List ℕ) where
   answerTo c k = answerOf ns (k .journal) (k .used) (length (k .cells)) c
 
   abbrev pub leftBy : Call → Kept → Answer → Kept
-  leftBy c k a = kept (cellsBy ns (k .journal) (k .used) c (k .cells) a) (journalBy ns (k .journal) (k .used) c (k .cells) a) (usedBy (k .used) c a)
+  leftBy c k a = kept (cellsAfter ns (k .journal) (k .used) c (k .cells) a) (journalBy ns (k .journal) (k .used) c (k .cells) a) (usedBy (k .used) c a)
 
   abbrev pub answersTo : List Call → Kept → List Answer
   answersTo [] k = []

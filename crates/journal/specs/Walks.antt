@@ -60,11 +60,11 @@ down zero a = []
 down (suc d) a = getD a d 0 ∷ down d a
 
 -- no mark is past n fields
-abbrev pub Below : ℕ → List ℕ → ℕ → Type 0
-Below d marks n = (j : ℕ) → j < d → getD marks j 0 ≤ n
+abbrev pub MarksBelow : ℕ → List ℕ → ℕ → Type 0
+MarksBelow d marks n = (j : ℕ) → j < d → getD marks j 0 ≤ n
 
-pub record Walks (starts s : List ℕ) (r : State) : Type 0 where
+pub record WalksTo (starts s : List ℕ) (r : State) : Type 0 where
   pub found : walked (r .place) (r .count) (down (r .depth) (r .marks)) ≡ walkOf starts s
   pub small : r .depth ≤ 16
   pub within : r .place ≤ length s
-  pub below : Below (r .depth) (r .marks) (r .count)
+  pub below : MarksBelow (r .depth) (r .marks) (r .count)

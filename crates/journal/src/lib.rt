@@ -11,14 +11,14 @@ ghost use mathlib.Core.List.{[]};
 ghost use Prim.Native.Nat.{_+_, _-_, _≤_};
 ghost use lib.ListN.{length, take};
 ghost use Rattle.base.specs.Part.{over};
-ghost use Rattle.entry.specs.Field.{textOf, sizeOf};
+ghost use Rattle.entry.specs.Field.{entryText, entrySize};
 ghost use Rattle.entry.specs.declared.Entry.the-variants.{Set, Open, Release, Undo};
 ghost use Rattle.reply.specs.declared.Answer.the-variants.{Refused};
 ghost use Rattle.journal.specs.Layout.{startsOf, spotIn, spotOf, getAt, putAt};
 ghost use Rattle.journal.specs.Model.{Sets, Opens, Releases, Undoes, roomFor, decided, byAnswer};
 ghost use Rattle.journal.specs.Entries.{markOf, giveBack, restore, entriesAt, placeAt, backTo};
-ghost use Rattle.journal.specs.Walks.{okEntry, depthAfter, down, Below, Walks};
-ghost use Rattle.journal.specs.Calls.{andThen, whole, answerOf, cellsBy, journalBy, usedBy};
+ghost use Rattle.journal.specs.Walks.{okEntry, depthAfter, down, MarksBelow, WalksTo};
+ghost use Rattle.journal.specs.Calls.{andThen, whole, answerOf, cellsAfter, journalBy, usedBy};
 ghost use Rattle.journal.specs.Numbered.{editReply};
 ghost use Rattle.journal.specs.Plays.{matches, playedBy, playOf, Plays, byChecked};
 ghost use Rattle.journal.specs.Plays.{replayOf, replayedCells, replayedOpen};
@@ -233,7 +233,7 @@ fn depth_after(starts: &[usize], entry: Entry, d: usize) -> usize
 // R530: all fields, up to the first that is misformed or whose call would not be accepted.
 fn walk(starts: &[usize], s: &[u8]) -> State
     requires many { ⌜ length (now starts) ≡ 62 ⌝ }
-    ensures { λ r. ⌜ Walks (now (starts .entry)) (now (s .entry)) r ⌝ }
+    ensures { λ r. ⌜ WalksTo (now (starts .entry)) (now (s .entry)) r ⌝ }
 {
     let mut place: usize = 0;
     let mut count: usize = 0;
@@ -278,7 +278,7 @@ fn play_one(
     requires many { ⌜ length (now starts) ≡ 62 ⌝ }
     requires ok { ⌜ okEntry (now starts) entry d ≡ true ⌝ }
     requires few { ⌜ d ≤ 16 ⌝ }
-    requires below { ⌜ Below d (now marks) n ⌝ }
+    requires below { ⌜ MarksBelow d (now marks) n ⌝ }
     ensures same { λ r. ⌜ r ≡ matches (now (starts .entry)) entry (now (cells .entry)) ⌝ }
     ensures cells { λ r. ⌜ now (cells .exit) ≡
         cond r (playedBy (now (starts .entry)) entry (now (s .entry)) n (down d (now (marks .entry))) (now (cells
@@ -377,7 +377,7 @@ fn replay_in(starts: &[usize], cells: &mut [i64], s: &[u8], used: usize) -> Repl
 // R530, R532: the walk over the bytes used, or over all of the buffer if more are said to be used.
 fn walk_used(starts: &[usize], journal: &[u8], used: usize) -> State
     requires many { ⌜ length (now starts) ≡ 62 ⌝ }
-    ensures { λ r. ⌜ Walks (now (starts .entry)) (take used (now (journal .entry))) r ⌝ }
+    ensures { λ r. ⌜ WalksTo (now (starts .entry)) (take used (now (journal .entry))) r ⌝ }
 {
     let end = base::lesser(used, journal.len());
     walk(starts, &journal[0..end])
@@ -427,7 +427,7 @@ fn set_in(
         byAnswer (r .answer) (putAt (spotOf (now (starts .entry)) group cell) value (now (cells .entry))) (now
         (cells .entry)) ⌝ }
     ensures journal { λ r. ⌜ now (journal .exit) ≡
-        byAnswer (r .answer) (over used (textOf (Set group cell (getAt (spotOf (now (starts .entry)) group cell)
+        byAnswer (r .answer) (over used (entryText (Set group cell (getAt (spotOf (now (starts .entry)) group cell)
         (now (cells .entry))) value)) (now (journal .entry))) (now (journal .entry)) ⌝ }
 {
     let spot = spot_of(starts, group, cell);
@@ -451,11 +451,11 @@ fn set_in(
 // The field of a call that is accepted, and what the call tells; 11 where there is no room for it.
 fn add(journal: &mut [u8], used: usize, entry: Entry, number: usize) -> Edited
     requires inside { ⌜ used ≤ length (now journal) ⌝ }
-    requires four { ⌜ sizeOf entry ≡ 4 ⌝ }
+    requires four { ⌜ entrySize entry ≡ 4 ⌝ }
     ensures answer { λ r. ⌜ r .answer ≡ roomFor 4 (length (now (journal .entry)) - used) number ⌝ }
     ensures used { λ r. ⌜ r .used ≡ byAnswer (r .answer) (used + 4) used ⌝ }
     ensures journal { λ r. ⌜ now (journal .exit) ≡
-        byAnswer (r .answer) (over used (textOf entry) (now (journal .entry))) (now (journal .entry)) ⌝ }
+        byAnswer (r .answer) (over used (entryText entry) (now (journal .entry))) (now (journal .entry)) ⌝ }
 {
     if journal.len() - used < 4 {
         return refused(Refusal::NoRoom, used);
@@ -474,7 +474,7 @@ fn open_in(journal: &mut [u8], used: usize, depth: usize) -> Edited
     ensures answer { λ r. ⌜ r .answer ≡ decided [] Opens depth (length (now (journal .entry)) - used) ⌝ }
     ensures used { λ r. ⌜ r .used ≡ byAnswer (r .answer) (used + 4) used ⌝ }
     ensures journal { λ r. ⌜ now (journal .exit) ≡
-        byAnswer (r .answer) (over used (textOf (Open (depth + 1))) (now (journal .entry))) (now (journal .entry))
+        byAnswer (r .answer) (over used (entryText (Open (depth + 1))) (now (journal .entry))) (now (journal .entry))
         ⌝ }
 {
     if 16 <= depth {
@@ -489,7 +489,7 @@ fn release_in(journal: &mut [u8], used: usize, depth: usize, k: usize) -> Edited
     ensures answer { λ r. ⌜ r .answer ≡ decided [] (Releases k) depth (length (now (journal .entry)) - used) ⌝ }
     ensures used { λ r. ⌜ r .used ≡ byAnswer (r .answer) (used + 4) used ⌝ }
     ensures journal { λ r. ⌜ now (journal .exit) ≡
-        byAnswer (r .answer) (over used (textOf (Release k)) (now (journal .entry))) (now (journal .entry)) ⌝ }
+        byAnswer (r .answer) (over used (entryText (Release k)) (now (journal .entry))) (now (journal .entry)) ⌝ }
 {
     if k == 0 {
         return refused(Refusal::NotOpen, used);
@@ -515,14 +515,14 @@ fn undo_in(
     requires many { ⌜ length (now starts) ≡ 62 ⌝ }
     requires inside { ⌜ used ≤ length (now journal) ⌝ }
     requires few { ⌜ d ≤ 16 ⌝ }
-    requires below { ⌜ Below d (now marks) n ⌝ }
+    requires below { ⌜ MarksBelow d (now marks) n ⌝ }
     ensures answer { λ r. ⌜ r .answer ≡ decided [] (Undoes k) d (length (now (journal .entry)) - used) ⌝ }
     ensures used { λ r. ⌜ r .used ≡ byAnswer (r .answer) (used + 4) used ⌝ }
     ensures cells { λ r. ⌜ now (cells .exit) ≡
         byAnswer (r .answer) (backTo (now (starts .entry)) (take used (now (journal .entry))) (markOf (down d (now
         (marks .entry))) k) n (now (cells .entry))) (now (cells .entry)) ⌝ }
     ensures journal { λ r. ⌜ now (journal .exit) ≡
-        byAnswer (r .answer) (over used (textOf (Undo k)) (now (journal .entry))) (now (journal .entry)) ⌝ }
+        byAnswer (r .answer) (over used (entryText (Undo k)) (now (journal .entry))) (now (journal .entry)) ⌝ }
 {
     if k == 0 {
         return refused(Refusal::NotOpen, used);
@@ -556,7 +556,7 @@ pub fn set_cell(
         value) ⌝ }
     ensures used { λ r. ⌜ r .used ≡ usedBy used (Sets group cell value) (r .answer) ⌝ }
     ensures cells { λ r. ⌜ now (cells .exit) ≡
-        cellsBy (now (counts .entry)) (now (journal .entry)) used (Sets group cell value) (now (cells .entry)) (r
+        cellsAfter (now (counts .entry)) (now (journal .entry)) used (Sets group cell value) (now (cells .entry)) (r
         .answer) ⌝ }
     ensures journal { λ r. ⌜ now (journal .exit) ≡
         journalBy (now (counts .entry)) (now (journal .entry)) used (Sets group cell value) (now (cells .entry)) (r
@@ -626,7 +626,7 @@ pub fn undo_to_savepoint(
         ⌝ }
     ensures used { λ r. ⌜ r .used ≡ usedBy used (Undoes savepoint) (r .answer) ⌝ }
     ensures cells { λ r. ⌜ now (cells .exit) ≡
-        cellsBy (now (counts .entry)) (now (journal .entry)) used (Undoes savepoint) (now (cells .entry)) (r
+        cellsAfter (now (counts .entry)) (now (journal .entry)) used (Undoes savepoint) (now (cells .entry)) (r
         .answer) ⌝ }
     ensures journal { λ r. ⌜ now (journal .exit) ≡
         journalBy (now (counts .entry)) (now (journal .entry)) used (Undoes savepoint) (now (cells .entry)) (r

@@ -20,7 +20,7 @@ use Rattle.listing.specs.Listing.{listing, IsListing, ListingDue}
 use Rattle.sao.specs.Outcome.{Gives}
 use Rattle.sao.proofs.Demand2.{as-due}
 use Rattle.journal.specs.Model.{Sets, Opens, Releases, Undoes}
-use Rattle.journal.specs.Calls.{cellsBy, journalBy}
+use Rattle.journal.specs.Calls.{cellsAfter, journalBy}
 use Rattle.journal.specs.Plays.{replayedCells}
 use Rattle.journal.specs.Due as JournalIs
 use Rattle.sao.proofs.set_cell
@@ -84,7 +84,7 @@ rewrite-record-due κs (text, (at, (table, (out, _)))) r v l = (as-due .rewritin
 pub set-cell-due : Gives set_cell.ended set_cell.Reads.Learnt
     (λ κs a r v.
     (let c = Sets (a .1 .1 .1 .1 .0) (a .1 .1 .1 .1 .1 .0) (a .1 .1 .1 .1 .1 .1 .0) in JournalIs.Due (now (a .0)) (now (a .1 .1 .0)) (a .1 .1 .1 .0) (length (now (a .1 .0))) c
-    (r .answer) × (v .1 .0 ≡ cellsBy (now (a .0)) (now (a .1 .1 .0)) (a .1 .1 .1 .0) c (now (a .1 .0)) (r .answer)) ×
+    (r .answer) × (v .1 .0 ≡ cellsAfter (now (a .0)) (now (a .1 .1 .0)) (a .1 .1 .1 .0) c (now (a .1 .0)) (r .answer)) ×
     (v .1 .1 .0 ≡ journalBy (now (a .0)) (now (a .1 .1 .0)) (a .1 .1 .1 .0) c (now (a .1 .0)) (r .answer))))
 set-cell-due κs (counts, (cells, (journal, (used, (g, (i, (z, _))))))) r v l =
     (as-due .call (now counts) (now journal) used (length (now cells)) (Sets g i z) (r .answer) .0 (sym (l .0)), l .1 .1 .0, l .1 .1 .1)
@@ -104,7 +104,7 @@ release-savepoint-due κs (counts, (cells, (journal, (used, (n, _))))) r v l =
 pub undo-to-savepoint-due : Gives undo_to_savepoint.ended undo_to_savepoint.Reads.Learnt
     (λ κs a r v.
     (let c = Undoes (a .1 .1 .1 .1 .0) in JournalIs.Due (now (a .0)) (now (a .1 .1 .0)) (a .1 .1 .1 .0) (length (now (a .1 .0))) c (r .answer) ×
-    (v .1 .0 ≡ cellsBy (now (a .0)) (now (a .1 .1 .0)) (a .1 .1 .1 .0) c (now (a .1 .0)) (r .answer)) ×
+    (v .1 .0 ≡ cellsAfter (now (a .0)) (now (a .1 .1 .0)) (a .1 .1 .1 .0) c (now (a .1 .0)) (r .answer)) ×
     (v .1 .1 .0 ≡ journalBy (now (a .0)) (now (a .1 .1 .0)) (a .1 .1 .1 .0) c (now (a .1 .0)) (r .answer))))
 undo-to-savepoint-due κs (counts, (cells, (journal, (used, (n, _))))) r v l =
     (as-due .call (now counts) (now journal) used (length (now cells)) (Undoes n) (r .answer) .0 (sym (l .0)), l .1 .1 .0, l .1 .1 .1)

@@ -27,7 +27,7 @@ use Rattle.rewriting.specs.Numbered.{rewritingReply}
 use Rattle.rewriting.specs.Record.{rewritingOf, bufferBy}
 use Rattle.rewriting.proofs.Promises.{rewriting-numbered, unread-group, refused-rewriting-keeps, done-keeps-rest}
 use Rattle.journal.specs.Model.{Call}
-use Rattle.journal.specs.Calls.{answerOf, usedBy, cellsBy, journalBy}
+use Rattle.journal.specs.Calls.{answerOf, usedBy, cellsAfter, journalBy}
 use Rattle.journal.specs.Plays.{replayOf, replayedOpen, replayedCells}
 use Rattle.journal.specs.Numbered.{editReply}
 use Rattle.journal.proofs.Numbered.{call-numbered, replay-numbered}
@@ -74,7 +74,7 @@ edit-keeps =
       replay = λ ns j used cs n. replay-kept ns j used cs (replayOf ns j used cs) n;
     }
   where
-    cells-kept : (ns j : List ℕ) (used : ℕ) (c : Call) (cs : List ℤ) (a : Answer) → NotDone (editReply a) → cellsBy ns j used c cs a ≡ cs
+    cells-kept : (ns j : List ℕ) (used : ℕ) (c : Call) (cs : List ℤ) (a : Answer) → NotDone (editReply a) → cellsAfter ns j used c cs a ≡ cs
     cells-kept ns j used c cs (A.Done k) n = absurd (n refl)
     cells-kept ns j used c cs (A.Refused r) n = refl
 

@@ -7,7 +7,7 @@ use Rattle.sao.specs.Outcome.{OneOutcome, OneUpTo}
 use Rattle.writing.specs.Writing.{outputBy}
 use Rattle.rewriting.specs.Record.{tableAfter, bufferBy}
 use Rattle.journal.specs.Model.{Sets, Opens, Releases, Undoes}
-use Rattle.journal.specs.Calls.{usedBy, cellsBy, journalBy}
+use Rattle.journal.specs.Calls.{usedBy, cellsAfter, journalBy}
 use Rattle.journal.specs.Plays.{replayedOpen, replayedCells}
 use Rattle.sao.proofs.set_cell
 use Rattle.sao.proofs.open_savepoint
@@ -72,7 +72,7 @@ pub set-cell-one : OneOutcome set_cell.ended set_cell.Reads.Learnt
 set-cell-one κs (counts, (cells, (journal, (used, (g, (i, (z, _))))))) r q v w l k =
     let answer = l .0 ∙ sym (k .0) in
     let bytes = l .1 .0 ∙ ap (usedBy used (Sets g i z)) answer ∙ sym (k .1 .0) in
-    let table = l .1 .1 .0 ∙ ap (cellsBy (now counts) (now journal) used (Sets g i z) (now cells)) answer ∙ sym (k .1 .1 .0) in
+    let table = l .1 .1 .0 ∙ ap (cellsAfter (now counts) (now journal) used (Sets g i z) (now cells)) answer ∙ sym (k .1 .1 .0) in
     let text = l .1 .1 .1 ∙ ap (journalBy (now counts) (now journal) used (Sets g i z) (now cells)) answer ∙ sym (k .1 .1 .1) in
     (λ i. record { answer = answer i; used = bytes i }, λ i. (tt, (table i, (text i, (tt, (tt, (tt, (tt, tt))))))))
 
@@ -94,7 +94,7 @@ pub undo-to-savepoint-one : OneOutcome undo_to_savepoint.ended undo_to_savepoint
 undo-to-savepoint-one κs (counts, (cells, (journal, (used, (n, _))))) r q v w l k =
     let answer = l .0 ∙ sym (k .0) in
     let bytes = l .1 .0 ∙ ap (usedBy used (Undoes n)) answer ∙ sym (k .1 .0) in
-    let table = l .1 .1 .0 ∙ ap (cellsBy (now counts) (now journal) used (Undoes n) (now cells)) answer ∙ sym (k .1 .1 .0) in
+    let table = l .1 .1 .0 ∙ ap (cellsAfter (now counts) (now journal) used (Undoes n) (now cells)) answer ∙ sym (k .1 .1 .0) in
     let text = l .1 .1 .1 ∙ ap (journalBy (now counts) (now journal) used (Undoes n) (now cells)) answer ∙ sym (k .1 .1 .1) in
     (λ i. record { answer = answer i; used = bytes i }, λ i. (tt, (table i, (text i, (tt, (tt, tt))))))
 

@@ -31,7 +31,7 @@ use Rattle.rewriting.specs.Record.{rewritingOf, bufferBy}
 use Rattle.rewriting.specs.declared.Rewriting.the-variants.{GroupRefused}
 use Rattle.rewriting.specs.Numbered.{rewritingReply, rewritingRows}
 use Rattle.journal.specs.Model.{Call}
-use Rattle.journal.specs.Calls.{answerOf, usedBy, cellsBy, journalBy}
+use Rattle.journal.specs.Calls.{answerOf, usedBy, cellsAfter, journalBy}
 use Rattle.journal.specs.Plays.{replayOf, replayedOpen, replayedCells}
 use Rattle.journal.specs.Numbered.{editReply, callRows, replayRows}
 use Rattle.sao.specs.Numbers.{AnswersTold}
@@ -73,7 +73,7 @@ pub record RefusedWriteKeeps : Type 0 where
 pub record RefusedEditKeeps : Type 0 where
   pub cells : (ns j : List ℕ) (used : ℕ) (c : Call) (cs : List ℤ)
       → NotDone (editReply (answerOf ns j used (length cs) c))
-      → cellsBy ns j used c cs (answerOf ns j used (length cs) c) ≡ cs
+      → cellsAfter ns j used c cs (answerOf ns j used (length cs) c) ≡ cs
   pub journal : (ns j : List ℕ) (used : ℕ) (c : Call) (cs : List ℤ)
       → NotDone (editReply (answerOf ns j used (length cs) c))
       → journalBy ns j used c cs (answerOf ns j used (length cs) c) ≡ j

@@ -19,7 +19,7 @@ ghost use Rattle.group.specs.Characteristics.{characteristicAt};
 ghost use Rattle.writing.specs.Writing.{writingOf, outputBy};
 ghost use Rattle.rewriting.specs.Record.{rewritingOf, tableAfter, bufferBy};
 ghost use Rattle.journal.specs.Model.{Sets, Opens, Releases, Undoes};
-ghost use Rattle.journal.specs.Calls.{answerOf, usedBy, cellsBy, journalBy};
+ghost use Rattle.journal.specs.Calls.{answerOf, usedBy, cellsAfter, journalBy};
 ghost use Rattle.journal.specs.Plays.{replayOf, replayedOpen, replayedCells};
 ghost use Rattle.listing.specs.Listing.{listing, listedIn};
 
@@ -128,7 +128,7 @@ pub fn set_cell(
         (Sets group cell value) ⌝ }
     ensures used { λ r. ⌜ r .used ≡ usedBy used (Sets group cell value) (r .answer) ⌝ }
     ensures cells { λ r. ⌜ now (cells .exit) ≡
-        cellsBy (now (counts .entry)) (now (journal .entry)) used (Sets group cell value)
+        cellsAfter (now (counts .entry)) (now (journal .entry)) used (Sets group cell value)
         (now (cells .entry)) (r .answer) ⌝ }
     ensures journal { λ r. ⌜ now (journal .exit) ≡
         journalBy (now (counts .entry)) (now (journal .entry)) used (Sets group cell value)
@@ -182,7 +182,7 @@ pub fn undo_to_savepoint(
         answerOf (now (counts .entry)) (now (journal .entry)) used (length (now (cells .entry))) (Undoes savepoint) ⌝ }
     ensures used { λ r. ⌜ r .used ≡ usedBy used (Undoes savepoint) (r .answer) ⌝ }
     ensures cells { λ r. ⌜ now (cells .exit) ≡
-        cellsBy (now (counts .entry)) (now (journal .entry)) used (Undoes savepoint)
+        cellsAfter (now (counts .entry)) (now (journal .entry)) used (Undoes savepoint)
         (now (cells .entry)) (r .answer) ⌝ }
     ensures journal { λ r. ⌜ now (journal .exit) ≡
         journalBy (now (counts .entry)) (now (journal .entry)) used (Undoes savepoint)

@@ -20,7 +20,7 @@ ghost use Rattle.rewriting.specs.Record.{rewritingOf, tableAfter, bufferBy};
 ghost use Rattle.rewriting.specs.Numbered.{rewritingGroup};
 ghost use Rattle.reply.specs.Refusals.{checkedReply};
 ghost use Rattle.journal.specs.Model.{Sets, Opens, Releases, Undoes};
-ghost use Rattle.journal.specs.Calls.{usedBy, cellsBy, journalBy};
+ghost use Rattle.journal.specs.Calls.{usedBy, cellsAfter, journalBy};
 ghost use Rattle.journal.specs.Plays.{replayOf, replayedOpen, replayedCells};
 ghost use Rattle.journal.specs.Numbered.{editReply};
 ghost use Rattle.listing.specs.Listing.{listing};
@@ -245,7 +245,7 @@ pub extern "C" fn seambeacon_set_cell(
         (callAnswer (now (counts .entry)) (now (journal .entry)) (now (used .entry)) (now (cells .entry))
         (Sets group cell value)) ⌝ }
     ensures cells { λ _. ⌜ now (cells .exit) ≡
-        cellsBy (now (counts .entry)) (now (journal .entry)) (now (used .entry)) (Sets group cell value)
+        cellsAfter (now (counts .entry)) (now (journal .entry)) (now (used .entry)) (Sets group cell value)
         (now (cells .entry))
         (callAnswer (now (counts .entry)) (now (journal .entry)) (now (used .entry)) (now (cells .entry))
         (Sets group cell value)) ⌝ }
@@ -338,7 +338,7 @@ pub extern "C" fn seambeacon_undo_to_savepoint(
         (callAnswer (now (counts .entry)) (now (journal .entry)) (now (used .entry)) (now (cells .entry))
         (Undoes savepoint)) ⌝ }
     ensures cells { λ _. ⌜ now (cells .exit) ≡
-        cellsBy (now (counts .entry)) (now (journal .entry)) (now (used .entry)) (Undoes savepoint) (now (cells .entry))
+        cellsAfter (now (counts .entry)) (now (journal .entry)) (now (used .entry)) (Undoes savepoint) (now (cells .entry))
         (callAnswer (now (counts .entry)) (now (journal .entry)) (now (used .entry)) (now (cells .entry))
         (Undoes savepoint)) ⌝ }
     ensures journal { λ _. ⌜ now (journal .exit) ≡

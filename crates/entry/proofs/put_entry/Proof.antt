@@ -4,7 +4,7 @@ use mir.Facts.{toZ-ofZ}
 use mir.Syntax.{w64}
 use mir.Val.{SFits}
 use Rattle.base.proofs.Part.{over-none}
-use Rattle.entry.specs.Field.{textOf}
+use Rattle.entry.specs.Field.{entryText}
 use borrow.Author.Needs.{needs}
 use Rattle.entry.proofs.put_entry.Statement.{statement}
 use Rattle.entry.proofs.put_entry.Tie as tie
@@ -29,19 +29,19 @@ returns c =
     rw (told .1) (rw (toZ-ofZ old, toZ-ofZ new) at (c .before .before .put-set-at .ensures))
 
 returns-2 : tie.Need-returns-2
-unfolding textOf
+unfolding entryText
 returns-2 c = rw (c .before .before .before .before .before .entry2 .given .1) (c .before .before .put-numbered-at .ensures)
 
 returns-3 : tie.Need-returns-3
-unfolding textOf
+unfolding entryText
 returns-3 c = rw (c .before .before .before .before .before .entry3 .given .1) (c .before .before .put-numbered-at2 .ensures)
 
 returns-4 : tie.Need-returns-4
-unfolding textOf
+unfolding entryText
 returns-4 c = rw (c .before .before .before .before .before .entry4 .given .1) (c .before .before .put-numbered-at3 .ensures)
 
 returns-5 : tie.Need-returns-5
-unfolding textOf
+unfolding entryText
 returns-5 c = rw (c .enum-told .given .1) (over-none (c .before .before .before .args .out .now) (c .before .before .before .args .at))
 
 pub put-entry-spec : {M : Type 1} → statement M

@@ -6,14 +6,14 @@ use Prim.Native.Nat.{_≤_}
 use lib.ListN.{length, drop, length-set}
 use native.Mathlib.Omega.{arith}
 use borrow.Author.Needs.{needs}
-use Rattle.entry.specs.Bytes.{bytesOf}
+use Rattle.entry.specs.Bytes.{numberBytes}
 use Rattle.entry.proofs.Numbers.{bytes-more, bytes-whole, bytes-done}
 use Rattle.entry.proofs.put_number.Statement.{statement}
 use Rattle.entry.proofs.put_number.Tie as tie
 
 abbrev Inv-loop : tie.InvT-loop
 Inv-loop out₀ n m₀ i₀ out m i =
-    (i ≤ length out) × (length out ≡ length out₀) × (bytesOf i m ++ drop i out ≡ bytesOf (length out₀) m₀)
+    (i ≤ length out) × (length out ≡ length out₀) × (numberBytes i m ++ drop i out ≡ numberBytes (length out₀) m₀)
 
 abbrev μ-loop : tie.MeasureT-loop
 μ-loop out₀ n m₀ i₀ out m i = i

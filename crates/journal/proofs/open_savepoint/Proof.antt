@@ -5,7 +5,7 @@ use Prim.Native.Nat.{_-_}
 use lib.ListN.{length, take}
 use Rattle.journal.specs.Layout.{startsOf}
 use Rattle.journal.specs.Model.{Opens}
-use Rattle.journal.specs.Walks.{Walks}
+use Rattle.journal.specs.Walks.{WalksTo}
 use Rattle.journal.proofs.Spots.{starts-length}
 use Rattle.journal.proofs.Answers.{answer-refused, answer-right, standing-found, used-inside, depth-found}
 use borrow.Author.Needs.{needs}
@@ -23,7 +23,7 @@ open-in-requires c κs =
     let r = c .before .before .before .before .before .walk-used .result in
     let p : c .before .before .before .before .before .before .before .before .before .put-starts .last .1 .0 ≡ startsOf ns =
     c .before .before .before .before .before .before .before .before .before .put-starts .ensures in
-    let w = subst (λ q. Walks q (take (a .used) j) r) p (c .before .before .before .before .before .walk-used .ensures) in
+    let w = subst (λ q. WalksTo q (take (a .used) j) r) p (c .before .before .before .before .before .walk-used .ensures) in
     let inside =
     used-inside ns j (a .used) (length (a .cells .now)) r w (c .before .before .before .before .check .result)
     (sym (c .before .before .before .standing .ensures) ∙ c .before .enum-told .given .1) in
@@ -38,7 +38,7 @@ returns c =
     let r = c .before .before .before .before .before .before .walk-used .result in
     let p : c .before .before .before .before .before .before .before .before .before .before .put-starts .last .1 .0 ≡ startsOf ns =
     c .before .before .before .before .before .before .before .before .before .before .put-starts .ensures in
-    let w = subst (λ q. Walks q (take (a .used) j) r) p (c .before .before .before .before .before .before .walk-used .ensures) in
+    let w = subst (λ q. WalksTo q (take (a .used) j) r) p (c .before .before .before .before .before .before .walk-used .ensures) in
     let st = sym (standing-found ns j (a .used) n r w (c .before .before .before .before .before .check .result) (c .before .before .before .before .before .check .ensures))
     ∙ sym (c .before .before .before .before .standing .ensures) ∙ c .before .before .why .given .1 in
     let e = c .refused .ensures .0 in
@@ -53,7 +53,7 @@ returns-2 c =
     let r = c .before .before .before .before .before .before .before .before .walk-used .result in
     let p : c .before .before .before .before .before .before .before .before .before .before .before .before .put-starts .last .1 .0 ≡ startsOf ns =
     c .before .before .before .before .before .before .before .before .before .before .before .before .put-starts .ensures in
-    let w = subst (λ q. Walks q (take (a .used) j) r) p (c .before .before .before .before .before .before .before .before .walk-used .ensures) in
+    let w = subst (λ q. WalksTo q (take (a .used) j) r) p (c .before .before .before .before .before .before .before .before .walk-used .ensures) in
     let st = sym
     (standing-found ns j (a .used) n r w (c .before .before .before .before .before .before .before .check .result)
     (c .before .before .before .before .before .before .before .check .ensures)) ∙ sym (c .before .before .before .before .before .before .standing .ensures)

@@ -5,7 +5,7 @@ use Prim.Native.Nat.{_-_, _≤_}
 use native.Mathlib.Nat.{sub-zero}
 use native.Mathlib.Omega.{arith}
 use lib.ListN.{length}
-use Rattle.entry.specs.Field.{sizeOf, fieldAt}
+use Rattle.entry.specs.Field.{entrySize, fieldAt}
 use Rattle.entry.proofs.Reading.{next-within}
 use Rattle.journal.specs.Entries.{placeAt}
 use Rattle.journal.proofs.Places.{place-done, place-more}
@@ -26,14 +26,14 @@ add-p : tie.Need-add-p Inv-loop μ-loop
 add-p c =
     let s = c .before .before .before .before .before .args .s .now in
     let l = c .before .before .before .loop in
-    let e : c .size .result ≡ sizeOf (fieldAt s (l .p)) = c .size .ensures ∙ ap sizeOf (c .before .field-at .ensures) in
+    let e : c .size .result ≡ entrySize (fieldAt s (l .p)) = c .size .ensures ∙ ap entrySize (c .before .field-at .ensures) in
     record { fits = omega (arith, next-within s (l .p) (l .inv .1)) }
 
 loop-again : tie.Need-loop-again Inv-loop μ-loop
 loop-again c =
     let a = c .before .before .before .before .before .args in
     let l = c .before .before .before .loop in
-    let e : c .size .result ≡ sizeOf (fieldAt (a .s .now) (l .p)) = c .size .ensures ∙ ap sizeOf (c .before .field-at .ensures) in
+    let e : c .size .result ≡ entrySize (fieldAt (a .s .now) (l .p)) = c .size .ensures ∙ ap entrySize (c .before .field-at .ensures) in
     (omega arith, omega (arith, next-within (a .s .now) (l .p) (l .inv .1)), rw e (place-more (a .s .now) (l .p) (l .i) (a .n) (c .before .before .loop-test .taken) ∙ l .inv .2))
 
 returns : tie.Need-returns Inv-loop μ-loop

@@ -6,9 +6,9 @@ use Prim.Native.Nat.{_+_, _-_, _*_, _≤_}
 use native.Mathlib.Omega.{arith}
 use lib.ListN.{length, length-set}
 use borrow.Author.Tests.{not-true, not-false}
-use Rattle.entry.specs.Field.{sizeOf, fieldAt}
+use Rattle.entry.specs.Field.{entrySize, fieldAt}
 use Rattle.entry.proofs.Reading.{next-within}
-use Rattle.journal.specs.Walks.{okEntry, newDepth, depthAfter, down, Below}
+use Rattle.journal.specs.Walks.{okEntry, newDepth, depthAfter, down, MarksBelow}
 use Rattle.journal.specs.Plays.{matches, playedBy, ran, playFrom, playOf}
 use Rattle.journal.proofs.Walking.{depth-no, depth-yes, ok-size, below-more}
 use Rattle.journal.proofs.Playing.{play-more, play-stop, play-other, play-end, play-start, length-played}
@@ -19,7 +19,7 @@ use Rattle.journal.proofs.play.Tie as tie
 abbrev Inv-loop : tie.InvT-loop
 Inv-loop cells₀ starts s place₀ count₀ depth₀ marks₀ cells place count depth marks =
     (4 * count ≤ place) × (place ≤ length s) × (depth ≤ 16) × (length marks ≡ 17) ×
-    (playFrom (length s - count) starts s place count (down depth marks) cells ≡ playOf starts s cells₀) × Below depth marks count × (length cells ≡ length cells₀)
+    (playFrom (length s - count) starts s place count (down depth marks) cells ≡ playOf starts s cells₀) × MarksBelow depth marks count × (length cells ≡ length cells₀)
 
 abbrev μ-loop : tie.MeasureT-loop
 μ-loop cells₀ starts s place₀ count₀ depth₀ marks₀ cells place count depth marks = length s - place
@@ -84,7 +84,7 @@ record Turn (c : tie.After-size Inv-loop μ-loop) : Type 0 where
       (fieldAt (c .before .before .before .before .before .before .before .before .before .before .before .before .before .args .s .now)
       (c .before .before .before .before .before .before .before .before .before .before .loop .place))
       (c .before .before .before .before .before .before .before .before .before .before .loop .depth)
-  size : c .size .result ≡ sizeOf
+  size : c .size .result ≡ entrySize
       (fieldAt (c .before .before .before .before .before .before .before .before .before .before .before .before .before .args .s .now)
       (c .before .before .before .before .before .before .before .before .before .before .loop .place))
   some : 4 ≤ c .size .result
@@ -109,7 +109,7 @@ turn c =
     let e : c .before .before .before .before .before .before .before .before .field-at .result ≡ x = c .before .before .before .before .before .before .before .before .field-at .ensures in
     let d : c .before .before .before .before .before .before .before .depth-after .result ≡ depthAfter ps x (l .depth) =
     c .before .before .before .before .before .before .before .depth-after .ensures ∙ ap (λ y. depthAfter ps y (l .depth)) e in
-    let z : c .size .result ≡ sizeOf x = c .size .ensures ∙ ap sizeOf e in
+    let z : c .size .result ≡ entrySize x = c .size .ensures ∙ ap entrySize e in
     let y = depth-yes ps x (l .depth) (rw d at (c .before .before .before .before .before .before .if1 .left)) in
     let yes : c .before .before .before .play-one .result ≡ true = not-false _ (c .before .if2 .left) in
     let k = rw (yes, e) at (c .before .before .before .play-one .ensures .1) in

@@ -5,9 +5,9 @@ use mathlib.Core.Bool.{true, false}
 use Prim.Native.Nat.{_+_, _-_, _*_, _≤_}
 use native.Mathlib.Omega.{arith}
 use lib.ListN.{length, length-set}
-use Rattle.entry.specs.Field.{sizeOf, fieldAt}
+use Rattle.entry.specs.Field.{entrySize, fieldAt}
 use Rattle.entry.proofs.Reading.{next-within}
-use Rattle.journal.specs.Walks.{okEntry, newDepth, depthAfter, walkFrom, walkOf, down, Below}
+use Rattle.journal.specs.Walks.{okEntry, newDepth, depthAfter, walkFrom, walkOf, down, MarksBelow}
 use Rattle.journal.proofs.Walking.{depth-no, depth-yes, ok-size, walk-more, walk-stop, walk-end, walk-start, below-more}
 use borrow.Author.Needs.{needs}
 use Rattle.journal.proofs.walk.Statement.{statement}
@@ -15,7 +15,7 @@ use Rattle.journal.proofs.walk.Tie as tie
 
 abbrev Inv-loop : tie.InvT-loop
 Inv-loop starts s place₀ count₀ depth₀ marks₀ place count depth marks =
-    (4 * count ≤ place) × (place ≤ length s) × (depth ≤ 16) × (length marks ≡ 17) × (walkFrom (length s - count) starts s place count (down depth marks) ≡ walkOf starts s) × Below depth marks count
+    (4 * count ≤ place) × (place ≤ length s) × (depth ≤ 16) × (length marks ≡ 17) × (walkFrom (length s - count) starts s place count (down depth marks) ≡ walkOf starts s) × MarksBelow depth marks count
 
 abbrev μ-loop : tie.MeasureT-loop
 μ-loop starts s place₀ count₀ depth₀ marks₀ place count depth marks = length s - place
@@ -32,7 +32,7 @@ record Turn (c : tie.After-size Inv-loop μ-loop) : Type 0 where
   after : c .before .before .depth-after .result ≡ newDepth
       (fieldAt (c .before .before .before .before .before .before .before .before .args .s .now) (c .before .before .before .before .before .loop .place))
       (c .before .before .before .before .before .loop .depth)
-  size : c .size .result ≡ sizeOf (fieldAt (c .before .before .before .before .before .before .before .before .args .s .now) (c .before .before .before .before .before .loop .place))
+  size : c .size .result ≡ entrySize (fieldAt (c .before .before .before .before .before .before .before .before .args .s .now) (c .before .before .before .before .before .loop .place))
   some : 4 ≤ c .size .result
   within : c .before .before .before .before .before .loop .place + c .size .result ≤ length (c .before .before .before .before .before .before .before .before .args .s .now)
 
@@ -44,7 +44,7 @@ turn c =
     let x = fieldAt (a .s .now) (l .place) in
     let e : c .before .before .before .field-at .result ≡ x = c .before .before .before .field-at .ensures in
     let d : c .before .before .depth-after .result ≡ depthAfter ps x (l .depth) = c .before .before .depth-after .ensures ∙ ap (λ y. depthAfter ps y (l .depth)) e in
-    let z : c .size .result ≡ sizeOf x = c .size .ensures ∙ ap sizeOf e in
+    let z : c .size .result ≡ entrySize x = c .size .ensures ∙ ap entrySize e in
     let y = depth-yes ps x (l .depth) (rw d at (c .before .if1 .left)) in
     record {
       ok = y .0;

@@ -1,7 +1,7 @@
 -- `journal::walk_used` meets its contract.
 -- Assumes nothing.
 use mathlib.Core.Path.{subst}
-use Rattle.journal.specs.Walks.{Walks}
+use Rattle.journal.specs.Walks.{WalksTo}
 use Rattle.journal.proofs.Answers.{part-used}
 use borrow.Author.Needs.{needs}
 use Rattle.journal.proofs.walk_used.Statement.{statement}
@@ -10,7 +10,7 @@ use Rattle.journal.proofs.walk_used.Tie as tie
 returns : tie.Need-returns
 returns c =
     let a = c .before .before .before .before .before .args in
-    subst (λ s. Walks (a .starts .now) s (c .walk .result)) (part-used (a .used) (c .before .before .lesser .result) (a .journal .now) (c .before .before .lesser .ensures)) (c .walk .ensures)
+    subst (λ s. WalksTo (a .starts .now) s (c .walk .result)) (part-used (a .used) (c .before .before .lesser .result) (a .journal .now) (c .before .before .lesser .ensures)) (c .walk .ensures)
 
 pub walk-used-spec : {M : Type 1} → statement M
 walk-used-spec =

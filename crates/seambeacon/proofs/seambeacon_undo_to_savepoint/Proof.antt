@@ -3,7 +3,7 @@
 use borrow.Author.Needs.{needs}
 use mathlib.Core.Path.{_∙_, ap}
 use Rattle.journal.specs.Model.{Undoes}
-use Rattle.journal.specs.Calls.{usedBy, cellsBy, journalBy}
+use Rattle.journal.specs.Calls.{usedBy, cellsAfter, journalBy}
 use Rattle.journal.specs.Numbered.{editReply}
 use Rattle.seambeacon.proofs.Telling.{told-as}
 use Rattle.seambeacon.proofs.seambeacon_undo_to_savepoint.Statement.{statement}
@@ -15,7 +15,7 @@ returns c =
     let a = at-call .before .before .before .before .before .before .args in
     let e = at-call .undo-to-savepoint .ensures in
     let journal = e .1 .1 .1 ∙ ap (journalBy (a .counts .now) (a .journal .now) (a .used .now) (Undoes (a .savepoint)) (a .cells .now)) (e .0) in
-    let cells = e .1 .1 .0 ∙ ap (cellsBy (a .counts .now) (a .journal .now) (a .used .now) (Undoes (a .savepoint)) (a .cells .now)) (e .0) in
+    let cells = e .1 .1 .0 ∙ ap (cellsAfter (a .counts .now) (a .journal .now) (a .used .now) (Undoes (a .savepoint)) (a .cells .now)) (e .0) in
     let used = e .1 .0 ∙ ap (usedBy (a .used .now) (Undoes (a .savepoint))) (e .0) in
     (told-as (c .before .before .reply-of .ensures ∙ ap editReply (e .0)) (c .tell .ensures), (used, (cells, journal)))
 
