@@ -7,8 +7,7 @@ ghost use Rattle.entry.specs.Bytes.{numberBytes, valueFrom, bitsOf, cell
 ghost use Rattle.entry.specs.Field.{entryText, entrySize, tagged, numbered, setOf, fieldAt};
 
 // R521, R522: what a field tells: a set with its group, its cell in the group from 1, the old and the new value; an
-// open, a release or an
-// undo with the savepoint's number. R523: or none of these.
+// open, a release or an undo with the savepoint's number. R523: or none of these.
 pub enum Entry {
     Set(usize, usize, i64, i64),
     Open(usize),

@@ -1,6 +1,6 @@
 // R500 to R550: the edit journal. All that is kept between calls is the caller's: the counts and the table of all
-// cells of a record, a buffer
-// of bytes and how many of them are used. No call has a `requires`: whatever is lent is looked at first (R550).
+// cells of a record, a buffer of bytes and how many of them are used. No call has a `requires`: whatever is lent is
+// looked at first (R550).
 use entry::Entry;
 use reply::Answer;
 use reply::Checked;
@@ -155,8 +155,7 @@ fn give_back(cells: &mut [i64], starts: &[usize], entry: Entry)
 }
 
 // R515: the sets among n fields give their old values back, the last first: the later half, then the earlier. Fields
-// have two sizes and
-// can't be gone through backward; a half's beginning is found by going forward.
+// have two sizes and can't be gone through backward; a half's beginning is found by going forward.
 fn restore_at(cells: &mut [i64], starts: &[usize], s: &[u8], at: usize, n: usize)
     requires many { ⌜ length (now starts) ≡ 62 ⌝ }
     requires inside { ⌜ at ≤ length (now s) ⌝ }
@@ -345,8 +344,7 @@ fn play(cells: &mut [i64], starts: &[usize], s: &[u8]) -> State
 }
 
 // R540, R542: the bytes s replayed, of which `used` are said to be used. Where a field is refused the cells go back
-// to what they were: each
-// set that was played gives its old value back.
+// to what they were: each set that was played gives its old value back.
 fn replay_in(starts: &[usize], cells: &mut [i64], s: &[u8], used: usize) -> Replayed
     requires many { ⌜ length (now starts) ≡ 62 ⌝ }
     ensures answer { λ r. ⌜ r .answer ≡
@@ -519,8 +517,9 @@ fn undo_in(
     ensures answer { λ r. ⌜ r .answer ≡ decided [] (Undoes k) d (length (now (journal .entry)) - used) ⌝ }
     ensures used { λ r. ⌜ r .used ≡ byAnswer (r .answer) (used + 4) used ⌝ }
     ensures cells { λ r. ⌜ now (cells .exit) ≡
-        byAnswer (r .answer) (backTo (now (starts .entry)) (take used (now (journal .entry))) (markOf (down d (now
-        (marks .entry))) k) n (now (cells .entry))) (now (cells .entry)) ⌝ }
+        byAnswer (r .answer)
+        (backTo (now (starts .entry)) (take used (now (journal .entry))) (markOf (down d (now (marks .entry))) k) n
+        (now (cells .entry))) (now (cells .entry)) ⌝ }
     ensures journal { λ r. ⌜ now (journal .exit) ≡
         byAnswer (r .answer) (over used (entryText (Undo k)) (now (journal .entry))) (now (journal .entry)) ⌝ }
 {
