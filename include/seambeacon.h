@@ -1,8 +1,8 @@
-/* Seambeacon: places, reads and writes SAO 4.3 records.
+/* Seambeacon: places, reads and writes SAO 4.3 records, and keeps a journal of edits.
    Link target/staticlib/libseambeacon.a (`rt staticlib seambeacon`), x86-64.
 
-   Whatever text, place, number, table and output a function is given, it ends and returns one of
-   the replies below; nothing has to be checked before a call. R with a number is a rule of
+   Whatever text, place, number, table, output and journal a function is given, it ends and returns
+   one of the replies below; nothing has to be checked before a call. R with a number is a rule of
    docs/FORMAT.md.
 
    What a caller answers for:
@@ -15,10 +15,11 @@
 
    Several threads may ask at the same time, without a lock: the library has no memory of its own
    and keeps nothing between two calls. They may lend the same text, counts and cells to be read;
-   each call has a table, an output and numbers of its own to be altered.
+   each call has a table, an output, a journal and numbers of its own to be altered.
 
    A text is its bytes, with line ends; no byte marks its end. A place is a number of bytes from
-   the text's start. Groups, lines, elements, positions and characteristics count from 1. */
+   the text's start, or from the journal's. Groups, cells of a group, lines, elements, positions,
+   characteristics and savepoints count from 1. */
 #ifndef SEAMBEACON_H
 #define SEAMBEACON_H
 
@@ -32,7 +33,7 @@ extern "C" {
 /* The replies (reply n is R200 + n), each with the numbers that are given beside it. */
 enum seambeacon_reply {
     /* done: the next place in placing and rewriting, the cells or bytes written in all that
-       write */
+       write, the savepoint in opening one */
     SEAMBEACON_DONE = 0,
     /* the place is the text's end */
     SEAMBEACON_END = 1,
@@ -56,14 +57,22 @@ enum seambeacon_reply {
     SEAMBEACON_BAD_FIELD = 9,
     /* the date in group 3 is wrong: the position blamed */
     SEAMBEACON_BAD_DATE = 10,
-    /* the table or the output is too short for what 0 would put there */
+    /* the table, the output or the journal is too short for what 0 would put there */
     SEAMBEACON_NO_ROOM = 11,
-    /* the number is no group (1 to 60), or no characteristic (1 to 49) */
+    /* the number is no group (1 to 60), or no characteristic (1 to 49); in setting a cell, the
+       group has no such cell either */
     SEAMBEACON_NO_SUCH_NUMBER = 12,
     /* in writing, no field of its form reads as an element's cells: its group and its element */
     SEAMBEACON_NO_FIELD = 13,
-    /* in writing, there are more or fewer cells than the counts ask for */
-    SEAMBEACON_OTHER_LENGTH = 14
+    /* in writing and in a journal, there are more or fewer cells than the counts ask for */
+    SEAMBEACON_OTHER_LENGTH = 14,
+    /* the savepoint is not open or, in releasing, not the innermost */
+    SEAMBEACON_NOT_OPEN = 15,
+    /* 16 savepoints are open already */
+    SEAMBEACON_ALL_OPEN = 16,
+    /* a field of the journal is misformed, its call would not be accepted there, an open does not
+       have the next number or, in replay, an old value differs: the place of the field */
+    SEAMBEACON_BAD_ENTRY = 17
 };
 
 /* What is known of a characteristic. */
@@ -79,15 +88,17 @@ enum seambeacon_kind {
 typedef char seambeacon_enums_have_32_bits
     [sizeof(enum seambeacon_reply) == 4 && sizeof(enum seambeacon_kind) == 4 ? 1 : -1];
 
-/* The numbers beside a reply. All six are written at every call, and those that the reply does not
-   give are 0. */
+/* The numbers beside a reply. All eight are written at every call, and those that the reply does
+   not give are 0. */
 struct seambeacon_beside {
-    size_t next;     /* place behind the record */
-    size_t written;  /* cells or bytes written */
+    size_t next;      /* place behind the record */
+    size_t written;   /* cells or bytes written */
     size_t group;
-    size_t line;     /* line in the group */
-    size_t element;  /* element in the group */
-    size_t position; /* position in group 3 */
+    size_t line;      /* line in the group */
+    size_t element;   /* element in the group */
+    size_t position;  /* position in group 3 */
+    size_t savepoint; /* the savepoint that was opened */
+    size_t place;     /* place of a field in the journal */
 };
 
 /* A part of the text: where it starts, as a place, and its length in bytes. */
@@ -161,6 +172,62 @@ enum seambeacon_reply seambeacon_rewrite_record(const uint8_t *text, size_t text
                                                 int64_t *table, size_t table_length, uint8_t *out,
                                                 size_t out_length, size_t *unread,
                                                 struct seambeacon_beside *beside);
+
+/* The journal of edits. A caller holds a record's counts, which are 80, all its cells in group
+   order, and a journal: a buffer of which *used bytes are used, 0 when it is fresh. Each accepted
+   call adds one field to it, 22 bytes for a set and 4 for the others; *used is then the bytes used
+   afterwards. Bytes of the buffer behind the used ones are kept.
+   A refusal (4, 5, 6, 7, 14, 17, 12, 15, 16, 11, in this order, of those that a function can have)
+   leaves all cells, the whole journal and *used as they were. The used bytes are looked at first,
+   field by field, so any of these functions may find 17; if *used is more than the buffer has, and
+   all fields are right, the place beside 17 is the buffer's length. */
+
+/* Asked: to set a cell of a group. Every value can be set; whether it has a field, writing says.
+   Answered: 0; the cell has the value, and the journal a field with the old value and the new.
+   A refusal is 4, 5, 6, 7, 14, 17, 12 or 11. */
+enum seambeacon_reply seambeacon_set_cell(const uint16_t *counts, size_t counts_length,
+                                          int64_t *cells, size_t cells_length, uint8_t *journal,
+                                          size_t journal_length, size_t *used, size_t group,
+                                          size_t cell, int64_t value,
+                                          struct seambeacon_beside *beside);
+
+/* Asked: to open a savepoint inside those that are open.
+   Answered: 0 with its number, 1 to 16: one more than were open.
+   A refusal is 4, 5, 6, 7, 14, 17, 16 or 11. */
+enum seambeacon_reply seambeacon_open_savepoint(const uint16_t *counts, size_t counts_length,
+                                                const int64_t *cells, size_t cells_length,
+                                                uint8_t *journal, size_t journal_length,
+                                                size_t *used, struct seambeacon_beside *beside);
+
+/* Asked: to release the innermost savepoint, named by its number.
+   Answered: 0; it is closed, and what was set since it was opened belongs to the one outside.
+   A refusal is 4, 5, 6, 7, 14, 17, 15 or 11. */
+enum seambeacon_reply seambeacon_release_savepoint(const uint16_t *counts, size_t counts_length,
+                                                   const int64_t *cells, size_t cells_length,
+                                                   uint8_t *journal, size_t journal_length,
+                                                   size_t *used, size_t savepoint,
+                                                   struct seambeacon_beside *beside);
+
+/* Asked: to undo all that was set since a savepoint, any that is open, was opened.
+   Answered: 0; every cell is what it was then, the savepoint stays open, and those inside it are
+   closed.
+   A refusal is 4, 5, 6, 7, 14, 17, 15 or 11. */
+enum seambeacon_reply seambeacon_undo_to_savepoint(const uint16_t *counts, size_t counts_length,
+                                                   int64_t *cells, size_t cells_length,
+                                                   uint8_t *journal, size_t journal_length,
+                                                   size_t *used, size_t savepoint,
+                                                   struct seambeacon_beside *beside);
+
+/* Asked: to make the calls of a journal again, over the cells that they began with.
+   Answered: 0; the cells are what the calls made of them, and *open is how many savepoints are
+   open. Calls can then go on with this journal.
+   A refusal (4, 5, 6, 7, 14, 17, in this order) leaves all cells as they were, and *open is 0. If
+   the journal's last field was cut short, 17 has its place, and so many bytes of it can be
+   replayed. */
+enum seambeacon_reply seambeacon_replay(const uint16_t *counts, size_t counts_length,
+                                        int64_t *cells, size_t cells_length,
+                                        const uint8_t *journal, size_t journal_length, size_t used,
+                                        size_t *open, struct seambeacon_beside *beside);
 
 #ifdef __cplusplus
 }

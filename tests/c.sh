@@ -32,7 +32,7 @@ set --
 for text in "$vectors"/*.sao; do
     set -- "$@" "${text%.sao}"
 done
-started "$work/main" "$vectors/writes.txt" "$@" >"$work/said"
+started "$work/main" answers "$vectors/writes.txt" "$@" >"$work/said"
 counted 'every check of the program' [ "$?" = 0 ] || head -n 21 "$work/said"
 last=$(tail -n 1 "$work/said")
 echo "$name: $last"
@@ -44,4 +44,4 @@ below_zero >"$work/below"
 started "$work/fof2" <"$work/below" >"$work/got"
 below_zero_due >"$work/want"
 compared 'values below zero' "$work/want"
-finished 17
+finished 19

@@ -1,8 +1,8 @@
 #!/bin/sh
 # What README.md shows. Its rows of the example day are what list and dump print. The C program is cut out of it, compiled, linked and run, and
-# so is the Rust program where cargo is at hand; both must print foF2 of each hour of examples/day.sao, as it stands in the text's columns. On
-# every machine the kit's own compiler, linker and loader are used; on x86-64 the commands of README.md too. Another file than README.md may be
-# named.
+# so is the Rust program where cargo is at hand; both must print foF2 of each hour of examples/day.sao, as it stands in the text's columns. The
+# scene of edit is played, and its lines about the journal in Rust are those that the wrapper's documentation runs. On every machine the kit's
+# own compiler, linker and loader are used; on x86-64 the commands of README.md too. Another file than README.md may be named.
 set -u
 home=$(cd "$(dirname "$0")/.." && pwd -P) || exit 2
 case ${1-} in
@@ -17,8 +17,11 @@ name=readme
 
 counted 'the archive' archived || finished 1 || exit 1
 
-block() { # LANGUAGE: the fenced block of that language
-    awk -v fence="\`\`\`$1" '$0 == fence { open = 1; next } /^```/ { open = 0 } open' "$readme"
+block() { # LANGUAGE NUMBER: the fenced block of that language, all where no number is given
+    awk -v fence="\`\`\`$1" -v number="${2:-0}" '
+        $0 == fence { met++; open = number == 0 || met == number; next }
+        /^```/ { open = 0 }
+        open' "$readme"
 }
 
 # foF2 stands in the first eight columns of the line behind the time stamp
@@ -37,7 +40,7 @@ for text in day damaged; do
     counted 'and is printed once' [ "$(awk -v row="$row" 'index($0 " ", row " ") == 1' "$work/dump" | grep -c .)" -eq 1 ]
 done
 
-block c >"$work/fof2.c"
+block c 1 >"$work/fof2.c"
 counted 'the C program is that of examples' cmp -s "$work/fof2.c" examples/fof2.c
 counted 'in at most ten lines' [ "$(wc -l <"$work/fof2.c")" -le 10 ]
 counted 'with the library in it' grep -q 'seambeacon_characteristic' "$work/fof2.c"
@@ -65,14 +68,55 @@ done
 ln -s "$PWD/target/staticlib" "$work/project/target/staticlib"
 counted 'the archive is made by a command' [ "$(commands 'rt staticlib seambeacon$' | grep -c .)" -eq 1 ]
 if [ "$machine" = x86_64 ] && command -v cc >/dev/null; then
-    shown 'for C' "$(commands 'cc ')"
+    shown 'for C' "$(commands 'cc .*fof2')"
 else
     echo "tests/readme.sh: skipped: the command for C, which needs x86-64 and cc (this is $machine)"
 fi
 
-block rust >"$work/fof2.rs"
+# the scene of edit: behind `$` it is started, behind `>` stands what is typed, and all else is what it says
+played() { # CASE PROGRAM..: each run of the scene, on one day and one journal; what is typed is its whole input
+    case_of=$1
+    shift
+    cp examples/day.sao "$work/edited.sao"
+    rm -f "$work/edited.journal"
+    run=1
+    while [ "$run" -le "$runs" ]; do
+        awk -v run="$run" '/^\$ / { met++ } met == run && sub(/^> /, "")' "$work/scene" >"$work/typed"
+        awk -v run="$run" '/^\$ / { met++; next } met == run && !/^> /' "$work/scene" >"$work/say"
+        counted "$case_of: run $run has commands" [ -s "$work/typed" ]
+        "$@" "$work/edited.sao" 2 "$work/edited.journal" <"$work/typed" >"$work/got" 2>&1
+        compared "$case_of: run $run" "$work/say"
+        run=$((run + 1))
+    done
+    awk '/^AA20040600229010000/ { getline; print substr($0, 1, 8) }' "$work/edited.sao" >"$work/got"
+    echo '   3.600' >"$work/say"
+    compared "$case_of: foF2 of 01:00 in the saved day" "$work/say"
+    counted "$case_of: the journal is empty" [ ! -s "$work/edited.journal" ]
+}
+
+block text >"$work/scene"
+runs=$(grep -c '^\$ target/edit target/day\.sao 2 target/journal$' "$work/scene")
+counted 'a scene of two runs' [ "$runs" -eq 2 ]
+counted 'edit is compiled by the kit' compiled examples/edit.c "$work/edit.o" -std=c99
+counted 'and linked' linked "$work/edit" "$work/edit.o"
+played 'the scene' started "$work/edit"
+counted 'one command for edit' [ "$(commands 'cc .*edit' | grep -c .)" -eq 1 ]
+if [ "$machine" = x86_64 ] && command -v cc >/dev/null; then
+    counted 'the command for edit' sh -c "cd '$work/project' && $(commands 'cc .*edit')"
+    played 'the scene, by the command' "$work/project/target/edit"
+else
+    echo "tests/readme.sh: skipped: the command for edit, which needs x86-64 and cc (this is $machine)"
+fi
+
+block rust 1 >"$work/fof2.rs"
 counted 'the Rust program is that of the wrapper' cmp -s "$work/fof2.rs" bindings/rust/examples/fof2.rs
 counted 'with the library in it' grep -q 'seambeacon::' "$work/fof2.rs"
+# what is shown of the journal in Rust is the example that its documentation runs, but for the lines that are hidden there
+block rust 2 >"$work/got"
+awk '/^pub struct Journal/ { exit } /^\/\/\/ ```/ { open = !open; next } open && !/^\/\/\/ # / { sub(/^\/\/\/ ?/, ""); print }' \
+    bindings/rust/src/lib.rs >"$work/want.rs"
+counted 'the journal in Rust is shown' grep -q 'Journal::replay' "$work/got"
+compared 'as its documentation runs it' "$work/want.rs"
 if [ "$machine" = x86_64 ] && command -v cargo >/dev/null; then
     CARGO_TARGET_DIR=$PWD/target/rust
     CARGO_NET_OFFLINE=true
@@ -81,4 +125,4 @@ if [ "$machine" = x86_64 ] && command -v cargo >/dev/null; then
 else
     echo "tests/readme.sh: skipped: the command for Rust, which needs x86-64 and cargo (this is $machine)"
 fi
-finished 17
+finished 29

@@ -13,6 +13,7 @@ void *memset(void *bytes, int byte, size_t length);
 void *memcpy(void *to, const void *from, size_t length);
 int memcmp(const void *a, const void *b, size_t length);
 size_t strlen(const char *string);
+int strcmp(const char *a, const char *b);
 
 /* ---- Checks. Each is counted, and one that fails is told with the case that it belongs to. What a test needs of its own files is told in the
    same way where it is not so, and is no check. */
@@ -36,6 +37,10 @@ struct lent {
     int64_t value;
     size_t before_unread;
     size_t unread;
+    size_t before_used;
+    size_t used;
+    size_t before_open;
+    size_t open;
     size_t before_counts;
     uint16_t counts[80];
     size_t behind;

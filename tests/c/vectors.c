@@ -1,82 +1,14 @@
 #include "questions.h"
 #include "vectors.h"
+#include "words.h"
+
+enum { MOST = 70000, MOST_COUNTS = 100 };
 
 static const struct seambeacon_beside none;
-static struct file text, expected;
-static size_t read_to; /* how far `expected` has been read */
-static int64_t cells[70000];
-static uint16_t counts[100];
-static uint8_t bytes[70000];
-
-/* ---- Words of the file, with a blank or a line feed behind each. */
-
-static int more(void)
-{
-    return read_to < expected.length;
-}
-
-static int word_goes_on(void)
-{
-    return more() && expected.bytes[read_to] > ' ';
-}
-
-static int64_t number(void)
-{
-    int minus = more() && expected.bytes[read_to] == '-';
-    uint64_t size = 0;
-    read_to += (size_t)minus;
-    need("a number stands here", word_goes_on());
-    while (word_goes_on())
-        size = size * 10 + (uint64_t)(expected.bytes[read_to++] - '0');
-    read_to++;
-    return (int64_t)(minus ? 0 - size : size);
-}
-
-static size_t size(void)
-{
-    return (size_t)number();
-}
-
-static int line_goes_on(void)
-{
-    return read_to > 0 && expected.bytes[read_to - 1] != '\n' && more();
-}
-
-static int word_is(const char *word)
-{
-    size_t n = strlen(word);
-    if (expected.length - read_to <= n || memcmp(expected.bytes + read_to, word, n) != 0 || expected.bytes[read_to + n] != ' ')
-        return 0;
-    read_to += n + 1;
-    return 1;
-}
-
-static unsigned digit(void)
-{
-    uint8_t byte = expected.bytes[read_to++];
-    return byte < 'a' ? byte - '0' : byte - 'a' + 10u;
-}
-
-/* The bytes in hexadecimal; `-` for none. */
-static size_t hexadecimal(void)
-{
-    size_t n = 0;
-    if (word_goes_on() && expected.bytes[read_to] == '-')
-        read_to++;
-    while (word_goes_on()) {
-        unsigned high = digit();
-        bytes[n++] = (uint8_t)(high * 16 + digit());
-    }
-    read_to++;
-    return n;
-}
-
-static void many_counts(size_t many)
-{
-    need("so many counts", many <= 100);
-    for (size_t i = 0; i < many && i < 100; i++)
-        counts[i] = (uint16_t)number();
-}
+static struct file text;
+static int64_t cells[MOST];
+static uint16_t counts[MOST_COUNTS];
+static uint8_t bytes[MOST];
 
 /* The two numbers beside a reply (R200 to R214): the first is what was written, a group, a line or a position, and the second an element. */
 static struct seambeacon_beside beside_of(size_t reply)
@@ -110,15 +42,9 @@ static struct seambeacon_beside beside_of(size_t reply)
 
 static void check_write(void)
 {
-    size_t room = size(), many = size(), cell_count, reply, written;
-    struct seambeacon_beside beside;
-    many_counts(many);
-    cell_count = size();
-    for (size_t i = 0; i < cell_count; i++)
-        cells[i] = number();
-    reply = size();
-    beside = beside_of(reply);
-    written = hexadecimal();
+    size_t room = size(), many = counts_given(counts, MOST_COUNTS), cell_count = numbers(cells, MOST), reply = size(), written;
+    struct seambeacon_beside beside = beside_of(reply);
+    written = hexadecimal(bytes, MOST);
     need("as many bytes as the reply says", written == beside.written);
     ask_write(counts, many, cells, cell_count, room, reply, beside, bytes);
     if (reply == 0)
@@ -128,8 +54,7 @@ static void check_write(void)
 void check_writes(const char *file)
 {
     of_case(file, 0);
-    read_file(&expected, file, "");
-    read_to = 0;
+    read_words(file, "");
     for (size_t line = 1; more(); line++) {
         of_case(file, line);
         check_write();
@@ -207,8 +132,8 @@ static size_t check_place(int placed)
     beside.next = size();
     beside.group = size();
     memset(counts, 0, sizeof counts);
-    if (placed)
-        many_counts(80);
+    for (size_t i = 0; placed && i < 80; i++)
+        counts[i] = (uint16_t)number();
     ask_place(text.bytes, text.length, at, reply, beside, counts);
     return at;
 }
@@ -216,8 +141,7 @@ static size_t check_place(int placed)
 static void check_dump(const char *name)
 {
     size_t at = 0;
-    read_file(&expected, name, ".dump");
-    read_to = 0;
+    read_words(name, ".dump");
     for (size_t line = 1; more(); line++) {
         of_case(name, line);
         if (word_is("record"))

@@ -1,7 +1,7 @@
-//! Seambeacon: places, reads and writes SAO 4.3 ionogram records. The questions are answered by a library in which every function is proved
-//! to meet its contract; this crate gives each of them a safe function.
+//! Seambeacon: places, reads and writes SAO 4.3 ionogram records, and keeps a journal of edits. The questions are answered by a library in
+//! which every function is proved to meet its contract; this crate gives each of them a safe function, and the journal a [`Journal`].
 //!
-//! Whatever text, place, number, table and output it is given, a question is answered: with `Ok`, or with the one [`Refusal`] that is due.
+//! Whatever text, place, number, table, output and journal it is given, a question is answered: with `Ok`, or with the one [`Refusal`] due.
 //! Nothing has to be checked before a call, and no call panics. Nothing is kept between two calls, so they may come from several threads. A
 //! text is its bytes, with line ends; a place is a number of bytes from the text's start. Groups, lines, elements, positions and
 //! characteristics count from 1. R with a number is a rule of the project's docs/FORMAT.md.
@@ -26,7 +26,7 @@ use std::fmt;
 #[allow(unsafe_code)]
 mod raw;
 
-/// Why a question was refused: the replies 1 to 14 (R201 to R214), with the numbers that are given beside them.
+/// Why a question was refused: the replies 1 to 17 (R201 to R217), with the numbers that are given beside them.
 #[derive(Clone, Copy, Debug, PartialEq, Eq, Hash)]
 pub enum Refusal {
     /// 1: the place is the text's end.
@@ -70,9 +70,9 @@ pub enum Refusal {
         /// The position in group 3 that is blamed.
         position: usize,
     },
-    /// 11: the table or the output is too short for what 0 would put there.
+    /// 11: the table, the output or the journal is too short for what 0 would put there.
     NoRoom,
-    /// 12: the number is no group (1 to 60), or no characteristic (1 to 49).
+    /// 12: the number is no group (1 to 60), or no characteristic (1 to 49); in setting a cell, the group has no such cell either.
     NoSuchNumber,
     /// 13: in writing, no field of its form reads as an element's cells.
     NoField {
@@ -81,8 +81,18 @@ pub enum Refusal {
         /// The element in the group.
         element: usize,
     },
-    /// 14: in writing, there are more or fewer cells than the counts ask for.
+    /// 14: in writing and in a journal, there are more or fewer cells than the counts ask for.
     OtherLength,
+    /// 15: the savepoint is not open or, in releasing, not the innermost.
+    NotOpen,
+    /// 16: 16 savepoints are open already.
+    AllOpen,
+    /// 17: a field of the journal is misformed, its call would not be accepted there, an open does not have the next number or, in replay, an
+    /// old value differs.
+    BadEntry {
+        /// The place of the field, in bytes from the journal's start.
+        place: usize,
+    },
     /// Something that the library is proved never to answer, so another archive than its own has been linked. It is a refusal and no panic,
     /// since an editor that holds unsaved work must survive it.
     Unknown {
@@ -110,6 +120,9 @@ impl Refusal {
             Refusal::NoSuchNumber => 12,
             Refusal::NoField { .. } => 13,
             Refusal::OtherLength => 14,
+            Refusal::NotOpen => 15,
+            Refusal::AllOpen => 16,
+            Refusal::BadEntry { .. } => 17,
             Refusal::Unknown { number } => number,
         }
     }
@@ -128,10 +141,13 @@ impl fmt::Display for Refusal {
             Refusal::BadLine { group, line } => write!(to, "line {line} of group {group} has a wrong length or line end"),
             Refusal::BadField { group, line, element } => write!(to, "element {element} of group {group}, in line {line}, is misformed"),
             Refusal::BadDate { position } => write!(to, "the date in group 3 is wrong at position {position}"),
-            Refusal::NoRoom => write!(to, "the table or the output is too short"),
-            Refusal::NoSuchNumber => write!(to, "there is no group or characteristic of that number"),
+            Refusal::NoRoom => write!(to, "the table, the output or the journal is too short"),
+            Refusal::NoSuchNumber => write!(to, "there is no group, cell or characteristic of that number"),
             Refusal::NoField { group, element } => write!(to, "element {element} of group {group} fits no field"),
             Refusal::OtherLength => write!(to, "the number of cells is not what the counts need"),
+            Refusal::NotOpen => write!(to, "the savepoint is not open or, to be released, not the innermost"),
+            Refusal::AllOpen => write!(to, "16 savepoints are open already"),
+            Refusal::BadEntry { place } => write!(to, "the journal's field at place {place} is wrong"),
             Refusal::Unknown { number } => write!(to, "an answer that the library does not give ({number})"),
         }
     }
@@ -186,7 +202,7 @@ pub struct Rewritten {
 impl raw::Reply {
     /// Done, or the refusal of this number with its numbers. `read` is the group whose lines were read.
     fn done(self, read: usize) -> Result<raw::Beside, Refusal> {
-        let raw::Beside { group, line, element, position, .. } = self.beside;
+        let raw::Beside { group, line, element, position, place, .. } = self.beside;
         Err(match self.number {
             0 => return Ok(self.beside),
             1 => Refusal::End,
@@ -203,6 +219,9 @@ impl raw::Reply {
             12 => Refusal::NoSuchNumber,
             13 => Refusal::NoField { group, element },
             14 => Refusal::OtherLength,
+            15 => Refusal::NotOpen,
+            16 => Refusal::AllOpen,
+            17 => Refusal::BadEntry { place },
             number => Refusal::Unknown { number },
         })
     }
@@ -301,13 +320,123 @@ pub fn rewrite_record(text: &[u8], at: usize, table: &mut [i64], out: &mut [u8])
     Ok(Rewritten { bytes: written, next })
 }
 
+/// A record's cells with the journal of their edits, over memory that the caller lends: the record's counts, which are 80, all its cells in
+/// group order, and a buffer of which so many bytes are used.
+///
+/// Each accepted call adds one field to the used bytes, 22 for a set and 4 for the others. A caller who writes these to a file before going on
+/// loses nothing when the program is killed: [`Journal::replay`] makes the calls again. A refused call leaves cells, journal and used bytes as
+/// they were. Nothing else is kept, so a journal may be let go of and taken up again ([`Journal::resume`]).
+///
+/// ```
+/// # let (mut counts, mut cells, mut began) = ([0; 80], [0; 24], [0; 24]);
+/// # (counts[0], counts[2], counts[3], counts[79]) = (4, 19, 1, 5);
+/// let mut buffer = [0; 4096];
+/// let mut journal = seambeacon::Journal::new(&counts, &mut cells, &mut buffer);
+/// journal.set(4, 1, 7300)?; // foF2, in thousandths
+/// let savepoint = journal.open()?;
+/// journal.set(4, 1, 7400)?;
+/// journal.undo(savepoint)?;
+/// assert_eq!((journal.cells()[23], journal.used()), (7300, 52));
+///
+/// let mut file = journal.bytes().to_vec();
+/// let (replayed, savepoints) = seambeacon::Journal::replay(&counts, &mut began, &mut file, 52)?;
+/// assert_eq!((replayed.cells()[23], savepoints), (7300, 1));
+/// # Ok::<(), seambeacon::Refusal>(())
+/// ```
+#[derive(Debug)]
+#[must_use]
+pub struct Journal<'a> {
+    lent: raw::Edited<'a>,
+}
+
+impl<'a> Journal<'a> {
+    /// A fresh journal, of which no byte is used, over the cells that edits begin with.
+    pub fn new(counts: &'a [u16], cells: &'a mut [i64], journal: &'a mut [u8]) -> Self {
+        Self::resume(counts, cells, journal, 0)
+    }
+
+    /// A journal that is taken up again: the cells are what its calls made of them. Its used bytes are looked at by the first call, field by
+    /// field; old values are compared in replay alone.
+    pub fn resume(counts: &'a [u16], cells: &'a mut [i64], journal: &'a mut [u8], used: usize) -> Self {
+        Journal { lent: raw::Edited { counts, cells, journal, used } }
+    }
+
+    /// A journal whose calls are made again, over the cells that they began with: the journal, on which calls can go on, and how many
+    /// savepoints are open.
+    ///
+    /// # Errors
+    ///
+    /// 4, 5, 6, 7, 14 or 17, whichever is due first. The cells are as they were. Where the last field was cut short, 17 has its place, and so
+    /// many bytes of the journal can be replayed.
+    pub fn replay(counts: &'a [u16], cells: &'a mut [i64], journal: &'a mut [u8], used: usize) -> Result<(Self, usize), Refusal> {
+        let mut replayed = Self::resume(counts, cells, journal, used);
+        let mut open = 0;
+        raw::replay(&mut replayed.lent, &mut open).done(0)?;
+        Ok((replayed, open))
+    }
+
+    /// Gives a cell of a group the value. Every value can be set; whether it has a field, [`write_record`] says.
+    ///
+    /// # Errors
+    ///
+    /// 4, 5, 6, 7, 14, 17, 12 or 11, whichever is due first.
+    pub fn set(&mut self, group: usize, cell: usize, value: i64) -> Result<(), Refusal> {
+        raw::set_cell(&mut self.lent, group, cell, value).done(0).map(|_| ())
+    }
+
+    /// Opens a savepoint inside those that are open: its number, 1 to 16.
+    ///
+    /// # Errors
+    ///
+    /// 4, 5, 6, 7, 14, 17, 16 or 11, whichever is due first.
+    pub fn open(&mut self) -> Result<usize, Refusal> {
+        Ok(raw::open_savepoint(&mut self.lent).done(0)?.savepoint)
+    }
+
+    /// Closes the innermost savepoint, named by its number. What was set since it was opened belongs to the one outside.
+    ///
+    /// # Errors
+    ///
+    /// 4, 5, 6, 7, 14, 17, 15 or 11, whichever is due first.
+    pub fn release(&mut self, savepoint: usize) -> Result<(), Refusal> {
+        raw::release_savepoint(&mut self.lent, savepoint).done(0).map(|_| ())
+    }
+
+    /// Brings every cell to what it was when a savepoint, any that is open, was opened. It stays open, and those inside it are closed.
+    ///
+    /// # Errors
+    ///
+    /// 4, 5, 6, 7, 14, 17, 15 or 11, whichever is due first.
+    pub fn undo(&mut self, savepoint: usize) -> Result<(), Refusal> {
+        raw::undo_to_savepoint(&mut self.lent, savepoint).done(0).map(|_| ())
+    }
+
+    /// The cells as they are now, in group order.
+    #[must_use]
+    pub fn cells(&self) -> &[i64] {
+        self.lent.cells
+    }
+
+    /// How many bytes of the journal are used.
+    #[must_use]
+    pub fn used(&self) -> usize {
+        self.lent.used
+    }
+
+    /// The used bytes of the journal; the whole buffer, where it has fewer than are said to be used.
+    #[must_use]
+    pub fn bytes(&self) -> &[u8] {
+        self.lent.journal.get(..self.lent.used).unwrap_or(self.lent.journal)
+    }
+}
+
 #[cfg(test)]
 mod tests {
     use super::raw::{Beside, Reply};
     use super::Refusal;
 
     /// Numbers that differ from each other, so that one in another's place is seen.
-    const BESIDE: Beside = Beside { next: 101, written: 102, group: 103, line: 104, element: 105, position: 106 };
+    const BESIDE: Beside = Beside { next: 101, written: 102, group: 103, line: 104, element: 105, position: 106, savepoint: 108, place: 109 };
 
     fn refusal(number: u32) -> Refusal {
         Reply { number, beside: BESIDE }.done(107).expect_err("a refusal")
@@ -316,7 +445,7 @@ mod tests {
     #[test]
     fn done_has_the_numbers_beside_it() {
         let beside = Reply { number: 0, beside: BESIDE }.done(107).expect("done");
-        assert_eq!((beside.next, beside.written), (101, 102));
+        assert_eq!((beside.next, beside.written, beside.savepoint), (101, 102, 108));
     }
 
     /// The rows of the table of replies that give a number beside the reply; 8 and 9 have the group that was read, too.
@@ -328,11 +457,12 @@ mod tests {
         assert_eq!(refusal(9), Refusal::BadField { group: 107, line: 104, element: 105 });
         assert_eq!(refusal(10), Refusal::BadDate { position: 106 });
         assert_eq!(refusal(13), Refusal::NoField { group: 103, element: 105 });
+        assert_eq!(refusal(17), Refusal::BadEntry { place: 109 });
     }
 
     #[test]
     fn each_number_is_its_own_refusal() {
-        for number in 1..=14 {
+        for number in 1..=17 {
             assert_eq!(refusal(number).number(), number);
             assert!(!matches!(refusal(number), Refusal::Unknown { .. }), "{number}");
             assert!(!refusal(number).to_string().is_empty());
@@ -341,7 +471,7 @@ mod tests {
 
     #[test]
     fn a_number_outside_the_table_is_kept() {
-        for number in [15, u32::MAX] {
+        for number in [18, u32::MAX] {
             assert_eq!(refusal(number), Refusal::Unknown { number });
             assert_eq!(refusal(number).number(), number);
         }

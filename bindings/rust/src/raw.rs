@@ -15,6 +15,8 @@ pub struct Beside {
     pub line: usize,
     pub element: usize,
     pub position: usize,
+    pub savepoint: usize,
+    pub place: usize,
 }
 
 /// A part of the text, by its first byte and its length.
@@ -74,6 +76,62 @@ extern "C" {
         unread: *mut usize,
         beside: *mut Beside,
     ) -> u32;
+    fn seambeacon_set_cell(
+        counts: *const u16,
+        counts_length: usize,
+        cells: *mut i64,
+        cells_length: usize,
+        journal: *mut u8,
+        journal_length: usize,
+        used: *mut usize,
+        group: usize,
+        cell: usize,
+        value: i64,
+        beside: *mut Beside,
+    ) -> u32;
+    fn seambeacon_open_savepoint(
+        counts: *const u16,
+        counts_length: usize,
+        cells: *const i64,
+        cells_length: usize,
+        journal: *mut u8,
+        journal_length: usize,
+        used: *mut usize,
+        beside: *mut Beside,
+    ) -> u32;
+    fn seambeacon_release_savepoint(
+        counts: *const u16,
+        counts_length: usize,
+        cells: *const i64,
+        cells_length: usize,
+        journal: *mut u8,
+        journal_length: usize,
+        used: *mut usize,
+        savepoint: usize,
+        beside: *mut Beside,
+    ) -> u32;
+    fn seambeacon_undo_to_savepoint(
+        counts: *const u16,
+        counts_length: usize,
+        cells: *mut i64,
+        cells_length: usize,
+        journal: *mut u8,
+        journal_length: usize,
+        used: *mut usize,
+        savepoint: usize,
+        beside: *mut Beside,
+    ) -> u32;
+    fn seambeacon_replay(
+        counts: *const u16,
+        counts_length: usize,
+        cells: *mut i64,
+        cells_length: usize,
+        journal: *const u8,
+        journal_length: usize,
+        used: usize,
+        open: *mut usize,
+        beside: *mut Beside,
+    ) -> u32;
 }
 
 /// The reply of a call that writes the numbers beside it.
@@ -119,5 +177,86 @@ pub fn rewrite_record(text: &[u8], at: usize, table: &mut [i64], out: &mut [u8],
     // SAFETY: as the head of this file says.
     reply(|beside| unsafe {
         seambeacon_rewrite_record(text.as_ptr(), text.len(), at, table.as_mut_ptr(), table.len(), out.as_mut_ptr(), out.len(), unread, beside)
+    })
+}
+
+/// What the calls of a journal are lent.
+#[derive(Debug)]
+pub struct Edited<'a> {
+    pub counts: &'a [u16],
+    pub cells: &'a mut [i64],
+    pub journal: &'a mut [u8],
+    pub used: usize,
+}
+
+pub fn set_cell(lent: &mut Edited<'_>, group: usize, cell: usize, value: i64) -> Reply {
+    let Edited { counts, cells, journal, used } = lent;
+    // SAFETY: as the head of this file says.
+    reply(|beside| unsafe {
+        seambeacon_set_cell(
+            counts.as_ptr(),
+            counts.len(),
+            cells.as_mut_ptr(),
+            cells.len(),
+            journal.as_mut_ptr(),
+            journal.len(),
+            used,
+            group,
+            cell,
+            value,
+            beside,
+        )
+    })
+}
+
+pub fn open_savepoint(lent: &mut Edited<'_>) -> Reply {
+    let Edited { counts, cells, journal, used } = lent;
+    // SAFETY: as the head of this file says.
+    reply(|beside| unsafe {
+        seambeacon_open_savepoint(counts.as_ptr(), counts.len(), cells.as_ptr(), cells.len(), journal.as_mut_ptr(), journal.len(), used, beside)
+    })
+}
+
+pub fn release_savepoint(lent: &mut Edited<'_>, savepoint: usize) -> Reply {
+    let Edited { counts, cells, journal, used } = lent;
+    // SAFETY: as the head of this file says.
+    reply(|beside| unsafe {
+        seambeacon_release_savepoint(
+            counts.as_ptr(),
+            counts.len(),
+            cells.as_ptr(),
+            cells.len(),
+            journal.as_mut_ptr(),
+            journal.len(),
+            used,
+            savepoint,
+            beside,
+        )
+    })
+}
+
+pub fn undo_to_savepoint(lent: &mut Edited<'_>, savepoint: usize) -> Reply {
+    let Edited { counts, cells, journal, used } = lent;
+    // SAFETY: as the head of this file says.
+    reply(|beside| unsafe {
+        seambeacon_undo_to_savepoint(
+            counts.as_ptr(),
+            counts.len(),
+            cells.as_mut_ptr(),
+            cells.len(),
+            journal.as_mut_ptr(),
+            journal.len(),
+            used,
+            savepoint,
+            beside,
+        )
+    })
+}
+
+pub fn replay(lent: &mut Edited<'_>, open: &mut usize) -> Reply {
+    let Edited { counts, cells, journal, used } = lent;
+    // SAFETY: as the head of this file says.
+    reply(|beside| unsafe {
+        seambeacon_replay(counts.as_ptr(), counts.len(), cells.as_mut_ptr(), cells.len(), journal.as_ptr(), journal.len(), *used, open, beside)
     })
 }

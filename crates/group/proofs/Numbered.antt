@@ -8,9 +8,9 @@ use native.Mathlib.Omega.{arith}
 use lib.Dec.{lit<}
 use lib.ListN.{length}
 use Rattle.base.specs.Pieces.{done, bad}
-use Rattle.reply.specs.Table.{row, Numbered}
+use Rattle.reply.specs.Table.{Numbered, cells}
 use Rattle.reply.specs.Refusals.{refusalReply, checkedReply, answerReply, rows, unplacedRefusals, askedRefusals, lineRefusals}
-use Rattle.reply.proofs.Replies.{fills, refusal-fills, fills-cells, at-row, rows-left}
+use Rattle.reply.proofs.Replies.{fills, refusal-fills, at-row, rows-left}
 use Rattle.count.proofs.Rulings.{broken-group}
 use Rattle.place.specs.declared.Placing.the-variants as P
 use Rattle.place.proofs.Numbered.{refused-numbered}
@@ -51,7 +51,7 @@ module _ (s : List ℕ) (at g : ℕ) where
   reading-numbered room = by (readAt s at g room) (first-due s at g room (readAt s at g room) .0 refl)
     where
       by : (c : Cells) → Due s at g room c → Numbered readingRows (answerReply (readingOf c))
-      by (done cs) d = inl (fills-cells (length cs))
+      by (done cs) d = inl (fills 0 ((cells, length cs) ∷ []) (omega arith, tt))
       by (bad r) (inl m) = inr (rows-left askedRefusals (NoRoom ∷ (lineRefusals ++ (BadDate 0 ∷ []))) (refusalReply r) (missing-numbered r m))
       by (bad r) (inr h) = inr (refusal-numbered (h .placed .placing .ns) g (h .x) room r (h .reading))
 

@@ -3,7 +3,7 @@
 -- gives 0 and no cells.
 -- Assumes nothing.
 use mathlib.Core.Path.{_≡_, refl, sym, _∙_, ap}
-use mathlib.Core.List.{List, [], map}
+use mathlib.Core.List.{List, [], _∷_, map}
 use mathlib.Core.Logic.{inl, inr}
 use Prim.Native.Nat.{ℕ, _+_, _≤_}
 use native.Mathlib.Nat.{zero-add, zero-mul}
@@ -22,9 +22,9 @@ use Rattle.form.specs.Table.{rowOf, formOf}
 use Rattle.form.specs.Count
 use Rattle.form.specs.Count.{elementsOf, linesOf, cellsOf}
 use Rattle.form.proofs.Rounding.{rounded-none}
-use Rattle.reply.specs.Table.{Numbered}
+use Rattle.reply.specs.Table.{Numbered, cells}
 use Rattle.reply.specs.Refusals.{refusalReply, answerReply, rows}
-use Rattle.reply.proofs.Replies.{refusal-fills, fills-cells, at-row}
+use Rattle.reply.proofs.Replies.{fills, refusal-fills, at-row}
 use Rattle.base.specs.Sign.{sizeOf}
 use Rattle.count.proofs.Rulings.{broken-group}
 use Rattle.date.proofs.Due.{blamed-position}
@@ -57,7 +57,7 @@ refusal-numbered ns g x room r (bad-date p d) =
     at-row 11 (rows readingRefusals) (refusalReply (BadDate p)) (lit< tt) (refusal-fills (BadDate p) (blamed-position (map sizeOf (d .cs)) p (d .wrong), tt))
 
 pub cells-numbered : (ns : List ℕ) (g : ℕ) (x : List ℕ) (room : ℕ) (c : Cells) → Due ns g x room c → Numbered readingRows (answerReply (readingOf c))
-cells-numbered ns g x room (done cs) d = inl (fills-cells (length cs))
+cells-numbered ns g x room (done cs) d = inl (fills 0 ((cells, length cs) ∷ []) (omega arith, tt))
 cells-numbered ns g x room (bad r) d = inr (refusal-numbered ns g x room r d)
 
 -- ---- the table

@@ -1,17 +1,18 @@
--- R200 to R214: each refusal's number, with the numbers beside it; which refusals several questions share.
+-- R200 to R217: each refusal's number, with the numbers beside it; which refusals several questions share.
 use mathlib.Core.List.{List, [], _∷_, _++_, map}
 use Prim.Native.Nat.{ℕ}
 use Rattle.reply.specs.declared.Reply.{Reply}
 use Rattle.reply.specs.declared.Refusal.{Refusal}
 use Rattle.reply.specs.declared.Refusal.the-variants.{End, Beyond, TooFewLines, Misformed, OtherRelease, FilledVacant, BrokenRule, BadLine, BadField}
 use Rattle.reply.specs.declared.Refusal.the-variants.{BadDate, NoRoom, NoSuchNumber, NoField, OtherLength}
+use Rattle.reply.specs.declared.Refusal.the-variants.{NotOpen, AllOpen, BadEntry}
 use Rattle.reply.specs.declared.Checked.{Checked}
 use Rattle.reply.specs.declared.Checked.the-variants as C
 use Rattle.reply.specs.declared.Answer.{Answer}
 use Rattle.reply.specs.declared.Answer.the-variants as A
-use Rattle.reply.specs.Table.{Given, told, kindsOf, Row, row, bytes, group, line, element, position}
+use Rattle.reply.specs.Table.{Given, told, kindsOf, Row, row, bytes, group, line, element, position, place}
 
--- R201 to R214
+-- R201 to R217
 abbrev pub refusalNumber : Refusal → ℕ
 refusalNumber End = 1
 refusalNumber Beyond = 2
@@ -27,8 +28,11 @@ refusalNumber NoRoom = 11
 refusalNumber NoSuchNumber = 12
 refusalNumber (NoField g e) = 13
 refusalNumber OtherLength = 14
+refusalNumber NotOpen = 15
+refusalNumber AllOpen = 16
+refusalNumber (BadEntry p) = 17
 
--- R206, R207, R208, R209, R210, R213; beside the others nothing stands
+-- R206, R207, R208, R209, R210, R213, R217; beside the others nothing stands
 abbrev pub besideOf : Refusal → Given
 besideOf End = []
 besideOf Beyond = []
@@ -44,6 +48,9 @@ besideOf NoRoom = []
 besideOf NoSuchNumber = []
 besideOf (NoField g e) = (group, g) ∷ (element, e) ∷ []
 besideOf OtherLength = []
+besideOf NotOpen = []
+besideOf AllOpen = []
+besideOf (BadEntry p) = (place, p) ∷ []
 
 abbrev pub refusalReply : Refusal → Reply
 refusalReply r = told (refusalNumber r) (besideOf r)

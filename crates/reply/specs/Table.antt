@@ -11,7 +11,7 @@ use Rattle.reply.specs.declared.Reply.{Reply}
 
 -- the numbers that may stand beside a reply's own
 pub data Beside : Type 0 where
-  next cells bytes group line element position : Beside
+  next cells bytes group line element position savepoint place : Beside
 
 abbrev pub kindCode : Beside → ℕ
 kindCode next = 0
@@ -21,6 +21,8 @@ kindCode group = 3
 kindCode line = 4
 kindCode element = 5
 kindCode position = 6
+kindCode savepoint = 7
+kindCode place = 8
 
 abbrev pub Given : Type 0
 Given = List (Beside × ℕ)
@@ -48,6 +50,8 @@ told number bs =
       line = amountOf (isKind line) bs;
       element = amountOf (isKind element) bs;
       position = amountOf (isKind position) bs;
+      savepoint = amountOf (isKind savepoint) bs;
+      place = amountOf (isKind place) bs;
     }
 
 -- ---- which replies a question gives, and which numbers beside them
@@ -68,16 +72,18 @@ abbrev pub Shown : Bool → ℕ → ℕ → Type 0
 Shown true least n = least ≤ n
 Shown false least n = n ≡ 0
 
--- R231: lines and elements are counted from 1, and so are groups and positions; a next place is behind something, and no text that is written
--- is empty; a group may have no cells
+-- R231: lines and elements are counted from 1, and so are groups, positions and savepoints; a next place is behind something, and no text that
+-- is written is empty; a group may have no cells, and a field of a journal may be its first
 pub record Fills (w : Row) (r : Reply) : Type 0 where
   pub numbered : r .number ≡ w .number
   pub with-next : Shown (names w next) 1 (r .next)
-  pub with-written : Shown (names w cells || names w bytes) (cond (names w bytes) 1 0) (r .written)
+  pub with-written : Shown (names w cells || names w bytes) (cond (names w cells) 0 1) (r .written)
   pub with-group : Shown (names w group) 1 (r .group)
   pub with-line : Shown (names w line) 1 (r .line)
   pub with-element : Shown (names w element) 1 (r .element)
   pub with-position : Shown (names w position) 1 (r .position)
+  pub with-savepoint : Shown (names w savepoint) 1 (r .savepoint)
+  pub with-place : Shown (names w place) 0 (r .place)
 
 -- a reply of a question's table: it fills one of the rows
 abbrev pub Numbered : List Row → Reply → Type 0

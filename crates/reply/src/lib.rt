@@ -1,11 +1,11 @@
-// R200 to R214: the replies. What a question refuses with is a `Refusal`, whichever question it is; a reply is told as its number, with the
+// R200 to R217: the replies. What a question refuses with is a `Refusal`, whichever question it is; a reply is told as its number, with the
 // numbers beside it. What a reply's row doesn't name is 0 (R230).
 ghost use mathlib.Core.Path.{_≡_};
 ghost use mathlib.Core.List.{[], _∷_};
-ghost use Rattle.reply.specs.Table.{told, next, bytes, group, line, element, position};
+ghost use Rattle.reply.specs.Table.{told, next, bytes, group, line, element, position, savepoint, place};
 ghost use Rattle.reply.specs.Refusals.{refusalReply, checkedReply, answerReply};
 
-// Why a question is refused; each variant is a reply of R201 to R214. Which of them a question can give, its Due says.
+// Why a question is refused; each variant is a reply of R201 to R217. Which of them a question can give, its Due says.
 pub enum Refusal {
     // 1
     End,
@@ -35,6 +35,12 @@ pub enum Refusal {
     NoField(usize, usize),
     // 14
     OtherLength,
+    // 15
+    NotOpen,
+    // 16
+    AllOpen,
+    // 17, with the place of the journal's field
+    BadEntry(usize),
 }
 
 // 0 with nothing beside it, or a refusal.
@@ -57,6 +63,8 @@ pub struct Reply {
     pub line: usize,
     pub element: usize,
     pub position: usize,
+    pub savepoint: usize,
+    pub place: usize,
 }
 
 // A reply with a next place and a group; where one is 0, it has none.
@@ -71,6 +79,8 @@ pub fn at_next(number: u32, place: usize, g: usize) -> Reply
         line: 0,
         element: 0,
         position: 0,
+        savepoint: 0,
+        place: 0,
     }
 }
 
@@ -86,6 +96,8 @@ pub fn written(place: usize, n: usize) -> Reply
         line: 0,
         element: 0,
         position: 0,
+        savepoint: 0,
+        place: 0,
     }
 }
 
@@ -115,6 +127,8 @@ fn in_line(number: u32, l: usize, e: usize) -> Reply
         line: l,
         element: e,
         position: 0,
+        savepoint: 0,
+        place: 0,
     }
 }
 
@@ -130,6 +144,8 @@ fn no_field(g: usize, e: usize) -> Reply
         line: 0,
         element: e,
         position: 0,
+        savepoint: 0,
+        place: 0,
     }
 }
 
@@ -145,10 +161,46 @@ fn bad_date(p: usize) -> Reply
         line: 0,
         element: 0,
         position: p,
+        savepoint: 0,
+        place: 0,
     }
 }
 
-// R201 to R214: a refusal's number, with the numbers beside it.
+// 17, with the place of a field in the journal.
+fn bad_entry(p: usize) -> Reply
+    ensures { λ r. ⌜ r ≡ told 17 ((place, p) ∷ []) ⌝ }
+{
+    Reply {
+        number: 17,
+        next: 0,
+        written: 0,
+        group: 0,
+        line: 0,
+        element: 0,
+        position: 0,
+        savepoint: 0,
+        place: p,
+    }
+}
+
+// 0 with the savepoint that was opened; 0 is as none.
+pub fn opened(k: usize) -> Reply
+    ensures { λ r. ⌜ r ≡ told 0 ((savepoint, k) ∷ []) ⌝ }
+{
+    Reply {
+        number: 0,
+        next: 0,
+        written: 0,
+        group: 0,
+        line: 0,
+        element: 0,
+        position: 0,
+        savepoint: k,
+        place: 0,
+    }
+}
+
+// R201 to R217: a refusal's number, with the numbers beside it.
 pub fn of_refusal(refusal: Refusal) -> Reply
     ensures { λ r. ⌜ r ≡ refusalReply refusal ⌝ }
 {
@@ -167,6 +219,9 @@ pub fn of_refusal(refusal: Refusal) -> Reply
         Refusal::NoSuchNumber => plain(12),
         Refusal::NoField(g, e) => no_field(g, e),
         Refusal::OtherLength => plain(14),
+        Refusal::NotOpen => plain(15),
+        Refusal::AllOpen => plain(16),
+        Refusal::BadEntry(p) => bad_entry(p),
     }
 }
 

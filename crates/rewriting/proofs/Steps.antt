@@ -57,7 +57,8 @@ module _ (s : List ℕ) (at : ℕ) (table : List ℤ) (out : List ℕ) where
       pub step-ready : Ready s at (length table)
       step-ready = record { next = next; placed = placed; enough = rw counts at cells-fit }
 
-      pub step-unread : {g : ℕ} {r : Refusal} {new : List ℤ} → (G.GroupRefused g r ≡ groupsOf (allInTurn s at)) × (new ≡ over 0 (cellsAt s at) table) → Outcome s at table out (GroupRefused g r) new out
+      pub step-unread : {g : ℕ} {r : Refusal} {new : List ℤ} → (G.GroupRefused g r ≡ groupsOf (allInTurn s at)) × (new ≡ over 0 (cellsAt s at) table)
+          → Outcome s at table out (GroupRefused g r) new out
       step-unread {g} {r} a = (sym (roomy-is s at (length table) (length out) roomy ∙ by (allInTurn s at) (a .0)), a .1, refl)
         where
           by : (t : Turn) → G.GroupRefused g r ≡ groupsOf t → rewrittenAs (countsAt s at) next t ≡ GroupRefused g r

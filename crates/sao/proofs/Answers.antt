@@ -19,6 +19,15 @@ use Rattle.rewriting.specs.Record.{tableAfter, bufferBy}
 use Rattle.listing.specs.Listing.{listing, IsListing, ListingDue}
 use Rattle.sao.specs.Outcome.{Gives}
 use Rattle.sao.proofs.Demand2.{as-due}
+use Rattle.journal.specs.Model.{Sets, Opens, Releases, Undoes}
+use Rattle.journal.specs.Calls.{cellsAfter, journalBy}
+use Rattle.journal.specs.Plays.{replayedCells}
+use Rattle.journal.specs.Due as JournalIs
+use Rattle.sao.proofs.set_cell
+use Rattle.sao.proofs.open_savepoint
+use Rattle.sao.proofs.release_savepoint
+use Rattle.sao.proofs.undo_to_savepoint
+use Rattle.sao.proofs.replay
 use Rattle.sao.proofs.place
 use Rattle.sao.proofs.read_group
 use Rattle.sao.proofs.group_lines_at
@@ -69,3 +78,39 @@ pub rewrite-record-due : Gives rewrite_record.ended rewrite_record.Reads.Learnt
     (λ κs a r v. RewritingIs.Due (now (a .0)) (a .1 .0) (length (now (a .1 .1 .0))) (length (now (a .1 .1 .1 .0))) r ×
     (v .1 .1 .0 ≡ tableAfter (now (a .0)) (a .1 .0) r (now (a .1 .1 .0))) × (v .1 .1 .1 .0 ≡ bufferBy (now (a .0)) (a .1 .0) r (now (a .1 .1 .1 .0))))
 rewrite-record-due κs (text, (at, (table, (out, _)))) r v l = (as-due .rewriting (now text) at (length (now table)) (length (now out)) r .0 (sym (l .0)), l .1 .0, l .1 .1)
+
+-- ---- the edit journal: the reply that is due, and the bytes used, cells and journal by it
+
+pub set-cell-due : Gives set_cell.ended set_cell.Reads.Learnt
+    (λ κs a r v.
+    (let c = Sets (a .1 .1 .1 .1 .0) (a .1 .1 .1 .1 .1 .0) (a .1 .1 .1 .1 .1 .1 .0) in JournalIs.Due (now (a .0)) (now (a .1 .1 .0)) (a .1 .1 .1 .0) (length (now (a .1 .0))) c
+    (r .answer) × (v .1 .0 ≡ cellsAfter (now (a .0)) (now (a .1 .1 .0)) (a .1 .1 .1 .0) c (now (a .1 .0)) (r .answer)) ×
+    (v .1 .1 .0 ≡ journalBy (now (a .0)) (now (a .1 .1 .0)) (a .1 .1 .1 .0) c (now (a .1 .0)) (r .answer))))
+set-cell-due κs (counts, (cells, (journal, (used, (g, (i, (z, _))))))) r v l =
+    (as-due .call (now counts) (now journal) used (length (now cells)) (Sets g i z) (r .answer) .0 (sym (l .0)), l .1 .1 .0, l .1 .1 .1)
+
+pub open-savepoint-due : Gives open_savepoint.ended open_savepoint.Reads.Learnt
+    (λ κs a r v. JournalIs.Due (now (a .0)) (now (a .1 .1 .0)) (a .1 .1 .1 .0) (length (now (a .1 .0))) Opens (r .answer) ×
+    (v .1 .1 .0 ≡ journalBy (now (a .0)) (now (a .1 .1 .0)) (a .1 .1 .1 .0) Opens (now (a .1 .0)) (r .answer)))
+open-savepoint-due κs (counts, (cells, (journal, (used, _)))) r v l =
+    (as-due .call (now counts) (now journal) used (length (now cells)) Opens (r .answer) .0 (sym (l .0)), l .1 .1)
+
+pub release-savepoint-due : Gives release_savepoint.ended release_savepoint.Reads.Learnt
+    (λ κs a r v. JournalIs.Due (now (a .0)) (now (a .1 .1 .0)) (a .1 .1 .1 .0) (length (now (a .1 .0))) (Releases (a .1 .1 .1 .1 .0)) (r .answer) ×
+    (v .1 .1 .0 ≡ journalBy (now (a .0)) (now (a .1 .1 .0)) (a .1 .1 .1 .0) (Releases (a .1 .1 .1 .1 .0)) (now (a .1 .0)) (r .answer)))
+release-savepoint-due κs (counts, (cells, (journal, (used, (n, _))))) r v l =
+    (as-due .call (now counts) (now journal) used (length (now cells)) (Releases n) (r .answer) .0 (sym (l .0)), l .1 .1)
+
+pub undo-to-savepoint-due : Gives undo_to_savepoint.ended undo_to_savepoint.Reads.Learnt
+    (λ κs a r v.
+    (let c = Undoes (a .1 .1 .1 .1 .0) in JournalIs.Due (now (a .0)) (now (a .1 .1 .0)) (a .1 .1 .1 .0) (length (now (a .1 .0))) c (r .answer) ×
+    (v .1 .0 ≡ cellsAfter (now (a .0)) (now (a .1 .1 .0)) (a .1 .1 .1 .0) c (now (a .1 .0)) (r .answer)) ×
+    (v .1 .1 .0 ≡ journalBy (now (a .0)) (now (a .1 .1 .0)) (a .1 .1 .1 .0) c (now (a .1 .0)) (r .answer))))
+undo-to-savepoint-due κs (counts, (cells, (journal, (used, (n, _))))) r v l =
+    (as-due .call (now counts) (now journal) used (length (now cells)) (Undoes n) (r .answer) .0 (sym (l .0)), l .1 .1 .0, l .1 .1 .1)
+
+pub replay-due : Gives replay.ended replay.Reads.Learnt
+    (λ κs a r v. JournalIs.ReplayDue (now (a .0)) (now (a .1 .1 .0)) (a .1 .1 .1 .0) (now (a .1 .0)) (r .answer) ×
+    (v .1 .0 ≡ replayedCells (now (a .0)) (now (a .1 .1 .0)) (a .1 .1 .1 .0) (now (a .1 .0)) (r .answer)))
+replay-due κs (counts, (cells, (journal, (used, _)))) r v l =
+    (as-due .replay (now counts) (now journal) used (now cells) (r .answer) .0 (sym (l .0)), l .1 .1)

@@ -7,9 +7,11 @@ use lib.IntN.{ℤ}
 use lib.ListN.{length, drop}
 use Rattle.base.specs.Pieces.{done, bad}
 use Rattle.decimal.specs.Writing.{putBytes}
+use Rattle.reply.specs.declared.Checked.{Checked}
+use Rattle.reply.specs.declared.Checked.the-variants as C
 use Rattle.reply.specs.declared.Answer.{Answer}
 use Rattle.reply.specs.declared.Answer.the-variants as A
-use Rattle.reply.specs.Refusals.{refusalReply, answerReply}
+use Rattle.reply.specs.Refusals.{refusalReply, checkedReply, answerReply}
 use Rattle.place.proofs.Numbered.{placing-numbered}
 use Rattle.reading.specs.Read.{Cells, readingOf, tableBy}
 use Rattle.reading.proofs.Promises.{refused-read-keeps, done-read-keeps-rest}
@@ -24,8 +26,13 @@ use Rattle.rewriting.specs.declared.Rewriting.the-variants as R
 use Rattle.rewriting.specs.Numbered.{rewritingReply}
 use Rattle.rewriting.specs.Record.{rewritingOf, bufferBy}
 use Rattle.rewriting.proofs.Promises.{rewriting-numbered, unread-group, refused-rewriting-keeps, done-keeps-rest}
+use Rattle.journal.specs.Model.{Call}
+use Rattle.journal.specs.Calls.{answerOf, usedBy, cellsAfter, journalBy}
+use Rattle.journal.specs.Plays.{replayOf, replayedOpen, replayedCells}
+use Rattle.journal.specs.Numbered.{editReply}
+use Rattle.journal.proofs.Numbered.{call-numbered, replay-numbered}
 use Rattle.sao.proofs.Numbers.{answers-told}
-use Rattle.sao.specs.Demand1.{NotDone, EndsNumbered, RefusedWriteKeeps, KeepsRest, Demand1}
+use Rattle.sao.specs.Demand1.{NotDone, EndsNumbered, RefusedWriteKeeps, RefusedEditKeeps, KeepsRest, Demand1}
 
 ends-numbered : EndsNumbered
 ends-numbered =
@@ -38,6 +45,8 @@ ends-numbered =
       writing = writing-numbered;
       listed = listed-numbered;
       rewriting = rewriting-numbered;
+      call = call-numbered;
+      replay = replay-numbered;
       unread = unread-group;
     }
 
@@ -55,6 +64,31 @@ write-keeps =
       listed = listing-keeps;
       rewriting = λ s at cells out. refused-rewriting-keeps s at (rewritingOf s at cells (length out)) out;
     }
+
+edit-keeps : RefusedEditKeeps
+edit-keeps =
+    record {
+      cells = λ ns j used c cs n. cells-kept ns j used c cs (answerOf ns j used (length cs) c) n;
+      journal = λ ns j used c cs n. journal-kept ns j used c cs (answerOf ns j used (length cs) c) n;
+      used = λ ns j used c cs n. used-kept used c (answerOf ns j used (length cs) c) n;
+      replay = λ ns j used cs n. replay-kept ns j used cs (replayOf ns j used cs) n;
+    }
+  where
+    cells-kept : (ns j : List ℕ) (used : ℕ) (c : Call) (cs : List ℤ) (a : Answer) → NotDone (editReply a) → cellsAfter ns j used c cs a ≡ cs
+    cells-kept ns j used c cs (A.Done k) n = absurd (n refl)
+    cells-kept ns j used c cs (A.Refused r) n = refl
+
+    journal-kept : (ns j : List ℕ) (used : ℕ) (c : Call) (cs : List ℤ) (a : Answer) → NotDone (editReply a) → journalBy ns j used c cs a ≡ j
+    journal-kept ns j used c cs (A.Done k) n = absurd (n refl)
+    journal-kept ns j used c cs (A.Refused r) n = refl
+
+    used-kept : (used : ℕ) (c : Call) (a : Answer) → NotDone (editReply a) → usedBy used c a ≡ used
+    used-kept used c (A.Done k) n = absurd (n refl)
+    used-kept used c (A.Refused r) n = refl
+
+    replay-kept : (ns j : List ℕ) (used : ℕ) (cs : List ℤ) (a : Checked) → NotDone (checkedReply a) → (replayedCells ns j used cs a ≡ cs) × (replayedOpen ns j used cs a ≡ 0)
+    replay-kept ns j used cs C.Right n = absurd (n refl)
+    replay-kept ns j used cs (C.Refused r) n = (refl, refl)
 
 read-rest : (c : Cells) (table : List ℤ) → drop (answerReply (readingOf c) .written) (tableBy c table) ≡ drop (answerReply (readingOf c) .written) table
 read-rest (done cs) table = done-read-keeps-rest (done cs) table (length cs) refl
@@ -89,5 +123,6 @@ demand-1 =
       numbered = ends-numbered;
       refused-read = λ s at g table. refused-read-keeps (readAt s at g (length table)) table;
       refused-write = write-keeps;
+      refused-edit = edit-keeps;
       rest = keeps-rest;
     }

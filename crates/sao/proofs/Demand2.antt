@@ -24,10 +24,13 @@ use Rattle.listing.proofs.Replies as Listed
 use Rattle.rewriting.specs.declared.Rewriting.the-variants.{Done as Rewritten}
 use Rattle.rewriting.specs.Record.{cellsAt, textAt, rewritingOf, bufferBy}
 use Rattle.rewriting.proofs.Due as RewritingDue
+use Rattle.journal.proofs.Due as JournalDue
+use Rattle.journal.proofs.Made.{journal-is-stack, replay-same, torn-calls}
+use Rattle.journal.proofs.Reopened.{reopened}
 use Rattle.rewriting.proofs.Promises.{done-all, done-writes, done-text, done-front, table-has}
 use Rattle.rewriting.proofs.Whole.{whole-read, whole-joined}
 use Rattle.rewriting.proofs.Canonical.{canonical-printed, printed-canonical, printed-again}
-use Rattle.sao.specs.Demand2.{GivenAsDue, Rewrites, LentHolds, OneCanonical, Demand2}
+use Rattle.sao.specs.Demand2.{GivenAsDue, Rewrites, LentHolds, OneCanonical, Edits, Demand2}
 
 pub as-due : GivenAsDue
 as-due =
@@ -43,6 +46,8 @@ as-due =
       writing = λ ns cs room. WritingDue.first-due ns cs room;
       rewriting = λ s at cells room. RewritingDue.first-due s at cells room;
       listed = λ s room. Listed.first-due (listing s) room;
+      call = λ ns j used cells c. JournalDue.first-due ns j used cells c;
+      replay = λ ns j used cs. JournalDue.replay-first-due ns j used cs;
       listing-is = λ s x. (λ e. subst (IsListing s) e (Listed.listing-is s), λ h. sym (Listed.is-listing s x h));
     }
 
@@ -79,6 +84,15 @@ one-canonical ns cs room n e =
       one = λ x h. canonical-text h;
     }
 
+edits : Edits
+edits =
+    record {
+      stack = journal-is-stack;
+      replayed = replay-same;
+      torn = torn-calls;
+      made = λ ns t j used f b right r. reopened ns t j used right b f r;
+    }
+
 pub demand-2 : Demand2
 demand-2 =
     record {
@@ -86,6 +100,7 @@ demand-2 =
       lent = lent-holds;
       canonical = one-canonical;
       reads-back = λ ns cs room n e a b. reads-back ns cs room n e a b;
+      edits = edits;
       read-writes = record {
         record-returns = λ s at next cells ds r h out enough. returns-same r h out enough;
         text-returns = canonical-printed;

@@ -1,4 +1,4 @@
--- R200 to R214 in figures (specs/Numbers.antt), by computation.
+-- R200 to R217 in figures (specs/Numbers.antt), by computation.
 -- Assumes nothing.
 use mathlib.Core.Path.{refl}
 use Rattle.sao.specs.Numbers.{AnswersTold}
@@ -21,6 +21,9 @@ answers-told =
         no-such-number = refl;
         no-field = λ g e. refl;
         other-length = refl;
+        not-open = refl;
+        all-open = refl;
+        bad-entry = λ p. refl;
       };
       placing = record { placed = λ n. refl; broken-rule = λ g n. refl; refused = λ r. refl };
       group = record {
@@ -40,4 +43,5 @@ answers-told =
         rewrite-refused = λ r. (refl, refl);
         group-refused = λ g r. (refl, refl);
       };
+      journal = record { call = λ k. refl; call-refused = λ r. refl };
     }

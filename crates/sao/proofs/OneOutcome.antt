@@ -6,6 +6,14 @@ use denote.Ref.{now}
 use Rattle.sao.specs.Outcome.{OneOutcome, OneUpTo}
 use Rattle.writing.specs.Writing.{outputBy}
 use Rattle.rewriting.specs.Record.{tableAfter, bufferBy}
+use Rattle.journal.specs.Model.{Sets, Opens, Releases, Undoes}
+use Rattle.journal.specs.Calls.{usedBy, cellsAfter, journalBy}
+use Rattle.journal.specs.Plays.{replayedOpen, replayedCells}
+use Rattle.sao.proofs.set_cell
+use Rattle.sao.proofs.open_savepoint
+use Rattle.sao.proofs.release_savepoint
+use Rattle.sao.proofs.undo_to_savepoint
+use Rattle.sao.proofs.replay
 use Rattle.sao.proofs.place
 use Rattle.sao.proofs.read_group
 use Rattle.sao.proofs.group_lines_at
@@ -57,3 +65,42 @@ rewrite-record-one κs (text, (at, (table, (out, _)))) r q v w l k =
     let cells = l .1 .0 ∙ ap (λ p. tableAfter (now text) at p (now table)) answer ∙ sym (k .1 .0) in
     let bytes = l .1 .1 ∙ ap (λ p. bufferBy (now text) at p (now out)) answer ∙ sym (k .1 .1) in
     (answer, λ i. (tt, (tt, (cells i, (bytes i, tt)))))
+
+-- ---- the edit journal
+
+pub set-cell-one : OneOutcome set_cell.ended set_cell.Reads.Learnt
+set-cell-one κs (counts, (cells, (journal, (used, (g, (i, (z, _))))))) r q v w l k =
+    let answer = l .0 ∙ sym (k .0) in
+    let bytes = l .1 .0 ∙ ap (usedBy used (Sets g i z)) answer ∙ sym (k .1 .0) in
+    let table = l .1 .1 .0 ∙ ap (cellsAfter (now counts) (now journal) used (Sets g i z) (now cells)) answer ∙ sym (k .1 .1 .0) in
+    let text = l .1 .1 .1 ∙ ap (journalBy (now counts) (now journal) used (Sets g i z) (now cells)) answer ∙ sym (k .1 .1 .1) in
+    (λ i. record { answer = answer i; used = bytes i }, λ i. (tt, (table i, (text i, (tt, (tt, (tt, (tt, tt))))))))
+
+pub open-savepoint-one : OneOutcome open_savepoint.ended open_savepoint.Reads.Learnt
+open-savepoint-one κs (counts, (cells, (journal, (used, _)))) r q v w l k =
+    let answer = l .0 ∙ sym (k .0) in
+    let bytes = l .1 .0 ∙ ap (usedBy used Opens) answer ∙ sym (k .1 .0) in
+    let text = l .1 .1 ∙ ap (journalBy (now counts) (now journal) used Opens (now cells)) answer ∙ sym (k .1 .1) in
+    (λ i. record { answer = answer i; used = bytes i }, λ i. (tt, (tt, (text i, (tt, tt)))))
+
+pub release-savepoint-one : OneOutcome release_savepoint.ended release_savepoint.Reads.Learnt
+release-savepoint-one κs (counts, (cells, (journal, (used, (n, _))))) r q v w l k =
+    let answer = l .0 ∙ sym (k .0) in
+    let bytes = l .1 .0 ∙ ap (usedBy used (Releases n)) answer ∙ sym (k .1 .0) in
+    let text = l .1 .1 ∙ ap (journalBy (now counts) (now journal) used (Releases n) (now cells)) answer ∙ sym (k .1 .1) in
+    (λ i. record { answer = answer i; used = bytes i }, λ i. (tt, (tt, (text i, (tt, (tt, tt))))))
+
+pub undo-to-savepoint-one : OneOutcome undo_to_savepoint.ended undo_to_savepoint.Reads.Learnt
+undo-to-savepoint-one κs (counts, (cells, (journal, (used, (n, _))))) r q v w l k =
+    let answer = l .0 ∙ sym (k .0) in
+    let bytes = l .1 .0 ∙ ap (usedBy used (Undoes n)) answer ∙ sym (k .1 .0) in
+    let table = l .1 .1 .0 ∙ ap (cellsAfter (now counts) (now journal) used (Undoes n) (now cells)) answer ∙ sym (k .1 .1 .0) in
+    let text = l .1 .1 .1 ∙ ap (journalBy (now counts) (now journal) used (Undoes n) (now cells)) answer ∙ sym (k .1 .1 .1) in
+    (λ i. record { answer = answer i; used = bytes i }, λ i. (tt, (table i, (text i, (tt, (tt, tt))))))
+
+pub replay-one : OneOutcome replay.ended replay.Reads.Learnt
+replay-one κs (counts, (cells, (journal, (used, _)))) r q v w l k =
+    let answer = l .0 ∙ sym (k .0) in
+    let opened = l .1 .0 ∙ ap (replayedOpen (now counts) (now journal) used (now cells)) answer ∙ sym (k .1 .0) in
+    let table = l .1 .1 ∙ ap (replayedCells (now counts) (now journal) used (now cells)) answer ∙ sym (k .1 .1) in
+    (λ i. record { answer = answer i; «open» = opened i }, λ i. (tt, (table i, (tt, (tt, tt)))))

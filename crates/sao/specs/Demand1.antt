@@ -1,5 +1,5 @@
 -- The first demand, D1: a question always has an answer.
--- D1.1: each question takes whatever text, place, number and table there is. D1.2: it ends, and gives one of the replies R200 to R214. D1.3: so
+-- D1.1: each question takes whatever text, place, number and table there is. D1.2: it ends, and gives one of the replies R200 to R217. D1.3: so
 -- nothing needs to be tested before asking. D1.4: a refused read leaves each cell of the lent table as it was. D1.5: a refused write leaves each
 -- byte of the output as it was.
 --
@@ -30,6 +30,10 @@ use Rattle.writing.specs.Numbered.{writingRows}
 use Rattle.rewriting.specs.Record.{rewritingOf, bufferBy}
 use Rattle.rewriting.specs.declared.Rewriting.the-variants.{GroupRefused}
 use Rattle.rewriting.specs.Numbered.{rewritingReply, rewritingRows}
+use Rattle.journal.specs.Model.{Call}
+use Rattle.journal.specs.Calls.{answerOf, usedBy, cellsAfter, journalBy}
+use Rattle.journal.specs.Plays.{replayOf, replayedOpen, replayedCells}
+use Rattle.journal.specs.Numbered.{editReply, callRows, replayRows}
 use Rattle.sao.specs.Numbers.{AnswersTold}
 
 -- done is 0, refused is anything else
@@ -47,6 +51,9 @@ pub record EndsNumbered : Type 0 where
   pub writing : (ns : List ℕ) (cs : List ℤ) (room : ℕ) → Numbered writingRows (answerReply (writingOf ns cs room))
   pub listed : (s : List ℕ) (room : ℕ) → Numbered listingRows (answerReply (listedIn (listing s) room))
   pub rewriting : (s : List ℕ) (at cells room : ℕ) → Numbered rewritingRows (rewritingReply (rewritingOf s at cells room))
+  -- R550, R540: the calls of the edit journal, and a replay
+  pub call : (ns j : List ℕ) (used cells : ℕ) (c : Call) → Numbered (callRows c) (editReply (answerOf ns j used cells c))
+  pub replay : (ns j : List ℕ) (used : ℕ) (cs : List ℤ) → Numbered replayRows (checkedReply (replayOf ns j used cs))
   -- R323: the group that rewriting tells apart from the reply is one of 1 to 60
   pub unread : (s : List ℕ) (at cells room g : ℕ) (r : Refusal) → rewritingOf s at cells room ≡ GroupRefused g r → (1 ≤ g) × (g ≤ 60)
 
@@ -60,6 +67,22 @@ pub record RefusedWriteKeeps : Type 0 where
   pub writing : (ns : List ℕ) (cs : List ℤ) (out : List ℕ) → NotDone (answerReply (writingOf ns cs (length out))) → outputBy ns cs (writingOf ns cs (length out)) out ≡ out
   pub listed : (s out : List ℕ) → NotDone (answerReply (listedIn (listing s) (length out))) → putBytes 0 (listing s) out ≡ out
   pub rewriting : (s : List ℕ) (at cells : ℕ) (out : List ℕ) → NotDone (rewritingReply (rewritingOf s at cells (length out))) → bufferBy s at (rewritingOf s at cells (length out)) out ≡ out
+
+-- D1.4, D1.5: after a refused call, cells, journal and bytes used are what they were (R518); after a refused replay the cells are, and no
+-- savepoint is told (R542)
+pub record RefusedEditKeeps : Type 0 where
+  pub cells : (ns j : List ℕ) (used : ℕ) (c : Call) (cs : List ℤ)
+      → NotDone (editReply (answerOf ns j used (length cs) c))
+      → cellsAfter ns j used c cs (answerOf ns j used (length cs) c) ≡ cs
+  pub journal : (ns j : List ℕ) (used : ℕ) (c : Call) (cs : List ℤ)
+      → NotDone (editReply (answerOf ns j used (length cs) c))
+      → journalBy ns j used c cs (answerOf ns j used (length cs) c) ≡ j
+  pub used : (ns j : List ℕ) (n : ℕ) (c : Call) (cs : List ℤ)
+      → NotDone (editReply (answerOf ns j n (length cs) c))
+      → usedBy n c (answerOf ns j n (length cs) c) ≡ n
+  pub replay : (ns j : List ℕ) (used : ℕ) (cs : List ℤ)
+      → NotDone (checkedReply (replayOf ns j used cs))
+      → (replayedCells ns j used cs (replayOf ns j used cs) ≡ cs) × (replayedOpen ns j used cs (replayOf ns j used cs) ≡ 0)
 
 -- R266, R306, R311, R324: what stands behind the cells or bytes that were written stays as it was
 pub record KeepsRest : Type 0 where
@@ -80,4 +103,5 @@ pub record Demand1 : Type 0 where
   pub numbered : EndsNumbered
   pub refused-read : RefusedReadKeeps
   pub refused-write : RefusedWriteKeeps
+  pub refused-edit : RefusedEditKeeps
   pub rest : KeepsRest

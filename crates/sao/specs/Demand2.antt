@@ -31,6 +31,14 @@ use Rattle.writing.specs.RoundTrip.{ReadsBack, ReadWhole, joined}
 use Rattle.writing.specs.Text.{recordText}
 use Rattle.writing.specs.Writing.{writingOf, outputBy}
 use Rattle.writing.specs.Due as WritingIs
+use Rattle.reply.specs.declared.Checked.the-variants.{Right}
+use Rattle.count.specs.Check.{checkedOf}
+use Rattle.entry.specs.Bytes.{AllBytes}
+use Rattle.journal.specs.Model.{Call}
+use Rattle.journal.specs.Calls.{answerOf}
+use Rattle.journal.specs.Plays.{replayOf, replayedCells}
+use Rattle.journal.specs.Due as JournalIs
+use Rattle.journal.specs.Runs.{Fit, FitCalls, kept, leftTo, JournalIsStack, ReplaysTo, Torn, MadeBy}
 use Rattle.listing.specs.Listing.{listing, listedIn, IsListing, ListingDue}
 use Rattle.rewriting.specs.declared.Rewriting.{Rewriting}
 use Rattle.rewriting.specs.declared.Rewriting.the-variants.{Done as Rewritten}
@@ -61,6 +69,9 @@ pub record GivenAsDue : Type 0 where
   pub rewriting : (s : List ℕ) (at cells room : ℕ) (r : Rewriting) → rewritingOf s at cells room ≡ r ↔ RewritingIs.Due s at cells room r
   pub listed : (s : List ℕ) (room : ℕ) (r : Answer) → listedIn (listing s) room ≡ r ↔ ListingDue (listing s) room r
   pub listing-is : (s x : List ℕ) → listing s ≡ x ↔ IsListing s x
+  -- the edit journal: a call, and a replay
+  pub call : (ns j : List ℕ) (used cells : ℕ) (c : Call) (a : Answer) → answerOf ns j used cells c ≡ a ↔ JournalIs.Due ns j used cells c a
+  pub replay : (ns j : List ℕ) (used : ℕ) (cs : List ℤ) (a : Checked) → replayOf ns j used cs ≡ a ↔ JournalIs.ReplayDue ns j used cs a
 
 -- what rewriting's output holds under 0: the canonical text of the counts and of what every group read as
 pub record Rewrites (s : List ℕ) (at bytes next : ℕ) (buffer : List ℕ) : Type 0 where
@@ -109,9 +120,25 @@ pub record ReadWrites : Type 0 where
   -- and for what it printed itself
   pub printed-returns : (s : List ℕ) → length (printed s) ≤ 65536 → CanonicalRecords (printed s) × (printed (printed s) ≡ printed s)
 
+-- R516, R543, R544: what the calls of the edit journal leave, over any counts, table t and buffer j: on a fresh journal all that they answer and
+-- leave is that of a plain stack of whole tables. Replayed over t, the journal comes to the same cells and open savepoints; so do its first
+-- bytes, up to the field that was cut. And a journal that replays with 0, whoever wrote it, is one that calls have made.
+pub record Edits : Type 0 where
+  pub stack : (ns : List ℕ) (t : List ℤ) (j : List ℕ) (cs : List Call) → Fit t → FitCalls cs → JournalIsStack ns t j cs
+  pub replayed : (ns : List ℕ) (t : List ℤ) (j : List ℕ) (cs : List Call) → Fit t → FitCalls cs
+      → checkedOf ns (length t) ≡ Right
+      → ReplaysTo ns t (leftTo ns cs (kept t j 0))
+  pub torn : (ns : List ℕ) (t : List ℤ) (j : List ℕ) (cs : List Call) → Fit t → FitCalls cs
+      → checkedOf ns (length t) ≡ Right
+      → (n : ℕ) → n ≤ leftTo ns cs (kept t j 0) .used → Torn ns t cs (kept t j 0) n
+  pub made : (ns : List ℕ) (t : List ℤ) (j : List ℕ) (used : ℕ) → Fit t → AllBytes j
+      → checkedOf ns (length t) ≡ Right → replayOf ns j used t ≡ Right
+      → MadeBy ns (kept t j 0) (kept (replayedCells ns j used t Right) j used)
+
 pub record Demand2 : Type 0 where
   pub due : GivenAsDue
   pub lent : LentHolds
   pub canonical : WritesCanonical
   pub reads-back : WrittenReadsBack
   pub read-writes : ReadWrites
+  pub edits : Edits

@@ -3,6 +3,8 @@
 // answer's number, with the numbers beside it (R200 to R214).
 use group::Characteristic;
 use group::Lines;
+use journal::Edited;
+use journal::Replayed;
 use place::Record;
 use reply::Answer;
 use rewriting::Rewriting;
@@ -16,6 +18,9 @@ ghost use Rattle.group.specs.Held.{foundAt, partStart, partEnd, partAt, moved};
 ghost use Rattle.group.specs.Characteristics.{characteristicAt};
 ghost use Rattle.writing.specs.Writing.{writingOf, outputBy};
 ghost use Rattle.rewriting.specs.Record.{rewritingOf, tableAfter, bufferBy};
+ghost use Rattle.journal.specs.Model.{Sets, Opens, Releases, Undoes};
+ghost use Rattle.journal.specs.Calls.{answerOf, usedBy, cellsAfter, journalBy};
+ghost use Rattle.journal.specs.Plays.{replayOf, replayedOpen, replayedCells};
 ghost use Rattle.listing.specs.Listing.{listing, listedIn};
 
 // R250 to R253. Asked: which record stands at a place of a text.
@@ -101,4 +106,101 @@ pub fn rewrite_record(text: &[u8], at: usize, table: &mut [i64], out: &mut [u8])
     ensures output { λ r. ⌜ now (out .exit) ≡ bufferBy (now (text .entry)) at r (now (out .entry)) ⌝ }
 {
     rewriting::rewrite_record(text, at, table, out)
+}
+
+// ---- The edit journal, R500 to R550. What is kept between two calls is the caller's: the counts of a record, the table of its cells in group
+// order, a journal and how many of its bytes are used; a fresh journal has 0 used.
+
+// R512. Asked: to set a cell, counted from 1, of a group.
+// Answered: 0; the cell has the value, and the journal a field more, which has the old value too.
+// A refusal leaves cells, journal and bytes used as they were; so do those of the next three.
+pub fn set_cell(
+    counts: &[u16],
+    cells: &mut [i64],
+    journal: &mut [u8],
+    used: usize,
+    group: usize,
+    cell: usize,
+    value: i64,
+) -> Edited
+    ensures answer { λ r. ⌜ r .answer ≡
+        answerOf (now (counts .entry)) (now (journal .entry)) used (length (now (cells .entry)))
+        (Sets group cell value) ⌝ }
+    ensures used { λ r. ⌜ r .used ≡ usedBy used (Sets group cell value) (r .answer) ⌝ }
+    ensures cells { λ r. ⌜ now (cells .exit) ≡
+        cellsAfter (now (counts .entry)) (now (journal .entry)) used (Sets group cell value)
+        (now (cells .entry)) (r .answer) ⌝ }
+    ensures journal { λ r. ⌜ now (journal .exit) ≡
+        journalBy (now (counts .entry)) (now (journal .entry)) used (Sets group cell value)
+        (now (cells .entry)) (r .answer) ⌝ }
+{
+    journal::set_cell(counts, cells, journal, used, group, cell, value)
+}
+
+// R513. Asked: to open a savepoint inside those that are open, at most 16.
+// Answered: 0 with its number.
+pub fn open_savepoint(counts: &[u16], cells: &[i64], journal: &mut [u8], used: usize) -> Edited
+    ensures answer { λ r. ⌜ r .answer ≡
+        answerOf (now (counts .entry)) (now (journal .entry)) used (length (now (cells .entry))) Opens ⌝ }
+    ensures used { λ r. ⌜ r .used ≡ usedBy used Opens (r .answer) ⌝ }
+    ensures journal { λ r. ⌜ now (journal .exit) ≡
+        journalBy (now (counts .entry)) (now (journal .entry)) used Opens (now (cells .entry)) (r .answer) ⌝ }
+{
+    journal::open_savepoint(counts, cells, journal, used)
+}
+
+// R514. Asked: to release the innermost savepoint.
+// Answered: 0; what was set since it was opened stays, and belongs to the one outside.
+pub fn release_savepoint(
+    counts: &[u16],
+    cells: &[i64],
+    journal: &mut [u8],
+    used: usize,
+    savepoint: usize,
+) -> Edited
+    ensures answer { λ r. ⌜ r .answer ≡
+        answerOf (now (counts .entry)) (now (journal .entry)) used (length (now (cells .entry)))
+        (Releases savepoint) ⌝ }
+    ensures used { λ r. ⌜ r .used ≡ usedBy used (Releases savepoint) (r .answer) ⌝ }
+    ensures journal { λ r. ⌜ now (journal .exit) ≡
+        journalBy (now (counts .entry)) (now (journal .entry)) used (Releases savepoint)
+        (now (cells .entry)) (r .answer) ⌝ }
+{
+    journal::release_savepoint(counts, cells, journal, used, savepoint)
+}
+
+// R515. Asked: to undo to an open savepoint.
+// Answered: 0; each cell is what it was when that one was opened, which stays open; those inside it are closed.
+pub fn undo_to_savepoint(
+    counts: &[u16],
+    cells: &mut [i64],
+    journal: &mut [u8],
+    used: usize,
+    savepoint: usize,
+) -> Edited
+    ensures answer { λ r. ⌜ r .answer ≡
+        answerOf (now (counts .entry)) (now (journal .entry)) used (length (now (cells .entry))) (Undoes savepoint) ⌝ }
+    ensures used { λ r. ⌜ r .used ≡ usedBy used (Undoes savepoint) (r .answer) ⌝ }
+    ensures cells { λ r. ⌜ now (cells .exit) ≡
+        cellsAfter (now (counts .entry)) (now (journal .entry)) used (Undoes savepoint)
+        (now (cells .entry)) (r .answer) ⌝ }
+    ensures journal { λ r. ⌜ now (journal .exit) ≡
+        journalBy (now (counts .entry)) (now (journal .entry)) used (Undoes savepoint)
+        (now (cells .entry)) (r .answer) ⌝ }
+{
+    journal::undo_to_savepoint(counts, cells, journal, used, savepoint)
+}
+
+// R540 to R543. Asked: to replay a journal over the table that it began with.
+// Answered: 0 with the savepoints that are open behind it; the cells are those that its calls left.
+// A refusal leaves the cells as they were.
+pub fn replay(counts: &[u16], cells: &mut [i64], journal: &[u8], used: usize) -> Replayed
+    ensures answer { λ r. ⌜ r .answer ≡
+        replayOf (now (counts .entry)) (now (journal .entry)) used (now (cells .entry)) ⌝ }
+    ensures open { λ r. ⌜ r .open ≡
+        replayedOpen (now (counts .entry)) (now (journal .entry)) used (now (cells .entry)) (r .answer) ⌝ }
+    ensures cells { λ r. ⌜ now (cells .exit) ≡
+        replayedCells (now (counts .entry)) (now (journal .entry)) used (now (cells .entry)) (r .answer) ⌝ }
+{
+    journal::replay(counts, cells, journal, used)
 }

@@ -10,6 +10,11 @@ use Rattle.seambeacon.proofs.seambeacon_characteristic as characteristi
 use Rattle.seambeacon.proofs.seambeacon_write_record as write-record
 use Rattle.seambeacon.proofs.seambeacon_list as list
 use Rattle.seambeacon.proofs.seambeacon_rewrite_record as rewrite-record
+use Rattle.seambeacon.proofs.seambeacon_set_cell as set-cell
+use Rattle.seambeacon.proofs.seambeacon_open_savepoint as open-savepoint
+use Rattle.seambeacon.proofs.seambeacon_release_savepoint as release-savepoint
+use Rattle.seambeacon.proofs.seambeacon_undo_to_savepoint as undo-to-savepoint
+use Rattle.seambeacon.proofs.seambeacon_replay as replay
 
 pub place-one : OneOutcome place.ended place.Reads.Learnt
 place-one κs a n m v w l k =
@@ -55,3 +60,42 @@ rewrite-record-one κs a n m v w l k =
     let table = l .1 .1 .0 ∙ sym (k .1 .1 .0) in
     let out = l .1 .1 .1 ∙ sym (k .1 .1 .1) in
     (l .0 .number ∙ sym (k .0 .number), λ i. (tt, (tt, (table i, (out i, (unread i, (beside i, tt)))))))
+
+-- ---- the edit journal
+
+pub set-cell-one : OneOutcome set-cell.ended set-cell.Reads.Learnt
+set-cell-one κs a n m v w l k =
+    let beside = l .0 .besides ∙ sym (k .0 .besides) in
+    let used = l .1 .0 ∙ sym (k .1 .0) in
+    let cells = l .1 .1 .0 ∙ sym (k .1 .1 .0) in
+    let journal = l .1 .1 .1 ∙ sym (k .1 .1 .1) in
+    (l .0 .number ∙ sym (k .0 .number), λ i. (tt, (cells i, (journal i, (used i, (tt, (tt, (tt, (beside i, tt)))))))))
+
+pub open-savepoint-one : OneOutcome open-savepoint.ended open-savepoint.Reads.Learnt
+open-savepoint-one κs a n m v w l k =
+    let beside = l .0 .besides ∙ sym (k .0 .besides) in
+    let used = l .1 .0 ∙ sym (k .1 .0) in
+    let journal = l .1 .1 ∙ sym (k .1 .1) in
+    (l .0 .number ∙ sym (k .0 .number), λ i. (tt, (tt, (journal i, (used i, (beside i, tt))))))
+
+pub release-savepoint-one : OneOutcome release-savepoint.ended release-savepoint.Reads.Learnt
+release-savepoint-one κs a n m v w l k =
+    let beside = l .0 .besides ∙ sym (k .0 .besides) in
+    let used = l .1 .0 ∙ sym (k .1 .0) in
+    let journal = l .1 .1 ∙ sym (k .1 .1) in
+    (l .0 .number ∙ sym (k .0 .number), λ i. (tt, (tt, (journal i, (used i, (tt, (beside i, tt)))))))
+
+pub undo-to-savepoint-one : OneOutcome undo-to-savepoint.ended undo-to-savepoint.Reads.Learnt
+undo-to-savepoint-one κs a n m v w l k =
+    let beside = l .0 .besides ∙ sym (k .0 .besides) in
+    let used = l .1 .0 ∙ sym (k .1 .0) in
+    let cells = l .1 .1 .0 ∙ sym (k .1 .1 .0) in
+    let journal = l .1 .1 .1 ∙ sym (k .1 .1 .1) in
+    (l .0 .number ∙ sym (k .0 .number), λ i. (tt, (cells i, (journal i, (used i, (tt, (beside i, tt)))))))
+
+pub replay-one : OneOutcome replay.ended replay.Reads.Learnt
+replay-one κs a n m v w l k =
+    let beside = l .0 .besides ∙ sym (k .0 .besides) in
+    let opened = l .1 .0 ∙ sym (k .1 .0) in
+    let cells = l .1 .1 ∙ sym (k .1 .1) in
+    (l .0 .number ∙ sym (k .0 .number), λ i. (tt, (cells i, (tt, (tt, (opened i, (beside i, tt)))))))

@@ -1,4 +1,4 @@
--- R360: answers in numbers alone: a reply's number, and six numbers beside it, of which those that its row doesn't name are 0 (R230).
+-- R360: answers in numbers alone: a reply's number, and eight numbers beside it, of which those that its row doesn't name are 0 (R230).
 use mathlib.Core.Path.{_≡_}
 use mathlib.Core.List.{List, [], _∷_}
 use Prim.Native.Nat.{ℕ}
@@ -8,13 +8,13 @@ use Rattle.group.specs.declared.Characteristic.{Characteristic}
 use Rattle.group.specs.declared.Characteristic.the-variants.{Value, NoReading, NotReported, Refused}
 
 -- the numbers beside a reply's own, in the order of `struct seambeacon_beside`
-abbrev pub sixBeside : Reply → List ℕ
-sixBeside r = r .next ∷ r .written ∷ r .group ∷ r .line ∷ r .element ∷ r .position ∷ []
+abbrev pub eightBeside : Reply → List ℕ
+eightBeside r = r .next ∷ r .written ∷ r .group ∷ r .line ∷ r .element ∷ r .position ∷ r .savepoint ∷ r .place ∷ []
 
 -- a reply told as its number n and the numbers beside it
 pub record Told (r : Reply) (n : ℕ) (beside : List ℕ) : Type 0 where
   pub number : n ≡ r .number
-  pub besides : beside ≡ sixBeside r
+  pub besides : beside ≡ eightBeside r
 
 -- R361: the kind of a characteristic, and its value, which is 0 for all kinds but the first
 abbrev pub answerKind : Characteristic → ℕ

@@ -2,6 +2,7 @@
 use mathlib.Core.List.{List}
 use Prim.Native.Nat.{ℕ}
 use lib.IntN.{ℤ}
+use lib.ListN.{length}
 use Rattle.reply.specs.declared.Reply.{Reply}
 use Rattle.reply.specs.Refusals.{checkedReply, answerReply}
 use Rattle.place.specs.Placing.{placingOf}
@@ -14,6 +15,9 @@ use Rattle.group.specs.Numbered.{characteristicReply}
 use Rattle.writing.specs.Writing.{writingOf}
 use Rattle.rewriting.specs.Record.{rewritingOf}
 use Rattle.rewriting.specs.Numbered.{rewritingReply}
+use Rattle.reply.specs.declared.Answer.{Answer}
+use Rattle.journal.specs.Model.{Call}
+use Rattle.journal.specs.Calls.{answerOf}
 use Rattle.listing.specs.Listing.{listing, listedIn}
 
 abbrev pub placeReply : List ℕ → ℕ → Reply
@@ -39,3 +43,7 @@ listReply s room = answerReply (listedIn (listing s) room)
 -- with a table of so many cells, into an output of so many bytes
 abbrev pub rewriteReply : List ℕ → ℕ → ℕ → ℕ → Reply
 rewriteReply s at cells room = rewritingReply (rewritingOf s at cells room)
+
+-- what a call of the edit journal answers, on these cells
+abbrev pub callAnswer : List ℕ → List ℕ → ℕ → List ℤ → Call → Answer
+callAnswer ns j used cs c = answerOf ns j used (length cs) c

@@ -1,5 +1,5 @@
 // For C: each question of `sao` under a name of its own, in numbers and slices alone. R360: a function answers with the reply's
-// number and writes the six numbers beside it, in the order of `besideOf`, into lent memory; those that the reply's row doesn't name are 0.
+// number and writes the eight numbers beside it, in the order of `eightBeside`, into lent memory; those that the reply's row doesn't name are 0.
 // What else is lent is altered as the question of the same name says. include/seambeacon.h tells a caller in C.
 use group::Characteristic;
 use reply::Reply;
@@ -8,7 +8,7 @@ ghost use mathlib.Core.List.{[], _∷_};
 ghost use lib.ListN.{length};
 ghost use Rattle.seambeacon.specs.Numbers.{Told, answerKind, answerValue};
 ghost use Rattle.seambeacon.specs.Replies.{placeReply, readReply, linesReply, characteristicReplyAt, writeReply};
-ghost use Rattle.seambeacon.specs.Replies.{listReply, rewriteReply};
+ghost use Rattle.seambeacon.specs.Replies.{listReply, rewriteReply, callAnswer};
 ghost use Rattle.decimal.specs.Writing.{putBytes};
 ghost use Rattle.place.specs.Placing.{countsAt};
 ghost use Rattle.reading.specs.Read.{tableBy};
@@ -18,15 +18,29 @@ ghost use Rattle.group.specs.Characteristics.{characteristicAt};
 ghost use Rattle.writing.specs.Writing.{writingOf, outputBy};
 ghost use Rattle.rewriting.specs.Record.{rewritingOf, tableAfter, bufferBy};
 ghost use Rattle.rewriting.specs.Numbered.{rewritingGroup};
+ghost use Rattle.reply.specs.Refusals.{checkedReply};
+ghost use Rattle.journal.specs.Model.{Sets, Opens, Releases, Undoes};
+ghost use Rattle.journal.specs.Calls.{usedBy, cellsAfter, journalBy};
+ghost use Rattle.journal.specs.Plays.{replayOf, replayedOpen, replayedCells};
+ghost use Rattle.journal.specs.Numbered.{editReply};
 ghost use Rattle.listing.specs.Listing.{listing};
 
 // ---- Numbers.
 
 // R360: a reply as its number, and the numbers beside it.
-fn tell(r: Reply, beside: &mut [usize; 6]) -> u32
+fn tell(r: Reply, beside: &mut [usize; 8]) -> u32
     ensures { λ n. ⌜ Told r n (now (beside .exit)) ⌝ }
 {
-    *beside = [r.next, r.written, r.group, r.line, r.element, r.position];
+    *beside = [
+        r.next,
+        r.written,
+        r.group,
+        r.line,
+        r.element,
+        r.position,
+        r.savepoint,
+        r.place,
+    ];
     r.number
 }
 
@@ -64,7 +78,7 @@ pub extern "C" fn seambeacon_place(
     text: &[u8],
     at: usize,
     counts: &mut [u16; 80],
-    beside: &mut [usize; 6],
+    beside: &mut [usize; 8],
 ) -> u32
     ensures reply { λ n. ⌜ Told (placeReply (now (text .entry)) at) n (now (beside .exit)) ⌝ }
     ensures counts { λ _. ⌜ now (counts .exit) ≡ countsAt (now (text .entry)) at ⌝ }
@@ -85,7 +99,7 @@ pub extern "C" fn seambeacon_read_group(
     at: usize,
     group: usize,
     table: &mut [i64],
-    beside: &mut [usize; 6],
+    beside: &mut [usize; 8],
 ) -> u32
     ensures reply { λ n. ⌜ Told (readReply (now (text .entry)) at group (length (now (table .entry)))) n
         (now (beside .exit)) ⌝ }
@@ -106,7 +120,7 @@ pub extern "C" fn seambeacon_group_lines(
     at: usize,
     group: usize,
     part: &mut [usize; 2],
-    beside: &mut [usize; 6],
+    beside: &mut [usize; 8],
 ) -> u32
     ensures reply { λ n. ⌜ Told (linesReply (now (text .entry)) at group) n (now (beside .exit)) ⌝ }
     ensures part { λ _. ⌜ now (part .exit) ≡
@@ -129,7 +143,7 @@ pub extern "C" fn seambeacon_characteristic(
     number: usize,
     kind: &mut u32,
     value: &mut i64,
-    beside: &mut [usize; 6],
+    beside: &mut [usize; 8],
 ) -> u32
     ensures reply { λ n. ⌜ Told (characteristicReplyAt (now (text .entry)) at number) n (now (beside .exit)) ⌝ }
     ensures kind { λ _. ⌜ now (kind .exit) ≡ answerKind (characteristicAt (now (text .entry)) at number) ⌝ }
@@ -149,7 +163,7 @@ pub extern "C" fn seambeacon_write_record(
     counts: &[u16],
     cells: &[i64],
     out: &mut [u8],
-    beside: &mut [usize; 6],
+    beside: &mut [usize; 8],
 ) -> u32
     ensures reply { λ n. ⌜ Told (writeReply (now (counts .entry)) (now (cells .entry)) (length (now (out .entry)))) n
         (now (beside .exit)) ⌝ }
@@ -165,7 +179,7 @@ pub extern "C" fn seambeacon_write_record(
 // Answered: 0 with the number of bytes, which stand in the output from its first byte on; what stands behind them is kept.
 // A refusal (11) leaves the whole output as it was.
 #[no_mangle]
-pub extern "C" fn seambeacon_list(text: &[u8], out: &mut [u8], beside: &mut [usize; 6]) -> u32
+pub extern "C" fn seambeacon_list(text: &[u8], out: &mut [u8], beside: &mut [usize; 8]) -> u32
     ensures reply { λ n. ⌜ Told (listReply (now (text .entry)) (length (now (out .entry)))) n (now (beside .exit)) ⌝ }
     ensures output { λ _. ⌜ now (out .exit) ≡ putBytes 0 (listing (now (text .entry))) (now (out .entry)) ⌝ }
 {
@@ -185,7 +199,7 @@ pub extern "C" fn seambeacon_rewrite_record(
     table: &mut [i64],
     out: &mut [u8],
     unread: &mut [usize; 1],
-    beside: &mut [usize; 6],
+    beside: &mut [usize; 8],
 ) -> u32
     ensures reply { λ n. ⌜ Told
         (rewriteReply (now (text .entry)) at (length (now (table .entry))) (length (now (out .entry)))) n
@@ -205,4 +219,164 @@ pub extern "C" fn seambeacon_rewrite_record(
     let answer = sao::rewrite_record(text, at, table, out);
     *unread = [rewriting::group_of(answer)];
     tell(rewriting::reply_of(answer), beside)
+}
+
+// ---- The edit journal.
+
+// R512. Asked: to set a cell, counted from 1, of a group.
+// Answered: 0; the cell has the value, the journal a field more, and `used` counts its bytes.
+// A refusal leaves cells, journal and `used` as they were; so do those of the next three.
+#[no_mangle]
+pub extern "C" fn seambeacon_set_cell(
+    counts: &[u16],
+    cells: &mut [i64],
+    journal: &mut [u8],
+    used: &mut usize,
+    group: usize,
+    cell: usize,
+    value: i64,
+    beside: &mut [usize; 8],
+) -> u32
+    ensures reply { λ n. ⌜ Told (editReply
+        (callAnswer (now (counts .entry)) (now (journal .entry)) (now (used .entry)) (now (cells .entry))
+        (Sets group cell value))) n
+        (now (beside .exit)) ⌝ }
+    ensures used { λ _. ⌜ now (used .exit) ≡ usedBy (now (used .entry)) (Sets group cell value)
+        (callAnswer (now (counts .entry)) (now (journal .entry)) (now (used .entry)) (now (cells .entry))
+        (Sets group cell value)) ⌝ }
+    ensures cells { λ _. ⌜ now (cells .exit) ≡
+        cellsAfter (now (counts .entry)) (now (journal .entry)) (now (used .entry)) (Sets group cell value)
+        (now (cells .entry))
+        (callAnswer (now (counts .entry)) (now (journal .entry)) (now (used .entry)) (now (cells .entry))
+        (Sets group cell value)) ⌝ }
+    ensures journal { λ _. ⌜ now (journal .exit) ≡
+        journalBy (now (counts .entry)) (now (journal .entry)) (now (used .entry)) (Sets group cell value)
+        (now (cells .entry))
+        (callAnswer (now (counts .entry)) (now (journal .entry)) (now (used .entry)) (now (cells .entry))
+        (Sets group cell value)) ⌝ }
+{
+    let edited = sao::set_cell(counts, cells, journal, *used, group, cell, value);
+    let answer = edited.answer;
+    *used = edited.used;
+    tell(journal::reply_of(answer), beside)
+}
+
+// R513. Asked: to open a savepoint inside those that are open, at most 16.
+// Answered: 0 with its number.
+#[no_mangle]
+pub extern "C" fn seambeacon_open_savepoint(
+    counts: &[u16],
+    cells: &[i64],
+    journal: &mut [u8],
+    used: &mut usize,
+    beside: &mut [usize; 8],
+) -> u32
+    ensures reply { λ n. ⌜ Told (editReply
+        (callAnswer (now (counts .entry)) (now (journal .entry)) (now (used .entry)) (now (cells .entry))
+        Opens)) n
+        (now (beside .exit)) ⌝ }
+    ensures used { λ _. ⌜ now (used .exit) ≡ usedBy (now (used .entry)) Opens
+        (callAnswer (now (counts .entry)) (now (journal .entry)) (now (used .entry)) (now (cells .entry))
+        Opens) ⌝ }
+    ensures journal { λ _. ⌜ now (journal .exit) ≡
+        journalBy (now (counts .entry)) (now (journal .entry)) (now (used .entry)) Opens (now (cells .entry))
+        (callAnswer (now (counts .entry)) (now (journal .entry)) (now (used .entry)) (now (cells .entry))
+        Opens) ⌝ }
+{
+    let edited = sao::open_savepoint(counts, cells, journal, *used);
+    let answer = edited.answer;
+    *used = edited.used;
+    tell(journal::reply_of(answer), beside)
+}
+
+// R514. Asked: to release the innermost savepoint.
+// Answered: 0; what was set since it was opened stays, and belongs to the one outside.
+#[no_mangle]
+pub extern "C" fn seambeacon_release_savepoint(
+    counts: &[u16],
+    cells: &[i64],
+    journal: &mut [u8],
+    used: &mut usize,
+    savepoint: usize,
+    beside: &mut [usize; 8],
+) -> u32
+    ensures reply { λ n. ⌜ Told (editReply
+        (callAnswer (now (counts .entry)) (now (journal .entry)) (now (used .entry)) (now (cells .entry))
+        (Releases savepoint))) n
+        (now (beside .exit)) ⌝ }
+    ensures used { λ _. ⌜ now (used .exit) ≡ usedBy (now (used .entry)) (Releases savepoint)
+        (callAnswer (now (counts .entry)) (now (journal .entry)) (now (used .entry)) (now (cells .entry))
+        (Releases savepoint)) ⌝ }
+    ensures journal { λ _. ⌜ now (journal .exit) ≡
+        journalBy (now (counts .entry)) (now (journal .entry)) (now (used .entry)) (Releases savepoint)
+        (now (cells .entry))
+        (callAnswer (now (counts .entry)) (now (journal .entry)) (now (used .entry)) (now (cells .entry))
+        (Releases savepoint)) ⌝ }
+{
+    let edited = sao::release_savepoint(counts, cells, journal, *used, savepoint);
+    let answer = edited.answer;
+    *used = edited.used;
+    tell(journal::reply_of(answer), beside)
+}
+
+// R515. Asked: to undo to an open savepoint.
+// Answered: 0; each cell is what it was when that one was opened, which stays open; those inside it are closed.
+#[no_mangle]
+pub extern "C" fn seambeacon_undo_to_savepoint(
+    counts: &[u16],
+    cells: &mut [i64],
+    journal: &mut [u8],
+    used: &mut usize,
+    savepoint: usize,
+    beside: &mut [usize; 8],
+) -> u32
+    ensures reply { λ n. ⌜ Told (editReply
+        (callAnswer (now (counts .entry)) (now (journal .entry)) (now (used .entry)) (now (cells .entry))
+        (Undoes savepoint))) n
+        (now (beside .exit)) ⌝ }
+    ensures used { λ _. ⌜ now (used .exit) ≡ usedBy (now (used .entry)) (Undoes savepoint)
+        (callAnswer (now (counts .entry)) (now (journal .entry)) (now (used .entry)) (now (cells .entry))
+        (Undoes savepoint)) ⌝ }
+    ensures cells { λ _. ⌜ now (cells .exit) ≡
+        cellsAfter (now (counts .entry)) (now (journal .entry)) (now (used .entry)) (Undoes savepoint) (now (cells .entry))
+        (callAnswer (now (counts .entry)) (now (journal .entry)) (now (used .entry)) (now (cells .entry))
+        (Undoes savepoint)) ⌝ }
+    ensures journal { λ _. ⌜ now (journal .exit) ≡
+        journalBy (now (counts .entry)) (now (journal .entry)) (now (used .entry)) (Undoes savepoint)
+        (now (cells .entry))
+        (callAnswer (now (counts .entry)) (now (journal .entry)) (now (used .entry)) (now (cells .entry))
+        (Undoes savepoint)) ⌝ }
+{
+    let edited = sao::undo_to_savepoint(counts, cells, journal, *used, savepoint);
+    let answer = edited.answer;
+    *used = edited.used;
+    tell(journal::reply_of(answer), beside)
+}
+
+// R540 to R543. Asked: to replay a journal over the table that it began with.
+// Answered: 0 with the savepoints that are open behind it; the cells are those that its calls left.
+// A refusal leaves the cells as they were, and no savepoint is open.
+#[no_mangle]
+pub extern "C" fn seambeacon_replay(
+    counts: &[u16],
+    cells: &mut [i64],
+    journal: &[u8],
+    used: usize,
+    opened: &mut usize,
+    beside: &mut [usize; 8],
+) -> u32
+    ensures reply { λ n. ⌜ Told (checkedReply
+        (replayOf (now (counts .entry)) (now (journal .entry)) used (now (cells .entry)))) n
+        (now (beside .exit)) ⌝ }
+    ensures opened { λ _. ⌜ now (opened .exit) ≡
+        replayedOpen (now (counts .entry)) (now (journal .entry)) used (now (cells .entry))
+        (replayOf (now (counts .entry)) (now (journal .entry)) used (now (cells .entry))) ⌝ }
+    ensures cells { λ _. ⌜ now (cells .exit) ≡
+        replayedCells (now (counts .entry)) (now (journal .entry)) used (now (cells .entry))
+        (replayOf (now (counts .entry)) (now (journal .entry)) used (now (cells .entry))) ⌝ }
+{
+    let replayed = sao::replay(counts, cells, journal, used);
+    let answer = replayed.answer;
+    *opened = replayed.open;
+    tell(reply::of_checked(answer), beside)
 }

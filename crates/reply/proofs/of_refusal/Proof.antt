@@ -48,10 +48,25 @@ returns-13 c = c .no-field .ensures ∙ ap refusalReply (sym (c .before .before 
 returns-14 : tie.Need-returns-14
 returns-14 c = c .plain8 .ensures ∙ ap refusalReply (sym (c .before .enum-told8 .given .1))
 
+returns-15 : tie.Need-returns-15
+returns-15 c = c .plain9 .ensures ∙ ap refusalReply (sym (c .before .enum-told9 .given .1))
+
+returns-16 : tie.Need-returns-16
+returns-16 c = c .plain10 .ensures ∙ ap refusalReply (sym (c .before .enum-told10 .given .1))
+
+returns-17 : tie.Need-returns-17
+returns-17 c = c .bad-entry .ensures ∙ ap refusalReply (sym (c .before .before .refusal7 .given .1))
+
 pub of-refusal-spec : {M : Type 1} → statement M
 of-refusal-spec =
     tie.close
     (tie.spec
+    (λ c. search needs)
+    (λ c κs. search needs)
+    (λ c. search needs)
+    (λ c κs. search needs)
+    (λ c. search needs)
+    (λ c κs. search needs)
     (λ c. search needs)
     (λ c κs. search needs)
     (λ c. search needs)
@@ -93,4 +108,7 @@ of-refusal-spec =
     returns-11
     returns-12
     returns-13
-    returns-14)
+    returns-14
+    returns-15
+    returns-16
+    returns-17)

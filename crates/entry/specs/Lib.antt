@@ -1,0 +1,3 @@
+-- R520 to R524: numbers and cells as bytes (Bytes), and a field of the edit journal: what is written for an entry, and what is read (Field).
+pub mod Bytes
+pub mod Field

@@ -1,0 +1,113 @@
+-- What a walk in code found, said of the definitions that the calls cite.
+-- Assumes nothing.
+use mathlib.Core.Path.{_≡_, refl, sym, ap, _∙_}
+use mathlib.Core.Bool.{Bool, true, false, cond}
+use mathlib.Core.List.{List}
+use Prim.Native.Nat.{ℕ, _-_, _≤_, min}
+use native.Mathlib.Omega.{arith}
+use lib.Dec.{eqb}
+use lib.IntN.{ℤ}
+use lib.ListN.{length, take, length-take}
+use lib.Seq.{take-length}
+use borrow.Author.Tests.{eqb-true}
+use Rattle.base.specs.Part.{part}
+use Rattle.base.proofs.Taken.{part-zero, take-both}
+use Rattle.count.specs.Check.{checkedOf}
+use Rattle.reply.specs.declared.Refusal.{Refusal}
+use Rattle.reply.specs.declared.Refusal.the-variants.{BadEntry}
+use Rattle.reply.specs.declared.Checked.{Checked}
+use Rattle.reply.specs.declared.Checked.the-variants as C
+use Rattle.reply.specs.declared.Answer.the-variants.{Refused}
+use Rattle.journal.specs.declared.State.{State}
+use Rattle.journal.specs.Layout.{startsOf}
+use Rattle.journal.specs.Model.{Call, decided}
+use Rattle.journal.specs.Walks.{down, WalksTo}
+use Rattle.journal.specs.Calls.{andThen, whole, walkIn, standingOf, answerOf, cellsAfter, journalBy, usedBy}
+use Rattle.journal.specs.Entries.{restore, entriesAt}
+use Rattle.journal.specs.Plays.{playOf, playIn, replayOf, replayedCells, Plays}
+use Rattle.journal.proofs.Walking.{down-length}
+use Rattle.journal.proofs.Playing.{replay-back}
+
+no-refused : {A : Type 0} {r : Refusal} → _≡_ {A = Checked} (C.Refused r) C.Right → A
+no-refused e = let z : _≡_ {A = ℕ} 0 1 = cc in absurd (omega arith)
+
+-- a walk over all of the bytes used
+pub whole-right : (place used : ℕ) → whole place used ≡ C.Right → place ≡ used
+whole-right place used e = by (eqb place used) refl e
+  where
+    by : (b : Bool) → eqb place used ≡ b → cond b C.Right (C.Refused (BadEntry place)) ≡ C.Right → place ≡ used
+    by true q h = eqb-true place used q
+    by false q h = no-refused h
+
+pub then-right : (a b : Checked) → andThen a b ≡ C.Right → (a ≡ C.Right) × (b ≡ C.Right)
+then-right C.Right b e = (refl, e)
+then-right (C.Refused r) b e = no-refused e
+
+module _ (ns j : List ℕ) (used cells : ℕ) where
+  pub answer-refused : {r : Refusal} (c : Call) → standingOf ns j used cells ≡ C.Refused r → Refused r ≡ answerOf ns j used cells c
+  unfolding answerOf
+  answer-refused c e = rw e
+
+  pub answer-right : (c : Call) → standingOf ns j used cells ≡ C.Right → answerOf ns j used cells c ≡ decided (startsOf ns) c (length (walkIn ns j used .marks)) (length j - used)
+  unfolding answerOf
+  answer-right c e = rw e
+
+  -- ---- the walk in code
+
+  module _ (r : State) (w : WalksTo (startsOf ns) (take used j) r) where
+    pub marks-found : walkIn ns j used .marks ≡ down (r .depth) (r .marks)
+    marks-found = ap (λ x. x .marks) (sym (w .found))
+
+    pub depth-found : length (walkIn ns j used .marks) ≡ r .depth
+    depth-found = ap length marks-found ∙ down-length (r .depth) (r .marks)
+
+    pub count-found : walkIn ns j used .count ≡ r .count
+    count-found = ap (λ x. x .count) (sym (w .found))
+
+    place-found : walkIn ns j used .place ≡ r .place
+    place-found = ap (λ x. x .place) (sym (w .found))
+
+    pub standing-found : (a : Checked) → a ≡ checkedOf ns cells → andThen a (whole (r .place) used) ≡ standingOf ns j used cells
+    unfolding standingOf
+    standing-found a e = rw (e, place-found) refl
+
+    pub used-inside : (a : Checked) → andThen a (whole (r .place) used) ≡ C.Right → used ≤ length j
+    used-inside a e =
+        let q : r .place ≡ used = whole-right (r .place) used (then-right a (whole (r .place) used) e .1) in
+        omega (arith, w .within, length-take used j)
+
+-- a part that ends with the buffer is all of it that can be used
+pub part-used : (used end : ℕ) (j : List ℕ) → end ≡ min used (length j) → part 0 end j ≡ take used j
+part-used used end j e = part-zero end j ∙ ap (λ n. take n j) e ∙ sym (take-both used (length j) j) ∙ ap (take used) (take-length j)
+
+-- ---- replay
+
+module _ (ns j : List ℕ) (used : ℕ) (t : List ℤ) where
+  pub replay-refused : {r : Refusal} → checkedOf ns (length t) ≡ C.Refused r → C.Refused r ≡ replayOf ns j used t
+  unfolding replayOf
+  replay-refused e = rw e
+
+  pub replay-right : checkedOf ns (length t) ≡ C.Right → whole (playIn ns j used t .place) used ≡ replayOf ns j used t
+  unfolding replayOf
+  replay-right e = rw e
+
+module _ {ps s : List ℕ} {t : List ℤ} {r : State} {t′ : List ℤ} (w : Plays ps s t r t′) where
+  pub played-place : playOf ps s t .place ≡ r .place
+  played-place = ap (λ x. x .place) (sym (w .found))
+
+  pub played-open : r .depth ≡ length (playOf ps s t .marks)
+  played-open = sym (down-length (r .depth) (r .marks)) ∙ ap (λ x. length (x .marks)) (w .found)
+
+  pub played-cells : t′ ≡ playOf ps s t .cells
+  played-cells = ap (λ x. x .cells) (w .found)
+
+  pub played-back : restore ps (entriesAt s 0 (r .count)) t′ ≡ t
+  played-back = ap (λ x. restore ps (entriesAt s 0 (x .count)) (x .cells)) (w .found) ∙ replay-back ps s t
+
+-- R518: a refused call keeps every cell, every byte of the journal, and the bytes used
+pub refused-keeps : (ns j : List ℕ) (used : ℕ) (t : List ℤ) (c : Call) {r : Refusal} → answerOf ns j used (length t) c ≡ Refused r
+    → (cellsAfter ns j used c t (answerOf ns j used (length t) c) ≡ t) × (journalBy ns j used c t (answerOf ns j used (length t) c) ≡ j) × (usedBy used c (answerOf ns j used (length t) c) ≡ used)
+refused-keeps ns j used t c e = rw e (refl, refl, refl)
+
+pub refused-replay-keeps : (ns j : List ℕ) (used : ℕ) (t : List ℤ) {r : Refusal} → replayOf ns j used t ≡ C.Refused r → replayedCells ns j used t (replayOf ns j used t) ≡ t
+refused-replay-keeps ns j used t e = rw e refl

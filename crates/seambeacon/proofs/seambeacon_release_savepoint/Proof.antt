@@ -1,0 +1,23 @@
+-- `seambeacon::seambeacon_release_savepoint` meets its contract: what `sao::release_savepoint` answers, in numbers.
+-- Assumes nothing.
+use borrow.Author.Needs.{needs}
+use mathlib.Core.Path.{_∙_, ap}
+use Rattle.journal.specs.Model.{Releases}
+use Rattle.journal.specs.Calls.{usedBy, journalBy}
+use Rattle.journal.specs.Numbered.{editReply}
+use Rattle.seambeacon.proofs.Telling.{told-as}
+use Rattle.seambeacon.proofs.seambeacon_release_savepoint.Statement.{statement}
+use Rattle.seambeacon.proofs.seambeacon_release_savepoint.Tie as tie
+
+returns : tie.Need-returns
+returns c =
+    let at-call = c .before .before .before .before .before in
+    let a = at-call .before .before .before .before .before .args in
+    let e = at-call .release-savepoint .ensures in
+    let journal = e .1 .1 ∙ ap (journalBy (a .counts .now) (a .journal .now) (a .used .now) (Releases (a .savepoint)) (a .cells .now)) (e .0) in
+    let used = e .1 .0 ∙ ap (usedBy (a .used .now) (Releases (a .savepoint))) (e .0) in
+    (told-as (c .before .before .reply-of .ensures ∙ ap editReply (e .0)) (c .tell .ensures), (used, journal))
+
+pub seambeacon-release-savepoint-spec : {M : Type 1} → statement M
+seambeacon-release-savepoint-spec =
+    tie.close (tie.spec (λ c κs. search needs) (λ c κs. search needs) (λ c κs. search needs) (λ c. search needs) returns)

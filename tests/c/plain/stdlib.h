@@ -1,0 +1,8 @@
+/* What the programs of examples/ take from <stdlib.h>, for a compiler without a C library's headers. */
+#ifndef PLAIN_STDLIB_H
+#define PLAIN_STDLIB_H
+#include <stddef.h>
+void *malloc(size_t);
+void *realloc(void *, size_t);
+void free(void *);
+#endif

@@ -1,0 +1,99 @@
+#include "words.h"
+
+struct file expected;
+static size_t read_to; /* how far it has been read */
+
+void read_words(const char *name, const char *ending)
+{
+    read_file(&expected, name, ending);
+    read_to = 0;
+}
+
+int more(void)
+{
+    return read_to < expected.length;
+}
+
+static int word_goes_on(void)
+{
+    return more() && expected.bytes[read_to] > ' ';
+}
+
+int line_goes_on(void)
+{
+    return read_to > 0 && expected.bytes[read_to - 1] != '\n' && more();
+}
+
+void skip_line(void)
+{
+    while (line_goes_on())
+        read_to++;
+}
+
+int word_is(const char *word)
+{
+    size_t n = strlen(word);
+    if (expected.length - read_to <= n || memcmp(expected.bytes + read_to, word, n) != 0 || expected.bytes[read_to + n] > ' ')
+        return 0;
+    read_to += n + 1;
+    return 1;
+}
+
+int64_t number(void)
+{
+    int minus = more() && expected.bytes[read_to] == '-';
+    uint64_t size = 0;
+    read_to += (size_t)minus;
+    need("a number stands here", word_goes_on());
+    while (word_goes_on())
+        size = size * 10 + (uint64_t)(expected.bytes[read_to++] - '0');
+    read_to++;
+    return (int64_t)(minus ? 0 - size : size);
+}
+
+size_t size(void)
+{
+    return (size_t)number();
+}
+
+static unsigned digit(void)
+{
+    uint8_t byte = expected.bytes[read_to++];
+    return byte < 'a' ? byte - '0' : byte - 'a' + 10u;
+}
+
+size_t hexadecimal(uint8_t *bytes, size_t most)
+{
+    size_t n = 0;
+    if (word_goes_on() && expected.bytes[read_to] == '-')
+        read_to++;
+    for (; word_goes_on() && n < most; n++) {
+        unsigned high = digit();
+        bytes[n] = (uint8_t)(high * 16 + digit());
+    }
+    need("so many bytes", !word_goes_on());
+    read_to++;
+    return n;
+}
+
+static size_t at_most(size_t many, size_t most)
+{
+    need("so many numbers", many <= most);
+    return many <= most ? many : most;
+}
+
+size_t numbers(int64_t *list, size_t most)
+{
+    size_t many = at_most(size(), most);
+    for (size_t i = 0; i < many; i++)
+        list[i] = number();
+    return many;
+}
+
+size_t counts_given(uint16_t *counts, size_t most)
+{
+    size_t many = at_most(size(), most);
+    for (size_t i = 0; i < many; i++)
+        counts[i] = (uint16_t)number();
+    return many;
+}

@@ -1,0 +1,20 @@
+/* A file of vectors, read word by word: a blank or a line feed stands behind each. */
+#ifndef WORDS_H
+#define WORDS_H
+
+#include "checks.h"
+
+extern struct file expected;
+
+void read_words(const char *name, const char *ending);
+int more(void);         /* the file is not at its end */
+int line_goes_on(void); /* the word that was read last did not end its line */
+void skip_line(void);
+int word_is(const char *word); /* it is the next one, and is then read */
+int64_t number(void);
+size_t size(void);
+size_t hexadecimal(uint8_t *bytes, size_t most); /* `-` for none; how many there are */
+size_t numbers(int64_t *list, size_t most);      /* how many follow, then these; how many there are */
+size_t counts_given(uint16_t *counts, size_t most);
+
+#endif
