@@ -43,8 +43,8 @@ over-over xs a b at h =
       ← add-assoc at (length a) (length b),
     )
 
-pub over-then : {A : Type 0} (xs ys zs a b : List A) (at k : ℕ) → k ≡ at + length a → k ≤ length xs → ys ≡ over at a xs → zs ≡ over k b ys → zs ≡ over at (a ++ b) xs
-over-then xs ys zs a b at k e h p q = q ∙ rw (p, e) (over-over xs a b at (omega arith))
+pub over-then : {A : Type 0} {ys zs : List A} (xs a b : List A) (at k : ℕ) → (k ≡ at + length a) × (k ≤ length xs) → ys ≡ over at a xs → zs ≡ over k b ys → zs ≡ over at (a ++ b) xs
+over-then xs a b at k h p q = q ∙ rw (p, h .0) (over-over xs a b at (omega (arith, h .0, h .1)))
 
 -- a part that was lent as `&mut xs[at..at + k]`, as it comes back
 pub over-lent : {A : Type 0} (xs ys : List A) (at k : ℕ) → length ys ≡ k → take at xs ++ (ys ++ drop k (drop at xs)) ≡ over at ys xs
@@ -85,10 +85,10 @@ put-before {xs = xs} {ys = ys} {t = t} {k = k} p a zs at e q =
     record { room = omega (arith, p .room); is = q ∙ rw (u, v, append-assoc a t (drop (at + length (a ++ t)) xs), w) }
 
 -- a loop that stores the elements of ys
-pub over-turn : {A : Type 0} (xs ys zs : List A) (at i : ℕ) (d : A) → i < length ys → at + length ys ≤ length xs → zs ≡ over at (take i ys) xs
+pub over-turn : {A : Type 0} {zs : List A} (xs ys : List A) (at i : ℕ) (d : A) → i < length ys → at + length ys ≤ length xs → zs ≡ over at (take i ys) xs
     → set zs (at + i) (getD ys i d) ≡ over at (take (i + 1) ys) xs
-over-turn xs ys zs at i d h r e =
+over-turn {zs = zs} xs ys at i d h r e =
     let l : length (take i ys) ≡ i = length-take-le i ys (omega arith) in
     let m : length zs ≡ length xs = ap length e ∙ over-length xs (take i ys) at (omega arith) in
     rw (add-one i, take-suc ys i d h)
-    (over-then xs zs (set zs (at + i) (getD ys i d)) (take i ys) (getD ys i d ∷ []) at (at + i) (omega arith) (omega arith) e (over-one zs (at + i) (getD ys i d) (omega arith)))
+    (over-then xs (take i ys) (getD ys i d ∷ []) at (at + i) (omega arith, omega arith) e (over-one zs (at + i) (getD ys i d) (omega arith)))

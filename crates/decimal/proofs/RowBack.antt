@@ -51,15 +51,15 @@ record Split (xs ys : List ℕ) (a b : ℕ) (s t : List ℕ) : Type 0 where
 High : List ℕ → Type 0
 High xs = (i : ℕ) → i < length xs → 48 ≤ getD xs i 0
 
-split : (xs ys : List ℕ) (a b : ℕ) (s t : List ℕ) → High xs → High ys → a < 48 → b < 48 → xs ++ (a ∷ s) ≡ ys ++ (b ∷ t) → Split xs ys a b s t
+split : {a b : ℕ} {s t : List ℕ} (xs ys : List ℕ) → High xs → High ys → a < 48 → b < 48 → xs ++ (a ∷ s) ≡ ys ++ (b ∷ t) → Split xs ys a b s t
 unfolding High
-split [] [] a b s t p q g h e = record { digits = refl; end = cc; others = cc }
-split [] (y ∷ ys) a b s t p q g h e = let z : a ≡ y = cc in absurd (omega (arith, q 0 (omega arith)))
-split (x ∷ xs) [] a b s t p q g h e = let z : x ≡ b = cc in absurd (omega (arith, p 0 (omega arith)))
-split (x ∷ xs) (y ∷ ys) a b s t p q g h e =
+split [] [] p q g h e = record { digits = refl; end = cc; others = cc }
+split {a = a} [] (y ∷ ys) p q g h e = let z : a ≡ y = cc in absurd (omega (arith, q 0 (omega arith)))
+split {b = b} (x ∷ xs) [] p q g h e = let z : x ≡ b = cc in absurd (omega (arith, p 0 (omega arith)))
+split {a = a} {b = b} {s = s} {t = t} (x ∷ xs) (y ∷ ys) p q g h e =
     let z : x ≡ y = cc in
     let f : xs ++ (a ∷ s) ≡ ys ++ (b ∷ t) = cc in
-    let r = split xs ys a b s t (λ i l. p (suc i) (omega arith)) (λ i l. q (suc i) (omega arith)) g h f in
+    let r = split xs ys (λ i l. p (suc i) (omega arith)) (λ i l. q (suc i) (omega arith)) g h f in
     record { digits = rw (z, r .digits); end = r .end; others = r .others }
 
 numeral-high : (n : ℕ) → High (numeral n)
@@ -82,7 +82,7 @@ rest-same [] (n ∷ ns) e = absurd (omega (arith, ap length e, rest-some n ns))
 rest-same (m ∷ ms) [] e = absurd (omega (arith, ap length e, rest-some m ms))
 rest-same (m ∷ ms) (n ∷ ns) e =
     let f = sym (rest-split m ms) ∙ e ∙ rest-split n ns in
-    let r = split (numeral m) (numeral n) (endByte (length ms)) (endByte (length ns)) (rest ms) (rest ns) (numeral-high m) (numeral-high n) (end-low (length ms)) (end-low (length ns)) f in
+    let r = split (numeral m) (numeral n) (numeral-high m) (numeral-high n) (end-low (length ms)) (end-low (length ns)) f in
     rw (numeral-same m n (r .digits), rest-same ms ns (r .others))
 
 pub row-same : (ms ns : List ℕ) → rowText ms ≡ rowText ns → ms ≡ ns

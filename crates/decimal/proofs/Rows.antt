@@ -98,7 +98,7 @@ module _ (ns out new : List ℕ) (i a b e : ℕ) (h : i < length ns) (r : a + le
 
   pub put-turn : over b (rest (drop (i + 1) ns)) new ≡ over a (rest (drop i ns)) out
   put-turn =
-      over-rest out new (numeral (getD ns i 0) ++ (e ∷ [])) (rest (drop (i + 1) ns)) a b (omega (arith, size)) (omega (arith, rest-length ns i h)) o
+      over-rest out (numeral (getD ns i 0) ++ (e ∷ [])) (rest (drop (i + 1) ns)) a b (omega (arith, size), omega (arith, rest-length ns i h)) o
       ∙ ap (λ t. over a t out) (ap (λ d. (numeral (getD ns i 0) ++ (d ∷ [])) ++ rest (drop (i + 1) ns)) q ∙ sym (rest-turn ns i h))
 
 pub put-end : (ns out : List ℕ) (i a : ℕ) → length ns ≤ i → over a (rest (drop i ns)) out ≡ out

@@ -51,17 +51,17 @@ end-full at k size e = by (leb (at + k) size) refl e
 -- ---- texts behind one another
 
 -- what is put behind x makes one text with it
-pub over-rest : (xs ys x more : List ℕ) (at k : ℕ) → k ≡ at + length x → k ≤ length xs → ys ≡ over at x xs → over k more ys ≡ over at (x ++ more) xs
-over-rest xs ys x more at k e h p = over-then xs ys (over k more ys) x more at k e h p refl
+pub over-rest : {ys : List ℕ} (xs x more : List ℕ) (at k : ℕ) → (k ≡ at + length x) × (k ≤ length xs) → ys ≡ over at x xs → over k more ys ≡ over at (x ++ more) xs
+over-rest xs x more at k h p = over-then xs x more at k h p refl
 
 -- one byte behind what was put, and one before what is put
-pub over-last : (xs ys a : List ℕ) (at k b : ℕ) → k ≡ length a → at + k < length xs → ys ≡ over at a xs → set ys (at + k) b ≡ over at (a ++ (b ∷ [])) xs
-over-last xs ys a at k b e h p =
+pub over-last : {ys : List ℕ} (xs a : List ℕ) (at k b : ℕ) → k ≡ length a → at + k < length xs → ys ≡ over at a xs → set ys (at + k) b ≡ over at (a ++ (b ∷ [])) xs
+over-last {ys = ys} xs a at k b e h p =
     let o : length ys ≡ length xs = ap length p ∙ over-length xs a at (omega arith) in
-    over-then xs ys (set ys (at + k) b) a (b ∷ []) at (at + k) (omega arith) (omega arith) p (over-one ys (at + k) b (omega arith))
+    over-then xs a (b ∷ []) at (at + k) (omega arith, omega arith) p (over-one ys (at + k) b (omega arith))
 
 pub over-first : (xs zs a : List ℕ) (at b : ℕ) → at < length xs → zs ≡ over (at + 1) a (set xs at b) → zs ≡ over at (b ∷ a) xs
-over-first xs zs a at b h p = over-then xs (set xs at b) zs (b ∷ []) a at (at + 1) refl (omega arith) (over-one xs at b h) p
+over-first xs zs a at b h p = over-then xs (b ∷ []) a at (at + 1) (refl, omega arith) (over-one xs at b h) p
 
 pub first-length : (xs zs a : List ℕ) (at b : ℕ) → at + 1 + length a ≤ length xs → zs ≡ over (at + 1) a (set xs at b) → length zs ≡ length xs
 first-length xs zs a at b h p =
@@ -72,7 +72,7 @@ first-length xs zs a at b h p =
 pub copy-turn : (xs out text : List ℕ) (at i : ℕ) → i < length text → at + length text ≤ length xs → out ≡ over at (take i text) xs → set out (at + i) (getD text i 0) ≡ over at (take (i + 1) text) xs
 copy-turn xs out text at i h r e =
     let l = length-take-le i text (omega arith) in
-    over-last xs out (take i text) at i (getD text i 0) (sym l) (omega arith) e
+    over-last xs (take i text) at i (getD text i 0) (sym l) (omega arith) e
     ∙ ap (λ a. over at a xs) (sym (take-suc text i 0 h) ∙ ap (λ n. take n text) (sym (add-one i)))
 
 -- ---- what the answers mean
@@ -91,11 +91,11 @@ puts-none at text old h =
     record { answer = rw l; bytes = rw l }
 
 -- two texts, the second behind the first, are put as one
-pub puts-joined : (at a n : ℕ) (first row old mid new : List ℕ) → a ≡ at + length first → n ≡ a + length row → a + length row ≤ length old → mid ≡ over at first old
+pub puts-joined : {at n : ℕ} {old mid new : List ℕ} (a : ℕ) (first row : List ℕ) → (a ≡ at + length first) × (n ≡ a + length row) → a + length row ≤ length old → mid ≡ over at first old
     → new ≡ over a row mid → Puts at (first ++ row) old (Next n) new
-puts-joined at a n first row old mid new e f h p q =
-    let m : n ≡ at + length (first ++ row) = omega (arith, length-append first row) in
-    rw m (puts-done at (length (first ++ row)) (first ++ row) old new refl (omega arith) (over-then old mid new first row at a e (omega arith) p q))
+puts-joined {at = at} {n = n} {old = old} {new = new} a first row e h p q =
+    let m : n ≡ at + length (first ++ row) = omega (arith, e .0, e .1, length-append first row) in
+    rw m (puts-done at (length (first ++ row)) (first ++ row) old new refl (omega (arith, e .0, length-append first row)) (over-then old first row at a (e .0, omega arith) p q))
 
 -- and the other way: what the answers mean
 pub next-means : (at n : ℕ) (text old new : List ℕ) → Puts at text old (Next n) new → (n ≡ at + length text) × (n ≤ length old) × (new ≡ over at text old)

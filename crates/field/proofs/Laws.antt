@@ -141,9 +141,9 @@ fixed-within w low high t s z l i =
     let b : w - 1 ≡ w - 6 + 5 = omega (arith, t .0) in
     f-within (w - 6) low high (t .1 ∙ ap (λ n. 10 ^ n) a) (t .2 ∙ ap (λ n. 10 ^ n) b) s z (l ∙ omega (arith, t .0)) i
 
-power-within : (c d x p q : ℕ) → Tens (Power c d x p q) → (s : List ℕ) (m e : ℤ) → IsE c d x s m e → T (holds p p m) × T (holds q q e)
-power-within zero d x p q t s m e i = absurd (omega (arith, t .0))
-power-within (suc c) d x p q t s m e i = e-within c d x p q (t .1) (t .2) s m e i
+power-within : {s : List ℕ} {m e : ℤ} (c d x p q : ℕ) → Tens (Power c d x p q) → IsE c d x s m e → T (holds p p m) × T (holds q q e)
+power-within zero d x p q t i = absurd (omega (arith, t .0))
+power-within {s = s} {m = m} {e = e} (suc c) d x p q t i = e-within c d x p q (t .1) (t .2) s m e i
 
 -- as many cells as the kind has, in its range
 abbrev Within : Kind → List ℤ → Type 0
@@ -158,7 +158,7 @@ shape-within : (k : Kind) → Tens k → (s : List ℕ) (cs : List ℤ) → leng
 shape-within (Whole w low high) t s cs l h = rw (h .cells) (refl, whole-within w low high t s (h .cell) l (h .holds))
 shape-within (Fixed w low high) t s cs l h = rw (h .cells) (refl, fixed-within w low high t s (h .cell) l (h .holds))
 shape-within (Power c d x p q) t s cs l h =
-    let r = power-within c d x p q t s (h .first) (h .second) (h .holds) in
+    let r = power-within c d x p q t (h .holds) in
     rw (h .cells) (refl, and-both (holds p p (h .first)) (holds q q (h .second)) (r .0) (r .1))
 shape-within OneLetter t s cs l h = let r = letters-within s cs h in (r .0 ∙ l, r .1)
 shape-within (AllLetters w) t s cs l h = let r = letters-within s cs h in (r .0 ∙ l, r .1)
@@ -187,9 +187,9 @@ fixed-canonical w low high t z h =
     let e : w - 6 + 6 ≡ w = omega (arith, t .0) in
     subst (λ (n : ℕ). CanonicalF n (textAs (Fixed n low high) (z ∷ [])) z) e (f-canonical (w - 6) low high (t .1 ∙ ap (λ n. 10 ^ n) a) (t .2 ∙ ap (λ n. 10 ^ n) b) z h)
 
-power-canonical : (c d x p q : ℕ) → Tens (Power c d x p q) → (m e : ℤ) → T (holds p p m) → T (holds q q e) → CanonicalE c d x (textAs (Power c d x p q) (m ∷ e ∷ [])) m e
-power-canonical zero d x p q t m e g h = absurd (omega (arith, t .0))
-power-canonical (suc c) d x p q t m e g h = e-canonical c d x p q (t .1) (t .2) m e g h
+power-canonical : {m e : ℤ} (c d x p q : ℕ) → Tens (Power c d x p q) → T (holds p p m) → T (holds q q e) → CanonicalE c d x (textAs (Power c d x p q) (m ∷ e ∷ [])) m e
+power-canonical zero d x p q t g h = absurd (omega (arith, t .0))
+power-canonical {m = m} {e = e} (suc c) d x p q t g h = e-canonical c d x p q (t .1) (t .2) m e g h
 
 letters-canonical : (cs : List ℤ) → T (every isLetter cs) → IsA (map sizeOf cs) cs
 letters-canonical cs t = record { letters = printable-letters (map sizeOf cs) (cells-bytes cs t); cells = sym (cells-back cs t) }
@@ -204,7 +204,7 @@ within-canonical (Power c d x p q) t cs h =
       first = a;
       second = b;
       cells = two-cells cs (h .0);
-      holds = power-canonical c d x p q t a b (and-left (holds p p a) (holds q q b) (h .1)) (and-right (holds p p a) (holds q q b) (h .1));
+      holds = power-canonical {m = a} {e = b} c d x p q t (and-left (holds p p a) (holds q q b) (h .1)) (and-right (holds p p a) (holds q q b) (h .1));
     }
 within-canonical OneLetter t cs h = letters-canonical cs (h .1)
 within-canonical (AllLetters w) t cs h = letters-canonical cs (h .1)

@@ -45,9 +45,9 @@ use Rattle.group.proofs.Promises.{read-local}
 -- ---- a group at one place
 
 -- where no record stands, no line is looked at
-pub read-refused : (s t : List ℕ) (at bt g room : ℕ) (r : Refusal) → locate s at ≡ refused r → locate t bt ≡ refused r → readAt s at g room ≡ readAt t bt g room
+pub read-refused : {r : Refusal} (s t : List ℕ) (at bt g room : ℕ) → locate s at ≡ refused r → locate t bt ≡ refused r → readAt s at g room ≡ readAt t bt g room
 unfolding readAt foundAt Placing.placingOf
-read-refused s t at bt g room r a b = by (formOf g)
+read-refused s t at bt g room a b = by (formOf g)
   where
     by : (h : GroupForm) → readFound s at g room (foundIn s at h) ≡ readFound t bt g room (foundIn t bt h)
     by (Has f) = rw (a, b)
@@ -132,8 +132,8 @@ module _ (s t : List ℕ) (at : ℕ) (l : SameLines s t) (e : locate s at ≡ lo
       where
         by : (x : Located) → locate s at ≡ x → readAt s at g room ≡ readAt t at g room
         by (located n ns) u =
-            read-local s t at at n n ns g room u (sym e ∙ u) (lines-same s t at l ns g a (clear n ns u))
-        by (refused p) u = read-refused s t at at g room p u (sym e ∙ u)
+            read-local record { next = n; ns = ns; is = u } record { next = n; ns = ns; is = sym e ∙ u } g room refl (lines-same s t at l ns g a (clear n ns u))
+        by (refused p) u = read-refused s t at at g room u (sym e ∙ u)
 
 -- ---- along the walk
 

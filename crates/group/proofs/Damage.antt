@@ -66,8 +66,8 @@ module _ (t u : List ℕ) (k g : ℕ) (d : Damaged t u k g) where
 
 -- ---- there is such damage: one byte of the lines that is no line feed, replaced by another that is none
 
-pub damaged-one : (t : List ℕ) (k g i v : ℕ) → PlacedAt t (spot t k) → 1 ≤ g → g ≤ 60 → LinesAt t (spot t k) g i → i < length t → isFeed (getD t i 0) ≡ isFeed v → Damaged t (set t i v) k g
-damaged-one t k g i v placed low high inside within feed =
+pub damaged-one : {t : List ℕ} {k g : ℕ} (i v : ℕ) → PlacedAt t (spot t k) → 1 ≤ g → g ≤ 60 → LinesAt t (spot t k) g i → i < length t → isFeed (getD t i 0) ≡ isFeed v → Damaged t (set t i v) k g
+damaged-one {t = t} {k = k} {g = g} i v placed low high inside within feed =
     record {
       placed = placed;
       low = low;

@@ -72,7 +72,7 @@ first-starts g n e = rw (← spot-start twiceS, counts-at twiceS 0 305 countsS (
 pub comma-damages : Damaged twiceS commaS 0 4
 unfolding commaS
 comma-damages =
-    damaged-one twiceS 0 4 299 44
+    damaged-one 299 44
     (placed-record twiceS (spot twiceS 0) .1 (two-records .each 0 (omega arith)))
     (omega arith)
     (omega arith)

@@ -113,7 +113,7 @@ module _ (s : List ℕ) (k a : ℕ) (out old new : List ℕ) (inv : Putting s k 
         record {
           same = puts-length a (rowText row) out (Next n) new p ∙ inv .same;
           room = omega (arith, split, e .0, inv .room);
-          makes = over-rest out new (rowText row) (linesFrom s (k + 1)) a n (e .0) (e .1) (e .2) ∙ ap (λ t. over a t out) (sym l) ∙ inv .makes;
+          makes = over-rest out (rowText row) (linesFrom s (k + 1)) a n (e .0, e .1) (e .2) ∙ ap (λ t. over a t out) (sym l) ∙ inv .makes;
         }
 
     pub put-has-room : Puts a (rowText row) out NoRoom new → ⊥

@@ -47,8 +47,8 @@ record Parts (c d x : ℕ) (s : List ℕ) : Type 0 where
 byte-behind : (s p ys : List ℕ) (y n : ℕ) → s ≡ p ++ (y ∷ ys) → length p ≡ n → getD s n 0 ≡ y
 byte-behind s p ys y n e l = rw e (getD-at p y ys 0 n l)
 
-part-behind : (s p m q : List ℕ) (a b : ℕ) → s ≡ p ++ (m ++ q) → length p ≡ a → length m ≡ b - a → part a b s ≡ m
-part-behind s p m q a b e l k = rw (e, drop-at p (m ++ q) a l) (take-at m q (b - a) k)
+part-behind : {s : List ℕ} {a : ℕ} (p m q : List ℕ) (b : ℕ) → s ≡ p ++ (m ++ q) → length p ≡ a → length m ≡ b - a → part a b s ≡ m
+part-behind {a = a} p m q b e l k = rw (e, drop-at p (m ++ q) a l) (take-at m q (b - a) k)
 
 module _ (c d x : ℕ) (s : List ℕ) (h : 1 ≤ c) (t : Parts c d x s) where
   to-point : length (t .front ++ (t .last ∷ [])) ≡ c
@@ -87,12 +87,12 @@ module _ (c d x : ℕ) (s : List ℕ) (h : 1 ≤ c) (t : Parts c d x s) where
         eq-eqb (length s) (c + d + x + 3) all,
         byte-behind s (t .front ++ (t .last ∷ [])) rest (t .point) c (t .is ∙ simp append-assoc) to-point,
         byte-behind s (t .front ++ (t .last ∷ t .point ∷ t .digits)) (t .sign ∷ t .exponent) (t .letter) (c + 1 + d) (t .is ∙ simp append-assoc) to-letter,
-        part-behind s [] (t .front) (t .last ∷ t .point ∷ rest) 0 (c - 1) (t .is) refl (omega (arith, t .lengths .0)),
+        part-behind [] (t .front) (t .last ∷ t .point ∷ rest) (c - 1) (t .is) refl (omega (arith, t .lengths .0)),
         byte-behind s (t .front) (t .point ∷ rest) (t .last) (c - 1) (t .is) (t .lengths .0),
-        part-behind s (t .front ++ (t .last ∷ t .point ∷ [])) (t .digits) (t .letter ∷ t .sign ∷ t .exponent) (c + 1) (c + 1 + d) (t .is ∙ simp append-assoc) behind-point
+        part-behind (t .front ++ (t .last ∷ t .point ∷ [])) (t .digits) (t .letter ∷ t .sign ∷ t .exponent) (c + 1 + d) (t .is ∙ simp append-assoc) behind-point
             (omega (arith, t .lengths .1)),
         byte-behind s (t .front ++ (t .last ∷ t .point ∷ (t .digits ++ (t .letter ∷ [])))) (t .exponent) (t .sign) (c + 2 + d) (t .is ∙ simp append-assoc) to-sign,
-        part-behind s (t .front ++ (t .last ∷ t .point ∷ (t .digits ++ (t .letter ∷ t .sign ∷ [])))) (t .exponent) [] (c + 3 + d) (length s)
+        part-behind (t .front ++ (t .last ∷ t .point ∷ (t .digits ++ (t .letter ∷ t .sign ∷ [])))) (t .exponent) [] (length s)
             (t .is ∙ simp (append-assoc, append-nil)) behind-sign (omega (arith, all, t .lengths .2)),
       )
 
@@ -108,8 +108,8 @@ two-more [] n e = absurd (omega arith)
 two-more (a ∷ []) n e = absurd (omega arith)
 two-more (a ∷ b ∷ r) n e = record { one = a; other = b; rest = r; left = omega arith; is = refl }
 
-rejoined : (k d : ℕ) (s r es : List ℕ) (u p q v : ℕ) → drop k s ≡ u ∷ p ∷ r → drop d r ≡ q ∷ v ∷ es → s ≡ take k s ++ (u ∷ p ∷ (take d r ++ (q ∷ v ∷ es)))
-rejoined k d s r es u p q v e f =
+rejoined : {r es : List ℕ} {u p q v : ℕ} (k d : ℕ) (s : List ℕ) → drop k s ≡ u ∷ p ∷ r → drop d r ≡ q ∷ v ∷ es → s ≡ take k s ++ (u ∷ p ∷ (take d r ++ (q ∷ v ∷ es)))
+rejoined {r = r} {u = u} {p = p} k d s e f =
     let g : s ≡ take k s ++ drop k s = sym (take-append-drop k s) in
     let h : r ≡ take d r ++ drop d r = sym (take-append-drop d r) in
     g ∙ ap (λ l. take k s ++ l) (e ∙ ap (λ l. u ∷ p ∷ l) (h ∙ ap (λ l. take d r ++ l) f))
@@ -128,7 +128,7 @@ parts c d x s h l =
       sign = t₂ .other;
       exponent = t₂ .rest;
       lengths = (simp length-take (omega arith), simp length-take (omega (arith, t₁ .left)), t₂ .left);
-      is = rejoined (c - 1) d s (t₁ .rest) (t₂ .rest) (t₁ .one) (t₁ .other) (t₂ .one) (t₂ .other) (t₁ .is) (t₂ .is);
+      is = rejoined (c - 1) d s (t₁ .is) (t₂ .is);
     }
 
 -- ---- the columns before the point

@@ -69,7 +69,7 @@ module _ (s : List ℕ) (from : ℕ) (old : List ℕ) where
         record {
           stored = b .stored ++ (n ∷ []);
           many = length-append (b .stored) (n ∷ []) ∙ omega (arith, b .many);
-          place = over-then old new (set new (from + k) n) (b .stored) (n ∷ []) from (from + k) (omega (arith, b .many)) (omega arith) (b .place)
+          place = over-then old (b .stored) (n ∷ []) from (from + k) (omega (arith, b .many), omega arith) (b .place)
               (over-one new (from + k) n (omega (arith, ap length (b .place))));
           rest = b .rest ∙ ap (behindThese (b .stored)) (next ∙ ap (λ x. entryThen x (readEntries (40 - (k + 1)) (drop ((k + 1) * 3) s))) e)
               ∙ one-before (b .stored) n (readEntries (40 - (k + 1)) (drop ((k + 1) * 3) s));
@@ -127,7 +127,7 @@ line-length x ns e = by (contentOf x) e
     by NoReturn f = let z : _≡_ {A = ℕ} 0 1 = cc in absurd (omega arith)
 
 -- two lines of 40, stored one behind the other, are all 80
-pub both-stored : (a b old mid new : List ℕ) → length a ≡ 40 → length b ≡ 40 → length old ≡ 80 → mid ≡ over 0 a old → new ≡ over 40 b mid → new ≡ a ++ b
-both-stored a b old mid new p q l e f =
-    over-then old mid new a b 0 40 (omega arith) (omega arith) e f
+pub both-stored : {mid new : List ℕ} (a b old : List ℕ) → length a ≡ 40 → length b ≡ 40 → length old ≡ 80 → mid ≡ over 0 a old → new ≡ over 40 b mid → new ≡ a ++ b
+both-stored a b old p q l e f =
+    over-then old a b 0 40 (omega arith, omega arith) e f
     ∙ over-all old (a ++ b) (length-append a b ∙ omega arith)

@@ -82,9 +82,9 @@ pub record Walking (f : Form) (count : ℕ) (s : List ℕ) (width perLine many l
   pub rest : left ≡ n f count - j * p f count
   pub inside : at ≤ length s
 
-pub walking-start : (f : Form) (count : ℕ) (s : List ℕ) (width perLine many left : ℕ) → width ≡ rowOf f .width → perLine ≡ rowOf f .«per_line» → many ≡ linesOf f count
+pub walking-start : {f : Form} {count : ℕ} {s : List ℕ} {width perLine many left : ℕ} → width ≡ rowOf f .width → perLine ≡ rowOf f .«per_line» → many ≡ linesOf f count
     → left ≡ elementsOf f count → count ≤ 65535 → Walking f count s width perLine many left 0 0
-walking-start f count s width perLine many left a b c d e =
+walking-start {f = f} a b c d e =
     record { wide = a; per = b; lines = c; small = e; few = omega arith; rest = omega (arith, zero-mul (rowOf f .«per_line»)); inside = omega arith }
 
 module _ (f : Form) (count : ℕ) (s : List ℕ) {width perLine many left at j : ℕ} (b : Walking f count s width perLine many left at j) where

@@ -55,7 +55,7 @@ module _ {cs old table : List ℤ} {base cell : ℕ} (room : base + length cs �
   stored-more first rest new b e =
       record {
         stored = b .stored ++ first;
-        here = over-then old table new (b .stored) first base cell (b .next) (omega (arith, stored-room first rest b)) (b .here) e;
+        here = over-then old (b .stored) first base cell (b .next, omega (arith, stored-room first rest b)) (b .here) e;
         next = omega (arith, b .next, length-append (b .stored) first);
         all = b .all ∙ sym (append-assoc (b .stored) first rest);
       }

@@ -54,7 +54,7 @@ module _ (bytes : List ℕ) (width : ℕ) (old : List ℤ) (at : ℕ) (short : l
   letters-more i table z h e b =
       let d : z ≡ getD (map pos (filledTo width bytes)) i (pos 0) =
       e ∙ ap pos (sym (filled-getD width bytes i)) ∙ sym (getD-map-within pos (filledTo width bytes) i 32 (pos 0) (omega (arith, filled-length width bytes short))) in
-      rw d (over-turn old (map pos (filledTo width bytes)) table at i (pos 0) (omega (arith, many)) (omega (arith, many)) b)
+      rw d (over-turn old (map pos (filledTo width bytes)) at i (pos 0) (omega (arith, many)) (omega (arith, many)) b)
 
   pub letters-all : (i : ℕ) (table : List ℤ) → width ≤ i → table ≡ over at (take i (map pos (filledTo width bytes))) old → table ≡ over at (map pos (filledTo width bytes)) old
   letters-all i table h b = b ∙ ap (λ l. over at l old) (take-all i (map pos (filledTo width bytes)) (omega (arith, many)))
@@ -136,6 +136,6 @@ cell-put old at {z = z} e h = ap (set old at) e ∙ over-one old at z (omega ari
 pub pair-put : (old : List ℤ) (at : ℕ) {y m u x : ℤ} → y ≡ m → u ≡ x → at + 2 ≤ length old → set (set old at y) (at + 1) u ≡ over at (m ∷ x ∷ []) old
 pair-put old at {m = m} {x = x} e d h =
     rw (e, d)
-    (over-then old (set old at m) (set (set old at m) (at + 1) x) (m ∷ []) (x ∷ []) at (at + 1) refl (omega arith)
+    (over-then old (m ∷ []) (x ∷ []) at (at + 1) (refl, omega arith)
     (over-one old at m (omega arith))
     (over-one (set old at m) (at + 1) x (omega (arith, length-set old at m))))

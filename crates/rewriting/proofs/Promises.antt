@@ -108,14 +108,14 @@ module _ (s : List ℕ) (at cells room bytes next : ℕ) (e : rewritingOf s at c
 -- ---- the table
 
 -- groups k in number from a on were read, and the one behind them was refused
-turned : (read : ℕ → Cells) (cells : ℕ → List ℤ) (r : Refusal) (a n k : ℕ) → k < n → ((g : ℕ) → a ≤ g → g < a + k → read g ≡ done (cells g))
+turned : {r : Refusal} (read : ℕ → Cells) (cells : ℕ → List ℤ) (a n k : ℕ) → k < n → ((g : ℕ) → a ≤ g → g < a + k → read g ≡ done (cells g))
     → ((g : ℕ) → g ≡ a + k → read g ≡ bad r) → cellsInTurn read (upFrom a n) ≡ flatMap cells (upFrom a k)
 unfolding cellsInTurn Every.upFrom flatMap
-turned read cells r a zero k l each none = absurd (omega arith)
-turned read cells r a (suc n) zero l each none = rw (none a (omega arith))
-turned read cells r a (suc n) (suc k) l each none =
+turned read cells a zero k l each none = absurd (omega arith)
+turned read cells a (suc n) zero l each none = rw (none a (omega arith))
+turned {r = r} read cells a (suc n) (suc k) l each none =
     rw (each a (omega arith) (omega arith))
-    (ap (λ ds. cells a ++ ds) (turned read cells r (suc a) n k (omega arith) (λ g low high. each g (omega arith) (omega arith)) (λ g e. none g (omega arith))))
+    (ap (λ ds. cells a ++ ds) (turned {r = r} read cells (suc a) n k (omega arith) (λ g low high. each g (omega arith) (omega arith)) (λ g e. none g (omega arith))))
 
 module _ (s : List ℕ) (at : ℕ) (table : List ℤ) where
   -- over the cells of groups 1 to k
@@ -145,7 +145,7 @@ module _ (s : List ℕ) (at : ℕ) (table : List ℤ) where
       has (g - 1) (cellsAt s at) record {
         cells = c;
         each = each;
-        joined = turned (groupRead s at) c r 1 60 (g - 1) (omega (arith, d .low, d .high)) (λ h low high. each h low (omega arith)) (λ h q. ap (groupRead s at) (refused-group h q (d .low)) ∙ d .told);
+        joined = turned (groupRead s at) c 1 60 (g - 1) (omega (arith, d .low, d .high)) (λ h low high. each h low (omega arith)) (λ h q. ap (groupRead s at) (refused-group h q (d .low)) ∙ d .told);
       }
     where
       refused-group : (h : ℕ) → h ≡ 1 + (g - 1) → 1 ≤ g → h ≡ g

@@ -102,7 +102,7 @@ demand-2 =
       reads-back = λ ns cs room n e a b. reads-back ns cs room n e a b;
       edits = edits;
       read-writes = record {
-        record-returns = λ s at next cells ds r h out enough. returns-same r h out enough;
+        record-returns = λ {ds} s at next cells r h out enough. returns-same r h out enough;
         text-returns = canonical-printed;
         printed-returns = λ s few. (printed-canonical s, printed-again s few);
       };

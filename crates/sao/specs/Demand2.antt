@@ -111,7 +111,7 @@ WrittenReadsBack =
 -- D2.5: what was read from canonical text is written as that text
 pub record ReadWrites : Type 0 where
   -- a record of any text whose groups all read with 0 and whose bytes are canonical
-  pub record-returns : (s : List ℕ) (at next : ℕ) (cells : ℕ → List ℤ) (ds : List ℤ) → ReadWhole s at next cells → CanonicalRecord (countsAt s at) (part at next s) ds
+  pub record-returns : {ds : List ℤ} (s : List ℕ) (at next : ℕ) (cells : ℕ → List ℤ) → ReadWhole s at next cells → CanonicalRecord (countsAt s at) (part at next s) ds
       → (out : List ℕ) → next - at ≤ length out
       → (writingOf (countsAt s at) (joined cells) (length out) ≡ Done (next - at))
       × (outputBy (countsAt s at) (joined cells) (writingOf (countsAt s at) (joined cells) (length out)) out ≡ over 0 (part at next s) out)

@@ -45,7 +45,7 @@ use Rattle.writing.proofs.Lengths.{entries-length, fields-length, line-
 
 pub line-end-put : (out : List ℕ) (at : ℕ) → at + 2 ≤ length out → set (set out at 13) (at + 1) 10 ≡ over at lineEnd out
 line-end-put out at h =
-    over-then out (set out at 13) (set (set out at 13) (at + 1) 10) (13 ∷ []) (10 ∷ []) at (at + 1) refl (omega arith)
+    over-then out (13 ∷ []) (10 ∷ []) at (at + 1) (refl, omega arith)
     (over-one out at 13 (omega arith))
     (over-one (set out at 13) (at + 1) 10 (omega (arith, length-set out at 13)))
 
@@ -81,9 +81,9 @@ module _ (ns old : List ℕ) (at : ℕ) where
           }
 
 -- the index: two lines of 40 counts, each of 122 bytes
-pub index-line-put : (ns old mid new : List ℕ) (at : ℕ) → length ns ≡ 40 → at + 122 ≤ length old → mid ≡ over at (entriesText ns) old → new ≡ over (at + 120) lineEnd mid
+pub index-line-put : {mid new : List ℕ} (ns old : List ℕ) (at : ℕ) → length ns ≡ 40 → at + 122 ≤ length old → mid ≡ over at (entriesText ns) old → new ≡ over (at + 120) lineEnd mid
     → new ≡ over at (entriesText ns ++ lineEnd) old
-index-line-put ns old mid new at l h p q = over-then old mid new (entriesText ns) lineEnd at (at + 120) (omega (arith, entries-length ns)) (omega arith) p q
+index-line-put ns old at l h p q = over-then old (entriesText ns) lineEnd at (at + 120) (omega (arith, entries-length ns), omega arith) p q
 
 pub index-put : (ns old mid new : List ℕ) → length ns ≡ 80 → 244 ≤ length old → mid ≡ over 0 (entriesText (part 0 40 ns) ++ lineEnd) old
     → new ≡ over 122 (entriesText (part 40 80 ns) ++ lineEnd) mid → new ≡ over 0 (indexText ns) old
@@ -98,8 +98,8 @@ index-put ns old mid new l h p q =
 
     rest : part 0 40 ns ≡ take 40 ns → part 40 80 ns ≡ drop 40 ns → new ≡ over 0 ((entriesText (take 40 ns) ++ lineEnd) ++ (entriesText (drop 40 ns) ++ lineEnd)) old
     rest a b =
-        over-then old mid new (entriesText (take 40 ns) ++ lineEnd) (entriesText (drop 40 ns) ++ lineEnd) 0 122
-        (omega (arith, length-append (entriesText (take 40 ns)) lineEnd, entries-length (take 40 ns), length-take 40 ns)) (omega arith)
+        over-then old (entriesText (take 40 ns) ++ lineEnd) (entriesText (drop 40 ns) ++ lineEnd) 0 122
+        (omega (arith, length-append (entriesText (take 40 ns)) lineEnd, entries-length (take 40 ns), length-take 40 ns), omega arith)
         (p ∙ ap (λ x. over 0 (entriesText x ++ lineEnd) old) a)
         (q ∙ ap (λ x. over 122 (entriesText x ++ lineEnd) mid) b)
 
@@ -292,7 +292,7 @@ module _ (f : Form) (count : ℕ) (cs : List ℤ) (from at : ℕ) (old : List �
           let l : length (fieldsText f (lineOfMany k) (drop cell cs)) ≡ k * rowOf f .width = fields-length f (lineOfMany k) (drop cell cs) fits-here in
           let r = putting-room (b .put) (lineText f (lineOfMany k) (drop cell cs)) (linesFrom f count (j + 1) (many - (j + 1)) (drop (cell + k * size) cs)) step-lines in
           let o : new ≡ over a (lineText f (lineOfMany k) (drop cell cs)) out =
-          over-then out mid new (fieldsText f (lineOfMany k) (drop cell cs)) lineEnd a end (omega arith) (omega (arith, r, long-here)) x y in
+          over-then out (fieldsText f (lineOfMany k) (drop cell cs)) lineEnd a end (omega arith, omega (arith, r, long-here)) x y in
           record {
             per = b .per;
             sized = b .sized;

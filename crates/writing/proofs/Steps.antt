@@ -60,7 +60,7 @@ module _ (ns : List ℕ) (cs : List ℤ) (old : List ℕ) where
 
       pub index-groups : (mid new : List ℕ) → mid ≡ over 0 (indexText ns) old → new ≡ over 244 (groupsText ns cs) mid → new ≡ over 0 (recordText ns cs) old
       unfolding recordText
-      index-groups mid new p q = over-then old mid new (indexText ns) (groupsText ns cs) 0 244 (omega (arith, index-length ns all-there)) index-room p q
+      index-groups mid new p q = over-then old (indexText ns) (groupsText ns cs) 0 244 (omega (arith, index-length ns all-there), index-room) p q
 
   -- ---- 13, 10
 

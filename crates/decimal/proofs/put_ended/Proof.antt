@@ -17,7 +17,7 @@ returns c =
     let o = c .before .before .before .before .before .before in
     let e = c .before .before .before .before .digits .ensures in (
       ap (λ k. o .args .at + (k + 1)) e,
-      over-last (o .args .out .now) (c .before .before .put-numeral .last .0) (numeral (o .args .n)) (o .args .at)
+      over-last (o .args .out .now) (numeral (o .args .n)) (o .args .at)
           (c .before .before .before .before .digits .result) (o .args .end) e (omega (arith, e, o .pre)) (c .before .before .put-numeral .ensures),
     )
 

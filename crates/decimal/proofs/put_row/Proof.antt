@@ -41,7 +41,7 @@ returns-2 : tie.Need-returns-2
 returns-2 c =
     let a = c .before .before .before .before .before .before .before .before .before .before .before .before .before .before .before .args in
     let r = room (c .before .before .before .before .before .before .before .before) in
-    puts-joined _ _ _ (a .first .now) (rowText (a .numbers .now)) _ _ _ refl (omega (arith, r .0)) (omega (arith, r .0, r .1))
+    puts-joined _ (a .first .now) (rowText (a .numbers .now)) (refl, omega (arith, r .0)) (omega (arith, r .0, r .1))
     (c .before .before .before .before .before .before .put-text .ensures) (c .before .before .put-numbers .ensures)
 
 pub put-row-spec : {M : Type 1} → statement M

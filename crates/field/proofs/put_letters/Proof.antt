@@ -43,7 +43,7 @@ loop-again c =
       omega arith,
       simp length-set (l .inv .1),
       ap (λ x. set (l .out) (a .at + l .i) x) v
-          ∙ over-turn (a .out .now) (map sizeOf cs) (l .out) (a .at) (l .i) 0 (omega (arith, c .before .before .loop-test .taken))
+          ∙ over-turn (a .out .now) (map sizeOf cs) (a .at) (l .i) 0 (omega (arith, c .before .before .loop-test .taken))
           (omega (arith, c .before .before .before .before .before .pre .0)) (l .inv .2),
     )
 

@@ -141,7 +141,7 @@ returns-7 c =
     let line = first-counts at-first-counts in
     let next = stored-counts _ 40 _ _ (not-false _ (c .before .if4 .left))
     (c .before .before .before .store-line2 .ensures) in
-    let all = both-stored (line .these) (next .these) _ _ _ (line-length _ (line .these) (line .read))
+    let all = both-stored (line .these) (next .these) _ (line-length _ (line .these) (line .read))
     (line-length _ (next .these) (next .read)) refl (line .place) (next .place) in
     answers-at (start .args .text .now) (start .args .at)
     (with-index (start .args .text .now) (start .args .at) (omega arith) (at-second .second .given .0 .0)

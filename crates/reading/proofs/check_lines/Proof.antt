@@ -31,7 +31,7 @@ abbrev μ-lines : tie.MeasureT-lines
 lines-holds : tie.Need-lines-holds Inv-loop μ-loop Inv-lines μ-lines
 lines-holds c =
     let row = c .before .before .row-of .ensures in
-    let walk = walking-start _ _ _ _ _ _ _ (ap (λ r. r .width) row) (ap (λ r. r .«per_line») row) (c .before .lines2 .ensures) (c .elements .ensures) (omega arith) in
+    let walk = walking-start (ap (λ r. r .width) row) (ap (λ r. r .«per_line») row) (c .before .lines2 .ensures) (c .elements .ensures) (omega arith) in
     (refl, checking-start _ _ _ _ _ _ _ walk)
 
 mul-fields-stop : tie.Need-mul-fields-stop Inv-loop μ-loop Inv-lines μ-lines

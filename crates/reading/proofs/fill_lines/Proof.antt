@@ -50,7 +50,7 @@ abbrev μ-loop : tie.MeasureT-loop
 loop-holds : tie.Need-loop-holds Inv-loop2 μ-loop2 Inv-loop μ-loop
 loop-holds c =
     let row = c .before .before .row-of .ensures in
-    let walk = walking-start _ _ _ _ _ _ _ (ap (λ r. r .width) row) (ap (λ r. r .«per_line») row) (c .before .lines .ensures) (c .elements .ensures) (omega arith) in
+    let walk = walking-start (ap (λ r. r .width) row) (ap (λ r. r .«per_line») row) (c .before .lines .ensures) (c .elements .ensures) (omega arith) in
     filling-start walk (ap (λ r. r .cells) row) (c .before .before .before .before .pre .0) (refl, refl, refl)
 
 mul-least : tie.Need-mul-least Inv-loop2 μ-loop2 Inv-loop μ-loop

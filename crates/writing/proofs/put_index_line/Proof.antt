@@ -15,7 +15,7 @@ put-entries-requires c κs =
 returns : tie.Need-returns
 returns c =
     let o = c .before .before .before .before .before .before .before .before .before .before in
-    index-line-put (o .args .counts .now) (o .args .out .now) _ _ (o .args .at) (o .pre .0) (o .pre .1) (c .before .before .before .before .before .before .put-entries .ensures)
+    index-line-put (o .args .counts .now) (o .args .out .now) (o .args .at) (o .pre .0) (o .pre .1) (c .before .before .before .before .before .before .put-entries .ensures)
     (c .before .before .put-line-end .ensures)
 
 pub put-index-line-spec : {M : Type 1} → statement M
