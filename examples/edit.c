@@ -329,7 +329,7 @@ static int was_saved(void)
 static int end_save(void)
 {
     if (!flushed_folder(day.path)) {
-        fprintf(stderr, "edit: the day has the journal's edits already, but perhaps not yet safe; nothing was altered, start again\n");
+        fprintf(stderr, "edit: the day has the edits of the journal already, but perhaps not yet safe; nothing was altered, so start again\n");
         return 0;
     }
     if (!cut_journal(0))
