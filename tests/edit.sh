@@ -323,6 +323,7 @@ wrong 'a whole field of a group that is not there' "$used"
 # ---- saving
 
 set_anew='; the journal has all edits: set that anew or undo, and save again'
+done_saved='done: record 2 is saved, in 1992 bytes, and the journal is empty'
 begin
 cp "$work/right" "$journal"
 keep
@@ -345,7 +346,7 @@ edited() { # SCRIPT: the day with record 2 altered by it, from the line of its d
 
 cp "$work/right" "$journal"
 edit 2 'save' 'show 4' 'undo 1'
-said 'saved' "$loaded" "$resumed" 'done: record 2 is saved, in 1992 bytes, and the journal is empty' "$four_now" "$not_open"
+said 'saved' "$loaded" "$resumed" "$done_saved" "$four_now" "$not_open"
 edited 's/^   3\.5259999/   7.3009999/
 s/^\(9999\.000 325.*\)  47\.500/\1  47.600/' >"$work/want"
 counted 'two lines of the day differ' [ "$(diff -a examples/day.sao "$work/want" | grep -ac '^>')" -eq 2 ]
@@ -408,9 +409,9 @@ holds 'the journal of many edits, saved' ''
 begin
 edit 2 'open' 'set 4 1 7301' 'save' 'open' 'set 4 1 7302' 'undo 1' 'set 4 40 1' 'save'
 said 'saved twice' "$loaded" 'done: savepoint 1 is open' 'done: cell 1 of group 4 is 7301' \
-    'done: record 2 is saved, in 1992 bytes, and the journal is empty' 'done: savepoint 1 is open' 'done: cell 1 of group 4 is 7302' \
+    "$done_saved" 'done: savepoint 1 is open' 'done: cell 1 of group 4 is 7302' \
     'done: all is as it was when savepoint 1 was opened' 'done: cell 40 of group 4 is 1' \
-    'done: record 2 is saved, in 1992 bytes, and the journal is empty'
+    "$done_saved"
 edited 's/^   3\.5259999/   7.3019999/
 s/^\(9999\.000 325.*\)  47\.500/\1   0.001/' >"$work/want"
 cp "$day" "$work/got"
@@ -431,7 +432,7 @@ compared 'an altered day' "$work/want"
 kept 'an altered day'
 edit 2 'save'
 said 'an altered day, loaded again' "$loaded" 'replayed 22 bytes of the journal; savepoints open: 0' \
-    'done: record 2 is saved, in 1992 bytes, and the journal is empty'
+    "$done_saved"
 { edited 's/^   3\.5259999/   7.3019999/' && printf 'x'; } >"$work/want"
 cp "$day" "$work/got"
 compared 'the altered day, saved' "$work/want"
@@ -456,8 +457,8 @@ plain_journal=$journal
 for journal in "$day.new" "$day.XXXXXX" "$day~" "$day.tmp"; do
     cp examples/day.sao "$day"
     edit 2 'set 4 1 7300' 'save' 'set 4 1 7301' 'save' 'open'
-    said "$journal" "$loaded" 'done: cell 1 of group 4 is 7300' 'done: record 2 is saved, in 1992 bytes, and the journal is empty' \
-        'done: cell 1 of group 4 is 7301' 'done: record 2 is saved, in 1992 bytes, and the journal is empty' 'done: savepoint 1 is open'
+    said "$journal" "$loaded" 'done: cell 1 of group 4 is 7300' "$done_saved" \
+        'done: cell 1 of group 4 is 7301' "$done_saved" 'done: savepoint 1 is open'
     counted "$journal: the day is saved" cmp -s "$day" "$work/saved"
     holds "$journal" "$(savepoint_field 2 1)"
 done
@@ -485,7 +486,7 @@ chmod 640 "$work/files/kept/true"
 [ "$(id -u)" != 0 ] || chown 12:34 "$work/files/kept/true"
 ls -ln "$work/files/kept/true" | awk '{ print $1, $3, $4 }' >"$work/mode"
 edit 2 'set 4 1 7301' 'save'
-said 'a day behind a link' "$loaded" 'done: cell 1 of group 4 is 7301' 'done: record 2 is saved, in 1992 bytes, and the journal is empty'
+said 'a day behind a link' "$loaded" 'done: cell 1 of group 4 is 7301' "$done_saved"
 counted 'a day behind a link is saved' cmp -s "$work/files/kept/true" "$work/saved"
 counted 'and stays behind it' [ "$(readlink "$day")" = kept/true ]
 counted 'with a mode that is not that of other files' grep -q '^-rw-r-----' "$work/mode"
@@ -504,7 +505,7 @@ holds 'killed before the renaming' "$(set_field 4 1 3525 7301)"
 counted 'killed before the renaming: the new day is there' [ "$(ls -A "$work/files" | wc -l)" = 3 ]
 edit 2 'save'
 said 'killed before the renaming, started again' "$loaded" 'replayed 22 bytes of the journal; savepoints open: 0' \
-    'done: record 2 is saved, in 1992 bytes, and the journal is empty'
+    "$done_saved"
 counted 'killed before the renaming, saved again' cmp -s "$day" "$work/saved"
 
 for fault in renamed emptying; do
@@ -598,7 +599,7 @@ for other in "$journal" "$work/files/link" "$work/files/other"; do
     kept "a second editor on $other"
 done
 ask 'set 4 1 7301' 'done: cell 1 of group 4 is 7301'
-ask 'save' 'done: record 2 is saved, in 1992 bytes, and the journal is empty'
+ask 'save' "$done_saved"
 second 2 "$journal" 'open'
 counted 'a second editor behind a save: exit status' [ "$?" = 1 ]
 holds 'a second editor behind a save' ''
@@ -623,8 +624,26 @@ ask 'save' 'refused: the day is not as it was loaded; the journal has all edits,
 closed 'two records: the first editor'
 edit 2 'save'
 said 'two records: the first editor, started again' "$loaded" 'replayed 22 bytes of the journal; savepoints open: 0' \
-    'done: record 2 is saved, in 1992 bytes, and the journal is empty'
+    "$done_saved"
 counted 'two records: both are saved' cmp -s "$day" "$work/both"
+
+# the day is replaced by another editor in the very moment in which it is loaded, or locked for a save
+OTHER=$work/files/other
+DAY=$day
+export OTHER DAY
+begin
+cp "$work/saved" "$OTHER"
+faulty loading 'set 4 1 1'
+counted 'saved while it is loaded: exit status' [ "$?" = 1 ]
+said 'saved while it is loaded' "$loaded" 'edit: the day was saved by another editor while it was being loaded; start again'
+counted 'saved while it is loaded: the day' cmp -s "$day" "$work/saved"
+holds 'saved while it is loaded' ''
+begin
+cp "$day" "$OTHER"
+faulty saving 'set 4 1 7301' 'save' 'save'
+said 'replaced while it is locked' "$loaded" 'done: cell 1 of group 4 is 7301' \
+    'refused: another editor is saving this day just now; the journal has all edits, so save again' "$done_saved"
+counted 'replaced while it is locked, and saved again' cmp -s "$day" "$work/saved"
 
 # two saves at once
 begin
@@ -642,7 +661,7 @@ second_said 'two saves at once: the second' "$third_loaded" "$third_set" \
     'refused: another editor is saving this day just now; the journal has all edits, so save again'
 kept 'two saves at once: the second'
 kill -CONT "$running"
-echo 'done: record 2 is saved, in 1992 bytes, and the journal is empty' >>"$work/all"
+echo "$done_saved" >>"$work/all"
 awaited "$(wc -l <"$work/all")"
 closed 'two saves at once: the first'
 counted 'two saves at once: the first has saved' cmp -s "$day" "$work/saved"
@@ -682,7 +701,6 @@ compared 'sixteen savepoints' "$work/want"
 # a journal of 1,048,576 bytes, opened and released again and again, is full for set and open
 full='refused: there is no room left (reply 11); the journal is full: save empties it, and undo and release have room'
 no_field="refused: the cells fit no field (reply 13, group 4, element 1)$set_anew"
-done_saved='done: record 2 is saved, in 1992 bytes, and the journal is empty'
 
 doubled() { # BYTES: a file, which is doubled up to so many
     while [ "$(wc -c <"$work/doubled")" -lt "$1" ]; do
@@ -790,4 +808,4 @@ started "$work/edit" "$day" 2 "$journal" <"$work/commands" >"$work/got" 2>&1
 counted 'a part of a line: exit status' [ "$?" = 0 ]
 said 'a part of a line' "$loaded" "$commands" "$commands"
 holds 'a part of a line' ''
-finished 360
+finished 364
