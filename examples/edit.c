@@ -326,15 +326,18 @@ static int was_saved(void)
     return replay_over(cells, &savepoints, &beside) == SEAMBEACON_DONE && memcmp(cells, record.cells, sizeof cells) == 0;
 }
 
+/* The journal's bytes are kept beside it: if RECORD was not the one that was edited, that record may have the same cells by chance. */
 static int end_save(void)
 {
+    char name[MOST_PATH];
     if (!flushed_folder(day.path)) {
         fprintf(stderr, "edit: the day has the edits of the journal already, but perhaps not yet safe; nothing was altered, so start again\n");
         return 0;
     }
-    if (!cut_journal(0))
+    if (!written_beside(journal.name, journal.file, journal.bytes, journal.used, name) || !flushed_folder(journal.name) || !cut_journal(0))
         return 0;
     printf("the day has the edits of the journal already: a save was cut off before it had emptied the journal, which is empty now\n");
+    printf("the edits were those of %s\n", name);
     journal.used = 0;
     return 1;
 }

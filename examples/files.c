@@ -8,8 +8,6 @@
 #include <sys/stat.h>
 #include <unistd.h>
 
-enum { MOST_PATH = 4096 };
-
 int failed(const char *name)
 {
     fprintf(stderr, "edit: ");
@@ -111,16 +109,26 @@ static int with_mode_of(FILE *old, FILE *file)
     return fchmod(to, was.st_mode & 07777) == 0;
 }
 
-enum replaced replace_file(const char *path, FILE *old, const uint8_t *bytes, size_t length)
+int written_beside(const char *path, FILE *old, const uint8_t *bytes, size_t length, char name[MOST_PATH])
 {
-    char name[MOST_PATH];
     FILE *file = new_beside(path, name);
     int written;
     if (file == NULL)
-        return NOT_REPLACED;
+        return 0;
     written = (with_mode_of(old, file) && fwrite(bytes, 1, length, file) == length && flushed(file)) || failed(name);
     fclose(file);
-    if (!written || (rename(name, path) != 0 && !failed(path))) {
+    if (!written)
+        remove(name);
+    return written;
+}
+
+enum replaced replace_file(const char *path, FILE *old, const uint8_t *bytes, size_t length)
+{
+    char name[MOST_PATH];
+    if (!written_beside(path, old, bytes, length, name))
+        return NOT_REPLACED;
+    if (rename(name, path) != 0) {
+        failed(path);
         remove(name);
         return NOT_REPLACED;
     }

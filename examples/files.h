@@ -6,6 +6,8 @@
 #include <stdint.h>
 #include <stdio.h>
 
+enum { MOST_PATH = 4096 };
+
 enum lock { LOCKED, HELD, NOT_LOCKED };
 enum replaced { NOT_REPLACED, NOT_FLUSHED, REPLACED };
 
@@ -29,8 +31,12 @@ enum lock lock_file(FILE *file);
 /* The path leads to the very file that is open. */
 int leads_to(const char *path, FILE *file);
 
-/* Writes a new file beside the old one, which it then replaces at once, with its mode. The new one's name is no other file's. The old one is as
-   it was (NOT_REPLACED); or it is replaced, and a power failure may bring it back (NOT_FLUSHED), or can't any more (REPLACED). */
+/* A new file beside the old one, with its mode, and on disk but for its folder. Its name, which no file had before, is the old one's with a point
+   and six letters. */
+int written_beside(const char *path, FILE *old, const uint8_t *bytes, size_t length, char name[MOST_PATH]);
+
+/* Writes a new file beside the old one, which it then replaces at once. The old one is as it was (NOT_REPLACED); or it is replaced, and a power
+   failure may bring it back (NOT_FLUSHED), or can't any more (REPLACED). */
 enum replaced replace_file(const char *path, FILE *old, const uint8_t *bytes, size_t length);
 
 #endif

@@ -41,7 +41,14 @@ edit() { # RECORD LINE..: what it says to these lines, in "$work/got"; its exit 
     if [ $# -gt 0 ]; then
         printf '%s\n' "$@"
     fi >"$work/commands"
-    (becomes "$program" "$day" "$record" "$journal" <"$work/commands" >"$work/got" 2>&1)
+    (becomes "$program" "$day" "$record" "$journal" <"$work/commands" >"$work/said" 2>&1)
+    ended_with=$?
+    without_letters <"$work/said" >"$work/got"
+    return "$ended_with"
+}
+
+without_letters() { # the six letters of a new file's name are any
+    sed 's/^\(the edits were those of .*\.\)[A-Za-z0-9]\{6\}$/\1??????/;s/^\(journal\.\)[A-Za-z0-9]\{6\}$/\1??????/'
 }
 
 faulty() { # FAULT LINE..: the same of record 2, with that fault; what the shell says of a kill is dropped
@@ -60,7 +67,7 @@ files() { # CASE NAME..: these are in the folder, and no others
     what=$1
     shift
     printf '%s\n' "$@" | sort >"$work/want"
-    ls -A "$work/files" >"$work/got"
+    ls -A "$work/files" | without_letters >"$work/got"
     compared "$what: the files there are" "$work/want"
 }
 
@@ -356,13 +363,16 @@ holds 'saved' ''
 files 'saved' day journal
 
 # a save that was cut off before it emptied the journal: the journal is that of the day as it was before
-ended='the day has the edits of the journal already: a save was cut off before it had emptied the journal, which is empty now'
+ended="the day has the edits of the journal already: a save was cut off before it had emptied the journal, which is empty now
+the edits were those of $journal.??????"
 cp "$work/right" "$journal"
 keep
 edit 2 'show 4' 'undo 1' 'set 4 1 7301'
 counted 'the journal of a saved day: exit status' [ "$?" = 0 ]
 said 'the journal of a saved day' "$loaded" "$ended" "$four_now" "$not_open" 'done: cell 1 of group 4 is 7301'
 counted 'the journal of a saved day: the day is as it was' cmp -s "$day" "$work/before/day"
+files 'the journal of a saved day' day journal 'journal.??????'
+counted 'the journal of a saved day is kept' cmp -s "$journal".?????? "$work/right"
 holds 'the journal of a saved day' "$(set_field 4 1 7300 7301)"
 
 # the same, but not all of the day is what the journal's calls have made, or not all of the journal is right
@@ -519,8 +529,17 @@ for fault in renamed emptying; do
     said "$fault, started again" "$loaded" "$ended" "group 4: 7301 $of_four" 'done: cell 1 of group 4 is 7300'
     counted "$fault, started again: the day is saved" cmp -s "$day" "$work/saved"
     holds "$fault, started again" "$(set_field 4 1 7301 7300)"
-    files "$fault" day journal
+    files "$fault" day journal 'journal.??????'
 done
+
+# the wrong record, whose cell happens to have what was set: the edit is not lost
+begin
+edit 3 'set 4 1 3525'
+edit 2
+said 'the wrong record, with the same cell' "$loaded" "$ended"
+cp "$journal".?????? "$journal"
+edit 3
+said 'the right record, with the journal that was kept' 'record 3 has 453 cells' 'replayed 22 bytes of the journal; savepoints open: 0'
 
 begin
 faulty folder 'set 4 1 7301' 'save' 'show 4'
@@ -808,4 +827,4 @@ started "$work/edit" "$day" 2 "$journal" <"$work/commands" >"$work/got" 2>&1
 counted 'a part of a line: exit status' [ "$?" = 0 ]
 said 'a part of a line' "$loaded" "$commands" "$commands"
 holds 'a part of a line' ''
-finished 364
+finished 368
