@@ -63,11 +63,15 @@ faulty() { # FAULT LINE..: the same of record 2, with that fault; what the shell
     return "$status"
 }
 
+there() { # the names in the folder
+    find "$work/files" ! -name files | sed 's|.*/||' | sort
+}
+
 files() { # CASE NAME..: these are in the folder, and no others
     what=$1
     shift
     printf '%s\n' "$@" | sort >"$work/want"
-    ls -A "$work/files" | without_letters >"$work/got"
+    there | without_letters >"$work/got"
     compared "$what: the files there are" "$work/want"
 }
 
@@ -494,15 +498,18 @@ mv "$day" "$work/files/kept/true"
 ln -s kept/true "$day"
 chmod 640 "$work/files/kept/true"
 [ "$(id -u)" != 0 ] || chown 12:34 "$work/files/kept/true"
-ls -ln "$work/files/kept/true" | awk '{ print $1, $3, $4 }' >"$work/mode"
+mode_of() { # FILE: its mode, owner and group
+    # shellcheck disable=SC2012
+    ls -ln "$1" | awk '{ print $1, $3, $4 }'
+}
+mode_of "$work/files/kept/true" >"$work/mode"
 edit 2 'set 4 1 7301' 'save'
 said 'a day behind a link' "$loaded" 'done: cell 1 of group 4 is 7301' "$done_saved"
 counted 'a day behind a link is saved' cmp -s "$work/files/kept/true" "$work/saved"
 counted 'and stays behind it' [ "$(readlink "$day")" = kept/true ]
 counted 'with a mode that is not that of other files' grep -q '^-rw-r-----' "$work/mode"
-counted 'which it keeps' [ "$(ls -ln "$work/files/kept/true" | awk '{ print $1, $3, $4 }')" = "$(cat "$work/mode")" ]
-files 'a day behind a link' day journal kept
-counted 'and no other beside it' [ "$(ls -A "$work/files/kept")" = true ]
+counted 'which it keeps' [ "$(mode_of "$work/files/kept/true")" = "$(cat "$work/mode")" ]
+files 'a day behind a link' day journal kept true
 
 # ---- a save that is killed, or fails, on its way
 
@@ -512,7 +519,7 @@ counted 'killed before the renaming: exit status' [ "$?" = 137 ]
 said 'killed before the renaming' "$loaded" 'done: cell 1 of group 4 is 7301'
 counted 'killed before the renaming: the day is as it was' cmp -s "$day" examples/day.sao
 holds 'killed before the renaming' "$(set_field 4 1 3525 7301)"
-counted 'killed before the renaming: the new day is there' [ "$(ls -A "$work/files" | wc -l)" = 3 ]
+counted 'killed before the renaming: the new day is there' [ "$(there | wc -l)" = 3 ]
 edit 2 'save'
 said 'killed before the renaming, started again' "$loaded" 'replayed 22 bytes of the journal; savepoints open: 0' \
     "$done_saved"
@@ -827,4 +834,4 @@ started "$work/edit" "$day" 2 "$journal" <"$work/commands" >"$work/got" 2>&1
 counted 'a part of a line: exit status' [ "$?" = 0 ]
 said 'a part of a line' "$loaded" "$commands" "$commands"
 holds 'a part of a line' ''
-finished 368
+finished 367
