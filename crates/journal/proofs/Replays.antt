@@ -16,7 +16,8 @@ use borrow.Author.Tests.{lt-ltb}
 use Rattle.entry.specs.declared.Entry.{Entry}
 use Rattle.entry.specs.declared.Entry.the-variants.{Set, Open, Release, Undo, Misformed}
 use Rattle.entry.specs.Field.{entryText, entrySize, entryIn, fieldAt}
-use Rattle.entry.proofs.Codec.{Sized, length-text, field-text}
+use Rattle.entry.specs.Codec.{Sized}
+use Rattle.entry.proofs.Codec.{length-text, field-text}
 use Rattle.journal.specs.Layout.{spotOf, putAt}
 use Rattle.journal.specs.Entries.{markStep, marksFrom, marksOf, markOf, restore, journalText, nextAt, entriesAt, placeAt}
 use Rattle.journal.specs.Walks.{okEntry}

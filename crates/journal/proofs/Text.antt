@@ -13,8 +13,9 @@ use borrow.Author.Tests.{lt-ltb}
 use Rattle.base.specs.Part.{over}
 use Rattle.entry.specs.declared.Entry.{Entry}
 use Rattle.entry.specs.Field.{entryText, entrySize, entryIn, fieldAt}
-use Rattle.entry.proofs.Codec.{Sized, length-text, field-text}
-use Rattle.journal.specs.Entries.{markStep, marksFrom, marksOf, restore, journalText, entriesAt, backTo}
+use Rattle.entry.specs.Codec.{Sized}
+use Rattle.entry.proofs.Codec.{length-text, field-text}
+use Rattle.journal.specs.Entries.{markStep, marksFrom, marksOf, restore, journalText, entriesAt, placeAt, backTo}
 use Rattle.journal.specs.Walks.{okEntry, walked, walkFrom, walkOf}
 use Rattle.journal.proofs.Places.{entries-from}
 use Rattle.journal.proofs.Walking.{ok-size, walk-end}
@@ -73,6 +74,17 @@ module _ {ps : List ℕ} where
       let m : length (p ++ entryText e) ≡ at + entrySize e = length-append p (entryText e) ∙ rw (l, length-text e) in
       let q″ : s ≡ (p ++ entryText e) ++ (journalText es ++ r) = q′ ∙ sym (append-assoc p (entryText e) (journalText es ++ r)) in
       ap (λ x. x ∷ entriesAt s (at + entrySize x) (length es)) f ∙ ap (λ l. e ∷ l) (read-written es (p ++ entryText e) r s (at + entrySize e) hs m q″)
+
+  -- and ends where the text does
+  pub place-written : {i : ℕ} {ms : List ℕ} (es : List Entry) (p s : List ℕ) (at : ℕ) → Fine ps es i ms → length p ≡ at → s ≡ p ++ journalText es → placeAt s at (length es) ≡ length s
+  unfolding placeAt journalText
+  place-written [] p s at fine-none l q = sym (ap length (q ∙ append-nil p) ∙ l)
+  place-written (e ∷ es) p s at (fine-more h o hs) l q =
+      let d : drop at s ≡ entryText e ++ journalText es = ap (drop at) q ∙ drop-at p (entryText e ++ journalText es) at l in
+      let f : fieldAt s at ≡ e = ap entryIn d ∙ field-text e (journalText es) h in
+      let m : length (p ++ entryText e) ≡ at + entrySize e = length-append p (entryText e) ∙ rw (l, length-text e) in
+      let q′ : s ≡ (p ++ entryText e) ++ journalText es = q ∙ sym (append-assoc p (entryText e) (journalText es)) in
+      ap (λ x. placeAt s (at + entrySize x) (length es)) f ∙ place-written es (p ++ entryText e) s (at + entrySize e) hs m q′
 
   -- going back over the bytes is going back over the entries
   pub back-journal : (es : List Entry) (m : ℕ) (t : List ℤ) → Fine ps es 0 [] → m ≤ length es → backTo ps (journalText es) m (length es) t ≡ restore ps (drop m es) t
