@@ -108,11 +108,11 @@ module _ (ns : List ℕ) (t₀ : List ℤ) where
   entry-size (Releases k) d t = refl
   entry-size (Undoes k) d t = refl
 
-  entry-sized : (c : Call) (d n : ℕ) (t : List ℤ) → checkedOf ns n ≡ C.Right → accepts ps c d ≡ true → d ≤ 16 → FitCall c → Fit t → Sized (entryFor ps c d t)
-  entry-sized (Sets g c v) d n t e h l f ft = let m = cell-small ns n e g c h in sized-set (m .0) (m .1) (fit-get (spotOf ps g c) t ft) f
-  entry-sized Opens d n t e h l f ft = sized-open {k = d + 1} (omega arith)
-  entry-sized (Releases k) d n t e h l f ft = sized-release {k = k} (omega (arith, ok-release ps d k h))
-  entry-sized (Undoes k) d n t e h l f ft = sized-undo {k = k} (omega (arith, ok-undo ps d k h))
+  entry-sized : (c : Call) (d n : ℕ) (t : List ℤ) → checkedOf ns n ≡ C.Right → accepts ps c d ≡ true → d ≤ 16 → FitCall c × Fit t → Sized (entryFor ps c d t)
+  entry-sized (Sets g c v) d n t e h l f = let m = cell-small ns n e g c h in sized-set (m .0) (m .1) (fit-get (spotOf ps g c) t (f .1)) (f .0)
+  entry-sized Opens d n t e h l f = sized-open {k = d + 1} (omega arith)
+  entry-sized (Releases k) d n t e h l f = sized-release {k = k} (omega (arith, ok-release ps d k h))
+  entry-sized (Undoes k) d n t e h l f = sized-undo {k = k} (omega (arith, ok-undo ps d k h))
 
   entry-ok : (c : Call) (d : ℕ) (t : List ℤ) → accepts ps c d ≡ true → okEntry ps (entryFor ps c d t) d ≡ true
   entry-ok (Sets g c v) d t h = h
@@ -232,7 +232,7 @@ module _ (ns : List ℕ) (t₀ : List ℤ) where
       long = over-length (k .journal) (entryText e) (k .used) (omega (arith, size, s .inside))
 
       sized : Sized e
-      sized = entry-sized c d (length t) t right ok (s .few) fits (s .fit)
+      sized = entry-sized c d (length t) t right ok (s .few) (fits, s .fit)
 
       abbrev saved : List (List ℤ)
       saved = onStack ps c (stackOf k ts) .saved
@@ -251,7 +251,7 @@ module _ (ns : List ℕ) (t₀ : List ℤ) where
             bytes = used-more (k .journal) (entryText e) (k .used) (bytesFor c) (s .inside) size ∙ ap (λ x. x ++ entryText e) (s .bytes) ∙ sym (text-more es e);
             fine = fine-last e sized (s .fine) (entry-ok c d t ok);
             held = held-call ps es t ts (length (k .journal) - k .used) (s .held) c ok;
-            leads = subst (Leads ps [] (withEntry es e) t₀) (played-call es c d t) (leads-last e (s .leads) sized (entry-ok c d t ok) (entry-matches c d t));
+            leads = subst (Leads ps [] (withEntry es e) t₀) (played-call es c d t) (leads-last e (s .leads) (record { sized = sized; ok = entry-ok c d t ok; same = entry-matches c d t }));
             few = rw (marks-entry es e) (marks-few c (marksOf es) (length es) t ok (s .few));
             fit = fit-call c t fits (s .fine) (s .fit);
           }
@@ -402,8 +402,8 @@ module _ (ns : List ℕ) (t : List ℤ) (j : List ℕ) (cs : List Call) (ft : Fi
       let e : s .entries ≡ entriesTo ns cs (kept t j 0) = a .left .told in
       record {
         bytes = b ∙ ap journalText e;
-        entries = subst (λ l. entriesAt (take (k .used) (k .journal)) 0 (length l) ≡ l) e (read-written (s .entries) [] [] (take (k .used) (k .journal)) 0 (s .fine) refl q);
-        ends = subst (λ l. placeAt (take (k .used) (k .journal)) 0 (length l) ≡ k .used) e (place-written (s .entries) [] (take (k .used) (k .journal)) 0 (s .fine) refl b ∙ u);
+        entries = subst (λ l. entriesAt (take (k .used) (k .journal)) 0 (length l) ≡ l) e (read-written (s .entries) [] [] (take (k .used) (k .journal)) (s .fine) q);
+        ends = subst (λ l. placeAt (take (k .used) (k .journal)) 0 (length l) ≡ k .used) e (place-written (s .entries) [] (take (k .used) (k .journal)) (s .fine) b ∙ u);
       }
 
   -- R543: whatever calls come behind a replay, they are answered, and leave, what they would have without it

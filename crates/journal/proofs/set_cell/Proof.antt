@@ -34,7 +34,9 @@ returns-2 c =
     let done = c .before .before .before .set-in .ensures in
     let starts = found .0 in
     let value = toZ-ofZ {w = w64} (c .before .before .before .before .before .before .before .before .before .before .before .before .before .before .before .fits .value) in
-    let x = call-decided (Sets (a .group) (a .cell) (a .value)) k (found .1) (kept _ _ _) told (rw starts at (done .0)) (done .1 .0) (rw (starts, value) at (done .1 .1 .0)) (rw (starts, value) at (done .1 .1 .1)) in
+    let cells = rw (starts, value) at (done .1 .1 .0) in
+    let journal = rw (starts, value) at (done .1 .1 .1) in
+    let x = call-decided (Sets (a .group) (a .cell) (a .value)) k (found .1) (kept _ _ _) told (rw starts at (done .0)) (done .1 .0) cells journal in
     (x .answer, (x .used, (x .cells, x .journal)))
 
 pub set-cell-spec : {M : Type 1} → statement M
