@@ -8,20 +8,36 @@
      save             writes the record into the day, and empties the journal
 
    What is accepted is on disk, in the journal, before it is said to be done. So a run that was killed is gone on with by the same command: the
-   journal is replayed. A field that was cut short is the end of a call that was never said to be done, and is removed; with any other fault in
-   the journal no file is altered. */
-#define _POSIX_C_SOURCE 200809L
-#include <fcntl.h>
+   journal is replayed. A field that was cut short is the end of a call that was never said to be done, and is removed; where a save was killed
+   before it had emptied the journal, that is done; with any other fault in the journal no file is altered.
+
+   One editor at a time has a journal. Several may edit records of one day, each with a journal of its own; one at a time saves.
+
+   Each command looks at all of the journal, which is why it has a limit. A replay, and each undo, goes once more over every stretch that was
+   undone before: a journal of undos alone takes time in the square of its length. A save empties it. */
+#define _XOPEN_SOURCE 700
 #include <stdio.h>
 #include <stdlib.h>
 #include <string.h>
 #include <unistd.h>
+#include "files.h"
 #include "seambeacon.h"
 
-enum { COUNTS = 80, GROUPS = 60, MOST_CELLS = 1 << 17, MOST_BYTES = 1 << 20, MOST_LINE = 200, MOST_PATH = 4096 };
+enum { COUNTS = 80, GROUPS = 60, MOST_LINE = 200 };
+
+/* No record that the rules on counts let pass has more cells. A count is at most 999. Of the sixty groups 48 have one cell an element, and eight
+   (37 to 40, 42, 53, 57 and 60) have two; group 2 has at most two elements, of 120 cells each, and groups 4, 54 and 55 at most 49. */
+enum { MOST_CELLS = 48 * 999 + 8 * 2 * 999 + 2 * 120 + 3 * 49 };
+
+/* Nor a longer text: two index lines of 122 bytes, and for each cell at most ten bytes of its field and the two of a line's end. */
+enum { MOST_TEXT = 2 * 122 + 12 * MOST_CELLS };
+
+/* Of the journal's bytes set and open leave some, so that undo, and set where a save has found a wrong value, have room in a full journal. */
+enum { SET_BYTES = 22, MOST_EDITS = 1 << 20, MOST_JOURNAL = MOST_EDITS + (1 << 16) };
 
 static struct {
     const char *name;
+    char *path; /* behind all symbolic links */
     uint8_t *text;
     size_t length, at, next; /* the record stands from at to next */
 } day;
@@ -36,8 +52,9 @@ static struct {
 static struct {
     const char *name;
     FILE *file;
-    uint8_t bytes[MOST_BYTES];
+    uint8_t bytes[MOST_JOURNAL];
     size_t used;
+    int save_refused; /* since the last save that was done */
 } journal;
 
 /* ---- Replies in words. */
@@ -69,7 +86,6 @@ static void tell_number(FILE *to, const char *name, size_t number)
         fprintf(to, ", %s %zu", name, number);
 }
 
-/* Ends the line. */
 static void tell(FILE *to, enum seambeacon_reply reply, const struct seambeacon_beside *beside)
 {
     size_t known = sizeof meanings / sizeof meanings[0];
@@ -80,7 +96,21 @@ static void tell(FILE *to, enum seambeacon_reply reply, const struct seambeacon_
     tell_number(to, "position", beside->position);
     if (reply == SEAMBEACON_BAD_ENTRY)
         fprintf(to, ", place %zu", beside->place);
-    fprintf(to, ")\n");
+    fprintf(to, ")");
+}
+
+/* What a refused command leaves to be done. */
+static const char *way_out(enum seambeacon_reply reply)
+{
+    switch (reply) {
+    case SEAMBEACON_NO_ROOM:
+        return "; the journal is full: save empties it, and undo and release have room";
+    case SEAMBEACON_NO_FIELD:
+    case SEAMBEACON_BAD_DATE:
+        return "; the journal has all edits: set that anew or undo, and save again";
+    default:
+        return "";
+    }
 }
 
 static int refused(enum seambeacon_reply reply, const struct seambeacon_beside *beside)
@@ -89,69 +119,35 @@ static int refused(enum seambeacon_reply reply, const struct seambeacon_beside *
         return 0;
     printf("refused: ");
     tell(stdout, reply, beside);
+    printf("%s\n", way_out(reply));
     return 1;
 }
 
-/* ---- Files. What fails is told here; 0 then. */
+/* ---- The day. */
 
-static int failed(const char *name)
+static int load_day(const char *name)
 {
-    fprintf(stderr, "edit: ");
-    perror(name);
-    return 0;
-}
-
-/* All bytes of a file, in memory of their own. */
-static int read_all(FILE *file, uint8_t **bytes, size_t *length)
-{
-    size_t room = 0, got = 1;
-    for (*bytes = NULL, *length = 0; got > 0; *length += got) {
-        if (*length == room) {
-            uint8_t *larger = realloc(*bytes, room = 2 * room + 65536);
-            if (larger == NULL)
-                return 0;
-            *bytes = larger;
-        }
-        got = fread(*bytes + *length, 1, room - *length, file);
-    }
-    return !ferror(file);
-}
-
-static int read_day(uint8_t **text, size_t *length)
-{
-    FILE *file = fopen(day.name, "rb");
-    int read;
-    *text = NULL;
+    FILE *file;
+    int loaded;
+    day.name = name;
+    day.path = resolved(name);
+    if (day.path == NULL)
+        return 0;
+    file = fopen(day.path, "rb");
     if (file == NULL)
-        return failed(day.name);
-    read = read_all(file, text, length);
+        return failed(name);
+    loaded = read_all(file, name, &day.text, &day.length);
     fclose(file);
-    return read || failed(day.name);
+    return loaded;
 }
 
-/* What was written so far is on disk. */
-static int flushed(FILE *file)
+static int is_as_loaded(FILE *file)
 {
-    return fflush(file) == 0 && fsync(fileno(file)) == 0;
-}
-
-/* A new or renamed file is found again only once its folder is on disk too. */
-static int flushed_folder(const char *name)
-{
-    char folder[MOST_PATH];
-    const char *slash = strrchr(name, '/');
-    size_t length = slash == NULL ? 0 : (size_t)(slash - name) + 1;
-    int opened, right;
-    if (length + 2 > sizeof folder)
-        return 0;
-    memcpy(folder, name, length);
-    memcpy(folder + length, ".", 2);
-    opened = open(folder, O_RDONLY);
-    if (opened < 0)
-        return 0;
-    right = fsync(opened) == 0;
-    close(opened);
-    return right;
+    uint8_t *text;
+    size_t length;
+    int same = read_all(file, day.name, &text, &length) && length == day.length && memcmp(text, day.text, length) == 0;
+    free(text);
+    return same;
 }
 
 /* ---- The record. */
@@ -172,6 +168,7 @@ static int find_record(size_t number)
         return 1;
     fprintf(stderr, reply == SEAMBEACON_BROKEN_RULE ? "edit: record %zu cannot be read: " : "edit: there is no record %zu: ", number);
     tell(stderr, reply, &beside);
+    fprintf(stderr, "\n");
     return 0;
 }
 
@@ -185,6 +182,7 @@ static int load_cells(void)
         if (reply != SEAMBEACON_DONE) {
             fprintf(stderr, "edit: group %zu of record %zu cannot be read: ", group, record.number);
             tell(stderr, reply, &beside);
+            fprintf(stderr, "\n");
             return 0;
         }
         many += beside.written;
@@ -196,19 +194,55 @@ static int load_cells(void)
 
 /* ---- The journal. */
 
-static int load_journal(const char *name)
+static int locked_journal(void)
 {
-    journal.name = name;
-    journal.file = fopen(name, "a+b");
-    if (journal.file == NULL || !flushed_folder(name))
-        return failed(name);
+    enum lock lock = lock_file(journal.file);
+    if (lock == HELD)
+        fprintf(stderr, "edit: another editor is at work with %s; nothing was altered\n", journal.name);
+    return lock == LOCKED || (lock == NOT_LOCKED && failed(journal.name));
+}
+
+static int read_journal(void)
+{
     rewind(journal.file);
-    journal.used = fread(journal.bytes, 1, MOST_BYTES, journal.file);
+    journal.used = fread(journal.bytes, 1, MOST_JOURNAL, journal.file);
     if (getc(journal.file) != EOF) {
-        fprintf(stderr, "edit: %s has more than %d bytes; nothing was altered\n", name, (int)MOST_BYTES);
+        fprintf(stderr, "edit: %s has more than %d bytes; nothing was altered\n", journal.name, (int)MOST_JOURNAL);
         return 0;
     }
-    return !ferror(journal.file) || failed(name);
+    return !ferror(journal.file) || failed(journal.name);
+}
+
+static int load_journal(const char *name)
+{
+    char *path;
+    int flushed_there;
+    journal.name = name;
+    journal.file = fopen(name, "a+b");
+    if (journal.file == NULL)
+        return failed(name);
+    if (leads_to(day.path, journal.file)) {
+        fprintf(stderr, "edit: the journal %s is the day itself; nothing was altered\n", name);
+        return 0;
+    }
+    path = resolved(name);
+    flushed_there = path != NULL && flushed_folder(path);
+    free(path);
+    return flushed_there && locked_journal() && read_journal();
+}
+
+/* Another editor may have saved the day, and let go of the journal, while this one loaded the day. */
+static int day_fits_journal(void)
+{
+    FILE *file = fopen(day.path, "rb");
+    int same;
+    if (file == NULL)
+        return failed(day.name);
+    same = is_as_loaded(file);
+    fclose(file);
+    if (!same)
+        fprintf(stderr, "edit: the day was saved by another editor while it was being loaded; start again\n");
+    return same;
 }
 
 /* The file has the first bytes alone, on disk. */
@@ -217,30 +251,112 @@ static int cut_journal(size_t length)
     return (ftruncate(fileno(journal.file), (off_t)length) == 0 && flushed(journal.file)) || failed(journal.name);
 }
 
-/* From the place to the journal's end stands the beginning of a field, and not all of it. */
-static int cut_short(size_t place)
+/* The bytes that a call added are on disk. */
+static int kept(size_t from)
+{
+    size_t added = journal.used - from;
+    if (fwrite(journal.bytes + from, 1, added, journal.file) == added && flushed(journal.file))
+        return 1;
+    failed(journal.name);
+    printf("perhaps not done: the journal could not be written; what was done before is in it, so start again and look\n");
+    return 0;
+}
+
+/* ---- Replay. */
+
+static enum seambeacon_reply replay_over(int64_t *cells, size_t *savepoints, struct seambeacon_beside *beside)
+{
+    return seambeacon_replay(record.counts, COUNTS, cells, record.starts[GROUPS], journal.bytes, MOST_JOURNAL, journal.used, savepoints,
+                             beside);
+}
+
+/* The bytes of the field at a place, by its tag and length as far as they are there; 0 if none begins so. */
+static size_t field_bytes(size_t place)
 {
     static const uint8_t heads[][3] = {{1, 0, 19}, {2, 0, 1}, {3, 0, 1}, {4, 0, 1}};
     size_t left = journal.used - place;
-    for (size_t i = 0; i < 4; i++)
-        if (left > 0 && left < 3u + heads[i][2] && memcmp(journal.bytes + place, heads[i], left < 3 ? left : 3) == 0)
-            return 1;
+    for (size_t i = 0; left > 0 && i < 4; i++)
+        if (memcmp(journal.bytes + place, heads[i], left < 3 ? left : 3) == 0)
+            return 3u + heads[i][2];
     return 0;
+}
+
+/* From the place to the journal's end stands the beginning of a field, and not all of it. */
+static int cut_short(size_t place)
+{
+    return journal.used - place < field_bytes(place);
+}
+
+/* The places of the sets, up to the first that is no field, which a replay will find. */
+static size_t find_sets(size_t *places)
+{
+    size_t many = 0, bytes;
+    for (size_t at = 0; (bytes = field_bytes(at)) > 0 && bytes <= journal.used - at; at += bytes)
+        if (journal.bytes[at] == 1)
+            places[many++] = at;
+    return many;
+}
+
+/* The cell of the set at a place has its old value again. */
+static int give_back(int64_t *cells, size_t place)
+{
+    const uint8_t *field = journal.bytes + place;
+    size_t group = field[3], cell = (size_t)field[4] << 8 | field[5];
+    uint64_t value = 0;
+    if (group < 1 || group > GROUPS || cell < 1 || cell > record.starts[group] - record.starts[group - 1])
+        return 0;
+    for (size_t i = 6; i < 14; i++)
+        value = value << 8 | field[i];
+    cells[record.starts[group - 1] + cell - 1] = (int64_t)value;
+    return 1;
+}
+
+/* A save was cut off before it had emptied the journal. Then the day has what the journal's calls have made: with all old values given back, from
+   the last to the first, a replay gives the very cells that the day has. */
+static int was_saved(void)
+{
+    static int64_t cells[MOST_CELLS];
+    static size_t sets[MOST_JOURNAL / SET_BYTES];
+    struct seambeacon_beside beside;
+    size_t savepoints, many = find_sets(sets);
+    memcpy(cells, record.cells, sizeof cells);
+    while (many > 0)
+        if (!give_back(cells, sets[--many]))
+            return 0;
+    return replay_over(cells, &savepoints, &beside) == SEAMBEACON_DONE && memcmp(cells, record.cells, sizeof cells) == 0;
+}
+
+/* The journal's bytes are kept beside it: if RECORD was not the one that was edited, that record may have the same cells by chance. */
+static int end_save(void)
+{
+    char name[MOST_PATH];
+    if (!flushed_folder(day.path)) {
+        fprintf(stderr, "edit: the day has the edits of the journal already, but perhaps not yet safe; nothing was altered, so start again\n");
+        return 0;
+    }
+    if (!written_beside(journal.name, journal.file, journal.bytes, journal.used, name) || !flushed_folder(journal.name) || !cut_journal(0))
+        return 0;
+    printf("the day has the edits of the journal already: a save was cut off before it had emptied the journal, which is empty now\n");
+    printf("the edits were those of %s\n", name);
+    journal.used = 0;
+    return 1;
 }
 
 static int replay(void)
 {
     struct seambeacon_beside beside;
-    size_t savepoints, whole = journal.used, cells = record.starts[GROUPS];
-    enum seambeacon_reply reply =
-        seambeacon_replay(record.counts, COUNTS, record.cells, cells, journal.bytes, MOST_BYTES, journal.used, &savepoints, &beside);
+    size_t savepoints, whole = journal.used;
+    enum seambeacon_reply reply = replay_over(record.cells, &savepoints, &beside);
     if (reply == SEAMBEACON_BAD_ENTRY && cut_short(beside.place)) {
         journal.used = beside.place;
-        reply = seambeacon_replay(record.counts, COUNTS, record.cells, cells, journal.bytes, MOST_BYTES, journal.used, &savepoints, &beside);
+        reply = replay_over(record.cells, &savepoints, &beside);
     }
+    if (reply == SEAMBEACON_BAD_ENTRY && was_saved())
+        return end_save();
     if (reply != SEAMBEACON_DONE) {
         fprintf(stderr, "edit: the journal cannot be replayed, and nothing was altered: ");
         tell(stderr, reply, &beside);
+        fprintf(stderr, "\n");
         return 0;
     }
     if (journal.used < whole) {
@@ -253,23 +369,20 @@ static int replay(void)
     return 1;
 }
 
-/* The bytes that a call added are on disk. */
-static int kept(size_t from)
-{
-    size_t added = journal.used - from;
-    if (fwrite(journal.bytes + from, 1, added, journal.file) == added && flushed(journal.file))
-        return 1;
-    return failed(journal.name);
-}
-
 /* ---- Commands: 0 where none can follow. */
+
+/* The library asks that no more bytes are used than there is room for. */
+static size_t room(size_t most)
+{
+    return journal.used < most ? most : journal.used;
+}
 
 static int set(size_t group, size_t cell, int64_t value)
 {
     struct seambeacon_beside beside;
     size_t from = journal.used;
-    if (refused(seambeacon_set_cell(record.counts, COUNTS, record.cells, record.starts[GROUPS], journal.bytes, MOST_BYTES, &journal.used,
-                                    group, cell, value, &beside),
+    if (refused(seambeacon_set_cell(record.counts, COUNTS, record.cells, record.starts[GROUPS], journal.bytes,
+                                    room(journal.save_refused ? MOST_JOURNAL : MOST_EDITS), &journal.used, group, cell, value, &beside),
                 &beside))
         return 1;
     if (!kept(from))
@@ -282,7 +395,7 @@ static int open_savepoint(void)
 {
     struct seambeacon_beside beside;
     size_t from = journal.used;
-    if (refused(seambeacon_open_savepoint(record.counts, COUNTS, record.cells, record.starts[GROUPS], journal.bytes, MOST_BYTES,
+    if (refused(seambeacon_open_savepoint(record.counts, COUNTS, record.cells, record.starts[GROUPS], journal.bytes, room(MOST_EDITS),
                                           &journal.used, &beside),
                 &beside))
         return 1;
@@ -296,7 +409,7 @@ static int release_savepoint(size_t savepoint)
 {
     struct seambeacon_beside beside;
     size_t from = journal.used;
-    if (refused(seambeacon_release_savepoint(record.counts, COUNTS, record.cells, record.starts[GROUPS], journal.bytes, MOST_BYTES,
+    if (refused(seambeacon_release_savepoint(record.counts, COUNTS, record.cells, record.starts[GROUPS], journal.bytes, MOST_JOURNAL,
                                              &journal.used, savepoint, &beside),
                 &beside))
         return 1;
@@ -310,7 +423,7 @@ static int undo(size_t savepoint)
 {
     struct seambeacon_beside beside;
     size_t from = journal.used;
-    if (refused(seambeacon_undo_to_savepoint(record.counts, COUNTS, record.cells, record.starts[GROUPS], journal.bytes, MOST_BYTES,
+    if (refused(seambeacon_undo_to_savepoint(record.counts, COUNTS, record.cells, record.starts[GROUPS], journal.bytes, MOST_JOURNAL,
                                              &journal.used, savepoint, &beside),
                 &beside))
         return 1;
@@ -333,30 +446,44 @@ static int show(size_t group)
     return 1;
 }
 
-/* ---- Saving: the day is written anew beside the old one, which it then replaces at once. The journal is emptied last. */
+/* ---- Saving: the new day replaces the old one in one step, and the journal is emptied last. */
 
-/* The day is as it was loaded; else a save would take back what somebody else has saved there, another record perhaps. */
-static int day_unaltered(void)
+/* The day, locked until it is closed; NULL, with the reason in words. It is as it was loaded; else a save would take back what somebody else has
+   saved there, another record perhaps. A day that was replaced since it was opened here is another file, and its lock holds nobody off. */
+static FILE *hold_day(void)
 {
-    uint8_t *text;
-    size_t length;
-    int same = read_day(&text, &length) && length == day.length && memcmp(text, day.text, length) == 0;
-    free(text);
-    return same;
+    FILE *file = fopen(day.path, "r+b");
+    enum lock lock = file == NULL ? NOT_LOCKED : lock_file(file);
+    const char *why = NULL;
+    if (lock == NOT_LOCKED) {
+        failed(day.name);
+        why = "the day cannot be written, and is as it was; the journal has all edits";
+    } else if (lock == HELD || !leads_to(day.path, file))
+        why = "another editor is saving this day just now; the journal has all edits, so save again";
+    else if (!is_as_loaded(file))
+        why = "the day is not as it was loaded; the journal has all edits, so start again";
+    if (why == NULL)
+        return file;
+    printf("refused: %s\n", why);
+    if (file != NULL)
+        fclose(file);
+    return NULL;
 }
 
 /* The day's text, canonical where the record stands; its length, or 0 where that was refused. */
 static size_t new_day(uint8_t **text, size_t *written)
 {
-    static uint8_t out[MOST_BYTES];
+    static uint8_t out[MOST_TEXT];
     struct seambeacon_beside beside;
     size_t behind = day.length - day.next;
-    if (refused(seambeacon_write_record(record.counts, COUNTS, record.cells, record.starts[GROUPS], out, sizeof out, &beside), &beside))
+    if (refused(seambeacon_write_record(record.counts, COUNTS, record.cells, record.starts[GROUPS], out, sizeof out, &beside), &beside)) {
+        journal.save_refused = 1;
         return 0;
+    }
     *written = beside.written;
     *text = malloc(day.at + *written + behind);
     if (*text == NULL) {
-        printf("refused: there is no memory for the day\n");
+        printf("refused: there is no memory for the day; the journal has all edits\n");
         return 0;
     }
     memcpy(*text, day.text, day.at);
@@ -365,46 +492,50 @@ static size_t new_day(uint8_t **text, size_t *written)
     return day.at + *written + behind;
 }
 
-static int replace_day(const uint8_t *text, size_t length)
+static enum replaced replace_day(const uint8_t *text, size_t length)
 {
-    char name[MOST_PATH];
-    int put = snprintf(name, sizeof name, "%s.new", day.name), written;
-    FILE *file = put > 0 && (size_t)put < sizeof name ? fopen(name, "wb") : NULL;
-    if (file == NULL)
-        return failed(name);
-    written = (fwrite(text, 1, length, file) == length && flushed(file)) || failed(name);
-    fclose(file);
-    if (written && (rename(name, day.name) == 0 || failed(day.name)))
-        return flushed_folder(day.name) || failed(day.name);
-    remove(name);
-    return 0;
+    enum replaced replaced;
+    FILE *held = hold_day();
+    if (held == NULL)
+        return NOT_REPLACED;
+    replaced = replace_file(day.path, held, text, length);
+    fclose(held);
+    if (replaced == NOT_REPLACED)
+        printf("refused: the day could not be written, and is as it was; the journal has all edits\n");
+    if (replaced == NOT_FLUSHED)
+        printf("saved, but perhaps not yet safe: a power failure may bring the old day back; the journal is kept, so start again\n");
+    return replaced;
+}
+
+/* The text is the day from now on. */
+static int saved(uint8_t *text, size_t length, size_t written)
+{
+    free(day.text);
+    day.text = text;
+    day.length = length;
+    day.next = day.at + written;
+    if (!cut_journal(0)) {
+        printf("saved, but the journal could not be emptied: start again, which does so\n");
+        return 0;
+    }
+    journal.used = 0;
+    journal.save_refused = 0;
+    printf("done: record %zu is saved, in %zu bytes, and the journal is empty\n", record.number, written);
+    return 1;
 }
 
 static int save(void)
 {
     uint8_t *text;
-    size_t written, length;
-    if (!day_unaltered()) {
-        printf("refused: the day is not as it was loaded; the journal has all edits\n");
-        return 1;
-    }
-    length = new_day(&text, &written);
+    size_t written, length = new_day(&text, &written);
+    enum replaced replaced;
     if (length == 0)
         return 1;
-    if (!replace_day(text, length)) {
-        free(text);
-        printf("refused: the day could not be written; the journal has all edits\n");
-        return 1;
-    }
-    free(day.text);
-    day.text = text;
-    day.length = length;
-    day.next = day.at + written;
-    journal.used = 0;
-    if (!cut_journal(0))
-        return 0;
-    printf("done: record %zu is saved, in %zu bytes, and the journal is empty\n", record.number, written);
-    return 1;
+    replaced = replace_day(text, length);
+    if (replaced == REPLACED)
+        return saved(text, length, written);
+    free(text);
+    return replaced == NOT_REPLACED;
 }
 
 /* ---- Words. */
@@ -497,8 +628,7 @@ int main(int count, char **words)
         return 2;
     }
     setvbuf(stdout, NULL, _IOLBF, 0); /* an answer is said at once, also into a file */
-    day.name = words[1];
-    if (!read_day(&day.text, &day.length) || !find_record(number) || !load_cells() || !load_journal(words[3]) || !replay())
+    if (!load_day(words[1]) || !find_record(number) || !load_cells() || !load_journal(words[3]) || !day_fits_journal() || !replay())
         return 1;
     while (read_line(line) && take(command, split(line, command)))
         ;

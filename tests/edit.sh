@@ -1,7 +1,9 @@
 #!/bin/sh
 # examples/edit.c on copies of the example day: what it says, the bytes of its journal, and the day that it saves. It is killed between two
-# commands, with a part of a further field behind them, and started again: every edit that was said to be done is there. What is expected comes
-# from the text's columns and from the rules: fields of the forms F7.3 and F8.3 (R73, R104), and the journal's fields byte by byte.
+# commands, with a part of a further field behind them, and started again: every edit that was said to be done is there. It is killed in a save,
+# before and behind the renaming, and functions of the C library fail it (tests/edit/faults.c). Two of them meet on one journal and on one day.
+# What is expected comes from the text's columns and from the rules: fields of the forms F7.3 and F8.3 (R73, R104), and the journal's fields byte
+# by byte.
 set -u
 LC_ALL=C
 export LC_ALL
@@ -11,19 +13,26 @@ name=edit
 . tests/kit
 
 counted 'the archive' archived || finished 1 || exit 1
-counted 'the program' compiled examples/edit.c "$work/edit.o" -std=c99 && counted 'it is linked' linked "$work/edit" "$work/edit.o" ||
+counted 'the program' editor_linked "$work/edit" || finished 1 || exit 1
+counted 'faults for it' compiled tests/edit/faults.c "$work/faults.o" -std=c99 && counted 'with faults' editor_linked "$work/faulty" "$work/faults.o" ||
     finished 1 || exit 1
-if command -v cc >/dev/null; then
-    counted 'the program, cc with its own headers' cc -std=c99 -Wall -Wextra -pedantic -Werror -Iinclude -fsyntax-only examples/edit.c
-fi
-counted 'no function is longer than 40 lines' none "$(awk '/^{/ { from = NR } /^}/ && from { if (NR - from > 39) print; from = 0 }' examples/edit.c)"
+for source in examples/edit.c examples/files.c; do
+    if command -v cc >/dev/null; then
+        counted "$source, cc with its own headers" cc -std=c99 -Wall -Wextra -pedantic -Werror -Iinclude -fsyntax-only "$source"
+    fi
+    counted "$source: no function is longer than 40 lines" \
+        none "$(awk '/^{/ { from = NR } /^}/ && from { if (NR - from > 39) print; from = 0 }' "$source")"
+done
 
-day=$work/day
-journal=$work/journal
+mkdir "$work/files"
+day=$work/files/day
+journal=$work/files/journal
+program=$work/edit
 
-begin() { # a day as it was, and no journal
+begin() { # a day as it was, and no journal; nothing else is there
+    rm -rf "$work/files"
+    mkdir "$work/files"
     cp examples/day.sao "$day"
-    rm -f "$journal"
 }
 
 edit() { # RECORD LINE..: what it says to these lines, in "$work/got"; its exit status
@@ -32,7 +41,38 @@ edit() { # RECORD LINE..: what it says to these lines, in "$work/got"; its exit 
     if [ $# -gt 0 ]; then
         printf '%s\n' "$@"
     fi >"$work/commands"
-    started "$work/edit" "$day" "$record" "$journal" <"$work/commands" >"$work/got" 2>&1
+    (becomes "$program" "$day" "$record" "$journal" <"$work/commands" >"$work/said" 2>&1)
+    ended_with=$?
+    without_letters <"$work/said" >"$work/got"
+    return "$ended_with"
+}
+
+without_letters() { # the six letters of a new file's name are any
+    sed 's/^\(the edits were those of .*\.\)[A-Za-z0-9]\{6\}$/\1??????/;s/^\(journal\.\)[A-Za-z0-9]\{6\}$/\1??????/'
+}
+
+faulty() { # FAULT LINE..: the same of record 2, with that fault; what the shell says of a kill is dropped
+    FAULT=$1
+    export FAULT
+    program=$work/faulty
+    shift
+    { edit 2 "$@"; } 2>/dev/null
+    status=$?
+    unset FAULT
+    program=$work/edit
+    return "$status"
+}
+
+there() { # the names in the folder
+    find "$work/files" ! -name files | sed 's|.*/||' | sort
+}
+
+files() { # CASE NAME..: these are in the folder, and no others
+    what=$1
+    shift
+    printf '%s\n' "$@" | sort >"$work/want"
+    there | without_letters >"$work/got"
+    compared "$what: the files there are" "$work/want"
 }
 
 said() { # CASE LINE..: exactly that was said
@@ -140,7 +180,7 @@ trap '' PIPE
 mkfifo "$work/pipe"
 
 run() { # in the background, with commands from the pipe; its number is in `running`
-    becomes "$work/edit" "$day" 2 "$journal" <"$work/pipe" >"$work/got" 2>&1 &
+    becomes "$program" "$day" 2 "$journal" <"$work/pipe" >"$work/got" 2>&1 &
     running=$!
     exec 3>"$work/pipe"
     echo "$loaded" >"$work/all"
@@ -252,6 +292,14 @@ holds 'the first field cut short' ''
 
 # ---- a journal that is wrong otherwise: nothing is altered
 
+set_bytes() { # GROUP CELL OLD NEW: a set, as bytes
+    set_field "$@" | sed 's/../& /g' | awk '
+        BEGIN { for (i = 0; i < 16; i++) digit[sprintf("%x", i)] = i }
+        { for (i = 1; i <= NF; i++) printf "\\%03o", 16 * digit[substr($i, 1, 1)] + digit[substr($i, 2, 1)] }' >"$work/escapes"
+    # shellcheck disable=SC2059
+    printf "$(cat "$work/escapes")"
+}
+
 wrong() { # CASE PLACE
     keep
     edit 2 'set 4 1 1' 'save'
@@ -285,18 +333,20 @@ wrong 'a whole field of a group that is not there' "$used"
 
 # ---- saving
 
+set_anew='; the journal has all edits: set that anew or undo, and save again'
+done_saved='done: record 2 is saved, in 1992 bytes, and the journal is empty'
 begin
 cp "$work/right" "$journal"
 keep
 edit 2 'set 4 1 10000000' 'save'
 said 'a value without a field' "$loaded" "$resumed" 'done: cell 1 of group 4 is 10000000' \
-    'refused: the cells fit no field (reply 13, group 4, element 1)'
+    "refused: the cells fit no field (reply 13, group 4, element 1)$set_anew"
 counted 'a value without a field: the day is as it was' cmp -s "$day" examples/day.sao
 holds 'a value without a field' "$done_so_far$(set_field 4 1 7300 10000000)"
 # month 92; position 10 is its first
 edit 2 'undo 1' 'set 3 10 57' 'save' 'undo 1'
 said 'a wrong date' "$loaded" "replayed $((used + 22)) bytes of the journal; savepoints open: 1" \
-    'done: all is as it was when savepoint 1 was opened' 'done: cell 10 of group 3 is 57' 'refused: the date is wrong (reply 10, position 10)' \
+    'done: all is as it was when savepoint 1 was opened' 'done: cell 10 of group 3 is 57' "refused: the date is wrong (reply 10, position 10)$set_anew" \
     'done: all is as it was when savepoint 1 was opened'
 counted 'a wrong date: the day is as it was' cmp -s "$day" examples/day.sao
 
@@ -307,26 +357,75 @@ edited() { # SCRIPT: the day with record 2 altered by it, from the line of its d
 
 cp "$work/right" "$journal"
 edit 2 'save' 'show 4' 'undo 1'
-said 'saved' "$loaded" "$resumed" 'done: record 2 is saved, in 1992 bytes, and the journal is empty' "$four_now" "$not_open"
+said 'saved' "$loaded" "$resumed" "$done_saved" "$four_now" "$not_open"
 edited 's/^   3\.5259999/   7.3009999/
 s/^\(9999\.000 325.*\)  47\.500/\1  47.600/' >"$work/want"
 counted 'two lines of the day differ' [ "$(diff -a examples/day.sao "$work/want" | grep -ac '^>')" -eq 2 ]
 cp "$day" "$work/got"
 compared 'the saved day' "$work/want"
 holds 'saved' ''
-counted 'no other file is left' [ ! -e "$day.new" ]
+files 'saved' day journal
 
-# a save that was cut off before it emptied the journal: the journal does not fit the saved day
+# a save that was cut off before it emptied the journal: the journal is that of the day as it was before
+ended="the day has the edits of the journal already: a save was cut off before it had emptied the journal, which is empty now
+the edits were those of $journal.??????"
 cp "$work/right" "$journal"
-wrong 'the journal of a saved day' 0
+keep
+edit 2 'show 4' 'undo 1' 'set 4 1 7301'
+counted 'the journal of a saved day: exit status' [ "$?" = 0 ]
+said 'the journal of a saved day' "$loaded" "$ended" "$four_now" "$not_open" 'done: cell 1 of group 4 is 7301'
+counted 'the journal of a saved day: the day is as it was' cmp -s "$day" "$work/before/day"
+files 'the journal of a saved day' day journal 'journal.??????'
+counted 'the journal of a saved day is kept' cmp -s "$journal".?????? "$work/right"
+holds 'the journal of a saved day' "$(set_field 4 1 7300 7301)"
+
+# the same, but not all of the day is what the journal's calls have made, or not all of the journal is right
+sed '/^AA20040600229010000/,/^AA20040600229020000/s/^   7\.300/   7.302/' "$work/before/day" >"$day"
+cp "$work/right" "$journal"
+wrong 'a saved day that was altered since' 0
+cp "$work/before/day" "$day"
+{ cat "$work/right" && set_bytes 4 2 1 2; } >"$journal"
+wrong 'the journal of a saved day, and a set of something else' 0
+{ cat "$work/right" && printf '\001\000'; } >"$journal"
+wrong 'the journal of a saved day, and a part of a field' 0
+{ cat "$work/right" && printf '\001\000\000'; } >"$journal"
+wrong 'the journal of a saved day, and what is no field' 0
+for spot in '0 1' '61 1' '4 0' '4 41' '255 65535' '5 1'; do
+    # shellcheck disable=SC2086
+    { cat "$work/right" && set_bytes $spot 1 2; } >"$journal"
+    wrong "the journal of a saved day, and a set of $spot" 0
+done
+over 150 001 >"$journal"
+wrong 'the journal of a saved day, with a wrong length' 0
+cp "$work/right" "$journal"
+keep
+edit 3 'save'
+counted 'the journal of another record: exit status' [ "$?" = 1 ]
+kept 'the journal of another record'
+
+# all old values count, those of the stretches that were undone too, and of sixteen savepoints
+begin
+set -- 'set 4 2 11' 'open' 'set 4 2 12' 'set 4 3 13' 'undo 1' 'set 4 3 14' 'undo 1' 'set 4 3 15'
+while [ $# -lt 23 ]; do
+    set -- "$@" open
+done
+edit 2 "$@" 'set 4 2 16' 'set 4 2 17' 'undo 16' 'set 4 4 18' 'set 4 4 19'
+cp "$journal" "$work/long"
+edit 2 'save' 'show 4'
+saved_four=$(tail -n 1 "$work/got")
+counted 'many edits are saved' [ "${saved_four#group 4: 3525 11 15 19 }" != "$saved_four" ]
+cp "$work/long" "$journal"
+edit 2 'show 4'
+said 'the journal of many edits, saved' "$loaded" "$ended" "$saved_four"
+holds 'the journal of many edits, saved' ''
 
 # it goes on behind a save
 begin
 edit 2 'open' 'set 4 1 7301' 'save' 'open' 'set 4 1 7302' 'undo 1' 'set 4 40 1' 'save'
 said 'saved twice' "$loaded" 'done: savepoint 1 is open' 'done: cell 1 of group 4 is 7301' \
-    'done: record 2 is saved, in 1992 bytes, and the journal is empty' 'done: savepoint 1 is open' 'done: cell 1 of group 4 is 7302' \
+    "$done_saved" 'done: savepoint 1 is open' 'done: cell 1 of group 4 is 7302' \
     'done: all is as it was when savepoint 1 was opened' 'done: cell 40 of group 4 is 1' \
-    'done: record 2 is saved, in 1992 bytes, and the journal is empty'
+    "$done_saved"
 edited 's/^   3\.5259999/   7.3019999/
 s/^\(9999\.000 325.*\)  47\.500/\1   0.001/' >"$work/want"
 cp "$day" "$work/got"
@@ -338,7 +437,7 @@ run
 ask 'set 4 1 7301' 'done: cell 1 of group 4 is 7301'
 printf 'x' >>"$day"
 keep
-ask 'save' 'refused: the day is not as it was loaded; the journal has all edits'
+ask 'save' 'refused: the day is not as it was loaded; the journal has all edits, so start again'
 exec 3>&-
 wait "$running"
 counted 'an altered day: exit status' [ "$?" = 0 ]
@@ -347,28 +446,259 @@ compared 'an altered day' "$work/want"
 kept 'an altered day'
 edit 2 'save'
 said 'an altered day, loaded again' "$loaded" 'replayed 22 bytes of the journal; savepoints open: 0' \
-    'done: record 2 is saved, in 1992 bytes, and the journal is empty'
+    "$done_saved"
 { edited 's/^   3\.5259999/   7.3019999/' && printf 'x'; } >"$work/want"
 cp "$day" "$work/got"
 compared 'the altered day, saved' "$work/want"
 
-# a new day that can't be written, and one that a killed save has left
+# a new day that can't be written: its name would have more bytes than a name can have
 begin
-mkdir "$day.new"
+name_of_250=$(awk 'BEGIN { for (i = 0; i < 250; i++) printf "d" }')
+day=$work/files/$name_of_250
+mv "$work/files/day" "$day"
 edit 2 'set 4 1 7301' 'save' 'show 5'
-said 'a day that cannot be written' "$loaded" 'done: cell 1 of group 4 is 7301' "edit: $day.new: Is a directory" \
-    'refused: the day could not be written; the journal has all edits' 'group 5:'
+said 'a day that cannot be written' "$loaded" 'done: cell 1 of group 4 is 7301' "edit: $day: File name too long" \
+    'refused: the day could not be written, and is as it was; the journal has all edits' 'group 5:'
 counted 'a day that cannot be written is as it was' cmp -s "$day" examples/day.sao
 holds 'a day that cannot be written' "$(set_field 4 1 3525 7301)"
-rmdir "$day.new"
-echo 'a part of a day' >"$day.new"
+files 'a day that cannot be written' journal "$name_of_250"
+day=$work/files/day
+
+# a journal with any name that a new day might have
+edited 's/^   3\.5259999/   7.3019999/' >"$work/saved"
+begin
+plain_journal=$journal
+for journal in "$day.new" "$day.XXXXXX" "$day~" "$day.tmp"; do
+    cp examples/day.sao "$day"
+    edit 2 'set 4 1 7300' 'save' 'set 4 1 7301' 'save' 'open'
+    said "$journal" "$loaded" 'done: cell 1 of group 4 is 7300' "$done_saved" \
+        'done: cell 1 of group 4 is 7301' "$done_saved" 'done: savepoint 1 is open'
+    counted "$journal: the day is saved" cmp -s "$day" "$work/saved"
+    holds "$journal" "$(savepoint_field 2 1)"
+done
+files 'journals with names like that of the day' day day.new day.XXXXXX 'day~' day.tmp
+journal=$plain_journal
+
+# the day itself as its journal, by any of its names
+begin
+ln "$day" "$work/files/other"
+ln -s day "$work/files/link"
+for journal in "$day" "$work/files/other" "$work/files/link"; do
+    edit 2 'open'
+    counted "the day as its journal, $journal: exit status" [ "$?" = 1 ]
+    said "the day as its journal, $journal" "$loaded" "edit: the journal $journal is the day itself; nothing was altered"
+    counted "the day as its journal, $journal: it is as it was" cmp -s "$day" examples/day.sao
+done
+journal=$plain_journal
+
+# a day that is a symbolic link, into another folder, stays one; the file behind it has its mode and its owner
+begin
+mkdir "$work/files/kept"
+mv "$day" "$work/files/kept/true"
+ln -s kept/true "$day"
+chmod 640 "$work/files/kept/true"
+[ "$(id -u)" != 0 ] || chown 12:34 "$work/files/kept/true"
+mode_of() { # FILE: its mode, owner and group
+    # shellcheck disable=SC2012
+    ls -ln "$1" | awk '{ print $1, $3, $4 }'
+}
+mode_of "$work/files/kept/true" >"$work/mode"
+edit 2 'set 4 1 7301' 'save'
+said 'a day behind a link' "$loaded" 'done: cell 1 of group 4 is 7301' "$done_saved"
+counted 'a day behind a link is saved' cmp -s "$work/files/kept/true" "$work/saved"
+counted 'and stays behind it' [ "$(readlink "$day")" = kept/true ]
+counted 'with a mode that is not that of other files' grep -q '^-rw-r-----' "$work/mode"
+counted 'which it keeps' [ "$(mode_of "$work/files/kept/true")" = "$(cat "$work/mode")" ]
+files 'a day behind a link' day journal kept true
+
+# ---- a save that is killed, or fails, on its way
+
+begin
+faulty unrenamed 'set 4 1 7301' 'save'
+counted 'killed before the renaming: exit status' [ "$?" = 137 ]
+said 'killed before the renaming' "$loaded" 'done: cell 1 of group 4 is 7301'
+counted 'killed before the renaming: the day is as it was' cmp -s "$day" examples/day.sao
+holds 'killed before the renaming' "$(set_field 4 1 3525 7301)"
+counted 'killed before the renaming: the new day is there' [ "$(there | wc -l)" = 3 ]
 edit 2 'save'
-edited 's/^   3\.5259999/   7.3019999/' >"$work/want"
-cp "$day" "$work/got"
-compared 'a day that is written over what was left' "$work/want"
-counted 'which is then no more' [ ! -e "$day.new" ]
+said 'killed before the renaming, started again' "$loaded" 'replayed 22 bytes of the journal; savepoints open: 0' \
+    "$done_saved"
+counted 'killed before the renaming, saved again' cmp -s "$day" "$work/saved"
+
+for fault in renamed emptying; do
+    begin
+    faulty "$fault" 'set 4 1 7302' 'open' 'set 4 1 7301' 'set 4 2 1' 'open' 'set 4 2 2' 'undo 1' 'set 4 1 7301' 'save'
+    counted "$fault, killed: exit status" [ "$?" = 137 ]
+    counted "$fault, killed: the day is saved" cmp -s "$day" "$work/saved"
+    counted "$fault, killed: the journal has all edits" [ "$(wc -c <"$journal")" -eq $((5 * 22 + 3 * 4)) ]
+    edit 2 'show 4' 'set 4 1 7300'
+    counted "$fault, started again: exit status" [ "$?" = 0 ]
+    said "$fault, started again" "$loaded" "$ended" "group 4: 7301 $of_four" 'done: cell 1 of group 4 is 7300'
+    counted "$fault, started again: the day is saved" cmp -s "$day" "$work/saved"
+    holds "$fault, started again" "$(set_field 4 1 7301 7300)"
+    files "$fault" day journal 'journal.??????'
+done
+
+# the wrong record, whose cell happens to have what was set: the edit is not lost
+begin
+edit 3 'set 4 1 3525'
+edit 2
+said 'the wrong record, with the same cell' "$loaded" "$ended"
+cp "$journal".?????? "$journal"
+edit 3
+said 'the right record, with the journal that was kept' 'record 3 has 453 cells' 'replayed 22 bytes of the journal; savepoints open: 0'
+
+begin
+faulty folder 'set 4 1 7301' 'save' 'show 4'
+counted 'a folder that cannot be flushed: exit status' [ "$?" = 1 ]
+said 'a folder that cannot be flushed' "$loaded" 'done: cell 1 of group 4 is 7301' "edit: $(cd "$work/files" && pwd -P)/.: Input/output error" \
+    'saved, but perhaps not yet safe: a power failure may bring the old day back; the journal is kept, so start again'
+counted 'a folder that cannot be flushed: the day is saved' cmp -s "$day" "$work/saved"
+holds 'a folder that cannot be flushed' "$(set_field 4 1 3525 7301)"
+keep
+faulty lost 'show 4'
+counted 'a folder that cannot be flushed again: exit status' [ "$?" = 1 ]
+said 'a folder that cannot be flushed again' "$loaded" "edit: $(cd "$work/files" && pwd -P)/.: Input/output error" \
+    'edit: the day has the edits of the journal already, but perhaps not yet safe; nothing was altered, so start again'
+kept 'a folder that cannot be flushed again'
+edit 2 'show 5'
+said 'a folder that can be flushed again' "$loaded" "$ended" 'group 5:'
+holds 'a folder that can be flushed again' ''
+# the power failure brought the old day back
+cp examples/day.sao "$day"
+cp "$work/before/journal" "$journal"
+edit 2 'show 4'
+said 'the old day is back' "$loaded" 'replayed 22 bytes of the journal; savepoints open: 0' "group 4: 7301 $of_four"
+
+begin
+faulty full 'set 4 1 7301' 'save' 'show 4'
+counted 'a journal that cannot be emptied: exit status' [ "$?" = 1 ]
+said 'a journal that cannot be emptied' "$loaded" 'done: cell 1 of group 4 is 7301' "edit: $journal: Input/output error" \
+    'saved, but the journal could not be emptied: start again, which does so'
+counted 'a journal that cannot be emptied: the day is saved' cmp -s "$day" "$work/saved"
+edit 2
+said 'a journal that can be emptied' "$loaded" "$ended"
+holds 'a journal that can be emptied' ''
+
+begin
+faulty lost 'set 4 1 7301' 'show 4'
+counted 'a journal that cannot be written: exit status' [ "$?" = 1 ]
+said 'a journal that cannot be written' "$loaded" "edit: $journal: Input/output error" \
+    'perhaps not done: the journal could not be written; what was done before is in it, so start again and look'
+
+# ---- two editors
+
+second() { # RECORD JOURNAL LINE..: another editor of the day; what it says is in "$work/second"
+    second_record=$1
+    second_journal=$2
+    shift 2
+    printf '%s\n' "$@" >"$work/commands"
+    started "$work/edit" "$day" "$second_record" "$second_journal" <"$work/commands" >"$work/second" 2>&1
+}
+
+second_said() { # CASE LINE..
+    what=$1
+    shift
+    printf '%s\n' "$@" >"$work/want"
+    counted "$what" cmp -s "$work/second" "$work/want" || diff -a "$work/want" "$work/second"
+}
+
+closed() { # CASE: the editor in the background ends, and has said what it was asked for
+    exec 3>&-
+    wait "$running"
+    counted "$1: exit status" [ "$?" = 0 ]
+    cp "$work/all" "$work/want"
+    compared "$1" "$work/want"
+}
+
+# on one journal, by any of its names
+begin
+run
+ask 'set 4 1 7300' 'done: cell 1 of group 4 is 7300'
+ln -s journal "$work/files/link"
+ln "$journal" "$work/files/other"
+keep
+for other in "$journal" "$work/files/link" "$work/files/other"; do
+    second 2 "$other" 'set 4 1 1' 'save'
+    counted "a second editor on $other: exit status" [ "$?" = 1 ]
+    second_said "a second editor on $other" "$loaded" "edit: another editor is at work with $other; nothing was altered"
+    kept "a second editor on $other"
+done
+ask 'set 4 1 7301' 'done: cell 1 of group 4 is 7301'
+ask 'save' "$done_saved"
+second 2 "$journal" 'open'
+counted 'a second editor behind a save: exit status' [ "$?" = 1 ]
+holds 'a second editor behind a save' ''
+closed 'the first of two editors'
+counted 'the first of two editors has saved' cmp -s "$day" "$work/saved"
+second 2 "$journal" 'open'
+second_said 'the second editor, when the first has gone' "$loaded" 'done: savepoint 1 is open'
+
+# on two records of one day
+# record 3 is that of 02:00, the lines from 51 to 75; its trace has 21 points
+third_loaded='record 3 has 453 cells'
+third_set='done: cell 1 of group 4 is 3426'
+third_saved="done: record 3 is saved, in $(sed -n 51,75p examples/day.sao | wc -c) bytes, and the journal is empty"
+sed '/^AA20040600229020000/,/^AA20040600229030000/s/^   3\.4259999/   3.4269999/' "$work/saved" >"$work/both"
+counted 'a line of record 3 differs' [ "$(diff -a "$work/saved" "$work/both" | grep -ac '^>')" -eq 1 ]
+begin
+run
+ask 'set 4 1 7301' 'done: cell 1 of group 4 is 7301'
+second 3 "$work/files/third" 'set 4 1 3426' 'save'
+second_said 'two records: the second editor' "$third_loaded" "$third_set" "$third_saved"
+ask 'save' 'refused: the day is not as it was loaded; the journal has all edits, so start again'
+closed 'two records: the first editor'
+edit 2 'save'
+said 'two records: the first editor, started again' "$loaded" 'replayed 22 bytes of the journal; savepoints open: 0' \
+    "$done_saved"
+counted 'two records: both are saved' cmp -s "$day" "$work/both"
+
+# the day is replaced by another editor in the very moment in which it is loaded, or locked for a save
+OTHER=$work/files/other
+DAY=$day
+export OTHER DAY
+begin
+cp "$work/saved" "$OTHER"
+faulty loading 'set 4 1 1'
+counted 'saved while it is loaded: exit status' [ "$?" = 1 ]
+said 'saved while it is loaded' "$loaded" 'edit: the day was saved by another editor while it was being loaded; start again'
+counted 'saved while it is loaded: the day' cmp -s "$day" "$work/saved"
+holds 'saved while it is loaded' ''
+begin
+cp "$day" "$OTHER"
+faulty saving 'set 4 1 7301' 'save' 'save'
+said 'replaced while it is locked' "$loaded" 'done: cell 1 of group 4 is 7301' \
+    'refused: another editor is saving this day just now; the journal has all edits, so save again' "$done_saved"
+counted 'replaced while it is locked, and saved again' cmp -s "$day" "$work/saved"
+
+# two saves at once
+begin
+FAULT=stopped
+export FAULT
+program=$work/faulty
+run
+program=$work/edit
+unset FAULT
+ask 'set 4 1 7301' 'done: cell 1 of group 4 is 7301'
+ask 'save' 'stopped'
+keep
+second 3 "$work/files/third" 'set 4 1 3426' 'save'
+second_said 'two saves at once: the second' "$third_loaded" "$third_set" \
+    'refused: another editor is saving this day just now; the journal has all edits, so save again'
+kept 'two saves at once: the second'
+kill -CONT "$running"
+echo "$done_saved" >>"$work/all"
+awaited "$(wc -l <"$work/all")"
+closed 'two saves at once: the first'
+counted 'two saves at once: the first has saved' cmp -s "$day" "$work/saved"
+second 3 "$work/files/third" 'save'
+second_said 'two saves at once: the second, again' "$third_loaded" 'replayed 22 bytes of the journal; savepoints open: 0' "$third_saved"
+counted 'two saves at once: both are saved' cmp -s "$day" "$work/both"
+
+# ---- a text
 
 # records that are not canonical: the edited one becomes so, all others stay as they are, and one byte behind the last is kept
+rm -f "$journal"
 { below_zero | sed 's/^ -12\.345/000.010 /;s/^000\.010 /0000.010/' && printf 'x'; } >"$day"
 edit 2 'set 1 1 -0' 'save'
 said 'a text that is not canonical' 'record 2 has 24 cells' 'done: cell 1 of group 1 is 0' \
@@ -394,25 +724,108 @@ edit 2 "$@" 'release 16' 'open' 'undo 3' 'open'
         'done: all is as it was when savepoint 3 was opened' 'done: savepoint 4 is open'; } >"$work/want"
 compared 'sixteen savepoints' "$work/want"
 
-# a journal of 1,048,576 bytes: opened and released again and again
-printf '\002\000\001\001\003\000\001\001' >"$journal"
-doubled=0
-while [ "$doubled" -lt 17 ]; do
-    cat "$journal" "$journal" >"$work/doubled"
-    mv "$work/doubled" "$journal"
-    doubled=$((doubled + 1))
-done
+# a journal of 1,048,576 bytes, opened and released again and again, is full for set and open
+full='refused: there is no room left (reply 11); the journal is full: save empties it, and undo and release have room'
+no_field="refused: the cells fit no field (reply 13, group 4, element 1)$set_anew"
+
+doubled() { # BYTES: a file, which is doubled up to so many
+    while [ "$(wc -c <"$work/doubled")" -lt "$1" ]; do
+        cat "$work/doubled" "$work/doubled" >"$work/twice"
+        mv "$work/twice" "$work/doubled"
+    done
+    head -c "$1" "$work/doubled"
+}
+
+begin
+printf '\002\000\001\001\003\000\001\001' >"$work/doubled"
+doubled 1048576 >"$journal"
 keep
 edit 2 'set 4 1 1' 'open'
-said 'a full journal' "$loaded" 'replayed 1048576 bytes of the journal; savepoints open: 0' 'refused: there is no room left (reply 11)' \
-    'refused: there is no room left (reply 11)'
+said 'a full journal' "$loaded" 'replayed 1048576 bytes of the journal; savepoints open: 0' "$full" "$full"
 kept 'a full journal'
+edit 2 'set 4 1 7301' 'save' 'set 4 1 7301' 'save'
+said 'a full journal is saved' "$loaded" 'replayed 1048576 bytes of the journal; savepoints open: 0' "$full" "$done_saved" \
+    'done: cell 1 of group 4 is 7301' "$done_saved"
+counted 'a full journal is saved: the day' cmp -s "$day" "$work/saved"
+holds 'a full journal is saved' ''
+
+# one with a value that has no field: it can be set anew once a save has found it, also when the run was killed meanwhile
+begin
+{ set_bytes 4 1 3525 10000000 && doubled 1048552; } >"$journal"
+edit 2 'set 4 1 7301' 'open' 'save' 'set 4 1 20000000' 'open' 'save'
+said 'a full journal that cannot be saved' "$loaded" 'replayed 1048574 bytes of the journal; savepoints open: 0' "$full" "$full" "$no_field" \
+    'done: cell 1 of group 4 is 20000000' "$full" "$no_field"
+edit 2 'set 4 1 7301' 'save' 'set 4 1 7301' 'save' 'open'
+said 'a full journal with a value set anew' "$loaded" 'replayed 1048596 bytes of the journal; savepoints open: 0' "$full" "$no_field" \
+    'done: cell 1 of group 4 is 7301' "$done_saved" 'done: savepoint 1 is open'
+counted 'a full journal with a value set anew: the day' cmp -s "$day" "$work/saved"
+holds 'a full journal with a value set anew' "$(savepoint_field 2 1)"
+
+# one in which savepoints are open
+begin
+printf '\002\000\001\003\003\000\001\003' >"$work/doubled"
+{ set_bytes 4 1 3525 7301 && printf '\002\000\001\001\002\000\001\002' && set_bytes 4 1 7301 10000000 && doubled 1048520; } >"$journal"
+edit 2 'open' 'save' 'open' 'release 2' 'undo 1' 'save'
+said 'a full journal that is undone' "$loaded" 'replayed 1048572 bytes of the journal; savepoints open: 2' 'done: savepoint 3 is open' \
+    "$no_field" "$full" "$not_open" 'done: all is as it was when savepoint 1 was opened' "$done_saved"
+counted 'a full journal that is undone: the day' cmp -s "$day" "$work/saved"
+
+# 65,536 bytes are left for that, and no more
+begin
+printf '\002\000\001\001\003\000\001\001' >"$work/doubled"
+{ doubled 1114108 && printf '\003\000\001\001'; } >"$journal"
+keep
+edit 2 'set 4 1 1' 'open'
+said 'the longest journal' "$loaded" 'replayed 1114112 bytes of the journal; savepoints open: 0' "$full" "$full"
+kept 'the longest journal'
 printf '\002' >>"$journal"
 keep
 edit 2 'open'
 counted 'a journal that is too long: exit status' [ "$?" = 1 ]
-said 'a journal that is too long' "$loaded" "edit: $journal has more than 1048576 bytes; nothing was altered"
+said 'a journal that is too long' "$loaded" "edit: $journal has more than 1114112 bytes; nothing was altered"
 kept 'a journal that is too long'
+
+# the most cells that the rules on counts let a record have: 999 elements in each group but 2 (two lines), 4, 54 and 55 (49 each); all of them 0
+awk '
+    function form(groups, field, many, cells, i, list) {
+        split(groups, list, " ")
+        for (i in list) { fields[list[i]] = field; per_line[list[i]] = many; cells_of[list[i]] = cells }
+    }
+    function times(text, many, all) { for (all = ""; many > 0; many--) all = all text; return all }
+    BEGIN {
+        for (g = 1; g <= 60; g++) form(g, "   0.000", 15, 1)
+        form("1 6", "  0.000", 16, 1)
+        form("2", times(" ", 120), 1, 120)
+        form("3 54 55", "A", 120, 1)
+        form("5", " 0", 60, 1)
+        form("9 14 19 23 27 31 34 35 36 44 48", "  0", 40, 1)
+        form("10 15 20 24 28 32 41 45 49 56", "0", 120, 1)
+        form("37 38 39 42 57", "0.000000E+0", 10, 2)
+        form("40", "  0.000000000000E+00", 6, 2)
+        form("53 60", "0.000E+0", 15, 2)
+        for (g = 1; g <= 80; g++) {
+            count = g == 2 ? 2 : g == 4 || g == 54 || g == 55 ? 49 : g <= 60 ? 999 : g == 80 ? 5 : 0
+            counts[g] = count
+            printf "%3d%s", count, g % 40 ? "" : "\r\n"
+        }
+        for (g = 1; g <= 60; g++) {
+            for (n = counts[g]; n > 0; n -= per_line[g]) {
+                line = times(fields[g], n < per_line[g] ? n : per_line[g])
+                if (g == 3 && n == 999)
+                    line = "AA20062650922142530" substr(line, 20)
+                printf "%s\r\n", line
+            }
+            cells += counts[g] * cells_of[g]
+        }
+        print cells >"/dev/stderr"
+    }' >"$day" 2>"$work/cells"
+rm -f "$journal"
+most=$(cat "$work/cells")
+counted 'the most cells' [ "$most" -gt 64000 ]
+edit 1 'set 60 1998 7' 'set 60 1999 7' 'save'
+said 'a record of the most cells' "record 1 has $most cells" 'done: cell 1998 of group 60 is 7' "$no_cell" \
+    "done: record 1 is saved, in $(wc -c <"$day") bytes, and the journal is empty"
+counted 'a record of the most cells: its last field' [ "$(tail -c 10 "$day")" = "$(printf '0.000E+7\r')" ]
 
 # a line that may be a part of what was meant
 begin
@@ -421,4 +834,4 @@ started "$work/edit" "$day" 2 "$journal" <"$work/commands" >"$work/got" 2>&1
 counted 'a part of a line: exit status' [ "$?" = 0 ]
 said 'a part of a line' "$loaded" "$commands" "$commands"
 holds 'a part of a line' ''
-finished 190
+finished 367

@@ -97,8 +97,7 @@ played() { # CASE PROGRAM..: each run of the scene, on one day and one journal; 
 block text >"$work/scene"
 runs=$(grep -c '^\$ target/edit target/day\.sao 2 target/journal$' "$work/scene")
 counted 'a scene of two runs' [ "$runs" -eq 2 ]
-counted 'edit is compiled by the kit' compiled examples/edit.c "$work/edit.o" -std=c99
-counted 'and linked' linked "$work/edit" "$work/edit.o"
+counted 'edit is compiled and linked by the kit' editor_linked "$work/edit"
 played 'the scene' started "$work/edit"
 counted 'one command for edit' [ "$(commands 'cc .*edit' | grep -c .)" -eq 1 ]
 if [ "$machine" = x86_64 ] && command -v cc >/dev/null; then
@@ -125,4 +124,4 @@ if [ "$machine" = x86_64 ] && command -v cargo >/dev/null; then
 else
     echo "tests/readme.sh: skipped: the command for Rust, which needs x86-64 and cargo (this is $machine)"
 fi
-finished 29
+finished 28

@@ -1,6 +1,7 @@
 /* The journal's functions on the scripts of a file. What is due is kept here: counts, cells, the journal's bytes and how many are used. Each call
-   is lent a copy of it between guards, and afterwards every cell and every byte is compared. What a fresh journal has to undo is known from a
-   plain stack of whole tables; for a lent one, which need not fit its table, the script's next `cells` says it. */
+   is lent a copy of it between guards, and afterwards every cell and every byte is compared. Which cell a set alters follows from the counts.
+   What a fresh journal has to undo is known from a plain stack of whole tables; what a lent one has, which need not fit its table, from its
+   fields (R515). */
 #include "journal.h"
 #include "words.h"
 
@@ -70,6 +71,34 @@ static size_t reply_due(int opening)
     return reply;
 }
 
+/* ---- The table's layout, by the counts alone (R501, R502). */
+
+static const uint8_t cells_of_an_element[60] = {
+    1, 120, 1, 1, 1, 1, 1, 1, 1, 1, /* groups 1 to 10 */
+    1, 1,   1, 1, 1, 1, 1, 1, 1, 1, /* 11 to 20 */
+    1, 1,   1, 1, 1, 1, 1, 1, 1, 1, /* 21 to 30 */
+    1, 1,   1, 1, 1, 1, 2, 2, 2, 2, /* 31 to 40 */
+    1, 2,   1, 1, 1, 1, 1, 1, 1, 1, /* 41 to 50 */
+    1, 1,   2, 1, 1, 1, 2, 1, 1, 2, /* 51 to 60 */
+};
+
+static size_t cells_of(size_t group)
+{
+    return script.counts[group - 1] * cells_of_an_element[group - 1];
+}
+
+/* Where a cell of a group stands in the table. */
+static size_t spot(size_t group, size_t cell)
+{
+    size_t before = 0;
+    int there = script.count_length == 80 && group >= 1 && group <= 60 && cell >= 1 && cell <= cells_of(group);
+    need("a group that has that cell", there);
+    for (size_t i = 1; there && i < group; i++)
+        before += cells_of(i);
+    need("a table of all cells", there && before + cell <= script.cell_length);
+    return there && before + cell <= script.cell_length ? before + cell - 1 : 0;
+}
+
 /* ---- Fields: tag, a length of two bytes that counts what follows it, and what the call has. */
 
 static void add_byte(size_t byte)
@@ -105,6 +134,32 @@ static void add_savepoint(size_t tag, size_t savepoint)
     add_byte(savepoint);
 }
 
+static int64_t value_at(size_t place)
+{
+    uint64_t value = 0;
+    for (size_t i = 0; i < 8; i++)
+        value = value << 8 | script.bytes[place + i];
+    return (int64_t)value;
+}
+
+/* An open savepoint's opening is the last with its number. Each cell that was set behind it gets the old value of the first of these sets, and
+   so the sets are gone through from the last to the first. */
+static void restore(size_t savepoint)
+{
+    static size_t sets[MOST_BYTES];
+    size_t many = 0;
+    for (size_t at = 0; at + 3 < script.filled; at += 3u + script.bytes[at + 2]) {
+        if (script.bytes[at] == 2 && script.bytes[at + 3] == savepoint)
+            many = 0;
+        else if (script.bytes[at] == 1)
+            sets[many++] = at;
+    }
+    while (many > 0) {
+        const uint8_t *field = script.bytes + sets[--many];
+        script.cells[spot(field[3], (size_t)field[4] << 8 | field[5])] = value_at(sets[many] + 6);
+    }
+}
+
 /* ---- Calls. */
 
 /* Lends the used bytes, and reads what is due: the reply, with the numbers beside it and the used bytes of `due`. */
@@ -124,11 +179,10 @@ static void call_ended(const char *question)
     state_due(question, &script);
 }
 
-/* Which cell was altered is seen in the table; that it is the right one, in the script's next `cells`. */
 static void check_set(void)
 {
-    size_t group = size(), cell = size(), reply, i = 0;
-    int64_t value = number(), old_value = value, *table = lend_table(&script);
+    size_t group = size(), cell = size(), reply;
+    int64_t value = number(), *table = lend_table(&script);
     uint8_t *journal = lend_journal(&script);
     reply = call_due(0);
     answered("set_cell",
@@ -136,13 +190,9 @@ static void check_set(void)
                                  value, &lent.beside),
              reply);
     if (reply == 0) {
-        while (i < script.cell_length && table[i] == script.cells[i])
-            i++;
-        if (i < script.cell_length) {
-            old_value = script.cells[i];
-            script.cells[i] = value;
-        }
-        add_set(group, cell, old_value, value);
+        size_t altered = spot(group, cell);
+        add_set(group, cell, script.cells[altered], value);
+        script.cells[altered] = value;
     }
     call_ended("set_cell: cells and journal");
 }
@@ -197,7 +247,10 @@ static void check_undo(void)
     if (reply == 0) {
         need("an open one, by the stack", lent_journal || savepoint <= open_now);
         open_now = savepoint;
-        memcpy(script.cells, lent_journal ? table : opened[savepoint % (MOST_OPEN + 1)], script.cell_length * sizeof *table);
+        if (lent_journal)
+            restore(savepoint);
+        else
+            memcpy(script.cells, opened[savepoint % (MOST_OPEN + 1)], script.cell_length * sizeof *table);
         add_savepoint(4, savepoint);
     }
     call_ended("undo_to_savepoint: cells and journal");

@@ -2,9 +2,10 @@
 //! which every function is proved to meet its contract; this crate gives each of them a safe function, and the journal a [`Journal`].
 //!
 //! Whatever text, place, number, table, output and journal it is given, a question is answered: with `Ok`, or with the one [`Refusal`] due.
-//! Nothing has to be checked before a call, and no call panics. Nothing is kept between two calls, so they may come from several threads. A
-//! text is its bytes, with line ends; a place is a number of bytes from the text's start. Groups, lines, elements, positions and
-//! characteristics count from 1. R with a number is a rule of the project's docs/FORMAT.md.
+//! Nothing has to be checked before a call, and no call panics. The library keeps nothing between two calls, so they may come from several
+//! threads; what a [`Journal`] keeps, the memory lent to it and how many bytes of it are used, is its own. A text is its bytes, with line ends; a
+//! place is a number of bytes from the text's start, or from the journal's. Groups, cells of a group, lines, elements, positions, characteristics
+//! and savepoints count from 1. R with a number is a rule of the project's docs/FORMAT.md.
 //!
 //! ```
 //! // Record S: four constants, a date and one characteristic, foF2.

@@ -19,15 +19,9 @@ use Rattle.entry.specs.declared.Entry.{Entry}
 use Rattle.entry.specs.declared.Entry.the-variants.{Set, Open, Release, Undo, Misformed}
 use Rattle.entry.specs.Bytes.{numberBytes, valueFrom, bitsOf, cellOf, AllBytes}
 use Rattle.entry.specs.Field.{tagged, entryText, entrySize, numbered, setOf, entryIn}
+use Rattle.entry.specs.Codec.{Sized, sized-set, sized-open, sized-release, sized-undo, Reads, BothWays}
 use Rattle.entry.proofs.Numbers.{length-bytes, value-bytes, bytes-value, value-small}
 use Rattle.entry.proofs.Signed.{bits-small, cell-bits, bits-cell}
-
--- an entry that has a field of its own
-pub data Sized : Entry → Type 0 where
-  sized-set : {g c : ℕ} {o n : ℤ} → g < 256 → c < 65536 → SFits w64 o → SFits w64 n → Sized (Set g c o n)
-  sized-open : {k : ℕ} → k < 256 → Sized (Open k)
-  sized-release : {k : ℕ} → k < 256 → Sized (Release k)
-  sized-undo : {k : ℕ} → k < 256 → Sized (Undo k)
 
 -- ---- the text of a set
 
@@ -133,11 +127,6 @@ take-plus m n s =
     let z : m + n - m ≡ n = omega arith in
     sym (take-append-drop m (take (m + n) s)) ∙ ap₂ _++_ (take-take m (m + n) s (omega arith)) (drop-take m (m + n) s ∙ ap (λ k. take k (drop m s)) z)
 
--- the bytes of an entry's field are its text
-pub record Reads (xs : List ℕ) (e : Entry) : Type 0 where
-  pub text : take (entrySize e) xs ≡ entryText e
-  pub sized : Sized e
-
 module _ (a b c d : ℕ) (r : List ℕ) (h : AllBytes (a ∷ b ∷ c ∷ d ∷ r)) where
   abbrev xs : List ℕ
   xs = a ∷ b ∷ c ∷ d ∷ r
@@ -231,3 +220,6 @@ field-cut (Open k) m h = few-bytes (take m (entryText (Open k))) (omega (arith, 
 field-cut (Release k) m h = few-bytes (take m (entryText (Release k))) (omega (arith, length-take m (entryText (Release k))))
 field-cut (Undo k) m h = few-bytes (take m (entryText (Undo k))) (omega (arith, length-take m (entryText (Undo k))))
 field-cut Misformed m h = absurd (omega arith)
+
+pub both-ways : BothWays
+both-ways = record { written = field-text; read = field-read; long = length-text; value = cell-bits; bits = bits-cell }

@@ -22,12 +22,18 @@ entryText (Release k) = tagged 3 (numberBytes 1 k)
 entryText (Undo k) = tagged 4 (numberBytes 1 k)
 entryText Misformed = []
 
--- the bytes of that
+-- the bytes of a set's field, and of a field with a savepoint's number: three, and those that its length counts
+abbrev pub setBytes : ℕ
+setBytes = 22
+
+abbrev pub savepointBytes : ℕ
+savepointBytes = 4
+
 abbrev pub entrySize : Entry → ℕ
-entrySize (Set g c old new) = 22
-entrySize (Open k) = 4
-entrySize (Release k) = 4
-entrySize (Undo k) = 4
+entrySize (Set g c old new) = setBytes
+entrySize (Open k) = savepointBytes
+entrySize (Release k) = savepointBytes
+entrySize (Undo k) = savepointBytes
 entrySize Misformed = 0
 
 -- ---- reading
@@ -43,10 +49,10 @@ setOf xs =
 -- R523: the field with which bytes begin: tag 1 with length 19, or one of the tags 2, 3 and 4 with length 1, and as many bytes
 unfoldable pub entryIn : List ℕ → Entry
 entryIn xs =
-    cond (ltb (length xs) 4) Misformed
+    cond (ltb (length xs) savepointBytes) Misformed
     (cond (eqb (getD xs 1 0) 0)
     (cond (eqb (getD xs 0 0) 1)
-    (cond (eqb (getD xs 2 0) 19) (cond (ltb (length xs) 22) Misformed (setOf xs)) Misformed)
+    (cond (eqb (getD xs 2 0) 19) (cond (ltb (length xs) setBytes) Misformed (setOf xs)) Misformed)
     (cond (eqb (getD xs 2 0) 1) (numbered (getD xs 0 0) (getD xs 3 0)) Misformed))
     Misformed)
 

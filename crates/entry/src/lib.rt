@@ -4,7 +4,7 @@ ghost use Prim.Native.Nat.{_+_, _<_, _≤_};
 ghost use lib.ListN.{length, take, drop};
 ghost use Rattle.base.specs.Part.{over};
 ghost use Rattle.entry.specs.Bytes.{numberBytes, valueFrom, bitsOf, cellOf};
-ghost use Rattle.entry.specs.Field.{entryText, entrySize, tagged, numbered, setOf, fieldAt};
+ghost use Rattle.entry.specs.Field.{entryText, entrySize, setBytes, savepointBytes, tagged, numbered, setOf, fieldAt};
 
 // R521, R522: what a field tells: a set with its group, its cell in the group from 1, the old and the new value; an
 // open, a release or an undo with the savepoint's number. R523: or none of these.
@@ -120,7 +120,7 @@ fn numbered_of(tag: u8, k: u8) -> Entry
 
 // R521: a set's 19 bytes behind its tag and length.
 fn set_at(s: &[u8], at: usize) -> Entry
-    requires inside { ⌜ at + 22 ≤ length (now s) ⌝ }
+    requires inside { ⌜ at + setBytes ≤ length (now s) ⌝ }
     ensures { λ r. ⌜ r ≡ setOf (drop at (now (s .entry))) ⌝ }
 {
     let group = number_at(s, at + 3, 1);
@@ -159,7 +159,7 @@ pub fn field_at(s: &[u8], at: usize) -> Entry
 
 // R521: a set's field, from its last bytes to its first.
 fn put_set_at(out: &mut [u8], at: usize, group: usize, cell: usize, old: i64, new: i64)
-    requires room { ⌜ at + 22 ≤ length (now out) ⌝ }
+    requires room { ⌜ at + setBytes ≤ length (now out) ⌝ }
     ensures { λ _. ⌜ now (out .exit) ≡ over at (entryText (Entry.Set group cell old new)) (now (out .entry)) ⌝ }
 {
     put_number_at(out, at + 14, 8, bits_of(new));
@@ -172,7 +172,7 @@ fn put_set_at(out: &mut [u8], at: usize, group: usize, cell: usize, old: i64, ne
 
 // R522: the field of an open, a release or an undo.
 fn put_numbered_at(out: &mut [u8], at: usize, tag: u64, k: usize)
-    requires room { ⌜ at + 4 ≤ length (now out) ⌝ }
+    requires room { ⌜ at + savepointBytes ≤ length (now out) ⌝ }
     ensures { λ _. ⌜ now (out .exit) ≡ over at (tagged tag (numberBytes 1 k)) (now (out .entry)) ⌝ }
 {
     put_number_at(out, at + 3, 1, k as u64);

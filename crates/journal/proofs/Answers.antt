@@ -10,19 +10,23 @@ use lib.IntN.{ℤ}
 use lib.ListN.{length, take, length-take}
 use lib.Seq.{take-length}
 use borrow.Author.Tests.{eqb-true}
-use Rattle.base.specs.Part.{part}
+use Rattle.base.specs.Part.{part, over}
 use Rattle.base.proofs.Taken.{part-zero, take-both}
 use Rattle.count.specs.Check.{checkedOf}
 use Rattle.reply.specs.declared.Refusal.{Refusal}
 use Rattle.reply.specs.declared.Refusal.the-variants.{BadEntry}
 use Rattle.reply.specs.declared.Checked.{Checked}
 use Rattle.reply.specs.declared.Checked.the-variants as C
+use Rattle.reply.specs.declared.Answer.{Answer}
 use Rattle.reply.specs.declared.Answer.the-variants.{Refused}
+use Rattle.entry.specs.Field.{entryText}
+use Rattle.journal.specs.declared.Found.{Found}
 use Rattle.journal.specs.declared.State.{State}
 use Rattle.journal.specs.Layout.{startsOf}
-use Rattle.journal.specs.Model.{Call, decided}
-use Rattle.journal.specs.Walks.{down, WalksTo}
-use Rattle.journal.specs.Calls.{andThen, whole, walkIn, standingOf, answerOf, cellsAfter, journalBy, usedBy}
+use Rattle.journal.specs.Model.{Call, decided, byAnswer}
+use Rattle.journal.specs.Walks.{Walked, walked, down, WalksTo}
+use Rattle.journal.specs.Calls.{andThen, whole, walkIn, standingOf, answerOf, entryFor, cellsFor, cellsAfter, journalBy, usedBy, Finds}
+use Rattle.journal.specs.Runs.{Kept, kept, answerTo, leftBy}
 use Rattle.journal.specs.Entries.{restore, entriesAt}
 use Rattle.journal.specs.Plays.{playOf, playIn, replayOf, replayedCells, Plays}
 use Rattle.journal.proofs.Walking.{down-length}
@@ -75,6 +79,50 @@ module _ (ns j : List ℕ) (used cells : ℕ) where
     used-inside a e =
         let q : r .place ≡ used = whole-right (r .place) used (then-right a (whole (r .place) used) e .1) in
         omega (arith, w .within, length-take used j)
+
+-- ---- a call, from what it finds
+
+-- the answer a of a call on what was kept, and what is kept then, are those that the contracts cite
+pub record Answered (ns : List ℕ) (c : Call) (k : Kept) (a : Answer) (k′ : Kept) : Type 0 where
+  pub answer : a ≡ answerTo ns c k
+  pub used : k′ .used ≡ leftBy ns c k a .used
+  pub cells : k′ .cells ≡ leftBy ns c k a .cells
+  pub journal : k′ .journal ≡ leftBy ns c k a .journal
+
+module _ {ns : List ℕ} (c : Call) (k : Kept) {r : Found} (f : Finds ns (k .journal) (k .used) (length (k .cells)) r) where
+  -- one that is refused before it is looked at itself
+  pub call-refused : {a : Answer} {why : Refusal} (used : ℕ) → r .stands ≡ C.Refused why → a ≡ Refused why → used ≡ k .used → Answered ns c k a (kept (k .cells) (k .journal) used)
+  call-refused used e q u =
+      record {
+        answer = q ∙ answer-refused ns (k .journal) (k .used) (length (k .cells)) c (sym (f .stands) ∙ e);
+        used = u ∙ ap (λ x. leftBy ns c k x .used) (sym q);
+        cells = ap (λ x. leftBy ns c k x .cells) (sym q);
+        journal = ap (λ x. leftBy ns c k x .journal) (sym q);
+      }
+
+  -- what the code knows of the fields before it
+  abbrev state : Walked
+  state = walked (walkIn ns (k .journal) (k .used) .place) (r .count) (down (r .depth) (r .marks))
+
+  state-is : walkIn ns (k .journal) (k .used) ≡ state
+  state-is = λ i. walked (walkIn ns (k .journal) (k .used) .place) (f .count i) (f .marks i)
+
+  found-depth : length (walkIn ns (k .journal) (k .used) .marks) ≡ r .depth
+  found-depth = ap length (f .marks) ∙ down-length (r .depth) (r .marks)
+
+  -- one that is decided by the savepoints open, and leaves cells and journal by these
+  pub call-decided : {a : Answer} (k′ : Kept) → r .stands ≡ C.Right → a ≡ decided (startsOf ns) c (r .depth) (length (k .journal) - k .used) → k′ .used ≡ usedBy (k .used) c a
+      → k′ .cells ≡ byAnswer a (cellsFor (startsOf ns) c (take (k .used) (k .journal)) state (k .cells)) (k .cells)
+      → k′ .journal ≡ byAnswer a (over (k .used) (entryText (entryFor (startsOf ns) c (r .depth) (k .cells))) (k .journal)) (k .journal)
+      → Answered ns c k a k′
+  call-decided {a} k′ e q u t j =
+      record {
+        answer = q ∙ ap (λ d. decided (startsOf ns) c d (length (k .journal) - k .used)) (sym found-depth)
+            ∙ sym (answer-right ns (k .journal) (k .used) (length (k .cells)) c (sym (f .stands) ∙ e));
+        used = u;
+        cells = t ∙ ap (λ w. byAnswer a (cellsFor (startsOf ns) c (take (k .used) (k .journal)) w (k .cells)) (k .cells)) (sym state-is);
+        journal = j ∙ ap (λ d. byAnswer a (over (k .used) (entryText (entryFor (startsOf ns) c d (k .cells))) (k .journal)) (k .journal)) (sym found-depth);
+      }
 
 -- a part that ends with the buffer is all of it that can be used
 pub part-used : (used end : ℕ) (j : List ℕ) → end ≡ min used (length j) → part 0 end j ≡ take used j

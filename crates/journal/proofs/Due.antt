@@ -1,129 +1,71 @@
--- First due: a call, and a replay, gives a reply exactly if that reply is due (specs/Due.antt).
+-- First due: a call, and a replay, gives a reply exactly if that reply is due, and leaves exactly what is due (specs/Due.antt).
 -- Assumes nothing.
 use mathlib.Core.Path.{_≡_, refl, sym, _∙_, ap, subst}
-use mathlib.Core.Bool.{Bool, true, false, cond, _&&_, true≢false}
+use mathlib.Core.Bool.{Bool, true, false, cond, true≢false}
 use mathlib.Core.List.{List}
-use mathlib.Core.Logic.{_↔_, _⊎_, inl, inr, ⊎-elim}
-use Prim.Native.Nat.{ℕ, zero, suc, _+_, _-_, _<_, _≤_}
+use mathlib.Core.Logic.{_↔_}
+use Prim.Native.Nat.{ℕ, _+_, _-_, _<_, _≤_}
 use native.Mathlib.Omega.{arith}
-use borrow.Author.Tests.{eq-eqb, ne-eqb, eqb-true, eqb-false, le-leb, lt-leb, leb-true, lt-ltb, le-ltb, ltb-true, ltb-false}
-use lib.Dec.{eqb, leb, ltb}
+use borrow.Author.Tests.{eq-eqb, ne-eqb, eqb-true, eqb-false, lt-ltb, le-ltb, ltb-true, ltb-false}
+use lib.Dec.{eqb, ltb}
 use lib.IntN.{ℤ}
-use lib.ListN.{length, getD, List·getD-eq-default}
-use Rattle.base.proofs.Choice.{and-first, and-second}
-use Rattle.base.proofs.Order.{le-or-lt}
+use lib.ListN.{length, take, length-take}
+use Rattle.base.specs.Part.{over}
 use Rattle.reply.specs.declared.Refusal.{Refusal}
 use Rattle.reply.specs.declared.Refusal.the-variants.{NoRoom, BadEntry}
 use Rattle.reply.specs.declared.Checked.{Checked}
 use Rattle.reply.specs.declared.Checked.the-variants as C
 use Rattle.reply.specs.declared.Answer.{Answer}
 use Rattle.reply.specs.declared.Answer.the-variants.{Done, Refused}
-use Rattle.count.specs.Tally.{cellsIn, cellsBefore}
 use Rattle.count.specs.Check.{checkedOf}
 use Rattle.count.specs.Due as Counts
 use Rattle.count.proofs.Due as Counted
-use Rattle.count.proofs.Tallied.{cells-first, cells-next, cells-below}
-use Rattle.journal.specs.declared.Spot.the-variants.{At, Nowhere}
-use Rattle.journal.specs.Layout.{startsOf, spotIn, spotOf, exists}
+use Rattle.entry.specs.declared.Entry.the-variants.{Set}
+use Rattle.entry.specs.Field.{entryText, entrySize}
+use Rattle.entry.proofs.Codec.{length-text}
+use Rattle.journal.specs.Layout.{startsOf, getAt, putAt}
 use Rattle.journal.specs.Model.{Call, Sets, Opens, Releases, Undoes, accepts, refusalOf, bytesFor, numberFor, decided, whenRight}
-use Rattle.journal.specs.Calls.{andThen, whole, walkIn, standingOf, answerOf}
-use Rattle.journal.specs.Plays.{playIn, replayOf}
-use Rattle.journal.specs.Due.{IsCell, Accepted, StopsShort, Standing, stop, opened, RefusedFor, wrong-counts, bad-entry, unaccepted, no-room, CallDue, Due}
-use Rattle.journal.specs.Due.{ReplayRefusedFor, replay-counts, replay-entry, ReplayDue}
-use Rattle.journal.proofs.Spots.{starts-length, starts-at}
+use Rattle.journal.specs.Walks.{Walked, walkOf}
+use Rattle.journal.specs.Calls.{andThen, whole, entryFor, cellsFor, walkIn, standingOf, answerOf}
+use Rattle.journal.specs.Plays.{Run, playIn, playOf, replayOf, replayedCells, replayedOpen}
+use Rattle.journal.specs.Order.{Accepted, RightAt, PlaysAt}
+use Rattle.journal.specs.Runs.{Kept, kept, answerTo, leftBy}
+use Rattle.journal.specs.Due.{AllInOrder, AtFault, Standing, RefusedFor, wrong-counts, bad-entry, unaccepted, no-room, CallDue, Due}
+use Rattle.journal.specs.Due.{fieldFor, cellsDue, CallLeaves, LeftDue}
+use Rattle.journal.specs.Due.{AllReplayed, ReplayFault, ReplayRefusedFor, replay-counts, replay-entry, ReplayDone, ReplayDue, ReplayLeaves, ReplayLeftDue}
+use Rattle.journal.proofs.Order.{spot-at, accepted-yes, yes-accepted, no-accepted, past, walk-ends, walk-only, play-ends, play-only}
 
--- ---- a cell
-
-span : (start end c : ℕ) → exists (spotIn start end c) ≡ (leb 1 c && leb c (end - start))
-span start end c = by (leb 1 c && leb c (end - start))
-  where
-    by : (t : Bool) → exists (cond t (At (start + (c - 1))) Nowhere) ≡ t
-    by true = refl
-    by false = refl
-
-module _ (ns : List ℕ) (g c : ℕ) where
-  ends : 1 ≤ g → g ≤ 60 → getD (startsOf ns) (g + 1) 0 - getD (startsOf ns) g 0 ≡ cellsIn ns g
-  ends low high =
-      omega (arith, starts-at ns g (omega arith), starts-at ns (g + 1) (omega arith), cells-next ns g low (omega arith))
-
-  cell-exists : IsCell ns g c → exists (spotOf (startsOf ns) g c) ≡ true
-  unfolding spotOf
-  cell-exists i =
-      span (getD (startsOf ns) g 0) (getD (startsOf ns) (g + 1) 0) c
-      ∙ rw (le-leb 1 c (i .first), le-leb c (getD (startsOf ns) (g + 1) 0 - getD (startsOf ns) g 0) (omega (arith, ends (i .low) (i .high), i .last)))
-
-  exists-cell : exists (spotOf (startsOf ns) g c) ≡ true → IsCell ns g c
-  unfolding spotOf
-  exists-cell e =
-      let t = sym (span (getD (startsOf ns) g 0) (getD (startsOf ns) (g + 1) 0) c) ∙ e in
-      let first = leb-true 1 c (and-first (leb 1 c) (leb c (getD (startsOf ns) (g + 1) 0 - getD (startsOf ns) g 0)) t) in
-      let last = leb-true c (getD (startsOf ns) (g + 1) 0 - getD (startsOf ns) g 0) (and-second (leb 1 c) (leb c (getD (startsOf ns) (g + 1) 0 - getD (startsOf ns) g 0)) t) in
-      by first last (le-or-lt 1 g) (le-or-lt g 60)
-    where
-      by : 1 ≤ c → c ≤ getD (startsOf ns) (g + 1) 0 - getD (startsOf ns) g 0 → (1 ≤ g) ⊎ (g < 1) → (g ≤ 60) ⊎ (60 < g) → IsCell ns g c
-      by first last (inl low) (inl high) = record { low = low; high = high; first = first; last = omega (arith, ends low high) }
-      by first last (inl low) (inr high) =
-          let none : getD (startsOf ns) (g + 1) 0 ≡ 0 = List·getD-eq-default (startsOf ns) 0 {n = g + 1} (omega (arith, starts-length ns)) in
-          absurd (omega arith)
-      by first last (inr low) high =
-          let zero-g : g ≡ 0 = omega arith in
-          let none : getD (startsOf ns) (g + 1) 0 ≡ 0 = ap (λ k. getD (startsOf ns) (k + 1) 0) zero-g ∙ starts-at ns 1 (omega arith) ∙ cells-first ns in
-          absurd (omega arith)
-
--- ---- a call that is accepted
-
-module _ (ns : List ℕ) (d : ℕ) where
-  accepted-yes : (c : Call) → Accepted ns d c → accepts (startsOf ns) c d ≡ true
-  accepted-yes (Sets g i v) h = cell-exists ns g i h
-  accepted-yes Opens h = lt-ltb d 16 h
-  accepted-yes (Releases k) h = rw (lt-ltb 0 k (h .0), eq-eqb k d (h .1))
-  accepted-yes (Undoes k) h = rw (lt-ltb 0 k (h .0), le-leb k d (h .1))
-
-  yes-accepted : (c : Call) → accepts (startsOf ns) c d ≡ true → Accepted ns d c
-  yes-accepted (Sets g i v) e = exists-cell ns g i e
-  yes-accepted Opens e = ltb-true d 16 e
-  yes-accepted (Releases k) e = (ltb-true 0 k (and-first (ltb 0 k) (eqb k d) e), eqb-true k d (and-second (ltb 0 k) (eqb k d) e))
-  yes-accepted (Undoes k) e = (ltb-true 0 k (and-first (ltb 0 k) (leb k d) e), leb-true k d (and-second (ltb 0 k) (leb k d) e))
-
-  no-accepted : (c : Call) → (Accepted ns d c → ⊥) → accepts (startsOf ns) c d ≡ false
-  no-accepted c n = by (accepts (startsOf ns) c d) refl
-    where
-      by : (t : Bool) → accepts (startsOf ns) c d ≡ t → t ≡ false
-      by true e = absurd (n (yes-accepted c e))
-      by false e = refl
-
--- ---- the counts, and how far the fields are in order
+-- ---- the counts, and where the fields stop to be in order
 
 module _ (ns : List ℕ) (cells used place : ℕ) where
   checks : Checked
   checks = andThen (checkedOf ns cells) (whole place used)
 
-  checks-right : Standing ns cells used place → checks ≡ C.Right
+  checks-right : Counts.HasCells ns cells → place ≡ used → checks ≡ C.Right
   unfolding checks
-  checks-right h = rw (Counted.first-due ns cells C.Right .1 (h .table), eq-eqb place used (h .fields))
+  checks-right h q = rw (Counted.first-due ns cells C.Right .1 h, eq-eqb place used q)
 
   checks-counts : (r : Refusal) → Counts.RefusedFor ns cells r → checks ≡ C.Refused r
   unfolding checks
   checks-counts r h = rw (Counted.first-due ns cells (C.Refused r) .1 h)
 
-  checks-entry : (p : ℕ) → StopsShort ns cells used place p → checks ≡ C.Refused (BadEntry p)
+  checks-entry : Counts.HasCells ns cells → (place ≡ used → ⊥) → checks ≡ C.Refused (BadEntry place)
   unfolding checks
-  checks-entry p h =
-      rw (Counted.first-due ns cells C.Right .1 (h .table), ne-eqb place used (h .other)) (ap (λ x. C.Refused (BadEntry x)) (h .stopped))
+  checks-entry h n = rw (Counted.first-due ns cells C.Right .1 h, ne-eqb place used n)
 
   -- one of the three
   pub data Which : Checked → Type 0 where
-    stands : Standing ns cells used place → Which C.Right
+    stands : Counts.HasCells ns cells → place ≡ used → Which C.Right
     counts : (r : Refusal) → Counts.RefusedFor ns cells r → Which (C.Refused r)
-    entry : (p : ℕ) → StopsShort ns cells used place p → Which (C.Refused (BadEntry p))
+    entry : Counts.HasCells ns cells → (place ≡ used → ⊥) → Which (C.Refused (BadEntry place))
 
   which : Which checks
   unfolding checks
   which = by (checkedOf ns cells) refl
     where
       place-by : (t : Bool) → Counts.HasCells ns cells → eqb place used ≡ t → Which (cond t C.Right (C.Refused (BadEntry place)))
-      place-by true h e = stands record { table = h; fields = eqb-true place used e }
-      place-by false h e = entry place record { table = h; stopped = refl; other = eqb-false place used e }
+      place-by true h e = stands h (eqb-true place used e)
+      place-by false h e = entry h (eqb-false place used e)
 
       by : (c : Checked) → checkedOf ns cells ≡ c → Which (andThen c (whole place used))
       by C.Right e = place-by (eqb place used) (Counted.first-due ns cells C.Right .0 e) refl
@@ -137,80 +79,211 @@ some-bytes Opens = omega arith
 some-bytes (Releases k) = omega arith
 some-bytes (Undoes k) = omega arith
 
-module _ (ns j : List ℕ) (used cells : ℕ) (c : Call) where
-  to-decided : Standing ns cells used (stop ns j used cells) → answerOf ns j used cells c ≡ decided (startsOf ns) c (opened ns j used cells) (length j - used)
-  unfolding answerOf standingOf checks
-  to-decided h = rw (checks-right ns cells used (stop ns j used cells) h)
+module _ (ns j : List ℕ) (used : ℕ) where
+  -- the walk over the bytes used is the one that is in order
+  order-is : (w : Walked) → AllInOrder ns j used w → w ≡ walkIn ns j used
+  order-is w h = walk-only ns (take used j) w (h .fields) (past ns (take used j) (w .place) (length (w .marks)) (omega (arith, length-take used j, h .ends)))
 
-  to-refused : (r : Refusal) → checks ns cells used (stop ns j used cells) ≡ C.Refused r → answerOf ns j used cells c ≡ Refused r
+  fault-is : (p : ℕ) → AtFault ns j used p → walkIn ns j used .place ≡ p
+  fault-is p h = ap (λ w. w .place) (sym (walk-only ns (take used j) (h .before) (h .fields) (h .fault))) ∙ h .stops
+
+  in-order : walkIn ns j used .place ≡ used → AllInOrder ns j used (walkIn ns j used)
+  in-order q = record { fields = walk-ends ns (take used j) .goes; ends = q }
+
+  at-fault : (walkIn ns j used .place ≡ used → ⊥) → AtFault ns j used (walkIn ns j used .place)
+  at-fault n =
+      record {
+        before = walkIn ns j used;
+        fields = walk-ends ns (take used j) .goes;
+        stops = refl;
+        other = n;
+        fault = walk-ends ns (take used j) .stuck;
+      }
+
+module _ (ns j : List ℕ) (used cells : ℕ) (c : Call) where
+  abbrev stop : ℕ
+  stop = walkIn ns j used .place
+
+  abbrev opened : ℕ
+  opened = length (walkIn ns j used .marks)
+
+  to-decided : Counts.HasCells ns cells → stop ≡ used → answerOf ns j used cells c ≡ decided (startsOf ns) c opened (length j - used)
+  unfolding answerOf standingOf checks
+  to-decided h q = rw (checks-right ns cells used stop h q)
+
+  to-refused : (r : Refusal) → checks ns cells used stop ≡ C.Refused r → answerOf ns j used cells c ≡ Refused r
   unfolding answerOf standingOf checks
   to-refused r e = rw e
 
+  stop-is : (w : Walked) → Standing ns j used cells w → stop ≡ used
+  stop-is w h = ap (λ x. x .place) (sym (order-is ns j used w (h .fields))) ∙ h .fields .ends
+
   refusal-given : (r : Refusal) → RefusedFor ns j used cells c r → answerOf ns j used cells c ≡ Refused r
-  refusal-given r (wrong-counts q h) = to-refused q (checks-counts ns cells used (stop ns j used cells) q h)
-  refusal-given r (bad-entry p h) = to-refused (BadEntry p) (checks-entry ns cells used (stop ns j used cells) p h)
-  refusal-given r (unaccepted h n) = to-decided h ∙ rw (no-accepted ns (opened ns j used cells) c n)
-  refusal-given r (no-room h a l) =
-      to-decided h
-      ∙ rw (accepted-yes ns (opened ns j used cells) c a, lt-ltb (length j - used) (bytesFor c) (omega (arith, some-bytes c)))
+  refusal-given r (wrong-counts q h) = to-refused q (checks-counts ns cells used stop q h)
+  refusal-given r (bad-entry p h f) =
+      let q = fault-is ns j used p f in
+      to-refused (BadEntry p) (checks-entry ns cells used stop h (λ e. f .other (sym q ∙ e)) ∙ ap (λ x. C.Refused (BadEntry x)) q)
+  refusal-given r (unaccepted w h n) =
+      let m = subst (λ x. Accepted ns (length (x .marks)) c → ⊥) (order-is ns j used w (h .fields)) n in
+      to-decided (h .table) (stop-is w h) ∙ rw (no-accepted ns opened c m)
+  refusal-given r (no-room w h a l) =
+      let b = subst (λ x. Accepted ns (length (x .marks)) c) (order-is ns j used w (h .fields)) a in
+      to-decided (h .table) (stop-is w h)
+      ∙ rw (accepted-yes ns opened c b, lt-ltb (length j - used) (bytesFor c) (omega (arith, some-bytes c)))
 
   given : (a : Answer) → Due ns j used cells c a → answerOf ns j used cells c ≡ a
   given (Done k) h =
-      to-decided (h .standing)
-      ∙ rw (accepted-yes ns (opened ns j used cells) c (h .accepted), le-ltb (length j - used) (bytesFor c) (omega (arith, h .room)))
-      (ap Done (sym (h .number)))
+      let q = order-is ns j used (h .last) (h .standing .fields) in
+      let b = subst (λ x. Accepted ns (length (x .marks)) c) q (h .accepted) in
+      to-decided (h .standing .table) (stop-is (h .last) (h .standing))
+      ∙ rw (accepted-yes ns opened c b, le-ltb (length j - used) (bytesFor c) (omega (arith, h .room)))
+      (ap Done (ap (λ x. numberFor c (length (x .marks))) (sym q) ∙ sym (h .number)))
   given (Refused r) h = refusal-given r h
 
-  from-decided : Standing ns cells used (stop ns j used cells) → Due ns j used cells c (decided (startsOf ns) c (opened ns j used cells) (length j - used))
-  from-decided h = by (accepts (startsOf ns) c (opened ns j used cells)) (ltb (length j - used) (bytesFor c)) refl refl
+  from-decided : Standing ns j used cells (walkIn ns j used) → Due ns j used cells c (decided (startsOf ns) c opened (length j - used))
+  from-decided h = by (accepts (startsOf ns) c opened) (ltb (length j - used) (bytesFor c)) refl refl
     where
-      by : (a b : Bool) → accepts (startsOf ns) c (opened ns j used cells) ≡ a → ltb (length j - used) (bytesFor c) ≡ b
-          → Due ns j used cells c (cond a (cond b (Refused NoRoom) (Done (numberFor c (opened ns j used cells)))) (Refused (refusalOf c)))
+      by : (a b : Bool) → accepts (startsOf ns) c opened ≡ a → ltb (length j - used) (bytesFor c) ≡ b
+          → Due ns j used cells c (cond a (cond b (Refused NoRoom) (Done (numberFor c opened))) (Refused (refusalOf c)))
       by true true a b =
-          no-room h (yes-accepted ns (opened ns j used cells) c a) (omega (arith, ltb-true (length j - used) (bytesFor c) b))
+          no-room (walkIn ns j used) h (yes-accepted ns opened c a) (omega (arith, ltb-true (length j - used) (bytesFor c) b))
       by true false a b =
           record {
+            last = walkIn ns j used;
             standing = h;
-            accepted = yes-accepted ns (opened ns j used cells) c a;
+            accepted = yes-accepted ns opened c a;
             room = omega (arith, ltb-false (length j - used) (bytesFor c) b, some-bytes c);
             number = refl;
           }
-      by false b a f = unaccepted h (λ k. true≢false (sym (accepted-yes ns (opened ns j used cells) c k) ∙ a))
+      by false b a f = unaccepted (walkIn ns j used) h (λ k. true≢false (sym (accepted-yes ns opened c k) ∙ a))
 
   is-due : Due ns j used cells c (answerOf ns j used cells c)
-  is-due = by (checks ns cells used (stop ns j used cells)) (which ns cells used (stop ns j used cells)) refl
+  is-due = by (checks ns cells used stop) (which ns cells used stop) refl
     where
-      by : (x : Checked) → Which ns cells used (stop ns j used cells) x → checks ns cells used (stop ns j used cells) ≡ x → Due ns j used cells c (answerOf ns j used cells c)
-      by x (stands h) e = subst (Due ns j used cells c) (sym (to-decided h)) (from-decided h)
+      by : (x : Checked) → Which ns cells used stop x → checks ns cells used stop ≡ x → Due ns j used cells c (answerOf ns j used cells c)
+      by x (stands h q) e = subst (Due ns j used cells c) (sym (to-decided h q)) (from-decided record { table = h; fields = in-order ns j used q })
       by x (counts r h) e = subst (Due ns j used cells c) (sym (to-refused r e)) (wrong-counts r h)
-      by x (entry p h) e = subst (Due ns j used cells c) (sym (to-refused (BadEntry p) e)) (bad-entry p h)
+      by x (entry h n) e = subst (Due ns j used cells c) (sym (to-refused (BadEntry stop) e)) (bad-entry stop h (at-fault ns j used n))
 
   -- the reply that is given is the one that is due, and no other is
   pub first-due : (a : Answer) → answerOf ns j used cells c ≡ a ↔ Due ns j used cells c a
   first-due a = (λ e. subst (Due ns j used cells c) e is-due, given a)
 
+-- ---- what a call leaves
+
+module _ (ns : List ℕ) (d : ℕ) (t : List ℤ) where
+  entry-field : (c : Call) → Accepted ns d c → entryFor (startsOf ns) c d t ≡ fieldFor ns d t c
+  entry-field (Sets g i v) h = ap (λ p. Set g i (getAt p t) v) (spot-at ns g i h)
+  entry-field Opens h = refl
+  entry-field (Releases k) h = refl
+  entry-field (Undoes k) h = refl
+
+  field-size : (c : Call) → entrySize (fieldFor ns d t c) ≡ bytesFor c
+  field-size (Sets g i v) = refl
+  field-size Opens = refl
+  field-size (Releases k) = refl
+  field-size (Undoes k) = refl
+
+  cells-due : (c : Call) (s : List ℕ) (w : Walked) → Accepted ns d c → cellsFor (startsOf ns) c s w t ≡ cellsDue ns s w c t
+  cells-due (Sets g i v) s w h = ap (λ p. putAt p v t) (spot-at ns g i h)
+  cells-due Opens s w h = refl
+  cells-due (Releases k) s w h = refl
+  cells-due (Undoes k) s w h = refl
+
+module _ (ns : List ℕ) (c : Call) (k : Kept) where
+  abbrev w : Walked
+  w = walkIn ns (k .journal) (k .used)
+
+  abbrev s : List ℕ
+  s = take (k .used) (k .journal)
+
+  module _ (accepted : Accepted ns (length (w .marks)) c) where
+    leaves : (n : ℕ) → AllInOrder ns (k .journal) (k .used) w → CallLeaves ns c k (leftBy ns c k (Done n))
+    leaves n h =
+        let e = fieldFor ns (length (w .marks)) (k .cells) c in
+        record {
+          last = w;
+          fields = h;
+          size = refl;
+          adds = record {
+            journal = ap (λ x. over (k .used) (entryText x) (k .journal)) (entry-field ns (length (w .marks)) (k .cells) c accepted);
+            used = ap (λ m. k .used + m) (sym (length-text e ∙ field-size ns (length (w .marks)) (k .cells) c));
+          };
+          cells = cells-due ns (length (w .marks)) (k .cells) c s w accepted;
+        }
+
+    left-only : (n : ℕ) (k′ : Kept) → CallLeaves ns c k k′ → leftBy ns c k (Done n) ≡ k′
+    left-only n k′ h =
+        let q = order-is ns (k .journal) (k .used) (h .last) (h .fields) in
+        let cells = cells-due ns (length (w .marks)) (k .cells) c s w accepted ∙ ap (λ x. cellsDue ns s x c (k .cells)) (sym q) ∙ sym (h .cells) in
+        let text = ap (λ x. over (k .used) (entryText x) (k .journal))
+        (entry-field ns (length (w .marks)) (k .cells) c accepted ∙ ap (λ x. fieldFor ns (length (x .marks)) (k .cells) c) (sym q)) ∙ sym (h .adds .journal) in
+        λ i. kept (cells i) (text i) (sym (h .size) i)
+
+  -- what is left by the answer that is given is what is due, and nothing else is
+  pub left-due : (a : Answer) (k′ : Kept) → answerTo ns c k ≡ a → leftBy ns c k a ≡ k′ ↔ LeftDue ns c k a k′
+  left-due (Refused r) k′ e = (λ q. sym q, λ q. sym q)
+  left-due (Done n) k′ e =
+      let d = first-due ns (k .journal) (k .used) (length (k .cells)) c (Done n) .0 e in
+      let q = order-is ns (k .journal) (k .used) (d .last) (d .standing .fields) in
+      let accepted = subst (λ x. Accepted ns (length (x .marks)) c) q (d .accepted) in
+      let fields = subst (AllInOrder ns (k .journal) (k .used)) q (d .standing .fields) in
+      (λ p. subst (CallLeaves ns c k) p (leaves accepted n fields), left-only accepted n k′)
+
 -- ---- a replay
 
 module _ (ns j : List ℕ) (used : ℕ) (t : List ℤ) where
-  replay-refusal : (r : Refusal) → ReplayRefusedFor ns j used t r → checks ns (length t) used (playIn ns j used t .place) ≡ C.Refused r
-  replay-refusal r (replay-counts q h) = checks-counts ns (length t) used (playIn ns j used t .place) q h
-  replay-refusal r (replay-entry p h) = checks-entry ns (length t) used (playIn ns j used t .place) p h
+  abbrev run : Run
+  run = playIn ns j used t
 
-  replay-given : (a : Checked) → ReplayDue ns j used t a → checks ns (length t) used (playIn ns j used t .place) ≡ a
-  replay-given C.Right h = checks-right ns (length t) used (playIn ns j used t .place) h
+  replay-order-is : (x : Run) → AllReplayed ns j used t x → x ≡ run
+  replay-order-is x h =
+      play-only ns (take used j) t x (h .fields) (λ r. past ns (take used j) (x .place) (length (x .marks)) (omega (arith, length-take used j, h .ends)) (r .0))
+
+  replay-fault-is : (p : ℕ) → ReplayFault ns j used t p → run .place ≡ p
+  replay-fault-is p h = ap (λ x. x .place) (sym (play-only ns (take used j) t (h .before) (h .fields) (h .fault))) ∙ h .stops
+
+  all-replayed : run .place ≡ used → AllReplayed ns j used t run
+  all-replayed q = record { fields = play-ends ns (take used j) t .goes; ends = q }
+
+  replay-fault : (run .place ≡ used → ⊥) → ReplayFault ns j used t (run .place)
+  replay-fault n = record { before = run; fields = play-ends ns (take used j) t .goes; stops = refl; other = n; fault = play-ends ns (take used j) t .stuck }
+
+  replay-refusal : (r : Refusal) → ReplayRefusedFor ns j used t r → checks ns (length t) used (run .place) ≡ C.Refused r
+  replay-refusal r (replay-counts q h) = checks-counts ns (length t) used (run .place) q h
+  replay-refusal r (replay-entry p h f) =
+      let q = replay-fault-is p f in
+      checks-entry ns (length t) used (run .place) h (λ e. f .other (sym q ∙ e)) ∙ ap (λ x. C.Refused (BadEntry x)) q
+
+  replay-given : (a : Checked) → ReplayDue ns j used t a → checks ns (length t) used (run .place) ≡ a
+  replay-given C.Right h =
+      checks-right ns (length t) used (run .place) (h .table) (ap (λ x. x .place) (sym (replay-order-is (h .last) (h .fields))) ∙ h .fields .ends)
   replay-given (C.Refused r) h = replay-refusal r h
 
-  replay-is : replayOf ns j used t ≡ checks ns (length t) used (playIn ns j used t .place)
+  replay-is : replayOf ns j used t ≡ checks ns (length t) used (run .place)
   unfolding replayOf checks
   replay-is = refl
 
-  replay-due : (a : Checked) → Which ns (length t) used (playIn ns j used t .place) a → ReplayDue ns j used t a
-  replay-due a (stands h) = h
+  replay-due : (a : Checked) → Which ns (length t) used (run .place) a → ReplayDue ns j used t a
+  replay-due a (stands h q) = record { table = h; last = run; fields = all-replayed q }
   replay-due a (counts r h) = replay-counts r h
-  replay-due a (entry p h) = replay-entry p h
+  replay-due a (entry h n) = replay-entry (run .place) h (replay-fault n)
 
   pub replay-first-due : (a : Checked) → replayOf ns j used t ≡ a ↔ ReplayDue ns j used t a
   replay-first-due a = (
-    λ e. subst (ReplayDue ns j used t) (sym replay-is ∙ e) (replay-due (checks ns (length t) used (playIn ns j used t .place)) (which ns (length t) used (playIn ns j used t .place))),
+    λ e. subst (ReplayDue ns j used t) (sym replay-is ∙ e) (replay-due (checks ns (length t) used (run .place)) (which ns (length t) used (run .place))),
     λ h. replay-is ∙ replay-given a h,
   )
+
+  -- and what it leaves
+  pub replay-left-due : (a : Checked) (t′ : List ℤ) (d : ℕ) → replayOf ns j used t ≡ a
+      → ((replayedCells ns j used t a ≡ t′) × (replayedOpen ns j used t a ≡ d)) ↔ ReplayLeftDue ns j used t a t′ d
+  replay-left-due (C.Refused r) t′ d e = (λ q. (sym (q .0), sym (q .1)), λ q. (sym (q .0), sym (q .1)))
+  replay-left-due C.Right t′ d e =
+      let h = replay-first-due C.Right .0 e in
+      let q = replay-order-is (h .last) (h .fields) in (
+        λ p. record { last = run; fields = subst (AllReplayed ns j used t) q (h .fields); cells = sym (p .0); opened = sym (p .1) },
+        λ l.
+            let z = replay-order-is (l .last) (l .fields) in
+            (ap (λ x. x .cells) (sym z) ∙ sym (l .cells), ap (λ x. length (x .marks)) (sym z) ∙ sym (l .opened)),
+      )

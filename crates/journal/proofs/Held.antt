@@ -22,48 +22,52 @@ use Rattle.journal.proofs.Walking.{ok-undo}
 -- each table that was saved is what the entries behind its mark give back from the cells t; marks go down
 pub data Holds (ps : List ℕ) (es : List Entry) : List ℤ → ℕ → List ℕ → List (List ℤ) → Type 0 where
   none : {t : List ℤ} {u : ℕ} → Holds ps es t u [] []
-  more : {t : List ℤ} {u i : ℕ} {ms : List ℕ} {s : List ℤ} {ts : List (List ℤ)} → i ≤ u → restore ps (drop i es) t ≡ s → Holds ps es t i ms ts → Holds ps es t u (i ∷ ms) (s ∷ ts)
+  more : {t : List ℤ} {u i : ℕ} {ms : List ℕ} {s : List ℤ} {ts : List (List ℤ)} → (i ≤ u) × (restore ps (drop i es) t ≡ s) → Holds ps es t i ms ts → Holds ps es t u (i ∷ ms) (s ∷ ts)
 
 module _ {ps : List ℕ} where
   pub holds-length : {es : List Entry} {t : List ℤ} {u : ℕ} {ms : List ℕ} {ts : List (List ℤ)} → Holds ps es t u ms ts → length ms ≡ length ts
   holds-length none = refl
-  holds-length (more l e r) = ap suc (holds-length r)
+  holds-length (more q r) = ap suc (holds-length r)
 
   holds-wide : {es : List Entry} {t : List ℤ} {u v : ℕ} {ms : List ℕ} {ts : List (List ℤ)} → u ≤ v → Holds ps es t u ms ts → Holds ps es t v ms ts
   holds-wide h none = none
-  holds-wide h (more l e r) = more (le-trans l h) e r
+  holds-wide h (more q r) = more (le-trans (q .0) h, q .1) r
 
   -- an entry more, which gives the cells back as they were
-  holds-entry : {es : List Entry} {t : List ℤ} {u : ℕ} {ms : List ℕ} {ts : List (List ℤ)} (e : Entry) (t′ : List ℤ) → u ≤ length es → giveBack ps e t′ ≡ t → Holds ps es t u ms ts
-      → Holds ps (es ++ (e ∷ [])) t′ u ms ts
-  holds-entry e t′ h g none = none
-  holds-entry {es} e t′ h g (more {i = i} l q r) =
-      more l (ap (λ l. restore ps l t′) (drop-append-le i es (e ∷ []) (omega arith)) ∙ restore-one ps (drop i es) e t′ ∙ ap (restore ps (drop i es)) g ∙ q) (holds-entry e t′ (omega arith) g r)
+  module _ {es : List Entry} {t : List ℤ} (e : Entry) (t′ : List ℤ) (g : giveBack ps e t′ ≡ t) where
+    holds-entry : {u : ℕ} {ms : List ℕ} {ts : List (List ℤ)} → u ≤ length es → Holds ps es t u ms ts → Holds ps (es ++ (e ∷ [])) t′ u ms ts
+    holds-entry h none = none
+    holds-entry h (more {i = i} q r) =
+        let l = q .0 in
+        let back = ap (λ l. restore ps l t′) (drop-append-le i es (e ∷ []) (omega arith)) ∙ restore-one ps (drop i es) e t′ ∙ ap (restore ps (drop i es)) g ∙ q .1 in
+        more (l, back) (holds-entry (omega arith) r)
 
   -- the cells as they were at a mark k, for the marks up to it
   holds-back : {es : List Entry} {t : List ℤ} {u : ℕ} {ms : List ℕ} {ts : List (List ℤ)} (k : ℕ) → u ≤ k → Holds ps es t u ms ts → Holds ps es (restore ps (drop k es) t) u ms ts
   holds-back k h none = none
-  holds-back {es} {t} k h (more {i = i} l q r) = more l (restore-within ps es i k t (omega arith) ∙ q) (holds-back k (omega arith) r)
+  holds-back {es} {t} k h (more {i = i} q r) =
+      let l = q .0 in
+      more (l, restore-within ps es i k t (omega arith) ∙ q .1) (holds-back k (omega arith) r)
 
   -- the n innermost closed
   holds-drop : {es : List Entry} {t : List ℤ} {u : ℕ} {ms : List ℕ} {ts : List (List ℤ)} (n : ℕ) → Holds ps es t u ms ts → Holds ps es t u (drop n ms) (drop n ts)
   holds-drop zero r = r
   holds-drop (suc n) none = none
-  holds-drop (suc n) (more l e r) = holds-drop n (holds-wide l r)
+  holds-drop (suc n) (more q r) = holds-drop n (holds-wide (q .0) r)
 
   -- the table at the n-th mark
   pub holds-mark : {es : List Entry} {t : List ℤ} {u : ℕ} {ms : List ℕ} {ts : List (List ℤ)} (n : ℕ) → n < length ms → Holds ps es t u ms ts
       → (getD ms n 0 ≤ u) × (restore ps (drop (getD ms n 0) es) t ≡ getD ts n [])
   holds-mark n h none = absurd (not-suc-le-zero h)
-  holds-mark zero h (more l e r) = (l, e)
-  holds-mark (suc n) h (more l e r) = let m = holds-mark n (le-of-suc-le-suc h) r in (le-trans (m .0) l, m .1)
+  holds-mark zero h (more q r) = q
+  holds-mark (suc n) h (more q r) = let m = holds-mark n (le-of-suc-le-suc h) r in (le-trans (m .0) (q .0), m .1)
 
   -- and all that is left when the cells are brought to it
   holds-undo : {es : List Entry} {t : List ℤ} {u : ℕ} {ms : List ℕ} {ts : List (List ℤ)} (n : ℕ) → n < length ms → Holds ps es t u ms ts
       → Holds ps es (restore ps (drop (getD ms n 0) es) t) u (drop n ms) (drop n ts)
   holds-undo n h none = absurd (not-suc-le-zero h)
-  holds-undo {es} {t} zero h (more {i = i} l e r) = more l (restore-again ps (drop i es) t ∙ e) (holds-back i (omega arith) r)
-  holds-undo (suc n) h (more l e r) = holds-wide l (holds-undo n (le-of-suc-le-suc h) r)
+  holds-undo {es} {t} zero h (more {i = i} q r) = more (q .0, restore-again ps (drop i es) t ∙ q .1) (holds-back i (omega arith) r)
+  holds-undo (suc n) h (more q r) = holds-wide (q .0) (holds-undo n (le-of-suc-le-suc h) r)
 
 -- ---- marks
 
@@ -113,18 +117,18 @@ module _ (ps : List ℕ) (es : List Entry) (t : List ℤ) (ts : List (List ℤ))
   held-call (Sets g c v) h =
       let e = entryFor ps (Sets g c v) depth t in
       let p = spotOf ps g c in
-      rw (marks-entry es e) (holds-wide (omega (arith, length-more es e)) (holds-entry e (putAt p v t) (omega arith) (put-put p v (getAt p t) t ∙ put-get p t) held))
+      rw (marks-entry es e) (holds-wide (omega (arith, length-more es e)) (holds-entry e (putAt p v t) (put-put p v (getAt p t) t ∙ put-get p t) (omega arith) held))
   held-call Opens h =
       let e = entryFor ps Opens depth t in
       let b : length es ≤ length (withEntry es e) = omega (arith, length-more es e) in
       let n : drop (length es) (withEntry es e) ≡ e ∷ [] = drop-append-le (length es) es (e ∷ []) (omega arith) ∙ ap (λ l. l ++ (e ∷ [])) (drop-length es) in
-      rw (marks-entry es e) (more b (ap (λ l. restore ps l t) n ∙ restore-one ps [] e t ∙ restore-none ps t) (holds-entry e t (omega arith) refl held))
+      rw (marks-entry es e) (more (b, ap (λ l. restore ps l t) n ∙ restore-one ps [] e t ∙ restore-none ps t) (holds-entry e t refl (omega arith) held))
   held-call (Releases k) h =
       let e = Release k in
-      rw (marks-entry es e) (holds-wide (omega (arith, length-more es e)) (holds-drop 1 (holds-entry e t (omega arith) refl held)))
+      rw (marks-entry es e) (holds-wide (omega (arith, length-more es e)) (holds-drop 1 (holds-entry e t refl (omega arith) held)))
   held-call (Undoes k) h =
       let e = Undo k in
       let q = ok-undo ps depth k h in
       let n : depth - k < depth = omega arith in
       let z : depth ≡ length ts = holds-length held in
-      rw (marks-entry es e, ← z) (holds-wide (omega (arith, length-more es e)) (holds-entry e (cellsOn ps (Undoes k) es t) (omega arith) refl (holds-undo (depth - k) n held)))
+      rw (marks-entry es e, ← z) (holds-wide (omega (arith, length-more es e)) (holds-entry e (cellsOn ps (Undoes k) es t) refl (omega arith) (holds-undo (depth - k) n held)))

@@ -8,8 +8,10 @@ pub mod Answers
 pub mod Held
 pub mod Text
 pub mod Replays
+pub mod Order
 pub mod Small
 pub mod Made
+pub mod Torn
 pub mod Reopened
 pub mod Numbered
 pub mod Due

@@ -3,7 +3,7 @@
 -- Assumes nothing.
 use mathlib.Core.Path.{_≡_, refl, sym, ap, ap₂, _∙_, subst}
 use mathlib.Core.Bool.{Bool, true, false}
-use mathlib.Core.List.{List, [], _∷_, _++_}
+use mathlib.Core.List.{List, [], _∷_, _++_, append-assoc, append-nil}
 use mathlib.Core.Logic.{_⊎_, inl, inr}
 use Prim.Native.Nat.{ℕ, zero, suc, _+_, _-_, _<_, _≤_}
 use native.Mathlib.Nat.{sub-zero}
@@ -29,20 +29,22 @@ use Rattle.reply.specs.declared.Answer.the-variants.{Done, Refused}
 use Rattle.entry.specs.declared.Entry.{Entry}
 use Rattle.entry.specs.declared.Entry.the-variants.{Set, Open, Release, Undo, Misformed}
 use Rattle.entry.specs.Field.{entryText, entrySize, entryIn}
-use Rattle.entry.proofs.Codec.{Sized, sized-set, sized-open, sized-release, sized-undo, length-text, field-cut}
+use Rattle.entry.specs.Codec.{Sized, sized-set, sized-open, sized-release, sized-undo}
+use Rattle.entry.proofs.Codec.{length-text, field-cut}
 use Rattle.journal.specs.declared.Spot.{Spot}
 use Rattle.journal.specs.declared.Spot.the-variants.{At, Nowhere}
 use Rattle.journal.specs.Layout.{startsOf, spotOf, getAt, putAt}
 use Rattle.journal.specs.Model.{Call, Sets, Opens, Releases, Undoes, accepts, bytesFor, numberFor, refusalOf, decided, Stack, stacked, onStack}
 use Rattle.journal.specs.Model.{modelAnswer, modelStep, modelAnswers, modelRun, byAnswer}
-use Rattle.journal.specs.Entries.{markStep, marksFrom, marksOf, markOf, giveBack, restore, journalText}
+use Rattle.journal.specs.Entries.{markStep, marksFrom, marksOf, markOf, giveBack, restore, journalText, entriesAt, placeAt}
 use Rattle.journal.specs.Walks.{okEntry, walked, walkOf}
 use Rattle.journal.specs.Calls.{whole, entryFor, cellsFor, walkIn, standingOf}
 use Rattle.journal.specs.Plays.{matches, ran, playOf, playIn, replayOf}
-use Rattle.journal.specs.Runs.{Fit, FitCall, FitCalls, Kept, kept, answerTo, leftBy, answersTo, leftTo, openIn, JournalIsStack, ReplaysTo, Torn}
+use Rattle.journal.specs.Runs.{Fit, FitCall, FitCalls, Kept, kept, answerTo, leftBy, answersTo, leftTo, openIn, entryTo, entriesTo}
+use Rattle.journal.specs.Runs.{JournalIsStack, ReplaysTo, AddsField, ReadsAs, Alike, behindReplay}
 use Rattle.journal.proofs.Answers.{answer-right, answer-refused}
 use Rattle.journal.proofs.Held.{none, holds-length, holds-mark, HeldBy, withEntry, cellsOn, marks-entry, held-cells, held-call}
-use Rattle.journal.proofs.Text.{Fine, fine-none, fine-more, fine-last, text-length, walk-journal, back-journal, text-more, used-more}
+use Rattle.journal.proofs.Text.{Fine, fine-none, fine-more, fine-last, text-length, walk-journal, back-journal, read-written, place-written, text-more, used-more}
 use Rattle.journal.proofs.Walking.{ok-release, ok-undo}
 use Rattle.journal.proofs.Playing.{same-same}
 use Rattle.journal.proofs.Replays.{Leads, leads-none, leads-last, playedOn, play-cut, no-field, play-journal}
@@ -106,11 +108,11 @@ module _ (ns : List ℕ) (t₀ : List ℤ) where
   entry-size (Releases k) d t = refl
   entry-size (Undoes k) d t = refl
 
-  entry-sized : (c : Call) (d n : ℕ) (t : List ℤ) → checkedOf ns n ≡ C.Right → accepts ps c d ≡ true → d ≤ 16 → FitCall c → Fit t → Sized (entryFor ps c d t)
-  entry-sized (Sets g c v) d n t e h l f ft = let m = cell-small ns n e g c h in sized-set (m .0) (m .1) (fit-get (spotOf ps g c) t ft) f
-  entry-sized Opens d n t e h l f ft = sized-open {k = d + 1} (omega arith)
-  entry-sized (Releases k) d n t e h l f ft = sized-release {k = k} (omega (arith, ok-release ps d k h))
-  entry-sized (Undoes k) d n t e h l f ft = sized-undo {k = k} (omega (arith, ok-undo ps d k h))
+  entry-sized : (c : Call) (d n : ℕ) (t : List ℤ) → checkedOf ns n ≡ C.Right → accepts ps c d ≡ true → d ≤ 16 → FitCall c × Fit t → Sized (entryFor ps c d t)
+  entry-sized (Sets g c v) d n t e h l f = let m = cell-small ns n e g c h in sized-set (m .0) (m .1) (fit-get (spotOf ps g c) t (f .1)) (f .0)
+  entry-sized Opens d n t e h l f = sized-open {k = d + 1} (omega arith)
+  entry-sized (Releases k) d n t e h l f = sized-release {k = k} (omega (arith, ok-release ps d k h))
+  entry-sized (Undoes k) d n t e h l f = sized-undo {k = k} (omega (arith, ok-undo ps d k h))
 
   entry-ok : (c : Call) (d : ℕ) (t : List ℤ) → accepts ps c d ≡ true → okEntry ps (entryFor ps c d t) d ≡ true
   entry-ok (Sets g c v) d t h = h
@@ -158,12 +160,21 @@ module _ (ns : List ℕ) (t₀ : List ℤ) where
       let q = ok-undo ps (length (marksOf es)) k o in
       back-journal es (markOf (marksOf es) k) t r (holds-mark (length (marksOf es) - k) (omega arith) h .0)
 
+  -- what stands, with these entries
+  pub record With (k : Kept) (ts : List (List ℤ)) (es : List Entry) : Type 0 where
+    pub stands : Stands k ts
+    pub told : stands .entries ≡ es
+
+  -- the entry of a call, if its answer is this one
+  abbrev told-by : Call → Kept → Answer → List Entry
+  told-by c k a = byAnswer a (entryTo ns c k ∷ []) []
+
   -- a call on what stands: the stack's answer, and what stands behind it
-  pub record Next (c : Call) (k : Kept) (ts : List (List ℤ)) : Type 0 where
+  pub record Next (c : Call) (k : Kept) (ts : List (List ℤ)) (es : List Entry) : Type 0 where
     pub answer : answerTo ns c k ≡ modelAnswer ns c (stackOf k ts)
     pub saved : List (List ℤ)
     pub model : modelStep ns c (stackOf k ts) ≡ stackOf (leftBy ns c k (answerTo ns c k)) saved
-    pub stands : Stands (leftBy ns c k (answerTo ns c k)) saved
+    pub left : With (leftBy ns c k (answerTo ns c k)) saved (es ++ told-by c k (answerTo ns c k))
 
   module _ (c : Call) (k : Kept) (ts : List (List ℤ)) (s : Stands k ts) where
     abbrev es : List Entry
@@ -172,7 +183,7 @@ module _ (ns : List ℕ) (t₀ : List ℤ) where
     abbrev d : ℕ
     d = length (marksOf es)
 
-    used-is : length (journalText es) ≡ k .used
+    pub used-is : length (journalText es) ≡ k .used
     used-is = ap length (sym (s .bytes)) ∙ length-take-le (k .used) (k .journal) (s .inside)
 
     pub walk-is : walkIn ns (k .journal) (k .used) ≡ walked (k .used) (length es) (marksOf es)
@@ -180,17 +191,17 @@ module _ (ns : List ℕ) (t₀ : List ℤ) where
 
     -- both answers are one
     next-of : (a : Answer) → answerTo ns c k ≡ a → modelAnswer ns c (stackOf k ts) ≡ a → (saved : List (List ℤ))
-        → byAnswer a (onStack ps c (stackOf k ts)) (stackOf k ts) ≡ stackOf (leftBy ns c k a) saved → Stands (leftBy ns c k a) saved → Next c k ts
+        → byAnswer a (onStack ps c (stackOf k ts)) (stackOf k ts) ≡ stackOf (leftBy ns c k a) saved → With (leftBy ns c k a) saved (es ++ told-by c k a) → Next c k ts es
     next-of a e m saved q st =
         record {
           answer = e ∙ sym m;
           saved = saved;
           model = ap (λ x. byAnswer x (onStack ps c (stackOf k ts)) (stackOf k ts)) m ∙ q ∙ ap (λ x. stackOf (leftBy ns c k x) saved) (sym e);
-          stands = subst (λ x. Stands (leftBy ns c k x) saved) (sym e) st;
+          left = subst (λ x. With (leftBy ns c k x) saved (es ++ told-by c k x)) (sym e) st;
         }
 
-    next-refused : (r : Refusal) → answerTo ns c k ≡ Refused r → modelAnswer ns c (stackOf k ts) ≡ Refused r → Next c k ts
-    next-refused r e m = next-of (Refused r) e m ts refl s
+    next-refused : (r : Refusal) → answerTo ns c k ≡ Refused r → modelAnswer ns c (stackOf k ts) ≡ Refused r → Next c k ts es
+    next-refused r e m = next-of (Refused r) e m ts refl record { stands = s; told = sym (append-nil es) }
 
     standing-is : checkedOf ns (length (k .cells)) ≡ C.Right → standingOf ns (k .journal) (k .used) (length (k .cells)) ≡ C.Right
     unfolding standingOf
@@ -221,7 +232,7 @@ module _ (ns : List ℕ) (t₀ : List ℤ) where
       long = over-length (k .journal) (entryText e) (k .used) (omega (arith, size, s .inside))
 
       sized : Sized e
-      sized = entry-sized c d (length t) t right ok (s .few) fits (s .fit)
+      sized = entry-sized c d (length t) t right ok (s .few) (fits, s .fit)
 
       abbrev saved : List (List ℤ)
       saved = onStack ps c (stackOf k ts) .saved
@@ -240,7 +251,7 @@ module _ (ns : List ℕ) (t₀ : List ℤ) where
             bytes = used-more (k .journal) (entryText e) (k .used) (bytesFor c) (s .inside) size ∙ ap (λ x. x ++ entryText e) (s .bytes) ∙ sym (text-more es e);
             fine = fine-last e sized (s .fine) (entry-ok c d t ok);
             held = held-call ps es t ts (length (k .journal) - k .used) (s .held) c ok;
-            leads = subst (Leads ps [] (withEntry es e) t₀) (played-call es c d t) (leads-last e (s .leads) sized (entry-ok c d t ok) (entry-matches c d t));
+            leads = subst (Leads ps [] (withEntry es e) t₀) (played-call es c d t) (leads-last e (s .leads) (record { sized = sized; ok = entry-ok c d t ok; same = entry-matches c d t }));
             few = rw (marks-entry es e) (marks-few c (marksOf es) (length es) t ok (s .few));
             fit = fit-call c t fits (s .fine) (s .fit);
           }
@@ -256,24 +267,26 @@ module _ (ns : List ℕ) (t₀ : List ℤ) where
           ∙ ap (λ x. stacked x saved (length (k .journal) - k .used - bytesFor c)) (sym (held-cells ps es t ts (length (k .journal) - k .used) (s .held) c ok))
           ∙ ap (stacked (cellsOn ps c es t) saved) z
 
-      next-done : (n : ℕ) → answerTo ns c k ≡ Done n → modelAnswer ns c (stackOf k ts) ≡ Done n → Next c k ts
+      next-done : (n : ℕ) → answerTo ns c k ≡ Done n → modelAnswer ns c (stackOf k ts) ≡ Done n → Next c k ts es
       next-done n a m =
-          next-of (Done n) a m saved (model-done ∙ ap (λ x. stackOf x saved) (sym (left-is n))) (subst (λ x. Stands x saved) (sym (left-is n)) stands-done)
+          next-of (Done n) a m saved (model-done ∙ ap (λ x. stackOf x saved) (sym (left-is n)))
+          (subst (λ x. With x saved (withEntry es (entryTo ns c k))) (sym (left-is n))
+          record { stands = stands-done; told = entries-done ∙ ap (λ w. withEntry es (entryFor ps c (length (w .marks)) t)) (sym walk-is) })
 
     -- any call
-    next-right : checkedOf ns (length (k .cells)) ≡ C.Right → FitCall c → Next c k ts
+    next-right : checkedOf ns (length (k .cells)) ≡ C.Right → FitCall c → Next c k ts es
     next-right r f = by (accepts ps c d) (ltb (length (k .journal) - k .used) (bytesFor c)) refl refl
       where
-        by : (b l : Bool) → accepts ps c d ≡ b → ltb (length (k .journal) - k .used) (bytesFor c) ≡ l → Next c k ts
+        by : (b l : Bool) → accepts ps c d ≡ b → ltb (length (k .journal) - k .used) (bytesFor c) ≡ l → Next c k ts es
         by false l o q = next-refused (refusalOf c) (answer-is r ∙ rw o refl) (model-is r ∙ rw o refl)
         by true true o q = next-refused NoRoom (answer-is r ∙ rw (o, q) refl) (model-is r ∙ rw (o, q) refl)
         by true false o q =
             next-done r f o (ltb-false (length (k .journal) - k .used) (bytesFor c) q) (numberFor c d) (answer-is r ∙ rw (o, q) refl) (model-is r ∙ rw (o, q) refl)
 
-    pub next : FitCall c → Next c k ts
+    pub next : FitCall c → Next c k ts es
     next f = by (checkedOf ns (length (k .cells))) refl
       where
-        by : (r : Checked) → checkedOf ns (length (k .cells)) ≡ r → Next c k ts
+        by : (r : Checked) → checkedOf ns (length (k .cells)) ≡ r → Next c k ts es
         by C.Right e = next-right e f
         by (C.Refused r) e = next-refused r (refused-answer r e) (rw e refl)
           where
@@ -286,20 +299,22 @@ module _ (ns : List ℕ) (t₀ : List ℤ) where
   run-answers [] k ts f s = refl
   run-answers (c ∷ cs) k ts f s =
       let n = next c k ts s (f .0) in
-      ap₂ _∷_ (n .answer) (run-answers cs (leftBy ns c k (answerTo ns c k)) (n .saved) (f .1) (n .stands) ∙ ap (modelAnswers ns cs) (sym (n .model)))
+      ap₂ _∷_ (n .answer) (run-answers cs (leftBy ns c k (answerTo ns c k)) (n .saved) (f .1) (n .left .stands) ∙ ap (modelAnswers ns cs) (sym (n .model)))
 
-  -- what is left by calls, and the stack's tables there
-  pub record After (cs : List Call) (k : Kept) (ts : List (List ℤ)) : Type 0 where
+  -- what is left by calls, the stack's tables there, and the entries
+  pub record After (cs : List Call) (k : Kept) (ts : List (List ℤ)) (es : List Entry) : Type 0 where
     pub saved : List (List ℤ)
     pub model : modelRun ns cs (stackOf k ts) ≡ stackOf (leftTo ns cs k) saved
-    pub stands : Stands (leftTo ns cs k) saved
+    pub left : With (leftTo ns cs k) saved (es ++ entriesTo ns cs k)
 
-  pub after-calls : (cs : List Call) (k : Kept) (ts : List (List ℤ)) → FitCalls cs → Stands k ts → After cs k ts
-  after-calls [] k ts f s = record { saved = ts; model = refl; stands = s }
+  pub after-calls : (cs : List Call) (k : Kept) (ts : List (List ℤ)) → FitCalls cs → (s : Stands k ts) → After cs k ts (s .entries)
+  after-calls [] k ts f s = record { saved = ts; model = refl; left = record { stands = s; told = sym (append-nil (s .entries)) } }
   after-calls (c ∷ cs) k ts f s =
       let n = next c k ts s (f .0) in
-      let a = after-calls cs (leftBy ns c k (answerTo ns c k)) (n .saved) (f .1) (n .stands) in
-      record { saved = a .saved; model = ap (modelRun ns cs) (n .model) ∙ a .model; stands = a .stands }
+      let k′ = leftBy ns c k (answerTo ns c k) in
+      let a = after-calls cs k′ (n .saved) (f .1) (n .left .stands) in
+      let told = a .left .told ∙ ap (λ l. l ++ entriesTo ns cs k′) (n .left .told) ∙ append-assoc (s .entries) (told-by c k (answerTo ns c k)) (entriesTo ns cs k′) in
+      record { saved = a .saved; model = ap (modelRun ns cs) (n .model) ∙ a .model; left = record { stands = a .left .stands; told = told } }
 
   unfoldable pub fresh : (j : List ℕ) → Fit t₀ → Stands (kept t₀ j 0) []
   unfolding journalText marksFrom
@@ -326,128 +341,34 @@ module _ (ns : List ℕ) (t₀ : List ℤ) where
         opened = ap (λ x. length (x .marks)) p ∙ sym (ap (λ w. length (w .marks)) (walk-is Opens k ts s));
       }
 
--- ---- the first bytes of it
+-- ---- calls behind calls
 
-module _ (ns : List ℕ) (t₀ : List ℤ) (right : checkedOf ns (length t₀) ≡ C.Right) where
-  -- bytes that begin as those kept, and go on with what is no field
-  cut-here : (k : Kept) (ts : List (List ℤ)) (j : List ℕ) (n : ℕ) → Stands ns t₀ k ts → k .used ≤ n → take (k .used) j ≡ take (k .used) (k .journal)
-      → entryIn (drop (k .used) (take n j)) ≡ Misformed → replayOf ns j n t₀ ≡ whole (k .used) n
-  unfolding replayOf
-  cut-here k ts j n s l q x =
-      let es = s .entries in
-      let b : take n j ≡ journalText es ++ drop (k .used) (take n j) =
-      sym (take-append-drop (k .used) (take n j)) ∙ ap (λ y. y ++ drop (k .used) (take n j)) (take-take (k .used) n j l ∙ q ∙ s .bytes) in
-      let m : length es ≤ length (take n j) = omega (arith, ap length b, length-append (journalText es) (drop (k .used) (take n j)), text-length (s .fine)) in
-      let p = ap (λ r. r .place) (play-cut (take n j) (drop (k .used) (take n j)) x es (s .leads) b m) ∙ used-is ns t₀ Opens k ts s in
-      rw (right, p) refl
+module _ (ns : List ℕ) where
+  pub left-append : (bs cs : List Call) (k : Kept) → leftTo ns (bs ++ cs) k ≡ leftTo ns cs (leftTo ns bs k)
+  left-append [] cs k = refl
+  left-append (b ∷ bs) cs k = left-append bs cs (leftBy ns b k (answerTo ns b k))
 
-  -- what a call leaves: all as it was, or a field behind the bytes used
-  pub record Adds (k k′ : Kept) : Type 0 where
-    pub entry : Entry
-    pub journal : k′ .journal ≡ over (k .used) (entryText entry) (k .journal)
-    pub used : k′ .used ≡ k .used + entrySize entry
+  pub answers-append : (bs cs : List Call) (k : Kept) → answersTo ns (bs ++ cs) k ≡ answersTo ns bs k ++ answersTo ns cs (leftTo ns bs k)
+  answers-append [] cs k = refl
+  answers-append (b ∷ bs) cs k = ap (λ l. answerTo ns b k ∷ l) (answers-append bs cs (leftBy ns b k (answerTo ns b k)))
 
-  pub adds : (c : Call) (k : Kept) → (leftBy ns c k (answerTo ns c k) ≡ k) ⊎ Adds k (leftBy ns c k (answerTo ns c k))
-  adds c k = by (answerTo ns c k) refl
-    where
-      by : (a : Answer) → answerTo ns c k ≡ a → (leftBy ns c k (answerTo ns c k) ≡ k) ⊎ Adds k (leftBy ns c k (answerTo ns c k))
-      by (Refused r) q = inl (ap (leftBy ns c k) q)
-      by (Done n) q =
-          let e = entryFor (startsOf ns) c (length (walkIn ns (k .journal) (k .used) .marks)) (k .cells) in
-          inr record {
-            entry = e;
-            journal = ap (λ a. leftBy ns c k a .journal) q;
-            used = ap (λ a. leftBy ns c k a .used) q ∙ ap (λ m. k .used + m) (sym (entry-size ns t₀ c (length (walkIn ns (k .journal) (k .used) .marks)) (k .cells)));
-          }
-
-  module _ (k k′ : Kept) (in′ : k .used ≤ length (k .journal)) where
-    long-used : length (take (k .used) (k .journal)) ≡ k .used
-    long-used = length-take-le (k .used) (k .journal) in′
-
-    adds-keeps : Adds k k′ → take (k .used) (k′ .journal) ≡ take (k .used) (k .journal)
-    adds-keeps a = ap (take (k .used)) (a .journal) ∙ take-at (take (k .used) (k .journal)) _ (k .used) long-used
-
-    adds-cut : (a : Adds k k′) (n : ℕ) → k .used ≤ n → n < k′ .used → drop (k .used) (take n (k′ .journal)) ≡ take (n - k .used) (entryText (a .entry))
-    adds-cut a n l h =
-        let x = entryText (a .entry) in
-        let m : n - k .used ≤ length x = omega (arith, a .used, length-text (a .entry)) in
-        drop-take (k .used) n (k′ .journal) ∙ ap (λ y. take (n - k .used) (drop (k .used) y)) (a .journal)
-        ∙ ap (take (n - k .used)) (drop-at (take (k .used) (k .journal)) (x ++ drop (k .used + length x) (k .journal)) (k .used) long-used)
-        ∙ take-append-le (n - k .used) x (drop (k .used + length x) (k .journal)) m
-
-  -- the bytes used stay
-  keeps : (cs : List Call) (k : Kept) (ts : List (List ℤ)) → FitCalls cs → Stands ns t₀ k ts
-      → (k .used ≤ leftTo ns cs k .used) × (take (k .used) (leftTo ns cs k .journal) ≡ take (k .used) (k .journal))
-  keeps [] k ts f s = (omega arith, refl)
-  keeps (c ∷ cs) k ts f s =
-      let n = next ns t₀ c k ts s (f .0) in
-      let k′ = leftBy ns c k (answerTo ns c k) in
-      let r = keeps cs k′ (n .saved) (f .1) (n .stands) in
-      one (adds c k) r
-    where
-      one : (leftBy ns c k (answerTo ns c k) ≡ k) ⊎ Adds k (leftBy ns c k (answerTo ns c k))
-          → (leftBy ns c k (answerTo ns c k) .used ≤ leftTo ns (c ∷ cs) k .used) ×
-          (take (leftBy ns c k (answerTo ns c k) .used) (leftTo ns (c ∷ cs) k .journal) ≡ take (leftBy ns c k (answerTo ns c k) .used)
-          (leftBy ns c k (answerTo ns c k) .journal)) → (k .used ≤ leftTo ns (c ∷ cs) k .used) × (take (k .used) (leftTo ns (c ∷ cs) k .journal) ≡ take (k .used) (k .journal))
-      one (inl q) r = subst (λ x. (x .used ≤ leftTo ns (c ∷ cs) k .used) × (take (x .used) (leftTo ns (c ∷ cs) k .journal) ≡ take (x .used) (x .journal))) q r
-      one (inr a) r =
-          let k′ = leftBy ns c k (answerTo ns c k) in
-          let l : k .used ≤ k′ .used = omega (arith, a .used) in (
-            omega (arith, r .0),
-            sym (take-take (k .used) (k′ .used) (leftTo ns (c ∷ cs) k .journal) l) ∙ ap (take (k .used)) (r .1) ∙ take-take (k .used) (k′ .used) (k′ .journal) l
-                ∙ adds-keeps k k′ (s .inside) a,
-          )
-
-  -- the same bytes used in another buffer
-  moved : (k : Kept) (ts : List (List ℤ)) (j : List ℕ) → Stands ns t₀ k ts → take (k .used) j ≡ take (k .used) (k .journal) → Stands ns t₀ (kept (k .cells) j (k .used)) ts
-  moved k ts j s q =
+  pub alike : {k k′ : Kept} (cs : List Call) → k ≡ k′ → Alike ns k k′ cs
+  alike cs q =
       record {
-        entries = s .entries;
-        inside = omega (arith, length-take (k .used) j, ap length q, length-take-le (k .used) (k .journal) (s .inside));
-        bytes = q ∙ s .bytes;
-        fine = s .fine;
-        held = s .held;
-        leads = s .leads;
-        few = s .few;
-        fit = s .fit;
+        answers = ap (answersTo ns cs) q;
+        cells = ap (λ x. leftTo ns cs x .cells) q;
+        journal = ap (λ x. leftTo ns cs x .journal) q;
+        used = ap (λ x. leftTo ns cs x .used) q;
+        opened = ap (λ x. openIn ns (leftTo ns cs x)) q;
       }
 
-  pub torn : (cs : List Call) (k : Kept) (ts : List (List ℤ)) (n : ℕ) → FitCalls cs → Stands ns t₀ k ts → k .used ≤ n → n ≤ leftTo ns cs k .used → Torn ns t₀ cs k n
-  torn [] k ts n f s l h =
-      let z : length (take n (k .journal)) ≤ k .used = omega (arith, length-take n (k .journal)) in
+  -- R518, R520: a call adds its field, or nothing
+  pub adds-field : (c : Call) (k : Kept) → AddsField ns c k
+  adds-field c k =
       record {
-        calls = 0;
-        before = l;
-        answer = cut-here k ts (k .journal) n s l refl (ap entryIn (drop-of-length-le (take n (k .journal)) {i = k .used} z) ∙ no-field);
-        rest = replay-stands ns t₀ k ts s right;
+        done = λ n q. record { journal = refl; used = ap (λ m. k .used + m) (sym (length-text (entryTo ns c k) ∙ entry-size ns (k .cells) c (openIn ns k) (k .cells))) };
+        refused = λ r q. refl;
       }
-  torn (c ∷ cs) k ts n f s l h =
-      let x = next ns t₀ c k ts s (f .0) in
-      let k′ = leftBy ns c k (answerTo ns c k) in
-      by (le-or-lt (k′ .used) n) (λ m. torn cs k′ (x .saved) n (f .1) (x .stands) m h) (keeps (c ∷ cs) k ts f s .1) (keeps cs k′ (x .saved) (f .1) (x .stands) .1) (adds c k)
-    where
-      by : (leftBy ns c k (answerTo ns c k) .used ≤ n) ⊎ (n < leftBy ns c k (answerTo ns c k) .used)
-          → (leftBy ns c k (answerTo ns c k) .used ≤ n → Torn ns t₀ cs (leftBy ns c k (answerTo ns c k)) n)
-          → take (k .used) (leftTo ns (c ∷ cs) k .journal) ≡ take (k .used) (k .journal)
-          → take (leftBy ns c k (answerTo ns c k) .used) (leftTo ns (c ∷ cs) k .journal) ≡ take (leftBy ns c k (answerTo ns c k) .used)
-          (leftBy ns c k (answerTo ns c k) .journal) → (leftBy ns c k (answerTo ns c k) ≡ k) ⊎ Adds k (leftBy ns c k (answerTo ns c k)) → Torn ns t₀ (c ∷ cs) k n
-      by (inl m) ih q r a =
-          let b = ih m in
-          record { calls = suc (b .calls); before = b .before; answer = b .answer; rest = b .rest }
-      by (inr m) ih q r (inl e) = absurd (omega (arith, ap (λ y. y .used) e))
-      by (inr m) ih q r (inr a) =
-          let k′ = leftBy ns c k (answerTo ns c k) in
-          let j = leftTo ns (c ∷ cs) k .journal in
-          let w : n ≤ k′ .used = omega arith in
-          let y : take n j ≡ take n (k′ .journal) = sym (take-take n (k′ .used) j w) ∙ ap (take n) r ∙ take-take n (k′ .used) (k′ .journal) w in
-          let v : drop (k .used) (take n j) ≡ take (n - k .used) (entryText (a .entry)) = ap (drop (k .used)) y ∙ adds-cut k k′ (s .inside) a n l m in
-          let u = field-cut (a .entry) (n - k .used) (omega (arith, a .used)) in
-          record {
-            calls = 0;
-            before = l;
-            answer = cut-here k ts j n s l q (ap entryIn v ∙ u);
-            rest = replay-stands ns t₀ (kept (k .cells) j (k .used)) ts (moved k ts j s q) right;
-          }
 
 module _ (ns : List ℕ) (t : List ℤ) (j : List ℕ) (cs : List Call) (ft : Fit t) (fc : FitCalls cs) where
   -- R516: every reply, all cells and the open savepoints are those of the stack
@@ -459,15 +380,35 @@ module _ (ns : List ℕ) (t : List ℤ) (j : List ℕ) (cs : List Call) (ft : Fi
       record {
         answers = run-answers ns t cs (kept t j 0) [] fc s ∙ ap (λ n. modelAnswers ns cs (stacked t [] n)) z;
         cells = sym (ap (λ x. x .cells) (a .model)) ∙ ap (λ n. modelRun ns cs (stacked t [] n) .cells) z;
-        opened = open-is ns t (leftTo ns cs (kept t j 0)) (a .saved) (a .stands) ∙ sym (ap (λ x. length (x .saved)) (a .model)) ∙ ap (λ n. length (modelRun ns cs (stacked t [] n) .saved)) z;
+        opened = open-is ns t (leftTo ns cs (kept t j 0)) (a .saved) (a .left .stands) ∙ sym (ap (λ x. length (x .saved)) (a .model)) ∙ ap (λ n. length (modelRun ns cs (stacked t [] n) .saved)) z;
       }
 
   -- R543: a journal that calls made, replayed over the table that they began with
   pub replay-same : checkedOf ns (length t) ≡ C.Right → ReplaysTo ns t (leftTo ns cs (kept t j 0))
   replay-same r =
       let a = after-calls ns t cs (kept t j 0) [] fc (fresh ns t j ft) in
-      replay-stands ns t (leftTo ns cs (kept t j 0)) (a .saved) (a .stands) r
+      replay-stands ns t (leftTo ns cs (kept t j 0)) (a .saved) (a .left .stands) r
 
-  -- R544: cut at any byte
-  pub torn-calls : checkedOf ns (length t) ≡ C.Right → (n : ℕ) → n ≤ leftTo ns cs (kept t j 0) .used → Torn ns t cs (kept t j 0) n
-  torn-calls r n h = torn ns t r cs (kept t j 0) [] n fc (fresh ns t j ft) (omega arith) h
+  -- R520: the bytes used are the fields of the calls that were accepted, and read as these
+  pub reads-as : ReadsAs (leftTo ns cs (kept t j 0)) (entriesTo ns cs (kept t j 0))
+  unfolding fresh
+  reads-as =
+      let a = after-calls ns t cs (kept t j 0) [] fc (fresh ns t j ft) in
+      let s = a .left .stands in
+      let k = leftTo ns cs (kept t j 0) in
+      let b = s .bytes in
+      let q : take (k .used) (k .journal) ≡ [] ++ (journalText (s .entries) ++ []) = b ∙ sym (append-nil (journalText (s .entries))) in
+      let u : length (take (k .used) (k .journal)) ≡ k .used = length-take-le (k .used) (k .journal) (s .inside) in
+      let e : s .entries ≡ entriesTo ns cs (kept t j 0) = a .left .told in
+      record {
+        bytes = b ∙ ap journalText e;
+        entries = subst (λ l. entriesAt (take (k .used) (k .journal)) 0 (length l) ≡ l) e (read-written (s .entries) [] [] (take (k .used) (k .journal)) (s .fine) q);
+        ends = subst (λ l. placeAt (take (k .used) (k .journal)) 0 (length l) ≡ k .used) e (place-written (s .entries) [] (take (k .used) (k .journal)) (s .fine) b ∙ u);
+      }
+
+  -- R543: whatever calls come behind a replay, they are answered, and leave, what they would have without it
+  pub goes-on : checkedOf ns (length t) ≡ C.Right → (further : List Call)
+      → Alike ns (behindReplay ns t (leftTo ns cs (kept t j 0))) (leftTo ns cs (kept t j 0)) further
+  goes-on r further =
+      let k = leftTo ns cs (kept t j 0) in
+      alike ns further (ap (λ x. kept x (k .journal) (k .used)) (replay-same r .cells))

@@ -22,7 +22,8 @@ use Rattle.entry.specs.declared.Entry.{Entry}
 use Rattle.entry.specs.declared.Entry.the-variants.{Set, Open, Release, Undo, Misformed}
 use Rattle.entry.specs.Bytes.{AllBytes}
 use Rattle.entry.specs.Field.{entryText, entrySize, fieldAt}
-use Rattle.entry.proofs.Codec.{Sized, sized-set, Reads, field-read, bytes-take, bytes-drop, length-text}
+use Rattle.entry.specs.Codec.{Sized, sized-set, Reads}
+use Rattle.entry.proofs.Codec.{field-read, bytes-take, bytes-drop, length-text}
 use Rattle.entry.proofs.Reading.{next-within}
 use Rattle.journal.specs.Layout.{startsOf, spotOf, getAt}
 use Rattle.journal.specs.Model.{Call, Sets, Opens, Releases, Undoes, accepts, bytesFor, numberFor, onStack}
@@ -30,7 +31,7 @@ use Rattle.journal.specs.Entries.{markStep, marksFrom, marksOf, markOf, 
 use Rattle.journal.specs.Walks.{okEntry}
 use Rattle.journal.specs.Calls.{entryFor, whole}
 use Rattle.journal.specs.Plays.{matches, playedBy, Run, ran, playFrom, playOf, playIn, replayOf}
-use Rattle.journal.specs.Runs.{Fit, FitCall, FitCalls, MadeBy, Kept, kept, answerTo, leftBy, leftTo}
+use Rattle.journal.specs.Runs.{Fit, FitCall, FitCalls, MadeBy, Kept, kept, answerTo, leftBy, answersTo, leftTo, behindReplay}
 use Rattle.journal.proofs.Spots.{length-put}
 use Rattle.journal.proofs.Restore.{length-restore}
 use Rattle.journal.proofs.Answers.{whole-right, then-right}
@@ -38,7 +39,7 @@ use Rattle.journal.proofs.Walking.{no-way, ok-open}
 use Rattle.journal.proofs.Playing.{same-cell}
 use Rattle.journal.proofs.Held.{withEntry, marks-entry, cellsOn}
 use Rattle.journal.proofs.Replays.{Tells, tells-more, played-on, playedOn}
-use Rattle.journal.proofs.Made.{fresh, Stands, stackOf, entry-size, played-call, answer-is, left-is, stands-done, entries-done}
+use Rattle.journal.proofs.Made.{fresh, Stands, stackOf, entry-size, played-call, answer-is, left-is, stands-done, entries-done, left-append, answers-append}
 
 -- the call of an entry
 abbrev callFor : Entry → Call
@@ -94,13 +95,24 @@ module _ (ns : List ℕ) (t₀ : List ℤ) (j : List ℕ) (used : ℕ) where
   abbrev s : List ℕ
   s = take used j
 
+  -- calls that lead there
+  made-by : {k end : Kept} (calls : List Call) → FitCalls calls → leftTo ns calls k ≡ end → MadeBy ns k end
+  made-by {k} calls f q =
+      record {
+        calls = calls;
+        fits = f;
+        left = q;
+        answers = λ cs. answers-append ns calls cs k ∙ ap (λ x. answersTo ns calls k ++ answersTo ns cs x) q;
+        further = λ cs. left-append ns calls cs k ∙ ap (leftTo ns cs) q;
+      }
+
   module _ (right : checkedOf ns (length t₀) ≡ C.Right) (bytes : AllBytes j) where
     -- the whole is made from here, if a replay from here comes to its end
     abbrev Comes : Kept → Run → Type 0
     Comes k r = r .place ≡ used → MadeBy ns k (kept (r .cells) j used)
 
     stops : (k : Kept) → k .journal ≡ j → (n : ℕ) (ms : List ℕ) → Comes k (ran (k .used) n ms (k .cells))
-    stops k q n ms p = record { calls = []; fits = tt; left = ap (λ x. kept (k .cells) x (k .used)) q ∙ ap (kept (k .cells) j) p }
+    stops k q n ms p = made-by [] tt (ap (λ x. kept (k .cells) x (k .used)) q ∙ ap (kept (k .cells) j) p)
 
     module _ (k : Kept) (ts : List (List ℤ)) (q : k .journal ≡ j) (st : Stands ns t₀ k ts) (same : length (k .cells) ≡ length t₀) where
       abbrev es : List Entry
@@ -187,8 +199,7 @@ module _ (ns : List ℕ) (t₀ : List ℤ) (j : List ℕ) (used : ℕ) where
             ∙ ap (playFrom f ps s (k′ .used) (length (withEntry es (entryFor ps c d t))) (marksOf (withEntry es (entryFor ps c d t)))) (cells-same tells)
 
         call-more : {end : Kept} → MadeBy ns k′ end → MadeBy ns k end
-        call-more b =
-            record { calls = c ∷ b .calls; fits = (call-fits e (reads .sized), b .fits); left = ap (leftTo ns (b .calls)) left-by ∙ b .left }
+        call-more b = made-by (c ∷ b .calls) (call-fits e (reads .sized), b .fits) (ap (leftTo ns (b .calls)) left-by ∙ b .left)
 
     comes : (f : ℕ) (k : Kept) (ts : List (List ℤ)) → k .journal ≡ j → (st : Stands ns t₀ k ts) → length (k .cells) ≡ length t₀ → Tells s (st .entries) (k .used)
         → Comes k (playFrom f ps s (k .used) (length (st .entries)) (marksOf (st .entries)) (k .cells))
@@ -207,9 +218,13 @@ module _ (ns : List ℕ) (t₀ : List ℤ) (j : List ℕ) (used : ℕ) where
         let run = run-same k ts q st same low ok m f tells ∙ ap (λ l. playFrom f ps s (k .used + bytesFor c) (length l) (marksOf l) (cellsOn ps c es (k .cells))) (entries′ k ts q st same low ok m) in
         subst (Comes k) (sym run) (λ p. call-more k ts q st same low ok m (ih p))) (λ _. stop)) (λ _. stop)) (λ _. stop)
 
-    -- a replay that gives 0: the journal is one that calls made on the table, and the cells are theirs
-    pub reopened : Fit t₀ → replayOf ns j used t₀ ≡ C.Right → MadeBy ns (kept t₀ j 0) (kept (playIn ns j used t₀ .cells) j used)
-    unfolding playOf placeAt entriesAt marksFrom replayOf fresh
-    reopened f r =
-        let p = whole-right (playIn ns j used t₀ .place) used (then-right (checkedOf ns (length t₀)) (whole (playIn ns j used t₀ .place) used) r .1) in
-        comes (length s) (kept t₀ j 0) [] refl (fresh ns t₀ j f) refl (record { ends = refl; reads = refl }) p
+    comes-fresh : Fit t₀ → Comes (kept t₀ j 0) (playIn ns j used t₀)
+    unfolding playOf placeAt entriesAt marksFrom fresh
+    comes-fresh f = comes (length s) (kept t₀ j 0) [] refl (fresh ns t₀ j f) refl (record { ends = refl; reads = refl })
+
+  -- a replay that gives 0: the journal is one that calls made on the table, and the cells are theirs
+  pub reopened : Fit t₀ → AllBytes j → replayOf ns j used t₀ ≡ C.Right → MadeBy ns (kept t₀ j 0) (behindReplay ns t₀ (kept t₀ j used))
+  unfolding replayOf
+  reopened f b r =
+      let q = then-right (checkedOf ns (length t₀)) (whole (playIn ns j used t₀ .place) used) r in
+      comes-fresh (q .0) b f (whole-right (playIn ns j used t₀ .place) used (q .1))

@@ -16,7 +16,8 @@ use borrow.Author.Tests.{lt-ltb}
 use Rattle.entry.specs.declared.Entry.{Entry}
 use Rattle.entry.specs.declared.Entry.the-variants.{Set, Open, Release, Undo, Misformed}
 use Rattle.entry.specs.Field.{entryText, entrySize, entryIn, fieldAt}
-use Rattle.entry.proofs.Codec.{Sized, length-text, field-text}
+use Rattle.entry.specs.Codec.{Sized}
+use Rattle.entry.proofs.Codec.{length-text, field-text}
 use Rattle.journal.specs.Layout.{spotOf, putAt}
 use Rattle.journal.specs.Entries.{markStep, marksFrom, marksOf, markOf, restore, journalText, nextAt, entriesAt, placeAt}
 use Rattle.journal.specs.Walks.{okEntry}
@@ -33,19 +34,25 @@ playedOn ps (Release k) pre t = t
 playedOn ps (Undo k) pre t = restore ps (drop (markOf (marksOf pre) k) pre) t
 playedOn ps Misformed pre t = t
 
+-- an entry with a field of its own, whose call is accepted behind `pre`, and a set's old value is the cell's
+pub record Follows (ps : List ℕ) (pre : List Entry) (e : Entry) (t : List ℤ) : Type 0 where
+  pub sized : Sized e
+  pub ok : okEntry ps e (length (marksOf pre)) ≡ true
+  pub same : matches ps e t ≡ true
+
 -- behind `pre`, the entries lead from cells t to cells u
 pub data Leads (ps : List ℕ) : List Entry → List Entry → List ℤ → List ℤ → Type 0 where
   leads-none : {pre : List Entry} {t : List ℤ} → Leads ps pre [] t t
-  leads-more : {pre es : List Entry} {e : Entry} {t u : List ℤ} → Sized e → okEntry ps e (length (marksOf pre)) ≡ true → matches ps e t ≡ true
-      → Leads ps (withEntry pre e) es (playedOn ps e pre t) u → Leads ps pre (e ∷ es) t u
+  leads-more : {pre es : List Entry} {e : Entry} {t u : List ℤ} → Follows ps pre e t → Leads ps (withEntry pre e) es (playedOn ps e pre t) u → Leads ps pre (e ∷ es) t u
 
 module _ {ps : List ℕ} where
-  pub leads-last : {pre es : List Entry} {t u : List ℤ} (e : Entry) → Leads ps pre es t u → Sized e → okEntry ps e (length (marksOf (pre ++ es))) ≡ true → matches ps e u ≡ true
-      → Leads ps pre (withEntry es e) t (playedOn ps e (pre ++ es) u)
-  leads-last {pre} {u = u} e leads-none z o m = rw (append-nil pre) (leads-more z (rw (append-nil pre) at o) m leads-none)
-  leads-last {pre} {es = x ∷ es} {t} {u} e (leads-more zx ox mx r) z o m =
+  pub leads-last : {pre es : List Entry} {t u : List ℤ} (e : Entry) → Leads ps pre es t u → Follows ps (pre ++ es) e u → Leads ps pre (withEntry es e) t (playedOn ps e (pre ++ es) u)
+  leads-last {pre} {u = u} e leads-none h =
+      subst (λ l. Leads ps pre (e ∷ []) u (playedOn ps e l u)) (sym (append-nil pre)) (leads-more (subst (λ l. Follows ps l e u) (append-nil pre) h) leads-none)
+  leads-last {pre} {es = x ∷ es} {t} {u} e (leads-more f r) h =
       let q : (withEntry pre x) ++ es ≡ pre ++ (x ∷ es) = append-assoc pre (x ∷ []) es in
-      leads-more zx ox mx (subst (λ l. Leads ps (withEntry pre x) (withEntry es e) (playedOn ps x pre t) (playedOn ps e l u)) q (leads-last e r z (rw q o) m))
+      leads-more f
+      (subst (λ l. Leads ps (withEntry pre x) (withEntry es e) (playedOn ps x pre t) (playedOn ps e l u)) q (leads-last e r (subst (λ l. Follows ps l e u) (sym q) h)))
 
 -- ---- no mark is past the entries
 
@@ -112,33 +119,44 @@ play-stuck (suc f) ps s p n ms t x = rw x (both (ltb p (length s)))
     both true = refl
     both false = refl
 
+-- the entries `pre` end at a place; there stand those of es, and then x; with f fields to go at most
+record Ahead (s x : List ℕ) (pre es : List Entry) (at f : ℕ) : Type 0 where
+  tells : Tells s pre at
+  rest : drop at s ≡ journalText es ++ x
+  long : at + length (journalText es) + length x ≡ length s
+  enough : length es ≤ f
+
 -- x is what stands behind the fields: nothing, or part of a field
 module _ {ps : List ℕ} (s x : List ℕ) (stuck : entryIn x ≡ Misformed) where
-  play-text : {t u : List ℤ} (pre es : List Entry) (at f : ℕ) → Leads ps pre es t u → Tells s pre at → drop at s ≡ journalText es ++ x
-      → at + length (journalText es) + length x ≡ length s → length es ≤ f
+  play-text : {t u : List ℤ} (pre es : List Entry) (at f : ℕ) → Leads ps pre es t u → Ahead s x pre es at f
       → playFrom f ps s at (length pre) (marksOf pre) t ≡ ran (at + length (journalText es)) (length (pre ++ es)) (marksOf (pre ++ es)) u
   unfolding journalText playFrom
-  play-text {t} pre [] at f leads-none r q y h =
+  play-text {t} pre [] at f leads-none h =
       let a : at + 0 ≡ at = omega arith in
-      play-stuck f ps s at (length pre) (marksOf pre) t (ap entryIn q ∙ stuck) ∙ rw (a, append-nil pre)
-  play-text pre (e ∷ es) at zero g r q y h = absurd (omega arith)
-  play-text {t} {u} pre (e ∷ es) at (suc f) (leads-more z o m g) r q y h =
-      let q″ : drop at s ≡ entryText e ++ (journalText es ++ x) = q ∙ append-assoc (entryText e) (journalText es) x in
-      let w : fieldAt s at ≡ e = ap entryIn q″ ∙ field-text e (journalText es ++ x) z in
-      let k = ok-size ps (length (marksOf pre)) e o in
-      let v : length (entryText e ++ journalText es) ≡ entrySize e + length (journalText es) = length-append (entryText e) (journalText es) ∙ ap (λ n. n + length (journalText es)) (length-text e) in
-      let q′ : drop (at + entrySize e) s ≡ journalText es ++ x = sym (drop-drop (entrySize e) at s) ∙ ap (drop (entrySize e)) q″ ∙ drop-at (entryText e) (journalText es ++ x) (entrySize e) (length-text e) in
+      play-stuck f ps s at (length pre) (marksOf pre) t (ap entryIn (h .rest) ∙ stuck) ∙ rw (a, append-nil pre)
+  play-text pre (e ∷ es) at zero g h = absurd (omega (arith, h .enough))
+  play-text {t} {u} pre (e ∷ es) at (suc f) (leads-more r g) h =
+      let y = h .long in
+      let few = h .enough in
+      let q″ : drop at s ≡ entryText e ++ (journalText es ++ x) = h .rest ∙ append-assoc (entryText e) (journalText es) x in
+      let w : fieldAt s at ≡ e = ap entryIn q″ ∙ field-text e (journalText es ++ x) (r .sized) in
+      let k = ok-size ps (length (marksOf pre)) e (r .ok) in
+      let v : length (entryText e ++ journalText es) ≡ entrySize e + length (journalText es) =
+      length-append (entryText e) (journalText es) ∙ ap (λ n. n + length (journalText es)) (length-text e) in
+      let q′ : drop (at + entrySize e) s ≡ journalText es ++ x =
+      sym (drop-drop (entrySize e) at s) ∙ ap (drop (entrySize e)) q″ ∙ drop-at (entryText e) (journalText es ++ x) (entrySize e) (length-text e) in
       let l : length (withEntry pre e) ≡ length pre + 1 = length-append pre (e ∷ []) in
       let a : at + entrySize e + length (journalText es) ≡ at + length (entryText e ++ journalText es) = omega arith in
-      let n = play-text (withEntry pre e) es (at + entrySize e) f g (tells-more s pre at e r w) q′ (omega arith) (omega arith) in
-      rw (lt-ltb at (length s) (omega arith), w, o, m, played-on ps s pre e t (r .reads), ← append-assoc pre (e ∷ []) es, ← a) (rw (l, marks-entry pre e) at n)
+      let n = play-text (withEntry pre e) es (at + entrySize e) f g
+      (record { tells = tells-more s pre at e (h .tells) w; rest = q′; long = omega arith; enough = omega arith }) in
+      rw (lt-ltb at (length s) (omega arith), w, r .ok, r .same, played-on ps s pre e t (h .tells .reads), ← append-assoc pre (e ∷ []) es, ← a) (rw (l, marks-entry pre e) at n)
 
   pub play-cut : {t u : List ℤ} (es : List Entry) → Leads ps [] es t u → s ≡ journalText es ++ x → length es ≤ length s → playOf ps s t ≡ ran (length (journalText es)) (length es) (marksOf es) u
   unfolding playOf entriesAt placeAt marksFrom
   play-cut es g q h =
       let z : 0 + length (journalText es) ≡ length (journalText es) = zero-add (length (journalText es)) in
       let y : 0 + length (journalText es) + length x ≡ length s = rw z (sym (ap length q ∙ length-append (journalText es) x)) in
-      play-text [] es 0 (length s) g (record { ends = refl; reads = refl }) (drop-none s ∙ q) y h ∙ rw z
+      play-text [] es 0 (length s) g (record { tells = record { ends = refl; reads = refl }; rest = drop-none s ∙ q; long = y; enough = h }) ∙ rw z
 
 pub no-field : entryIn [] ≡ Misformed
 unfolding entryIn

@@ -13,8 +13,9 @@ use borrow.Author.Tests.{lt-ltb}
 use Rattle.base.specs.Part.{over}
 use Rattle.entry.specs.declared.Entry.{Entry}
 use Rattle.entry.specs.Field.{entryText, entrySize, entryIn, fieldAt}
-use Rattle.entry.proofs.Codec.{Sized, length-text, field-text}
-use Rattle.journal.specs.Entries.{markStep, marksFrom, marksOf, restore, journalText, entriesAt, backTo}
+use Rattle.entry.specs.Codec.{Sized}
+use Rattle.entry.proofs.Codec.{length-text, field-text}
+use Rattle.journal.specs.Entries.{markStep, marksFrom, marksOf, restore, journalText, entriesAt, placeAt, backTo}
 use Rattle.journal.specs.Walks.{okEntry, walked, walkFrom, walkOf}
 use Rattle.journal.proofs.Places.{entries-from}
 use Rattle.journal.proofs.Walking.{ok-size, walk-end}
@@ -35,49 +36,62 @@ module _ {ps : List ℕ} where
   text-length fine-none = omega arith
   text-length {es = e ∷ es} {ms = ms} (fine-more h o r) = omega (arith, text-length r, length-append (entryText e) (journalText es), length-text e, ok-size ps (length ms) e o)
 
-  -- the walk over a journal's bytes
-  walk-text : (es : List Entry) (i : ℕ) (ms p s : List ℕ) (at f : ℕ) → Fine ps es i ms → length p ≡ at → s ≡ p ++ journalText es → length es ≤ f
-      → walkFrom f ps s at i ms ≡ walked (length s) (i + length es) (marksFrom es i ms)
+  -- the walk over a journal's bytes, from where p ends, with f fields to go at most
+  walk-text : (es : List Entry) (i : ℕ) (ms p s : List ℕ) (f : ℕ) → Fine ps es i ms → (s ≡ p ++ journalText es) × (length es ≤ f)
+      → walkFrom f ps s (length p) i ms ≡ walked (length s) (i + length es) (marksFrom es i ms)
   unfolding marksFrom journalText walkFrom
-  walk-text [] i ms p s at f fine-none l q h =
-      let e : s ≡ p = q ∙ append-nil p in
-      let a : at ≡ length s = sym l ∙ ap length (sym e) in
+  walk-text [] i ms p s f fine-none h =
+      let a : length p ≡ length s = sym (ap length (h .0 ∙ append-nil p)) in
       let z : i + 0 ≡ i = omega arith in
-      walk-end f ps s at i ms (omega arith) ∙ rw (a, z)
-  walk-text (e ∷ es) i ms p s at zero r l q h = absurd (omega arith)
-  walk-text (e ∷ es) i ms p s at (suc f) (fine-more k o r) l q h =
-      let d : drop at s ≡ entryText e ++ journalText es = ap (drop at) q ∙ drop-at p (entryText e ++ journalText es) at l in
-      let x : fieldAt s at ≡ e = ap entryIn d ∙ field-text e (journalText es) k in
+      walk-end f ps s (length p) i ms (omega arith) ∙ rw (a, z)
+  walk-text (e ∷ es) i ms p s zero r h = absurd (omega (arith, h .1))
+  walk-text (e ∷ es) i ms p s (suc f) (fine-more k o r) h =
+      let q = h .0 in
+      let d : drop (length p) s ≡ entryText e ++ journalText es = ap (drop (length p)) q ∙ drop-at p (entryText e ++ journalText es) (length p) refl in
+      let x : fieldAt s (length p) ≡ e = ap entryIn d ∙ field-text e (journalText es) k in
       let t = ok-size ps (length ms) e o in
-      let y : length s ≡ at + (entrySize e + length (journalText es)) =
-      ap length q ∙ length-append p (entryText e ++ journalText es) ∙ ap (λ m. length p + m) (length-append (entryText e) (journalText es)) ∙ rw (l, length-text e) in
-      let m : length (p ++ entryText e) ≡ at + entrySize e = length-append p (entryText e) ∙ rw (l, length-text e) in
+      let y : length s ≡ length p + (entrySize e + length (journalText es)) =
+      ap length q ∙ length-append p (entryText e ++ journalText es) ∙ ap (λ m. length p + m) (length-append (entryText e) (journalText es)) ∙ rw (length-text e) in
+      let m : length (p ++ entryText e) ≡ length p + entrySize e = length-append p (entryText e) ∙ rw (length-text e) in
       let q′ : s ≡ (p ++ entryText e) ++ journalText es = q ∙ sym (append-assoc p (entryText e) (journalText es)) in
       let z : i + suc (length es) ≡ i + 1 + length es = omega arith in
-      rw (lt-ltb at (length s) (omega arith), x, o, z) (walk-text es (i + 1) (markStep e i ms) (p ++ entryText e) s (at + entrySize e) f r m q′ (omega arith))
+      let n = walk-text es (i + 1) (markStep e i ms) (p ++ entryText e) s f r (q′, omega (arith, h .1)) in
+      rw (lt-ltb (length p) (length s) (omega arith), x, o, z) (rw m at n)
 
   pub walk-journal : (es : List Entry) → Fine ps es 0 [] → walkOf ps (journalText es) ≡ walked (length (journalText es)) (length es) (marksOf es)
   unfolding walkOf
   walk-journal es r =
       let z : 0 + length es ≡ length es = omega arith in
-      walk-text es 0 [] [] (journalText es) 0 (length (journalText es)) r refl refl (text-length r) ∙ rw z
+      walk-text es 0 [] [] (journalText es) (length (journalText es)) r (refl, text-length r) ∙ rw z
 
-  -- a journal's text behind some bytes and before others reads as the journal
-  pub read-written : {i : ℕ} {ms : List ℕ} (es : List Entry) (p r s : List ℕ) (at : ℕ) → Fine ps es i ms → length p ≡ at → s ≡ p ++ (journalText es ++ r) → entriesAt s at (length es) ≡ es
+  -- a journal's text behind p and before r reads as the journal
+  pub read-written : {i : ℕ} {ms : List ℕ} (es : List Entry) (p r s : List ℕ) → Fine ps es i ms → s ≡ p ++ (journalText es ++ r) → entriesAt s (length p) (length es) ≡ es
   unfolding entriesAt journalText
-  read-written [] p r s at fine-none l q = refl
-  read-written (e ∷ es) p r s at (fine-more h o hs) l q =
+  read-written [] p r s fine-none q = refl
+  read-written (e ∷ es) p r s (fine-more h o hs) q =
       let q′ : s ≡ p ++ (entryText e ++ (journalText es ++ r)) = q ∙ ap (λ l. p ++ l) (append-assoc (entryText e) (journalText es) r) in
-      let d : drop at s ≡ entryText e ++ (journalText es ++ r) = ap (drop at) q′ ∙ drop-at p (entryText e ++ (journalText es ++ r)) at l in
-      let f : fieldAt s at ≡ e = ap entryIn d ∙ field-text e (journalText es ++ r) h in
-      let m : length (p ++ entryText e) ≡ at + entrySize e = length-append p (entryText e) ∙ rw (l, length-text e) in
+      let d : drop (length p) s ≡ entryText e ++ (journalText es ++ r) = ap (drop (length p)) q′ ∙ drop-at p (entryText e ++ (journalText es ++ r)) (length p) refl in
+      let f : fieldAt s (length p) ≡ e = ap entryIn d ∙ field-text e (journalText es ++ r) h in
+      let m : length (p ++ entryText e) ≡ length p + entrySize e = length-append p (entryText e) ∙ rw (length-text e) in
       let q″ : s ≡ (p ++ entryText e) ++ (journalText es ++ r) = q′ ∙ sym (append-assoc p (entryText e) (journalText es ++ r)) in
-      ap (λ x. x ∷ entriesAt s (at + entrySize x) (length es)) f ∙ ap (λ l. e ∷ l) (read-written es (p ++ entryText e) r s (at + entrySize e) hs m q″)
+      ap (λ x. x ∷ entriesAt s (length p + entrySize x) (length es)) f
+      ∙ ap (λ l. e ∷ l) (ap (λ n. entriesAt s n (length es)) (sym m) ∙ read-written es (p ++ entryText e) r s hs q″)
+
+  -- and ends where the text does
+  pub place-written : {i : ℕ} {ms : List ℕ} (es : List Entry) (p s : List ℕ) → Fine ps es i ms → s ≡ p ++ journalText es → placeAt s (length p) (length es) ≡ length s
+  unfolding placeAt journalText
+  place-written [] p s fine-none q = sym (ap length (q ∙ append-nil p))
+  place-written (e ∷ es) p s (fine-more h o hs) q =
+      let d : drop (length p) s ≡ entryText e ++ journalText es = ap (drop (length p)) q ∙ drop-at p (entryText e ++ journalText es) (length p) refl in
+      let f : fieldAt s (length p) ≡ e = ap entryIn d ∙ field-text e (journalText es) h in
+      let m : length (p ++ entryText e) ≡ length p + entrySize e = length-append p (entryText e) ∙ rw (length-text e) in
+      let q′ : s ≡ (p ++ entryText e) ++ journalText es = q ∙ sym (append-assoc p (entryText e) (journalText es)) in
+      ap (λ x. placeAt s (length p + entrySize x) (length es)) f ∙ ap (λ n. placeAt s n (length es)) (sym m) ∙ place-written es (p ++ entryText e) s hs q′
 
   -- going back over the bytes is going back over the entries
   pub back-journal : (es : List Entry) (m : ℕ) (t : List ℤ) → Fine ps es 0 [] → m ≤ length es → backTo ps (journalText es) m (length es) t ≡ restore ps (drop m es) t
   back-journal es m t r h =
-      ap (λ l. restore ps l t) (entries-from (journalText es) m (length es) h ∙ ap (drop m) (read-written es [] [] (journalText es) 0 r refl (sym (append-nil (journalText es)))))
+      ap (λ l. restore ps l t) (entries-from (journalText es) m (length es) h ∙ ap (drop m) (read-written es [] [] (journalText es) r (sym (append-nil (journalText es)))))
 
 -- ---- a field more
 

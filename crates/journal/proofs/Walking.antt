@@ -123,15 +123,16 @@ module _ (ps : List ℕ) (e : Entry) (d : ℕ) where
 lt-of-ne : (j d : ℕ) → j ≤ d → (d ≡ j → ⊥) → j < d
 lt-of-ne j d h f = omega arith
 
-below-set : (b : Bool) (d n j : ℕ) (a : List ℕ) → eqb d j ≡ b → d < length a → j ≤ d → (j < d → getD a j 0 ≤ n) → getD (set a d n) j 0 ≤ n + 1
-below-set true d n j a e l h f = let z : d ≡ j = eqb-true d j e in rw (← z, getD-set-same a d n 0 l) (omega arith)
-below-set false d n j a e l h f =
-    let k : j < d = lt-of-ne j d h (eqb-false d j e) in
-    rw (getD-set-other a d j n 0 (λ q. eqb-false d j e (sym q))) (omega (arith, f k))
+module _ (n d : ℕ) (a : List ℕ) where
+  below-set : (b : Bool) (j : ℕ) → eqb d j ≡ b → d < length a → j ≤ d → (j < d → getD a j 0 ≤ n) → getD (set a d n) j 0 ≤ n + 1
+  below-set true j e l h f = let z : d ≡ j = eqb-true d j e in rw (← z, getD-set-same a d n 0 l) (omega arith)
+  below-set false j e l h f =
+      let k : j < d = lt-of-ne j d h (eqb-false d j e) in
+      rw (getD-set-other a d j n 0 (λ q. eqb-false d j e (sym q))) (omega (arith, f k))
 
 module _ (ps s : List ℕ) (p n d : ℕ) (a : List ℕ) where
   pub below-more : (e : Entry) → okEntry ps e d ≡ true → d < length a → ((j : ℕ) → j < d → getD a j 0 ≤ n) → (j : ℕ) → j < newDepth e d → getD (set a d n) j 0 ≤ n + 1
-  below-more e o l f j h = below-set (eqb d j) d n j a refl l (omega (arith, new-next ps d e o)) (f j)
+  below-more e o l f j h = below-set n d a (eqb d j) j refl l (omega (arith, new-next ps d e o)) (f j)
 
   -- ---- the walk
 

@@ -1,7 +1,8 @@
 -- R510 to R518, R530 to R532, R550: what a call replies and leaves, from the counts, the cells, the journal's bytes and how many are used.
+use mathlib.Core.Path.{_≡_}
 use mathlib.Core.Bool.{cond}
 use mathlib.Core.List.{List}
-use Prim.Native.Nat.{ℕ, _+_, _-_}
+use Prim.Native.Nat.{ℕ, _+_, _-_, _≤_}
 use lib.Dec.{eqb}
 use lib.IntN.{ℤ}
 use lib.ListN.{length, take}
@@ -14,10 +15,11 @@ use Rattle.reply.specs.declared.Answer.{Answer}
 use Rattle.entry.specs.declared.Entry.{Entry}
 use Rattle.entry.specs.declared.Entry.the-variants.{Set, Open, Release, Undo}
 use Rattle.entry.specs.Field.{entryText}
+use Rattle.journal.specs.declared.Found.{Found}
 use Rattle.journal.specs.Layout.{startsOf, spotOf, getAt, putAt}
 use Rattle.journal.specs.Model.{Call, Sets, Opens, Releases, Undoes, decided, whenRight, byAnswer, bytesFor}
 use Rattle.journal.specs.Entries.{markOf, backTo}
-use Rattle.journal.specs.Walks.{Walked, walkOf}
+use Rattle.journal.specs.Walks.{Walked, walkOf, down, MarksBelow}
 
 -- one check after another
 abbrev pub andThen : Checked → Checked → Checked
@@ -65,3 +67,13 @@ module _ (ns j : List ℕ) (used : ℕ) where
 
 abbrev pub usedBy : ℕ → Call → Answer → ℕ
 usedBy used c a = byAnswer a (used + bytesFor c) used
+
+-- ---- the same with the marks in an array
+
+pub record Finds (ns j : List ℕ) (used cells : ℕ) (r : Found) : Type 0 where
+  pub stands : r .stands ≡ standingOf ns j used cells
+  pub count : walkIn ns j used .count ≡ r .count
+  pub marks : walkIn ns j used .marks ≡ down (r .depth) (r .marks)
+  pub few : r .depth ≤ 16
+  pub below : MarksBelow (r .depth) (r .marks) (r .count)
+  pub inside : r .stands ≡ Right → used ≤ length j

@@ -1,77 +1,128 @@
 -- R233, R550: when each reply of a call and of a replay is due: its own condition holds, and none earlier in the order 4, 5, 6, 7, 14, 17, 12, 15,
--- 16, 11. How far the fields of a journal are in order, and which savepoints are open behind them, is Walks's; in replay also Plays's.
+-- 16, 11. And what is due to be left: the bytes used, the cells, the journal, a replay's open savepoints.
 use mathlib.Core.Path.{_≡_}
 use mathlib.Core.List.{List}
 use Prim.Native.Nat.{ℕ, _+_, _<_, _≤_}
-use lib.IntN.{ℤ}
-use lib.ListN.{length}
+use lib.IntN.{ℤ, pos}
+use lib.ListN.{length, take, getD, set}
 use Rattle.reply.specs.declared.Refusal.{Refusal}
 use Rattle.reply.specs.declared.Refusal.the-variants.{NoRoom, BadEntry}
 use Rattle.reply.specs.declared.Checked.{Checked}
 use Rattle.reply.specs.declared.Checked.the-variants as C
 use Rattle.reply.specs.declared.Answer.{Answer}
 use Rattle.reply.specs.declared.Answer.the-variants.{Done, Refused}
-use Rattle.count.specs.Tally.{cellsIn}
 use Rattle.count.specs.Due as Counts
+use Rattle.entry.specs.declared.Entry.{Entry}
+use Rattle.entry.specs.declared.Entry.the-variants.{Set, Open, Release, Undo}
+use Rattle.journal.specs.Layout.{startsOf}
 use Rattle.journal.specs.Model.{Call, Sets, Opens, Releases, Undoes, refusalOf, bytesFor, numberFor}
-use Rattle.journal.specs.Calls.{walkIn}
-use Rattle.journal.specs.Plays.{playIn}
+use Rattle.journal.specs.Entries.{markOf, backTo}
+use Rattle.journal.specs.Walks.{Walked}
+use Rattle.journal.specs.Plays.{Run}
+use Rattle.journal.specs.Order.{cellAt, Accepted, RightAt, InOrder, PlaysAt, InReplay}
+use Rattle.journal.specs.Runs.{Kept, Adds}
 
--- R502: cell c, counted from 1, of a group 1 to 60
-pub record IsCell (ns : List ℕ) (g c : ℕ) : Type 0 where
-  pub low : 1 ≤ g
-  pub high : g ≤ 60
-  pub first : 1 ≤ c
-  pub last : c ≤ cellsIn ns g
+-- ---- the answer of a call
 
--- R512, R513, R514, R515: a call is accepted with so many savepoints open
-abbrev pub Accepted : List ℕ → ℕ → Call → Type 0
-Accepted ns d (Sets g c v) = IsCell ns g c
-Accepted ns d Opens = d < 16
-Accepted ns d (Releases k) = (1 ≤ k) × (k ≡ d)
-Accepted ns d (Undoes k) = (1 ≤ k) × (k ≤ d)
+module _ (ns j : List ℕ) (used : ℕ) where
+  -- the fields of the bytes used are in order up to their end
+  pub record AllInOrder (w : Walked) : Type 0 where
+    pub fields : InOrder ns (take used j) w
+    pub ends : w .place ≡ used
 
--- R530, R532: the counts are right, and the fields are in order up to p, which is not where the bytes used end
-pub record StopsShort (ns : List ℕ) (cells used place p : ℕ) : Type 0 where
-  pub table : Counts.HasCells ns cells
-  pub stopped : place ≡ p
-  pub other : place ≡ used → ⊥
-
--- none of 4, 5, 6, 7, 14 and 17
-pub record Standing (ns : List ℕ) (cells used place : ℕ) : Type 0 where
-  pub table : Counts.HasCells ns cells
-  pub fields : place ≡ used
+  -- R530, R532: they are in order up to p, where the bytes used don't end and no right field stands
+  pub record AtFault (p : ℕ) : Type 0 where
+    pub before : Walked
+    pub fields : InOrder ns (take used j) before
+    pub stops : before .place ≡ p
+    pub other : p ≡ used → ⊥
+    pub fault : RightAt ns (take used j) before → ⊥
 
 module _ (ns j : List ℕ) (used cells : ℕ) where
-  -- where the walk over the bytes used stops, and the savepoints open there
-  abbrev pub stop : ℕ
-  stop = walkIn ns j used .place
-
-  abbrev pub opened : ℕ
-  opened = length (walkIn ns j used .marks)
+  -- none of 4, 5, 6, 7, 14 and 17, with w behind the last field
+  pub record Standing (w : Walked) : Type 0 where
+    pub table : Counts.HasCells ns cells
+    pub fields : AllInOrder ns j used w
 
   pub data RefusedFor (c : Call) : Refusal → Type 0 where
     wrong-counts : (r : Refusal) → Counts.RefusedFor ns cells r → RefusedFor c r
-    bad-entry : (p : ℕ) → StopsShort ns cells used stop p → RefusedFor c (BadEntry p)
-    unaccepted : Standing ns cells used stop → (Accepted ns opened c → ⊥) → RefusedFor c (refusalOf c)
-    no-room : Standing ns cells used stop → Accepted ns opened c → length j < used + bytesFor c → RefusedFor c NoRoom
+    bad-entry : (p : ℕ) → Counts.HasCells ns cells → AtFault ns j used p → RefusedFor c (BadEntry p)
+    unaccepted : (w : Walked) → Standing w → (Accepted ns (length (w .marks)) c → ⊥) → RefusedFor c (refusalOf c)
+    no-room : (w : Walked) → Standing w → Accepted ns (length (w .marks)) c → length j < used + bytesFor c → RefusedFor c NoRoom
 
   pub record CallDue (c : Call) (k : ℕ) : Type 0 where
-    pub standing : Standing ns cells used stop
-    pub accepted : Accepted ns opened c
+    pub last : Walked
+    pub standing : Standing last
+    pub accepted : Accepted ns (length (last .marks)) c
     pub room : used + bytesFor c ≤ length j
-    pub number : k ≡ numberFor c opened
+    pub number : k ≡ numberFor c (length (last .marks))
 
   abbrev pub Due : Call → Answer → Type 0
   Due c (Done k) = CallDue c k
   Due c (Refused r) = RefusedFor c r
 
--- R540, R541: a replay's walk compares old values too
+-- ---- what a call leaves
+
+-- R520, R521, R522: what its field tells, with d savepoints open before it
+abbrev pub fieldFor : List ℕ → ℕ → List ℤ → Call → Entry
+fieldFor ns d t (Sets g c v) = Set g c (getD t (cellAt ns g c) (pos 0)) v
+fieldFor ns d t Opens = Open (d + 1)
+fieldFor ns d t (Releases k) = Release k
+fieldFor ns d t (Undoes k) = Undo k
+
+-- R512 to R515: the cells: a set alters its own; an undo has the fields of s behind its savepoint's opening give their old values back, the last first
+abbrev pub cellsDue : List ℕ → List ℕ → Walked → Call → List ℤ → List ℤ
+cellsDue ns s w (Sets g c v) t = set t (cellAt ns g c) v
+cellsDue ns s w Opens t = t
+cellsDue ns s w (Releases k) t = t
+cellsDue ns s w (Undoes k) t = backTo (startsOf ns) s (markOf (w .marks) k) (w .count) t
+
+pub record CallLeaves (ns : List ℕ) (c : Call) (k k′ : Kept) : Type 0 where
+  pub last : Walked
+  pub fields : AllInOrder ns (k .journal) (k .used) last
+  pub size : k′ .used ≡ k .used + bytesFor c
+  pub adds : Adds k (fieldFor ns (length (last .marks)) (k .cells) c) k′
+  pub cells : k′ .cells ≡ cellsDue ns (take (k .used) (k .journal)) last c (k .cells)
+
+-- R518: a refused call leaves all as it was
+abbrev pub LeftDue : List ℕ → Call → Kept → Answer → Kept → Type 0
+LeftDue ns c k (Done n) k′ = CallLeaves ns c k k′
+LeftDue ns c k (Refused r) k′ = k′ ≡ k
+
+-- ---- R540 to R542: a replay, which compares old values too
+
 module _ (ns j : List ℕ) (used : ℕ) (t : List ℤ) where
+  pub record AllReplayed (x : Run) : Type 0 where
+    pub fields : InReplay ns (take used j) t x
+    pub ends : x .place ≡ used
+
+  pub record ReplayFault (p : ℕ) : Type 0 where
+    pub before : Run
+    pub fields : InReplay ns (take used j) t before
+    pub stops : before .place ≡ p
+    pub other : p ≡ used → ⊥
+    pub fault : PlaysAt ns (take used j) before → ⊥
+
   pub data ReplayRefusedFor : Refusal → Type 0 where
     replay-counts : (r : Refusal) → Counts.RefusedFor ns (length t) r → ReplayRefusedFor r
-    replay-entry : (p : ℕ) → StopsShort ns (length t) used (playIn ns j used t .place) p → ReplayRefusedFor (BadEntry p)
+    replay-entry : (p : ℕ) → Counts.HasCells ns (length t) → ReplayFault p → ReplayRefusedFor (BadEntry p)
+
+  pub record ReplayDone : Type 0 where
+    pub table : Counts.HasCells ns (length t)
+    pub last : Run
+    pub fields : AllReplayed last
 
   abbrev pub ReplayDue : Checked → Type 0
-  ReplayDue C.Right = Standing ns (length t) used (playIn ns j used t .place)
+  ReplayDue C.Right = ReplayDone
   ReplayDue (C.Refused r) = ReplayRefusedFor r
+
+  -- the cells, and how many savepoints are open, behind the last field
+  pub record ReplayLeaves (t′ : List ℤ) (d : ℕ) : Type 0 where
+    pub last : Run
+    pub fields : AllReplayed last
+    pub cells : t′ ≡ last .cells
+    pub opened : d ≡ length (last .marks)
+
+  abbrev pub ReplayLeftDue : Checked → List ℤ → ℕ → Type 0
+  ReplayLeftDue C.Right t′ d = ReplayLeaves t′ d
+  ReplayLeftDue (C.Refused r) t′ d = (t′ ≡ t) × (d ≡ 0)

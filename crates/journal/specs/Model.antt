@@ -13,6 +13,7 @@ use Rattle.reply.specs.declared.Checked.{Checked}
 use Rattle.reply.specs.declared.Checked.the-variants as C
 use Rattle.reply.specs.declared.Answer.{Answer}
 use Rattle.reply.specs.declared.Answer.the-variants.{Done, Refused}
+use Rattle.entry.specs.Field.{setBytes, savepointBytes}
 use Rattle.journal.specs.Layout.{startsOf, spotOf, exists, putAt}
 
 -- R510: set a cell of a group, open a savepoint, release one, undo to one; the numbers are the caller's
@@ -40,10 +41,10 @@ refusalOf (Undoes k) = NotOpen
 
 -- R520: the bytes of its field
 abbrev pub bytesFor : Call → ℕ
-bytesFor (Sets g c v) = 22
-bytesFor Opens = 4
-bytesFor (Releases k) = 4
-bytesFor (Undoes k) = 4
+bytesFor (Sets g c v) = setBytes
+bytesFor Opens = savepointBytes
+bytesFor (Releases k) = savepointBytes
+bytesFor (Undoes k) = savepointBytes
 
 -- R511, R516: an open tells its savepoint's number, one more than were open; the others tell 0
 abbrev pub numberFor : Call → ℕ → ℕ
@@ -83,11 +84,14 @@ stacked t ts room = record { cells = t; saved = ts; room = room }
 abbrev pub outer : {A : Type 0} → ℕ → List A → List A
 outer k ts = drop (length ts - k) ts
 
+abbrev pub onTables : List ℕ → Call → Stack → (room : ℕ) → Stack
+onTables starts (Sets g c v) s room = stacked (putAt (spotOf starts g c) v (s .cells)) (s .saved) room
+onTables starts Opens s room = stacked (s .cells) (s .cells ∷ s .saved) room
+onTables starts (Releases k) s room = stacked (s .cells) (drop 1 (s .saved)) room
+onTables starts (Undoes k) s room = stacked (getD (s .saved) (length (s .saved) - k) []) (outer k (s .saved)) room
+
 abbrev pub onStack : List ℕ → Call → Stack → Stack
-onStack starts (Sets g c v) s = stacked (putAt (spotOf starts g c) v (s .cells)) (s .saved) (s .room - 22)
-onStack starts Opens s = stacked (s .cells) (s .cells ∷ s .saved) (s .room - 4)
-onStack starts (Releases k) s = stacked (s .cells) (drop 1 (s .saved)) (s .room - 4)
-onStack starts (Undoes k) s = stacked (getD (s .saved) (length (s .saved) - k) []) (outer k (s .saved)) (s .room - 4)
+onStack starts c s = onTables starts c s (s .room - bytesFor c)
 
 module _ (ns : List ℕ) where
   abbrev pub modelAnswer : Call → Stack → Answer

@@ -1,15 +1,21 @@
 -- R500, R516: calls one after the other, on what the caller keeps: the cells, the journal's buffer and the bytes used. What is promised of them.
 use mathlib.Core.Path.{_≡_}
-use mathlib.Core.List.{List, [], _∷_}
-use Prim.Native.Nat.{ℕ, _≤_}
+use mathlib.Core.List.{List, [], _∷_, _++_}
+use Prim.Native.Nat.{ℕ, _+_, _≤_}
 use lib.IntN.{ℤ, pos}
-use lib.ListN.{length, take, getD}
+use lib.ListN.{length, take, drop, getD}
 use mir.Syntax.{w64}
 use mir.Val.{SFits}
+use Rattle.reply.specs.declared.Refusal.{Refusal}
 use Rattle.reply.specs.declared.Answer.{Answer}
+use Rattle.reply.specs.declared.Answer.the-variants.{Done, Refused}
 use Rattle.reply.specs.declared.Checked.the-variants.{Right}
-use Rattle.journal.specs.Model.{Call, Sets, Opens, Releases, Undoes, stacked, modelAnswers, modelRun}
-use Rattle.journal.specs.Calls.{whole, walkIn, answerOf, cellsAfter, journalBy, usedBy}
+use Rattle.entry.specs.declared.Entry.{Entry}
+use Rattle.entry.specs.Field.{entryText}
+use Rattle.journal.specs.Layout.{startsOf}
+use Rattle.journal.specs.Entries.{journalText, entriesAt, placeAt}
+use Rattle.journal.specs.Model.{Call, Sets, Opens, Releases, Undoes, byAnswer, stacked, modelAnswers, modelRun}
+use Rattle.journal.specs.Calls.{whole, entryFor, walkIn, answerOf, cellsAfter, journalBy, usedBy}
 use Rattle.journal.specs.Plays.{replayOf, replayedCells, replayedOpen}
 
 pub record Kept : Type 0 where
@@ -19,6 +25,17 @@ pub record Kept : Type 0 where
 
 abbrev pub kept : List ℤ → List ℕ → ℕ → Kept
 kept t j used = record { cells = t; journal = j; used = used }
+
+-- R520: an entry's field stands behind the bytes that were used, and is used too; all other bytes are as they were
+pub record Adds (k : Kept) (e : Entry) (k′ : Kept) : Type 0 where
+  pub journal : k′ .journal ≡ take (k .used) (k .journal) ++ (entryText e ++ drop (k .used + length (entryText e)) (k .journal))
+  pub used : k′ .used ≡ k .used + length (entryText e)
+
+-- the bytes used are those of these entries, and read as they are, to the last byte
+pub record ReadsAs (k : Kept) (es : List Entry) : Type 0 where
+  pub bytes : take (k .used) (k .journal) ≡ journalText es
+  pub entries : entriesAt (take (k .used) (k .journal)) 0 (length es) ≡ es
+  pub ends : placeAt (take (k .used) (k .journal)) 0 (length es) ≡ k .used
 
 -- a table's cells, and the value of a set, have 64 bits
 abbrev pub Fit : List ℤ → Type 0
@@ -54,6 +71,19 @@ module _ (ns : List ℕ) where
   abbrev pub openIn : Kept → ℕ
   openIn k = length (walkIn ns (k .journal) (k .used) .marks)
 
+  -- R520, R518: the entry of a call, where it is accepted; what an accepted call adds, and that a refused one adds nothing
+  abbrev pub entryTo : Call → Kept → Entry
+  entryTo c k = entryFor (startsOf ns) c (openIn k) (k .cells)
+
+  pub record AddsField (c : Call) (k : Kept) : Type 0 where
+    pub done : (n : ℕ) → answerTo c k ≡ Done n → Adds k (entryTo c k) (leftBy c k (Done n))
+    pub refused : (r : Refusal) → answerTo c k ≡ Refused r → leftBy c k (Refused r) ≡ k
+
+  -- the entries of those calls that are accepted
+  abbrev pub entriesTo : List Call → Kept → List Entry
+  entriesTo [] k = []
+  entriesTo (c ∷ cs) k = byAnswer (answerTo c k) (entryTo c k ∷ []) [] ++ entriesTo cs (leftBy c k (answerTo c k))
+
   -- for any calls on a fresh journal, every reply, all cells and the open savepoints are the stack's
   pub record JournalIsStack (t : List ℤ) (j : List ℕ) (cs : List Call) : Type 0 where
     pub answers : answersTo cs (kept t j 0) ≡ modelAnswers ns cs (stacked t [] (length j))
@@ -66,16 +96,32 @@ module _ (ns : List ℕ) where
     pub cells : replayedCells ns (k .journal) (k .used) t Right ≡ k .cells
     pub opened : replayedOpen ns (k .journal) (k .used) t Right ≡ openIn k
 
-  -- R544: the first n bytes of what calls made. So many calls are whole in them; a replay gives 0 at the end of a field, and else 17 with the
-  -- place of the field that was cut, and the bytes before it replay to what those calls left.
+  -- R544: the first n bytes of what calls made. So many calls are whole in them, and no more; a replay gives 0 at the end of a field, and else
+  -- 17 with the place of the field that was cut, and the bytes before it replay to what those calls left.
   pub record Torn (t : List ℤ) (cs : List Call) (k : Kept) (n : ℕ) : Type 0 where
     pub calls : ℕ
+    pub among : calls ≤ length cs
     pub before : leftTo (take calls cs) k .used ≤ n
+    pub most : (m : ℕ) → m ≤ length cs → leftTo (take m cs) k .used ≤ n → m ≤ calls
     pub answer : replayOf ns (leftTo cs k .journal) n t ≡ whole (leftTo (take calls cs) k .used) n
     pub rest : ReplaysTo t (kept (leftTo (take calls cs) k .cells) (leftTo cs k .journal) (leftTo (take calls cs) k .used))
 
-  -- R543: calls that lead from what was kept to what is
+  -- what is kept behind a replay over t that gives 0
+  abbrev pub behindReplay : List ℤ → Kept → Kept
+  behindReplay t k = kept (replayedCells ns (k .journal) (k .used) t Right) (k .journal) (k .used)
+
+  -- R543: from two states, whatever calls come: the same answers, cells, bytes and open savepoints
+  pub record Alike (k k′ : Kept) (cs : List Call) : Type 0 where
+    pub answers : answersTo cs k ≡ answersTo cs k′
+    pub cells : leftTo cs k .cells ≡ leftTo cs k′ .cells
+    pub journal : leftTo cs k .journal ≡ leftTo cs k′ .journal
+    pub used : leftTo cs k .used ≡ leftTo cs k′ .used
+    pub opened : openIn (leftTo cs k) ≡ openIn (leftTo cs k′)
+
+  -- R543: calls that lead from what was kept to what is; further calls are answered, and leave, as if all of them had come one after the other
   pub record MadeBy (k end : Kept) : Type 0 where
     pub calls : List Call
     pub fits : FitCalls calls
     pub left : leftTo calls k ≡ end
+    pub answers : (cs : List Call) → answersTo (calls ++ cs) k ≡ answersTo calls k ++ answersTo cs end
+    pub further : (cs : List Call) → leftTo (calls ++ cs) k ≡ leftTo cs end

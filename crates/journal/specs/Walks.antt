@@ -3,21 +3,21 @@ use mathlib.Core.Path.{_≡_}
 use mathlib.Core.Bool.{Bool, false, cond, _&&_}
 use mathlib.Core.List.{List, [], _∷_}
 use Prim.Native.Nat.{ℕ, zero, suc, _+_, _-_, _≤_, _<_}
-use lib.Dec.{leb, ltb, eqb}
+use lib.Dec.{ltb, eqb}
 use lib.ListN.{length, getD}
 use Rattle.entry.specs.declared.Entry.{Entry}
 use Rattle.entry.specs.declared.Entry.the-variants.{Set, Open, Release, Undo, Misformed}
 use Rattle.entry.specs.Field.{fieldAt}
 use Rattle.journal.specs.declared.State.{State}
-use Rattle.journal.specs.Layout.{spotOf, exists}
+use Rattle.journal.specs.Model.{Sets, Opens, Releases, Undoes, accepts}
 use Rattle.journal.specs.Entries.{markStep, nextAt}
 
 -- R531: the call of an entry would be accepted with d savepoints open, and an open is numbered next
 abbrev pub okEntry : List ℕ → Entry → ℕ → Bool
-okEntry starts (Set g c old new) d = exists (spotOf starts g c)
-okEntry starts (Open k) d = ltb d 16 && eqb k (d + 1)
-okEntry starts (Release k) d = ltb 0 k && eqb k d
-okEntry starts (Undo k) d = ltb 0 k && leb k d
+okEntry starts (Set g c old new) d = accepts starts (Sets g c new) d
+okEntry starts (Open k) d = accepts starts Opens d && eqb k (d + 1)
+okEntry starts (Release k) d = accepts starts (Releases k) d
+okEntry starts (Undo k) d = accepts starts (Undoes k) d
 okEntry starts Misformed d = false
 
 -- the savepoints open behind it

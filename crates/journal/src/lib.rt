@@ -11,14 +11,14 @@ ghost use mathlib.Core.List.{[]};
 ghost use Prim.Native.Nat.{_+_, _-_, _≤_};
 ghost use lib.ListN.{length, take};
 ghost use Rattle.base.specs.Part.{over};
-ghost use Rattle.entry.specs.Field.{entryText, entrySize};
+ghost use Rattle.entry.specs.Field.{entryText, entrySize, setBytes, savepointBytes};
 ghost use Rattle.entry.specs.declared.Entry.the-variants.{Set, Open, Release, Undo};
 ghost use Rattle.reply.specs.declared.Answer.the-variants.{Refused};
 ghost use Rattle.journal.specs.Layout.{startsOf, spotIn, spotOf, getAt, putAt};
 ghost use Rattle.journal.specs.Model.{Sets, Opens, Releases, Undoes, roomFor, decided, byAnswer};
 ghost use Rattle.journal.specs.Entries.{markOf, giveBack, restore, entriesAt, placeAt, backTo};
 ghost use Rattle.journal.specs.Walks.{okEntry, depthAfter, down, MarksBelow, WalksTo};
-ghost use Rattle.journal.specs.Calls.{andThen, whole, answerOf, cellsAfter, journalBy, usedBy};
+ghost use Rattle.journal.specs.Calls.{andThen, whole, Finds, answerOf, cellsAfter, journalBy, usedBy};
 ghost use Rattle.journal.specs.Numbered.{editReply};
 ghost use Rattle.journal.specs.Plays.{matches, playedBy, playOf, Plays, byChecked};
 ghost use Rattle.journal.specs.Plays.{replayOf, replayedCells, replayedOpen};
@@ -45,6 +45,15 @@ enum Spot {
 // each one's open.
 struct State {
     pub place: usize,
+    pub count: usize,
+    pub depth: usize,
+    pub marks: [usize; 17],
+}
+
+// What a call finds before it is looked at itself: the reply that is due then, how many fields the journal has, and the
+// savepoints open behind them.
+struct Found {
+    pub stands: Checked,
     pub count: usize,
     pub depth: usize,
     pub marks: [usize; 17],
@@ -396,6 +405,23 @@ fn standing(checked: Checked, place: usize, used: usize) -> Checked
     }
 }
 
+// R550: what every call begins with: where the cells stand, and the replies 4, 5, 6, 7, 14 and 17.
+fn look(counts: &[u16], cells: usize, journal: &[u8], used: usize, starts: &mut [usize]) -> Found
+    requires many { ⌜ length (now starts) ≡ 62 ⌝ }
+    ensures starts { λ _. ⌜ now (starts .exit) ≡ startsOf (now (counts .entry)) ⌝ }
+    ensures found { λ r. ⌜ Finds (now (counts .entry)) (now (journal .entry)) used cells r ⌝ }
+{
+    put_starts(counts, starts);
+    let state = walk_used(starts, journal, used);
+    let marks = state.marks;
+    Found {
+        stands: standing(count::check(counts, cells), state.place, used),
+        count: state.count,
+        depth: state.depth,
+        marks,
+    }
+}
+
 fn refused(why: Refusal, used: usize) -> Edited
     ensures answer { λ r. ⌜ r .answer ≡ Refused why ⌝ }
     ensures used { λ r. ⌜ r .used ≡ used ⌝ }
@@ -420,7 +446,7 @@ fn set_in(
     requires inside { ⌜ used ≤ length (now journal) ⌝ }
     ensures answer { λ r. ⌜ r .answer ≡
         decided (now (starts .entry)) (Sets group cell value) 0 (length (now (journal .entry)) - used) ⌝ }
-    ensures used { λ r. ⌜ r .used ≡ byAnswer (r .answer) (used + 22) used ⌝ }
+    ensures used { λ r. ⌜ r .used ≡ byAnswer (r .answer) (used + setBytes) used ⌝ }
     ensures cells { λ r. ⌜ now (cells .exit) ≡
         byAnswer (r .answer) (putAt (spotOf (now (starts .entry)) group cell) value (now (cells .entry))) (now
         (cells .entry)) ⌝ }
@@ -449,9 +475,9 @@ fn set_in(
 // The field of a call that is accepted, and what the call tells; 11 where there is no room for it.
 fn add(journal: &mut [u8], used: usize, entry: Entry, number: usize) -> Edited
     requires inside { ⌜ used ≤ length (now journal) ⌝ }
-    requires four { ⌜ entrySize entry ≡ 4 ⌝ }
-    ensures answer { λ r. ⌜ r .answer ≡ roomFor 4 (length (now (journal .entry)) - used) number ⌝ }
-    ensures used { λ r. ⌜ r .used ≡ byAnswer (r .answer) (used + 4) used ⌝ }
+    requires four { ⌜ entrySize entry ≡ savepointBytes ⌝ }
+    ensures answer { λ r. ⌜ r .answer ≡ roomFor savepointBytes (length (now (journal .entry)) - used) number ⌝ }
+    ensures used { λ r. ⌜ r .used ≡ byAnswer (r .answer) (used + savepointBytes) used ⌝ }
     ensures journal { λ r. ⌜ now (journal .exit) ≡
         byAnswer (r .answer) (over used (entryText entry) (now (journal .entry))) (now (journal .entry)) ⌝ }
 {
@@ -470,7 +496,7 @@ fn open_in(journal: &mut [u8], used: usize, depth: usize) -> Edited
     requires inside { ⌜ used ≤ length (now journal) ⌝ }
     requires few { ⌜ depth ≤ 16 ⌝ }
     ensures answer { λ r. ⌜ r .answer ≡ decided [] Opens depth (length (now (journal .entry)) - used) ⌝ }
-    ensures used { λ r. ⌜ r .used ≡ byAnswer (r .answer) (used + 4) used ⌝ }
+    ensures used { λ r. ⌜ r .used ≡ byAnswer (r .answer) (used + savepointBytes) used ⌝ }
     ensures journal { λ r. ⌜ now (journal .exit) ≡
         byAnswer (r .answer) (over used (entryText (Open (depth + 1))) (now (journal .entry))) (now (journal .entry))
         ⌝ }
@@ -485,7 +511,7 @@ fn open_in(journal: &mut [u8], used: usize, depth: usize) -> Edited
 fn release_in(journal: &mut [u8], used: usize, depth: usize, k: usize) -> Edited
     requires inside { ⌜ used ≤ length (now journal) ⌝ }
     ensures answer { λ r. ⌜ r .answer ≡ decided [] (Releases k) depth (length (now (journal .entry)) - used) ⌝ }
-    ensures used { λ r. ⌜ r .used ≡ byAnswer (r .answer) (used + 4) used ⌝ }
+    ensures used { λ r. ⌜ r .used ≡ byAnswer (r .answer) (used + savepointBytes) used ⌝ }
     ensures journal { λ r. ⌜ now (journal .exit) ≡
         byAnswer (r .answer) (over used (entryText (Release k)) (now (journal .entry))) (now (journal .entry)) ⌝ }
 {
@@ -515,7 +541,7 @@ fn undo_in(
     requires few { ⌜ d ≤ 16 ⌝ }
     requires below { ⌜ MarksBelow d (now marks) n ⌝ }
     ensures answer { λ r. ⌜ r .answer ≡ decided [] (Undoes k) d (length (now (journal .entry)) - used) ⌝ }
-    ensures used { λ r. ⌜ r .used ≡ byAnswer (r .answer) (used + 4) used ⌝ }
+    ensures used { λ r. ⌜ r .used ≡ byAnswer (r .answer) (used + savepointBytes) used ⌝ }
     ensures cells { λ r. ⌜ now (cells .exit) ≡
         byAnswer (r .answer)
         (backTo (now (starts .entry)) (take used (now (journal .entry))) (markOf (down d (now (marks .entry))) k) n
@@ -562,9 +588,9 @@ pub fn set_cell(
         .answer) ⌝ }
 {
     let mut starts = [0usize; 62];
-    put_starts(counts, &mut starts);
-    let state = walk_used(&starts, journal, used);
-    match standing(count::check(counts, cells.len()), state.place, used) {
+    let found = look(counts, cells.len(), journal, used, &mut starts);
+    let stands = found.stands;
+    match stands {
         Checked::Refused(why) => refused(why, used),
         Checked::Right => set_in(&starts, cells, journal, used, group, cell, value),
     }
@@ -579,11 +605,11 @@ pub fn open_savepoint(counts: &[u16], cells: &[i64], journal: &mut [u8], used: u
         journalBy (now (counts .entry)) (now (journal .entry)) used Opens (now (cells .entry)) (r .answer) ⌝ }
 {
     let mut starts = [0usize; 62];
-    put_starts(counts, &mut starts);
-    let state = walk_used(&starts, journal, used);
-    match standing(count::check(counts, cells.len()), state.place, used) {
+    let found = look(counts, cells.len(), journal, used, &mut starts);
+    let stands = found.stands;
+    match stands {
         Checked::Refused(why) => refused(why, used),
-        Checked::Right => open_in(journal, used, state.depth),
+        Checked::Right => open_in(journal, used, found.depth),
     }
 }
 
@@ -604,11 +630,11 @@ pub fn release_savepoint(
         .answer) ⌝ }
 {
     let mut starts = [0usize; 62];
-    put_starts(counts, &mut starts);
-    let state = walk_used(&starts, journal, used);
-    match standing(count::check(counts, cells.len()), state.place, used) {
+    let found = look(counts, cells.len(), journal, used, &mut starts);
+    let stands = found.stands;
+    match stands {
         Checked::Refused(why) => refused(why, used),
-        Checked::Right => release_in(journal, used, state.depth, savepoint),
+        Checked::Right => release_in(journal, used, found.depth, savepoint),
     }
 }
 
@@ -632,10 +658,10 @@ pub fn undo_to_savepoint(
         .answer) ⌝ }
 {
     let mut starts = [0usize; 62];
-    put_starts(counts, &mut starts);
-    let state = walk_used(&starts, journal, used);
-    let marks = state.marks;
-    match standing(count::check(counts, cells.len()), state.place, used) {
+    let found = look(counts, cells.len(), journal, used, &mut starts);
+    let stands = found.stands;
+    let marks = found.marks;
+    match stands {
         Checked::Refused(why) => refused(why, used),
         Checked::Right => undo_in(
             &starts,
@@ -643,8 +669,8 @@ pub fn undo_to_savepoint(
             journal,
             used,
             &marks,
-            state.count,
-            state.depth,
+            found.count,
+            found.depth,
             savepoint,
         ),
     }

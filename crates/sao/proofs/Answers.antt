@@ -5,6 +5,7 @@ use mathlib.Core.Path.{_≡_, refl, sym, _∙_, ap}
 use mathlib.Core.List.{List}
 use Prim.Native.Nat.{ℕ, _+_}
 use denote.Ref.{now}
+use lib.IntN.{ℤ}
 use lib.ListN.{length}
 use Rattle.decimal.specs.Writing.{putBytes}
 use Rattle.place.specs.Due as PlacingIs
@@ -19,9 +20,10 @@ use Rattle.rewriting.specs.Record.{tableAfter, bufferBy}
 use Rattle.listing.specs.Listing.{listing, IsListing, ListingDue}
 use Rattle.sao.specs.Outcome.{Gives}
 use Rattle.sao.proofs.Demand2.{as-due}
-use Rattle.journal.specs.Model.{Sets, Opens, Releases, Undoes}
-use Rattle.journal.specs.Calls.{cellsAfter, journalBy}
-use Rattle.journal.specs.Plays.{replayedCells}
+use Rattle.reply.specs.declared.Answer.{Answer}
+use Rattle.reply.specs.declared.Answer.the-variants.{Done, Refused}
+use Rattle.journal.specs.Model.{Call, Sets, Opens, Releases, Undoes, byAnswer}
+use Rattle.journal.specs.Runs.{Kept, kept, answerTo, leftBy}
 use Rattle.journal.specs.Due as JournalIs
 use Rattle.sao.proofs.set_cell
 use Rattle.sao.proofs.open_savepoint
@@ -79,38 +81,52 @@ pub rewrite-record-due : Gives rewrite_record.ended rewrite_record.Reads.Learnt
     (v .1 .1 .0 ≡ tableAfter (now (a .0)) (a .1 .0) r (now (a .1 .1 .0))) × (v .1 .1 .1 .0 ≡ bufferBy (now (a .0)) (a .1 .0) r (now (a .1 .1 .1 .0))))
 rewrite-record-due κs (text, (at, (table, (out, _)))) r v l = (as-due .rewriting (now text) at (length (now table)) (length (now out)) r .0 (sym (l .0)), l .1 .0, l .1 .1)
 
--- ---- the edit journal: the reply that is due, and the bytes used, cells and journal by it
+-- ---- the edit journal: the reply that is due, and what is due to be left: bytes used, cells and journal
+
+abbrev CallDue : List ℕ → Call → Kept → Answer → Kept → Type 0
+CallDue ns c k a k′ = JournalIs.Due ns (k .journal) (k .used) (length (k .cells)) c a × JournalIs.LeftDue ns c k a k′
+
+call-due : (ns : List ℕ) (c : Call) (k : Kept) (a : Answer) (k′ : Kept) → a ≡ answerTo ns c k → k′ ≡ leftBy ns c k a → CallDue ns c k a k′
+call-due ns c k a k′ e q = (as-due .call ns (k .journal) (k .used) (length (k .cells)) c a .0 (sym e), as-due .call-left ns c k a k′ (sym e) .0 (sym q))
+
+-- cells that are not lent to be altered
+same-cells : (t : List ℤ) (a : Answer) → t ≡ byAnswer a t t
+same-cells t (Done n) = refl
+same-cells t (Refused r) = refl
 
 pub set-cell-due : Gives set_cell.ended set_cell.Reads.Learnt
     (λ κs a r v.
-    (let c = Sets (a .1 .1 .1 .1 .0) (a .1 .1 .1 .1 .1 .0) (a .1 .1 .1 .1 .1 .1 .0) in JournalIs.Due (now (a .0)) (now (a .1 .1 .0)) (a .1 .1 .1 .0) (length (now (a .1 .0))) c
-    (r .answer) × (v .1 .0 ≡ cellsAfter (now (a .0)) (now (a .1 .1 .0)) (a .1 .1 .1 .0) c (now (a .1 .0)) (r .answer)) ×
-    (v .1 .1 .0 ≡ journalBy (now (a .0)) (now (a .1 .1 .0)) (a .1 .1 .1 .0) c (now (a .1 .0)) (r .answer))))
+    CallDue (now (a .0)) (Sets (a .1 .1 .1 .1 .0) (a .1 .1 .1 .1 .1 .0) (a .1 .1 .1 .1 .1 .1 .0)) (kept (now (a .1 .0)) (now (a .1 .1 .0)) (a .1 .1 .1 .0)) (r .answer)
+    (kept (v .1 .0) (v .1 .1 .0) (r .used)))
 set-cell-due κs (counts, (cells, (journal, (used, (g, (i, (z, _))))))) r v l =
-    (as-due .call (now counts) (now journal) used (length (now cells)) (Sets g i z) (r .answer) .0 (sym (l .0)), l .1 .1 .0, l .1 .1 .1)
+    call-due (now counts) (Sets g i z) (kept (now cells) (now journal) used) (r .answer) (kept (v .1 .0) (v .1 .1 .0) (r .used)) (l .0)
+    (λ x. kept (l .1 .1 .0 x) (l .1 .1 .1 x) (l .1 .0 x))
 
 pub open-savepoint-due : Gives open_savepoint.ended open_savepoint.Reads.Learnt
-    (λ κs a r v. JournalIs.Due (now (a .0)) (now (a .1 .1 .0)) (a .1 .1 .1 .0) (length (now (a .1 .0))) Opens (r .answer) ×
-    (v .1 .1 .0 ≡ journalBy (now (a .0)) (now (a .1 .1 .0)) (a .1 .1 .1 .0) Opens (now (a .1 .0)) (r .answer)))
+    (λ κs a r v.
+    CallDue (now (a .0)) Opens (kept (now (a .1 .0)) (now (a .1 .1 .0)) (a .1 .1 .1 .0)) (r .answer) (kept (now (a .1 .0)) (v .1 .1 .0) (r .used)))
 open-savepoint-due κs (counts, (cells, (journal, (used, _)))) r v l =
-    (as-due .call (now counts) (now journal) used (length (now cells)) Opens (r .answer) .0 (sym (l .0)), l .1 .1)
+    call-due (now counts) Opens (kept (now cells) (now journal) used) (r .answer) (kept (now cells) (v .1 .1 .0) (r .used)) (l .0)
+    (λ x. kept (same-cells (now cells) (r .answer) x) (l .1 .1 x) (l .1 .0 x))
 
 pub release-savepoint-due : Gives release_savepoint.ended release_savepoint.Reads.Learnt
-    (λ κs a r v. JournalIs.Due (now (a .0)) (now (a .1 .1 .0)) (a .1 .1 .1 .0) (length (now (a .1 .0))) (Releases (a .1 .1 .1 .1 .0)) (r .answer) ×
-    (v .1 .1 .0 ≡ journalBy (now (a .0)) (now (a .1 .1 .0)) (a .1 .1 .1 .0) (Releases (a .1 .1 .1 .1 .0)) (now (a .1 .0)) (r .answer)))
+    (λ κs a r v.
+    CallDue (now (a .0)) (Releases (a .1 .1 .1 .1 .0)) (kept (now (a .1 .0)) (now (a .1 .1 .0)) (a .1 .1 .1 .0)) (r .answer) (kept (now (a .1 .0)) (v .1 .1 .0) (r .used)))
 release-savepoint-due κs (counts, (cells, (journal, (used, (n, _))))) r v l =
-    (as-due .call (now counts) (now journal) used (length (now cells)) (Releases n) (r .answer) .0 (sym (l .0)), l .1 .1)
+    call-due (now counts) (Releases n) (kept (now cells) (now journal) used) (r .answer) (kept (now cells) (v .1 .1 .0) (r .used)) (l .0)
+    (λ x. kept (same-cells (now cells) (r .answer) x) (l .1 .1 x) (l .1 .0 x))
 
 pub undo-to-savepoint-due : Gives undo_to_savepoint.ended undo_to_savepoint.Reads.Learnt
     (λ κs a r v.
-    (let c = Undoes (a .1 .1 .1 .1 .0) in JournalIs.Due (now (a .0)) (now (a .1 .1 .0)) (a .1 .1 .1 .0) (length (now (a .1 .0))) c (r .answer) ×
-    (v .1 .0 ≡ cellsAfter (now (a .0)) (now (a .1 .1 .0)) (a .1 .1 .1 .0) c (now (a .1 .0)) (r .answer)) ×
-    (v .1 .1 .0 ≡ journalBy (now (a .0)) (now (a .1 .1 .0)) (a .1 .1 .1 .0) c (now (a .1 .0)) (r .answer))))
+    CallDue (now (a .0)) (Undoes (a .1 .1 .1 .1 .0)) (kept (now (a .1 .0)) (now (a .1 .1 .0)) (a .1 .1 .1 .0)) (r .answer) (kept (v .1 .0) (v .1 .1 .0) (r .used)))
 undo-to-savepoint-due κs (counts, (cells, (journal, (used, (n, _))))) r v l =
-    (as-due .call (now counts) (now journal) used (length (now cells)) (Undoes n) (r .answer) .0 (sym (l .0)), l .1 .1 .0, l .1 .1 .1)
+    call-due (now counts) (Undoes n) (kept (now cells) (now journal) used) (r .answer) (kept (v .1 .0) (v .1 .1 .0) (r .used)) (l .0)
+    (λ x. kept (l .1 .1 .0 x) (l .1 .1 .1 x) (l .1 .0 x))
 
 pub replay-due : Gives replay.ended replay.Reads.Learnt
     (λ κs a r v. JournalIs.ReplayDue (now (a .0)) (now (a .1 .1 .0)) (a .1 .1 .1 .0) (now (a .1 .0)) (r .answer) ×
-    (v .1 .0 ≡ replayedCells (now (a .0)) (now (a .1 .1 .0)) (a .1 .1 .1 .0) (now (a .1 .0)) (r .answer)))
-replay-due κs (counts, (cells, (journal, (used, _)))) r v l =
-    (as-due .replay (now counts) (now journal) used (now cells) (r .answer) .0 (sym (l .0)), l .1 .1)
+    JournalIs.ReplayLeftDue (now (a .0)) (now (a .1 .1 .0)) (a .1 .1 .1 .0) (now (a .1 .0)) (r .answer) (v .1 .0) (r .«open»))
+replay-due κs (counts, (cells, (journal, (used, _)))) r v l = (
+  as-due .replay (now counts) (now journal) used (now cells) (r .answer) .0 (sym (l .0)),
+  as-due .replay-left (now counts) (now journal) used (now cells) (r .answer) (v .1 .0) (r .«open») (sym (l .0)) .0 (sym (l .1 .1), sym (l .1 .0)),
+)

@@ -25,7 +25,9 @@ use Rattle.rewriting.specs.declared.Rewriting.the-variants.{Done as Rewritten}
 use Rattle.rewriting.specs.Record.{cellsAt, textAt, rewritingOf, bufferBy}
 use Rattle.rewriting.proofs.Due as RewritingDue
 use Rattle.journal.proofs.Due as JournalDue
-use Rattle.journal.proofs.Made.{journal-is-stack, replay-same, torn-calls}
+use Rattle.entry.proofs.Codec.{both-ways}
+use Rattle.journal.proofs.Made.{journal-is-stack, adds-field, reads-as, replay-same, goes-on}
+use Rattle.journal.proofs.Torn.{torn-calls}
 use Rattle.journal.proofs.Reopened.{reopened}
 use Rattle.rewriting.proofs.Promises.{done-all, done-writes, done-text, done-front, table-has}
 use Rattle.rewriting.proofs.Whole.{whole-read, whole-joined}
@@ -47,7 +49,9 @@ as-due =
       rewriting = λ s at cells room. RewritingDue.first-due s at cells room;
       listed = λ s room. Listed.first-due (listing s) room;
       call = λ ns j used cells c. JournalDue.first-due ns j used cells c;
+      call-left = λ ns c k a k′ e. JournalDue.left-due ns c k a k′ e;
       replay = λ ns j used cs. JournalDue.replay-first-due ns j used cs;
+      replay-left = λ ns j used cs a cs′ d e. JournalDue.replay-left-due ns j used cs a cs′ d e;
       listing-is = λ s x. (λ e. subst (IsListing s) e (Listed.listing-is s), λ h. sym (Listed.is-listing s x h));
     }
 
@@ -88,9 +92,13 @@ edits : Edits
 edits =
     record {
       stack = journal-is-stack;
+      adds = adds-field;
+      codec = both-ways;
+      reads-as = reads-as;
       replayed = replay-same;
+      goes-on = goes-on;
       torn = torn-calls;
-      made = λ ns t j used f b right r. reopened ns t j used right b f r;
+      made = λ ns t k f b r. reopened ns t (k .journal) (k .used) f b r;
     }
 
 pub demand-2 : Demand2

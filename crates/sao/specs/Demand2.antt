@@ -34,11 +34,13 @@ use Rattle.writing.specs.Due as WritingIs
 use Rattle.reply.specs.declared.Checked.the-variants.{Right}
 use Rattle.count.specs.Check.{checkedOf}
 use Rattle.entry.specs.Bytes.{AllBytes}
+use Rattle.entry.specs.Codec.{BothWays}
 use Rattle.journal.specs.Model.{Call}
 use Rattle.journal.specs.Calls.{answerOf}
-use Rattle.journal.specs.Plays.{replayOf, replayedCells}
+use Rattle.journal.specs.Plays.{replayOf, replayedCells, replayedOpen}
 use Rattle.journal.specs.Due as JournalIs
-use Rattle.journal.specs.Runs.{Fit, FitCalls, kept, leftTo, JournalIsStack, ReplaysTo, Torn, MadeBy}
+use Rattle.journal.specs.Runs.{Fit, FitCalls, Kept, kept, answerTo, leftBy, leftTo, entriesTo, behindReplay}
+use Rattle.journal.specs.Runs.{JournalIsStack, AddsField, ReadsAs, ReplaysTo, Alike, Torn, MadeBy}
 use Rattle.listing.specs.Listing.{listing, listedIn, IsListing, ListingDue}
 use Rattle.rewriting.specs.declared.Rewriting.{Rewriting}
 use Rattle.rewriting.specs.declared.Rewriting.the-variants.{Done as Rewritten}
@@ -69,9 +71,13 @@ pub record GivenAsDue : Type 0 where
   pub rewriting : (s : List ℕ) (at cells room : ℕ) (r : Rewriting) → rewritingOf s at cells room ≡ r ↔ RewritingIs.Due s at cells room r
   pub listed : (s : List ℕ) (room : ℕ) (r : Answer) → listedIn (listing s) room ≡ r ↔ ListingDue (listing s) room r
   pub listing-is : (s x : List ℕ) → listing s ≡ x ↔ IsListing s x
-  -- the edit journal: a call, and a replay
+  -- the edit journal: a call, and what it leaves: bytes used, journal and cells (R512 to R520); a replay, and what it leaves: cells and open
+  -- savepoints (R540 to R542). Fields in order, and a field at fault, are said of one field after the other (R530, R531; journal's Order)
   pub call : (ns j : List ℕ) (used cells : ℕ) (c : Call) (a : Answer) → answerOf ns j used cells c ≡ a ↔ JournalIs.Due ns j used cells c a
+  pub call-left : (ns : List ℕ) (c : Call) (k : Kept) (a : Answer) (k′ : Kept) → answerTo ns c k ≡ a → leftBy ns c k a ≡ k′ ↔ JournalIs.LeftDue ns c k a k′
   pub replay : (ns j : List ℕ) (used : ℕ) (cs : List ℤ) (a : Checked) → replayOf ns j used cs ≡ a ↔ JournalIs.ReplayDue ns j used cs a
+  pub replay-left : (ns j : List ℕ) (used : ℕ) (cs : List ℤ) (a : Checked) (cs′ : List ℤ) (d : ℕ) → replayOf ns j used cs ≡ a
+      → ((replayedCells ns j used cs a ≡ cs′) × (replayedOpen ns j used cs a ≡ d)) ↔ JournalIs.ReplayLeftDue ns j used cs a cs′ d
 
 -- what rewriting's output holds under 0: the canonical text of the counts and of what every group read as
 pub record Rewrites (s : List ℕ) (at bytes next : ℕ) (buffer : List ℕ) : Type 0 where
@@ -120,20 +126,31 @@ pub record ReadWrites : Type 0 where
   -- and for what it printed itself
   pub printed-returns : (s : List ℕ) → length (printed s) ≤ 65536 → CanonicalRecords (printed s) × (printed (printed s) ≡ printed s)
 
--- R516, R543, R544: what the calls of the edit journal leave, over any counts, table t and buffer j: on a fresh journal all that they answer and
--- leave is that of a plain stack of whole tables. Replayed over t, the journal comes to the same cells and open savepoints; so do its first
--- bytes, up to the field that was cut. And a journal that replays with 0, whoever wrote it, is one that calls have made.
+-- R516, R520, R543, R544: what the calls of the edit journal leave, over any counts, table t and buffer j: on a fresh journal all that they
+-- answer and leave is that of a plain stack of whole tables.
 pub record Edits : Type 0 where
   pub stack : (ns : List ℕ) (t : List ℤ) (j : List ℕ) (cs : List Call) → Fit t → FitCalls cs → JournalIsStack ns t j cs
+  -- a call that is accepted adds its field and nothing else, on whatever journal; a refused one adds nothing
+  pub adds : (ns : List ℕ) (c : Call) (k : Kept) → AddsField ns c k
+  -- an entry and its bytes, both ways; and the bytes used read as the accepted calls, one after the other
+  pub codec : BothWays
+  pub reads-as : (ns : List ℕ) (t : List ℤ) (j : List ℕ) (cs : List Call) → Fit t → FitCalls cs → ReadsAs (leftTo ns cs (kept t j 0)) (entriesTo ns cs (kept t j 0))
+  -- replayed over t, the journal comes to the same cells and open savepoints
   pub replayed : (ns : List ℕ) (t : List ℤ) (j : List ℕ) (cs : List Call) → Fit t → FitCalls cs
       → checkedOf ns (length t) ≡ Right
       → ReplaysTo ns t (leftTo ns cs (kept t j 0))
+  -- and further calls go on behind the replay as they would have without it
+  pub goes-on : (ns : List ℕ) (t : List ℤ) (j : List ℕ) (cs : List Call) → Fit t → FitCalls cs
+      → checkedOf ns (length t) ≡ Right
+      → (further : List Call) → Alike ns (behindReplay ns t (leftTo ns cs (kept t j 0))) (leftTo ns cs (kept t j 0)) further
+  -- cut at any byte, it comes to what the calls left that are whole in it
   pub torn : (ns : List ℕ) (t : List ℤ) (j : List ℕ) (cs : List Call) → Fit t → FitCalls cs
       → checkedOf ns (length t) ≡ Right
       → (n : ℕ) → n ≤ leftTo ns cs (kept t j 0) .used → Torn ns t cs (kept t j 0) n
-  pub made : (ns : List ℕ) (t : List ℤ) (j : List ℕ) (used : ℕ) → Fit t → AllBytes j
-      → checkedOf ns (length t) ≡ Right → replayOf ns j used t ≡ Right
-      → MadeBy ns (kept t j 0) (kept (replayedCells ns j used t Right) j used)
+  -- what replays with 0, whoever wrote it, is a journal that calls have made, and calls go on behind it
+  pub made : (ns : List ℕ) (t : List ℤ) (k : Kept) → Fit t → AllBytes (k .journal)
+      → replayOf ns (k .journal) (k .used) t ≡ Right
+      → MadeBy ns (kept t (k .journal) 0) (behindReplay ns t k)
 
 pub record Demand2 : Type 0 where
   pub due : GivenAsDue

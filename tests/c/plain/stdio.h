@@ -4,9 +4,11 @@
 #include <stddef.h>
 #define EOF (-1)
 #define _IOLBF 1
+#define SEEK_SET 0
 typedef struct _IO_FILE FILE;
 extern FILE *stdin, *stdout, *stderr;
 FILE *fopen(const char *, const char *);
+FILE *fdopen(int, const char *);
 int fclose(FILE *);
 int setvbuf(FILE *, char *, int, size_t);
 int fflush(FILE *);

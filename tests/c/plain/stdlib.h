@@ -4,5 +4,7 @@
 #include <stddef.h>
 void *malloc(size_t);
 void *realloc(void *, size_t);
+char *realpath(const char *, char *);
+int mkstemp(char *);
 void free(void *);
 #endif

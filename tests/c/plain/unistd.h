@@ -2,7 +2,9 @@
 #ifndef PLAIN_UNISTD_H
 #define PLAIN_UNISTD_H
 typedef long off_t;
+typedef unsigned uid_t, gid_t;
 int close(int);
+int fchown(int, uid_t, gid_t);
 int fsync(int);
 int ftruncate(int, off_t);
 #endif

@@ -39,6 +39,9 @@ returns-2 c =
     let q : sameCell got (told .0 .1 .1 .0) ≡ false = bits-other got (told .0 .1 .1 .0) (c .if1 .left) in
     rw (told .1) (sym (rw e at q), refl)
 
+undo-known : tie.Need-enum-known-entry-4
+undo-known c = search needs
+
 sub-undo-from : tie.Need-sub-undo-from
 sub-undo-from c =
     let o = c .before .before .before .before .before .before in
@@ -92,7 +95,7 @@ play-one-spec =
     returns
     (λ c. search needs)
     (λ c. search needs)
-    (λ c. search needs)
+    undo-known
     sub-undo-from
     mul-undo-from
     element-copy-out-undo-from

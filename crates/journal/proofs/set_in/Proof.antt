@@ -13,8 +13,8 @@ use borrow.Author.Needs.{needs}
 use Rattle.journal.proofs.set_in.Statement.{statement}
 use Rattle.journal.proofs.set_in.Tie as tie
 
-returns : tie.Need-returns
-returns c =
+returns-full : tie.Need-returns
+returns-full c =
     let e = c .refused2 .ensures .0 in (
       rw (← c .before .before .before .before .before .spot-of .ensures, c .before .before .before .spot .given .1, lt-ltb _ _ (c .before .if1 .taken)) e,
       (rw e (c .refused2 .ensures .1), (rw e refl, rw e refl)),
@@ -54,7 +54,7 @@ set-in-spec =
     (λ c. search needs)
     (λ c. search needs)
     (λ c κs. search needs)
-    returns
+    returns-full
     (λ c κs. search needs)
     put-entry-requires
     (λ c κs. search needs)

@@ -15,7 +15,8 @@ use Rattle.journal.proofs.walk.Tie as tie
 
 abbrev Inv-loop : tie.InvT-loop
 Inv-loop starts s place₀ count₀ depth₀ marks₀ place count depth marks =
-    (4 * count ≤ place) × (place ≤ length s) × (depth ≤ 16) × (length marks ≡ 17) × (walkFrom (length s - count) starts s place count (down depth marks) ≡ walkOf starts s) × MarksBelow depth marks count
+    (4 * count ≤ place) × (place ≤ length s) × (depth ≤ 16) × (length marks ≡ 17)
+    × (walkFrom (length s - count) starts s place count (down depth marks) ≡ walkOf starts s) × MarksBelow depth marks count
 
 abbrev μ-loop : tie.MeasureT-loop
 μ-loop starts s place₀ count₀ depth₀ marks₀ place count depth marks = length s - place

@@ -1,0 +1,204 @@
+-- Fields in order, said plainly (specs/Order.antt), are those that a walk, and a replay, goes through; and where it stops is where a journal is at
+-- fault.
+-- Assumes nothing.
+use mathlib.Core.Path.{_≡_, refl, sym, _∙_, ap, subst}
+use mathlib.Core.Bool.{Bool, true, false, cond, _&&_, true≢false}
+use mathlib.Core.List.{List, []}
+use mathlib.Core.Logic.{_⊎_, inl, inr}
+use Prim.Native.Nat.{ℕ, zero, suc, _+_, _-_, _<_, _≤_}
+use native.Mathlib.Omega.{arith}
+use borrow.Author.Tests.{eq-eqb, eqb-true, le-leb, leb-true, lt-ltb, ltb-true, ltb-false}
+use lib.Dec.{eqb, leb, ltb}
+use lib.IntN.{ℤ, pos}
+use lib.ListN.{length, getD, drop, drop-of-length-le, List·getD-eq-default}
+use Rattle.base.proofs.Choice.{and-first, and-second, cond-elim}
+use Rattle.base.proofs.Order.{le-or-lt}
+use Rattle.count.specs.Tally.{cellsIn, cellsBefore}
+use Rattle.count.proofs.Tallied.{cells-first, cells-next}
+use Rattle.entry.specs.declared.Entry.{Entry}
+use Rattle.entry.specs.declared.Entry.the-variants.{Set, Open, Release, Undo, Misformed}
+use Rattle.entry.specs.Field.{entryIn, fieldAt}
+use Rattle.journal.specs.declared.Spot.the-variants.{At, Nowhere}
+use Rattle.journal.specs.Layout.{startsOf, spotIn, spotOf, exists}
+use Rattle.journal.specs.Model.{Call, Sets, Opens, Releases, Undoes, accepts}
+use Rattle.journal.specs.Entries.{markStep, nextAt}
+use Rattle.journal.specs.Walks.{okEntry, Walked, walked, walkFrom, walkOf}
+use Rattle.journal.specs.Plays.{matches, playedBy, Run, ran, playFrom, playOf}
+use Rattle.journal.specs.Order.{IsCell, cellAt, Accepted, RightEntry, OldIs, Goes, here, on, RightAt, behind, InOrder, PlaysAt, playedTo, InReplay}
+use Rattle.journal.proofs.Spots.{starts-length, starts-at}
+use Rattle.journal.proofs.Walking.{no-way, ok-open, ok-size}
+use Rattle.journal.proofs.Playing.{same-same, same-cell}
+use Rattle.journal.proofs.Replays.{no-field}
+
+-- ---- a cell
+
+span : (start end c : ℕ) → exists (spotIn start end c) ≡ (leb 1 c && leb c (end - start))
+span start end c = by (leb 1 c && leb c (end - start))
+  where
+    by : (t : Bool) → exists (cond t (At (start + (c - 1))) Nowhere) ≡ t
+    by true = refl
+    by false = refl
+
+module _ (ns : List ℕ) (g c : ℕ) where
+  ends : 1 ≤ g → g ≤ 60 → getD (startsOf ns) (g + 1) 0 - getD (startsOf ns) g 0 ≡ cellsIn ns g
+  ends low high =
+      omega (arith, starts-at ns g (omega arith), starts-at ns (g + 1) (omega arith), cells-next ns g low (omega arith))
+
+  cell-exists : IsCell ns g c → exists (spotOf (startsOf ns) g c) ≡ true
+  unfolding spotOf
+  cell-exists i =
+      span (getD (startsOf ns) g 0) (getD (startsOf ns) (g + 1) 0) c
+      ∙ rw (le-leb 1 c (i .first), le-leb c (getD (startsOf ns) (g + 1) 0 - getD (startsOf ns) g 0) (omega (arith, ends (i .low) (i .high), i .last)))
+
+  exists-cell : exists (spotOf (startsOf ns) g c) ≡ true → IsCell ns g c
+  unfolding spotOf
+  exists-cell e =
+      let t = sym (span (getD (startsOf ns) g 0) (getD (startsOf ns) (g + 1) 0) c) ∙ e in
+      let first = leb-true 1 c (and-first (leb 1 c) (leb c (getD (startsOf ns) (g + 1) 0 - getD (startsOf ns) g 0)) t) in
+      let last = leb-true c (getD (startsOf ns) (g + 1) 0 - getD (startsOf ns) g 0) (and-second (leb 1 c) (leb c (getD (startsOf ns) (g + 1) 0 - getD (startsOf ns) g 0)) t) in
+      by first last (le-or-lt 1 g) (le-or-lt g 60)
+    where
+      by : 1 ≤ c → c ≤ getD (startsOf ns) (g + 1) 0 - getD (startsOf ns) g 0 → (1 ≤ g) ⊎ (g < 1) → (g ≤ 60) ⊎ (60 < g) → IsCell ns g c
+      by first last (inl low) (inl high) = record { low = low; high = high; first = first; last = omega (arith, ends low high) }
+      by first last (inl low) (inr high) =
+          let none : getD (startsOf ns) (g + 1) 0 ≡ 0 = List·getD-eq-default (startsOf ns) 0 {n = g + 1} (omega (arith, starts-length ns)) in
+          absurd (omega arith)
+      by first last (inr low) high =
+          let zero-g : g ≡ 0 = omega arith in
+          let none : getD (startsOf ns) (g + 1) 0 ≡ 0 = ap (λ k. getD (startsOf ns) (k + 1) 0) zero-g ∙ starts-at ns 1 (omega arith) ∙ cells-first ns in
+          absurd (omega arith)
+
+  -- where it stands
+  pub spot-at : IsCell ns g c → spotOf (startsOf ns) g c ≡ At (cellAt ns g c)
+  unfolding spotOf
+  spot-at i =
+      rw (le-leb 1 c (i .first), le-leb c (getD (startsOf ns) (g + 1) 0 - getD (startsOf ns) g 0) (omega (arith, ends (i .low) (i .high), i .last)))
+      (ap (λ n. At (n + (c - 1))) (starts-at ns g (omega (arith, i .high))))
+
+-- ---- a call that is accepted
+
+module _ (ns : List ℕ) (d : ℕ) where
+  pub accepted-yes : (c : Call) → Accepted ns d c → accepts (startsOf ns) c d ≡ true
+  accepted-yes (Sets g i v) h = cell-exists ns g i h
+  accepted-yes Opens h = lt-ltb d 16 h
+  accepted-yes (Releases k) h = rw (lt-ltb 0 k (h .0), eq-eqb k d (h .1))
+  accepted-yes (Undoes k) h = rw (lt-ltb 0 k (h .0), le-leb k d (h .1))
+
+  pub yes-accepted : (c : Call) → accepts (startsOf ns) c d ≡ true → Accepted ns d c
+  yes-accepted (Sets g i v) e = exists-cell ns g i e
+  yes-accepted Opens e = ltb-true d 16 e
+  yes-accepted (Releases k) e = (ltb-true 0 k (and-first (ltb 0 k) (eqb k d) e), eqb-true k d (and-second (ltb 0 k) (eqb k d) e))
+  yes-accepted (Undoes k) e = (ltb-true 0 k (and-first (ltb 0 k) (leb k d) e), leb-true k d (and-second (ltb 0 k) (leb k d) e))
+
+  pub no-accepted : (c : Call) → (Accepted ns d c → ⊥) → accepts (startsOf ns) c d ≡ false
+  no-accepted c n = by (accepts (startsOf ns) c d) refl
+    where
+      by : (t : Bool) → accepts (startsOf ns) c d ≡ t → t ≡ false
+      by true e = absurd (n (yes-accepted c e))
+      by false e = refl
+
+  -- ---- an entry
+
+  entry-right : (e : Entry) → RightEntry ns d e → okEntry (startsOf ns) e d ≡ true
+  entry-right (Set g c o v) h = accepted-yes (Sets g c v) h
+  entry-right (Open k) h = rw (lt-ltb d 16 (h .0), eq-eqb k (d + 1) (h .1))
+  entry-right (Release k) h = accepted-yes (Releases k) h
+  entry-right (Undo k) h = accepted-yes (Undoes k) h
+  entry-right Misformed h = absurd h
+
+  right-entry : (e : Entry) → okEntry (startsOf ns) e d ≡ true → RightEntry ns d e
+  right-entry (Set g c o v) h = yes-accepted (Sets g c v) h
+  right-entry (Open k) h = ok-open (startsOf ns) d k h
+  right-entry (Release k) h = yes-accepted (Releases k) h
+  right-entry (Undo k) h = yes-accepted (Undoes k) h
+  right-entry Misformed h = no-way (sym h)
+
+  old-matches : (e : Entry) (t : List ℤ) → RightEntry ns d e → OldIs ns e t → matches (startsOf ns) e t ≡ true
+  old-matches (Set g c o v) t r q = rw (spot-at ns g c r, q) (same-same o)
+  old-matches (Open k) t r q = refl
+  old-matches (Release k) t r q = refl
+  old-matches (Undo k) t r q = refl
+  old-matches Misformed t r q = refl
+
+  matches-old : (e : Entry) (t : List ℤ) → RightEntry ns d e → matches (startsOf ns) e t ≡ true → OldIs ns e t
+  matches-old (Set g c o v) t r m = same-cell (getD t (cellAt ns g c) (pos 0)) o (rw (spot-at ns g c r) at m)
+  matches-old (Open k) t r m = tt
+  matches-old (Release k) t r m = tt
+  matches-old (Undo k) t r m = tt
+  matches-old Misformed t r m = tt
+
+-- ---- steps, up to where none is right
+
+pub record Stops (S : Type 0) (right : S → Type 0) (next : S → S) (x y : S) : Type 0 where
+  pub goes : Goes S right next x y
+  pub stuck : right y → ⊥
+
+module _ {S : Type 0} {right : S → Type 0} {next : S → S} where
+  stops-here : (x : S) → (right x → ⊥) → Stops S right next x x
+  stops-here x n = record { goes = here; stuck = n }
+
+  stops-on : {y : S} (x : S) → right x → Stops S right next (next x) y → Stops S right next x y
+  stops-on x r h = record { goes = on r (h .goes); stuck = h .stuck }
+
+  -- there is one such place
+  goes-one : {x y z : S} → Goes S right next x y → (right y → ⊥) → Goes S right next x z → (right z → ⊥) → y ≡ z
+  goes-one here n here m = refl
+  goes-one here n (on r g) m = absurd (n r)
+  goes-one (on r g) n here m = absurd (m r)
+  goes-one (on r g) n (on q h) m = goes-one g n h m
+
+module _ (ns s : List ℕ) where
+  abbrev ps : List ℕ
+  ps = startsOf ns
+
+  pub past : (p d : ℕ) → length s ≤ p → RightEntry ns d (fieldAt s p) → ⊥
+  past p d h r = subst (RightEntry ns d) (ap entryIn (drop-of-length-le s {i = p} h) ∙ no-field) r
+
+  abbrev WalkStops : Walked → Walked → Type 0
+  WalkStops = Stops Walked (RightAt ns s) (behind ns s)
+
+  walk-stops : (f p n : ℕ) (ms : List ℕ) → length s ≤ p + f → WalkStops (walked p n ms) (walkFrom f ps s p n ms)
+  unfolding walkFrom
+  walk-stops zero p n ms h = stops-here (walked p n ms) (past p (length ms) (omega arith))
+  walk-stops (suc f) p n ms h =
+      let e = fieldAt s p in
+      let w = walked p n ms in
+      cond-elim (WalkStops w) (ltb p (length s))
+      (λ lo. cond-elim (WalkStops w) (okEntry ps e (length ms))
+      (λ ok. stops-on w (right-entry ns (length ms) e ok) (walk-stops f (nextAt s p) (n + 1) (markStep e n ms) (omega (arith, ok-size ps (length ms) e ok))))
+      (λ ok. stops-here w (λ r. true≢false (sym (entry-right ns (length ms) e r) ∙ ok))))
+      (λ lo. stops-here w (past p (length ms) (ltb-false p (length s) lo)))
+
+  pub walk-ends : WalkStops (walked 0 0 []) (walkOf ps s)
+  unfolding walkOf
+  walk-ends = walk-stops (length s) 0 0 [] (omega arith)
+
+  pub walk-only : (w : Walked) → InOrder ns s w → (RightAt ns s w → ⊥) → w ≡ walkOf ps s
+  walk-only w g n = goes-one g n (walk-ends .goes) (walk-ends .stuck)
+
+  abbrev PlayStops : Run → Run → Type 0
+  PlayStops = Stops Run (PlaysAt ns s) (playedTo ns s)
+
+  play-stops : (f p n : ℕ) (ms : List ℕ) (t : List ℤ) → length s ≤ p + f → PlayStops (ran p n ms t) (playFrom f ps s p n ms t)
+  unfolding playFrom
+  play-stops zero p n ms t h = stops-here (ran p n ms t) (λ r. past p (length ms) (omega arith) (r .0))
+  play-stops (suc f) p n ms t h =
+      let e = fieldAt s p in
+      let x = ran p n ms t in
+      cond-elim (PlayStops x) (ltb p (length s))
+      (λ lo. cond-elim (PlayStops x) (okEntry ps e (length ms))
+      (λ ok.
+      let right = right-entry ns (length ms) e ok in
+      cond-elim (PlayStops x) (matches ps e t)
+      (λ m. stops-on x (right, matches-old ns (length ms) e t right m)
+      (play-stops f (nextAt s p) (n + 1) (markStep e n ms) (playedBy ps e s n ms t) (omega (arith, ok-size ps (length ms) e ok))))
+      (λ m. stops-here x (λ r. true≢false (sym (old-matches ns (length ms) e t (r .0) (r .1)) ∙ m))))
+      (λ ok. stops-here x (λ r. true≢false (sym (entry-right ns (length ms) e (r .0)) ∙ ok))))
+      (λ lo. stops-here x (λ r. past p (length ms) (ltb-false p (length s) lo) (r .0)))
+
+  pub play-ends : (t : List ℤ) → PlayStops (ran 0 0 [] t) (playOf ps s t)
+  unfolding playOf
+  play-ends t = play-stops (length s) 0 0 [] t (omega arith)
+
+  pub play-only : (t : List ℤ) (x : Run) → InReplay ns s t x → (PlaysAt ns s x → ⊥) → x ≡ playOf ps s t
+  play-only t x g n = goes-one g n (play-ends t .goes) (play-ends t .stuck)

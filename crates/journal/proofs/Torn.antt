@@ -1,0 +1,194 @@
+-- R544: the first bytes of a journal that calls made, cut anywhere.
+-- Assumes nothing.
+use mathlib.Core.Path.{_≡_, refl, sym, ap, ap₂, _∙_, subst}
+use mathlib.Core.Bool.{Bool, true, false}
+use mathlib.Core.List.{List, [], _∷_, _++_}
+use mathlib.Core.Logic.{_⊎_, inl, inr}
+use Prim.Native.Nat.{ℕ, zero, suc, _+_, _-_, _<_, _≤_}
+use native.Mathlib.Nat.{sub-zero}
+use native.Mathlib.Omega.{arith}
+use lib.Dec.{ltb, eqb}
+use lib.IntN.{ℤ, pos}
+use lib.ListN.{length, getD, set, drop, take, length-drop, length-append, length-take, take-append-drop, drop-of-length-le}
+use Rattle.base.proofs.Taken.{drop-none, take-none, drop-take}
+use lib.Seq.{take-take, take-at, drop-at, take-append-le, getD-set-same, getD-set-other, set-out, length-take-le}
+use borrow.Author.Tests.{eqb-true, eqb-false, ltb-true, ltb-false, eq-eqb}
+use mir.Syntax.{w64}
+use mir.Val.{SFits}
+use Rattle.base.specs.Part.{over}
+use Rattle.base.proofs.Part.{over-length}
+use Rattle.base.proofs.Order.{le-or-lt}
+use Rattle.count.specs.Check.{checkedOf}
+use Rattle.reply.specs.declared.Refusal.{Refusal}
+use Rattle.reply.specs.declared.Refusal.the-variants.{NoRoom}
+use Rattle.reply.specs.declared.Checked.{Checked}
+use Rattle.reply.specs.declared.Checked.the-variants as C
+use Rattle.reply.specs.declared.Answer.{Answer}
+use Rattle.reply.specs.declared.Answer.the-variants.{Done, Refused}
+use Rattle.entry.specs.declared.Entry.{Entry}
+use Rattle.entry.specs.declared.Entry.the-variants.{Set, Open, Release, Undo, Misformed}
+use Rattle.entry.specs.Field.{entryText, entrySize, entryIn}
+use Rattle.entry.specs.Codec.{Sized, sized-set, sized-open, sized-release, sized-undo}
+use Rattle.entry.proofs.Codec.{length-text, field-cut}
+use Rattle.journal.specs.declared.Spot.{Spot}
+use Rattle.journal.specs.declared.Spot.the-variants.{At, Nowhere}
+use Rattle.journal.specs.Layout.{startsOf, spotOf, getAt, putAt}
+use Rattle.journal.specs.Model.{Call, Sets, Opens, Releases, Undoes, accepts, bytesFor, numberFor, refusalOf, decided, Stack, stacked, onStack}
+use Rattle.journal.specs.Model.{modelAnswer, modelStep, modelAnswers, modelRun, byAnswer}
+use Rattle.journal.specs.Entries.{markStep, marksFrom, marksOf, markOf, giveBack, restore, journalText}
+use Rattle.journal.specs.Walks.{okEntry, walked, walkOf}
+use Rattle.journal.specs.Calls.{whole, entryFor, cellsFor, walkIn, standingOf}
+use Rattle.journal.specs.Plays.{matches, ran, playOf, playIn, replayOf}
+use Rattle.journal.specs.Runs.{Fit, FitCall, FitCalls, Kept, kept, answerTo, leftBy, answersTo, leftTo, openIn, entryTo, Adds, ReplaysTo, Torn}
+use Rattle.journal.proofs.Made.{Stands, used-is, next, fresh, replay-stands, adds-field}
+use Rattle.journal.proofs.Answers.{answer-right, answer-refused}
+use Rattle.journal.proofs.Held.{none, holds-length, holds-mark, HeldBy, withEntry, cellsOn, marks-entry, held-cells, held-call}
+use Rattle.journal.proofs.Text.{Fine, fine-none, fine-more, fine-last, text-length, walk-journal, back-journal, text-more, used-more}
+use Rattle.journal.proofs.Walking.{ok-release, ok-undo}
+use Rattle.journal.proofs.Playing.{same-same}
+use Rattle.journal.proofs.Replays.{Leads, leads-none, leads-last, playedOn, play-cut, no-field, play-journal}
+use Rattle.journal.proofs.Small.{cell-small}
+
+-- ---- the first bytes of it
+
+module _ (ns : List ℕ) (t₀ : List ℤ) (right : checkedOf ns (length t₀) ≡ C.Right) where
+  -- bytes that begin as those kept, and go on with what is no field
+  cut-here : (k : Kept) (ts : List (List ℤ)) (j : List ℕ) (n : ℕ) → Stands ns t₀ k ts → k .used ≤ n → take (k .used) j ≡ take (k .used) (k .journal)
+      → entryIn (drop (k .used) (take n j)) ≡ Misformed → replayOf ns j n t₀ ≡ whole (k .used) n
+  unfolding replayOf
+  cut-here k ts j n s l q x =
+      let es = s .entries in
+      let b : take n j ≡ journalText es ++ drop (k .used) (take n j) =
+      sym (take-append-drop (k .used) (take n j)) ∙ ap (λ y. y ++ drop (k .used) (take n j)) (take-take (k .used) n j l ∙ q ∙ s .bytes) in
+      let m : length es ≤ length (take n j) = omega (arith, ap length b, length-append (journalText es) (drop (k .used) (take n j)), text-length (s .fine)) in
+      let p = ap (λ r. r .place) (play-cut (take n j) (drop (k .used) (take n j)) x es (s .leads) b m) ∙ used-is ns t₀ Opens k ts s in
+      rw (right, p) refl
+
+  abbrev after : Call → Kept → Kept
+  after c k = leftBy ns c k (answerTo ns c k)
+
+  -- what a call leaves: all as it was, or a field behind the bytes used
+  adds : (c : Call) (k : Kept) → (after c k ≡ k) ⊎ Adds k (entryTo ns c k) (after c k)
+  adds c k = by (answerTo ns c k) refl
+    where
+      by : (a : Answer) → answerTo ns c k ≡ a → (after c k ≡ k) ⊎ Adds k (entryTo ns c k) (after c k)
+      by (Refused r) q = inl (ap (leftBy ns c k) q)
+      by (Done n) q = inr (subst (λ a. Adds k (entryTo ns c k) (leftBy ns c k a)) (sym q) (adds-field ns c k .done n q))
+
+  -- the bytes used never become fewer
+  grows : (cs : List Call) (k : Kept) → k .used ≤ leftTo ns cs k .used
+  grows [] k = omega arith
+  grows (c ∷ cs) k = by (adds c k) (grows cs (after c k))
+    where
+      by : (after c k ≡ k) ⊎ Adds k (entryTo ns c k) (after c k) → after c k .used ≤ leftTo ns (c ∷ cs) k .used → k .used ≤ leftTo ns (c ∷ cs) k .used
+      by (inl q) h = omega (arith, ap (λ x. x .used) q)
+      by (inr a) h = omega (arith, a .used)
+
+  module _ (k k′ : Kept) (in′ : k .used ≤ length (k .journal)) where
+    long-used : length (take (k .used) (k .journal)) ≡ k .used
+    long-used = length-take-le (k .used) (k .journal) in′
+
+    adds-keeps : {e : Entry} → Adds k e k′ → take (k .used) (k′ .journal) ≡ take (k .used) (k .journal)
+    adds-keeps a = ap (take (k .used)) (a .journal) ∙ take-at (take (k .used) (k .journal)) _ (k .used) long-used
+
+    adds-cut : {e : Entry} → Adds k e k′ → (n : ℕ) → k .used ≤ n → n < k′ .used → drop (k .used) (take n (k′ .journal)) ≡ take (n - k .used) (entryText e)
+    adds-cut {e} a n l h =
+        let x = entryText e in
+        let m : n - k .used ≤ length x = omega (arith, a .used) in
+        drop-take (k .used) n (k′ .journal) ∙ ap (λ y. take (n - k .used) (drop (k .used) y)) (a .journal)
+        ∙ ap (take (n - k .used)) (drop-at (take (k .used) (k .journal)) (x ++ drop (k .used + length x) (k .journal)) (k .used) long-used)
+        ∙ take-append-le (n - k .used) x (drop (k .used + length x) (k .journal)) m
+
+  abbrev Begins : Kept → Kept → Type 0
+  Begins k end = take (k .used) (end .journal) ≡ take (k .used) (k .journal)
+
+  -- the bytes used stay
+  keeps : (cs : List Call) (k : Kept) (ts : List (List ℤ)) → FitCalls cs → Stands ns t₀ k ts → Begins k (leftTo ns cs k)
+  keeps [] k ts f s = refl
+  keeps (c ∷ cs) k ts f s =
+      let n = next ns t₀ c k ts s (f .0) in
+      one (adds c k) (keeps cs (after c k) (n .saved) (f .1) (n .left .stands))
+    where
+      one : (after c k ≡ k) ⊎ Adds k (entryTo ns c k) (after c k) → Begins (after c k) (leftTo ns (c ∷ cs) k) → Begins k (leftTo ns (c ∷ cs) k)
+      one (inl q) r = subst (λ x. Begins x (leftTo ns (c ∷ cs) k)) q r
+      one (inr a) r =
+          let k′ = after c k in
+          let l : k .used ≤ k′ .used = omega (arith, a .used) in
+          sym (take-take (k .used) (k′ .used) (leftTo ns (c ∷ cs) k .journal) l) ∙ ap (take (k .used)) r ∙ take-take (k .used) (k′ .used) (k′ .journal) l
+          ∙ adds-keeps k k′ (s .inside) a
+
+  -- the same bytes used in another buffer
+  moved : (k : Kept) (ts : List (List ℤ)) (j : List ℕ) → Stands ns t₀ k ts → take (k .used) j ≡ take (k .used) (k .journal) → Stands ns t₀ (kept (k .cells) j (k .used)) ts
+  moved k ts j s q =
+      record {
+        entries = s .entries;
+        inside = omega (arith, length-take (k .used) j, ap length q, length-take-le (k .used) (k .journal) (s .inside));
+        bytes = q ∙ s .bytes;
+        fine = s .fine;
+        held = s .held;
+        leads = s .leads;
+        few = s .few;
+        fit = s .fit;
+      }
+
+  -- so many calls of a list are whole in n bytes, and no more
+  abbrev Most : List Call → Kept → ℕ → ℕ → Type 0
+  Most cs k n calls = (m : ℕ) → m ≤ length cs → leftTo ns (take m cs) k .used ≤ n → m ≤ calls
+
+  most-more : (c : Call) (cs : List Call) (k : Kept) (n calls : ℕ) → Most cs (after c k) n calls → Most (c ∷ cs) k n (suc calls)
+  most-more c cs k n calls f zero l h = omega arith
+  most-more c cs k n calls f (suc m) l h = omega (arith, f m (omega arith) h)
+
+  most-none : (c : Call) (cs : List Call) (k : Kept) (n : ℕ) → n < after c k .used → Most (c ∷ cs) k n 0
+  most-none c cs k n x zero l h = omega arith
+  most-none c cs k n x (suc m) l h = absurd (omega (arith, grows (take m cs) (after c k)))
+
+  torn : (cs : List Call) (k : Kept) (ts : List (List ℤ)) (n : ℕ) → FitCalls cs → Stands ns t₀ k ts → k .used ≤ n → n ≤ leftTo ns cs k .used → Torn ns t₀ cs k n
+  torn [] k ts n f s l h =
+      let z : length (take n (k .journal)) ≤ k .used = omega (arith, length-take n (k .journal)) in
+      record {
+        calls = 0;
+        among = omega arith;
+        before = l;
+        most = λ m h _. h;
+        answer = cut-here k ts (k .journal) n s l refl (ap entryIn (drop-of-length-le (take n (k .journal)) {i = k .used} z) ∙ no-field);
+        rest = replay-stands ns t₀ k ts s right;
+      }
+  torn (c ∷ cs) k ts n f s l h =
+      let x = next ns t₀ c k ts s (f .0) in
+      let k′ = after c k in
+      by (le-or-lt (k′ .used) n) (λ m. torn cs k′ (x .saved) n (f .1) (x .left .stands) m h) (keeps (c ∷ cs) k ts f s) (keeps cs k′ (x .saved) (f .1) (x .left .stands)) (adds c k)
+    where
+      by : (after c k .used ≤ n) ⊎ (n < after c k .used) → (after c k .used ≤ n → Torn ns t₀ cs (after c k) n) → Begins k (leftTo ns (c ∷ cs) k)
+          → Begins (after c k) (leftTo ns (c ∷ cs) k) → (after c k ≡ k) ⊎ Adds k (entryTo ns c k) (after c k) → Torn ns t₀ (c ∷ cs) k n
+      by (inl m) ih q r a =
+          let b = ih m in
+          record {
+            calls = suc (b .calls);
+            among = omega (arith, b .among);
+            before = b .before;
+            most = most-more c cs k n (b .calls) (b .most);
+            answer = b .answer;
+            rest = b .rest;
+          }
+      by (inr m) ih q r (inl e) = absurd (omega (arith, ap (λ y. y .used) e))
+      by (inr m) ih q r (inr a) =
+          let k′ = after c k in
+          let j = leftTo ns (c ∷ cs) k .journal in
+          let w : n ≤ k′ .used = omega arith in
+          let y : take n j ≡ take n (k′ .journal) = sym (take-take n (k′ .used) j w) ∙ ap (take n) r ∙ take-take n (k′ .used) (k′ .journal) w in
+          let v : drop (k .used) (take n j) ≡ take (n - k .used) (entryText (entryTo ns c k)) = ap (drop (k .used)) y ∙ adds-cut k k′ (s .inside) a n l m in
+          let u = field-cut (entryTo ns c k) (n - k .used) (omega (arith, a .used, length-text (entryTo ns c k))) in
+          record {
+            calls = 0;
+            among = omega arith;
+            before = l;
+            most = most-none c cs k n m;
+            answer = cut-here k ts j n s l q (ap entryIn v ∙ u);
+            rest = replay-stands ns t₀ (kept (k .cells) j (k .used)) ts (moved k ts j s q) right;
+          }
+
+module _ (ns : List ℕ) (t : List ℤ) (j : List ℕ) (cs : List Call) (ft : Fit t) (fc : FitCalls cs) where
+  -- R544: cut at any byte
+  pub torn-calls : checkedOf ns (length t) ≡ C.Right → (n : ℕ) → n ≤ leftTo ns cs (kept t j 0) .used → Torn ns t cs (kept t j 0) n
+  torn-calls r n h = torn ns t r cs (kept t j 0) [] n fc (fresh ns t j ft) (omega arith) h

@@ -1,0 +1,80 @@
+-- R530 to R532, R540, R541 said plainly: fields in order, one behind the other, each a step that is right where it is taken; and where a journal
+-- is at fault. What Walks and Plays compute is exactly this.
+use mathlib.Core.Path.{_≡_}
+use mathlib.Core.List.{List, []}
+use Prim.Native.Nat.{ℕ, _+_, _-_, _<_, _≤_}
+use lib.IntN.{ℤ, pos}
+use lib.ListN.{length, getD}
+use Rattle.count.specs.Tally.{cellsBefore, cellsIn}
+use Rattle.entry.specs.declared.Entry.{Entry}
+use Rattle.entry.specs.declared.Entry.the-variants.{Set, Open, Release, Undo, Misformed}
+use Rattle.entry.specs.Field.{fieldAt}
+use Rattle.journal.specs.Layout.{startsOf}
+use Rattle.journal.specs.Model.{Call, Sets, Opens, Releases, Undoes}
+use Rattle.journal.specs.Entries.{markStep, nextAt}
+use Rattle.journal.specs.Walks.{Walked, walked}
+use Rattle.journal.specs.Plays.{Run, ran, playedBy}
+
+-- R502: cell c, counted from 1, of a group 1 to 60, and where it stands in the table (R501)
+pub record IsCell (ns : List ℕ) (g c : ℕ) : Type 0 where
+  pub low : 1 ≤ g
+  pub high : g ≤ 60
+  pub first : 1 ≤ c
+  pub last : c ≤ cellsIn ns g
+
+abbrev pub cellAt : List ℕ → ℕ → ℕ → ℕ
+cellAt ns g c = cellsBefore ns g + (c - 1)
+
+-- R512, R513, R514, R515: a call is accepted with so many savepoints open
+abbrev pub Accepted : List ℕ → ℕ → Call → Type 0
+Accepted ns d (Sets g c v) = IsCell ns g c
+Accepted ns d Opens = d < 16
+Accepted ns d (Releases k) = (1 ≤ k) × (k ≡ d)
+Accepted ns d (Undoes k) = (1 ≤ k) × (k ≤ d)
+
+-- R531: the call of an entry is accepted, and an open is numbered next
+abbrev pub RightEntry : List ℕ → ℕ → Entry → Type 0
+RightEntry ns d (Set g c old new) = Accepted ns d (Sets g c new)
+RightEntry ns d (Open k) = Accepted ns d Opens × (k ≡ d + 1)
+RightEntry ns d (Release k) = Accepted ns d (Releases k)
+RightEntry ns d (Undo k) = Accepted ns d (Undoes k)
+RightEntry ns d Misformed = ⊥
+
+-- R541: a set's old value is the cell's
+abbrev pub OldIs : List ℕ → Entry → List ℤ → Type 0
+OldIs ns (Set g c old new) t = getD t (cellAt ns g c) (pos 0) ≡ old
+OldIs ns (Open k) t = Unit {0}
+OldIs ns (Release k) t = Unit {0}
+OldIs ns (Undo k) t = Unit {0}
+OldIs ns Misformed t = Unit {0}
+
+-- steps from one state to another, each of them right
+pub data Goes (S : Type 0) (right : S → Type 0) (next : S → S) : S → S → Type 0 where
+  here : {x : S} → Goes S right next x x
+  on : {x y : S} → right x → Goes S right next (next x) y → Goes S right next x y
+
+-- ---- fields in order: a place, how many fields stand before it, and the savepoints open there, each by the number of fields before its own
+
+module _ (ns s : List ℕ) where
+  abbrev pub RightAt : Walked → Type 0
+  RightAt w = RightEntry ns (length (w .marks)) (fieldAt s (w .place))
+
+  abbrev pub behind : Walked → Walked
+  behind w = walked (nextAt s (w .place)) (w .count + 1) (markStep (fieldAt s (w .place)) (w .count) (w .marks))
+
+  -- the fields of s are in order from the first on up to there
+  abbrev pub InOrder : Walked → Type 0
+  InOrder w = Goes Walked RightAt behind (walked 0 0 []) w
+
+  -- ---- in a replay: the cells too, and each set finds its old value in its cell
+
+  abbrev pub PlaysAt : Run → Type 0
+  PlaysAt r = RightEntry ns (length (r .marks)) (fieldAt s (r .place)) × OldIs ns (fieldAt s (r .place)) (r .cells)
+
+  abbrev pub playedTo : Run → Run
+  playedTo r =
+      ran (nextAt s (r .place)) (r .count + 1) (markStep (fieldAt s (r .place)) (r .count) (r .marks))
+      (playedBy (startsOf ns) (fieldAt s (r .place)) s (r .count) (r .marks) (r .cells))
+
+  abbrev pub InReplay : List ℤ → Run → Type 0
+  InReplay t r = Goes Run PlaysAt playedTo (ran 0 0 [] t) r
