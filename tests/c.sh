@@ -32,7 +32,9 @@ set --
 for text in "$vectors"/*.sao; do
     set -- "$@" "${text%.sao}"
 done
-started "$work/main" answers "$vectors/writes.txt" "$@" >"$work/said"
+writes=$vectors/writes.txt
+own || [ -e "$writes" ] || writes=/dev/null # a folder of texts alone
+started "$work/main" answers "$writes" "$@" >"$work/said"
 counted 'every check of the program' [ "$?" = 0 ] || head -n 21 "$work/said"
 last=$(tail -n 1 "$work/said")
 echo "$name: $last"
