@@ -152,4 +152,4 @@ if own; then
         counted "damage with byte $byte" grep -q " $byte\$" "$work/damage"
     done
 fi
-finished 449
+finished 521
