@@ -13,16 +13,6 @@ use Rattle.base.specs.Every.{every, upFrom}
 use Rattle.base.proofs.Every.{every-between}
 use Rattle.base.proofs.Choice.{and-left, and-right, or-elim}
 
--- the single numbers of an arm
-pub single : (test : ℕ → Bool) (ks : List ℕ) (n : ℕ) → T (every test ks) → OneOf ks n → T (test n)
-single test [] n t h = absurd h
-single test (k ∷ []) n t h = subst (λ (m : ℕ). T (test m)) (sym h) (and-left (test k) true t)
-single test (k ∷ (j ∷ ks)) n t h =
-    ⊎-elim
-    (λ (e : n ≡ k). subst (λ (m : ℕ). T (test m)) (sym e) (and-left (test k) (every test (j ∷ ks)) t))
-    (λ r. single test (j ∷ ks) n (and-right (test k) (every test (j ∷ ks)) t) r)
-    h
-
 -- n is a single number of one of the arms, and of none
 abbrev pub anyHas : List (List ℕ) → ℕ → Bool
 anyHas [] n = false
@@ -36,7 +26,19 @@ none : (arms : List (List ℕ)) (n : ℕ) → None arms n → T (anyHas arms n) 
 none [] n o t = t
 none (ks ∷ arms) n o t = ⊎-elim (λ h. o .1 (hit ks n h)) (λ r. none arms n (o .0) r) (or-elim (hasKey ks n) (anyHas arms n) t)
 
--- a number between lo and lo + k that is no single number passes, where each between is a single number or passes
-pub between : (test : ℕ → Bool) (arms : List (List ℕ)) (lo k n : ℕ) → T (every (λ m. test m || anyHas arms m) (upFrom lo k)) → lo ≤ n → n < lo + k → None arms n → T (test n)
-between test arms lo k n t a b o =
-    ⊎-elim (λ h. h) (λ h. absurd (none arms n o h)) (or-elim (test n) (anyHas arms n) (every-between (λ m. test m || anyHas arms m) lo k t n a b))
+module _ (test : ℕ → Bool) where
+  -- the single numbers of an arm
+  pub single : (ks : List ℕ) (n : ℕ) → T (every test ks) → OneOf ks n → T (test n)
+  single [] n t h = absurd h
+  single (k ∷ []) n t h = subst (λ (m : ℕ). T (test m)) (sym h) (and-left (test k) true t)
+  single (k ∷ (j ∷ ks)) n t h =
+      ⊎-elim
+      (λ (e : n ≡ k). subst (λ (m : ℕ). T (test m)) (sym e) (and-left (test k) (every test (j ∷ ks)) t))
+      (λ r. single (j ∷ ks) n (and-right (test k) (every test (j ∷ ks)) t) r)
+      h
+
+  module _ (arms : List (List ℕ)) where
+    -- a number from lo on, below lo + k, that is no single number passes, where each of these is a single number or passes
+    pub between : (lo k n : ℕ) → T (every (λ m. test m || anyHas arms m) (upFrom lo k)) → lo ≤ n → n < lo + k → None arms n → T (test n)
+    between lo k n t a b o =
+        ⊎-elim (λ h. h) (λ h. absurd (none arms n o h)) (or-elim (test n) (anyHas arms n) (every-between (λ m. test m || anyHas arms m) lo k t n a b))

@@ -29,11 +29,13 @@ is-told false n t = by (isFrequency n) t
     by true u = absurd u
     by false u = refl
 
-pub single : (b : Bool) (ks : List ℕ) (n : ℕ) → T (every (is b) ks) → OneOf ks n → b ≡ isFrequency n
-single b ks n t h = is-told b n (Arm.single (is b) ks n t h)
+module _ (b : Bool) where
+  pub single : (ks : List ℕ) (n : ℕ) → T (every (is b) ks) → OneOf ks n → b ≡ isFrequency n
+  single ks n t h = is-told b n (Arm.single (is b) ks n t h)
 
-pub between : (b : Bool) (arms : List (List ℕ)) (lo k n : ℕ) → T (every (λ m. is b m || anyHas arms m) (upFrom lo k)) → lo ≤ n → n < lo + k → None arms n → b ≡ isFrequency n
-between b arms lo k n t low high o = is-told b n (Arm.between (is b) arms lo k n t low high o)
+  module _ (arms : List (List ℕ)) where
+    pub between : (lo k n : ℕ) → T (every (λ m. is b m || anyHas arms m) (upFrom lo k)) → lo ≤ n → n < lo + k → None arms n → b ≡ isFrequency n
+    between lo k n t low high o = is-told b n (Arm.between (is b) arms lo k n t low high o)
 
 -- no run goes on behind m
 ended : (rs : List Run) (m n : ℕ) → T (every (λ r. leb (r .last) m) rs) → m < n → InOne rs n → ⊥

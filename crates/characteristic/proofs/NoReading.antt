@@ -1,17 +1,16 @@
 -- R291, R295: the tests pass exactly where the statements hold.
 -- Assumes nothing.
 use mathlib.Core.Path.{_≡_, refl, ap}
-use mathlib.Core.Bool.{Bool, true, false, _&&_, _||_, false≢true}
+use mathlib.Core.Bool.{true, false, _&&_}
 use mathlib.Core.List.{List, [], _∷_}
 use mathlib.Core.Logic.{_⊎_, _↔_, inl, inr, ⊎-elim}
 use Prim.Native.Nat.{ℕ, _≤_}
-use native.Mathlib.Omega.{arith}
 use borrow.Author.Tests.{ne-eqb}
-use lib.Dec.{T, eqb, leb, leb→le, le→leb, eqb-refl, eqb→eq}
+use lib.Dec.{T, eqb, leb, leb→le, le→leb, eqb→eq}
 use lib.IntN.{ℤ, pos, negsuc}
 use Rattle.base.specs.Sign.{negative, sizeOf}
-use Rattle.base.proofs.Choice.{and-left, and-right, and-both, or-elim, or-left, or-right, true-T, T-true, not-T-false}
-use Rattle.characteristic.specs.NoReading.{Run, frequencies, InOne, Frequency, IsNoReading, inRuns, isFrequency, isNoReading}
+use Rattle.base.proofs.Choice.{and-left, and-right, and-both, or-elim, or-left, or-right}
+use Rattle.characteristic.specs.NoReading.{Run, frequencies, InOne, Frequency, noReading, unscaled, IsNoReading, inRuns, isFrequency, isNoReading}
 
 in-runs : (rs : List Run) (k : ℕ) → T (inRuns rs k) → InOne rs k
 in-runs [] k t = t
@@ -38,9 +37,9 @@ test-means : (k : ℕ) (z : ℤ) → T (isNoReading k z) → IsNoReading k z
 unfolding isNoReading
 test-means k (pos n) t =
     ⊎-elim
-    (λ h. inl (ap pos (eqb→eq n 9999000 h)))
-    (λ h. inr (ap pos (eqb→eq n 999900 (and-left (eqb n 999900) (isFrequency k) h)), frequency-exactly k .0 (and-right (eqb n 999900) (isFrequency k) h)))
-    (or-elim (eqb n 9999000) (eqb n 999900 && isFrequency k) t)
+    (λ h. inl (ap pos (eqb→eq n noReading h)))
+    (λ h. inr (ap pos (eqb→eq n unscaled (and-left (eqb n unscaled) (isFrequency k) h)), frequency-exactly k .0 (and-right (eqb n unscaled) (isFrequency k) h)))
+    (or-elim (eqb n noReading) (eqb n unscaled && isFrequency k) t)
 test-means k (negsuc n) t = absurd t
 
 means-test : (k : ℕ) (z : ℤ) → IsNoReading k z → T (isNoReading k z)
@@ -59,17 +58,17 @@ module _ (k : ℕ) (z : ℤ) where
   negative-value e = rw e
 
   module _ (e : negative z ≡ false) where
-    pub any-number : sizeOf z ≡ 9999000 → true ≡ isNoReading k z
+    pub any-number : sizeOf z ≡ noReading → true ≡ isNoReading k z
     unfolding isNoReading
     any-number s = rw (e, s)
 
-    pub by-number : sizeOf z ≡ 999900 → isFrequency k ≡ isNoReading k z
+    pub by-number : sizeOf z ≡ unscaled → isFrequency k ≡ isNoReading k z
     unfolding isNoReading
     by-number s = rw (e, s)
 
-    pub other-value : (sizeOf z ≡ 9999000 → ⊥) → (sizeOf z ≡ 999900 → ⊥) → false ≡ isNoReading k z
+    pub other-value : (sizeOf z ≡ noReading → ⊥) → (sizeOf z ≡ unscaled → ⊥) → false ≡ isNoReading k z
     unfolding isNoReading
-    other-value m n = rw (e, ne-eqb (sizeOf z) 9999000 m, ne-eqb (sizeOf z) 999900 n)
+    other-value m n = rw (e, ne-eqb (sizeOf z) noReading m, ne-eqb (sizeOf z) unscaled n)
 
 -- ---- R291: exactly 999,900: its neighbours and its negative are values of every characteristic, and it is one of number 26, a height
 

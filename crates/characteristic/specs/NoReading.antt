@@ -1,6 +1,6 @@
 -- R291, R295: which characteristics are frequencies, and which cell of which characteristic means that there is no reading.
 use mathlib.Core.Path.{_≡_}
-use mathlib.Core.Bool.{Bool, true, false, not, _&&_, _||_}
+use mathlib.Core.Bool.{Bool, false, not, _&&_, _||_}
 use mathlib.Core.List.{List, [], _∷_}
 use mathlib.Core.Logic.{_⊎_}
 use Prim.Native.Nat.{ℕ, _≤_}
@@ -32,9 +32,16 @@ InOne (r ∷ rs) k = ((r .first ≤ k) × (k ≤ r .last)) ⊎ InOne rs k
 abbrev pub Frequency : ℕ → Type 0
 Frequency k = InOne frequencies k
 
--- R291: 9,999,000 is no reading of any characteristic, 999,900 none of a frequency; all other cells are values
+-- R291: 9999.000 in thousandths, the mark of whatever was not scaled, and 999.900, that of a frequency
+abbrev pub noReading : ℕ
+noReading = 9999000
+
+abbrev pub unscaled : ℕ
+unscaled = 999900
+
+-- R291: the cell z of number k means that there is no reading; every other is a value
 abbrev pub IsNoReading : ℕ → ℤ → Type 0
-IsNoReading k z = (z ≡ pos 9999000) ⊎ ((z ≡ pos 999900) × Frequency k)
+IsNoReading k z = (z ≡ pos noReading) ⊎ ((z ≡ pos unscaled) × Frequency k)
 
 -- ---- the same as tests (proofs/NoReading.antt: they pass exactly where the above holds)
 
@@ -46,4 +53,4 @@ unfoldable pub isFrequency : ℕ → Bool
 isFrequency k = inRuns frequencies k
 
 unfoldable pub isNoReading : ℕ → ℤ → Bool
-isNoReading k z = not (negative z) && (eqb (sizeOf z) 9999000 || (eqb (sizeOf z) 999900 && isFrequency k))
+isNoReading k z = not (negative z) && (eqb (sizeOf z) noReading || (eqb (sizeOf z) unscaled && isFrequency k))

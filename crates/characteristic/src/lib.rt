@@ -2,7 +2,7 @@
 ghost use mathlib.Core.Path.{_≡_};
 ghost use Rattle.characteristic.specs.NoReading.{isFrequency, isNoReading};
 
-// R295: whether the characteristic of this number is a frequency. Numbers that follow one another are a range, as in the rule.
+// R295: whether the characteristic of this number is a frequency. The numbers stand as in the rule.
 pub fn is_frequency(number: usize) -> bool
     ensures { λ r. ⌜ r ≡ isFrequency number ⌝ }
 {

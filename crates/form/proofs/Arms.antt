@@ -17,11 +17,13 @@ use Rattle.form.specs.declared.GroupForm.the-variants.{NoGroup}
 use Rattle.form.specs.Table.{formOf}
 use Rattle.form.proofs.Table.{is, is-form, no-group}
 
-pub single : (f : GroupForm) (ks : List ℕ) (g : ℕ) → T (every (is f) ks) → OneOf ks g → f ≡ formOf g
-single f ks g t h = is-form f g (Arm.single (is f) ks g t h)
+module _ (f : GroupForm) where
+  pub single : (ks : List ℕ) (g : ℕ) → T (every (is f) ks) → OneOf ks g → f ≡ formOf g
+  single ks g t h = is-form f g (Arm.single (is f) ks g t h)
 
-pub between : (f : GroupForm) (arms : List (List ℕ)) (lo n g : ℕ) → T (every (λ k. is f k || anyHas arms k) (upFrom lo n)) → lo ≤ g → g < lo + n → None arms g → f ≡ formOf g
-between f arms lo n g t a b o = is-form f g (Arm.between (is f) arms lo n g t a b o)
+  module _ (arms : List (List ℕ)) where
+    pub between : (lo n g : ℕ) → T (every (λ k. is f k || anyHas arms k) (upFrom lo n)) → lo ≤ g → g < lo + n → None arms g → f ≡ formOf g
+    between lo n g t a b o = is-form f g (Arm.between (is f) arms lo n g t a b o)
 
 -- beyond the last group
 pub beyond : (g : ℕ) → 60 ≤ g → (g ≡ 60 → ⊥) → NoGroup ≡ formOf g
