@@ -78,7 +78,7 @@ enum seambeacon_reply {
 /* What is known of a characteristic. */
 enum seambeacon_kind {
     SEAMBEACON_VALUE = 0,
-    SEAMBEACON_NO_READING = 1,
+    SEAMBEACON_NO_READING = 1,   /* the cell is 9,999,000 or, of a frequency, 999,900 */
     SEAMBEACON_NOT_REPORTED = 2, /* the record has fewer characteristics */
     SEAMBEACON_REFUSED = 3       /* the reply says why */
 };
@@ -136,7 +136,7 @@ enum seambeacon_reply seambeacon_group_lines(const uint8_t *text, size_t text_le
 
 /* Asked: a characteristic, 1 to 49, of the record at a place.
    Answered: under reply 0 its kind, and in *value its value in thousandths, 0 for the other
-   kinds.
+   kinds. Frequencies are 1, 2, 4 to 10, 22, 23, 25, 27 to 31, 35, 36, 44, 46 and 48 (R295).
    A refusal (12, or the reply of reading group 4) has the kind SEAMBEACON_REFUSED. */
 enum seambeacon_reply seambeacon_characteristic(const uint8_t *text, size_t text_length, size_t at,
                                                 size_t number, enum seambeacon_kind *kind,

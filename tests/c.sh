@@ -32,12 +32,14 @@ set --
 for text in "$vectors"/*.sao; do
     set -- "$@" "${text%.sao}"
 done
-started "$work/main" answers "$vectors/writes.txt" "$@" >"$work/said"
+writes=$vectors/writes.txt
+own || [ -e "$writes" ] || writes=/dev/null # a folder of texts alone
+started "$work/main" answers "$writes" "$@" >"$work/said"
 counted 'every check of the program' [ "$?" = 0 ] || head -n 21 "$work/said"
 last=$(tail -n 1 "$work/said")
 echo "$name: $last"
 made=${last%% checks,*}
-! own || counted 'as many checks as there are' [ "${made:-0}" -ge 58619 ]
+! own || counted 'as many checks as there are' [ "${made:-0}" -ge 70797 ]
 
 counted 'the example' compiled examples/fof2.c "$work/fof2.o" -std=c99 && linked "$work/fof2" "$work/fof2.o"
 below_zero >"$work/below"

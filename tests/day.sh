@@ -1,7 +1,7 @@
 #!/bin/sh
 # The example day and its damaged copy: rewriting returns the day byte for byte, both are listed alike, and one byte that was replaced in a
 # trace is seen in the row of one group alone. Where that group stands, which line and element are refused and what foF2 was are cut out of the
-# text's fixed columns here (R41, R61, R140). Prints each case that fails, and how many passed.
+# text's fixed columns here (R41, R61, R140); one hour has no foF2 (R291). Prints each case that fails, and how many passed.
 set -u
 LC_ALL=C
 export LC_ALL
@@ -87,13 +87,28 @@ compared 'the listing of the day' "$work/want"
 cp "$work/damaged.list" "$work/got"
 compared 'the listing of the damaged day' "$work/want"
 
-# foF2 of each hour, the first eight columns of group 4, in thousandths
-sed -n 's/^[0-9]* [0-9]* 4 1 [0-9]* \(.\{8\}\).*$/\1/p' "$work/lines" | tr -d ' .' | sed 's/.*/char 1 0 & 0 0 0/' >"$work/want"
-counted 'foF2 of 24 hours in the text' [ "$(wc -l <"$work/want")" -eq 24 ]
-for which in day damaged; do
-    grep '^char 1 ' "$work/$which.dump" >"$work/got"
-    compared "foF2 of each hour, $which" "$work/want"
+# A characteristic of each hour, from its eight columns in the first line of group 4: in thousandths, or no reading (R291)
+told() { # NUMBER: 1 to 15, the number of a frequency
+    sed -n 's/^[0-9]* [0-9]* 4 1 [0-9]* //p' "$work/lines" | cut -c $((8 * $1 - 7))-$((8 * $1)) | tr -d ' .' |
+        sed "s/^\(999900\|9999000\)\$/char $1 1 0 0 0 0/; t; s/.*/char $1 0 & 0 0 0/"
+}
+
+# foF2 and MUF(D); at 03:00 both fields are 999.900
+for number in 1 4; do
+    told "$number" >"$work/want"
+    counted "characteristic $number of 24 hours in the text" [ "$(wc -l <"$work/want")" -eq 24 ]
+    sed -n 4p "$work/want" >"$work/fourth"
+    counted "characteristic $number has no reading at 03:00, and at no other hour" \
+        [ "$(cat "$work/fourth")$(grep -c ' 1 0 0 0 0$' "$work/want")" = "char $number 1 0 0 0 01" ]
+    for which in day damaged; do
+        grep "^char $number " "$work/$which.dump" >"$work/got"
+        compared "characteristic $number of each hour, $which" "$work/want"
+    done
 done
+# the cells are those of the fields (R296)
+grep '^group 4 ' "$work/day.dump" | sed -n 4p | cut -d ' ' -f 8-11 >"$work/got"
+echo '999900 9999000 9999000 999900' >"$work/want"
+compared 'the cells of 03:00' "$work/want"
 
 # ---- the damage: one byte of group 7 of the 13:00 record, and in what is dumped the row of that group
 
@@ -145,6 +160,9 @@ sound() { # CONDITION: it holds of each record; cell[g, i] is the i-th cell of g
                     return 0
             return n[10] > 1
         }
+        function peak() { # foF2, or what the profile has for it where it was not scaled
+            return cell[4, 1] == 999900 ? cell[52, n[52]] : cell[4, 1]
+        }
         function below(g, h, i) {
             for (i = 1; i <= n[g]; i++)
                 if (cell[g, i] >= cell[h, i])
@@ -158,10 +176,10 @@ counted 'trace frequencies rise' sound 'rising(11)'
 counted 'virtual heights rise' sound 'rising(7)'
 counted 'true heights rise' sound 'rising(8)'
 counted 'true heights are below the virtual ones' sound 'below(8, 7)'
-counted 'the trace ends less than 0.1 MHz below foF2' sound 'cell[11, n[11]] < cell[4, 1] && cell[11, n[11]] > cell[4, 1] - 101'
+counted 'the trace ends less than 0.1 MHz below foF2' sound 'cell[11, n[11]] < peak() && cell[11, n[11]] > peak() - 101'
 counted 'amplitudes from 0 to 99' sound 'within(9, 0, 99)'
 counted 'a Doppler number of the table for each echo, 9 for each interpolated point' sound 'told()'
 counted 'profile heights rise' sound 'rising(51)'
 counted 'plasma frequencies rise' sound 'rising(52)'
-counted 'the profile ends at foF2 and the peak height' sound 'cell[52, n[52]] == cell[4, 1] && cell[51, n[51]] == cell[4, 32]'
-finished 28
+counted 'the profile ends at foF2 and the peak height' sound 'cell[52, n[52]] == peak() && cell[51, n[51]] == cell[4, 32]'
+finished 34

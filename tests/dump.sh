@@ -82,6 +82,16 @@ row 'S with 113 blanks behind its last field (R412)' 'group 4 8 1 0 295 418'
 { head -c 303 examples/s.sao && printf ' \n'; } >"$work/text"
 row 'S with a blank for its last carriage return (R414)' 'group 4 8 1 0 295 305'
 
+# R295: of the numbers that docs/FORMAT.md lists as frequencies, and marks as such in its table, and of no others, 999.900 is no reading
+if own; then
+    ./run dump <"$vectors/01001.sao" | awk '$1 == "char" && $3 == 1 { print $2 }' >"$work/got"
+    sed -n '/^## The 49/,/^## Data/s/^| \([0-9]*\) |.*| f |$/\1/p' docs/FORMAT.md >"$work/want"
+    compared 'the frequencies that FORMAT.md marks' "$work/want"
+    sed -n 's/^- \*\*R295\*\* [^0-9]*\([^.]*\), and no others.*/\1/p' docs/FORMAT.md | sed 's/ and /, /' | tr ',' '\n' |
+        awk 'NF == 3 { for (k = $1; k <= $3; k++) print k } NF == 1' | tr -d ' ' >"$work/want"
+    compared 'the frequencies that FORMAT.md lists' "$work/want"
+fi
+
 # Five replacements for each text: the record and the group by their rows in the dump, up to four bytes of its lines, none of them a line
 # feed. One line each: text, number of the row, record's place, group, and then places and bytes.
 for text in "$vectors"/*.sao; do
@@ -152,4 +162,4 @@ if own; then
         counted "damage with byte $byte" grep -q " $byte\$" "$work/damage"
     done
 fi
-finished 449
+finished 523

@@ -136,4 +136,4 @@ repeated 212 "$work/wide" >"$work/want"
 sized 'the output' "$work/want" 116388
 rewritten 'output of 116,388 bytes' "$work/text" "$work/want"
 
-finished 261
+finished 285

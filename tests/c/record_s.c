@@ -9,7 +9,7 @@
 
 static const struct seambeacon_beside none;
 static const uint16_t no_counts[80];
-static const int64_t position[] = {1200, 67000, -23500, 143000}, height[] = {7250}, unscaled[] = {9999000};
+static const int64_t position[] = {1200, 67000, -23500, 143000}, height[] = {7250}, unscaled[] = {9999000}, mark[] = {999900};
 static const int64_t date[] = {'A', 'A', '2', '0', '0', '6', '2', '6', '5', '0', '9', '2', '2', '1', '4', '2', '5', '3', '0'};
 static const int64_t sixteen[] = {1000, 2000, 3000, 4000, 5000, 6000, 7000, 8000, 9000, 10000, 11000, 12000, 13000, 14000, 15000, 16000};
 static const int64_t all_of_s[] = {1200, 67000, -23500, 143000, 'A', 'A', '2', '0', '0', '6', '2', '6',
@@ -98,6 +98,7 @@ static const struct {
     {&comma, 0, 3, date, 19, {274, 21}, "AA20062650922142530\r\n"},
     {&no_return, 0, 3, date, 19, {274, 21}, "AA20062650922142530\r\n"},
     {&no_reading, 0, 4, unscaled, 1, {295, 10}, "9999.000\r\n"},
+    {&not_scaled, 0, 4, mark, 1, {295, 10}, " 999.900\r\n"},
     {&second_bad, 0, 4, height, 1, {295, 10}, "   7.250\r\n"},
 };
 
@@ -227,7 +228,9 @@ static const struct {
     {&wrong_day, 0, 1, SEAMBEACON_VALUE, 7250, 0, {0}},
     {&no_reading, 0, 1, SEAMBEACON_NO_READING, 0, 0, {0}},
     {&below_zero, 0, 1, SEAMBEACON_VALUE, -500, 0, {0}},
-    {&scaled, 0, 1, SEAMBEACON_VALUE, 999900, 0, {0}},
+    {&not_scaled, 0, 1, SEAMBEACON_NO_READING, 0, 0, {0}},
+    {&above_that, 0, 1, SEAMBEACON_VALUE, 999901, 0, {0}},
+    {&minus_that, 0, 1, SEAMBEACON_VALUE, -999900, 0, {0}},
     {&two_lines, 0, 16, SEAMBEACON_VALUE, 16000, 0, {0}},
     {&two_lines, 0, 17, SEAMBEACON_NOT_REPORTED, 0, 0, {0}},
 };

@@ -31,8 +31,12 @@ fn fof2_of_each_hour() {
         assert_eq!(want.len(), 24);
         let places = places(&text);
         assert_eq!((places.len(), places[24]), (25, text.len()));
-        for (&at, value) in places.iter().zip(want) {
-            assert_eq!(seambeacon::characteristic(&text, at, 1), Ok(Characteristic::Value(value)));
+        // R291: at 03:00 it was not scaled
+        assert_eq!(want.iter().filter(|&&cell| cell == 999_900).count(), 1);
+        assert_eq!(want[3], 999_900);
+        for (&at, cell) in places.iter().zip(want) {
+            let fof2 = if cell == 999_900 { Characteristic::NoReading } else { Characteristic::Value(cell) };
+            assert_eq!(seambeacon::characteristic(&text, at, 1), Ok(fof2));
             assert_eq!(seambeacon::characteristic(&text, at, 41), Ok(Characteristic::NotReported));
         }
         // no F1 layer by night

@@ -108,14 +108,17 @@ fn characteristics() {
     assert_eq!(seambeacon::characteristic(&text, 610, 50), Err(Refusal::NoSuchNumber));
 }
 
-/// R291: 9999.000 is no reading, 999.900 a value.
+/// R291: 9999.000 is no reading, nor is 999.900, since characteristic 1 is a frequency.
 #[test]
 fn no_reading() {
     for (field, want) in [
         ("9999.000", Characteristic::NoReading),
         ("9998.999", Characteristic::Value(9_998_999)),
         ("9999.001", Characteristic::Value(9_999_001)),
-        (" 999.900", Characteristic::Value(999_900)),
+        (" 999.900", Characteristic::NoReading),
+        (" 999.899", Characteristic::Value(999_899)),
+        (" 999.901", Characteristic::Value(999_901)),
+        ("-999.900", Characteristic::Value(-999_900)),
         ("   -.500", Characteristic::Value(-500)),
     ] {
         let text = replaced(&s(), "   7.250", field);

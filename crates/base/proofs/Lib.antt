@@ -1,5 +1,6 @@
 -- The laws of base's definitions, a file to a subject.
 pub mod Agree
+pub mod Arms
 pub mod Ascii
 pub mod Choice
 pub mod Columns

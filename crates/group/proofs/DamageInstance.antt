@@ -27,7 +27,8 @@ use Rattle.reading.specs.Read
 use Rattle.reading.specs.Read.{Cells, readForm, readGroup, readingOf, tableBy}
 use Rattle.reading.proofs.FourS.{four-reads}
 use Rattle.group.specs.declared.Characteristic.the-variants.{Value, Refused}
-use Rattle.group.specs.Characteristics.{isNoReading, reported, characteristicAt}
+use Rattle.characteristic.specs.NoReading
+use Rattle.group.specs.Characteristics.{reported, characteristicAt}
 use Rattle.group.specs.Damage.{linesStart, SameReading, Damaged, Confined}
 use Rattle.group.specs.Text.{readAt}
 use Rattle.place.proofs.Placed.{counts-at}
@@ -127,7 +128,7 @@ first-characteristic =
     sym (four-refused commaS 0 1 (omega arith) (omega arith) (sym (first-refused table (omega arith) .reply)))
 
 pub second-characteristic : characteristicAt commaS 305 1 ≡ Value (pos 7250)
-unfolding characteristicAt isNoReading
+unfolding characteristicAt NoReading.isNoReading
 second-characteristic =
     ap (λ p. characteristicAt commaS p 1) comma-second
     ∙ comma-confined .characteristics 1 (λ e f. omega arith) 1

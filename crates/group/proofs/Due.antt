@@ -2,7 +2,7 @@
 -- reply is due (specs/Due.antt). So group 4 never lacks room in 49 cells.
 -- Assumes nothing.
 use mathlib.Core.Path.{_≡_, refl, sym, _∙_, ap, subst}
-use mathlib.Core.Bool.{Bool, true, false, cond}
+use mathlib.Core.Bool.{Bool, true, false, cond, false≢true}
 use mathlib.Core.List.{List}
 use mathlib.Core.Logic.{_↔_, inl, inr, ⊎-elim}
 use Prim.Native.Nat.{ℕ, _-_, _<_, _≤_}
@@ -43,7 +43,10 @@ use Rattle.group.specs.declared.Characteristic.{Characteristic}
 use Rattle.group.specs.declared.Characteristic.the-variants.{Value, NoReading, NotReported, Refused}
 use Rattle.group.specs.Held.{foundIn, foundAt, startBy, partStart, partAt}
 use Rattle.group.specs.Text.{readAt}
-use Rattle.group.specs.Characteristics.{isNoReading, toldBy, reported, characteristicAt}
+use Rattle.characteristic.specs.NoReading.{isNoReading}
+use Rattle.characteristic.proofs.NoReading.{no-reading-exactly}
+use Rattle.base.proofs.Choice.{true-T, T-true}
+use Rattle.group.specs.Characteristics.{toldBy, reported, characteristicAt}
 use Rattle.form.specs.Table.{NoSuchGroup}
 use Rattle.place.specs.Parts.{IsPart}
 use Rattle.place.proofs.Indexed.{index-is}
@@ -52,7 +55,7 @@ use Rattle.base.proofs.Taken.{take-none}
 use Rattle.group.specs.Due.{PlacingDue, RefusedFor, no-group, broken-rule, unplaced, FoundDue, GivenPart, PartDue, ReadingDue, Due, NoNumber, FourReads, HasCell, CharacteristicDue}
 use Rattle.group.proofs.Holding.{given-part, missing-span}
 use Rattle.group.proofs.Texts.{read-missing, read-given}
-use Rattle.group.proofs.Reported.{no-reading-cell, no-reading-is, is-reading, number-none, number-inside}
+use Rattle.group.proofs.Reported.{is-no-reading, is-reading, number-none, number-inside}
 use Rattle.group.proofs.Rooms.{form-four, cells-four, room-four, same-room}
 
 -- ---- the lines of a group
@@ -219,7 +222,7 @@ module _ (s : List ℕ) (at k : ℕ) where
   read-size : (cs : List ℤ) → FourReads s at k (done cs) → length cs ≡ countOf (countsAt s at) 4
   read-size cs d = four-size s at 49 cs (d .four 49 (omega arith))
 
-  to-cell : (z : ℤ) → HasCell s at k z → characteristicAt s at k ≡ toldBy z
+  to-cell : (z : ℤ) → HasCell s at k z → characteristicAt s at k ≡ toldBy k z
   to-cell z d =
       let t : leb k (length (d .cs)) ≡ true = le-leb k (length (d .cs)) (omega (arith, read-size (d .cs) (d .reads), d .within)) in
       to-reported (done (d .cs)) (d .reads) ∙ rw (t, d .cell) refl
@@ -233,21 +236,17 @@ module _ (s : List ℕ) (at k : ℕ) where
   told-given NotReported d =
       let t : leb k (length (d .cs)) ≡ false = lt-leb k (length (d .cs)) (omega (arith, read-size (d .cs) (d .reads), d .above)) in
       to-reported (done (d .cs)) (d .reads) ∙ rw t refl
-  told-given NoReading d = to-cell (d .z) (d .cell) ∙ ap toldBy (d .none) ∙ no-reading-cell
-  told-given (Value z) d = to-cell z (d .cell) ∙ is-reading z (d .reading)
+  told-given NoReading d = to-cell (d .z) (d .cell) ∙ is-no-reading k (d .z) (d .none)
+  told-given (Value z) d = to-cell z (d .cell) ∙ is-reading k z (d .reading)
 
-  from-cell : (z : ℤ) (t : Bool) → HasCell s at k z → isNoReading z ≡ t → CharacteristicDue s at k (cond t NoReading (Value z))
-  from-cell z true h e = record { z = z; cell = h; none = no-reading-is z e }
+  from-cell : (z : ℤ) (t : Bool) → HasCell s at k z → isNoReading k z ≡ t → CharacteristicDue s at k (cond t NoReading (Value z))
+  from-cell z true h e = record { z = z; cell = h; none = no-reading-exactly k z .0 (true-T (isNoReading k z) e) }
   from-cell z false h e =
-      record {
-        cell = h;
-        reading = λ u. let w : toldBy z ≡ NoReading = ap toldBy u ∙ no-reading-cell in let v : Value z ≡ NoReading = sym (rw e refl)
-            ∙ w in let y : _≡_ {A = ℕ} 0 1 = cc in omega arith;
-      }
+      record { cell = h; reading = λ u. false≢true (sym e ∙ T-true (isNoReading k z) (no-reading-exactly k z .1 u)) }
 
-  from-count : (cs : List ℤ) (t : Bool) → FourReads s at k (done cs) → leb k (length cs) ≡ t → CharacteristicDue s at k (cond t (toldBy (getD cs (k - 1) (pos 0))) NotReported)
+  from-count : (cs : List ℤ) (t : Bool) → FourReads s at k (done cs) → leb k (length cs) ≡ t → CharacteristicDue s at k (cond t (toldBy k (getD cs (k - 1) (pos 0))) NotReported)
   from-count cs true h e =
-      from-cell (getD cs (k - 1) (pos 0)) (isNoReading (getD cs (k - 1) (pos 0))) record { cs = cs; reads = h; within = omega (arith, leb-true k (length cs) e, read-size cs h); cell = refl } refl
+      from-cell (getD cs (k - 1) (pos 0)) (isNoReading k (getD cs (k - 1) (pos 0))) record { cs = cs; reads = h; within = omega (arith, leb-true k (length cs) e, read-size cs h); cell = refl } refl
   from-count cs false h e = record { cs = cs; reads = h; above = omega (arith, leb-false k (length cs) e, read-size cs h) }
 
   from-four : (c : Cells) → FourReads s at k c → CharacteristicDue s at k (reported k c)

@@ -1,56 +1,34 @@
 -- A characteristic: by its number, by what group 4 reads as, and by its cell.
 -- Assumes nothing.
 use mathlib.Core.Path.{_≡_, refl, sym, _∙_, ap}
-use mathlib.Core.Bool.{Bool, true, false, cond, _&&_, false≢true}
+use mathlib.Core.Bool.{true, false, _&&_}
 use mathlib.Core.List.{List}
 use Prim.Native.Nat.{ℕ, _+_, _-_, _<_, _≤_}
 use native.Mathlib.Omega.{arith}
-use borrow.Author.Tests.{le-leb, lt-leb, leb-true, eqb-true}
-use lib.Dec.{eqb, leb, leb→le}
-use lib.IntN.{ℤ, pos, negsuc}
+use borrow.Author.Tests.{le-leb, lt-leb, leb-true}
+use lib.Dec.{leb, leb→le}
+use lib.IntN.{ℤ, pos}
 use lib.ListN.{length, drop, getD, List·getD-append}
 use Rattle.base.specs.Pieces.{done, bad}
-use Rattle.base.specs.Sign.{negative, sizeOf}
-use Rattle.base.proofs.Choice.{and-left, and-right, and-first, and-second, not-T-false}
+use Rattle.base.proofs.Choice.{and-left, and-right, and-first, and-second, T-true, not-T-false}
+use Rattle.characteristic.specs.NoReading.{IsNoReading, isNoReading}
+use Rattle.characteristic.proofs.NoReading.{no-reading-exactly}
 use Rattle.reply.specs.declared.Refusal.{Refusal}
 use Rattle.reply.specs.declared.Refusal.the-variants.{NoSuchNumber}
 use Rattle.reply.specs.declared.Answer.the-variants as A
 use Rattle.group.specs.declared.Characteristic.the-variants.{Value, NoReading, NotReported, Refused}
 use Rattle.reading.specs.Read.{Cells, readingOf, tableBy}
 use Rattle.group.specs.Text.{readAt}
-use Rattle.group.specs.Characteristics.{noReading, isNoReading, toldBy, reported, characteristicAt}
+use Rattle.group.specs.Characteristics.{toldBy, reported, characteristicAt}
 
 -- ---- no reading
 
-pub negative-reads : (z : ℤ) → negative z ≡ true → isNoReading z ≡ false
-unfolding isNoReading
-negative-reads z e = rw e
+module _ (k : ℕ) (z : ℤ) where
+  pub is-no-reading : IsNoReading k z → toldBy k z ≡ NoReading
+  is-no-reading h = rw (T-true (isNoReading k z) (no-reading-exactly k z .1 h))
 
-pub natural-reads : (z : ℤ) → negative z ≡ false → isNoReading z ≡ eqb (sizeOf z) noReading
-unfolding isNoReading
-natural-reads z e = rw e
-
--- R291: 999,900 is a value
-pub unscaled-value : toldBy (pos 999900) ≡ Value (pos 999900)
-unfolding isNoReading
-unscaled-value = refl
-
-pub no-reading-cell : toldBy (pos noReading) ≡ NoReading
-unfolding isNoReading
-no-reading-cell = refl
-
--- R291: no reading is one cell, and no other
-pub no-reading-is : (z : ℤ) → isNoReading z ≡ true → z ≡ pos noReading
-unfolding isNoReading
-no-reading-is (pos n) e = ap pos (eqb-true n noReading e)
-no-reading-is (negsuc n) e = absurd (false≢true e)
-
-pub is-reading : (z : ℤ) → (z ≡ pos noReading → ⊥) → toldBy z ≡ Value z
-is-reading z n = by (isNoReading z) refl
-  where
-    by : (t : Bool) → isNoReading z ≡ t → cond t NoReading (Value z) ≡ Value z
-    by true u = absurd (n (no-reading-is z u))
-    by false u = refl
+  pub is-reading : (IsNoReading k z → ⊥) → toldBy k z ≡ Value z
+  is-reading n = rw (not-T-false (isNoReading k z) (λ t. n (no-reading-exactly k z .0 t)))
 
 -- ---- by the number
 
@@ -93,12 +71,12 @@ module _ (s : List ℕ) (at k : ℕ) where
                 sym (number-inside u ∙ rw t)
             by (bad q) u v = let z : _≡_ {A = ℕ} 0 1 = cc in absurd (omega arith)
 
-        pub four-told : k ≤ n → (new old : List ℤ) → new ≡ tableBy (readAt s at 4 49) old → toldBy (getD new (k - 1) (pos 0)) ≡ characteristicAt s at k
+        pub four-told : k ≤ n → (new old : List ℤ) → new ≡ tableBy (readAt s at 4 49) old → toldBy k (getD new (k - 1) (pos 0)) ≡ characteristicAt s at k
         four-told h new old t = by (readAt s at 4 49) refl e t
           where
-            by : (g : Cells) → readAt s at 4 49 ≡ g → A.Done n ≡ readingOf g → new ≡ tableBy g old → toldBy (getD new (k - 1) (pos 0)) ≡ characteristicAt s at k
+            by : (g : Cells) → readAt s at 4 49 ≡ g → A.Done n ≡ readingOf g → new ≡ tableBy g old → toldBy k (getD new (k - 1) (pos 0)) ≡ characteristicAt s at k
             by (done cs) u v w =
                 let m : n ≡ length cs = cc in
                 let t : leb k (length cs) ≡ true = le-leb k (length cs) (omega arith) in
-                ap (λ l. toldBy (getD l (k - 1) (pos 0))) w ∙ ap toldBy (List·getD-append cs (drop (0 + length cs) old) (pos 0) (k - 1) (omega arith)) ∙ sym (number-inside u ∙ rw t)
+                ap (λ l. toldBy k (getD l (k - 1) (pos 0))) w ∙ ap (toldBy k) (List·getD-append cs (drop (0 + length cs) old) (pos 0) (k - 1) (omega arith)) ∙ sym (number-inside u ∙ rw t)
             by (bad q) u v w = let z : _≡_ {A = ℕ} 0 1 = cc in absurd (omega arith)

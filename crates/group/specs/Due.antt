@@ -18,7 +18,7 @@ use Rattle.reply.specs.declared.Refusal.{Refusal}
 use Rattle.reply.specs.declared.Refusal.the-variants.{NoSuchNumber, BrokenRule}
 use Rattle.reading.specs.Read.{Cells}
 use Rattle.reading.specs.Due as Reading
-use Rattle.group.specs.Characteristics.{IsNoReading}
+use Rattle.characteristic.specs.NoReading.{IsNoReading}
 use Rattle.reply.specs.declared.Checked.{Checked}
 use Rattle.reply.specs.declared.Checked.the-variants as C
 use Rattle.group.specs.declared.Characteristic.{Characteristic}
@@ -110,15 +110,15 @@ module _ (s : List ℕ) (at k : ℕ) where
     pub within : k ≤ countOf (countsAt s at) 4
     pub cell : getD cs (k - 1) (pos 0) ≡ z
 
-  -- R293: the value is the cell; R291: one cell is no reading
+  -- R293: the value is the cell; R291: unless the cell is no reading of this number
   pub record HasValue (z : ℤ) : Type 0 where
     pub cell : HasCell z
-    pub reading : IsNoReading z → ⊥
+    pub reading : IsNoReading k z → ⊥
 
   pub record HasNoReading : Type 0 where
     pub z : ℤ
     pub cell : HasCell z
-    pub none : IsNoReading z
+    pub none : IsNoReading k z
 
   abbrev pub CharacteristicDue : Characteristic → Type 0
   CharacteristicDue (Refused r) = NoNumber r ⊎ FourReads (bad r)

@@ -8,7 +8,7 @@ ghost use mathlib.Core.Bool.{_&&_};
 ghost use lib.Dec.{leb};
 ghost use lib.ListN.{length, replicate};
 ghost use Rattle.reading.specs.Read.{readingOf, tableBy};
-ghost use Rattle.group.specs.Characteristics.{isNoReading, toldBy, characteristicAt};
+ghost use Rattle.group.specs.Characteristics.{toldBy, characteristicAt};
 ghost use Rattle.group.specs.Numbered.{characteristicReply};
 ghost use Rattle.group.specs.Held.{foundAt, countsHeld, partStart, partEnd, partAt, moved};
 ghost use Rattle.group.specs.Text.{readAt};
@@ -124,23 +124,14 @@ pub enum Characteristic {
     Refused(Refusal),
 }
 
-fn is_no_reading(v: i64) -> bool
-    ensures { λ r. ⌜ r ≡ isNoReading v ⌝ }
+// R291, R293: what is told of a characteristic, by its number and its cell.
+fn told_by(number: usize, cell: i64) -> Characteristic
+    ensures { λ r. ⌜ r ≡ toldBy number cell ⌝ }
 {
-    let m = number::signed(v);
-    if m.neg {
-        return false;
-    }
-    m.size == 9999000
-}
-
-fn told_by(v: i64) -> Characteristic
-    ensures { λ r. ⌜ r ≡ toldBy v ⌝ }
-{
-    if is_no_reading(v) {
+    if characteristic::is_no_reading(number, cell) {
         return Characteristic::NoReading;
     }
-    Characteristic::Value(v)
+    Characteristic::Value(cell)
 }
 
 // R212: whether a characteristic has this number.
@@ -164,7 +155,7 @@ pub fn characteristic_at(text: &[u8], at: usize, number: usize) -> Characteristi
             if n < number {
                 return Characteristic::NotReported;
             }
-            told_by(table[number - 1])
+            told_by(number, table[number - 1])
         }
     }
 }

@@ -65,7 +65,7 @@ pub fn group_lines<'a>(text: &'a [u8], at: usize, group: usize) -> &'a [u8]
     group::lines_part(text, at, group)
 }
 
-// R290 to R294. Asked: a characteristic, 1 to 49, of the record at a place.
+// R290 to R296. Asked: a characteristic, 1 to 49, of the record at a place.
 // Answered: its value in thousandths, or that there is no reading, or that it is not reported.
 // A refusal has its reply: 12, or that of reading group 4.
 pub fn characteristic(text: &[u8], at: usize, number: usize) -> Characteristic

@@ -133,7 +133,7 @@ pub extern "C" fn seambeacon_group_lines(
     tell(reply::of_checked(found), beside)
 }
 
-// R290 to R294, R361. Asked: a characteristic, 1 to 49, of the record at a place.
+// R290 to R296, R361. Asked: a characteristic, 1 to 49, of the record at a place.
 // Answered: its kind, and its value in thousandths or 0.
 // A refusal is a kind too, and has its reply: 12, or that of reading group 4.
 #[no_mangle]

@@ -53,7 +53,7 @@ returns-4 c =
     let o = at-if1 .before .before .before in
     let w = within at-if1 in
     c .told-by .ensures
-    ∙ ap toldBy (toZ-ofZ {w = w64} (sfits-of {w = w64} (c .before .told-by-arg .given)))
+    ∙ ap (toldBy (o .args .number)) (toZ-ofZ {w = w64} (sfits-of {w = w64} (c .before .told-by-arg .given)))
     ∙ four-told (o .args .text .now) (o .args .at) (o .args .number) (w .0) (w .1)
     (sym (c .before .before .before .before .n .given .1) ∙ c .before .before .before .before .before .before .before .read-group .ensures .0)
     (c .before .before .if2 .left) _ _ (c .before .before .before .before .before .before .before .read-group .ensures .1)

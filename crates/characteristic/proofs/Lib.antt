@@ -1,0 +1,3 @@
+-- The laws of characteristic's definitions.
+pub mod NoReading
+pub mod Arms

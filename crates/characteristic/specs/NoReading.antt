@@ -1,0 +1,56 @@
+-- R291, R295: which characteristics are frequencies, and which cell of which characteristic means that there is no reading.
+use mathlib.Core.Path.{_≡_}
+use mathlib.Core.Bool.{Bool, false, not, _&&_, _||_}
+use mathlib.Core.List.{List, [], _∷_}
+use mathlib.Core.Logic.{_⊎_}
+use Prim.Native.Nat.{ℕ, _≤_}
+use lib.Dec.{eqb, leb}
+use lib.IntN.{ℤ, pos}
+use Rattle.base.specs.Sign.{negative, sizeOf}
+
+-- numbers that follow one another, from the first to the last; a single number is its own first and last
+pub record Run : Type 0 where
+  pub first : ℕ
+  pub last : ℕ
+
+abbrev run : ℕ → ℕ → Run
+run first last = record { first = first; last = last }
+
+abbrev only : ℕ → Run
+only k = run k k
+
+-- R295: 1, 2, 4 to 10, 22, 23, 25, 27 to 31, 35, 36, 44, 46 and 48
+abbrev pub frequencies : List Run
+frequencies =
+    only 1 ∷ only 2 ∷ run 4 10 ∷ only 22 ∷ only 23 ∷ only 25 ∷ run 27 31 ∷ only 35 ∷ only 36 ∷ only 44 ∷ only 46 ∷ only 48 ∷ []
+
+-- k is in one of the runs
+abbrev pub InOne : List Run → ℕ → Type 0
+InOne [] k = ⊥
+InOne (r ∷ rs) k = ((r .first ≤ k) × (k ≤ r .last)) ⊎ InOne rs k
+
+abbrev pub Frequency : ℕ → Type 0
+Frequency k = InOne frequencies k
+
+-- R291: 9999.000 in thousandths, the mark of whatever was not scaled, and 999.900, that of a frequency
+abbrev pub noReading : ℕ
+noReading = 9999000
+
+abbrev pub unscaled : ℕ
+unscaled = 999900
+
+-- R291: the cell z of number k means that there is no reading; every other is a value
+abbrev pub IsNoReading : ℕ → ℤ → Type 0
+IsNoReading k z = (z ≡ pos noReading) ⊎ ((z ≡ pos unscaled) × Frequency k)
+
+-- ---- the same as tests (proofs/NoReading.antt: they pass exactly where the above holds)
+
+abbrev pub inRuns : List Run → ℕ → Bool
+inRuns [] k = false
+inRuns (r ∷ rs) k = (leb (r .first) k && leb k (r .last)) || inRuns rs k
+
+unfoldable pub isFrequency : ℕ → Bool
+isFrequency k = inRuns frequencies k
+
+unfoldable pub isNoReading : ℕ → ℤ → Bool
+isNoReading k z = not (negative z) && (eqb (sizeOf z) noReading || (eqb (sizeOf z) unscaled && isFrequency k))
