@@ -4,7 +4,7 @@
 pub mod Numbers
 pub mod Grammar
 pub mod Months
-pub mod Table
+pub mod Twelfths
 pub mod Days
 pub mod Counting
 pub mod Blame
