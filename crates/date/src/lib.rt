@@ -86,9 +86,9 @@ fn leap(year: usize) -> bool
     year % 400 == 0
 }
 
-// R145, in a year that is no leap year: the days of the months from January to `month`, none for 0. A year whose February
-// had 30 days would have 367, and then these twelfths, rounded down, would reach the end of each month; the two days that
-// February lacks are taken off from its own end on.
+// R145, in a common year, which has no leap day: the days of the months from January to `month`, none for 0. If February had
+// 30 days, a year would have 367, and a twelfth of that for each month and five twelfths more, rounded down, would be the days
+// to the month's end. The two days that February lacks are taken off from its end on.
 fn common_days_to(month: usize) -> usize
     requires { ⌜ month ≤ 12 ⌝ }
     ensures { λ r. ⌜ r ≡ daysTo false month ⌝ }
@@ -97,7 +97,7 @@ fn common_days_to(month: usize) -> usize
     if 2 <= month { days - 2 } else { days }
 }
 
-// The same in any year: the leap day is February's.
+// The same in any year: a leap day is February's last.
 fn days_to(in_leap: bool, month: usize) -> usize
     requires { ⌜ month ≤ 12 ⌝ }
     ensures { λ r. ⌜ r ≡ daysTo «in_leap» month ⌝ }

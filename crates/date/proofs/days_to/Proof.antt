@@ -1,9 +1,9 @@
--- The days of a year that is no leap year, and the leap day behind them once February has ended.
+-- The days of a common year, and one more from February's end on.
 use mathlib.Core.Path.{sym, _∙_}
+use mathlib.Core.Bool.{false}
 use native.Mathlib.Omega.{arith}
 use borrow.Author.Needs.{needs}
 use Rattle.date.proofs.Months.{days-bound, leap-day, no-leap-day}
-use mathlib.Core.Bool.{false}
 use Rattle.date.proofs.days_to.Statement.{statement}
 use Rattle.date.proofs.days_to.Tie as tie
 
