@@ -1,7 +1,7 @@
 #!/bin/sh
 # The library from C: include/seambeacon.h compiles alone as C and as C++, and the program of tests/c asks every question on record S, S twice
-# and damaged texts, every line of tests/vectors/writes.txt and every answer of the texts of tests/vectors (or of the folder that is named), and
-# compares all lent memory. The program counts its checks; so many are demanded that none of its parts can be left out. examples/fof2.c prints
+# and damaged texts, every month and day of seven years, every line of tests/vectors/writes.txt and every answer of the texts of tests/vectors
+# (or of the folder that is named), and compares all lent memory. The program counts its checks; so many are demanded that none of its parts can be left out. examples/fof2.c prints
 # a value below zero too.
 set -u
 cd "$(dirname "$0")/.." || exit 2
