@@ -86,9 +86,9 @@ fn leap(year: usize) -> bool
     year % 400 == 0
 }
 
-// R145, in a common year, which has no leap day: the days of the months from January to `month`, none for 0. If February had
-// 30 days, a year would have 367, and a twelfth of that for each month and five twelfths more, rounded down, would be the days
-// to the month's end. The two days that February lacks are taken off from its end on.
+// R145, in a common year, which has no leap day: the days of the months from January to `month`, none for 0. If
+// February had 30 days, a year would have 367, and a twelfth of that for each month and five twelfths more, rounded
+// down, would be the days to the month's end. The two days that February lacks are taken off from its end on.
 fn common_days_to(month: usize) -> usize
     requires { ⌜ month ≤ 12 ⌝ }
     ensures { λ r. ⌜ r ≡ daysTo false month ⌝ }
