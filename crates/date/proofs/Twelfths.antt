@@ -1,5 +1,5 @@
 -- The code's formula for the days to the end of a month in a common year. One computed test shows that they are the rule's days: R145 names
--- the months of 30 days one by one, so whatever proves it has to look at each month.
+-- the months of 30 days one by one, and the test looks at each month.
 -- Assumes nothing.
 use mathlib.Core.Path.{_≡_}
 use mathlib.Core.Bool.{Bool, false, cond}
