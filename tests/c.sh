@@ -1,8 +1,8 @@
 #!/bin/sh
 # The library from C: include/seambeacon.h compiles alone as C and as C++, and the program of tests/c asks every question on record S, S twice
-# and damaged texts, every line of tests/vectors/writes.txt and every answer of the texts of tests/vectors (or of the folder that is named), and
-# compares all lent memory. The program counts its checks; so many are demanded that none of its parts can be left out. examples/fof2.c prints
-# a value below zero too.
+# and damaged texts, every month and day of seven years, every line of tests/vectors/writes.txt and every answer of the texts of tests/vectors
+# (or of the folder that is named), and compares all lent memory. The program counts its checks; so many are demanded that none of its parts can
+# be left out. examples/fof2.c prints a value below zero too.
 set -u
 cd "$(dirname "$0")/.." || exit 2
 name=c
@@ -39,7 +39,7 @@ counted 'every check of the program' [ "$?" = 0 ] || head -n 21 "$work/said"
 last=$(tail -n 1 "$work/said")
 echo "$name: $last"
 made=${last%% checks,*}
-! own || counted 'as many checks as there are' [ "${made:-0}" -ge 70797 ]
+! own || counted 'as many checks as there are' [ "${made:-0}" -ge 102045 ]
 
 counted 'the example' compiled examples/fof2.c "$work/fof2.o" -std=c99 && linked "$work/fof2" "$work/fof2.o"
 below_zero >"$work/below"

@@ -1,7 +1,8 @@
-/* main answers WRITES TEXT..: checks the library in C on record S, on a file of write questions, and on texts with their answers.
+/* main answers WRITES TEXT..: checks the library in C on record S, on dates, on a file of write questions, and on texts with their answers.
    main journal SCRIPTS: checks the journal's functions on a file of scripts.
    Ends with the number of checks, and with exit 1 where one failed. */
 #include "checks.h"
+#include "dates.h"
 #include "journal.h"
 #include "record_s.h"
 #include "vectors.h"
@@ -9,6 +10,7 @@
 static void check_answers(char **words, int count)
 {
     check_record_s();
+    check_dates();
     check_writes(words[0]);
     for (int i = 1; i < count; i++)
         check_text(words[i]);

@@ -1,5 +1,6 @@
 // The date in group 3: digit fields, the calendar, and a date type whose constructor checks. specs/ says what is right.
 ghost use mathlib.Core.Path.{_≡_};
+ghost use mathlib.Core.Bool.{false};
 ghost use Prim.Native.Nat.{_≤_};
 ghost use Rattle.date.specs.Digits.{readDigits, fieldDigits};
 ghost use Rattle.date.specs.Calendar.{isLeap, daysTo, nameDay};
@@ -73,9 +74,6 @@ impl DigitField {
     }
 }
 
-// R145, in a year that is no leap year: one constant table (R440).
-const MONTHS: [usize; 12] = [31, 28, 31, 30, 31, 30, 31, 31, 30, 31, 30, 31];
-
 fn leap(year: usize) -> bool
     ensures { λ r. ⌜ r ≡ isLeap year ⌝ }
 {
@@ -88,18 +86,23 @@ fn leap(year: usize) -> bool
     year % 400 == 0
 }
 
-// The days of the months from January to `month`, none for 0. Only this function knows the table of months.
+// R145, in a common year, which has no leap day: the days of the months from January to `month`, none for 0. If
+// February had 30 days, a year would have 367, and a twelfth of that for each month and five twelfths more, rounded
+// down, would be the days to the month's end. The two days that February lacks are taken off from its end on.
+fn common_days_to(month: usize) -> usize
+    requires { ⌜ month ≤ 12 ⌝ }
+    ensures { λ r. ⌜ r ≡ daysTo false month ⌝ }
+{
+    let days = (367 * month + 5) / 12;
+    if 2 <= month { days - 2 } else { days }
+}
+
+// The same in any year: a leap day is February's last.
 fn days_to(in_leap: bool, month: usize) -> usize
     requires { ⌜ month ≤ 12 ⌝ }
     ensures { λ r. ⌜ r ≡ daysTo «in_leap» month ⌝ }
 {
-    let lengths = MONTHS;
-    let mut days: usize = 0;
-    let mut m: usize = 0;
-    while m < month {
-        days += lengths[m];
-        m += 1;
-    }
+    let days = common_days_to(month);
     if month < 2 {
         return days;
     }
