@@ -9,7 +9,12 @@ use Rattle.reading.proofs.is_field.Statement.{statement}
 use Rattle.reading.proofs.is_field.Tie as tie
 
 returns : tie.Need-returns
-returns c = c .all-printable .ensures ∙ (short-field _ _ (c .before .before .before .pre .0 (c .before .if1 .taken)) (c .before .before .before .pre .1) ∙ ap (λ t. formed (fieldOf _ (asField _ t _))) (sym (c .before .if1 .taken)))
+returns c =
+    let o = c .before .before .before in
+    let f = o .args .form in
+    let bytes = o .args .bytes .now in
+    c .all-printable .ensures ∙ short-field f bytes (o .pre .0 (c .before .if1 .taken)) (o .pre .1)
+    ∙ ap (λ short. formed (fieldOf f (asField f short bytes))) (sym (c .before .if1 .taken))
 
 returns-2 : tie.Need-returns-2
 returns-2 c =

@@ -57,6 +57,7 @@ read-form-spec =
     (λ c κs. search needs)
     (λ c. search needs)
     (λ c. search needs)
+    (λ c κs. search needs)
     fill-lines-requires
     returns-2
     (λ c. search needs)
