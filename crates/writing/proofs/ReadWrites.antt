@@ -55,7 +55,7 @@ use Rattle.writing.proofs.Written.{all-groups}
 module _ {ns : List ℕ} {g : ℕ} {y : List ℕ} {room : ℕ} {c : List ℤ} (r : GroupReads ns g y room c) where
   pub reads-cells : length c ≡ cellsIn ns g
   unfolding Tally.cellsIn
-  reads-cells = rw (r .has) (group-size (r .form) (countOf ns g) y c (r .lines))
+  reads-cells = rw (r .has) (group-size (r .form) (mayBeShort g) (countOf ns g) y c (r .lines))
 
   reads-fit : groupFit ns g c ≡ All
   reads-fit = rw (r .has) (group-fit (r .form) (mayBeShort g) g (countOf ns g) y c (r .lines))
