@@ -2,9 +2,9 @@
 -- test and in plain words.
 -- Assumes nothing.
 use mathlib.Core.Path.{_≡_, refl, sym, _∙_, ap}
-use mathlib.Core.Bool.{Bool, true, false, cond, _&&_, false≢true}
+use mathlib.Core.Bool.{Bool, true, false, cond, _&&_}
 use mathlib.Core.List.{List, [], _∷_, append-nil}
-use mathlib.Core.Logic.{_↔_}
+use mathlib.Core.Logic.{_↔_, _⊎_}
 use Prim.Native.Nat.{ℕ, zero, suc, _+_, _-_, _<_, _≤_}
 use native.Mathlib.Omega.{arith}
 use native.Mathlib.Nat.{sub-zero}
@@ -19,14 +19,12 @@ use Rattle.base.proofs.Taken.{drop-none, take-none}
 use Rattle.base.proofs.Choice.{cond-elim, and-first, and-second, true-T, T-true}
 use Rattle.base.proofs.Every.{every-at, at-every}
 use Rattle.form.specs.declared.Form.{Form}
-use Rattle.form.specs.declared.Form.the-variants.{F7, A120, A1, F8, I2, I3, I1, E11, E20, E8}
-use Rattle.form.specs.Table
+use Rattle.form.specs.declared.Form.the-variants.{A120, A1}
 use Rattle.form.specs.Table.{rowOf}
-use Rattle.field.specs.Read
 use Rattle.field.specs.Read.{fieldOf, formed}
-use Rattle.field.specs.declared.Value.the-variants.{Letters, Misformed}
-use Rattle.reading.specs.Blanks.{blank, mayBeShort, shortest, filledTo, isRight, asField, Fits}
+use Rattle.reading.specs.Blanks.{blank, shortest, filledTo, isRight, asField, Fits}
 use Rattle.reading.specs.Values.{RightContent}
+use Rattle.reading.proofs.Letters.{letters-formed}
 
 -- ---- filling
 
@@ -99,92 +97,70 @@ filled-getD n (x ∷ s) (suc i) = rw (filled-cons n x s) (filled-getD (n - 1) s 
 
 -- ---- the least length
 
-pub shortest-most : (f : Form) (columns : ℕ) → shortest f columns ≤ columns
-shortest-most f columns = cond-elim (λ n. n ≤ columns) (mayBeShort f) (λ e. omega arith) (λ e. omega arith)
+pub shortest-most : (short : Bool) (columns : ℕ) → shortest short columns ≤ columns
+shortest-most short columns = cond-elim (λ n. n ≤ columns) short (λ e. omega arith) (λ e. omega arith)
 
 -- ---- a field, filled
 
-not-short : {A : Type 0} → false ≡ true → A
-not-short e = absurd (false≢true e)
+-- of letters, blanks that are added print too
+pub short-field : (f : Form) (s : List ℕ) → (f ≡ A120) ⊎ (f ≡ A1) → length s ≤ rowOf f .width → every printable s ≡ formed (fieldOf f (asField f true s))
+short-field f s h w =
+    sym (filled-printable (rowOf f .width) s) ∙ letters-formed f (filledTo (rowOf f .width) s) h (filled-length (rowOf f .width) s w)
 
--- a form whose lines may be short is of letters only
-pub short-field : (f : Form) (s : List ℕ) → mayBeShort f ≡ true → length s ≤ rowOf f .width → every printable s ≡ formed (fieldOf f (asField f s))
-unfolding Read.fieldOf Table.rowOf Table.formEntry
-short-field A120 s e h = sym (filled-printable 120 s) ∙ rw (eq-eqb (length (filledTo 120 s)) 120 (filled-length 120 s h)) (test (every printable (filledTo 120 s)))
-  where
-    test : (t : Bool) → t ≡ formed (cond t Letters Misformed)
-    test true = refl
-    test false = refl
-short-field F7 s e h = not-short e
-short-field A1 s e h = not-short e
-short-field F8 s e h = not-short e
-short-field I2 s e h = not-short e
-short-field I3 s e h = not-short e
-short-field I1 s e h = not-short e
-short-field E11 s e h = not-short e
-short-field E20 s e h = not-short e
-short-field E8 s e h = not-short e
+-- where lines may not be short, nothing is filled
+pub full-field : (f : Form) (s : List ℕ) → Fits f false (length s) → filledTo (rowOf f .width) s ≡ s
+full-field f s h = filled-enough (rowOf f .width) s (h .low)
 
--- the others are not filled
-pub full-field : (f : Form) (s : List ℕ) → mayBeShort f ≡ false → Fits f (length s) → filledTo (rowOf f .width) s ≡ s
-full-field f s e h = filled-enough (rowOf f .width) s (rw e at (h .low))
-
-pub as-whole : (f : Form) (s : List ℕ) → mayBeShort f ≡ false → asField f s ≡ s
-as-whole f s e = rw e refl
-
-pub as-filled : (f : Form) (s : List ℕ) → Fits f (length s) → asField f s ≡ filledTo (rowOf f .width) s
-as-filled f s h = by (mayBeShort f) refl
-  where
-    by : (t : Bool) → mayBeShort f ≡ t → asField f s ≡ filledTo (rowOf f .width) s
-    by true e = rw e refl
-    by false e = as-whole f s e ∙ sym (full-field f s e h)
+pub as-filled : (f : Form) (short : Bool) (s : List ℕ) → Fits f short (length s) → asField f short s ≡ filledTo (rowOf f .width) s
+as-filled f true s h = refl
+as-filled f false s h = sym (full-field f s h)
 
 -- ---- a content that is right
 
-module _ (f : Form) (columns : ℕ) (s : List ℕ) where
-  pub right-short : length s < shortest f columns → isRight f columns s ≡ false
+module _ (short : Bool) (columns : ℕ) (s : List ℕ) where
+  pub right-short : length s < shortest short columns → isRight short columns s ≡ false
   unfolding isRight
-  right-short h = rw (lt-leb (shortest f columns) (length s) h)
+  right-short h = rw (lt-leb (shortest short columns) (length s) h)
 
-  module _ (a : shortest f columns ≤ length s) where
-    pub right-long : 120 < length s → isRight f columns s ≡ false
+  module _ (a : shortest short columns ≤ length s) where
+    pub right-long : 120 < length s → isRight short columns s ≡ false
     unfolding isRight
-    right-long h = rw (le-leb (shortest f columns) (length s) a, lt-leb (length s) 120 h)
+    right-long h = rw (le-leb (shortest short columns) (length s) a, lt-leb (length s) 120 h)
 
-    pub right-rest : length s ≤ 120 → isRight f columns s ≡ every blank (drop columns s)
+    pub right-rest : length s ≤ 120 → isRight short columns s ≡ every blank (drop columns s)
     unfolding isRight
-    right-rest h = rw (le-leb (shortest f columns) (length s) a, le-leb (length s) 120 h)
+    right-rest h = rw (le-leb (shortest short columns) (length s) a, le-leb (length s) 120 h)
 
-    pub right-exact : length s ≤ 120 → length s ≤ columns → isRight f columns s ≡ true
+    pub right-exact : length s ≤ 120 → length s ≤ columns → isRight short columns s ≡ true
     right-exact h k = right-rest h ∙ rw (drop-of-length-le s k)
 
-    pub right-blanks : length s ≤ 120 → isRight f columns s ≡ every blank (part columns (length s) s)
+    pub right-blanks : length s ≤ 120 → isRight short columns s ≡ every blank (part columns (length s) s)
     right-blanks h = right-rest h ∙ rw (take-all (length s - columns) (drop columns s) (omega (arith, length-drop columns s)))
 
   -- what it says
-  pub right-low : isRight f columns s ≡ true → shortest f columns ≤ length s
+  pub right-low : isRight short columns s ≡ true → shortest short columns ≤ length s
   unfolding isRight
-  right-low e = leb-true (shortest f columns) (length s) (and-first (leb (shortest f columns) (length s)) (leb (length s) 120 && every blank (drop columns s)) e)
+  right-low e = leb-true (shortest short columns) (length s) (and-first (leb (shortest short columns) (length s)) (leb (length s) 120 && every blank (drop columns s)) e)
 
-  pub right-high : isRight f columns s ≡ true → length s ≤ 120
+  pub right-high : isRight short columns s ≡ true → length s ≤ 120
   unfolding isRight
   right-high e =
-      leb-true (length s) 120 (and-first (leb (length s) 120) (every blank (drop columns s)) (and-second (leb (shortest f columns) (length s)) (leb (length s) 120 && every blank (drop columns s)) e))
+      leb-true (length s) 120 (and-first (leb (length s) 120) (every blank (drop columns s)) (and-second (leb (shortest short columns) (length s)) (leb (length s) 120 && every blank (drop columns s)) e))
 
-  right-after : isRight f columns s ≡ true → T (every blank (drop columns s))
+  right-after : isRight short columns s ≡ true → T (every blank (drop columns s))
   right-after e = true-T (every blank (drop columns s)) (sym (right-rest (right-low e) (right-high e)) ∙ e)
 
   -- in plain words, both ways
-  pub right-plain : isRight f columns s ≡ true ↔ RightContent f columns s
+  pub right-plain : isRight short columns s ≡ true ↔ RightContent short columns s
   right-plain = (λ e. record { least = right-low e; most = right-high e; blanks = there e }, back)
     where
-      there : isRight f columns s ≡ true → (i : ℕ) → columns ≤ i → i < length s → getD s i 0 ≡ 32
+      there : isRight short columns s ≡ true → (i : ℕ) → columns ≤ i → i < length s → getD s i 0 ≡ 32
       there e i a b =
           let n : columns + (i - columns) ≡ i = omega arith in
           let t = every-at blank 0 (drop columns s) (right-after e) (i - columns) (omega (arith, length-drop columns s)) in
           ap (λ k. getD s k 0) (sym n) ∙ sym (getD-drop columns s (i - columns) 0) ∙ eqb→eq (getD (drop columns s) (i - columns) 0) 32 t
 
-      back : RightContent f columns s → isRight f columns s ≡ true
+      back : RightContent short columns s → isRight short columns s ≡ true
       back r =
           right-rest (r .least) (r .most)
           ∙ T-true (every blank (drop columns s)) (at-every blank 0 (drop columns s) (λ k h.

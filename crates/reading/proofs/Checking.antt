@@ -1,7 +1,7 @@
 -- The first pass: its state as it comes to a line and to a field of the line; a line more, a field more, and where it stops.
 -- Assumes nothing.
 use mathlib.Core.Path.{_≡_, refl, sym, _∙_, ap}
-use mathlib.Core.Bool.{true, false}
+use mathlib.Core.Bool.{Bool, true, false}
 use mathlib.Core.List.{List, []}
 use Prim.Native.Nat.{ℕ, suc, _+_, _-_, _*_, _<_, _≤_, min}
 use native.Mathlib.Nat.{add-mul, one-mul, mul-le-mul, le-mul-of-pos-right, zero-mul, sub-zero}
@@ -47,16 +47,16 @@ stuck (bad q) h r e = e
 
 -- ---- the lines of a plan
 
-module _ (f : Form) (s : List ℕ) (p n : ℕ) where
+module _ (f : Form) (short : Bool) (s : List ℕ) (p n : ℕ) where
   pub lines-more : (j k at end : ℕ) → end ≡ at + reach (drop at s) 1
-      → readLinesOf f (planFrom p n j (suc k)) (drop at s) ≡ both (readLine f (lineAt p n j) (part at end s)) (readLinesOf f (planFrom p n (j + 1) k) (drop end s))
+      → readLinesOf f short (planFrom p n j (suc k)) (drop at s) ≡ both (readLine f short (lineAt p n j) (part at end s)) (readLinesOf f short (planFrom p n (j + 1) k) (drop end s))
   unfolding readLinesOf planFrom Pieces.gather Every.upFrom
   lines-more j k at end e =
       let r : end - at ≡ reach (drop at s) 1 = omega arith in
       let t : drop end s ≡ drop (reach (drop at s) 1) (drop at s) = ap (λ m. drop m s) e ∙ sym (drop-drop (reach (drop at s) 1) at s) in
       rw (r, t, add-one j)
 
-  pub lines-none : (j at : ℕ) → readLinesOf f (planFrom p n j 0) (drop at s) ≡ done []
+  pub lines-none : (j at : ℕ) → readLinesOf f short (planFrom p n j 0) (drop at s) ≡ done []
   unfolding readLinesOf planFrom Pieces.gather Every.upFrom
   lines-none j at = refl
 
@@ -120,8 +120,8 @@ module _ (f : Form) (count : ℕ) (s : List ℕ) {width perLine many left at j :
         narrow : width ≤ 120
         narrow = omega (arith, b .wide, width-few f)
 
-    pub seek-small : (m : ℕ) → m ≡ shortest f (k * width) → at + m ≤ length s + 120 * 120
-    seek-small m e = omega (arith, shortest-most f (k * width), columns-small, b .inside)
+    pub seek-small : (short : Bool) (m : ℕ) → m ≡ shortest short (k * width) → at + m ≤ length s + 120 * 120
+    seek-small short m e = omega (arith, shortest-most short (k * width), columns-small, b .inside)
 
     pub end-range : (at ≤ end) × (end ≤ length s)
     end-range = (omega arith, omega (arith, reach-le (drop at s) 1, length-drop at s, b .inside))
@@ -138,22 +138,22 @@ module _ (f : Form) (count : ℕ) (s : List ℕ) {width perLine many left at j :
           inside = end-range .1;
         }
 
-    module _ (h : j < many) where
+    module _ (short : Bool) (h : j < many) where
       others : Cells
-      others = readLinesOf f (planFrom (p f count) (n f count) (j + 1) (many - (j + 1))) (drop end s)
+      others = readLinesOf f short (planFrom (p f count) (n f count) (j + 1) (many - (j + 1))) (drop end s)
 
-      pub line-more : readLinesOf f (planFrom (p f count) (n f count) j (many - j)) (drop at s) ≡ both (readLine f lineHere (part at end s))
-          (readLinesOf f (planFrom (p f count) (n f count) (j + 1) (many - (j + 1))) (drop end s))
+      pub line-more : readLinesOf f short (planFrom (p f count) (n f count) j (many - j)) (drop at s) ≡ both (readLine f short lineHere (part at end s))
+          (readLinesOf f short (planFrom (p f count) (n f count) (j + 1) (many - (j + 1))) (drop end s))
       line-more =
           let m : many - j ≡ suc (many - (j + 1)) = omega arith in
-          rw m (lines-more f s (p f count) (n f count) j (many - (j + 1)) at end w)
+          rw m (lines-more f short s (p f count) (n f count) j (many - (j + 1)) at end w)
 
 -- ---- checking: the verdict on what is left is the verdict on all
 
-pub record Checking (f : Form) (count : ℕ) (s : List ℕ) (width perLine many left at element j : ℕ) : Type 0 where
+pub record Checking (f : Form) (short : Bool) (count : ℕ) (s : List ℕ) (width perLine many left at element j : ℕ) : Type 0 where
   pub walk : Walking f count s width perLine many left at j
   pub first : element ≡ j * rowOf f .«per_line» + 1
-  pub same : verdictOf (readLinesOf f (planFrom (rowOf f .«per_line») (elementsOf f count) j (many - j)) (drop at s)) ≡ verdictOf (readLines f count s)
+  pub same : verdictOf (readLinesOf f short (planFrom (rowOf f .«per_line») (elementsOf f count) j (many - j)) (drop at s)) ≡ verdictOf (readLines f short count s)
 
 -- the fields of a line from field i on
 pub record Fielding (f : Form) (l : Line) (text : List ℕ) (at i from : ℕ) : Type 0 where
@@ -161,57 +161,57 @@ pub record Fielding (f : Form) (l : Line) (text : List ℕ) (at i from : ℕ) : 
   pub within : i ≤ l .many
   pub same : verdictOf (readFields f (restOf l i) (drop (i * rowOf f .width) text)) ≡ verdictOf (readFields f l text)
 
-pub checking-start : (f : Form) (count : ℕ) (s : List ℕ) (width perLine many left : ℕ) → Walking f count s width perLine many left 0 0 → Checking f count s width perLine many left 0 1 0
+pub checking-start : (f : Form) (short : Bool) (count : ℕ) (s : List ℕ) (width perLine many left : ℕ) → Walking f count s width perLine many left 0 0 → Checking f short count s width perLine many left 0 1 0
 unfolding readLines planOf
-checking-start f count s width perLine many left b =
+checking-start f short count s width perLine many left b =
     record { walk = b; first = omega (arith, zero-mul (rowOf f .«per_line»)); same = rw (sub-zero many, b .lines, drop-none s) refl }
 
-pub checking-end : (f : Form) (count : ℕ) (s : List ℕ) {width perLine many left at element j : ℕ} → Checking f count s width perLine many left at element j → many ≤ j
-    → C.Right ≡ verdictOf (readLines f count s)
-checking-end f count s {many = many} {at = at} {j = j} b h =
+pub checking-end : (f : Form) (short : Bool) (count : ℕ) (s : List ℕ) {width perLine many left at element j : ℕ} → Checking f short count s width perLine many left at element j → many ≤ j
+    → C.Right ≡ verdictOf (readLines f short count s)
+checking-end f short count s {many = many} {at = at} {j = j} b h =
     let z : many - j ≡ 0 = omega arith in
-    sym (ap verdictOf (lines-none f s (rowOf f .«per_line») (elementsOf f count) j at)) ∙ (rw z at (b .same))
+    sym (ap verdictOf (lines-none f short s (rowOf f .«per_line») (elementsOf f count) j at)) ∙ (rw z at (b .same))
 
-module _ (f : Form) (count : ℕ) (s : List ℕ) {width perLine many left at element j : ℕ} (b : Checking f count s width perLine many left at element j) (h : j < many) (k end : ℕ)
+module _ (f : Form) (short : Bool) (count : ℕ) (s : List ℕ) {width perLine many left at element j : ℕ} (b : Checking f short count s width perLine many left at element j) (h : j < many) (k end : ℕ)
     (q : k ≡ min perLine left) (w : end ≡ at + reach (drop at s) 1) where
   abbrev l : Line
   l = lineAt (rowOf f .«per_line») (elementsOf f count) j
 
-  more : verdictOf (both (readLine f l (part at end s)) (readLinesOf f (planFrom (rowOf f .«per_line») (elementsOf f count) (j + 1) (many - (j + 1))) (drop end s))) ≡ verdictOf (readLines f count s)
-  more = sym (ap verdictOf (line-more f count s (b .walk) k end q w h)) ∙ b .same
+  more : verdictOf (both (readLine f short l (part at end s)) (readLinesOf f short (planFrom (rowOf f .«per_line») (elementsOf f count) (j + 1) (many - (j + 1))) (drop end s))) ≡ verdictOf (readLines f short count s)
+  more = sym (ap verdictOf (line-more f count s (b .walk) k end q w short h)) ∙ b .same
 
-  bad-line : (r : Refusal) → verdictOf (readLine f l (part at end s)) ≡ C.Refused r → C.Refused r ≡ verdictOf (readLines f count s)
-  bad-line r e = sym (stuck (readLine f l (part at end s)) (readLinesOf f (planFrom (rowOf f .«per_line») (elementsOf f count) (j + 1) (many - (j + 1))) (drop end s)) r e) ∙ more
+  bad-line : (r : Refusal) → verdictOf (readLine f short l (part at end s)) ≡ C.Refused r → C.Refused r ≡ verdictOf (readLines f short count s)
+  bad-line r e = sym (stuck (readLine f short l (part at end s)) (readLinesOf f short (planFrom (rowOf f .«per_line») (elementsOf f count) (j + 1) (many - (j + 1))) (drop end s)) r e) ∙ more
 
-  pub wrong-line : rightContent f (k * width) (part at end s) ≡ NoReturn → C.Refused (BadLine (j + 1)) ≡ verdictOf (readLines f count s)
-  wrong-line e = bad-line (BadLine (j + 1)) (ap verdictOf (line-wrong f l (part at end s) (rw (columns-here f count s (b .walk) k end q w) at e)))
+  pub wrong-line : rightContent short (k * width) (part at end s) ≡ NoReturn → C.Refused (BadLine (j + 1)) ≡ verdictOf (readLines f short count s)
+  wrong-line e = bad-line (BadLine (j + 1)) (ap verdictOf (line-wrong f short l (part at end s) (rw (columns-here f count s (b .walk) k end q w) at e)))
 
-  module _ (m : ℕ) (e : rightContent f (k * width) (part at end s) ≡ Length m) where
-    right : rightContent f (columnsOf f l) (part at end s) ≡ Length m
+  module _ (m : ℕ) (e : rightContent short (k * width) (part at end s) ≡ Length m) where
+    right : rightContent short (columnsOf f l) (part at end s) ≡ Length m
     right = rw (columns-here f count s (b .walk) k end q w) at e
 
     text : List ℕ
     text = lineText f l s at end m
 
     pub content-inside : at + m + 2 ≤ length s
-    content-inside = omega (arith, line-ends f l s at end m (end-range f count s (b .walk) k end q w .1) right, end-range f count s (b .walk) k end q w .1)
+    content-inside = omega (arith, line-ends f short l s at end m (end-range f count s (b .walk) k end q w .1) right, end-range f count s (b .walk) k end q w .1)
 
     pub fielding-start : Fielding f l (lineText f l s at end m) at 0 at
     fielding-start = record { place = omega (arith, zero-mul (rowOf f .width)); within = omega arith; same = ap verdictOf (fields-start f l (lineText f l s at end m)) }
 
     module _ {i from : ℕ} (g : Fielding f l (lineText f l s at end m) at i from) where
       -- all fields are clean: the next line
-      pub checking-next : k ≤ i → Checking f count s width perLine many (left - k) end (element + perLine) (j + 1)
+      pub checking-next : k ≤ i → Checking f short count s width perLine many (left - k) end (element + perLine) (j + 1)
       checking-next d =
           record {
             walk = walking-next f count s (b .walk) k end q w h;
             first = omega (arith, b .first, b .walk .per, next-first f count s (b .walk));
-            same = sym (past (readLine f l (part at end s)) (readLinesOf f (planFrom (rowOf f .«per_line») (elementsOf f count) (j + 1) (many - (j + 1))) (drop end s)) clean) ∙ more;
+            same = sym (past (readLine f short l (part at end s)) (readLinesOf f short (planFrom (rowOf f .«per_line») (elementsOf f count) (j + 1) (many - (j + 1))) (drop end s)) clean) ∙ more;
           }
         where
-          clean : verdictOf (readLine f l (part at end s)) ≡ C.Right
+          clean : verdictOf (readLine f short l (part at end s)) ≡ C.Right
           clean =
-              ap verdictOf (line-right f l (part at end s) m right)
+              ap verdictOf (line-right f short l (part at end s) m right)
               ∙ sym (g .same)
               ∙ ap verdictOf (fields-none f l (lineText f l s at end m) i (drop (i * rowOf f .width) (lineText f l s at end m)) (omega (arith, many-here f count s (b .walk) k end q w)))
 
@@ -221,42 +221,42 @@ module _ (f : Form) (count : ℕ) (s : List ℕ) {width perLine many left at ele
           few-passed : i ≤ 120
           few-passed = omega (arith, g .within, row-fits f .few)
 
-      module _ (to : ℕ) (c : i < k) (t : to ≡ min (from + width) (at + m)) where
+      module _ (begin to : ℕ) (c : i < k) (o : begin ≡ min from (at + m)) (t : to ≡ min (from + width) (at + m)) where
         inner : i < l .many
         inner = omega (arith, many-here f count s (b .walk) k end q w)
 
         to-is : to ≡ min (from + rowOf f .width) (at + m)
         to-is = t ∙ rw (b .walk .wide)
 
-        pub field-range : (from ≤ to) × (to ≤ length s) × Fits f (to - from)
-        field-range = piece-range f l s at end m (end-range f count s (b .walk) k end q w .1) right (few-here f count s (b .walk) k end q w) i from to inner (g .place) to-is
+        pub field-range : (begin ≤ to) × (to ≤ length s) × Fits f short (to - begin)
+        field-range = piece-range f short l s at end m (end-range f count s (b .walk) k end q w .1) right i from begin to inner (g .place) o to-is
 
-        field-is : filledTo (rowOf f .width) (part from to s) ≡ take (rowOf f .width) (drop (i * rowOf f .width) (lineText f l s at end m))
-        field-is = piece f l s at end m (end-range f count s (b .walk) k end q w .1) right (few-here f count s (b .walk) k end q w) i from to inner (g .place) to-is
+        field-is : filledTo (rowOf f .width) (part begin to s) ≡ take (rowOf f .width) (drop (i * rowOf f .width) (lineText f l s at end m))
+        field-is = piece f short l s at end m (end-range f count s (b .walk) k end q w .1) right i from begin to inner (g .place) o to-is
 
         field-more : verdictOf
-            (both (readField f (l .number) (l .first + i) (filledTo (rowOf f .width) (part from to s)))
+            (both (readField f (l .number) (l .first + i) (filledTo (rowOf f .width) (part begin to s)))
             (readFields f (restOf l (i + 1)) (drop ((i + 1) * rowOf f .width) (lineText f l s at end m)))) ≡ verdictOf (readFields f l (lineText f l s at end m))
         field-more =
             ap (λ x. verdictOf
             (both (readField f (l .number) (l .first + i) x) (readFields f (restOf l (i + 1)) (drop ((i + 1) * rowOf f .width) (lineText f l s at end m))))) field-is
             ∙ sym (ap verdictOf (fields-more f l (lineText f l s at end m) i inner)) ∙ g .same
 
-        pub fielding-next : formed (fieldOf f (filledTo (rowOf f .width) (part from to s))) ≡ true → Fielding f l (lineText f l s at end m) at (i + 1) (from + width)
+        pub fielding-next : formed (fieldOf f (filledTo (rowOf f .width) (part begin to s))) ≡ true → Fielding f l (lineText f l s at end m) at (i + 1) (from + width)
         fielding-next y =
             record {
               place = omega (arith, g .place, b .walk .wide, add-mul i 1 (rowOf f .width), one-mul (rowOf f .width));
               within = omega (arith, inner);
               same = sym
-                  (past (readField f (l .number) (l .first + i) (filledTo (rowOf f .width) (part from to s)))
+                  (past (readField f (l .number) (l .first + i) (filledTo (rowOf f .width) (part begin to s)))
                   (readFields f (restOf l (i + 1)) (drop ((i + 1) * rowOf f .width) (lineText f l s at end m))) (rw y refl)) ∙ field-more;
             }
 
-        pub wrong-field : formed (fieldOf f (filledTo (rowOf f .width) (part from to s))) ≡ false → C.Refused (BadField (j + 1) (element + i)) ≡ verdictOf (readLines f count s)
+        pub wrong-field : formed (fieldOf f (filledTo (rowOf f .width) (part begin to s))) ≡ false → C.Refused (BadField (j + 1) (element + i)) ≡ verdictOf (readLines f short count s)
         wrong-field y =
             ap (λ x. C.Refused (BadField (j + 1) (x + i))) (b .first)
             ∙ (bad-line (BadField (j + 1) (j * rowOf f .«per_line» + 1 + i))
-            (ap verdictOf (line-right f l (part at end s) m right)
+            (ap verdictOf (line-right f short l (part at end s) m right)
             ∙ sym field-more
-            ∙ stuck (readField f (l .number) (l .first + i) (filledTo (rowOf f .width) (part from to s)))
+            ∙ stuck (readField f (l .number) (l .first + i) (filledTo (rowOf f .width) (part begin to s)))
             (readFields f (restOf l (i + 1)) (drop ((i + 1) * rowOf f .width) (lineText f l s at end m))) (BadField (j + 1) (l .first + i)) (rw y refl)))

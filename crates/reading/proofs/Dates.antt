@@ -1,6 +1,6 @@
 -- The date of group 3: its letters' first 19 decide it, and these are the first bytes of its first line.
 -- Assumes nothing.
-use mathlib.Core.Path.{_≡_, refl, sym, _∙_, ap, subst}
+use mathlib.Core.Path.{_≡_, refl, sym, _∙_, ap, ap₂, subst}
 use mathlib.Core.Bool.{Bool, true, false, cond}
 use mathlib.Core.List.{List, [], _∷_, _++_, map}
 use Prim.Native.Nat.{ℕ, zero, suc, _+_, _-_, _*_, _≤_, min}
@@ -42,12 +42,13 @@ use Rattle.date.specs.Date.{datedOf, year, dayOfYear, month, day, hour, minute,
 use Rattle.date.specs.declared.DigitField.{DigitField}
 use Rattle.date.specs.declared.Dated.{Dated}
 use Rattle.date.specs.declared.Dated.the-variants.{Right, Wrong}
-use Rattle.reading.specs.Blanks.{filledTo}
+use Rattle.reading.specs.Blanks.{mayBeShort, filledTo}
 use Rattle.reading.specs.Plan.{Line, lineAt, planFrom, planOf}
 use Rattle.reply.specs.declared.Checked.the-variants as C
 use Rattle.reply.specs.declared.Refusal.{Refusal}
 use Rattle.reading.specs.Read.{Cells, readField, readFields, columnsOf, readLine, readLinesOf, readLines, verdictOf, dated, byDate, dateVerdict}
 use Rattle.reading.proofs.Blanks.{filled-enough, right-low}
+use Rattle.reading.proofs.Letters.{letter-byte}
 use Rattle.reading.proofs.Checking.{lines-more}
 use Rattle.reading.proofs.Sizes.{clean-read, field-done, line-done}
 
@@ -78,19 +79,6 @@ module _ (s : List ℕ) (k : ℕ) (long : 19 ≤ length s) (enough : 19 ≤ k) w
       )
 
 -- ---- letters read as their bytes
-
-letter-byte : (x : List ℕ) (cs : List ℤ) → ReadsAs A1 x cs → (length x ≡ 1) × (cs ≡ map pos x)
-unfolding Read.fieldOf Table.rowOf Table.formEntry
-letter-byte [] cs r = absurd (r .good)
-letter-byte (b ∷ []) cs r = (refl, by (every printable (b ∷ [])) (r .good) (r .cells))
-  where
-    by : (t : Bool) → T (formed (cond t (Cell (pos b)) Misformed)) → valueCells (b ∷ []) (cond t (Cell (pos b)) Misformed) ≡ cs → cs ≡ pos b ∷ []
-    by true g e = sym e
-    by false g e = absurd g
-letter-byte (a ∷ b ∷ x) cs r = absurd (no (length x) (r .good))
-  where
-    no : (n : ℕ) → T (formed (cond (eqb (suc (suc n)) 1) (cond (every printable (a ∷ b ∷ x)) (Cell (pos a)) Misformed) Misformed)) → ⊥
-    no n t = rw (ne-eqb (suc (suc n)) 1 (λ e. omega arith)) at t
 
 letters-bytes : (number e k : ℕ) (s : List ℕ) (cs : List ℤ) → readFields A1 (record { number = number; first = e; many = k }) s ≡ done cs → cs ≡ map pos (take k s)
 unfolding readFields Pieces.gather Every.upFrom Table.rowOf Table.formEntry
@@ -127,7 +115,7 @@ pub record FirstLetters (k : ℕ) (x letters : List ℕ) : Type 0 where
   pub many : k ≤ length letters
   pub same : take k letters ≡ take k x
 
-module _ (count : ℕ) (x : List ℕ) (cs : List ℤ) (h : readLines A1 count x ≡ done cs) (enough : 19 ≤ count) (k : ℕ) (q : k ≡ min (rowOf A1 .«per_line») (elementsOf A1 count)) where
+module _ (count : ℕ) (x : List ℕ) (cs : List ℤ) (h : readLines A1 false count x ≡ done cs) (enough : 19 ≤ count) (k : ℕ) (q : k ≡ min (rowOf A1 .«per_line») (elementsOf A1 count)) where
   p : ℕ
   p = rowOf A1 .«per_line»
 
@@ -137,12 +125,12 @@ module _ (count : ℕ) (x : List ℕ) (cs : List ℤ) (h : readLines A1 count x 
   line-one : Line
   line-one = lineAt p n 0
 
-  first-line : (l : Line) (y : List ℕ) (first : List ℤ) (end : ℕ) → l .many ≡ k → y ≡ part 0 end x → end ≤ length x → readLine A1 l y ≡ done first → (k ≤ length x) × (first ≡ map pos (take k x))
+  first-line : (l : Line) (y : List ℕ) (first : List ℤ) (end : ℕ) → l .many ≡ k → y ≡ part 0 end x → end ≤ length x → readLine A1 false l y ≡ done first → (k ≤ length x) × (first ≡ map pos (take k x))
   first-line l y first end u v inside r =
-      let d = line-done A1 l y first r in
+      let d = line-done A1 false l y first r in
       let b = d .bytes in
       let cols : columnsOf A1 l ≡ k = ap (λ w. l .many * w) (letters-row .1) ∙ mul-one (l .many) ∙ u in
-      let low : k ≤ length (part 0 b y) = subst (λ m. m ≤ length (part 0 b y)) cols (right-low A1 (columnsOf A1 l) (part 0 b y) (d .right)) in
+      let low : k ≤ length (part 0 b y) = subst (λ m. m ≤ length (part 0 b y)) cols (right-low false (columnsOf A1 l) (part 0 b y) (d .right)) in
       let two = content-two y b (d .content) in
       let long : length y ≤ end - 0 = omega (arith, ap length v, length-take (end - 0) (drop 0 x)) in
       let content : part 0 b y ≡ take b x = ap (part 0 b) v ∙ part-begin 0 end b x (omega arith) ∙ ap (take b) (drop-none x) in
@@ -158,7 +146,7 @@ module _ (count : ℕ) (x : List ℕ) (cs : List ℤ) (h : readLines A1 count x 
   pub first-letters : FirstLetters k x (map sizeOf cs)
   unfolding p n line-one readLines planOf Count.linesOf
   first-letters =
-      by (both-done (readLine A1 line-one (part 0 end x)) (readLinesOf A1 (planFrom p n 1 (roundedUp n p - 1)) (drop end x)) cs (sym (lines-more A1 x p n 0 (roundedUp n p - 1) 0 end refl) ∙ some))
+      by (both-done (readLine A1 false line-one (part 0 end x)) (readLinesOf A1 false (planFrom p n 1 (roundedUp n p - 1)) (drop end x)) cs (sym (lines-more A1 false x p n 0 (roundedUp n p - 1) 0 end refl) ∙ some))
     where
       end : ℕ
       end = 0 + reach (drop 0 x) 1
@@ -166,13 +154,13 @@ module _ (count : ℕ) (x : List ℕ) (cs : List ℤ) (h : readLines A1 count x 
       lines-some : roundedUp n p ≡ suc (roundedUp n p - 1)
       lines-some = omega (arith, quotient n p (omega (arith, letters-row .0)) (omega (arith, letters-count count)))
 
-      some : readLinesOf A1 (planFrom p n 0 (suc (roundedUp n p - 1))) (drop 0 x) ≡ done cs
-      some = ap (λ i. readLinesOf A1 (planFrom p n 0 i) (drop 0 x)) (sym lines-some) ∙ ap (λ y. readLinesOf A1 (planFrom p n 0 (roundedUp n p)) y) (drop-none x) ∙ h
+      some : readLinesOf A1 false (planFrom p n 0 (suc (roundedUp n p - 1))) (drop 0 x) ≡ done cs
+      some = ap (λ i. readLinesOf A1 false (planFrom p n 0 i) (drop 0 x)) (sym lines-some) ∙ ap (λ y. readLinesOf A1 false (planFrom p n 0 (roundedUp n p)) y) (drop-none x) ∙ h
 
       many-is : line-one .many ≡ k
       many-is = omega (arith, zero-mul p)
 
-      by : BothDone (readLine A1 line-one (part 0 end x)) (readLinesOf A1 (planFrom p n 1 (roundedUp n p - 1)) (drop end x)) cs → FirstLetters k x (map sizeOf cs)
+      by : BothDone (readLine A1 false line-one (part 0 end x)) (readLinesOf A1 false (planFrom p n 1 (roundedUp n p - 1)) (drop end x)) cs → FirstLetters k x (map sizeOf cs)
       by d =
           let r = first-line line-one (part 0 end x) (d .first) end many-is refl (omega (arith, reach-le (drop 0 x) 1, ap length (drop-none x))) (d .first-is) in
           let letters : map sizeOf cs ≡ take k x ++ map sizeOf (d .second) =
@@ -186,16 +174,16 @@ module _ (count : ℕ) (x : List ℕ) (cs : List ℤ) (h : readLines A1 count x 
 
 -- ---- the date
 
-module _ (count : ℕ) (x : List ℕ) (v : verdictOf (readLines A1 count x) ≡ C.Right) (enough : 19 ≤ count) (k : ℕ) (q : k ≡ min (rowOf A1 .«per_line») (elementsOf A1 count)) where
-  letters-first : FirstLetters k x (map sizeOf (clean-read (readLines A1 count x) v .cells))
-  letters-first = let r = clean-read (readLines A1 count x) v in first-letters count x (r .cells) (r .is) enough k q
+module _ (count : ℕ) (x : List ℕ) (v : verdictOf (readLines A1 false count x) ≡ C.Right) (enough : 19 ≤ count) (k : ℕ) (q : k ≡ min (rowOf A1 .«per_line») (elementsOf A1 count)) where
+  letters-first : FirstLetters k x (map sizeOf (clean-read (readLines A1 false count x) v .cells))
+  letters-first = let r = clean-read (readLines A1 false count x) v in first-letters count x (r .cells) (r .is) enough k q
 
   pub letters-inside : k ≤ length x
   letters-inside = letters-first .inside
 
-  pub date-verdict : {d : Dated} → datedOf (part 0 k x) ≡ d → dateVerdict d ≡ verdictOf (dated 3 (readLines A1 count x))
+  pub date-verdict : {d : Dated} → datedOf (part 0 k x) ≡ d → dateVerdict d ≡ verdictOf (dated 3 (readLines A1 false count x))
   date-verdict {d = d} e =
-      let r = clean-read (readLines A1 count x) v in
+      let r = clean-read (readLines A1 false count x) v in
       let b = letters-first in
       let long : 19 ≤ k = omega (arith, letters-row .0, letters-count count) in
       let same : datedOf (map sizeOf (r .cells)) ≡ d =
@@ -222,3 +210,7 @@ unfolding Table.formOf Table.formAmong Table.formEntry
 date-form g f e t =
     let z : Has A1 ≡ Has f = ap formOf (sym t) ∙ e in
     cc
+
+-- and its lines may not be short
+pub date-lines : (g : ℕ) (f : Form) (count : ℕ) (x : List ℕ) → formOf g ≡ Has f → g ≡ 3 → readLines f (mayBeShort g) count x ≡ readLines A1 false count x
+date-lines g f count x e t = ap₂ (λ k short. readLines k short count x) (date-form g f e t) (ap mayBeShort t)

@@ -2,29 +2,29 @@
 -- the line's end, sought from within its content.
 -- Assumes nothing.
 use mathlib.Core.Path.{_≡_, refl, sym, _∙_, ap, subst}
-use mathlib.Core.Bool.{Bool, true, false, false≢true}
+use mathlib.Core.Bool.{Bool, true, false}
 use mathlib.Core.List.{List, []}
 use Prim.Native.Nat.{ℕ, suc, _+_, _-_, _*_, _<_, _≤_, min}
 use native.Mathlib.Nat.{add-mul, one-mul, mul-le-mul-right, zero-mul, add-zero, sub-zero}
 use native.Mathlib.Omega.{arith}
+use borrow.Author.Tests.{leb-true, leb-false}
+use lib.Dec.{leb}
 use lib.ListN.{length, take, drop, length-take, length-drop}
 use lib.Seq.{drop-drop, length-take-le, take-take}
-use Rattle.base.proofs.Taken.{drop-none, drop-take, take-both, part-begin}
+use Rattle.base.proofs.Taken.{drop-none, take-none, drop-take, take-both, part-begin}
 use Rattle.base.specs.Every.{upFrom}
 use Rattle.base.specs.Part.{part}
 use Rattle.base.specs.Pieces
 use Rattle.base.specs.Pieces.{done, both, gather}
 use Rattle.base.specs.Every
 use Rattle.form.specs.declared.Form.{Form}
-use Rattle.form.specs.declared.Form.the-variants.{F7, A120, A1, F8, I2, I3, I1, E11, E20, E8}
-use Rattle.form.specs.Table
 use Rattle.form.specs.Table.{rowOf}
 use Rattle.line.specs.Lines.{reach, Plain}
 use Rattle.line.specs.declared.Content.the-variants.{Length}
 use Rattle.line.proofs.Feeds.{plain-take}
 use Rattle.line.proofs.Reach.{reach-past}
 use Rattle.line.proofs.Contents.{content-two, first-plain}
-use Rattle.reading.specs.Blanks.{mayBeShort, shortest, filledTo, rightContent, Fits}
+use Rattle.reading.specs.Blanks.{shortest, filledTo, rightContent, Fits}
 use Rattle.reading.specs.Plan.{Line}
 use Rattle.reading.specs.Read.{readField, readFields, columnsOf}
 use Rattle.reading.proofs.Blanks.{filled-drop, filled-take, right-low}
@@ -67,27 +67,13 @@ module _ (f : Form) (l : Line) (text : List ℕ) where
 
 -- ---- the bytes of a field
 
--- a form whose lines may be short has one element to a line
-pub short-one : (f : Form) → mayBeShort f ≡ true → rowOf f .«per_line» ≡ 1
-unfolding Table.rowOf Table.formEntry
-short-one A120 e = refl
-short-one F7 e = absurd (false≢true e)
-short-one A1 e = absurd (false≢true e)
-short-one F8 e = absurd (false≢true e)
-short-one I2 e = absurd (false≢true e)
-short-one I3 e = absurd (false≢true e)
-short-one I1 e = absurd (false≢true e)
-short-one E11 e = absurd (false≢true e)
-short-one E20 e = absurd (false≢true e)
-short-one E8 e = absurd (false≢true e)
-
-module _ (f : Form) (l : Line) (s : List ℕ) (at end n : ℕ) (inside : end ≤ length s) (e : rightContent f (columnsOf f l) (part at end s) ≡ Length n) where
+module _ (f : Form) (short : Bool) (l : Line) (s : List ℕ) (at end n : ℕ) (inside : end ≤ length s) (e : rightContent short (columnsOf f l) (part at end s) ≡ Length n) where
   abbrev w : ℕ
   w = rowOf f .width
 
   pub line-ends : at + n + 2 ≡ end
   line-ends =
-      let r = right-is f (columnsOf f l) (part at end s) n e in
+      let r = right-is short (columnsOf f l) (part at end s) n e in
       omega (arith, content-two (part at end s) n (r .content), length-take (end - at) (drop at s), length-drop at s)
 
   content : part 0 n (part at end s) ≡ take n (drop at s)
@@ -96,8 +82,8 @@ module _ (f : Form) (l : Line) (s : List ℕ) (at end n : ℕ) (inside : end ≤
   content-long : length (part 0 n (part at end s)) ≡ n
   content-long = ap length content ∙ length-take-le n (drop at s) (omega (arith, line-ends, length-drop at s))
 
-  pub enough : shortest f (columnsOf f l) ≤ n
-  enough = subst (λ m. shortest f (columnsOf f l) ≤ m) content-long (right-low f (columnsOf f l) (part 0 n (part at end s)) (right-is f (columnsOf f l) (part at end s) n e .right))
+  pub enough : shortest short (columnsOf f l) ≤ n
+  enough = subst (λ m. shortest short (columnsOf f l) ≤ m) content-long (right-low short (columnsOf f l) (part 0 n (part at end s)) (right-is short (columnsOf f l) (part at end s) n e .right))
 
   -- no line feed stands in the content, so the line's end may be sought from any place of it
   pub end-from : end ≡ at + reach (drop at s) 1 → (m : ℕ) → m ≤ n → at + m + reach (drop (at + m) s) 1 ≡ at + reach (drop at s) 1
@@ -106,14 +92,15 @@ module _ (f : Form) (l : Line) (s : List ℕ) (at end n : ℕ) (inside : end ≤
       plain : Plain (take n (drop at s))
       plain =
           let r : end - at ≡ reach (drop at s) 1 = omega arith in
-          first-plain (drop at s) n (rw r at (right-is f (columnsOf f l) (part at end s) n e .content))
+          first-plain (drop at s) n (rw r at (right-is short (columnsOf f l) (part at end s) n e .content))
 
       first : take m (take n (drop at s)) ≡ part at (at + m) s
       first =
           let r : m ≡ at + m - at = omega arith in
           take-take m n (drop at s) h ∙ ap (λ k. take k (drop at s)) r
 
-  module _ (few : l .many ≤ rowOf f .«per_line») (i from to : ℕ) (h : i < l .many) (p : from ≡ at + i * w) (q : to ≡ min (from + w) (at + n)) where
+  -- field i stands between two places, neither of them behind the content
+  module _ (i column from to : ℕ) (h : i < l .many) (p : column ≡ at + i * w) (o : from ≡ min column (at + n)) (q : to ≡ min (column + w) (at + n)) where
     columns : i * w + w ≤ columnsOf f l
     columns = subst (λ m. m ≤ columnsOf f l) (sym (next-column i w)) (mul-le-mul-right {m = i + 1} {n = l .many} w (omega arith))
 
@@ -124,25 +111,23 @@ module _ (f : Form) (l : Line) (s : List ℕ) (at end n : ℕ) (inside : end ≤
         ∙ filled-take w (columnsOf f l - i * w) (drop (i * w) (part 0 n (part at end s))) (omega (arith, columns))
         ∙ ap (filledTo w)
         (ap (λ c. take w (drop (i * w) c)) content ∙ ap (take w) (drop-take (i * w) n (drop at s)) ∙ take-both w (n - i * w) (drop (i * w) (drop at s))
-        ∙ ap (take (min w (n - i * w))) (drop-drop (i * w) at s ∙ ap (λ m. drop m s) (sym p)) ∙ ap (λ m. take m (drop from s)) cut))
+        ∙ ap (take (min w (n - i * w))) (drop-drop (i * w) at s) ∙ cut (leb (i * w) n) refl))
       where
-        cut : min w (n - i * w) ≡ to - from
-        cut = omega arith
+        cut : (t : Bool) → leb (i * w) n ≡ t → take (min w (n - i * w)) (drop (at + i * w) s) ≡ part from to s
+        cut true e =
+            let b = leb-true (i * w) n e in
+            let m : at + i * w ≡ from = omega arith in
+            let k : min w (n - i * w) ≡ to - from = omega arith in
+            rw (m, k)
+        cut false e =
+            let b = leb-false (i * w) n e in
+            let m : min w (n - i * w) ≡ 0 = omega arith in
+            let k : to - from ≡ 0 = omega arith in
+            rw (m, k) (take-none (drop (at + i * w) s) ∙ sym (take-none (drop from s)))
 
-    pub piece-range : (from ≤ to) × (to ≤ length s) × Fits f (to - from)
-    piece-range = by (mayBeShort f) refl
+    pub piece-range : (from ≤ to) × (to ≤ length s) × Fits f short (to - from)
+    piece-range = (omega arith, omega (arith, line-ends), record { low = least short enough; high = omega arith })
       where
-        high : to - from ≤ w
-        high = omega arith
-
-        inner : to ≤ length s
-        inner = omega (arith, line-ends)
-
-        by : (t : Bool) → mayBeShort f ≡ t → (from ≤ to) × (to ≤ length s) × Fits f (to - from)
-        by true u =
-            let z : i ≡ 0 = omega (arith, short-one f u) in
-            let y : i * w ≡ 0 = ap (λ m. m * w) z ∙ zero-mul w in
-            (omega arith, inner, record { low = rw u (omega arith); high = high })
-        by false u =
-            let m : columnsOf f l ≤ n = rw u at enough in
-            (omega (arith, columns), inner, record { low = rw u (omega (arith, columns)); high = high })
+        least : (t : Bool) → shortest t (columnsOf f l) ≤ n → shortest t w ≤ to - from
+        least true e = omega arith
+        least false e = omega (arith, columns)

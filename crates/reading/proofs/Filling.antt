@@ -1,7 +1,7 @@
 -- The second pass: its state as it comes to a line and to a field of the line; a field more, a line more, and the end.
 -- Assumes nothing.
 use mathlib.Core.Path.{_≡_, refl, sym, _∙_, ap, subst}
-use mathlib.Core.Bool.{true}
+use mathlib.Core.Bool.{Bool, true}
 use mathlib.Core.List.{List, [], _++_, append-assoc, append-nil}
 use Prim.Native.Nat.{ℕ, _+_, _-_, _*_, _<_, _≤_, min}
 use native.Mathlib.Nat.{add-mul, one-mul, zero-mul, sub-zero, mul-le-mul}
@@ -28,7 +28,7 @@ use Rattle.reply.specs.declared.Checked.the-variants as C
 use Rattle.reading.specs.Read.{Cells, readField, readFields, columnsOf, readLine, readLinesOf, readLines, verdictOf}
 use Rattle.reading.proofs.Lines.{right-yes}
 use Rattle.reading.proofs.Fields.{restOf, lineText, fields-start, fields-more, fields-none, line-ends, enough, end-from, piece, piece-range}
-use Rattle.reading.proofs.Checking.{Walking, line-more, lines-none, many-here, columns-here, few-here, end-range, walking-next, width-few}
+use Rattle.reading.proofs.Checking.{Walking, line-more, lines-none, many-here, columns-here, end-range, walking-next, width-few}
 use Rattle.reading.proofs.Sizes.{clean-read, field-done, reads-size, LineDone, line-done, group-size}
 
 done-same : {a b : List ℤ} → _≡_ {A = Cells} (done a) (done b) → a ≡ b
@@ -83,17 +83,17 @@ pub record Reached : Type 0 where
   pub j : ℕ
   pub table : List ℤ
 
-pub record Filling (f : Form) (count : ℕ) (s : List ℕ) (old : List ℤ) (r : Reached) : Type 0 where
+pub record Filling (f : Form) (short : Bool) (count : ℕ) (s : List ℕ) (old : List ℤ) (r : Reached) : Type 0 where
   pub walk : Walking f count s (r .width) (r .perLine) (r .many) (r .left) (r .at) (r .j)
   pub sized : r .cells ≡ rowOf f .cells
   pub more : List ℤ
-  pub rest : readLinesOf f (planFrom (rowOf f .«per_line») (elementsOf f count) (r .j) (r .many - r .j)) (drop (r .at) s) ≡ done more
-  pub store : Stored (cellsGot (readLines f count s)) old 0 (r .cell) (r .table) more
+  pub rest : readLinesOf f short (planFrom (rowOf f .«per_line») (elementsOf f count) (r .j) (r .many - r .j)) (drop (r .at) s) ≡ done more
+  pub store : Stored (cellsGot (readLines f short count s)) old 0 (r .cell) (r .table) more
 
 -- it has come to a line, of k elements, that ends at `end`
-pub record OnLine (f : Form) (count : ℕ) (s : List ℕ) (old : List ℤ) (r : Reached) : Type 0 where
-  pub room : length (cellsGot (readLines f count s)) ≤ length old
-  pub state : Filling f count s old r
+pub record OnLine (f : Form) (short : Bool) (count : ℕ) (s : List ℕ) (old : List ℤ) (r : Reached) : Type 0 where
+  pub room : length (cellsGot (readLines f short count s)) ≤ length old
+  pub state : Filling f short count s old r
   pub further : r .j < r .many
   pub k : ℕ
   pub end : ℕ
@@ -108,47 +108,47 @@ pub record FillingFields (f : Form) (l : Line) (text : List ℕ) (old : List ℤ
   pub rest : readFields f (restOf l i) (drop (i * rowOf f .width) text) ≡ done more
   pub store : Stored (cellsGot (readFields f l text)) old base cell table more
 
-pub enough-room : (f : Form) (count : ℕ) (s : List ℕ) (old : List ℤ) → verdictOf (readLines f count s) ≡ C.Right → cellsOf f count ≤ length old → length (cellsGot (readLines f count s)) ≤ length old
-enough-room f count s old v room =
-    let r = clean-read (readLines f count s) v in
-    omega (arith, ap (λ g. length (cellsGot g)) (r .is), group-size f count s (r .cells) (r .is))
+pub enough-room : (f : Form) (short : Bool) (count : ℕ) (s : List ℕ) (old : List ℤ) → verdictOf (readLines f short count s) ≡ C.Right → cellsOf f count ≤ length old → length (cellsGot (readLines f short count s)) ≤ length old
+enough-room f short count s old v room =
+    let r = clean-read (readLines f short count s) v in
+    omega (arith, ap (λ g. length (cellsGot g)) (r .is), group-size f short count s (r .cells) (r .is))
 
-pub filling-start : {f : Form} {count : ℕ} {s : List ℕ} {r : Reached} → Walking f count s (r .width) (r .perLine) (r .many) (r .left) (r .at) (r .j) → r .cells ≡ rowOf f .cells
-    → verdictOf (readLines f count s) ≡ C.Right → (r .at ≡ 0) × (r .cell ≡ 0) × (r .j ≡ 0) → Filling f count s (r .table) r
+pub filling-start : {f : Form} {short : Bool} {count : ℕ} {s : List ℕ} {r : Reached} → Walking f count s (r .width) (r .perLine) (r .many) (r .left) (r .at) (r .j) → r .cells ≡ rowOf f .cells
+    → verdictOf (readLines f short count s) ≡ C.Right → (r .at ≡ 0) × (r .cell ≡ 0) × (r .j ≡ 0) → Filling f short count s (r .table) r
 unfolding readLines planOf
-filling-start {f} {count} {s} {r} b z v none =
-    let g = clean-read (readLines f count s) v in
+filling-start {f} {short} {count} {s} {r} b z v none =
+    let g = clean-read (readLines f short count s) v in
     record {
       walk = b;
       sized = z;
-      more = cellsGot (readLines f count s);
+      more = cellsGot (readLines f short count s);
       rest = rw (none .0, none .2, sub-zero (r .many), b .lines, drop-none s) (g .is ∙ ap done (sym (ap cellsGot (g .is))));
-      store = rw (none .1) (stored-none (cellsGot (readLines f count s)) (r .table) 0);
+      store = rw (none .1) (stored-none (cellsGot (readLines f short count s)) (r .table) 0);
     }
 
-pub filling-end : {f : Form} {count : ℕ} {s : List ℕ} {old : List ℤ} {r : Reached} → Filling f count s old r → r .many ≤ r .j → r .table ≡ over 0 (cellsGot (readLines f count s)) old
-filling-end {f} {count} {s} {old} {r} b h =
+pub filling-end : {f : Form} {short : Bool} {count : ℕ} {s : List ℕ} {old : List ℤ} {r : Reached} → Filling f short count s old r → r .many ≤ r .j → r .table ≡ over 0 (cellsGot (readLines f short count s)) old
+filling-end {f} {short} {count} {s} {old} {r} b h =
     let z : r .many - r .j ≡ 0 = omega arith in
-    let e : [] ≡ b .more = done-same (sym (lines-none f s (rowOf f .«per_line») (elementsOf f count) (r .j) (r .at)) ∙ (rw z at (b .rest))) in
-    stored-all (cellsGot (readLines f count s)) old (r .table) 0 (r .cell) (subst (λ x. Stored (cellsGot (readLines f count s)) old 0 (r .cell) (r .table) x) (sym e) (b .store)) .here
+    let e : [] ≡ b .more = done-same (sym (lines-none f short s (rowOf f .«per_line») (elementsOf f count) (r .j) (r .at)) ∙ (rw z at (b .rest))) in
+    stored-all (cellsGot (readLines f short count s)) old (r .table) 0 (r .cell) (subst (λ x. Stored (cellsGot (readLines f short count s)) old 0 (r .cell) (r .table) x) (sym e) (b .store)) .here
 
-pub filling-length : {f : Form} {count : ℕ} {s : List ℕ} {old : List ℤ} {r : Reached} → length (cellsGot (readLines f count s)) ≤ length old → Filling f count s old r → length (r .table) ≡ length old
+pub filling-length : {f : Form} {short : Bool} {count : ℕ} {s : List ℕ} {old : List ℤ} {r : Reached} → length (cellsGot (readLines f short count s)) ≤ length old → Filling f short count s old r → length (r .table) ≡ length old
 filling-length room b = stored-length (omega arith) (b .more) (b .store)
 
-module _ {f : Form} {count : ℕ} {s : List ℕ} {old : List ℤ} {r : Reached} (o : OnLine f count s old r) where
+module _ {f : Form} {short : Bool} {count : ℕ} {s : List ℕ} {old : List ℤ} {r : Reached} (o : OnLine f short count s old r) where
   abbrev pub l : Line
   l = lineAt (rowOf f .«per_line») (elementsOf f count) (r .j)
 
   -- the cells behind this line
   abbrev pub others : Cells
-  others = readLinesOf f (planFrom (rowOf f .«per_line») (elementsOf f count) (r .j + 1) (r .many - (r .j + 1))) (drop (o .end) s)
+  others = readLinesOf f short (planFrom (rowOf f .«per_line») (elementsOf f count) (r .j + 1) (r .many - (r .j + 1))) (drop (o .end) s)
 
-  split : BothDone (readLine f l (part (r .at) (o .end) s)) others (o .state .more)
-  split = both-done (readLine f l (part (r .at) (o .end) s)) others (o .state .more)
-      (sym (line-more f count s (o .state .walk) (o .k) (o .end) (o .elements) (o .behind) (o .further)) ∙ o .state .rest)
+  split : BothDone (readLine f short l (part (r .at) (o .end) s)) others (o .state .more)
+  split = both-done (readLine f short l (part (r .at) (o .end) s)) others (o .state .more)
+      (sym (line-more f count s (o .state .walk) (o .k) (o .end) (o .elements) (o .behind) short (o .further)) ∙ o .state .rest)
 
-  here : LineDone f l (part (r .at) (o .end) s) (split .first)
-  here = line-done f l (part (r .at) (o .end) s) (split .first) (split .first-is)
+  here : LineDone f short l (part (r .at) (o .end) s) (split .first)
+  here = line-done f short l (part (r .at) (o .end) s) (split .first) (split .first-is)
 
   pub line-inside : (r .at ≤ o .end) × (o .end ≤ length s)
   line-inside = end-range f count s (o .state .walk) (o .k) (o .end) (o .elements) (o .behind)
@@ -161,12 +161,12 @@ module _ {f : Form} {count : ℕ} {s : List ℕ} {old : List ℤ} {r : Reached} 
       absurd (omega arith)
 
   -- which is no shorter than the code takes it to be
-  pub end-behind : (m : ℕ) → m ≡ shortest f (o .k * r .width) → r .at + m + reach (drop (r .at + m) s) 1 ≡ r .at + reach (drop (r .at) s) 1
+  pub end-behind : (m : ℕ) → m ≡ shortest short (o .k * r .width) → r .at + m + reach (drop (r .at + m) s) 1 ≡ r .at + reach (drop (r .at) s) 1
   end-behind m e =
-      let y = right-yes f (columnsOf f l) (part (r .at) (o .end) s) (here .bytes) (here .content) (here .right) in
+      let y = right-yes short (columnsOf f l) (part (r .at) (o .end) s) (here .bytes) (here .content) (here .right) in
       let i = line-inside .1 in
-      let n : m ≡ shortest f (columnsOf f l) = e ∙ ap (shortest f) (columns-here f count s (o .state .walk) (o .k) (o .end) (o .elements) (o .behind)) in
-      end-from f l s (r .at) (o .end) (here .bytes) i y (o .behind) m (omega (arith, enough f l s (r .at) (o .end) (here .bytes) i y))
+      let n : m ≡ shortest short (columnsOf f l) = e ∙ ap (shortest short) (columns-here f count s (o .state .walk) (o .k) (o .end) (o .elements) (o .behind)) in
+      end-from f short l s (r .at) (o .end) (here .bytes) i y (o .behind) m (omega (arith, enough f short l s (r .at) (o .end) (here .bytes) i y))
 
   module _ (m : ℕ) (e : contentOf (part (r .at) (o .end) s) ≡ Length m) where
     bytes : here .bytes ≡ m
@@ -175,14 +175,14 @@ module _ {f : Form} {count : ℕ} {s : List ℕ} {old : List ℤ} {r : Reached} 
         same : {a b : ℕ} → Length a ≡ Length b → a ≡ b
         same e = cc
 
-    right : rightContent f (columnsOf f l) (part (r .at) (o .end) s) ≡ Length m
-    right = right-yes f (columnsOf f l) (part (r .at) (o .end) s) m e (subst (λ x. isRight f (columnsOf f l) (part 0 x (part (r .at) (o .end) s)) ≡ true) bytes (here .right))
+    right : rightContent short (columnsOf f l) (part (r .at) (o .end) s) ≡ Length m
+    right = right-yes short (columnsOf f l) (part (r .at) (o .end) s) m e (subst (λ x. isRight short (columnsOf f l) (part 0 x (part (r .at) (o .end) s)) ≡ true) bytes (here .right))
 
     inside : (o .end) ≤ length s
     inside = line-inside .1
 
     pub fill-inside : (r .at) + m + 2 ≤ length s
-    fill-inside = omega (arith, line-ends f l s (r .at) (o .end) m inside right, inside)
+    fill-inside = omega (arith, line-ends f short l s (r .at) (o .end) m inside right, inside)
 
     text-done : readFields f l (lineText f l s (r .at) (o .end) m) ≡ done (split .first)
     text-done = subst (λ x. readFields f l (filledTo (columnsOf f l) (part 0 x (part (r .at) (o .end) s))) ≡ done (split .first)) bytes (here .fields)
@@ -191,8 +191,8 @@ module _ {f : Form} {count : ℕ} {s : List ℕ} {old : List ℤ} {r : Reached} 
     line-cells = ap cellsGot text-done
 
     -- what is left begins with the cells of this line
-    before : Stored (cellsGot (readLines f count s)) old 0 (r .cell) (r .table) (split .first ++ split .second)
-    before = subst (λ x. Stored (cellsGot (readLines f count s)) old 0 (r .cell) (r .table) x) (split .all) (o .state .store)
+    before : Stored (cellsGot (readLines f short count s)) old 0 (r .cell) (r .table) (split .first ++ split .second)
+    before = subst (λ x. Stored (cellsGot (readLines f short count s)) old 0 (r .cell) (r .table) x) (split .all) (o .state .store)
 
     line-room : r .cell + length (cellsGot (readFields f l (lineText f l s (r .at) (o .end) m))) ≤ length (r .table)
     line-room = omega (arith, ap length line-cells, stored-room {base = 0} (omega arith) (split .first) (split .second) before, filling-length (o .room) (o .state))
@@ -219,14 +219,14 @@ module _ {f : Form} {count : ℕ} {s : List ℕ} {old : List ℤ} {r : Reached} 
 
       -- all fields are filled: the next line
       pub filling-next : o .k ≤ i
-          → Filling f count s old record { width = r .width; perLine = r .perLine; cells = r .cells; many = r .many; left = r .left - o .k; at = o .end; cell = spot; j = r .j + 1; table = now }
+          → Filling f short count s old record { width = r .width; perLine = r .perLine; cells = r .cells; many = r .many; left = r .left - o .k; at = o .end; cell = spot; j = r .j + 1; table = now }
       filling-next d =
           record {
             walk = walking-next f count s (o .state .walk) (o .k) (o .end) (o .elements) (o .behind) (o .further);
             sized = o .state .sized;
             more = split .second;
             rest = split .second-is;
-            store = subst (λ n. Stored (cellsGot (readLines f count s)) old 0 n now (split .second)) (sym (whole .next ∙ ap (λ y. r .cell + length y) line-cells))
+            store = subst (λ n. Stored (cellsGot (readLines f short count s)) old 0 n now (split .second)) (sym (whole .next ∙ ap (λ y. r .cell + length y) line-cells))
                 (stored-more {base = 0} (omega arith) (split .first) (split .second) now before (whole .here ∙ ap (λ y. over (r .cell) y (r .table)) line-cells));
           }
         where
@@ -239,46 +239,46 @@ module _ {f : Form} {count : ℕ} {s : List ℕ} {old : List ℤ} {r : Reached} 
           whole = stored-all (cellsGot (readFields f l (lineText f l s (r .at) (o .end) m))) (r .table) now (r .cell) spot
               (subst (λ x. Stored (cellsGot (readFields f l (lineText f l s (r .at) (o .end) m))) (r .table) (r .cell) spot now x) (sym none) (g .store))
 
-      module _ (to : ℕ) (c : i < o .k) (t : to ≡ min (from + r .width) (r .at + m)) where
+      module _ (begin to : ℕ) (c : i < o .k) (b : begin ≡ min from (r .at + m)) (t : to ≡ min (from + r .width) (r .at + m)) where
         inner : i < l .many
         inner = omega (arith, many-here f count s (o .state .walk) (o .k) (o .end) (o .elements) (o .behind))
 
         to-is : to ≡ min (from + rowOf f .width) (r .at + m)
         to-is = t ∙ rw (o .state .walk .wide)
 
-        field-is : filledTo (r .width) (part from to s) ≡ take (rowOf f .width) (drop (i * rowOf f .width) (lineText f l s (r .at) (o .end) m))
+        field-is : filledTo (r .width) (part begin to s) ≡ take (rowOf f .width) (drop (i * rowOf f .width) (lineText f l s (r .at) (o .end) m))
         field-is =
-            ap (λ n. filledTo n (part from to s)) (o .state .walk .wide)
-            ∙ piece f l s (r .at) (o .end) m inside right (few-here f count s (o .state .walk) (o .k) (o .end) (o .elements) (o .behind)) i from to inner (g .place) to-is
+            ap (λ n. filledTo n (part begin to s)) (o .state .walk .wide)
+            ∙ piece f short l s (r .at) (o .end) m inside right i from begin to inner (g .place) b to-is
 
-        one : BothDone (readField f (l .number) (l .first + i) (filledTo (r .width) (part from to s)))
+        one : BothDone (readField f (l .number) (l .first + i) (filledTo (r .width) (part begin to s)))
             (readFields f (restOf l (i + 1)) (drop ((i + 1) * rowOf f .width) (lineText f l s (r .at) (o .end) m))) (g .more)
         one =
-            both-done (readField f (l .number) (l .first + i) (filledTo (r .width) (part from to s)))
+            both-done (readField f (l .number) (l .first + i) (filledTo (r .width) (part begin to s)))
             (readFields f (restOf l (i + 1)) (drop ((i + 1) * rowOf f .width) (lineText f l s (r .at) (o .end) m))) (g .more)
             (ap (λ y. both (readField f (l .number) (l .first + i) y)
             (readFields f (restOf l (i + 1)) (drop ((i + 1) * rowOf f .width) (lineText f l s (r .at) (o .end) m)))) field-is
             ∙ sym (fields-more f l (lineText f l s (r .at) (o .end) m) i inner) ∙ g .rest)
 
-        reads : ReadsAs f (filledTo (r .width) (part from to s)) (one .first)
-        reads = field-done f (l .number) (l .first + i) (filledTo (r .width) (part from to s)) (one .first) (one .first-is)
+        reads : ReadsAs f (filledTo (r .width) (part begin to s)) (one .first)
+        reads = field-done f (l .number) (l .first + i) (filledTo (r .width) (part begin to s)) (one .first) (one .first-is)
 
         size : length (one .first) ≡ rowOf f .cells
-        size = reads-size f (filledTo (r .width) (part from to s)) (one .first) reads
+        size = reads-size f (filledTo (r .width) (part begin to s)) (one .first) reads
 
         store : Stored (cellsGot (readFields f l (lineText f l s (r .at) (o .end) m))) (r .table) (r .cell) spot now (one .first ++ one .second)
         store = subst (λ y. Stored (cellsGot (readFields f l (lineText f l s (r .at) (o .end) m))) (r .table) (r .cell) spot now y) (one .all) (g .store)
 
-        pub put-requires : (from ≤ to) × (to ≤ length s) × (r .width ≡ rowOf f .width) × Fits f (to - from) × T (formed (fieldOf f (filledTo (r .width) (part from to s)))) ×
+        pub put-requires : (begin ≤ to) × (to ≤ length s) × (r .width ≡ rowOf f .width) × Fits f short (to - begin) × T (formed (fieldOf f (filledTo (r .width) (part begin to s)))) ×
             (spot + rowOf f .cells ≤ length now)
         put-requires =
-            let p = piece-range f l s (r .at) (o .end) m inside right (few-here f count s (o .state .walk) (o .k) (o .end) (o .elements) (o .behind)) i from to inner (g .place) to-is in
+            let p = piece-range f short l s (r .at) (o .end) m inside right i from begin to inner (g .place) b to-is in
             (p .0, p .1, o .state .walk .wide, p .2, reads .good, omega (arith, size, fill-length, stored-room line-room (one .first) (one .second) store))
 
         pub cell-small : spot + r .cells ≤ length old
         cell-small = omega (arith, o .state .sized, put-requires .5, fill-length, filling-length (o .room) (o .state))
 
-        pub fields-next : {new : List ℤ} → new ≡ over spot (valueCells (filledTo (r .width) (part from to s)) (fieldOf f (filledTo (r .width) (part from to s)))) now
+        pub fields-next : {new : List ℤ} → new ≡ over spot (valueCells (filledTo (r .width) (part begin to s)) (fieldOf f (filledTo (r .width) (part begin to s)))) now
             → FillingFields f l (lineText f l s (r .at) (o .end) m) (r .table) (r .cell) (r .at) (i + 1) (from + r .width) (spot + r .cells) new
         fields-next {new = new} y =
             record {

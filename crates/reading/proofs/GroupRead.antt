@@ -18,6 +18,7 @@ use Rattle.date.specs.Date.{datedOf}
 use Rattle.date.proofs.Due as Letters
 use Rattle.date.specs.declared.Date.{Date}
 use Rattle.date.specs.declared.Dated.the-variants.{Right}
+use Rattle.reading.specs.Blanks.{mayBeShort}
 use Rattle.reading.specs.Read.{readLines, readGroup}
 use Rattle.reading.proofs.Due.{lines-read, lines-clean, first-due}
 use Rattle.reading.proofs.Values.{read-values}
@@ -32,7 +33,7 @@ pub record GroupReads (ns : List ℕ) (g : ℕ) (y : List ℕ) (room : ℕ) (c :
   pub form : Form
   pub has : formOf g ≡ Has form
   pub enough : cellsOf form (countOf ns g) ≤ room
-  pub lines : readLines form (countOf ns g) y ≡ done c
+  pub lines : readLines form (mayBeShort g) (countOf ns g) y ≡ done c
   pub date : g ≡ 3 → TellsDate (map sizeOf c)
 
 module _ (ns : List ℕ) (g : ℕ) (y : List ℕ) (room : ℕ) (c : List ℤ) where
@@ -44,8 +45,8 @@ module _ (ns : List ℕ) (g : ℕ) (y : List ℕ) (room : ℕ) (c : List ℤ) wh
         cells = record {
           f = f;
           roomy = record { ruled = record { form = r .has; kept = ruling-kept ns kept }; enough = r .enough };
-          clean = lines-clean f n y c (r .lines);
-          values = read-values f n y c (r .lines);
+          clean = lines-clean f (mayBeShort g) n y c (r .lines);
+          values = read-values f (mayBeShort g) n y c (r .lines);
         };
         date = λ three. let d = r .date three in (d .date, Letters.first-due (map sizeOf c) (Right (d .date)) .0 (d .right));
       }
@@ -58,6 +59,6 @@ module _ (ns : List ℕ) (g : ℕ) (y : List ℕ) (room : ℕ) (c : List ℤ) wh
         form = h .f;
         has = h .roomy .ruled .form;
         enough = h .roomy .enough;
-        lines = lines-read (h .f) (countOf ns g) y c (h .clean) (h .values);
+        lines = lines-read (h .f) (mayBeShort g) (countOf ns g) y c (h .clean) (h .values);
         date = λ three. let t = d .date three in record { date = t .0; right = Letters.first-due (map sizeOf c) (Right (t .0)) .1 (t .1) };
       }

@@ -1,4 +1,5 @@
 -- The laws of reading's definitions.
+pub mod Letters
 pub mod Blanks
 pub mod Lines
 pub mod Fields

@@ -18,48 +18,48 @@ use Rattle.reading.specs.Read.{readFields, readContent, readLine, column
 
 -- ---- the content, if it is right
 
-module _ (f : Form) (columns : ℕ) (x : List ℕ) where
-  pub right-none : contentOf x ≡ NoReturn → rightContent f columns x ≡ NoReturn
+module _ (short : Bool) (columns : ℕ) (x : List ℕ) where
+  pub right-none : contentOf x ≡ NoReturn → rightContent short columns x ≡ NoReturn
   unfolding rightContent
   right-none e = rw e
 
-  pub right-not : (n : ℕ) → contentOf x ≡ Length n → isRight f columns (part 0 n x) ≡ false → rightContent f columns x ≡ NoReturn
+  pub right-not : (n : ℕ) → contentOf x ≡ Length n → isRight short columns (part 0 n x) ≡ false → rightContent short columns x ≡ NoReturn
   unfolding rightContent
   right-not n e r = rw (e, r)
 
-  pub right-yes : (n : ℕ) → contentOf x ≡ Length n → isRight f columns (part 0 n x) ≡ true → rightContent f columns x ≡ Length n
+  pub right-yes : (n : ℕ) → contentOf x ≡ Length n → isRight short columns (part 0 n x) ≡ true → rightContent short columns x ≡ Length n
   unfolding rightContent
   right-yes n e r = rw (e, r)
 
   -- what it says
   pub record IsRightLine (n : ℕ) : Type 0 where
     pub content : contentOf x ≡ Length n
-    pub right : isRight f columns (part 0 n x) ≡ true
+    pub right : isRight short columns (part 0 n x) ≡ true
 
-  pub right-is : (n : ℕ) → rightContent f columns x ≡ Length n → IsRightLine n
+  pub right-is : (n : ℕ) → rightContent short columns x ≡ Length n → IsRightLine n
   unfolding rightContent
   right-is n e = by (contentOf x) refl e
     where
-      test : (m : ℕ) (t : Bool) → contentOf x ≡ Length m → isRight f columns (part 0 m x) ≡ t → cond t (Length m) NoReturn ≡ Length n → IsRightLine n
+      test : (m : ℕ) (t : Bool) → contentOf x ≡ Length m → isRight short columns (part 0 m x) ≡ t → cond t (Length m) NoReturn ≡ Length n → IsRightLine n
       test m true u v w =
           let p : m ≡ n = cc in
           record { content = rw p at u; right = rw p at v }
       test m false u v w = let z : _≡_ {A = ℕ} 0 1 = cc in absurd (omega arith)
 
-      by : (c : Content) → contentOf x ≡ c → ifRight f columns x c ≡ Length n → IsRightLine n
-      by (Length m) u w = test m (isRight f columns (part 0 m x)) u refl w
+      by : (c : Content) → contentOf x ≡ c → ifRight short columns x c ≡ Length n → IsRightLine n
+      by (Length m) u w = test m (isRight short columns (part 0 m x)) u refl w
       by NoReturn u w = let z : _≡_ {A = ℕ} 0 1 = cc in absurd (omega arith)
 
 -- ---- a line reads as its fields where it is right, and is blamed where it is not
 
-module _ (f : Form) (l : Line) (x : List ℕ) where
-  pub line-right : (n : ℕ) → rightContent f (columnsOf f l) x ≡ Length n → readLine f l x ≡ readFields f l (filledTo (columnsOf f l) (part 0 n x))
+module _ (f : Form) (short : Bool) (l : Line) (x : List ℕ) where
+  pub line-right : (n : ℕ) → rightContent short (columnsOf f l) x ≡ Length n → readLine f short l x ≡ readFields f l (filledTo (columnsOf f l) (part 0 n x))
   unfolding readLine
   line-right n e =
-      let r = right-is f (columnsOf f l) x n e in
+      let r = right-is short (columnsOf f l) x n e in
       rw (r .content, r .right)
 
-  pub line-wrong : rightContent f (columnsOf f l) x ≡ NoReturn → readLine f l x ≡ bad (BadLine (l .number))
+  pub line-wrong : rightContent short (columnsOf f l) x ≡ NoReturn → readLine f short l x ≡ bad (BadLine (l .number))
   unfolding readLine rightContent
   line-wrong e = by (contentOf x) e
     where
@@ -67,6 +67,6 @@ module _ (f : Form) (l : Line) (x : List ℕ) where
       test m true w = let z : _≡_ {A = ℕ} 0 1 = cc in absurd (omega arith)
       test m false w = refl
 
-      by : (c : Content) → ifRight f (columnsOf f l) x c ≡ NoReturn → readContent f l x c ≡ bad (BadLine (l .number))
-      by (Length m) w = test m (isRight f (columnsOf f l) (part 0 m x)) w
+      by : (c : Content) → ifRight short (columnsOf f l) x c ≡ NoReturn → readContent f short l x c ≡ bad (BadLine (l .number))
+      by (Length m) w = test m (isRight short (columnsOf f l) (part 0 m x)) w
       by NoReturn w = refl

@@ -3,6 +3,7 @@
 -- gives 0 and no cells.
 -- Assumes nothing.
 use mathlib.Core.Path.{_≡_, refl, sym, _∙_, ap}
+use mathlib.Core.Bool.{Bool}
 use mathlib.Core.List.{List, [], _∷_, map}
 use mathlib.Core.Logic.{inl, inr}
 use Prim.Native.Nat.{ℕ, _+_, _≤_}
@@ -37,6 +38,7 @@ use Rattle.reply.specs.declared.Refusal.the-variants.{NoSuchNumber, BrokenRule,
 use Rattle.reply.specs.declared.Answer.the-variants.{Done}
 use Rattle.reading.specs.Numbered.{readingRefusals, readingRows}
 use Rattle.reading.specs.Due.{RefusedFor, no-group, broken-rule, no-room, bad-line, bad-field, bad-date, Due}
+use Rattle.reading.specs.Blanks.{mayBeShort}
 use Rattle.reading.specs.Plan.{planFrom, planOf}
 use Rattle.reading.specs.Read.{Cells, readLinesOf, readLines, readForm, readRuled, readGroup, readingOf, tableBy}
 use Rattle.reading.proofs.Steps.{kept-letters}
@@ -101,14 +103,14 @@ no-elements : (f : Form) → (linesOf f 0 ≡ 0) × (cellsOf f 0 ≡ 0)
 unfolding Count.linesOf Count.cellsOf Count.elementsOf
 no-elements f = (rounded-none (rowOf f .«per_line»), zero-mul (rowOf f .cells))
 
-no-lines : (f : Form) (x : List ℕ) → readLines f 0 x ≡ done []
+no-lines : (f : Form) (short : Bool) (x : List ℕ) → readLines f short 0 x ≡ done []
 unfolding readLines readLinesOf planOf planFrom Pieces.gather Every.upFrom
-no-lines f x = rw (no-elements f .0)
+no-lines f short x = rw (no-elements f .0)
 
 pub read-none : (ns : List ℕ) (g : ℕ) (x : List ℕ) (room : ℕ) (f : Form) → formOf g ≡ Has f → rulingOf ns ≡ Kept → countOf ns g ≡ 0 → readGroup ns g x room ≡ done []
 unfolding readGroup readForm
 read-none ns g x room f e r c =
-    rw (e, r, c, no-elements f .1, le-leb 0 room (omega arith), no-lines f x, ne-eqb g 3 other)
+    rw (e, r, c, no-elements f .1, le-leb 0 room (omega arith), no-lines f (mayBeShort g) x, ne-eqb g 3 other)
   where
     other : g ≡ 3 → ⊥
     other t =

@@ -1,29 +1,26 @@
 -- The cells of one field, put into a table: what room they need, and what each kind of value leaves there.
 -- Assumes nothing.
 use mathlib.Core.Path.{_≡_, refl, sym, _∙_, ap, subst}
-use mathlib.Core.Bool.{Bool, true, false, cond, false≢true}
+use mathlib.Core.Bool.{Bool, true, false}
 use mathlib.Core.List.{List, [], _∷_, map}
 use Prim.Native.Nat.{ℕ, zero, suc, _+_, _<_, _≤_}
 use native.Mathlib.Omega.{arith}
-use lib.Dec.{T, eqb}
+use lib.Dec.{T}
 use lib.IntN.{ℤ, pos}
 use lib.ListN.{length, take, getD, set, length-map, length-set}
-use Rattle.base.specs.Ascii.{printable}
-use Rattle.base.specs.Every.{every}
 use Rattle.base.specs.Part.{over}
 use Rattle.base.proofs.Mapped.{getD-map-within}
 use Rattle.base.proofs.Part.{over-turn, over-one, over-then, over-none}
 use Rattle.base.proofs.Taken.{take-none}
 use lib.Seq.{take-all}
 use Rattle.form.specs.declared.Form.{Form}
-use Rattle.form.specs.declared.Form.the-variants.{F7, A120, A1, F8, I2, I3, I1, E11, E20, E8}
 use Rattle.form.specs.Table.{rowOf}
-use Rattle.field.specs.Read
 use Rattle.field.specs.Read.{fieldOf, formed, valueCells}
 use Rattle.field.specs.declared.Value.{Value}
-use Rattle.field.specs.declared.Value.the-variants.{Letters, Misformed}
-use Rattle.reading.specs.Blanks.{mayBeShort, filledTo, Fits}
+use Rattle.field.specs.declared.Value.the-variants.{Letters}
+use Rattle.reading.specs.Blanks.{HoldsLetters, filledTo, Fits}
 use Rattle.reading.proofs.Blanks.{filled-length, filled-getD, full-field}
+use Rattle.reading.proofs.Letters.{letters-cells}
 use Rattle.reading.proofs.Sizes.{reads-size}
 
 -- a byte that is there, whatever stands for one that isn't
@@ -39,12 +36,12 @@ getD-beyond (x ∷ xs) (suc i) d h = getD-beyond xs i d (omega arith)
 
 -- ---- letters, one after the other
 
-module _ (bytes : List ℕ) (width : ℕ) (old : List ℤ) (at : ℕ) (short : length bytes ≤ width) (room : at + width ≤ length old) where
+module _ (bytes : List ℕ) (width : ℕ) (old : List ℤ) (at : ℕ) (few : length bytes ≤ width) (room : at + width ≤ length old) where
   letters : List ℤ
   letters = map pos (filledTo width bytes)
 
   many : length (map pos (filledTo width bytes)) ≡ width
-  many = length-map (filledTo width bytes) pos ∙ filled-length width bytes short
+  many = length-map (filledTo width bytes) pos ∙ filled-length width bytes few
 
   pub letters-none : old ≡ over at (take 0 (map pos (filledTo width bytes))) old
   letters-none = over-none old at ∙ ap (λ l. over at l old) (sym (take-none (map pos (filledTo width bytes))))
@@ -53,7 +50,7 @@ module _ (bytes : List ℕ) (width : ℕ) (old : List ℤ) (at : ℕ) (short : l
       → set table (at + i) z ≡ over at (take (i + 1) (map pos (filledTo width bytes))) old
   letters-more i table z h e b =
       let d : z ≡ getD (map pos (filledTo width bytes)) i (pos 0) =
-      e ∙ ap pos (sym (filled-getD width bytes i)) ∙ sym (getD-map-within pos (filledTo width bytes) i 32 (pos 0) (omega (arith, filled-length width bytes short))) in
+      e ∙ ap pos (sym (filled-getD width bytes i)) ∙ sym (getD-map-within pos (filledTo width bytes) i 32 (pos 0) (omega (arith, filled-length width bytes few))) in
       rw d (over-turn old (map pos (filledTo width bytes)) at i (pos 0) (omega (arith, many)) (omega (arith, many)) b)
 
   pub letters-all : (i : ℕ) (table : List ℤ) → width ≤ i → table ≡ over at (take i (map pos (filledTo width bytes))) old → table ≡ over at (map pos (filledTo width bytes)) old
@@ -61,50 +58,33 @@ module _ (bytes : List ℕ) (width : ℕ) (old : List ℤ) (at : ℕ) (short : l
 
 -- ---- a field
 
--- a form whose lines may be short holds letters
-short-cells : (f : Form) (t : List ℕ) → mayBeShort f ≡ true → T (formed (fieldOf f t)) → valueCells t (fieldOf f t) ≡ map pos t
-unfolding Read.fieldOf
-short-cells A120 t e h = by (eqb (length t) (rowOf A120 .width)) (every printable t) h
-  where
-    by : (x y : Bool) → T (formed (cond x (cond y Letters Misformed) Misformed)) → valueCells t (cond x (cond y Letters Misformed) Misformed) ≡ map pos t
-    by true true g = refl
-    by true false g = absurd g
-    by false y g = absurd g
-short-cells F7 t e h = absurd (false≢true e)
-short-cells A1 t e h = absurd (false≢true e)
-short-cells F8 t e h = absurd (false≢true e)
-short-cells I2 t e h = absurd (false≢true e)
-short-cells I3 t e h = absurd (false≢true e)
-short-cells I1 t e h = absurd (false≢true e)
-short-cells E11 t e h = absurd (false≢true e)
-short-cells E20 t e h = absurd (false≢true e)
-short-cells E8 t e h = absurd (false≢true e)
-
 pub cells-size : (f : Form) (t : List ℕ) → T (formed (fieldOf f t)) → length (valueCells t (fieldOf f t)) ≡ rowOf f .cells
 cells-size f t h = reads-size f t (valueCells t (fieldOf f t)) record { good = h; cells = refl }
 
 -- bytes that are a field of their form once they are filled with blanks, and room for its cells
-pub record ToPut (f : Form) (width : ℕ) (bytes : List ℕ) (old : List ℤ) (at : ℕ) : Type 0 where
+pub record ToPut (f : Form) (short : Bool) (width : ℕ) (bytes : List ℕ) (old : List ℤ) (at : ℕ) : Type 0 where
   pub wide : width ≡ rowOf f .width
-  pub fit : Fits f (length bytes)
+  pub fit : Fits f short (length bytes)
+  pub letters : HoldsLetters f short
   pub good : T (formed (fieldOf f (filledTo width bytes)))
   pub room : at + rowOf f .cells ≤ length old
 
-module _ {f : Form} {width : ℕ} {bytes : List ℕ} {old : List ℤ} {at : ℕ} (p : ToPut f width bytes old at) where
-  pub short-room : mayBeShort f ≡ true → (length bytes ≤ width) × (at + width ≤ length old)
+module _ {f : Form} {short : Bool} {width : ℕ} {bytes : List ℕ} {old : List ℤ} {at : ℕ} (p : ToPut f short width bytes old at) where
+  bytes-cells : short ≡ true → valueCells (filledTo width bytes) (fieldOf f (filledTo width bytes)) ≡ map pos (filledTo width bytes)
+  bytes-cells e = letters-cells f (filledTo width bytes) _ (p .letters e) record { good = p .good; cells = refl }
+
+  pub short-room : short ≡ true → (length bytes ≤ width) × (at + width ≤ length old)
   short-room e =
-      let l : length bytes ≤ width = omega (arith, p .fit .high) in (
-        l,
-        omega
-            (arith, cells-size f (filledTo width bytes) (p .good), ap length (short-cells f (filledTo width bytes) e (p .good)), length-map (filledTo width bytes) pos, filled-length width bytes l),
-      )
+      let l : length bytes ≤ width = omega (arith, p .wide, p .fit .high) in
+      let n = length-map (filledTo width bytes) pos ∙ filled-length width bytes l in
+      (l, omega (arith, p .room, cells-size f (filledTo width bytes) (p .good), ap length (bytes-cells e), n))
 
-  pub short-put : mayBeShort f ≡ true → {new : List ℤ} → new ≡ over at (map pos (filledTo width bytes)) old → new ≡ over at (valueCells (filledTo width bytes) (fieldOf f (filledTo width bytes))) old
-  short-put e n = n ∙ ap (λ l. over at l old) (sym (short-cells f (filledTo width bytes) e (p .good)))
+  pub short-put : short ≡ true → {new : List ℤ} → new ≡ over at (map pos (filledTo width bytes)) old → new ≡ over at (valueCells (filledTo width bytes) (fieldOf f (filledTo width bytes))) old
+  short-put e n = n ∙ ap (λ l. over at l old) (sym (bytes-cells e))
 
-  module _ (no : mayBeShort f ≡ false) {v : Value} (r : fieldOf f bytes ≡ v) where
+  module _ (no : short ≡ false) {v : Value} (r : fieldOf f bytes ≡ v) where
     full : filledTo width bytes ≡ bytes
-    full = ap (λ n. filledTo n bytes) (p .wide) ∙ full-field f bytes no (p .fit)
+    full = ap (λ n. filledTo n bytes) (p .wide) ∙ full-field f bytes (rw no at (p .fit))
 
     value : fieldOf f (filledTo width bytes) ≡ v
     value = ap (fieldOf f) full ∙ r

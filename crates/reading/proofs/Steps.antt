@@ -31,6 +31,7 @@ use Rattle.reply.specs.declared.Refusal.the-variants.{NoSuchNumber, NoRoom}
 use Rattle.reply.specs.declared.Answer.{Answer}
 use Rattle.reply.specs.declared.Answer.the-variants.{Done, Refused}
 use Rattle.reply.specs.declared.Checked.the-variants as C
+use Rattle.reading.specs.Blanks.{mayBeShort}
 use Rattle.reading.specs.Read.{Cells, readLines, dated, byDate, readForm, readGroup, readingOf, tableBy, verdictOf}
 use Rattle.reading.proofs.Sizes.{clean-read, group-size}
 
@@ -63,22 +64,22 @@ module _ (f : Form) (g count : ℕ) (x : List ℕ) (old : List ℤ) where
       refuses old e
 
   module _ (room : cellsOf f count ≤ length old) where
-    roomy : readForm f g count x (length old) ≡ dated g (readLines f count x)
+    roomy : readForm f g count x (length old) ≡ dated g (readLines f (mayBeShort g) count x)
     unfolding readForm
     roomy = rw (le-leb (cellsOf f count) (length old) room)
 
-    pub form-bad : (r : Refusal) → verdictOf (dated g (readLines f count x)) ≡ C.Refused r → Answers (readForm f g count x (length old)) old (Refused r) old
-    form-bad r e = refuses old (roomy ∙ bad-is (dated g (readLines f count x)) r e)
+    pub form-bad : (r : Refusal) → verdictOf (dated g (readLines f (mayBeShort g) count x)) ≡ C.Refused r → Answers (readForm f g count x (length old)) old (Refused r) old
+    form-bad r e = refuses old (roomy ∙ bad-is (dated g (readLines f (mayBeShort g) count x)) r e)
 
-    module _ (e : verdictOf (dated g (readLines f count x)) ≡ C.Right) where
-      pub lines-clean : verdictOf (readLines f count x) ≡ C.Right
-      lines-clean = ap verdictOf (sym (clean-cells g (readLines f count x) e)) ∙ e
+    module _ (e : verdictOf (dated g (readLines f (mayBeShort g) count x)) ≡ C.Right) where
+      pub lines-clean : verdictOf (readLines f (mayBeShort g) count x) ≡ C.Right
+      lines-clean = ap verdictOf (sym (clean-cells g (readLines f (mayBeShort g) count x) e)) ∙ e
 
-      pub form-done : {new : List ℤ} → new ≡ over 0 (cellsGot (readLines f count x)) old → Answers (readForm f g count x (length old)) old (Done (cellsOf f count)) new
+      pub form-done : {new : List ℤ} → new ≡ over 0 (cellsGot (readLines f (mayBeShort g) count x)) old → Answers (readForm f g count x (length old)) old (Done (cellsOf f count)) new
       form-done {new = new} n =
-          let r = clean-read (readLines f count x) lines-clean in
-          let all : readForm f g count x (length old) ≡ done (r .cells) = roomy ∙ clean-cells g (readLines f count x) e ∙ r .is in
-          subst (λ y. Answers y old (Done (cellsOf f count)) new) (sym all) (ap Done (sym (group-size f count x (r .cells) (r .is))), n ∙ ap (λ y. over 0 (cellsGot y) old) (r .is))
+          let r = clean-read (readLines f (mayBeShort g) count x) lines-clean in
+          let all : readForm f g count x (length old) ≡ done (r .cells) = roomy ∙ clean-cells g (readLines f (mayBeShort g) count x) e ∙ r .is in
+          subst (λ y. Answers y old (Done (cellsOf f count)) new) (sym all) (ap Done (sym (group-size f (mayBeShort g) count x (r .cells) (r .is))), n ∙ ap (λ y. over 0 (cellsGot y) old) (r .is))
 
 -- R123: group 3 has room for a date
 pub kept-letters : (ns : List ℕ) → rulingOf ns ≡ Kept → 19 ≤ countOf ns 3

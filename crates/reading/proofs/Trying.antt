@@ -26,15 +26,15 @@ use Rattle.line.specs.declared.Content.the-variants.{Length, NoReturn}
 use Rattle.line.proofs.Feeds.{plain-nil, plain-append, printable-plain}
 use Rattle.line.proofs.Reach.{reach-le, reach-past}
 use Rattle.line.proofs.Contents.{content-two, first-plain}
-use Rattle.reading.specs.Blanks.{mayBeShort, filledTo, asField, rightContent, fieldsSpan, Fits}
+use Rattle.reading.specs.Blanks.{filledTo, asField, rightContent, fieldsSpan, Fits}
 use Rattle.reading.specs.Plan.{Line, lineAt}
 use Rattle.reply.specs.declared.Refusal.{Refusal}
 use Rattle.reply.specs.declared.Refusal.the-variants.{BadLine}
 use Rattle.reply.specs.declared.Checked.the-variants as C
 use Rattle.reading.specs.Read.{columnsOf, misfitOf, readLines, verdictOf}
-use Rattle.reading.proofs.Blanks.{as-whole, as-filled}
+use Rattle.reading.proofs.Blanks.{as-filled}
 use Rattle.reading.proofs.Lines.{right-is}
-use Rattle.reading.proofs.Fields.{lineText, short-one, enough}
+use Rattle.reading.proofs.Fields.{lineText, enough}
 use Rattle.reading.proofs.Checking.{Checking, Fielding, element-small, next-first, many-here, columns-here, few-here, end-range, width-few, wrong-line}
 use Rattle.reading.proofs.Checking.{content-inside, fielding-start, checking-next, field-range, fielding-next, wrong-field}
 
@@ -50,27 +50,27 @@ module _ (s : List ℕ) (at : ℕ) (inside : at ≤ length s) where
   pub content-fits : (n : ℕ) → contentOf (part at (at + reach (drop at s) 1) s) ≡ Length n → at + n ≤ length s
   content-fits n e = omega (arith, content-two (part at behindLine s) n e, length-take (behindLine - at) (drop at s), length-drop at s)
 
-module _ (f : Form) (columns : ℕ) (s : List ℕ) (at : ℕ) (inside : at ≤ length s) where
-  pub span-none : mayBeShort f ≡ true → contentOf (part at (at + reach (drop at s) 1) s) ≡ NoReturn → at ≡ at + fieldsSpan f columns s at
+module _ (short : Bool) (columns : ℕ) (s : List ℕ) (at : ℕ) (inside : at ≤ length s) where
+  pub span-none : short ≡ true → contentOf (part at (at + reach (drop at s) 1) s) ≡ NoReturn → at ≡ at + fieldsSpan short columns s at
   unfolding fieldsSpan
   span-none u e = rw (u, e) (omega arith)
 
-  pub span-content : mayBeShort f ≡ true → (n : ℕ) → contentOf (part at (at + reach (drop at s) 1) s) ≡ Length n → at + n ≡ at + fieldsSpan f columns s at
+  pub span-content : short ≡ true → (n : ℕ) → contentOf (part at (at + reach (drop at s) 1) s) ≡ Length n → at + n ≡ at + fieldsSpan short columns s at
   unfolding fieldsSpan
   span-content u n e = rw (u, e) refl
 
-  pub span-columns : mayBeShort f ≡ false → at + min columns (length s - at) ≡ at + fieldsSpan f columns s at
+  pub span-columns : short ≡ false → at + min columns (length s - at) ≡ at + fieldsSpan short columns s at
   unfolding fieldsSpan
   span-columns u = rw u refl
 
-  module _ (stop : ℕ) (e : stop ≡ at + fieldsSpan f columns s at) where
+  module _ (stop : ℕ) (e : stop ≡ at + fieldsSpan short columns s at) where
     -- as far as the content goes, where lines may be short
     pub record Short : Type 0 where
       pub range : (at ≤ stop) × (stop ≤ length s)
       pub plain : Plain (part at stop s)
       pub content : (n : ℕ) → contentOf (part at (at + reach (drop at s) 1) s) ≡ Length n → stop ≡ at + n
 
-    stop-short : mayBeShort f ≡ true → Short
+    stop-short : short ≡ true → Short
     stop-short u = by (contentOf (part at (at + reach (drop at s) 1) s)) refl
       where
         by : (c : Content) → contentOf (part at (at + reach (drop at s) 1) s) ≡ c → Short
@@ -92,35 +92,35 @@ module _ (f : Form) (columns : ℕ) (s : List ℕ) (at : ℕ) (inside : at ≤ l
               content = λ i w. e ∙ sym (span-content u i w);
             }
 
-    stop-full : mayBeShort f ≡ false → stop ≡ at + min columns (length s - at)
+    stop-full : short ≡ false → stop ≡ at + min columns (length s - at)
     stop-full u = e ∙ sym (span-columns u)
 
     pub stop-range : (at ≤ stop) × (stop ≤ length s)
-    stop-range = by (mayBeShort f) refl
+    stop-range = by (short) refl
       where
-        by : (t : Bool) → mayBeShort f ≡ t → (at ≤ stop) × (stop ≤ length s)
+        by : (t : Bool) → short ≡ t → (at ≤ stop) × (stop ≤ length s)
         by true u = stop-short u .range
         by false u = (omega (arith, stop-full u), omega (arith, stop-full u))
 
 -- ---- a formed field has no line feed
 
-formed-plain : (f : Form) (s : List ℕ) → mayBeShort f ≡ false → formed (fieldOf f (asField f s)) ≡ true → (length s ≡ rowOf f .width) × Plain s
-formed-plain f s u e =
-    let t = true-T (formed (fieldOf f s)) (ap (λ x. formed (fieldOf f x)) (sym (as-whole f s u)) ∙ e) in
+formed-plain : (f : Form) (short : Bool) (s : List ℕ) → short ≡ false → formed (fieldOf f (asField f short s)) ≡ true → (length s ≡ rowOf f .width) × Plain s
+formed-plain f short s u e =
+    let t = true-T (formed (fieldOf f s)) (rw u at e) in
     (good-width f s t, printable-plain s (good-prints f s t))
 
 -- ---- the state before field i: those before it are formed
 
-pub record Trying (f : Form) (l : Line) (s : List ℕ) (at stop i from : ℕ) : Type 0 where
+pub record Trying (f : Form) (short : Bool) (l : Line) (s : List ℕ) (at stop i from : ℕ) : Type 0 where
   pub place : from ≡ at + i * rowOf f .width
   pub within : i ≤ l .many
-  pub reached : mayBeShort f ≡ false → from ≤ stop
-  pub plain : mayBeShort f ≡ false → Plain (part at from s)
+  pub reached : short ≡ false → from ≤ stop
+  pub plain : short ≡ false → Plain (part at from s)
   -- if the line is right, they are its first fields
-  pub right : (end m : ℕ) → end ≡ at + reach (drop at s) 1 → rightContent f (columnsOf f l) (part at end s) ≡ Length m → Fielding f l (lineText f l s at end m) at i from
+  pub right : (end m : ℕ) → end ≡ at + reach (drop at s) 1 → rightContent short (columnsOf f l) (part at end s) ≡ Length m → Fielding f l (lineText f l s at end m) at i from
 
 -- the pass has come to a line, of k elements, whose fields are looked for up to `stop`
-pub record OnLine (f : Form) (count : ℕ) (s : List ℕ) : Type 0 where
+pub record OnLine (f : Form) (short : Bool) (count : ℕ) (s : List ℕ) : Type 0 where
   pub width : ℕ
   pub perLine : ℕ
   pub many : ℕ
@@ -128,14 +128,14 @@ pub record OnLine (f : Form) (count : ℕ) (s : List ℕ) : Type 0 where
   pub at : ℕ
   pub element : ℕ
   pub j : ℕ
-  pub state : Checking f count s width perLine many left at element j
+  pub state : Checking f short count s width perLine many left at element j
   pub further : j < many
   pub k : ℕ
   pub elements : k ≡ min perLine left
   pub stop : ℕ
-  pub sought : stop ≡ at + fieldsSpan f (k * width) s at
+  pub sought : stop ≡ at + fieldsSpan short (k * width) s at
 
-module _ {f : Form} {count : ℕ} {s : List ℕ} (o : OnLine f count s) where
+module _ {f : Form} {short : Bool} {count : ℕ} {s : List ℕ} (o : OnLine f short count s) where
   abbrev pub l : Line
   l = lineAt (rowOf f .«per_line») (elementsOf f count) (o .j)
 
@@ -143,9 +143,9 @@ module _ {f : Form} {count : ℕ} {s : List ℕ} (o : OnLine f count s) where
   columns = columns-here f count s (o .state .walk) (o .k) (o .at + reach (drop (o .at) s) 1) (o .elements) refl
 
   stops : (o .at ≤ o .stop) × (o .stop ≤ length s)
-  stops = stop-range f (o .k * o .width) s (o .at) (o .state .walk .inside) (o .stop) (o .sought)
+  stops = stop-range short (o .k * o .width) s (o .at) (o .state .walk .inside) (o .stop) (o .sought)
 
-  pub trying-start : Trying f l s (o .at) (o .stop) 0 (o .at)
+  pub trying-start : Trying f short l s (o .at) (o .stop) 0 (o .at)
   trying-start =
       let z : o .at - o .at ≡ 0 = omega arith in
       record {
@@ -153,17 +153,17 @@ module _ {f : Form} {count : ℕ} {s : List ℕ} (o : OnLine f count s) where
         within = omega arith;
         reached = λ u. stops .0;
         plain = λ u. subst Plain (sym (ap (λ i. take i (drop (o .at) s)) z ∙ take-none (drop (o .at) s))) plain-nil;
-        right = λ end m w r. fielding-start f count s (o .state) (o .further) (o .k) end (o .elements) w m (rw (sym columns) at r);
+        right = λ end m w r. fielding-start f short count s (o .state) (o .further) (o .k) end (o .elements) w m (rw (sym columns) at r);
       }
 
-  module _ {i from : ℕ} (g : Trying f l s (o .at) (o .stop) i from) where
+  module _ {i from : ℕ} (g : Trying f short l s (o .at) (o .stop) i from) where
     pub try-small : from ≤ length s + 120 * 120
     try-small = omega (arith, g .place, o .state .walk .inside, mul-le-mul few-passed (width-few f))
       where
         few-passed : i ≤ 120
         few-passed = omega (arith, g .within, row-fits f .few)
 
-    module _ (to : ℕ) (c : i < o .k) (t : to ≡ min (from + o .width) (o .stop)) where
+    module _ (begin to : ℕ) (c : i < o .k) (b : begin ≡ min from (o .stop)) (t : to ≡ min (from + o .width) (o .stop)) where
       inner : i < l .many
       inner = omega (arith, many-here f count s (o .state .walk) (o .k) (o .at + reach (drop (o .at) s) 1) (o .elements) refl)
 
@@ -173,92 +173,77 @@ module _ {f : Form} {count : ℕ} {s : List ℕ} (o : OnLine f count s) where
       pub element-few : o .element + i ≤ 65536 * 120
       element-few = omega (arith, o .state .first, inner, next-first f count s (o .state .walk), element-small f count s (o .state .walk))
 
-      -- a line that may be short has one field
-      first : mayBeShort f ≡ true → from ≡ o .at
-      first u =
-          let z : i ≡ 0 = omega (arith, inner, few-here f count s (o .state .walk) (o .k) (o .at + reach (drop (o .at) s) 1) (o .elements) refl, short-one f u) in
-          omega (arith, g .place, ap (λ n. n * rowOf f .width) z, zero-mul (rowOf f .width))
+      pub try-range : (begin ≤ to) × (to ≤ length s) × (to - begin ≤ rowOf f .width)
+      try-range = (omega arith, omega (arith, stops .1), omega (arith, o .state .walk .wide))
 
-      begun : from ≤ o .stop
-      begun = by (mayBeShort f) refl
-        where
-          by : (x : Bool) → mayBeShort f ≡ x → from ≤ o .stop
-          by true u = omega (arith, first u, stops)
-          by false u = g .reached u
-
-      pub try-range : (from ≤ to) × (to ≤ length s) × (to - from ≤ rowOf f .width)
-      try-range = (omega (arith, begun), omega (arith, stops .1), omega (arith, o .state .walk .wide))
-
-      long : length (part from to s) ≡ to - from
-      long = length-take-le (to - from) (drop from s) (omega (arith, try-range, length-drop from s))
+      long : length (part begin to s) ≡ to - begin
+      long = length-take-le (to - begin) (drop begin s) (omega (arith, try-range, length-drop begin s))
 
       -- where the line is right, this is where the field ends
-      module _ (end m : ℕ) (w : end ≡ o .at + reach (drop (o .at) s) 1) (r : rightContent f (columnsOf f l) (part (o .at) end s) ≡ Length m) where
-        given : rightContent f (o .k * o .width) (part (o .at) end s) ≡ Length m
+      module _ (end m : ℕ) (w : end ≡ o .at + reach (drop (o .at) s) 1) (r : rightContent short (columnsOf f l) (part (o .at) end s) ≡ Length m) where
+        given : rightContent short (o .k * o .width) (part (o .at) end s) ≡ Length m
         given = rw (sym columns) at r
 
-        to-right : to ≡ min (from + o .width) (o .at + m)
-        to-right = by (mayBeShort f) refl
+        ends-right : (begin ≡ min from (o .at + m)) × (to ≡ min (from + o .width) (o .at + m))
+        ends-right = by short refl
           where
-            by : (x : Bool) → mayBeShort f ≡ x → to ≡ min (from + o .width) (o .at + m)
+            by : (x : Bool) → short ≡ x → (begin ≡ min from (o .at + m)) × (to ≡ min (from + o .width) (o .at + m))
             by true u =
-                let v : contentOf (part (o .at) (o .at + reach (drop (o .at) s) 1) s) ≡ Length m = rw w at (right-is f (columnsOf f l) (part (o .at) end s) m r .content) in
-                t ∙ ap (min (from + o .width)) (stop-short f (o .k * o .width) s (o .at) (o .state .walk .inside) (o .stop) (o .sought) u .content m v)
+                let v : contentOf (part (o .at) (o .at + reach (drop (o .at) s) 1) s) ≡ Length m = rw w at (right-is short (columnsOf f l) (part (o .at) end s) m r .content) in
+                let e = stop-short short (o .k * o .width) s (o .at) (o .state .walk .inside) (o .stop) (o .sought) u .content m v in
+                (b ∙ ap (min from) e, t ∙ ap (min (from + o .width)) e)
             by false u =
-                let n : columnsOf f l ≤ m = rw u at (enough f l s (o .at) end m (end-range f count s (o .state .walk) (o .k) end (o .elements) w .1) r) in
-                omega (
-                  arith,
-                  next,
-                  columns,
-                  o .state .walk .wide,
-                  stop-full f (o .k * o .width) s (o .at) (o .state .walk .inside) (o .stop)
-                      (o .sought) u,
-                  content-inside f count s (o .state) (o .further) (o .k) end (o .elements) w m given,
-                )
+                let n : columnsOf f l ≤ m = rw u at (enough f short l s (o .at) end m (end-range f count s (o .state .walk) (o .k) end (o .elements) w .1) r) in
+                let e = stop-full short (o .k * o .width) s (o .at) (o .state .walk .inside) (o .stop) (o .sought) u in
+                let inside = content-inside f short count s (o .state) (o .further) (o .k) end (o .elements) w m given in
+                (omega (arith, next, columns, o .state .walk .wide, e, inside), omega (arith, next, columns, o .state .walk .wide, e, inside))
 
-        same : formed (fieldOf f (asField f (part from to s))) ≡ formed (fieldOf f (filledTo (rowOf f .width) (part from to s)))
+        same : formed (fieldOf f (asField f short (part begin to s))) ≡ formed (fieldOf f (filledTo (rowOf f .width) (part begin to s)))
         same =
-            let fit = field-range f count s (o .state) (o .further) (o .k) end (o .elements) w m given (g .right end m w r) to c to-right .2 in
-            ap (λ x. formed (fieldOf f x)) (as-filled f (part from to s) (subst (Fits f) (sym long) fit))
+            let fit = field-range f short count s (o .state) (o .further) (o .k) end (o .elements) w m given (g .right end m w r) begin to c (ends-right .0) (ends-right .1) .2 in
+            ap (λ x. formed (fieldOf f x)) (as-filled f short (part begin to s) (subst (Fits f short) (sym long) fit))
 
-      pub trying-next : formed (fieldOf f (asField f (part from to s))) ≡ true → Trying f l s (o .at) (o .stop) (i + 1) (from + o .width)
+      pub trying-next : formed (fieldOf f (asField f short (part begin to s))) ≡ true → Trying f short l s (o .at) (o .stop) (i + 1) (from + o .width)
       trying-next y =
           record {
             place = omega (arith, g .place, o .state .walk .wide, add-mul i 1 (rowOf f .width), one-mul (rowOf f .width));
             within = omega (arith, inner);
-            reached = λ u. omega (arith, whole u);
-            plain = λ u. subst (λ n. Plain (part (o .at) n s)) (whole u)
-                (subst Plain (part-append s (o .at) from to (omega (arith, g .place)) (try-range .0))
-                (plain-append (part (o .at) from s) (part from to s) (g .plain u) (formed-plain f (part from to s) u y .1)));
-            right = λ end m w r. fielding-next f count s (o .state) (o .further) (o .k) end (o .elements) w m (given end m w r) (g .right end m w r) to c (to-right end m w r)
-                (sym (same end m w r) ∙ y);
+            reached = λ u. omega (arith, whole u .1);
+            plain = λ u. subst (λ n. Plain (part (o .at) n s)) (whole u .1)
+                (subst Plain (part-append s (o .at) from to (omega (arith, g .place)) (omega (arith, whole u)))
+                (plain-append (part (o .at) from s) (part from to s) (g .plain u) (subst (λ n. Plain (part n to s)) (whole u .0) (formed-plain f short (part begin to s) u y .1))));
+            right = λ end m w r. fielding-next f short count s (o .state) (o .further) (o .k) end (o .elements) w m (given end m w r) (g .right end m w r) begin to c
+                (ends-right end m w r .0) (ends-right end m w r .1) (sym (same end m w r) ∙ y);
           }
         where
-          whole : mayBeShort f ≡ false → to ≡ from + o .width
-          whole u = omega (arith, formed-plain f (part from to s) u y .0, long, o .state .walk .wide, try-range)
+          -- where lines may not be short, a field that is formed is there whole
+          whole : short ≡ false → (begin ≡ from) × (to ≡ from + o .width)
+          whole u =
+              let e : begin ≡ from = omega (arith, g .reached u) in
+              (e, omega (arith, e, formed-plain f short (part begin to s) u y .0, long, o .state .walk .wide, try-range))
 
       -- a line that is not right is blamed, and otherwise the field
-      pub trying-wrong : formed (fieldOf f (asField f (part from to s))) ≡ false → (r : Refusal)
-          → r ≡ misfitOf (o .j + 1) (o .element + i) (rightContent f (o .k * o .width) (part (o .at) (o .at + reach (drop (o .at) s) 1) s)) → C.Refused r ≡ verdictOf (readLines f count s)
-      trying-wrong y r z = by (rightContent f (o .k * o .width) (part (o .at) (o .at + reach (drop (o .at) s) 1) s)) refl
+      pub trying-wrong : formed (fieldOf f (asField f short (part begin to s))) ≡ false → (r : Refusal)
+          → r ≡ misfitOf (o .j + 1) (o .element + i) (rightContent short (o .k * o .width) (part (o .at) (o .at + reach (drop (o .at) s) 1) s)) → C.Refused r ≡ verdictOf (readLines f short count s)
+      trying-wrong y r z = by (rightContent short (o .k * o .width) (part (o .at) (o .at + reach (drop (o .at) s) 1) s)) refl
         where
           end : ℕ
           end = o .at + reach (drop (o .at) s) 1
 
-          by : (x : Content) → rightContent f (o .k * o .width) (part (o .at) (o .at + reach (drop (o .at) s) 1) s) ≡ x → C.Refused r ≡ verdictOf (readLines f count s)
+          by : (x : Content) → rightContent short (o .k * o .width) (part (o .at) (o .at + reach (drop (o .at) s) 1) s) ≡ x → C.Refused r ≡ verdictOf (readLines f short count s)
           by (Length m) v =
-              let n : rightContent f (columnsOf f l) (part (o .at) end s) ≡ Length m = rw columns at v in
+              let n : rightContent short (columnsOf f l) (part (o .at) end s) ≡ Length m = rw columns at v in
               ap C.Refused (z ∙ ap (misfitOf (o .j + 1) (o .element + i)) v)
-              ∙ wrong-field f count s (o .state) (o .further) (o .k) end (o .elements) refl m v (g .right end m refl n) to c (to-right end m refl n) (sym (same end m refl n) ∙ y)
-          by NoReturn v = ap C.Refused (z ∙ ap (misfitOf (o .j + 1) (o .element + i)) v) ∙ wrong-line f count s (o .state) (o .further) (o .k) end (o .elements) refl v
+              ∙ wrong-field f short count s (o .state) (o .further) (o .k) end (o .elements) refl m v (g .right end m refl n) begin to c (ends-right end m refl n .0) (ends-right end m refl n .1) (sym (same end m refl n) ∙ y)
+          by NoReturn v = ap C.Refused (z ∙ ap (misfitOf (o .j + 1) (o .element + i)) v) ∙ wrong-line f short count s (o .state) (o .further) (o .k) end (o .elements) refl v
 
     -- all fields are formed: the line's end is sought behind them
     module _ (d : o .k ≤ i) (end : ℕ) (w : end ≡ o .stop + reach (drop (o .stop) s) 1) where
       ends : end ≡ o .at + reach (drop (o .at) s) 1
-      ends = w ∙ reach-past s (o .at) (o .stop) 0 (stops .0) (stops .1) (by (mayBeShort f) refl)
+      ends = w ∙ reach-past s (o .at) (o .stop) 0 (stops .0) (stops .1) (by (short) refl)
         where
-          by : (x : Bool) → mayBeShort f ≡ x → Plain (part (o .at) (o .stop) s)
-          by true u = stop-short f (o .k * o .width) s (o .at) (o .state .walk .inside) (o .stop) (o .sought) u .plain
+          by : (x : Bool) → short ≡ x → Plain (part (o .at) (o .stop) s)
+          by true u = stop-short short (o .k * o .width) s (o .at) (o .state .walk .inside) (o .stop) (o .sought) u .plain
           by false u =
               let z : i ≡ (o .k) = omega (arith, g .within, many-here f count s (o .state .walk) (o .k) (o .at + reach (drop (o .at) s) 1) (o .elements) refl) in
               let n : from ≡ (o .stop) =
@@ -268,7 +253,7 @@ module _ {f : Form} {count : ℕ} {s : List ℕ} (o : OnLine f count s) where
                 ap (λ x. x * rowOf f .width) z,
                 ap (λ x. (o .k) * x) (o .state .walk .wide),
                 g .reached u,
-                stop-full f (o .k * o .width) s (o .at)
+                stop-full short (o .k * o .width) s (o .at)
                     (o .state .walk .inside) (o .stop) (o .sought) u,
               ) in
               subst (λ x. Plain (part (o .at) x s)) n (g .plain u)
@@ -276,9 +261,9 @@ module _ {f : Form} {count : ℕ} {s : List ℕ} (o : OnLine f count s) where
       pub tried-range : (o .at ≤ end) × (end ≤ length s)
       tried-range = end-range f count s (o .state .walk) (o .k) end (o .elements) ends
 
-      pub tried-wrong : rightContent f (o .k * o .width) (part (o .at) end s) ≡ NoReturn → C.Refused (BadLine (o .j + 1)) ≡ verdictOf (readLines f count s)
-      tried-wrong v = wrong-line f count s (o .state) (o .further) (o .k) end (o .elements) ends v
+      pub tried-wrong : rightContent short (o .k * o .width) (part (o .at) end s) ≡ NoReturn → C.Refused (BadLine (o .j + 1)) ≡ verdictOf (readLines f short count s)
+      tried-wrong v = wrong-line f short count s (o .state) (o .further) (o .k) end (o .elements) ends v
 
-      pub tried-next : (m : ℕ) → rightContent f (o .k * o .width) (part (o .at) end s) ≡ Length m
-          → Checking f count s (o .width) (o .perLine) (o .many) (o .left - o .k) end (o .element + o .perLine) (o .j + 1)
-      tried-next m v = checking-next f count s (o .state) (o .further) (o .k) end (o .elements) ends m v (g .right end m ends (rw columns at v)) d
+      pub tried-next : (m : ℕ) → rightContent short (o .k * o .width) (part (o .at) end s) ≡ Length m
+          → Checking f short count s (o .width) (o .perLine) (o .many) (o .left - o .k) end (o .element + o .perLine) (o .j + 1)
+      tried-next m v = checking-next f short count s (o .state) (o .further) (o .k) end (o .elements) ends m v (g .right end m ends (rw columns at v)) d

@@ -3,6 +3,7 @@
 -- fields before it.
 -- Assumes nothing.
 use mathlib.Core.Path.{_≡_, refl, sym, _∙_, ap, subst}
+use mathlib.Core.Bool.{Bool}
 use mathlib.Core.List.{List, []}
 use mathlib.Core.Logic.{⊎-elim}
 use Prim.Native.Nat.{ℕ, suc, _+_, _-_, _*_, _/_, _%_, _<_, _≤_, min}
@@ -61,12 +62,12 @@ module _ (f : Form) (l : Line) (text : List ℕ) where
           omega (arith, suc-mul i (rowOf f .cells), reads-size f y ds (field-done f (l .number) (l .first + i) y ds u))
 
 -- the lines of a group
-module _ (f : Form) (count : ℕ) (x : List ℕ) where
+module _ (f : Form) (short : Bool) (count : ℕ) (x : List ℕ) where
   abbrev pub lineRead : ℕ → Cells
-  lineRead j = readLine f (planned f count j) (lineOf x j)
+  lineRead j = readLine f short (planned f count j) (lineOf x j)
 
   abbrev pub linesFrom : ℕ → Cells
-  linesFrom j = readLinesOf f (planFrom (rowOf f .«per_line») (elementsOf f count) j (linesOf f count - j)) (behind j x)
+  linesFrom j = readLinesOf f short (planFrom (rowOf f .«per_line») (elementsOf f count) j (linesOf f count - j)) (behind j x)
 
   pub lines-pieces : InPieces (linesOf f count) lineRead linesFrom
   lines-pieces = record { more = more; none = none }
@@ -84,38 +85,38 @@ module _ (f : Form) (count : ℕ) (x : List ℕ) where
           let m : linesOf f count - j ≡ suc (linesOf f count - suc j) = omega arith in
           let c : end - at ≡ reach (drop at x) 1 = omega arith in
           let e : end ≡ reach x (suc j) = sym (reach-add x j 1) ∙ ap (reach x) (add-one j) in
-          rw m (lines-more f x p n j (linesOf f count - suc j) at end refl ∙ rw (c, e, add-one j) refl)
+          rw m (lines-more f short x p n j (linesOf f count - suc j) at end refl ∙ rw (c, e, add-one j) refl)
 
       none : linesFrom (linesOf f count) ≡ done []
       none =
           let m : linesOf f count - linesOf f count ≡ 0 = omega arith in
-          rw m (lines-none f x p n (linesOf f count) (reach x (linesOf f count)))
+          rw m (lines-none f short x p n (linesOf f count) (reach x (linesOf f count)))
 
-  pub lines-start : linesFrom 0 ≡ readLines f count x
+  pub lines-start : linesFrom 0 ≡ readLines f short count x
   unfolding readLines planOf
   lines-start = rw (reach-zero x, drop-none x, sub-zero (linesOf f count)) refl
 
 -- ---- a line that was read
 
-module _ (f : Form) (count : ℕ) (x : List ℕ) where
+module _ (f : Form) (short : Bool) (count : ℕ) (x : List ℕ) where
   -- it is right, and each of its fields has its cells
   pub record ReadLine (j : ℕ) (cs : List ℤ) : Type 0 where
     pub content : List ℕ
-    pub line : RightLine f count x j content
+    pub line : RightLine f short count x j content
     pub each : (k : ℕ) → k < planned f count j .many → ReadsAs f (fieldIn f count j content k) (part (k * rowOf f .cells) (suc k * rowOf f .cells) cs)
 
-  pub line-read : (j : ℕ) (cs : List ℤ) → lineRead f count x j ≡ done cs → ReadLine j cs
+  pub line-read : (j : ℕ) (cs : List ℤ) → lineRead f short count x j ≡ done cs → ReadLine j cs
   line-read j cs e =
       let l = planned f count j in
       let y = lineOf x j in
-      let d = line-done f l y cs e in
+      let d = line-done f short l y cs e in
       let t = part-zero (d .bytes) y in
       let s = take (d .bytes) y in
       let text = filledTo (columnsOf f l) s in
       let fields : fieldsFrom f l text 0 ≡ done cs = fields-start f l text ∙ ap (λ z. readFields f l (filledTo (columnsOf f l) z)) (sym t) ∙ d .fields in
       record {
         content = s;
-        line = record { content = is-content y (d .bytes) (d .content) .0; right = right-plain f (columnsOf f l) s .0 (ap (isRight f (columnsOf f l)) (sym t) ∙ d .right) };
+        line = record { content = is-content y (d .bytes) (d .content) .0; right = right-plain short (columnsOf f l) s .0 (ap (isRight short (columnsOf f l)) (sym t) ∙ d .right) };
         each = λ k h. field-done f (l .number) (l .first + k) (fieldIn f count j s k) (part (k * rowOf f .cells) (suc k * rowOf f .cells) cs)
             (piece-done (fields-pieces f l text) (fields-sized f l text) cs fields k h);
       }
@@ -140,22 +141,22 @@ module _ (f : Form) (count : ℕ) (x : List ℕ) where
       (λ l. l)
       (le-or-lt (linesOf f count) j)
 
-  module _ (cs : List ℤ) (e : readLines f count x ≡ done cs) where
-    pub line-cells : (j : ℕ) → j < linesOf f count → lineRead f count x j ≡ done (part (begins j) (begins (suc j)) cs)
+  module _ (cs : List ℤ) (e : readLines f short count x ≡ done cs) where
+    pub line-cells : (j : ℕ) → j < linesOf f count → lineRead f short count x j ≡ done (part (begins j) (begins (suc j)) cs)
     line-cells j h =
-        piece-done (lines-pieces f count x) record { begin = first; size = size } cs (lines-start f count x ∙ e) j h
+        piece-done (lines-pieces f short count x) record { begin = first; size = size } cs (lines-start f short count x ∙ e) j h
       where
         first : begins 0 ≡ 0
         first =
             let z : min n (0 * p) ≡ 0 = rw (zero-mul p) (omega arith) in
             rw z (zero-mul (rowOf f .cells))
 
-        size : (i : ℕ) → i < linesOf f count → (ds : List ℤ) → lineRead f count x i ≡ done ds → begins i + length ds ≡ begins (suc i)
+        size : (i : ℕ) → i < linesOf f count → (ds : List ℤ) → lineRead f short count x i ≡ done ds → begins i + length ds ≡ begins (suc i)
         size i l ds u =
             let m : min n (i * p) + min p (n - i * p) ≡ min n (suc i * p) = omega (arith, suc-mul i p) in
-            omega (arith, line-size f (planned f count i) (lineOf x i) ds u, add-mul (min n (i * p)) (min p (n - i * p)) (rowOf f .cells), ap (λ k. k * rowOf f .cells) m)
+            omega (arith, line-size f short (planned f count i) (lineOf x i) ds u, add-mul (min n (i * p)) (min p (n - i * p)) (rowOf f .cells), ap (λ k. k * rowOf f .cells) m)
 
-    stands : (j k : ℕ) → k < p → j * p + k < n → Stands f count x cs (j * p + k) j k
+    stands : (j k : ℕ) → k < p → j * p + k < n → Stands f short count x cs (j * p + k) j k
     stands j k h l =
         let c = rowOf f .cells in
         let r = line-read j (part (begins j) (begins (suc j)) cs) (line-cells j (line-inside j (omega arith))) in
@@ -173,17 +174,17 @@ module _ (f : Form) (count : ℕ) (x : List ℕ) where
         }
 
     -- what was read is the group's values
-    pub read-values : Values f count x cs
-    read-values = record { size = group-size f count x cs e; each = stands }
+    pub read-values : Values f short count x cs
+    read-values = record { size = group-size f short count x cs e; each = stands }
 
   -- R45: counted from 0, element i stands in line i / per line, and i mod per line others stand before it there
-  pub values-divided : (cs : List ℤ) → Values f count x cs → (i : ℕ) → i < n → Stands f count x cs i (i / p) (i % p)
+  pub values-divided : (cs : List ℤ) → Values f short count x cs → (i : ℕ) → i < n → Stands f short count x cs i (i / p) (i % p)
   values-divided cs v i h =
       let e = div-add-mod' i p in
-      subst (λ m. Stands f count x cs m (i / p) (i % p)) e (v .each (i / p) (i % p) (mod-lt i (row-fits f .some)) (omega arith))
+      subst (λ m. Stands f short count x cs m (i / p) (i % p)) e (v .each (i / p) (i % p) (mod-lt i (row-fits f .some)) (omega arith))
 
   -- a group has one list of values
-  pub values-one : (cs ds : List ℤ) → Values f count x cs → Values f count x ds → cs ≡ ds
+  pub values-one : (cs ds : List ℤ) → Values f short count x cs → Values f short count x ds → cs ≡ ds
   unfolding Count.cellsOf
   values-one cs ds u v = parts-same (rowOf f .cells) n cs ds (u .size) (v .size) same
     where

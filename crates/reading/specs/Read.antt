@@ -1,6 +1,6 @@
 -- R260, R269: what a group reads as: a definition over the record's counts, the group's number, the bytes of its own lines and the table's
 -- length, in which the text does not occur.
-use mathlib.Core.Bool.{cond}
+use mathlib.Core.Bool.{Bool, cond}
 use mathlib.Core.List.{List, map}
 use Prim.Native.Nat.{ℕ, _*_}
 use lib.Dec.{eqb, leb}
@@ -26,7 +26,7 @@ use Rattle.count.specs.declared.Ruling.the-variants.{Kept, Broken}
 use Rattle.date.specs.Date.{datedOf}
 use Rattle.date.specs.declared.Dated.{Dated}
 use Rattle.date.specs.declared.Dated.the-variants.{Right, Wrong}
-use Rattle.reading.specs.Blanks.{isRight, filledTo}
+use Rattle.reading.specs.Blanks.{mayBeShort, isRight, filledTo}
 use Rattle.reading.specs.Plan.{Line, planOf, elementsIn}
 use Rattle.reply.specs.declared.Refusal.{Refusal}
 use Rattle.reply.specs.declared.Refusal.the-variants.{NoSuchNumber, BrokenRule, NoRoom, BadLine, BadField, BadDate}
@@ -53,11 +53,11 @@ readFields f l s = gather (λ (e : ℕ) x. rowOf f .width) (readField f (l .numb
 abbrev pub columnsOf : Form → Line → ℕ
 columnsOf f l = l .many * rowOf f .width
 
--- R66, R208: a line without a content, or with one that isn't right for its fields, is wrong
-abbrev pub readContent : Form → Line → List ℕ → Content → Cells
-readContent f l x (Length n) =
-    cond (isRight f (columnsOf f l) (part 0 n x)) (readFields f l (filledTo (columnsOf f l) (part 0 n x))) (bad (BadLine (l .number)))
-readContent f l x NoReturn = bad (BadLine (l .number))
+-- R66, R208: a line without a content, or with one that isn't right for its fields, is wrong; whether it may be short is its group's
+abbrev pub readContent : Form → Bool → Line → List ℕ → Content → Cells
+readContent f short l x (Length n) =
+    cond (isRight short (columnsOf f l) (part 0 n x)) (readFields f l (filledTo (columnsOf f l) (part 0 n x))) (bad (BadLine (l .number)))
+readContent f short l x NoReturn = bad (BadLine (l .number))
 
 -- R262: what is blamed where a field of a line is misformed: the line itself, if it is not right
 abbrev pub misfitOf : ℕ → ℕ → Content → Refusal
@@ -65,17 +65,17 @@ misfitOf line e (Length n) = BadField line e
 misfitOf line e NoReturn = BadLine line
 
 -- a line, with its line feed
-unfoldable pub readLine : Form → Line → List ℕ → Cells
-readLine f l x = readContent f l x (contentOf x)
+unfoldable pub readLine : Form → Bool → Line → List ℕ → Cells
+readLine f short l x = readContent f short l x (contentOf x)
 
 -- ---- a group
 
 -- R262, R263: the lines in order; the first wrong line or misformed field ends the reading
-unfoldable pub readLinesOf : Form → List Line → List ℕ → Cells
-readLinesOf f ls x = gather (λ (l : Line) s. reach s 1) (readLine f) ls x
+unfoldable pub readLinesOf : Form → Bool → List Line → List ℕ → Cells
+readLinesOf f short ls x = gather (λ (l : Line) s. reach s 1) (readLine f short) ls x
 
-unfoldable pub readLines : Form → ℕ → List ℕ → Cells
-readLines f count x = readLinesOf f (planOf f count) x
+unfoldable pub readLines : Form → Bool → ℕ → List ℕ → Cells
+readLines f short count x = readLinesOf f short (planOf f count) x
 
 -- R210, R265: the date, of group 3 alone, once its lines and fields are right
 abbrev pub byDate : List ℤ → Dated → Cells
@@ -88,7 +88,7 @@ dated g (bad r) = bad r
 
 -- R211, R264: 11 before any line is looked at; then the lines, then the date
 unfoldable pub readForm : Form → ℕ → ℕ → List ℕ → ℕ → Cells
-readForm f g count x room = cond (leb (cellsOf f count) room) (dated g (readLines f count x)) (bad NoRoom)
+readForm f g count x room = cond (leb (cellsOf f count) room) (dated g (readLines f (mayBeShort g) count x)) (bad NoRoom)
 
 -- R207, R261: counts that break a rule are 7 for every group
 abbrev pub readRuled : Form → List ℕ → ℕ → List ℕ → ℕ → Ruling → Cells

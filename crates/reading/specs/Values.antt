@@ -2,6 +2,7 @@
 -- line count from 0 here: element i stands in line i / per line, in the columns from (i mod per line) times the width, and fills the cells
 -- from i times the form's cells on (proofs/Values.antt).
 use mathlib.Core.Path.{_≡_}
+use mathlib.Core.Bool.{Bool}
 use mathlib.Core.List.{List}
 use Prim.Native.Nat.{ℕ, _+_, _*_, _<_, _≤_}
 use lib.IntN.{ℤ}
@@ -31,17 +32,17 @@ fieldIn f count j s k = take (rowOf f .width) (drop (k * rowOf f .width) (filled
 
 -- R62 to R64: the content has the columns of its fields, unless it may be short; it has no more than 120 bytes, and blanks alone behind the
 -- fields: what isRight tests (proofs/Blanks.antt)
-pub record RightContent (f : Form) (columns : ℕ) (s : List ℕ) : Type 0 where
-  pub least : shortest f columns ≤ length s
+pub record RightContent (short : Bool) (columns : ℕ) (s : List ℕ) : Type 0 where
+  pub least : shortest short columns ≤ length s
   pub most : length s ≤ 120
   pub blanks : (i : ℕ) → columns ≤ i → i < length s → getD s i 0 ≡ 32
 
--- a group of this form and count, whose lines are x
-module _ (f : Form) (count : ℕ) (x : List ℕ) where
+-- a group of this form and count, whose lines are x and may be short or not
+module _ (f : Form) (short : Bool) (count : ℕ) (x : List ℕ) where
   -- R66: line j is right, so not 8: it is the content s, a carriage return and a line feed, and s is right for its fields
   pub record RightLine (j : ℕ) (s : List ℕ) : Type 0 where
     pub content : HasContent (lineOf x j) s
-    pub right : RightContent f (columnsOf f (planned f count j)) s
+    pub right : RightContent short (columnsOf f (planned f count j)) s
 
   -- R45, R46: element i stands in line j behind k fields; its field has (field's Grammar) the cells from i times the form's cells on
   pub record Stands (cs : List ℤ) (i j k : ℕ) : Type 0 where

@@ -7,6 +7,7 @@ use reply::Answer;
 use reply::Checked;
 use reply::Refusal;
 ghost use mathlib.Core.Path.{_≡_};
+ghost use mathlib.Core.Bool as Bool;
 ghost use mathlib.Core.List.{map};
 ghost use Prim.Native.Nat.{_+_, _-_, _*_, _≤_};
 ghost use lib.Dec.{T};
@@ -22,35 +23,24 @@ ghost use Rattle.count.specs.Rules.{rulingOf};
 ghost use Rattle.line.specs.Lines.{reach};
 ghost use Rattle.line.specs.Contents.{contentOf};
 ghost use Rattle.reading.specs.Blanks.{blank, mayBeShort, shortest, filledTo, isRight, asField, rightContent};
-ghost use Rattle.reading.specs.Blanks.{fieldsSpan, Fits};
+ghost use Rattle.reading.specs.Blanks.{fieldsSpan, Fits, HoldsLetters};
 ghost use Rattle.reading.specs.Read.{verdictOf, misfitOf, readLines, dated, readForm, readGroup, readingOf};
 ghost use Rattle.reading.specs.Read.{tableBy};
 
 // ---- What a line holds.
 
-// R64: whether lines of the form may be shorter than their fields.
-fn may_be_short(form: Form) -> bool
-    ensures { λ r. ⌜ r ≡ mayBeShort form ⌝ }
+// R64: whether lines of the group may be shorter than their fields.
+fn may_be_short(group: usize) -> bool
+    ensures { λ r. ⌜ r ≡ mayBeShort group ⌝ }
 {
-    match form {
-        Form::F7 => false,
-        Form::A120 => true,
-        Form::A1 => false,
-        Form::F8 => false,
-        Form::I2 => false,
-        Form::I3 => false,
-        Form::I1 => false,
-        Form::E11 => false,
-        Form::E20 => false,
-        Form::E8 => false,
-    }
+    group == 2
 }
 
 // R62, R64: how long the content of fields of so many columns is at least.
-fn least(form: Form, columns: usize) -> usize
-    ensures { λ r. ⌜ r ≡ shortest form columns ⌝ }
+fn least(short: bool, columns: usize) -> usize
+    ensures { λ r. ⌜ r ≡ shortest short columns ⌝ }
 {
-    if may_be_short(form) {
+    if short {
         return 0;
     }
     columns
@@ -70,28 +60,28 @@ fn all_blank(s: &[u8]) -> bool
 }
 
 // R62 to R64, R66: whether a content is right for fields that take so many columns.
-fn is_right(form: Form, columns: usize, content: &[u8]) -> bool
-    ensures { λ r. ⌜ r ≡ isRight form columns (now (content .entry)) ⌝ }
+fn is_right(short: bool, columns: usize, content: &[u8]) -> bool
+    ensures { λ r. ⌜ r ≡ isRight short columns (now (content .entry)) ⌝ }
 {
     let n = content.len();
-    least(form, columns) <= n && (n <= 120 && (n <= columns || all_blank(&content[columns..n])))
+    least(short, columns) <= n && (n <= 120 && (n <= columns || all_blank(&content[columns..n])))
 }
 
 // R66: the length of a line's content, if there is one and it is right.
-fn right_content(form: Form, columns: usize, line: &[u8]) -> line::Content
-    ensures { λ r. ⌜ r ≡ rightContent form columns (now (line .entry)) ⌝ }
+fn right_content(short: bool, columns: usize, line: &[u8]) -> line::Content
+    ensures { λ r. ⌜ r ≡ rightContent short columns (now (line .entry)) ⌝ }
 {
     let line::Content::Length(n) = line::content_length(line) else {
         return line::Content::NoReturn;
     };
-    if is_right(form, columns, &line[0..n]) {
+    if is_right(short, columns, &line[0..n]) {
         return line::Content::Length(n);
     }
     line::Content::NoReturn
 }
 
 fn right_content_at(
-    form: Form,
+    short: bool,
     columns: usize,
     lines: &[u8],
     from: usize,
@@ -99,9 +89,9 @@ fn right_content_at(
 ) -> line::Content
     requires order { ⌜ from ≤ to ⌝ }
     requires lines { ⌜ to ≤ length (now lines) ⌝ }
-    ensures { λ r. ⌜ r ≡ rightContent form columns (part from to (now (lines .entry))) ⌝ }
+    ensures { λ r. ⌜ r ≡ rightContent short columns (part from to (now (lines .entry))) ⌝ }
 {
-    right_content(form, columns, &lines[from..to])
+    right_content(short, columns, &lines[from..to])
 }
 
 fn content_at(lines: &[u8], from: usize, to: usize) -> line::Content
@@ -126,32 +116,34 @@ fn is_formed(value: field::Value) -> bool
 }
 
 // Whether bytes of a line are a field of the form. Where lines may be short, blanks that would be added print too (R65).
-fn is_field(form: Form, bytes: &[u8]) -> bool
-    requires { ⌜ length (now bytes) ≤ rowOf form .width ⌝ }
-    ensures { λ r. ⌜ r ≡ formed (fieldOf form (asField form (now (bytes .entry)))) ⌝ }
+fn is_field(form: Form, short: bool, bytes: &[u8]) -> bool
+    requires letters { ⌜ HoldsLetters form short ⌝ }
+    requires width { ⌜ length (now bytes) ≤ rowOf form .width ⌝ }
+    ensures { λ r. ⌜ r ≡ formed (fieldOf form (asField form short (now (bytes .entry)))) ⌝ }
 {
-    if may_be_short(form) {
+    if short {
         return field::all_printable(bytes);
     }
     is_formed(field::read(form, bytes))
 }
 
-fn is_field_at(form: Form, lines: &[u8], from: usize, to: usize) -> bool
+fn is_field_at(form: Form, short: bool, lines: &[u8], from: usize, to: usize) -> bool
+    requires letters { ⌜ HoldsLetters form short ⌝ }
     requires order { ⌜ from ≤ to ⌝ }
     requires lines { ⌜ to ≤ length (now lines) ⌝ }
     requires length { ⌜ to - from ≤ rowOf form .width ⌝ }
-    ensures { λ r. ⌜ r ≡ formed (fieldOf form (asField form (part from to (now (lines .entry))))) ⌝ }
+    ensures { λ r. ⌜ r ≡ formed (fieldOf form (asField form short (part from to (now (lines .entry))))) ⌝ }
 {
-    is_field(form, &lines[from..to])
+    is_field(form, short, &lines[from..to])
 }
 
 // Where the fields of a line are looked for no further, before its end is known. A line that may be short has no length of its own: its
 // content is asked for first, and its bytes are looked at twice.
-fn fields_stop(form: Form, columns: usize, lines: &[u8], at: usize) -> usize
+fn fields_stop(short: bool, columns: usize, lines: &[u8], at: usize) -> usize
     requires { ⌜ at ≤ length (now lines) ⌝ }
-    ensures { λ r. ⌜ r ≡ at + fieldsSpan form columns (now (lines .entry)) at ⌝ }
+    ensures { λ r. ⌜ r ≡ at + fieldsSpan short columns (now (lines .entry)) at ⌝ }
 {
-    if may_be_short(form) {
+    if short {
         let line::Content::Length(n) = content_at(lines, at, line::behind_or_end(lines, at, 1))
         else {
             return at;
@@ -163,7 +155,7 @@ fn fields_stop(form: Form, columns: usize, lines: &[u8], at: usize) -> usize
 
 // R262: what is blamed where a field is misformed. A line that is wrong comes before its fields.
 fn misfit(
-    form: Form,
+    short: bool,
     columns: usize,
     lines: &[u8],
     at: usize,
@@ -173,9 +165,9 @@ fn misfit(
     requires { ⌜ at ≤ length (now lines) ⌝ }
     ensures { λ r. ⌜ r ≡
         misfitOf number element
-        (rightContent form columns (part at (at + reach (drop at (now (lines .entry))) 1) (now (lines .entry)))) ⌝ }
+        (rightContent short columns (part at (at + reach (drop at (now (lines .entry))) 1) (now (lines .entry)))) ⌝ }
 {
-    match right_content_at(form, columns, lines, at, line::behind_or_end(lines, at, 1)) {
+    match right_content_at(short, columns, lines, at, line::behind_or_end(lines, at, 1)) {
         line::Content::Length(_) => Refusal::BadField(number, element),
         line::Content::NoReturn => Refusal::BadLine(number),
     }
@@ -183,8 +175,9 @@ fn misfit(
 
 // The first pass, as R443 has it: each line's fields, and then what stands behind them, up to the first line that is bad (R263). It looks
 // at no table. No line feed stands in fields that are formed, so the line's end is sought behind them.
-fn check_lines(form: Form, count: u16, lines: &[u8]) -> Checked
-    ensures { λ r. ⌜ r ≡ verdictOf (readLines form count (now (lines .entry))) ⌝ }
+fn check_lines(form: Form, short: bool, count: u16, lines: &[u8]) -> Checked
+    requires { ⌜ HoldsLetters form short ⌝ }
+    ensures { λ r. ⌜ r ≡ verdictOf (readLines form short count (now (lines .entry))) ⌝ }
 {
     let row = form::row_of(form);
     let width = row.width;
@@ -197,20 +190,21 @@ fn check_lines(form: Form, count: u16, lines: &[u8]) -> Checked
     let mut j: usize = 0;
     'lines: while j < many {
         let k = base::lesser(per_line, left);
-        let stop = fields_stop(form, k * width, lines, at);
+        let stop = fields_stop(short, k * width, lines, at);
         let mut from = at;
         let mut i: usize = 0;
         while i < k {
-            if is_field_at(form, lines, from, base::lesser(from + width, stop)) {
+            let to = base::lesser(from + width, stop);
+            if is_field_at(form, short, lines, base::lesser(from, stop), to) {
                 from += width;
                 i += 1;
             } else {
-                verdict = Checked::Refused(misfit(form, k * width, lines, at, j + 1, element + i));
+                verdict = Checked::Refused(misfit(short, k * width, lines, at, j + 1, element + i));
                 break 'lines;
             }
         }
         let end = line::behind_or_end(lines, stop, 1);
-        let line::Content::Length(_) = right_content_at(form, k * width, lines, at, end) else {
+        let line::Content::Length(_) = right_content_at(short, k * width, lines, at, end) else {
             verdict = Checked::Refused(Refusal::BadLine(j + 1));
             break 'lines;
         };
@@ -225,8 +219,8 @@ fn check_lines(form: Form, count: u16, lines: &[u8]) -> Checked
 // R140, R210: the date stands in the first line of group 3, where R123 puts 19 characters at least.
 fn check_date(count: u16, lines: &[u8]) -> Checked
     requires date { ⌜ 19 ≤ count ⌝ }
-    requires clean { ⌜ verdictOf (readLines Form.A1 count (now lines)) ≡ Checked.Right ⌝ }
-    ensures { λ r. ⌜ r ≡ verdictOf (dated 3 (readLines Form.A1 count (now (lines .entry)))) ⌝ }
+    requires clean { ⌜ verdictOf (readLines Form.A1 Bool.false count (now lines)) ≡ Checked.Right ⌝ }
+    ensures { λ r. ⌜ r ≡ verdictOf (dated 3 (readLines Form.A1 Bool.false count (now (lines .entry)))) ⌝ }
 {
     let n = form::elements(Form::A1, count);
     let row = form::row_of(Form::A1);
@@ -241,9 +235,9 @@ fn check_date(count: u16, lines: &[u8]) -> Checked
 fn check(form: Form, group: usize, count: u16, lines: &[u8]) -> Checked
     requires form { ⌜ formOf group ≡ GroupForm.Has form ⌝ }
     requires date { ⌜ (group ≡ 3 → 19 ≤ count) ⌝ }
-    ensures { λ r. ⌜ r ≡ verdictOf (dated group (readLines form count (now (lines .entry)))) ⌝ }
+    ensures { λ r. ⌜ r ≡ verdictOf (dated group (readLines form (mayBeShort group) count (now (lines .entry)))) ⌝ }
 {
-    match check_lines(form, count, lines) {
+    match check_lines(form, may_be_short(group), count, lines) {
         Checked::Refused(r) => Checked::Refused(r),
         Checked::Right => {
             if group == 3 {
@@ -281,16 +275,17 @@ fn put_letters(bytes: &[u8], width: usize, table: &mut [i64], at: usize)
 }
 
 // The cells of a field.
-fn put_field(form: Form, width: usize, bytes: &[u8], table: &mut [i64], at: usize)
+fn put_field(form: Form, short: bool, width: usize, bytes: &[u8], table: &mut [i64], at: usize)
+    requires letters { ⌜ HoldsLetters form short ⌝ }
     requires width { ⌜ width ≡ rowOf form .width ⌝ }
-    requires fits { ⌜ Fits form (length (now bytes)) ⌝ }
+    requires fits { ⌜ Fits form short (length (now bytes)) ⌝ }
     requires formed { ⌜ T (formed (fieldOf form (filledTo width (now bytes)))) ⌝ }
     requires room { ⌜ at + rowOf form .cells ≤ length (now table) ⌝ }
     ensures { λ _. ⌜ now (table .exit) ≡
         over at (valueCells (filledTo width (now (bytes .entry))) (fieldOf form (filledTo width (now (bytes .entry)))))
         (now (table .entry)) ⌝ }
 {
-    if may_be_short(form) {
+    if short {
         put_letters(bytes, width, table, at);
         return;
     }
@@ -310,6 +305,7 @@ fn put_field(form: Form, width: usize, bytes: &[u8], table: &mut [i64], at: usiz
 
 fn put_field_at(
     form: Form,
+    short: bool,
     width: usize,
     lines: &[u8],
     from: usize,
@@ -317,10 +313,11 @@ fn put_field_at(
     table: &mut [i64],
     at: usize,
 )
+    requires letters { ⌜ HoldsLetters form short ⌝ }
     requires order { ⌜ from ≤ to ⌝ }
     requires lines { ⌜ to ≤ length (now lines) ⌝ }
     requires width { ⌜ width ≡ rowOf form .width ⌝ }
-    requires fits { ⌜ Fits form (to - from) ⌝ }
+    requires fits { ⌜ Fits form short (to - from) ⌝ }
     requires formed { ⌜ T (formed (fieldOf form (filledTo width (part from to (now lines))))) ⌝ }
     requires room { ⌜ at + rowOf form .cells ≤ length (now table) ⌝ }
     ensures { λ _. ⌜ now (table .exit) ≡
@@ -328,15 +325,16 @@ fn put_field_at(
         (valueCells (filledTo width (part from to (now (lines .entry))))
         (fieldOf form (filledTo width (part from to (now (lines .entry)))))) (now (table .entry)) ⌝ }
 {
-    put_field(form, width, &lines[from..to], table, at);
+    put_field(form, short, width, &lines[from..to], table, at);
 }
 
 // R266: the second pass, the cells of lines that were found clean.
-fn fill_lines(form: Form, count: u16, lines: &[u8], table: &mut [i64])
-    requires clean { ⌜ verdictOf (readLines form count (now lines)) ≡ Checked.Right ⌝ }
+fn fill_lines(form: Form, short: bool, count: u16, lines: &[u8], table: &mut [i64])
+    requires letters { ⌜ HoldsLetters form short ⌝ }
+    requires clean { ⌜ verdictOf (readLines form short count (now lines)) ≡ Checked.Right ⌝ }
     requires room { ⌜ cellsOf form count ≤ length (now table) ⌝ }
     ensures { λ _. ⌜ now (table .exit) ≡
-        over 0 (cellsGot (readLines form count (now (lines .entry)))) (now (table .entry)) ⌝ }
+        over 0 (cellsGot (readLines form short count (now (lines .entry)))) (now (table .entry)) ⌝ }
 {
     let row = form::row_of(form);
     let width = row.width;
@@ -350,7 +348,7 @@ fn fill_lines(form: Form, count: u16, lines: &[u8], table: &mut [i64])
     while j < many {
         let k = base::lesser(per_line, left);
         // no line feed stands in the columns of these fields; a line that may be short can end anywhere, so its bytes are looked at twice
-        let end = line::behind_or_end(lines, at + least(form, k * width), 1);
+        let end = line::behind_or_end(lines, at + least(short, k * width), 1);
         // a clean line has a content, so this is never taken
         let line::Content::Length(n) = content_at(lines, at, end) else {
             return;
@@ -360,7 +358,16 @@ fn fill_lines(form: Form, count: u16, lines: &[u8], table: &mut [i64])
         let mut i: usize = 0;
         while i < k {
             let to = base::lesser(from + width, stop);
-            put_field_at(form, width, lines, from, to, table, cell);
+            put_field_at(
+                form,
+                short,
+                width,
+                lines,
+                base::lesser(from, stop),
+                to,
+                table,
+                cell,
+            );
             from += width;
             cell += cells;
             i += 1;
@@ -389,7 +396,7 @@ fn read_form(form: Form, group: usize, count: u16, lines: &[u8], table: &mut [i6
     match check(form, group, count, lines) {
         Checked::Refused(r) => Answer::Refused(r),
         Checked::Right => {
-            fill_lines(form, count, lines, table);
+            fill_lines(form, may_be_short(group), count, lines, table);
             Answer::Done(cells)
         }
     }

@@ -21,6 +21,7 @@ use Rattle.line.specs.Lines.{Whole}
 use Rattle.line.proofs.Whole.{whole-append}
 use Rattle.count.specs.Tally
 use Rattle.count.specs.Tally.{countOf, linesBy, cellsBy, linesIn, cellsIn, recordLines, recordCells}
+use Rattle.reading.specs.Blanks.{mayBeShort}
 use Rattle.reading.specs.Read.{readLines}
 use Rattle.writing.specs.Text.{groupTextBy, groupText, groupsText, indexText, recordText}
 use Rattle.writing.specs.Canonical.{CanonicalGroupBy, CanonicalGroup, CanonicalRecord}
@@ -55,8 +56,8 @@ module _ (ns : List ℕ) where
   unfolding groupText
   group-text g x c p = by-text (countOf ns g) x c (formOf g) p
 
-  pub group-read : (g : ℕ) (f : Form) (x : List ℕ) (c : List ℤ) → formOf g ≡ Has f → CanonicalGroup ns g x c → readLines f (countOf ns g) x ≡ done c
-  group-read g f x c e p = Lines.lines-read f (countOf ns g) x c (rw e at p)
+  pub group-read : (g : ℕ) (f : Form) (x : List ℕ) (c : List ℤ) → formOf g ≡ Has f → CanonicalGroup ns g x c → readLines f (mayBeShort g) (countOf ns g) x ≡ done c
+  group-read g f x c e p = Lines.lines-read f (countOf ns g) x c (rw e at p) (mayBeShort g)
 
 -- ---- canonical text is one
 

@@ -32,7 +32,7 @@ use Rattle.line.specs.Lines.{reach, Whole, Plain}
 use Rattle.line.proofs.Pieces.{each-whole, each-plain, unbroken-plain}
 use Rattle.line.proofs.Whole.{reach-whole}
 use Rattle.line.proofs.Contents.{content-append, content-line}
-use Rattle.reading.specs.Blanks.{mayBeShort, isRight}
+use Rattle.reading.specs.Blanks.{isRight}
 use Rattle.reading.proofs.Blanks.{filled-enough, right-exact}
 use Rattle.reading.specs.Plan
 use Rattle.reading.specs.Plan.{Line, planFrom, planOf, elementsIn}
@@ -94,14 +94,14 @@ module _ (f : Form) where
     line-whole = subst (Whole 1) (sym (h .is)) (content-line (h .content) (each-plain field-plain (elementsIn l) (h .content) cs (h .good)))
 
     -- nothing stands behind the fields, and nothing is filled
-    pub line-read : l .many ≤ rowOf f .«per_line» → readLine f l x ≡ done cs
+    pub line-read : (short : Bool) → l .many ≤ rowOf f .«per_line» → readLine f short l x ≡ done cs
     unfolding Read.readLine
-    line-read few =
+    line-read short few =
         let s = h .content in
         let n : length s ≡ columnsOf f l = fields-bytes l s cs (h .good) in
         let w : columnsOf f l ≤ 120 = omega (arith, mul-le-mul-right (rowOf f .width) few, row-fits f .columns, mul-comm (rowOf f .width) (rowOf f .«per_line»)) in
         let p : part 0 (length s) (s ++ lineEnd) ≡ s = ap (take (length s - 0)) (drop-none (s ++ lineEnd)) ∙ take-at s lineEnd (length s - 0) (omega arith) in
-        let r : isRight f (columnsOf f l) s ≡ true = right-exact f (columnsOf f l) s (enough (mayBeShort f) n) (omega arith) (omega arith) in
+        let r : isRight short (columnsOf f l) s ≡ true = right-exact short (columnsOf f l) s (enough short n) (omega arith) (omega arith) in
         rw (h .is, content-append s, p, r, filled-enough (columnsOf f l) s (omega arith)) (fields-read l s cs (h .good))
       where
         enough : (t : Bool) {n m : ℕ} → n ≡ m → cond t 0 m ≤ n
@@ -128,17 +128,17 @@ module _ (f : Form) where
         subst (λ k. Whole k x) (sum-ones (planOf f count) ∙ plan-length f count)
         (each-whole (λ (l : Line). 1) line-whole (planOf f count) x cs h)
 
-    pub lines-read : readLines f count x ≡ done cs
+    pub lines-read : (short : Bool) → readLines f short count x ≡ done cs
     unfolding Read.readLines Read.readLinesOf Plan.planOf
-    lines-read =
+    lines-read short =
         let p = rowOf f .«per_line» in
         let few = each-passed (λ l. leb (l .many) p) (planOf f count) x cs (plan-few p (elementsOf f count) 0 (linesOf f count)) h in
-        ap (readLines f count) (sym (append-nil x))
-        ∙ each-gather {wide = λ (l : Line) s. reach s 1} {read = readLine f} record {
-          back = λ l y c q. line-read l y c (q .1)
+        ap (readLines f short count) (sym (append-nil x))
+        ∙ each-gather {wide = λ (l : Line) s. reach s 1} {read = readLine f short} record {
+          back = λ l y c q. line-read l y c (q .1) short
               (leb→le (l .many) p (q .0));
           exact = λ l y c b q. reach-whole b (line-whole l y c (q .1));
         } (planOf f count) x cs [] few
 
     pub lines-cells : length cs ≡ cellsOf f count
-    lines-cells = group-size f count x cs lines-read
+    lines-cells = group-size f false count x cs (lines-read false)

@@ -1,6 +1,7 @@
 -- What reads fits: where the lines of a group read with 0, each of its elements' cells has a field of its form.
 -- Assumes nothing.
 use mathlib.Core.Path.{_≡_, refl, sym, _∙_, ap, subst}
+use mathlib.Core.Bool.{Bool}
 use mathlib.Core.List.{List, _++_, flatMap}
 use Prim.Native.Nat.{ℕ, zero, suc, _+_, _-_, _*_, min}
 use native.Mathlib.Nat.{add-zero, zero-add, zero-mul, add-mul, suc-mul}
@@ -70,27 +71,27 @@ module _ (f : Form) where
       let g = gather-each (λ (e : ℕ) x. rowOf f .width) (readField f (l .number)) (elementsIn l) s c e in
       record { text = g .text; each = each-imply (λ e x c r. lawful f .fitting x c (field-done f (l .number) e x c r)) (elementsIn l) (g .text) c (g .each) }
 
-  line-fits : (l : Line) (x : List ℕ) (c : List ℤ) → readLine f l x ≡ done c → Pieced Fits (elementsIn l) c
-  line-fits l x c e =
-      let d = line-done f l x c e in
+  line-fits : (short : Bool) (l : Line) (x : List ℕ) (c : List ℤ) → readLine f short l x ≡ done c → Pieced Fits (elementsIn l) c
+  line-fits short l x c e =
+      let d = line-done f short l x c e in
       fields-fit l (filledTo (columnsOf f l) (part 0 (d .bytes) x)) c (d .fields)
 
-  lines-fit : (count : ℕ) (x : List ℕ) (c : List ℤ) → readLines f count x ≡ done c → Pieced Fits (upFrom 1 (elementsOf f count)) c
+  lines-fit : (short : Bool) (count : ℕ) (x : List ℕ) (c : List ℤ) → readLines f short count x ≡ done c → Pieced Fits (upFrom 1 (elementsOf f count)) c
   unfolding Read.readLines Read.readLinesOf Plan.planOf Count.linesOf
-  lines-fit count x c e =
-      let g = gather-each (λ (l : Line) s. reach s 1) (readLine f) (planOf f count) x c e in
+  lines-fit short count x c e =
+      let g = gather-each (λ (l : Line) s. reach s 1) (readLine f short) (planOf f count) x c e in
       let p = rowOf f .«per_line» in
       let n = elementsOf f count in
       let k = roundedUp n p in
       let m : min n ((0 + k) * p) - 0 * p ≡ n = rw (zero-add k, zero-mul p) (omega (arith, lines-enough n p (row-fits f .some))) in
       let a : 0 * p + 1 ≡ 1 = rw (zero-mul p) (omega arith) in
       subst (λ es. Pieced Fits es c) (plan-elements p n 0 k ∙ rw (m, a))
-      (each-flat elementsIn (planOf f count) (g .text) c (each-imply (λ l y d r. line-fits l y d r) (planOf f count) (g .text) c (g .each)))
+      (each-flat elementsIn (planOf f count) (g .text) c (each-imply (λ l y d r. line-fits short l y d r) (planOf f count) (g .text) c (g .each)))
 
-  pub group-fit : (g count : ℕ) (x : List ℕ) (c : List ℤ) → readLines f count x ≡ done c → elementsFit f g count c ≡ All
+  pub group-fit : (short : Bool) (g count : ℕ) (x : List ℕ) (c : List ℤ) → readLines f short count x ≡ done c → elementsFit f g count c ≡ All
   unfolding elementsFit
-  group-fit g count x c e =
-      let p = lines-fit count x c e in
+  group-fit short g count x c e =
+      let p = lines-fit short count x c e in
       let es = upFrom 1 (elementsOf f count) in
       own-misfit (λ (e : ℕ). rowOf f .cells) (elementFit f g) es c
       (each-own (λ (e : ℕ). rowOf f .cells) (λ e c. elementFit f g e c ≡ All) (λ e x c t. (lawful f .sized c t, element g e c t)) es (p .text) c (p .each))

@@ -27,6 +27,7 @@ use Rattle.place.specs.Placing.{countsAt}
 use Rattle.place.specs.Parts.{groupPart}
 use Rattle.place.proofs.Placed.{IsLocated, located-is, located-range, located-long}
 use Rattle.place.proofs.Zero.{IsPlaced, is-placed}
+use Rattle.reading.specs.Blanks.{mayBeShort}
 use Rattle.reading.specs.Read.{Cells}
 use Rattle.reading.proofs.Sizes.{group-size}
 use Rattle.writing.specs.declared.Fit.the-variants.{All}
@@ -54,10 +55,10 @@ use Rattle.writing.proofs.Written.{all-groups}
 module _ {ns : List ℕ} {g : ℕ} {y : List ℕ} {room : ℕ} {c : List ℤ} (r : GroupReads ns g y room c) where
   pub reads-cells : length c ≡ cellsIn ns g
   unfolding Tally.cellsIn
-  reads-cells = rw (r .has) (group-size (r .form) (countOf ns g) y c (r .lines))
+  reads-cells = rw (r .has) (group-size (r .form) (mayBeShort g) (countOf ns g) y c (r .lines))
 
   reads-fit : groupFit ns g c ≡ All
-  reads-fit = rw (r .has) (group-fit (r .form) g (countOf ns g) y c (r .lines))
+  reads-fit = rw (r .has) (group-fit (r .form) (mayBeShort g) g (countOf ns g) y c (r .lines))
 
 module _ {s : List ℕ} {at n : ℕ} {cells : ℕ → List ℤ} (r : ReadWhole s at n cells) where
   abbrev ns : List ℕ

@@ -1,6 +1,7 @@
 -- R401 to R410, the marked cases in their order, and some neighbours: a field on a line of its own as it is read and written, the lines of a
 -- count, the letters of group 3. Replies are given by their numbers.
 use mathlib.Core.Path.{_≡_}
+use mathlib.Core.Bool.{false}
 use mathlib.Core.List.{List, [], _∷_, _++_}
 use Prim.Native.Nat.{ℕ}
 use Prim.Native.String.{String}
@@ -61,7 +62,7 @@ abbrev pub lettersRead : String → Cells
 lettersRead t = readForm A1 3 (length (bytes t)) (line t) (length (bytes t))
 
 abbrev pub Holding : Case → Type 0
-Holding (reads f t n cs) = (caseReply (readLines f 1 (line t)) .number ≡ n) × (cellsGot (readLines f 1 (line t)) ≡ cs)
+Holding (reads f t n cs) = (caseReply (readLines f false 1 (line t)) .number ≡ n) × (cellsGot (readLines f false 1 (line t)) ≡ cs)
 Holding (writes f cs t) = (g : ℕ) → (fitNumber (elementsFit f g 1 cs) ≡ 0) × (linesText f 1 cs ≡ line t)
 Holding (refuses f cs n) = (g : ℕ) → fitNumber (elementsFit f g 1 cs) ≡ n
 Holding (entry t e) = entryOf (bytes t) ≡ e

@@ -15,24 +15,24 @@ use Rattle.reading.proofs.check_lines.Statement.{statement}
 use Rattle.reading.proofs.check_lines.Tie as tie
 
 abbrev Inv-loop : tie.InvT-loop
-Inv-loop form count lines width per-line many left verdict₀ at element j k stop from₀ i₀ verdict from i =
-    (verdict ≡ C.Right) × Trying form (lineAt (rowOf form .«per_line») (elementsOf form count) j) lines at stop i from
+Inv-loop form short count lines width per-line many left verdict₀ at element j k stop from₀ i₀ verdict from i =
+    (verdict ≡ C.Right) × Trying form short (lineAt (rowOf form .«per_line») (elementsOf form count) j) lines at stop i from
 
 abbrev μ-loop : tie.MeasureT-loop
-μ-loop form count lines width per-line many left verdict₀ at element j k stop from₀ i₀ verdict from i = k - i
+μ-loop form short count lines width per-line many left verdict₀ at element j k stop from₀ i₀ verdict from i = k - i
 
 abbrev Inv-lines : tie.InvT-lines
-Inv-lines form count lines width per-line many left₀ verdict₀ at₀ element₀ j₀ left verdict at element j =
-    (verdict ≡ C.Right) × Checking form count lines width per-line many left at element j
+Inv-lines form short count lines width per-line many left₀ verdict₀ at₀ element₀ j₀ left verdict at element j =
+    (verdict ≡ C.Right) × Checking form short count lines width per-line many left at element j
 
 abbrev μ-lines : tie.MeasureT-lines
-μ-lines form count lines width per-line many left₀ verdict₀ at₀ element₀ j₀ left verdict at element j = many - j
+μ-lines form short count lines width per-line many left₀ verdict₀ at₀ element₀ j₀ left verdict at element j = many - j
 
 lines-holds : tie.Need-lines-holds Inv-loop μ-loop Inv-lines μ-lines
 lines-holds c =
     let row = c .before .before .row-of .ensures in
     let walk = walking-start (ap (λ r. r .width) row) (ap (λ r. r .«per_line») row) (c .before .lines2 .ensures) (c .elements .ensures) (omega arith) in
-    (refl, checking-start _ _ _ _ _ _ _ walk)
+    (refl, checking-start _ _ _ _ _ _ _ _ walk)
 
 mul-fields-stop : tie.Need-mul-fields-stop Inv-loop μ-loop Inv-lines μ-lines
 mul-fields-stop c =
@@ -51,7 +51,7 @@ AtLine = tie.After-fields-stop Inv-loop μ-loop Inv-lines μ-lines
 abbrev start : AtLine → tie.Start Inv-loop μ-loop Inv-lines μ-lines
 start c = c .before .before .before .before .before .before .before .before
 
-abbrev line : (c : AtLine) → OnLine (start c .args .form) (start c .args .count) (start c .args .lines .now)
+abbrev line : (c : AtLine) → OnLine (start c .args .form) (start c .args .short) (start c .args .count) (start c .args .lines .now)
 line c =
     let at-lines = c .before .before .before .lines in
     let row = c .before .before .before .before .before .before .row-of .result in
@@ -86,37 +86,40 @@ add-lesser c =
 
 is-field-at-requires : tie.Need-is-field-at-requires Inv-loop μ-loop Inv-lines μ-lines
 is-field-at-requires c κs =
-    let at-loop = c .before .before in
-    let all = try-range (line (at-loop .before)) (at-loop .loop .inv .1) (c .lesser2 .result) (c .before .loop-test .taken) (c .lesser2 .ensures) in
-    (all .0, (all .1, all .2))
+    let to = c .before .lesser2 in
+    let at-loop = c .before .before .before in
+    let all = try-range (line (at-loop .before)) (at-loop .loop .inv .1) (c .lesser3 .result) (to .result) (c .before .before .loop-test .taken) (c .lesser3 .ensures) (to .ensures) in
+    (start (at-loop .before) .pre, (all .0, (all .1, all .2)))
 
 add-from : tie.Need-add-from Inv-loop μ-loop Inv-lines μ-lines
 add-from c =
-    let at-loop = c .before .before .before .before in
+    let at-loop = c .before .before .before .before .before in
     let at-line = at-loop .before in
     let o = start at-line in
     omega (arith, try-small (line at-line) (at-loop .loop .inv .1), line at-line .state .walk .wide, width-few (o .args .form))
 
 loop-again : tie.Need-loop-again Inv-loop μ-loop Inv-lines μ-lines
 loop-again c =
-    let to = c .before .before .lesser2 in
-    let in-loop = c .before .before .before in
+    let begin = c .before .before .lesser3 in
+    let to = c .before .before .before .lesser2 in
+    let in-loop = c .before .before .before .before in
     let at-loop = in-loop .before in
     let good = sym (c .before .is-field-at .ensures) ∙ c .if1 .taken in
-    (at-loop .loop .inv .0, trying-next (line (at-loop .before)) (at-loop .loop .inv .1) (to .result) (in-loop .loop-test .taken) (to .ensures) good)
+    (at-loop .loop .inv .0, trying-next (line (at-loop .before)) (at-loop .loop .inv .1) (begin .result) (to .result) (in-loop .loop-test .taken) (begin .ensures) (to .ensures) good)
 
 mul-misfit : tie.Need-mul-misfit Inv-loop μ-loop Inv-lines μ-lines
-mul-misfit c = omega (arith, few-columns (c .before .before .before .before .before))
+mul-misfit c = omega (arith, few-columns (c .before .before .before .before .before .before))
 
 add-misfit-2 : tie.Need-add-misfit-2 Inv-loop μ-loop Inv-lines μ-lines
 add-misfit-2 c =
-    let to = c .before .before .lesser2 in
-    let in-loop = c .before .before .before in
+    let begin = c .before .before .lesser3 in
+    let to = c .before .before .before .lesser2 in
+    let in-loop = c .before .before .before .before in
     let at-loop = in-loop .before in
-    omega (arith, element-few (line (at-loop .before)) (at-loop .loop .inv .1) (to .result) (in-loop .loop-test .taken) (to .ensures))
+    omega (arith, element-few (line (at-loop .before)) (at-loop .loop .inv .1) (begin .result) (to .result) (in-loop .loop-test .taken) (begin .ensures) (to .ensures))
 
 misfit-requires : tie.Need-misfit-requires Inv-loop μ-loop Inv-lines μ-lines
-misfit-requires c κs = line (c .before .before .before .before .before) .state .walk .inside
+misfit-requires c κs = line (c .before .before .before .before .before .before) .state .walk .inside
 
 mul-right-content-at : tie.Need-mul-right-content-at Inv-loop μ-loop Inv-lines μ-lines
 mul-right-content-at c = omega (arith, few-columns (c .before .before .before))
@@ -149,15 +152,16 @@ lines-again c =
 returns : tie.Need-returns Inv-loop μ-loop Inv-lines μ-lines
 returns c =
     let o = c .before .before .before .before .before .before in
-    c .before .lines .inv .0 ∙ checking-end (o .args .form) (o .args .count) (o .args .lines .now) (c .before .lines .inv .1) (omega arith)
+    c .before .lines .inv .0 ∙ checking-end (o .args .form) (o .args .short) (o .args .count) (o .args .lines .now) (c .before .lines .inv .1) (omega arith)
 
 returns-2 : tie.Need-returns-2 Inv-loop μ-loop Inv-lines μ-lines
 returns-2 c =
-    let to = c .before .before .before .lesser2 in
-    let in-loop = c .before .before .before .before in
+    let begin = c .before .before .before .lesser3 in
+    let to = c .before .before .before .before .lesser2 in
+    let in-loop = c .before .before .before .before .before in
     let at-loop = in-loop .before in
     let bad = sym (c .before .before .is-field-at .ensures) ∙ c .before .if1 .left in
-    trying-wrong (line (at-loop .before)) (at-loop .loop .inv .1) (to .result) (in-loop .loop-test .taken) (to .ensures) bad (c .misfit .result) (c .misfit .ensures)
+    trying-wrong (line (at-loop .before)) (at-loop .loop .inv .1) (begin .result) (to .result) (in-loop .loop-test .taken) (begin .ensures) (to .ensures) bad (c .misfit .result) (c .misfit .ensures)
 
 returns-3 : tie.Need-returns-3 Inv-loop μ-loop Inv-lines μ-lines
 returns-3 c =
@@ -183,6 +187,7 @@ check-lines-spec =
     fields-stop-requires
     loop-holds
     add-lesser
+    (λ c κs. search needs)
     (λ c κs. search needs)
     is-field-at-requires
     add-from

@@ -12,20 +12,20 @@ use Rattle.reading.proofs.fields_stop.Tie as tie
 
 content-at-requires : tie.Need-content-at-requires
 content-at-requires c κs =
-    let r = line-range (c .before .before .before .before .args .lines .now) (c .before .before .before .before .args .at) (c .before .before .before .before .pre) in
+    let r = line-range (c .before .before .before .args .lines .now) (c .before .before .before .args .at) (c .before .before .before .pre) in
     (omega (arith, c .behind-or-end .ensures), omega (arith, r .1, c .behind-or-end .ensures))
 
 returns : tie.Need-returns
 returns c =
-    let o = c .before .before .before .before .before .before .before in
-    span-none (o .args .form) (o .args .columns) (o .args .lines .now) (o .args .at) (o .pre)
-    (sym (c .before .before .before .before .before .may-be-short .ensures) ∙ c .before .before .before .before .if1 .taken)
+    let o = c .before .before .before .before .before .before in
+    span-none (o .args .short) (o .args .columns) (o .args .lines .now) (o .args .at) (o .pre)
+    (c .before .before .before .before .if1 .taken)
     (ap (λ x. contentOf (part (o .args .at) x (o .args .lines .now))) (sym (c .before .before .before .behind-or-end .ensures))
     ∙ sym (c .before .before .content-at .ensures) ∙ c .enum-told .given .1)
 
 add-result : tie.Need-add-result
 add-result c =
-    let o = c .before .before .before .before .before .before .before .before in
+    let o = c .before .before .before .before .before .before .before in
     omega (
       arith,
       content-fits (o .args .lines .now) (o .args .at) (o .pre) (c .before .n .given .0 .0)
@@ -35,26 +35,25 @@ add-result c =
 
 returns-2 : tie.Need-returns-2
 returns-2 c =
-    let o = c .before .before .before .before .before .before .before .before in
-    span-content (o .args .form) (o .args .columns) (o .args .lines .now) (o .args .at) (o .pre)
-    (sym (c .before .before .before .before .before .before .may-be-short .ensures) ∙ c .before .before .before .before .before .if1 .taken) (c .before .n .given .0 .0)
+    let o = c .before .before .before .before .before .before .before in
+    span-content (o .args .short) (o .args .columns) (o .args .lines .now) (o .args .at) (o .pre)
+    (c .before .before .before .before .before .if1 .taken) (c .before .n .given .0 .0)
     (ap (λ x. contentOf (part (o .args .at) x (o .args .lines .now))) (sym (c .before .before .before .before .behind-or-end .ensures))
     ∙ sym (c .before .before .before .content-at .ensures) ∙ c .before .n .given .1)
 
 add-result-2 : tie.Need-add-result-2
-add-result-2 c = omega (arith, c .lesser .ensures, c .before .before .before .before .pre)
+add-result-2 c = omega (arith, c .lesser .ensures, c .before .before .before .pre)
 
 returns-3 : tie.Need-returns-3
 returns-3 c =
-    let o = c .before .before .before .before in
+    let o = c .before .before .before in
     ap (λ n. o .args .at + n) (c .lesser .ensures)
-    ∙ span-columns (o .args .form) (o .args .columns) (o .args .lines .now) (o .args .at) (o .pre) (sym (c .before .before .may-be-short .ensures) ∙ c .before .if1 .left)
+    ∙ span-columns (o .args .short) (o .args .columns) (o .args .lines .now) (o .args .at) (o .pre) (c .before .if1 .left)
 
 pub fields-stop-spec : {M : Type 1} → statement M
 fields-stop-spec =
     tie.close
     (tie.spec
-    (λ c κs. search needs)
     (λ c κs. search needs)
     content-at-requires
     (λ c. search needs)

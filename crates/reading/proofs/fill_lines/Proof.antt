@@ -23,16 +23,16 @@ use Rattle.reading.proofs.fill_lines.Statement.{statement}
 use Rattle.reading.proofs.fill_lines.Tie as tie
 
 abbrev Inv-loop2 : tie.InvT-loop2
-Inv-loop2 form count lines table₀ width per-line cells many left at cell₀ j k end n stop from₀ i₀ table cell from i =
+Inv-loop2 form short count lines table₀ width per-line cells many left at cell₀ j k end n stop from₀ i₀ table cell from i =
     let l = lineAt (rowOf form .«per_line») (elementsOf form count) j in
     FillingFields form l (lineText form l lines at end n) table₀ cell₀ at i from cell table
 
 abbrev μ-loop2 : tie.MeasureT-loop2
-μ-loop2 form count lines table₀ width per-line cells many left at cell₀ j k end n stop from₀ i₀ table cell from i = k - i
+μ-loop2 form short count lines table₀ width per-line cells many left at cell₀ j k end n stop from₀ i₀ table cell from i = k - i
 
 abbrev Inv-loop : tie.InvT-loop
-Inv-loop form count lines table₀ width per-line cells many left₀ at₀ cell₀ j₀ table left at cell j =
-    Filling form count lines table₀ record {
+Inv-loop form short count lines table₀ width per-line cells many left₀ at₀ cell₀ j₀ table left at cell j =
+    Filling form short count lines table₀ record {
       width = width;
       perLine = per-line;
       cells = cells;
@@ -45,13 +45,13 @@ Inv-loop form count lines table₀ width per-line cells many left₀ at₀ cell�
     }
 
 abbrev μ-loop : tie.MeasureT-loop
-μ-loop form count lines table₀ width per-line cells many left₀ at₀ cell₀ j₀ table left at cell j = many - j
+μ-loop form short count lines table₀ width per-line cells many left₀ at₀ cell₀ j₀ table left at cell j = many - j
 
 loop-holds : tie.Need-loop-holds Inv-loop2 μ-loop2 Inv-loop μ-loop
 loop-holds c =
     let row = c .before .before .row-of .ensures in
     let walk = walking-start (ap (λ r. r .width) row) (ap (λ r. r .«per_line») row) (c .before .lines .ensures) (c .elements .ensures) (omega arith) in
-    filling-start walk (ap (λ r. r .cells) row) (c .before .before .before .before .pre .0) (refl, refl, refl)
+    filling-start walk (ap (λ r. r .cells) row) (c .before .before .before .before .pre .1 .0) (refl, refl, refl)
 
 mul-least : tie.Need-mul-least Inv-loop2 μ-loop2 Inv-loop μ-loop
 mul-least c =
@@ -64,11 +64,11 @@ add-behind-or-end c =
     let o = c .before .before .before .before .before .before .before .before in
     let walk = c .before .before .before .loop .inv .walk in
     let k = c .before .lesser in
-    omega (arith, seek-small (o .args .form) (o .args .count) (o .args .lines .now) walk (k .result) _ (k .ensures) refl (c .least .result) (c .least .ensures))
+    omega (arith, seek-small (o .args .form) (o .args .count) (o .args .lines .now) walk (k .result) _ (k .ensures) refl (o .args .short) (c .least .result) (c .least .ensures))
 
 -- the table has room for the cells of lines that are clean
-room : (c : tie.Start Inv-loop2 μ-loop2 Inv-loop μ-loop) → length (cellsGot (readLines (c .args .form) (c .args .count) (c .args .lines .now))) ≤ length (c .args .table .now)
-room c = enough-room (c .args .form) (c .args .count) (c .args .lines .now) (c .args .table .now) (c .pre .0) (c .pre .1)
+room : (c : tie.Start Inv-loop2 μ-loop2 Inv-loop μ-loop) → length (cellsGot (readLines (c .args .form) (c .args .short) (c .args .count) (c .args .lines .now))) ≤ length (c .args .table .now)
+room c = enough-room (c .args .form) (c .args .short) (c .args .count) (c .args .lines .now) (c .args .table .now) (c .pre .1 .0) (c .pre .1 .1)
 
 -- ---- a line whose end is known
 
@@ -95,7 +95,7 @@ reached c =
     }
 
 abbrev OnThis : AtLine → Type 0
-OnThis c = OnLine (start c .args .form) (start c .args .count) (start c .args .lines .now) (start c .args .table .now) (reached c)
+OnThis c = OnLine (start c .args .form) (start c .args .short) (start c .args .count) (start c .args .lines .now) (start c .args .table .now) (reached c)
 
 abbrev line-to : (c : AtLine) (end : ℕ) → end ≡ reached c .at + reach (drop (reached c .at) (start c .args .lines .now)) 1 → OnThis c
 line-to c end e =
@@ -152,15 +152,18 @@ add-lesser c =
 
 put-field-at-requires : tie.Need-put-field-at-requires Inv-loop2 μ-loop2 Inv-loop μ-loop
 put-field-at-requires c κs =
-    let to = c .before .lesser2 in
-    let at-loop = c .before .before .before in
+    let begin = c .before .lesser3 in
+    let to = c .before .before .lesser2 in
+    let in-loop = c .before .before .before in
+    let at-loop = in-loop .before in
     let at-fields = at-loop .before in
-    let all = put-requires (line (line-of at-fields)) _ (content at-fields) (at-loop .loop2 .inv) (to .result) (c .before .before .loop2-test .taken) (to .ensures) in
-    (all .0, (all .1, (all .2, (all .3, (all .4, all .5)))))
+    let letters = start (line-of at-fields) .pre .0 in
+    let all = put-requires (line (line-of at-fields)) _ (content at-fields) (at-loop .loop2 .inv) (begin .result) (to .result) (in-loop .loop2-test .taken) (begin .ensures) (to .ensures) in
+    (letters, (all .0, (all .1, (all .2, (all .3, (all .4, all .5))))))
 
 add-from : tie.Need-add-from Inv-loop2 μ-loop2 Inv-loop μ-loop
 add-from c =
-    let at-loop = c .before .before .before .before .before in
+    let at-loop = c .before .before .before .before .before .before in
     let at-fields = at-loop .before in
     let at-line = line-of at-fields in
     let o = start at-line in
@@ -168,22 +171,24 @@ add-from c =
 
 add-cell : tie.Need-add-cell Inv-loop2 μ-loop2 Inv-loop μ-loop
 add-cell c =
-    let to = c .before .before .before .lesser2 in
-    let in-loop = c .before .before .before .before in
+    let begin = c .before .before .before .lesser3 in
+    let to = c .before .before .before .before .lesser2 in
+    let in-loop = c .before .before .before .before .before in
     let at-loop = in-loop .before in
     let at-fields = at-loop .before in
     let o = start (line-of at-fields) in
-    let small = cell-small (line (line-of at-fields)) _ (content at-fields) (at-loop .loop2 .inv) (to .result) (in-loop .loop2-test .taken) (to .ensures) in
+    let small = cell-small (line (line-of at-fields)) _ (content at-fields) (at-loop .loop2 .inv) (begin .result) (to .result) (in-loop .loop2-test .taken) (begin .ensures) (to .ensures) in
     omega (arith, o .good .1 .1 .1 .0, small)
 
 loop2-again : tie.Need-loop2-again Inv-loop2 μ-loop2 Inv-loop μ-loop
 loop2-again c =
-    let to = c .before .before .before .lesser2 in
-    let in-loop = c .before .before .before .before in
+    let begin = c .before .before .before .lesser3 in
+    let to = c .before .before .before .before .lesser2 in
+    let in-loop = c .before .before .before .before .before in
     let at-loop = in-loop .before in
     let at-fields = at-loop .before in
     let put = c .before .put-field-at .ensures in
-    fields-next (line (line-of at-fields)) _ (content at-fields) (at-loop .loop2 .inv) (to .result) (in-loop .loop2-test .taken) (to .ensures) put
+    fields-next (line (line-of at-fields)) _ (content at-fields) (at-loop .loop2 .inv) (begin .result) (to .result) (in-loop .loop2-test .taken) (begin .ensures) (to .ensures) put
 
 -- ---- the next line, and the end
 
@@ -226,6 +231,7 @@ fill-lines-spec =
     add-stop
     loop2-holds
     add-lesser
+    (λ c κs. search needs)
     (λ c κs. search needs)
     put-field-at-requires
     add-from

@@ -11,7 +11,7 @@ use Rattle.reading.proofs.is_right.Statement.{statement}
 use Rattle.reading.proofs.is_right.Tie as tie
 
 -- so many bytes are there, and at most 120
-enough : (c : tie.Then1) → shortest (c .before .before .before .args .form) (c .before .before .before .args .columns) ≤ length (c .before .before .before .args .content .now)
+enough : (c : tie.Then1) → shortest (c .before .before .before .args .short) (c .before .before .before .args .columns) ≤ length (c .before .before .before .args .content .now)
 enough c = subst (λ m. m ≤ length (c .before .before .before .args .content .now)) (c .before .least .ensures) (c .if1 .taken)
 
 returns : tie.Need-returns

@@ -19,14 +19,14 @@ returns : tie.Need-returns
 returns c =
     let o = c .before .before .before .before .before in
     sym (ap (misfitOf (o .args .number) (o .args .element))
-    (ap (λ x. rightContent (o .args .form) (o .args .columns) (part (o .args .at) x (o .args .lines .now))) (sym (c .before .before .before .behind-or-end .ensures))
+    (ap (λ x. rightContent (o .args .short) (o .args .columns) (part (o .args .at) x (o .args .lines .now))) (sym (c .before .before .before .behind-or-end .ensures))
     ∙ sym (c .before .before .right-content-at .ensures) ∙ c .enum-told .given .1))
 
 returns-2 : tie.Need-returns-2
 returns-2 c =
     let o = c .before .before .before .before .before in
     sym (ap (misfitOf (o .args .number) (o .args .element))
-    (ap (λ x. rightContent (o .args .form) (o .args .columns) (part (o .args .at) x (o .args .lines .now))) (sym (c .before .before .before .behind-or-end .ensures))
+    (ap (λ x. rightContent (o .args .short) (o .args .columns) (part (o .args .at) x (o .args .lines .now))) (sym (c .before .before .before .behind-or-end .ensures))
     ∙ sym (c .before .before .right-content-at .ensures) ∙ c .enum-told2 .given .1))
 
 pub misfit-spec : {M : Type 1} → statement M

@@ -1,0 +1,80 @@
+-- Forms of letters: groups whose lines may be short have one; a text of their width is a field exactly if its bytes print, and its cells are
+-- its bytes.
+-- Assumes nothing.
+use mathlib.Core.Path.{_≡_, refl, sym, _∙_, ap, subst}
+use mathlib.Core.Bool.{Bool, true, false, cond}
+use mathlib.Core.List.{List, [], _∷_, map}
+use mathlib.Core.Logic.{_⊎_, inl, ⊎-elim}
+use Prim.Native.Nat.{ℕ, suc}
+use native.Mathlib.Omega.{arith}
+use borrow.Author.Tests.{eq-eqb, ne-eqb, eqb-true}
+use lib.Dec.{T, eqb}
+use lib.IntN.{ℤ, pos}
+use lib.ListN.{length, getD}
+use Rattle.base.specs.Ascii.{printable}
+use Rattle.base.specs.Every.{every}
+use Rattle.form.specs.declared.Form.{Form}
+use Rattle.form.specs.declared.Form.the-variants.{A120, A1}
+use Rattle.form.specs.declared.GroupForm.the-variants.{Has}
+use Rattle.form.specs.Table
+use Rattle.form.specs.Table.{rowOf, formOf}
+use Rattle.field.specs.Read
+use Rattle.field.specs.Read.{fieldOf, formed, valueCells, ReadsAs}
+use Rattle.field.specs.declared.Value.{Value}
+use Rattle.field.specs.declared.Value.the-variants.{Cell, Letters, Misformed}
+use Rattle.reading.specs.Blanks.{mayBeShort, HoldsLetters}
+
+pub short-letters : (g : ℕ) (f : Form) → formOf g ≡ Has f → HoldsLetters f (mayBeShort g)
+unfolding Table.formOf Table.formAmong Table.formEntry
+short-letters g f e t =
+    let z : Has A120 ≡ Has f = ap formOf (sym (eqb-true g 2 t)) ∙ e in
+    let n : f ≡ A120 = cc in
+    inl n
+
+-- a statement on forms of letters holds if it holds of both
+both-forms : (P : Form → Type 0) {f : Form} → (f ≡ A120) ⊎ (f ≡ A1) → P A120 → P A1 → P f
+both-forms P h all one = ⊎-elim (λ e. subst P (sym e) all) (λ e. subst P (sym e) one) h
+
+Formed : List ℕ → Form → Type 0
+Formed s f = length s ≡ rowOf f .width → every printable s ≡ formed (fieldOf f s)
+
+test : (t : Bool) (v : Value) → formed v ≡ true → t ≡ formed (cond t v Misformed)
+test true v e = sym e
+test false v e = refl
+
+all-formed : (s : List ℕ) → Formed s A120
+unfolding Formed Read.fieldOf
+all-formed s w = rw (eq-eqb (length s) (rowOf A120 .width) w) (test (every printable s) Letters refl)
+
+one-formed : (s : List ℕ) → Formed s A1
+unfolding Formed Read.fieldOf
+one-formed s w = rw (eq-eqb (length s) (rowOf A1 .width) w) (test (every printable s) (Cell (pos (getD s 0 0))) refl)
+
+pub letters-formed : (f : Form) (s : List ℕ) → (f ≡ A120) ⊎ (f ≡ A1) → length s ≡ rowOf f .width → every printable s ≡ formed (fieldOf f s)
+unfolding Formed
+letters-formed f s h = both-forms (Formed s) h (all-formed s) (one-formed s)
+
+pub letter-byte : (x : List ℕ) (cs : List ℤ) → ReadsAs A1 x cs → (length x ≡ 1) × (cs ≡ map pos x)
+unfolding Read.fieldOf Table.rowOf Table.formEntry
+letter-byte [] cs r = absurd (r .good)
+letter-byte (b ∷ []) cs r = (refl, by (every printable (b ∷ [])) (r .good) (r .cells))
+  where
+    by : (t : Bool) → T (formed (cond t (Cell (pos b)) Misformed)) → valueCells (b ∷ []) (cond t (Cell (pos b)) Misformed) ≡ cs → cs ≡ pos b ∷ []
+    by true g e = sym e
+    by false g e = absurd g
+letter-byte (a ∷ b ∷ x) cs r = absurd (no (length x) (r .good))
+  where
+    no : (n : ℕ) → T (formed (cond (eqb (suc (suc n)) 1) (cond (every printable (a ∷ b ∷ x)) (Cell (pos a)) Misformed) Misformed)) → ⊥
+    no n t = rw (ne-eqb (suc (suc n)) 1 (λ e. omega arith)) at t
+
+all-bytes : (x : List ℕ) (cs : List ℤ) → ReadsAs A120 x cs → cs ≡ map pos x
+unfolding Read.fieldOf
+all-bytes x cs r = by (eqb (length x) (rowOf A120 .width)) (every printable x) (r .good) (r .cells)
+  where
+    by : (t p : Bool) → T (formed (cond t (cond p Letters Misformed) Misformed)) → valueCells x (cond t (cond p Letters Misformed) Misformed) ≡ cs → cs ≡ map pos x
+    by true true g e = sym e
+    by true false g e = absurd g
+    by false p g e = absurd g
+
+pub letters-cells : (f : Form) (x : List ℕ) (cs : List ℤ) → (f ≡ A120) ⊎ (f ≡ A1) → ReadsAs f x cs → cs ≡ map pos x
+letters-cells f x cs h = both-forms (λ k. ReadsAs k x cs → cs ≡ map pos x) h (all-bytes x cs) (λ r. letter-byte x cs r .1)
