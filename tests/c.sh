@@ -39,7 +39,7 @@ counted 'every check of the program' [ "$?" = 0 ] || head -n 21 "$work/said"
 last=$(tail -n 1 "$work/said")
 echo "$name: $last"
 made=${last%% checks,*}
-! own || counted 'as many checks as there are' [ "${made:-0}" -ge 102045 ]
+! own || counted 'as many checks as there are' [ "${made:-0}" -ge 115815 ]
 
 counted 'the example' compiled examples/fof2.c "$work/fof2.o" -std=c99 && linked "$work/fof2" "$work/fof2.o"
 below_zero >"$work/below"

@@ -76,6 +76,17 @@ done
 cp "$work/day.rewrite" "$work/got"
 compared 'the day rewritten' "$day"
 
+# R64: a gateway took the blanks at the ends of the letter lines, groups 54 and 55; the day comes back
+awk '{
+    text = substr($0, length($1 $2 $3 $4 $5) + 6)
+    if ($3 == 54 || $3 == 55)
+        sub(/ *\r$/, "\r", text)
+    print text
+}' "$work/lines" >"$work/stripped"
+counted 'blanks were taken in each record' [ "$(wc -c <"$work/stripped")" -le $(($(wc -c <"$day") - 24)) ]
+./run rewrite <"$work/stripped" >"$work/got"
+compared 'the day, stripped and rewritten' "$day"
+
 # a row for each record: its place, the next place, reply 0, 15 groups with a count, its lines; at the end 24 records and reply 1
 awk '
     function row() { print record, start, place, 0, 0, groups, lines }
@@ -182,4 +193,4 @@ counted 'a Doppler number of the table for each echo, 9 for each interpolated po
 counted 'profile heights rise' sound 'rising(51)'
 counted 'plasma frequencies rise' sound 'rising(52)'
 counted 'the profile ends at foF2 and the peak height' sound 'cell[52, n[52]] == peak() && cell[51, n[51]] == cell[4, 32]'
-finished 34
+finished 36

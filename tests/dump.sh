@@ -162,4 +162,4 @@ if own; then
         counted "damage with byte $byte" grep -q " $byte\$" "$work/damage"
     done
 fi
-finished 523
+finished 701

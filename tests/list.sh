@@ -122,4 +122,4 @@ for text in "$vectors"/*.sao; do
     listed "$text" "${text%.sao}.list" <"$text"
 done
 
-finished 145
+finished 175

@@ -117,6 +117,28 @@ limit_text 282 >"$work/text"
 sized '65,537 bytes' "$work/text" 65537
 rewritten '65,537 bytes, the last of them the end of the last record' "$work/text" "$work/nothing"
 
+# ---- R64, R65, R102: letters that lost their blanks come back. S with a letter for its characteristic in groups 54 and 55 has 3 bytes more for each.
+
+scaled() { # LINE54 LINE55: S with counts 1 of groups 54 and 55, and these lines
+    head -c 161 "$s"
+    printf '  1  1'
+    tail -c +168 "$s"
+    printf '%s\r\n%s\r\n' "$1" "$2"
+}
+
+scaled ' ' ' ' >"$work/want"
+sized 'S with blanks in groups 54 and 55' "$work/want" 311
+rewritten 'S with blanks in groups 54 and 55' "$work/want" "$work/want"
+scaled '' '' >"$work/text"
+rewritten 'the same, stripped' "$work/text" "$work/want"
+scaled '' '  ' >"$work/text"
+rewritten 'one line stripped, and a blank too many in the other' "$work/text" "$work/want"
+scaled '/' ' ' >"$work/want"
+scaled '/' '' >"$work/text"
+rewritten 'a letter, and a line stripped' "$work/text" "$work/want"
+scaled '' ' /' >"$work/text"
+rewritten 'a letter behind the element' "$work/text" "$work/nothing"
+
 # ---- output longer than 65,536 bytes: lines of A120 are filled (R102). S with two empty lines in group 2 has 309 bytes, and 549 when rewritten.
 
 lettered() { # LINE: S with group 2's count 2, and this line twice
@@ -136,4 +158,4 @@ repeated 212 "$work/wide" >"$work/want"
 sized 'the output' "$work/want" 116388
 rewritten 'output of 116,388 bytes' "$work/text" "$work/want"
 
-finished 285
+finished 351

@@ -2,9 +2,9 @@
 -- its bytes.
 -- Assumes nothing.
 use mathlib.Core.Path.{_≡_, refl, sym, _∙_, ap, subst}
-use mathlib.Core.Bool.{Bool, true, false, cond}
+use mathlib.Core.Bool.{Bool, true, false, cond, _||_}
 use mathlib.Core.List.{List, [], _∷_, map}
-use mathlib.Core.Logic.{_⊎_, inl, ⊎-elim}
+use mathlib.Core.Logic.{_⊎_, inl, inr, ⊎-elim}
 use Prim.Native.Nat.{ℕ, suc}
 use native.Mathlib.Omega.{arith}
 use borrow.Author.Tests.{eq-eqb, ne-eqb, eqb-true}
@@ -26,10 +26,21 @@ use Rattle.reading.specs.Blanks.{mayBeShort, HoldsLetters}
 
 pub short-letters : (g : ℕ) (f : Form) → formOf g ≡ Has f → HoldsLetters f (mayBeShort g)
 unfolding Table.formOf Table.formAmong Table.formEntry
-short-letters g f e t =
-    let z : Has A120 ≡ Has f = ap formOf (sym (eqb-true g 2 t)) ∙ e in
-    let n : f ≡ A120 = cc in
-    inl n
+short-letters g f e t = by (eqb g 2) (eqb g 54) refl refl t
+  where
+    one : (k : ℕ) → g ≡ k → formOf k ≡ Has A1 → (f ≡ A120) ⊎ (f ≡ A1)
+    one k h u =
+        let z : Has f ≡ Has A1 = sym e ∙ ap formOf h ∙ u in
+        let n : f ≡ A1 = cc in
+        inr n
+
+    by : (a b : Bool) → eqb g 2 ≡ a → eqb g 54 ≡ b → (a || (b || eqb g 55)) ≡ true → (f ≡ A120) ⊎ (f ≡ A1)
+    by true b u v t =
+        let z : Has A120 ≡ Has f = ap formOf (sym (eqb-true g 2 u)) ∙ e in
+        let n : f ≡ A120 = cc in
+        inl n
+    by false true u v t = one 54 (eqb-true g 54 v) refl
+    by false false u v t = one 55 (eqb-true g 55 t) refl
 
 -- a statement on forms of letters holds if it holds of both
 both-forms : (P : Form → Type 0) {f : Form} → (f ≡ A120) ⊎ (f ≡ A1) → P A120 → P A1 → P f

@@ -1,7 +1,7 @@
 -- R62, R63: a data line's content has all its fields, and behind them nothing but blanks, 120 bytes at most. R64, R65: in some groups it may
 -- be short, and then reads as if blanks were added.
 use mathlib.Core.Path.{_≡_}
-use mathlib.Core.Bool.{Bool, true, cond, _&&_}
+use mathlib.Core.Bool.{Bool, true, cond, _&&_, _||_}
 use mathlib.Core.Logic.{_⊎_}
 use mathlib.Core.List.{List, _++_}
 use Prim.Native.Nat.{ℕ, _+_, _-_, _≤_, min}
@@ -22,7 +22,7 @@ blank b = eqb b 32
 
 -- R64: a group whose lines may be shorter than their fields. What is said of a line below is told whether its group is one.
 abbrev pub mayBeShort : ℕ → Bool
-mayBeShort g = eqb g 2
+mayBeShort g = eqb g 2 || (eqb g 54 || eqb g 55)
 
 -- R62, R64: the least length of what stands in so many columns
 abbrev pub shortest : Bool → ℕ → ℕ

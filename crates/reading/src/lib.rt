@@ -33,7 +33,7 @@ ghost use Rattle.reading.specs.Read.{tableBy};
 fn may_be_short(group: usize) -> bool
     ensures { λ r. ⌜ r ≡ mayBeShort group ⌝ }
 {
-    group == 2
+    group == 2 || (group == 54 || group == 55)
 }
 
 // R62, R64: how long the content of fields of so many columns is at least.
