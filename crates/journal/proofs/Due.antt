@@ -4,7 +4,7 @@ use mathlib.Core.Path.{_≡_, refl, sym, _∙_, ap, subst}
 use mathlib.Core.Bool.{Bool, true, false, cond, true≢false}
 use mathlib.Core.List.{List}
 use mathlib.Core.Logic.{_↔_}
-use Prim.Native.Nat.{ℕ, _+_, _-_, _<_, _≤_}
+use Prim.Native.Nat.{ℕ, _+_, _-_, _≤_}
 use native.Mathlib.Omega.{arith}
 use borrow.Author.Tests.{eq-eqb, ne-eqb, eqb-true, eqb-false, lt-ltb, le-ltb, ltb-true, ltb-false}
 use lib.Dec.{eqb, ltb}
@@ -24,15 +24,15 @@ use Rattle.entry.specs.declared.Entry.the-variants.{Set}
 use Rattle.entry.specs.Field.{entryText, entrySize}
 use Rattle.entry.proofs.Codec.{length-text}
 use Rattle.journal.specs.Layout.{startsOf, getAt, putAt}
-use Rattle.journal.specs.Model.{Call, Sets, Opens, Releases, Undoes, accepts, refusalOf, bytesFor, numberFor, decided, whenRight}
-use Rattle.journal.specs.Walks.{Walked, walkOf}
+use Rattle.journal.specs.Model.{Call, Sets, Opens, Releases, Undoes, accepts, refusalOf, bytesFor, numberFor, decided}
+use Rattle.journal.specs.Walks.{Walked}
 use Rattle.journal.specs.Calls.{andThen, whole, entryFor, cellsFor, walkIn, standingOf, answerOf}
-use Rattle.journal.specs.Plays.{Run, playIn, playOf, replayOf, replayedCells, replayedOpen}
-use Rattle.journal.specs.Order.{Accepted, RightAt, PlaysAt}
+use Rattle.journal.specs.Plays.{Run, playIn, replayOf, replayedCells, replayedOpen}
+use Rattle.journal.specs.Order.{Accepted}
 use Rattle.journal.specs.Runs.{Kept, kept, answerTo, leftBy}
-use Rattle.journal.specs.Due.{AllInOrder, AtFault, Standing, RefusedFor, wrong-counts, bad-entry, unaccepted, no-room, CallDue, Due}
+use Rattle.journal.specs.Due.{AllInOrder, AtFault, Standing, RefusedFor, wrong-counts, bad-entry, unaccepted, no-room, Due}
 use Rattle.journal.specs.Due.{fieldFor, cellsDue, CallLeaves, LeftDue}
-use Rattle.journal.specs.Due.{AllReplayed, ReplayFault, ReplayRefusedFor, replay-counts, replay-entry, ReplayDone, ReplayDue, ReplayLeaves, ReplayLeftDue}
+use Rattle.journal.specs.Due.{AllReplayed, ReplayFault, ReplayRefusedFor, replay-counts, replay-entry, ReplayDue, ReplayLeftDue}
 use Rattle.journal.proofs.Order.{spot-at, accepted-yes, yes-accepted, no-accepted, past, walk-ends, walk-only, play-ends, play-only}
 
 -- ---- the counts, and where the fields stop to be in order
