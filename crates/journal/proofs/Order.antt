@@ -141,7 +141,7 @@ module _ {S : Type 0} {right : S → Type 0} {next : S → S} where
   stops-on x r h = record { goes = on r (h .goes); stuck = h .stuck }
 
   -- there is one such place
-  goes-one : {x y z : S} → Goes S right next x y → (right y → ⊥) → Goes S right next x z → (right z → ⊥) → y ≡ z
+  pub goes-one : {x y z : S} → Goes S right next x y → (right y → ⊥) → Goes S right next x z → (right z → ⊥) → y ≡ z
   goes-one here n here m = refl
   goes-one here n (on r g) m = absurd (n r)
   goes-one (on r g) n here m = absurd (m r)
