@@ -11,8 +11,6 @@ use lib.IntN.{ℤ}
 use lib.ListN.{length, take, drop, length-append, length-drop, length-take, take-append-drop}
 use lib.Seq.{take-at, drop-at, drop-drop, take-take, length-take-le}
 use borrow.Author.Tests.{lt-ltb, le-ltb, ltb-false, eqb-true}
-use mir.Syntax.{w64}
-use mir.Val.{SFits}
 use Rattle.base.proofs.Choice.{cond-elim}
 use Rattle.base.proofs.Taken.{take-none, drop-take}
 use Rattle.entry.specs.declared.Entry.{Entry}

@@ -4,7 +4,8 @@ ghost use Prim.Native.Nat.{_+_, _<_, _≤_};
 ghost use lib.ListN.{length, take, drop};
 ghost use Rattle.base.specs.Part.{over};
 ghost use Rattle.entry.specs.Bytes.{numberBytes, valueFrom, bitsOf, cellOf};
-ghost use Rattle.entry.specs.Field.{entryText, entrySize, setBytes, savepointBytes, tagged, numbered, setOf, fieldAt};
+ghost use Rattle.entry.specs.Field.{entryText, entrySize, setBytes, savepointBytes};
+ghost use Rattle.entry.specs.Field.{tagged, numbered, setOf, fieldAt};
 
 // R521, R522: what a field tells: a set with its group, its cell in the group from 1, the old and the new value; an
 // open, a release or an undo with the savepoint's number. R523: or none of these.

@@ -4,7 +4,7 @@ use mathlib.Core.Path.{_≡_, refl, sym, _∙_, ap, subst}
 use mathlib.Core.Bool.{Bool, true, false, cond, true≢false}
 use mathlib.Core.List.{List}
 use mathlib.Core.Logic.{_↔_}
-use Prim.Native.Nat.{ℕ, _+_, _-_, _<_, _≤_}
+use Prim.Native.Nat.{ℕ, _+_, _-_, _≤_}
 use native.Mathlib.Omega.{arith}
 use borrow.Author.Tests.{eq-eqb, ne-eqb, eqb-true, eqb-false, lt-ltb, le-ltb, ltb-true, ltb-false}
 use lib.Dec.{eqb, ltb}
@@ -21,19 +21,19 @@ use Rattle.count.specs.Check.{checkedOf}
 use Rattle.count.specs.Due as Counts
 use Rattle.count.proofs.Due as Counted
 use Rattle.entry.specs.declared.Entry.the-variants.{Set}
-use Rattle.entry.specs.Field.{entryText, entrySize}
+use Rattle.entry.specs.Field.{entryText, entrySize, fieldAt}
 use Rattle.entry.proofs.Codec.{length-text}
 use Rattle.journal.specs.Layout.{startsOf, getAt, putAt}
-use Rattle.journal.specs.Model.{Call, Sets, Opens, Releases, Undoes, accepts, refusalOf, bytesFor, numberFor, decided, whenRight}
-use Rattle.journal.specs.Walks.{Walked, walkOf}
+use Rattle.journal.specs.Model.{Call, Sets, Opens, Releases, Undoes, accepts, refusalOf, bytesFor, numberFor, decided}
+use Rattle.journal.specs.Walks.{Walked}
 use Rattle.journal.specs.Calls.{andThen, whole, entryFor, cellsFor, walkIn, standingOf, answerOf}
-use Rattle.journal.specs.Plays.{Run, playIn, playOf, replayOf, replayedCells, replayedOpen}
-use Rattle.journal.specs.Order.{Accepted, RightAt, PlaysAt}
+use Rattle.journal.specs.Plays.{Run, playIn, replayOf, replayedCells, replayedOpen}
+use Rattle.journal.specs.Order.{Accepted, RightEntry, Goes}
 use Rattle.journal.specs.Runs.{Kept, kept, answerTo, leftBy}
-use Rattle.journal.specs.Due.{AllInOrder, AtFault, Standing, RefusedFor, wrong-counts, bad-entry, unaccepted, no-room, CallDue, Due}
+use Rattle.journal.specs.Due.{AllUsed, Faulty, AllInOrder, Standing, RefusedFor, wrong-counts, bad-entry, unaccepted, no-room, Due}
 use Rattle.journal.specs.Due.{fieldFor, cellsDue, CallLeaves, LeftDue}
-use Rattle.journal.specs.Due.{AllReplayed, ReplayFault, ReplayRefusedFor, replay-counts, replay-entry, ReplayDone, ReplayDue, ReplayLeaves, ReplayLeftDue}
-use Rattle.journal.proofs.Order.{spot-at, accepted-yes, yes-accepted, no-accepted, past, walk-ends, walk-only, play-ends, play-only}
+use Rattle.journal.specs.Due.{AllReplayed, ReplayRefusedFor, replay-counts, replay-entry, ReplayDue, ReplayLeftDue}
+use Rattle.journal.proofs.Order.{spot-at, accepted-yes, yes-accepted, no-accepted, past, Stops, goes-one, walk-ends, play-ends}
 
 -- ---- the counts, and where the fields stop to be in order
 
@@ -79,26 +79,27 @@ some-bytes Opens = omega arith
 some-bytes (Releases k) = omega arith
 some-bytes (Undoes k) = omega arith
 
+-- steps from the first state up to the end, where none is right
+module _ {S : Type 0} {right : S → Type 0} {next : S → S} {first end : S} (st : Stops S right next first end) (place : S → ℕ) (used : ℕ) where
+  used-is : (x : S) → (place x ≡ used → right x → ⊥) → AllUsed S place (Goes S right next first) right used x → x ≡ end
+  used-is x past h = goes-one (h .fields) (past (h .ends)) (st .goes) (st .stuck)
+
+  fault-is : (p : ℕ) → Faulty S place (Goes S right next first) right used p → place end ≡ p
+  fault-is p h = ap place (goes-one (st .goes) (st .stuck) (h .fields) (h .fault)) ∙ h .stops
+
+  all-used : place end ≡ used → AllUsed S place (Goes S right next first) right used end
+  all-used q = record { fields = st .goes; ends = q }
+
+  faulty : (place end ≡ used → ⊥) → Faulty S place (Goes S right next first) right used (place end)
+  faulty n = record { before = end; fields = st .goes; stops = refl; other = n; fault = st .stuck }
+
 module _ (ns j : List ℕ) (used : ℕ) where
-  -- the walk over the bytes used is the one that is in order
+  -- no field stands where the bytes used end
+  ended : (d p : ℕ) → p ≡ used → RightEntry ns d (fieldAt (take used j) p) → ⊥
+  ended d p q = past ns (take used j) p d (omega (arith, length-take used j))
+
   order-is : (w : Walked) → AllInOrder ns j used w → w ≡ walkIn ns j used
-  order-is w h = walk-only ns (take used j) w (h .fields) (past ns (take used j) (w .place) (length (w .marks)) (omega (arith, length-take used j, h .ends)))
-
-  fault-is : (p : ℕ) → AtFault ns j used p → walkIn ns j used .place ≡ p
-  fault-is p h = ap (λ w. w .place) (sym (walk-only ns (take used j) (h .before) (h .fields) (h .fault))) ∙ h .stops
-
-  in-order : walkIn ns j used .place ≡ used → AllInOrder ns j used (walkIn ns j used)
-  in-order q = record { fields = walk-ends ns (take used j) .goes; ends = q }
-
-  at-fault : (walkIn ns j used .place ≡ used → ⊥) → AtFault ns j used (walkIn ns j used .place)
-  at-fault n =
-      record {
-        before = walkIn ns j used;
-        fields = walk-ends ns (take used j) .goes;
-        stops = refl;
-        other = n;
-        fault = walk-ends ns (take used j) .stuck;
-      }
+  order-is w h = used-is (walk-ends ns (take used j)) (λ x. x .place) used w (ended (length (w .marks)) (w .place)) h
 
 module _ (ns j : List ℕ) (used cells : ℕ) (c : Call) where
   abbrev stop : ℕ
@@ -121,7 +122,7 @@ module _ (ns j : List ℕ) (used cells : ℕ) (c : Call) where
   refusal-given : (r : Refusal) → RefusedFor ns j used cells c r → answerOf ns j used cells c ≡ Refused r
   refusal-given r (wrong-counts q h) = to-refused q (checks-counts ns cells used stop q h)
   refusal-given r (bad-entry p h f) =
-      let q = fault-is ns j used p f in
+      let q = fault-is (walk-ends ns (take used j)) (λ x. x .place) used p f in
       to-refused (BadEntry p) (checks-entry ns cells used stop h (λ e. f .other (sym q ∙ e)) ∙ ap (λ x. C.Refused (BadEntry x)) q)
   refusal-given r (unaccepted w h n) =
       let m = subst (λ x. Accepted ns (length (x .marks)) c → ⊥) (order-is ns j used w (h .fields)) n in
@@ -161,9 +162,9 @@ module _ (ns j : List ℕ) (used cells : ℕ) (c : Call) where
   is-due = by (checks ns cells used stop) (which ns cells used stop) refl
     where
       by : (x : Checked) → Which ns cells used stop x → checks ns cells used stop ≡ x → Due ns j used cells c (answerOf ns j used cells c)
-      by x (stands h q) e = subst (Due ns j used cells c) (sym (to-decided h q)) (from-decided record { table = h; fields = in-order ns j used q })
+      by x (stands h q) e = subst (Due ns j used cells c) (sym (to-decided h q)) (from-decided record { table = h; fields = all-used (walk-ends ns (take used j)) (λ x. x .place) used q })
       by x (counts r h) e = subst (Due ns j used cells c) (sym (to-refused r e)) (wrong-counts r h)
-      by x (entry h n) e = subst (Due ns j used cells c) (sym (to-refused (BadEntry stop) e)) (bad-entry stop h (at-fault ns j used n))
+      by x (entry h n) e = subst (Due ns j used cells c) (sym (to-refused (BadEntry stop) e)) (bad-entry stop h (faulty (walk-ends ns (take used j)) (λ x. x .place) used n))
 
   -- the reply that is given is the one that is due, and no other is
   pub first-due : (a : Answer) → answerOf ns j used cells c ≡ a ↔ Due ns j used cells c a
@@ -237,22 +238,12 @@ module _ (ns j : List ℕ) (used : ℕ) (t : List ℤ) where
   run = playIn ns j used t
 
   replay-order-is : (x : Run) → AllReplayed ns j used t x → x ≡ run
-  replay-order-is x h =
-      play-only ns (take used j) t x (h .fields) (λ r. past ns (take used j) (x .place) (length (x .marks)) (omega (arith, length-take used j, h .ends)) (r .0))
-
-  replay-fault-is : (p : ℕ) → ReplayFault ns j used t p → run .place ≡ p
-  replay-fault-is p h = ap (λ x. x .place) (sym (play-only ns (take used j) t (h .before) (h .fields) (h .fault))) ∙ h .stops
-
-  all-replayed : run .place ≡ used → AllReplayed ns j used t run
-  all-replayed q = record { fields = play-ends ns (take used j) t .goes; ends = q }
-
-  replay-fault : (run .place ≡ used → ⊥) → ReplayFault ns j used t (run .place)
-  replay-fault n = record { before = run; fields = play-ends ns (take used j) t .goes; stops = refl; other = n; fault = play-ends ns (take used j) t .stuck }
+  replay-order-is x h = used-is (play-ends ns (take used j) t) (λ y. y .place) used x (λ q r. ended ns j used (length (x .marks)) (x .place) q (r .0)) h
 
   replay-refusal : (r : Refusal) → ReplayRefusedFor ns j used t r → checks ns (length t) used (run .place) ≡ C.Refused r
   replay-refusal r (replay-counts q h) = checks-counts ns (length t) used (run .place) q h
   replay-refusal r (replay-entry p h f) =
-      let q = replay-fault-is p f in
+      let q = fault-is (play-ends ns (take used j) t) (λ x. x .place) used p f in
       checks-entry ns (length t) used (run .place) h (λ e. f .other (sym q ∙ e)) ∙ ap (λ x. C.Refused (BadEntry x)) q
 
   replay-given : (a : Checked) → ReplayDue ns j used t a → checks ns (length t) used (run .place) ≡ a
@@ -265,9 +256,9 @@ module _ (ns j : List ℕ) (used : ℕ) (t : List ℤ) where
   replay-is = refl
 
   replay-due : (a : Checked) → Which ns (length t) used (run .place) a → ReplayDue ns j used t a
-  replay-due a (stands h q) = record { table = h; last = run; fields = all-replayed q }
+  replay-due a (stands h q) = record { table = h; last = run; fields = all-used (play-ends ns (take used j) t) (λ x. x .place) used q }
   replay-due a (counts r h) = replay-counts r h
-  replay-due a (entry h n) = replay-entry (run .place) h (replay-fault n)
+  replay-due a (entry h n) = replay-entry (run .place) h (faulty (play-ends ns (take used j) t) (λ x. x .place) used n)
 
   pub replay-first-due : (a : Checked) → replayOf ns j used t ≡ a ↔ ReplayDue ns j used t a
   replay-first-due a = (

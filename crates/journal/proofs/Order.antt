@@ -10,10 +10,10 @@ use native.Mathlib.Omega.{arith}
 use borrow.Author.Tests.{eq-eqb, eqb-true, le-leb, leb-true, lt-ltb, ltb-true, ltb-false}
 use lib.Dec.{eqb, leb, ltb}
 use lib.IntN.{ℤ, pos}
-use lib.ListN.{length, getD, drop, drop-of-length-le, List·getD-eq-default}
+use lib.ListN.{length, getD, drop-of-length-le, List·getD-eq-default}
 use Rattle.base.proofs.Choice.{and-first, and-second, cond-elim}
 use Rattle.base.proofs.Order.{le-or-lt}
-use Rattle.count.specs.Tally.{cellsIn, cellsBefore}
+use Rattle.count.specs.Tally.{cellsIn}
 use Rattle.count.proofs.Tallied.{cells-first, cells-next}
 use Rattle.entry.specs.declared.Entry.{Entry}
 use Rattle.entry.specs.declared.Entry.the-variants.{Set, Open, Release, Undo, Misformed}
@@ -141,7 +141,7 @@ module _ {S : Type 0} {right : S → Type 0} {next : S → S} where
   stops-on x r h = record { goes = on r (h .goes); stuck = h .stuck }
 
   -- there is one such place
-  goes-one : {x y z : S} → Goes S right next x y → (right y → ⊥) → Goes S right next x z → (right z → ⊥) → y ≡ z
+  pub goes-one : {x y z : S} → Goes S right next x y → (right y → ⊥) → Goes S right next x z → (right z → ⊥) → y ≡ z
   goes-one here n here m = refl
   goes-one here n (on r g) m = absurd (n r)
   goes-one (on r g) n here m = absurd (m r)

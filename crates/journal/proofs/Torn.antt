@@ -1,53 +1,31 @@
 -- R544: the first bytes of a journal that calls made, cut anywhere.
 -- Assumes nothing.
-use mathlib.Core.Path.{_≡_, refl, sym, ap, ap₂, _∙_, subst}
-use mathlib.Core.Bool.{Bool, true, false}
+use mathlib.Core.Path.{_≡_, refl, sym, ap, _∙_, subst}
 use mathlib.Core.List.{List, [], _∷_, _++_}
 use mathlib.Core.Logic.{_⊎_, inl, inr}
 use Prim.Native.Nat.{ℕ, zero, suc, _+_, _-_, _<_, _≤_}
-use native.Mathlib.Nat.{sub-zero}
 use native.Mathlib.Omega.{arith}
-use lib.Dec.{ltb, eqb}
-use lib.IntN.{ℤ, pos}
-use lib.ListN.{length, getD, set, drop, take, length-drop, length-append, length-take, take-append-drop, drop-of-length-le}
-use Rattle.base.proofs.Taken.{drop-none, take-none, drop-take}
-use lib.Seq.{take-take, take-at, drop-at, take-append-le, getD-set-same, getD-set-other, set-out, length-take-le}
-use borrow.Author.Tests.{eqb-true, eqb-false, ltb-true, ltb-false, eq-eqb}
-use mir.Syntax.{w64}
-use mir.Val.{SFits}
-use Rattle.base.specs.Part.{over}
-use Rattle.base.proofs.Part.{over-length}
+use lib.IntN.{ℤ}
+use lib.ListN.{length, drop, take, length-append, length-take, take-append-drop, drop-of-length-le}
+use Rattle.base.proofs.Taken.{drop-take}
+use lib.Seq.{take-take, take-at, drop-at, take-append-le, length-take-le}
 use Rattle.base.proofs.Order.{le-or-lt}
 use Rattle.count.specs.Check.{checkedOf}
-use Rattle.reply.specs.declared.Refusal.{Refusal}
-use Rattle.reply.specs.declared.Refusal.the-variants.{NoRoom}
-use Rattle.reply.specs.declared.Checked.{Checked}
 use Rattle.reply.specs.declared.Checked.the-variants as C
 use Rattle.reply.specs.declared.Answer.{Answer}
 use Rattle.reply.specs.declared.Answer.the-variants.{Done, Refused}
 use Rattle.entry.specs.declared.Entry.{Entry}
-use Rattle.entry.specs.declared.Entry.the-variants.{Set, Open, Release, Undo, Misformed}
-use Rattle.entry.specs.Field.{entryText, entrySize, entryIn}
-use Rattle.entry.specs.Codec.{Sized, sized-set, sized-open, sized-release, sized-undo}
+use Rattle.entry.specs.declared.Entry.the-variants.{Misformed}
+use Rattle.entry.specs.Field.{entryText, entryIn}
 use Rattle.entry.proofs.Codec.{length-text, field-cut}
-use Rattle.journal.specs.declared.Spot.{Spot}
-use Rattle.journal.specs.declared.Spot.the-variants.{At, Nowhere}
-use Rattle.journal.specs.Layout.{startsOf, spotOf, getAt, putAt}
-use Rattle.journal.specs.Model.{Call, Sets, Opens, Releases, Undoes, accepts, bytesFor, numberFor, refusalOf, decided, Stack, stacked, onStack}
-use Rattle.journal.specs.Model.{modelAnswer, modelStep, modelAnswers, modelRun, byAnswer}
-use Rattle.journal.specs.Entries.{markStep, marksFrom, marksOf, markOf, giveBack, restore, journalText}
-use Rattle.journal.specs.Walks.{okEntry, walked, walkOf}
-use Rattle.journal.specs.Calls.{whole, entryFor, cellsFor, walkIn, standingOf}
-use Rattle.journal.specs.Plays.{matches, ran, playOf, playIn, replayOf}
-use Rattle.journal.specs.Runs.{Fit, FitCall, FitCalls, Kept, kept, answerTo, leftBy, answersTo, leftTo, openIn, entryTo, Adds, ReplaysTo, Torn}
+use Rattle.journal.specs.Model.{Call, Opens}
+use Rattle.journal.specs.Entries.{journalText}
+use Rattle.journal.specs.Calls.{whole}
+use Rattle.journal.specs.Plays.{replayOf}
+use Rattle.journal.specs.Runs.{Fit, FitCalls, Kept, kept, answerTo, leftBy, leftTo, entryTo, Adds, Torn}
 use Rattle.journal.proofs.Made.{Stands, used-is, next, fresh, replay-stands, adds-field}
-use Rattle.journal.proofs.Answers.{answer-right, answer-refused}
-use Rattle.journal.proofs.Held.{none, holds-length, holds-mark, HeldBy, withEntry, cellsOn, marks-entry, held-cells, held-call}
-use Rattle.journal.proofs.Text.{Fine, fine-none, fine-more, fine-last, text-length, walk-journal, back-journal, text-more, used-more}
-use Rattle.journal.proofs.Walking.{ok-release, ok-undo}
-use Rattle.journal.proofs.Playing.{same-same}
-use Rattle.journal.proofs.Replays.{Leads, leads-none, leads-last, playedOn, play-cut, no-field, play-journal}
-use Rattle.journal.proofs.Small.{cell-small}
+use Rattle.journal.proofs.Text.{text-length}
+use Rattle.journal.proofs.Replays.{play-cut, no-field}
 
 -- ---- the first bytes of it
 

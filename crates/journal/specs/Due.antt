@@ -22,21 +22,30 @@ use Rattle.journal.specs.Plays.{Run}
 use Rattle.journal.specs.Order.{cellAt, Accepted, RightAt, InOrder, PlaysAt, InReplay}
 use Rattle.journal.specs.Runs.{Kept, Adds}
 
+-- ---- where fields end to be in order; `right` says that a right field stands in a state
+
+module _ (S : Type 0) (place : S → ℕ) (goes right : S → Type 0) (used : ℕ) where
+  -- up to the end of the bytes used
+  pub record AllUsed (x : S) : Type 0 where
+    pub fields : goes x
+    pub ends : place x ≡ used
+
+  -- R530, R532: up to p, where the bytes used don't end and no right field stands
+  pub record Faulty (p : ℕ) : Type 0 where
+    pub before : S
+    pub fields : goes before
+    pub stops : place before ≡ p
+    pub other : p ≡ used → ⊥
+    pub fault : right before → ⊥
+
 -- ---- the answer of a call
 
 module _ (ns j : List ℕ) (used : ℕ) where
-  -- the fields of the bytes used are in order up to their end
-  pub record AllInOrder (w : Walked) : Type 0 where
-    pub fields : InOrder ns (take used j) w
-    pub ends : w .place ≡ used
+  abbrev pub AllInOrder : Walked → Type 0
+  AllInOrder = AllUsed Walked (λ w. w .place) (InOrder ns (take used j)) (RightAt ns (take used j)) used
 
-  -- R530, R532: they are in order up to p, where the bytes used don't end and no right field stands
-  pub record AtFault (p : ℕ) : Type 0 where
-    pub before : Walked
-    pub fields : InOrder ns (take used j) before
-    pub stops : before .place ≡ p
-    pub other : p ≡ used → ⊥
-    pub fault : RightAt ns (take used j) before → ⊥
+  abbrev pub AtFault : ℕ → Type 0
+  AtFault = Faulty Walked (λ w. w .place) (InOrder ns (take used j)) (RightAt ns (take used j)) used
 
 module _ (ns j : List ℕ) (used cells : ℕ) where
   -- none of 4, 5, 6, 7, 14 and 17, with w behind the last field
@@ -92,16 +101,11 @@ LeftDue ns c k (Refused r) k′ = k′ ≡ k
 -- ---- R540 to R542: a replay, which compares old values too
 
 module _ (ns j : List ℕ) (used : ℕ) (t : List ℤ) where
-  pub record AllReplayed (x : Run) : Type 0 where
-    pub fields : InReplay ns (take used j) t x
-    pub ends : x .place ≡ used
+  abbrev pub AllReplayed : Run → Type 0
+  AllReplayed = AllUsed Run (λ x. x .place) (InReplay ns (take used j) t) (PlaysAt ns (take used j)) used
 
-  pub record ReplayFault (p : ℕ) : Type 0 where
-    pub before : Run
-    pub fields : InReplay ns (take used j) t before
-    pub stops : before .place ≡ p
-    pub other : p ≡ used → ⊥
-    pub fault : PlaysAt ns (take used j) before → ⊥
+  abbrev pub ReplayFault : ℕ → Type 0
+  ReplayFault = Faulty Run (λ x. x .place) (InReplay ns (take used j) t) (PlaysAt ns (take used j)) used
 
   pub data ReplayRefusedFor : Refusal → Type 0 where
     replay-counts : (r : Refusal) → Counts.RefusedFor ns (length t) r → ReplayRefusedFor r

@@ -32,7 +32,7 @@ Accepted ns d Opens = d < 16
 Accepted ns d (Releases k) = (1 ≤ k) × (k ≡ d)
 Accepted ns d (Undoes k) = (1 ≤ k) × (k ≤ d)
 
--- R531: the call of an entry is accepted, and an open is numbered next
+-- R531: the call of an entry is accepted, and an open is numbered next; what is misformed, or behind the last byte, is right nowhere (R523)
 abbrev pub RightEntry : List ℕ → ℕ → Entry → Type 0
 RightEntry ns d (Set g c old new) = Accepted ns d (Sets g c new)
 RightEntry ns d (Open k) = Accepted ns d Opens × (k ≡ d + 1)

@@ -1,6 +1,6 @@
 -- `journal::open_savepoint` meets its contract.
 -- Assumes nothing.
-use mathlib.Core.Path.{_≡_, refl}
+use mathlib.Core.Path.{refl}
 use Rattle.journal.specs.Model.{Opens}
 use Rattle.journal.specs.Runs.{kept}
 use Rattle.journal.proofs.Answers.{call-refused, call-decided}

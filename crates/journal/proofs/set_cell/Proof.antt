@@ -1,6 +1,5 @@
 -- `journal::set_cell` meets its contract.
 -- Assumes nothing.
-use mathlib.Core.Path.{_≡_, refl}
 use mir.Facts.{toZ-ofZ}
 use mir.Syntax.{w64}
 use Rattle.journal.proofs.Spots.{starts-length}

@@ -1,6 +1,5 @@
 -- `journal::undo_to_savepoint` meets its contract.
 -- Assumes nothing.
-use mathlib.Core.Path.{_≡_, refl}
 use Rattle.journal.proofs.Spots.{starts-length}
 use Rattle.journal.specs.Model.{Undoes}
 use Rattle.journal.specs.Runs.{kept}
