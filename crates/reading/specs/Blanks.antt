@@ -20,7 +20,11 @@ use Rattle.line.specs.declared.Content.the-variants.{Length, NoReturn}
 abbrev pub blank : ℕ → Bool
 blank b = eqb b 32
 
--- R64: a group whose lines may be shorter than their fields. What is said of a line below is told whether its group is one.
+-- R64: a group whose lines may be shorter than their fields
+abbrev pub MayBeShort : ℕ → Type 0
+MayBeShort g = (g ≡ 2) ⊎ ((g ≡ 54) ⊎ (g ≡ 55))
+
+-- the same as a test (proofs/Letters.antt); what is computed of a line below is told whether its group is one
 abbrev pub mayBeShort : ℕ → Bool
 mayBeShort g = eqb g 2 || (eqb g 54 || eqb g 55)
 
