@@ -146,7 +146,8 @@ module _ (count : ℕ) (x : List ℕ) (cs : List ℤ) (h : readLines A1 false co
   pub first-letters : FirstLetters k x (map sizeOf cs)
   unfolding p n line-one readLines planOf Count.linesOf
   first-letters =
-      by (both-done (readLine A1 false line-one (part 0 end x)) (readLinesOf A1 false (planFrom p n 1 (roundedUp n p - 1)) (drop end x)) cs (sym (lines-more A1 false x p n 0 (roundedUp n p - 1) 0 end refl) ∙ some))
+      by (both-done (readLine A1 false line-one (part 0 end x)) (readLinesOf A1 false (planFrom p n 1 (roundedUp n p - 1)) (drop end x)) cs
+      (sym (lines-more A1 false x p n 0 (roundedUp n p - 1) 0 end refl) ∙ some))
     where
       end : ℕ
       end = 0 + reach (drop 0 x) 1

@@ -24,7 +24,7 @@ use Rattle.line.specs.declared.Content.the-variants.{Length}
 use Rattle.line.proofs.Feeds.{plain-take}
 use Rattle.line.proofs.Reach.{reach-past}
 use Rattle.line.proofs.Contents.{content-two, first-plain}
-use Rattle.reading.specs.Blanks.{shortest, filledTo, rightContent, Fits}
+use Rattle.reading.specs.Blanks.{shortest, filledTo, fieldPart, rightContent, Fits}
 use Rattle.reading.specs.Plan.{Line}
 use Rattle.reading.specs.Read.{readField, readFields, columnsOf}
 use Rattle.reading.specs.Values.{planned, fieldIn}
@@ -80,6 +80,12 @@ module _ (f : Form) (l : Line) (text : List ℕ) where
   fields-none i s h = let n : l .many - i ≡ 0 = omega arith in rw n
 
 -- ---- the bytes of a field
+
+-- as the code finds them: from the lesser of column and end, and from there no more than the width
+pub part-found : (width column stop from to : ℕ) (s : List ℕ) → from ≡ min column stop → to ≡ from + min width (stop - from) → part from to s ≡ fieldPart width column stop s
+part-found width column stop from to s b e =
+    let t : to ≡ min (column + width) stop = omega arith in
+    rw (t, b)
 
 module _ (f : Form) (short : Bool) (l : Line) (s : List ℕ) (at end n : ℕ) (inside : end ≤ length s) (e : rightContent short (columnsOf f l) (part at end s) ≡ Length n) where
   abbrev w : ℕ

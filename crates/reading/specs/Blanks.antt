@@ -44,6 +44,11 @@ isRight short columns s = leb (shortest short columns) (length s) && (leb (lengt
 abbrev pub asField : Form → Bool → List ℕ → List ℕ
 asField f short s = cond short (filledTo (rowOf f .width) s) s
 
+-- R65: what there is of a field in the columns from `column` on, of a line whose content ends at `stop`: less than its width, or nothing, where
+-- the line is short
+abbrev pub fieldPart : ℕ → ℕ → ℕ → List ℕ → List ℕ
+fieldPart width column stop s = part (min column stop) (min (column + width) stop) s
+
 -- R64: short lines are told only of forms of letters, where a blank is a field or a part of one
 abbrev pub HoldsLetters : Form → Bool → Type 0
 HoldsLetters f short = short ≡ true → (f ≡ A120) ⊎ (f ≡ A1)

@@ -9,7 +9,7 @@ use reply::Refusal;
 ghost use mathlib.Core.Path.{_≡_};
 ghost use mathlib.Core.Bool as Bool;
 ghost use mathlib.Core.List.{map};
-ghost use Prim.Native.Nat.{_+_, _-_, _*_, _≤_};
+ghost use Prim.Native.Nat.{_+_, _-_, _*_, _≤_, min};
 ghost use lib.Dec.{T};
 ghost use lib.IntN.{pos};
 ghost use lib.ListN.{length, drop, getD};
@@ -23,7 +23,7 @@ ghost use Rattle.count.specs.Rules.{rulingOf};
 ghost use Rattle.line.specs.Lines.{reach};
 ghost use Rattle.line.specs.Contents.{contentOf};
 ghost use Rattle.reading.specs.Blanks.{blank, mayBeShort, shortest, filledTo, isRight, asField, rightContent};
-ghost use Rattle.reading.specs.Blanks.{fieldsSpan, Fits, HoldsLetters};
+ghost use Rattle.reading.specs.Blanks.{fieldPart, fieldsSpan, Fits, HoldsLetters};
 ghost use Rattle.reading.specs.Read.{verdictOf, misfitOf, readLines, dated, readForm, readGroup, readingOf};
 ghost use Rattle.reading.specs.Read.{tableBy};
 
@@ -127,13 +127,23 @@ fn is_field(form: Form, short: bool, bytes: &[u8]) -> bool
     is_formed(field::read(form, bytes))
 }
 
-fn is_field_at(form: Form, short: bool, lines: &[u8], from: usize, to: usize) -> bool
+// The same of the bytes in the columns from `column` on, of a line that is looked at up to `stop`.
+fn is_field_at(
+    form: Form,
+    short: bool,
+    width: usize,
+    lines: &[u8],
+    column: usize,
+    stop: usize,
+) -> bool
     requires letters { ⌜ HoldsLetters form short ⌝ }
-    requires order { ⌜ from ≤ to ⌝ }
-    requires lines { ⌜ to ≤ length (now lines) ⌝ }
-    requires length { ⌜ to - from ≤ rowOf form .width ⌝ }
-    ensures { λ r. ⌜ r ≡ formed (fieldOf form (asField form short (part from to (now (lines .entry))))) ⌝ }
+    requires lines { ⌜ stop ≤ length (now lines) ⌝ }
+    requires width { ⌜ width ≡ rowOf form .width ⌝ }
+    ensures { λ r. ⌜ r ≡
+        formed (fieldOf form (asField form short (fieldPart width column stop (now (lines .entry))))) ⌝ }
 {
+    let from = base::lesser(column, stop);
+    let to = from + base::lesser(width, stop - from);
     is_field(form, short, &lines[from..to])
 }
 
@@ -194,8 +204,7 @@ fn check_lines(form: Form, short: bool, count: u16, lines: &[u8]) -> Checked
         let mut from = at;
         let mut i: usize = 0;
         while i < k {
-            let to = base::lesser(from + width, stop);
-            if is_field_at(form, short, lines, base::lesser(from, stop), to) {
+            if is_field_at(form, short, width, lines, from, stop) {
                 from += width;
                 i += 1;
             } else {
@@ -303,28 +312,30 @@ fn put_field(form: Form, short: bool, width: usize, bytes: &[u8], table: &mut [i
     }
 }
 
+// The same of the field in the columns from `column` on, of a line whose content ends at `stop`.
 fn put_field_at(
     form: Form,
     short: bool,
     width: usize,
     lines: &[u8],
-    from: usize,
-    to: usize,
+    column: usize,
+    stop: usize,
     table: &mut [i64],
     at: usize,
 )
     requires letters { ⌜ HoldsLetters form short ⌝ }
-    requires order { ⌜ from ≤ to ⌝ }
-    requires lines { ⌜ to ≤ length (now lines) ⌝ }
+    requires lines { ⌜ stop ≤ length (now lines) ⌝ }
     requires width { ⌜ width ≡ rowOf form .width ⌝ }
-    requires fits { ⌜ Fits form short (to - from) ⌝ }
-    requires formed { ⌜ T (formed (fieldOf form (filledTo width (part from to (now lines))))) ⌝ }
+    requires fits { ⌜ Fits form short (min (column + width) stop - min column stop) ⌝ }
+    requires formed { ⌜ T (formed (fieldOf form (filledTo width (fieldPart width column stop (now lines))))) ⌝ }
     requires room { ⌜ at + rowOf form .cells ≤ length (now table) ⌝ }
     ensures { λ _. ⌜ now (table .exit) ≡
         over at
-        (valueCells (filledTo width (part from to (now (lines .entry))))
-        (fieldOf form (filledTo width (part from to (now (lines .entry)))))) (now (table .entry)) ⌝ }
+        (valueCells (filledTo width (fieldPart width column stop (now (lines .entry))))
+        (fieldOf form (filledTo width (fieldPart width column stop (now (lines .entry)))))) (now (table .entry)) ⌝ }
 {
+    let from = base::lesser(column, stop);
+    let to = from + base::lesser(width, stop - from);
     put_field(form, short, width, &lines[from..to], table, at);
 }
 
@@ -357,17 +368,7 @@ fn fill_lines(form: Form, short: bool, count: u16, lines: &[u8], table: &mut [i6
         let mut from = at;
         let mut i: usize = 0;
         while i < k {
-            let to = base::lesser(from + width, stop);
-            put_field_at(
-                form,
-                short,
-                width,
-                lines,
-                base::lesser(from, stop),
-                to,
-                table,
-                cell,
-            );
+            put_field_at(form, short, width, lines, from, stop, table, cell);
             from += width;
             cell += cells;
             i += 1;
