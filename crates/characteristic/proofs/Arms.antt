@@ -33,8 +33,8 @@ module _ (b : Bool) where
   single ks n t h = is-told b n (Arm.single (is b) ks n t h)
 
   module _ (arms : List (List ℕ)) where
-    pub between : (lo k n : ℕ) → T (every (λ m. is b m || anyHas arms m) (upFrom lo k)) → lo ≤ n → n < lo + k → None arms n → T b ↔ Frequency n
-    between lo k n t low high o = is-told b n (Arm.between (is b) arms lo k n t low high o)
+    pub between : (lo k : ℕ) {n : ℕ} → T (every (λ m. is b m || anyHas arms m) (upFrom lo k)) → lo ≤ n → n < lo + k → None arms n → T b ↔ Frequency n
+    between lo k {n} t low high o = is-told b n (Arm.between (is b) arms lo k t low high o)
 
 -- no run goes on behind m
 ended : (rs : List Run) (m n : ℕ) → T (every (λ r. leb (r .last) m) rs) → m < n → InOne rs n → ⊥
@@ -50,5 +50,5 @@ pub beyond : (arms : List (List ℕ)) (lo k n : ℕ) → T (every (λ m. is fals
 beyond arms lo k n t far low o =
     ⊎-elim
     (λ (h : lo + k ≤ n). (λ u. absurd u, ended frequencies 48 n tt (omega arith)))
-    (λ (h : n < lo + k). between false arms lo k n t low h o)
+    (λ (h : n < lo + k). between false arms lo k t low h o)
     (le-or-lt (lo + k) n)
