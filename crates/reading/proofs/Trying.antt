@@ -35,7 +35,7 @@ use Rattle.reading.specs.Read.{columnsOf, misfitOf, readLines, verdictOf
 use Rattle.reading.proofs.Blanks.{as-filled}
 use Rattle.reading.proofs.Lines.{right-is}
 use Rattle.reading.proofs.Fields.{lineText, enough}
-use Rattle.reading.proofs.Checking.{Checking, Fielding, element-small, next-first, many-here, columns-here, few-here, end-range, width-few, wrong-line}
+use Rattle.reading.proofs.Checking.{Checking, Fielding, element-small, next-first, many-here, columns-here, end-range, width-few, wrong-line}
 use Rattle.reading.proofs.Checking.{content-inside, fielding-start, checking-next, field-range, fielding-next, wrong-field}
 
 -- ---- how far fields are looked for

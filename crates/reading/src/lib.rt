@@ -1,5 +1,5 @@
-// Reading the lines of a group under its record's counts. The lines are checked first, and the table is filled only when all of them are
-// clean (R267). The text that they come from is not known here (R269).
+// Reading the lines of a group under its record's counts. The lines are checked first, and the table is filled only
+// when all of them are clean (R267). The text that they come from is not known here (R269).
 use count::Ruling;
 use form::Form;
 use form::GroupForm;
@@ -115,7 +115,8 @@ fn is_formed(value: field::Value) -> bool
     }
 }
 
-// Whether bytes of a line are a field of the form. Where lines may be short, blanks that would be added print too (R65).
+// Whether bytes of a line are a field of the form. Where lines may be short, blanks that would be added print too
+// (R65).
 fn is_field(form: Form, short: bool, bytes: &[u8]) -> bool
     requires letters { ⌜ HoldsLetters form short ⌝ }
     requires width { ⌜ length (now bytes) ≤ rowOf form .width ⌝ }
@@ -147,8 +148,8 @@ fn is_field_at(
     is_field(form, short, &lines[from..to])
 }
 
-// Where the fields of a line are looked for no further, before its end is known. A line that may be short has no length of its own: its
-// content is asked for first, and its bytes are looked at twice.
+// Where the fields of a line are looked for no further, before its end is known. A line that may be short has no length
+// of its own: its content is asked for first, and its bytes are looked at twice.
 fn fields_stop(short: bool, columns: usize, lines: &[u8], at: usize) -> usize
     requires { ⌜ at ≤ length (now lines) ⌝ }
     ensures { λ r. ⌜ r ≡ at + fieldsSpan short columns (now (lines .entry)) at ⌝ }
@@ -183,8 +184,9 @@ fn misfit(
     }
 }
 
-// The first pass, as R443 has it: each line's fields, and then what stands behind them, up to the first line that is bad (R263). It looks
-// at no table. No line feed stands in fields that are formed, so the line's end is sought behind them.
+// The first pass, as R443 has it: each line's fields, and then what stands behind them, up to the first line that is
+// bad (R263). It looks at no table. No line feed stands in fields that are formed, so the line's end is sought behind
+// them.
 fn check_lines(form: Form, short: bool, count: u16, lines: &[u8]) -> Checked
     requires { ⌜ HoldsLetters form short ⌝ }
     ensures { λ r. ⌜ r ≡ verdictOf (readLines form short count (now (lines .entry))) ⌝ }
@@ -358,7 +360,8 @@ fn fill_lines(form: Form, short: bool, count: u16, lines: &[u8], table: &mut [i6
     let mut j: usize = 0;
     while j < many {
         let k = base::lesser(per_line, left);
-        // no line feed stands in the columns of these fields; a line that may be short can end anywhere, so its bytes are looked at twice
+        // no line feed stands in the columns of these fields; a line that may be short can end anywhere, so its bytes
+        // are looked at twice
         let end = line::behind_or_end(lines, at + least(short, k * width), 1);
         // a clean line has a content, so this is never taken
         let line::Content::Length(n) = content_at(lines, at, end) else {
@@ -403,9 +406,9 @@ fn read_form(form: Form, group: usize, count: u16, lines: &[u8], table: &mut [i6
     }
 }
 
-// R260: reads a group of a record with these counts, whose lines these are, into a table. It is altered only if all is clean, and then only
-// as far as the group's cells go (R266, R267). The counts keep the rules, as those of a record that was placed with 0 do: they are not tried
-// again.
+// R260: reads a group of a record with these counts, whose lines these are, into a table. It is altered only if all is
+// clean, and then only as far as the group's cells go (R266, R267). The counts keep the rules, as those of a record
+// that was placed with 0 do: they are not tried again.
 pub fn read_kept(counts: &[u16], group: usize, lines: &[u8], table: &mut [i64]) -> Answer
     requires { ⌜ rulingOf (now counts) ≡ Ruling.Kept ⌝ }
     ensures answer { λ r. ⌜ r ≡
