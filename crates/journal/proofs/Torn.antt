@@ -168,5 +168,5 @@ module _ (ns : List ℕ) (t₀ : List ℤ) (right : checkedOf ns (length t₀) �
 
 module _ (ns : List ℕ) (t : List ℤ) (j : List ℕ) (cs : List Call) (ft : Fit t) (fc : FitCalls cs) where
   -- R544: cut at any byte
-  pub torn-calls : checkedOf ns (length t) ≡ C.Right → (n : ℕ) → n ≤ leftTo ns cs (kept t j 0) .used → Torn ns t cs (kept t j 0) n
-  torn-calls r n h = torn ns t r cs (kept t j 0) [] n fc (fresh ns t j ft) (omega arith) h
+  pub torn-calls : checkedOf ns (length t) ≡ C.Right → {n : ℕ} → n ≤ leftTo ns cs (kept t j 0) .used → Torn ns t cs (kept t j 0) n
+  torn-calls r {n} h = torn ns t r cs (kept t j 0) [] n fc (fresh ns t j ft) (omega arith) h

@@ -146,7 +146,7 @@ pub record Edits : Type 0 where
   -- cut at any byte, it comes to what the calls left that are whole in it
   pub torn : (ns : List ℕ) (t : List ℤ) (j : List ℕ) (cs : List Call) → Fit t → FitCalls cs
       → checkedOf ns (length t) ≡ Right
-      → (n : ℕ) → n ≤ leftTo ns cs (kept t j 0) .used → Torn ns t cs (kept t j 0) n
+      → {n : ℕ} → n ≤ leftTo ns cs (kept t j 0) .used → Torn ns t cs (kept t j 0) n
   -- what replays with 0, whoever wrote it, is a journal that calls have made, and calls go on behind it
   pub made : (ns : List ℕ) (t : List ℤ) (k : Kept) → Fit t → AllBytes (k .journal)
       → replayOf ns (k .journal) (k .used) t ≡ Right

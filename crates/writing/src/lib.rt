@@ -1,4 +1,5 @@
-// Writing a record: counts and cells to canonical text. All is checked first, and a byte is written only when nothing is refused (R307).
+// Writing a record: counts and cells to canonical text. All is checked first, and a byte is written only when nothing
+// is refused (R307).
 use form::Form;
 use reply::Answer;
 use reply::Checked;
@@ -116,7 +117,8 @@ fn group_bytes(form: Form, count: u16) -> usize
     n * row.width + form::rounded_up(n, row.per_line) * 2
 }
 
-// R110: the bytes of a record's canonical text, by its counts alone: two index lines of 122 bytes, and the lines of the groups.
+// R110: the bytes of a record's canonical text, by its counts alone: two index lines of 122 bytes, and the lines of the
+// groups.
 pub fn canonical_length(counts: &[u16]) -> usize
     ensures { λ r. ⌜ r ≡ recordBytes (now (counts .entry)) ⌝ }
 {
@@ -269,8 +271,8 @@ fn put_groups(counts: &[u16], cells: &[i64], out: &mut [u8], at: usize)
 
 // ---- Writing a record.
 
-// The canonical text of counts and cells to the front of an output that has room for it. Nothing is checked: this is for cells that are known
-// to fit, as those that were read are.
+// The canonical text of counts and cells to the front of an output that has room for it. Nothing is checked: this is
+// for cells that are known to fit, as those that were read are.
 pub fn put_record(counts: &[u16], cells: &[i64], out: &mut [u8])
     requires checked { ⌜ checkedOf (now counts) (length (now cells)) ≡ Checked.Right ⌝ }
     requires fits { ⌜ fitOf (now counts) (now cells) ≡ Fit.All ⌝ }
@@ -316,8 +318,9 @@ fn write_checked(counts: &[u16], cells: &[i64], out: &mut [u8]) -> Answer
     }
 }
 
-// R300 to R307: writes the canonical text of counts and of the cells of all groups to the front of the output, and answers 0 with its length;
-// or answers the first of 4, 5, 6, 7, 14, 13, 10 and 11 that is due, and alters no byte. What stands behind the text stays.
+// R300 to R307: writes the canonical text of counts and of the cells of all groups to the front of the output, and
+// answers 0 with its length; or answers the first of 4, 5, 6, 7, 14, 13, 10 and 11 that is due, and alters no byte.
+// What stands behind the text stays.
 pub fn write_record(counts: &[u16], cells: &[i64], out: &mut [u8]) -> Answer
     ensures answer { λ r. ⌜ r ≡ writingOf (now (counts .entry)) (now (cells .entry)) (length (now (out .entry))) ⌝ }
     ensures output { λ r. ⌜ now (out .exit) ≡

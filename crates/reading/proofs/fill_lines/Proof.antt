@@ -143,27 +143,17 @@ add-stop c = omega (arith, fill-inside (line (line-of c)) _ (content c))
 loop2-holds : tie.Need-loop2-holds Inv-loop2 μ-loop2 Inv-loop μ-loop
 loop2-holds c = fields-filling (line (line-of c)) _ (content c)
 
-add-lesser : tie.Need-add-lesser Inv-loop2 μ-loop2 Inv-loop μ-loop
-add-lesser c =
-    let at-fields = c .before .before in
-    let at-line = line-of at-fields in
-    let o = start at-line in
-    omega (arith, fill-small (line at-line) _ (content at-fields) (c .before .loop2 .inv), line at-line .state .walk .wide, width-few (o .args .form))
-
 put-field-at-requires : tie.Need-put-field-at-requires Inv-loop2 μ-loop2 Inv-loop μ-loop
 put-field-at-requires c κs =
-    let begin = c .before .lesser3 in
-    let to = c .before .before .lesser2 in
-    let in-loop = c .before .before .before in
-    let at-loop = in-loop .before in
-    let at-fields = at-loop .before in
+    let in-loop = c .before in
+    let at-fields = in-loop .before .before in
     let letters = start (line-of at-fields) .pre .0 in
-    let all = put-requires (line (line-of at-fields)) _ (content at-fields) (at-loop .loop2 .inv) (begin .result) (to .result) (in-loop .loop2-test .taken) (begin .ensures) (to .ensures) in
-    (letters, (all .0, (all .1, (all .2, (all .3, (all .4, all .5))))))
+    let all = put-requires (line (line-of at-fields)) _ (content at-fields) (in-loop .before .loop2 .inv) (in-loop .loop2-test .taken) in
+    (letters, (all .ends, (all .wide, (all .fits, (all .good, all .room)))))
 
 add-from : tie.Need-add-from Inv-loop2 μ-loop2 Inv-loop μ-loop
 add-from c =
-    let at-loop = c .before .before .before .before .before .before in
+    let at-loop = c .before .before .before .before in
     let at-fields = at-loop .before in
     let at-line = line-of at-fields in
     let o = start at-line in
@@ -171,24 +161,17 @@ add-from c =
 
 add-cell : tie.Need-add-cell Inv-loop2 μ-loop2 Inv-loop μ-loop
 add-cell c =
-    let begin = c .before .before .before .lesser3 in
-    let to = c .before .before .before .before .lesser2 in
-    let in-loop = c .before .before .before .before .before in
-    let at-loop = in-loop .before in
-    let at-fields = at-loop .before in
+    let in-loop = c .before .before .before in
+    let at-fields = in-loop .before .before in
     let o = start (line-of at-fields) in
-    let small = cell-small (line (line-of at-fields)) _ (content at-fields) (at-loop .loop2 .inv) (begin .result) (to .result) (in-loop .loop2-test .taken) (begin .ensures) (to .ensures) in
+    let small = cell-small (line (line-of at-fields)) _ (content at-fields) (in-loop .before .loop2 .inv) (in-loop .loop2-test .taken) in
     omega (arith, o .good .1 .1 .1 .0, small)
 
 loop2-again : tie.Need-loop2-again Inv-loop2 μ-loop2 Inv-loop μ-loop
 loop2-again c =
-    let begin = c .before .before .before .lesser3 in
-    let to = c .before .before .before .before .lesser2 in
-    let in-loop = c .before .before .before .before .before in
-    let at-loop = in-loop .before in
-    let at-fields = at-loop .before in
-    let put = c .before .put-field-at .ensures in
-    fields-next (line (line-of at-fields)) _ (content at-fields) (at-loop .loop2 .inv) (begin .result) (to .result) (in-loop .loop2-test .taken) (begin .ensures) (to .ensures) put
+    let in-loop = c .before .before .before in
+    let at-fields = in-loop .before .before in
+    fields-next (line (line-of at-fields)) _ (content at-fields) (in-loop .before .loop2 .inv) (in-loop .loop2-test .taken) (c .before .put-field-at .ensures)
 
 -- ---- the next line, and the end
 
@@ -230,9 +213,6 @@ fill-lines-spec =
     returns
     add-stop
     loop2-holds
-    add-lesser
-    (λ c κs. search needs)
-    (λ c κs. search needs)
     put-field-at-requires
     add-from
     add-cell
