@@ -31,14 +31,6 @@ enum Fit {
 
 // ---- Checking.
 
-fn fits_at(form: Form, cells: &[i64], from: usize, to: usize) -> bool
-    requires order { ⌜ from ≤ to ⌝ }
-    requires cells { ⌜ to ≤ length (now cells) ⌝ }
-    ensures { λ r. ⌜ r ≡ fitsOf form (part from to (now (cells .entry))) ⌝ }
-{
-    field::fits(form, &cells[from..to])
-}
-
 // The first element of a group whose cells fit no field; the group's cells begin at a place of the table.
 fn elements_fit(form: Form, group: usize, count: u16, cells: &[i64], from: usize) -> Fit
     requires { ⌜ from + cellsOf form count ≤ length (now cells) ⌝ }
@@ -51,7 +43,7 @@ fn elements_fit(form: Form, group: usize, count: u16, cells: &[i64], from: usize
     let mut e: usize = 0;
     while e < many {
         let to = at + size;
-        if fits_at(form, cells, at, to) {
+        if field::fits(form, &cells[at..to]) {
             at = to;
             e += 1;
         } else {
@@ -176,17 +168,6 @@ fn put_index(counts: &[u16], out: &mut [u8])
     put_index_line(&counts[40..80], out, 122);
 }
 
-fn put_field_at(form: Form, cells: &[i64], from: usize, to: usize, out: &mut [u8], at: usize)
-    requires order { ⌜ from ≤ to ⌝ }
-    requires cells { ⌜ to ≤ length (now cells) ⌝ }
-    requires fits { ⌜ T (fitsOf form (part from to (now cells))) ⌝ }
-    requires room { ⌜ at + rowOf form .width ≤ length (now out) ⌝ }
-    ensures { λ _. ⌜ now (out .exit) ≡
-        over at (fieldText form (part from to (now (cells .entry)))) (now (out .entry)) ⌝ }
-{
-    field::put(form, &cells[from..to], out, at);
-}
-
 // The fields of a line of so many elements, whose cells begin at a place of the table; the place behind them.
 fn put_fields(
     form: Form,
@@ -212,7 +193,7 @@ fn put_fields(
     let mut i: usize = 0;
     while i < many {
         let to = cell + size;
-        put_field_at(form, cells, cell, to, out, a);
+        field::put(form, &cells[cell..to], out, a);
         a += width;
         cell = to;
         i += 1;
