@@ -80,28 +80,6 @@ fn right_content(short: bool, columns: usize, line: &[u8]) -> line::Content
     line::Content::NoReturn
 }
 
-fn right_content_at(
-    short: bool,
-    columns: usize,
-    lines: &[u8],
-    from: usize,
-    to: usize,
-) -> line::Content
-    requires order { ⌜ from ≤ to ⌝ }
-    requires lines { ⌜ to ≤ length (now lines) ⌝ }
-    ensures { λ r. ⌜ r ≡ rightContent short columns (part from to (now (lines .entry))) ⌝ }
-{
-    right_content(short, columns, &lines[from..to])
-}
-
-fn content_at(lines: &[u8], from: usize, to: usize) -> line::Content
-    requires order { ⌜ from ≤ to ⌝ }
-    requires lines { ⌜ to ≤ length (now lines) ⌝ }
-    ensures { λ r. ⌜ r ≡ contentOf (part from to (now (lines .entry))) ⌝ }
-{
-    line::content_length(&lines[from..to])
-}
-
 // ---- Checking.
 
 fn is_formed(value: field::Value) -> bool
@@ -155,8 +133,8 @@ fn fields_stop(short: bool, columns: usize, lines: &[u8], at: usize) -> usize
     ensures { λ r. ⌜ r ≡ at + fieldsSpan short columns (now (lines .entry)) at ⌝ }
 {
     if short {
-        let line::Content::Length(n) = content_at(lines, at, line::behind_or_end(lines, at, 1))
-        else {
+        let end = line::behind_or_end(lines, at, 1);
+        let line::Content::Length(n) = line::content_length(&lines[at..end]) else {
             return at;
         };
         return at + n;
@@ -178,7 +156,8 @@ fn misfit(
         misfitOf number element
         (rightContent short columns (part at (at + reach (drop at (now (lines .entry))) 1) (now (lines .entry)))) ⌝ }
 {
-    match right_content_at(short, columns, lines, at, line::behind_or_end(lines, at, 1)) {
+    let end = line::behind_or_end(lines, at, 1);
+    match right_content(short, columns, &lines[at..end]) {
         line::Content::Length(_) => Refusal::BadField(number, element),
         line::Content::NoReturn => Refusal::BadLine(number),
     }
@@ -215,7 +194,7 @@ fn check_lines(form: Form, short: bool, count: u16, lines: &[u8]) -> Checked
             }
         }
         let end = line::behind_or_end(lines, stop, 1);
-        let line::Content::Length(_) = right_content_at(short, k * width, lines, at, end) else {
+        let line::Content::Length(_) = right_content(short, k * width, &lines[at..end]) else {
             verdict = Checked::Refused(Refusal::BadLine(j + 1));
             break 'lines;
         };
@@ -364,7 +343,7 @@ fn fill_lines(form: Form, short: bool, count: u16, lines: &[u8], table: &mut [i6
         // are looked at twice
         let end = line::behind_or_end(lines, at + least(short, k * width), 1);
         // a clean line has a content, so this is never taken
-        let line::Content::Length(n) = content_at(lines, at, end) else {
+        let line::Content::Length(n) = line::content_length(&lines[at..end]) else {
             return;
         };
         let stop = at + n;

@@ -5,6 +5,7 @@ use borrow.Author.Needs.{needs}
 use native.Mathlib.Omega.{arith}
 use mathlib.Core.Path.{_≡_, refl, sym, _∙_, ap}
 use Prim.Native.Nat.{_-_, _*_, _≤_}
+use lib.ListN.{length}
 use Rattle.form.specs.Table.{rowOf}
 use Rattle.form.specs.Count.{elementsOf}
 use Rattle.reading.specs.Plan.{lineAt}
@@ -109,22 +110,33 @@ add-misfit-2 c =
 misfit-requires : tie.Need-misfit-requires Inv-loop μ-loop Inv-lines μ-lines
 misfit-requires c κs = line (c .before .before .before .before) .state .walk .inside
 
-mul-right-content-at : tie.Need-mul-right-content-at Inv-loop μ-loop Inv-lines μ-lines
-mul-right-content-at c = omega (arith, few-columns (c .before .before .before))
+mul-right-content : tie.Need-mul-right-content Inv-loop μ-loop Inv-lines μ-lines
+mul-right-content c = omega (arith, few-columns (c .before .before .before))
 
-right-content-at-requires : tie.Need-right-content-at-requires Inv-loop μ-loop Inv-lines μ-lines
-right-content-at-requires c κs =
+-- the line stands in the lines
+inside : (c : tie.After-behind-or-end Inv-loop μ-loop Inv-lines μ-lines)
+    → (let l = line (c .before .before .before) in (l .at ≤ c .behind-or-end .result) × (c .behind-or-end .result ≤ length (start (c .before .before .before) .args .lines .now)))
+inside c =
     let at-loop = c .before .before in
     tried-range (line (at-loop .before)) (at-loop .loop .inv .1) (omega arith) (c .behind-or-end .result) (c .behind-or-end .ensures)
+
+sub-right-content : tie.Need-sub-right-content Inv-loop μ-loop Inv-lines μ-lines
+sub-right-content c = let r = inside c in search needs
+
+part-right-content-start : tie.Need-part-right-content-start Inv-loop μ-loop Inv-lines μ-lines
+part-right-content-start c = let r = inside c in search needs
+
+part-right-content-end : tie.Need-part-right-content-end Inv-loop μ-loop Inv-lines μ-lines
+part-right-content-end c = let r = inside c in search needs
 
 -- ---- the next line, and the verdict
 
 sub-left : tie.Need-sub-left Inv-loop μ-loop Inv-lines μ-lines
-sub-left c = omega (arith, line (c .before .before .before .before .before .before) .elements)
+sub-left c = omega (arith, line (c .before .before .before .before .before .before .before) .elements)
 
 add-element : tie.Need-add-element Inv-loop μ-loop Inv-lines μ-lines
 add-element c =
-    let at-line = c .before .before .before .before .before .before in
+    let at-line = c .before .before .before .before .before .before .before in
     let o = start at-line in
     let state = line at-line .state in
     let next = next-first (o .args .form) (o .args .count) (o .args .lines .now) (state .walk) in
@@ -132,9 +144,9 @@ add-element c =
 
 lines-again : tie.Need-lines-again Inv-loop μ-loop Inv-lines μ-lines
 lines-again c =
-    let end = c .before .before .before .behind-or-end in
-    let at-loop = c .before .before .before .before .before in
-    let right = sym (c .before .before .right-content-at .ensures) ∙ c .enum-told .given .1 in
+    let end = c .before .before .before .before .behind-or-end in
+    let at-loop = c .before .before .before .before .before .before in
+    let right = sym (c .before .before .right-content .ensures) ∙ c .enum-told .given .1 in
     (at-loop .loop .inv .0, tried-next (line (at-loop .before)) (at-loop .loop .inv .1) (omega arith) (end .result) (end .ensures) (c .enum-told .given .0 .0) right)
 
 returns : tie.Need-returns Inv-loop μ-loop Inv-lines μ-lines
@@ -151,9 +163,9 @@ returns-2 c =
 
 returns-3 : tie.Need-returns-3 Inv-loop μ-loop Inv-lines μ-lines
 returns-3 c =
-    let end = c .before .before .before .behind-or-end in
-    let at-loop = c .before .before .before .before .before in
-    let wrong = sym (c .before .before .right-content-at .ensures) ∙ c .enum-told2 .given .1 in
+    let end = c .before .before .before .before .behind-or-end in
+    let at-loop = c .before .before .before .before .before .before in
+    let wrong = sym (c .before .before .right-content .ensures) ∙ c .enum-told2 .given .1 in
     tried-wrong (line (at-loop .before)) (at-loop .loop .inv .1) (omega arith) (end .result) (end .ensures) wrong
 
 pub check-lines-spec : {M : Type 1} → statement M
@@ -182,8 +194,11 @@ check-lines-spec =
     add-misfit-2
     misfit-requires
     (λ c κs. search needs)
-    mul-right-content-at
-    right-content-at-requires
+    mul-right-content
+    sub-right-content
+    part-right-content-start
+    part-right-content-end
+    (λ c κs. search needs)
     (λ c. search needs)
     (λ c. search needs)
     (λ c. search needs)

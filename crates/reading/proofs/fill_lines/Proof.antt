@@ -115,16 +115,22 @@ line c =
     let least = c .before .least in
     line-to c (c .behind-or-end .result) (c .behind-or-end .ensures ∙ end-behind (line-to c _ refl) (least .result) (least .ensures))
 
-content-at-requires : tie.Need-content-at-requires Inv-loop2 μ-loop2 Inv-loop μ-loop
-content-at-requires c κs = line-inside (line c)
+sub-content-length : tie.Need-sub-content-length Inv-loop2 μ-loop2 Inv-loop μ-loop
+sub-content-length c = let r = line-inside (line c) in search needs
+
+part-content-length-start : tie.Need-part-content-length-start Inv-loop2 μ-loop2 Inv-loop μ-loop
+part-content-length-start c = let r = line-inside (line c) in search needs
+
+part-content-length-end : tie.Need-part-content-length-end Inv-loop2 μ-loop2 Inv-loop μ-loop
+part-content-length-end c = let r = line-inside (line c) in search needs
 
 same-length : tie.Need-same-length Inv-loop2 μ-loop2 Inv-loop μ-loop
 same-length c =
-    let at-line = line (c .before .before .before) in
+    let at-line = line (c .before .before .before .before) in
     filling-length (at-line .room) (at-line .state)
 
 returns : tie.Need-returns Inv-loop2 μ-loop2 Inv-loop μ-loop
-returns c = absurd (has-content (line (c .before .before .before)) (sym (c .before .before .content-at .ensures) ∙ c .enum-told .given .1))
+returns c = absurd (has-content (line (c .before .before .before .before)) (sym (c .before .before .content-length .ensures) ∙ c .enum-told .given .1))
 
 -- ---- its fields, where it has a content
 
@@ -132,10 +138,10 @@ abbrev AtFields : Type 0
 AtFields = tie.After-known-told Inv-loop2 μ-loop2 Inv-loop μ-loop
 
 abbrev line-of : AtFields → AtLine
-line-of c = c .before .before .before .before
+line-of c = c .before .before .before .before .before
 
 content : (c : AtFields) → contentOf (part (reached (line-of c) .at) (line (line-of c) .end) (start (line-of c) .args .lines .now)) ≡ Length (c .before .n .given .0 .0)
-content c = sym (c .before .before .before .content-at .ensures) ∙ c .before .n .given .1
+content c = sym (c .before .before .before .content-length .ensures) ∙ c .before .n .given .1
 
 add-stop : tie.Need-add-stop Inv-loop2 μ-loop2 Inv-loop μ-loop
 add-stop c = omega (arith, fill-inside (line (line-of c)) _ (content c))
@@ -176,7 +182,7 @@ loop2-again c =
 -- ---- the next line, and the end
 
 sub-left : tie.Need-sub-left Inv-loop2 μ-loop2 Inv-loop μ-loop
-sub-left c = omega (arith, c .before .before .before .before .before .before .before .before .lesser .ensures)
+sub-left c = omega (arith, c .before .before .before .before .before .before .before .before .before .lesser .ensures)
 
 loop-again : tie.Need-loop-again Inv-loop2 μ-loop2 Inv-loop μ-loop
 loop-again c =
@@ -206,7 +212,10 @@ fill-lines-spec =
     (λ c κs. search needs)
     add-behind-or-end
     (λ c κs. search needs)
-    content-at-requires
+    sub-content-length
+    part-content-length-start
+    part-content-length-end
+    (λ c κs. search needs)
     (λ c. search needs)
     (λ c. search needs)
     same-length
