@@ -85,8 +85,11 @@ module _ {S : Type 0} {right : S → Type 0} {next : S → S} {first end : S} (s
   used-is : (x : S) → (place x ≡ used → right x → ⊥) → AllUsed S place (Goes S right next first) right used x → x ≡ end
   used-is x past h = goes-one (h .fields) (past (h .ends)) (st .goes) (st .stuck)
 
-  fault-is : (p : ℕ) → Faulty S place (Goes S right next first) right used p → place end ≡ p
-  fault-is p h = ap place (goes-one (st .goes) (st .stuck) (h .fields) (h .fault)) ∙ h .stops
+  fault-given : (ns : List ℕ) (cells p : ℕ) → Counts.HasCells ns cells → Faulty S place (Goes S right next first) right used p
+      → checks ns cells used (place end) ≡ C.Refused (BadEntry p)
+  fault-given ns cells p c h =
+      let q = ap place (goes-one (st .goes) (st .stuck) (h .fields) (h .fault)) ∙ h .stops in
+      checks-entry ns cells used (place end) c (λ e. h .other (sym q ∙ e)) ∙ ap (λ x. C.Refused (BadEntry x)) q
 
   all-used : place end ≡ used → AllUsed S place (Goes S right next first) right used end
   all-used q = record { fields = st .goes; ends = q }
@@ -122,9 +125,7 @@ module _ (ns j : List ℕ) (used cells : ℕ) (c : Call) where
 
   refusal-given : (r : Refusal) → RefusedFor ns j used cells c r → answerOf ns j used cells c ≡ Refused r
   refusal-given r (wrong-counts q h) = to-refused q (checks-counts ns cells used stop q h)
-  refusal-given r (bad-entry p h f) =
-      let q = fault-is (walk-ends ns (take used j)) (λ x. x .place) used p f in
-      to-refused (BadEntry p) (checks-entry ns cells used stop h (λ e. f .other (sym q ∙ e)) ∙ ap (λ x. C.Refused (BadEntry x)) q)
+  refusal-given r (bad-entry p h f) = to-refused (BadEntry p) (fault-given (walk-ends ns (take used j)) (λ x. x .place) used ns cells p h f)
   refusal-given r (unaccepted w h n) =
       let m = subst (λ x. Accepted ns (length (x .marks)) c → ⊥) (order-is ns j used w (h .fields)) n in
       to-decided (h .table) (stop-is w h) ∙ rw (no-accepted ns opened c m)
@@ -260,9 +261,7 @@ module _ (ns j : List ℕ) (used : ℕ) (t : List ℤ) where
 
   replay-refusal : (r : Refusal) → ReplayRefusedFor ns j used t r → checks ns (length t) used (run .place) ≡ C.Refused r
   replay-refusal r (replay-counts q h) = checks-counts ns (length t) used (run .place) q h
-  replay-refusal r (replay-entry p h f) =
-      let q = fault-is (play-ends ns (take used j) t) (λ x. x .place) used p f in
-      checks-entry ns (length t) used (run .place) h (λ e. f .other (sym q ∙ e)) ∙ ap (λ x. C.Refused (BadEntry x)) q
+  replay-refusal r (replay-entry p h f) = fault-given (play-ends ns (take used j) t) (λ x. x .place) used ns (length t) p h f
 
   replay-given : (a : Checked) → ReplayDue ns j used t a → checks ns (length t) used (run .place) ≡ a
   replay-given C.Right h =
