@@ -194,6 +194,7 @@ trap '' PIPE
 mkfifo "$work/pipe"
 
 run() { # in the background, with commands from the pipe; its number is in `running`
+    : >"$work/got" # else the lines of another run would be taken for its own
     becomes "$program" "$day" 2 "$journal" <"$work/pipe" >"$work/got" 2>&1 &
     running=$!
     exec 3>"$work/pipe"
@@ -688,6 +689,38 @@ holds 'a journal that can be emptied' ''
 flush_fails 5 'an emptied journal that cannot be flushed' 'done: cell 1 of group 4 is 7301' "edit: $journal: Input/output error" "$could_not"
 counted 'an emptied journal that cannot be flushed: exit status' [ "$ended_with" = 1 ]
 counted 'an emptied journal that cannot be flushed: the day is saved' cmp -s "$day" "$work/saved"
+holds 'an emptied journal that cannot be flushed' ''
+
+# a save whose run began with a replay: what was replayed is kept before the journal is emptied
+begin
+edit 2 'set 4 1 7301'
+keep
+faulty flush4 'save'
+counted 'a copy of what was replayed that cannot be flushed: exit status' [ "$?" = 1 ]
+said 'a copy of what was replayed that cannot be flushed' "$loaded" "$(replayed 2 22 0)" "edit: $journal.??????: Input/output error" "$could_not"
+holds 'a copy of what was replayed that cannot be flushed' "$first"
+files 'a copy of what was replayed that cannot be flushed' day journal
+cp "$work/before/day" "$day"
+faulty emptying 'save'
+counted 'killed when what was replayed is kept: exit status' [ "$?" = 137 ]
+holds 'killed when what was replayed is kept' "$first"
+counted 'killed when what was replayed is kept: the copy is there' cmp -s "$journal".?????? "$work/before/journal"
+
+# the wrong record, whose cells are what those of the right one were: the dip angle is the same all day. What is said names the record, and the
+# edits are not lost
+begin
+edit 3 'set 1 2 66000'
+keep
+edit 2 'show 1' 'set 4 1 7301' 'save' 'set 4 1 7300' 'save'
+said 'the wrong record, with cells that are alike' "$loaded" "$(replayed 2 22 0)" "$(echo "$one" | awk '{ $4 = 66000; print }')" \
+    'done: cell 1 of group 4 is 7301' "$kept_saved" 'done: cell 1 of group 4 is 7300' "$done_saved"
+files 'the wrong record, with cells that are alike' day journal 'journal.??????'
+counted 'the wrong record, with cells that are alike: all edits are kept' \
+    [ "$(bytes "$(echo "$journal".??????)")" = "$(set_field 1 2 63000 66000)$first" ]
+head -c 22 "$journal".?????? >"$journal"
+counted 'what was replayed is the journal of the right record' cmp -s "$journal" "$work/before/journal"
+edit 3 'show 1'
+said 'the right record, with what was kept of the journal' "$third_loaded" "$(replayed 3 22 0)" "$(echo "$one" | awk '{ $4 = 66000; print }')"
 
 # ---- two editors
 
@@ -765,6 +798,93 @@ faulty saving 'set 4 1 7301' 'save' 'save'
 said 'replaced while it is locked' "$loaded" 'done: cell 1 of group 4 is 7301' \
     'refused: another editor is saving this day just now; the journal has all edits, so save again' "$done_saved"
 counted 'replaced while it is locked, and saved again' cmp -s "$day" "$work/saved"
+
+# the journal is replaced before it is locked
+begin
+: >"$OTHER"
+REPLACED=$journal
+faulty loading 'set 4 1 1'
+counted 'a journal that is replaced before it is locked: exit status' [ "$?" = 1 ]
+said 'a journal that is replaced before it is locked' "$loaded" "edit: $journal was removed or replaced while it was being opened; start again"
+holds 'a journal that is replaced before it is locked' ''
+
+# ---- the journal's name, or the day's, leads elsewhere while the editor is at work
+
+elsewhere() { # WAY: it does from now on
+    case $1 in
+    removed) rm "$journal" ;;
+    replaced) : >"$work/files/new" && mv "$work/files/new" "$journal" ;;
+    relinked) ln -sf new "$journal" && : >"$work/files/new" ;;
+    moved) mv "$work/files/kept" "$work/files/gone" && mkdir "$work/files/kept" ;;
+    esac
+}
+
+starts_elsewhere() { # WAY: an editor has set a cell, and the name leads elsewhere
+    begin
+    mkdir "$work/files/kept"
+    case $1 in
+    relinked) journal=$work/files/link && ln -s old "$journal" ;;
+    moved) journal=$work/files/kept/journal ;;
+    esac
+    run
+    ask 'set 4 1 7300' 'done: cell 1 of group 4 is 7300'
+    elsewhere "$1"
+}
+
+for way in removed replaced relinked moved; do
+    for command in 'set 4 1 7301' open; do
+        starts_elsewhere "$way"
+        ask "$command" "perhaps not done: $journal leads to another file by now, or to none, which has not all that was done
+to go on with all edits since the last save, start again with the journal $journal.??????"
+        closed "a journal that was $way, $command" 1
+        counted "a journal that was $way, $command: the day is as it was" cmp -s "$day" examples/day.sao
+        case $command in
+        open) last=$(savepoint_field 2 1) ;;
+        *) last=$(set_field 4 1 7300 7301) ;;
+        esac
+        counted "a journal that was $way, $command: all edits are kept" \
+            [ "$(bytes "$(echo "$journal".??????)")" = "$(set_field 4 1 3525 7300)$last" ]
+        journal=$plain_journal
+    done
+    starts_elsewhere "$way"
+    ask 'save' "saved, but $journal leads to another file by now, or to none, which is as it was: look, and start again"
+    closed "a journal that was $way, save" 1
+    counted "a journal that was $way, save: the day is saved" [ "$(sed 's/^   7\.300/   7.301/' "$day" | cmp - "$work/saved")" = '' ]
+    journal=$plain_journal
+done
+
+# the copy is taken up as the journal
+starts_elsewhere removed
+ask 'set 4 1 7301' "perhaps not done: $journal leads to another file by now, or to none, which has not all that was done
+to go on with all edits since the last save, start again with the journal $journal.??????"
+closed 'a journal that was removed' 1
+second 2 "$(echo "$journal".??????)" 'show 4'
+second_said 'the copy of a journal that was removed' "$loaded" "$(replayed 2 44 0)" "group 4: 7301 $of_four"
+
+# no file can be made beside it
+begin
+mkdir "$work/files/kept"
+journal=$work/files/kept/journal
+run
+ask 'set 4 1 7300' 'done: cell 1 of group 4 is 7300'
+rm -r "$work/files/kept"
+ask 'set 4 1 7301' "edit: $journal: No such file or directory
+perhaps not done: $journal leads to another file by now, or to none, which has not all that was done"
+closed 'a journal whose folder was removed' 1
+journal=$plain_journal
+
+# the day is removed, and there again
+begin
+run
+ask 'set 4 1 7301' 'done: cell 1 of group 4 is 7301'
+mv "$day" "$work/files/gone"
+ask 'save' "edit: $day: No such file or directory
+refused: the day cannot be opened; the journal has all edits"
+counted 'a day that was removed: no other is made' [ "$(there | tr '\n' ' ')" = 'gone journal ' ]
+mv "$work/files/gone" "$day"
+ask 'save' "$done_saved"
+closed 'a day that was removed, and is there again' 0
+counted 'a day that was removed, and is there again: it is saved' cmp -s "$day" "$work/saved"
 
 # two saves at once
 begin
