@@ -291,7 +291,7 @@ static void tell_not_found(void)
 {
     char copy[MOST_PATH];
     int there = copied(copy);
-    printf("perhaps not done: %s leads to another file by now, or to none, which has not all that was done\n", journal.name);
+    printf("perhaps not done: %s does not lead where it led at the start, so what was done may not be found again\n", journal.name);
     if (there)
         printf("to go on with all edits since the last save, start again with the journal %s\n", copy);
 }
@@ -572,7 +572,7 @@ static int emptied(size_t written)
     if (found)
         printf("done: record %zu is saved, in %zu bytes, and the journal is empty\n", record.number, written);
     else
-        printf("saved, but %s leads to another file by now, or to none, which is as it was: look, and start again\n", journal.name);
+        printf("saved, but %s does not lead where it led at the start: look what stands there, and start again\n", journal.name);
     if (journal.replayed)
         printf("what was replayed, and all edits since, are kept in %s\n", copy);
     journal.used = 0;

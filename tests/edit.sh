@@ -706,6 +706,18 @@ counted 'killed when what was replayed is kept: exit status' [ "$?" = 137 ]
 holds 'killed when what was replayed is kept' "$first"
 counted 'killed when what was replayed is kept: the copy is there' cmp -s "$journal".?????? "$work/before/journal"
 
+# the date that is told is that of the day, not one that was set; and the minute and second of record S
+begin
+edit 2 'set 3 15 50'
+edit 2
+said 'a journal that sets the hour' "$loaded" "$(replayed 2 22 0)"
+cp examples/s.sao "$day"
+rm "$journal"
+edit 1 'open'
+edit 1
+counted 'the date of S in the text' grep -aq '^AA20062650922142530' "$day"
+said 'the date of S' 'record 1 has 24 cells' 'replayed 4 bytes of the journal over record 1, of 2006-09-22 14:25:30; savepoints open: 1'
+
 # the wrong record, whose cells are what those of the right one were: the dip angle is the same all day. What is said names the record, and the
 # edits are not lost
 begin
@@ -816,6 +828,7 @@ elsewhere() { # WAY: it does from now on
     replaced) : >"$work/files/new" && mv "$work/files/new" "$journal" ;;
     relinked) ln -sf new "$journal" && : >"$work/files/new" ;;
     moved) mv "$work/files/kept" "$work/files/gone" && mkdir "$work/files/kept" ;;
+    followed) mv "$work/files/old" "$work/files/kept/old" && ln -sf kept/old "$journal" ;; # into a folder that was not flushed
     esac
 }
 
@@ -823,7 +836,7 @@ starts_elsewhere() { # WAY: an editor has set a cell, and the name leads elsewhe
     begin
     mkdir "$work/files/kept"
     case $1 in
-    relinked) journal=$work/files/link && ln -s old "$journal" ;;
+    relinked | followed) journal=$work/files/link && ln -s old "$journal" ;;
     moved) journal=$work/files/kept/journal ;;
     esac
     run
@@ -831,10 +844,10 @@ starts_elsewhere() { # WAY: an editor has set a cell, and the name leads elsewhe
     elsewhere "$1"
 }
 
-for way in removed replaced relinked moved; do
+for way in removed replaced relinked moved followed; do
     for command in 'set 4 1 7301' open; do
         starts_elsewhere "$way"
-        ask "$command" "perhaps not done: $journal leads to another file by now, or to none, which has not all that was done
+        ask "$command" "perhaps not done: $journal does not lead where it led at the start, so what was done may not be found again
 to go on with all edits since the last save, start again with the journal $journal.??????"
         closed "a journal that was $way, $command" 1
         counted "a journal that was $way, $command: the day is as it was" cmp -s "$day" examples/day.sao
@@ -847,7 +860,7 @@ to go on with all edits since the last save, start again with the journal $journ
         journal=$plain_journal
     done
     starts_elsewhere "$way"
-    ask 'save' "saved, but $journal leads to another file by now, or to none, which is as it was: look, and start again"
+    ask 'save' "saved, but $journal does not lead where it led at the start: look what stands there, and start again"
     closed "a journal that was $way, save" 1
     counted "a journal that was $way, save: the day is saved" [ "$(sed 's/^   7\.300/   7.301/' "$day" | cmp - "$work/saved")" = '' ]
     journal=$plain_journal
@@ -855,7 +868,7 @@ done
 
 # the copy is taken up as the journal
 starts_elsewhere removed
-ask 'set 4 1 7301' "perhaps not done: $journal leads to another file by now, or to none, which has not all that was done
+ask 'set 4 1 7301' "perhaps not done: $journal does not lead where it led at the start, so what was done may not be found again
 to go on with all edits since the last save, start again with the journal $journal.??????"
 closed 'a journal that was removed' 1
 second 2 "$(echo "$journal".??????)" 'show 4'
@@ -869,7 +882,7 @@ run
 ask 'set 4 1 7300' 'done: cell 1 of group 4 is 7300'
 rm -r "$work/files/kept"
 ask 'set 4 1 7301' "edit: $journal: No such file or directory
-perhaps not done: $journal leads to another file by now, or to none, which has not all that was done"
+perhaps not done: $journal does not lead where it led at the start, so what was done may not be found again"
 closed 'a journal whose folder was removed' 1
 journal=$plain_journal
 
