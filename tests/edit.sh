@@ -197,13 +197,14 @@ run() { # in the background, with commands from the pipe; its number is in `runn
     : >"$work/got" # else the lines of another run would be taken for its own
     becomes "$program" "$day" 2 "$journal" <"$work/pipe" >"$work/got" 2>&1 &
     running=$!
+    [ "$patience" = 0 ] || patience=600
     exec 3>"$work/pipe"
     echo "$loaded" >"$work/all"
     awaited 1
 }
 
 patience=600
-awaited() { # LINES: it has said so many, or a minute of waiting is over in all
+awaited() { # LINES: it has said so many, or a minute of waiting for this run is over; then no other is waited for
     while [ "$(wc -l <"$work/got")" -lt "$1" ] && [ "$patience" -gt 0 ]; do
         sleep 0.1
         patience=$((patience - 1))
@@ -909,6 +910,7 @@ program=$work/edit
 unset FAULT
 ask 'set 4 1 7301' 'done: cell 1 of group 4 is 7301'
 ask 'save' 'stopped'
+grep -qx stopped "$work/got" || kill -9 "$running" # else it might stop behind the signal to go on
 keep
 second 3 "$work/files/third" 'set 4 1 3426' 'save'
 second_said 'two saves at once: the second' "$third_loaded" "$third_set" \
