@@ -383,7 +383,7 @@ static int end_save(void)
         return 0;
     }
     if (!copied(copy) || !cut_journal(0)) {
-        fprintf(stderr, "edit: the day has the edits of the journal already, but the journal could not be emptied, so start again\n");
+        fprintf(stderr, "edit: the day has the edits of the journal already, but the journal could not be emptied: start again, or move it away\n");
         return 0;
     }
     printf("record %zu, of %s, has the edits of the journal already: a save was cut off before it had emptied the journal, which is empty now\n",

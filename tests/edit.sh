@@ -1,7 +1,8 @@
 #!/bin/sh
 # examples/edit.c on copies of the example day: what it says, the bytes of its journal, and the day that it saves. It is killed between two
 # commands, with a part of a further field behind them, and started again: every edit that was said to be done is there. It is killed in a save,
-# before and behind the renaming, and functions of the C library fail it (tests/edit/faults.c). Two of them meet on one journal and on one day.
+# before and behind the renaming, and functions of the C library fail it, each flush in turn (tests/edit/faults.c). Two of them meet on one journal
+# and on one day; journal and day are removed or replaced beside it; a journal is taken for that of another record.
 # What is expected comes from the text's columns and from the rules: fields of the forms F7.3 and F8.3 (R73, R104), and the journal's fields byte
 # by byte.
 set -u
@@ -197,13 +198,14 @@ run() { # in the background, with commands from the pipe; its number is in `runn
     : >"$work/got" # else the lines of another run would be taken for its own
     becomes "$program" "$day" 2 "$journal" <"$work/pipe" >"$work/got" 2>&1 &
     running=$!
+    [ "$patience" = 0 ] || patience=600
     exec 3>"$work/pipe"
     echo "$loaded" >"$work/all"
     awaited 1
 }
 
 patience=600
-awaited() { # LINES: it has said so many, or a minute of waiting is over in all
+awaited() { # LINES: it has said so many, or a minute of waiting for this run is over; then no other is waited for
     while [ "$(wc -l <"$work/got")" -lt "$1" ] && [ "$patience" -gt 0 ]; do
         sleep 0.1
         patience=$((patience - 1))
@@ -642,7 +644,7 @@ end_fails() { # FAULT CASE LINE..: the save is not ended, and that is said behin
     counted "$what: the day is saved" cmp -s "$day" "$work/saved"
 }
 
-not_emptied='edit: the day has the edits of the journal already, but the journal could not be emptied, so start again'
+not_emptied='edit: the day has the edits of the journal already, but the journal could not be emptied: start again, or move it away'
 end_fails flush2 'a folder that cannot be flushed again' "edit: $folder/.: Input/output error" \
     'edit: the day has the edits of the journal already, but perhaps not yet safe; nothing was altered, so start again'
 counted 'a folder that cannot be flushed again: exit status' [ "$ended_with" = 1 ]
@@ -793,6 +795,21 @@ edit 2 'save'
 said 'two records: the first editor, started again' "$loaded" "$(replayed 2 22 0)" "$kept_saved"
 counted 'two records: both are saved' cmp -s "$day" "$work/both"
 
+# on one record of it: what the other has saved in another cell stays, and in the same cell it refuses the journal
+begin
+run
+ask 'set 4 1 7301' 'done: cell 1 of group 4 is 7301'
+second 2 "$work/files/third" 'set 4 40 1' 'save'
+second_said 'one record, two cells: the second editor' "$loaded" 'done: cell 40 of group 4 is 1' "$done_saved"
+ask 'save' 'refused: the day is not as it was loaded; the journal has all edits, so start again'
+closed 'one record, two cells: the first editor' 1
+edit 2 'show 4'
+said 'one record, two cells: started again' "$loaded" "$(replayed 2 22 0)" "group 4: 7301 ${of_four% 47500} 1"
+second 2 "$work/files/third" 'set 4 1 7302' 'save'
+wrong 'one record, one cell: started again' 0
+second 2 "$work/files/new" 'show 4' 'set 4 1 7301' 'save'
+second_said 'one record, one cell: with a new journal' "$loaded" "group 4: 7302 ${of_four% 47500} 1" 'done: cell 1 of group 4 is 7301' "$done_saved"
+
 # the day is replaced by another editor in the very moment in which it is loaded, or locked for a save
 OTHER=$work/files/other
 REPLACED=$day
@@ -909,6 +926,7 @@ program=$work/edit
 unset FAULT
 ask 'set 4 1 7301' 'done: cell 1 of group 4 is 7301'
 ask 'save' 'stopped'
+grep -qx stopped "$work/got" || kill -9 "$running" # else it might stop behind the signal to go on
 keep
 second 3 "$work/files/third" 'set 4 1 3426' 'save'
 second_said 'two saves at once: the second' "$third_loaded" "$third_set" \
@@ -1063,4 +1081,4 @@ started "$work/edit" "$day" 2 "$journal" <"$work/commands" >"$work/got" 2>&1
 counted 'a part of a line: exit status' [ "$?" = 0 ]
 said 'a part of a line' "$loaded" "$commands" "$commands"
 holds 'a part of a line' ''
-finished 367
+finished 512
