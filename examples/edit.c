@@ -11,7 +11,11 @@
    journal is replayed. A field that was cut short is the end of a call that was never said to be done, and is removed; where a save was killed
    before it had emptied the journal, that is done; with any other fault in the journal no file is altered.
 
-   One editor at a time has a journal. Several may edit records of one day, each with a journal of its own; one at a time saves.
+   It ends with 0 at the end of its input; with 1 if the last save was refused, or if it had to end before; with 2 if it was started wrongly.
+
+   One editor at a time has a journal. Several may edit records of one day, each with a journal of its own; one at a time saves. A journal doesn't
+   say to which record it belongs, so what is replayed may be another one's, whose cells are alike: number and date of the record are told, and
+   the journal's bytes are kept in a new file when they are saved.
 
    Each command looks at all of the journal, which is why it has a limit. A replay, and each undo, goes once more over every stretch that was
    undone before: a journal of undos alone takes time in the square of its length. A save empties it. */
@@ -47,14 +51,17 @@ static struct {
     uint16_t counts[COUNTS];
     int64_t cells[MOST_CELLS];
     size_t starts[GROUPS + 1]; /* group g has the cells from starts[g - 1] to starts[g] */
+    char date[20];             /* as it stands in the day */
 } record;
 
 static struct {
     const char *name;
+    char *path; /* behind all symbolic links */
     FILE *file;
     uint8_t bytes[MOST_JOURNAL];
     size_t used;
-    int save_refused; /* since the last save that was done */
+    int replayed;     /* its first bytes were not made by this run */
+    int save_refused; /* the last save was */
 } journal;
 
 /* ---- Replies in words. */
@@ -172,6 +179,15 @@ static int find_record(size_t number)
     return 0;
 }
 
+/* As 2004-02-29 01:00:00; each letter below has the number in the alphabet that its digit has among the positions of group 3. */
+static void load_date(void)
+{
+    static const char form[] = "cdef-jk-lm no:pq:rs";
+    const int64_t *cells = record.cells + record.starts[2];
+    for (size_t i = 0; i < sizeof form; i++)
+        record.date[i] = form[i] < 'a' ? form[i] : (char)cells[form[i] - 'a'];
+}
+
 static int load_cells(void)
 {
     size_t many = 0;
@@ -188,6 +204,7 @@ static int load_cells(void)
         many += beside.written;
         record.starts[group] = many;
     }
+    load_date();
     printf("record %zu has %zu cells\n", record.number, many);
     return 1;
 }
@@ -213,10 +230,14 @@ static int read_journal(void)
     return !ferror(journal.file) || failed(journal.name);
 }
 
+/* By its name the very file is found that is open, and where its folder was flushed. */
+static int is_found(void)
+{
+    return leads_to(journal.name, journal.file) && leads_to(journal.path, journal.file);
+}
+
 static int load_journal(const char *name)
 {
-    char *path;
-    int flushed_there;
     journal.name = name;
     journal.file = fopen(name, "a+b");
     if (journal.file == NULL)
@@ -225,10 +246,14 @@ static int load_journal(const char *name)
         fprintf(stderr, "edit: the journal %s is the day itself; nothing was altered\n", name);
         return 0;
     }
-    path = resolved(name);
-    flushed_there = path != NULL && flushed_folder(path);
-    free(path);
-    return flushed_there && locked_journal() && read_journal();
+    journal.path = resolved(name);
+    if (journal.path == NULL || !flushed_folder(journal.path) || !locked_journal())
+        return 0;
+    if (!is_found()) {
+        fprintf(stderr, "edit: %s was removed or replaced while it was being opened; start again\n", name);
+        return 0;
+    }
+    return read_journal();
 }
 
 /* Another editor may have saved the day, and let go of the journal, while this one loaded the day. */
@@ -251,15 +276,38 @@ static int cut_journal(size_t length)
     return (ftruncate(fileno(journal.file), (off_t)length) == 0 && flushed(journal.file)) || failed(journal.name);
 }
 
-/* The bytes that a call added are on disk. */
+/* The journal's bytes are on disk in a new file beside it, with that name. */
+static int copied(char name[MOST_PATH])
+{
+    if (!written_beside(journal.name, journal.file, journal.bytes, journal.used, name))
+        return 0;
+    if (flushed_folder(name))
+        return 1;
+    remove(name);
+    return 0;
+}
+
+static void tell_not_found(void)
+{
+    char copy[MOST_PATH];
+    int there = copied(copy);
+    printf("perhaps not done: %s does not lead where it led at the start, so what was done may not be found again\n", journal.name);
+    if (there)
+        printf("to go on with all edits since the last save, start again with the journal %s\n", copy);
+}
+
+/* The bytes that a call added are on disk, and are found there when the editor is started again. */
 static int kept(size_t from)
 {
     size_t added = journal.used - from;
-    if (fwrite(journal.bytes + from, 1, added, journal.file) == added && flushed(journal.file))
-        return 1;
-    failed(journal.name);
-    printf("perhaps not done: the journal could not be written; what was done before is in it, so start again and look\n");
-    return 0;
+    int written = (fwrite(journal.bytes + from, 1, added, journal.file) == added && flushed(journal.file)) || failed(journal.name);
+    if (!is_found()) {
+        tell_not_found();
+        return 0;
+    }
+    if (!written)
+        printf("perhaps not done: the journal could not be written; what was done before is in it, so start again and look\n");
+    return written;
 }
 
 /* ---- Replay. */
@@ -329,15 +377,18 @@ static int was_saved(void)
 /* The journal's bytes are kept beside it: if RECORD was not the one that was edited, that record may have the same cells by chance. */
 static int end_save(void)
 {
-    char name[MOST_PATH];
+    char copy[MOST_PATH];
     if (!flushed_folder(day.path)) {
         fprintf(stderr, "edit: the day has the edits of the journal already, but perhaps not yet safe; nothing was altered, so start again\n");
         return 0;
     }
-    if (!written_beside(journal.name, journal.file, journal.bytes, journal.used, name) || !flushed_folder(journal.name) || !cut_journal(0))
+    if (!copied(copy) || !cut_journal(0)) {
+        fprintf(stderr, "edit: the day has the edits of the journal already, but the journal could not be emptied: start again, or move it away\n");
         return 0;
-    printf("the day has the edits of the journal already: a save was cut off before it had emptied the journal, which is empty now\n");
-    printf("the edits were those of %s\n", name);
+    }
+    printf("record %zu, of %s, has the edits of the journal already: a save was cut off before it had emptied the journal, which is empty now\n",
+           record.number, record.date);
+    printf("the edits were those of %s\n", copy);
     journal.used = 0;
     return 1;
 }
@@ -364,8 +415,10 @@ static int replay(void)
             return 0;
         printf("the field at place %zu of the journal was cut short, and its %zu bytes were removed\n", journal.used, whole - journal.used);
     }
-    if (journal.used > 0)
-        printf("replayed %zu bytes of the journal; savepoints open: %zu\n", journal.used, savepoints);
+    journal.replayed = journal.used > 0;
+    if (journal.replayed)
+        printf("replayed %zu bytes of the journal over record %zu, of %s; savepoints open: %zu\n", journal.used, record.number, record.date,
+               savepoints);
     return 1;
 }
 
@@ -457,7 +510,8 @@ static FILE *hold_day(void)
     const char *why = NULL;
     if (lock == NOT_LOCKED) {
         failed(day.name);
-        why = "the day cannot be written, and is as it was; the journal has all edits";
+        why = file == NULL ? "the day cannot be opened; the journal has all edits"
+                           : "the day cannot be locked, and is as it was; the journal has all edits";
     } else if (lock == HELD || !leads_to(day.path, file))
         why = "another editor is saving this day just now; the journal has all edits, so save again";
     else if (!is_as_loaded(file))
@@ -476,10 +530,8 @@ static size_t new_day(uint8_t **text, size_t *written)
     static uint8_t out[MOST_TEXT];
     struct seambeacon_beside beside;
     size_t behind = day.length - day.next;
-    if (refused(seambeacon_write_record(record.counts, COUNTS, record.cells, record.starts[GROUPS], out, sizeof out, &beside), &beside)) {
-        journal.save_refused = 1;
+    if (refused(seambeacon_write_record(record.counts, COUNTS, record.cells, record.starts[GROUPS], out, sizeof out, &beside), &beside))
         return 0;
-    }
     *written = beside.written;
     *text = malloc(day.at + *written + behind);
     if (*text == NULL) {
@@ -507,6 +559,27 @@ static enum replaced replace_day(const uint8_t *text, size_t length)
     return replaced;
 }
 
+/* What was replayed may be another record's: the journal's bytes are then kept before they are removed. */
+static int emptied(size_t written)
+{
+    char copy[MOST_PATH];
+    int found;
+    if ((journal.replayed && !copied(copy)) || !cut_journal(0)) {
+        printf("saved, but the journal could not be emptied: start again, which does so\n");
+        return 0;
+    }
+    found = is_found();
+    if (found)
+        printf("done: record %zu is saved, in %zu bytes, and the journal is empty\n", record.number, written);
+    else
+        printf("saved, but %s does not lead where it led at the start: look what stands there, and start again\n", journal.name);
+    if (journal.replayed)
+        printf("what was replayed, and all edits since, are kept in %s\n", copy);
+    journal.used = 0;
+    journal.replayed = 0;
+    return found;
+}
+
 /* The text is the day from now on. */
 static int saved(uint8_t *text, size_t length, size_t written)
 {
@@ -514,24 +587,15 @@ static int saved(uint8_t *text, size_t length, size_t written)
     day.text = text;
     day.length = length;
     day.next = day.at + written;
-    if (!cut_journal(0)) {
-        printf("saved, but the journal could not be emptied: start again, which does so\n");
-        return 0;
-    }
-    journal.used = 0;
-    journal.save_refused = 0;
-    printf("done: record %zu is saved, in %zu bytes, and the journal is empty\n", record.number, written);
-    return 1;
+    return emptied(written);
 }
 
 static int save(void)
 {
-    uint8_t *text;
-    size_t written, length = new_day(&text, &written);
-    enum replaced replaced;
-    if (length == 0)
-        return 1;
-    replaced = replace_day(text, length);
+    uint8_t *text = NULL;
+    size_t written = 0, length = new_day(&text, &written);
+    enum replaced replaced = length == 0 ? NOT_REPLACED : replace_day(text, length);
+    journal.save_refused = replaced == NOT_REPLACED;
     if (replaced == REPLACED)
         return saved(text, length, written);
     free(text);
@@ -632,5 +696,5 @@ int main(int count, char **words)
         return 1;
     while (read_line(line) && take(command, split(line, command)))
         ;
-    return !feof(stdin);
+    return !feof(stdin) || journal.save_refused;
 }

@@ -77,13 +77,13 @@ cp "$work/day.rewrite" "$work/got"
 compared 'the day rewritten' "$day"
 
 # R64: a gateway took the blanks at the ends of the letter lines, groups 54 and 55; the day comes back
-awk '{
+awk -v taken="$work/taken" '{
     text = substr($0, length($1 $2 $3 $4 $5) + 6)
-    if ($3 == 54 || $3 == 55)
-        sub(/ *\r$/, "\r", text)
+    if (($3 == 54 || $3 == 55) && sub(/ +\r$/, "\r", text))
+        print $1 >taken
     print text
 }' "$work/lines" >"$work/stripped"
-counted 'blanks were taken in each record' [ "$(wc -c <"$work/stripped")" -le $(($(wc -c <"$day") - 24)) ]
+counted 'blanks were taken in each record' [ "$(sort -u "$work/taken" | wc -l)" -eq 24 ]
 ./run rewrite <"$work/stripped" >"$work/got"
 compared 'the day, stripped and rewritten' "$day"
 

@@ -82,14 +82,21 @@ row 'S with 113 blanks behind its last field (R412)' 'group 4 8 1 0 295 418'
 { head -c 303 examples/s.sao && printf ' \n'; } >"$work/text"
 row 'S with a blank for its last carriage return (R414)' 'group 4 8 1 0 295 305'
 
-# R295: of the numbers that docs/FORMAT.md lists as frequencies, and marks as such in its table, and of no others, 999.900 is no reading
+# R295: of the numbers that docs/FORMAT.md lists as frequencies, and marks as such in its table, and of no others, 999.900 is no reading; the
+# header and the crate for Rust list them too
 if own; then
     ./run dump <"$vectors/01001.sao" | awk '$1 == "char" && $3 == 1 { print $2 }' >"$work/got"
     sed -n '/^## The 49/,/^## Data/s/^| \([0-9]*\) |.*| f |$/\1/p' docs/FORMAT.md >"$work/want"
     compared 'the frequencies that FORMAT.md marks' "$work/want"
-    sed -n 's/^- \*\*R295\*\* [^0-9]*\([^.]*\), and no others.*/\1/p' docs/FORMAT.md | sed 's/ and /, /' | tr ',' '\n' |
-        awk 'NF == 3 { for (k = $1; k <= $3; k++) print k } NF == 1' | tr -d ' ' >"$work/want"
+    numbers() { # a list of numbers and runs of numbers, as 4 to 10, one number a line
+        sed 's/ and /, /' | tr ',' '\n' | awk 'NF == 3 { for (k = $1; k <= $3; k++) print k } NF == 1 { print $1 }'
+    }
+    sed -n 's/^- \*\*R295\*\* [^0-9]*\([^.]*\), and no others.*/\1/p' docs/FORMAT.md | numbers >"$work/want"
     compared 'the frequencies that FORMAT.md lists' "$work/want"
+    for file in include/seambeacon.h bindings/rust/src/lib.rs; do
+        tr '\n' ' ' <"$file" | sed 's, ///,,g; s/  */ /g; s/.*Frequencies are \([^(]*\) (R295).*/\1/' | numbers >"$work/want"
+        compared "the frequencies that $file lists" "$work/want"
+    done
 fi
 
 # Five replacements for each text: the record and the group by their rows in the dump, up to four bytes of its lines, none of them a line
@@ -162,4 +169,4 @@ if own; then
         counted "damage with byte $byte" grep -q " $byte\$" "$work/damage"
     done
 fi
-finished 701
+finished 703

@@ -1,7 +1,8 @@
 #!/bin/sh
 # examples/edit.c on copies of the example day: what it says, the bytes of its journal, and the day that it saves. It is killed between two
 # commands, with a part of a further field behind them, and started again: every edit that was said to be done is there. It is killed in a save,
-# before and behind the renaming, and functions of the C library fail it (tests/edit/faults.c). Two of them meet on one journal and on one day.
+# before and behind the renaming, and functions of the C library fail it, each flush in turn (tests/edit/faults.c). Two of them meet on one journal
+# and on one day; journal and day are removed or replaced beside it; a journal is taken for that of another record.
 # What is expected comes from the text's columns and from the rules: fields of the forms F7.3 and F8.3 (R73, R104), and the journal's fields byte
 # by byte.
 set -u
@@ -47,8 +48,9 @@ edit() { # RECORD LINE..: what it says to these lines, in "$work/got"; its exit 
     return "$ended_with"
 }
 
-without_letters() { # the six letters of a new file's name are any
-    sed 's/^\(the edits were those of .*\.\)[A-Za-z0-9]\{6\}$/\1??????/;s/^\(journal\.\)[A-Za-z0-9]\{6\}$/\1??????/'
+without_letters() { # the six letters of a new file's name are any, behind a copy's name at a line's end and behind any where it fails
+    letters='\.[A-Za-z0-9]\{6\}'
+    sed "s/\(journal\)$letters\$/\1.??????/;s/\(third\)$letters\$/\1.??????/;s/\(link\)$letters\$/\1.??????/;s/$letters: /.??????: /"
 }
 
 faulty() { # FAULT LINE..: the same of record 2, with that fault; what the shell says of a kill is dropped
@@ -130,8 +132,21 @@ four=$(sed -n 2p "$work/groups")
 counted 'five constants and forty characteristics in the text' [ "$(echo "$one $four" | wc -w)" -eq 49 ]
 of_four=${four#group 4: 3525 }
 counted 'foF2 of 01:00 in the text' [ "$of_four" != "$four" ]
+
+dated() { # RECORD: its date, from the columns of its line
+    grep -a '^AA2004060' examples/day.sao | sed -n "$1s/^..\(....\)...\(..\)\(..\)\(..\)\(..\)\(..\).*/\1-\2-\3 \4:\5:\6/p"
+}
+
+counted 'the date of 01:00 in the text' [ "$(dated 2)" = '2004-02-29 01:00:00' ]
+
+replayed() { # RECORD BYTES SAVEPOINTS: what is said at a start
+    echo "replayed $2 bytes of the journal over record $1, of $(dated "$1"); savepoints open: $3"
+}
+
 # 5 + 120 + 19 + 40 + 8 cells of groups 1, 2, 3, 4 and 6, five times 22 of the trace, 19 + 19 + 38 of the profile, twice 40 letters
 loaded='record 2 has 458 cells'
+# record 3 is that of 02:00, the lines from 51 to 75; its trace has 21 points
+third_loaded='record 3 has 453 cells'
 commands='not understood: commands are set G C VALUE, open, release N, undo N, show G, save'
 
 # ---- what is asked wrongly
@@ -180,15 +195,17 @@ trap '' PIPE
 mkfifo "$work/pipe"
 
 run() { # in the background, with commands from the pipe; its number is in `running`
+    : >"$work/got" # else the lines of another run would be taken for its own
     becomes "$program" "$day" 2 "$journal" <"$work/pipe" >"$work/got" 2>&1 &
     running=$!
+    [ "$patience" = 0 ] || patience=600
     exec 3>"$work/pipe"
     echo "$loaded" >"$work/all"
     awaited 1
 }
 
 patience=600
-awaited() { # LINES: it has said so many, or a minute of waiting is over in all
+awaited() { # LINES: it has said so many, or a minute of waiting for this run is over; then no other is waited for
     while [ "$(wc -l <"$work/got")" -lt "$1" ] && [ "$patience" -gt 0 ]; do
         sleep 0.1
         patience=$((patience - 1))
@@ -199,6 +216,16 @@ ask() { # COMMAND ANSWER: the answer is awaited, and compared with all others be
     printf '%s\n' "$1" >&3 2>/dev/null
     printf '%s\n' "$2" >>"$work/all"
     awaited "$(wc -l <"$work/all")"
+}
+
+closed() { # CASE STATUS: the editor in the background ends with it, and has said what it was asked for
+    exec 3>&-
+    wait "$running"
+    counted "$1: exit status" [ "$?" = "$2" ]
+    cp "$work/got" "$work/said"
+    without_letters <"$work/said" >"$work/got"
+    cp "$work/all" "$work/want"
+    compared "$1" "$work/want"
 }
 
 begin
@@ -265,7 +292,7 @@ cp "$journal" "$work/right"
 
 # ---- started again: with nothing behind, and with each part of a further field
 
-resumed="replayed $used bytes of the journal; savepoints open: 1"
+resumed=$(replayed 2 "$used" 1)
 edit 2 'show 4' 'show 1'
 counted 'started again: exit status' [ "$?" = 0 ]
 said 'started again' "$loaded" "$resumed" "$four_now" "$one"
@@ -335,17 +362,21 @@ wrong 'a whole field of a group that is not there' "$used"
 
 set_anew='; the journal has all edits: set that anew or undo, and save again'
 done_saved='done: record 2 is saved, in 1992 bytes, and the journal is empty'
+kept_saved="$done_saved
+what was replayed, and all edits since, are kept in $journal.??????"
 begin
 cp "$work/right" "$journal"
 keep
 edit 2 'set 4 1 10000000' 'save'
+counted 'a value without a field: exit status' [ "$?" = 1 ]
 said 'a value without a field' "$loaded" "$resumed" 'done: cell 1 of group 4 is 10000000' \
     "refused: the cells fit no field (reply 13, group 4, element 1)$set_anew"
 counted 'a value without a field: the day is as it was' cmp -s "$day" examples/day.sao
 holds 'a value without a field' "$done_so_far$(set_field 4 1 7300 10000000)"
 # month 92; position 10 is its first
 edit 2 'undo 1' 'set 3 10 57' 'save' 'undo 1'
-said 'a wrong date' "$loaded" "replayed $((used + 22)) bytes of the journal; savepoints open: 1" \
+counted 'a wrong date, set right and not saved: exit status' [ "$?" = 1 ]
+said 'a wrong date' "$loaded" "$(replayed 2 $((used + 22)) 1)" \
     'done: all is as it was when savepoint 1 was opened' 'done: cell 10 of group 3 is 57' "refused: the date is wrong (reply 10, position 10)$set_anew" \
     'done: all is as it was when savepoint 1 was opened'
 counted 'a wrong date: the day is as it was' cmp -s "$day" examples/day.sao
@@ -357,18 +388,21 @@ edited() { # SCRIPT: the day with record 2 altered by it, from the line of its d
 
 cp "$work/right" "$journal"
 edit 2 'save' 'show 4' 'undo 1'
-said 'saved' "$loaded" "$resumed" "$done_saved" "$four_now" "$not_open"
+counted 'saved: exit status' [ "$?" = 0 ]
+said 'saved' "$loaded" "$resumed" "$kept_saved" "$four_now" "$not_open"
 edited 's/^   3\.5259999/   7.3009999/
 s/^\(9999\.000 325.*\)  47\.500/\1  47.600/' >"$work/want"
 counted 'two lines of the day differ' [ "$(diff -a examples/day.sao "$work/want" | grep -ac '^>')" -eq 2 ]
 cp "$day" "$work/got"
 compared 'the saved day' "$work/want"
 holds 'saved' ''
-files 'saved' day journal
+files 'saved' day journal 'journal.??????'
+counted 'saved: what was replayed is kept' cmp -s "$journal".?????? "$work/right"
 
 # a save that was cut off before it emptied the journal: the journal is that of the day as it was before
-ended="the day has the edits of the journal already: a save was cut off before it had emptied the journal, which is empty now
+ended="record 2, of $(dated 2), has the edits of the journal already: a save was cut off before it had emptied the journal, which is empty now
 the edits were those of $journal.??????"
+rm "$journal".??????
 cp "$work/right" "$journal"
 keep
 edit 2 'show 4' 'undo 1' 'set 4 1 7301'
@@ -412,8 +446,8 @@ done
 edit 2 "$@" 'set 4 2 16' 'set 4 2 17' 'undo 16' 'set 4 4 18' 'set 4 4 19'
 cp "$journal" "$work/long"
 edit 2 'save' 'show 4'
-saved_four=$(tail -n 1 "$work/got")
-counted 'many edits are saved' [ "${saved_four#group 4: 3525 11 15 19 }" != "$saved_four" ]
+saved_four=$(echo "$four" | awk '{ $4 = 11; $5 = 15; $6 = 19; print }')
+said 'many edits are saved' "$loaded" "$(replayed 2 $((9 * 22 + 19 * 4)) 16)" "$kept_saved" "$saved_four"
 cp "$work/long" "$journal"
 edit 2 'show 4'
 said 'the journal of many edits, saved' "$loaded" "$ended" "$saved_four"
@@ -438,15 +472,10 @@ ask 'set 4 1 7301' 'done: cell 1 of group 4 is 7301'
 printf 'x' >>"$day"
 keep
 ask 'save' 'refused: the day is not as it was loaded; the journal has all edits, so start again'
-exec 3>&-
-wait "$running"
-counted 'an altered day: exit status' [ "$?" = 0 ]
-cp "$work/all" "$work/want"
-compared 'an altered day' "$work/want"
+closed 'an altered day' 1
 kept 'an altered day'
 edit 2 'save'
-said 'an altered day, loaded again' "$loaded" 'replayed 22 bytes of the journal; savepoints open: 0' \
-    "$done_saved"
+said 'an altered day, loaded again' "$loaded" "$(replayed 2 22 0)" "$kept_saved"
 { edited 's/^   3\.5259999/   7.3019999/' && printf 'x'; } >"$work/want"
 cp "$day" "$work/got"
 compared 'the altered day, saved' "$work/want"
@@ -521,8 +550,7 @@ counted 'killed before the renaming: the day is as it was' cmp -s "$day" example
 holds 'killed before the renaming' "$(set_field 4 1 3525 7301)"
 counted 'killed before the renaming: the new day is there' [ "$(there | wc -l)" = 3 ]
 edit 2 'save'
-said 'killed before the renaming, started again' "$loaded" 'replayed 22 bytes of the journal; savepoints open: 0' \
-    "$done_saved"
+said 'killed before the renaming, started again' "$loaded" "$(replayed 2 22 0)" "$kept_saved"
 counted 'killed before the renaming, saved again' cmp -s "$day" "$work/saved"
 
 for fault in renamed emptying; do
@@ -546,21 +574,101 @@ edit 2
 said 'the wrong record, with the same cell' "$loaded" "$ended"
 cp "$journal".?????? "$journal"
 edit 3
-said 'the right record, with the journal that was kept' 'record 3 has 453 cells' 'replayed 22 bytes of the journal; savepoints open: 0'
+said 'the right record, with the journal that was kept' "$third_loaded" "$(replayed 3 22 0)"
+
+# each flush of a run fails it in turn: that of the journal's folder, of the first field, of the new day, of its folder, of the emptied journal
+folder=$(cd "$work/files" && pwd -P)
+first=$(set_field 4 1 3525 7301)
+
+flush_fails() { # NUMBER CASE LINE..: with that flush, that is said behind the first line
+    begin
+    fault=flush$1
+    shift
+    what=$1
+    shift
+    faulty "$fault" 'set 4 1 7301' 'save' 'show 5'
+    ended_with=$?
+    said "$what" "$loaded" "$@"
+}
+
+flush_fails 1 'a folder for the journal that cannot be flushed' "edit: $folder/.: Input/output error"
+counted 'a folder for the journal that cannot be flushed: exit status' [ "$ended_with" = 1 ]
+
+flush_fails 2 'a journal that cannot be written' "edit: $journal: Input/output error" \
+    'perhaps not done: the journal could not be written; what was done before is in it, so start again and look'
+counted 'a journal that cannot be written: exit status' [ "$ended_with" = 1 ]
+
+not_saved() { # CASE: a refused save ends nothing, and leaves no file but the two
+    counted "$1: exit status" [ "$ended_with" = 1 ]
+    counted "$1: the day is as it was" cmp -s "$day" examples/day.sao
+    holds "$1" "$first"
+    files "$1" day journal
+}
+
+not_written='refused: the day could not be written, and is as it was; the journal has all edits'
+flush_fails 3 'a new day that cannot be flushed' 'done: cell 1 of group 4 is 7301' "edit: $folder/day.??????: Input/output error" \
+    "$not_written" 'group 5:'
+not_saved 'a new day that cannot be flushed'
 
 begin
-faulty folder 'set 4 1 7301' 'save' 'show 4'
-counted 'a folder that cannot be flushed: exit status' [ "$?" = 1 ]
-said 'a folder that cannot be flushed' "$loaded" 'done: cell 1 of group 4 is 7301' "edit: $(cd "$work/files" && pwd -P)/.: Input/output error" \
+faulty fixed 'set 4 1 7301' 'save' 'show 5'
+ended_with=$?
+said 'a day that cannot be replaced' "$loaded" 'done: cell 1 of group 4 is 7301' "edit: $folder/day: Input/output error" "$not_written" 'group 5:'
+not_saved 'a day that cannot be replaced'
+
+begin
+faulty unlocked 'set 4 1 7301' 'save' 'show 5'
+ended_with=$?
+said 'a day that cannot be locked' "$loaded" 'done: cell 1 of group 4 is 7301' "edit: $day: Input/output error" \
+    'refused: the day cannot be locked, and is as it was; the journal has all edits' 'group 5:'
+not_saved 'a day that cannot be locked'
+
+flush_fails 4 'a folder that cannot be flushed' 'done: cell 1 of group 4 is 7301' "edit: $folder/.: Input/output error" \
     'saved, but perhaps not yet safe: a power failure may bring the old day back; the journal is kept, so start again'
+counted 'a folder that cannot be flushed: exit status' [ "$ended_with" = 1 ]
 counted 'a folder that cannot be flushed: the day is saved' cmp -s "$day" "$work/saved"
-holds 'a folder that cannot be flushed' "$(set_field 4 1 3525 7301)"
+holds 'a folder that cannot be flushed' "$first"
+files 'a folder that cannot be flushed' day journal
 keep
-faulty lost 'show 4'
-counted 'a folder that cannot be flushed again: exit status' [ "$?" = 1 ]
-said 'a folder that cannot be flushed again' "$loaded" "edit: $(cd "$work/files" && pwd -P)/.: Input/output error" \
+
+# the save is ended at the next start: its flushes are those of the journal's folder, of the day's, of the copy, of its folder, of the emptied journal
+end_fails() { # FAULT CASE LINE..: the save is not ended, and that is said behind the first line
+    cp "$work/before/day" "$work/before/journal" "$work/files"
+    fault=$1
+    shift
+    what=$1
+    shift
+    faulty "$fault" 'show 4'
+    ended_with=$?
+    said "$what" "$loaded" "$@"
+    counted "$what: the day is saved" cmp -s "$day" "$work/saved"
+}
+
+not_emptied='edit: the day has the edits of the journal already, but the journal could not be emptied: start again, or move it away'
+end_fails flush2 'a folder that cannot be flushed again' "edit: $folder/.: Input/output error" \
     'edit: the day has the edits of the journal already, but perhaps not yet safe; nothing was altered, so start again'
+counted 'a folder that cannot be flushed again: exit status' [ "$ended_with" = 1 ]
 kept 'a folder that cannot be flushed again'
+end_fails flush3 'a copy that cannot be flushed' "edit: $journal.??????: Input/output error" "$not_emptied"
+counted 'a copy that cannot be flushed: exit status' [ "$ended_with" = 1 ]
+kept 'a copy that cannot be flushed'
+files 'a copy that cannot be flushed' day journal
+end_fails flush4 'a folder of the copy that cannot be flushed' "edit: $work/files/.: Input/output error" "$not_emptied"
+counted 'a folder of the copy that cannot be flushed: exit status' [ "$ended_with" = 1 ]
+kept 'a folder of the copy that cannot be flushed'
+files 'a folder of the copy that cannot be flushed' day journal
+end_fails emptying 'killed before the journal is emptied'
+counted 'killed before the journal is emptied: exit status' [ "$ended_with" = 137 ]
+kept 'killed before the journal is emptied'
+counted 'killed before the journal is emptied: the copy is there' cmp -s "$journal".?????? "$work/before/journal"
+rm -f "$journal".??????
+for fault in full flush5; do
+    end_fails "$fault" "a journal that cannot be emptied at a start, $fault" "edit: $journal: Input/output error" "$not_emptied"
+    counted "a journal that cannot be emptied at a start, $fault: exit status" [ "$ended_with" = 1 ]
+    counted "a journal that cannot be emptied at a start, $fault: the copy is there" cmp -s "$journal".?????? "$work/before/journal"
+    rm -f "$journal".??????
+done
+cp "$work/before/journal" "$journal"
 edit 2 'show 5'
 said 'a folder that can be flushed again' "$loaded" "$ended" 'group 5:'
 holds 'a folder that can be flushed again' ''
@@ -568,23 +676,65 @@ holds 'a folder that can be flushed again' ''
 cp examples/day.sao "$day"
 cp "$work/before/journal" "$journal"
 edit 2 'show 4'
-said 'the old day is back' "$loaded" 'replayed 22 bytes of the journal; savepoints open: 0' "group 4: 7301 $of_four"
+said 'the old day is back' "$loaded" "$(replayed 2 22 0)" "group 4: 7301 $of_four"
 
+could_not='saved, but the journal could not be emptied: start again, which does so'
 begin
 faulty full 'set 4 1 7301' 'save' 'show 4'
 counted 'a journal that cannot be emptied: exit status' [ "$?" = 1 ]
-said 'a journal that cannot be emptied' "$loaded" 'done: cell 1 of group 4 is 7301' "edit: $journal: Input/output error" \
-    'saved, but the journal could not be emptied: start again, which does so'
+said 'a journal that cannot be emptied' "$loaded" 'done: cell 1 of group 4 is 7301' "edit: $journal: Input/output error" "$could_not"
 counted 'a journal that cannot be emptied: the day is saved' cmp -s "$day" "$work/saved"
 edit 2
 said 'a journal that can be emptied' "$loaded" "$ended"
 holds 'a journal that can be emptied' ''
 
+flush_fails 5 'an emptied journal that cannot be flushed' 'done: cell 1 of group 4 is 7301' "edit: $journal: Input/output error" "$could_not"
+counted 'an emptied journal that cannot be flushed: exit status' [ "$ended_with" = 1 ]
+counted 'an emptied journal that cannot be flushed: the day is saved' cmp -s "$day" "$work/saved"
+holds 'an emptied journal that cannot be flushed' ''
+
+# a save whose run began with a replay: what was replayed is kept before the journal is emptied
 begin
-faulty lost 'set 4 1 7301' 'show 4'
-counted 'a journal that cannot be written: exit status' [ "$?" = 1 ]
-said 'a journal that cannot be written' "$loaded" "edit: $journal: Input/output error" \
-    'perhaps not done: the journal could not be written; what was done before is in it, so start again and look'
+edit 2 'set 4 1 7301'
+keep
+faulty flush4 'save'
+counted 'a copy of what was replayed that cannot be flushed: exit status' [ "$?" = 1 ]
+said 'a copy of what was replayed that cannot be flushed' "$loaded" "$(replayed 2 22 0)" "edit: $journal.??????: Input/output error" "$could_not"
+holds 'a copy of what was replayed that cannot be flushed' "$first"
+files 'a copy of what was replayed that cannot be flushed' day journal
+cp "$work/before/day" "$day"
+faulty emptying 'save'
+counted 'killed when what was replayed is kept: exit status' [ "$?" = 137 ]
+holds 'killed when what was replayed is kept' "$first"
+counted 'killed when what was replayed is kept: the copy is there' cmp -s "$journal".?????? "$work/before/journal"
+
+# the date that is told is that of the day, not one that was set; and the minute and second of record S
+begin
+edit 2 'set 3 15 50'
+edit 2
+said 'a journal that sets the hour' "$loaded" "$(replayed 2 22 0)"
+cp examples/s.sao "$day"
+rm "$journal"
+edit 1 'open'
+edit 1
+counted 'the date of S in the text' grep -aq '^AA20062650922142530' "$day"
+said 'the date of S' 'record 1 has 24 cells' 'replayed 4 bytes of the journal over record 1, of 2006-09-22 14:25:30; savepoints open: 1'
+
+# the wrong record, whose cells are what those of the right one were: the dip angle is the same all day. What is said names the record, and the
+# edits are not lost
+begin
+edit 3 'set 1 2 66000'
+keep
+edit 2 'show 1' 'set 4 1 7301' 'save' 'set 4 1 7300' 'save'
+said 'the wrong record, with cells that are alike' "$loaded" "$(replayed 2 22 0)" "$(echo "$one" | awk '{ $4 = 66000; print }')" \
+    'done: cell 1 of group 4 is 7301' "$kept_saved" 'done: cell 1 of group 4 is 7300' "$done_saved"
+files 'the wrong record, with cells that are alike' day journal 'journal.??????'
+counted 'the wrong record, with cells that are alike: all edits are kept' \
+    [ "$(bytes "$(echo "$journal".??????)")" = "$(set_field 1 2 63000 66000)$first" ]
+head -c 22 "$journal".?????? >"$journal"
+counted 'what was replayed is the journal of the right record' cmp -s "$journal" "$work/before/journal"
+edit 3 'show 1'
+said 'the right record, with what was kept of the journal' "$third_loaded" "$(replayed 3 22 0)" "$(echo "$one" | awk '{ $4 = 66000; print }')"
 
 # ---- two editors
 
@@ -593,7 +743,10 @@ second() { # RECORD JOURNAL LINE..: another editor of the day; what it says is i
     second_journal=$2
     shift 2
     printf '%s\n' "$@" >"$work/commands"
-    started "$work/edit" "$day" "$second_record" "$second_journal" <"$work/commands" >"$work/second" 2>&1
+    started "$work/edit" "$day" "$second_record" "$second_journal" <"$work/commands" >"$work/said" 2>&1
+    second_status=$?
+    without_letters <"$work/said" >"$work/second"
+    return "$second_status"
 }
 
 second_said() { # CASE LINE..
@@ -601,14 +754,6 @@ second_said() { # CASE LINE..
     shift
     printf '%s\n' "$@" >"$work/want"
     counted "$what" cmp -s "$work/second" "$work/want" || diff -a "$work/want" "$work/second"
-}
-
-closed() { # CASE: the editor in the background ends, and has said what it was asked for
-    exec 3>&-
-    wait "$running"
-    counted "$1: exit status" [ "$?" = 0 ]
-    cp "$work/all" "$work/want"
-    compared "$1" "$work/want"
 }
 
 # on one journal, by any of its names
@@ -629,14 +774,12 @@ ask 'save' "$done_saved"
 second 2 "$journal" 'open'
 counted 'a second editor behind a save: exit status' [ "$?" = 1 ]
 holds 'a second editor behind a save' ''
-closed 'the first of two editors'
+closed 'the first of two editors' 0
 counted 'the first of two editors has saved' cmp -s "$day" "$work/saved"
 second 2 "$journal" 'open'
 second_said 'the second editor, when the first has gone' "$loaded" 'done: savepoint 1 is open'
 
 # on two records of one day
-# record 3 is that of 02:00, the lines from 51 to 75; its trace has 21 points
-third_loaded='record 3 has 453 cells'
 third_set='done: cell 1 of group 4 is 3426'
 third_saved="done: record 3 is saved, in $(sed -n 51,75p examples/day.sao | wc -c) bytes, and the journal is empty"
 sed '/^AA20040600229020000/,/^AA20040600229030000/s/^   3\.4259999/   3.4269999/' "$work/saved" >"$work/both"
@@ -647,16 +790,30 @@ ask 'set 4 1 7301' 'done: cell 1 of group 4 is 7301'
 second 3 "$work/files/third" 'set 4 1 3426' 'save'
 second_said 'two records: the second editor' "$third_loaded" "$third_set" "$third_saved"
 ask 'save' 'refused: the day is not as it was loaded; the journal has all edits, so start again'
-closed 'two records: the first editor'
+closed 'two records: the first editor' 1
 edit 2 'save'
-said 'two records: the first editor, started again' "$loaded" 'replayed 22 bytes of the journal; savepoints open: 0' \
-    "$done_saved"
+said 'two records: the first editor, started again' "$loaded" "$(replayed 2 22 0)" "$kept_saved"
 counted 'two records: both are saved' cmp -s "$day" "$work/both"
+
+# on one record of it: what the other has saved in another cell stays, and in the same cell it refuses the journal
+begin
+run
+ask 'set 4 1 7301' 'done: cell 1 of group 4 is 7301'
+second 2 "$work/files/third" 'set 4 40 1' 'save'
+second_said 'one record, two cells: the second editor' "$loaded" 'done: cell 40 of group 4 is 1' "$done_saved"
+ask 'save' 'refused: the day is not as it was loaded; the journal has all edits, so start again'
+closed 'one record, two cells: the first editor' 1
+edit 2 'show 4'
+said 'one record, two cells: started again' "$loaded" "$(replayed 2 22 0)" "group 4: 7301 ${of_four% 47500} 1"
+second 2 "$work/files/third" 'set 4 1 7302' 'save'
+wrong 'one record, one cell: started again' 0
+second 2 "$work/files/new" 'show 4' 'set 4 1 7301' 'save'
+second_said 'one record, one cell: with a new journal' "$loaded" "group 4: 7302 ${of_four% 47500} 1" 'done: cell 1 of group 4 is 7301' "$done_saved"
 
 # the day is replaced by another editor in the very moment in which it is loaded, or locked for a save
 OTHER=$work/files/other
-DAY=$day
-export OTHER DAY
+REPLACED=$day
+export OTHER REPLACED
 begin
 cp "$work/saved" "$OTHER"
 faulty loading 'set 4 1 1'
@@ -671,6 +828,94 @@ said 'replaced while it is locked' "$loaded" 'done: cell 1 of group 4 is 7301' \
     'refused: another editor is saving this day just now; the journal has all edits, so save again' "$done_saved"
 counted 'replaced while it is locked, and saved again' cmp -s "$day" "$work/saved"
 
+# the journal is replaced before it is locked
+begin
+: >"$OTHER"
+REPLACED=$journal
+faulty loading 'set 4 1 1'
+counted 'a journal that is replaced before it is locked: exit status' [ "$?" = 1 ]
+said 'a journal that is replaced before it is locked' "$loaded" "edit: $journal was removed or replaced while it was being opened; start again"
+holds 'a journal that is replaced before it is locked' ''
+
+# ---- the journal's name, or the day's, leads elsewhere while the editor is at work
+
+elsewhere() { # WAY: it does from now on
+    case $1 in
+    removed) rm "$journal" ;;
+    replaced) : >"$work/files/new" && mv "$work/files/new" "$journal" ;;
+    relinked) ln -sf new "$journal" && : >"$work/files/new" ;;
+    moved) mv "$work/files/kept" "$work/files/gone" && mkdir "$work/files/kept" ;;
+    followed) mv "$work/files/old" "$work/files/kept/old" && ln -sf kept/old "$journal" ;; # into a folder that was not flushed
+    esac
+}
+
+starts_elsewhere() { # WAY: an editor has set a cell, and the name leads elsewhere
+    begin
+    mkdir "$work/files/kept"
+    case $1 in
+    relinked | followed) journal=$work/files/link && ln -s old "$journal" ;;
+    moved) journal=$work/files/kept/journal ;;
+    esac
+    run
+    ask 'set 4 1 7300' 'done: cell 1 of group 4 is 7300'
+    elsewhere "$1"
+}
+
+for way in removed replaced relinked moved followed; do
+    for command in 'set 4 1 7301' open; do
+        starts_elsewhere "$way"
+        ask "$command" "perhaps not done: $journal does not lead where it led at the start, so what was done may not be found again
+to go on with all edits since the last save, start again with the journal $journal.??????"
+        closed "a journal that was $way, $command" 1
+        counted "a journal that was $way, $command: the day is as it was" cmp -s "$day" examples/day.sao
+        case $command in
+        open) last=$(savepoint_field 2 1) ;;
+        *) last=$(set_field 4 1 7300 7301) ;;
+        esac
+        counted "a journal that was $way, $command: all edits are kept" \
+            [ "$(bytes "$(echo "$journal".??????)")" = "$(set_field 4 1 3525 7300)$last" ]
+        journal=$plain_journal
+    done
+    starts_elsewhere "$way"
+    ask 'save' "saved, but $journal does not lead where it led at the start: look what stands there, and start again"
+    closed "a journal that was $way, save" 1
+    counted "a journal that was $way, save: the day is saved" [ "$(sed 's/^   7\.300/   7.301/' "$day" | cmp - "$work/saved")" = '' ]
+    journal=$plain_journal
+done
+
+# the copy is taken up as the journal
+starts_elsewhere removed
+ask 'set 4 1 7301' "perhaps not done: $journal does not lead where it led at the start, so what was done may not be found again
+to go on with all edits since the last save, start again with the journal $journal.??????"
+closed 'a journal that was removed' 1
+second 2 "$(echo "$journal".??????)" 'show 4'
+second_said 'the copy of a journal that was removed' "$loaded" "$(replayed 2 44 0)" "group 4: 7301 $of_four"
+
+# no file can be made beside it
+begin
+mkdir "$work/files/kept"
+journal=$work/files/kept/journal
+run
+ask 'set 4 1 7300' 'done: cell 1 of group 4 is 7300'
+rm -r "$work/files/kept"
+ask 'set 4 1 7301' "edit: $journal: No such file or directory
+perhaps not done: $journal does not lead where it led at the start, so what was done may not be found again"
+closed 'a journal whose folder was removed' 1
+journal=$plain_journal
+
+# the day is removed, and there again
+begin
+run
+ask 'set 4 1 7301' 'done: cell 1 of group 4 is 7301'
+mv "$day" "$work/files/gone"
+ask 'save' "edit: $day: No such file or directory
+refused: the day cannot be opened; the journal has all edits"
+counted 'a day that was removed: no other is made' [ "$(there | tr '\n' ' ')" = 'gone journal ' ]
+mv "$work/files/gone" "$day"
+ask 'save' "$done_saved"
+closed 'a day that was removed, and is there again' 0
+counted 'a day that was removed, and is there again: it is saved' cmp -s "$day" "$work/saved"
+
 # two saves at once
 begin
 FAULT=stopped
@@ -681,6 +926,7 @@ program=$work/edit
 unset FAULT
 ask 'set 4 1 7301' 'done: cell 1 of group 4 is 7301'
 ask 'save' 'stopped'
+grep -qx stopped "$work/got" || kill -9 "$running" # else it might stop behind the signal to go on
 keep
 second 3 "$work/files/third" 'set 4 1 3426' 'save'
 second_said 'two saves at once: the second' "$third_loaded" "$third_set" \
@@ -689,10 +935,11 @@ kept 'two saves at once: the second'
 kill -CONT "$running"
 echo "$done_saved" >>"$work/all"
 awaited "$(wc -l <"$work/all")"
-closed 'two saves at once: the first'
+closed 'two saves at once: the first' 0
 counted 'two saves at once: the first has saved' cmp -s "$day" "$work/saved"
 second 3 "$work/files/third" 'save'
-second_said 'two saves at once: the second, again' "$third_loaded" 'replayed 22 bytes of the journal; savepoints open: 0' "$third_saved"
+second_said 'two saves at once: the second, again' "$third_loaded" "$(replayed 3 22 0)" "$third_saved
+what was replayed, and all edits since, are kept in $work/files/third.??????"
 counted 'two saves at once: both are saved' cmp -s "$day" "$work/both"
 
 # ---- a text
@@ -741,10 +988,10 @@ printf '\002\000\001\001\003\000\001\001' >"$work/doubled"
 doubled 1048576 >"$journal"
 keep
 edit 2 'set 4 1 1' 'open'
-said 'a full journal' "$loaded" 'replayed 1048576 bytes of the journal; savepoints open: 0' "$full" "$full"
+said 'a full journal' "$loaded" "$(replayed 2 1048576 0)" "$full" "$full"
 kept 'a full journal'
 edit 2 'set 4 1 7301' 'save' 'set 4 1 7301' 'save'
-said 'a full journal is saved' "$loaded" 'replayed 1048576 bytes of the journal; savepoints open: 0' "$full" "$done_saved" \
+said 'a full journal is saved' "$loaded" "$(replayed 2 1048576 0)" "$full" "$kept_saved" \
     'done: cell 1 of group 4 is 7301' "$done_saved"
 counted 'a full journal is saved: the day' cmp -s "$day" "$work/saved"
 holds 'a full journal is saved' ''
@@ -753,11 +1000,11 @@ holds 'a full journal is saved' ''
 begin
 { set_bytes 4 1 3525 10000000 && doubled 1048552; } >"$journal"
 edit 2 'set 4 1 7301' 'open' 'save' 'set 4 1 20000000' 'open' 'save'
-said 'a full journal that cannot be saved' "$loaded" 'replayed 1048574 bytes of the journal; savepoints open: 0' "$full" "$full" "$no_field" \
+said 'a full journal that cannot be saved' "$loaded" "$(replayed 2 1048574 0)" "$full" "$full" "$no_field" \
     'done: cell 1 of group 4 is 20000000' "$full" "$no_field"
 edit 2 'set 4 1 7301' 'save' 'set 4 1 7301' 'save' 'open'
-said 'a full journal with a value set anew' "$loaded" 'replayed 1048596 bytes of the journal; savepoints open: 0' "$full" "$no_field" \
-    'done: cell 1 of group 4 is 7301' "$done_saved" 'done: savepoint 1 is open'
+said 'a full journal with a value set anew' "$loaded" "$(replayed 2 1048596 0)" "$full" "$no_field" \
+    'done: cell 1 of group 4 is 7301' "$kept_saved" 'done: savepoint 1 is open'
 counted 'a full journal with a value set anew: the day' cmp -s "$day" "$work/saved"
 holds 'a full journal with a value set anew' "$(savepoint_field 2 1)"
 
@@ -766,8 +1013,8 @@ begin
 printf '\002\000\001\003\003\000\001\003' >"$work/doubled"
 { set_bytes 4 1 3525 7301 && printf '\002\000\001\001\002\000\001\002' && set_bytes 4 1 7301 10000000 && doubled 1048520; } >"$journal"
 edit 2 'open' 'save' 'open' 'release 2' 'undo 1' 'save'
-said 'a full journal that is undone' "$loaded" 'replayed 1048572 bytes of the journal; savepoints open: 2' 'done: savepoint 3 is open' \
-    "$no_field" "$full" "$not_open" 'done: all is as it was when savepoint 1 was opened' "$done_saved"
+said 'a full journal that is undone' "$loaded" "$(replayed 2 1048572 2)" 'done: savepoint 3 is open' \
+    "$no_field" "$full" "$not_open" 'done: all is as it was when savepoint 1 was opened' "$kept_saved"
 counted 'a full journal that is undone: the day' cmp -s "$day" "$work/saved"
 
 # 65,536 bytes are left for that, and no more
@@ -776,7 +1023,7 @@ printf '\002\000\001\001\003\000\001\001' >"$work/doubled"
 { doubled 1114108 && printf '\003\000\001\001'; } >"$journal"
 keep
 edit 2 'set 4 1 1' 'open'
-said 'the longest journal' "$loaded" 'replayed 1114112 bytes of the journal; savepoints open: 0' "$full" "$full"
+said 'the longest journal' "$loaded" "$(replayed 2 1114112 0)" "$full" "$full"
 kept 'the longest journal'
 printf '\002' >>"$journal"
 keep
@@ -834,4 +1081,4 @@ started "$work/edit" "$day" 2 "$journal" <"$work/commands" >"$work/got" 2>&1
 counted 'a part of a line: exit status' [ "$?" = 0 ]
 said 'a part of a line' "$loaded" "$commands" "$commands"
 holds 'a part of a line' ''
-finished 367
+finished 512

@@ -81,13 +81,15 @@ played() { # CASE PROGRAM..: each run of the scene, on one day and one journal; 
     case_of=$1
     shift
     cp examples/day.sao "$work/edited.sao"
-    rm -f "$work/edited.journal"
+    rm -f "$work/edited.journal" "$work/edited.journal".??????
     run=1
     while [ "$run" -le "$runs" ]; do
         awk -v run="$run" '/^\$ / { met++ } met == run && sub(/^> /, "")' "$work/scene" >"$work/typed"
-        awk -v run="$run" '/^\$ / { met++; next } met == run && !/^> /' "$work/scene" >"$work/say"
+        awk -v run="$run" '/^\$ / { met++; next } met == run && !/^> /' "$work/scene" |
+            sed 's|\(target/journal\.\)[A-Za-z0-9]\{6\}$|\1??????|' >"$work/say" # the letters of a new file's name are any
         counted "$case_of: run $run has commands" [ -s "$work/typed" ]
-        "$@" "$work/edited.sao" 2 "$work/edited.journal" <"$work/typed" >"$work/got" 2>&1
+        "$@" "$work/edited.sao" 2 "$work/edited.journal" <"$work/typed" >"$work/typed.got" 2>&1
+        sed "s|$work/edited\.\(journal\.\)[A-Za-z0-9]\{6\}\$|target/\1??????|" "$work/typed.got" >"$work/got"
         compared "$case_of: run $run" "$work/say"
         run=$((run + 1))
     done
@@ -95,6 +97,7 @@ played() { # CASE PROGRAM..: each run of the scene, on one day and one journal; 
     echo '   3.600' >"$work/say"
     compared "$case_of: foF2 of 01:00 in the saved day" "$work/say"
     counted "$case_of: the journal is empty" [ ! -s "$work/edited.journal" ]
+    counted "$case_of: what was replayed is kept" [ "$(cat "$work/edited.journal".?????? | wc -c)" -eq 56 ]
 }
 
 block text >"$work/scene"
@@ -127,4 +130,4 @@ if [ "$machine" = x86_64 ] && command -v cargo >/dev/null; then
 else
     echo "tests/readme.sh: skipped: the command for Rust, which needs x86-64 and cargo (this is $machine)"
 fi
-finished 29
+finished 30

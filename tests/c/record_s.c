@@ -229,8 +229,8 @@ static const struct {
     {&no_reading, 0, 1, SEAMBEACON_NO_READING, 0, 0, {0}},
     {&below_zero, 0, 1, SEAMBEACON_VALUE, -500, 0, {0}},
     {&not_scaled, 0, 1, SEAMBEACON_NO_READING, 0, 0, {0}},
-    {&above_that, 0, 1, SEAMBEACON_VALUE, 999901, 0, {0}},
-    {&minus_that, 0, 1, SEAMBEACON_VALUE, -999900, 0, {0}},
+    {&above_not_scaled, 0, 1, SEAMBEACON_VALUE, 999901, 0, {0}},
+    {&minus_not_scaled, 0, 1, SEAMBEACON_VALUE, -999900, 0, {0}},
     {&two_lines, 0, 16, SEAMBEACON_VALUE, 16000, 0, {0}},
     {&two_lines, 0, 17, SEAMBEACON_NOT_REPORTED, 0, 0, {0}},
 };

@@ -3,7 +3,7 @@
 struct text s, twice, twice_comma, nothing;
 struct text cut, blanks, too_many_blanks, no_return, comma, second_bad;
 struct text broken, s_broken, too_few_first, many_messages, letters, other_release, vacant, last_vacant, minus_zero, no_digit;
-struct text wrong_day, wrong_month, no_year, no_reading, below_zero, not_scaled, above_that, minus_that;
+struct text wrong_day, wrong_month, no_year, no_reading, below_zero, not_scaled, above_not_scaled, minus_not_scaled;
 struct text two_lines, last_of_two_bad, second_line_long;
 
 /* ---- Pieces. */
@@ -120,8 +120,8 @@ static void make_fields(void)
     make_s(&no_reading, 80, 5, date, "9999.000");
     make_s(&below_zero, 80, 5, date, "   -.500");
     make_s(&not_scaled, 80, 5, date, " 999.900");
-    make_s(&above_that, 80, 5, date, " 999.901");
-    make_s(&minus_that, 80, 5, date, "-999.900");
+    make_s(&above_not_scaled, 80, 5, date, " 999.901");
+    make_s(&minus_not_scaled, 80, 5, date, "-999.900");
 }
 
 static const char fifteen[] =

@@ -13,7 +13,7 @@ struct text {
 extern struct text s, twice, twice_comma, nothing;
 extern struct text cut, blanks, too_many_blanks, no_return, comma, second_bad;
 extern struct text broken, s_broken, too_few_first, many_messages, letters, other_release, vacant, last_vacant, minus_zero, no_digit;
-extern struct text wrong_day, wrong_month, no_year, no_reading, below_zero, not_scaled, above_that, minus_that;
+extern struct text wrong_day, wrong_month, no_year, no_reading, below_zero, not_scaled, above_not_scaled, minus_not_scaled;
 extern struct text two_lines, last_of_two_bad, second_line_long;
 
 void make_texts(void);

@@ -3,12 +3,13 @@
      stopped     it stops itself before the renaming, and says so
      unrenamed   it is killed before the renaming
      renamed     it is killed behind the renaming
+     fixed       the renaming fails
      emptying    it is killed where the journal would be emptied
-     folder      the folder can't be flushed behind the renaming
      full        the journal can't be emptied
-     lost        the second flush fails, that of the journal's first field
-     loading     before the first lock, that of the journal, the file OTHER replaces the file DAY
+     flush1      the first flush fails; and so on up to flush9
+     loading     before the first lock, that of the journal, the file OTHER replaces the file REPLACED
      saving      the same before the second lock, that of the day
+     unlocked    the second lock fails
 
    Otherwise they do what they do; on x86-64 Linux. */
 #include <errno.h>
@@ -25,7 +26,7 @@ long syscall(long, ...);
 
 enum { SYSCALL_FCNTL = 72, SYSCALL_FSYNC = 74, SYSCALL_FTRUNCATE = 77, SYSCALL_RENAME = 82, KILLED = 9, STOPPED = 19 };
 
-static int behind_renaming, flushes, locks;
+static int flushes, locks;
 
 static int fault_is(const char *name)
 {
@@ -49,18 +50,20 @@ int rename(const char *from, const char *to)
 {
     int answer;
     killed_if("unrenamed");
+    if (fault_is("fixed"))
+        return fails();
     if (fault_is("stopped") && write(2, "stopped\n", 8) == 8)
         kill(getpid(), STOPPED);
     answer = (int)syscall(SYSCALL_RENAME, from, to);
     killed_if("renamed");
-    behind_renaming = 1;
     return answer;
 }
 
 int fsync(int file)
 {
-    flushes++;
-    if ((fault_is("folder") && behind_renaming) || (fault_is("lost") && flushes == 2))
+    char name[] = "flush0";
+    name[5] = (char)(name[5] + ++flushes);
+    if (fault_is(name))
         return fails();
     return (int)syscall(SYSCALL_FSYNC, file);
 }
@@ -74,14 +77,16 @@ int fcntl(int file, int command, ...)
     __builtin_va_end(words);
     locks += command == F_SETLK;
     if (command == F_SETLK && ((fault_is("loading") && locks == 1) || (fault_is("saving") && locks == 2)))
-        syscall(SYSCALL_RENAME, getenv("OTHER"), getenv("DAY"));
+        syscall(SYSCALL_RENAME, getenv("OTHER"), getenv("REPLACED"));
+    if (command == F_SETLK && fault_is("unlocked") && locks == 2)
+        return fails();
     return (int)syscall(SYSCALL_FCNTL, file, command, word);
 }
 
 int ftruncate(int file, off_t length)
 {
     killed_if("emptying");
-    if (fault_is("full") && behind_renaming)
+    if (fault_is("full"))
         return fails();
     return (int)syscall(SYSCALL_FTRUNCATE, file, length);
 }

@@ -185,7 +185,7 @@ pub enum Characteristic {
     /// Its value in thousandths.
     Value(i64),
     /// There is no reading: 9999.000 in the text or, where it is a frequency, 999.900. Frequencies are 1, 2, 4 to 10, 22, 23, 25, 27 to 31, 35,
-    /// 36, 44, 46 and 48.
+    /// 36, 44, 46 and 48 (R295).
     NoReading,
     /// The record has fewer characteristics.
     NotReported,

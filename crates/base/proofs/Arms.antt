@@ -39,6 +39,6 @@ module _ (test : ℕ → Bool) where
 
   module _ (arms : List (List ℕ)) where
     -- a number from lo on, below lo + k, that is no single number passes, where each of these is a single number or passes
-    pub between : (lo k n : ℕ) → T (every (λ m. test m || anyHas arms m) (upFrom lo k)) → lo ≤ n → n < lo + k → None arms n → T (test n)
-    between lo k n t a b o =
+    pub between : (lo k : ℕ) {n : ℕ} → T (every (λ m. test m || anyHas arms m) (upFrom lo k)) → lo ≤ n → n < lo + k → None arms n → T (test n)
+    between lo k {n} t a b o =
         ⊎-elim (λ h. h) (λ h. absurd (none arms n o h)) (or-elim (test n) (anyHas arms n) (every-between (λ m. test m || anyHas arms m) lo k t n a b))

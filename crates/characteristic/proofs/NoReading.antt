@@ -1,7 +1,7 @@
 -- R291, R295: the tests pass exactly where the statements hold.
 -- Assumes nothing.
 use mathlib.Core.Path.{_≡_, refl, ap}
-use mathlib.Core.Bool.{true, false, _&&_}
+use mathlib.Core.Bool.{Bool, true, false, _&&_}
 use mathlib.Core.List.{List, [], _∷_}
 use mathlib.Core.Logic.{_⊎_, _↔_, inl, inr, ⊎-elim}
 use Prim.Native.Nat.{ℕ, _≤_}
@@ -9,8 +9,8 @@ use borrow.Author.Tests.{ne-eqb}
 use lib.Dec.{T, eqb, leb, leb→le, le→leb, eqb→eq}
 use lib.IntN.{ℤ, pos, negsuc}
 use Rattle.base.specs.Sign.{negative, sizeOf}
-use Rattle.base.proofs.Choice.{and-left, and-right, and-both, or-elim, or-left, or-right}
-use Rattle.characteristic.specs.NoReading.{Run, frequencies, InOne, Frequency, noReading, unscaled, IsNoReading, inRuns, isFrequency, isNoReading}
+use Rattle.base.proofs.Choice.{and-left, and-right, and-both, or-elim, or-left, or-right, same-test}
+use Rattle.characteristic.specs.NoReading.{Run, frequencies, InOne, Frequency, unscaled, unscaledFrequency, IsNoReading, inRuns, isFrequency, isNoReading}
 
 in-runs : (rs : List Run) (k : ℕ) → T (inRuns rs k) → InOne rs k
 in-runs [] k t = t
@@ -37,9 +37,9 @@ test-means : (k : ℕ) (z : ℤ) → T (isNoReading k z) → IsNoReading k z
 unfolding isNoReading
 test-means k (pos n) t =
     ⊎-elim
-    (λ h. inl (ap pos (eqb→eq n noReading h)))
-    (λ h. inr (ap pos (eqb→eq n unscaled (and-left (eqb n unscaled) (isFrequency k) h)), frequency-exactly k .0 (and-right (eqb n unscaled) (isFrequency k) h)))
-    (or-elim (eqb n noReading) (eqb n unscaled && isFrequency k) t)
+    (λ h. inl (ap pos (eqb→eq n unscaled h)))
+    (λ h. inr (ap pos (eqb→eq n unscaledFrequency (and-left (eqb n unscaledFrequency) (isFrequency k) h)), frequency-exactly k .0 (and-right (eqb n unscaledFrequency) (isFrequency k) h)))
+    (or-elim (eqb n unscaled) (eqb n unscaledFrequency && isFrequency k) t)
 test-means k (negsuc n) t = absurd t
 
 means-test : (k : ℕ) (z : ℤ) → IsNoReading k z → T (isNoReading k z)
@@ -50,25 +50,28 @@ means-test k z (inr h) = rw (h .0) (frequency-exactly k .1 (h .1))
 pub no-reading-exactly : (k : ℕ) (z : ℤ) → T (isNoReading k z) ↔ IsNoReading k z
 no-reading-exactly k z = (test-means k z, means-test k z)
 
--- ---- the test in the order of the code: the sign, then the size
+-- ---- the statement in the order of the code: the sign, then the size
 
 module _ (k : ℕ) (z : ℤ) where
-  pub negative-value : negative z ≡ true → false ≡ isNoReading k z
+  is-test : (b : Bool) → b ≡ isNoReading k z → T b ↔ IsNoReading k z
+  is-test b e = rw e (no-reading-exactly k z)
+
+  pub negative-value : negative z ≡ true → T false ↔ IsNoReading k z
   unfolding isNoReading
-  negative-value e = rw e
+  negative-value e = is-test false (rw e)
 
   module _ (e : negative z ≡ false) where
-    pub any-number : sizeOf z ≡ noReading → true ≡ isNoReading k z
+    pub any-number : sizeOf z ≡ unscaled → T true ↔ IsNoReading k z
     unfolding isNoReading
-    any-number s = rw (e, s)
+    any-number s = is-test true (rw (e, s))
 
-    pub by-number : sizeOf z ≡ unscaled → isFrequency k ≡ isNoReading k z
+    pub by-number : sizeOf z ≡ unscaledFrequency → (b : Bool) → T b ↔ Frequency k → T b ↔ IsNoReading k z
     unfolding isNoReading
-    by-number s = rw (e, s)
+    by-number s b f = is-test b (rw (e, s) (same-test b (isFrequency k) (λ t. frequency-exactly k .1 (f .0 t)) (λ t. f .1 (frequency-exactly k .0 t))))
 
-    pub other-value : (sizeOf z ≡ noReading → ⊥) → (sizeOf z ≡ unscaled → ⊥) → false ≡ isNoReading k z
+    pub other-value : (sizeOf z ≡ unscaled → ⊥) → (sizeOf z ≡ unscaledFrequency → ⊥) → T false ↔ IsNoReading k z
     unfolding isNoReading
-    other-value m n = rw (e, ne-eqb (sizeOf z) noReading m, ne-eqb (sizeOf z) unscaled n)
+    other-value m n = is-test false (rw (e, ne-eqb (sizeOf z) unscaled m, ne-eqb (sizeOf z) unscaledFrequency n))
 
 -- ---- R291: exactly 999,900: its neighbours and its negative are values of every characteristic, and it is one of number 26, a height
 

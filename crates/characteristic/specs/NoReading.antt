@@ -33,17 +33,17 @@ abbrev pub Frequency : ℕ → Type 0
 Frequency k = InOne frequencies k
 
 -- R291: 9999.000 in thousandths, the mark of whatever was not scaled, and 999.900, that of a frequency
-abbrev pub noReading : ℕ
-noReading = 9999000
-
 abbrev pub unscaled : ℕ
-unscaled = 999900
+unscaled = 9999000
+
+abbrev pub unscaledFrequency : ℕ
+unscaledFrequency = 999900
 
 -- R291: the cell z of number k means that there is no reading; every other is a value
 abbrev pub IsNoReading : ℕ → ℤ → Type 0
-IsNoReading k z = (z ≡ pos noReading) ⊎ ((z ≡ pos unscaled) × Frequency k)
+IsNoReading k z = (z ≡ pos unscaled) ⊎ ((z ≡ pos unscaledFrequency) × Frequency k)
 
--- ---- the same as tests (proofs/NoReading.antt: they pass exactly where the above holds)
+-- ---- the same as tests, for proofs (proofs/NoReading.antt: they pass exactly where the above holds)
 
 abbrev pub inRuns : List Run → ℕ → Bool
 inRuns [] k = false
@@ -53,4 +53,4 @@ unfoldable pub isFrequency : ℕ → Bool
 isFrequency k = inRuns frequencies k
 
 unfoldable pub isNoReading : ℕ → ℤ → Bool
-isNoReading k z = not (negative z) && (eqb (sizeOf z) noReading || (eqb (sizeOf z) unscaled && isFrequency k))
+isNoReading k z = not (negative z) && (eqb (sizeOf z) unscaled || (eqb (sizeOf z) unscaledFrequency && isFrequency k))

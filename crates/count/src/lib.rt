@@ -1,5 +1,5 @@
-// Counts: the lines and cells that they stand for, the rules on them, and the whole check before they are used. Counts are lent as a slice
-// of any length; one that is not there is 0 (R243).
+// Counts: the lines and cells that they stand for, the rules on them, and the whole check before they are used. Counts
+// are lent as a slice of any length; one that is not there is 0 (R243).
 use reply::Checked;
 use reply::Refusal;
 ghost use mathlib.Core.Path.{_≡_};
@@ -13,8 +13,8 @@ ghost use Rattle.count.specs.Rules.{releaseOf, lower, one, rule, differ,
 ghost use Rattle.count.specs.Rules.{letterRules, setRule, sets, zeroOr, rulingOf};
 ghost use Rattle.count.specs.Check.{wellFormed, checkedOf};
 
-// R24, R25: what stands under the number 80 and under the vacant ones: release 5 and nothing, another release, or the lowest vacant number
-// with a count.
+// R24, R25: what stands under the number 80 and under the vacant ones: release 5 and nothing, another release, or the
+// lowest vacant number with a count.
 pub enum Release {
     Five,
     Other,
@@ -120,7 +120,8 @@ fn with_group(totals: Totals, form: form::Form, count: u16) -> Totals
     }
 }
 
-// R27, R28, R47: the lines, the index among them, and the cells before those of a group; before 61: of the whole record.
+// R27, R28, R47: the lines, the index among them, and the cells before those of a group; before 61: of the whole
+// record.
 pub fn add_up(counts: &[u16], group: usize) -> Totals
     ensures { λ r. ⌜ Before (now (counts .entry)) group (r .lines) (r .cells) ⌝ }
 {
@@ -302,7 +303,8 @@ fn well_formed(counts: &[u16]) -> bool
     true
 }
 
-// R302: the whole check of counts and the length of the table of all cells: right, or the first of 4, 5, 6, 7 and 14 that is due.
+// R302: the whole check of counts and the length of the table of all cells: right, or the first of 4, 5, 6, 7 and 14
+// that is due.
 pub fn check(counts: &[u16], cells: usize) -> Checked
     ensures { λ r. ⌜ r ≡ checkedOf (now (counts .entry)) cells ⌝ }
 {

@@ -70,18 +70,18 @@ module _ (leap : Bool) where
   -- ---- no day number belongs to two days
 
   -- a day of an earlier month comes before
-  earlier : (n m d n′ m′ d′ : ℕ) → IsDay leap n m d → IsDay leap n′ m′ d′ → m < m′ → n < n′
-  earlier n m d n′ m′ d′ i j h =
+  earlier : {n m d n′ m′ d′ : ℕ} → IsDay leap n m d → IsDay leap n′ m′ d′ → m < m′ → n < n′
+  earlier {m = m} {m′ = m′} i j h =
       let e : m + (m′ - 1 - m) ≡ m′ - 1 = omega arith in
       omega (arith, i .last, i .count, month-ends m (i .january), j .first, j .count, rw e at (days-mono m (m′ - 1 - m)))
 
-  no-earlier : (n m d m′ d′ : ℕ) → IsDay leap n m d → IsDay leap n m′ d′ → (t : Bool) → ltb m m′ ≡ t → m′ ≤ m
-  no-earlier n m d m′ d′ i j true e = absurd (omega (arith, earlier n m d n m′ d′ i j (ltb-true m m′ e)))
-  no-earlier n m d m′ d′ i j false e = ltb-false m m′ e
+  no-earlier : {n m d m′ d′ : ℕ} → IsDay leap n m d → IsDay leap n m′ d′ → (t : Bool) → ltb m m′ ≡ t → m′ ≤ m
+  no-earlier {m = m} {m′ = m′} i j true e = absurd (omega (arith, earlier i j (ltb-true m m′ e)))
+  no-earlier {m = m} {m′ = m′} i j false e = ltb-false m m′ e
 
   pub same-month : (n m d m′ d′ : ℕ) → IsDay leap n m d → IsDay leap n m′ d′ → m ≡ m′
   same-month n m d m′ d′ i j =
-      omega (arith, no-earlier n m d m′ d′ i j (ltb m m′) refl, no-earlier n m′ d′ m d j i (ltb m′ m) refl)
+      omega (arith, no-earlier i j (ltb m m′) refl, no-earlier j i (ltb m′ m) refl)
 
   pub same-day : (n m d m′ d′ : ℕ) → IsDay leap n m d → IsDay leap n m′ d′ → d ≡ d′
   same-day n m d m′ d′ i j = omega (arith, i .count, j .count, ap (λ k. daysTo leap (k - 1)) (same-month n m d m′ d′ i j))

@@ -1,11 +1,10 @@
--- The lengths of months: there are four, they add up to the days of a year, and the leap day comes with February.
+-- The lengths of months: there are four, and they add up to the days of a year.
 -- Assumes nothing.
-use mathlib.Core.Path.{_≡_, refl, ap}
-use mathlib.Core.Bool.{Bool, true, false}
-use Prim.Native.Nat.{ℕ, zero, suc, _+_, _-_, _*_, _<_, _≤_}
+use mathlib.Core.Path.{_≡_}
+use mathlib.Core.Bool.{Bool}
+use Prim.Native.Nat.{ℕ, zero, suc, _+_, _*_, _≤_}
 use native.Mathlib.Numerals.{add-one}
 use native.Mathlib.Omega.{arith}
-use borrow.Author.Tests.{ne-eqb}
 use lib.Dec.{eqb, lit≤}
 use Rattle.base.proofs.Choice.{cond-elim}
 use Rattle.date.specs.Calendar.{hasThirty, monthLength, daysTo}
@@ -32,22 +31,3 @@ pub days-bound : (leap : Bool) (m : ℕ) → daysTo leap m ≤ 31 * m
 unfolding daysTo
 days-bound leap zero = omega arith
 days-bound leap (suc m) = omega (arith, days-bound leap m, length-greatest leap (suc m))
-
--- ---- the leap day
-
-other-month : (leap : Bool) (m : ℕ) → (m ≡ 2 → ⊥) → monthLength leap m ≡ monthLength false m
-unfolding monthLength
-other-month leap m n = rw (ne-eqb m 2 n)
-
-pub no-leap-day : (leap : Bool) (m : ℕ) → m < 2 → daysTo leap m ≡ daysTo false m
-unfolding daysTo
-no-leap-day leap zero h = refl
-no-leap-day leap (suc zero) h = ap (λ n. 0 + n) (other-month leap 1 (λ e. omega arith))
-no-leap-day leap (suc (suc m)) h = absurd (omega arith)
-
-pub leap-day : (m : ℕ) → 2 ≤ m → daysTo true m ≡ daysTo false m + 1
-unfolding daysTo monthLength
-leap-day zero h = absurd (omega arith)
-leap-day (suc zero) h = absurd (omega arith)
-leap-day (suc (suc zero)) h = refl
-leap-day (suc (suc (suc m))) h = omega (arith, leap-day (suc (suc m)) (omega arith), other-month true (suc (suc (suc m))) (λ e. omega arith))

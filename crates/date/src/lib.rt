@@ -6,7 +6,8 @@ ghost use Rattle.date.specs.Digits.{readDigits, fieldDigits};
 ghost use Rattle.date.specs.Calendar.{isLeap, daysTo, nameDay};
 ghost use Rattle.date.specs.Date.{datedOf};
 
-// R141, a digit field: its first position, counted from 1, how many digits it has, and its least and its greatest value.
+// R141, a digit field: its first position, counted from 1, how many digits it has, and its least and its greatest
+// value.
 pub struct DigitField {
     pub first: usize,
     pub length: usize,
@@ -20,7 +21,8 @@ pub enum Digits {
     Fails,
 }
 
-// R143: the number that digits make. It fails if a byte is no digit, or if the number is less than `least` or greater than `greatest`.
+// R143: the number that digits make. It fails if a byte is no digit, or if the number is less than `least` or greater
+// than `greatest`.
 fn number(digits: &[u8], least: usize, greatest: usize) -> Digits
     ensures { λ r. ⌜ r ≡ readDigits least greatest (now (digits .entry)) ⌝ }
 {
@@ -53,7 +55,8 @@ fn number(digits: &[u8], least: usize, greatest: usize) -> Digits
 }
 
 impl DigitField {
-    // R142: what the field reads as in a text. Positions beyond the text's end are no digits, and there is no position 0.
+    // R142: what the field reads as in a text. Positions beyond the text's end are no digits, and there is no position
+    // 0.
     pub fn read(self, text: &[u8]) -> Digits
         ensures { λ r. ⌜ r ≡ fieldDigits self (now (text .entry)) ⌝ }
     {

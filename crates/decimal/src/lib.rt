@@ -124,7 +124,8 @@ fn numbers_end(size: usize, at: usize, numbers: &[u64]) -> Put
     Put::Next(a)
 }
 
-// Where a row ends that begins with these bytes and is put into so many bytes from a place on: what `put_row` answers, with nothing put.
+// Where a row ends that begins with these bytes and is put into so many bytes from a place on: what `put_row` answers,
+// with nothing put.
 pub fn row_end(size: usize, at: usize, first: &[u8], numbers: &[u64]) -> Put
     ensures { λ r. ⌜ r ≡ endIn at (length (now (first .entry) ++ rowText (now (numbers .entry)))) size ⌝ }
 {

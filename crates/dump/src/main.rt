@@ -1,5 +1,5 @@
-// A test program: prints every answer about every placed record of standard input, in the format of tests/vectors/README.md. It asks the
-// questions and makes rows of what they answer; the answers are not its own.
+// A test program: prints every answer about every placed record of standard input, in the format of
+// tests/vectors/README.md. It asks the questions and makes rows of what they answer; the answers are not its own.
 use decimal::Put;
 use group::Characteristic;
 use libc::STDIN_FILENO;
@@ -56,7 +56,8 @@ fn put_cells(page: &mut [u8], at: usize, cells: &[i64]) -> usize {
     behind
 }
 
-// The first number beside a reply to a question about a group: cells, group, line or position. The second is the element.
+// The first number beside a reply to a question about a group: cells, group, line or position. The second is the
+// element.
 fn beside(r: Reply) -> usize {
     let number = r.number;
     match number {

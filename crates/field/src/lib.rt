@@ -32,8 +32,8 @@ pub enum Entry {
     Misformed,
 }
 
-// What a form's field holds: a whole number or thousandths, from minus `low` to `high`; a number with an exponent; a letter, or a line of
-// letters.
+// What a form's field holds: a whole number or thousandths, from minus `low` to `high`; a number with an exponent; a
+// letter, or a line of letters.
 enum Kind {
     Whole {
         width: usize,

@@ -22,8 +22,8 @@ module _ (f : GroupForm) where
   single ks g t h = is-form f g (Arm.single (is f) ks g t h)
 
   module _ (arms : List (List ℕ)) where
-    pub between : (lo n g : ℕ) → T (every (λ k. is f k || anyHas arms k) (upFrom lo n)) → lo ≤ g → g < lo + n → None arms g → f ≡ formOf g
-    between lo n g t a b o = is-form f g (Arm.between (is f) arms lo n g t a b o)
+    pub between : (lo n : ℕ) {g : ℕ} → T (every (λ k. is f k || anyHas arms k) (upFrom lo n)) → lo ≤ g → g < lo + n → None arms g → f ≡ formOf g
+    between lo n {g} t a b o = is-form f g (Arm.between (is f) arms lo n t a b o)
 
 -- beyond the last group
 pub beyond : (g : ℕ) → 60 ≤ g → (g ≡ 60 → ⊥) → NoGroup ≡ formOf g

@@ -143,7 +143,8 @@ pub fn form_in(group: usize) -> Form
     form
 }
 
-// R41: a form's row. A constant table is built anew where a variable indexes it, but not at a constant index: so this costs nothing in a loop.
+// R41: a form's row. A constant table is built anew where a variable indexes it, but not at a constant index: so this
+// costs nothing in a loop.
 pub fn row_of(form: Form) -> Row
     ensures { λ r. ⌜ r ≡ rowOf form ⌝ }
 {

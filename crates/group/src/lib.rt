@@ -1,5 +1,5 @@
-// A group of the record at a place of a text: read into a table (R260), its lines as a part of the text (R280), a characteristic (R290).
-// Any text, place, number and table may be given (R241).
+// A group of the record at a place of a text: read into a table (R260), its lines as a part of the text (R280), a
+// characteristic (R290). Any text, place, number and table may be given (R241).
 use reply::Answer;
 use reply::Checked;
 use reply::Refusal;
@@ -57,8 +57,8 @@ pub struct Lines {
     pub to: usize,
 }
 
-// R280: asks where the lines of a group of the record at a place stand, their line ends among them. With count 0 both places are where they
-// would begin (R282), and at a refusal both are the text's start (R283).
+// R280: asks where the lines of a group of the record at a place stand, their line ends among them. With count 0 both
+// places are where they would begin (R282), and at a refusal both are the text's start (R283).
 pub fn lines_at(text: &[u8], at: usize, group: usize) -> Lines
     ensures found { λ r. ⌜ r .found ≡ foundAt (now (text .entry)) at group ⌝ }
     ensures from { λ r. ⌜ r .from ≡ partStart (now (text .entry)) at group ⌝ }
@@ -93,8 +93,8 @@ pub fn lines_part<'a>(text: &'a [u8], at: usize, group: usize) -> &'a [u8]
     &text[from..to]
 }
 
-// R260: reads a group of the record at a place of a text into a table: first as `held_at` says, then by the record's counts and the group's
-// own lines (R269). A refusal alters nothing (R267).
+// R260: reads a group of the record at a place of a text into a table: first as `held_at` says, then by the record's
+// counts and the group's own lines (R269). A refusal alters nothing (R267).
 pub fn read_group(text: &[u8], at: usize, group: usize, table: &mut [i64]) -> Answer
     ensures answer { λ r. ⌜ r ≡ readingOf (readAt (now (text .entry)) at group (length (now (table .entry)))) ⌝ }
     ensures table { λ _. ⌜ now (table .exit) ≡

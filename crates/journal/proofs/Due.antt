@@ -20,20 +20,21 @@ use Rattle.reply.specs.declared.Answer.the-variants.{Done, Refused}
 use Rattle.count.specs.Check.{checkedOf}
 use Rattle.count.specs.Due as Counts
 use Rattle.count.proofs.Due as Counted
+use Rattle.entry.specs.declared.Entry.{Entry}
 use Rattle.entry.specs.declared.Entry.the-variants.{Set}
 use Rattle.entry.specs.Field.{entryText, entrySize, fieldAt}
 use Rattle.entry.proofs.Codec.{length-text}
-use Rattle.journal.specs.Layout.{startsOf, getAt, putAt}
+use Rattle.journal.specs.Layout.{startsOf, getAt}
 use Rattle.journal.specs.Model.{Call, Sets, Opens, Releases, Undoes, accepts, refusalOf, bytesFor, numberFor, decided}
 use Rattle.journal.specs.Walks.{Walked}
 use Rattle.journal.specs.Calls.{andThen, whole, entryFor, cellsFor, walkIn, standingOf, answerOf}
-use Rattle.journal.specs.Plays.{Run, playIn, replayOf, replayedCells, replayedOpen}
-use Rattle.journal.specs.Order.{Accepted, RightEntry, Goes}
+use Rattle.journal.specs.Plays.{playedBy, Run, playIn, replayOf, replayedCells, replayedOpen}
+use Rattle.journal.specs.Order.{Accepted, RightEntry, cellsBehind, Goes}
 use Rattle.journal.specs.Runs.{Kept, kept, answerTo, leftBy}
 use Rattle.journal.specs.Due.{AllUsed, Faulty, AllInOrder, Standing, RefusedFor, wrong-counts, bad-entry, unaccepted, no-room, Due}
-use Rattle.journal.specs.Due.{fieldFor, cellsDue, CallLeaves, LeftDue}
+use Rattle.journal.specs.Due.{fieldFor, CallLeaves, LeftDue}
 use Rattle.journal.specs.Due.{AllReplayed, ReplayRefusedFor, replay-counts, replay-entry, ReplayDue, ReplayLeftDue}
-use Rattle.journal.proofs.Order.{spot-at, accepted-yes, yes-accepted, no-accepted, past, Stops, goes-one, walk-ends, play-ends}
+use Rattle.journal.proofs.Order.{spot-at, accepted-yes, yes-accepted, no-accepted, played-behind, past, Stops, goes-one, walk-ends, order-before, play-ends}
 
 -- ---- the counts, and where the fields stop to be in order
 
@@ -84,8 +85,11 @@ module _ {S : Type 0} {right : S → Type 0} {next : S → S} {first end : S} (s
   used-is : (x : S) → (place x ≡ used → right x → ⊥) → AllUsed S place (Goes S right next first) right used x → x ≡ end
   used-is x past h = goes-one (h .fields) (past (h .ends)) (st .goes) (st .stuck)
 
-  fault-is : (p : ℕ) → Faulty S place (Goes S right next first) right used p → place end ≡ p
-  fault-is p h = ap place (goes-one (st .goes) (st .stuck) (h .fields) (h .fault)) ∙ h .stops
+  fault-given : (ns : List ℕ) (cells p : ℕ) → Counts.HasCells ns cells → Faulty S place (Goes S right next first) right used p
+      → checks ns cells used (place end) ≡ C.Refused (BadEntry p)
+  fault-given ns cells p c h =
+      let q = ap place (goes-one (st .goes) (st .stuck) (h .fields) (h .fault)) ∙ h .stops in
+      checks-entry ns cells used (place end) c (λ e. h .other (sym q ∙ e)) ∙ ap (λ x. C.Refused (BadEntry x)) q
 
   all-used : place end ≡ used → AllUsed S place (Goes S right next first) right used end
   all-used q = record { fields = st .goes; ends = q }
@@ -121,9 +125,7 @@ module _ (ns j : List ℕ) (used cells : ℕ) (c : Call) where
 
   refusal-given : (r : Refusal) → RefusedFor ns j used cells c r → answerOf ns j used cells c ≡ Refused r
   refusal-given r (wrong-counts q h) = to-refused q (checks-counts ns cells used stop q h)
-  refusal-given r (bad-entry p h f) =
-      let q = fault-is (walk-ends ns (take used j)) (λ x. x .place) used p f in
-      to-refused (BadEntry p) (checks-entry ns cells used stop h (λ e. f .other (sym q ∙ e)) ∙ ap (λ x. C.Refused (BadEntry x)) q)
+  refusal-given r (bad-entry p h f) = to-refused (BadEntry p) (fault-given (walk-ends ns (take used j)) (λ x. x .place) used ns cells p h f)
   refusal-given r (unaccepted w h n) =
       let m = subst (λ x. Accepted ns (length (x .marks)) c → ⊥) (order-is ns j used w (h .fields)) n in
       to-decided (h .table) (stop-is w h) ∙ rw (no-accepted ns opened c m)
@@ -185,11 +187,18 @@ module _ (ns : List ℕ) (d : ℕ) (t : List ℤ) where
   field-size (Releases k) = refl
   field-size (Undoes k) = refl
 
-  cells-due : (c : Call) (s : List ℕ) (w : Walked) → Accepted ns d c → cellsFor (startsOf ns) c s w t ≡ cellsDue ns s w c t
-  cells-due (Sets g i v) s w h = ap (λ p. putAt p v t) (spot-at ns g i h)
-  cells-due Opens s w h = refl
-  cells-due (Releases k) s w h = refl
-  cells-due (Undoes k) s w h = refl
+  field-right : (c : Call) → Accepted ns d c → RightEntry ns d (fieldFor ns d t c)
+  field-right (Sets g i v) h = h
+  field-right Opens h = (h, refl)
+  field-right (Releases k) h = h
+  field-right (Undoes k) h = h
+
+-- what a call leaves is what a replay of its field does
+cells-played : (ns : List ℕ) (d : ℕ) (c : Call) (s : List ℕ) (w : Walked) (t : List ℤ) → cellsFor (startsOf ns) c s w t ≡ playedBy (startsOf ns) (fieldFor ns d t c) s (w .count) (w .marks) t
+cells-played ns d (Sets g i v) s w t = refl
+cells-played ns d Opens s w t = refl
+cells-played ns d (Releases k) s w t = refl
+cells-played ns d (Undoes k) s w t = refl
 
 module _ (ns : List ℕ) (c : Call) (k : Kept) where
   abbrev w : Walked
@@ -198,28 +207,38 @@ module _ (ns : List ℕ) (c : Call) (k : Kept) where
   abbrev s : List ℕ
   s = take (k .used) (k .journal)
 
-  module _ (accepted : Accepted ns (length (w .marks)) c) where
-    leaves : (n : ℕ) → AllInOrder ns (k .journal) (k .used) w → CallLeaves ns c k (leftBy ns c k (Done n))
-    leaves n h =
-        let e = fieldFor ns (length (w .marks)) (k .cells) c in
+  module _ (accepted : Accepted ns (length (w .marks)) c) (fields : AllInOrder ns (k .journal) (k .used) w) where
+    abbrev e : Entry
+    e = fieldFor ns (length (w .marks)) (k .cells) c
+
+    field-is : entryFor (startsOf ns) c (length (w .marks)) (k .cells) ≡ e
+    field-is = entry-field ns (length (w .marks)) (k .cells) c accepted
+
+    bytes-is : k .used + length (entryText e) ≡ k .used + bytesFor c
+    bytes-is = ap (λ m. k .used + m) (length-text e ∙ field-size ns (length (w .marks)) (k .cells) c)
+
+    cells-is : cellsFor (startsOf ns) c s w (k .cells) ≡ cellsBehind ns s (w .count) (w .marks) e (k .cells)
+    cells-is =
+        cells-played ns (length (w .marks)) c s w (k .cells)
+        ∙ played-behind ns s e (k .cells) (order-before ns s w (fields .fields)) (field-right ns (length (w .marks)) (k .cells) c accepted)
+
+    leaves : (n : ℕ) → CallLeaves ns c k (leftBy ns c k (Done n))
+    leaves n =
         record {
           last = w;
-          fields = h;
-          size = refl;
-          adds = record {
-            journal = ap (λ x. over (k .used) (entryText x) (k .journal)) (entry-field ns (length (w .marks)) (k .cells) c accepted);
-            used = ap (λ m. k .used + m) (sym (length-text e ∙ field-size ns (length (w .marks)) (k .cells) c));
-          };
-          cells = cells-due ns (length (w .marks)) (k .cells) c s w accepted;
+          fields = fields;
+          adds = record { journal = ap (λ x. over (k .used) (entryText x) (k .journal)) field-is; used = sym bytes-is };
+          cells = cells-is;
         }
 
     left-only : (n : ℕ) (k′ : Kept) → CallLeaves ns c k k′ → leftBy ns c k (Done n) ≡ k′
     left-only n k′ h =
-        let q = order-is ns (k .journal) (k .used) (h .last) (h .fields) in
-        let cells = cells-due ns (length (w .marks)) (k .cells) c s w accepted ∙ ap (λ x. cellsDue ns s x c (k .cells)) (sym q) ∙ sym (h .cells) in
-        let text = ap (λ x. over (k .used) (entryText x) (k .journal))
-        (entry-field ns (length (w .marks)) (k .cells) c accepted ∙ ap (λ x. fieldFor ns (length (x .marks)) (k .cells) c) (sym q)) ∙ sym (h .adds .journal) in
-        λ i. kept (cells i) (text i) (sym (h .size) i)
+        let q = sym (order-is ns (k .journal) (k .used) (h .last) (h .fields)) in
+        let field : Walked → Entry = λ x. fieldFor ns (length (x .marks)) (k .cells) c in
+        let cells = cells-is ∙ ap (λ x. cellsBehind ns s (x .count) (x .marks) (field x) (k .cells)) q ∙ sym (h .cells) in
+        let text = ap (λ x. over (k .used) (entryText x) (k .journal)) (field-is ∙ ap field q) ∙ sym (h .adds .journal) in
+        let used = sym bytes-is ∙ ap (λ x. k .used + length (entryText (field x))) q ∙ sym (h .adds .used) in
+        λ i. kept (cells i) (text i) (used i)
 
   -- what is left by the answer that is given is what is due, and nothing else is
   pub left-due : (a : Answer) (k′ : Kept) → answerTo ns c k ≡ a → leftBy ns c k a ≡ k′ ↔ LeftDue ns c k a k′
@@ -229,7 +248,7 @@ module _ (ns : List ℕ) (c : Call) (k : Kept) where
       let q = order-is ns (k .journal) (k .used) (d .last) (d .standing .fields) in
       let accepted = subst (λ x. Accepted ns (length (x .marks)) c) q (d .accepted) in
       let fields = subst (AllInOrder ns (k .journal) (k .used)) q (d .standing .fields) in
-      (λ p. subst (CallLeaves ns c k) p (leaves accepted n fields), left-only accepted n k′)
+      (λ p. subst (CallLeaves ns c k) p (leaves accepted fields n), left-only accepted fields n k′)
 
 -- ---- a replay
 
@@ -242,9 +261,7 @@ module _ (ns j : List ℕ) (used : ℕ) (t : List ℤ) where
 
   replay-refusal : (r : Refusal) → ReplayRefusedFor ns j used t r → checks ns (length t) used (run .place) ≡ C.Refused r
   replay-refusal r (replay-counts q h) = checks-counts ns (length t) used (run .place) q h
-  replay-refusal r (replay-entry p h f) =
-      let q = fault-is (play-ends ns (take used j) t) (λ x. x .place) used p f in
-      checks-entry ns (length t) used (run .place) h (λ e. f .other (sym q ∙ e)) ∙ ap (λ x. C.Refused (BadEntry x)) q
+  replay-refusal r (replay-entry p h f) = fault-given (play-ends ns (take used j) t) (λ x. x .place) used ns (length t) p h f
 
   replay-given : (a : Checked) → ReplayDue ns j used t a → checks ns (length t) used (run .place) ≡ a
   replay-given C.Right h =

@@ -18,6 +18,8 @@ use mir.Val.{SFits}
 use Rattle.base.specs.Part.{over}
 use Rattle.base.proofs.Part.{over-length}
 use Rattle.count.specs.Check.{checkedOf}
+use Rattle.count.specs.Due.{HasCells}
+use Rattle.count.proofs.Due as Counted
 use Rattle.reply.specs.declared.Refusal.{Refusal}
 use Rattle.reply.specs.declared.Refusal.the-variants.{NoRoom}
 use Rattle.reply.specs.declared.Checked.{Checked}
@@ -39,7 +41,7 @@ use Rattle.journal.specs.Walks.{okEntry, walked, walkOf}
 use Rattle.journal.specs.Calls.{entryFor, cellsFor, walkIn, standingOf}
 use Rattle.journal.specs.Plays.{matches, ran, playOf, playIn, replayOf}
 use Rattle.journal.specs.Runs.{Fit, FitCall, FitCalls, Kept, kept, answerTo, leftBy, answersTo, leftTo, openIn, entryTo, entriesTo}
-use Rattle.journal.specs.Runs.{JournalIsStack, ReplaysTo, AddsField, ReadsAs, Alike, behindReplay}
+use Rattle.journal.specs.Runs.{JournalIsStack, ReplaysTo, AddsField, ReadsAs, behindReplay}
 use Rattle.journal.proofs.Answers.{answer-right, answer-refused}
 use Rattle.journal.proofs.Held.{none, holds-length, holds-mark, HeldBy, withEntry, cellsOn, marks-entry, held-cells, held-call}
 use Rattle.journal.proofs.Text.{Fine, fine-none, fine-more, fine-last, text-length, walk-journal, back-journal, read-written, place-written, text-more, used-more}
@@ -322,17 +324,18 @@ module _ (ns : List ℕ) (t₀ : List ℤ) where
   pub open-is : (k : Kept) (ts : List (List ℤ)) → Stands k ts → openIn ns k ≡ length ts
   open-is k ts s = ap (λ w. length (w .marks)) (walk-is Opens k ts s) ∙ holds-length (s .held)
 
-  -- a replay over t₀
-  play-is : (k : Kept) (ts : List (List ℤ)) (s : Stands k ts) → playIn ns (k .journal) (k .used) t₀ ≡ ran (k .used) (length (s .entries)) (marksOf (s .entries)) (k .cells)
-  play-is k ts s =
+  -- a replay over t₀ of the bytes used, in whatever buffer they stand
+  play-is : (k : Kept) (ts : List (List ℤ)) (j : List ℕ) (s : Stands k ts) → take (k .used) j ≡ take (k .used) (k .journal)
+      → playIn ns j (k .used) t₀ ≡ ran (k .used) (length (s .entries)) (marksOf (s .entries)) (k .cells)
+  play-is k ts j s q =
       let used = used-is Opens k ts s in
-      ap (λ x. playOf ps x t₀) (s .bytes) ∙ play-journal (journalText (s .entries)) (s .entries) (s .leads) refl (text-length (s .fine))
+      ap (λ x. playOf ps x t₀) (q ∙ s .bytes) ∙ play-journal (journalText (s .entries)) (s .entries) (s .leads) refl (text-length (s .fine))
       ∙ ap (λ p. ran p (length (s .entries)) (marksOf (s .entries)) (k .cells)) used
 
-  pub replay-stands : (k : Kept) (ts : List (List ℤ)) → Stands k ts → checkedOf ns (length t₀) ≡ C.Right → ReplaysTo ns t₀ k
+  pub replay-stands : (k : Kept) (ts : List (List ℤ)) (j : List ℕ) → Stands k ts → take (k .used) j ≡ take (k .used) (k .journal) → checkedOf ns (length t₀) ≡ C.Right → ReplaysTo ns t₀ j k
   unfolding replayOf
-  replay-stands k ts s r =
-      let p = play-is k ts s in
+  replay-stands k ts j s q r =
+      let p = play-is k ts j s q in
       record {
         answer = rw (r, p, eq-eqb (k .used) (k .used) refl) refl;
         cells = ap (λ x. x .cells) p;
@@ -349,16 +352,6 @@ module _ (ns : List ℕ) where
   pub answers-append : (bs cs : List Call) (k : Kept) → answersTo ns (bs ++ cs) k ≡ answersTo ns bs k ++ answersTo ns cs (leftTo ns bs k)
   answers-append [] cs k = refl
   answers-append (b ∷ bs) cs k = ap (λ l. answerTo ns b k ∷ l) (answers-append bs cs (leftBy ns b k (answerTo ns b k)))
-
-  pub alike : {k k′ : Kept} (cs : List Call) → k ≡ k′ → Alike ns k k′ cs
-  alike cs q =
-      record {
-        answers = ap (answersTo ns cs) q;
-        cells = ap (λ x. leftTo ns cs x .cells) q;
-        journal = ap (λ x. leftTo ns cs x .journal) q;
-        used = ap (λ x. leftTo ns cs x .used) q;
-        opened = ap (λ x. openIn ns (leftTo ns cs x)) q;
-      }
 
   -- R518, R520: a call adds its field, or nothing
   pub adds-field : (c : Call) (k : Kept) → AddsField ns c k
@@ -382,10 +375,11 @@ module _ (ns : List ℕ) (t : List ℤ) (j : List ℕ) (cs : List Call) (ft : Fi
       }
 
   -- R543: a journal that calls made, replayed over the table that they began with
-  pub replay-same : checkedOf ns (length t) ≡ C.Right → ReplaysTo ns t (leftTo ns cs (kept t j 0))
-  replay-same r =
+  pub replay-same : HasCells ns (length t) → ReplaysTo ns t (leftTo ns cs (kept t j 0) .journal) (leftTo ns cs (kept t j 0))
+  replay-same h =
       let a = after-calls ns t cs (kept t j 0) [] fc (fresh ns t j ft) in
-      replay-stands ns t (leftTo ns cs (kept t j 0)) (a .saved) (a .left .stands) r
+      let k = leftTo ns cs (kept t j 0) in
+      replay-stands ns t k (a .saved) (k .journal) (a .left .stands) refl (Counted.first-due ns (length t) C.Right .1 h)
 
   -- R520: the bytes used are the fields of the calls that were accepted, and read as these
   pub reads-as : ReadsAs (leftTo ns cs (kept t j 0)) (entriesTo ns cs (kept t j 0))
@@ -404,9 +398,8 @@ module _ (ns : List ℕ) (t : List ℤ) (j : List ℕ) (cs : List Call) (ft : Fi
         ends = subst (λ l. placeAt (take (k .used) (k .journal)) 0 (length l) ≡ k .used) e (place-written (s .entries) [] (take (k .used) (k .journal)) (s .fine) b ∙ u);
       }
 
-  -- R543: whatever calls come behind a replay, they are answered, and leave, what they would have without it
-  pub goes-on : checkedOf ns (length t) ≡ C.Right → (further : List Call)
-      → Alike ns (behindReplay ns t (leftTo ns cs (kept t j 0))) (leftTo ns cs (kept t j 0)) further
-  goes-on r further =
+  -- R543: a replay leaves all as it was kept, so that whatever calls come are answered, and leave, what they would have without it
+  pub goes-on : HasCells ns (length t) → behindReplay ns t (leftTo ns cs (kept t j 0)) ≡ leftTo ns cs (kept t j 0)
+  goes-on h =
       let k = leftTo ns cs (kept t j 0) in
-      alike ns further (ap (λ x. kept x (k .journal) (k .used)) (replay-same r .cells))
+      ap (λ x. kept x (k .journal) (k .used)) (replay-same h .cells)

@@ -3,14 +3,18 @@
 -- Assumes nothing.
 use mathlib.Core.Path.{_≡_, refl, sym, _∙_, ap, subst}
 use mathlib.Core.Bool.{Bool, true, false, cond, _&&_, true≢false}
-use mathlib.Core.List.{List, []}
+use mathlib.Core.List.{List, [], _∷_, _++_, map}
 use mathlib.Core.Logic.{_⊎_, inl, inr}
 use Prim.Native.Nat.{ℕ, zero, suc, _+_, _-_, _<_, _≤_}
+use native.Mathlib.Nat.{zero-add}
 use native.Mathlib.Omega.{arith}
 use borrow.Author.Tests.{eq-eqb, eqb-true, le-leb, leb-true, lt-ltb, ltb-true, ltb-false}
 use lib.Dec.{eqb, leb, ltb}
 use lib.IntN.{ℤ, pos}
-use lib.ListN.{length, getD, drop-of-length-le, List·getD-eq-default}
+use lib.ListN.{length, getD, drop, length-map, drop-of-length-le, List·getD-eq-default}
+use lib.Seq.{ext-getD}
+use Rattle.base.specs.Every.{upFrom}
+use Rattle.base.proofs.UpFrom.{length-up, getD-map-up}
 use Rattle.base.proofs.Choice.{and-first, and-second, cond-elim}
 use Rattle.base.proofs.Order.{le-or-lt}
 use Rattle.count.specs.Tally.{cellsIn}
@@ -19,16 +23,19 @@ use Rattle.entry.specs.declared.Entry.{Entry}
 use Rattle.entry.specs.declared.Entry.the-variants.{Set, Open, Release, Undo, Misformed}
 use Rattle.entry.specs.Field.{entryIn, fieldAt}
 use Rattle.journal.specs.declared.Spot.the-variants.{At, Nowhere}
-use Rattle.journal.specs.Layout.{startsOf, spotIn, spotOf, exists}
+use Rattle.journal.specs.Layout.{startsOf, spotIn, spotOf, exists, putAt}
 use Rattle.journal.specs.Model.{Call, Sets, Opens, Releases, Undoes, accepts}
-use Rattle.journal.specs.Entries.{markStep, nextAt}
+use Rattle.journal.specs.Entries.{markStep, markOf, restore, nextAt, entriesAt, placeAt}
 use Rattle.journal.specs.Walks.{okEntry, Walked, walked, walkFrom, walkOf}
 use Rattle.journal.specs.Plays.{matches, playedBy, Run, ran, playFrom, playOf}
-use Rattle.journal.specs.Order.{IsCell, cellAt, Accepted, RightEntry, OldIs, Goes, here, on, RightAt, behind, InOrder, PlaysAt, playedTo, InReplay}
+use Rattle.journal.specs.Order.{IsCell, cellAt, Accepted, RightEntry, OldIs, firstOld, undone, cellsBehind}
+use Rattle.journal.specs.Order.{Goes, here, on, RightAt, behind, InOrder, PlaysAt, playedTo, InReplay}
 use Rattle.journal.proofs.Spots.{starts-length, starts-at}
 use Rattle.journal.proofs.Walking.{no-way, ok-open, ok-size}
 use Rattle.journal.proofs.Playing.{same-same, same-cell}
-use Rattle.journal.proofs.Replays.{no-field}
+use Rattle.journal.proofs.Places.{entries-from, entries-one, place-next}
+use Rattle.journal.proofs.Restore.{firstBack, length-restore, restore-cell}
+use Rattle.journal.proofs.Replays.{no-field, AllBelow, step-below, none-below}
 
 -- ---- a cell
 
@@ -127,6 +134,88 @@ module _ (ns : List ℕ) (d : ℕ) where
   matches-old (Undo k) t r m = tt
   matches-old Misformed t r m = tt
 
+-- ---- the cells behind an entry
+
+module _ (ns : List ℕ) where
+  -- a set is of a cell that there is
+  abbrev SetsCell : Entry → Type 0
+  SetsCell (Set g c o v) = IsCell ns g c
+  SetsCell (Open k) = Unit {0}
+  SetsCell (Release k) = Unit {0}
+  SetsCell (Undo k) = Unit {0}
+  SetsCell Misformed = Unit {0}
+
+  abbrev SetCells : List Entry → Type 0
+  SetCells [] = Unit {0}
+  SetCells (e ∷ es) = SetsCell e × SetCells es
+
+  right-sets : (d : ℕ) (e : Entry) → RightEntry ns d e → SetsCell e
+  right-sets d (Set g c o v) h = h
+  right-sets d (Open k) h = tt
+  right-sets d (Release k) h = tt
+  right-sets d (Undo k) h = tt
+  right-sets d Misformed h = tt
+
+  sets-more : (es : List Entry) (e : Entry) → SetCells es → SetsCell e → SetCells (es ++ (e ∷ []))
+  sets-more [] e h k = (k, tt)
+  sets-more (x ∷ es) e h k = (h .0, sets-more es e (h .1) k)
+
+  sets-drop : (m : ℕ) (es : List Entry) → SetCells es → SetCells (drop m es)
+  sets-drop zero es h = h
+  sets-drop (suc m) [] h = tt
+  sets-drop (suc m) (e ∷ es) h = sets-drop m es (h .1)
+
+  first-old : (es : List Entry) (i : ℕ) (z : ℤ) → SetCells es → firstBack (startsOf ns) es i z ≡ firstOld ns es i z
+  unfolding firstBack firstOld
+  first-old [] i z h = refl
+  first-old (Set g c o v ∷ es) i z h = rw (spot-at ns g c (h .0)) (ap (cond (eqb (cellAt ns g c) i) o) (first-old es i z (h .1)))
+  first-old (Open k ∷ es) i z h = first-old es i z (h .1)
+  first-old (Release k ∷ es) i z h = first-old es i z (h .1)
+  first-old (Undo k ∷ es) i z h = first-old es i z (h .1)
+  first-old (Misformed ∷ es) i z h = first-old es i z (h .1)
+
+  -- R515: giving old values back, the last first, leaves in each cell that of the first set of it
+  pub restore-undone : (es : List Entry) (t : List ℤ) → SetCells es → restore (startsOf ns) es t ≡ undone ns es t
+  unfolding undone
+  restore-undone es t h =
+      let f : ℕ → ℤ = λ i. firstOld ns es i (getD t i (pos 0)) in
+      let a : length (restore (startsOf ns) es t) ≡ length t = length-restore (startsOf ns) es t in
+      let b : length (map f (upFrom 0 (length t))) ≡ length t = length-map (upFrom 0 (length t)) f ∙ length-up 0 (length t) in
+      ext-getD (pos 0) (restore (startsOf ns) es t) (map f (upFrom 0 (length t))) (a ∙ sym b)
+      (λ i l. restore-cell (startsOf ns) es t i (omega arith) ∙ first-old es i (getD t i (pos 0)) h
+      ∙ sym (getD-map-up f 0 (length t) i (pos 0) (omega arith) ∙ ap f (zero-add i)))
+
+-- the fields before a place: how many, that their sets are of cells, and that no mark is past them
+pub record Before (ns s : List ℕ) (p n : ℕ) (ms : List ℕ) : Type 0 where
+  pub ends : placeAt s 0 n ≡ p
+  pub sets : SetCells ns (entriesAt s 0 n)
+  pub below : AllBelow ms n
+
+module _ (ns s : List ℕ) where
+  pub before-none : Before ns s 0 0 []
+  unfolding placeAt entriesAt
+  before-none = record { ends = refl; sets = tt; below = none-below }
+
+  pub before-more : (p n : ℕ) (ms : List ℕ) → Before ns s p n ms → RightEntry ns (length ms) (fieldAt s p) → Before ns s (nextAt s p) (n + 1) (markStep (fieldAt s p) n ms)
+  before-more p n ms b r =
+      record {
+        ends = place-next s 0 n ∙ ap (nextAt s) (b .ends);
+        sets = subst (SetCells ns) (sym (entries-one s n ∙ ap (λ q. entriesAt s 0 n ++ (fieldAt s q ∷ [])) (b .ends)))
+            (sets-more ns (entriesAt s 0 n) (fieldAt s p) (b .sets) (right-sets ns (length ms) (fieldAt s p) r));
+        below = step-below (fieldAt s p) n ms (b .below);
+      }
+
+  -- what a replay computes is what is said
+  pub played-behind : {p n : ℕ} {ms : List ℕ} (e : Entry) (t : List ℤ) → Before ns s p n ms → RightEntry ns (length ms) e → playedBy (startsOf ns) e s n ms t ≡ cellsBehind ns s n ms e t
+  played-behind (Set g c o v) t b r = ap (λ q. putAt q v t) (spot-at ns g c r)
+  played-behind (Open k) t b r = refl
+  played-behind (Release k) t b r = refl
+  played-behind {n = n} {ms = ms} (Undo k) t b r =
+      let m = markOf ms k in
+      ap (λ l. restore (startsOf ns) l t) (entries-from s m n (b .below (length ms - k)))
+      ∙ restore-undone ns (drop m (entriesAt s 0 n)) t (sets-drop ns m (entriesAt s 0 n) (b .sets))
+  played-behind Misformed t b r = refl
+
 -- ---- steps, up to where none is right
 
 pub record Stops (S : Type 0) (right : S → Type 0) (next : S → S) (x y : S) : Type 0 where
@@ -176,13 +265,21 @@ module _ (ns s : List ℕ) where
   pub walk-only : (w : Walked) → InOrder ns s w → (RightAt ns s w → ⊥) → w ≡ walkOf ps s
   walk-only w g n = goes-one g n (walk-ends .goes) (walk-ends .stuck)
 
+  -- fields in order stand before where they lead
+  goes-before : {x y : Walked} → Goes Walked (RightAt ns s) (behind ns s) x y → Before ns s (x .place) (x .count) (x .marks) → Before ns s (y .place) (y .count) (y .marks)
+  goes-before here b = b
+  goes-before {x} (on r g) b = goes-before g (before-more ns s (x .place) (x .count) (x .marks) b r)
+
+  pub order-before : (w : Walked) → InOrder ns s w → Before ns s (w .place) (w .count) (w .marks)
+  order-before w g = goes-before g (before-none ns s)
+
   abbrev PlayStops : Run → Run → Type 0
   PlayStops = Stops Run (PlaysAt ns s) (playedTo ns s)
 
-  play-stops : (f p n : ℕ) (ms : List ℕ) (t : List ℤ) → length s ≤ p + f → PlayStops (ran p n ms t) (playFrom f ps s p n ms t)
+  play-stops : (f p n : ℕ) (ms : List ℕ) (t : List ℤ) → length s ≤ p + f → Before ns s p n ms → PlayStops (ran p n ms t) (playFrom f ps s p n ms t)
   unfolding playFrom
-  play-stops zero p n ms t h = stops-here (ran p n ms t) (λ r. past p (length ms) (omega arith) (r .0))
-  play-stops (suc f) p n ms t h =
+  play-stops zero p n ms t h b = stops-here (ran p n ms t) (λ r. past p (length ms) (omega arith) (r .0))
+  play-stops (suc f) p n ms t h b =
       let e = fieldAt s p in
       let x = ran p n ms t in
       cond-elim (PlayStops x) (ltb p (length s))
@@ -191,14 +288,16 @@ module _ (ns s : List ℕ) where
       let right = right-entry ns (length ms) e ok in
       cond-elim (PlayStops x) (matches ps e t)
       (λ m. stops-on x (right, matches-old ns (length ms) e t right m)
-      (play-stops f (nextAt s p) (n + 1) (markStep e n ms) (playedBy ps e s n ms t) (omega (arith, ok-size ps (length ms) e ok))))
+      (subst (λ u. PlayStops (ran (nextAt s p) (n + 1) (markStep e n ms) u) (playFrom f ps s (nextAt s p) (n + 1) (markStep e n ms) (playedBy ps e s n ms t)))
+      (played-behind ns s e t b right)
+      (play-stops f (nextAt s p) (n + 1) (markStep e n ms) (playedBy ps e s n ms t) (omega (arith, ok-size ps (length ms) e ok)) (before-more ns s p n ms b right))))
       (λ m. stops-here x (λ r. true≢false (sym (old-matches ns (length ms) e t (r .0) (r .1)) ∙ m))))
       (λ ok. stops-here x (λ r. true≢false (sym (entry-right ns (length ms) e (r .0)) ∙ ok))))
       (λ lo. stops-here x (λ r. past p (length ms) (ltb-false p (length s) lo) (r .0)))
 
   pub play-ends : (t : List ℤ) → PlayStops (ran 0 0 [] t) (playOf ps s t)
   unfolding playOf
-  play-ends t = play-stops (length s) 0 0 [] t (omega arith)
+  play-ends t = play-stops (length s) 0 0 [] t (omega arith) (before-none ns s)
 
   pub play-only : (t : List ℤ) (x : Run) → InReplay ns s t x → (PlaysAt ns s x → ⊥) → x ≡ playOf ps s t
   play-only t x g n = goes-one g n (play-ends t .goes) (play-ends t .stuck)

@@ -23,7 +23,7 @@ use Rattle.entry.specs.declared.Entry.the-variants.{Set, Open, Release, Undo, M
 use Rattle.entry.specs.Bytes.{AllBytes}
 use Rattle.entry.specs.Field.{entryText, entrySize, fieldAt}
 use Rattle.entry.specs.Codec.{Sized, sized-set, Reads}
-use Rattle.entry.proofs.Codec.{field-read, bytes-take, bytes-drop, length-text}
+use Rattle.entry.proofs.Codec.{field-read, bytes-drop, length-text}
 use Rattle.entry.proofs.Reading.{next-within}
 use Rattle.journal.specs.Layout.{startsOf, spotOf, getAt}
 use Rattle.journal.specs.Model.{Call, Sets, Opens, Releases, Undoes, accepts, bytesFor, numberFor, onStack}
@@ -31,7 +31,7 @@ use Rattle.journal.specs.Entries.{markStep, marksFrom, marksOf, markOf, 
 use Rattle.journal.specs.Walks.{okEntry}
 use Rattle.journal.specs.Calls.{entryFor, whole}
 use Rattle.journal.specs.Plays.{matches, playedBy, Run, ran, playFrom, playOf, playIn, replayOf}
-use Rattle.journal.specs.Runs.{Fit, FitCall, FitCalls, MadeBy, Kept, kept, answerTo, leftBy, answersTo, leftTo, behindReplay}
+use Rattle.journal.specs.Runs.{Fit, FitCall, FitCalls, MadeBy, Kept, kept, answerTo, leftBy, leftTo, behindReplay}
 use Rattle.journal.proofs.Spots.{length-put}
 use Rattle.journal.proofs.Restore.{length-restore}
 use Rattle.journal.proofs.Answers.{whole-right, then-right}
@@ -39,7 +39,7 @@ use Rattle.journal.proofs.Walking.{no-way, ok-open}
 use Rattle.journal.proofs.Playing.{same-cell}
 use Rattle.journal.proofs.Held.{withEntry, marks-entry, cellsOn}
 use Rattle.journal.proofs.Replays.{Tells, tells-more, played-on, playedOn}
-use Rattle.journal.proofs.Made.{fresh, Stands, stackOf, entry-size, played-call, answer-is, left-is, stands-done, entries-done, left-append, answers-append}
+use Rattle.journal.proofs.Made.{fresh, Stands, stackOf, entry-size, played-call, answer-is, left-is, stands-done, entries-done}
 
 -- the call of an entry
 abbrev callFor : Entry → Call
@@ -97,16 +97,9 @@ module _ (ns : List ℕ) (t₀ : List ℤ) (j : List ℕ) (used : ℕ) where
 
   -- calls that lead there
   made-by : {k end : Kept} (calls : List Call) → FitCalls calls → leftTo ns calls k ≡ end → MadeBy ns k end
-  made-by {k} calls f q =
-      record {
-        calls = calls;
-        fits = f;
-        left = q;
-        answers = λ cs. answers-append ns calls cs k ∙ ap (λ x. answersTo ns calls k ++ answersTo ns cs x) q;
-        further = λ cs. left-append ns calls cs k ∙ ap (leftTo ns cs) q;
-      }
+  made-by calls f q = record { calls = calls; fits = f; left = q }
 
-  module _ (right : checkedOf ns (length t₀) ≡ C.Right) (bytes : AllBytes j) where
+  module _ (right : checkedOf ns (length t₀) ≡ C.Right) (bytes : AllBytes s) where
     -- the whole is made from here, if a replay from here comes to its end
     abbrev Comes : Kept → Run → Type 0
     Comes k r = r .place ≡ used → MadeBy ns k (kept (r .cells) j used)
@@ -132,7 +125,7 @@ module _ (ns : List ℕ) (t₀ : List ℤ) (j : List ℕ) (used : ℕ) where
         t = k .cells
 
         reads : Reads (drop (k .used) s) e
-        reads = field-read (drop (k .used) s) (bytes-drop (k .used) s (bytes-take used j bytes)) (ok-formed ps d e ok)
+        reads = field-read (drop (k .used) s) (bytes-drop (k .used) s bytes) (ok-formed ps d e ok)
 
         entry-is : entryFor ps c d t ≡ e
         entry-is = call-entry ps d e t ok m
@@ -223,7 +216,7 @@ module _ (ns : List ℕ) (t₀ : List ℤ) (j : List ℕ) (used : ℕ) where
     comes-fresh f = comes (length s) (kept t₀ j 0) [] refl (fresh ns t₀ j f) refl (record { ends = refl; reads = refl })
 
   -- a replay that gives 0: the journal is one that calls made on the table, and the cells are theirs
-  pub reopened : Fit t₀ → AllBytes j → replayOf ns j used t₀ ≡ C.Right → MadeBy ns (kept t₀ j 0) (behindReplay ns t₀ (kept t₀ j used))
+  pub reopened : Fit t₀ → AllBytes s → replayOf ns j used t₀ ≡ C.Right → MadeBy ns (kept t₀ j 0) (behindReplay ns t₀ (kept t₀ j used))
   unfolding replayOf
   reopened f b r =
       let q = then-right (checkedOf ns (length t₀)) (whole (playIn ns j used t₀ .place) used) r in

@@ -56,10 +56,10 @@ module _ {ps : List ℕ} where
 
 -- ---- no mark is past the entries
 
-abbrev AllBelow : List ℕ → ℕ → Type 0
+abbrev pub AllBelow : List ℕ → ℕ → Type 0
 AllBelow ms n = (j : ℕ) → getD ms j 0 ≤ n
 
-step-below : (e : Entry) (i : ℕ) (ms : List ℕ) → AllBelow ms i → AllBelow (markStep e i ms) (i + 1)
+pub step-below : (e : Entry) (i : ℕ) (ms : List ℕ) → AllBelow ms i → AllBelow (markStep e i ms) (i + 1)
 step-below (Set g c o v) i ms h j = omega (arith, h j)
 step-below (Open k) i ms h zero = omega arith
 step-below (Open k) i ms h (suc j) = omega (arith, h j)
@@ -74,14 +74,14 @@ from-below (e ∷ es) i ms h j =
     let z : i + suc (length es) ≡ i + 1 + length es = omega arith in
     rw z (from-below es (i + 1) (markStep e i ms) (step-below e i ms h) j)
 
+pub none-below : AllBelow [] 0
+none-below zero = omega arith
+none-below (suc j) = omega arith
+
 pub marks-below : (es : List Entry) → AllBelow (marksOf es) (length es)
 marks-below es j =
     let z : 0 + length es ≡ length es = omega arith in
-    subst (λ n. getD (marksOf es) j 0 ≤ n) z (from-below es 0 [] (λ j. nil-below j) j)
-  where
-    nil-below : (j : ℕ) → getD [] j 0 ≤ 0
-    nil-below zero = omega arith
-    nil-below (suc j) = omega arith
+    subst (λ n. getD (marksOf es) j 0 ≤ n) z (from-below es 0 [] none-below j)
 
 -- ---- a replay of bytes
 

@@ -48,11 +48,11 @@ module _ (ps : List ℕ) where
 -- ---- cell by cell
 
 -- cell i behind a put, where it held z before
-abbrev putCell : Spot → ℤ → ℕ → ℤ → ℤ
+abbrev pub putCell : Spot → ℤ → ℕ → ℤ → ℤ
 putCell (At k) v i z = cond (eqb k i) v z
 putCell Nowhere v i z = z
 
-abbrev backCell : List ℕ → Entry → ℕ → ℤ → ℤ
+abbrev pub backCell : List ℕ → Entry → ℕ → ℤ → ℤ
 backCell ps (Set g c o n) i z = putCell (spotOf ps g c) o i z
 backCell ps (Open k) i z = z
 backCell ps (Release k) i z = z
@@ -60,9 +60,9 @@ backCell ps (Undo k) i z = z
 backCell ps Misformed i z = z
 
 -- the old value of the first set of cell i among the entries, or z
-unfoldable firstOld : List ℕ → List Entry → ℕ → ℤ → ℤ
-firstOld ps [] i z = z
-firstOld ps (e ∷ es) i z = backCell ps e i (firstOld ps es i z)
+unfoldable pub firstBack : List ℕ → List Entry → ℕ → ℤ → ℤ
+firstBack ps [] i z = z
+firstBack ps (e ∷ es) i z = backCell ps e i (firstBack ps es i z)
 
 set-cell : (b : Bool) (t : List ℤ) (d i : ℕ) (o : ℤ) → eqb d i ≡ b → i < length t → getD (set t d o) i (pos 0) ≡ cond b o (getD t i (pos 0))
 set-cell true t d i o e h = rw (eqb-true d i e) (getD-set-same t i o (pos 0) h)
@@ -89,16 +89,16 @@ module _ (ps : List ℕ) where
   back-cell Misformed t i h = refl
 
   -- each cell comes to the old value of the first set of it
-  restore-cell : (es : List Entry) (t : List ℤ) (i : ℕ) → i < length t → getD (restore ps es t) i (pos 0) ≡ firstOld ps es i (getD t i (pos 0))
-  unfolding restore firstOld
+  pub restore-cell : (es : List Entry) (t : List ℤ) (i : ℕ) → i < length t → getD (restore ps es t) i (pos 0) ≡ firstBack ps es i (getD t i (pos 0))
+  unfolding restore firstBack
   restore-cell [] t i h = refl
   restore-cell (e ∷ es) t i h =
       back-cell e (restore ps es t) i (omega (arith, length-restore ps es t)) ∙ ap (backCell ps e i) (restore-cell es t i h)
 
-  first-again : (es : List Entry) (i : ℕ) (z : ℤ) → firstOld ps es i (firstOld ps es i z) ≡ firstOld ps es i z
-  unfolding firstOld
+  first-again : (es : List Entry) (i : ℕ) (z : ℤ) → firstBack ps es i (firstBack ps es i z) ≡ firstBack ps es i z
+  unfolding firstBack
   first-again [] i z = refl
-  first-again (Set g c o n ∷ es) i z = again (spotOf ps g c) (firstOld ps es i) o i z (first-again es i z)
+  first-again (Set g c o n ∷ es) i z = again (spotOf ps g c) (firstBack ps es i) o i z (first-again es i z)
   first-again (Open k ∷ es) i z = first-again es i z
   first-again (Release k ∷ es) i z = first-again es i z
   first-again (Undo k ∷ es) i z = first-again es i z
@@ -110,7 +110,7 @@ module _ (ps : List ℕ) where
       let l : length (restore ps es t) ≡ length t = length-restore ps es t in
       let k : length (restore ps es (restore ps es t)) ≡ length (restore ps es t) = length-restore ps es (restore ps es t) in
       ext-getD (pos 0) (restore ps es (restore ps es t)) (restore ps es t) k
-      (λ i h. restore-cell es (restore ps es t) i (omega arith) ∙ ap (firstOld ps es i) (restore-cell es t i (omega arith)) ∙ first-again es i (getD t i (pos 0))
+      (λ i h. restore-cell es (restore ps es t) i (omega arith) ∙ ap (firstBack ps es i) (restore-cell es t i (omega arith)) ∙ first-again es i (getD t i (pos 0))
       ∙ sym (restore-cell es t i (omega arith)))
 
   -- a shorter stretch first makes no difference

@@ -11,6 +11,8 @@ use Rattle.base.proofs.Taken.{drop-take}
 use lib.Seq.{take-take, take-at, drop-at, take-append-le, length-take-le}
 use Rattle.base.proofs.Order.{le-or-lt}
 use Rattle.count.specs.Check.{checkedOf}
+use Rattle.count.specs.Due.{HasCells}
+use Rattle.count.proofs.Due as Counted
 use Rattle.reply.specs.declared.Checked.the-variants as C
 use Rattle.reply.specs.declared.Answer.{Answer}
 use Rattle.reply.specs.declared.Answer.the-variants.{Done, Refused}
@@ -22,12 +24,16 @@ use Rattle.journal.specs.Model.{Call, Opens}
 use Rattle.journal.specs.Entries.{journalText}
 use Rattle.journal.specs.Calls.{whole}
 use Rattle.journal.specs.Plays.{replayOf}
-use Rattle.journal.specs.Runs.{Fit, FitCalls, Kept, kept, answerTo, leftBy, leftTo, entryTo, Adds, Torn}
+use Rattle.journal.specs.Runs.{Fit, FitCalls, Kept, kept, answerTo, leftBy, leftTo, entryTo, Adds, FirstBytes, Torn}
 use Rattle.journal.proofs.Made.{Stands, used-is, next, fresh, replay-stands, adds-field}
 use Rattle.journal.proofs.Text.{text-length}
 use Rattle.journal.proofs.Replays.{play-cut, no-field}
 
 -- ---- the first bytes of it
+
+-- what begins alike begins alike in fewer bytes
+shorter : (m n : ℕ) (a b : List ℕ) → m ≤ n → take n a ≡ take n b → take m a ≡ take m b
+shorter m n a b l q = sym (take-take m n a l) ∙ ap (take m) q ∙ take-take m n b l
 
 module _ (ns : List ℕ) (t₀ : List ℤ) (right : checkedOf ns (length t₀) ≡ C.Right) where
   -- bytes that begin as those kept, and go on with what is no field
@@ -92,22 +98,7 @@ module _ (ns : List ℕ) (t₀ : List ℤ) (right : checkedOf ns (length t₀) �
       one (inr a) r =
           let k′ = after c k in
           let l : k .used ≤ k′ .used = omega (arith, a .used) in
-          sym (take-take (k .used) (k′ .used) (leftTo ns (c ∷ cs) k .journal) l) ∙ ap (take (k .used)) r ∙ take-take (k .used) (k′ .used) (k′ .journal) l
-          ∙ adds-keeps k k′ (s .inside) a
-
-  -- the same bytes used in another buffer
-  moved : (k : Kept) (ts : List (List ℤ)) (j : List ℕ) → Stands ns t₀ k ts → take (k .used) j ≡ take (k .used) (k .journal) → Stands ns t₀ (kept (k .cells) j (k .used)) ts
-  moved k ts j s q =
-      record {
-        entries = s .entries;
-        inside = omega (arith, length-take (k .used) j, ap length q, length-take-le (k .used) (k .journal) (s .inside));
-        bytes = q ∙ s .bytes;
-        fine = s .fine;
-        held = s .held;
-        leads = s .leads;
-        few = s .few;
-        fit = s .fit;
-      }
+          shorter (k .used) (k′ .used) (leftTo ns (c ∷ cs) k .journal) (k′ .journal) l r ∙ adds-keeps k k′ (s .inside) a
 
   -- so many calls of a list are whole in n bytes, and no more
   abbrev Most : List Call → Kept → ℕ → ℕ → Type 0
@@ -121,52 +112,58 @@ module _ (ns : List ℕ) (t₀ : List ℤ) (right : checkedOf ns (length t₀) �
   most-none c cs k n x zero l h = omega arith
   most-none c cs k n x (suc m) l h = absurd (omega (arith, grows (take m cs) (after c k)))
 
-  torn : (cs : List Call) (k : Kept) (ts : List (List ℤ)) (n : ℕ) → FitCalls cs → Stands ns t₀ k ts → k .used ≤ n → n ≤ leftTo ns cs k .used → Torn ns t₀ cs k n
-  torn [] k ts n f s l h =
-      let z : length (take n (k .journal)) ≤ k .used = omega (arith, length-take n (k .journal)) in
-      record {
-        calls = 0;
-        among = omega arith;
-        before = l;
-        most = λ m h _. h;
-        answer = cut-here k ts (k .journal) n s l refl (ap entryIn (drop-of-length-le (take n (k .journal)) {i = k .used} z) ∙ no-field);
-        rest = replay-stands ns t₀ k ts s right;
-      }
-  torn (c ∷ cs) k ts n f s l h =
-      let x = next ns t₀ c k ts s (f .0) in
-      let k′ = after c k in
-      by (le-or-lt (k′ .used) n) (λ m. torn cs k′ (x .saved) n (f .1) (x .left .stands) m h) (keeps (c ∷ cs) k ts f s) (keeps cs k′ (x .saved) (f .1) (x .left .stands)) (adds c k)
-    where
-      by : (after c k .used ≤ n) ⊎ (n < after c k .used) → (after c k .used ≤ n → Torn ns t₀ cs (after c k) n) → Begins k (leftTo ns (c ∷ cs) k)
-          → Begins (after c k) (leftTo ns (c ∷ cs) k) → (after c k ≡ k) ⊎ Adds k (entryTo ns c k) (after c k) → Torn ns t₀ (c ∷ cs) k n
-      by (inl m) ih q r a =
-          let b = ih m in
-          record {
-            calls = suc (b .calls);
-            among = omega (arith, b .among);
-            before = b .before;
-            most = most-more c cs k n (b .calls) (b .most);
-            answer = b .answer;
-            rest = b .rest;
-          }
-      by (inr m) ih q r (inl e) = absurd (omega (arith, ap (λ y. y .used) e))
-      by (inr m) ih q r (inr a) =
-          let k′ = after c k in
-          let j = leftTo ns (c ∷ cs) k .journal in
-          let w : n ≤ k′ .used = omega arith in
-          let y : take n j ≡ take n (k′ .journal) = sym (take-take n (k′ .used) j w) ∙ ap (take n) r ∙ take-take n (k′ .used) (k′ .journal) w in
-          let v : drop (k .used) (take n j) ≡ take (n - k .used) (entryText (entryTo ns c k)) = ap (drop (k .used)) y ∙ adds-cut k k′ (s .inside) a n l m in
-          let u = field-cut (entryTo ns c k) (n - k .used) (omega (arith, a .used, length-text (entryTo ns c k))) in
-          record {
-            calls = 0;
-            among = omega arith;
-            before = l;
-            most = most-none c cs k n m;
-            answer = cut-here k ts j n s l q (ap entryIn v ∙ u);
-            rest = replay-stands ns t₀ (kept (k .cells) j (k .used)) ts (moved k ts j s q) right;
-          }
+  -- a buffer with the first n bytes
+  module _ (n : ℕ) (j : List ℕ) where
+    torn : (cs : List Call) (k : Kept) (ts : List (List ℤ)) → FitCalls cs → Stands ns t₀ k ts → k .used ≤ n → FirstBytes (leftTo ns cs k) n j → Torn ns t₀ cs k n j
+    torn [] k ts f s l b =
+        let z : length (take n j) ≤ k .used = omega (arith, length-take n j, b .inside) in
+        let q = shorter (k .used) n j (k .journal) l (b .same) in
+        record {
+          calls = 0;
+          among = omega arith;
+          before = l;
+          most = λ m h _. h;
+          answer = cut-here k ts j n s l q (ap entryIn (drop-of-length-le (take n j) {i = k .used} z) ∙ no-field);
+          bytes = q;
+          rest = replay-stands ns t₀ k ts j s q right;
+        }
+    torn (c ∷ cs) k ts f s l b =
+        let x = next ns t₀ c k ts s (f .0) in
+        let k′ = after c k in
+        by (le-or-lt (k′ .used) n) (λ m. torn cs k′ (x .saved) (f .1) (x .left .stands) m b) (keeps (c ∷ cs) k ts f s) (keeps cs k′ (x .saved) (f .1) (x .left .stands)) (adds c k)
+      where
+        by : (after c k .used ≤ n) ⊎ (n < after c k .used) → (after c k .used ≤ n → Torn ns t₀ cs (after c k) n j) → Begins k (leftTo ns (c ∷ cs) k)
+            → Begins (after c k) (leftTo ns (c ∷ cs) k) → (after c k ≡ k) ⊎ Adds k (entryTo ns c k) (after c k) → Torn ns t₀ (c ∷ cs) k n j
+        by (inl m) ih q r a =
+            let b = ih m in
+            record {
+              calls = suc (b .calls);
+              among = omega (arith, b .among);
+              before = b .before;
+              most = most-more c cs k n (b .calls) (b .most);
+              answer = b .answer;
+              bytes = b .bytes;
+              rest = b .rest;
+            }
+        by (inr m) ih q r (inl e) = absurd (omega (arith, ap (λ y. y .used) e))
+        by (inr m) ih q r (inr a) =
+            let k′ = after c k in
+            let end = leftTo ns (c ∷ cs) k .journal in
+            let y : take n j ≡ take n (k′ .journal) = b .same ∙ shorter n (k′ .used) end (k′ .journal) (omega arith) r in
+            let v : drop (k .used) (take n j) ≡ take (n - k .used) (entryText (entryTo ns c k)) = ap (drop (k .used)) y ∙ adds-cut k k′ (s .inside) a n l m in
+            let u = field-cut (entryTo ns c k) (n - k .used) (omega (arith, a .used, length-text (entryTo ns c k))) in
+            let p = shorter (k .used) n j end l (b .same) ∙ q in
+            record {
+              calls = 0;
+              among = omega arith;
+              before = l;
+              most = most-none c cs k n m;
+              answer = cut-here k ts j n s l p (ap entryIn v ∙ u);
+              bytes = p;
+              rest = replay-stands ns t₀ k ts j s p right;
+            }
 
 module _ (ns : List ℕ) (t : List ℤ) (j : List ℕ) (cs : List Call) (ft : Fit t) (fc : FitCalls cs) where
-  -- R544: cut at any byte
-  pub torn-calls : checkedOf ns (length t) ≡ C.Right → (n : ℕ) → n ≤ leftTo ns cs (kept t j 0) .used → Torn ns t cs (kept t j 0) n
-  torn-calls r n h = torn ns t r cs (kept t j 0) [] n fc (fresh ns t j ft) (omega arith) h
+  -- R544: cut at any byte, and whatever stands behind
+  pub torn-calls : HasCells ns (length t) → {n : ℕ} {j′ : List ℕ} → FirstBytes (leftTo ns cs (kept t j 0)) n j′ → Torn ns t cs (kept t j 0) n j′
+  torn-calls h {n} {j′} b = torn ns t (Counted.first-due ns (length t) C.Right .1 h) n j′ cs (kept t j 0) [] fc (fresh ns t j ft) (omega arith) b

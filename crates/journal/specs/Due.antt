@@ -4,7 +4,7 @@ use mathlib.Core.Path.{_≡_}
 use mathlib.Core.List.{List}
 use Prim.Native.Nat.{ℕ, _+_, _<_, _≤_}
 use lib.IntN.{ℤ, pos}
-use lib.ListN.{length, take, getD, set}
+use lib.ListN.{length, take, getD}
 use Rattle.reply.specs.declared.Refusal.{Refusal}
 use Rattle.reply.specs.declared.Refusal.the-variants.{NoRoom, BadEntry}
 use Rattle.reply.specs.declared.Checked.{Checked}
@@ -14,12 +14,10 @@ use Rattle.reply.specs.declared.Answer.the-variants.{Done, Refused}
 use Rattle.count.specs.Due as Counts
 use Rattle.entry.specs.declared.Entry.{Entry}
 use Rattle.entry.specs.declared.Entry.the-variants.{Set, Open, Release, Undo}
-use Rattle.journal.specs.Layout.{startsOf}
 use Rattle.journal.specs.Model.{Call, Sets, Opens, Releases, Undoes, refusalOf, bytesFor, numberFor}
-use Rattle.journal.specs.Entries.{markOf, backTo}
 use Rattle.journal.specs.Walks.{Walked}
 use Rattle.journal.specs.Plays.{Run}
-use Rattle.journal.specs.Order.{cellAt, Accepted, RightAt, InOrder, PlaysAt, InReplay}
+use Rattle.journal.specs.Order.{cellAt, Accepted, cellsBehind, RightAt, InOrder, PlaysAt, InReplay}
 use Rattle.journal.specs.Runs.{Kept, Adds}
 
 -- ---- where fields end to be in order; `right` says that a right field stands in a state
@@ -79,19 +77,12 @@ fieldFor ns d t Opens = Open (d + 1)
 fieldFor ns d t (Releases k) = Release k
 fieldFor ns d t (Undoes k) = Undo k
 
--- R512 to R515: the cells: a set alters its own; an undo has the fields of s behind its savepoint's opening give their old values back, the last first
-abbrev pub cellsDue : List ℕ → List ℕ → Walked → Call → List ℤ → List ℤ
-cellsDue ns s w (Sets g c v) t = set t (cellAt ns g c) v
-cellsDue ns s w Opens t = t
-cellsDue ns s w (Releases k) t = t
-cellsDue ns s w (Undoes k) t = backTo (startsOf ns) s (markOf (w .marks) k) (w .count) t
-
+-- R512 to R515, R520: its field behind the bytes used, and the cells behind such a field
 pub record CallLeaves (ns : List ℕ) (c : Call) (k k′ : Kept) : Type 0 where
   pub last : Walked
   pub fields : AllInOrder ns (k .journal) (k .used) last
-  pub size : k′ .used ≡ k .used + bytesFor c
   pub adds : Adds k (fieldFor ns (length (last .marks)) (k .cells) c) k′
-  pub cells : k′ .cells ≡ cellsDue ns (take (k .used) (k .journal)) last c (k .cells)
+  pub cells : k′ .cells ≡ cellsBehind ns (take (k .used) (k .journal)) (last .count) (last .marks) (fieldFor ns (length (last .marks)) (k .cells) c) (k .cells)
 
 -- R518: a refused call leaves all as it was
 abbrev pub LeftDue : List ℕ → Call → Kept → Answer → Kept → Type 0

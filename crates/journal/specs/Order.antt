@@ -1,19 +1,21 @@
--- R530 to R532, R540, R541 said plainly: fields in order, one behind the other, each a step that is right where it is taken; and where a journal
+-- R512 to R515, R530 to R532, R540, R541 said plainly: fields in order, one behind the other, each a step that is right where it is taken; and where a journal
 -- is at fault. What Walks and Plays compute is exactly this.
 use mathlib.Core.Path.{_≡_}
-use mathlib.Core.List.{List, []}
+use mathlib.Core.Bool.{cond}
+use mathlib.Core.List.{List, [], _∷_, map}
 use Prim.Native.Nat.{ℕ, _+_, _-_, _<_, _≤_}
+use lib.Dec.{eqb}
 use lib.IntN.{ℤ, pos}
-use lib.ListN.{length, getD}
+use lib.ListN.{length, getD, set, drop}
+use Rattle.base.specs.Every.{upFrom}
 use Rattle.count.specs.Tally.{cellsBefore, cellsIn}
 use Rattle.entry.specs.declared.Entry.{Entry}
 use Rattle.entry.specs.declared.Entry.the-variants.{Set, Open, Release, Undo, Misformed}
 use Rattle.entry.specs.Field.{fieldAt}
-use Rattle.journal.specs.Layout.{startsOf}
 use Rattle.journal.specs.Model.{Call, Sets, Opens, Releases, Undoes}
-use Rattle.journal.specs.Entries.{markStep, nextAt}
+use Rattle.journal.specs.Entries.{markStep, markOf, nextAt, entriesAt}
 use Rattle.journal.specs.Walks.{Walked, walked}
-use Rattle.journal.specs.Plays.{Run, ran, playedBy}
+use Rattle.journal.specs.Plays.{Run, ran}
 
 -- R502: cell c, counted from 1, of a group 1 to 60, and where it stands in the table (R501)
 pub record IsCell (ns : List ℕ) (g c : ℕ) : Type 0 where
@@ -48,6 +50,29 @@ OldIs ns (Release k) t = Unit {0}
 OldIs ns (Undo k) t = Unit {0}
 OldIs ns Misformed t = Unit {0}
 
+-- ---- the cells behind an entry
+
+-- R515: the old value of the first set of the table's cell i among these entries, and z where there is none
+unfoldable pub firstOld : List ℕ → List Entry → ℕ → ℤ → ℤ
+firstOld ns [] i z = z
+firstOld ns (Set g c old new ∷ es) i z = cond (eqb (cellAt ns g c) i) old (firstOld ns es i z)
+firstOld ns (Open k ∷ es) i z = firstOld ns es i z
+firstOld ns (Release k ∷ es) i z = firstOld ns es i z
+firstOld ns (Undo k ∷ es) i z = firstOld ns es i z
+firstOld ns (Misformed ∷ es) i z = firstOld ns es i z
+
+-- every cell has that value, or what it had
+unfoldable pub undone : List ℕ → List Entry → List ℤ → List ℤ
+undone ns es t = map (λ i. firstOld ns es i (getD t i (pos 0))) (upFrom 0 (length t))
+
+-- R512 to R515: with n fields of s before it and the marks ms; a set alters its own cell, an undo those that were set behind its savepoint's mark
+abbrev pub cellsBehind : (ns s : List ℕ) (n : ℕ) (ms : List ℕ) → Entry → List ℤ → List ℤ
+cellsBehind ns s n ms (Set g c old new) t = set t (cellAt ns g c) new
+cellsBehind ns s n ms (Open k) t = t
+cellsBehind ns s n ms (Release k) t = t
+cellsBehind ns s n ms (Undo k) t = undone ns (drop (markOf ms k) (entriesAt s 0 n)) t
+cellsBehind ns s n ms Misformed t = t
+
 -- steps from one state to another, each of them right
 pub data Goes (S : Type 0) (right : S → Type 0) (next : S → S) : S → S → Type 0 where
   here : {x : S} → Goes S right next x x
@@ -74,7 +99,7 @@ module _ (ns s : List ℕ) where
   abbrev pub playedTo : Run → Run
   playedTo r =
       ran (nextAt s (r .place)) (r .count + 1) (markStep (fieldAt s (r .place)) (r .count) (r .marks))
-      (playedBy (startsOf ns) (fieldAt s (r .place)) s (r .count) (r .marks) (r .cells))
+      (cellsBehind ns s (r .count) (r .marks) (fieldAt s (r .place)) (r .cells))
 
   abbrev pub InReplay : List ℤ → Run → Type 0
   InReplay t r = Goes Run PlaysAt playedTo (ran 0 0 [] t) r

@@ -51,6 +51,11 @@ abbrev pub FitCalls : List Call → Type 0
 FitCalls [] = Unit {0}
 FitCalls (c ∷ cs) = FitCall c × FitCalls cs
 
+-- R544: of the bytes that k uses, the first n stand first in the buffer j
+pub record FirstBytes (k : Kept) (n : ℕ) (j : List ℕ) : Type 0 where
+  pub inside : n ≤ k .used
+  pub same : take n j ≡ take n (k .journal)
+
 module _ (ns : List ℕ) where
   -- what a call answers, and what it leaves, by the definitions that the contracts cite
   abbrev pub answerTo : Call → Kept → Answer
@@ -90,38 +95,30 @@ module _ (ns : List ℕ) where
     pub cells : leftTo cs (kept t j 0) .cells ≡ modelRun ns cs (stacked t [] (length j)) .cells
     pub opened : openIn (leftTo cs (kept t j 0)) ≡ length (modelRun ns cs (stacked t [] (length j)) .saved)
 
-  -- R543: replayed over the table t, what is kept comes to its own cells and open savepoints
-  pub record ReplaysTo (t : List ℤ) (k : Kept) : Type 0 where
-    pub answer : replayOf ns (k .journal) (k .used) t ≡ Right
-    pub cells : replayedCells ns (k .journal) (k .used) t Right ≡ k .cells
-    pub opened : replayedOpen ns (k .journal) (k .used) t Right ≡ openIn k
-
-  -- R544: the first n bytes of what calls made. So many calls are whole in them, and no more; a replay gives 0 at the end of a field, and else
-  -- 17 with the place of the field that was cut, and the bytes before it replay to what those calls left.
-  pub record Torn (t : List ℤ) (cs : List Call) (k : Kept) (n : ℕ) : Type 0 where
-    pub calls : ℕ
-    pub among : calls ≤ length cs
-    pub before : leftTo (take calls cs) k .used ≤ n
-    pub most : (m : ℕ) → m ≤ length cs → leftTo (take m cs) k .used ≤ n → m ≤ calls
-    pub answer : replayOf ns (leftTo cs k .journal) n t ≡ whole (leftTo (take calls cs) k .used) n
-    pub rest : ReplaysTo t (kept (leftTo (take calls cs) k .cells) (leftTo cs k .journal) (leftTo (take calls cs) k .used))
+  -- R543: replayed over the table t, the bytes that k uses, where they stand in the buffer j, come to k's cells and open savepoints
+  pub record ReplaysTo (t : List ℤ) (j : List ℕ) (k : Kept) : Type 0 where
+    pub answer : replayOf ns j (k .used) t ≡ Right
+    pub cells : replayedCells ns j (k .used) t Right ≡ k .cells
+    pub opened : replayedOpen ns j (k .used) t Right ≡ openIn k
 
   -- what is kept behind a replay over t that gives 0
   abbrev pub behindReplay : List ℤ → Kept → Kept
   behindReplay t k = kept (replayedCells ns (k .journal) (k .used) t Right) (k .journal) (k .used)
 
-  -- R543: from two states, whatever calls come: the same answers, cells, bytes and open savepoints
-  pub record Alike (k k′ : Kept) (cs : List Call) : Type 0 where
-    pub answers : answersTo cs k ≡ answersTo cs k′
-    pub cells : leftTo cs k .cells ≡ leftTo cs k′ .cells
-    pub journal : leftTo cs k .journal ≡ leftTo cs k′ .journal
-    pub used : leftTo cs k .used ≡ leftTo cs k′ .used
-    pub opened : openIn (leftTo cs k) ≡ openIn (leftTo cs k′)
+  -- R544: a buffer j that has the first n bytes of what calls made, and behind them anything. So many calls are whole in them, and no more; a
+  -- replay gives 0 at the end of a field, and else 17 with the place of the field that was cut. The bytes before it are those that were used
+  -- behind these calls, and replay to what these calls left.
+  pub record Torn (t : List ℤ) (cs : List Call) (k : Kept) (n : ℕ) (j : List ℕ) : Type 0 where
+    pub calls : ℕ
+    pub among : calls ≤ length cs
+    pub before : leftTo (take calls cs) k .used ≤ n
+    pub most : (m : ℕ) → m ≤ length cs → leftTo (take m cs) k .used ≤ n → m ≤ calls
+    pub answer : replayOf ns j n t ≡ whole (leftTo (take calls cs) k .used) n
+    pub bytes : take (leftTo (take calls cs) k .used) j ≡ take (leftTo (take calls cs) k .used) (leftTo (take calls cs) k .journal)
+    pub rest : ReplaysTo t j (leftTo (take calls cs) k)
 
-  -- R543: calls that lead from what was kept to what is; further calls are answered, and leave, as if all of them had come one after the other
+  -- R543: calls that lead from what was kept to what is
   pub record MadeBy (k end : Kept) : Type 0 where
     pub calls : List Call
     pub fits : FitCalls calls
     pub left : leftTo calls k ≡ end
-    pub answers : (cs : List Call) → answersTo (calls ++ cs) k ≡ answersTo calls k ++ answersTo cs end
-    pub further : (cs : List Call) → leftTo (calls ++ cs) k ≡ leftTo cs end

@@ -12,7 +12,8 @@ pub enum Behind {
     TooFew,
 }
 
-// R6: asks for the place behind so many lines from a place of a text. Any place may be asked about, also one beyond the text's end.
+// R6: asks for the place behind so many lines from a place of a text. Any place may be asked about, also one beyond the
+// text's end.
 pub fn place_behind(text: &[u8], at: usize, lines: usize) -> Behind
     ensures { λ r. ⌜ r ≡ behindAt (now (text .entry)) at lines ⌝ }
 {

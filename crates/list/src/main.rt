@@ -1,5 +1,5 @@
-// The program `list` (R341 to R344): standard input is listed on standard output. What is printed is `listing::print`'s; here it is only read,
-// asked for and written.
+// The program `list` (R341 to R344): standard input is listed on standard output. What is printed is
+// `listing::print`'s; here it is only read, asked for and written.
 use decimal::Put;
 
 fn main() {

@@ -107,8 +107,9 @@ fn put_listing(text: &[u8], out: &mut [u8])
     }
 }
 
-// R310, R311: puts the listing of a text into the bytes from their start on: the number of bytes written (0), or that there is no room (11),
-// and then nothing is altered. So that nothing is, the text is walked twice: first for where the listing ends, then to put it.
+// R310, R311: puts the listing of a text into the bytes from their start on: the number of bytes written (0), or that
+// there is no room (11), and then nothing is altered. So that nothing is, the text is walked twice: first for where the
+// listing ends, then to put it.
 pub fn render(text: &[u8], out: &mut [u8]) -> Put
     ensures { λ r. ⌜ Puts 0 (listing (now (text .entry))) (now (out .entry)) r (now (out .exit)) ⌝ }
 {
@@ -119,7 +120,8 @@ pub fn render(text: &[u8], out: &mut [u8]) -> Put
     Put::Next(end)
 }
 
-// R341: what the program prints for its input: the listing, or for more than 65,536 bytes the line `end 0 0 11 0` alone.
+// R341: what the program prints for its input: the listing, or for more than 65,536 bytes the line `end 0 0 11 0`
+// alone.
 pub fn print(input: &[u8], out: &mut [u8]) -> Put
     ensures { λ r. ⌜ Puts 0 (printedListing (now (input .entry))) (now (out .entry)) r (now (out .exit)) ⌝ }
 {

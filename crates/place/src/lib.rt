@@ -166,8 +166,8 @@ pub struct Span {
     pub to: usize,
 }
 
-// R27: the lines of a group in a record at a place with these counts; group 0 is the index, and behind group 60 there are none. Where the
-// text has too few lines, they end where it does.
+// R27: the lines of a group in a record at a place with these counts; group 0 is the index, and behind group 60 there
+// are none. Where the text has too few lines, they end where it does.
 pub fn span_of(text: &[u8], at: usize, counts: &[u16], group: usize) -> Span
     ensures from { λ r. ⌜ r .from ≡ start (now (text .entry)) at (now (counts .entry)) group ⌝ }
     ensures to { λ r. ⌜ r .to ≡ start (now (text .entry)) at (now (counts .entry)) (group + 1) ⌝ }

@@ -2,7 +2,7 @@
 -- test and in plain words.
 -- Assumes nothing.
 use mathlib.Core.Path.{_≡_, refl, sym, _∙_, ap}
-use mathlib.Core.Bool.{Bool, true, false, cond, _&&_}
+use mathlib.Core.Bool.{Bool, true, false, _&&_}
 use mathlib.Core.List.{List, [], _∷_, append-nil}
 use mathlib.Core.Logic.{_↔_, _⊎_}
 use Prim.Native.Nat.{ℕ, zero, suc, _+_, _-_, _<_, _≤_}
@@ -22,9 +22,9 @@ use Rattle.form.specs.declared.Form.{Form}
 use Rattle.form.specs.declared.Form.the-variants.{A120, A1}
 use Rattle.form.specs.Table.{rowOf}
 use Rattle.field.specs.Read.{fieldOf, formed}
-use Rattle.reading.specs.Blanks.{blank, shortest, filledTo, isRight, asField, Fits}
+use Rattle.reading.specs.Blanks.{blank, MayBeShort, mayBeShort, shortest, filledTo, isRight, asField, Fits}
 use Rattle.reading.specs.Values.{RightContent}
-use Rattle.reading.proofs.Letters.{letters-formed}
+use Rattle.reading.proofs.Letters.{letters-formed, short-exactly, not-short}
 
 -- ---- filling
 
@@ -45,7 +45,7 @@ filled-cons n x s =
     let e : n - suc (length s) ≡ n - 1 - length s = omega arith in
     rw e
 
-filled-nil : (n : ℕ) → filledTo n [] ≡ replicate n 32
+pub filled-nil : (n : ℕ) → filledTo n [] ≡ replicate n 32
 unfolding filledTo
 filled-nil n = rw (sub-zero n)
 
@@ -54,7 +54,7 @@ drop-blanks zero n = drop-none (replicate n 32) ∙ rw (sub-zero n)
 drop-blanks (suc d) zero = let e : 0 - suc d ≡ 0 = omega arith in rw e
 drop-blanks (suc d) (suc n) = let e : suc n - suc d ≡ n - d = omega arith in rw e (drop-blanks d n)
 
-take-blanks : (w n : ℕ) → w ≤ n → take {A = ℕ} w (replicate n 32) ≡ replicate w 32
+pub take-blanks : (w n : ℕ) → w ≤ n → take {A = ℕ} w (replicate n 32) ≡ replicate w 32
 take-blanks zero zero h = refl
 take-blanks zero (suc n) h = refl
 take-blanks (suc w) zero h = absurd (omega arith)
@@ -145,24 +145,35 @@ module _ (short : Bool) (columns : ℕ) (s : List ℕ) where
   pub right-high : isRight short columns s ≡ true → length s ≤ 120
   unfolding isRight
   right-high e =
-      leb-true (length s) 120 (and-first (leb (length s) 120) (every blank (drop columns s)) (and-second (leb (shortest short columns) (length s)) (leb (length s) 120 && every blank (drop columns s)) e))
+      let rest = and-second (leb (shortest short columns) (length s)) (leb (length s) 120 && every blank (drop columns s)) e in
+      leb-true (length s) 120 (and-first (leb (length s) 120) (every blank (drop columns s)) rest)
 
   right-after : isRight short columns s ≡ true → T (every blank (drop columns s))
   right-after e = true-T (every blank (drop columns s)) (sym (right-rest (right-low e) (right-high e)) ∙ e)
 
-  -- in plain words, both ways
-  pub right-plain : isRight short columns s ≡ true ↔ RightContent short columns s
-  right-plain = (λ e. record { least = right-low e; most = right-high e; blanks = there e }, back)
+-- in plain words, both ways, of the lines of a group
+module _ (g columns : ℕ) (s : List ℕ) where
+  abbrev short : Bool
+  short = mayBeShort g
+
+  pub right-plain : isRight (mayBeShort g) columns s ≡ true ↔ RightContent g columns s
+  right-plain = (λ e. record { least = long e; most = right-high short columns s e; blanks = there e }, back)
     where
+      long : isRight short columns s ≡ true → (MayBeShort g → ⊥) → columns ≤ length s
+      long e n = rw (not-short g n) at (right-low short columns s e)
+
       there : isRight short columns s ≡ true → (i : ℕ) → columns ≤ i → i < length s → getD s i 0 ≡ 32
       there e i a b =
           let n : columns + (i - columns) ≡ i = omega arith in
-          let t = every-at blank 0 (drop columns s) (right-after e) (i - columns) (omega (arith, length-drop columns s)) in
+          let t = every-at blank 0 (drop columns s) (right-after short columns s e) (i - columns) (omega (arith, length-drop columns s)) in
           ap (λ k. getD s k 0) (sym n) ∙ sym (getD-drop columns s (i - columns) 0) ∙ eqb→eq (getD (drop columns s) (i - columns) 0) 32 t
 
-      back : RightContent short columns s → isRight short columns s ≡ true
+      enough : RightContent g columns s → shortest short columns ≤ length s
+      enough r = cond-elim (λ n. n ≤ length s) short (λ e. omega arith) (λ e. r .least (λ m. rw e at (short-exactly g .1 m)))
+
+      back : RightContent g columns s → isRight short columns s ≡ true
       back r =
-          right-rest (r .least) (r .most)
+          right-rest short columns s (enough r) (r .most)
           ∙ T-true (every blank (drop columns s)) (at-every blank 0 (drop columns s) (λ k h.
           let e : getD (drop columns s) k 0 ≡ 32 = getD-drop columns s k 0 ∙ r .blanks (columns + k) (omega arith) (omega (arith, length-drop columns s)) in
           true-T (blank (getD (drop columns s) k 0)) (eq-eqb (getD (drop columns s) k 0) 32 e)))

@@ -161,9 +161,10 @@ pub record Fielding (f : Form) (l : Line) (text : List ℕ) (at i from : ℕ) : 
   pub within : i ≤ l .many
   pub same : verdictOf (readFields f (restOf l i) (drop (i * rowOf f .width) text)) ≡ verdictOf (readFields f l text)
 
-pub checking-start : (f : Form) (short : Bool) (count : ℕ) (s : List ℕ) (width perLine many left : ℕ) → Walking f count s width perLine many left 0 0 → Checking f short count s width perLine many left 0 1 0
+pub checking-start : {f : Form} {short : Bool} {count : ℕ} {s : List ℕ} {width perLine many left : ℕ} → Walking f count s width perLine many left 0 0
+    → Checking f short count s width perLine many left 0 1 0
 unfolding readLines planOf
-checking-start f short count s width perLine many left b =
+checking-start {f} {short} {count} {s} {width} {perLine} {many} {left} b =
     record { walk = b; first = omega (arith, zero-mul (rowOf f .«per_line»)); same = rw (sub-zero many, b .lines, drop-none s) refl }
 
 pub checking-end : (f : Form) (short : Bool) (count : ℕ) (s : List ℕ) {width perLine many left at element j : ℕ} → Checking f short count s width perLine many left at element j → many ≤ j
@@ -177,7 +178,8 @@ module _ (f : Form) (short : Bool) (count : ℕ) (s : List ℕ) {width perLine m
   abbrev l : Line
   l = lineAt (rowOf f .«per_line») (elementsOf f count) j
 
-  more : verdictOf (both (readLine f short l (part at end s)) (readLinesOf f short (planFrom (rowOf f .«per_line») (elementsOf f count) (j + 1) (many - (j + 1))) (drop end s))) ≡ verdictOf (readLines f short count s)
+  more : verdictOf (both (readLine f short l (part at end s)) (readLinesOf f short (planFrom (rowOf f .«per_line») (elementsOf f count) (j + 1) (many - (j + 1))) (drop end s)))
+      ≡ verdictOf (readLines f short count s)
   more = sym (ap verdictOf (line-more f count s (b .walk) k end q w short h)) ∙ b .same
 
   bad-line : (r : Refusal) → verdictOf (readLine f short l (part at end s)) ≡ C.Refused r → C.Refused r ≡ verdictOf (readLines f short count s)

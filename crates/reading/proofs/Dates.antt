@@ -1,19 +1,17 @@
 -- The date of group 3: its letters' first 19 decide it, and these are the first bytes of its first line.
 -- Assumes nothing.
 use mathlib.Core.Path.{_≡_, refl, sym, _∙_, ap, ap₂, subst}
-use mathlib.Core.Bool.{Bool, true, false, cond}
+use mathlib.Core.Bool.{false}
 use mathlib.Core.List.{List, [], _∷_, _++_, map}
 use Prim.Native.Nat.{ℕ, zero, suc, _+_, _-_, _*_, _≤_, min}
 use native.Mathlib.Nat.{zero-mul, sub-zero, mul-one}
 use native.Mathlib.Omega.{arith}
 use borrow.Author.Tests.{le-leb, ne-eqb}
-use lib.Dec.{T, eqb}
 use lib.IntN.{ℤ, pos}
 use lib.ListN.{length, take, drop, length-take, length-append}
 use lib.Seq.{take-at, length-take-le}
-use Rattle.base.specs.Ascii.{printable}
 use Rattle.base.specs.Every
-use Rattle.base.specs.Every.{every, upFrom}
+use Rattle.base.specs.Every.{upFrom}
 use Rattle.base.specs.Part.{part}
 use Rattle.base.specs.Pieces
 use Rattle.base.specs.Pieces.{done, bad}
@@ -29,8 +27,6 @@ use Rattle.form.specs.Count
 use Rattle.form.specs.Count.{elementsOf, linesOf, roundedUp}
 use Rattle.form.proofs.Rounding.{quotient}
 use Rattle.field.specs.Read
-use Rattle.field.specs.Read.{fieldOf, formed, valueCells, ReadsAs}
-use Rattle.field.specs.declared.Value.the-variants.{Cell, Misformed}
 use Rattle.field.proofs.Letters.{bytes-back}
 use Rattle.line.specs.Lines.{reach}
 use Rattle.line.proofs.Contents.{content-two}
@@ -146,7 +142,8 @@ module _ (count : ℕ) (x : List ℕ) (cs : List ℤ) (h : readLines A1 false co
   pub first-letters : FirstLetters k x (map sizeOf cs)
   unfolding p n line-one readLines planOf Count.linesOf
   first-letters =
-      by (both-done (readLine A1 false line-one (part 0 end x)) (readLinesOf A1 false (planFrom p n 1 (roundedUp n p - 1)) (drop end x)) cs (sym (lines-more A1 false x p n 0 (roundedUp n p - 1) 0 end refl) ∙ some))
+      by (both-done (readLine A1 false line-one (part 0 end x)) (readLinesOf A1 false (planFrom p n 1 (roundedUp n p - 1)) (drop end x)) cs
+      (sym (lines-more A1 false x p n 0 (roundedUp n p - 1) 0 end refl) ∙ some))
     where
       end : ℕ
       end = 0 + reach (drop 0 x) 1

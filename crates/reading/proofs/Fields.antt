@@ -9,7 +9,7 @@ use native.Mathlib.Nat.{add-mul, one-mul, mul-le-mul-right, zero-mul, add-zero, 
 use native.Mathlib.Omega.{arith}
 use borrow.Author.Tests.{leb-true, leb-false}
 use lib.Dec.{leb}
-use lib.ListN.{length, take, drop, length-take, length-drop}
+use lib.ListN.{length, take, drop, replicate, length-take, length-drop, drop-of-length-le}
 use lib.Seq.{drop-drop, length-take-le, take-take}
 use Rattle.base.proofs.Taken.{drop-none, take-none, drop-take, take-both, part-begin}
 use Rattle.base.specs.Every.{upFrom}
@@ -24,10 +24,11 @@ use Rattle.line.specs.declared.Content.the-variants.{Length}
 use Rattle.line.proofs.Feeds.{plain-take}
 use Rattle.line.proofs.Reach.{reach-past}
 use Rattle.line.proofs.Contents.{content-two, first-plain}
-use Rattle.reading.specs.Blanks.{shortest, filledTo, rightContent, Fits}
+use Rattle.reading.specs.Blanks.{shortest, filledTo, fieldPart, rightContent, Fits}
 use Rattle.reading.specs.Plan.{Line}
 use Rattle.reading.specs.Read.{readField, readFields, columnsOf}
-use Rattle.reading.proofs.Blanks.{filled-drop, filled-take, right-low}
+use Rattle.reading.specs.Values.{planned, fieldIn}
+use Rattle.reading.proofs.Blanks.{filled-nil, filled-drop, filled-take, take-blanks, right-low}
 use Rattle.reading.proofs.Lines.{right-is}
 
 -- the line without its first i elements
@@ -40,6 +41,19 @@ lineText f l s at end n = filledTo (columnsOf f l) (part 0 n (part at end s))
 
 next-column : (i w : ℕ) → i * w + w ≡ (i + 1) * w
 next-column i w = omega (arith, add-mul i 1 w, one-mul w)
+
+-- R65: an element that is missing is blanks: the content ends where its columns begin, or before
+module _ (f : Form) (count j : ℕ) (s : List ℕ) (k : ℕ) (h : k < planned f count j .many) where
+  abbrev wide : ℕ
+  wide = rowOf f .width
+
+  abbrev behind : ℕ
+  behind = columnsOf f (planned f count j) - k * rowOf f .width
+
+  pub missing-blanks : length s ≤ k * rowOf f .width → fieldIn f count j s k ≡ replicate (rowOf f .width) 32
+  missing-blanks e =
+      ap (take wide) (filled-drop (columnsOf f (planned f count j)) (k * wide) s ∙ ap (filledTo behind) (drop-of-length-le s e) ∙ filled-nil behind)
+      ∙ take-blanks wide behind (omega (arith, next-column k wide, mul-le-mul-right {m = k + 1} {n = planned f count j .many} wide (omega arith)))
 
 -- ---- one field more
 
@@ -66,6 +80,12 @@ module _ (f : Form) (l : Line) (text : List ℕ) where
   fields-none i s h = let n : l .many - i ≡ 0 = omega arith in rw n
 
 -- ---- the bytes of a field
+
+-- as the code finds them: from the lesser of column and end, and from there no more than the width
+pub part-found : (width column stop from to : ℕ) (s : List ℕ) → from ≡ min column stop → to ≡ from + min width (stop - from) → part from to s ≡ fieldPart width column stop s
+part-found width column stop from to s b e =
+    let t : to ≡ min (column + width) stop = omega arith in
+    rw (t, b)
 
 module _ (f : Form) (short : Bool) (l : Line) (s : List ℕ) (at end n : ℕ) (inside : end ≤ length s) (e : rightContent short (columnsOf f l) (part at end s) ≡ Length n) where
   abbrev w : ℕ

@@ -22,7 +22,7 @@ use Rattle.field.specs.Read.{fieldOf, formed, valueCells, ReadsAs}
 use Rattle.line.specs.Lines.{reach}
 use Rattle.line.specs.Contents.{contentOf}
 use Rattle.line.specs.declared.Content.the-variants.{Length, NoReturn}
-use Rattle.reading.specs.Blanks.{shortest, filledTo, isRight, rightContent, Fits}
+use Rattle.reading.specs.Blanks.{shortest, filledTo, isRight, fieldPart, rightContent, Fits}
 use Rattle.reading.specs.Plan.{Line, lineAt, planFrom, planOf}
 use Rattle.reply.specs.declared.Checked.the-variants as C
 use Rattle.reading.specs.Read.{Cells, readField, readFields, columnsOf, readLine, readLinesOf, readLines, verdictOf}
@@ -108,7 +108,8 @@ pub record FillingFields (f : Form) (l : Line) (text : List ℕ) (old : List ℤ
   pub rest : readFields f (restOf l i) (drop (i * rowOf f .width) text) ≡ done more
   pub store : Stored (cellsGot (readFields f l text)) old base cell table more
 
-pub enough-room : (f : Form) (short : Bool) (count : ℕ) (s : List ℕ) (old : List ℤ) → verdictOf (readLines f short count s) ≡ C.Right → cellsOf f count ≤ length old → length (cellsGot (readLines f short count s)) ≤ length old
+pub enough-room : (f : Form) (short : Bool) (count : ℕ) (s : List ℕ) (old : List ℤ) → verdictOf (readLines f short count s) ≡ C.Right → cellsOf f count ≤ length old
+    → length (cellsGot (readLines f short count s)) ≤ length old
 enough-room f short count s old v room =
     let r = clean-read (readLines f short count s) v in
     omega (arith, ap (λ g. length (cellsGot g)) (r .is), group-size f short count s (r .cells) (r .is))
@@ -126,13 +127,15 @@ filling-start {f} {short} {count} {s} {r} b z v none =
       store = rw (none .1) (stored-none (cellsGot (readLines f short count s)) (r .table) 0);
     }
 
-pub filling-end : {f : Form} {short : Bool} {count : ℕ} {s : List ℕ} {old : List ℤ} {r : Reached} → Filling f short count s old r → r .many ≤ r .j → r .table ≡ over 0 (cellsGot (readLines f short count s)) old
+pub filling-end : {f : Form} {short : Bool} {count : ℕ} {s : List ℕ} {old : List ℤ} {r : Reached} → Filling f short count s old r → r .many ≤ r .j
+    → r .table ≡ over 0 (cellsGot (readLines f short count s)) old
 filling-end {f} {short} {count} {s} {old} {r} b h =
     let z : r .many - r .j ≡ 0 = omega arith in
     let e : [] ≡ b .more = done-same (sym (lines-none f short s (rowOf f .«per_line») (elementsOf f count) (r .j) (r .at)) ∙ (rw z at (b .rest))) in
     stored-all (cellsGot (readLines f short count s)) old (r .table) 0 (r .cell) (subst (λ x. Stored (cellsGot (readLines f short count s)) old 0 (r .cell) (r .table) x) (sym e) (b .store)) .here
 
-pub filling-length : {f : Form} {short : Bool} {count : ℕ} {s : List ℕ} {old : List ℤ} {r : Reached} → length (cellsGot (readLines f short count s)) ≤ length old → Filling f short count s old r → length (r .table) ≡ length old
+pub filling-length : {f : Form} {short : Bool} {count : ℕ} {s : List ℕ} {old : List ℤ} {r : Reached} → length (cellsGot (readLines f short count s)) ≤ length old
+    → Filling f short count s old r → length (r .table) ≡ length old
 filling-length room b = stored-length (omega arith) (b .more) (b .store)
 
 module _ {f : Form} {short : Bool} {count : ℕ} {s : List ℕ} {old : List ℤ} {r : Reached} (o : OnLine f short count s old r) where
@@ -239,17 +242,24 @@ module _ {f : Form} {short : Bool} {count : ℕ} {s : List ℕ} {old : List ℤ}
           whole = stored-all (cellsGot (readFields f l (lineText f l s (r .at) (o .end) m))) (r .table) now (r .cell) spot
               (subst (λ x. Stored (cellsGot (readFields f l (lineText f l s (r .at) (o .end) m))) (r .table) (r .cell) spot now x) (sym none) (g .store))
 
-      module _ (begin to : ℕ) (c : i < o .k) (b : begin ≡ min from (r .at + m)) (t : to ≡ min (from + r .width) (r .at + m)) where
+      module _ (c : i < o .k) where
+        -- where what there is of the field begins and ends
+        abbrev begin : ℕ
+        begin = min from (r .at + m)
+
+        abbrev to : ℕ
+        to = min (from + r .width) (r .at + m)
+
         inner : i < l .many
         inner = omega (arith, many-here f count s (o .state .walk) (o .k) (o .end) (o .elements) (o .behind))
 
         to-is : to ≡ min (from + rowOf f .width) (r .at + m)
-        to-is = t ∙ rw (o .state .walk .wide)
+        to-is = rw (o .state .walk .wide)
 
         field-is : filledTo (r .width) (part begin to s) ≡ take (rowOf f .width) (drop (i * rowOf f .width) (lineText f l s (r .at) (o .end) m))
         field-is =
             ap (λ n. filledTo n (part begin to s)) (o .state .walk .wide)
-            ∙ piece f short l s (r .at) (o .end) m inside right i from begin to inner (g .place) b to-is
+            ∙ piece f short l s (r .at) (o .end) m inside right i from begin to inner (g .place) refl to-is
 
         one : BothDone (readField f (l .number) (l .first + i) (filledTo (r .width) (part begin to s)))
             (readFields f (restOf l (i + 1)) (drop ((i + 1) * rowOf f .width) (lineText f l s (r .at) (o .end) m))) (g .more)
@@ -269,16 +279,29 @@ module _ {f : Form} {short : Bool} {count : ℕ} {s : List ℕ} {old : List ℤ}
         store : Stored (cellsGot (readFields f l (lineText f l s (r .at) (o .end) m))) (r .table) (r .cell) spot now (one .first ++ one .second)
         store = subst (λ y. Stored (cellsGot (readFields f l (lineText f l s (r .at) (o .end) m))) (r .table) (r .cell) spot now y) (one .all) (g .store)
 
-        pub put-requires : (begin ≤ to) × (to ≤ length s) × (r .width ≡ rowOf f .width) × Fits f short (to - begin) × T (formed (fieldOf f (filledTo (r .width) (part begin to s)))) ×
-            (spot + rowOf f .cells ≤ length now)
+        pub record Put : Type 0 where
+          pub ends : r .at + m ≤ length s
+          pub wide : r .width ≡ rowOf f .width
+          pub fits : Fits f short (min (from + r .width) (r .at + m) - min from (r .at + m))
+          pub good : T (formed (fieldOf f (filledTo (r .width) (fieldPart (r .width) from (r .at + m) s))))
+          pub room : spot + rowOf f .cells ≤ length now
+
+        pub put-requires : Put
         put-requires =
-            let p = piece-range f short l s (r .at) (o .end) m inside right i from begin to inner (g .place) b to-is in
-            (p .0, p .1, o .state .walk .wide, p .2, reads .good, omega (arith, size, fill-length, stored-room line-room (one .first) (one .second) store))
+            let p = piece-range f short l s (r .at) (o .end) m inside right i from begin to inner (g .place) refl to-is in
+            record {
+              ends = omega (arith, fill-inside);
+              wide = o .state .walk .wide;
+              fits = p .2;
+              good = reads .good;
+              room = omega (arith, size, fill-length, stored-room line-room (one .first) (one .second) store);
+            }
 
         pub cell-small : spot + r .cells ≤ length old
-        cell-small = omega (arith, o .state .sized, put-requires .5, fill-length, filling-length (o .room) (o .state))
+        cell-small = omega (arith, o .state .sized, put-requires .room, fill-length, filling-length (o .room) (o .state))
 
-        pub fields-next : {new : List ℤ} → new ≡ over spot (valueCells (filledTo (r .width) (part begin to s)) (fieldOf f (filledTo (r .width) (part begin to s)))) now
+        pub fields-next : {new : List ℤ} → new ≡ over spot
+            (valueCells (filledTo (r .width) (fieldPart (r .width) from (r .at + m) s)) (fieldOf f (filledTo (r .width) (fieldPart (r .width) from (r .at + m) s)))) now
             → FillingFields f l (lineText f l s (r .at) (o .end) m) (r .table) (r .cell) (r .at) (i + 1) (from + r .width) (spot + r .cells) new
         fields-next {new = new} y =
             record {

@@ -45,8 +45,8 @@ module _ (ns : List ℕ) (g : ℕ) (y : List ℕ) (room : ℕ) (c : List ℤ) wh
         cells = record {
           f = f;
           roomy = record { ruled = record { form = r .has; kept = ruling-kept ns kept }; enough = r .enough };
-          clean = lines-clean f (mayBeShort g) n y c (r .lines);
-          values = read-values f (mayBeShort g) n y c (r .lines);
+          clean = lines-clean f g n y c (r .lines);
+          values = read-values f g n y c (r .lines);
         };
         date = λ three. let d = r .date three in (d .date, Letters.first-due (map sizeOf c) (Right (d .date)) .0 (d .right));
       }
@@ -59,6 +59,6 @@ module _ (ns : List ℕ) (g : ℕ) (y : List ℕ) (room : ℕ) (c : List ℤ) wh
         form = h .f;
         has = h .roomy .ruled .form;
         enough = h .roomy .enough;
-        lines = lines-read (h .f) (mayBeShort g) (countOf ns g) y c (h .clean) (h .values);
+        lines = lines-read (h .f) g (countOf ns g) y c (h .clean) (h .values);
         date = λ three. let t = d .date three in record { date = t .0; right = Letters.first-due (map sizeOf c) (Right (t .0)) .1 (t .1) };
       }

@@ -4,15 +4,16 @@
 use mathlib.Core.Path.{_≡_, refl, sym, _∙_, ap, subst}
 use mathlib.Core.Bool.{Bool, true, false, cond, _||_}
 use mathlib.Core.List.{List, [], _∷_, map}
-use mathlib.Core.Logic.{_⊎_, inl, inr, ⊎-elim}
+use mathlib.Core.Logic.{_⊎_, _↔_, inl, inr, ⊎-elim}
 use Prim.Native.Nat.{ℕ, suc}
 use native.Mathlib.Omega.{arith}
-use borrow.Author.Tests.{eq-eqb, ne-eqb, eqb-true}
-use lib.Dec.{T, eqb}
+use borrow.Author.Tests.{eq-eqb, ne-eqb}
+use lib.Dec.{T, eqb, eqb→eq}
 use lib.IntN.{ℤ, pos}
 use lib.ListN.{length, getD}
 use Rattle.base.specs.Ascii.{printable}
 use Rattle.base.specs.Every.{every}
+use Rattle.base.proofs.Choice.{or-elim, true-T, not-T-false}
 use Rattle.form.specs.declared.Form.{Form}
 use Rattle.form.specs.declared.Form.the-variants.{A120, A1}
 use Rattle.form.specs.declared.GroupForm.the-variants.{Has}
@@ -22,25 +23,39 @@ use Rattle.field.specs.Read
 use Rattle.field.specs.Read.{fieldOf, formed, valueCells, ReadsAs}
 use Rattle.field.specs.declared.Value.{Value}
 use Rattle.field.specs.declared.Value.the-variants.{Cell, Letters, Misformed}
-use Rattle.reading.specs.Blanks.{mayBeShort, HoldsLetters}
+use Rattle.reading.specs.Blanks.{MayBeShort, mayBeShort, HoldsLetters}
+
+-- R64: the test passes exactly where the statement holds
+pub short-exactly : (g : ℕ) → T (mayBeShort g) ↔ MayBeShort g
+short-exactly g = (there, back)
+  where
+    there : T (mayBeShort g) → MayBeShort g
+    there t =
+        ⊎-elim
+        (λ h. inl (eqb→eq g 2 h))
+        (λ h. inr (⊎-elim (λ u. inl (eqb→eq g 54 u)) (λ u. inr (eqb→eq g 55 u)) (or-elim (eqb g 54) (eqb g 55) h)))
+        (or-elim (eqb g 2) (eqb g 54 || eqb g 55) t)
+
+    back : MayBeShort g → T (mayBeShort g)
+    back (inl e) = rw e tt
+    back (inr (inl e)) = rw e tt
+    back (inr (inr e)) = rw e tt
+
+pub not-short : (g : ℕ) → (MayBeShort g → ⊥) → mayBeShort g ≡ false
+not-short g n = not-T-false (mayBeShort g) (λ t. n (short-exactly g .0 t))
 
 pub short-letters : (g : ℕ) (f : Form) → formOf g ≡ Has f → HoldsLetters f (mayBeShort g)
 unfolding Table.formOf Table.formAmong Table.formEntry
-short-letters g f e t = by (eqb g 2) (eqb g 54) refl refl t
+short-letters g f e t =
+    ⊎-elim
+    (λ h. inl (form-is A120 2 h refl))
+    (⊎-elim (λ h. inr (form-is A1 54 h refl)) (λ h. inr (form-is A1 55 h refl)))
+    (short-exactly g .0 (true-T (mayBeShort g) t))
   where
-    one : (k : ℕ) → g ≡ k → formOf k ≡ Has A1 → (f ≡ A120) ⊎ (f ≡ A1)
-    one k h u =
-        let z : Has f ≡ Has A1 = sym e ∙ ap formOf h ∙ u in
-        let n : f ≡ A1 = cc in
-        inr n
-
-    by : (a b : Bool) → eqb g 2 ≡ a → eqb g 54 ≡ b → (a || (b || eqb g 55)) ≡ true → (f ≡ A120) ⊎ (f ≡ A1)
-    by true b u v t =
-        let z : Has A120 ≡ Has f = ap formOf (sym (eqb-true g 2 u)) ∙ e in
-        let n : f ≡ A120 = cc in
-        inl n
-    by false true u v t = one 54 (eqb-true g 54 v) refl
-    by false false u v t = one 55 (eqb-true g 55 t) refl
+    form-is : (k : Form) (n : ℕ) → g ≡ n → formOf n ≡ Has k → f ≡ k
+    form-is k n h u =
+        let z : Has f ≡ Has k = sym e ∙ ap formOf h ∙ u in
+        cc
 
 -- a statement on forms of letters holds if it holds of both
 both-forms : (P : Form → Type 0) {f : Form} → (f ≡ A120) ⊎ (f ≡ A1) → P A120 → P A1 → P f

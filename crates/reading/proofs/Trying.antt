@@ -26,7 +26,7 @@ use Rattle.line.specs.declared.Content.the-variants.{Length, NoReturn}
 use Rattle.line.proofs.Feeds.{plain-nil, plain-append, printable-plain}
 use Rattle.line.proofs.Reach.{reach-le, reach-past}
 use Rattle.line.proofs.Contents.{content-two, first-plain}
-use Rattle.reading.specs.Blanks.{filledTo, asField, rightContent, fieldsSpan, Fits}
+use Rattle.reading.specs.Blanks.{filledTo, asField, fieldPart, rightContent, fieldsSpan, Fits}
 use Rattle.reading.specs.Plan.{Line, lineAt}
 use Rattle.reply.specs.declared.Refusal.{Refusal}
 use Rattle.reply.specs.declared.Refusal.the-variants.{BadLine}
@@ -35,7 +35,7 @@ use Rattle.reading.specs.Read.{columnsOf, misfitOf, readLines, verdictOf
 use Rattle.reading.proofs.Blanks.{as-filled}
 use Rattle.reading.proofs.Lines.{right-is}
 use Rattle.reading.proofs.Fields.{lineText, enough}
-use Rattle.reading.proofs.Checking.{Checking, Fielding, element-small, next-first, many-here, columns-here, few-here, end-range, width-few, wrong-line}
+use Rattle.reading.proofs.Checking.{Checking, Fielding, element-small, next-first, many-here, columns-here, end-range, width-few, wrong-line}
 use Rattle.reading.proofs.Checking.{content-inside, fielding-start, checking-next, field-range, fielding-next, wrong-field}
 
 -- ---- how far fields are looked for
@@ -142,7 +142,7 @@ module _ {f : Form} {short : Bool} {count : ℕ} {s : List ℕ} (o : OnLine f sh
   columns : o .k * o .width ≡ columnsOf f l
   columns = columns-here f count s (o .state .walk) (o .k) (o .at + reach (drop (o .at) s) 1) (o .elements) refl
 
-  stops : (o .at ≤ o .stop) × (o .stop ≤ length s)
+  pub stops : (o .at ≤ o .stop) × (o .stop ≤ length s)
   stops = stop-range short (o .k * o .width) s (o .at) (o .state .walk .inside) (o .stop) (o .sought)
 
   pub trying-start : Trying f short l s (o .at) (o .stop) 0 (o .at)
@@ -163,7 +163,14 @@ module _ {f : Form} {short : Bool} {count : ℕ} {s : List ℕ} (o : OnLine f sh
         few-passed : i ≤ 120
         few-passed = omega (arith, g .within, row-fits f .few)
 
-    module _ (begin to : ℕ) (c : i < o .k) (b : begin ≡ min from (o .stop)) (t : to ≡ min (from + o .width) (o .stop)) where
+    module _ (c : i < o .k) where
+      -- where the bytes that are tried begin and end
+      abbrev begin : ℕ
+      begin = min from (o .stop)
+
+      abbrev to : ℕ
+      to = min (from + o .width) (o .stop)
+
       inner : i < l .many
       inner = omega (arith, many-here f count s (o .state .walk) (o .k) (o .at + reach (drop (o .at) s) 1) (o .elements) refl)
 
@@ -173,7 +180,7 @@ module _ {f : Form} {short : Bool} {count : ℕ} {s : List ℕ} (o : OnLine f sh
       pub element-few : o .element + i ≤ 65536 * 120
       element-few = omega (arith, o .state .first, inner, next-first f count s (o .state .walk), element-small f count s (o .state .walk))
 
-      pub try-range : (begin ≤ to) × (to ≤ length s) × (to - begin ≤ rowOf f .width)
+      try-range : (begin ≤ to) × (to ≤ length s) × (to - begin ≤ rowOf f .width)
       try-range = (omega arith, omega (arith, stops .1), omega (arith, o .state .walk .wide))
 
       long : length (part begin to s) ≡ to - begin
@@ -191,7 +198,7 @@ module _ {f : Form} {short : Bool} {count : ℕ} {s : List ℕ} (o : OnLine f sh
             by true u =
                 let v : contentOf (part (o .at) (o .at + reach (drop (o .at) s) 1) s) ≡ Length m = rw w at (right-is short (columnsOf f l) (part (o .at) end s) m r .content) in
                 let e = stop-short short (o .k * o .width) s (o .at) (o .state .walk .inside) (o .stop) (o .sought) u .content m v in
-                (b ∙ ap (min from) e, t ∙ ap (min (from + o .width)) e)
+                (ap (min from) e, ap (min (from + o .width)) e)
             by false u =
                 let n : columnsOf f l ≤ m = rw u at (enough f short l s (o .at) end m (end-range f count s (o .state .walk) (o .k) end (o .elements) w .1) r) in
                 let e = stop-full short (o .k * o .width) s (o .at) (o .state .walk .inside) (o .stop) (o .sought) u in
@@ -203,7 +210,7 @@ module _ {f : Form} {short : Bool} {count : ℕ} {s : List ℕ} (o : OnLine f sh
             let fit = field-range f short count s (o .state) (o .further) (o .k) end (o .elements) w m given (g .right end m w r) begin to c (ends-right .0) (ends-right .1) .2 in
             ap (λ x. formed (fieldOf f x)) (as-filled f short (part begin to s) (subst (Fits f short) (sym long) fit))
 
-      pub trying-next : formed (fieldOf f (asField f short (part begin to s))) ≡ true → Trying f short l s (o .at) (o .stop) (i + 1) (from + o .width)
+      pub trying-next : formed (fieldOf f (asField f short (fieldPart (o .width) from (o .stop) s))) ≡ true → Trying f short l s (o .at) (o .stop) (i + 1) (from + o .width)
       trying-next y =
           record {
             place = omega (arith, g .place, o .state .walk .wide, add-mul i 1 (rowOf f .width), one-mul (rowOf f .width));
@@ -223,7 +230,7 @@ module _ {f : Form} {short : Bool} {count : ℕ} {s : List ℕ} (o : OnLine f sh
               (e, omega (arith, e, formed-plain f short (part begin to s) u y .0, long, o .state .walk .wide, try-range))
 
       -- a line that is not right is blamed, and otherwise the field
-      pub trying-wrong : formed (fieldOf f (asField f short (part begin to s))) ≡ false → (r : Refusal)
+      pub trying-wrong : formed (fieldOf f (asField f short (fieldPart (o .width) from (o .stop) s))) ≡ false → (r : Refusal)
           → r ≡ misfitOf (o .j + 1) (o .element + i) (rightContent short (o .k * o .width) (part (o .at) (o .at + reach (drop (o .at) s) 1) s)) → C.Refused r ≡ verdictOf (readLines f short count s)
       trying-wrong y r z = by (rightContent short (o .k * o .width) (part (o .at) (o .at + reach (drop (o .at) s) 1) s)) refl
         where
@@ -234,7 +241,8 @@ module _ {f : Form} {short : Bool} {count : ℕ} {s : List ℕ} (o : OnLine f sh
           by (Length m) v =
               let n : rightContent short (columnsOf f l) (part (o .at) end s) ≡ Length m = rw columns at v in
               ap C.Refused (z ∙ ap (misfitOf (o .j + 1) (o .element + i)) v)
-              ∙ wrong-field f short count s (o .state) (o .further) (o .k) end (o .elements) refl m v (g .right end m refl n) begin to c (ends-right end m refl n .0) (ends-right end m refl n .1) (sym (same end m refl n) ∙ y)
+              ∙ wrong-field f short count s (o .state) (o .further) (o .k) end (o .elements) refl m v (g .right end m refl n) begin to c
+              (ends-right end m refl n .0) (ends-right end m refl n .1) (sym (same end m refl n) ∙ y)
           by NoReturn v = ap C.Refused (z ∙ ap (misfitOf (o .j + 1) (o .element + i)) v) ∙ wrong-line f short count s (o .state) (o .further) (o .k) end (o .elements) refl v
 
     -- all fields are formed: the line's end is sought behind them

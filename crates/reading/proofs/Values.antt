@@ -28,7 +28,7 @@ use Rattle.field.proofs.Laws.{lawful}
 use Rattle.line.specs.Lines.{reach, behind}
 use Rattle.line.proofs.Reach.{reach-zero, reach-add}
 use Rattle.line.proofs.Contents.{is-content, content-one}
-use Rattle.reading.specs.Blanks.{isRight, filledTo}
+use Rattle.reading.specs.Blanks.{mayBeShort, isRight, filledTo}
 use Rattle.reading.specs.Plan.{Line, planFrom, planOf}
 use Rattle.reading.specs.Read.{Cells, readField, readFields, columnsOf, readLine, readLinesOf, readLines}
 use Rattle.reading.specs.Values.{lineOf, planned, fieldIn, RightLine, Stands, Values}
@@ -98,11 +98,14 @@ module _ (f : Form) (short : Bool) (count : ℕ) (x : List ℕ) where
 
 -- ---- a line that was read
 
-module _ (f : Form) (short : Bool) (count : ℕ) (x : List ℕ) where
+module _ (f : Form) (g : ℕ) (count : ℕ) (x : List ℕ) where
+  abbrev short : Bool
+  short = mayBeShort g
+
   -- it is right, and each of its fields has its cells
   pub record ReadLine (j : ℕ) (cs : List ℤ) : Type 0 where
     pub content : List ℕ
-    pub line : RightLine f short count x j content
+    pub line : RightLine f g count x j content
     pub each : (k : ℕ) → k < planned f count j .many → ReadsAs f (fieldIn f count j content k) (part (k * rowOf f .cells) (suc k * rowOf f .cells) cs)
 
   pub line-read : (j : ℕ) (cs : List ℤ) → lineRead f short count x j ≡ done cs → ReadLine j cs
@@ -116,7 +119,7 @@ module _ (f : Form) (short : Bool) (count : ℕ) (x : List ℕ) where
       let fields : fieldsFrom f l text 0 ≡ done cs = fields-start f l text ∙ ap (λ z. readFields f l (filledTo (columnsOf f l) z)) (sym t) ∙ d .fields in
       record {
         content = s;
-        line = record { content = is-content y (d .bytes) (d .content) .0; right = right-plain short (columnsOf f l) s .0 (ap (isRight short (columnsOf f l)) (sym t) ∙ d .right) };
+        line = record { content = is-content y (d .bytes) (d .content) .0; right = right-plain g (columnsOf f l) s .0 (ap (isRight short (columnsOf f l)) (sym t) ∙ d .right) };
         each = λ k h. field-done f (l .number) (l .first + k) (fieldIn f count j s k) (part (k * rowOf f .cells) (suc k * rowOf f .cells) cs)
             (piece-done (fields-pieces f l text) (fields-sized f l text) cs fields k h);
       }
@@ -156,7 +159,7 @@ module _ (f : Form) (short : Bool) (count : ℕ) (x : List ℕ) where
             let m : min n (i * p) + min p (n - i * p) ≡ min n (suc i * p) = omega (arith, suc-mul i p) in
             omega (arith, line-size f short (planned f count i) (lineOf x i) ds u, add-mul (min n (i * p)) (min p (n - i * p)) (rowOf f .cells), ap (λ k. k * rowOf f .cells) m)
 
-    stands : (j k : ℕ) → k < p → j * p + k < n → Stands f short count x cs (j * p + k) j k
+    stands : (j k : ℕ) → k < p → j * p + k < n → Stands f g count x cs (j * p + k) j k
     stands j k h l =
         let c = rowOf f .cells in
         let r = line-read j (part (begins j) (begins (suc j)) cs) (line-cells j (line-inside j (omega arith))) in
@@ -174,17 +177,17 @@ module _ (f : Form) (short : Bool) (count : ℕ) (x : List ℕ) where
         }
 
     -- what was read is the group's values
-    pub read-values : Values f short count x cs
+    pub read-values : Values f g count x cs
     read-values = record { size = group-size f short count x cs e; each = stands }
 
   -- R45: counted from 0, element i stands in line i / per line, and i mod per line others stand before it there
-  pub values-divided : (cs : List ℤ) → Values f short count x cs → (i : ℕ) → i < n → Stands f short count x cs i (i / p) (i % p)
+  pub values-divided : (cs : List ℤ) → Values f g count x cs → (i : ℕ) → i < n → Stands f g count x cs i (i / p) (i % p)
   values-divided cs v i h =
       let e = div-add-mod' i p in
-      subst (λ m. Stands f short count x cs m (i / p) (i % p)) e (v .each (i / p) (i % p) (mod-lt i (row-fits f .some)) (omega arith))
+      subst (λ m. Stands f g count x cs m (i / p) (i % p)) e (v .each (i / p) (i % p) (mod-lt i (row-fits f .some)) (omega arith))
 
   -- a group has one list of values
-  pub values-one : (cs ds : List ℤ) → Values f short count x cs → Values f short count x ds → cs ≡ ds
+  pub values-one : (cs ds : List ℤ) → Values f g count x cs → Values f g count x ds → cs ≡ ds
   unfolding Count.cellsOf
   values-one cs ds u v = parts-same (rowOf f .cells) n cs ds (u .size) (v .size) same
     where
@@ -194,5 +197,5 @@ module _ (f : Form) (short : Bool) (count : ℕ) (x : List ℕ) where
           let b = values-divided ds v i h in
           let c : a .content ≡ b .content = content-one (lineOf x (i / p)) (a .content) (b .content) (a .line .content) (b .line .content) in
           let d = lawful f .is-reads (fieldIn f count (i / p) (a .content) (i % p)) (part (i * rowOf f .cells) (i * rowOf f .cells + rowOf f .cells) cs) (a .reads) in
-          let g = lawful f .is-reads (fieldIn f count (i / p) (b .content) (i % p)) (part (i * rowOf f .cells) (i * rowOf f .cells + rowOf f .cells) ds) (b .reads) in
-          sym (d .cells) ∙ ap (λ s. valueCells (fieldIn f count (i / p) s (i % p)) (fieldOf f (fieldIn f count (i / p) s (i % p)))) c ∙ g .cells
+          let o = lawful f .is-reads (fieldIn f count (i / p) (b .content) (i % p)) (part (i * rowOf f .cells) (i * rowOf f .cells + rowOf f .cells) ds) (b .reads) in
+          sym (d .cells) ∙ ap (λ s. valueCells (fieldIn f count (i / p) s (i % p)) (fieldOf f (fieldIn f count (i / p) s (i % p)))) c ∙ o .cells

@@ -20,7 +20,11 @@ use Rattle.line.specs.declared.Content.the-variants.{Length, NoReturn}
 abbrev pub blank : ℕ → Bool
 blank b = eqb b 32
 
--- R64: a group whose lines may be shorter than their fields. What is said of a line below is told whether its group is one.
+-- R64: a group whose lines may be shorter than their fields
+abbrev pub MayBeShort : ℕ → Type 0
+MayBeShort g = (g ≡ 2) ⊎ ((g ≡ 54) ⊎ (g ≡ 55))
+
+-- the same as a test (proofs/Letters.antt); what is computed of a line below is told whether its group is one
 abbrev pub mayBeShort : ℕ → Bool
 mayBeShort g = eqb g 2 || (eqb g 54 || eqb g 55)
 
@@ -39,6 +43,11 @@ isRight short columns s = leb (shortest short columns) (length s) && (leb (lengt
 -- R65: the field that bytes of a line are: they are filled with blanks only where lines may be short
 abbrev pub asField : Form → Bool → List ℕ → List ℕ
 asField f short s = cond short (filledTo (rowOf f .width) s) s
+
+-- R65: what there is of a field in the columns from `column` on, of a line whose content ends at `stop`: less than its width, or nothing, where
+-- the line is short
+abbrev pub fieldPart : ℕ → ℕ → ℕ → List ℕ → List ℕ
+fieldPart width column stop s = part (min column stop) (min (column + width) stop) s
 
 -- R64: short lines are told only of forms of letters, where a blank is a field or a part of one
 abbrev pub HoldsLetters : Form → Bool → Type 0

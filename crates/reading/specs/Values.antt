@@ -2,7 +2,6 @@
 -- line count from 0 here: element i stands in line i / per line, in the columns from (i mod per line) times the width, and fills the cells
 -- from i times the form's cells on (proofs/Values.antt).
 use mathlib.Core.Path.{_≡_}
-use mathlib.Core.Bool.{Bool}
 use mathlib.Core.List.{List}
 use Prim.Native.Nat.{ℕ, _+_, _*_, _<_, _≤_}
 use lib.IntN.{ℤ}
@@ -14,7 +13,7 @@ use Rattle.form.specs.Count.{elementsOf, cellsOf}
 use Rattle.field.specs.Grammar.{IsField}
 use Rattle.line.specs.Lines.{lines, behind}
 use Rattle.line.specs.Contents.{HasContent}
-use Rattle.reading.specs.Blanks.{shortest, filledTo}
+use Rattle.reading.specs.Blanks.{MayBeShort, filledTo}
 use Rattle.reading.specs.Plan.{Line, lineAt}
 use Rattle.reading.specs.Read.{columnsOf}
 
@@ -30,19 +29,19 @@ planned f count j = lineAt (rowOf f .«per_line») (elementsOf f count) j
 abbrev pub fieldIn : Form → ℕ → ℕ → List ℕ → ℕ → List ℕ
 fieldIn f count j s k = take (rowOf f .width) (drop (k * rowOf f .width) (filledTo (columnsOf f (planned f count j)) s))
 
--- R62 to R64: the content has the columns of its fields, unless it may be short; it has no more than 120 bytes, and blanks alone behind the
--- fields: what isRight tests (proofs/Blanks.antt)
-pub record RightContent (short : Bool) (columns : ℕ) (s : List ℕ) : Type 0 where
-  pub least : shortest short columns ≤ length s
+-- R62 to R64: the content has the columns of its fields, unless lines of the group may be short; it has no more than 120 bytes, and blanks
+-- alone behind the fields: what isRight tests (proofs/Blanks.antt)
+pub record RightContent (g : ℕ) (columns : ℕ) (s : List ℕ) : Type 0 where
+  pub least : (MayBeShort g → ⊥) → columns ≤ length s
   pub most : length s ≤ 120
   pub blanks : (i : ℕ) → columns ≤ i → i < length s → getD s i 0 ≡ 32
 
--- a group of this form and count, whose lines are x and may be short or not
-module _ (f : Form) (short : Bool) (count : ℕ) (x : List ℕ) where
+-- a group of this form, number and count, whose lines are x
+module _ (f : Form) (g : ℕ) (count : ℕ) (x : List ℕ) where
   -- R66: line j is right, so not 8: it is the content s, a carriage return and a line feed, and s is right for its fields
   pub record RightLine (j : ℕ) (s : List ℕ) : Type 0 where
     pub content : HasContent (lineOf x j) s
-    pub right : RightContent short (columnsOf f (planned f count j)) s
+    pub right : RightContent g (columnsOf f (planned f count j)) s
 
   -- R45, R46: element i stands in line j behind k fields; its field has (field's Grammar) the cells from i times the form's cells on
   pub record Stands (cs : List ℤ) (i j k : ℕ) : Type 0 where

@@ -1,5 +1,5 @@
-// Reading the lines of a group under its record's counts. The lines are checked first, and the table is filled only when all of them are
-// clean (R267). The text that they come from is not known here (R269).
+// Reading the lines of a group under its record's counts. The lines are checked first, and the table is filled only
+// when all of them are clean (R267). The text that they come from is not known here (R269).
 use count::Ruling;
 use form::Form;
 use form::GroupForm;
@@ -9,7 +9,7 @@ use reply::Refusal;
 ghost use mathlib.Core.Path.{_≡_};
 ghost use mathlib.Core.Bool as Bool;
 ghost use mathlib.Core.List.{map};
-ghost use Prim.Native.Nat.{_+_, _-_, _*_, _≤_};
+ghost use Prim.Native.Nat.{_+_, _-_, _*_, _≤_, min};
 ghost use lib.Dec.{T};
 ghost use lib.IntN.{pos};
 ghost use lib.ListN.{length, drop, getD};
@@ -23,7 +23,7 @@ ghost use Rattle.count.specs.Rules.{rulingOf};
 ghost use Rattle.line.specs.Lines.{reach};
 ghost use Rattle.line.specs.Contents.{contentOf};
 ghost use Rattle.reading.specs.Blanks.{blank, mayBeShort, shortest, filledTo, isRight, asField, rightContent};
-ghost use Rattle.reading.specs.Blanks.{fieldsSpan, Fits, HoldsLetters};
+ghost use Rattle.reading.specs.Blanks.{fieldPart, fieldsSpan, Fits, HoldsLetters};
 ghost use Rattle.reading.specs.Read.{verdictOf, misfitOf, readLines, dated, readForm, readGroup, readingOf};
 ghost use Rattle.reading.specs.Read.{tableBy};
 
@@ -80,28 +80,6 @@ fn right_content(short: bool, columns: usize, line: &[u8]) -> line::Content
     line::Content::NoReturn
 }
 
-fn right_content_at(
-    short: bool,
-    columns: usize,
-    lines: &[u8],
-    from: usize,
-    to: usize,
-) -> line::Content
-    requires order { ⌜ from ≤ to ⌝ }
-    requires lines { ⌜ to ≤ length (now lines) ⌝ }
-    ensures { λ r. ⌜ r ≡ rightContent short columns (part from to (now (lines .entry))) ⌝ }
-{
-    right_content(short, columns, &lines[from..to])
-}
-
-fn content_at(lines: &[u8], from: usize, to: usize) -> line::Content
-    requires order { ⌜ from ≤ to ⌝ }
-    requires lines { ⌜ to ≤ length (now lines) ⌝ }
-    ensures { λ r. ⌜ r ≡ contentOf (part from to (now (lines .entry))) ⌝ }
-{
-    line::content_length(&lines[from..to])
-}
-
 // ---- Checking.
 
 fn is_formed(value: field::Value) -> bool
@@ -115,7 +93,8 @@ fn is_formed(value: field::Value) -> bool
     }
 }
 
-// Whether bytes of a line are a field of the form. Where lines may be short, blanks that would be added print too (R65).
+// Whether bytes of a line are a field of the form. Where lines may be short, blanks that would be added print too
+// (R65).
 fn is_field(form: Form, short: bool, bytes: &[u8]) -> bool
     requires letters { ⌜ HoldsLetters form short ⌝ }
     requires width { ⌜ length (now bytes) ≤ rowOf form .width ⌝ }
@@ -127,25 +106,35 @@ fn is_field(form: Form, short: bool, bytes: &[u8]) -> bool
     is_formed(field::read(form, bytes))
 }
 
-fn is_field_at(form: Form, short: bool, lines: &[u8], from: usize, to: usize) -> bool
+// The same of the bytes in the columns from `column` on, of a line that is looked at up to `stop`.
+fn is_field_at(
+    form: Form,
+    short: bool,
+    width: usize,
+    lines: &[u8],
+    column: usize,
+    stop: usize,
+) -> bool
     requires letters { ⌜ HoldsLetters form short ⌝ }
-    requires order { ⌜ from ≤ to ⌝ }
-    requires lines { ⌜ to ≤ length (now lines) ⌝ }
-    requires length { ⌜ to - from ≤ rowOf form .width ⌝ }
-    ensures { λ r. ⌜ r ≡ formed (fieldOf form (asField form short (part from to (now (lines .entry))))) ⌝ }
+    requires lines { ⌜ stop ≤ length (now lines) ⌝ }
+    requires width { ⌜ width ≡ rowOf form .width ⌝ }
+    ensures { λ r. ⌜ r ≡
+        formed (fieldOf form (asField form short (fieldPart width column stop (now (lines .entry))))) ⌝ }
 {
+    let from = base::lesser(column, stop);
+    let to = from + base::lesser(width, stop - from);
     is_field(form, short, &lines[from..to])
 }
 
-// Where the fields of a line are looked for no further, before its end is known. A line that may be short has no length of its own: its
-// content is asked for first, and its bytes are looked at twice.
+// Where the fields of a line are looked for no further, before its end is known. A line that may be short has no length
+// of its own: its content is asked for first, and its bytes are looked at twice.
 fn fields_stop(short: bool, columns: usize, lines: &[u8], at: usize) -> usize
     requires { ⌜ at ≤ length (now lines) ⌝ }
     ensures { λ r. ⌜ r ≡ at + fieldsSpan short columns (now (lines .entry)) at ⌝ }
 {
     if short {
-        let line::Content::Length(n) = content_at(lines, at, line::behind_or_end(lines, at, 1))
-        else {
+        let end = line::behind_or_end(lines, at, 1);
+        let line::Content::Length(n) = line::content_length(&lines[at..end]) else {
             return at;
         };
         return at + n;
@@ -167,14 +156,16 @@ fn misfit(
         misfitOf number element
         (rightContent short columns (part at (at + reach (drop at (now (lines .entry))) 1) (now (lines .entry)))) ⌝ }
 {
-    match right_content_at(short, columns, lines, at, line::behind_or_end(lines, at, 1)) {
+    let end = line::behind_or_end(lines, at, 1);
+    match right_content(short, columns, &lines[at..end]) {
         line::Content::Length(_) => Refusal::BadField(number, element),
         line::Content::NoReturn => Refusal::BadLine(number),
     }
 }
 
-// The first pass, as R443 has it: each line's fields, and then what stands behind them, up to the first line that is bad (R263). It looks
-// at no table. No line feed stands in fields that are formed, so the line's end is sought behind them.
+// The first pass, as R443 has it: each line's fields, and then what stands behind them, up to the first line that is
+// bad (R263). It looks at no table. No line feed stands in fields that are formed, so the line's end is sought behind
+// them.
 fn check_lines(form: Form, short: bool, count: u16, lines: &[u8]) -> Checked
     requires { ⌜ HoldsLetters form short ⌝ }
     ensures { λ r. ⌜ r ≡ verdictOf (readLines form short count (now (lines .entry))) ⌝ }
@@ -194,8 +185,7 @@ fn check_lines(form: Form, short: bool, count: u16, lines: &[u8]) -> Checked
         let mut from = at;
         let mut i: usize = 0;
         while i < k {
-            let to = base::lesser(from + width, stop);
-            if is_field_at(form, short, lines, base::lesser(from, stop), to) {
+            if is_field_at(form, short, width, lines, from, stop) {
                 from += width;
                 i += 1;
             } else {
@@ -204,7 +194,7 @@ fn check_lines(form: Form, short: bool, count: u16, lines: &[u8]) -> Checked
             }
         }
         let end = line::behind_or_end(lines, stop, 1);
-        let line::Content::Length(_) = right_content_at(short, k * width, lines, at, end) else {
+        let line::Content::Length(_) = right_content(short, k * width, &lines[at..end]) else {
             verdict = Checked::Refused(Refusal::BadLine(j + 1));
             break 'lines;
         };
@@ -303,28 +293,30 @@ fn put_field(form: Form, short: bool, width: usize, bytes: &[u8], table: &mut [i
     }
 }
 
+// The same of the field in the columns from `column` on, of a line whose content ends at `stop`.
 fn put_field_at(
     form: Form,
     short: bool,
     width: usize,
     lines: &[u8],
-    from: usize,
-    to: usize,
+    column: usize,
+    stop: usize,
     table: &mut [i64],
     at: usize,
 )
     requires letters { ⌜ HoldsLetters form short ⌝ }
-    requires order { ⌜ from ≤ to ⌝ }
-    requires lines { ⌜ to ≤ length (now lines) ⌝ }
+    requires lines { ⌜ stop ≤ length (now lines) ⌝ }
     requires width { ⌜ width ≡ rowOf form .width ⌝ }
-    requires fits { ⌜ Fits form short (to - from) ⌝ }
-    requires formed { ⌜ T (formed (fieldOf form (filledTo width (part from to (now lines))))) ⌝ }
+    requires fits { ⌜ Fits form short (min (column + width) stop - min column stop) ⌝ }
+    requires formed { ⌜ T (formed (fieldOf form (filledTo width (fieldPart width column stop (now lines))))) ⌝ }
     requires room { ⌜ at + rowOf form .cells ≤ length (now table) ⌝ }
     ensures { λ _. ⌜ now (table .exit) ≡
         over at
-        (valueCells (filledTo width (part from to (now (lines .entry))))
-        (fieldOf form (filledTo width (part from to (now (lines .entry)))))) (now (table .entry)) ⌝ }
+        (valueCells (filledTo width (fieldPart width column stop (now (lines .entry))))
+        (fieldOf form (filledTo width (fieldPart width column stop (now (lines .entry)))))) (now (table .entry)) ⌝ }
 {
+    let from = base::lesser(column, stop);
+    let to = from + base::lesser(width, stop - from);
     put_field(form, short, width, &lines[from..to], table, at);
 }
 
@@ -347,27 +339,18 @@ fn fill_lines(form: Form, short: bool, count: u16, lines: &[u8], table: &mut [i6
     let mut j: usize = 0;
     while j < many {
         let k = base::lesser(per_line, left);
-        // no line feed stands in the columns of these fields; a line that may be short can end anywhere, so its bytes are looked at twice
+        // no line feed stands in the columns of these fields; a line that may be short can end anywhere, so its bytes
+        // are looked at twice
         let end = line::behind_or_end(lines, at + least(short, k * width), 1);
         // a clean line has a content, so this is never taken
-        let line::Content::Length(n) = content_at(lines, at, end) else {
+        let line::Content::Length(n) = line::content_length(&lines[at..end]) else {
             return;
         };
         let stop = at + n;
         let mut from = at;
         let mut i: usize = 0;
         while i < k {
-            let to = base::lesser(from + width, stop);
-            put_field_at(
-                form,
-                short,
-                width,
-                lines,
-                base::lesser(from, stop),
-                to,
-                table,
-                cell,
-            );
+            put_field_at(form, short, width, lines, from, stop, table, cell);
             from += width;
             cell += cells;
             i += 1;
@@ -402,9 +385,9 @@ fn read_form(form: Form, group: usize, count: u16, lines: &[u8], table: &mut [i6
     }
 }
 
-// R260: reads a group of a record with these counts, whose lines these are, into a table. It is altered only if all is clean, and then only
-// as far as the group's cells go (R266, R267). The counts keep the rules, as those of a record that was placed with 0 do: they are not tried
-// again.
+// R260: reads a group of a record with these counts, whose lines these are, into a table. It is altered only if all is
+// clean, and then only as far as the group's cells go (R266, R267). The counts keep the rules, as those of a record
+// that was placed with 0 do: they are not tried again.
 pub fn read_kept(counts: &[u16], group: usize, lines: &[u8], table: &mut [i64]) -> Answer
     requires { ⌜ rulingOf (now counts) ≡ Ruling.Kept ⌝ }
     ensures answer { λ r. ⌜ r ≡

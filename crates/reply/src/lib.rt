@@ -1,5 +1,5 @@
-// R200 to R217: the replies. What a question refuses with is a `Refusal`, whichever question it is; a reply is told as its number, with the
-// numbers beside it. What a reply's row doesn't name is 0 (R230).
+// R200 to R217: the replies. What a question refuses with is a `Refusal`, whichever question it is; a reply is told as
+// its number, with the numbers beside it. What a reply's row doesn't name is 0 (R230).
 ghost use mathlib.Core.Path.{_≡_};
 ghost use mathlib.Core.List.{[], _∷_};
 ghost use Rattle.reply.specs.Table.{told, next, bytes, group, line, element, position, savepoint, place};

@@ -1,12 +1,13 @@
-// The program `rewrite` (R341, R345, R346): standard input is printed again as canonical text, record by record. What a record's text is,
-// and where the next begins, is `sao::rewrite_record`'s; here it is only read, asked for and written.
+// The program `rewrite` (R341, R345, R346): standard input is printed again as canonical text, record by record. What a
+// record's text is, and where the next begins, is `sao::rewrite_record`'s; here it is only read, asked for and written.
 use rewriting::Rewriting;
 ghost use mathlib.Core.Path.{_≡_};
 ghost use lib.ListN.{length};
 ghost use Rattle.rewriting.specs.Printed.{Stopped};
 
-// Prints the canonical text of each record from the text's start on, until the first that is not rewritten with 0, and gives the place where
-// it stopped; of a text longer than 65,536 bytes, nothing. The table has a cell for each byte of the page, which is always enough (R347).
+// Prints the canonical text of each record from the text's start on, until the first that is not rewritten with 0, and
+// gives the place where it stopped; of a text longer than 65,536 bytes, nothing. The table has a cell for each byte of
+// the page, which is always enough (R347).
 fn print_text(text: &[u8], table: &mut [i64], page: &mut [u8]) -> usize
     requires table { ⌜ length (now table) ≡ 8192 ⌝ }
     requires page { ⌜ length (now page) ≡ 8192 ⌝ }

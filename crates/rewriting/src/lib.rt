@@ -1,4 +1,5 @@
-// R320, rewriting: the record at a place of a text as canonical text, over a lent table. Any text, place, table and output may be given (R241).
+// R320, rewriting: the record at a place of a text as canonical text, over a lent table. Any text, place, table and
+// output may be given (R241).
 use count::Ruling;
 use place::Placing;
 use reply::Answer;
@@ -135,9 +136,9 @@ fn rewrite_placed(
     }
 }
 
-// Rewrites the record at a place of a text into an output, over a table. R321: what placing refuses with; 11 if output or table is too short
-// (R322); what the first group that is refused is refused with, and which group that is (R323); else 0 with the bytes that were written and
-// the next place. A refusal leaves the whole output as it was (R325).
+// Rewrites the record at a place of a text into an output, over a table. R321: what placing refuses with; 11 if output
+// or table is too short (R322); what the first group that is refused is refused with, and which group that is (R323);
+// else 0 with the bytes that were written and the next place. A refusal leaves the whole output as it was (R325).
 pub fn rewrite_record(text: &[u8], at: usize, table: &mut [i64], out: &mut [u8]) -> Rewriting
     ensures answer { λ r. ⌜ r ≡
         rewritingOf (now (text .entry)) at (length (now (table .entry))) (length (now (out .entry))) ⌝ }

@@ -32,7 +32,7 @@ use Rattle.writing.specs.Text.{recordText}
 use Rattle.writing.specs.Writing.{writingOf, outputBy}
 use Rattle.writing.specs.Due as WritingIs
 use Rattle.reply.specs.declared.Checked.the-variants.{Right}
-use Rattle.count.specs.Check.{checkedOf}
+use Rattle.count.specs.Due.{HasCells}
 use Rattle.entry.specs.Bytes.{AllBytes}
 use Rattle.entry.specs.Codec.{BothWays}
 use Rattle.journal.specs.Model.{Call}
@@ -40,7 +40,7 @@ use Rattle.journal.specs.Calls.{answerOf}
 use Rattle.journal.specs.Plays.{replayOf, replayedCells, replayedOpen}
 use Rattle.journal.specs.Due as JournalIs
 use Rattle.journal.specs.Runs.{Fit, FitCalls, Kept, kept, answerTo, leftBy, leftTo, entriesTo, behindReplay}
-use Rattle.journal.specs.Runs.{JournalIsStack, AddsField, ReadsAs, ReplaysTo, Alike, Torn, MadeBy}
+use Rattle.journal.specs.Runs.{JournalIsStack, AddsField, ReadsAs, ReplaysTo, FirstBytes, Torn, MadeBy}
 use Rattle.listing.specs.Listing.{listing, listedIn, IsListing, ListingDue}
 use Rattle.rewriting.specs.declared.Rewriting.{Rewriting}
 use Rattle.rewriting.specs.declared.Rewriting.the-variants.{Done as Rewritten}
@@ -137,18 +137,19 @@ pub record Edits : Type 0 where
   pub reads-as : (ns : List ℕ) (t : List ℤ) (j : List ℕ) (cs : List Call) → Fit t → FitCalls cs → ReadsAs (leftTo ns cs (kept t j 0)) (entriesTo ns cs (kept t j 0))
   -- replayed over t, the journal comes to the same cells and open savepoints
   pub replayed : (ns : List ℕ) (t : List ℤ) (j : List ℕ) (cs : List Call) → Fit t → FitCalls cs
-      → checkedOf ns (length t) ≡ Right
-      → ReplaysTo ns t (leftTo ns cs (kept t j 0))
-  -- and further calls go on behind the replay as they would have without it
+      → HasCells ns (length t)
+      → ReplaysTo ns t (leftTo ns cs (kept t j 0) .journal) (leftTo ns cs (kept t j 0))
+  -- and behind the replay all is as it was kept, so that further calls are answered, and leave, what they would have without it
   pub goes-on : (ns : List ℕ) (t : List ℤ) (j : List ℕ) (cs : List Call) → Fit t → FitCalls cs
-      → checkedOf ns (length t) ≡ Right
-      → (further : List Call) → Alike ns (behindReplay ns t (leftTo ns cs (kept t j 0))) (leftTo ns cs (kept t j 0)) further
-  -- cut at any byte, it comes to what the calls left that are whole in it
+      → HasCells ns (length t)
+      → behindReplay ns t (leftTo ns cs (kept t j 0)) ≡ leftTo ns cs (kept t j 0)
+  -- cut behind its first n bytes, and with whatever else in the buffer j′, it comes to what the calls left that are whole in them
   pub torn : (ns : List ℕ) (t : List ℤ) (j : List ℕ) (cs : List Call) → Fit t → FitCalls cs
-      → checkedOf ns (length t) ≡ Right
-      → (n : ℕ) → n ≤ leftTo ns cs (kept t j 0) .used → Torn ns t cs (kept t j 0) n
-  -- what replays with 0, whoever wrote it, is a journal that calls have made, and calls go on behind it
-  pub made : (ns : List ℕ) (t : List ℤ) (k : Kept) → Fit t → AllBytes (k .journal)
+      → HasCells ns (length t)
+      → {n : ℕ} {j′ : List ℕ} → FirstBytes (leftTo ns cs (kept t j 0)) n j′
+      → Torn ns t cs (kept t j 0) n j′
+  -- what replays with 0, whoever wrote it, is a journal that calls have made
+  pub made : (ns : List ℕ) (t : List ℤ) (k : Kept) → Fit t → AllBytes (take (k .used) (k .journal))
       → replayOf ns (k .journal) (k .used) t ≡ Right
       → MadeBy ns (kept t (k .journal) 0) (behindReplay ns t k)
 

@@ -1,6 +1,6 @@
-// The questions, R240. Each may be asked of every text, place, number, table and output; nothing has to hold beforehand (R241). The layers
-// answer them; here each has its name, its contract and nothing else. `reply`, and the layers' `reply_of` for answers of their own, give an
-// answer's number, with the numbers beside it (R200 to R214).
+// The questions, R240. Each may be asked of every text, place, number, table and output; nothing has to hold beforehand
+// (R241). The layers answer them; here each has its name, its contract and nothing else. `reply`, and the layers'
+// `reply_of` for answers of their own, give an answer's number, with the numbers beside it (R200 to R214).
 use group::Characteristic;
 use group::Lines;
 use journal::Edited;
@@ -34,8 +34,8 @@ pub fn place(text: &[u8], at: usize) -> Record
 }
 
 // R260 to R268. Asked: the cells of a group, 1 to 60, of the record at a place.
-// Answered: 0 with the number of cells, which stand in the table from its first cell on; what stands behind them is kept.
-// A refusal leaves the whole table as it was.
+// Answered: 0 with the number of cells, which stand in the table from its first cell on; what stands behind them is
+// kept. A refusal leaves the whole table as it was.
 pub fn read_group(text: &[u8], at: usize, group: usize, table: &mut [i64]) -> Answer
     ensures answer { λ r. ⌜ r ≡ readingOf (readAt (now (text .entry)) at group (length (now (table .entry)))) ⌝ }
     ensures table { λ _. ⌜ now (table .exit) ≡
@@ -45,8 +45,8 @@ pub fn read_group(text: &[u8], at: usize, group: usize, table: &mut [i64]) -> An
 }
 
 // R280 to R284. Asked: where the lines of a group of the record at a place stand in the text.
-// Answered: that they can be given, and from where to where they stand; with count 0 both places are where they would be.
-// A refusal has its reply, 12 or what placing refuses with, and both places are 0.
+// Answered: that they can be given, and from where to where they stand; with count 0 both places are where they would
+// be. A refusal has its reply, 12 or what placing refuses with, and both places are 0.
 pub fn group_lines_at(text: &[u8], at: usize, group: usize) -> Lines
     ensures found { λ r. ⌜ r .found ≡ foundAt (now (text .entry)) at group ⌝ }
     ensures from { λ r. ⌜ r .from ≡ partStart (now (text .entry)) at group ⌝ }
@@ -75,8 +75,8 @@ pub fn characteristic(text: &[u8], at: usize, number: usize) -> Characteristic
 }
 
 // R300 to R307. Asked: to write a record of these counts and of the cells of all groups, group 1's first.
-// Answered: 0 with the number of bytes, which stand in the output from its first byte on; what stands behind them is kept.
-// A refusal leaves the whole output as it was.
+// Answered: 0 with the number of bytes, which stand in the output from its first byte on; what stands behind them is
+// kept. A refusal leaves the whole output as it was.
 pub fn write_record(counts: &[u16], cells: &[i64], out: &mut [u8]) -> Answer
     ensures answer { λ r. ⌜ r ≡ writingOf (now (counts .entry)) (now (cells .entry)) (length (now (out .entry))) ⌝ }
     ensures output { λ r. ⌜ now (out .exit) ≡
@@ -86,8 +86,8 @@ pub fn write_record(counts: &[u16], cells: &[i64], out: &mut [u8]) -> Answer
 }
 
 // R310, R311. Asked: the listing of a text, a line for each record of its walk and the line `end`.
-// Answered: 0 with the number of bytes, which stand in the output from its first byte on; what stands behind them is kept.
-// A refusal (11) leaves the whole output as it was.
+// Answered: 0 with the number of bytes, which stand in the output from its first byte on; what stands behind them is
+// kept. A refusal (11) leaves the whole output as it was.
 pub fn list(text: &[u8], out: &mut [u8]) -> Answer
     ensures answer { λ r. ⌜ r ≡ listedIn (listing (now (text .entry))) (length (now (out .entry))) ⌝ }
     ensures output { λ _. ⌜ now (out .exit) ≡ putBytes 0 (listing (now (text .entry))) (now (out .entry)) ⌝ }
@@ -96,8 +96,8 @@ pub fn list(text: &[u8], out: &mut [u8]) -> Answer
 }
 
 // R320 to R326. Asked: to rewrite the record at a place as canonical text.
-// Answered: 0 with the number of bytes and the next place; the bytes stand in the output from its first byte on, the record's cells in the
-// table from its first cell on, and what stands behind them is kept.
+// Answered: 0 with the number of bytes and the next place; the bytes stand in the output from its first byte on, the
+// record's cells in the table from its first cell on, and what stands behind them is kept.
 // A refusal leaves the whole output as it was; the table has the cells of the groups that were read before it.
 pub fn rewrite_record(text: &[u8], at: usize, table: &mut [i64], out: &mut [u8]) -> Rewriting
     ensures answer { λ r. ⌜ r ≡
@@ -108,8 +108,8 @@ pub fn rewrite_record(text: &[u8], at: usize, table: &mut [i64], out: &mut [u8])
     rewriting::rewrite_record(text, at, table, out)
 }
 
-// ---- The edit journal, R500 to R550. What is kept between two calls is the caller's: the counts of a record, the table of its cells in group
-// order, a journal and how many of its bytes are used; a fresh journal has 0 used.
+// ---- The edit journal, R500 to R550. What is kept between two calls is the caller's: the counts of a record, the
+// table of its cells in group order, a journal and how many of its bytes are used; a fresh journal has 0 used.
 
 // R512. Asked: to set a cell, counted from 1, of a group.
 // Answered: 0; the cell has the value, and the journal a field more, which has the old value too.

@@ -1,6 +1,7 @@
-// For C: each question of `sao` under a name of its own, in numbers and slices alone. R360: a function answers with the reply's
-// number and writes the eight numbers beside it, in the order of `eightBeside`, into lent memory; those that the reply's row doesn't name are 0.
-// What else is lent is altered as the question of the same name says. include/seambeacon.h tells a caller in C.
+// For C: each question of `sao` under a name of its own, in numbers and slices alone. R360: a function answers with the
+// reply's number and writes the eight numbers beside it, in the order of `eightBeside`, into lent memory; those that
+// the reply's row doesn't name are 0. What else is lent is altered as the question of the same name says.
+// include/seambeacon.h tells a caller in C.
 use group::Characteristic;
 use reply::Reply;
 ghost use mathlib.Core.Path.{_≡_};
@@ -91,8 +92,8 @@ pub extern "C" fn seambeacon_place(
 }
 
 // R260 to R268. Asked: the cells of a group, 1 to 60, of the record at a place.
-// Answered: 0 with the number of cells, which stand in the table from its first cell on; what stands behind them is kept.
-// A refusal leaves the whole table as it was.
+// Answered: 0 with the number of cells, which stand in the table from its first cell on; what stands behind them is
+// kept. A refusal leaves the whole table as it was.
 #[no_mangle]
 pub extern "C" fn seambeacon_read_group(
     text: &[u8],
@@ -111,8 +112,8 @@ pub extern "C" fn seambeacon_read_group(
 }
 
 // R280 to R283, R362. Asked: the lines of a group of the record at a place, with their line ends.
-// Answered: 0, and which part of the text holds them: the place where it starts, and its length. With count 0 it is empty, and lies where the
-// lines would be.
+// Answered: 0, and which part of the text holds them: the place where it starts, and its length. With count 0 it is
+// empty, and lies where the lines would be.
 // A refusal, 12 or what placing refuses with, gives the empty part at place 0.
 #[no_mangle]
 pub extern "C" fn seambeacon_group_lines(
@@ -156,8 +157,8 @@ pub extern "C" fn seambeacon_characteristic(
 }
 
 // R300 to R307. Asked: to write a record of these counts and of the cells of all groups, group 1's first.
-// Answered: 0 with the number of bytes, which stand in the output from its first byte on; what stands behind them is kept.
-// A refusal leaves the whole output as it was.
+// Answered: 0 with the number of bytes, which stand in the output from its first byte on; what stands behind them is
+// kept. A refusal leaves the whole output as it was.
 #[no_mangle]
 pub extern "C" fn seambeacon_write_record(
     counts: &[u16],
@@ -176,8 +177,8 @@ pub extern "C" fn seambeacon_write_record(
 }
 
 // R310, R311. Asked: the listing of a text, a line for each record of its walk and the line `end`.
-// Answered: 0 with the number of bytes, which stand in the output from its first byte on; what stands behind them is kept.
-// A refusal (11) leaves the whole output as it was.
+// Answered: 0 with the number of bytes, which stand in the output from its first byte on; what stands behind them is
+// kept. A refusal (11) leaves the whole output as it was.
 #[no_mangle]
 pub extern "C" fn seambeacon_list(text: &[u8], out: &mut [u8], beside: &mut [usize; 8]) -> u32
     ensures reply { λ n. ⌜ Told (listReply (now (text .entry)) (length (now (out .entry)))) n (now (beside .exit)) ⌝ }
@@ -188,9 +189,9 @@ pub extern "C" fn seambeacon_list(text: &[u8], out: &mut [u8], beside: &mut [usi
 }
 
 // R320 to R326, R363. Asked: to rewrite the record at a place as canonical text.
-// Answered: 0 with the number of bytes and the next place; the bytes stand in the output from its first byte on, the record's cells in the
-// table from its first cell on, and what stands behind them is kept. The group that was not read, or 0, is given apart: a reply's own group
-// is the blamed one.
+// Answered: 0 with the number of bytes and the next place; the bytes stand in the output from its first byte on, the
+// record's cells in the table from its first cell on, and what stands behind them is kept. The group that was not read,
+// or 0, is given apart: a reply's own group is the blamed one.
 // A refusal leaves the whole output as it was; the table has the cells of the groups that were read before it.
 #[no_mangle]
 pub extern "C" fn seambeacon_rewrite_record(
@@ -338,7 +339,8 @@ pub extern "C" fn seambeacon_undo_to_savepoint(
         (callAnswer (now (counts .entry)) (now (journal .entry)) (now (used .entry)) (now (cells .entry))
         (Undoes savepoint)) ⌝ }
     ensures cells { λ _. ⌜ now (cells .exit) ≡
-        cellsAfter (now (counts .entry)) (now (journal .entry)) (now (used .entry)) (Undoes savepoint) (now (cells .entry))
+        cellsAfter (now (counts .entry)) (now (journal .entry)) (now (used .entry)) (Undoes savepoint)
+        (now (cells .entry))
         (callAnswer (now (counts .entry)) (now (journal .entry)) (now (used .entry)) (now (cells .entry))
         (Undoes savepoint)) ⌝ }
     ensures journal { λ _. ⌜ now (journal .exit) ≡

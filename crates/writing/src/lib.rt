@@ -1,4 +1,5 @@
-// Writing a record: counts and cells to canonical text. All is checked first, and a byte is written only when nothing is refused (R307).
+// Writing a record: counts and cells to canonical text. All is checked first, and a byte is written only when nothing
+// is refused (R307).
 use form::Form;
 use reply::Answer;
 use reply::Checked;
@@ -30,14 +31,6 @@ enum Fit {
 
 // ---- Checking.
 
-fn fits_at(form: Form, cells: &[i64], from: usize, to: usize) -> bool
-    requires order { ⌜ from ≤ to ⌝ }
-    requires cells { ⌜ to ≤ length (now cells) ⌝ }
-    ensures { λ r. ⌜ r ≡ fitsOf form (part from to (now (cells .entry))) ⌝ }
-{
-    field::fits(form, &cells[from..to])
-}
-
 // The first element of a group whose cells fit no field; the group's cells begin at a place of the table.
 fn elements_fit(form: Form, group: usize, count: u16, cells: &[i64], from: usize) -> Fit
     requires { ⌜ from + cellsOf form count ≤ length (now cells) ⌝ }
@@ -50,7 +43,7 @@ fn elements_fit(form: Form, group: usize, count: u16, cells: &[i64], from: usize
     let mut e: usize = 0;
     while e < many {
         let to = at + size;
-        if fits_at(form, cells, at, to) {
+        if field::fits(form, &cells[at..to]) {
             at = to;
             e += 1;
         } else {
@@ -116,7 +109,8 @@ fn group_bytes(form: Form, count: u16) -> usize
     n * row.width + form::rounded_up(n, row.per_line) * 2
 }
 
-// R110: the bytes of a record's canonical text, by its counts alone: two index lines of 122 bytes, and the lines of the groups.
+// R110: the bytes of a record's canonical text, by its counts alone: two index lines of 122 bytes, and the lines of the
+// groups.
 pub fn canonical_length(counts: &[u16]) -> usize
     ensures { λ r. ⌜ r ≡ recordBytes (now (counts .entry)) ⌝ }
 {
@@ -174,17 +168,6 @@ fn put_index(counts: &[u16], out: &mut [u8])
     put_index_line(&counts[40..80], out, 122);
 }
 
-fn put_field_at(form: Form, cells: &[i64], from: usize, to: usize, out: &mut [u8], at: usize)
-    requires order { ⌜ from ≤ to ⌝ }
-    requires cells { ⌜ to ≤ length (now cells) ⌝ }
-    requires fits { ⌜ T (fitsOf form (part from to (now cells))) ⌝ }
-    requires room { ⌜ at + rowOf form .width ≤ length (now out) ⌝ }
-    ensures { λ _. ⌜ now (out .exit) ≡
-        over at (fieldText form (part from to (now (cells .entry)))) (now (out .entry)) ⌝ }
-{
-    field::put(form, &cells[from..to], out, at);
-}
-
 // The fields of a line of so many elements, whose cells begin at a place of the table; the place behind them.
 fn put_fields(
     form: Form,
@@ -210,7 +193,7 @@ fn put_fields(
     let mut i: usize = 0;
     while i < many {
         let to = cell + size;
-        put_field_at(form, cells, cell, to, out, a);
+        field::put(form, &cells[cell..to], out, a);
         a += width;
         cell = to;
         i += 1;
@@ -269,8 +252,8 @@ fn put_groups(counts: &[u16], cells: &[i64], out: &mut [u8], at: usize)
 
 // ---- Writing a record.
 
-// The canonical text of counts and cells to the front of an output that has room for it. Nothing is checked: this is for cells that are known
-// to fit, as those that were read are.
+// The canonical text of counts and cells to the front of an output that has room for it. Nothing is checked: this is
+// for cells that are known to fit, as those that were read are.
 pub fn put_record(counts: &[u16], cells: &[i64], out: &mut [u8])
     requires checked { ⌜ checkedOf (now counts) (length (now cells)) ≡ Checked.Right ⌝ }
     requires fits { ⌜ fitOf (now counts) (now cells) ≡ Fit.All ⌝ }
@@ -316,8 +299,9 @@ fn write_checked(counts: &[u16], cells: &[i64], out: &mut [u8]) -> Answer
     }
 }
 
-// R300 to R307: writes the canonical text of counts and of the cells of all groups to the front of the output, and answers 0 with its length;
-// or answers the first of 4, 5, 6, 7, 14, 13, 10 and 11 that is due, and alters no byte. What stands behind the text stays.
+// R300 to R307: writes the canonical text of counts and of the cells of all groups to the front of the output, and
+// answers 0 with its length; or answers the first of 4, 5, 6, 7, 14, 13, 10 and 11 that is due, and alters no byte.
+// What stands behind the text stays.
 pub fn write_record(counts: &[u16], cells: &[i64], out: &mut [u8]) -> Answer
     ensures answer { λ r. ⌜ r ≡ writingOf (now (counts .entry)) (now (cells .entry)) (length (now (out .entry))) ⌝ }
     ensures output { λ r. ⌜ now (out .exit) ≡

@@ -32,15 +32,15 @@ returns-3 c =
     let at-if1 = c .before .before .before .before .before in
     let o = at-if1 .before .before in
     let size = at-if1 .before .signed .ensures .1 ∙ ap sizeOf (toZ-ofZ {w = w64} (o .fits .cell)) in
-    c .is-frequency .ensures ∙ by-number (o .args .number) (o .args .cell) (natural at-if1) (sym size ∙ c .before .if3 .taken)
+    by-number (o .args .number) (o .args .cell) (natural at-if1) (sym size ∙ c .before .if3 .taken) (c .is-frequency .result) (c .is-frequency .ensures)
 
 returns-4 : tie.Need-returns-4
 returns-4 c =
     let at-if1 = c .before .before .before .before in
     let o = at-if1 .before .before in
     let size = at-if1 .before .signed .ensures .1 ∙ ap sizeOf (toZ-ofZ {w = w64} (o .fits .cell)) in
-    ne-eqb (at-if1 .before .signed .result .size) 999900 (c .if3 .left)
-    ∙ other-value (o .args .number) (o .args .cell) (natural at-if1) (λ e. c .before .before .if2 .left (size ∙ e)) (λ e. c .if3 .left (size ∙ e))
+    rw (ne-eqb (at-if1 .before .signed .result .size) 999900 (c .if3 .left))
+    (other-value (o .args .number) (o .args .cell) (natural at-if1) (λ e. c .before .before .if2 .left (size ∙ e)) (λ e. c .if3 .left (size ∙ e)))
 
 pub is-no-reading-spec : {M : Type 1} → statement M
 is-no-reading-spec = tie.close (tie.spec (λ c κs. search needs) returns returns-2 (λ c κs. search needs) returns-3 returns-4)

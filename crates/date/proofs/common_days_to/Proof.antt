@@ -2,19 +2,19 @@
 use borrow.Author.Needs.{needs}
 use borrow.Author.Tests.{le-leb, lt-leb}
 use native.Mathlib.Omega.{arith}
-use Rattle.date.proofs.Twelfths.{formula-days}
+use Rattle.date.proofs.Twelfths.{common-days}
 use Rattle.date.proofs.common_days_to.Statement.{statement}
 use Rattle.date.proofs.common_days_to.Tie as tie
 
 returns : tie.Need-returns
 returns c =
     let m = c .before .args .month in
-    rw (le-leb 2 m (omega arith)) at (formula-days m (omega arith))
+    rw (le-leb 2 m (omega arith)) at (common-days m (omega arith))
 
 returns-2 : tie.Need-returns-2
 returns-2 c =
     let m = c .before .args .month in
-    rw (lt-leb 2 m (omega arith)) at (formula-days m (omega arith))
+    rw (lt-leb 2 m (omega arith)) at (common-days m (omega arith))
 
 pub common-days-to-spec : {M : Type 1} → statement M
 common-days-to-spec =

@@ -44,7 +44,7 @@ returns-6 c = single (Has E8) (53 ∷ 60 ∷ []) _ tt (c .match .keys10)
 
 returns-7 : tie.Need-returns-7
 unfolding Every.upFrom formEntry formAmong formOf
-returns-7 c = between NoGroup arms 0 1 _ tt (omega arith) (c .if1 .taken) (c .before .match .rest)
+returns-7 c = between NoGroup arms 0 1 tt (omega arith) (c .if1 .taken) (c .before .match .rest)
 
 returns-8 : tie.Need-returns-8
 unfolding Every.upFrom formEntry formAmong formOf
@@ -56,7 +56,7 @@ returns-9 c = single (Has E11) (42 ∷ 57 ∷ []) _ tt (c .match .keys8)
 
 returns-10 : tie.Need-returns-10
 unfolding Every.upFrom formEntry formAmong formOf
-returns-10 c = between (Has E11) arms 37 3 _ tt (omega arith) (omega arith) (c .before .before .before .before .match .rest)
+returns-10 c = between (Has E11) arms 37 3 tt (omega arith) (omega arith) (c .before .before .before .before .match .rest)
 
 returns-11 : tie.Need-returns-11
 unfolding Every.upFrom formEntry formAmong formOf
@@ -64,7 +64,7 @@ returns-11 c = single (Has I3) (9 ∷ 14 ∷ 19 ∷ 23 ∷ 27 ∷ 31 ∷ 44 ∷ 
 
 returns-12 : tie.Need-returns-12
 unfolding Every.upFrom formEntry formAmong formOf
-returns-12 c = between (Has I3) arms 31 6 _ tt (omega arith) (omega arith) (c .before .before .before .match .rest)
+returns-12 c = between (Has I3) arms 31 6 tt (omega arith) (omega arith) (c .before .before .before .match .rest)
 
 returns-13 : tie.Need-returns-13
 unfolding Every.upFrom formEntry formAmong formOf
@@ -72,15 +72,15 @@ returns-13 c = single (Has F8) (4 ∷ 33 ∷ 43 ∷ []) _ tt (c .match .keys4)
 
 returns-14 : tie.Need-returns-14
 unfolding Every.upFrom formEntry formAmong formOf
-returns-14 c = between (Has F8) arms 1 30 _ tt (omega arith) (omega arith) (c .before .before .match .rest)
+returns-14 c = between (Has F8) arms 1 30 tt (omega arith) (omega arith) (c .before .before .match .rest)
 
 returns-15 : tie.Need-returns-15
 unfolding Every.upFrom formEntry formAmong formOf
-returns-15 c = between (Has F8) arms 40 13 _ tt (omega arith) (omega arith) (c .before .before .before .before .before .match .rest)
+returns-15 c = between (Has F8) arms 40 13 tt (omega arith) (omega arith) (c .before .before .before .before .before .match .rest)
 
 returns-16 : tie.Need-returns-16
 unfolding Every.upFrom formEntry formAmong formOf
-returns-16 c = between (Has F8) arms 56 4 _ tt (omega arith) (omega arith) (c .before .before .before .before .before .before .before .match .rest)
+returns-16 c = between (Has F8) arms 56 4 tt (omega arith) (omega arith) (c .before .before .before .before .before .before .before .match .rest)
 
 returns-17 : tie.Need-returns-17
 unfolding Every.upFrom formEntry formAmong formOf
@@ -88,7 +88,7 @@ returns-17 c = single (Has A1) (3 ∷ []) _ tt (c .match .keys3)
 
 returns-18 : tie.Need-returns-18
 unfolding Every.upFrom formEntry formAmong formOf
-returns-18 c = between (Has A1) arms 53 3 _ tt (omega arith) (omega arith) (c .before .before .before .before .before .before .match .rest)
+returns-18 c = between (Has A1) arms 53 3 tt (omega arith) (omega arith) (c .before .before .before .before .before .before .match .rest)
 
 pub form-of-spec : {M : Type 1} → statement M
 form-of-spec =

@@ -5,12 +5,13 @@ use borrow.Author.Needs.{needs}
 use native.Mathlib.Omega.{arith}
 use mathlib.Core.Path.{_≡_, refl, sym, _∙_, ap}
 use Prim.Native.Nat.{_-_, _*_, _≤_}
+use lib.ListN.{length}
 use Rattle.form.specs.Table.{rowOf}
 use Rattle.form.specs.Count.{elementsOf}
 use Rattle.reading.specs.Plan.{lineAt}
 use Rattle.reply.specs.declared.Checked.the-variants as C
 use Rattle.reading.proofs.Checking.{Checking, walking-start, checking-start, checking-end, element-small, next-first, columns-small, width-few}
-use Rattle.reading.proofs.Trying.{Trying, OnLine, trying-start, try-small, try-range, element-few, trying-next, trying-wrong, tried-range, tried-wrong, tried-next}
+use Rattle.reading.proofs.Trying.{Trying, OnLine, trying-start, try-small, stops, element-few, trying-next, trying-wrong, tried-range, tried-wrong, tried-next}
 use Rattle.reading.proofs.check_lines.Statement.{statement}
 use Rattle.reading.proofs.check_lines.Tie as tie
 
@@ -32,7 +33,7 @@ lines-holds : tie.Need-lines-holds Inv-loop μ-loop Inv-lines μ-lines
 lines-holds c =
     let row = c .before .before .row-of .ensures in
     let walk = walking-start (ap (λ r. r .width) row) (ap (λ r. r .«per_line») row) (c .before .lines2 .ensures) (c .elements .ensures) (omega arith) in
-    (refl, checking-start _ _ _ _ _ _ _ _ walk)
+    (refl, checking-start walk)
 
 mul-fields-stop : tie.Need-mul-fields-stop Inv-loop μ-loop Inv-lines μ-lines
 mul-fields-stop c =
@@ -78,65 +79,64 @@ few-columns c = columns-small (start c .args .form) (start c .args .count) (star
 loop-holds : tie.Need-loop-holds Inv-loop μ-loop Inv-lines μ-lines
 loop-holds c = (c .before .before .before .lines .inv .0, trying-start (line c))
 
-add-lesser : tie.Need-add-lesser Inv-loop μ-loop Inv-lines μ-lines
-add-lesser c =
-    let at-line = c .before .before in
-    let o = start at-line in
-    omega (arith, try-small (line at-line) (c .before .loop .inv .1), line at-line .state .walk .wide, width-few (o .args .form))
-
 is-field-at-requires : tie.Need-is-field-at-requires Inv-loop μ-loop Inv-lines μ-lines
 is-field-at-requires c κs =
-    let to = c .before .lesser2 in
-    let at-loop = c .before .before .before in
-    let all = try-range (line (at-loop .before)) (at-loop .loop .inv .1) (c .lesser3 .result) (to .result) (c .before .before .loop-test .taken) (c .lesser3 .ensures) (to .ensures) in
-    (start (at-loop .before) .pre, (all .0, (all .1, all .2)))
+    let at-line = c .before .before in
+    (start at-line .pre, (stops (line at-line) .1, line at-line .state .walk .wide))
 
 add-from : tie.Need-add-from Inv-loop μ-loop Inv-lines μ-lines
 add-from c =
-    let at-loop = c .before .before .before .before .before in
+    let at-loop = c .before .before .before in
     let at-line = at-loop .before in
     let o = start at-line in
     omega (arith, try-small (line at-line) (at-loop .loop .inv .1), line at-line .state .walk .wide, width-few (o .args .form))
 
 loop-again : tie.Need-loop-again Inv-loop μ-loop Inv-lines μ-lines
 loop-again c =
-    let begin = c .before .before .lesser3 in
-    let to = c .before .before .before .lesser2 in
-    let in-loop = c .before .before .before .before in
+    let in-loop = c .before .before in
     let at-loop = in-loop .before in
     let good = sym (c .before .is-field-at .ensures) ∙ c .if1 .taken in
-    (at-loop .loop .inv .0, trying-next (line (at-loop .before)) (at-loop .loop .inv .1) (begin .result) (to .result) (in-loop .loop-test .taken) (begin .ensures) (to .ensures) good)
+    (at-loop .loop .inv .0, trying-next (line (at-loop .before)) (at-loop .loop .inv .1) (in-loop .loop-test .taken) good)
 
 mul-misfit : tie.Need-mul-misfit Inv-loop μ-loop Inv-lines μ-lines
-mul-misfit c = omega (arith, few-columns (c .before .before .before .before .before .before))
+mul-misfit c = omega (arith, few-columns (c .before .before .before .before))
 
 add-misfit-2 : tie.Need-add-misfit-2 Inv-loop μ-loop Inv-lines μ-lines
 add-misfit-2 c =
-    let begin = c .before .before .lesser3 in
-    let to = c .before .before .before .lesser2 in
-    let in-loop = c .before .before .before .before in
+    let in-loop = c .before .before in
     let at-loop = in-loop .before in
-    omega (arith, element-few (line (at-loop .before)) (at-loop .loop .inv .1) (begin .result) (to .result) (in-loop .loop-test .taken) (begin .ensures) (to .ensures))
+    omega (arith, element-few (line (at-loop .before)) (at-loop .loop .inv .1) (in-loop .loop-test .taken))
 
 misfit-requires : tie.Need-misfit-requires Inv-loop μ-loop Inv-lines μ-lines
-misfit-requires c κs = line (c .before .before .before .before .before .before) .state .walk .inside
+misfit-requires c κs = line (c .before .before .before .before) .state .walk .inside
 
-mul-right-content-at : tie.Need-mul-right-content-at Inv-loop μ-loop Inv-lines μ-lines
-mul-right-content-at c = omega (arith, few-columns (c .before .before .before))
+mul-right-content : tie.Need-mul-right-content Inv-loop μ-loop Inv-lines μ-lines
+mul-right-content c = omega (arith, few-columns (c .before .before .before))
 
-right-content-at-requires : tie.Need-right-content-at-requires Inv-loop μ-loop Inv-lines μ-lines
-right-content-at-requires c κs =
+-- the line stands in the lines
+inside : (c : tie.After-behind-or-end Inv-loop μ-loop Inv-lines μ-lines)
+    → (let l = line (c .before .before .before) in (l .at ≤ c .behind-or-end .result) × (c .behind-or-end .result ≤ length (start (c .before .before .before) .args .lines .now)))
+inside c =
     let at-loop = c .before .before in
     tried-range (line (at-loop .before)) (at-loop .loop .inv .1) (omega arith) (c .behind-or-end .result) (c .behind-or-end .ensures)
+
+sub-right-content : tie.Need-sub-right-content Inv-loop μ-loop Inv-lines μ-lines
+sub-right-content c = let r = inside c in search needs
+
+part-right-content-start : tie.Need-part-right-content-start Inv-loop μ-loop Inv-lines μ-lines
+part-right-content-start c = let r = inside c in search needs
+
+part-right-content-end : tie.Need-part-right-content-end Inv-loop μ-loop Inv-lines μ-lines
+part-right-content-end c = let r = inside c in search needs
 
 -- ---- the next line, and the verdict
 
 sub-left : tie.Need-sub-left Inv-loop μ-loop Inv-lines μ-lines
-sub-left c = omega (arith, line (c .before .before .before .before .before .before) .elements)
+sub-left c = omega (arith, line (c .before .before .before .before .before .before .before) .elements)
 
 add-element : tie.Need-add-element Inv-loop μ-loop Inv-lines μ-lines
 add-element c =
-    let at-line = c .before .before .before .before .before .before in
+    let at-line = c .before .before .before .before .before .before .before in
     let o = start at-line in
     let state = line at-line .state in
     let next = next-first (o .args .form) (o .args .count) (o .args .lines .now) (state .walk) in
@@ -144,9 +144,9 @@ add-element c =
 
 lines-again : tie.Need-lines-again Inv-loop μ-loop Inv-lines μ-lines
 lines-again c =
-    let end = c .before .before .before .behind-or-end in
-    let at-loop = c .before .before .before .before .before in
-    let right = sym (c .before .before .right-content-at .ensures) ∙ c .enum-told .given .1 in
+    let end = c .before .before .before .before .behind-or-end in
+    let at-loop = c .before .before .before .before .before .before in
+    let right = sym (c .before .before .right-content .ensures) ∙ c .enum-told .given .1 in
     (at-loop .loop .inv .0, tried-next (line (at-loop .before)) (at-loop .loop .inv .1) (omega arith) (end .result) (end .ensures) (c .enum-told .given .0 .0) right)
 
 returns : tie.Need-returns Inv-loop μ-loop Inv-lines μ-lines
@@ -156,18 +156,16 @@ returns c =
 
 returns-2 : tie.Need-returns-2 Inv-loop μ-loop Inv-lines μ-lines
 returns-2 c =
-    let begin = c .before .before .before .lesser3 in
-    let to = c .before .before .before .before .lesser2 in
-    let in-loop = c .before .before .before .before .before in
+    let in-loop = c .before .before .before in
     let at-loop = in-loop .before in
     let bad = sym (c .before .before .is-field-at .ensures) ∙ c .before .if1 .left in
-    trying-wrong (line (at-loop .before)) (at-loop .loop .inv .1) (begin .result) (to .result) (in-loop .loop-test .taken) (begin .ensures) (to .ensures) bad (c .misfit .result) (c .misfit .ensures)
+    trying-wrong (line (at-loop .before)) (at-loop .loop .inv .1) (in-loop .loop-test .taken) bad (c .misfit .result) (c .misfit .ensures)
 
 returns-3 : tie.Need-returns-3 Inv-loop μ-loop Inv-lines μ-lines
 returns-3 c =
-    let end = c .before .before .before .behind-or-end in
-    let at-loop = c .before .before .before .before .before in
-    let wrong = sym (c .before .before .right-content-at .ensures) ∙ c .enum-told2 .given .1 in
+    let end = c .before .before .before .before .behind-or-end in
+    let at-loop = c .before .before .before .before .before .before in
+    let wrong = sym (c .before .before .right-content .ensures) ∙ c .enum-told2 .given .1 in
     tried-wrong (line (at-loop .before)) (at-loop .loop .inv .1) (omega arith) (end .result) (end .ensures) wrong
 
 pub check-lines-spec : {M : Type 1} → statement M
@@ -186,9 +184,6 @@ check-lines-spec =
     mul-fields-stop
     fields-stop-requires
     loop-holds
-    add-lesser
-    (λ c κs. search needs)
-    (λ c κs. search needs)
     is-field-at-requires
     add-from
     (λ c. search needs)
@@ -199,8 +194,11 @@ check-lines-spec =
     add-misfit-2
     misfit-requires
     (λ c κs. search needs)
-    mul-right-content-at
-    right-content-at-requires
+    mul-right-content
+    sub-right-content
+    part-right-content-start
+    part-right-content-end
+    (λ c κs. search needs)
     (λ c. search needs)
     (λ c. search needs)
     (λ c. search needs)

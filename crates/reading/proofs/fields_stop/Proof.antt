@@ -3,43 +3,55 @@
 use borrow.Author.Needs.{needs}
 use native.Mathlib.Omega.{arith}
 use mathlib.Core.Path.{sym, _∙_, ap}
-use Prim.Native.Nat.{_+_}
+use Prim.Native.Nat.{_+_, _≤_}
+use lib.ListN.{length}
 use Rattle.base.specs.Part.{part}
 use Rattle.line.specs.Contents.{contentOf}
 use Rattle.reading.proofs.Trying.{line-range, content-fits, span-none, span-content, span-columns}
 use Rattle.reading.proofs.fields_stop.Statement.{statement}
 use Rattle.reading.proofs.fields_stop.Tie as tie
 
-content-at-requires : tie.Need-content-at-requires
-content-at-requires c κs =
-    let r = line-range (c .before .before .before .args .lines .now) (c .before .before .before .args .at) (c .before .before .before .pre) in
+-- the line stands in the lines
+inside : (c : tie.After-behind-or-end) → (let a = c .before .before .before .args in (a .at ≤ c .behind-or-end .result) × (c .behind-or-end .result ≤ length (a .lines .now)))
+inside c =
+    let o = c .before .before .before in
+    let r = line-range (o .args .lines .now) (o .args .at) (o .pre) in
     (omega (arith, c .behind-or-end .ensures), omega (arith, r .1, c .behind-or-end .ensures))
+
+sub-content-length : tie.Need-sub-content-length
+sub-content-length c = let r = inside c in search needs
+
+part-content-length-start : tie.Need-part-content-length-start
+part-content-length-start c = let r = inside c in search needs
+
+part-content-length-end : tie.Need-part-content-length-end
+part-content-length-end c = let r = inside c in search needs
 
 returns : tie.Need-returns
 returns c =
-    let o = c .before .before .before .before .before .before in
+    let o = c .before .before .before .before .before .before .before in
     span-none (o .args .short) (o .args .columns) (o .args .lines .now) (o .args .at) (o .pre)
-    (c .before .before .before .before .if1 .taken)
-    (ap (λ x. contentOf (part (o .args .at) x (o .args .lines .now))) (sym (c .before .before .before .behind-or-end .ensures))
-    ∙ sym (c .before .before .content-at .ensures) ∙ c .enum-told .given .1)
+    (c .before .before .before .before .before .if1 .taken)
+    (ap (λ x. contentOf (part (o .args .at) x (o .args .lines .now))) (sym (c .before .before .before .before .behind-or-end .ensures))
+    ∙ sym (c .before .before .content-length .ensures) ∙ c .enum-told .given .1)
 
 add-result : tie.Need-add-result
 add-result c =
-    let o = c .before .before .before .before .before .before .before in
+    let o = c .before .before .before .before .before .before .before .before in
     omega (
       arith,
       content-fits (o .args .lines .now) (o .args .at) (o .pre) (c .before .n .given .0 .0)
-          (ap (λ x. contentOf (part (o .args .at) x (o .args .lines .now))) (sym (c .before .before .before .before .behind-or-end .ensures))
-          ∙ sym (c .before .before .before .content-at .ensures) ∙ c .before .n .given .1),
+          (ap (λ x. contentOf (part (o .args .at) x (o .args .lines .now))) (sym (c .before .before .before .before .before .behind-or-end .ensures))
+          ∙ sym (c .before .before .before .content-length .ensures) ∙ c .before .n .given .1),
     )
 
 returns-2 : tie.Need-returns-2
 returns-2 c =
-    let o = c .before .before .before .before .before .before .before in
+    let o = c .before .before .before .before .before .before .before .before in
     span-content (o .args .short) (o .args .columns) (o .args .lines .now) (o .args .at) (o .pre)
-    (c .before .before .before .before .before .if1 .taken) (c .before .n .given .0 .0)
-    (ap (λ x. contentOf (part (o .args .at) x (o .args .lines .now))) (sym (c .before .before .before .before .behind-or-end .ensures))
-    ∙ sym (c .before .before .before .content-at .ensures) ∙ c .before .n .given .1)
+    (c .before .before .before .before .before .before .if1 .taken) (c .before .n .given .0 .0)
+    (ap (λ x. contentOf (part (o .args .at) x (o .args .lines .now))) (sym (c .before .before .before .before .before .behind-or-end .ensures))
+    ∙ sym (c .before .before .before .content-length .ensures) ∙ c .before .n .given .1)
 
 add-result-2 : tie.Need-add-result-2
 add-result-2 c = omega (arith, c .lesser .ensures, c .before .before .before .pre)
@@ -55,7 +67,10 @@ fields-stop-spec =
     tie.close
     (tie.spec
     (λ c κs. search needs)
-    content-at-requires
+    sub-content-length
+    part-content-length-start
+    part-content-length-end
+    (λ c κs. search needs)
     (λ c. search needs)
     (λ c. search needs)
     returns

@@ -115,16 +115,22 @@ line c =
     let least = c .before .least in
     line-to c (c .behind-or-end .result) (c .behind-or-end .ensures ∙ end-behind (line-to c _ refl) (least .result) (least .ensures))
 
-content-at-requires : tie.Need-content-at-requires Inv-loop2 μ-loop2 Inv-loop μ-loop
-content-at-requires c κs = line-inside (line c)
+sub-content-length : tie.Need-sub-content-length Inv-loop2 μ-loop2 Inv-loop μ-loop
+sub-content-length c = let r = line-inside (line c) in search needs
+
+part-content-length-start : tie.Need-part-content-length-start Inv-loop2 μ-loop2 Inv-loop μ-loop
+part-content-length-start c = let r = line-inside (line c) in search needs
+
+part-content-length-end : tie.Need-part-content-length-end Inv-loop2 μ-loop2 Inv-loop μ-loop
+part-content-length-end c = let r = line-inside (line c) in search needs
 
 same-length : tie.Need-same-length Inv-loop2 μ-loop2 Inv-loop μ-loop
 same-length c =
-    let at-line = line (c .before .before .before) in
+    let at-line = line (c .before .before .before .before) in
     filling-length (at-line .room) (at-line .state)
 
 returns : tie.Need-returns Inv-loop2 μ-loop2 Inv-loop μ-loop
-returns c = absurd (has-content (line (c .before .before .before)) (sym (c .before .before .content-at .ensures) ∙ c .enum-told .given .1))
+returns c = absurd (has-content (line (c .before .before .before .before)) (sym (c .before .before .content-length .ensures) ∙ c .enum-told .given .1))
 
 -- ---- its fields, where it has a content
 
@@ -132,10 +138,10 @@ abbrev AtFields : Type 0
 AtFields = tie.After-known-told Inv-loop2 μ-loop2 Inv-loop μ-loop
 
 abbrev line-of : AtFields → AtLine
-line-of c = c .before .before .before .before
+line-of c = c .before .before .before .before .before
 
 content : (c : AtFields) → contentOf (part (reached (line-of c) .at) (line (line-of c) .end) (start (line-of c) .args .lines .now)) ≡ Length (c .before .n .given .0 .0)
-content c = sym (c .before .before .before .content-at .ensures) ∙ c .before .n .given .1
+content c = sym (c .before .before .before .content-length .ensures) ∙ c .before .n .given .1
 
 add-stop : tie.Need-add-stop Inv-loop2 μ-loop2 Inv-loop μ-loop
 add-stop c = omega (arith, fill-inside (line (line-of c)) _ (content c))
@@ -143,27 +149,17 @@ add-stop c = omega (arith, fill-inside (line (line-of c)) _ (content c))
 loop2-holds : tie.Need-loop2-holds Inv-loop2 μ-loop2 Inv-loop μ-loop
 loop2-holds c = fields-filling (line (line-of c)) _ (content c)
 
-add-lesser : tie.Need-add-lesser Inv-loop2 μ-loop2 Inv-loop μ-loop
-add-lesser c =
-    let at-fields = c .before .before in
-    let at-line = line-of at-fields in
-    let o = start at-line in
-    omega (arith, fill-small (line at-line) _ (content at-fields) (c .before .loop2 .inv), line at-line .state .walk .wide, width-few (o .args .form))
-
 put-field-at-requires : tie.Need-put-field-at-requires Inv-loop2 μ-loop2 Inv-loop μ-loop
 put-field-at-requires c κs =
-    let begin = c .before .lesser3 in
-    let to = c .before .before .lesser2 in
-    let in-loop = c .before .before .before in
-    let at-loop = in-loop .before in
-    let at-fields = at-loop .before in
+    let in-loop = c .before in
+    let at-fields = in-loop .before .before in
     let letters = start (line-of at-fields) .pre .0 in
-    let all = put-requires (line (line-of at-fields)) _ (content at-fields) (at-loop .loop2 .inv) (begin .result) (to .result) (in-loop .loop2-test .taken) (begin .ensures) (to .ensures) in
-    (letters, (all .0, (all .1, (all .2, (all .3, (all .4, all .5))))))
+    let all = put-requires (line (line-of at-fields)) _ (content at-fields) (in-loop .before .loop2 .inv) (in-loop .loop2-test .taken) in
+    (letters, (all .ends, (all .wide, (all .fits, (all .good, all .room)))))
 
 add-from : tie.Need-add-from Inv-loop2 μ-loop2 Inv-loop μ-loop
 add-from c =
-    let at-loop = c .before .before .before .before .before .before in
+    let at-loop = c .before .before .before .before in
     let at-fields = at-loop .before in
     let at-line = line-of at-fields in
     let o = start at-line in
@@ -171,29 +167,22 @@ add-from c =
 
 add-cell : tie.Need-add-cell Inv-loop2 μ-loop2 Inv-loop μ-loop
 add-cell c =
-    let begin = c .before .before .before .lesser3 in
-    let to = c .before .before .before .before .lesser2 in
-    let in-loop = c .before .before .before .before .before in
-    let at-loop = in-loop .before in
-    let at-fields = at-loop .before in
+    let in-loop = c .before .before .before in
+    let at-fields = in-loop .before .before in
     let o = start (line-of at-fields) in
-    let small = cell-small (line (line-of at-fields)) _ (content at-fields) (at-loop .loop2 .inv) (begin .result) (to .result) (in-loop .loop2-test .taken) (begin .ensures) (to .ensures) in
+    let small = cell-small (line (line-of at-fields)) _ (content at-fields) (in-loop .before .loop2 .inv) (in-loop .loop2-test .taken) in
     omega (arith, o .good .1 .1 .1 .0, small)
 
 loop2-again : tie.Need-loop2-again Inv-loop2 μ-loop2 Inv-loop μ-loop
 loop2-again c =
-    let begin = c .before .before .before .lesser3 in
-    let to = c .before .before .before .before .lesser2 in
-    let in-loop = c .before .before .before .before .before in
-    let at-loop = in-loop .before in
-    let at-fields = at-loop .before in
-    let put = c .before .put-field-at .ensures in
-    fields-next (line (line-of at-fields)) _ (content at-fields) (at-loop .loop2 .inv) (begin .result) (to .result) (in-loop .loop2-test .taken) (begin .ensures) (to .ensures) put
+    let in-loop = c .before .before .before in
+    let at-fields = in-loop .before .before in
+    fields-next (line (line-of at-fields)) _ (content at-fields) (in-loop .before .loop2 .inv) (in-loop .loop2-test .taken) (c .before .put-field-at .ensures)
 
 -- ---- the next line, and the end
 
 sub-left : tie.Need-sub-left Inv-loop2 μ-loop2 Inv-loop μ-loop
-sub-left c = omega (arith, c .before .before .before .before .before .before .before .before .lesser .ensures)
+sub-left c = omega (arith, c .before .before .before .before .before .before .before .before .before .lesser .ensures)
 
 loop-again : tie.Need-loop-again Inv-loop2 μ-loop2 Inv-loop μ-loop
 loop-again c =
@@ -223,16 +212,16 @@ fill-lines-spec =
     (λ c κs. search needs)
     add-behind-or-end
     (λ c κs. search needs)
-    content-at-requires
+    sub-content-length
+    part-content-length-start
+    part-content-length-end
+    (λ c κs. search needs)
     (λ c. search needs)
     (λ c. search needs)
     same-length
     returns
     add-stop
     loop2-holds
-    add-lesser
-    (λ c κs. search needs)
-    (λ c κs. search needs)
     put-field-at-requires
     add-from
     add-cell

@@ -45,7 +45,8 @@ returns-3 c =
     let b = form-done (o .args .form) (o .args .group) (o .args .count) (o .args .lines .now) (o .args .table .now)
     (subst (λ m. m ≤ length (o .args .table .now)) (at-cells .cells .ensures) (at-check .before .if1 .left))
     (sym (at-check .check .ensures) ∙ at-short .before .enum-told .given .1)
-    (c .before .fill-lines .ensures ∙ ap (λ short. over 0 (cellsGot (readLines (o .args .form) short (o .args .count) (o .args .lines .now))) (o .args .table .now)) (at-short .may-be-short .ensures)) in
+    (c .before .fill-lines .ensures ∙ ap (λ short. over 0 (cellsGot (readLines (o .args .form) short (o .args .count) (o .args .lines .now))) (o .args .table .now))
+    (at-short .may-be-short .ensures)) in
     (ap Done (at-cells .cells .ensures) ∙ b .0, b .1)
 
 pub read-form-spec : {M : Type 1} → statement M

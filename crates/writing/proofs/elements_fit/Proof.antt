@@ -3,7 +3,8 @@
 use borrow.Author.Needs.{needs}
 use native.Mathlib.Omega.{arith}
 use mathlib.Core.Path.{sym, ap, _∙_}
-use Prim.Native.Nat.{_-_}
+use Prim.Native.Nat.{_+_, _-_, _≤_}
+use lib.ListN.{length}
 use Rattle.writing.proofs.Checking.{Elements, elements-start, elements-end, element-range, elements-more, elements-bad}
 use Rattle.writing.proofs.elements_fit.Statement.{statement}
 use Rattle.writing.proofs.elements_fit.Tie as tie
@@ -19,28 +20,41 @@ loop-holds c =
     let o = c .before .before in
     elements-start (o .args .form) (o .args .group) (o .args .count) (o .args .cells .now) (o .args .from) _ _ (ap (λ r. r .cells) (c .before .row-of .ensures)) (c .elements .ensures)
 
-add-to : tie.Need-add-to Inv-loop μ-loop
-add-to c =
-    let r = element-range (c .before .before .before .before .args .form) (c .before .before .before .before .args .group) (c .before .before .before .before .args .count)
-    (c .before .before .before .before .args .cells .now) (c .before .before .before .before .args .from) (c .before .loop .inv) (c .loop-test .taken) (c .before .before .before .before .pre) in
-    record { fits = omega (arith, r .1) }
-
-fits-at-requires : tie.Need-fits-at-requires Inv-loop μ-loop
-fits-at-requires c κs =
+-- the cells of the next element
+range : (c : tie.In-loop Inv-loop μ-loop) → (c .before .loop .at ≤ c .before .loop .at + c .before .before .before .row-of .result .cells) ×
+    (c .before .loop .at + c .before .before .before .row-of .result .cells ≤ length (c .before .before .before .before .args .cells .now))
+range c =
     let o = c .before .before .before .before in
     element-range (o .args .form) (o .args .group) (o .args .count) (o .args .cells .now) (o .args .from) (c .before .loop .inv) (c .loop-test .taken) (o .pre)
 
+add-to : tie.Need-add-to Inv-loop μ-loop
+add-to c = let r = range c in search needs
+
+mul-fits : tie.Need-mul-fits Inv-loop μ-loop
+mul-fits c = let r = range c in search needs
+
+sub-fits : tie.Need-sub-fits Inv-loop μ-loop
+sub-fits c = let r = range c in search needs
+
+part-fits-start : tie.Need-part-fits-start Inv-loop μ-loop
+part-fits-start c = let r = range c in search needs
+
+part-fits-end : tie.Need-part-fits-end Inv-loop μ-loop
+part-fits-end c = let r = range c in search needs
+
 loop-again : tie.Need-loop-again Inv-loop μ-loop
 loop-again c =
-    let o = c .before .before .before .before .before .before in
-    elements-more (o .args .form) (o .args .group) (o .args .count) (o .args .cells .now) (o .args .from) (c .before .before .before .loop .inv)
-    (c .before .before .loop-test .taken) (sym (c .before .fits-at .ensures) ∙ c .if1 .taken)
+    let t = c .before .before .before in
+    let o = t .before .before .before .before in
+    elements-more (o .args .form) (o .args .group) (o .args .count) (o .args .cells .now) (o .args .from) (t .before .loop .inv) (t .loop-test .taken)
+    (sym (c .before .fits2 .ensures) ∙ c .if1 .taken)
 
 returns : tie.Need-returns Inv-loop μ-loop
 returns c =
-    let o = c .before .before .before .before .before .before in
-    elements-bad (o .args .form) (o .args .group) (o .args .count) (o .args .cells .now) (o .args .from) (c .before .before .before .loop .inv)
-    (c .before .before .loop-test .taken) (sym (c .before .fits-at .ensures) ∙ c .if1 .left)
+    let t = c .before .before .before in
+    let o = t .before .before .before .before in
+    elements-bad (o .args .form) (o .args .group) (o .args .count) (o .args .cells .now) (o .args .from) (t .before .loop .inv) (t .loop-test .taken)
+    (sym (c .before .fits2 .ensures) ∙ c .if1 .left)
 
 returns-2 : tie.Need-returns-2 Inv-loop μ-loop
 returns-2 c =
@@ -57,7 +71,11 @@ elements-fit-spec =
     (λ c κs. search needs)
     loop-holds
     add-to
-    fits-at-requires
+    mul-fits
+    sub-fits
+    part-fits-start
+    part-fits-end
+    (λ c κs. search needs)
     (λ c. search needs)
     (λ c. search needs)
     loop-again

@@ -2,7 +2,12 @@
 -- Assumes nothing.
 use borrow.Author.Needs.{needs}
 use native.Mathlib.Omega.{arith}
-use Prim.Native.Nat.{_-_}
+use Prim.Native.Nat.{_+_, _-_, _≤_}
+use lib.Dec.{T}
+use lib.ListN.{length}
+use Rattle.base.specs.Part.{part}
+use Rattle.form.specs.Table.{rowOf}
+use Rattle.field.specs.Write.{fitsOf}
 use Rattle.writing.proofs.Putting.{Fields, fields-start, fields-end, field-requires, fields-next}
 use Rattle.writing.proofs.put_fields.Statement.{statement}
 use Rattle.writing.proofs.put_fields.Tie as tie
@@ -18,35 +23,47 @@ loop-holds c =
     fields-start (c .before .args .form) (c .before .args .many) (c .before .args .cells .now) (c .before .args .from) (c .before .args .at) (c .before .args .out .now)
     (c .before .pre .1 .1 .0) (c .before .args .row) (c .before .pre .0) (c .before .pre .1 .1 .1)
 
-add-to : tie.Need-add-to Inv-loop μ-loop
-add-to c =
-    let r = field-requires (c .before .before .before .args .form) (c .before .before .before .args .many) (c .before .before .before .args .cells .now)
-    (c .before .before .before .args .from) (c .before .before .before .args .at) (c .before .before .before .args .out .now) (c .before .before .before .pre .1 .1 .0)
-    (c .before .loop .inv) (c .loop-test .taken) (c .before .before .before .pre .1 .0) in
-    record { fits = omega (arith, r .1) }
+-- the cells of the next field, which fit it, and its room
+range : (c : tie.In-loop Inv-loop μ-loop)
+    → (let o = c .before .before .before .args in let l = c .before .loop in let to = l .cell + o .row .cells in
+    (l .cell ≤ to) × (to ≤ length (o .cells .now)) × T (fitsOf (o .form) (part (l .cell) to (o .cells .now))) × (l .a + rowOf (o .form) .width ≤ length (l .out)))
+range c =
+    let o = c .before .before .before in
+    field-requires (o .args .form) (o .args .many) (o .args .cells .now) (o .args .from) (o .args .at) (o .args .out .now) (o .pre .1 .1 .0) (c .before .loop .inv)
+    (c .loop-test .taken) (o .pre .1 .0)
 
-put-field-at-requires : tie.Need-put-field-at-requires Inv-loop μ-loop
-put-field-at-requires c κs =
-    let o = c .before .before .before .before in
-    let all =
-    field-requires (o .args .form) (o .args .many) (o .args .cells .now) (o .args .from) (o .args .at) (o .args .out .now) (o .pre .1 .1 .0) (c .before .before .loop .inv)
-    (c .before .loop-test .taken) (o .pre .1 .0) in
-    (all .0, (all .1, (all .2, all .3)))
+add-to : tie.Need-add-to Inv-loop μ-loop
+add-to c = let r = range c in search needs
+
+mul-put : tie.Need-mul-put Inv-loop μ-loop
+mul-put c = let r = range c in search needs
+
+sub-put : tie.Need-sub-put Inv-loop μ-loop
+sub-put c = let r = range c in search needs
+
+part-put-start : tie.Need-part-put-start Inv-loop μ-loop
+part-put-start c = let r = range c in search needs
+
+part-put-end : tie.Need-part-put-end Inv-loop μ-loop
+part-put-end c = let r = range c in search needs
+
+put-requires : tie.Need-put-requires Inv-loop μ-loop
+put-requires c κs =
+    let r = range (c .before .before) in
+    (r .2, r .3)
 
 add-a : tie.Need-add-a Inv-loop μ-loop
 add-a c =
-    let r = field-requires (c .before .before .before .before .before .before .before .args .form) (c .before .before .before .before .before .before .before .args .many)
-    (c .before .before .before .before .before .before .before .args .cells .now) (c .before .before .before .before .before .before .before .args .from)
-    (c .before .before .before .before .before .before .before .args .at) (c .before .before .before .before .before .before .before .args .out .now)
-    (c .before .before .before .before .before .before .before .pre .1 .1 .0) (c .before .before .before .before .before .loop .inv)
-    (c .before .before .before .before .loop-test .taken) (c .before .before .before .before .before .before .before .pre .1 .0) in
-    record { fits = omega (arith, r .3, c .before .before .before .before .before .loop .inv .wide) }
+    let t = c .before .before .before .before .before in
+    let r = range t in
+    record { fits = omega (arith, r .3, t .before .loop .inv .wide) }
 
 loop-again : tie.Need-loop-again Inv-loop μ-loop
 loop-again c =
-    let o = c .before .before .before .before .before .before .before in
-    fields-next (o .args .form) (o .args .many) (o .args .cells .now) (o .args .from) (o .args .at) (o .args .out .now) (o .pre .1 .1 .0)
-    (c .before .before .before .before .before .loop .inv) (c .before .before .before .before .loop-test .taken) _ (c .before .before .put-field-at .ensures)
+    let t = c .before .before .before .before .before in
+    let o = t .before .before .before in
+    fields-next (o .args .form) (o .args .many) (o .args .cells .now) (o .args .from) (o .args .at) (o .args .out .now) (o .pre .1 .1 .0) (t .before .loop .inv)
+    (t .loop-test .taken) _ (c .before .before .put .ensures)
 
 same-length : tie.Need-same-length Inv-loop μ-loop
 same-length c = c .before .loop .inv .put .long
@@ -64,7 +81,11 @@ put-fields-spec =
     μ-loop
     loop-holds
     add-to
-    put-field-at-requires
+    mul-put
+    sub-put
+    part-put-start
+    part-put-end
+    put-requires
     add-a
     (λ c. search needs)
     (λ c. search needs)
