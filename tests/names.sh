@@ -8,8 +8,8 @@
 #   `name`                                       alone: a crate, or what the same document gives with its file elsewhere
 # Anything else that begins with a letter is an error, so that nothing is passed over. The other way round, PROMISES.md names each field of the
 # demands' records, each theorem and each question of `sao` and `seambeacon`, each must-fail edit and each test. A rule that is cited anywhere, as
-# R62 or D2.4, stands in FORMAT.md, and each rule that stands there is cited in one of the documents. The lookup is tried on made-up documents
-# first.
+# R62 or D2.4, stands in FORMAT.md, and each rule that stands there is cited in one of the documents. One name has one meaning: what two crates
+# define under one name is an error. The lookup is tried on made-up documents first.
 set -u
 LC_ALL=C
 export LC_ALL
@@ -215,6 +215,21 @@ looked_up() { # DECLARED DOCUMENT..
         }' "$@"
 }
 
+# Each name that specs/ of two crates define, or that is a type in the code of two. `Due` and `RefusedFor` mean the same of each crate's question:
+# what is due as its answer, and when a refusal is.
+twice() { # DECLARED
+    awk '
+        $1 == "law" && $3 ~ /^specs\// && $4 == "-" || $1 == "code" && $4 == "-" && $5 ~ /^[A-Z][A-Za-z]*[a-z]/ {
+            name = $5
+            if (name ~ /^(Due|RefusedFor)$/)
+                next
+            if (!(($1, name) in home))
+                home[$1, name] = $2
+            else if (home[$1, name] != $2)
+                print name " has a meaning in " home[$1, name] " and one in " $2
+        }' "$1"
+}
+
 # What PROMISES.md has to name: a line for each, as `looked_up` tells what is named.
 demanded() { # DECLARED FILE..
     from=$1
@@ -321,6 +336,12 @@ printf 'law one specs/A.antt Whole part\nedit one/bad_answer\npath tests/a.sh\n'
 demanded "$work/made.declared" crates/one/specs/A.antt >"$work/got"
 compared 'made up: what has to be named' "$work/want"
 
+printf '%s\n' 'law one specs/A.antt - f' 'law one specs/B.antt - f' 'law two proofs/A.antt - f' 'law two specs/A.antt R f' 'law one specs/A.antt - Due' \
+    'law two specs/A.antt - Due' 'code one src/lib.rt - E open' 'code one src/lib.rt - place open' 'code two src/lib.rt - place open' >"$work/once.declared"
+counted 'made up: names with one meaning' none "$(twice "$work/once.declared")"
+printf '%s\n' 'law two specs/A.antt - f' 'code two src/lib.rt - Record -' 'code one src/lib.rt - Record open' >>"$work/once.declared"
+counted 'made up: names with two' [ "$(twice "$work/once.declared" | wc -l)" -eq 2 ]
+
 # ---- made up: a rule book; its rules have numbers that the project's own has too, since this file is looked at as well
 
 printf '%s\n' '- **R1** is cited by R2' '| **R2** | row |' '- **R3** third' 'no rule: **R4**' '## D1 Demand' '- **D1.1** sentence' '- **D1.2** and another' \
@@ -365,6 +386,8 @@ for kind in law code edit path; do
 done
 counted 'what must be named in PROMISES.md is' none "$(comm -23 "$work/demanded" "$work/named" | sed 's/^/not named in docs\/PROMISES.md: /')"
 
+counted 'a name has one meaning' none "$(twice "$work/declared")"
+
 standing docs/FORMAT.md >"$work/standing"
 counted 'there are rules' [ "$(wc -l <"$work/standing")" -ge 200 ]
 # shellcheck disable=SC2046
@@ -374,4 +397,4 @@ counted 'there are files that may cite them' [ $# -ge 200 ]
 counted 'a rule that is cited stands in FORMAT.md' none "$(unknown "$work/standing" "$@")"
 # shellcheck disable=SC2086
 counted 'a rule of FORMAT.md is cited in the documents' none "$(uncited "$work/standing" $documents)"
-finished 57
+finished 60

@@ -12,7 +12,7 @@ use Rattle.base.proofs.Arms as Arm
 use Rattle.base.proofs.Arms.{anyHas, None}
 use Rattle.base.proofs.Choice.{and-left, and-right}
 use Rattle.base.proofs.Order.{le-or-lt}
-use Rattle.characteristic.specs.NoReading.{Run, frequencies, InOne, Frequency, isFrequency}
+use Rattle.characteristic.specs.NoReading.{Range, frequencies, InOne, Frequency, isFrequency}
 use Rattle.characteristic.proofs.NoReading.{frequency-exactly}
 
 -- the number is a frequency's, or it is not
@@ -36,8 +36,8 @@ module _ (b : Bool) where
     pub between : (lo k : ℕ) {n : ℕ} → T (every (λ m. is b m || anyHas arms m) (upFrom lo k)) → lo ≤ n → n < lo + k → None arms n → T b ↔ Frequency n
     between lo k {n} t low high o = is-told b n (Arm.between (is b) arms lo k t low high o)
 
--- no run goes on behind m
-ended : (rs : List Run) (m n : ℕ) → T (every (λ r. leb (r .last) m) rs) → m < n → InOne rs n → ⊥
+-- no range goes on behind m
+ended : (rs : List Range) (m n : ℕ) → T (every (λ r. leb (r .last) m) rs) → m < n → InOne rs n → ⊥
 ended [] m n t b h = h
 ended (r ∷ rs) m n t b h =
     ⊎-elim

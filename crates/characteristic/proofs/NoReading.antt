@@ -10,28 +10,28 @@ use lib.Dec.{T, eqb, leb, leb→le, le→leb, eqb→eq}
 use lib.IntN.{ℤ, pos, negsuc}
 use Rattle.base.specs.Sign.{negative, sizeOf}
 use Rattle.base.proofs.Choice.{and-left, and-right, and-both, or-elim, or-left, or-right, same-test}
-use Rattle.characteristic.specs.NoReading.{Run, frequencies, InOne, Frequency, unscaled, unscaledFrequency, IsNoReading, inRuns, isFrequency, isNoReading}
+use Rattle.characteristic.specs.NoReading.{Range, frequencies, InOne, Frequency, unscaled, unscaledFrequency, IsNoReading, inRanges, isFrequency, isNoReading}
 
-in-runs : (rs : List Run) (k : ℕ) → T (inRuns rs k) → InOne rs k
-in-runs [] k t = t
-in-runs (r ∷ rs) k t =
+in-ranges : (rs : List Range) (k : ℕ) → T (inRanges rs k) → InOne rs k
+in-ranges [] k t = t
+in-ranges (r ∷ rs) k t =
     ⊎-elim
     (λ h. inl (leb→le (r .first) k (and-left (leb (r .first) k) (leb k (r .last)) h), leb→le k (r .last) (and-right (leb (r .first) k) (leb k (r .last)) h)))
-    (λ h. inr (in-runs rs k h))
-    (or-elim (leb (r .first) k && leb k (r .last)) (inRuns rs k) t)
+    (λ h. inr (in-ranges rs k h))
+    (or-elim (leb (r .first) k && leb k (r .last)) (inRanges rs k) t)
 
-runs-in : (rs : List Run) (k : ℕ) → InOne rs k → T (inRuns rs k)
-runs-in [] k h = h
-runs-in (r ∷ rs) k h =
+ranges-in : (rs : List Range) (k : ℕ) → InOne rs k → T (inRanges rs k)
+ranges-in [] k h = h
+ranges-in (r ∷ rs) k h =
     ⊎-elim
     (λ (i : (r .first ≤ k) × (k ≤ r .last)).
-    or-left (leb (r .first) k && leb k (r .last)) (inRuns rs k) (and-both (leb (r .first) k) (leb k (r .last)) (le→leb (r .first) k (i .0)) (le→leb k (r .last) (i .1))))
-    (λ (i : InOne rs k). or-right (leb (r .first) k && leb k (r .last)) (inRuns rs k) (runs-in rs k i))
+    or-left (leb (r .first) k && leb k (r .last)) (inRanges rs k) (and-both (leb (r .first) k) (leb k (r .last)) (le→leb (r .first) k (i .0)) (le→leb k (r .last) (i .1))))
+    (λ (i : InOne rs k). or-right (leb (r .first) k && leb k (r .last)) (inRanges rs k) (ranges-in rs k i))
     h
 
 pub frequency-exactly : (k : ℕ) → T (isFrequency k) ↔ Frequency k
 unfolding isFrequency
-frequency-exactly k = (in-runs frequencies k, runs-in frequencies k)
+frequency-exactly k = (in-ranges frequencies k, ranges-in frequencies k)
 
 test-means : (k : ℕ) (z : ℤ) → T (isNoReading k z) → IsNoReading k z
 unfolding isNoReading

@@ -9,23 +9,23 @@ use lib.IntN.{ℤ, pos}
 use Rattle.base.specs.Sign.{negative, sizeOf}
 
 -- numbers that follow one another, from the first to the last; a single number is its own first and last
-pub record Run : Type 0 where
+pub record Range : Type 0 where
   pub first : ℕ
   pub last : ℕ
 
-abbrev run : ℕ → ℕ → Run
-run first last = record { first = first; last = last }
+abbrev range : ℕ → ℕ → Range
+range first last = record { first = first; last = last }
 
-abbrev only : ℕ → Run
-only k = run k k
+abbrev only : ℕ → Range
+only k = range k k
 
 -- R295: 1, 2, 4 to 10, 22, 23, 25, 27 to 31, 35, 36, 44, 46 and 48
-abbrev pub frequencies : List Run
+abbrev pub frequencies : List Range
 frequencies =
-    only 1 ∷ only 2 ∷ run 4 10 ∷ only 22 ∷ only 23 ∷ only 25 ∷ run 27 31 ∷ only 35 ∷ only 36 ∷ only 44 ∷ only 46 ∷ only 48 ∷ []
+    only 1 ∷ only 2 ∷ range 4 10 ∷ only 22 ∷ only 23 ∷ only 25 ∷ range 27 31 ∷ only 35 ∷ only 36 ∷ only 44 ∷ only 46 ∷ only 48 ∷ []
 
 -- k is in one of the runs
-abbrev pub InOne : List Run → ℕ → Type 0
+abbrev pub InOne : List Range → ℕ → Type 0
 InOne [] k = ⊥
 InOne (r ∷ rs) k = ((r .first ≤ k) × (k ≤ r .last)) ⊎ InOne rs k
 
@@ -45,12 +45,12 @@ IsNoReading k z = (z ≡ pos unscaled) ⊎ ((z ≡ pos unscaledFrequency) × Fre
 
 -- ---- the same as tests, for proofs (proofs/NoReading.antt: they pass exactly where the above holds)
 
-abbrev pub inRuns : List Run → ℕ → Bool
-inRuns [] k = false
-inRuns (r ∷ rs) k = (leb (r .first) k && leb k (r .last)) || inRuns rs k
+abbrev pub inRanges : List Range → ℕ → Bool
+inRanges [] k = false
+inRanges (r ∷ rs) k = (leb (r .first) k && leb k (r .last)) || inRanges rs k
 
 unfoldable pub isFrequency : ℕ → Bool
-isFrequency k = inRuns frequencies k
+isFrequency k = inRanges frequencies k
 
 unfoldable pub isNoReading : ℕ → ℤ → Bool
 isNoReading k z = not (negative z) && (eqb (sizeOf z) unscaled || (eqb (sizeOf z) unscaledFrequency && isFrequency k))

@@ -16,7 +16,7 @@ use Rattle.date.specs.declared.Digits.the-variants.{Number, Fails}
 use Rattle.date.specs.declared.Date.{Date}
 use Rattle.date.specs.declared.Dated.{Dated}
 use Rattle.date.specs.declared.Dated.the-variants.{Right, Wrong}
-use Rattle.date.specs.Digits.{fieldDigits, Reads}
+use Rattle.date.specs.Digits.{fieldDigits, ReadsNumber}
 use Rattle.date.specs.Calendar.{isLeap}
 use Rattle.date.specs.Date.{fields, fails, number, firstBlamed, datedOf, dateOf, namesOneDay, judged}
 use Rattle.date.specs.Due.{Holds, FailsAlone, AllHold, FirstFails, HasNumbers, NamesDay, Due}
@@ -31,7 +31,7 @@ held Fails e = let z : _≡_ {A = ℕ} 0 1 = cc in absurd (omega arith)
 holds-passes : (f : DigitField) (s : List ℕ) → Holds f s → fails (fieldDigits f s) ≡ false
 holds-passes f s h = rw (is-read f s (h .value) (h .reads))
 
-passes-reads : (f : DigitField) (s : List ℕ) → fails (fieldDigits f s) ≡ false → Reads f s (number (fieldDigits f s))
+passes-reads : (f : DigitField) (s : List ℕ) → fails (fieldDigits f s) ≡ false → ReadsNumber f s (number (fieldDigits f s))
 passes-reads f s e = read-is f s (number (fieldDigits f s)) (held (fieldDigits f s) e)
 
 alone-fails : (f : DigitField) (s : List ℕ) → FailsAlone f s → fails (fieldDigits f s) ≡ true
@@ -101,7 +101,7 @@ all-numbers s (y, (n, (m, (d, (h, (i, (e, _))))))) =
       at-second = passes-reads _ s (holds-passes _ s e);
     }
 
-read-holds : {f : DigitField} {s : List ℕ} {v : ℕ} → Reads f s v → Holds f s
+read-holds : {f : DigitField} {s : List ℕ} {v : ℕ} → ReadsNumber f s v → Holds f s
 read-holds {v = v} r = record { value = v; reads = r }
 
 numbers-hold : (s : List ℕ) (d : Date) → HasNumbers s d → AllHold fields s

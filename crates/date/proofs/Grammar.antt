@@ -1,5 +1,5 @@
 -- A digit field reads as v exactly if the text has, at its positions, as many digits as the field is long, whose number is v and lies from
--- the least to the greatest (`Reads`). A number has one such text.
+-- the least to the greatest (`ReadsNumber`). A number has one such text.
 -- Assumes nothing.
 use mathlib.Core.Path.{_≡_, refl, sym, ap, _∙_}
 use mathlib.Core.Bool.{Bool, true, false, cond, _&&_}
@@ -18,7 +18,7 @@ use Rattle.base.proofs.Choice.{and-first, and-second}
 use Rattle.date.specs.declared.DigitField.{DigitField}
 use Rattle.date.specs.declared.Digits.{Digits}
 use Rattle.date.specs.declared.Digits.the-variants.{Number, Fails}
-use Rattle.date.specs.Digits.{isDigit, digitsShown, within, readDigits, hasPositions, bytesAt, fieldDigits, Reads}
+use Rattle.date.specs.Digits.{isDigit, digitsShown, within, readDigits, hasPositions, bytesAt, fieldDigits, ReadsNumber}
 use Rattle.date.proofs.Numbers.{digit-is}
 
 -- ---- bytes that are digits, and the digits that they show
@@ -51,7 +51,7 @@ number-only true x v e = (refl, e)
 number-only false x v e = let z : _≡_ {A = ℕ} 0 1 = cc in absurd (omega arith)
 
 module _ (f : DigitField) (s : List ℕ) (v : ℕ) where
-  pub read-is : fieldDigits f s ≡ Number v → Reads f s v
+  pub read-is : fieldDigits f s ≡ Number v → ReadsNumber f s v
   unfolding fieldDigits
   read-is e =
       let at = f .first - 1 in
@@ -77,13 +77,13 @@ module _ (f : DigitField) (s : List ℕ) (v : ℕ) where
         notMore = rw q at (leb-true n (f .greatest) (and-second (leb (f .least) n) (leb n (f .greatest)) ranged));
       }
 
-  reads-bytes : (r : Reads f s v) → bytesAt f s ≡ digitText (r .digits)
+  reads-bytes : (r : ReadsNumber f s v) → bytesAt f s ≡ digitText (r .digits)
   reads-bytes r =
       let e : f .first - 1 ≡ length (r .before) = omega (arith, r .position) in
       let k : f .length ≡ length (digitText (r .digits)) = sym (r .many) ∙ sym (length-map (r .digits) (λ d. 48 + d)) in
       rw (e, k, r .text) (part-middle (r .before) (digitText (r .digits)) (r .behind))
 
-  pub is-read : Reads f s v → fieldDigits f s ≡ Number v
+  pub is-read : ReadsNumber f s v → fieldDigits f s ≡ Number v
   unfolding fieldDigits
   is-read r =
       let b = reads-bytes r in
@@ -101,7 +101,7 @@ module _ (f : DigitField) (s : List ℕ) (v : ℕ) where
 
 -- ---- a number has one text
 
-pub reads-once : (f : DigitField) (s t : List ℕ) (v : ℕ) → Reads f s v → Reads f t v → bytesAt f s ≡ bytesAt f t
+pub reads-once : (f : DigitField) (s t : List ℕ) (v : ℕ) → ReadsNumber f s v → ReadsNumber f t v → bytesAt f s ≡ bytesAt f t
 reads-once f s t v r q =
     reads-bytes f s v r
     ∙ ap digitText (same-digits (r .digits) (q .digits) (r .each) (q .each) (r .many ∙ sym (q .many)) (sym (r .value) ∙ q .value))

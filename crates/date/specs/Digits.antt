@@ -17,7 +17,7 @@ use Rattle.date.specs.declared.Digits.the-variants.{Number, Fails}
 
 -- R143: the text has `before`, then as many digits as the field is long, then `behind`; the first digit stands at the field's first position, and
 -- the number that the digits make is v, from the least to the greatest
-pub record Reads (f : DigitField) (s : List ℕ) (v : ℕ) : Type 0 where
+pub record ReadsNumber (f : DigitField) (s : List ℕ) (v : ℕ) : Type 0 where
   pub before : List ℕ
   pub digits : List ℕ
   pub behind : List ℕ

@@ -8,17 +8,17 @@ use Rattle.date.specs.declared.DigitField.{DigitField}
 use Rattle.date.specs.declared.Date.{Date}
 use Rattle.date.specs.declared.Dated.{Dated}
 use Rattle.date.specs.declared.Dated.the-variants.{Right, Wrong}
-use Rattle.date.specs.Digits.{Reads}
+use Rattle.date.specs.Digits.{ReadsNumber}
 use Rattle.date.specs.Calendar.{isLeap, IsDay}
 use Rattle.date.specs.Date.{year, dayOfYear, month, day, hour, minute, second, fields}
 
 -- R143: a field reads as some number, or it fails alone
 pub record Holds (f : DigitField) (s : List ℕ) : Type 0 where
   pub value : ℕ
-  pub reads : Reads f s value
+  pub reads : ReadsNumber f s value
 
 abbrev pub FailsAlone : DigitField → List ℕ → Type 0
-FailsAlone f s = (v : ℕ) → Reads f s v → ⊥
+FailsAlone f s = (v : ℕ) → ReadsNumber f s v → ⊥
 
 abbrev pub AllHold : List DigitField → List ℕ → Type 0
 AllHold [] s = Unit {0}
@@ -36,13 +36,13 @@ pub record FirstFails (fs : List DigitField) (s : List ℕ) (p : ℕ) : Type 0 w
 
 -- each of the seven fields reads as the date's number
 pub record HasNumbers (s : List ℕ) (d : Date) : Type 0 where
-  pub in-year : Reads year s (d .year)
-  pub on-day-of-year : Reads dayOfYear s (d .«day_of_year»)
-  pub in-month : Reads month s (d .month)
-  pub on-day : Reads day s (d .day)
-  pub at-hour : Reads hour s (d .hour)
-  pub at-minute : Reads minute s (d .minute)
-  pub at-second : Reads second s (d .second)
+  pub in-year : ReadsNumber year s (d .year)
+  pub on-day-of-year : ReadsNumber dayOfYear s (d .«day_of_year»)
+  pub in-month : ReadsNumber month s (d .month)
+  pub on-day : ReadsNumber day s (d .day)
+  pub at-hour : ReadsNumber hour s (d .hour)
+  pub at-minute : ReadsNumber minute s (d .minute)
+  pub at-second : ReadsNumber second s (d .second)
 
 -- R146: day of the year, month and day agree, in the date's year
 abbrev pub NamesDay : Date → Type 0

@@ -17,7 +17,7 @@ use Rattle.entry.specs.declared.Entry.{Entry}
 use Rattle.entry.specs.declared.Entry.the-variants.{Set, Open, Release, Undo, Misformed}
 use Rattle.entry.specs.Bytes.{numberBytes, valueFrom, bitsOf, cellOf, AllBytes}
 use Rattle.entry.specs.Field.{tagged, entryText, entrySize, numbered, setOf, entryIn}
-use Rattle.entry.specs.Codec.{Sized, sized-set, sized-open, sized-release, sized-undo, Reads, BothWays}
+use Rattle.entry.specs.Codec.{Sized, sized-set, sized-open, sized-release, sized-undo, ReadsEntry, BothWays}
 use Rattle.entry.proofs.Numbers.{length-bytes, value-bytes, bytes-value, value-small}
 use Rattle.entry.proofs.Signed.{bits-small, cell-bits, bits-cell}
 
@@ -130,7 +130,7 @@ module _ (a b c d : ℕ) (r : List ℕ) (h : AllBytes (a ∷ b ∷ c ∷ d ∷ r
   xs = a ∷ b ∷ c ∷ d ∷ r
 
   abbrev Read : Entry → Type 0
-  Read e = (e ≡ Misformed → ⊥) → Reads xs e
+  Read e = (e ≡ Misformed → ⊥) → ReadsEntry xs e
 
   bad : Read Misformed
   bad n = absurd (n refl)
@@ -146,7 +146,7 @@ module _ (a b c d : ℕ) (r : List ℕ) (h : AllBytes (a ∷ b ∷ c ∷ d ∷ r
       cond-elim Read (eqb a 3) (λ q n. record { text = four 3 (omega arith) (eqb-true a 3 q) eb ec; sized = sized-release l }) (λ _.
       cond-elim Read (eqb a 4) (λ q n. record { text = four 4 (omega arith) (eqb-true a 4 q) eb ec; sized = sized-undo l }) (λ _. bad)))
 
-  read-set : a ≡ 1 → b ≡ 0 → c ≡ 19 → 18 ≤ length r → Reads xs (setOf xs)
+  read-set : a ≡ 1 → b ≡ 0 → c ≡ 19 → 18 ≤ length r → ReadsEntry xs (setOf xs)
   read-set ea eb ec l =
       let g = take 1 (d ∷ r) in
       let x = take 2 r in
@@ -185,7 +185,7 @@ module _ (a b c d : ℕ) (r : List ℕ) (h : AllBytes (a ∷ b ∷ c ∷ d ∷ r
       (λ _. cond-elim Read (eqb c 1) (λ qc. read-numbered (eqb-true b 0 qb) (eqb-true c 1 qc)) (λ _. bad)))
       (λ _. bad))
 
-pub field-read : (xs : List ℕ) → AllBytes xs → (entryIn xs ≡ Misformed → ⊥) → Reads xs (entryIn xs)
+pub field-read : (xs : List ℕ) → AllBytes xs → (entryIn xs ≡ Misformed → ⊥) → ReadsEntry xs (entryIn xs)
 unfolding entryIn
 field-read [] h n = absurd (n refl)
 field-read (a ∷ []) h n = absurd (n refl)

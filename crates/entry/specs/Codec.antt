@@ -19,14 +19,14 @@ pub data Sized : Entry → Type 0 where
   sized-undo : {k : ℕ} → k < 256 → Sized (Undo k)
 
 -- the bytes of an entry's field are its text
-pub record Reads (xs : List ℕ) (e : Entry) : Type 0 where
+pub record ReadsEntry (xs : List ℕ) (e : Entry) : Type 0 where
   pub text : take (entrySize e) xs ≡ entryText e
   pub sized : Sized e
 
 pub record BothWays : Type 0 where
   -- whatever stands behind it
   pub written : (e : Entry) (r : List ℕ) → Sized e → entryIn (entryText e ++ r) ≡ e
-  pub read : (xs : List ℕ) → AllBytes xs → (entryIn xs ≡ Misformed → ⊥) → Reads xs (entryIn xs)
+  pub read : (xs : List ℕ) → AllBytes xs → (entryIn xs ≡ Misformed → ⊥) → ReadsEntry xs (entryIn xs)
   pub long : (e : Entry) → length (entryText e) ≡ entrySize e
   -- R524: over all values of 64 bits
   pub value : (z : ℤ) → SFits w64 z → cellOf (bitsOf z) ≡ z

@@ -25,9 +25,9 @@ use Rattle.number.proofs.Grammar.{columns-read, Held, held}
 use Rattle.number.proofs.Unique.{lean-text}
 use Rattle.number.proofs.Fits.{i-canonical}
 use Rattle.number.proofs.Text.{i-length, i-printable}
-use Rattle.field.specs.declared.Entry.the-variants.{Count, Misformed}
+use Rattle.field.specs.declared.IndexEntry.the-variants.{Count, Misformed}
 use Rattle.form.specs.Count.{mostCount, isCount}
-use Rattle.field.specs.Entry.{IsEntry, HasEntry, CanonicalEntry, countIn, entryOf, entryText}
+use Rattle.field.specs.Entry.{IsEntry, HasEntry, CanonicalEntry, countIn, entryOf, indexEntryText}
 
 -- ---- reading
 
@@ -68,7 +68,7 @@ entry-fitting s n i =
 
 -- ---- canonical is one
 
-pub entry-canonical : (n : ℕ) → T (isCount n) → CanonicalEntry (entryText n) n
+pub entry-canonical : (n : ℕ) → T (isCount n) → CanonicalEntry (indexEntryText n) n
 entry-canonical n t =
     let c = i-canonical 2 99 999 refl refl (pos n) t in
     let m = numberOf (c .digits) in
@@ -83,11 +83,11 @@ entry-canonical n t =
       value = ap sizeOf (c .value) ∙ size-of (c .sign) m;
     }
 
-pub entry-one : (s : List ℕ) (n : ℕ) → CanonicalEntry s n → s ≡ entryText n
+pub entry-one : (s : List ℕ) (n : ℕ) → CanonicalEntry s n → s ≡ indexEntryText n
 entry-one s n c =
     c .text
     ∙ lean-text (c .blanks) false (c .digits) 3 (c .each) (c .lean) (sym (ap length (c .text)) ∙ c .width)
-    ∙ ap entryText (sym (c .value))
+    ∙ ap indexEntryText (sym (c .value))
 
 pub canonical-entry : (s : List ℕ) (n : ℕ) → CanonicalEntry s n → IsEntry s n
 canonical-entry s n c =
@@ -95,15 +95,15 @@ canonical-entry s n c =
 
 -- ---- written reads
 
-pub entry-back : (n : ℕ) → T (isCount n) → entryOf (entryText n) ≡ Count n
-entry-back n t = is-entry (entryText n) n (canonical-entry (entryText n) n (entry-canonical n t))
+pub entry-back : (n : ℕ) → T (isCount n) → entryOf (indexEntryText n) ≡ Count n
+entry-back n t = is-entry (indexEntryText n) n (canonical-entry (indexEntryText n) n (entry-canonical n t))
 
-pub entry-wide : (n : ℕ) → length (entryText n) ≡ 3
+pub entry-wide : (n : ℕ) → length (indexEntryText n) ≡ 3
 entry-wide n = i-length 3 (pos n)
 
-pub entry-plain : (n : ℕ) → T (every printable (entryText n))
+pub entry-plain : (n : ℕ) → T (every printable (indexEntryText n))
 entry-plain n = i-printable 3 (pos n)
 
 -- a count has an entry exactly if it is 0 to 999
 pub has-entry : (n : ℕ) → HasEntry n ↔ T (isCount n)
-has-entry n = (λ h. entry-fitting (h .columns) n (h .entry), λ t. record { columns = entryText n; entry = canonical-entry (entryText n) n (entry-canonical n t) })
+has-entry n = (λ h. entry-fitting (h .columns) n (h .entry), λ t. record { columns = indexEntryText n; entry = canonical-entry (indexEntryText n) n (entry-canonical n t) })

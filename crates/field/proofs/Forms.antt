@@ -12,11 +12,11 @@ use Rattle.field.specs.Kind.{kindOf, widthOf, kindCells, Tens, Small}
 
 -- one computed test over the ten forms for each of the first two
 pub kind-width : (f : Form) → widthOf (kindOf f) ≡ rowOf f .width
-unfolding Table.rowOf Table.formEntry
+unfolding Table.rowOf Table.listedAs
 kind-width f = eqb→eq (widthOf (kindOf f)) (rowOf f .width) (each-form (λ f. eqb (widthOf (kindOf f)) (rowOf f .width)) tt f)
 
 pub kind-cells : (f : Form) → kindCells (kindOf f) ≡ rowOf f .cells
-unfolding Table.rowOf Table.formEntry
+unfolding Table.rowOf Table.listedAs
 kind-cells f = eqb→eq (kindCells (kindOf f)) (rowOf f .cells) (each-form (λ f. eqb (kindCells (kindOf f)) (rowOf f .cells)) tt f)
 
 pub kind-tens : (f : Form) → Tens (kindOf f)

@@ -11,7 +11,7 @@ and-true true = refl
 and-true false = refl
 
 pub ranges : Ranges
-unfolding fitsOf Table.rowOf Table.formEntry
+unfolding fitsOf Table.rowOf Table.listedAs
 ranges =
     record {
       i3 = λ z. refl;

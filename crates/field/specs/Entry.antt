@@ -10,8 +10,8 @@ use Rattle.number.specs.declared.Scan.{Scan}
 use Rattle.number.specs.declared.Scan.the-variants.{Blanks, Signed, Digits, Broken}
 use Rattle.number.specs.Scan.{scanOf}
 use Rattle.number.specs.Write.{textOf}
-use Rattle.field.specs.declared.Entry.{Entry}
-use Rattle.field.specs.declared.Entry.the-variants.{Count, Misformed}
+use Rattle.field.specs.declared.IndexEntry.{IndexEntry}
+use Rattle.field.specs.declared.IndexEntry.the-variants.{Count, Misformed}
 
 -- blanks and one or more digits in three columns, and the count that the digits make
 pub record IsEntry (s : List ℕ) (n : ℕ) : Type 0 where
@@ -39,15 +39,15 @@ pub record CanonicalEntry (s : List ℕ) (n : ℕ) : Type 0 where
   pub value : n ≡ numberOf digits
 
 -- digits without a minus are a count
-abbrev pub countIn : Scan → Entry
+abbrev pub countIn : Scan → IndexEntry
 countIn Blanks = Misformed
 countIn Signed = Misformed
 countIn (Digits true n) = Misformed
 countIn (Digits false n) = Count n
 countIn Broken = Misformed
 
-unfoldable pub entryOf : List ℕ → Entry
+unfoldable pub entryOf : List ℕ → IndexEntry
 entryOf s = cond (eqb (length s) 3) (countIn (scanOf Blanks s)) Misformed
 
-abbrev pub entryText : ℕ → List ℕ
-entryText n = textOf false 3 (Digits false n)
+abbrev pub indexEntryText : ℕ → List ℕ
+indexEntryText n = textOf false 3 (Digits false n)

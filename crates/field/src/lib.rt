@@ -16,7 +16,7 @@ ghost use Rattle.number.specs.Scan.{Below};
 ghost use Rattle.field.specs.Kind.{kindOf, widthOf, kindCells, Small};
 ghost use Rattle.field.specs.Read.{valueOf, readAs, fieldOf};
 ghost use Rattle.field.specs.Write.{isLetter, rangeOf, fitsOf, textAs, fieldText};
-ghost use Rattle.field.specs.Entry.{countIn, entryOf, entryText};
+ghost use Rattle.field.specs.Entry.{countIn, entryOf, indexEntryText};
 
 // What a field reads as: a cell; the two cells of an E field; letters, whose cells are the bytes themselves.
 pub enum Value {
@@ -27,7 +27,7 @@ pub enum Value {
 }
 
 // What an index entry reads as.
-pub enum Entry {
+pub enum IndexEntry {
     Count(u16),
     Misformed,
 }
@@ -397,29 +397,29 @@ pub fn put(form: Form, cells: &[i64], out: &mut [u8], at: usize)
 
 // ---- Index entries.
 
-fn count_in(st: Scan) -> Entry
+fn count_in(st: Scan) -> IndexEntry
     requires { ⌜ Below 1000 st ⌝ }
     ensures { λ r. ⌜ r ≡ countIn st ⌝ }
 {
     match st {
-        Scan::Blanks => Entry::Misformed,
-        Scan::Signed => Entry::Misformed,
+        Scan::Blanks => IndexEntry::Misformed,
+        Scan::Signed => IndexEntry::Misformed,
         Scan::Digits(neg, n) => {
             if neg {
-                return Entry::Misformed;
+                return IndexEntry::Misformed;
             }
-            Entry::Count(n as u16)
+            IndexEntry::Count(n as u16)
         }
-        Scan::Broken => Entry::Misformed,
+        Scan::Broken => IndexEntry::Misformed,
     }
 }
 
 // R23: the count that an index entry reads as; a slice of another length than three is misformed.
-pub fn read_entry(entry: &[u8]) -> Entry
+pub fn read_entry(entry: &[u8]) -> IndexEntry
     ensures { λ r. ⌜ r ≡ entryOf (now (entry .entry)) ⌝ }
 {
     if entry.len() != 3 {
-        return Entry::Misformed;
+        return IndexEntry::Misformed;
     }
     count_in(number::scan_part(entry, Scan::Blanks))
 }
@@ -427,7 +427,7 @@ pub fn read_entry(entry: &[u8]) -> Entry
 // Writes the canonical text of a count at a place with room.
 pub fn put_entry(count: u16, out: &mut [u8], at: usize)
     requires { ⌜ at + 3 ≤ length (now out) ⌝ }
-    ensures { λ _. ⌜ now (out .exit) ≡ over at (entryText count) (now (out .entry)) ⌝ }
+    ensures { λ _. ⌜ now (out .exit) ≡ over at (indexEntryText count) (now (out .entry)) ⌝ }
 {
     number::put_at(out, at, 3, false, Scan::Digits(false, count as u64));
 }

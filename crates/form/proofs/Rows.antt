@@ -9,7 +9,7 @@ use Rattle.base.specs.Every.{every}
 use Rattle.base.proofs.Choice.{and-left, and-right}
 use Rattle.form.specs.declared.Row.{Row}
 use Rattle.form.specs.declared.Form.{Form}
-use Rattle.form.specs.Table.{formEntry, rowOf, forms}
+use Rattle.form.specs.Table.{listedAs, rowOf, forms}
 use Rattle.form.specs.Count.{elementsOf}
 use Rattle.form.proofs.Table.{each-form}
 
@@ -46,7 +46,7 @@ passed r t =
     }
 
 all-fit : T (every (λ f. fits (rowOf f)) forms)
-unfolding rowOf formEntry
+unfolding rowOf listedAs
 all-fit = tt
 
 pub row-fits : (f : Form) → RowFits (rowOf f)

@@ -16,7 +16,7 @@ use Rattle.form.specs.declared.Form.{Form}
 use Rattle.form.specs.declared.Form.the-variants.{F7, A120, A1, F8, I2, I3, I1, E11, E20, E8}
 use Rattle.form.specs.declared.GroupForm.{GroupForm}
 use Rattle.form.specs.declared.GroupForm.the-variants.{Has, NoGroup}
-use Rattle.form.specs.Table.{formEntry, forms, formNumber, formAmong, formOf}
+use Rattle.form.specs.Table.{listedAs, forms, formNumber, formAmong, formOf}
 
 -- ---- a test that passes at every form passes at each
 
@@ -63,31 +63,31 @@ is-form f g t = sym (back-code f) ∙ ap back (eqb→eq (code f) (code (formOf g
 -- ---- a form's groups have the form
 
 abbrev listed : Form → Bool
-listed f = every (is (Has f)) (formEntry f .groups)
+listed f = every (is (Has f)) (listedAs f .groups)
 
 all-listed : T (every listed forms)
-unfolding formEntry formOf formAmong
+unfolding listedAs formOf formAmong
 all-listed = tt
 
-pub listed-form : (f : Form) (g : ℕ) → T (has (formEntry f .groups) g) → formOf g ≡ Has f
-listed-form f g h = sym (is-form (Has f) g (every-has (is (Has f)) (formEntry f .groups) (each-form listed all-listed f) g h))
+pub listed-form : (f : Form) (g : ℕ) → T (has (listedAs f .groups) g) → formOf g ≡ Has f
+listed-form f g h = sym (is-form (Has f) g (every-has (is (Has f)) (listedAs f .groups) (each-form listed all-listed f) g h))
 
 -- ---- a group's form lists the group
 
-step : (k f : Form) (fs : List Form) (g : ℕ) (t : Bool) → has (formEntry k .groups) g ≡ t → (formAmong fs g ≡ Has f → T (has (formEntry f .groups) g))
-    → cond t (Has k) (formAmong fs g) ≡ Has f → T (has (formEntry f .groups) g)
+step : (k f : Form) (fs : List Form) (g : ℕ) (t : Bool) → has (listedAs k .groups) g ≡ t → (formAmong fs g ≡ Has f → T (has (listedAs f .groups) g))
+    → cond t (Has k) (formAmong fs g) ≡ Has f → T (has (listedAs f .groups) g)
 step k f fs g true u rest e =
     let p : k ≡ f = cc in
     rw (← p, u) tt
 step k f fs g false u rest e = rest e
 
-among : (fs : List Form) (f : Form) (g : ℕ) → formAmong fs g ≡ Has f → T (has (formEntry f .groups) g)
+among : (fs : List Form) (f : Form) (g : ℕ) → formAmong fs g ≡ Has f → T (has (listedAs f .groups) g)
 unfolding formAmong
 among [] f g e = let z : _≡_ {A = ℕ} 0 1 = cc in absurd (omega arith)
-among (k ∷ fs) f g e = step k f fs g (has (formEntry k .groups) g) refl (among fs f g) e
+among (k ∷ fs) f g e = step k f fs g (has (listedAs k .groups) g) refl (among fs f g) e
 
 -- a group has a form exactly if the form's row lists the group
-pub form-listed : (f : Form) (g : ℕ) → formOf g ≡ Has f ↔ T (has (formEntry f .groups) g)
+pub form-listed : (f : Form) (g : ℕ) → formOf g ≡ Has f ↔ T (has (listedAs f .groups) g)
 unfolding formOf
 form-listed f g = (among forms f g, listed-form f g)
 
@@ -98,14 +98,14 @@ abbrev isGroup : ℕ → Bool
 isGroup g = leb (code (formOf g)) 9
 
 all-groups : T (every isGroup (upFrom 1 60))
-unfolding upFrom formEntry formOf formAmong
+unfolding upFrom listedAs formOf formAmong
 all-groups = tt
 
 abbrev inside : ℕ → Bool
 inside g = leb 1 g && leb g 60
 
-all-inside : T (every (λ f. every inside (formEntry f .groups)) forms)
-unfolding formEntry
+all-inside : T (every (λ f. every inside (listedAs f .groups)) forms)
+unfolding listedAs
 all-inside = tt
 
 pub record IsGroup (g : ℕ) : Type 0 where
@@ -114,7 +114,7 @@ pub record IsGroup (g : ℕ) : Type 0 where
 
 has-group : (g : ℕ) (f : Form) → formOf g ≡ Has f → IsGroup g
 has-group g f e =
-    let t = every-has inside (formEntry f .groups) (each-form (λ k. every inside (formEntry k .groups)) all-inside f) g (form-listed f g .0 e) in
+    let t = every-has inside (listedAs f .groups) (each-form (λ k. every inside (listedAs k .groups)) all-inside f) g (form-listed f g .0 e) in
     record {
       low = leb→le 1 g (and-left (leb 1 g) (leb g 60) t);
       high = leb→le g 60 (and-right (leb 1 g) (leb g 60) t);

@@ -48,7 +48,7 @@ comma-line = refl
 -- ---- group 4 of a record with S's counts, into a table with room
 
 four-by : (x : List ℕ) (room : ℕ) → readGroup countsS 4 x room ≡ readForm F8 4 1 x room
-unfolding RecordS.countsS Read.readGroup Every.upFrom Table.formEntry Table.formAmong Table.formOf Rules.rulingOf Rules.lowest Rules.headRules Rules.sets Rules.keeps Rules.letterRules
+unfolding RecordS.countsS Read.readGroup Every.upFrom Table.listedAs Table.formAmong Table.formOf Rules.rulingOf Rules.lowest Rules.headRules Rules.sets Rules.keeps Rules.letterRules
 four-by x room = refl
 
 module _ (room : ℕ) (h : 1 ≤ room) where

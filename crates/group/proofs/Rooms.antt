@@ -31,11 +31,11 @@ use Rattle.group.specs.Held.{foundAt, partAt}
 use Rattle.group.specs.Text.{readFound, readAt}
 
 pub form-four : formOf 4 ≡ Has F8
-unfolding Table.formOf Table.formAmong Table.formEntry
+unfolding Table.formOf Table.formAmong Table.listedAs
 form-four = refl
 
 pub cells-four : (n : ℕ) → cellsOf F8 n ≡ n
-unfolding Count.cellsOf Count.elementsOf Table.rowOf Table.formEntry
+unfolding Count.cellsOf Count.elementsOf Table.rowOf Table.listedAs
 cells-four n = mul-one n
 
 -- R124: group 4 has no more than 49

@@ -28,7 +28,7 @@ use Rattle.journal.specs.Layout.{startsOf, getAt}
 use Rattle.journal.specs.Model.{Call, Sets, Opens, Releases, Undoes, accepts, refusalOf, bytesFor, numberFor, decided}
 use Rattle.journal.specs.Walks.{Walked}
 use Rattle.journal.specs.Calls.{andThen, whole, entryFor, cellsFor, walkIn, standingOf, answerOf}
-use Rattle.journal.specs.Plays.{playedBy, Run, playIn, replayOf, replayedCells, replayedOpen}
+use Rattle.journal.specs.Plays.{playedBy, Played, playIn, replayOf, replayedCells, replayedOpen}
 use Rattle.journal.specs.Order.{Accepted, RightEntry, cellsBehind, Goes}
 use Rattle.journal.specs.Runs.{Kept, kept, answerTo, leftBy}
 use Rattle.journal.specs.Due.{AllUsed, Faulty, AllInOrder, Standing, RefusedFor, wrong-counts, bad-entry, unaccepted, no-room, Due}
@@ -253,10 +253,10 @@ module _ (ns : List ℕ) (c : Call) (k : Kept) where
 -- ---- a replay
 
 module _ (ns j : List ℕ) (used : ℕ) (t : List ℤ) where
-  abbrev run : Run
+  abbrev run : Played
   run = playIn ns j used t
 
-  replay-order-is : (x : Run) → AllReplayed ns j used t x → x ≡ run
+  replay-order-is : (x : Played) → AllReplayed ns j used t x → x ≡ run
   replay-order-is x h = used-is (play-ends ns (take used j) t) (λ y. y .place) used x (λ q r. ended ns j used (length (x .marks)) (x .place) q (r .0)) h
 
   replay-refusal : (r : Refusal) → ReplayRefusedFor ns j used t r → checks ns (length t) used (run .place) ≡ C.Refused r

@@ -39,9 +39,9 @@ use Rattle.journal.specs.Model.{modelAnswer, modelStep, modelAnswers, mo
 use Rattle.journal.specs.Entries.{markStep, marksFrom, marksOf, markOf, giveBack, restore, journalText, entriesAt, placeAt}
 use Rattle.journal.specs.Walks.{okEntry, walked, walkOf}
 use Rattle.journal.specs.Calls.{entryFor, cellsFor, walkIn, standingOf}
-use Rattle.journal.specs.Plays.{matches, ran, playOf, playIn, replayOf}
+use Rattle.journal.specs.Plays.{matches, played, playOf, playIn, replayOf}
 use Rattle.journal.specs.Runs.{Fit, FitCall, FitCalls, Kept, kept, answerTo, leftBy, answersTo, leftTo, openIn, entryTo, entriesTo}
-use Rattle.journal.specs.Runs.{JournalIsStack, ReplaysTo, AddsField, ReadsAs, behindReplay}
+use Rattle.journal.specs.Runs.{JournalIsStack, ReplaysTo, AddsField, ReadsEntries, behindReplay}
 use Rattle.journal.proofs.Answers.{answer-right, answer-refused}
 use Rattle.journal.proofs.Held.{none, holds-length, holds-mark, HeldBy, withEntry, cellsOn, marks-entry, held-cells, held-call}
 use Rattle.journal.proofs.Text.{Fine, fine-none, fine-more, fine-last, text-length, walk-journal, back-journal, read-written, place-written, text-more, used-more}
@@ -326,11 +326,11 @@ module _ (ns : List ℕ) (t₀ : List ℤ) where
 
   -- a replay over t₀ of the bytes used, in whatever buffer they stand
   play-is : (k : Kept) (ts : List (List ℤ)) (j : List ℕ) (s : Stands k ts) → take (k .used) j ≡ take (k .used) (k .journal)
-      → playIn ns j (k .used) t₀ ≡ ran (k .used) (length (s .entries)) (marksOf (s .entries)) (k .cells)
+      → playIn ns j (k .used) t₀ ≡ played (k .used) (length (s .entries)) (marksOf (s .entries)) (k .cells)
   play-is k ts j s q =
       let used = used-is Opens k ts s in
       ap (λ x. playOf ps x t₀) (q ∙ s .bytes) ∙ play-journal (journalText (s .entries)) (s .entries) (s .leads) refl (text-length (s .fine))
-      ∙ ap (λ p. ran p (length (s .entries)) (marksOf (s .entries)) (k .cells)) used
+      ∙ ap (λ p. played p (length (s .entries)) (marksOf (s .entries)) (k .cells)) used
 
   pub replay-stands : (k : Kept) (ts : List (List ℤ)) (j : List ℕ) → Stands k ts → take (k .used) j ≡ take (k .used) (k .journal) → checkedOf ns (length t₀) ≡ C.Right → ReplaysTo ns t₀ j k
   unfolding replayOf
@@ -382,7 +382,7 @@ module _ (ns : List ℕ) (t : List ℤ) (j : List ℕ) (cs : List Call) (ft : Fi
       replay-stands ns t k (a .saved) (k .journal) (a .left .stands) refl (Counted.first-due ns (length t) C.Right .1 h)
 
   -- R520: the bytes used are the fields of the calls that were accepted, and read as these
-  pub reads-as : ReadsAs (leftTo ns cs (kept t j 0)) (entriesTo ns cs (kept t j 0))
+  pub reads-as : ReadsEntries (leftTo ns cs (kept t j 0)) (entriesTo ns cs (kept t j 0))
   unfolding fresh
   reads-as =
       let a = after-calls ns t cs (kept t j 0) [] fc (fresh ns t j ft) in

@@ -27,9 +27,9 @@ use Rattle.journal.specs.Layout.{startsOf, spotIn, spotOf, exists, putAt
 use Rattle.journal.specs.Model.{Call, Sets, Opens, Releases, Undoes, accepts}
 use Rattle.journal.specs.Entries.{markStep, markOf, restore, nextAt, entriesAt, placeAt}
 use Rattle.journal.specs.Walks.{okEntry, Walked, walked, walkFrom, walkOf}
-use Rattle.journal.specs.Plays.{matches, playedBy, Run, ran, playFrom, playOf}
-use Rattle.journal.specs.Order.{IsCell, cellAt, Accepted, RightEntry, OldIs, firstOld, undone, cellsBehind}
-use Rattle.journal.specs.Order.{Goes, here, on, RightAt, behind, InOrder, PlaysAt, playedTo, InReplay}
+use Rattle.journal.specs.Plays.{matches, playedBy, Played, played, playFrom, playOf}
+use Rattle.journal.specs.Order.{IsCell, cellPlace, Accepted, RightEntry, OldIs, firstOld, undone, cellsBehind}
+use Rattle.journal.specs.Order.{Goes, here, on, RightAt, walkedTo, InOrder, PlaysAt, playedTo, InReplay}
 use Rattle.journal.proofs.Spots.{starts-length, starts-at}
 use Rattle.journal.proofs.Walking.{no-way, ok-open, ok-size}
 use Rattle.journal.proofs.Playing.{same-same, same-cell}
@@ -76,7 +76,7 @@ module _ (ns : List ℕ) (g c : ℕ) where
           absurd (omega arith)
 
   -- where it stands
-  pub spot-at : IsCell ns g c → spotOf (startsOf ns) g c ≡ At (cellAt ns g c)
+  pub spot-at : IsCell ns g c → spotOf (startsOf ns) g c ≡ At (cellPlace ns g c)
   unfolding spotOf
   spot-at i =
       rw (le-leb 1 c (i .first), le-leb c (getD (startsOf ns) (g + 1) 0 - getD (startsOf ns) g 0) (omega (arith, ends (i .low) (i .high), i .last)))
@@ -128,7 +128,7 @@ module _ (ns : List ℕ) (d : ℕ) where
   old-matches Misformed t r q = refl
 
   matches-old : (e : Entry) (t : List ℤ) → RightEntry ns d e → matches (startsOf ns) e t ≡ true → OldIs ns e t
-  matches-old (Set g c o v) t r m = same-cell (getD t (cellAt ns g c) (pos 0)) o (rw (spot-at ns g c r) at m)
+  matches-old (Set g c o v) t r m = same-cell (getD t (cellPlace ns g c) (pos 0)) o (rw (spot-at ns g c r) at m)
   matches-old (Open k) t r m = tt
   matches-old (Release k) t r m = tt
   matches-old (Undo k) t r m = tt
@@ -168,7 +168,7 @@ module _ (ns : List ℕ) where
   first-old : (es : List Entry) (i : ℕ) (z : ℤ) → SetCells es → firstBack (startsOf ns) es i z ≡ firstOld ns es i z
   unfolding firstBack firstOld
   first-old [] i z h = refl
-  first-old (Set g c o v ∷ es) i z h = rw (spot-at ns g c (h .0)) (ap (cond (eqb (cellAt ns g c) i) o) (first-old es i z (h .1)))
+  first-old (Set g c o v ∷ es) i z h = rw (spot-at ns g c (h .0)) (ap (cond (eqb (cellPlace ns g c) i) o) (first-old es i z (h .1)))
   first-old (Open k ∷ es) i z h = first-old es i z (h .1)
   first-old (Release k ∷ es) i z h = first-old es i z (h .1)
   first-old (Undo k ∷ es) i z h = first-old es i z (h .1)
@@ -244,7 +244,7 @@ module _ (ns s : List ℕ) where
   past p d h r = subst (RightEntry ns d) (ap entryIn (drop-of-length-le s {i = p} h) ∙ no-field) r
 
   abbrev WalkStops : Walked → Walked → Type 0
-  WalkStops = Stops Walked (RightAt ns s) (behind ns s)
+  WalkStops = Stops Walked (RightAt ns s) (walkedTo ns s)
 
   walk-stops : (f p n : ℕ) (ms : List ℕ) → length s ≤ p + f → WalkStops (walked p n ms) (walkFrom f ps s p n ms)
   unfolding walkFrom
@@ -266,38 +266,38 @@ module _ (ns s : List ℕ) where
   walk-only w g n = goes-one g n (walk-ends .goes) (walk-ends .stuck)
 
   -- fields in order stand before where they lead
-  goes-before : {x y : Walked} → Goes Walked (RightAt ns s) (behind ns s) x y → Before ns s (x .place) (x .count) (x .marks) → Before ns s (y .place) (y .count) (y .marks)
+  goes-before : {x y : Walked} → Goes Walked (RightAt ns s) (walkedTo ns s) x y → Before ns s (x .place) (x .count) (x .marks) → Before ns s (y .place) (y .count) (y .marks)
   goes-before here b = b
   goes-before {x} (on r g) b = goes-before g (before-more ns s (x .place) (x .count) (x .marks) b r)
 
   pub order-before : (w : Walked) → InOrder ns s w → Before ns s (w .place) (w .count) (w .marks)
   order-before w g = goes-before g (before-none ns s)
 
-  abbrev PlayStops : Run → Run → Type 0
-  PlayStops = Stops Run (PlaysAt ns s) (playedTo ns s)
+  abbrev PlayStops : Played → Played → Type 0
+  PlayStops = Stops Played (PlaysAt ns s) (playedTo ns s)
 
-  play-stops : (f p n : ℕ) (ms : List ℕ) (t : List ℤ) → length s ≤ p + f → Before ns s p n ms → PlayStops (ran p n ms t) (playFrom f ps s p n ms t)
+  play-stops : (f p n : ℕ) (ms : List ℕ) (t : List ℤ) → length s ≤ p + f → Before ns s p n ms → PlayStops (played p n ms t) (playFrom f ps s p n ms t)
   unfolding playFrom
-  play-stops zero p n ms t h b = stops-here (ran p n ms t) (λ r. past p (length ms) (omega arith) (r .0))
+  play-stops zero p n ms t h b = stops-here (played p n ms t) (λ r. past p (length ms) (omega arith) (r .0))
   play-stops (suc f) p n ms t h b =
       let e = fieldAt s p in
-      let x = ran p n ms t in
+      let x = played p n ms t in
       cond-elim (PlayStops x) (ltb p (length s))
       (λ lo. cond-elim (PlayStops x) (okEntry ps e (length ms))
       (λ ok.
       let right = right-entry ns (length ms) e ok in
       cond-elim (PlayStops x) (matches ps e t)
       (λ m. stops-on x (right, matches-old ns (length ms) e t right m)
-      (subst (λ u. PlayStops (ran (nextAt s p) (n + 1) (markStep e n ms) u) (playFrom f ps s (nextAt s p) (n + 1) (markStep e n ms) (playedBy ps e s n ms t)))
+      (subst (λ u. PlayStops (played (nextAt s p) (n + 1) (markStep e n ms) u) (playFrom f ps s (nextAt s p) (n + 1) (markStep e n ms) (playedBy ps e s n ms t)))
       (played-behind ns s e t b right)
       (play-stops f (nextAt s p) (n + 1) (markStep e n ms) (playedBy ps e s n ms t) (omega (arith, ok-size ps (length ms) e ok)) (before-more ns s p n ms b right))))
       (λ m. stops-here x (λ r. true≢false (sym (old-matches ns (length ms) e t (r .0) (r .1)) ∙ m))))
       (λ ok. stops-here x (λ r. true≢false (sym (entry-right ns (length ms) e (r .0)) ∙ ok))))
       (λ lo. stops-here x (λ r. past p (length ms) (ltb-false p (length s) lo) (r .0)))
 
-  pub play-ends : (t : List ℤ) → PlayStops (ran 0 0 [] t) (playOf ps s t)
+  pub play-ends : (t : List ℤ) → PlayStops (played 0 0 [] t) (playOf ps s t)
   unfolding playOf
   play-ends t = play-stops (length s) 0 0 [] t (omega arith) (before-none ns s)
 
-  pub play-only : (t : List ℤ) (x : Run) → InReplay ns s t x → (PlaysAt ns s x → ⊥) → x ≡ playOf ps s t
+  pub play-only : (t : List ℤ) (x : Played) → InReplay ns s t x → (PlaysAt ns s x → ⊥) → x ≡ playOf ps s t
   play-only t x g n = goes-one g n (play-ends t .goes) (play-ends t .stuck)

@@ -20,7 +20,7 @@ use Rattle.entry.specs.Field.{fieldAt}
 use Rattle.journal.specs.Layout.{spotOf, getAt, putAt}
 use Rattle.journal.specs.Entries.{markStep, markOf, giveBack, restore, nextAt, entriesAt, placeAt, backTo}
 use Rattle.journal.specs.Walks.{okEntry, newDepth, down}
-use Rattle.journal.specs.Plays.{sameCell, matches, playedBy, Run, ran, playFrom, playOf}
+use Rattle.journal.specs.Plays.{sameCell, matches, playedBy, Played, played, playFrom, playOf}
 use Rattle.journal.proofs.Spots.{length-put, put-put, put-get}
 use Rattle.journal.proofs.Restore.{length-restore, restore-one, restore-within}
 use Rattle.journal.proofs.Places.{entries-one, entries-from, place-none, place-next, back-none}
@@ -66,19 +66,19 @@ module _ (ps s : List ℕ) (p n d : ℕ) (a : List ℕ) (t : List ℤ) where
       let z : length s - n ≡ suc (length s - (n + 1)) = omega arith in
       rw (z, lt-ltb p (length s) l, down-length d a, o, m, mark-down ps d (fieldAt s p) n a o k)
 
-  pub play-stop : n < length s → p < length s → okEntry ps (fieldAt s p) d ≡ false → ran p n (down d a) t ≡ playFrom (length s - n) ps s p n (down d a) t
+  pub play-stop : n < length s → p < length s → okEntry ps (fieldAt s p) d ≡ false → played p n (down d a) t ≡ playFrom (length s - n) ps s p n (down d a) t
   unfolding playFrom
   play-stop h l o =
       let z : length s - n ≡ suc (length s - (n + 1)) = omega arith in
       rw (z, lt-ltb p (length s) l, down-length d a, o)
 
-  pub play-other : n < length s → p < length s → okEntry ps (fieldAt s p) d ≡ true → matches ps (fieldAt s p) t ≡ false → ran p n (down d a) t ≡ playFrom (length s - n) ps s p n (down d a) t
+  pub play-other : n < length s → p < length s → okEntry ps (fieldAt s p) d ≡ true → matches ps (fieldAt s p) t ≡ false → played p n (down d a) t ≡ playFrom (length s - n) ps s p n (down d a) t
   unfolding playFrom
   play-other h l o m =
       let z : length s - n ≡ suc (length s - (n + 1)) = omega arith in
       rw (z, lt-ltb p (length s) l, down-length d a, o, m)
 
-pub play-end : (f : ℕ) (ps s : List ℕ) (p n : ℕ) (ms : List ℕ) (t : List ℤ) → length s ≤ p → playFrom f ps s p n ms t ≡ ran p n ms t
+pub play-end : (f : ℕ) (ps s : List ℕ) (p n : ℕ) (ms : List ℕ) (t : List ℤ) → length s ≤ p → playFrom f ps s p n ms t ≡ played p n ms t
 unfolding playFrom
 play-end zero ps s p n ms t h = refl
 play-end (suc f) ps s p n ms t h = rw (le-ltb p (length s) h)
@@ -120,7 +120,7 @@ module _ (ps s : List ℕ) where
   step-back (Undo k) n ms t h = back-to (markOf ms k) n t
   step-back Misformed n ms t h = refl
 
-  abbrev Returns : List ℤ → Run → Type 0
+  abbrev Returns : List ℤ → Played → Type 0
   Returns t₀ r = restore ps (entriesAt s 0 (r .count)) (r .cells) ≡ t₀
 
   play-back : (f p n : ℕ) (ms : List ℕ) (t t₀ : List ℤ) → p ≡ placeAt s 0 n → restore ps (entriesAt s 0 n) t ≡ t₀ → Returns t₀ (playFrom f ps s p n ms t)

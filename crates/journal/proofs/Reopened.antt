@@ -22,7 +22,7 @@ use Rattle.entry.specs.declared.Entry.{Entry}
 use Rattle.entry.specs.declared.Entry.the-variants.{Set, Open, Release, Undo, Misformed}
 use Rattle.entry.specs.Bytes.{AllBytes}
 use Rattle.entry.specs.Field.{entryText, entrySize, fieldAt}
-use Rattle.entry.specs.Codec.{Sized, sized-set, Reads}
+use Rattle.entry.specs.Codec.{Sized, sized-set, ReadsEntry}
 use Rattle.entry.proofs.Codec.{field-read, bytes-drop, length-text}
 use Rattle.entry.proofs.Reading.{next-within}
 use Rattle.journal.specs.Layout.{startsOf, spotOf, getAt}
@@ -30,7 +30,7 @@ use Rattle.journal.specs.Model.{Call, Sets, Opens, Releases, Undoes, acc
 use Rattle.journal.specs.Entries.{markStep, marksFrom, marksOf, markOf, nextAt, entriesAt, placeAt}
 use Rattle.journal.specs.Walks.{okEntry}
 use Rattle.journal.specs.Calls.{entryFor, whole}
-use Rattle.journal.specs.Plays.{matches, playedBy, Run, ran, playFrom, playOf, playIn, replayOf}
+use Rattle.journal.specs.Plays.{matches, playedBy, Played, played, playFrom, playOf, playIn, replayOf}
 use Rattle.journal.specs.Runs.{Fit, FitCall, FitCalls, MadeBy, Kept, kept, answerTo, leftBy, leftTo, behindReplay}
 use Rattle.journal.proofs.Spots.{length-put}
 use Rattle.journal.proofs.Restore.{length-restore}
@@ -101,10 +101,10 @@ module _ (ns : List ℕ) (t₀ : List ℤ) (j : List ℕ) (used : ℕ) where
 
   module _ (right : checkedOf ns (length t₀) ≡ C.Right) (bytes : AllBytes s) where
     -- the whole is made from here, if a replay from here comes to its end
-    abbrev Comes : Kept → Run → Type 0
+    abbrev Comes : Kept → Played → Type 0
     Comes k r = r .place ≡ used → MadeBy ns k (kept (r .cells) j used)
 
-    stops : (k : Kept) → k .journal ≡ j → (n : ℕ) (ms : List ℕ) → Comes k (ran (k .used) n ms (k .cells))
+    stops : (k : Kept) → k .journal ≡ j → (n : ℕ) (ms : List ℕ) → Comes k (played (k .used) n ms (k .cells))
     stops k q n ms p = made-by [] tt (ap (λ x. kept (k .cells) x (k .used)) q ∙ ap (kept (k .cells) j) p)
 
     module _ (k : Kept) (ts : List (List ℤ)) (q : k .journal ≡ j) (st : Stands ns t₀ k ts) (same : length (k .cells) ≡ length t₀) where
@@ -124,7 +124,7 @@ module _ (ns : List ℕ) (t₀ : List ℤ) (j : List ℕ) (used : ℕ) where
         abbrev t : List ℤ
         t = k .cells
 
-        reads : Reads (drop (k .used) s) e
+        reads : ReadsEntry (drop (k .used) s) e
         reads = field-read (drop (k .used) s) (bytes-drop (k .used) s bytes) (ok-formed ps d e ok)
 
         entry-is : entryFor ps c d t ≡ e

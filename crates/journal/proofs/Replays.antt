@@ -21,7 +21,7 @@ use Rattle.entry.proofs.Codec.{length-text, field-text}
 use Rattle.journal.specs.Layout.{spotOf, putAt}
 use Rattle.journal.specs.Entries.{markStep, marksFrom, marksOf, markOf, restore, journalText, nextAt, entriesAt, placeAt}
 use Rattle.journal.specs.Walks.{okEntry}
-use Rattle.journal.specs.Plays.{matches, playedBy, ran, playFrom, playOf}
+use Rattle.journal.specs.Plays.{matches, playedBy, played, playFrom, playOf}
 use Rattle.journal.proofs.Places.{entries-from, entries-one, place-next}
 use Rattle.journal.proofs.Walking.{ok-size}
 use Rattle.journal.proofs.Held.{withEntry, marks-entry}
@@ -110,12 +110,12 @@ played-on ps s pre (Undo k) t q =
 played-on ps s pre Misformed t q = refl
 
 -- a replay stops at what is no field
-play-stuck : (f : ℕ) (ps s : List ℕ) (p n : ℕ) (ms : List ℕ) (t : List ℤ) → fieldAt s p ≡ Misformed → playFrom f ps s p n ms t ≡ ran p n ms t
+play-stuck : (f : ℕ) (ps s : List ℕ) (p n : ℕ) (ms : List ℕ) (t : List ℤ) → fieldAt s p ≡ Misformed → playFrom f ps s p n ms t ≡ played p n ms t
 unfolding playFrom
 play-stuck zero ps s p n ms t x = refl
 play-stuck (suc f) ps s p n ms t x = rw x (both (ltb p (length s)))
   where
-    both : (b : Bool) → cond b (ran p n ms t) (ran p n ms t) ≡ ran p n ms t
+    both : (b : Bool) → cond b (played p n ms t) (played p n ms t) ≡ played p n ms t
     both true = refl
     both false = refl
 
@@ -129,7 +129,7 @@ record Ahead (s x : List ℕ) (pre es : List Entry) (at f : ℕ) : Type 0 where
 -- x is what stands behind the fields: nothing, or part of a field
 module _ {ps : List ℕ} (s x : List ℕ) (stuck : entryIn x ≡ Misformed) where
   play-text : {t u : List ℤ} (pre es : List Entry) (at f : ℕ) → Leads ps pre es t u → Ahead s x pre es at f
-      → playFrom f ps s at (length pre) (marksOf pre) t ≡ ran (at + length (journalText es)) (length (pre ++ es)) (marksOf (pre ++ es)) u
+      → playFrom f ps s at (length pre) (marksOf pre) t ≡ played (at + length (journalText es)) (length (pre ++ es)) (marksOf (pre ++ es)) u
   unfolding journalText playFrom
   play-text {t} pre [] at f leads-none h =
       let a : at + 0 ≡ at = omega arith in
@@ -151,7 +151,7 @@ module _ {ps : List ℕ} (s x : List ℕ) (stuck : entryIn x ≡ Misformed) wher
       (record { tells = tells-more s pre at e (h .tells) w; rest = q′; long = omega arith; enough = omega arith }) in
       rw (lt-ltb at (length s) (omega arith), w, r .ok, r .same, played-on ps s pre e t (h .tells .reads), ← append-assoc pre (e ∷ []) es, ← a) (rw (l, marks-entry pre e) at n)
 
-  pub play-cut : {t u : List ℤ} (es : List Entry) → Leads ps [] es t u → s ≡ journalText es ++ x → length es ≤ length s → playOf ps s t ≡ ran (length (journalText es)) (length es) (marksOf es) u
+  pub play-cut : {t u : List ℤ} (es : List Entry) → Leads ps [] es t u → s ≡ journalText es ++ x → length es ≤ length s → playOf ps s t ≡ played (length (journalText es)) (length es) (marksOf es) u
   unfolding playOf entriesAt placeAt marksFrom
   play-cut es g q h =
       let z : 0 + length (journalText es) ≡ length (journalText es) = zero-add (length (journalText es)) in
@@ -163,5 +163,5 @@ unfolding entryIn
 no-field = refl
 
 pub play-journal : {ps : List ℕ} {t u : List ℤ} (s : List ℕ) (es : List Entry) → Leads ps [] es t u → s ≡ journalText es → length es ≤ length s
-    → playOf ps s t ≡ ran (length s) (length es) (marksOf es) u
-play-journal {u = u} s es g q h = play-cut s [] no-field es g (q ∙ sym (append-nil (journalText es))) h ∙ ap (λ n. ran n (length es) (marksOf es) u) (ap length (sym q))
+    → playOf ps s t ≡ played (length s) (length es) (marksOf es) u
+play-journal {u = u} s es g q h = play-cut s [] no-field es g (q ∙ sym (append-nil (journalText es))) h ∙ ap (λ n. played n (length es) (marksOf es) u) (ap length (sym q))

@@ -15,7 +15,7 @@ use Rattle.base.proofs.Order.{le-or-lt}
 use Rattle.form.specs.declared.Form.{Form}
 use Rattle.form.specs.declared.Form.the-variants.{F7, A120, A1, F8, I2, I3, I1, E11, E20, E8}
 use Rattle.form.specs.declared.GroupForm.the-variants.{Has}
-use Rattle.form.specs.Table.{formEntry, rowOf}
+use Rattle.form.specs.Table.{listedAs, rowOf}
 use Rattle.form.specs.Count.{elementsOf, cellsOf}
 use Rattle.form.proofs.Table.{form-listed, group-form}
 use Rattle.count.specs.Tally.{countOf, cellsBefore, cellsIn}
@@ -41,7 +41,7 @@ two-few ns k = by (leb (countOf ns 2) 2) refl
     by false e = absurd (k 2 (inr (inl (e, refl))))
 
 form-small : (f : Form) (n : ℕ) → n ≤ 999 → (f ≡ A120 → n ≤ 2) → cellsOf f n < 65536
-unfolding cellsOf elementsOf rowOf formEntry
+unfolding cellsOf elementsOf rowOf listedAs
 form-small F7 n h k = omega arith
 form-small A120 n h k = let l = k refl in omega arith
 form-small A1 n h k = omega arith
@@ -53,8 +53,8 @@ form-small E11 n h k = omega arith
 form-small E20 n h k = omega arith
 form-small E8 n h k = omega arith
 
-letters : (g : ℕ) → T (has (formEntry A120 .groups) g) → g ≡ 2
-unfolding formEntry
+letters : (g : ℕ) → T (has (listedAs A120 .groups) g) → g ≡ 2
+unfolding listedAs
 letters g t = by (eqb 2 g) refl t
   where
     by : (b : Bool) → eqb 2 g ≡ b → T (b || false) → g ≡ 2

@@ -16,8 +16,8 @@ use Rattle.entry.specs.declared.Entry.{Entry}
 use Rattle.entry.specs.declared.Entry.the-variants.{Set, Open, Release, Undo}
 use Rattle.journal.specs.Model.{Call, Sets, Opens, Releases, Undoes, refusalOf, bytesFor, numberFor}
 use Rattle.journal.specs.Walks.{Walked}
-use Rattle.journal.specs.Plays.{Run}
-use Rattle.journal.specs.Order.{cellAt, Accepted, cellsBehind, RightAt, InOrder, PlaysAt, InReplay}
+use Rattle.journal.specs.Plays.{Played}
+use Rattle.journal.specs.Order.{cellPlace, Accepted, cellsBehind, RightAt, InOrder, PlaysAt, InReplay}
 use Rattle.journal.specs.Runs.{Kept, Adds}
 
 -- ---- where fields end to be in order; `right` says that a right field stands in a state
@@ -72,7 +72,7 @@ module _ (ns j : List ℕ) (used cells : ℕ) where
 
 -- R520, R521, R522: what its field tells, with d savepoints open before it
 abbrev pub fieldFor : List ℕ → ℕ → List ℤ → Call → Entry
-fieldFor ns d t (Sets g c v) = Set g c (getD t (cellAt ns g c) (pos 0)) v
+fieldFor ns d t (Sets g c v) = Set g c (getD t (cellPlace ns g c) (pos 0)) v
 fieldFor ns d t Opens = Open (d + 1)
 fieldFor ns d t (Releases k) = Release k
 fieldFor ns d t (Undoes k) = Undo k
@@ -92,11 +92,11 @@ LeftDue ns c k (Refused r) k′ = k′ ≡ k
 -- ---- R540 to R542: a replay, which compares old values too
 
 module _ (ns j : List ℕ) (used : ℕ) (t : List ℤ) where
-  abbrev pub AllReplayed : Run → Type 0
-  AllReplayed = AllUsed Run (λ x. x .place) (InReplay ns (take used j) t) (PlaysAt ns (take used j)) used
+  abbrev pub AllReplayed : Played → Type 0
+  AllReplayed = AllUsed Played (λ x. x .place) (InReplay ns (take used j) t) (PlaysAt ns (take used j)) used
 
   abbrev pub ReplayFault : ℕ → Type 0
-  ReplayFault = Faulty Run (λ x. x .place) (InReplay ns (take used j) t) (PlaysAt ns (take used j)) used
+  ReplayFault = Faulty Played (λ x. x .place) (InReplay ns (take used j) t) (PlaysAt ns (take used j)) used
 
   pub data ReplayRefusedFor : Refusal → Type 0 where
     replay-counts : (r : Refusal) → Counts.RefusedFor ns (length t) r → ReplayRefusedFor r
@@ -104,7 +104,7 @@ module _ (ns j : List ℕ) (used : ℕ) (t : List ℤ) where
 
   pub record ReplayDone : Type 0 where
     pub table : Counts.HasCells ns (length t)
-    pub last : Run
+    pub last : Played
     pub fields : AllReplayed last
 
   abbrev pub ReplayDue : Checked → Type 0
@@ -113,7 +113,7 @@ module _ (ns j : List ℕ) (used : ℕ) (t : List ℤ) where
 
   -- the cells, and how many savepoints are open, behind the last field
   pub record ReplayLeaves (t′ : List ℤ) (d : ℕ) : Type 0 where
-    pub last : Run
+    pub last : Played
     pub fields : AllReplayed last
     pub cells : t′ ≡ last .cells
     pub opened : d ≡ length (last .marks)

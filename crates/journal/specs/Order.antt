@@ -15,7 +15,7 @@ use Rattle.entry.specs.Field.{fieldAt}
 use Rattle.journal.specs.Model.{Call, Sets, Opens, Releases, Undoes}
 use Rattle.journal.specs.Entries.{markStep, markOf, nextAt, entriesAt}
 use Rattle.journal.specs.Walks.{Walked, walked}
-use Rattle.journal.specs.Plays.{Run, ran}
+use Rattle.journal.specs.Plays.{Played, played}
 
 -- R502: cell c, counted from 1, of a group 1 to 60, and where it stands in the table (R501)
 pub record IsCell (ns : List ℕ) (g c : ℕ) : Type 0 where
@@ -24,8 +24,8 @@ pub record IsCell (ns : List ℕ) (g c : ℕ) : Type 0 where
   pub first : 1 ≤ c
   pub last : c ≤ cellsIn ns g
 
-abbrev pub cellAt : List ℕ → ℕ → ℕ → ℕ
-cellAt ns g c = cellsBefore ns g + (c - 1)
+abbrev pub cellPlace : List ℕ → ℕ → ℕ → ℕ
+cellPlace ns g c = cellsBefore ns g + (c - 1)
 
 -- R512, R513, R514, R515: a call is accepted with so many savepoints open
 abbrev pub Accepted : List ℕ → ℕ → Call → Type 0
@@ -44,7 +44,7 @@ RightEntry ns d Misformed = ⊥
 
 -- R541: a set's old value is the cell's
 abbrev pub OldIs : List ℕ → Entry → List ℤ → Type 0
-OldIs ns (Set g c old new) t = getD t (cellAt ns g c) (pos 0) ≡ old
+OldIs ns (Set g c old new) t = getD t (cellPlace ns g c) (pos 0) ≡ old
 OldIs ns (Open k) t = Unit {0}
 OldIs ns (Release k) t = Unit {0}
 OldIs ns (Undo k) t = Unit {0}
@@ -55,7 +55,7 @@ OldIs ns Misformed t = Unit {0}
 -- R515: the old value of the first set of the table's cell i among these entries, and z where there is none
 unfoldable pub firstOld : List ℕ → List Entry → ℕ → ℤ → ℤ
 firstOld ns [] i z = z
-firstOld ns (Set g c old new ∷ es) i z = cond (eqb (cellAt ns g c) i) old (firstOld ns es i z)
+firstOld ns (Set g c old new ∷ es) i z = cond (eqb (cellPlace ns g c) i) old (firstOld ns es i z)
 firstOld ns (Open k ∷ es) i z = firstOld ns es i z
 firstOld ns (Release k ∷ es) i z = firstOld ns es i z
 firstOld ns (Undo k ∷ es) i z = firstOld ns es i z
@@ -67,7 +67,7 @@ undone ns es t = map (λ i. firstOld ns es i (getD t i (pos 0))) (upFrom 0 (leng
 
 -- R512 to R515: with n fields of s before it and the marks ms; a set alters its own cell, an undo those that were set behind its savepoint's mark
 abbrev pub cellsBehind : (ns s : List ℕ) (n : ℕ) (ms : List ℕ) → Entry → List ℤ → List ℤ
-cellsBehind ns s n ms (Set g c old new) t = set t (cellAt ns g c) new
+cellsBehind ns s n ms (Set g c old new) t = set t (cellPlace ns g c) new
 cellsBehind ns s n ms (Open k) t = t
 cellsBehind ns s n ms (Release k) t = t
 cellsBehind ns s n ms (Undo k) t = undone ns (drop (markOf ms k) (entriesAt s 0 n)) t
@@ -84,22 +84,22 @@ module _ (ns s : List ℕ) where
   abbrev pub RightAt : Walked → Type 0
   RightAt w = RightEntry ns (length (w .marks)) (fieldAt s (w .place))
 
-  abbrev pub behind : Walked → Walked
-  behind w = walked (nextAt s (w .place)) (w .count + 1) (markStep (fieldAt s (w .place)) (w .count) (w .marks))
+  abbrev pub walkedTo : Walked → Walked
+  walkedTo w = walked (nextAt s (w .place)) (w .count + 1) (markStep (fieldAt s (w .place)) (w .count) (w .marks))
 
   -- the fields of s are in order from the first on up to there
   abbrev pub InOrder : Walked → Type 0
-  InOrder w = Goes Walked RightAt behind (walked 0 0 []) w
+  InOrder w = Goes Walked RightAt walkedTo (walked 0 0 []) w
 
   -- ---- in a replay: the cells too, and each set finds its old value in its cell
 
-  abbrev pub PlaysAt : Run → Type 0
+  abbrev pub PlaysAt : Played → Type 0
   PlaysAt r = RightEntry ns (length (r .marks)) (fieldAt s (r .place)) × OldIs ns (fieldAt s (r .place)) (r .cells)
 
-  abbrev pub playedTo : Run → Run
+  abbrev pub playedTo : Played → Played
   playedTo r =
-      ran (nextAt s (r .place)) (r .count + 1) (markStep (fieldAt s (r .place)) (r .count) (r .marks))
+      played (nextAt s (r .place)) (r .count + 1) (markStep (fieldAt s (r .place)) (r .count) (r .marks))
       (cellsBehind ns s (r .count) (r .marks) (fieldAt s (r .place)) (r .cells))
 
-  abbrev pub InReplay : List ℤ → Run → Type 0
-  InReplay t r = Goes Run PlaysAt playedTo (ran 0 0 [] t) r
+  abbrev pub InReplay : List ℤ → Played → Type 0
+  InReplay t r = Goes Played PlaysAt playedTo (played 0 0 [] t) r

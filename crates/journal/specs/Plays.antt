@@ -40,25 +40,25 @@ playedBy starts (Release k) s n ms t = t
 playedBy starts (Undo k) s n ms t = backTo starts s (markOf ms k) n t
 playedBy starts Misformed s n ms t = t
 
-pub record Run : Type 0 where
+pub record Played : Type 0 where
   pub place : ℕ
   pub count : ℕ
   pub marks : List ℕ
   pub cells : List ℤ
 
-abbrev pub ran : ℕ → ℕ → List ℕ → List ℤ → Run
-ran p n ms t = record { place = p; count = n; marks = ms; cells = t }
+abbrev pub played : ℕ → ℕ → List ℕ → List ℤ → Played
+played p n ms t = record { place = p; count = n; marks = ms; cells = t }
 
-unfoldable pub playFrom : ℕ → List ℕ → List ℕ → ℕ → ℕ → List ℕ → List ℤ → Run
-playFrom zero starts s p n ms t = ran p n ms t
+unfoldable pub playFrom : ℕ → List ℕ → List ℕ → ℕ → ℕ → List ℕ → List ℤ → Played
+playFrom zero starts s p n ms t = played p n ms t
 playFrom (suc f) starts s p n ms t =
     cond (ltb p (length s))
     (cond (okEntry starts (fieldAt s p) (length ms))
-    (cond (matches starts (fieldAt s p) t) (playFrom f starts s (nextAt s p) (n + 1) (markStep (fieldAt s p) n ms) (playedBy starts (fieldAt s p) s n ms t)) (ran p n ms t))
-    (ran p n ms t))
-    (ran p n ms t)
+    (cond (matches starts (fieldAt s p) t) (playFrom f starts s (nextAt s p) (n + 1) (markStep (fieldAt s p) n ms) (playedBy starts (fieldAt s p) s n ms t)) (played p n ms t))
+    (played p n ms t))
+    (played p n ms t)
 
-unfoldable pub playOf : List ℕ → List ℕ → List ℤ → Run
+unfoldable pub playOf : List ℕ → List ℕ → List ℤ → Played
 playOf starts s t = playFrom (length s) starts s 0 0 [] t
 
 -- ---- the question
@@ -68,7 +68,7 @@ byChecked Right new old = new
 byChecked (Refused r) new old = old
 
 module _ (ns j : List ℕ) (used : ℕ) where
-  abbrev pub playIn : List ℤ → Run
+  abbrev pub playIn : List ℤ → Played
   playIn t = playOf (startsOf ns) (take used j) t
 
   -- R540: 4, 5, 6, 7, 14, and then 17
@@ -85,5 +85,5 @@ module _ (ns j : List ℕ) (used : ℕ) where
 -- ---- the same with the marks in an array
 
 pub record Plays (starts s : List ℕ) (t : List ℤ) (r : State) (t′ : List ℤ) : Type 0 where
-  pub found : ran (r .place) (r .count) (down (r .depth) (r .marks)) t′ ≡ playOf starts s t
+  pub found : played (r .place) (r .count) (down (r .depth) (r .marks)) t′ ≡ playOf starts s t
   pub within : r .place ≤ length s

@@ -32,7 +32,7 @@ pub record Adds (k : Kept) (e : Entry) (k′ : Kept) : Type 0 where
   pub used : k′ .used ≡ k .used + length (entryText e)
 
 -- the bytes used are those of these entries, and read as they are, to the last byte
-pub record ReadsAs (k : Kept) (es : List Entry) : Type 0 where
+pub record ReadsEntries (k : Kept) (es : List Entry) : Type 0 where
   pub bytes : take (k .used) (k .journal) ≡ journalText es
   pub entries : entriesAt (take (k .used) (k .journal)) 0 (length es) ≡ es
   pub ends : placeAt (take (k .used) (k .journal)) 0 (length es) ≡ k .used

@@ -25,7 +25,7 @@ use Rattle.listing.specs.Rows.{filledGroups, recordRow, endRow}
 use Rattle.listing.proofs.Lines.{listing-is}
 
 counted : (filledGroups countsS ≡ 3) × (recordLines countsS ≡ 5) × (rulingOf countsS ≡ Kept)
-unfolding filledGroups RecordS.countsS Tally.linesIn Tally.lineTally Sum.sum Every.upFrom Table.rowOf Table.formEntry Table.formAmong Table.formOf Count.linesOf
+unfolding filledGroups RecordS.countsS Tally.linesIn Tally.lineTally Sum.sum Every.upFrom Table.rowOf Table.listedAs Table.formAmong Table.formOf Count.linesOf
     Count.roundedUp Count.elementsOf Rules.rulingOf Rules.lowest Rules.headRules Rules.sets Rules.keeps Rules.letterRules
 counted = (refl, refl, refl)
 

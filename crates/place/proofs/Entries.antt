@@ -14,8 +14,8 @@ use Rattle.line.specs.Contents.{contentOf}
 use Rattle.line.specs.declared.Content.{Content}
 use Rattle.line.specs.declared.Content.the-variants.{Length, NoReturn}
 use Rattle.field.specs.Entry.{entryOf}
-use Rattle.field.specs.declared.Entry.{Entry}
-use Rattle.field.specs.declared.Entry.the-variants.{Count, Misformed}
+use Rattle.field.specs.declared.IndexEntry.{IndexEntry}
+use Rattle.field.specs.declared.IndexEntry.the-variants.{Count, Misformed}
 use Rattle.place.specs.Index.{Indexed, counts, misformed, entryThen, readEntries, readIndexContent, readIndexLine, Stored}
 
 -- counts that stand before others
@@ -100,7 +100,7 @@ stored-counts misformed from old new e h = absurd (true≢false (sym e ∙ h))
 
 -- ---- as many counts as entries
 
-then-counts : (x : Entry) (r : Indexed) (ns : List ℕ) (k : ℕ) → ((ms : List ℕ) → r ≡ counts ms → length ms ≡ k) → entryThen x r ≡ counts ns → length ns ≡ suc k
+then-counts : (x : IndexEntry) (r : Indexed) (ns : List ℕ) (k : ℕ) → ((ms : List ℕ) → r ≡ counts ms → length ms ≡ k) → entryThen x r ≡ counts ns → length ns ≡ suc k
 then-counts (Count n) (counts ms) ns k f e =
     let p : n ∷ ms ≡ ns = cc in
     sym (ap length p) ∙ ap suc (f ms refl)

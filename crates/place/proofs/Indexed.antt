@@ -17,8 +17,8 @@ use Rattle.form.specs.Count.{mostCount}
 use Rattle.count.specs.Tally.{countOf}
 use Rattle.count.specs.Due.{HasCounts}
 use Rattle.field.specs.Entry.{entryOf, IsEntry, HasEntry}
-use Rattle.field.specs.declared.Entry.{Entry}
-use Rattle.field.specs.declared.Entry.the-variants.{Count, Misformed}
+use Rattle.field.specs.declared.IndexEntry.{IndexEntry}
+use Rattle.field.specs.declared.IndexEntry.the-variants.{Count, Misformed}
 use Rattle.field.proofs.Entries.{entry-is, is-entry, has-entry}
 use Rattle.line.specs.Lines.{lines, behind}
 use Rattle.line.specs.Contents.{contentOf, HasContent}
@@ -47,14 +47,14 @@ entry-later i s =
     three (suc i) s ∙ ap (λ n. take 3 (drop n s)) e ∙ ap (take 3) (sym (drop-drop (i * 3) 3 s)) ∙ sym (three i (drop 3 s))
 
 -- an entry in front of others
-record Front (x : Entry) (r : Indexed) (ns : List ℕ) : Type 0 where
+record Front (x : IndexEntry) (r : Indexed) (ns : List ℕ) : Type 0 where
   pub count : ℕ
   pub rest : List ℕ
   pub first : x ≡ Count count
   pub others : r ≡ counts rest
   pub all : ns ≡ count ∷ rest
 
-front : (x : Entry) (r : Indexed) (ns : List ℕ) → entryThen x r ≡ counts ns → Front x r ns
+front : (x : IndexEntry) (r : Indexed) (ns : List ℕ) → entryThen x r ≡ counts ns → Front x r ns
 front (Count n) (counts ms) ns e = record { count = n; rest = ms; first = refl; others = refl; all = cc }
 front (Count n) misformed ns e = let z : _≡_ {A = ℕ} 0 1 = cc in absurd (omega arith)
 front Misformed r ns e = let z : _≡_ {A = ℕ} 0 1 = cc in absurd (omega arith)

@@ -38,7 +38,7 @@ pub record Twice : Type 0 where
 
 pub twice : Twice
 unfolding recordS twiceS countsS locate readIndex readIndexLine readEntries Entry.entryOf start groupPart Lines.feeds Lines.reach Contents.contentOf
-    Tally.linesIn Tally.lineTally Tally.linesBefore Sum.sum Every.upFrom Table.rowOf Table.formEntry Table.formAmong Table.formOf Count.linesOf Count.roundedUp
+    Tally.linesIn Tally.lineTally Tally.linesBefore Sum.sum Every.upFrom Table.rowOf Table.listedAs Table.formAmong Table.formOf Count.linesOf Count.roundedUp
     Count.elementsOf Rules.releaseOf Rules.filledAmong
 twice = record {
   long = refl;

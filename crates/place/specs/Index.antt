@@ -8,8 +8,8 @@ use lib.ListN.{length, take, drop}
 use Rattle.base.specs.Part.{part, over}
 use Rattle.count.specs.Tally.{countOf}
 use Rattle.field.specs.Entry.{entryOf, IsEntry}
-use Rattle.field.specs.declared.Entry.{Entry}
-use Rattle.field.specs.declared.Entry.the-variants.{Count, Misformed}
+use Rattle.field.specs.declared.IndexEntry.{IndexEntry}
+use Rattle.field.specs.declared.IndexEntry.the-variants.{Count, Misformed}
 use Rattle.line.specs.Lines.{lines, behind}
 use Rattle.line.specs.Contents.{contentOf, HasContent}
 use Rattle.line.specs.declared.Content.{Content}
@@ -20,7 +20,7 @@ pub data Indexed : Type 0 where
   counts : List ℕ → Indexed
   misformed : Indexed
 
-abbrev pub entryThen : Entry → Indexed → Indexed
+abbrev pub entryThen : IndexEntry → Indexed → Indexed
 entryThen (Count n) (counts ns) = counts (n ∷ ns)
 entryThen (Count n) misformed = misformed
 entryThen Misformed r = misformed

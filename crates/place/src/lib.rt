@@ -36,7 +36,7 @@ fn store_entries(content: &[u8], counts: &mut [u16], from: usize) -> bool
     while k < 40 {
         let a = k * 3;
         let e = a + 3;
-        let field::Entry::Count(n) = field::read_entry(&content[a..e]) else {
+        let field::IndexEntry::Count(n) = field::read_entry(&content[a..e]) else {
             return false;
         };
         counts[from + k] = n;

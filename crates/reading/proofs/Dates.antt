@@ -77,7 +77,7 @@ module _ (s : List ℕ) (k : ℕ) (long : 19 ≤ length s) (enough : 19 ≤ k) w
 -- ---- letters read as their bytes
 
 letters-bytes : (number e k : ℕ) (s : List ℕ) (cs : List ℤ) → readFields A1 (record { number = number; first = e; many = k }) s ≡ done cs → cs ≡ map pos (take k s)
-unfolding readFields Pieces.gather Every.upFrom Table.rowOf Table.formEntry
+unfolding readFields Pieces.gather Every.upFrom Table.rowOf Table.listedAs
 letters-bytes number e zero s cs h =
     let z : cs ≡ [] = cc in
     z ∙ ap (map pos) (sym (take-none s))
@@ -98,7 +98,7 @@ map-append f (x ∷ a) b = ap (λ l. f x ∷ l) (map-append f a b)
 
 -- A1 has 120 elements of one column to a line, and each count is of elements
 letters-row : (rowOf A1 .«per_line» ≡ 120) × (rowOf A1 .width ≡ 1)
-unfolding Table.rowOf Table.formEntry
+unfolding Table.rowOf Table.listedAs
 letters-row = (refl, refl)
 
 letters-count : (count : ℕ) → elementsOf A1 count ≡ count
@@ -203,7 +203,7 @@ bad-date g (bad r) e = sym e
 
 -- group 3 has the form A1
 pub date-form : (g : ℕ) (f : Form) → formOf g ≡ Has f → g ≡ 3 → f ≡ A1
-unfolding Table.formOf Table.formAmong Table.formEntry
+unfolding Table.formOf Table.formAmong Table.listedAs
 date-form g f e t =
     let z : Has A1 ≡ Has f = ap formOf (sym t) ∙ e in
     cc

@@ -205,7 +205,7 @@ module _ (f : Form) (g : ℕ) (count : ℕ) (x : List ℕ) where
           })
 
   letters-one : rowOf A120 .«per_line» ≡ 1
-  unfolding Table.rowOf Table.formEntry
+  unfolding Table.rowOf Table.listedAs
   letters-one = refl
 
   -- R232: in A120 a line is an element, so both have the same number

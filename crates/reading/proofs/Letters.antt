@@ -45,7 +45,7 @@ pub not-short : (g : ℕ) → (MayBeShort g → ⊥) → mayBeShort g ≡ false
 not-short g n = not-T-false (mayBeShort g) (λ t. n (short-exactly g .0 t))
 
 pub short-letters : (g : ℕ) (f : Form) → formOf g ≡ Has f → HoldsLetters f (mayBeShort g)
-unfolding Table.formOf Table.formAmong Table.formEntry
+unfolding Table.formOf Table.formAmong Table.listedAs
 short-letters g f e t =
     ⊎-elim
     (λ h. inl (form-is A120 2 h refl))
@@ -81,7 +81,7 @@ unfolding Formed
 letters-formed f s h = both-forms (Formed s) h (all-formed s) (one-formed s)
 
 pub letter-byte : (x : List ℕ) (cs : List ℤ) → ReadsAs A1 x cs → (length x ≡ 1) × (cs ≡ map pos x)
-unfolding Read.fieldOf Table.rowOf Table.formEntry
+unfolding Read.fieldOf Table.rowOf Table.listedAs
 letter-byte [] cs r = absurd (r .good)
 letter-byte (b ∷ []) cs r = (refl, by (every printable (b ∷ [])) (r .good) (r .cells))
   where

@@ -25,7 +25,7 @@ use Rattle.writing.specs.Text.{bytesBy, bytesIn, recordBytes}
 
 -- by one test over the ten rows
 all-narrow : T (every (λ f. leb (rowOf f .cells) (rowOf f .width)) forms)
-unfolding Table.rowOf Table.formEntry
+unfolding Table.rowOf Table.listedAs
 all-narrow = tt
 
 field-cells : (f : Form) → rowOf f .cells ≤ rowOf f .width

@@ -40,7 +40,7 @@ use Rattle.journal.specs.Calls.{answerOf}
 use Rattle.journal.specs.Plays.{replayOf, replayedCells, replayedOpen}
 use Rattle.journal.specs.Due as JournalIs
 use Rattle.journal.specs.Runs.{Fit, FitCalls, Kept, kept, answerTo, leftBy, leftTo, entriesTo, behindReplay}
-use Rattle.journal.specs.Runs.{JournalIsStack, AddsField, ReadsAs, ReplaysTo, FirstBytes, Torn, MadeBy}
+use Rattle.journal.specs.Runs.{JournalIsStack, AddsField, ReadsEntries, ReplaysTo, FirstBytes, Torn, MadeBy}
 use Rattle.listing.specs.Listing.{listing, listedIn, IsListing, ListingDue}
 use Rattle.rewriting.specs.declared.Rewriting.{Rewriting}
 use Rattle.rewriting.specs.declared.Rewriting.the-variants.{Done as Rewritten}
@@ -134,7 +134,7 @@ pub record Edits : Type 0 where
   pub adds : (ns : List ℕ) (c : Call) (k : Kept) → AddsField ns c k
   -- an entry and its bytes, both ways; and the bytes used read as the accepted calls, one after the other
   pub codec : BothWays
-  pub reads-as : (ns : List ℕ) (t : List ℤ) (j : List ℕ) (cs : List Call) → Fit t → FitCalls cs → ReadsAs (leftTo ns cs (kept t j 0)) (entriesTo ns cs (kept t j 0))
+  pub reads-as : (ns : List ℕ) (t : List ℤ) (j : List ℕ) (cs : List Call) → Fit t → FitCalls cs → ReadsEntries (leftTo ns cs (kept t j 0)) (entriesTo ns cs (kept t j 0))
   -- replayed over t, the journal comes to the same cells and open savepoints
   pub replayed : (ns : List ℕ) (t : List ℤ) (j : List ℕ) (cs : List Call) → Fit t → FitCalls cs
       → HasCells ns (length t)

@@ -23,7 +23,7 @@ use Rattle.form.specs.Count.{elementsOf, linesOf, cellsOf, roundedUp}
 use Rattle.form.proofs.Counted.{lines-few}
 use Rattle.form.proofs.Rows.{row-fits, elements-few}
 use Rattle.form.proofs.Rounding.{lines-enough}
-use Rattle.field.specs.Entry.{entryText}
+use Rattle.field.specs.Entry.{indexEntryText}
 use Rattle.field.specs.Write.{fitsOf, fieldText}
 use Rattle.field.proofs.Entries.{entry-wide}
 use Rattle.field.proofs.Laws.{lawful}
@@ -42,7 +42,7 @@ use Rattle.writing.proofs.Fitting.{elements-fitted, fitted-own, lines-o
 pub entries-length : (ns : List ℕ) → length (entriesText ns) ≡ length ns * 3
 unfolding entriesText
 entries-length [] = refl
-entries-length (n ∷ ns) = length-append (entryText n) (entriesText ns) ∙ omega (arith, entry-wide n, entries-length ns)
+entries-length (n ∷ ns) = length-append (indexEntryText n) (entriesText ns) ∙ omega (arith, entry-wide n, entries-length ns)
 
 pub index-length : (ns : List ℕ) → length ns ≡ 80 → length (indexText ns) ≡ 244
 unfolding indexText

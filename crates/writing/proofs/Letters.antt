@@ -46,7 +46,7 @@ letters-copied cs from old h l =
 -- ---- cells that fit A1 are letters
 
 letter-row : rowOf A1 .cells ≡ 1
-unfolding Table.rowOf Table.formEntry
+unfolding Table.rowOf Table.listedAs
 letter-row = refl
 
 letter-fits : (c : List ℤ) → T (fitsOf A1 c) → T (every isLetter c)
@@ -72,7 +72,7 @@ letters-fit (suc k) (z ∷ cs) h =
 -- ---- group 3
 
 three : formOf 3 ≡ Has A1
-unfolding Table.formOf Table.formAmong Table.formEntry
+unfolding Table.formOf Table.formAmong Table.listedAs
 three = refl
 
 letters-many : (count : ℕ) → cellsOf A1 count ≡ count

@@ -27,7 +27,7 @@ use Rattle.form.specs.declared.GroupForm.the-variants.{Has}
 use Rattle.form.specs.Table.{rowOf, formOf}
 use Rattle.form.specs.Count
 use Rattle.form.specs.Count.{elementsOf, linesOf, cellsOf, roundedUp}
-use Rattle.field.specs.Entry.{entryText}
+use Rattle.field.specs.Entry.{indexEntryText}
 use Rattle.field.specs.Write.{fitsOf, fieldText}
 use Rattle.field.proofs.Entries.{entry-wide}
 use Rattle.field.proofs.Laws.{lawful}
@@ -51,7 +51,7 @@ line-end-put out at h =
 
 -- ---- index entries
 
-entries-more : (ns : List ℕ) (i : ℕ) → i < length ns → entriesText (drop i ns) ≡ entryText (getD ns i 0) ++ entriesText (drop (i + 1) ns)
+entries-more : (ns : List ℕ) (i : ℕ) → i < length ns → entriesText (drop i ns) ≡ indexEntryText (getD ns i 0) ++ entriesText (drop (i + 1) ns)
 unfolding entriesText
 entries-more ns i h = rw (drop-cons ns i 0 h, add-one i)
 
@@ -71,13 +71,13 @@ module _ (ns old : List ℕ) (at : ℕ) where
 
     module _ (h : i < length ns) where
       pub entry-room : a + 3 ≤ length out
-      entry-room = omega (arith, putting-room (b .put) (entryText (getD ns i 0)) (entriesText (drop (i + 1) ns)) (entries-more ns i h), entry-wide (getD ns i 0))
+      entry-room = omega (arith, putting-room (b .put) (indexEntryText (getD ns i 0)) (entriesText (drop (i + 1) ns)) (entries-more ns i h), entry-wide (getD ns i 0))
 
-      pub entries-next : (new : List ℕ) → new ≡ over a (entryText (getD ns i 0)) out → Entries ns old at (a + 3) (i + 1) new
+      pub entries-next : (new : List ℕ) → new ≡ over a (indexEntryText (getD ns i 0)) out → Entries ns old at (a + 3) (i + 1) new
       entries-next new e =
           record {
             few = omega arith;
-            put = putting-more (b .put) (entryText (getD ns i 0)) (entriesText (drop (i + 1) ns)) new (a + 3) (entries-more ns i h) (ap (λ w. a + w) (sym (entry-wide (getD ns i 0)))) e;
+            put = putting-more (b .put) (indexEntryText (getD ns i 0)) (entriesText (drop (i + 1) ns)) new (a + 3) (entries-more ns i h) (ap (λ w. a + w) (sym (entry-wide (getD ns i 0)))) e;
           }
 
 -- the index: two lines of 40 counts, each of 122 bytes

@@ -24,7 +24,7 @@ use Rattle.form.specs.declared.GroupForm.the-variants.{Has, NoGroup}
 use Rattle.form.specs.Table.{rowOf, formOf}
 use Rattle.form.specs.Count
 use Rattle.form.specs.Count.{isCount, elementsOf, cellsOf}
-use Rattle.field.specs.Entry.{entryText}
+use Rattle.field.specs.Entry.{indexEntryText}
 use Rattle.field.specs.Write.{fitsOf, fieldText}
 use Rattle.field.proofs.Entries.{entry-canonical}
 use Rattle.field.proofs.Laws.{lawful}
@@ -45,7 +45,7 @@ entries-canonical : (ns : List ℕ) → T (every isCount ns) → Each EntryOf ns
 unfolding entriesText
 entries-canonical [] t = none
 entries-canonical (n ∷ ns) t =
-    more (entryText n) (n ∷ []) (entry-canonical n (and-left (isCount n) (every isCount ns) t), refl) (entries-canonical ns (and-right (isCount n) (every isCount ns) t))
+    more (indexEntryText n) (n ∷ []) (entry-canonical n (and-left (isCount n) (every isCount ns) t), refl) (entries-canonical ns (and-right (isCount n) (every isCount ns) t))
 
 index-line-canonical : (ns : List ℕ) → T (every isCount ns) → CanonicalIndexLine ns (entriesText ns ++ lineEnd)
 index-line-canonical ns t = record { content = entriesText ns; good = entries-canonical ns t; is = refl }

@@ -13,8 +13,8 @@ use Rattle.form.specs.declared.Form.{Form}
 use Rattle.form.specs.declared.Form.the-variants.{A1, F8, I3, E20, E8}
 use Rattle.form.specs.Count.{linesOf}
 use Rattle.field.specs.Entry.{entryOf}
-use Rattle.field.specs.declared.Entry.{Entry}
-use Rattle.field.specs.declared.Entry.the-variants.{Count, Misformed}
+use Rattle.field.specs.declared.IndexEntry.{IndexEntry}
+use Rattle.field.specs.declared.IndexEntry.the-variants.{Count, Misformed}
 use Rattle.reply.specs.declared.Reply.{Reply}
 use Rattle.date.specs.Date.{datedOf}
 use Rattle.date.specs.declared.Date.{Date}
@@ -41,7 +41,7 @@ pub data Case : Type 0 where
   -- or refused with this reply
   refuses : Form → List ℤ → ℕ → Case
   -- an index entry
-  entry : String → Entry → Case
+  entry : String → IndexEntry → Case
   -- so many elements have so many lines
   takes : Form → ℕ → ℕ → Case
   -- the letters of group 3 are read with 0 and tell this date

@@ -12,7 +12,7 @@ use Rattle.form.specs.declared.GroupForm.the-variants.{Has, NoGroup}
 use Rattle.form.specs.Table.{rowOf, formOf}
 use Rattle.form.specs.Count.{elementsOf, linesOf}
 use Rattle.field.specs.Write.{fieldText}
-use Rattle.field.specs.Entry.{entryText}
+use Rattle.field.specs.Entry.{indexEntryText}
 use Rattle.count.specs.Tally.{countOf, cellsIn}
 use Rattle.reading.specs.Plan.{Line, planOf, elementsIn}
 
@@ -24,7 +24,7 @@ lineEnd = 13 ∷ 10 ∷ []
 
 unfoldable pub entriesText : List ℕ → List ℕ
 entriesText [] = []
-entriesText (n ∷ ns) = entryText n ++ entriesText ns
+entriesText (n ∷ ns) = indexEntryText n ++ entriesText ns
 
 -- R21, R22: two lines of 40 counts
 unfoldable pub indexText : List ℕ → List ℕ

@@ -9,7 +9,7 @@ use borrow.Author.Tests.{not-true, not-false}
 use Rattle.entry.specs.Field.{entrySize, fieldAt}
 use Rattle.entry.proofs.Reading.{next-within}
 use Rattle.journal.specs.Walks.{okEntry, newDepth, depthAfter, down, MarksBelow}
-use Rattle.journal.specs.Plays.{matches, playedBy, ran, playFrom, playOf}
+use Rattle.journal.specs.Plays.{matches, playedBy, played, playFrom, playOf}
 use Rattle.journal.proofs.Walking.{depth-no, depth-yes, ok-size, below-more}
 use Rattle.journal.proofs.Playing.{play-more, play-stop, play-other, play-end, play-start, length-played}
 use borrow.Author.Needs.{needs}
@@ -65,7 +65,7 @@ returns-2 c =
     let m : matches ps x (l .cells) ≡ false = ap (λ z. matches ps z (l .cells)) (sym e) ∙ sym (c .before .before .play-one .ensures .0) ∙ no in
     let k : c .before .before .play-one .last .0 ≡ l .cells = rw no at (c .before .before .play-one .ensures .1) in
     record {
-      found = ap (λ t. ran (l .place) (l .count) (down (l .depth) (l .marks)) t) k
+      found = ap (λ t. played (l .place) (l .count) (down (l .depth) (l .marks)) t) k
           ∙ play-other ps (a .s .now) (l .place) (l .count) (l .depth) (l .marks) (l .cells) (omega arith) (omega arith) (y .0) m ∙ l .inv .4;
       within = l .inv .1;
     }
