@@ -186,7 +186,6 @@ module _ (ρ : Rules) where
       go (Length m) e = absurd (n (take m x) (is-content ρ x m e .0))
       go NoReturn e = e
 
-
 -- ---- by places, as the code looks
 
 last-one : (x : List ℕ) → 1 ≤ length x → drop (length x - 1) x ≡ getD x (length x - 1) 0 ∷ []

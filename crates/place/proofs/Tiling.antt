@@ -8,6 +8,7 @@ use native.Mathlib.Nat.{add-zero}
 use native.Mathlib.Omega.{arith}
 use lib.ListN.{length, take, drop, getD, take-append-drop}
 use lib.Seq.{drop-drop, drop-at, length-take-le}
+use Rattle.rules.specs.declared.Rules.{Rules}
 use Rattle.base.specs.Part.{part}
 use Rattle.line.specs.Lines.{feeds, reach, lines, behind, Whole}
 use Rattle.line.proofs.Reach.{reach-zero, reach-add, reach-mono, feeds-behind, length-lines}
@@ -66,9 +67,9 @@ module _ (s : List ℕ) (at : ℕ) (ns : List ℕ) where
 
 -- ---- a located record
 
-module _ (s : List ℕ) (at n : ℕ) (ns : List ℕ) (e : locate s at ≡ located n ns) where
-  p : IsLocated s at n ns
-  p = located-is s at n ns e
+module _ (ρ : Rules) (s : List ℕ) (at n : ℕ) (ns : List ℕ) (e : locate ρ s at ≡ located n ns) where
+  p : IsLocated ρ s at n ns
+  p = located-is ρ s at n ns e
 
   pub start-end : start s at ns 61 ≡ n
   unfolding start
