@@ -4,6 +4,7 @@ use mathlib.Core.Path.{_≡_}
 use mathlib.Core.List.{List, map}
 use Prim.Native.Nat.{ℕ, _+_, _<_, _≤_}
 use lib.IntN.{ℤ}
+use Rattle.rules.specs.declared.Rules.{Rules}
 use Rattle.base.specs.Pieces.{done, bad}
 use Rattle.base.specs.Sign.{sizeOf}
 use Rattle.form.specs.declared.Form.{Form}
@@ -27,11 +28,11 @@ FieldReads f count j s k = SomeField f (fieldIn f count j s k)
 
 -- ---- R262: the lines, 8 and 9. R231: numbers are from 1: the line with j before it is number j + 1, and Plan gives its first element
 
-module _ (f : Form) (g : ℕ) (count : ℕ) (x : List ℕ) where
+module _ (ρ : Rules) (f : Form) (g : ℕ) (count : ℕ) (x : List ℕ) where
   -- neither 8 nor 9 for line j
   pub record CleanLine (j : ℕ) : Type 0 where
     pub content : List ℕ
-    pub line : RightLine f g count x j content
+    pub line : RightLine ρ f g count x j content
     pub fields : (k : ℕ) → k < planned f count j .many → FieldReads f count j content k
 
   abbrev pub AllClean : Type 0
@@ -46,7 +47,7 @@ module _ (f : Form) (g : ℕ) (count : ℕ) (x : List ℕ) where
   pub record WrongLine (l : ℕ) : Type 0 where
     pub j : ℕ
     pub comes : ComesTo j
-    pub wrong : (s : List ℕ) → RightLine f g count x j s → ⊥
+    pub wrong : (s : List ℕ) → RightLine ρ f g count x j s → ⊥
     pub number : l ≡ planned f count j .number
 
   -- R209: the first field of its line that is none of the form, in a line that is right
@@ -55,7 +56,7 @@ module _ (f : Form) (g : ℕ) (count : ℕ) (x : List ℕ) where
     pub k : ℕ
     pub comes : ComesTo j
     pub content : List ℕ
-    pub line : RightLine f g count x j content
+    pub line : RightLine ρ f g count x j content
     pub inside : k < planned f count j .many
     pub earlier : (i : ℕ) → i < k → FieldReads f count j content i
     pub misformed : FieldReads f count j content k → ⊥
@@ -64,7 +65,7 @@ module _ (f : Form) (g : ℕ) (count : ℕ) (x : List ℕ) where
 
 -- ---- the group
 
-module _ (ns : List ℕ) (g : ℕ) (x : List ℕ) (room : ℕ) where
+module _ (ρ : Rules) (ns : List ℕ) (g : ℕ) (x : List ℕ) (room : ℕ) where
   -- R207, R261: 7, and not 12
   pub record RuleDue (h : ℕ) : Type 0 where
     pub low : 1 ≤ g
@@ -91,19 +92,19 @@ module _ (ns : List ℕ) (g : ℕ) (x : List ℕ) (room : ℕ) where
   pub record LineDue (l : ℕ) : Type 0 where
     pub f : Form
     pub roomy : Roomy f
-    pub line : WrongLine f g (countOf ns g) x l
+    pub line : WrongLine ρ f g (countOf ns g) x l
 
   pub record FieldDue (l e : ℕ) : Type 0 where
     pub f : Form
     pub roomy : Roomy f
-    pub field : WrongField f g (countOf ns g) x l e
+    pub field : WrongField ρ f g (countOf ns g) x l e
 
   -- neither of them: the cells are read
   pub record CellsRead (cs : List ℤ) : Type 0 where
     pub f : Form
     pub roomy : Roomy f
-    pub clean : AllClean f g (countOf ns g) x
-    pub values : Values f g (countOf ns g) x cs
+    pub clean : AllClean ρ f g (countOf ns g) x
+    pub values : Values ρ f g (countOf ns g) x cs
 
   -- R210, R265: the letters of group 3 are no date, and p is blamed
   pub record DateDue (p : ℕ) : Type 0 where
