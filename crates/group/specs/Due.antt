@@ -6,6 +6,7 @@ use mathlib.Core.Logic.{_⊎_}
 use Prim.Native.Nat.{ℕ, _-_, _<_, _≤_}
 use lib.IntN.{ℤ, pos}
 use lib.ListN.{getD}
+use Rattle.rules.specs.declared.Rules.{Rules}
 use Rattle.base.specs.Pieces.{done, bad}
 use Rattle.form.specs.Table.{NoSuchGroup}
 use Rattle.count.specs.Tally.{countOf}
@@ -24,12 +25,12 @@ use Rattle.reply.specs.declared.Checked.the-variants as C
 use Rattle.group.specs.declared.Characteristic.{Characteristic}
 use Rattle.group.specs.declared.Characteristic.the-variants.{Value, NoReading, NotReported, Refused}
 
-module _ (s : List ℕ) (at g : ℕ) where
+module _ (ρ : Rules) (s : List ℕ) (at g : ℕ) where
   -- not 12, and placing's reply is p
   pub record PlacingDue (p : Placing) : Type 0 where
     pub low : 1 ≤ g
     pub high : g ≤ 60
-    pub placing : Place.Due s at p
+    pub placing : Place.Due ρ s at p
 
   -- R235: 7 has its group; the next place is not asked for
   pub record BrokenDue (h : ℕ) : Type 0 where
@@ -77,7 +78,7 @@ module _ (s : List ℕ) (at g : ℕ) where
       pub from : ℕ
       pub x : List ℕ
       pub lines : IsPart s at (placed .placing .ns) g from x
-      pub reading : Reading.Due (placed .placing .ns) g x room c
+      pub reading : Reading.Due ρ (placed .placing .ns) g x room c
 
     abbrev pub Due : Cells → Type 0
     Due (done cs) = ReadingDue (done cs)
@@ -85,7 +86,7 @@ module _ (s : List ℕ) (at g : ℕ) where
 
 -- ---- R294: a characteristic: 12, or what group 4 is refused with where there is room; then by its number and its cell
 
-module _ (s : List ℕ) (at k : ℕ) where
+module _ (ρ : Rules) (s : List ℕ) (at k : ℕ) where
   -- R212: the number is none of 1 to 49
   pub record NoNumber (r : Refusal) : Type 0 where
     pub none : (1 ≤ k) × (k ≤ 49) → ⊥
@@ -95,19 +96,19 @@ module _ (s : List ℕ) (at k : ℕ) where
   pub record FourReads (c : Cells) : Type 0 where
     pub low : 1 ≤ k
     pub high : k ≤ 49
-    pub four : (room : ℕ) → 49 ≤ room → Due s at 4 room c
+    pub four : (room : ℕ) → 49 ≤ room → Due ρ s at 4 room c
 
   -- R292: not reported, since group 4's count is smaller than the number
   pub record Above : Type 0 where
     pub cs : List ℤ
     pub reads : FourReads (done cs)
-    pub above : countOf (countsAt s at) 4 < k
+    pub above : countOf (countsAt ρ s at) 4 < k
 
   -- the number is one of group 4's, and z its cell
   pub record HasCell (z : ℤ) : Type 0 where
     pub cs : List ℤ
     pub reads : FourReads (done cs)
-    pub within : k ≤ countOf (countsAt s at) 4
+    pub within : k ≤ countOf (countsAt ρ s at) 4
     pub cell : getD cs (k - 1) (pos 0) ≡ z
 
   -- R293: the value is the cell; R291: unless the cell is no reading of this number
