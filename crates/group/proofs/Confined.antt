@@ -45,14 +45,15 @@ use Rattle.group.proofs.Promises.{read-local}
 
 -- ---- a group at one place
 
--- where no record stands, no line is looked at
-pub read-refused : (ρ : Rules) {r : Refusal} (s t : List ℕ) (at bt g room : ℕ) → locate ρ s at ≡ refused r → locate ρ t bt ≡ refused r → readAt ρ s at g room ≡ readAt ρ t bt g room
-unfolding readAt foundAt Placing.placingOf
-read-refused ρ s t at bt g room a b = by (formOf g)
-  where
-    by : (h : GroupForm) → readFound ρ s at g room (foundIn ρ s at h) ≡ readFound ρ t bt g room (foundIn ρ t bt h)
-    by (Has f) = rw (a, b)
-    by NoForm = refl
+module _ (ρ : Rules) where
+  -- where no record stands, no line is looked at
+  pub read-refused : {r : Refusal} (s t : List ℕ) (at bt g room : ℕ) → locate ρ s at ≡ refused r → locate ρ t bt ≡ refused r → readAt ρ s at g room ≡ readAt ρ t bt g room
+  unfolding readAt foundAt Placing.placingOf
+  read-refused s t at bt g room a b = by (formOf g)
+    where
+      by : (h : GroupForm) → readFound ρ s at g room (foundIn ρ s at h) ≡ readFound ρ t bt g room (foundIn ρ t bt h)
+      by (Has f) = rw (a, b)
+      by NoForm = refl
 
 pub characteristic-same : (ρ : Rules) (s t : List ℕ) (at bt k : ℕ) → readAt ρ s at 4 49 ≡ readAt ρ t bt 4 49 → characteristicAt ρ s at k ≡ characteristicAt ρ t bt k
 unfolding characteristicAt

@@ -67,20 +67,21 @@ module _ (ρ : Rules) (t u : List ℕ) (k g : ℕ) (d : Damaged ρ t u k g) wher
 
 -- ---- there is such damage: one byte of the lines that is no line feed, replaced by another that is none
 
-pub damaged-one : (ρ : Rules) {t : List ℕ} {k g : ℕ} (i v : ℕ) → PlacedAt ρ t (spot ρ t k) → 1 ≤ g → g ≤ 60 → LinesAt ρ t (spot ρ t k) g i → i < length t → isFeed (getD t i 0) ≡ isFeed v
-    → Damaged ρ t (set t i v) k g
-damaged-one ρ {t = t} {k = k} {g = g} i v placed low high inside within feed =
-    record {
-      placed = placed;
-      low = low;
-      high = high;
-      lines = record { long = sym (length-set t i v); feeds = λ j b. feeds j (eqb j i) refl };
-      elsewhere = record { long = sym (length-set t i v); same = λ j out. other j (λ e. out (subst (LinesAt ρ t (spot ρ t k) g) (sym e) inside)) };
-    }
-  where
-    other : (j : ℕ) → (j ≡ i → ⊥) → getD t j 0 ≡ getD (set t i v) j 0
-    other j n = sym (getD-set-other t i j v 0 n)
+module _ (ρ : Rules) where
+  pub damaged-one : {t : List ℕ} {k g : ℕ} (i v : ℕ) → PlacedAt ρ t (spot ρ t k) → 1 ≤ g → g ≤ 60 → LinesAt ρ t (spot ρ t k) g i → i < length t → isFeed (getD t i 0) ≡ isFeed v
+      → Damaged ρ t (set t i v) k g
+  damaged-one {t = t} {k = k} {g = g} i v placed low high inside within feed =
+      record {
+        placed = placed;
+        low = low;
+        high = high;
+        lines = record { long = sym (length-set t i v); feeds = λ j b. feeds j (eqb j i) refl };
+        elsewhere = record { long = sym (length-set t i v); same = λ j out. other j (λ e. out (subst (LinesAt ρ t (spot ρ t k) g) (sym e) inside)) };
+      }
+    where
+      other : (j : ℕ) → (j ≡ i → ⊥) → getD t j 0 ≡ getD (set t i v) j 0
+      other j n = sym (getD-set-other t i j v 0 n)
 
-    feeds : (j : ℕ) (e : Bool) → eqb j i ≡ e → isFeed (getD t j 0) ≡ isFeed (getD (set t i v) j 0)
-    feeds j true e = let q = eqb-true j i e in rw q (feed ∙ ap isFeed (sym (getD-set-same t i v 0 within)))
-    feeds j false e = ap isFeed (other j (eqb-false j i e))
+      feeds : (j : ℕ) (e : Bool) → eqb j i ≡ e → isFeed (getD t j 0) ≡ isFeed (getD (set t i v) j 0)
+      feeds j true e = let q = eqb-true j i e in rw q (feed ∙ ap isFeed (sym (getD-set-same t i v 0 within)))
+      feeds j false e = ap isFeed (other j (eqb-false j i e))

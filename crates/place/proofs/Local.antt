@@ -124,21 +124,22 @@ module _ (ρ : Rules) (at : ℕ) (p : Refusal) (b : ByIndex p) where
 
 -- ---- replies 0 and 7: these bytes, and where the line feeds are up to the next place
 
-pub located-local : (ρ : Rules) (s t : List ℕ) (at n : ℕ) (ns : List ℕ) → lines 2 (drop at s) ≡ lines 2 (drop at t) → map isFeed (part at n s) ≡ map isFeed (part at n t)
-    → locate ρ s at ≡ located n ns → locate ρ t at ≡ located n ns
-located-local ρ s t at n ns e m f =
-    let p = located-is ρ s at n ns f in
-    let two = has-two (drop at s) (drop at t) (p .head) e in
-    let a = behindAt-local s t at (recordLines ns) n m (is-at s at (recordLines ns) n record { many = p .many; place = p .next }) in
-    let q = at-is t at (recordLines ns) n a in
-    is-located ρ t at n ns record {
-      inside = omega (arith, two, feeds-le (drop at t), length-drop at t);
-      head = two;
-      index = sym (index-local ρ (drop at s) (drop at t) (p .head) e) ∙ p .index;
-      release = p .release;
-      many = q .many;
-      next = q .place;
-    }
+module _ (ρ : Rules) where
+  pub located-local : (s t : List ℕ) (at n : ℕ) (ns : List ℕ) → lines 2 (drop at s) ≡ lines 2 (drop at t) → map isFeed (part at n s) ≡ map isFeed (part at n t)
+      → locate ρ s at ≡ located n ns → locate ρ t at ≡ located n ns
+  located-local s t at n ns e m f =
+      let p = located-is ρ s at n ns f in
+      let two = has-two (drop at s) (drop at t) (p .head) e in
+      let a = behindAt-local s t at (recordLines ns) n m (is-at s at (recordLines ns) n record { many = p .many; place = p .next }) in
+      let q = at-is t at (recordLines ns) n a in
+      is-located ρ t at n ns record {
+        inside = omega (arith, two, feeds-le (drop at t), length-drop at t);
+        head = two;
+        index = sym (index-local ρ (drop at s) (drop at t) (p .head) e) ∙ p .index;
+        release = p .release;
+        many = q .many;
+        next = q .place;
+      }
 
 -- the answers and the counts, which follow from what is located
 pub placing-same : (ρ : Rules) (s t : List ℕ) (at : ℕ) → locate ρ s at ≡ locate ρ t at → (placingOf ρ s at ≡ placingOf ρ t at) × (countsAt ρ s at ≡ countsAt ρ t at)

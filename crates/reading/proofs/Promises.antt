@@ -81,22 +81,24 @@ done-read-keeps-rest (done cs) old n e =
     rw (← m, zero-add (length cs)) (drop-at cs (drop (length cs) old) (length cs) refl)
 done-read-keeps-rest (bad r) old n e = let z : _≡_ {A = ℕ} 0 1 = cc in absurd (omega arith)
 
--- R261: a record that breaks a rule on counts gives 7 for every group, whatever its lines hold
-pub read-broken : (ρ : Rules) (ns : List ℕ) (g : ℕ) (x : List ℕ) (room h : ℕ) (f : Form) → formOf g ≡ Has f → rulingOf ns ≡ Broken h → readGroup ρ ns g x room ≡ bad (BrokenRule h)
-unfolding readGroup
-read-broken ρ ns g x room h f e r = rw (e, r)
+module _ (ρ : Rules) where
+  -- R261: a record that breaks a rule on counts gives 7 for every group, whatever its lines hold
+  pub read-broken : (ns : List ℕ) (g : ℕ) (x : List ℕ) (room h : ℕ) (f : Form) → formOf g ≡ Has f → rulingOf ns ≡ Broken h → readGroup ρ ns g x room ≡ bad (BrokenRule h)
+  unfolding readGroup
+  read-broken ns g x room h f e r = rw (e, r)
 
--- R264: a group reads the same into every table with room for what its counts, if they keep the rules, let it fill
-pub read-room : (ρ : Rules) (ns : List ℕ) (g : ℕ) (x : List ℕ) (room more : ℕ) (f : Form) → formOf g ≡ Has f
-    → (rulingOf ns ≡ Kept → (cellsOf f (countOf ns g) ≤ room) × (cellsOf f (countOf ns g) ≤ more)) → readGroup ρ ns g x room ≡ readGroup ρ ns g x more
-unfolding readGroup readForm
-read-room ρ ns g x room more f e h = rw e (by (rulingOf ns) refl)
-  where
-    by : (k : Ruling) → rulingOf ns ≡ k → readRuled ρ f ns g x room k ≡ readRuled ρ f ns g x more k
-    by Kept u =
-        let m = h u in
-        rw (le-leb (cellsOf f (countOf ns g)) room (m .0), le-leb (cellsOf f (countOf ns g)) more (m .1)) refl
-    by (Broken b) u = refl
+module _ (ρ : Rules) where
+  -- R264: a group reads the same into every table with room for what its counts, if they keep the rules, let it fill
+  pub read-room : (ns : List ℕ) (g : ℕ) (x : List ℕ) (room more : ℕ) (f : Form) → formOf g ≡ Has f
+      → (rulingOf ns ≡ Kept → (cellsOf f (countOf ns g) ≤ room) × (cellsOf f (countOf ns g) ≤ more)) → readGroup ρ ns g x room ≡ readGroup ρ ns g x more
+  unfolding readGroup readForm
+  read-room ns g x room more f e h = rw e (by (rulingOf ns) refl)
+    where
+      by : (k : Ruling) → rulingOf ns ≡ k → readRuled ρ f ns g x room k ≡ readRuled ρ f ns g x more k
+      by Kept u =
+          let m = h u in
+          rw (le-leb (cellsOf f (countOf ns g)) room (m .0), le-leb (cellsOf f (countOf ns g)) more (m .1)) refl
+      by (Broken b) u = refl
 
 -- ---- R268: a group without elements reads with 0 and no cells, into an empty table too
 
@@ -108,12 +110,13 @@ no-lines : (ρ : Rules) (f : Form) (short : Bool) (x : List ℕ) → readLines �
 unfolding readLines readLinesOf planOf planFrom Pieces.gather Every.upFrom
 no-lines ρ f short x = rw (no-elements f .0)
 
-pub read-none : (ρ : Rules) (ns : List ℕ) (g : ℕ) (x : List ℕ) (room : ℕ) (f : Form) → formOf g ≡ Has f → rulingOf ns ≡ Kept → countOf ns g ≡ 0 → readGroup ρ ns g x room ≡ done []
-unfolding readGroup readForm
-read-none ρ ns g x room f e r c =
-    rw (e, r, c, no-elements f .1, le-leb 0 room (omega arith), no-lines ρ f (mayBeShort g) x, ne-eqb g 3 other)
-  where
-    other : g ≡ 3 → ⊥
-    other t =
-        let k : countOf ns 3 ≡ 0 = ap (countOf ns) (sym t) ∙ c in
-        omega (arith, kept-letters ns r)
+module _ (ρ : Rules) where
+  pub read-none : (ns : List ℕ) (g : ℕ) (x : List ℕ) (room : ℕ) (f : Form) → formOf g ≡ Has f → rulingOf ns ≡ Kept → countOf ns g ≡ 0 → readGroup ρ ns g x room ≡ done []
+  unfolding readGroup readForm
+  read-none ns g x room f e r c =
+      rw (e, r, c, no-elements f .1, le-leb 0 room (omega arith), no-lines ρ f (mayBeShort g) x, ne-eqb g 3 other)
+    where
+      other : g ≡ 3 → ⊥
+      other t =
+          let k : countOf ns 3 ≡ 0 = ap (countOf ns) (sym t) ∙ c in
+          omega (arith, kept-letters ns r)
