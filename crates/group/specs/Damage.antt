@@ -21,13 +21,14 @@ use Rattle.group.specs.Characteristics.{characteristicAt}
 use Rattle.group.specs.Held.{foundAt, partStart, partAt}
 use Rattle.group.specs.Text.{readAt}
 
--- R27: where the lines of group g of the record at a place begin; they end where those of the next group begin
-abbrev pub linesStart : Rules → List ℕ → ℕ → ℕ → ℕ
-linesStart ρ s at g = start s at (countsAt ρ s at) g
+module _ (ρ : Rules) where
+  -- R27: where the lines of group g of the record at a place begin; they end where those of the next group begin
+  abbrev pub linesStart : List ℕ → ℕ → ℕ → ℕ
+  linesStart s at g = start s at (countsAt ρ s at) g
 
--- the places of these lines
-abbrev pub LinesAt : Rules → List ℕ → ℕ → ℕ → ℕ → Type 0
-LinesAt ρ s at g = Between (linesStart ρ s at g) (linesStart ρ s at (suc g))
+  -- the places of these lines
+  abbrev pub LinesAt : List ℕ → ℕ → ℕ → ℕ → Type 0
+  LinesAt s at g = Between (linesStart s at g) (linesStart s at (suc g))
 
 -- what reading gives: the reply with its numbers, and the table
 pub record SameReading (a b : Cells) (table : List ℤ) : Type 0 where

@@ -44,25 +44,26 @@ bothLines (counts a) (counts b) = counts (a ++ b)
 bothLines (counts a) misformed = misformed
 bothLines misformed r = misformed
 
--- the first two lines
-unfoldable pub readIndex : Rules → List ℕ → Indexed
-readIndex ρ xs = bothLines (readIndexLine ρ (lines 1 xs)) (readIndexLine ρ (lines 1 (behind 1 xs)))
+module _ (ρ : Rules) where
+  -- the first two lines
+  unfoldable pub readIndex : List ℕ → Indexed
+  readIndex xs = bothLines (readIndexLine ρ (lines 1 xs)) (readIndexLine ρ (lines 1 (behind 1 xs)))
 
--- ---- the same as a statement (proofs/Indexed.antt)
+  -- ---- the same as a statement (proofs/Indexed.antt)
 
--- R21, R23: an index line: its content has 120 bytes, and the columns from 3k to 3k + 3 are an entry of the count that stands behind
--- `before` others and k more
-pub record IsIndexLine (ρ : Rules) (x ns : List ℕ) (before : ℕ) : Type 0 where
-  pub content : List ℕ
-  pub is : HasContent ρ x content
-  pub wide : length content ≡ 120
-  pub each : (k : ℕ) → k < 40 → IsEntry (part (k * 3) (k * 3 + 3) content) (countOf ns (before + k + 1))
+  -- R21, R23: an index line: its content has 120 bytes, and the columns from 3k to 3k + 3 are an entry of the count that stands behind
+  -- `before` others and k more
+  pub record IsIndexLine (x ns : List ℕ) (before : ℕ) : Type 0 where
+    pub content : List ℕ
+    pub is : HasContent ρ x content
+    pub wide : length content ≡ 120
+    pub each : (k : ℕ) → k < 40 → IsEntry (part (k * 3) (k * 3 + 3) content) (countOf ns (before + k + 1))
 
--- R22: the first line of xs has the entries of numbers 1 to 40, the second those of 41 to 80
-pub record IsIndex (ρ : Rules) (xs ns : List ℕ) : Type 0 where
-  pub many : length ns ≡ 80
-  pub first : IsIndexLine ρ (lines 1 xs) ns 0
-  pub second : IsIndexLine ρ (lines 1 (behind 1 xs)) ns 40
+  -- R22: the first line of xs has the entries of numbers 1 to 40, the second those of 41 to 80
+  pub record IsIndex (xs ns : List ℕ) : Type 0 where
+    pub many : length ns ≡ 80
+    pub first : IsIndexLine (lines 1 xs) ns 0
+    pub second : IsIndexLine (lines 1 (behind 1 xs)) ns 40
 
 -- ---- what a function that stores the counts of a line from an index on leaves: all of them, or the answer that there are none
 abbrev pub Stored : Indexed → ℕ → List ℕ → Bool → List ℕ → Type 0

@@ -45,14 +45,15 @@ abbrev pub locateIndex : List ℕ → ℕ → Indexed → Located
 locateIndex xs at (counts ns) = locateRelease xs at ns (releaseOf ns)
 locateIndex xs at misformed = refused Misformed
 
--- R203: from the place on there are fewer than two line feeds
-abbrev pub locateHere : Rules → List ℕ → ℕ → Located
-locateHere ρ xs at = cond (leb 2 (feeds xs)) (locateIndex xs at (readIndex ρ xs)) (refused TooFewLines)
+module _ (ρ : Rules) where
+  -- R203: from the place on there are fewer than two line feeds
+  abbrev pub locateHere : List ℕ → ℕ → Located
+  locateHere xs at = cond (leb 2 (feeds xs)) (locateIndex xs at (readIndex ρ xs)) (refused TooFewLines)
 
--- R202: the place lies behind where the text ends; R201: it is there
-unfoldable pub locate : Rules → List ℕ → ℕ → Located
-locate ρ s at =
-    cond (ltb (length s) at) (refused Beyond) (cond (eqb (length s) at) (refused End) (locateHere ρ (drop at s) at))
+  -- R202: the place lies behind where the text ends; R201: it is there
+  unfoldable pub locate : List ℕ → ℕ → Located
+  locate s at =
+      cond (ltb (length s) at) (refused Beyond) (cond (eqb (length s) at) (refused End) (locateHere (drop at s) at))
 
 -- R207: counts that break a rule have a next place all the same
 abbrev pub ruledAt : ℕ → Ruling → Placing
@@ -68,12 +69,13 @@ abbrev pub countsBy : Located → List ℕ
 countsBy (located n ns) = ns
 countsBy (refused r) = replicate 80 0
 
--- R250: what placing answers, and the counts beside it
-unfoldable pub placingOf : Rules → List ℕ → ℕ → Placing
-placingOf ρ s at = placingBy (locate ρ s at)
+module _ (ρ : Rules) where
+  -- R250: what placing answers, and the counts beside it
+  unfoldable pub placingOf : List ℕ → ℕ → Placing
+  placingOf s at = placingBy (locate ρ s at)
 
-unfoldable pub countsAt : Rules → List ℕ → ℕ → List ℕ
-countsAt ρ s at = countsBy (locate ρ s at)
+  unfoldable pub countsAt : List ℕ → ℕ → List ℕ
+  countsAt s at = countsBy (locate ρ s at)
 
 pub record Answers (l : Located) (answer : Placing) (ns : List ℕ) : Type 0 where
   pub placing : answer ≡ placingBy l

@@ -21,28 +21,29 @@ textThen text more (Done n next) = text ++ more next
 textThen text more (Refused r) = []
 textThen text more (GroupRefused g r) = []
 
--- from a place on, at most so many records
-unfoldable pub rewrittenFrom : Rules → ℕ → List ℕ → ℕ → List ℕ
-rewrittenFrom ρ zero s at = []
-rewrittenFrom ρ (suc k) s at = textThen (textAt ρ s at) (rewrittenFrom ρ k s) (programRewriting ρ s at)
+module _ (ρ : Rules) where
+  -- from a place on, at most so many records
+  unfoldable pub rewrittenFrom : ℕ → List ℕ → ℕ → List ℕ
+  rewrittenFrom zero s at = []
+  rewrittenFrom (suc k) s at = textThen (textAt ρ s at) (rewrittenFrom k s) (programRewriting ρ s at)
 
--- a text has fewer records than bytes
-unfoldable pub rewritten : Rules → List ℕ → List ℕ
-rewritten ρ s = rewrittenFrom ρ (length s) s 0
+  -- a text has fewer records than bytes
+  unfoldable pub rewritten : List ℕ → List ℕ
+  rewritten s = rewrittenFrom (length s) s 0
 
--- R341: of a longer input nothing
-unfoldable pub printed : Rules → List ℕ → List ℕ
-printed ρ s = cond (leb (length s) 65536) (rewritten ρ s) []
+  -- R341: of a longer input nothing
+  unfoldable pub printed : List ℕ → List ℕ
+  printed s = cond (leb (length s) 65536) (rewritten s) []
 
--- ---- record by record, as a program goes
+  -- ---- record by record, as a program goes
 
--- a place behind records from the text's start on that are rewritten with 0, and their texts, one behind the other
-pub data Reached (ρ : Rules) (s : List ℕ) : ℕ → List ℕ → Type 0 where
-  start : Reached ρ s 0 []
-  one-more : (at bytes next : ℕ) (before : List ℕ) → Reached ρ s at before → programRewriting ρ s at ≡ Done bytes next → Reached ρ s next (before ++ textAt ρ s at)
+  -- a place behind records from the text's start on that are rewritten with 0, and their texts, one behind the other
+  pub data Reached (s : List ℕ) : ℕ → List ℕ → Type 0 where
+    start : Reached s 0 []
+    one-more : (at bytes next : ℕ) (before : List ℕ) → Reached s at before → programRewriting ρ s at ≡ Done bytes next → Reached s next (before ++ textAt ρ s at)
 
--- where a program may stop: these texts are all that is to be printed
-pub record Stopped (ρ : Rules) (s : List ℕ) (at : ℕ) : Type 0 where
-  pub before : List ℕ
-  pub reached : Reached ρ s at before
-  pub all : before ≡ printed ρ s
+  -- where a program may stop: these texts are all that is to be printed
+  pub record Stopped (s : List ℕ) (at : ℕ) : Type 0 where
+    pub before : List ℕ
+    pub reached : Reached s at before
+    pub all : before ≡ printed s

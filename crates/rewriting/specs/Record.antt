@@ -53,11 +53,12 @@ unfoldable pub cellsInTurn : (ℕ → Cells) → List ℕ → List ℤ
 cellsInTurn read [] = []
 cellsInTurn read (g ∷ gs) = firstThen (read g) (cellsInTurn read gs)
 
-abbrev pub allInTurn : Rules → List ℕ → ℕ → Turn
-allInTurn ρ s at = inTurn (groupRead ρ s at) (upFrom 1 60)
+module _ (ρ : Rules) where
+  abbrev pub allInTurn : List ℕ → ℕ → Turn
+  allInTurn s at = inTurn (groupRead ρ s at) (upFrom 1 60)
 
-abbrev pub cellsAt : Rules → List ℕ → ℕ → List ℤ
-cellsAt ρ s at = cellsInTurn (groupRead ρ s at) (upFrom 1 60)
+  abbrev pub cellsAt : List ℕ → ℕ → List ℤ
+  cellsAt s at = cellsInTurn (groupRead ρ s at) (upFrom 1 60)
 
 -- whether all were read, or the first refusal
 abbrev pub groupsOf : Turn → Groups
@@ -90,25 +91,26 @@ abbrev pub unlessRefused : Checked → Rewriting → Rewriting
 unlessRefused C.Right r = r
 unlessRefused (C.Refused why) r = Refused why
 
--- over a table of so many cells and an output of so many bytes
-unfoldable pub rewritingOf : Rules → List ℕ → ℕ → ℕ → ℕ → Rewriting
-rewritingOf ρ s at cells room =
-    unlessRefused (asChecked (placingOf ρ s at)) (rewritingPlaced ρ s at cells room (placingReply (placingOf ρ s at) .next))
+module _ (ρ : Rules) where
+  -- over a table of so many cells and an output of so many bytes
+  unfoldable pub rewritingOf : List ℕ → ℕ → ℕ → ℕ → Rewriting
+  rewritingOf s at cells room =
+      unlessRefused (asChecked (placingOf ρ s at)) (rewritingPlaced ρ s at cells room (placingReply (placingOf ρ s at) .next))
 
--- ---- what is lent, afterwards
+  -- ---- what is lent, afterwards
 
--- the canonical text of the record at a place
-abbrev pub textAt : Rules → List ℕ → ℕ → List ℕ
-textAt ρ s at = recordText (countsAt ρ s at) (cellsAt ρ s at)
+  -- the canonical text of the record at a place
+  abbrev pub textAt : List ℕ → ℕ → List ℕ
+  textAt s at = recordText (countsAt ρ s at) (cellsAt ρ s at)
 
--- R325: a refusal leaves the whole output; R324: under 0 the text stands there from the first byte on
-abbrev pub bufferBy : Rules → List ℕ → ℕ → Rewriting → List ℕ → List ℕ
-bufferBy ρ s at (Done n next) old = over 0 (textAt ρ s at) old
-bufferBy ρ s at (Refused r) old = old
-bufferBy ρ s at (GroupRefused g r) old = old
+  -- R325: a refusal leaves the whole output; R324: under 0 the text stands there from the first byte on
+  abbrev pub bufferBy : List ℕ → ℕ → Rewriting → List ℕ → List ℕ
+  bufferBy s at (Done n next) old = over 0 (textAt s at) old
+  bufferBy s at (Refused r) old = old
+  bufferBy s at (GroupRefused g r) old = old
 
--- R326: groups are read into consecutive parts of the table, up to the first that is refused
-abbrev pub tableAfter : Rules → List ℕ → ℕ → Rewriting → List ℤ → List ℤ
-tableAfter ρ s at (Done n next) old = over 0 (cellsAt ρ s at) old
-tableAfter ρ s at (Refused r) old = old
-tableAfter ρ s at (GroupRefused g r) old = over 0 (cellsAt ρ s at) old
+  -- R326: groups are read into consecutive parts of the table, up to the first that is refused
+  abbrev pub tableAfter : List ℕ → ℕ → Rewriting → List ℤ → List ℤ
+  tableAfter s at (Done n next) old = over 0 (cellsAt ρ s at) old
+  tableAfter s at (Refused r) old = old
+  tableAfter s at (GroupRefused g r) old = over 0 (cellsAt ρ s at) old

@@ -58,22 +58,23 @@ abbrev pub fitNumber : Fit → ℕ
 fitNumber All = 0
 fitNumber (Not g e) = refusalNumber (NoField g e)
 
--- letters as group 3
-abbrev pub lettersRead : Rules → String → Cells
-lettersRead ρ t = readForm ρ A1 3 (length (bytes t)) (line t) (length (bytes t))
+module _ (ρ : Rules) where
+  -- letters as group 3
+  abbrev pub lettersRead : String → Cells
+  lettersRead t = readForm ρ A1 3 (length (bytes t)) (line t) (length (bytes t))
 
-abbrev pub Holding : Rules → Case → Type 0
-Holding ρ (reads f t n cs) = (caseReply (readLines ρ f false 1 (line t)) .number ≡ n) × (cellsGot (readLines ρ f false 1 (line t)) ≡ cs)
-Holding ρ (writes f cs t) = (g : ℕ) → (fitNumber (elementsFit f g 1 cs) ≡ 0) × (linesText f 1 cs ≡ line t)
-Holding ρ (refuses f cs n) = (g : ℕ) → fitNumber (elementsFit f g 1 cs) ≡ n
-Holding ρ (entry t e) = entryOf (bytes t) ≡ e
-Holding ρ (takes f count n) = linesOf f count ≡ n
-Holding ρ (dates t d) = (caseReply (lettersRead ρ t) .number ≡ 0) × (datedOf (bytes t) ≡ Right d)
-Holding ρ (blames t n p) = (caseReply (lettersRead ρ t) .number ≡ n) × (caseReply (lettersRead ρ t) .position ≡ p)
+  abbrev pub Holding : Case → Type 0
+  Holding (reads f t n cs) = (caseReply (readLines ρ f false 1 (line t)) .number ≡ n) × (cellsGot (readLines ρ f false 1 (line t)) ≡ cs)
+  Holding (writes f cs t) = (g : ℕ) → (fitNumber (elementsFit f g 1 cs) ≡ 0) × (linesText f 1 cs ≡ line t)
+  Holding (refuses f cs n) = (g : ℕ) → fitNumber (elementsFit f g 1 cs) ≡ n
+  Holding (entry t e) = entryOf (bytes t) ≡ e
+  Holding (takes f count n) = linesOf f count ≡ n
+  Holding (dates t d) = (caseReply (lettersRead t) .number ≡ 0) × (datedOf (bytes t) ≡ Right d)
+  Holding (blames t n p) = (caseReply (lettersRead t) .number ≡ n) × (caseReply (lettersRead t) .position ≡ p)
 
-abbrev pub AllHolding : Rules → List Case → Type 0
-AllHolding ρ [] = Unit {0}
-AllHolding ρ (c ∷ cs) = Holding ρ c × AllHolding ρ cs
+  abbrev pub AllHolding : List Case → Type 0
+  AllHolding [] = Unit {0}
+  AllHolding (c ∷ cs) = Holding c × AllHolding cs
 
 -- year, day of year, month, day, hour, minute, second
 abbrev pub date : ℕ → ℕ → ℕ → ℕ → ℕ → ℕ → ℕ → Date

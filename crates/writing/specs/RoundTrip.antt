@@ -20,19 +20,20 @@ use Rattle.writing.specs.Writing.{writingOf}
 abbrev pub groupCells : List ℕ → List ℤ → ℕ → List ℤ
 groupCells ns cs g = part (cellsBefore ns g) (cellsBefore ns (suc g)) cs
 
--- D2.4: n bytes that stand at a place of a text read back as these counts and cells
-pub record ReadsBack (ρ : Rules) (ns : List ℕ) (cs : List ℤ) (n : ℕ) (s : List ℕ) (at : ℕ) : Type 0 where
-  -- placing gives 0, with the place behind the n bytes and the same counts
-  pub placed : placingOf ρ s at ≡ Placed (at + n)
-  pub counts : countsAt ρ s at ≡ ns
-  -- every group reads with 0 as its own cells, into any table with room
-  pub groups : (g room : ℕ) → 1 ≤ g → g ≤ 60 → cellsIn ns g ≤ room → readAt ρ s at g room ≡ done (groupCells ns cs g)
+module _ (ρ : Rules) where
+  -- D2.4: n bytes that stand at a place of a text read back as these counts and cells
+  pub record ReadsBack (ns : List ℕ) (cs : List ℤ) (n : ℕ) (s : List ℕ) (at : ℕ) : Type 0 where
+    -- placing gives 0, with the place behind the n bytes and the same counts
+    pub placed : placingOf ρ s at ≡ Placed (at + n)
+    pub counts : countsAt ρ s at ≡ ns
+    -- every group reads with 0 as its own cells, into any table with room
+    pub groups : (g room : ℕ) → 1 ≤ g → g ≤ 60 → cellsIn ns g ≤ room → readAt ρ s at g room ≡ done (groupCells ns cs g)
 
--- a record is placed with 0 at a place of a text, with its next place, and every group reads with 0 as its cells
-pub record ReadWhole (ρ : Rules) (s : List ℕ) (at next : ℕ) (cells : ℕ → List ℤ) : Type 0 where
-  pub placed : placingOf ρ s at ≡ Placed next
-  pub room : ℕ → ℕ
-  pub groups : (g : ℕ) → 1 ≤ g → g ≤ 60 → readAt ρ s at g (room g) ≡ done (cells g)
+  -- a record is placed with 0 at a place of a text, with its next place, and every group reads with 0 as its cells
+  pub record ReadWhole (s : List ℕ) (at next : ℕ) (cells : ℕ → List ℤ) : Type 0 where
+    pub placed : placingOf ρ s at ≡ Placed next
+    pub room : ℕ → ℕ
+    pub groups : (g : ℕ) → 1 ≤ g → g ≤ 60 → readAt ρ s at g (room g) ≡ done (cells g)
 
 -- R47: the cells of all groups, group 1's first
 abbrev pub joined : (ℕ → List ℤ) → List ℤ
