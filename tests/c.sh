@@ -27,19 +27,33 @@ done
 rm -f "$work/alone.o"
 counted 'the program is linked' linked "$work/main" "$work"/*.o
 
+made_checks() { # CASE LEAST WORD..: the program's checks hold; of the project's own vectors there are at least so many
+    case=$1
+    least=$2
+    shift 2
+    started "$work/main" "$@" >"$work/said"
+    counted "$case: every check of the program" [ "$?" = 0 ] || head -n 21 "$work/said"
+    last=$(tail -n 1 "$work/said")
+    echo "$name: $case: $last"
+    made=${last%% checks,*}
+    ! own || counted "$case: as many checks as there are" [ "${made:-0}" -ge "$least" ]
+}
+
+writes=$vectors/writes.txt
+own || [ -e "$writes" ] || writes=/dev/null # a folder of texts alone
+made_checks 'record S, line ends, dates and writing' 0 answers "$writes"
+
 counted 'there are texts' texts
 set --
 for text in "$vectors"/*.sao; do
-    set -- "$@" "${text%.sao}"
+    for ruled in $rules; do
+        list=$(answer_of "$text" "$ruled" list)
+        rewrite=$(answer_of "$text" "$ruled" rewrite)
+        dump=$(answer_of "$text" "$ruled" dump)
+        [ -z "$list" ] || [ -z "$rewrite" ] || [ -z "$dump" ] || set -- "$@" "$ruled" "$text" "$list" "$rewrite" "$dump"
+    done
 done
-writes=$vectors/writes.txt
-own || [ -e "$writes" ] || writes=/dev/null # a folder of texts alone
-started "$work/main" answers "$writes" "$@" >"$work/said"
-counted 'every check of the program' [ "$?" = 0 ] || head -n 21 "$work/said"
-last=$(tail -n 1 "$work/said")
-echo "$name: $last"
-made=${last%% checks,*}
-! own || counted 'as many checks as there are' [ "${made:-0}" -ge 115815 ]
+made_checks 'texts' 0 texts "$@"
 
 counted 'the example' compiled examples/fof2.c "$work/fof2.o" -std=c99 && linked "$work/fof2" "$work/fof2.o"
 below_zero >"$work/below"
