@@ -1,0 +1,2 @@
+-- Words that are the same (Same).
+pub mod Same
