@@ -93,7 +93,6 @@ static const struct {
     {&twice_comma, 305, 4, height, 1, {600, 10}, "   7.250\r\n"},
     {&comma, 0, 1, position, 4, {244, 30}, "  1.200 67.000-23.500143.000\r\n"},
     {&comma, 0, 3, date, 19, {274, 21}, "AA20062650922142530\r\n"},
-    {&no_return, 0, 3, date, 19, {274, 21}, "AA20062650922142530\r\n"},
     {&no_reading, 0, 4, unscaled, 1, {295, 10}, "9999.000\r\n"},
     {&not_scaled, 0, 4, mark, 1, {295, 10}, " 999.900\r\n"},
     {&second_bad, 0, 4, height, 1, {295, 10}, "   7.250\r\n"},
