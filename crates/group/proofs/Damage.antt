@@ -67,7 +67,8 @@ module _ (ρ : Rules) (t u : List ℕ) (k g : ℕ) (d : Damaged ρ t u k g) wher
 
 -- ---- there is such damage: one byte of the lines that is no line feed, replaced by another that is none
 
-pub damaged-one : (ρ : Rules) {t : List ℕ} {k g : ℕ} (i v : ℕ) → PlacedAt ρ t (spot ρ t k) → 1 ≤ g → g ≤ 60 → LinesAt ρ t (spot ρ t k) g i → i < length t → isFeed (getD t i 0) ≡ isFeed v → Damaged ρ t (set t i v) k g
+pub damaged-one : (ρ : Rules) {t : List ℕ} {k g : ℕ} (i v : ℕ) → PlacedAt ρ t (spot ρ t k) → 1 ≤ g → g ≤ 60 → LinesAt ρ t (spot ρ t k) g i → i < length t → isFeed (getD t i 0) ≡ isFeed v
+    → Damaged ρ t (set t i v) k g
 damaged-one ρ {t = t} {k = k} {g = g} i v placed low high inside within feed =
     record {
       placed = placed;

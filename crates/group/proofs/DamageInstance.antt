@@ -95,7 +95,8 @@ comma-second : (ρ : Rules) → 305 ≡ spot ρ commaS 1
 comma-second ρ = sym (comma-confined ρ .places 1 ∙ spot-one ρ)
 
 -- what a group gives, by places and cells that are known
-given : (ρ : Rules) (s : List ℕ) (g : ℕ) (table : List ℤ) {p q : ℕ} {c d : Cells} → p ≡ q → SameReading (readAt ρ s q g (length table)) c table → c ≡ d → SameReading (readAt ρ s p g (length table)) d table
+given : (ρ : Rules) (s : List ℕ) (g : ℕ) (table : List ℤ) {p q : ℕ} {c d : Cells} → p ≡ q → SameReading (readAt ρ s q g (length table)) c table → c ≡ d
+    → SameReading (readAt ρ s p g (length table)) d table
 given ρ s g table e o f =
     record {
       reply = ap (λ p. readingOf (readAt ρ s p g (length table))) e ∙ o .reply ∙ ap readingOf f;

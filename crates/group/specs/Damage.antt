@@ -77,6 +77,7 @@ module _ (ρ : Rules) (t u : List ℕ) (k g : ℕ) where
     -- D3.6: that group is read or refused as D2 says, decided by its lines, the counts of its record and the table's length alone: by
     -- `readGroup`, in which the text does not occur, from the counts that the record has in t and what u has in place of the lines
     pub altered : (table : List ℤ)
-        → SameReading (readAt ρ u (spot ρ u k) g (length table)) (readGroup ρ (countsAt ρ t (spot ρ t k)) g (part (linesStart ρ t (spot ρ t k) g) (linesStart ρ t (spot ρ t k) (suc g)) u) (length table)) table
+        → SameReading (readAt ρ u (spot ρ u k) g (length table))
+        (readGroup ρ (countsAt ρ t (spot ρ t k)) g (part (linesStart ρ t (spot ρ t k) g) (linesStart ρ t (spot ρ t k) (suc g)) u) (length table)) table
     -- D3.7: a characteristic is a cell of group 4: where that is not the altered group, every one is what it was
     pub characteristics : (j : ℕ) → Other k g j 4 → (number : ℕ) → characteristicAt ρ u (spot ρ u j) number ≡ characteristicAt ρ t (spot ρ t j) number

@@ -80,7 +80,8 @@ module _ (ρ : Rules) where
       m : length x - 1 ≡ length a
       m = omega (arith, ap length e, length-append a (10 ∷ []))
 
-      go : (t : Bool) → isReturnFeed (drop (length x - 2) x) ≡ t → cond t (Length (length x - 2)) (cond (isFeedAlone (drop (length x - 1) x)) (feedAlone (ρ .ends) (length x - 1)) NoReturn) ≡ Length (length a)
+      go : (t : Bool) → isReturnFeed (drop (length x - 2) x) ≡ t
+          → cond t (Length (length x - 2)) (cond (isFeedAlone (drop (length x - 1) x)) (feedAlone (ρ .ends) (length x - 1)) NoReturn) ≡ Length (length a)
       go true u = absurd (n (is-return x a u e))
       go false u = rw (m, k, e, drop-append-seam a (10 ∷ []))
 
@@ -89,7 +90,8 @@ module _ (ρ : Rules) where
   unfolding contentOf
   is-content x n e = go (isReturnFeed (drop (length x - 2) x)) (isFeedAlone (drop (length x - 1) x)) (ρ .ends) refl refl refl e
     where
-      go : (t f : Bool) (l : LineEnds) → isReturnFeed (drop (length x - 2) x) ≡ t → isFeedAlone (drop (length x - 1) x) ≡ f → ρ .ends ≡ l → cond t (Length (length x - 2)) (cond f (feedAlone l (length x - 1)) NoReturn) ≡ Length n → HasContent ρ x (take n x) × (length (take n x) ≡ n)
+      go : (t f : Bool) (l : LineEnds) → isReturnFeed (drop (length x - 2) x) ≡ t → isFeedAlone (drop (length x - 1) x) ≡ f → ρ .ends ≡ l
+          → cond t (Length (length x - 2)) (cond f (feedAlone l (length x - 1)) NoReturn) ≡ Length n → HasContent ρ x (take n x) × (length (take n x) ≡ n)
       go true f l u v w e =
           let m : length x - 2 ≡ n = cc in
           let d : drop n x ≡ 13 ∷ 10 ∷ [] = rw m at (return-feed (drop (length x - 2) x) u) in
@@ -131,7 +133,9 @@ module _ (ρ : Rules) where
       f : cond (isFeedAlone (drop (length (a ++ (10 ∷ [])) - 1) (a ++ (10 ∷ [])))) (feedAlone (ρ .ends) (length (a ++ (10 ∷ [])) - 1)) NoReturn ≡ Length (length a)
       f = rw (m, k, drop-append-seam a (10 ∷ []))
 
-      go : (t : Bool) → cond t (Length (length (a ++ (10 ∷ [])) - 2)) (cond (isFeedAlone (drop (length (a ++ (10 ∷ [])) - 1) (a ++ (10 ∷ [])))) (feedAlone (ρ .ends) (length (a ++ (10 ∷ [])) - 1)) NoReturn) ≡ NoReturn → ⊥
+      go : (t : Bool)
+          → cond t (Length (length (a ++ (10 ∷ [])) - 2))
+          (cond (isFeedAlone (drop (length (a ++ (10 ∷ [])) - 1) (a ++ (10 ∷ [])))) (feedAlone (ρ .ends) (length (a ++ (10 ∷ [])) - 1)) NoReturn) ≡ NoReturn → ⊥
       go true e = let z : _≡_ {A = ℕ} 0 1 = cc in absurd (omega arith)
       go false e = let g = sym f ∙ e in let z : _≡_ {A = ℕ} 0 1 = cc in absurd (omega arith)
 

@@ -121,7 +121,8 @@ pub index-bytes : (ρ : Rules) (xs ns : List ℕ) → readIndex ρ xs ≡ counts
 unfolding readIndex
 index-bytes ρ xs ns e =
     let t = two-lines (readIndexLine ρ (lines 1 xs)) (readIndexLine ρ (lines 1 (behind 1 xs))) ns e in
-    omega (arith, reach-add xs 1 1, length-lines xs 1, line-bytes ρ (lines 1 xs) (t .first) (t .first-is), length-lines (behind 1 xs) 1, line-bytes ρ (lines 1 (behind 1 xs)) (t .second) (t .second-is))
+    omega
+    (arith, reach-add xs 1 1, length-lines xs 1, line-bytes ρ (lines 1 xs) (t .first) (t .first-is), length-lines (behind 1 xs) 1, line-bytes ρ (lines 1 (behind 1 xs)) (t .second) (t .second-is))
 
 -- so a record has at least 242 bytes
 pub located-long : (ρ : Rules) (s : List ℕ) (at n : ℕ) (ns : List ℕ) → locate ρ s at ≡ located n ns → at + 242 ≤ n

@@ -48,7 +48,8 @@ fn store_entries(content: &[u8], counts: &mut [u16], from: usize) -> bool
 // R204: an index line's counts, stored from an index on; whether the line and its entries are well formed.
 fn store_line(rules: rules::Rules, line: &[u8], counts: &mut [u16], from: usize) -> bool
     requires { ⌜ from + 40 ≤ length (now counts) ⌝ }
-    ensures { λ r. ⌜ Stored (readIndexLine rules (now (line .entry))) from (now (counts .entry)) r (now (counts .exit)) ⌝ }
+    ensures { λ r. ⌜ Stored (readIndexLine rules (now (line .entry))) from (now (counts .entry)) r
+        (now (counts .exit)) ⌝ }
 {
     let line::Content::Length(n) = line::content_length(rules, line) else {
         return false;

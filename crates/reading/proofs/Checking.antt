@@ -168,13 +168,15 @@ unfolding readLines planOf
 checking-start ρ {f} {short} {count} {s} {width} {perLine} {many} {left} b =
     record { walk = b; first = omega (arith, zero-mul (rowOf f .«per_line»)); same = rw (sub-zero many, b .lines, drop-none s) refl }
 
-pub checking-end : (ρ : Rules) (f : Form) (short : Bool) (count : ℕ) (s : List ℕ) {width perLine many left at element j : ℕ} → Checking ρ f short count s width perLine many left at element j → many ≤ j
+pub checking-end : (ρ : Rules) (f : Form) (short : Bool) (count : ℕ) (s : List ℕ) {width perLine many left at element j : ℕ} → Checking ρ f short count s width perLine many left at element j
+    → many ≤ j
     → C.Right ≡ verdictOf (readLines ρ f short count s)
 checking-end ρ f short count s {many = many} {at = at} {j = j} b h =
     let z : many - j ≡ 0 = omega arith in
     sym (ap verdictOf (lines-none ρ f short s (rowOf f .«per_line») (elementsOf f count) j at)) ∙ (rw z at (b .same))
 
-module _ (ρ : Rules) (f : Form) (short : Bool) (count : ℕ) (s : List ℕ) {width perLine many left at element j : ℕ} (b : Checking ρ f short count s width perLine many left at element j) (h : j < many) (k end : ℕ)
+module _ (ρ : Rules) (f : Form) (short : Bool) (count : ℕ) (s : List ℕ) {width perLine many left at element j : ℕ} (b : Checking ρ f short count s width perLine many left at element j) (h : j < many)
+    (k end : ℕ)
     (q : k ≡ min perLine left) (w : end ≡ at + reach (drop at s) 1) where
   abbrev l : Line
   l = lineAt (rowOf f .«per_line») (elementsOf f count) j

@@ -122,7 +122,8 @@ module _ (ρ : Rules) (count : ℕ) (x : List ℕ) (cs : List ℤ) (h : readLine
   line-one : Line
   line-one = lineAt p n 0
 
-  first-line : (l : Line) (y : List ℕ) (first : List ℤ) (end : ℕ) → l .many ≡ k → y ≡ part 0 end x → end ≤ length x → readLine ρ A1 false l y ≡ done first → (k ≤ length x) × (first ≡ map pos (take k x))
+  first-line : (l : Line) (y : List ℕ) (first : List ℤ) (end : ℕ) → l .many ≡ k → y ≡ part 0 end x → end ≤ length x → readLine ρ A1 false l y ≡ done first
+      → (k ≤ length x) × (first ≡ map pos (take k x))
   first-line l y first end u v inside r =
       let d = line-done ρ A1 false l y first r in
       let b = d .bytes in

@@ -276,7 +276,8 @@ module _ (ρ : Rules) (ns : List ℕ) (g : ℕ) (x : List ℕ) (room : ℕ) wher
       from-date cs (eqb g 3) (datedOf (map sizeOf cs)) record { f = f; roomy = h; clean = lines-clean ρ f g (countOf ns g) x cs e; values = read-values ρ f g (countOf ns g) x cs e } refl refl
   from-lines f (bad r) h e = from-bad f r h (lines-due ρ f g (countOf ns g) x r e)
 
-  from-room : (f : Form) (t : Bool) → Ruled ρ ns g x room f → leb (cellsOf f (countOf ns g)) room ≡ t → Due ρ ns g x room (cond t (dated g (readLines ρ f (mayBeShort g) (countOf ns g) x)) (bad NoRoom))
+  from-room : (f : Form) (t : Bool) → Ruled ρ ns g x room f → leb (cellsOf f (countOf ns g)) room ≡ t
+      → Due ρ ns g x room (cond t (dated g (readLines ρ f (mayBeShort g) (countOf ns g) x)) (bad NoRoom))
   from-room f true h e = from-lines f (readLines ρ f (mayBeShort g) (countOf ns g) x) record { ruled = h; enough = leb-true (cellsOf f (countOf ns g)) room e } refl
   from-room f false h e = no-room record { f = f; ruled = h; few = leb-false (cellsOf f (countOf ns g)) room e }
 

@@ -115,7 +115,8 @@ enough-room ρ f short count s old v room =
     let r = clean-read (readLines ρ f short count s) v in
     omega (arith, ap (λ g. length (cellsGot g)) (r .is), group-size ρ f short count s (r .cells) (r .is))
 
-pub filling-start : (ρ : Rules) {f : Form} {short : Bool} {count : ℕ} {s : List ℕ} {r : Reached} → Walking f count s (r .width) (r .perLine) (r .many) (r .left) (r .at) (r .j) → r .cells ≡ rowOf f .cells
+pub filling-start : (ρ : Rules) {f : Form} {short : Bool} {count : ℕ} {s : List ℕ} {r : Reached} → Walking f count s (r .width) (r .perLine) (r .many) (r .left) (r .at) (r .j)
+    → r .cells ≡ rowOf f .cells
     → verdictOf (readLines ρ f short count s) ≡ C.Right → (r .at ≡ 0) × (r .cell ≡ 0) × (r .j ≡ 0) → Filling ρ f short count s (r .table) r
 unfolding readLines planOf
 filling-start ρ {f} {short} {count} {s} {r} b z v none =

@@ -232,7 +232,8 @@ module _ (ρ : Rules) {f : Form} {short : Bool} {count : ℕ} {s : List ℕ} (o 
 
       -- a line that is not right is blamed, and otherwise the field
       pub trying-wrong : formed (fieldOf f (asField f short (fieldPart (o .width) from (o .stop) s))) ≡ false → (r : Refusal)
-          → r ≡ misfitOf (o .j + 1) (o .element + i) (rightContent ρ short (o .k * o .width) (part (o .at) (o .at + reach (drop (o .at) s) 1) s)) → C.Refused r ≡ verdictOf (readLines ρ f short count s)
+          → r ≡ misfitOf (o .j + 1) (o .element + i) (rightContent ρ short (o .k * o .width) (part (o .at) (o .at + reach (drop (o .at) s) 1) s)) → C.Refused r ≡ verdictOf
+          (readLines ρ f short count s)
       trying-wrong y r z = by (rightContent ρ short (o .k * o .width) (part (o .at) (o .at + reach (drop (o .at) s) 1) s)) refl
         where
           end : ℕ

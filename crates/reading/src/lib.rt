@@ -155,7 +155,8 @@ fn misfit(
     requires { ⌜ at ≤ length (now lines) ⌝ }
     ensures { λ r. ⌜ r ≡
         misfitOf number element
-        (rightContent rules short columns (part at (at + reach (drop at (now (lines .entry))) 1) (now (lines .entry)))) ⌝ }
+        (rightContent rules short columns
+        (part at (at + reach (drop at (now (lines .entry))) 1) (now (lines .entry)))) ⌝ }
 {
     let end = line::behind_or_end(lines, at, 1);
     match right_content(rules, short, columns, &lines[at..end]) {
@@ -235,7 +236,8 @@ fn check_date(rules: rules::Rules, count: u16, lines: &[u8]) -> Checked
 fn check(rules: rules::Rules, form: Form, group: usize, count: u16, lines: &[u8]) -> Checked
     requires form { ⌜ formOf group ≡ GroupForm.Has form ⌝ }
     requires date { ⌜ (group ≡ 3 → 19 ≤ count) ⌝ }
-    ensures { λ r. ⌜ r ≡ verdictOf (dated group (readLines rules form (mayBeShort group) count (now (lines .entry)))) ⌝ }
+    ensures { λ r. ⌜ r ≡
+        verdictOf (dated group (readLines rules form (mayBeShort group) count (now (lines .entry)))) ⌝ }
 {
     match check_lines(rules, form, may_be_short(group), count, lines) {
         Checked::Refused(r) => Checked::Refused(r),
@@ -394,7 +396,8 @@ fn read_form(
     ensures answer { λ r. ⌜ r ≡
         readingOf (readForm rules form group count (now (lines .entry)) (length (now (table .entry)))) ⌝ }
     ensures table { λ _. ⌜ now (table .exit) ≡
-        tableBy (readForm rules form group count (now (lines .entry)) (length (now (table .entry)))) (now (table .entry)) ⌝ }
+        tableBy (readForm rules form group count (now (lines .entry)) (length (now (table .entry))))
+        (now (table .entry)) ⌝ }
 {
     let cells = form::cells(form, count);
     if table.len() < cells {

@@ -1,5 +1,6 @@
-// The program `rewrite` (R341, R345, R346, R349): standard input is printed again as canonical text, record by record. What a
-// record's text is, and where the next begins, is `sao::rewrite_record`'s; here it is only read, asked for and written.
+// The program `rewrite` (R341, R345, R346, R349): standard input is printed again as canonical text, record by record.
+// What a record's text is, and where the next begins, is `sao::rewrite_record`'s; here it is only read, asked for and
+// written.
 use rewriting::Rewriting;
 ghost use mathlib.Core.Path.{_≡_};
 ghost use lib.ListN.{length};

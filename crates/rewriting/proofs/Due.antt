@@ -147,7 +147,8 @@ module _ (ρ : Rules) (s : List ℕ) (at cells room : ℕ) where
             told = f .told;
           }
 
-      room-by : (n : ℕ) → placingOf ρ s at ≡ P.Placed n → (a b : Bool) → leb (recordBytes (countsAt ρ s at)) room ≡ a → leb (recordCells (countsAt ρ s at)) cells ≡ b → D (rewritingOf ρ s at cells room)
+      room-by : (n : ℕ) → placingOf ρ s at ≡ P.Placed n → (a b : Bool) → leb (recordBytes (countsAt ρ s at)) room ≡ a → leb (recordCells (countsAt ρ s at)) cells ≡ b
+          → D (rewritingOf ρ s at cells room)
       room-by n u true true a b =
           let h : RoomForBoth ρ s at cells room n = record { placed = u; text-fits = leb-true (recordBytes (countsAt ρ s at)) room a; cells-fit = leb-true (recordCells (countsAt ρ s at)) cells b } in
           subst D (sym (roomy-is h)) (turn n h (allInTurn ρ s at) refl)

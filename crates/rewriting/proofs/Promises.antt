@@ -146,7 +146,8 @@ module _ (ρ : Rules) (s : List ℕ) (at : ℕ) (table : List ℤ) where
       has (g - 1) (cellsAt ρ s at) record {
         cells = c;
         each = each;
-        joined = turned (groupRead ρ s at) c 1 60 (g - 1) (omega (arith, d .low, d .high)) (λ h low high. each h low (omega arith)) (λ h q. ap (groupRead ρ s at) (refused-group h q (d .low)) ∙ d .told);
+        joined =
+            turned (groupRead ρ s at) c 1 60 (g - 1) (omega (arith, d .low, d .high)) (λ h low high. each h low (omega arith)) (λ h q. ap (groupRead ρ s at) (refused-group h q (d .low)) ∙ d .told);
       }
     where
       refused-group : (h : ℕ) → h ≡ 1 + (g - 1) → 1 ≤ g → h ≡ g

@@ -126,7 +126,8 @@ module _ (ρ : Rules) (s : List ℕ) (at : ℕ) (old : List ℤ) where
     placed : IsPlaced ρ s at (ready .next)
     placed = is-placed ρ s at (ready .next) (ready .placed)
 
-    more : Tally.Before (countsAt ρ s at) (g + 1) (linesBefore (countsAt ρ s at) g + linesOf f (countOf (countsAt ρ s at) g)) (cellsBefore (countsAt ρ s at) g + cellsOf f (countOf (countsAt ρ s at) g))
+    more : Tally.Before (countsAt ρ s at) (g + 1) (linesBefore (countsAt ρ s at) g + linesOf f (countOf (countsAt ρ s at) g))
+        (cellsBefore (countsAt ρ s at) g + cellsOf f (countOf (countsAt ρ s at) g))
     more = before-more (countsAt ρ s at) g (linesBefore (countsAt ρ s at) g) (cellsBefore (countsAt ρ s at) g) (t .low) few record { lines-are = refl; cells-are = refl } f has
 
     ends : to ≡ start s at (countsAt ρ s at) (g + 1)

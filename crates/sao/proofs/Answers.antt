@@ -45,14 +45,16 @@ place-due κs (ρ, (text, (at, _))) r v l = (as-due ρ .placing (now text) at (r
 
 -- the cells that are due, told and in the table
 pub read-group-due : Gives read_group.ended read_group.Reads.Learnt
-    (λ κs a r v. (c : Cells) × GroupIs.Due (a .0) (now (a .1 .0)) (a .1 .1 .0) (a .1 .1 .1 .0) (length (now (a .1 .1 .1 .1 .0))) c × (r ≡ readingOf c) × (v .1 .1 .1 .1 .0 ≡ tableBy c (now (a .1 .1 .1 .1 .0))))
+    (λ κs a r v. (c : Cells) × GroupIs.Due (a .0) (now (a .1 .0)) (a .1 .1 .0) (a .1 .1 .1 .0) (length (now (a .1 .1 .1 .1 .0))) c × (r ≡ readingOf c) ×
+    (v .1 .1 .1 .1 .0 ≡ tableBy c (now (a .1 .1 .1 .1 .0))))
 read-group-due κs (ρ, (text, (at, (g, (table, _))))) r v l =
     let c = readAt ρ (now text) at g (length (now table)) in
     (c, as-due ρ .reading (now text) at g (length (now table)) c .0 refl, l .0, l .1)
 
 -- where the lines stand
 pub group-lines-at-due : Gives group_lines_at.ended group_lines_at.Reads.Learnt
-    (λ κs a r v. GroupIs.FoundDue (a .0) (now (a .1 .0)) (a .1 .1 .0) (a .1 .1 .1 .0) (r .found) × ((x : List ℕ) × GroupIs.PartDue (a .0) (now (a .1 .0)) (a .1 .1 .0) (a .1 .1 .1 .0) (r .from) x × (r .to ≡ r .from + length x)))
+    (λ κs a r v. GroupIs.FoundDue (a .0) (now (a .1 .0)) (a .1 .1 .0) (a .1 .1 .1 .0) (r .found) ×
+    ((x : List ℕ) × GroupIs.PartDue (a .0) (now (a .1 .0)) (a .1 .1 .0) (a .1 .1 .1 .0) (r .from) x × (r .to ≡ r .from + length x)))
 group-lines-at-due κs (ρ, (text, (at, (g, _)))) r v l =
     let s = now text in (
       as-due ρ .lines s at g (r .found) .0 (sym (l .0)),
@@ -60,7 +62,8 @@ group-lines-at-due κs (ρ, (text, (at, (g, _)))) r v l =
     )
 
 -- the caller's own text there: `from` places behind its address
-pub group-lines-due : Gives group_lines.ended group_lines.Reads.Learnt (λ κs a r v. (from : ℕ) × GroupIs.PartDue (a .0) (now (a .1 .0)) (a .1 .1 .0) (a .1 .1 .1 .0) from (now r) × (r .ptr ≡ moved (a .1 .0 .ptr) from))
+pub group-lines-due : Gives group_lines.ended group_lines.Reads.Learnt
+    (λ κs a r v. (from : ℕ) × GroupIs.PartDue (a .0) (now (a .1 .0)) (a .1 .1 .0) (a .1 .1 .1 .0) from (now r) × (r .ptr ≡ moved (a .1 .0 .ptr) from))
 group-lines-due κs (ρ, (text, (at, (g, _)))) r v l =
     let s = now text in
     (partStart ρ s at g, as-due ρ .part s at g (partStart ρ s at g) (now r) .0 (refl, sym (l .0)), l .1)
@@ -72,7 +75,8 @@ pub write-record-due : Gives write_record.ended write_record.Reads.Learnt
     (λ κs a r v. WritingIs.Due (now (a .0)) (now (a .1 .0)) (length (now (a .1 .1 .0))) r × (v .1 .1 .0 ≡ outputBy (now (a .0)) (now (a .1 .0)) r (now (a .1 .1 .0))))
 write-record-due κs (counts, (cells, (out, _))) r v l = (as-due usual .writing (now counts) (now cells) (length (now out)) r .0 (sym (l .0)), l .1)
 
-pub list-due : Gives list.ended list.Reads.Learnt (λ κs a r v. (x : List ℕ) × IsListing (a .0) (now (a .1 .0)) x × ListingDue x (length (now (a .1 .1 .0))) r × (v .1 .1 .0 ≡ putBytes 0 x (now (a .1 .1 .0))))
+pub list-due : Gives list.ended list.Reads.Learnt
+    (λ κs a r v. (x : List ℕ) × IsListing (a .0) (now (a .1 .0)) x × ListingDue x (length (now (a .1 .1 .0))) r × (v .1 .1 .0 ≡ putBytes 0 x (now (a .1 .1 .0))))
 list-due κs (ρ, (text, (out, _))) r v l =
     let x = listing ρ (now text) in
     (x, as-due ρ .listing-is (now text) x .0 refl, as-due ρ .listed (now text) (length (now out)) r .0 (sym (l .0)), l .1)

@@ -13,7 +13,8 @@ use Rattle.group.proofs.read_group.Statement.{statement}
 use Rattle.group.proofs.read_group.Tie as tie
 
 given : (c : tie.After-span-of)
-    → foundAt (c .before .before .before .before .before .before .before .args .rules) (c .before .before .before .before .before .before .before .args .text .now) (c .before .before .before .before .before .before .before .args .at)
+    → foundAt (c .before .before .before .before .before .before .before .args .rules) (c .before .before .before .before .before .before .before .args .text .now)
+    (c .before .before .before .before .before .before .before .args .at)
     (c .before .before .before .before .before .before .before .args .group) ≡ C.Right
 given c = sym (c .before .before .before .before .before .held-at .ensures .0) ∙ c .before .before .before .enum-told .given .1
 
@@ -34,7 +35,8 @@ part-read-kept-end c = omega (arith, range (c .before) .1)
 read-kept-requires : tie.Need-read-kept-requires
 read-kept-requires c κs =
     let o = c .before .before .before .before .before .before .before .before .before .before in
-    held-kept (o .args .rules) (o .args .text .now) (o .args .at) (o .args .group) (given (c .before .before .before)) _ (c .before .before .before .before .before .before .before .before .held-at .ensures .1)
+    held-kept (o .args .rules) (o .args .text .now) (o .args .at) (o .args .group) (given (c .before .before .before)) _
+    (c .before .before .before .before .before .before .before .before .held-at .ensures .1)
 
 returns : tie.Need-returns
 returns c =

@@ -20,7 +20,8 @@ use Rattle.listing.proofs.listing_end.Statement.{statement}
 use Rattle.listing.proofs.listing_end.Tie as tie
 
 abbrev Inv-loop : tie.InvT-loop
-Inv-loop rules text size a₀ at₀ k₀ t13 t14 a at k = (k ≤ recordsIn rules text) × (at ≡ spot rules text k) × (endIn a (length (linesFrom rules text k)) size ≡ endIn 0 (length (listing rules text)) size)
+Inv-loop rules text size a₀ at₀ k₀ t13 t14 a at k =
+    (k ≤ recordsIn rules text) × (at ≡ spot rules text k) × (endIn a (length (linesFrom rules text k)) size ≡ endIn 0 (length (listing rules text)) size)
 
 abbrev μ-loop : tie.MeasureT-loop
 μ-loop rules text size a₀ at₀ k₀ t13 t14 a at k = suc (recordsIn rules text) - k
@@ -52,10 +53,18 @@ returns c =
     (met-last _ (met (c .before .before .before .before .before)) (not-true _ (c .before .before .before .before .if1 .taken)) (c .before .before .before .end-row .ensures)) (c .row-end .ensures)
 
 add-record-row : tie.Need-add-record-row Inv-loop μ-loop
-add-record-row c = omega (arith, c .before .before .before .before .before .loop .inv .0, records-bytes (c .before .before .before .before .before .before .before .args .rules) (c .before .before .before .before .before .before .before .args .text .now))
+add-record-row c =
+    omega (
+      arith,
+      c .before .before .before .before .before .loop .inv .0,
+      records-bytes (c .before .before .before .before .before .before .before .args .rules)
+          (c .before .before .before .before .before .before .before .args .text .now),
+    )
 
 more : (c : tie.After-record-row Inv-loop μ-loop)
-    → (let l = c .before .before .before .before .before .before .before .loop in More (c .before .before .before .before .before .before .before .before .before .args .rules) (c .before .before .before .before .before .before .before .before .before .args .text .now)
+    →
+    (let l = c .before .before .before .before .before .before .before .loop in More (c .before .before .before .before .before .before .before .before .before .args .rules)
+    (c .before .before .before .before .before .before .before .before .before .args .text .now)
     (l .k) (l .at) (c .record-row .result) (c .before .before .before .before .before .reply-of .result .next))
 more c = met-more _ (met (c .before .before .before .before)) (not-false _ (c .before .before .before .if1 .left)) (c .record-row .ensures)
 

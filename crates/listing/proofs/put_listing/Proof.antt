@@ -48,7 +48,13 @@ returns c =
     (c .before .before .before .before .before .before .end-row .ensures)) (c .before .before .put-row .ensures)
 
 add-record-row : tie.Need-add-record-row Inv-loop μ-loop
-add-record-row c = omega (arith, c .before .before .before .before .before .loop .inv .0, records-bytes (c .before .before .before .before .before .before .before .before .args .rules) (c .before .before .before .before .before .before .before .before .args .text .now))
+add-record-row c =
+    omega (
+      arith,
+      c .before .before .before .before .before .loop .inv .0,
+      records-bytes (c .before .before .before .before .before .before .before .before .args .rules)
+          (c .before .before .before .before .before .before .before .before .args .text .now),
+    )
 
 more : (c : tie.After-record-row Inv-loop μ-loop)
     → (let l = c .before .before .before .before .before .before .before .loop in let o = c .before .before .before .before .before .before .before .before .before .before .args in More (o .rules)

@@ -109,7 +109,8 @@ abbrev index : tie.Else3 → tie.After-known-told2
 index c = c .before .before .before .before .before
 
 -- the counts of the first line
-first-counts : (c : tie.Else3) → StoredCounts (readIndexLine (ruled (index c)) (part (spot (index c)) (second (index c)) (text (index c)))) 0 (replicate 80 0) (c .before .before .store-line .last .1 .1 .0)
+first-counts : (c : tie.Else3)
+    → StoredCounts (readIndexLine (ruled (index c)) (part (spot (index c)) (second (index c)) (text (index c)))) 0 (replicate 80 0) (c .before .before .store-line .last .1 .1 .0)
 first-counts c = stored-counts _ 0 _ _ (not-false _ (c .if3 .left)) (c .before .before .store-line .ensures)
 
 sub-store-line-2 : tie.Need-sub-store-line-2

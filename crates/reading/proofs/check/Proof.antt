@@ -28,7 +28,9 @@ checked c =
     c .check-lines .ensures ∙ ap (λ short. verdictOf (readLines (o .args .rules) (o .args .form) short (o .args .count) (o .args .lines .now))) (c .before .may-be-short .ensures)
 
 -- the lines of group 3, with its form
-letters : (c : tie.Then1) → lines (c .before .before .before) ≡ readLines (start (c .before .before .before) .args .rules) A1 false (start (c .before .before .before) .args .count) (start (c .before .before .before) .args .lines .now)
+letters : (c : tie.Then1)
+    → lines (c .before .before .before) ≡ readLines (start (c .before .before .before) .args .rules) A1 false (start (c .before .before .before) .args .count)
+    (start (c .before .before .before) .args .lines .now)
 letters c =
     let o = start (c .before .before .before) in
     date-lines (o .args .rules) (o .args .group) (o .args .form) (o .args .count) (o .args .lines .now) (o .pre .0) (c .if1 .taken)

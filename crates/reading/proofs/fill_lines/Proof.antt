@@ -67,7 +67,8 @@ add-behind-or-end c =
     omega (arith, seek-small (o .args .rules) (o .args .form) (o .args .count) (o .args .lines .now) walk (k .result) _ (k .ensures) refl (o .args .short) (c .least .result) (c .least .ensures))
 
 -- the table has room for the cells of lines that are clean
-room : (c : tie.Start Inv-loop2 μ-loop2 Inv-loop μ-loop) → length (cellsGot (readLines (c .args .rules) (c .args .form) (c .args .short) (c .args .count) (c .args .lines .now))) ≤ length (c .args .table .now)
+room : (c : tie.Start Inv-loop2 μ-loop2 Inv-loop μ-loop)
+    → length (cellsGot (readLines (c .args .rules) (c .args .form) (c .args .short) (c .args .count) (c .args .lines .now))) ≤ length (c .args .table .now)
 room c = enough-room (c .args .rules) (c .args .form) (c .args .short) (c .args .count) (c .args .lines .now) (c .args .table .now) (c .pre .1 .0) (c .pre .1 .1)
 
 -- ---- a line whose end is known
@@ -140,7 +141,8 @@ AtFields = tie.After-known-told Inv-loop2 μ-loop2 Inv-loop μ-loop
 abbrev line-of : AtFields → AtLine
 line-of c = c .before .before .before .before .before
 
-content : (c : AtFields) → contentOf (start (line-of c) .args .rules) (part (reached (line-of c) .at) (line (line-of c) .end) (start (line-of c) .args .lines .now)) ≡ Length (c .before .n .given .0 .0)
+content : (c : AtFields)
+    → contentOf (start (line-of c) .args .rules) (part (reached (line-of c) .at) (line (line-of c) .end) (start (line-of c) .args .lines .now)) ≡ Length (c .before .n .given .0 .0)
 content c = sym (c .before .before .before .content-length .ensures) ∙ c .before .n .given .1
 
 add-stop : tie.Need-add-stop Inv-loop2 μ-loop2 Inv-loop μ-loop

@@ -16,7 +16,8 @@ use Rattle.reading.proofs.read_form.Tie as tie
 returns : tie.Need-returns
 returns c =
     let o = c .before .before .before in
-    form-none (o .args .rules) (o .args .form) (o .args .group) (o .args .count) (o .args .lines .now) (o .args .table .now) (subst (λ m. length (o .args .table .now) < m) (c .before .cells .ensures) (c .if1 .taken))
+    form-none (o .args .rules) (o .args .form) (o .args .group) (o .args .count) (o .args .lines .now) (o .args .table .now)
+    (subst (λ m. length (o .args .table .now) < m) (c .before .cells .ensures) (c .if1 .taken))
 
 fill-lines-requires : tie.Need-fill-lines-requires
 fill-lines-requires c κs =
@@ -26,7 +27,8 @@ fill-lines-requires c κs =
     let short = c .before .may-be-short .ensures in
     let enough = subst (λ m. m ≤ length (o .args .table .now)) (at-cells .cells .ensures) (at-check .before .if1 .left) in
     let clean =
-    lines-clean (o .args .rules) (o .args .form) (o .args .group) (o .args .count) (o .args .lines .now) (o .args .table .now) enough (sym (at-check .check .ensures) ∙ c .before .before .enum-told .given .1) in
+    lines-clean (o .args .rules) (o .args .form) (o .args .group) (o .args .count) (o .args .lines .now) (o .args .table .now) enough
+    (sym (at-check .check .ensures) ∙ c .before .before .enum-told .given .1) in
     (rw short (short-letters (o .args .group) (o .args .form) (o .pre .0)), (rw short clean, enough))
 
 returns-2 : tie.Need-returns-2

@@ -30,13 +30,15 @@ loop-holds c = (c .before .before .before .pre .0, c .before .before .before .pr
 returns-2 : tie.Need-returns-2 Inv-loop μ-loop
 returns-2 c =
     let t = c .before .before .before .before .before .before .before .before in
-    printing-stop (c .before .before .before .before .before .before .before .before .before .before .before .before .args .rules) (c .before .before .before .before .before .before .before .before .before .before .before .before .args .text .now) (t .loop .at) (t .loop .inv .2)
+    printing-stop (c .before .before .before .before .before .before .before .before .before .before .before .before .args .rules)
+    (c .before .before .before .before .before .before .before .before .before .before .before .before .args .text .now) (t .loop .at) (t .loop .inv .2)
     (t .loop .inv .0) (t .loop .inv .1) _ (c .before .before .before .before .rewrite-record .ensures .0) (omega arith)
     (λ bytes next e. not-first (1 ∷ 2 ∷ []) tt (subst (λ (r : Rewriting). OneOf (1 ∷ 2 ∷ []) (tagOf the-type r)) e (c .match .keys2)))
 
 part-write-all-end : tie.Need-part-write-all-end Inv-loop μ-loop
 part-write-all-end c = let l =
-    printing-room (c .before .before .before .before .before .before .before .before .before .before .before .before .before .before .before .args .rules) (c .before .before .before .before .before .before .before .before .before .before .before .before .before .before .before .args .text .now)
+    printing-room (c .before .before .before .before .before .before .before .before .before .before .before .before .before .before .before .args .rules)
+    (c .before .before .before .before .before .before .before .before .before .before .before .before .before .before .before .args .text .now)
     (c .before .before .before .before .before .before .before .before .before .before .before .loop .at)
     (c .before .before .before .before .before .before .before .before .before .before .before .loop .inv .2)
     (c .before .before .before .before .before .before .before .before .before .before .before .loop .inv .0)
@@ -45,7 +47,8 @@ part-write-all-end c = let l =
 
 loop-less : tie.Need-loop-less Inv-loop μ-loop
 loop-less c = let l =
-    printing-further (c .before .before .before .before .before .before .before .before .before .before .before .before .before .before .before .before .before .args .rules) (c .before .before .before .before .before .before .before .before .before .before .before .before .before .before .before .before .before .args .text .now)
+    printing-further (c .before .before .before .before .before .before .before .before .before .before .before .before .before .before .before .before .before .args .rules)
+    (c .before .before .before .before .before .before .before .before .before .before .before .before .before .before .before .before .before .args .text .now)
     (c .before .before .before .before .before .before .before .before .before .before .before .before .before .loop .at)
     (c .before .before .before .before .before .before .before .before .before .before .before .before .before .loop .inv .2)
     (c .before .before .before .before .before .before .before .before .before .before .before .before .before .loop .inv .0)
@@ -65,7 +68,9 @@ loop-again c =
     )
 
 returns-3 : tie.Need-returns-3 Inv-loop μ-loop
-returns-3 c = printing-ended (c .before .before .before .before .before .args .rules) (c .before .before .before .before .before .args .text .now) (omega arith) (c .before .loop .at) (c .before .loop .inv .2) (omega arith)
+returns-3 c =
+    printing-ended (c .before .before .before .before .before .args .rules) (c .before .before .before .before .before .args .text .now) (omega arith) (c .before .loop .at) (c .before .loop .inv .2)
+    (omega arith)
 
 pub print-text-spec : {M : Type 1} → statement M
 print-text-spec =

@@ -41,7 +41,8 @@ end-is c = rw (c .before .before .before .count-of .ensures) at (ap (λ n. c .be
 
 add-end : tie.Need-add-end Inv-loop μ-loop
 add-end c = let h =
-    turning-ready (c .before .before .before .before .before .before .before .before .before .before .args .rules) (c .before .before .before .before .before .before .before .before .before .before .args .text .now)
+    turning-ready (c .before .before .before .before .before .before .before .before .before .before .args .rules)
+    (c .before .before .before .before .before .before .before .before .before .before .args .text .now)
     (c .before .before .before .before .before .before .before .before .before .before .args .at)
     (c .before .before .before .before .before .before .before .before .before .before .args .table .now) _
     (c .before .before .before .before .before .before .before .before .before .before .pre .0)
