@@ -1,7 +1,7 @@
 // For C: each question of `sao` under a name of its own, in numbers and slices alone. R360: a function answers with the
 // reply's number and writes the eight numbers beside it, in the order of `eightBeside`, into lent memory; those that
-// the reply's row doesn't name are 0. What else is lent is altered as the question of the same name says. R350: what reads
-// a text takes the rules first, as a number of flags. include/seambeacon.h tells a caller in C.
+// the reply's row doesn't name are 0. What else is lent is altered as the question of the same name says. R350: what
+// reads a text takes the rules first, as a number of flags. include/seambeacon.h tells a caller in C.
 use group::Characteristic;
 use reply::Reply;
 use rules::Rules;
