@@ -1,4 +1,4 @@
-/* R9, R350, R414: S with other line ends, under the usual rules and under the strict line end, both asked for by several numbers. S has carriage
+/* R9, R365, R414: S with other line ends, under the usual rules and under the strict line end, both asked for by several numbers. S has carriage
    returns at 120, 242, 272, 293 and 303; what is due where one is missing or a second one stands is by the rules what is due of S, at places that
    are so much nearer or further, or a refusal. */
 #include "line_ends.h"

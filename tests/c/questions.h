@@ -3,7 +3,7 @@
 
 #include "checks.h"
 
-/* R350: numbers that stand for the usual rules, and for the strict line end. */
+/* R365: numbers that stand for the usual rules, and for the strict line end. */
 enum { USUAL, STRICT, RULES, FLAGS = 4 };
 extern const uint32_t flags[RULES][FLAGS];
 

@@ -44,7 +44,7 @@ impl Rules {
         Rules { strict: true }
     }
 
-    /// R350: as the library takes them.
+    /// R365: as the library takes them.
     fn flags(self) -> u32 {
         u32::from(self.strict)
     }

@@ -198,9 +198,8 @@ fn print_records(rules: rules::Rules, text: &[u8], page: &mut [u8]) {
 }
 
 fn main() {
-    let asked = words::given();
+    let asked = words::given(b"dump");
     if !asked.known {
-        words::usage(b"dump");
         return;
     }
     let rules = rules::choose(asked.strict);

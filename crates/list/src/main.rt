@@ -3,9 +3,8 @@
 use decimal::Put;
 
 fn main() {
-    let asked = words::given();
+    let asked = words::given(b"list");
     if !asked.known {
-        words::usage(b"list");
         return;
     }
     let rules = rules::choose(asked.strict);

@@ -30,9 +30,8 @@ fn print_text(rules: rules::Rules, text: &[u8], table: &mut [i64], page: &mut [u
 }
 
 fn main() {
-    let asked = words::given();
+    let asked = words::given(b"rewrite");
     if !asked.known {
-        words::usage(b"rewrite");
         return;
     }
     let rules = rules::choose(asked.strict);

@@ -1,4 +1,4 @@
--- R350: what the flags stand for: 0 the usual rules, 1 the strict line end, and a flag without a meaning nothing at all.
+-- R365: what the flags stand for: 0 the usual rules, 1 the strict line end, and a flag without a meaning nothing at all.
 -- Assumes nothing.
 use mathlib.Core.Path.{_≡_, refl, ap}
 use Prim.Native.Nat.{ℕ, _%_}

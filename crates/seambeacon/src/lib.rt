@@ -1,6 +1,6 @@
 // For C: each question of `sao` under a name of its own, in numbers and slices alone. R360: a function answers with the
 // reply's number and writes the eight numbers beside it, in the order of `eightBeside`, into lent memory; those that
-// the reply's row doesn't name are 0. What else is lent is altered as the question of the same name says. R350: what
+// the reply's row doesn't name are 0. What else is lent is altered as the question of the same name says. R365: what
 // reads a text takes the rules first, as a number of flags. include/seambeacon.h tells a caller in C.
 use group::Characteristic;
 use reply::Reply;
@@ -71,7 +71,7 @@ fn value_of(c: Characteristic) -> i64
     }
 }
 
-// R350: the rules that a number of flags stands for.
+// R365: the rules that a number of flags stands for.
 fn rules_of(flags: u32) -> Rules
     ensures { λ r. ⌜ r ≡ flagged flags ⌝ }
 {

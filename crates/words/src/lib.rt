@@ -1,7 +1,6 @@
-// R349: the words that a program is started with. Which words were known, and what they ask for, is decided here; what
-// the system hands over is not in the contracts.
+// R349: the words that a program is started with: which are known, and what they ask for.
 ghost use mathlib.Core.Path.{_≡_};
-ghost use Rattle.words.specs.Words.{sameBytes, withWord};
+ghost use Rattle.words.specs.Words.{sameBytes, withWord, Told};
 
 // Whether all words so far were known, and what they asked for.
 pub struct Words {
@@ -48,9 +47,12 @@ pub fn with_word(words: Words, word: &[u8]) -> Words
     }
 }
 
-// All words that the program was started with, behind its name. A word that is longer than every known one is read as
-// an empty word, which is none of them.
-pub fn given() -> Words {
+// All words that the program of this name was started with; where one is unknown, how the program is asked is written
+// to standard error. Which words there are is the system's to say: the contract has that the answer is what some words
+// ask for. One that is longer than every known one is read as an empty word, which is none of them.
+pub fn given(program: &[u8]) -> Words
+    ensures { λ r. ⌜ Told r ⌝ }
+{
     let mut words = NONE;
     let mut i: usize = 1;
     let count = os::arg_count();
@@ -60,11 +62,13 @@ pub fn given() -> Words {
         words = with_word(words, &space[0..n]);
         i += 1;
     }
+    if !words.known {
+        usage(program);
+    }
     words
 }
 
-// R349: how the program of this name is asked, on standard error.
-pub fn usage(program: &[u8]) {
+fn usage(program: &[u8]) {
     io::write_all(libc::STDERR_FILENO, b"usage: ");
     io::write_all(libc::STDERR_FILENO, program);
     io::write_all(libc::STDERR_FILENO, b" [--strict] < TEXT\n");

@@ -1,16 +1,31 @@
--- `words::given` is safe and ends: every turn looks at one word more.
+-- `words::given` meets its contract. The invariant: what was found so far is what some words ask for.
 -- Assumes nothing.
 use borrow.Author.Needs.{needs}
-use mathlib.Core.Path.{_≡_}
-use Prim.Native.Nat.{_-_, _≤_}
+use mathlib.Core.Path.{sym, subst}
+use Prim.Native.Nat.{_-_}
+use Rattle.words.specs.Words.{Told}
+use Rattle.words.proofs.Told.{told-none, told-more}
 use Rattle.words.proofs.given.Statement.{statement}
 use Rattle.words.proofs.given.Tie as tie
 
 abbrev Inv-loop : tie.InvT-loop
-Inv-loop words₀ i₀ count words i = Unit {0}
+Inv-loop program words₀ i₀ count words i = Told words
 
 abbrev μ-loop : tie.MeasureT-loop
-μ-loop words₀ i₀ count words i = count - i
+μ-loop program words₀ i₀ count words i = count - i
+
+loop-holds : tie.Need-loop-holds Inv-loop μ-loop
+loop-holds c = told-none
+
+loop-again : tie.Need-loop-again Inv-loop μ-loop
+loop-again c =
+    subst Told (sym (c .with-word .ensures)) (told-more _ _ (c .before .before .before .before .before .before .before .loop .inv))
+
+returns : tie.Need-returns Inv-loop μ-loop
+returns c = c .before .before .before .before .loop .inv
+
+returns-2 : tie.Need-returns-2 Inv-loop μ-loop
+returns-2 c = c .before .before .before .loop .inv
 
 pub given-spec : {M : Type 1} → statement M
 given-spec =
@@ -19,14 +34,16 @@ given-spec =
     Inv-loop
     μ-loop
     (λ c κs. search needs)
-    (λ c. search needs)
-    (λ c. search needs)
-    (λ c κs. search needs)
-    (λ c. search needs)
-    (λ c. search needs)
+    loop-holds
     (λ c. search needs)
     (λ c κs. search needs)
     (λ c. search needs)
     (λ c. search needs)
     (λ c. search needs)
-    (λ c. search needs))
+    (λ c κs. search needs)
+    (λ c. search needs)
+    (λ c. search needs)
+    loop-again
+    (λ c κs. search needs)
+    returns
+    returns-2)
