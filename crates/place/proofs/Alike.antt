@@ -5,16 +5,16 @@ use mathlib.Core.Path.{_≡_, refl, sym, _∙_, ap}
 use mathlib.Core.Bool.{Bool, true, false, cond}
 use mathlib.Core.List.{List}
 use mathlib.Core.Logic.{_↔_, ⊎-elim}
-use Prim.Native.Nat.{ℕ, zero, suc, _+_, _<_, _≤_}
+use Prim.Native.Nat.{ℕ, zero, suc, _+_, _-_, _<_, _≤_}
 use native.Mathlib.Omega.{arith}
 use lib.Dec.{leb, eqb}
-use lib.ListN.{length, drop, getD}
+use lib.ListN.{length, drop}
 use Rattle.rules.specs.declared.Rules.{Rules}
 use Rattle.base.proofs.Order.{le-or-lt}
 use Rattle.line.specs.Alike.{SameLine, Alike, AlikeFrom}
 use Rattle.line.specs.Lines.{feeds, reach, lines, behind}
 use Rattle.line.proofs.Alike.{same-line-told, alike-feeds, alike-sym, alike-behind, alike-lines, alike-first, alike-line, alike-start, alike-from-sym, alike-ends, alike-further}
-use Rattle.count.specs.Tally.{lineTally, linesBefore, recordLines}
+use Rattle.count.specs.Tally.{linesBefore, recordLines}
 use Rattle.count.specs.Rules.{releaseOf, rulingOf}
 use Rattle.count.specs.declared.Release.{Release}
 use Rattle.count.specs.declared.Release.the-variants.{Five, Other, Filled}
@@ -29,7 +29,7 @@ use Rattle.place.specs.Placing.{located, refused, locate, locateIndex, l
 use Rattle.place.specs.Walk.{spot, IsRecord, Stops}
 use Rattle.place.proofs.Placed.{no-record}
 use Rattle.place.proofs.Steps.{locate-end, locate-few, locate-index}
-use Rattle.place.proofs.Tiling.{part-lines}
+use Rattle.place.proofs.Tiling.{part-between}
 use Rattle.place.proofs.Walked.{spot-start, spot-more, spot-stays}
 
 -- what is located at p in s and at q in t: records with the same counts, from whose next places on the texts are alike again; or neither is one,
@@ -144,11 +144,11 @@ module _ (ρ : Rules) where
         by (neither w a b) = b ∙ sym a ∙ e
 
     -- the lines of a group
-    pub alike-part : (ns : List ℕ) (g : ℕ) → g < 61 → Alike ρ (groupPart s p ns g) (groupPart t q ns g)
-    alike-part ns g l =
+    pub alike-part : (ns : List ℕ) (g : ℕ) → Alike ρ (groupPart s p ns g) (groupPart t q ns g)
+    alike-part ns g =
         let j = linesBefore ns g in
-        rw (part-lines s p ns g l, part-lines t q ns g l)
-        (alike-lines ρ (behind j (drop p s)) (behind j (drop q t)) (alike-behind ρ (drop p s) (drop q t) (h .alike) j) (getD (lineTally ns) g 0))
+        rw (part-between s p ns g, part-between t q ns g)
+        (alike-lines ρ (behind j (drop p s)) (behind j (drop q t)) (alike-behind ρ (drop p s) (drop q t) (h .alike) j) (linesBefore ns (suc g) - j))
 
   -- ---- along the walk
 
