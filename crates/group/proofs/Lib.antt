@@ -11,3 +11,4 @@ pub mod Due
 pub mod Numbered
 pub mod Alike
 pub mod Ends
+pub mod TwiceEnds

@@ -14,7 +14,9 @@ use Rattle.line.specs.declared.Content.the-variants.{Length, NoReturn}
 use Rattle.line.proofs.Ends.{strict-content}
 use Rattle.place.specs.Index.{counts, misformed, readIndexContent, readIndexLine, bothLines, readIndex}
 use Rattle.place.specs.Placing.{located, locate, placingBy, countsBy, placingOf, countsAt}
+use Rattle.place.specs.Walk.{PlacedAt}
 use Rattle.place.proofs.Placed.{two-lines, is-located, located-is}
+use Rattle.place.proofs.Stopped.{placed-record}
 
 module _ (σ ρ : Rules) (only : σ .ends ≡ Strict) where
   strict-index-line : (x ns : List ℕ) → readIndexLine σ x ≡ counts ns → readIndexLine ρ x ≡ counts ns
@@ -44,3 +46,11 @@ module _ (σ ρ : Rules) (only : σ .ends ≡ Strict) where
         many = p .many;
         next = p .next;
       }
+
+  -- 0 and 7, with their numbers and counts
+  pub strict-placing : (s : List ℕ) (at : ℕ) → PlacedAt σ s at → (placingOf ρ s at ≡ placingOf σ s at) × (countsAt ρ s at ≡ countsAt σ s at)
+  unfolding placingOf countsAt
+  strict-placing s at p =
+      let r = placed-record σ s at .0 p in
+      let e = strict-located s at (r .next) (r .ns) (r .is) ∙ sym (r .is) in
+      (ap placingBy e, ap countsBy e)

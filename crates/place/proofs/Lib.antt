@@ -14,5 +14,6 @@ pub mod Alike
 pub mod Ends
 pub mod Apart
 pub mod TwiceS
+pub mod TwiceEnds
 pub mod Indexed
 pub mod Stopped
