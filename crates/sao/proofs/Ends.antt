@@ -12,6 +12,7 @@ use Rattle.place.proofs.Ends.{strict-placing}
 use Rattle.group.proofs.Alike.{alike-read, alike-found, alike-given, alike-characteristic}
 use Rattle.group.proofs.Ends.{strict-read, strict-characteristic}
 use Rattle.writing.proofs.Ends.{canonical-same}
+use Rattle.rewriting.proofs.Alike.{alike-rewriting, alike-text, alike-printed}
 use Rattle.rewriting.proofs.Canonical.{right-back}
 use Rattle.sao.specs.Ends.{UnderEither, StrictStays, AnsweredAlike, WalkedAlike, CanonicalStays, LineEndsKept}
 
@@ -34,8 +35,10 @@ line-ends ρ = record {
         lines = alike-found ρ s p t q h;
         part = alike-given ρ s p t q h;
         characteristic = alike-characteristic ρ s p t q h;
+        rewriting = alike-rewriting ρ s p t q h;
+        text = alike-text ρ s p t q h;
       };
-  walk = λ s t h. record { spots = alike-spot ρ s t h; stops = alike-stops ρ s t h };
+  walk = λ s t h. record { spots = alike-spot ρ s t h; stops = alike-stops ρ s t h; prints = alike-printed ρ s t h };
   canonical =
       record {
         reads-back = λ x r a b. right-back ρ r a b;

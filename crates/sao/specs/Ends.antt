@@ -6,7 +6,7 @@ use mathlib.Core.Path.{_≡_}
 use mathlib.Core.Bool.{Bool}
 use mathlib.Core.List.{List, [], _∷_, _++_}
 use mathlib.Core.Logic.{_↔_}
-use Prim.Native.Nat.{ℕ}
+use Prim.Native.Nat.{ℕ, _≤_}
 use lib.IntN.{ℤ}
 use lib.ListN.{length}
 use Rattle.rules.specs.Choice.{strict}
@@ -27,7 +27,10 @@ use Rattle.group.specs.Ends.{SameAnswers}
 use Rattle.group.specs.Held.{foundAt, partAt}
 use Rattle.group.specs.Text.{readAt}
 use Rattle.writing.specs.RoundTrip.{ReadsBack}
+use Rattle.rewriting.specs.Alike.{SameRewriting}
 use Rattle.rewriting.specs.Canonical.{RightRecord}
+use Rattle.rewriting.specs.Printed.{printed}
+use Rattle.rewriting.specs.Record.{rewritingOf, textAt}
 
 -- R9: under either
 pub record UnderEither (ρ : Rules) : Type 0 where
@@ -60,6 +63,9 @@ pub record AnsweredAlike (ρ : Rules) (s : List ℕ) (p : ℕ) (t : List ℕ) (q
   pub lines : (g : ℕ) → foundAt ρ s p g ≡ foundAt ρ t q g
   pub part : (g : ℕ) → Alike ρ (partAt ρ s p g) (partAt ρ t q g)
   pub characteristic : (k : ℕ) → characteristicAt ρ s p k ≡ characteristicAt ρ t q k
+  -- rewriting gives the same reply with its numbers but the next place, and the canonical text is the same: its line ends are those of R101
+  pub rewriting : (cells room : ℕ) → SameRewriting ρ s t (rewritingOf ρ s p cells room) (rewritingOf ρ t q cells room)
+  pub text : textAt ρ s p ≡ textAt ρ t q
 
 -- R9, R254: where whole texts are alike, so is the walk
 pub record WalkedAlike (ρ : Rules) (s t : List ℕ) : Type 0 where
@@ -67,6 +73,8 @@ pub record WalkedAlike (ρ : Rules) (s t : List ℕ) : Type 0 where
   pub spots : (k : ℕ) → AlikeFrom ρ s (spot ρ s k) t (spot ρ t k)
   -- as many records, and the same refusal behind them
   pub stops : (many : ℕ) (r : Refusal) → Stops ρ s many r ↔ Stops ρ t many r
+  -- R341: the rewriting program prints the same for both, where both are within its limit
+  pub prints : length s ≤ 65536 → length t ≤ 65536 → printed ρ s ≡ printed ρ t
 
 -- R9, R101: canonical text ends its lines with a carriage return and a line feed: each rule reads it as what it is
 pub record CanonicalStays (ρ : Rules) : Type 0 where
