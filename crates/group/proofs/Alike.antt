@@ -1,15 +1,13 @@
 -- R9: a group at a place of each of two texts that are alike from there on: whether its lines can be given, what it reads as, and a
 -- characteristic are the same, and its lines have the same contents.
 -- Assumes nothing.
-use mathlib.Core.Path.{_≡_, refl, sym, _∙_, ap}
+use mathlib.Core.Path.{_≡_, refl, sym, _∙_}
 use mathlib.Core.List.{List, []}
-use Prim.Native.Nat.{ℕ, suc, _<_}
-use native.Mathlib.Omega.{arith}
+use Prim.Native.Nat.{ℕ}
 use Rattle.rules.specs.declared.Rules.{Rules}
 use Rattle.form.specs.declared.GroupForm.{GroupForm}
 use Rattle.form.specs.declared.GroupForm.the-variants.{Has, NoGroup as NoForm}
 use Rattle.form.specs.Table.{formOf}
-use Rattle.form.proofs.Table.{form-range}
 use Rattle.line.specs.Alike.{Alike, AlikeFrom}
 use Rattle.line.proofs.Alike.{alike-refl}
 use Rattle.place.specs.declared.Placing.{Placing}
@@ -18,7 +16,6 @@ use Rattle.place.specs.Numbered.{asChecked}
 use Rattle.place.specs.Parts.{groupPart}
 use Rattle.place.specs.Placing.{placingOf, countsAt}
 use Rattle.place.proofs.Alike.{AlikeLocated, both-located, neither, alike-located, alike-placing, alike-counts, alike-part}
-use Rattle.reading.specs.Read.{readGroup}
 use Rattle.reading.proofs.Alike.{alike-group-read}
 use Rattle.reply.specs.declared.Checked.{Checked}
 use Rattle.reply.specs.declared.Checked.the-variants as C

@@ -1,6 +1,6 @@
 -- R9: what the strict rule reads with 0, each rule does: a group with its cells, and a characteristic that is not refused.
 -- Assumes nothing.
-use mathlib.Core.Path.{_≡_, refl, sym, _∙_, ap}
+use mathlib.Core.Path.{_≡_, refl, sym, _∙_}
 use mathlib.Core.Bool.{Bool, true, false, cond, _&&_}
 use mathlib.Core.List.{List}
 use Prim.Native.Nat.{ℕ}
@@ -11,7 +11,7 @@ use Rattle.rules.specs.declared.LineEnds.the-variants.{Strict}
 use Rattle.rules.specs.declared.Rules.{Rules}
 use Rattle.base.specs.Pieces.{done, bad}
 use Rattle.place.specs.Parts.{groupPart}
-use Rattle.place.specs.Placing.{located, locate, countsAt}
+use Rattle.place.specs.Placing.{countsAt}
 use Rattle.place.proofs.Ends.{strict-located}
 use Rattle.place.proofs.Zero.{is-placed}
 use Rattle.reading.specs.Read.{Cells}

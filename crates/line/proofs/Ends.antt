@@ -1,11 +1,11 @@
 -- R9: the rules for line ends against one another. Under `Either` a carriage return before the line feed, or none, gives the same content, and
 -- each line has one. What has a content under the strict rule has the same under each rule.
 -- Assumes nothing.
-use mathlib.Core.Path.{_≡_, refl, sym, _∙_, ap, subst}
+use mathlib.Core.Path.{_≡_, refl, sym, _∙_, ap}
 use mathlib.Core.List.{List, [], _∷_, _++_}
 use Prim.Native.Nat.{ℕ, _-_}
 use native.Mathlib.Omega.{arith}
-use lib.ListN.{length, take, drop, getD, take-append-drop}
+use lib.ListN.{length, take, take-append-drop}
 use Rattle.rules.specs.declared.LineEnds.the-variants.{Strict, Either}
 use Rattle.rules.specs.declared.Rules.{Rules}
 use Rattle.line.specs.Contents.{EndsInReturn, HasContent, returned, alone, contentOf}

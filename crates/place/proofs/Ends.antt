@@ -12,7 +12,7 @@ use Rattle.line.specs.Lines.{lines, behind}
 use Rattle.line.specs.declared.Content.{Content}
 use Rattle.line.specs.declared.Content.the-variants.{Length, NoReturn}
 use Rattle.line.proofs.Ends.{strict-content}
-use Rattle.place.specs.Index.{counts, misformed, readIndexContent, readIndexLine, bothLines, readIndex}
+use Rattle.place.specs.Index.{counts, readIndexContent, readIndexLine, readIndex}
 use Rattle.place.specs.Placing.{located, locate, placingBy, countsBy, placingOf, countsAt}
 use Rattle.place.specs.Walk.{PlacedAt}
 use Rattle.place.proofs.Placed.{two-lines, is-located, located-is}

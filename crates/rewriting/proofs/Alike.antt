@@ -1,7 +1,7 @@
 -- R9: rewriting in texts whose lines have the same contents: the same canonical text, whatever line ends were read, and the same answer but for
 -- the next place. So the program prints the same for whole texts that are alike.
 -- Assumes nothing.
-use mathlib.Core.Path.{_≡_, refl, sym, _∙_, ap, ap₂, fun-ext}
+use mathlib.Core.Path.{_≡_, refl, _∙_, ap, ap₂, fun-ext}
 use mathlib.Core.Bool.{Bool, true, false, cond}
 use mathlib.Core.List.{List, _++_}
 use Prim.Native.Nat.{ℕ, zero, suc, _+_, _≤_}
@@ -19,7 +19,6 @@ use Rattle.place.specs.Alike.{SamePlacing, both-placed, both-broken, both-refus
 use Rattle.place.specs.Numbered.{asChecked, placingReply}
 use Rattle.place.specs.Placing.{placingOf, countsAt}
 use Rattle.place.proofs.Alike.{alike-placing, alike-counts}
-use Rattle.reply.specs.declared.Refusal.{Refusal}
 use Rattle.reply.specs.declared.Refusal.the-variants.{NoRoom, BrokenRule}
 use Rattle.group.specs.Text.{readAt}
 use Rattle.group.proofs.Alike.{alike-read}
@@ -50,12 +49,14 @@ module _ (ρ : Rules) (s : List ℕ) (p : ℕ) (t : List ℕ) (q : ℕ) (h : Ali
     turned ns n m true (bad u) f = both-unread (u .0) (u .1)
     turned ns n m false u f = both-stopped NoRoom
 
+    abbrev placedSo : List ℕ → ℕ → Placing → Rewriting
+    placedSo x at a = unlessRefused (asChecked a) (rewritingPlaced ρ x at cells room (placingReply a .next))
+
     pub alike-rewriting : SameRewriting ρ s t (rewritingOf ρ s p cells room) (rewritingOf ρ t q cells room)
     unfolding rewritingOf
     alike-rewriting = by (placingOf ρ s p) (placingOf ρ t q) (alike-placing ρ s p t q h)
       where
-        by : (a b : Placing) → SamePlacing ρ s t a b
-            → SameRewriting ρ s t (unlessRefused (asChecked a) (rewritingPlaced ρ s p cells room (placingReply a .next))) (unlessRefused (asChecked b) (rewritingPlaced ρ t q cells room (placingReply b .next)))
+        by : (a b : Placing) → SamePlacing ρ s t a b → SameRewriting ρ s t (placedSo s p a) (placedSo t q b)
         by a b (both-placed n m f) = rw (same-counts, same-reads) (turned (countsAt ρ t q) n m (hasRoom (countsAt ρ t q) cells room) (allInTurn ρ t q) f)
         by a b (both-broken g n m f) = both-stopped (BrokenRule g)
         by a b (both-refused r) = both-stopped r

@@ -14,7 +14,7 @@ use Rattle.group.proofs.Ends.{strict-read, strict-characteristic}
 use Rattle.writing.proofs.Ends.{canonical-same}
 use Rattle.rewriting.proofs.Alike.{alike-rewriting, alike-text, alike-printed}
 use Rattle.rewriting.proofs.Canonical.{right-back}
-use Rattle.sao.specs.Ends.{UnderEither, StrictStays, AnsweredAlike, WalkedAlike, CanonicalStays, LineEndsKept}
+use Rattle.sao.specs.Ends.{LineEndsKept}
 
 pub line-ends : (ρ : Rules) → LineEndsKept ρ
 line-ends ρ = record {

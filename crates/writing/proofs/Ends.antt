@@ -9,9 +9,6 @@ use lib.Dec.{leb}
 use lib.IntN.{ℤ}
 use lib.ListN.{length}
 use Rattle.rules.specs.declared.Rules.{Rules}
-use Rattle.form.specs.declared.Form.{Form}
-use Rattle.form.specs.declared.GroupForm.the-variants.{Has}
-use Rattle.form.specs.Table.{formOf}
 use Rattle.form.proofs.Table.{form-range}
 use Rattle.count.specs.Rules.{releaseOf}
 use Rattle.count.specs.declared.Release.the-variants.{Five}
