@@ -14,6 +14,7 @@ use Rattle.base.specs.Part.{part}
 use Rattle.base.specs.Pieces.{done, bad}
 use Rattle.form.specs.declared.Form.the-variants.{F8}
 use Rattle.form.specs.Table
+use Rattle.line.specs.Alike
 use Rattle.line.specs.Lines.{isFeed}
 use Rattle.count.specs.Rules
 use Rattle.place.specs.Parts.{start, groupPart}
@@ -43,7 +44,7 @@ unfoldable pub commaS : List ℕ
 commaS = set twiceS 299 44
 
 comma-line : part 295 305 commaS ≡ quotedLine "   7,250"
-unfolding commaS RecordS.recordS RecordS.twiceS
+unfolding commaS RecordS.recordS RecordS.twiceS Alike.endedBy
 comma-line = refl
 
 -- ---- group 4 of a record with S's counts, into a table with room

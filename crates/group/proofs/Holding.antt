@@ -1,8 +1,8 @@
 -- Whether a group can be asked about at a place, the counts of its record, and its lines as a part of the text: when they can be given,
 -- where they begin, and that they are the group's lines.
 -- Assumes nothing.
-use mathlib.Core.Path.{_≡_, refl, _∙_, ap}
-use mathlib.Core.List.{List}
+use mathlib.Core.Path.{_≡_, refl, sym, _∙_, ap}
+use mathlib.Core.List.{List, []}
 use Prim.Native.Nat.{ℕ, suc, _+_, _-_, _≤_}
 use native.Mathlib.Nat.{add-comm}
 use native.Mathlib.Numerals.{add-one}
@@ -10,6 +10,7 @@ use native.Mathlib.Omega.{arith}
 use lib.ListN.{length, getD, replicate, drop, length-take, length-drop}
 use Rattle.rules.specs.declared.Rules.{Rules}
 use Rattle.base.specs.Part.{part}
+use Rattle.base.proofs.Taken.{take-none, part-zero}
 use Rattle.form.specs.declared.Form.{Form}
 use Rattle.form.specs.declared.GroupForm.{GroupForm}
 use Rattle.form.specs.declared.GroupForm.the-variants.{Has, NoGroup as NoForm}
@@ -115,6 +116,9 @@ module _ (ρ : Rules) (s : List ℕ) (at g : ℕ) where
   pub missing-span : {r : Refusal} → foundAt ρ s at g ≡ C.Refused r → (0 ≡ partStart ρ s at g) × (0 ≡ partEnd ρ s at g)
   unfolding partStart partEnd
   missing-span e = rw e (refl, refl)
+
+  pub missing-part : {r : Refusal} → foundAt ρ s at g ≡ C.Refused r → partAt ρ s at g ≡ []
+  missing-part e = let z = missing-span e in sym (span-part 0 0 z) ∙ part-zero 0 s ∙ take-none s
 
   -- the part lies in the text, whether there are lines or not
   pub span-range : (partStart ρ s at g ≤ partEnd ρ s at g) × (partEnd ρ s at g ≤ length s)

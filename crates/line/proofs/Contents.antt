@@ -192,7 +192,7 @@ module _ (ρ : Rules) where
 
 -- ---- by places, as the code looks
 
-last-one : (x : List ℕ) → 1 ≤ length x → drop (length x - 1) x ≡ getD x (length x - 1) 0 ∷ []
+pub last-one : (x : List ℕ) → 1 ≤ length x → drop (length x - 1) x ≡ getD x (length x - 1) 0 ∷ []
 last-one x h = drop-cons x (length x - 1) 0 (omega arith) ∙ ap (λ y. getD x (length x - 1) 0 ∷ y) (drop-of-length-le x {i = suc (length x - 1)} (omega arith))
 
 last-two : (x : List ℕ) → 2 ≤ length x → drop (length x - 2) x ≡ getD x (length x - 2) 0 ∷ getD x (length x - 1) 0 ∷ []

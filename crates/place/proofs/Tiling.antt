@@ -40,17 +40,23 @@ module _ (s : List ℕ) (at : ℕ) (ns : List ℕ) where
   unfolding start
   start-after g = omega arith
 
-  -- the part of group g is its lines, behind those before it
-  pub part-lines : (g : ℕ) → g < 61 → groupPart s at ns g ≡ lines (getD (lineTally ns) g 0) (behind (linesBefore ns g) (drop at s))
+  -- the part of group g is the lines between those before it and those before the next
+  pub part-between : (g : ℕ) → groupPart s at ns g ≡ lines (linesBefore ns (suc g) - linesBefore ns g) (behind (linesBefore ns g) (drop at s))
   unfolding groupPart start
-  part-lines g h =
+  part-between g =
       let j = linesBefore ns g in
-      let k = getD (lineTally ns) g 0 in
+      let k = linesBefore ns (suc g) - j in
       let xs = drop at s in
-      let e : linesBefore ns (suc g) ≡ j + k = lines-more ns g h in
+      let e : linesBefore ns (suc g) ≡ j + k = omega (arith, lines-below ns g (suc g) (omega arith)) in
       let r : reach xs (linesBefore ns (suc g)) ≡ reach xs j + reach (behind j xs) k = ap (reach xs) e ∙ reach-add xs j k in
       let w : at + reach xs (linesBefore ns (suc g)) - (at + reach xs j) ≡ reach (behind j xs) k = omega arith in
       rw (w, ← drop-drop (reach xs j) at s)
+
+  -- which are its own
+  pub part-lines : (g : ℕ) → g < 61 → groupPart s at ns g ≡ lines (getD (lineTally ns) g 0) (behind (linesBefore ns g) (drop at s))
+  part-lines g h =
+      let e : linesBefore ns (suc g) - linesBefore ns g ≡ getD (lineTally ns) g 0 = omega (arith, lines-more ns g h) in
+      part-between g ∙ ap (λ k. lines k (behind (linesBefore ns g) (drop at s))) e
 
   -- ---- and is the only part that follows them
 

@@ -11,6 +11,7 @@ use Rattle.base.specs.Sum
 use Rattle.form.specs.Count
 use Rattle.form.specs.Table
 use Rattle.field.specs.Entry
+use Rattle.line.specs.Alike
 use Rattle.line.specs.Contents
 use Rattle.line.specs.Lines
 use Rattle.count.specs.Rules
@@ -38,7 +39,7 @@ pub record Twice (ρ : Rules) : Type 0 where
   pub point : getD twiceS 299 0 ≡ 46
 
 pub twice : (ρ : Rules) → Twice ρ
-unfolding recordS twiceS countsS locate readIndex readIndexLine readEntries Entry.entryOf start groupPart Lines.feeds Lines.reach Contents.contentOf
+unfolding recordS twiceS countsS Alike.endedBy locate readIndex readIndexLine readEntries Entry.entryOf start groupPart Lines.feeds Lines.reach Contents.contentOf
     Tally.linesIn Tally.lineTally Tally.linesBefore Sum.sum Every.upFrom Table.rowOf Table.listedAs Table.formAmong Table.formOf Count.linesOf Count.roundedUp
     Count.elementsOf Rules.releaseOf Rules.filledAmong
 twice ρ = record {

@@ -45,30 +45,31 @@ module _ (ρ : Rules) {x : List ℕ} (r : RightRecord x) (a b : List ℕ) where
   abbrev here : List ℕ
   here = a ++ (x ++ b)
 
-  back : ReadsBack ρ (r .ns) (r .cs) (length x) here (length a)
-  back = canonical-back ρ (r .canonical) (release-given (r .ns) Five (r .release))
+  -- it reads back
+  pub right-back : ReadsBack ρ (r .ns) (r .cs) (length x) here (length a)
+  right-back = canonical-back ρ (r .canonical) (release-given (r .ns) Five (r .release))
       (kept-ruling (r .ns) (r .rules)) record { date = r .date; right = Letters.first-due (dateLetters (r .ns) (r .cs)) (Right (r .date)) .1 (r .dated) } a b
 
   reads : (g : ℕ) → 1 ≤ g → g ≤ 60 → groupRead ρ here (length a) g ≡ done (groupCells (r .ns) (r .cs) g)
-  reads g low high = back .groups g (cellsIn (countsAt ρ here (length a)) g) low high (rw (back .counts) (omega arith))
+  reads g low high = right-back .groups g (cellsIn (countsAt ρ here (length a)) g) low high (rw (right-back .counts) (omega arith))
 
   all : All ≡ groupsOf (allInTurn ρ here (length a))
   all = sym (ap groupsOf (turn-all (groupRead ρ here (length a)) (λ g low high. record { cells = groupCells (r .ns) (r .cs) g; is = reads g low high }) .is))
 
   stands : CanonicalRecord (countsAt ρ here (length a)) (part (length a) (length a + length x) here) (r .cs)
-  stands = rw (back .counts, part-middle a x b) (r .canonical)
+  stands = rw (right-back .counts, part-middle a x b) (r .canonical)
 
   read : ReadWhole ρ here (length a) (length a + length x) (cellsOfGroup (groupRead ρ here (length a)))
-  read = whole-read ρ here (length a) (length a + length x) (back .placed) all
+  read = whole-read ρ here (length a) (length a + length x) (right-back .placed) all
 
   pub right-text : textAt ρ here (length a) ≡ x
-  right-text = ap (recordText (countsAt ρ here (length a))) (whole-joined ρ here (length a) (length a + length x) (back .placed) all) ∙ written-again ρ read stands ∙ part-middle a x b
+  right-text = ap (recordText (countsAt ρ here (length a))) (whole-joined ρ here (length a) (length a + length x) (right-back .placed) all) ∙ written-again ρ read stands ∙ part-middle a x b
 
   pub right-rewritten : length x ≤ 8192 → programRewriting ρ here (length a) ≡ Done (length x) (length a + length x)
   right-rewritten l =
       let n : recordBytes (countsAt ρ here (length a)) ≡ length x = again-bytes ρ read stands ∙ omega arith in
       first-due ρ here (length a) 8192 8192 (Done (length x) (length a + length x)) .1 record {
-        roomy = record { placed = back .placed; text-fits = omega (arith, n); cells-fit = omega (arith, n, record-cells (countsAt ρ here (length a))) };
+        roomy = record { placed = right-back .placed; text-fits = omega (arith, n); cells-fit = omega (arith, n, record-cells (countsAt ρ here (length a))) };
         groups = λ g low high. record { cells = groupCells (r .ns) (r .cs) g; reads = reads g low high };
         written = n;
       }
