@@ -1,3 +1,3 @@
--- Words that are the same (Same), and what words ask for (Told).
+-- Words that are the same (Same), and what words ask for (Asked).
 pub mod Same
-pub mod Told
+pub mod Asked

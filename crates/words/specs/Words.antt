@@ -26,6 +26,6 @@ withWords w [] = w
 withWords w (x ∷ xs) = withWords (withWord w x) xs
 
 -- what some words ask for
-pub record Told (w : Words) : Type 0 where
+pub record AskedFor (w : Words) : Type 0 where
   pub words : List (List ℕ)
   pub told : w ≡ withWords none words

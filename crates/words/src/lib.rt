@@ -1,6 +1,6 @@
 // R349: the words that a program is started with: which are known, and what they ask for.
 ghost use mathlib.Core.Path.{_≡_};
-ghost use Rattle.words.specs.Words.{sameBytes, withWord, Told};
+ghost use Rattle.words.specs.Words.{sameBytes, withWord, AskedFor};
 
 // Whether all words so far were known, and what they asked for.
 pub struct Words {
@@ -51,7 +51,7 @@ pub fn with_word(words: Words, word: &[u8]) -> Words
 // to standard error. Which words there are is the system's to say: the contract has that the answer is what some words
 // ask for. One that is longer than every known one is read as an empty word, which is none of them.
 pub fn given(program: &[u8]) -> Words
-    ensures { λ r. ⌜ Told r ⌝ }
+    ensures { λ r. ⌜ AskedFor r ⌝ }
 {
     let mut words = NONE;
     let mut i: usize = 1;

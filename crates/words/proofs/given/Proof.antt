@@ -3,23 +3,23 @@
 use borrow.Author.Needs.{needs}
 use mathlib.Core.Path.{sym, subst}
 use Prim.Native.Nat.{_-_}
-use Rattle.words.specs.Words.{Told}
-use Rattle.words.proofs.Told.{told-none, told-more}
+use Rattle.words.specs.Words.{AskedFor}
+use Rattle.words.proofs.Asked.{asked-none, asked-more}
 use Rattle.words.proofs.given.Statement.{statement}
 use Rattle.words.proofs.given.Tie as tie
 
 abbrev Inv-loop : tie.InvT-loop
-Inv-loop program words₀ i₀ count words i = Told words
+Inv-loop program words₀ i₀ count words i = AskedFor words
 
 abbrev μ-loop : tie.MeasureT-loop
 μ-loop program words₀ i₀ count words i = count - i
 
 loop-holds : tie.Need-loop-holds Inv-loop μ-loop
-loop-holds c = told-none
+loop-holds c = asked-none
 
 loop-again : tie.Need-loop-again Inv-loop μ-loop
 loop-again c =
-    subst Told (sym (c .with-word .ensures)) (told-more _ _ (c .before .before .before .before .before .before .before .loop .inv))
+    subst AskedFor (sym (c .with-word .ensures)) (asked-more _ _ (c .before .before .before .before .before .before .before .loop .inv))
 
 returns : tie.Need-returns Inv-loop μ-loop
 returns c = c .before .before .before .before .loop .inv

@@ -4,16 +4,16 @@ use mathlib.Core.Path.{_≡_, refl, _∙_, ap, sym}
 use mathlib.Core.List.{List, [], _∷_, _++_}
 use Prim.Native.Nat.{ℕ}
 use Rattle.words.specs.declared.Words.{Words}
-use Rattle.words.specs.Words.{none, withWord, withWords, Told}
+use Rattle.words.specs.Words.{none, withWord, withWords, AskedFor}
 
 words-more : (w : Words) (xs : List (List ℕ)) (x : List ℕ) → withWords w (xs ++ (x ∷ [])) ≡ withWord (withWords w xs) x
 unfolding withWords
 words-more w [] x = refl
 words-more w (y ∷ ys) x = words-more (withWord w y) ys x
 
-pub told-none : Told none
+pub asked-none : AskedFor none
 unfolding withWords
-told-none = record { words = []; told = refl }
+asked-none = record { words = []; told = refl }
 
-pub told-more : (w : Words) (x : List ℕ) → Told w → Told (withWord w x)
-told-more w x t = record { words = t .words ++ (x ∷ []); told = ap (λ v. withWord v x) (t .told) ∙ sym (words-more none (t .words) x) }
+pub asked-more : (w : Words) (x : List ℕ) → AskedFor w → AskedFor (withWord w x)
+asked-more w x t = record { words = t .words ++ (x ∷ []); told = ap (λ v. withWord v x) (t .told) ∙ sym (words-more none (t .words) x) }
