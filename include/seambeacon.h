@@ -1,9 +1,9 @@
 /* Seambeacon: places, reads and writes SAO 4.3 records, and keeps a journal of edits.
    Link target/staticlib/libseambeacon.a (`rt staticlib seambeacon`), x86-64.
 
-   Whatever text, place, number, table, output and journal a function is given, it ends and returns
-   one of the replies below; nothing has to be checked before a call. R with a number is a rule of
-   docs/FORMAT.md.
+   Whatever rules, text, place, number, table, output and journal a function is given, it ends and
+   returns one of the replies below; nothing has to be checked before a call. R with a number is a
+   rule of docs/FORMAT.md.
 
    What a caller answers for:
    - A pointer with a length behind it is valid for that many of what it points to; with length 0
@@ -30,6 +30,17 @@
 extern "C" {
 #endif
 
+/* The rules by which a text is read: each function that reads one takes them first, as the sum of
+   these flags. With 0 the usual rules hold: a line ends with a line feed, and a carriage return
+   that stands directly before it belongs to the line end too; lines of both kinds may stand in one
+   text. Any other carriage return is a byte of the line like others. A flag without a meaning is
+   ignored (R365). */
+enum seambeacon_rules {
+    /* the strict line end: the carriage return before the line feed has to be there; a line
+       without it is refused, with 4 in the index and with 8 in a group */
+    SEAMBEACON_STRICT = 1
+};
+
 /* The replies (reply n is R200 + n), each with the numbers that are given beside it. */
 enum seambeacon_reply {
     /* done: the next place in placing and rewriting, the cells or bytes written in all that
@@ -41,8 +52,8 @@ enum seambeacon_reply {
     SEAMBEACON_BEYOND = 2,
     /* from the place on there are fewer line feeds than the record has lines */
     SEAMBEACON_TOO_FEW_LINES = 3,
-    /* an index line or an entry is misformed; where counts are given, they are not 80 or one is
-       above 999 */
+    /* an index line or an entry is misformed or, under SEAMBEACON_STRICT, an index line lacks its
+       carriage return; where counts are given, they are not 80 or one is above 999 */
     SEAMBEACON_MISFORMED = 4,
     /* the release, number 80 of the index, is not 5 */
     SEAMBEACON_OTHER_RELEASE = 5,
@@ -50,8 +61,8 @@ enum seambeacon_reply {
     SEAMBEACON_FILLED_VACANT = 6,
     /* a rule on counts is broken: the group blamed, and in placing the next place */
     SEAMBEACON_BROKEN_RULE = 7,
-    /* a data line lacks its carriage return, has a wrong length, or something else than blanks
-       behind its fields: the line */
+    /* a data line has a wrong length, something else than blanks behind its fields or, under
+       SEAMBEACON_STRICT, no carriage return at its end: the line */
     SEAMBEACON_BAD_LINE = 8,
     /* a field is misformed: its line and its element */
     SEAMBEACON_BAD_FIELD = 9,
@@ -83,8 +94,8 @@ enum seambeacon_kind {
     SEAMBEACON_REFUSED = 3       /* the reply says why */
 };
 
-/* The library has both enums as 32 bits. A compiler told to make them otherwise (-fshort-enums) is
-   refused here. */
+/* The library has replies and kinds as 32 bits. A compiler told to make these enums otherwise
+   (-fshort-enums) is refused here. */
 typedef char seambeacon_enums_have_32_bits
     [sizeof(enum seambeacon_reply) == 4 && sizeof(enum seambeacon_kind) == 4 ? 1 : -1];
 
@@ -111,8 +122,9 @@ struct seambeacon_part {
    Answered: 0 or 7 with the next place, from which a walk goes on; counts has the record's 80
    counts, group g's as counts[g - 1].
    Another refusal (1 to 6) leaves 80 zeros in counts. */
-enum seambeacon_reply seambeacon_place(const uint8_t *text, size_t text_length, size_t at,
-                                       uint16_t counts[80], struct seambeacon_beside *beside);
+enum seambeacon_reply seambeacon_place(uint32_t rules, const uint8_t *text, size_t text_length,
+                                       size_t at, uint16_t counts[80],
+                                       struct seambeacon_beside *beside);
 
 /* Asked: the cells of a group, 1 to 60, of the record at a place.
    Answered: 0 with the number of cells, which stand in the table from its first cell on; what
@@ -121,8 +133,9 @@ enum seambeacon_reply seambeacon_place(const uint8_t *text, size_t text_length, 
    1,998 cells.
    A refusal (12, a placing reply but 0, 11, 8, 9, 10, in this order) leaves the whole table as it
    was; of 7 it gives the group, without a next place. */
-enum seambeacon_reply seambeacon_read_group(const uint8_t *text, size_t text_length, size_t at,
-                                            size_t group, int64_t *table, size_t table_length,
+enum seambeacon_reply seambeacon_read_group(uint32_t rules, const uint8_t *text,
+                                            size_t text_length, size_t at, size_t group,
+                                            int64_t *table, size_t table_length,
                                             struct seambeacon_beside *beside);
 
 /* Asked: the lines of a group of the record at a place, with their line ends.
@@ -130,17 +143,19 @@ enum seambeacon_reply seambeacon_read_group(const uint8_t *text, size_t text_len
    on. With count 0 the part is empty, and lies where the lines would be (R282).
    A refusal (12, or a placing reply but 0, of 7 without a next place) gives the empty part at
    place 0 (R283). */
-enum seambeacon_reply seambeacon_group_lines(const uint8_t *text, size_t text_length, size_t at,
-                                             size_t group, struct seambeacon_part *part,
+enum seambeacon_reply seambeacon_group_lines(uint32_t rules, const uint8_t *text,
+                                             size_t text_length, size_t at, size_t group,
+                                             struct seambeacon_part *part,
                                              struct seambeacon_beside *beside);
 
 /* Asked: a characteristic, 1 to 49, of the record at a place.
    Answered: under reply 0 its kind, and in *value its value in thousandths, 0 for the other
    kinds. Frequencies are 1, 2, 4 to 10, 22, 23, 25, 27 to 31, 35, 36, 44, 46 and 48 (R295).
    A refusal (12, or the reply of reading group 4) has the kind SEAMBEACON_REFUSED. */
-enum seambeacon_reply seambeacon_characteristic(const uint8_t *text, size_t text_length, size_t at,
-                                                size_t number, enum seambeacon_kind *kind,
-                                                int64_t *value, struct seambeacon_beside *beside);
+enum seambeacon_reply seambeacon_characteristic(uint32_t rules, const uint8_t *text,
+                                                size_t text_length, size_t at, size_t number,
+                                                enum seambeacon_kind *kind, int64_t *value,
+                                                struct seambeacon_beside *beside);
 
 /* Asked: to write a record of these counts, which are 80, and of all its cells in group order.
    Answered: 0 with the number of bytes of its canonical text, which stand in out from its first
@@ -157,8 +172,9 @@ enum seambeacon_reply seambeacon_write_record(const uint16_t *counts, size_t cou
    Answered: 0 with the number of bytes, which stand in out from its first byte on; what stands
    behind them is kept. A text of any length is listed.
    A refusal (11) leaves the whole output as it was. */
-enum seambeacon_reply seambeacon_list(const uint8_t *text, size_t text_length, uint8_t *out,
-                                      size_t out_length, struct seambeacon_beside *beside);
+enum seambeacon_reply seambeacon_list(uint32_t rules, const uint8_t *text, size_t text_length,
+                                      uint8_t *out, size_t out_length,
+                                      struct seambeacon_beside *beside);
 
 /* Asked: to rewrite the record at a place as canonical text. The table is room for the record's
    cells; as many cells as the output has bytes are always enough.
@@ -168,8 +184,9 @@ enum seambeacon_reply seambeacon_list(const uint8_t *text, size_t text_length, u
    A refusal (a placing reply but 0, 11, or the first reply but 0 of reading groups 1 to 60)
    leaves the whole output as it was. *unread is the group that could not be read, or 0 where
    none was tried; the table has the cells of the groups before it, and is otherwise as it was. */
-enum seambeacon_reply seambeacon_rewrite_record(const uint8_t *text, size_t text_length, size_t at,
-                                                int64_t *table, size_t table_length, uint8_t *out,
+enum seambeacon_reply seambeacon_rewrite_record(uint32_t rules, const uint8_t *text,
+                                                size_t text_length, size_t at, int64_t *table,
+                                                size_t table_length, uint8_t *out,
                                                 size_t out_length, size_t *unread,
                                                 struct seambeacon_beside *beside);
 

@@ -1,7 +1,8 @@
 #!/bin/sh
-# The library from C: include/seambeacon.h compiles alone as C and as C++, and the program of tests/c asks every question on record S, S twice
-# and damaged texts, every month and day of seven years, every line of tests/vectors/writes.txt and every answer of the texts of tests/vectors
-# (or of the folder that is named), and compares all lent memory. The program counts its checks; so many are demanded that none of its parts can
+# The library from C: include/seambeacon.h compiles alone as C and as C++, and the program of tests/c asks every question on record S, S twice,
+# damaged texts and texts with other line ends, by several numbers for the rules, every month and day of seven years, every line of
+# tests/vectors/writes.txt and, by both rules for line ends, every answer of the texts of tests/vectors, or of the folder that is named
+# (`tests/c.sh FOLDER [--strict]`), and compares all lent memory. The program counts its checks; so many are demanded that none of its parts can
 # be left out. examples/fof2.c prints a value below zero too.
 set -u
 cd "$(dirname "$0")/.." || exit 2
@@ -27,23 +28,37 @@ done
 rm -f "$work/alone.o"
 counted 'the program is linked' linked "$work/main" "$work"/*.o
 
+held() { # OF LEAST WORD..: the program's checks hold; over the project's own vectors there are at least so many
+    of=$1
+    least=$2
+    shift 2
+    started "$work/main" "$@" >"$work/said"
+    counted "$of: every check of the program" [ "$?" = 0 ] || head -n 21 "$work/said"
+    last=$(tail -n 1 "$work/said")
+    echo "$name: $of: $last"
+    made=${last%% checks,*}
+    ! own || counted "$of: as many checks as there are" [ "${made:-0}" -ge "$least" ]
+}
+
+writes=$vectors/writes.txt
+own || [ -e "$writes" ] || writes=/dev/null # a folder of texts alone
+held 'record S, line ends, dates and writing' 36374 answers "$writes"
+
 counted 'there are texts' texts
 set --
 for text in "$vectors"/*.sao; do
-    set -- "$@" "${text%.sao}"
+    for ruled in $rules; do
+        list=$(answer_of "$text" "$ruled" list)
+        rewrite=$(answer_of "$text" "$ruled" rewrite)
+        dump=$(answer_of "$text" "$ruled" dump)
+        [ -z "$list" ] || [ -z "$rewrite" ] || [ -z "$dump" ] || set -- "$@" "$ruled" "$text" "$list" "$rewrite" "$dump"
+    done
 done
-writes=$vectors/writes.txt
-own || [ -e "$writes" ] || writes=/dev/null # a folder of texts alone
-started "$work/main" answers "$writes" "$@" >"$work/said"
-counted 'every check of the program' [ "$?" = 0 ] || head -n 21 "$work/said"
-last=$(tail -n 1 "$work/said")
-echo "$name: $last"
-made=${last%% checks,*}
-! own || counted 'as many checks as there are' [ "${made:-0}" -ge 115815 ]
+held 'texts' 201398 texts "$@"
 
 counted 'the example' compiled examples/fof2.c "$work/fof2.o" -std=c99 && linked "$work/fof2" "$work/fof2.o"
 below_zero >"$work/below"
 started "$work/fof2" <"$work/below" >"$work/got"
 below_zero_due >"$work/want"
 compared 'values below zero' "$work/want"
-finished 19
+finished 23

@@ -1,7 +1,7 @@
 #!/bin/sh
 # The example day and its damaged copy: rewriting returns the day byte for byte, both are listed alike, and one byte that was replaced in a
 # trace is seen in the row of one group alone. Where that group stands, which line and element are refused and what foF2 was are cut out of the
-# text's fixed columns here (R41, R61, R140); one hour has no foF2 (R291). Prints each case that fails, and how many passed.
+# text's fixed columns here (R41, R61, R140); one hour has no foF2 (R291). Without its carriage returns the day answers as before (R9). Prints each case that fails, and how many passed.
 set -u
 LC_ALL=C
 export LC_ALL
@@ -86,6 +86,26 @@ awk -v taken="$work/taken" '{
 counted 'blanks were taken in each record' [ "$(sort -u "$work/taken" | wc -l)" -eq 24 ]
 ./run rewrite <"$work/stripped" >"$work/got"
 compared 'the day, stripped and rewritten' "$day"
+
+# R9: the day without its carriage returns answers as the day, places aside, and comes back with them; strict it has no record
+tr -d '\r' <"$day" >"$work/lean"
+counted 'a carriage return was taken from each line' [ "$(($(wc -c <"$day") - $(wc -c <"$work/lean")))" -eq "$(wc -l <"$day")" ]
+placeless() { # what was dumped, without places
+    awk '$1 == "record" { $2 = $4 = "" } $1 == "group" { $6 = $7 = "" } $1 == "stop" { $2 = "" } { print }' "$1"
+}
+placeless "$work/day.dump" >"$work/want"
+./run dump <"$work/lean" >"$work/lean.dump"
+placeless "$work/lean.dump" >"$work/got"
+compared 'the day without carriage returns, dumped' "$work/want"
+./run rewrite <"$work/lean" >"$work/got"
+compared 'the day without carriage returns, rewritten' "$day"
+./run dump --strict <"$day" >"$work/got"
+compared 'the day, strict' "$work/day.dump"
+./run rewrite --strict <"$work/lean" >"$work/got"
+counted 'the day without carriage returns, rewritten strict' [ ! -s "$work/got" ]
+./run list --strict <"$work/lean" >"$work/got"
+echo 'end 0 0 4 0' >"$work/want"
+compared 'the day without carriage returns, listed strict' "$work/want"
 
 # a row for each record: its place, the next place, reply 0, 15 groups with a count, its lines; at the end 24 records and reply 1
 awk '
@@ -193,4 +213,4 @@ counted 'a Doppler number of the table for each echo, 9 for each interpolated po
 counted 'profile heights rise' sound 'rising(51)'
 counted 'plasma frequencies rise' sound 'rising(52)'
 counted 'the profile ends at foF2 and the peak height' sound 'cell[52, n[52]] == peak() && cell[51, n[51]] == cell[4, 32]'
-finished 36
+finished 42

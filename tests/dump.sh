@@ -1,6 +1,6 @@
 #!/bin/sh
-# The test program dump: every answer about every text of tests/vectors, or of the folder that is named, and about 65,536 bytes; and damage by
-# running (D3.2 to D3.7): bytes of one group's lines are replaced in each text that has such lines; then only that group's row may differ, and
+# The test program dump: every answer about every text of tests/vectors, or of the folder that is named (`tests/dump.sh FOLDER [--strict]`), under
+# both rules for line ends, and about 65,536 bytes; and damage by running (D3.2 to D3.7): bytes of one group's lines are replaced in each text that has such lines; then only that group's row may differ, and
 # for group 4 the characteristics of that record. Which bytes are replaced by what is drawn from a fixed seed, and is the same in each run.
 # Prints each case that fails, and how many passed.
 set -u
@@ -11,10 +11,8 @@ name=dump
 chosen "$@"
 
 counted 'there are texts' texts
-for text in "$vectors"/*.sao; do
-    ./run dump <"$text" >"$work/got"
-    compared "$text" "${text%.sao}.dump"
-done
+answered dump dump
+refuses_words dump
 
 # 65,536 bytes, the last of them the end of the last record. Of each record: its counts, the cells of groups 1, 3 and 4, and one characteristic.
 limit_text 281 >"$work/text"
@@ -64,8 +62,9 @@ sized '65,537 bytes' "$work/text" 65537
 compared '65,537 bytes' "$work/want"
 
 # R411, R412: S with blanks behind the field of its last line, up to 120 bytes and one more; R414: with a blank for its last carriage return
-row() { # CASE EXPECTED: the row of group 4 of the text made
-    ./run dump <"$work/text" | grep '^group 4 ' >"$work/got"
+row() { # CASE EXPECTED [WORD]: the row of group 4 of the text made
+    # shellcheck disable=SC2086
+    ./run dump ${3-} <"$work/text" | grep '^group 4 ' >"$work/got"
     echo "$2" >"$work/want"
     compared "$1" "$work/want"
 }
@@ -80,7 +79,11 @@ row 'S with 112 blanks behind its last field (R411)' 'group 4 0 1 0 295 417 7250
 behind 113 >"$work/text"
 row 'S with 113 blanks behind its last field (R412)' 'group 4 8 1 0 295 418'
 { head -c 303 examples/s.sao && printf ' \n'; } >"$work/text"
-row 'S with a blank for its last carriage return (R414)' 'group 4 8 1 0 295 305'
+row 'S with a blank for its last carriage return (R414), strict' 'group 4 8 1 0 295 305' --strict
+row 'S with a blank for its last carriage return (R414)' 'group 4 0 1 0 295 305 7250'
+{ head -c 303 examples/s.sao && printf '\n'; } >"$work/text"
+row 'S without its last carriage return (R9), strict' 'group 4 8 1 0 295 304' --strict
+row 'S without its last carriage return (R9)' 'group 4 0 1 0 295 304 7250'
 
 # R295: of the numbers that docs/FORMAT.md lists as frequencies, and marks as such in its table, and of no others, 999.900 is no reading; the
 # header and the crate for Rust list them too
@@ -100,7 +103,8 @@ if own; then
 fi
 
 # Five replacements for each text: the record and the group by their rows in the dump, up to four bytes of its lines, none of them a line
-# feed. One line each: text, number of the row, record's place, group, and then places and bytes.
+# feed. One line each: text, number of the row, record's place, group, and then places and bytes. Asked by the first of the rules.
+first=${rules%% *}
 for text in "$vectors"/*.sao; do
     od -An -v -tu1 -w1 "$text" >"$work/bytes"
     awk -v text="$text" -v seed="${text##*/}" '
@@ -131,7 +135,7 @@ for text in "$vectors"/*.sao; do
                 if (many)
                     print line
             }
-        }' "$work/bytes" "${text%.sao}.dump"
+        }' "$work/bytes" "$(answer_of "$text" "$first" dump)"
 done >"$work/damage"
 
 confined() { # EXPECTED ROW PLACE GROUP: what was dumped differs from it only in that row, and for group 4 in that record's characteristics
@@ -157,9 +161,11 @@ while read -r text row place group bytes; do
         printf "\\$(printf '%03o' "$2")" | dd of="$work/damaged" bs=1 seek="$1" conv=notrunc 2>/dev/null
         shift 2
     done
-    ./run dump <"$work/damaged" >"$work/got"
-    cmp -s "$work/got" "${text%.sao}.dump" || differ=$((differ + 1))
-    counted "$text, group $group of the record at $place, bytes $bytes" confined "${text%.sao}.dump" "$row" "$place" "$group"
+    # shellcheck disable=SC2046
+    ./run dump $([ "$first" = usual ] || echo "--$first") <"$work/damaged" >"$work/got"
+    want=$(answer_of "$text" "$first" dump)
+    cmp -s "$work/got" "$want" || differ=$((differ + 1))
+    counted "$text, group $group of the record at $place, bytes $bytes" confined "$want" "$row" "$place" "$group"
 done <"$work/damage"
 
 # these cases show something only if most of them change an answer, and if the worst bytes are among them
@@ -169,4 +175,4 @@ if own; then
         counted "damage with byte $byte" grep -q " $byte\$" "$work/damage"
     done
 fi
-finished 703
+finished 1150

@@ -1,6 +1,6 @@
 #!/bin/sh
 # The listing program (R341 to R344): record S and its neighbours, inputs at the limit of 65,536 bytes, and every text of tests/vectors, or of
-# the folder that is named. Expected lines come from the rules (R382, R411 to R415), from their arithmetic, or from the vectors. Prints each
+# the folder that is named (`tests/list.sh FOLDER [--strict]`), under both rules for line ends. Expected lines come from the rules (R382, R411 to R415), from their arithmetic, or from the vectors. Prints each
 # case that fails, and how many passed.
 set -u
 cd "$(dirname "$0")/.." || exit 2
@@ -9,8 +9,9 @@ name=list
 . tests/limit
 chosen "$@"
 
-listed() { # CASE EXPECTED, with the input on standard input
-    ./run list >"$work/got"
+listed() { # CASE EXPECTED [WORD], with the input on standard input
+    # shellcheck disable=SC2086
+    ./run list ${3-} >"$work/got"
     compared "$1" "$2"
 }
 
@@ -72,6 +73,23 @@ done
 } >"$work/in"
 lines '1 0 305 0 0 3 5' 'end 1 305 1 0'
 listed 'S with a blank for its last carriage return (R414)' "$work/want" <"$work/in"
+listed 'S with a blank for its last carriage return (R414), strict' "$work/want" --strict <"$work/in"
+
+# R9: S without carriage returns has five bytes fewer; without that of the second index line alone, one fewer
+tr -d '\r' <"$s" >"$work/in"
+lines '1 0 300 0 0 3 5' 'end 1 300 1 0'
+listed 'S without carriage returns' "$work/want" <"$work/in"
+lines 'end 0 0 4 0'
+listed 'S without carriage returns, strict' "$work/want" --strict <"$work/in"
+{
+    bytes "$s" 0 242
+    bytes "$s" 243 62
+} >"$work/in"
+lines '1 0 304 0 0 3 5' 'end 1 304 1 0'
+listed 'S without the carriage return of its second line' "$work/want" <"$work/in"
+lines 'end 0 0 4 0'
+listed 'S without the carriage return of its second line, strict' "$work/want" --strict <"$work/in"
+refuses_words list
 
 # short inputs
 lines 'end 0 0 1 0'
@@ -104,7 +122,8 @@ listed '65,537 bytes, from a file' "$work/want" <"$work/in"
 slowly "$work/in" | ./run list >"$work/got"
 compared '65,537 bytes, from a slow pipe' "$work/want"
 
-# as many records as 65,536 bytes hold: 268 of two index lines alone, whose count of group 1 is too small (R121)
+# as many records as 65,536 bytes hold: 270 of two index lines alone, whose count of group 1 is too small (R121), with line feeds alone; 268 with
+# carriage returns
 awk 'BEGIN { for (i = 0; i < 40; i++) printf "  0"; printf "\r\n"; for (i = 0; i < 39; i++) printf "  0"; printf "  5\r\n" }' >"$work/index"
 {
     repeated 268 "$work/index"
@@ -115,11 +134,23 @@ awk 'BEGIN { for (i = 0; i < 40; i++) printf "  0"; printf "\r\n"; for (i = 0; i
     echo 'end 268 65392 3 0'
 } >"$work/want"
 listed '268 records' "$work/want" <"$work/in"
+listed '268 records, strict' "$work/want" --strict <"$work/in"
+tr -d '\r' <"$work/index" >"$work/lean"
+{
+    repeated 270 "$work/lean"
+    filled 196
+} >"$work/in"
+sized '270 records' "$work/in" 65536
+{
+    rows 270 242 '7 1 0 2'
+    echo 'end 270 65340 3 0'
+} >"$work/want"
+listed '270 records' "$work/want" <"$work/in"
+lines 'end 0 0 4 0'
+listed '270 records, strict' "$work/want" --strict <"$work/in"
 
 # every text of the vectors
 counted 'there are texts' texts
-for text in "$vectors"/*.sao; do
-    listed "$text" "${text%.sao}.list" <"$text"
-done
+answered list list
 
-finished 175
+finished 440

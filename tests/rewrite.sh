@@ -1,6 +1,6 @@
 #!/bin/sh
-# The rewriting program (R341, R345, R346): every text of tests/vectors, or of the folder that is named, and what was printed given to it again;
-# record S with other spellings of its fields; records of 8,192 canonical bytes and of one more; output longer than the input may be; inputs at
+# The rewriting program (R341, R345, R346): every text of tests/vectors, or of the folder that is named (`tests/rewrite.sh FOLDER [--strict]`),
+# under both rules for line ends, and what was printed given to it again; record S with other spellings of its fields; records of 8,192 canonical bytes and of one more; output longer than the input may be; inputs at
 # the limit of 65,536 bytes. Expected texts come from the vectors, from the rules, or from their arithmetic. Prints each case that fails, and
 # how many passed.
 set -u
@@ -12,8 +12,9 @@ name=rewrite
 . tests/limit
 chosen "$@"
 
-rewritten() { # CASE TEXT EXPECTED: what is printed for the text, with what is expected
-    ./run rewrite <"$2" >"$work/got"
+rewritten() { # CASE TEXT EXPECTED [WORD]: what is printed for the text, with what is expected
+    # shellcheck disable=SC2086
+    ./run rewrite ${4-} <"$2" >"$work/got"
     compared "$1" "$3"
 }
 
@@ -21,15 +22,14 @@ s=examples/s.sao
 : >"$work/nothing"
 
 counted 'there are texts' texts
-for text in "$vectors"/*.sao; do
-    rewritten "$text" "$text" "${text%.sao}.rewrite"
-done
+answered rewrite rewrite
 
-# what was printed, given to the program again, comes out byte for byte; longer than it takes, nothing
+# what was printed, given to the program again, comes out byte for byte, under either rule; longer than it takes, nothing
 again=0
 for text in "$vectors"/*.rewrite; do
     if [ "$(wc -c <"$text")" -le 65536 ]; then
         rewritten "$text again" "$text" "$text"
+        rewritten "$text again, strict" "$text" "$text" --strict
         [ -s "$text" ] && again=$((again + 1))
     else
         rewritten "$text again" "$text" "$work/nothing"
@@ -56,7 +56,12 @@ rewritten 'S with 112 blanks behind its last field (R411)' "$work/text" "$s"
 { head -c 303 "$s" && printf '%113s\r\n' ''; } >"$work/text"
 rewritten 'S with 113 blanks behind its last field (R412)' "$work/text" "$work/nothing"
 { head -c 303 "$s" && printf ' \n'; } >"$work/text"
-rewritten 'S with a blank for its last carriage return (R414)' "$work/text" "$work/nothing"
+rewritten 'S with a blank for its last carriage return (R414), strict' "$work/text" "$work/nothing" --strict
+rewritten 'S with a blank for its last carriage return (R414)' "$work/text" "$s"
+tr -d '\r' <"$s" >"$work/text"
+rewritten 'S without carriage returns (R9)' "$work/text" "$s"
+rewritten 'S without carriage returns, strict' "$work/text" "$work/nothing" --strict
+refuses_words rewrite
 head -c 304 "$s" >"$work/text"
 rewritten 'S without its last byte (R413)' "$work/text" "$work/nothing"
 
@@ -158,4 +163,4 @@ repeated 212 "$work/wide" >"$work/want"
 sized 'the output' "$work/want" 116388
 rewritten 'output of 116,388 bytes' "$work/text" "$work/want"
 
-finished 351
+finished 940

@@ -4,11 +4,17 @@
 
 static const char *case_name = "";
 static size_t case_number, checked, failed;
+uint32_t rules;
 
 void of_case(const char *name, size_t number)
 {
     case_name = name;
     case_number = number;
+}
+
+void under(uint32_t flags)
+{
+    rules = flags;
 }
 
 void need(const char *what, int so)
@@ -17,7 +23,7 @@ void need(const char *what, int so)
         return;
     failed++;
     if (failed <= 20)
-        printf("FAILED: %s, %lu: %s\n", case_name, (unsigned long)case_number, what);
+        printf("FAILED: %s, %lu, rules %lu: %s\n", case_name, (unsigned long)case_number, (unsigned long)rules, what);
 }
 
 void check(const char *what, int right)
@@ -100,18 +106,11 @@ void cells_due(const char *question, const int64_t *cells, size_t count)
 
 /* ---- Files. */
 
-void read_file(struct file *file, const char *name, const char *ending)
+void read_file(struct file *file, const char *name)
 {
-    char path[4096];
-    size_t n = strlen(name), m = strlen(ending);
-    int from = -1;
+    int from = open(name, 0);
     long got = 1;
     file->length = 0;
-    if (n + m < sizeof path) {
-        memcpy(path, name, n);
-        memcpy(path + n, ending, m + 1);
-        from = open(path, 0);
-    }
     need("the file can be read", from >= 0);
     while (from >= 0 && got > 0 && file->length < sizeof file->bytes) {
         got = read(from, file->bytes + file->length, sizeof file->bytes - file->length);

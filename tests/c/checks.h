@@ -19,9 +19,12 @@ int strcmp(const char *a, const char *b);
    same way where it is not so, and is no check. */
 
 void of_case(const char *name, size_t number);
+void under(uint32_t flags); /* the questions that follow are asked with this as their rules */
 void check(const char *what, int right);
 void need(const char *what, int so);
 int checks_ended(void); /* prints how many there were; 0 if none failed */
+
+extern uint32_t rules; /* as `under` was told */
 
 /* ---- Lent memory of a fixed size. `fresh` gives `lent` and `due` the same bytes; a test lends parts of `lent`, sets in `due` what is due,
    and `answered` compares the reply and all of both, also what stands between the parts and was not lent. */
@@ -65,6 +68,6 @@ struct file {
     uint8_t bytes[1 << 20];
 };
 
-void read_file(struct file *file, const char *name, const char *ending);
+void read_file(struct file *file, const char *name);
 
 #endif

@@ -90,6 +90,7 @@ static void ask_date(unsigned year, unsigned number, unsigned month, unsigned da
 
 void check_dates(void)
 {
+    under(0);
     for (size_t i = 0; i < sizeof years / sizeof years[0]; i++) {
         of_case("the calendar of a year", years[i].year);
         make_calendar(years[i].february);

@@ -413,7 +413,7 @@ void check_journal(const char *file)
 {
     check_no_memory();
     of_case(file, 0);
-    read_words(file, "");
+    read_words(file);
     for (line = 1; more(); line++) {
         of_case(file, line);
         if (!check_line()) {

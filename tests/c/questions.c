@@ -2,12 +2,14 @@
 
 static const struct seambeacon_beside none;
 
+const uint32_t flags[RULES][FLAGS] = {{0, 2, 0x80000000, 0xfffffffe}, {SEAMBEACON_STRICT, 3, 0x80000001, 0xffffffff}};
+
 void ask_place(const uint8_t *text, size_t length, size_t at, size_t reply, struct seambeacon_beside beside, const uint16_t *counts)
 {
     fresh();
     due.beside = beside;
     memcpy(due.counts, counts, sizeof due.counts);
-    answered("place", seambeacon_place(text, length, at, lent.counts, &lent.beside), reply);
+    answered("place", seambeacon_place(rules, text, length, at, lent.counts, &lent.beside), reply);
 }
 
 void ask_read(const uint8_t *text, size_t length, size_t at, size_t group, size_t room, size_t reply, struct seambeacon_beside beside,
@@ -16,7 +18,7 @@ void ask_read(const uint8_t *text, size_t length, size_t at, size_t group, size_
     int64_t *table = lend_cells(room);
     fresh();
     due.beside = beside;
-    answered("read_group", seambeacon_read_group(text, length, at, group, table, room, &lent.beside), reply);
+    answered("read_group", seambeacon_read_group(rules, text, length, at, group, table, room, &lent.beside), reply);
     cells_due("read_group: the table", cells, beside.written);
 }
 
@@ -26,7 +28,7 @@ void ask_lines(const uint8_t *text, size_t length, size_t at, size_t group, size
     fresh();
     due.beside = beside;
     due.part = part;
-    answered("group_lines", seambeacon_group_lines(text, length, at, group, &lent.part, &lent.beside), reply);
+    answered("group_lines", seambeacon_group_lines(rules, text, length, at, group, &lent.part, &lent.beside), reply);
 }
 
 void ask_characteristic(const uint8_t *text, size_t length, size_t at, size_t number, size_t reply, struct seambeacon_beside beside,
@@ -36,7 +38,7 @@ void ask_characteristic(const uint8_t *text, size_t length, size_t at, size_t nu
     due.beside = beside;
     due.kind = kind;
     due.value = value;
-    answered("characteristic", seambeacon_characteristic(text, length, at, number, &lent.kind, &lent.value, &lent.beside), reply);
+    answered("characteristic", seambeacon_characteristic(rules, text, length, at, number, &lent.kind, &lent.value, &lent.beside), reply);
 }
 
 void ask_write(const uint16_t *counts, size_t many, const int64_t *cells, size_t cell_count, size_t room, size_t reply,
@@ -54,8 +56,22 @@ void ask_list(const uint8_t *text, size_t length, size_t room, size_t reply, str
     uint8_t *out = lend_bytes(room);
     fresh();
     due.beside = beside;
-    answered("list", seambeacon_list(text, length, out, room, &lent.beside), reply);
+    answered("list", seambeacon_list(rules, text, length, out, room, &lent.beside), reply);
     bytes_due("list: the output", bytes, beside.written);
+}
+
+void ask_rewrite(const uint8_t *text, size_t length, size_t at, size_t cell_room, size_t room, size_t reply, struct seambeacon_beside beside,
+                 size_t unread, const uint8_t *bytes, const int64_t *cells, size_t count)
+{
+    int64_t *table = lend_cells(cell_room);
+    uint8_t *out = lend_bytes(room);
+    fresh();
+    due.beside = beside;
+    due.unread = unread;
+    answered("rewrite_record",
+             seambeacon_rewrite_record(rules, text, length, at, table, cell_room, out, room, &lent.unread, &lent.beside), reply);
+    bytes_due("rewrite_record: the output", bytes, beside.written);
+    cells_due("rewrite_record: the table", cells, count);
 }
 
 /* ---- One short, exact and longer. */

@@ -3,6 +3,10 @@
 
 #include "checks.h"
 
+/* R365: numbers that stand for the usual rules, and for the strict line end. */
+enum { USUAL, STRICT, RULES, FLAGS = 4 };
+extern const uint32_t flags[RULES][FLAGS];
+
 /* Asks the question and checks the reply, the numbers beside it and every byte of what is lent. */
 void ask_place(const uint8_t *text, size_t length, size_t at, size_t reply, struct seambeacon_beside beside, const uint16_t *counts);
 void ask_read(const uint8_t *text, size_t length, size_t at, size_t group, size_t room, size_t reply, struct seambeacon_beside beside,
@@ -14,6 +18,8 @@ void ask_characteristic(const uint8_t *text, size_t length, size_t at, size_t nu
 void ask_write(const uint16_t *counts, size_t many, const int64_t *cells, size_t cell_count, size_t room, size_t reply,
                struct seambeacon_beside beside, const uint8_t *bytes);
 void ask_list(const uint8_t *text, size_t length, size_t room, size_t reply, struct seambeacon_beside beside, const uint8_t *bytes);
+void ask_rewrite(const uint8_t *text, size_t length, size_t at, size_t cell_room, size_t room, size_t reply, struct seambeacon_beside beside,
+                 size_t unread, const uint8_t *bytes, const int64_t *cells, size_t count);
 
 /* Into a table or an output one short (11), exact and longer. */
 void ask_read_all(const uint8_t *text, size_t length, size_t at, size_t group, const int64_t *cells, size_t count);

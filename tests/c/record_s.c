@@ -1,5 +1,5 @@
 /* What is due here is what the rules give for record S and its neighbours (R380 to R382, R411 to R415). S has 305 bytes; groups 1, 3 and 4
-   stand at 244, 274 and 295. */
+   stand at 244, 274 and 295. All lines here have their carriage return, so all rules give the same. */
 #include "questions.h"
 #include "record_s.h"
 #include "texts.h"
@@ -12,8 +12,6 @@ static const uint16_t no_counts[80];
 static const int64_t position[] = {1200, 67000, -23500, 143000}, height[] = {7250}, unscaled[] = {9999000}, mark[] = {999900};
 static const int64_t date[] = {'A', 'A', '2', '0', '0', '6', '2', '6', '5', '0', '9', '2', '2', '1', '4', '2', '5', '3', '0'};
 static const int64_t sixteen[] = {1000, 2000, 3000, 4000, 5000, 6000, 7000, 8000, 9000, 10000, 11000, 12000, 13000, 14000, 15000, 16000};
-static const int64_t all_of_s[] = {1200, 67000, -23500, 143000, 'A', 'A', '2', '0', '0', '6', '2', '6',
-                                   '5',  '0',   '9',    '2',    '2', '1', '4', '2', '5', '3', '0', 7250};
 
 /* ---- Placing. */
 
@@ -40,7 +38,6 @@ static const struct {
     {&cut, 0, 3, 0, 0},
     {&blanks, 0, 0, 417, 0},
     {&too_many_blanks, 0, 0, 418, 0},
-    {&no_return, 0, 0, 305, 0},
     {&comma, 0, 0, 305, 0},
     {&broken, 0, 7, 331, 7},
     {&broken, 331, 1, 0, 0},
@@ -96,7 +93,6 @@ static const struct {
     {&twice_comma, 305, 4, height, 1, {600, 10}, "   7.250\r\n"},
     {&comma, 0, 1, position, 4, {244, 30}, "  1.200 67.000-23.500143.000\r\n"},
     {&comma, 0, 3, date, 19, {274, 21}, "AA20062650922142530\r\n"},
-    {&no_return, 0, 3, date, 19, {274, 21}, "AA20062650922142530\r\n"},
     {&no_reading, 0, 4, unscaled, 1, {295, 10}, "9999.000\r\n"},
     {&not_scaled, 0, 4, mark, 1, {295, 10}, " 999.900\r\n"},
     {&second_bad, 0, 4, height, 1, {295, 10}, "   7.250\r\n"},
@@ -126,13 +122,13 @@ static void check_no_table(void)
     of_case("no table at all", 0);
     fresh();
     due.beside = none;
-    answered("a group with count 0", seambeacon_read_group(s.bytes, s.length, 0, 2, NULL, 0, &lent.beside), 0);
+    answered("a group with count 0", seambeacon_read_group(rules, s.bytes, s.length, 0, 2, NULL, 0, &lent.beside), 0);
     fresh();
     due.beside = none;
-    answered("a group with cells", seambeacon_read_group(s.bytes, s.length, 0, 4, NULL, 0, &lent.beside), 11);
+    answered("a group with cells", seambeacon_read_group(rules, s.bytes, s.length, 0, 4, NULL, 0, &lent.beside), 11);
     fresh();
     due.beside = none;
-    answered("a group with several", seambeacon_read_group(s.bytes, s.length, 0, 1, NULL, 0, &lent.beside), 11);
+    answered("a group with several", seambeacon_read_group(rules, s.bytes, s.length, 0, 1, NULL, 0, &lent.beside), 11);
 }
 
 /* Refusals; a part can be given where the lines are only misread. */
@@ -164,7 +160,6 @@ static const struct {
     {&broken, 0, 4, 7, {.group = 7}, 0, {0, 0}},
     {&broken, 0, 61, 12, {0}, 0, {0, 0}},
     {&too_many_blanks, 0, 4, 8, {.line = 1}, 1, {295, 123}},
-    {&no_return, 0, 4, 8, {.line = 1}, 1, {295, 10}},
     {&second_line_long, 0, 4, 8, {.line = 2}, 1, {295, 133}},
     {&comma, 0, 4, 9, {.line = 1, .element = 1}, 1, {295, 10}},
     {&twice_comma, 0, 4, 9, {.line = 1, .element = 1}, 1, {295, 10}},
@@ -220,7 +215,6 @@ static const struct {
     {&twice_comma, 305, 1, SEAMBEACON_VALUE, 7250, 0, {0}},
     {&cut, 0, 1, SEAMBEACON_REFUSED, 0, 3, {0}},
     {&broken, 0, 1, SEAMBEACON_REFUSED, 0, 7, {.group = 7}},
-    {&no_return, 0, 49, SEAMBEACON_REFUSED, 0, 8, {.line = 1}},
     {&comma, 0, 1, SEAMBEACON_REFUSED, 0, 9, {.line = 1, .element = 1}},
     {&comma, 0, 2, SEAMBEACON_REFUSED, 0, 9, {.line = 1, .element = 1}},
     {&comma, 0, 49, SEAMBEACON_REFUSED, 0, 9, {.line = 1, .element = 1}},
@@ -285,7 +279,7 @@ static void check_listing(void)
     ask_list(s.bytes, s.length, 0, 11, none, NULL);
     fresh();
     due.beside = none;
-    answered("no output at all", seambeacon_list(s.bytes, s.length, NULL, 0, &lent.beside), 11);
+    answered("no output at all", seambeacon_list(rules, s.bytes, s.length, NULL, 0, &lent.beside), 11);
 }
 
 /* ---- Rewriting. The bytes and the cells that are due afterwards, and the group that was not read. */
@@ -310,7 +304,6 @@ static const struct {
     {&cut, 0, 30, 320, 3, {0}, 0, 0},
     {&broken, 0, 30, 400, 7, {.group = 7}, 0, 0},
     {&vacant, 0, 30, 400, 6, {.group = 63}, 0, 0},
-    {&no_return, 0, 30, 320, 8, {.line = 1}, 4, 23},
     {&comma, 0, 30, 320, 9, {.line = 1, .element = 1}, 4, 23},
     {&second_bad, 0, 30, 320, 9, {.line = 1, .element = 2}, 1, 0},
     {&wrong_day, 0, 30, 320, 10, {.position = 7}, 3, 4},
@@ -319,18 +312,9 @@ static const struct {
 static void check_rewriting(void)
 {
     for (size_t i = 0; i < LENGTH(rewritings); i++) {
-        int64_t *table = lend_cells(rewritings[i].cells);
-        uint8_t *out = lend_bytes(rewritings[i].room);
         of_case("rewriting", i);
-        fresh();
-        due.beside = rewritings[i].beside;
-        due.unread = rewritings[i].unread;
-        answered("rewrite_record",
-                 seambeacon_rewrite_record(rewritings[i].text->bytes, rewritings[i].text->length, rewritings[i].at, table, rewritings[i].cells,
-                                           out, rewritings[i].room, &lent.unread, &lent.beside),
-                 rewritings[i].reply);
-        bytes_due("rewrite_record: the output", s.bytes, rewritings[i].beside.written);
-        cells_due("rewrite_record: the table", all_of_s, rewritings[i].cells_due);
+        ask_rewrite(rewritings[i].text->bytes, rewritings[i].text->length, rewritings[i].at, rewritings[i].cells, rewritings[i].room,
+                    rewritings[i].reply, rewritings[i].beside, rewritings[i].unread, s.bytes, all_of_s, rewritings[i].cells_due);
     }
 }
 
@@ -339,12 +323,15 @@ void check_record_s(void)
     make_texts();
     of_case("S", 0);
     need("S has 305 bytes", s.length == 305);
-    check_places();
-    check_groups();
-    check_no_table();
-    check_refusals();
-    check_characteristics();
+    for (size_t i = 0; i < RULES * FLAGS; i++) {
+        under(flags[i / FLAGS][i % FLAGS]);
+        check_places();
+        check_groups();
+        check_no_table();
+        check_refusals();
+        check_characteristics();
+        check_listing();
+        check_rewriting();
+    }
     check_writing();
-    check_listing();
-    check_rewriting();
 }

@@ -1,10 +1,14 @@
 #include "texts.h"
 
 struct text s, twice, twice_comma, nothing;
-struct text cut, blanks, too_many_blanks, no_return, comma, second_bad;
+struct text cut, blanks, too_many_blanks, comma, second_bad;
+struct text no_returns, no_index_return, no_data_returns, blank_for_return, two_in_index, two_in_data, s_no_returns;
 struct text broken, s_broken, too_few_first, many_messages, letters, other_release, vacant, last_vacant, minus_zero, no_digit;
 struct text wrong_day, wrong_month, no_year, no_reading, below_zero, not_scaled, above_not_scaled, minus_not_scaled;
 struct text two_lines, last_of_two_bad, second_line_long;
+
+const int64_t all_of_s[24] = {1200, 67000, -23500, 143000, 'A', 'A', '2', '0', '0', '6', '2', '6',
+                              '5',  '0',   '9',    '2',    '2', '1', '4', '2', '5', '3', '0', 7250};
 
 /* ---- Pieces. */
 
@@ -80,6 +84,25 @@ static void make_followed(struct text *text, size_t many)
     put(text, "\r\n");
 }
 
+/* S without the carriage returns that stand from one place up to another. */
+static void make_without(struct text *text, size_t from, size_t to)
+{
+    *text = s;
+    text->length = 0;
+    for (size_t i = 0; i < s.length; i++)
+        if (s.bytes[i] != '\r' || i < from || i >= to)
+            text->bytes[text->length++] = s.bytes[i];
+}
+
+/* S with a second carriage return beside the one at a place. */
+static void make_doubled(struct text *text, size_t at)
+{
+    *text = s;
+    need("a carriage return stands there", s.bytes[at] == '\r');
+    memcpy(text->bytes + at + 1, s.bytes + at, s.length - at);
+    text->length++;
+}
+
 /* ---- The texts. */
 
 static const char date[] = "AA20062650922142530", value[] = "   7.250";
@@ -90,10 +113,20 @@ static void make_damaged_lines(void)
     cut.length--;
     make_followed(&blanks, 112);
     make_followed(&too_many_blanks, 113);
-    make_altered(&no_return, 303, " ");
     make_altered(&comma, 299, ",");
     make_altered(&second_bad, 253, "x");
     make_twice(&twice_comma, &comma, &s);
+}
+
+static void make_line_ends(void)
+{
+    make_without(&no_returns, 0, s.length);
+    make_without(&no_index_return, 242, 243);
+    make_without(&no_data_returns, 244, s.length);
+    make_altered(&blank_for_return, 303, " ");
+    make_doubled(&two_in_index, 120);
+    make_doubled(&two_in_data, 303);
+    make_twice(&s_no_returns, &s, &no_returns);
 }
 
 static void make_damaged_counts(void)
@@ -142,6 +175,7 @@ void make_texts(void)
     make_s(&s, 80, 5, date, value);
     make_twice(&twice, &s, &s);
     make_damaged_lines();
+    make_line_ends();
     make_damaged_counts();
     make_fields();
     make_two_lines();

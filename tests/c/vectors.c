@@ -54,7 +54,7 @@ static void check_write(void)
 void check_writes(const char *file)
 {
     of_case(file, 0);
-    read_words(file, "");
+    read_words(file);
     for (size_t line = 1; more(); line++) {
         of_case(file, line);
         check_write();
@@ -63,23 +63,23 @@ void check_writes(const char *file)
 
 /* ---- Listing and rewriting. */
 
-static void check_list(const char *name)
+static void check_list(const char *file)
 {
-    read_file(&expected, name, ".list");
+    read_file(&expected, file);
     ask_list_all(text.bytes, text.length, expected.bytes, expected.length);
 }
 
 /* R346: record after record, up to the first that is refused or has no room in 8,192 bytes. */
-static void check_rewrite(const char *name)
+static void check_rewrite(const char *file)
 {
     enum { ROOM = 8192 };
     static int64_t table[ROOM];
     size_t at = 0, behind = 0;
-    read_file(&expected, name, ".rewrite");
+    read_file(&expected, file);
     for (;;) {
         uint8_t *out = lend_bytes(ROOM);
         fresh();
-        if (seambeacon_rewrite_record(text.bytes, text.length, at, table, ROOM, out, ROOM, &lent.unread, &lent.beside) != 0)
+        if (seambeacon_rewrite_record(rules, text.bytes, text.length, at, table, ROOM, out, ROOM, &lent.unread, &lent.beside) != 0)
             break;
         check("no more is rewritten than is due", lent.beside.written <= expected.length - behind);
         if (lent.beside.written > expected.length - behind)
@@ -138,12 +138,12 @@ static size_t check_place(int placed)
     return at;
 }
 
-static void check_dump(const char *name)
+static void check_dump(const char *file)
 {
     size_t at = 0;
-    read_words(name, ".dump");
+    read_words(file);
     for (size_t line = 1; more(); line++) {
-        of_case(name, line);
+        of_case(file, line);
         if (word_is("record"))
             at = check_place(1);
         else if (word_is("group"))
@@ -159,11 +159,11 @@ static void check_dump(const char *name)
     }
 }
 
-void check_text(const char *name)
+void check_text(const char *name, const char *list, const char *rewrite, const char *dump)
 {
     of_case(name, 0);
-    read_file(&text, name, ".sao");
-    check_list(name);
-    check_rewrite(name);
-    check_dump(name);
+    read_file(&text, name);
+    check_list(list);
+    check_rewrite(rewrite);
+    check_dump(dump);
 }

@@ -3,9 +3,9 @@
 struct file expected;
 static size_t read_to; /* how far it has been read */
 
-void read_words(const char *name, const char *ending)
+void read_words(const char *name)
 {
-    read_file(&expected, name, ending);
+    read_file(&expected, name);
     read_to = 0;
 }
 

@@ -6,7 +6,7 @@
 
 extern struct file expected;
 
-void read_words(const char *name, const char *ending);
+void read_words(const char *name);
 int more(void);         /* the file is not at its end */
 int line_goes_on(void); /* the word that was read last did not end its line */
 void skip_line(void);

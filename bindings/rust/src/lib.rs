@@ -1,11 +1,11 @@
 //! Seambeacon: places, reads and writes SAO 4.3 ionogram records, and keeps a journal of edits. The questions are answered by a library in
 //! which every function is proved to meet its contract; this crate gives each of them a safe function, and the journal a [`Journal`].
 //!
-//! Whatever text, place, number, table, output and journal it is given, a question is answered: with `Ok`, or with the one [`Refusal`] due.
-//! Nothing has to be checked before a call, and no call panics. The library keeps nothing between two calls, so they may come from several
+//! Whatever rules, text, place, number, table, output and journal it is given, a question is answered: with `Ok`, or with the one [`Refusal`]
+//! due. Nothing has to be checked before a call, and no call panics. The library keeps nothing between two calls, so they may come from several
 //! threads; what a [`Journal`] keeps, the memory lent to it and how many bytes of it are used, is its own. A text is its bytes, with line ends; a
 //! place is a number of bytes from the text's start, or from the journal's. Groups, cells of a group, lines, elements, positions, characteristics
-//! and savepoints count from 1. R with a number is a rule of the project's docs/FORMAT.md.
+//! and savepoints count from 1. What reads a text takes [`Rules`] first. R with a number is a rule of the project's docs/FORMAT.md.
 //!
 //! ```
 //! // Record S: four constants, a date and one characteristic, foF2.
@@ -13,10 +13,11 @@
 //! let text = index + "  1.200 67.000-23.500143.000\r\nAA20062650922142530\r\n   7.250\r\n";
 //! let text = text.as_bytes();
 //!
-//! let seambeacon::Placing::Placed { next, counts } = seambeacon::place(text, 0)? else { panic!("broken") };
+//! let rules = seambeacon::Rules::default();
+//! let seambeacon::Placing::Placed { next, counts } = seambeacon::place(rules, text, 0)? else { panic!("broken") };
 //! assert_eq!((next, counts[0], counts[2], counts[3]), (305, 4, 19, 1));
-//! assert_eq!(seambeacon::characteristic(text, 0, 1)?, seambeacon::Characteristic::Value(7250));
-//! assert_eq!(seambeacon::place(text, next), Err(seambeacon::Refusal::End));
+//! assert_eq!(seambeacon::characteristic(rules, text, 0, 1)?, seambeacon::Characteristic::Value(7250));
+//! assert_eq!(seambeacon::place(rules, text, next), Err(seambeacon::Refusal::End));
 //! # Ok::<(), seambeacon::Refusal>(())
 //! ```
 #![deny(missing_docs, unsafe_code, unsafe_op_in_unsafe_fn)]
@@ -27,6 +28,28 @@ use std::fmt;
 #[allow(unsafe_code)]
 mod raw;
 
+/// The rules by which a text is read. [`Rules::default`] gives the usual ones: a line ends with a line feed, and a carriage return that stands
+/// directly before it belongs to the line end too; lines of both kinds may stand in one text. Any other carriage return is a byte of the line
+/// like others.
+#[derive(Clone, Copy, Debug, Default, PartialEq, Eq, Hash)]
+pub struct Rules {
+    strict: bool,
+}
+
+impl Rules {
+    /// The strict line end: the carriage return before the line feed has to be there. A line without it is refused, with
+    /// [`Refusal::Misformed`] in the index and with [`Refusal::BadLine`] in a group.
+    #[must_use]
+    pub const fn strict() -> Rules {
+        Rules { strict: true }
+    }
+
+    /// R365: as the library takes them.
+    fn flags(self) -> u32 {
+        u32::from(self.strict)
+    }
+}
+
 /// Why a question was refused: the replies 1 to 17 (R201 to R217), with the numbers that are given beside them.
 #[derive(Clone, Copy, Debug, PartialEq, Eq, Hash)]
 pub enum Refusal {
@@ -36,7 +59,8 @@ pub enum Refusal {
     Beyond,
     /// 3: from the place on there are fewer line feeds than the record has lines.
     TooFewLines,
-    /// 4: an index line or an entry is misformed; where counts are given, they are not 80, or one is above 999.
+    /// 4: an index line or an entry is misformed or, under [`Rules::strict`], an index line lacks its carriage return; where counts are given,
+    /// they are not 80, or one is above 999.
     Misformed,
     /// 5: the release, number 80 of the index, is not 5.
     OtherRelease,
@@ -50,7 +74,8 @@ pub enum Refusal {
         /// The blamed group.
         group: usize,
     },
-    /// 8: a data line lacks its carriage return, has a wrong length, or something else than blanks behind its fields.
+    /// 8: a data line has a wrong length, something else than blanks behind its fields or, under [`Rules::strict`], no carriage return at its
+    /// end.
     BadLine {
         /// The group that was read.
         group: usize,
@@ -234,9 +259,9 @@ impl raw::Reply {
 /// # Errors
 ///
 /// 1 to 6: no record, and a walk stops here. 7 is an answer, [`Placing::Broken`], since a walk goes on behind such a record.
-pub fn place(text: &[u8], at: usize) -> Result<Placing, Refusal> {
+pub fn place(rules: Rules, text: &[u8], at: usize) -> Result<Placing, Refusal> {
     let mut counts = [0; 80];
-    let reply = raw::place(text, at, &mut counts);
+    let reply = raw::place(rules.flags(), text, at, &mut counts);
     let raw::Beside { next, group, .. } = reply.beside;
     match reply.number {
         7 => Ok(Placing::Broken { next, counts, group }),
@@ -253,8 +278,8 @@ pub fn place(text: &[u8], at: usize) -> Result<Placing, Refusal> {
 /// # Errors
 ///
 /// 12, a placing reply but 0, 11, 8, 9 or 10, whichever is due first. The table is as it was.
-pub fn read_group(text: &[u8], at: usize, group: usize, table: &mut [i64]) -> Result<usize, Refusal> {
-    Ok(raw::read_group(text, at, group, table).done(group)?.written)
+pub fn read_group(rules: Rules, text: &[u8], at: usize, group: usize, table: &mut [i64]) -> Result<usize, Refusal> {
+    Ok(raw::read_group(rules.flags(), text, at, group, table).done(group)?.written)
 }
 
 /// The lines of a group, 1 to 60, of the record at a place: the part of the lent text in which they stand, with their line ends (R280). With
@@ -263,9 +288,9 @@ pub fn read_group(text: &[u8], at: usize, group: usize, table: &mut [i64]) -> Re
 /// # Errors
 ///
 /// 12, or a placing reply but 0.
-pub fn group_lines(text: &[u8], at: usize, group: usize) -> Result<&[u8], Refusal> {
+pub fn group_lines(rules: Rules, text: &[u8], at: usize, group: usize) -> Result<&[u8], Refusal> {
     let mut part = raw::Part::default();
-    raw::group_lines(text, at, group, &mut part).done(group)?;
+    raw::group_lines(rules.flags(), text, at, group, &mut part).done(group)?;
     text.get(part.start..).and_then(|rest| rest.get(..part.length)).ok_or(Refusal::Unknown { number: 0 })
 }
 
@@ -274,9 +299,9 @@ pub fn group_lines(text: &[u8], at: usize, group: usize) -> Result<&[u8], Refusa
 /// # Errors
 ///
 /// 12, or the refusal of reading group 4.
-pub fn characteristic(text: &[u8], at: usize, number: usize) -> Result<Characteristic, Refusal> {
+pub fn characteristic(rules: Rules, text: &[u8], at: usize, number: usize) -> Result<Characteristic, Refusal> {
     let (mut kind, mut value) = (0, 0);
-    raw::characteristic(text, at, number, &mut kind, &mut value).done(4)?;
+    raw::characteristic(rules.flags(), text, at, number, &mut kind, &mut value).done(4)?;
     match kind {
         0 => Ok(Characteristic::Value(value)),
         1 => Ok(Characteristic::NoReading),
@@ -304,8 +329,8 @@ pub fn write_record(counts: &[u16], cells: &[i64], out: &mut [u8]) -> Result<usi
 /// # Errors
 ///
 /// 11. The output is as it was.
-pub fn list(text: &[u8], out: &mut [u8]) -> Result<usize, Refusal> {
-    Ok(raw::list(text, out).done(0)?.written)
+pub fn list(rules: Rules, text: &[u8], out: &mut [u8]) -> Result<usize, Refusal> {
+    Ok(raw::list(rules.flags(), text, out).done(0)?.written)
 }
 
 /// The record at a place as canonical text. The table is room for its cells, which stand in it afterwards; as many cells as the output has
@@ -315,9 +340,9 @@ pub fn list(text: &[u8], out: &mut [u8]) -> Result<usize, Refusal> {
 ///
 /// A placing reply but 0, 11, or the first refusal of reading groups 1 to 60. The output is as it was, and the table has the cells of the
 /// groups before the one that could not be read.
-pub fn rewrite_record(text: &[u8], at: usize, table: &mut [i64], out: &mut [u8]) -> Result<Rewritten, Refusal> {
+pub fn rewrite_record(rules: Rules, text: &[u8], at: usize, table: &mut [i64], out: &mut [u8]) -> Result<Rewritten, Refusal> {
     let mut unread = 0;
-    let reply = raw::rewrite_record(text, at, table, out, &mut unread);
+    let reply = raw::rewrite_record(rules.flags(), text, at, table, out, &mut unread);
     let raw::Beside { written, next, .. } = reply.done(unread)?;
     Ok(Rewritten { bytes: written, next })
 }

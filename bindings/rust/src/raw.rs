@@ -35,8 +35,9 @@ pub struct Reply {
 }
 
 extern "C" {
-    fn seambeacon_place(text: *const u8, text_length: usize, at: usize, counts: *mut u16, beside: *mut Beside) -> u32;
+    fn seambeacon_place(rules: u32, text: *const u8, text_length: usize, at: usize, counts: *mut u16, beside: *mut Beside) -> u32;
     fn seambeacon_read_group(
+        rules: u32,
         text: *const u8,
         text_length: usize,
         at: usize,
@@ -45,8 +46,17 @@ extern "C" {
         table_length: usize,
         beside: *mut Beside,
     ) -> u32;
-    fn seambeacon_group_lines(text: *const u8, text_length: usize, at: usize, group: usize, part: *mut Part, beside: *mut Beside) -> u32;
+    fn seambeacon_group_lines(
+        rules: u32,
+        text: *const u8,
+        text_length: usize,
+        at: usize,
+        group: usize,
+        part: *mut Part,
+        beside: *mut Beside,
+    ) -> u32;
     fn seambeacon_characteristic(
+        rules: u32,
         text: *const u8,
         text_length: usize,
         at: usize,
@@ -64,8 +74,9 @@ extern "C" {
         out_length: usize,
         beside: *mut Beside,
     ) -> u32;
-    fn seambeacon_list(text: *const u8, text_length: usize, out: *mut u8, out_length: usize, beside: *mut Beside) -> u32;
+    fn seambeacon_list(rules: u32, text: *const u8, text_length: usize, out: *mut u8, out_length: usize, beside: *mut Beside) -> u32;
     fn seambeacon_rewrite_record(
+        rules: u32,
         text: *const u8,
         text_length: usize,
         at: usize,
@@ -141,24 +152,24 @@ fn reply(call: impl FnOnce(&mut Beside) -> u32) -> Reply {
     Reply { number, beside }
 }
 
-pub fn place(text: &[u8], at: usize, counts: &mut [u16; 80]) -> Reply {
+pub fn place(rules: u32, text: &[u8], at: usize, counts: &mut [u16; 80]) -> Reply {
     // SAFETY: as the head of this file says.
-    reply(|beside| unsafe { seambeacon_place(text.as_ptr(), text.len(), at, counts.as_mut_ptr(), beside) })
+    reply(|beside| unsafe { seambeacon_place(rules, text.as_ptr(), text.len(), at, counts.as_mut_ptr(), beside) })
 }
 
-pub fn read_group(text: &[u8], at: usize, group: usize, table: &mut [i64]) -> Reply {
+pub fn read_group(rules: u32, text: &[u8], at: usize, group: usize, table: &mut [i64]) -> Reply {
     // SAFETY: as the head of this file says.
-    reply(|beside| unsafe { seambeacon_read_group(text.as_ptr(), text.len(), at, group, table.as_mut_ptr(), table.len(), beside) })
+    reply(|beside| unsafe { seambeacon_read_group(rules, text.as_ptr(), text.len(), at, group, table.as_mut_ptr(), table.len(), beside) })
 }
 
-pub fn group_lines(text: &[u8], at: usize, group: usize, part: &mut Part) -> Reply {
+pub fn group_lines(rules: u32, text: &[u8], at: usize, group: usize, part: &mut Part) -> Reply {
     // SAFETY: as the head of this file says.
-    reply(|beside| unsafe { seambeacon_group_lines(text.as_ptr(), text.len(), at, group, part, beside) })
+    reply(|beside| unsafe { seambeacon_group_lines(rules, text.as_ptr(), text.len(), at, group, part, beside) })
 }
 
-pub fn characteristic(text: &[u8], at: usize, number: usize, kind: &mut u32, value: &mut i64) -> Reply {
+pub fn characteristic(rules: u32, text: &[u8], at: usize, number: usize, kind: &mut u32, value: &mut i64) -> Reply {
     // SAFETY: as the head of this file says.
-    reply(|beside| unsafe { seambeacon_characteristic(text.as_ptr(), text.len(), at, number, kind, value, beside) })
+    reply(|beside| unsafe { seambeacon_characteristic(rules, text.as_ptr(), text.len(), at, number, kind, value, beside) })
 }
 
 pub fn write_record(counts: &[u16], cells: &[i64], out: &mut [u8]) -> Reply {
@@ -168,15 +179,26 @@ pub fn write_record(counts: &[u16], cells: &[i64], out: &mut [u8]) -> Reply {
     })
 }
 
-pub fn list(text: &[u8], out: &mut [u8]) -> Reply {
+pub fn list(rules: u32, text: &[u8], out: &mut [u8]) -> Reply {
     // SAFETY: as the head of this file says.
-    reply(|beside| unsafe { seambeacon_list(text.as_ptr(), text.len(), out.as_mut_ptr(), out.len(), beside) })
+    reply(|beside| unsafe { seambeacon_list(rules, text.as_ptr(), text.len(), out.as_mut_ptr(), out.len(), beside) })
 }
 
-pub fn rewrite_record(text: &[u8], at: usize, table: &mut [i64], out: &mut [u8], unread: &mut usize) -> Reply {
+pub fn rewrite_record(rules: u32, text: &[u8], at: usize, table: &mut [i64], out: &mut [u8], unread: &mut usize) -> Reply {
     // SAFETY: as the head of this file says.
     reply(|beside| unsafe {
-        seambeacon_rewrite_record(text.as_ptr(), text.len(), at, table.as_mut_ptr(), table.len(), out.as_mut_ptr(), out.len(), unread, beside)
+        seambeacon_rewrite_record(
+            rules,
+            text.as_ptr(),
+            text.len(),
+            at,
+            table.as_mut_ptr(),
+            table.len(),
+            out.as_mut_ptr(),
+            out.len(),
+            unread,
+            beside,
+        )
     })
 }
 

@@ -3,13 +3,17 @@
 mod common;
 
 use common::{cells_of_s, counts_of_s, replaced, s};
-use seambeacon::{Characteristic, Placing, Refusal};
+use seambeacon::{Characteristic, Placing, Refusal, Rules};
 
 const CELL: i64 = -987_654_321;
 
 fn read(text: &[u8], group: usize) -> (Result<usize, Refusal>, Vec<i64>) {
+    read_under(Rules::default(), text, group)
+}
+
+fn read_under(rules: Rules, text: &[u8], group: usize) -> (Result<usize, Refusal>, Vec<i64>) {
     let mut table = vec![CELL; 30];
-    let answer = seambeacon::read_group(text, 0, group, &mut table);
+    let answer = seambeacon::read_group(rules, text, 0, group, &mut table);
     (answer, table)
 }
 
@@ -29,12 +33,12 @@ fn records_that_are_not_placed() {
         ("another release", replaced(&s(), "  5\r\n", "  4\r\n"), Refusal::OtherRelease),
     ];
     for (case, text, why) in cases {
-        assert_eq!(seambeacon::place(&text, 0), Err(why), "{case}");
+        assert_eq!(seambeacon::place(Rules::default(), &text, 0), Err(why), "{case}");
         assert_eq!(read(&text, 1), (Err(why), vec![CELL; 30]), "{case}");
-        assert_eq!(seambeacon::group_lines(&text, 0, 1), Err(why), "{case}");
-        assert_eq!(seambeacon::characteristic(&text, 0, 1), Err(why), "{case}");
+        assert_eq!(seambeacon::group_lines(Rules::default(), &text, 0, 1), Err(why), "{case}");
+        assert_eq!(seambeacon::characteristic(Rules::default(), &text, 0, 1), Err(why), "{case}");
         let (mut table, mut out) = ([CELL; 30], [1; 400]);
-        assert_eq!(seambeacon::rewrite_record(&text, 0, &mut table, &mut out), Err(why), "{case}");
+        assert_eq!(seambeacon::rewrite_record(Rules::default(), &text, 0, &mut table, &mut out), Err(why), "{case}");
         assert_eq!((table, out), ([CELL; 30], [1; 400]), "{case}");
     }
 }
@@ -45,7 +49,7 @@ fn a_vacant_group_with_a_count() {
     for group in [61, 70, 79] {
         let mut text = s();
         text[122 + 3 * (group - 41) + 2] = b'1';
-        assert_eq!(seambeacon::place(&text, 0), Err(Refusal::FilledVacant { group }));
+        assert_eq!(seambeacon::place(Rules::default(), &text, 0), Err(Refusal::FilledVacant { group }));
         assert_eq!(read(&text, 1).0, Err(Refusal::FilledVacant { group }));
     }
 }
@@ -60,46 +64,49 @@ fn a_broken_rule_on_counts() {
     broken.extend(s());
     let mut counts = counts_of_s();
     counts[10] = 3;
-    let answer = seambeacon::place(&broken, 0);
+    let answer = seambeacon::place(Rules::default(), &broken, 0);
     assert_eq!(answer, Ok(Placing::Broken { next, counts, group: 7 }));
-    assert_eq!(seambeacon::place(&broken, next), Ok(Placing::Placed { next: next + 305, counts: counts_of_s() }));
+    assert_eq!(seambeacon::place(Rules::default(), &broken, next), Ok(Placing::Placed { next: next + 305, counts: counts_of_s() }));
     let why = Refusal::BrokenRule { group: 7 };
     for group in [1, 7, 11, 60] {
         assert_eq!(read(&broken, group), (Err(why), vec![CELL; 30]));
-        assert_eq!(seambeacon::group_lines(&broken, 0, group), Err(why));
+        assert_eq!(seambeacon::group_lines(Rules::default(), &broken, 0, group), Err(why));
     }
-    assert_eq!(seambeacon::characteristic(&broken, 0, 1), Err(why));
+    assert_eq!(seambeacon::characteristic(Rules::default(), &broken, 0, 1), Err(why));
 }
 
 /// Damage in group 4's line: that group is refused, and the characteristics with it; the other groups and S behind it are as they were.
 #[test]
 fn damage_in_group_4() {
     let blanks = |count: usize| replaced(&s(), "   7.250", &format!("   7.250{}", " ".repeat(count)));
+    let blank_for_return = || replaced(&s(), "   7.250\r\n", "   7.250 \n");
+    let usual = Rules::default();
     let cases = [
-        (blanks(112), Ok(1)),
-        (blanks(113), Err(Refusal::BadLine { group: 4, line: 1 })),
-        (replaced(&s(), "   7.250\r\n", "   7.250 \n"), Err(Refusal::BadLine { group: 4, line: 1 })),
-        (replaced(&s(), "   7.250", "  123456"), Err(Refusal::BadField { group: 4, line: 1, element: 1 })),
-        (replaced(&s(), "   7.250", "   7.2:0"), Err(Refusal::BadField { group: 4, line: 1, element: 1 })),
-        (replaced(&s(), "   7.250", "        "), Err(Refusal::BadField { group: 4, line: 1, element: 1 })),
+        (usual, blanks(112), Ok(1)),
+        (usual, blanks(113), Err(Refusal::BadLine { group: 4, line: 1 })),
+        (usual, blank_for_return(), Ok(1)),
+        (Rules::strict(), blank_for_return(), Err(Refusal::BadLine { group: 4, line: 1 })),
+        (usual, replaced(&s(), "   7.250", "  123456"), Err(Refusal::BadField { group: 4, line: 1, element: 1 })),
+        (usual, replaced(&s(), "   7.250", "   7.2:0"), Err(Refusal::BadField { group: 4, line: 1, element: 1 })),
+        (usual, replaced(&s(), "   7.250", "        "), Err(Refusal::BadField { group: 4, line: 1, element: 1 })),
     ];
-    for (text, want) in cases {
+    for (rules, text, want) in cases {
         let next = text.len();
         let text = [text, s()].concat();
-        assert_eq!(seambeacon::place(&text, 0), Ok(Placing::Placed { next, counts: counts_of_s() }));
-        assert_eq!(seambeacon::place(&text, next), Ok(Placing::Placed { next: next + 305, counts: counts_of_s() }));
-        let (answer, table) = read(&text, 4);
+        assert_eq!(seambeacon::place(rules, &text, 0), Ok(Placing::Placed { next, counts: counts_of_s() }));
+        assert_eq!(seambeacon::place(rules, &text, next), Ok(Placing::Placed { next: next + 305, counts: counts_of_s() }));
+        let (answer, table) = read_under(rules, &text, 4);
         assert_eq!(answer, want);
-        let fof2 = seambeacon::characteristic(&text, 0, 1);
+        let fof2 = seambeacon::characteristic(rules, &text, 0, 1);
         match want {
             Ok(_) => assert_eq!((table[0], fof2), (7250, Ok(Characteristic::Value(7250)))),
             Err(why) => assert_eq!((table[0], fof2), (CELL, Err(why))),
         }
         assert!(table[1..].iter().all(|&cell| cell == CELL));
-        let (answer, table) = read(&text, 1);
+        let (answer, table) = read_under(rules, &text, 1);
         assert_eq!((answer, &table[..4]), (Ok(4), &cells_of_s()[..4]));
-        assert_eq!(read(&text, 3).0, Ok(19));
-        assert_eq!(seambeacon::characteristic(&text, next, 1), Ok(Characteristic::Value(7250)));
+        assert_eq!(read_under(rules, &text, 3).0, Ok(19));
+        assert_eq!(seambeacon::characteristic(rules, &text, next, 1), Ok(Characteristic::Value(7250)));
     }
 }
 
@@ -134,15 +141,16 @@ fn a_wrong_date() {
 /// A refused group: nothing is written, and the table has the cells of the groups before it.
 #[test]
 fn rewriting_up_to_a_refused_group() {
-    for (old, new, refusal, before) in [
-        ("   7.250", "   7.2:0", Refusal::BadField { group: 4, line: 1, element: 1 }, 23),
-        ("   7.250\r\n", "   7.250 \n", Refusal::BadLine { group: 4, line: 1 }, 23),
-        ("0922", "0923", Refusal::BadDate { position: 7 }, 4),
-        ("  1.200", "  1:200", Refusal::BadField { group: 1, line: 1, element: 1 }, 0),
+    let usual = Rules::default();
+    for (rules, old, new, refusal, before) in [
+        (usual, "   7.250", "   7.2:0", Refusal::BadField { group: 4, line: 1, element: 1 }, 23),
+        (Rules::strict(), "   7.250\r\n", "   7.250 \n", Refusal::BadLine { group: 4, line: 1 }, 23),
+        (usual, "0922", "0923", Refusal::BadDate { position: 7 }, 4),
+        (usual, "  1.200", "  1:200", Refusal::BadField { group: 1, line: 1, element: 1 }, 0),
     ] {
         let text = replaced(&s(), old, new);
         let (mut table, mut out) = ([CELL; 30], [1; 400]);
-        let answer = seambeacon::rewrite_record(&text, 0, &mut table, &mut out);
+        let answer = seambeacon::rewrite_record(rules, &text, 0, &mut table, &mut out);
         assert_eq!(answer, Err(refusal));
         assert_eq!(out, [1; 400]);
         assert_eq!(&table[..before], &cells_of_s()[..before]);

@@ -3,16 +3,16 @@
 mod common;
 
 use common::{bytes, rewritten};
-use seambeacon::{Characteristic, Placing, Refusal};
+use seambeacon::{Characteristic, Placing, Refusal, Rules};
 
 /// The places of the records, and the place where the walk stopped.
 fn places(text: &[u8]) -> Vec<usize> {
     let mut all = vec![0];
-    while let Ok(Placing::Placed { next, .. }) = seambeacon::place(text, all[all.len() - 1]) {
+    while let Ok(Placing::Placed { next, .. }) = seambeacon::place(Rules::default(), text, all[all.len() - 1]) {
         assert!(next > all[all.len() - 1], "a walk goes forward");
         all.push(next);
     }
-    assert_eq!(seambeacon::place(text, all[all.len() - 1]), Err(Refusal::End));
+    assert_eq!(seambeacon::place(Rules::default(), text, all[all.len() - 1]), Err(Refusal::End));
     all
 }
 
@@ -36,18 +36,18 @@ fn fof2_of_each_hour() {
         assert_eq!(want[3], 999_900);
         for (&at, cell) in places.iter().zip(want) {
             let fof2 = if cell == 999_900 { Characteristic::NoReading } else { Characteristic::Value(cell) };
-            assert_eq!(seambeacon::characteristic(&text, at, 1), Ok(fof2));
-            assert_eq!(seambeacon::characteristic(&text, at, 41), Ok(Characteristic::NotReported));
+            assert_eq!(seambeacon::characteristic(Rules::default(), &text, at, 1), Ok(fof2));
+            assert_eq!(seambeacon::characteristic(Rules::default(), &text, at, 41), Ok(Characteristic::NotReported));
         }
         // no F1 layer by night
-        assert_eq!(seambeacon::characteristic(&text, 0, 2), Ok(Characteristic::NoReading));
+        assert_eq!(seambeacon::characteristic(Rules::default(), &text, 0, 2), Ok(Characteristic::NoReading));
     }
 }
 
 #[test]
 fn the_day_is_rewritten_byte_for_byte() {
     let text = bytes("examples/day.sao");
-    let (all, at) = rewritten(&text);
+    let (all, at) = rewritten(Rules::default(), &text);
     assert_eq!(at, text.len());
     assert!(all == text);
 }
@@ -61,17 +61,20 @@ fn one_bad_character_is_seen_in_its_group_alone() {
     let places = places(&day);
     let (mut same, mut refused) = (0, 0);
     for (hour, &at) in places[..24].iter().enumerate() {
-        assert_eq!(seambeacon::place(&day, at), seambeacon::place(&damaged, at));
+        assert_eq!(seambeacon::place(Rules::default(), &day, at), seambeacon::place(Rules::default(), &damaged, at));
         for number in 1..=49 {
-            assert_eq!(seambeacon::characteristic(&day, at, number), seambeacon::characteristic(&damaged, at, number));
+            assert_eq!(
+                seambeacon::characteristic(Rules::default(), &day, at, number),
+                seambeacon::characteristic(Rules::default(), &damaged, at, number)
+            );
         }
         for group in 1..=60 {
             let (mut old, mut new) = ([-1; 2000], [-1; 2000]);
-            let before = seambeacon::read_group(&day, at, group, &mut old);
-            let after = seambeacon::read_group(&damaged, at, group, &mut new);
+            let before = seambeacon::read_group(Rules::default(), &day, at, group, &mut old);
+            let after = seambeacon::read_group(Rules::default(), &damaged, at, group, &mut new);
             assert!(before.is_ok());
             if (hour, group) == (13, 7) {
-                let lines = seambeacon::group_lines(&damaged, at, group).expect("lines");
+                let lines = seambeacon::group_lines(Rules::default(), &damaged, at, group).expect("lines");
                 let column = altered[0] - (lines.as_ptr() as usize - damaged.as_ptr() as usize);
                 assert!(column < lines.len());
                 let (line, element) = (column / 122 + 1, column / 122 * 15 + column % 122 / 8 + 1);
@@ -91,9 +94,9 @@ fn one_bad_character_is_seen_in_its_group_alone() {
 #[test]
 fn several_threads_ask_at_the_same_time() {
     let day = bytes("examples/day.sao");
-    let want = rewritten(&day);
+    let want = rewritten(Rules::default(), &day);
     std::thread::scope(|scope| {
-        let asked: Vec<_> = (0..8).map(|_| scope.spawn(|| rewritten(&day))).collect();
+        let asked: Vec<_> = (0..8).map(|_| scope.spawn(|| rewritten(Rules::default(), &day))).collect();
         for answer in asked {
             assert!(answer.join().expect("an answer") == want);
         }

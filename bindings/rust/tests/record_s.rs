@@ -3,7 +3,7 @@
 mod common;
 
 use common::{cells_of_s, counts_of_s, replaced, s};
-use seambeacon::{Characteristic, Placing, Refusal, Rewritten};
+use seambeacon::{Characteristic, Placing, Refusal, Rewritten, Rules};
 
 /// A cell and a byte that are in none of the answers, to see what is kept.
 const CELL: i64 = -987_654_321;
@@ -15,24 +15,24 @@ const NO_NUMBERS: [usize; 4] = [0, 61, 62, usize::MAX];
 fn a_walk_over_s_twice() {
     let text = s().repeat(2);
     let counts = counts_of_s();
-    assert_eq!(seambeacon::place(&text, 0), Ok(Placing::Placed { next: 305, counts }));
-    assert_eq!(seambeacon::place(&text, 305), Ok(Placing::Placed { next: 610, counts }));
-    assert_eq!(seambeacon::place(&text, 610), Err(Refusal::End));
+    assert_eq!(seambeacon::place(Rules::default(), &text, 0), Ok(Placing::Placed { next: 305, counts }));
+    assert_eq!(seambeacon::place(Rules::default(), &text, 305), Ok(Placing::Placed { next: 610, counts }));
+    assert_eq!(seambeacon::place(Rules::default(), &text, 610), Err(Refusal::End));
     for beyond in [611, 612, usize::MAX] {
-        assert_eq!(seambeacon::place(&text, beyond), Err(Refusal::Beyond));
+        assert_eq!(seambeacon::place(Rules::default(), &text, beyond), Err(Refusal::Beyond));
     }
 }
 
 #[test]
 fn no_text_at_all() {
-    assert_eq!(seambeacon::place(&[], 0), Err(Refusal::End));
-    assert_eq!(seambeacon::place(&[], 1), Err(Refusal::Beyond));
-    assert_eq!(seambeacon::read_group(&[], 0, 1, &mut []), Err(Refusal::End));
-    assert_eq!(seambeacon::group_lines(&[], 0, 1), Err(Refusal::End));
-    assert_eq!(seambeacon::characteristic(&[], 0, 1), Err(Refusal::End));
+    assert_eq!(seambeacon::place(Rules::default(), &[], 0), Err(Refusal::End));
+    assert_eq!(seambeacon::place(Rules::default(), &[], 1), Err(Refusal::Beyond));
+    assert_eq!(seambeacon::read_group(Rules::default(), &[], 0, 1, &mut []), Err(Refusal::End));
+    assert_eq!(seambeacon::group_lines(Rules::default(), &[], 0, 1), Err(Refusal::End));
+    assert_eq!(seambeacon::characteristic(Rules::default(), &[], 0, 1), Err(Refusal::End));
     assert_eq!(seambeacon::write_record(&[], &[], &mut []), Err(Refusal::Misformed));
-    assert_eq!(seambeacon::list(&[], &mut []), Err(Refusal::NoRoom));
-    assert_eq!(seambeacon::rewrite_record(&[], 0, &mut [], &mut []), Err(Refusal::End));
+    assert_eq!(seambeacon::list(Rules::default(), &[], &mut []), Err(Refusal::NoRoom));
+    assert_eq!(seambeacon::rewrite_record(Rules::default(), &[], 0, &mut [], &mut []), Err(Refusal::End));
 }
 
 /// The cells of each group, into tables exact, longer and one short, in both records of S twice.
@@ -45,14 +45,14 @@ fn groups_into_tables_of_each_length() {
         for (group, want) in [(1, &cells[..4]), (2, &[]), (3, &cells[4..23]), (4, &cells[23..]), (60, &[])] {
             for more in 0..3 {
                 let mut table = vec![CELL; want.len() + more];
-                assert_eq!(seambeacon::read_group(&text, at, group, &mut table), Ok(want.len()));
+                assert_eq!(seambeacon::read_group(Rules::default(), &text, at, group, &mut table), Ok(want.len()));
                 assert_eq!(&table[..want.len()], want);
                 assert!(table[want.len()..].iter().all(|&cell| cell == CELL));
                 asked += 1;
             }
             if !want.is_empty() {
                 let mut short = vec![CELL; want.len() - 1];
-                assert_eq!(seambeacon::read_group(&text, at, group, &mut short), Err(Refusal::NoRoom));
+                assert_eq!(seambeacon::read_group(Rules::default(), &text, at, group, &mut short), Err(Refusal::NoRoom));
                 assert!(short.iter().all(|&cell| cell == CELL));
                 asked += 1;
             }
@@ -66,11 +66,11 @@ fn numbers_that_are_no_group() {
     let text = s();
     for group in NO_NUMBERS {
         let mut table = [CELL; 30];
-        assert_eq!(seambeacon::read_group(&text, 0, group, &mut table), Err(Refusal::NoSuchNumber));
+        assert_eq!(seambeacon::read_group(Rules::default(), &text, 0, group, &mut table), Err(Refusal::NoSuchNumber));
         assert_eq!(table, [CELL; 30]);
-        assert_eq!(seambeacon::group_lines(&text, 0, group), Err(Refusal::NoSuchNumber));
+        assert_eq!(seambeacon::group_lines(Rules::default(), &text, 0, group), Err(Refusal::NoSuchNumber));
         // 12 comes before any placing reply
-        assert_eq!(seambeacon::read_group(&text, 1000, group, &mut table), Err(Refusal::NoSuchNumber));
+        assert_eq!(seambeacon::read_group(Rules::default(), &text, 1000, group, &mut table), Err(Refusal::NoSuchNumber));
     }
 }
 
@@ -81,31 +81,32 @@ fn lines_are_the_callers_own_text() {
     let mut asked = 0;
     for at in [0, 305] {
         for (group, start, end) in [(1, 244, 274), (2, 274, 274), (3, 274, 295), (4, 295, 305), (5, 305, 305), (60, 305, 305)] {
-            let lines = seambeacon::group_lines(&text, at, group).unwrap_or_else(|why| panic!("group {group} at {at}: {why}"));
+            let lines =
+                seambeacon::group_lines(Rules::default(), &text, at, group).unwrap_or_else(|why| panic!("group {group} at {at}: {why}"));
             assert_eq!(lines, &text[at + start..at + end]);
             assert_eq!(lines.as_ptr() as usize - text.as_ptr() as usize, at + start);
             asked += 1;
         }
     }
     assert_eq!(asked, 12);
-    assert_eq!(seambeacon::group_lines(&text, 610, 1), Err(Refusal::End));
-    assert_eq!(seambeacon::group_lines(&text, usize::MAX, 1), Err(Refusal::Beyond));
+    assert_eq!(seambeacon::group_lines(Rules::default(), &text, 610, 1), Err(Refusal::End));
+    assert_eq!(seambeacon::group_lines(Rules::default(), &text, usize::MAX, 1), Err(Refusal::Beyond));
 }
 
 #[test]
 fn characteristics() {
     let text = s().repeat(2);
     for at in [0, 305] {
-        assert_eq!(seambeacon::characteristic(&text, at, 1), Ok(Characteristic::Value(7250)));
+        assert_eq!(seambeacon::characteristic(Rules::default(), &text, at, 1), Ok(Characteristic::Value(7250)));
         for number in 2..=49 {
-            assert_eq!(seambeacon::characteristic(&text, at, number), Ok(Characteristic::NotReported));
+            assert_eq!(seambeacon::characteristic(Rules::default(), &text, at, number), Ok(Characteristic::NotReported));
         }
         for number in [0, 50, usize::MAX] {
-            assert_eq!(seambeacon::characteristic(&text, at, number), Err(Refusal::NoSuchNumber));
+            assert_eq!(seambeacon::characteristic(Rules::default(), &text, at, number), Err(Refusal::NoSuchNumber));
         }
     }
-    assert_eq!(seambeacon::characteristic(&text, 610, 1), Err(Refusal::End));
-    assert_eq!(seambeacon::characteristic(&text, 610, 50), Err(Refusal::NoSuchNumber));
+    assert_eq!(seambeacon::characteristic(Rules::default(), &text, 610, 1), Err(Refusal::End));
+    assert_eq!(seambeacon::characteristic(Rules::default(), &text, 610, 50), Err(Refusal::NoSuchNumber));
 }
 
 /// R291: 9999.000 is no reading, nor is 999.900, since characteristic 1 is a frequency.
@@ -122,7 +123,7 @@ fn no_reading() {
         ("   -.500", Characteristic::Value(-500)),
     ] {
         let text = replaced(&s(), "   7.250", field);
-        assert_eq!(seambeacon::characteristic(&text, 0, 1), Ok(want), "{field}");
+        assert_eq!(seambeacon::characteristic(Rules::default(), &text, 0, 1), Ok(want), "{field}");
     }
 }
 
@@ -150,12 +151,12 @@ fn listing_s_twice() {
     let text = s().repeat(2);
     for more in 0..3 {
         let mut out = vec![BYTE; LISTED.len() + more];
-        assert_eq!(seambeacon::list(&text, &mut out), Ok(LISTED.len()));
+        assert_eq!(seambeacon::list(Rules::default(), &text, &mut out), Ok(LISTED.len()));
         assert_eq!(&out[..LISTED.len()], LISTED.as_bytes());
         assert!(out[LISTED.len()..].iter().all(|&byte| byte == BYTE));
     }
     let mut out = vec![BYTE; LISTED.len() - 1];
-    assert_eq!(seambeacon::list(&text, &mut out), Err(Refusal::NoRoom));
+    assert_eq!(seambeacon::list(Rules::default(), &text, &mut out), Err(Refusal::NoRoom));
     assert!(out.iter().all(|&byte| byte == BYTE));
 }
 
@@ -167,7 +168,7 @@ fn rewriting_s() {
         let want = replaced(&s(), "   7.250", canonical);
         let mut table = [CELL; 25];
         let mut out = [BYTE; 306];
-        let answer = seambeacon::rewrite_record(&text, 305, &mut table, &mut out);
+        let answer = seambeacon::rewrite_record(Rules::default(), &text, 305, &mut table, &mut out);
         assert_eq!(answer, Ok(Rewritten { bytes: 305, next: 610 }));
         assert_eq!(&out[..305], &want[..]);
         assert_eq!((out[305], table[24]), (BYTE, CELL));
@@ -175,11 +176,11 @@ fn rewriting_s() {
     }
     let mut table = [CELL; 24];
     let mut out = [BYTE; 304];
-    assert_eq!(seambeacon::rewrite_record(&s(), 0, &mut table, &mut out), Err(Refusal::NoRoom));
+    assert_eq!(seambeacon::rewrite_record(Rules::default(), &s(), 0, &mut table, &mut out), Err(Refusal::NoRoom));
     assert_eq!(out, [BYTE; 304]);
     let mut short = [CELL; 23];
     let mut out = [BYTE; 305];
-    assert_eq!(seambeacon::rewrite_record(&s(), 0, &mut short, &mut out), Err(Refusal::NoRoom));
+    assert_eq!(seambeacon::rewrite_record(Rules::default(), &s(), 0, &mut short, &mut out), Err(Refusal::NoRoom));
     assert_eq!((out, short), ([BYTE; 305], [CELL; 23]));
-    assert_eq!(seambeacon::rewrite_record(&s(), 306, &mut table, &mut out), Err(Refusal::Beyond));
+    assert_eq!(seambeacon::rewrite_record(Rules::default(), &s(), 306, &mut table, &mut out), Err(Refusal::Beyond));
 }

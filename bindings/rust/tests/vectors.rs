@@ -1,10 +1,11 @@
-//! The texts and write questions of tests/vectors, with the answers of an independent implementation: lists, rewritten records, every answer
-//! about every placed record, and everything that is written.
+//! The texts and write questions of tests/vectors, with the answers of an independent implementation, under the usual rules and under the
+//! strict line end: lists, rewritten records, every answer about every placed record, and everything that is written.
 
 mod common;
 
 use common::{bytes, project, rewritten};
-use seambeacon::{Characteristic, Placing, Refusal};
+use seambeacon::{Characteristic, Placing, Refusal, Rules};
+use std::cell::Cell;
 use std::fmt::Write;
 use std::fs;
 
@@ -19,24 +20,36 @@ fn texts() -> Vec<(String, Vec<u8>)> {
             all.push((format!("tests/vectors/{stem}"), text));
         }
     }
-    assert!(all.len() >= 100, "{} texts", all.len());
+    assert!(all.len() >= 190, "{} texts", all.len());
     all
+}
+
+/// Under each of the rules: what is asked of a text, and what it has to answer. Where strict has no answer of its own, it is the usual one.
+fn compared(kind: &str, asked: impl Fn(Rules, &[u8]) -> Vec<u8>) {
+    let mut other = 0;
+    for (path, text) in texts() {
+        let (usual, strict) = (format!("{path}.{kind}"), format!("{path}.strict.{kind}"));
+        assert!(asked(Rules::default(), &text) == bytes(&usual), "{usual}");
+        let differs = project(&strict).exists();
+        let answer = if differs { &strict } else { &usual };
+        assert!(asked(Rules::strict(), &text) == bytes(answer), "{answer}, strict");
+        other += usize::from(differs);
+    }
+    assert!(other >= 40, "{other} answers of strict alone");
 }
 
 #[test]
 fn listings() {
-    for (path, text) in texts() {
+    compared("list", |rules, text| {
         let mut out = [0; 8192];
-        let length = seambeacon::list(&text, &mut out).unwrap_or_else(|why| panic!("{path}: {why}"));
-        assert!(out[..length] == bytes(&format!("{path}.list")), "{path}");
-    }
+        let length = seambeacon::list(rules, text, &mut out).expect("a listing");
+        out[..length].to_vec()
+    });
 }
 
 #[test]
 fn rewritten_records() {
-    for (path, text) in texts() {
-        assert!(rewritten(&text).0 == bytes(&format!("{path}.rewrite")), "{path}");
-    }
+    compared("rewrite", |rules, text| rewritten(rules, text).0);
 }
 
 /// A refusal's number, and the two numbers beside it in a dump: group, line or position, and element.
@@ -52,13 +65,13 @@ fn numbers(why: Refusal) -> [usize; 3] {
 }
 
 /// `group G REPLY A B START END CELL1 ..`
-fn group_row(text: &[u8], at: usize, group: usize) -> String {
+fn group_row(rules: Rules, text: &[u8], at: usize, group: usize) -> String {
     let mut table = [0; 2000];
-    let ([reply, a, b], cells) = match seambeacon::read_group(text, at, group, &mut table) {
+    let ([reply, a, b], cells) = match seambeacon::read_group(rules, text, at, group, &mut table) {
         Ok(cells) => ([0, cells, 0], cells),
         Err(why) => (numbers(why), 0),
     };
-    let start_end = match seambeacon::group_lines(text, at, group) {
+    let start_end = match seambeacon::group_lines(rules, text, at, group) {
         Ok(lines) => {
             let start = lines.as_ptr() as usize - text.as_ptr() as usize;
             [start, start + lines.len()]
@@ -73,8 +86,8 @@ fn group_row(text: &[u8], at: usize, group: usize) -> String {
 }
 
 /// `char C KIND VALUE REPLY A B`
-fn characteristic_row(text: &[u8], at: usize, number: usize) -> String {
-    let (kind, value, [reply, a, b]) = match seambeacon::characteristic(text, at, number) {
+fn characteristic_row(rules: Rules, text: &[u8], at: usize, number: usize) -> String {
+    let (kind, value, [reply, a, b]) = match seambeacon::characteristic(rules, text, at, number) {
         Ok(Characteristic::Value(value)) => (0, value, [0; 3]),
         Ok(Characteristic::NoReading) => (1, 0, [0; 3]),
         Ok(Characteristic::NotReported) => (2, 0, [0; 3]),
@@ -83,33 +96,38 @@ fn characteristic_row(text: &[u8], at: usize, number: usize) -> String {
     format!("char {number} {kind} {value} {reply} {a} {b}")
 }
 
+/// Every answer about every record, as the rows of a dump.
+fn dumped(rules: Rules, text: &[u8]) -> String {
+    let (mut at, mut rows) = (0, String::new());
+    let mut push = |row: String| rows.push_str(&(row + "\n"));
+    loop {
+        let (reply, next, group, counts) = match seambeacon::place(rules, text, at) {
+            Ok(Placing::Placed { next, counts }) => (0, next, 0, counts),
+            Ok(Placing::Broken { next, counts, group }) => (7, next, group, counts),
+            Err(why) => {
+                let [reply, group, _] = numbers(why);
+                push(format!("stop {at} {reply} 0 {group}"));
+                return rows;
+            }
+        };
+        let counts: Vec<String> = counts.iter().map(u16::to_string).collect();
+        push(format!("record {at} {reply} {next} {group} {}", counts.join(" ")));
+        (1..=60).for_each(|group| push(group_row(rules, text, at, group)));
+        (1..=49).for_each(|number| push(characteristic_row(rules, text, at, number)));
+        assert!(next > at, "a walk goes forward");
+        at = next;
+    }
+}
+
 #[test]
 fn every_answer_about_every_record() {
-    let mut records = 0;
-    for (path, text) in texts() {
-        let (mut at, mut rows) = (0, Vec::new());
-        loop {
-            let (reply, next, group, counts) = match seambeacon::place(&text, at) {
-                Ok(Placing::Placed { next, counts }) => (0, next, 0, counts),
-                Ok(Placing::Broken { next, counts, group }) => (7, next, group, counts),
-                Err(why) => {
-                    let [reply, group, _] = numbers(why);
-                    rows.push(format!("stop {at} {reply} 0 {group}"));
-                    break;
-                }
-            };
-            let counts: Vec<String> = counts.iter().map(u16::to_string).collect();
-            rows.push(format!("record {at} {reply} {next} {group} {}", counts.join(" ")));
-            rows.extend((1..=60).map(|group| group_row(&text, at, group)));
-            rows.extend((1..=49).map(|number| characteristic_row(&text, at, number)));
-            assert!(next > at, "a walk goes forward");
-            at = next;
-            records += 1;
-        }
-        let want = String::from_utf8(bytes(&format!("{path}.dump"))).expect("ASCII");
-        assert!(want.lines().eq(rows.iter().map(String::as_str)), "{path}");
-    }
-    assert!(records >= 100, "{records} records");
+    let records = Cell::new(0);
+    compared("dump", |rules, text| {
+        let rows = dumped(rules, text);
+        records.set(records.get() + rows.matches("record ").count());
+        rows.into_bytes()
+    });
+    assert!(records.get() >= 200, "{} records", records.get());
 }
 
 /// `ROOM K count.. M cell.. REPLY A B HEX`, where A and B are bytes, group or position, and element.

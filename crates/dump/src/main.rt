@@ -113,11 +113,11 @@ fn part_to(text: &[u8], from: usize, part: &[u8]) -> usize {
     from + part.len()
 }
 
-fn print_group(text: &[u8], at: usize, g: usize, page: &mut [u8]) {
+fn print_group(rules: rules::Rules, text: &[u8], at: usize, g: usize, page: &mut [u8]) {
     let mut table = [0i64; 2048];
-    let r = reply::of_answer(sao::read_group(text, at, g, &mut table));
-    let from = sao::group_lines_at(text, at, g).from;
-    let part = sao::group_lines(text, at, g);
+    let r = reply::of_answer(sao::read_group(rules, text, at, g, &mut table));
+    let from = sao::group_lines_at(rules, text, at, g).from;
+    let part = sao::group_lines(rules, text, at, g);
     let number = put(page, 0, g);
     let told = put_reply(page, number, r);
     let start = put(page, told, from);
@@ -143,8 +143,14 @@ fn told(c: Characteristic) -> Shown {
     }
 }
 
-fn print_characteristic(text: &[u8], at: usize, number: usize, page: &mut [u8]) {
-    let answer = sao::characteristic(text, at, number);
+fn print_characteristic(
+    rules: rules::Rules,
+    text: &[u8],
+    at: usize,
+    number: usize,
+    page: &mut [u8],
+) {
+    let answer = sao::characteristic(rules, text, at, number);
     let t = told(answer);
     let r = group::reply_of(answer);
     let first = put(page, 0, number);
@@ -154,28 +160,28 @@ fn print_characteristic(text: &[u8], at: usize, number: usize, page: &mut [u8]) 
     print_row(b"char", page, end);
 }
 
-fn print_groups(text: &[u8], at: usize, page: &mut [u8]) {
+fn print_groups(rules: rules::Rules, text: &[u8], at: usize, page: &mut [u8]) {
     let mut g: usize = 1;
     while g <= 60 {
-        print_group(text, at, g, page);
+        print_group(rules, text, at, g, page);
         g += 1;
     }
 }
 
-fn print_characteristics(text: &[u8], at: usize, page: &mut [u8]) {
+fn print_characteristics(rules: rules::Rules, text: &[u8], at: usize, page: &mut [u8]) {
     let mut number: usize = 1;
     while number <= 49 {
-        print_characteristic(text, at, number, page);
+        print_characteristic(rules, text, at, number, page);
         number += 1;
     }
 }
 
-// The records from a place on. A record has 244 bytes at least (R21, R28), so 65,536 bytes hold fewer than 300.
-fn print_records(text: &[u8], page: &mut [u8]) {
+// The records from a place on. A record has 242 bytes at least (R9, R21, R28), so 65,536 bytes hold fewer than 300.
+fn print_records(rules: rules::Rules, text: &[u8], page: &mut [u8]) {
     let mut at: usize = 0;
     let mut k: usize = 0;
     while k < 300 {
-        let record = sao::place(text, at);
+        let record = sao::place(rules, text, at);
         let answer = record.answer;
         let counts = record.counts;
         let r = place::reply_of(answer);
@@ -184,14 +190,19 @@ fn print_records(text: &[u8], page: &mut [u8]) {
             return;
         }
         print_record(at, r, &counts, page);
-        print_groups(text, at, page);
-        print_characteristics(text, at, page);
+        print_groups(rules, text, at, page);
+        print_characteristics(rules, text, at, page);
         at = r.next;
         k += 1;
     }
 }
 
 fn main() {
+    let asked = words::given(b"dump");
+    if !asked.known {
+        return;
+    }
+    let rules = rules::choose(asked.strict);
     let mut space = [0u8; 65537];
     let n = io::read_full(STDIN_FILENO, &mut space);
     let mut page = [0u8; 65536];
@@ -199,5 +210,5 @@ fn main() {
         io::write_all(STDOUT_FILENO, b"stop 0 11 0 0\n");
         return;
     }
-    print_records(&space[0..n], &mut page);
+    print_records(rules, &space[0..n], &mut page);
 }

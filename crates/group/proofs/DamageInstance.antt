@@ -8,11 +8,13 @@ use Prim.Native.Nat.{ℕ, _≤_}
 use native.Mathlib.Omega.{arith}
 use lib.IntN.{ℤ, pos}
 use lib.ListN.{length, set, replicate}
+use Rattle.rules.specs.declared.Rules.{Rules}
 use Rattle.base.specs.Every
 use Rattle.base.specs.Part.{part}
 use Rattle.base.specs.Pieces.{done, bad}
 use Rattle.form.specs.declared.Form.the-variants.{F8}
 use Rattle.form.specs.Table
+use Rattle.line.specs.Alike
 use Rattle.line.specs.Lines.{isFeed}
 use Rattle.count.specs.Rules
 use Rattle.place.specs.Parts.{start, groupPart}
@@ -42,95 +44,96 @@ unfoldable pub commaS : List ℕ
 commaS = set twiceS 299 44
 
 comma-line : part 295 305 commaS ≡ quotedLine "   7,250"
-unfolding commaS RecordS.recordS RecordS.twiceS
+unfolding commaS RecordS.recordS RecordS.twiceS Alike.endedBy
 comma-line = refl
 
 -- ---- group 4 of a record with S's counts, into a table with room
 
-four-by : (x : List ℕ) (room : ℕ) → readGroup countsS 4 x room ≡ readForm F8 4 1 x room
+four-by : (ρ : Rules) (x : List ℕ) (room : ℕ) → readGroup ρ countsS 4 x room ≡ readForm ρ F8 4 1 x room
 unfolding RecordS.countsS Read.readGroup Every.upFrom Table.listedAs Table.formAmong Table.formOf Rules.rulingOf Rules.lowest Rules.headRules Rules.sets Rules.keeps Rules.letterRules
-four-by x room = refl
+four-by ρ x room = refl
 
-module _ (room : ℕ) (h : 1 ≤ room) where
-  four-before : (at next : ℕ) → locate twiceS at ≡ located next countsS → groupPart twiceS at countsS 4 ≡ quotedLine "   7.250" → readAt twiceS at 4 room ≡ done (pos 7250 ∷ [])
+module _ (ρ : Rules) (room : ℕ) (h : 1 ≤ room) where
+  four-before : (at next : ℕ) → locate ρ twiceS at ≡ located next countsS → groupPart twiceS at countsS 4 ≡ quotedLine "   7.250" → readAt ρ twiceS at 4 room ≡ done (pos 7250 ∷ [])
   four-before at next e f =
-      read-located twiceS at 4 room next countsS e
-      ∙ ap (λ x. readGroup countsS 4 x room) f
-      ∙ four-by (quotedLine "   7.250") room
-      ∙ four-reads room h .0
+      read-located ρ twiceS at 4 room next countsS e
+      ∙ ap (λ x. readGroup ρ countsS 4 x room) f
+      ∙ four-by ρ (quotedLine "   7.250") room
+      ∙ four-reads ρ room h .0
 
-  read-first : readAt twiceS 0 4 room ≡ done (pos 7250 ∷ [])
-  read-first = four-before 0 305 (twice .first) (twice .first-four)
+  read-first : readAt ρ twiceS 0 4 room ≡ done (pos 7250 ∷ [])
+  read-first = four-before 0 305 (twice ρ .first) (twice ρ .first-four)
 
-  read-second : readAt twiceS 305 4 room ≡ done (pos 7250 ∷ [])
-  read-second = four-before 305 610 (twice .second) (twice .second-four)
+  read-second : readAt ρ twiceS 305 4 room ≡ done (pos 7250 ∷ [])
+  read-second = four-before 305 610 (twice ρ .second) (twice ρ .second-four)
 
 -- ---- the damage, and that it is confined
 
-first-starts : (g n : ℕ) → start twiceS 0 countsS g ≡ n → linesStart twiceS (spot twiceS 0) g ≡ n
-first-starts g n e = rw (← spot-start twiceS, counts-at twiceS 0 305 countsS (twice .first)) e
+first-starts : (ρ : Rules) (g n : ℕ) → start twiceS 0 countsS g ≡ n → linesStart ρ twiceS (spot ρ twiceS 0) g ≡ n
+first-starts ρ g n e = rw (← spot-start ρ twiceS, counts-at ρ twiceS 0 305 countsS (twice ρ .first)) e
 
-pub comma-damages : Damaged twiceS commaS 0 4
+pub comma-damages : (ρ : Rules) → Damaged ρ twiceS commaS 0 4
 unfolding commaS
-comma-damages =
-    damaged-one 299 44
-    (placed-record twiceS (spot twiceS 0) .1 (two-records .each 0 (omega arith)))
+comma-damages ρ =
+    damaged-one ρ 299 44
+    (placed-record ρ twiceS (spot ρ twiceS 0) .1 (two-records ρ .each 0 (omega arith)))
     (omega arith)
     (omega arith)
-    (omega (arith, first-starts 4 295 (twice .from)), omega (arith, first-starts 5 305 (twice .to)))
-    (omega (arith, twice .long))
-    (ap isFeed (twice .point))
+    (omega (arith, first-starts ρ 4 295 (twice ρ .from)), omega (arith, first-starts ρ 5 305 (twice ρ .to)))
+    (omega (arith, twice ρ .long))
+    (ap isFeed (twice ρ .point))
 
-pub comma-confined : Confined twiceS commaS 0 4
-comma-confined = damage-stays twiceS commaS 0 4 comma-damages
+pub comma-confined : (ρ : Rules) → Confined ρ twiceS commaS 0 4
+comma-confined ρ = damage-stays ρ twiceS commaS 0 4 (comma-damages ρ)
 
 -- ---- what that says here
 
 -- D3.3: still two records
-pub two-still : Stops commaS 2 End
-two-still = comma-confined .as-many 2 End .0 two-records
+pub two-still : (ρ : Rules) → Stops ρ commaS 2 End
+two-still ρ = comma-confined ρ .as-many 2 End .0 (two-records ρ)
 
-comma-second : 305 ≡ spot commaS 1
-comma-second = sym (comma-confined .places 1 ∙ spot-one)
+comma-second : (ρ : Rules) → 305 ≡ spot ρ commaS 1
+comma-second ρ = sym (comma-confined ρ .places 1 ∙ spot-one ρ)
 
 -- what a group gives, by places and cells that are known
-given : (s : List ℕ) (g : ℕ) (table : List ℤ) {p q : ℕ} {c d : Cells} → p ≡ q → SameReading (readAt s q g (length table)) c table → c ≡ d → SameReading (readAt s p g (length table)) d table
-given s g table e o f =
+given : (ρ : Rules) (s : List ℕ) (g : ℕ) (table : List ℤ) {p q : ℕ} {c d : Cells} → p ≡ q → SameReading (readAt ρ s q g (length table)) c table → c ≡ d
+    → SameReading (readAt ρ s p g (length table)) d table
+given ρ s g table e o f =
     record {
-      reply = ap (λ p. readingOf (readAt s p g (length table))) e ∙ o .reply ∙ ap readingOf f;
-      cells = ap (λ p. tableBy (readAt s p g (length table)) table) e ∙ o .cells ∙ ap (λ c. tableBy c table) f;
+      reply = ap (λ p. readingOf (readAt ρ s p g (length table))) e ∙ o .reply ∙ ap readingOf f;
+      cells = ap (λ p. tableBy (readAt ρ s p g (length table)) table) e ∙ o .cells ∙ ap (λ c. tableBy c table) f;
     }
 
-module _ (table : List ℤ) (room : 1 ≤ length table) where
+module _ (ρ : Rules) (table : List ℤ) (room : 1 ≤ length table) where
   -- the first record's group 4 gave its cell, and so did the second's
-  pub before-both : (readAt twiceS 0 4 (length table) ≡ done (pos 7250 ∷ [])) × (readAt twiceS 305 4 (length table) ≡ done (pos 7250 ∷ []))
-  before-both = (read-first (length table) room, read-second (length table) room)
+  pub before-both : (readAt ρ twiceS 0 4 (length table) ≡ done (pos 7250 ∷ [])) × (readAt ρ twiceS 305 4 (length table) ≡ done (pos 7250 ∷ []))
+  before-both = (read-first ρ (length table) room, read-second ρ (length table) room)
 
   -- the first record's is refused now, 9 at line 1, element 1
-  pub first-refused : SameReading (readAt commaS 0 4 (length table)) (bad (BadField 1 1)) table
-  first-refused = given commaS 4 table (spot-start commaS) (comma-confined .altered table) lines
+  pub first-refused : SameReading (readAt ρ commaS 0 4 (length table)) (bad (BadField 1 1)) table
+  first-refused = given ρ commaS 4 table (spot-start ρ commaS) (comma-confined ρ .altered table) lines
     where
-      lines : readGroup (countsAt twiceS (spot twiceS 0)) 4 (part (linesStart twiceS (spot twiceS 0) 4) (linesStart twiceS (spot twiceS 0) 5) commaS) (length table) ≡ bad (BadField 1 1)
+      lines : readGroup ρ (countsAt ρ twiceS (spot ρ twiceS 0)) 4 (part (linesStart ρ twiceS (spot ρ twiceS 0) 4) (linesStart ρ twiceS (spot ρ twiceS 0) 5) commaS) (length table) ≡ bad (BadField 1 1)
       lines =
-          rw (first-starts 4 295 (twice .from), first-starts 5 305 (twice .to), ← spot-start twiceS, counts-at twiceS 0 305 countsS (twice .first), comma-line)
-          (four-by (quotedLine "   7,250") (length table) ∙ four-reads (length table) room .1)
+          rw (first-starts ρ 4 295 (twice ρ .from), first-starts ρ 5 305 (twice ρ .to), ← spot-start ρ twiceS, counts-at ρ twiceS 0 305 countsS (twice ρ .first), comma-line)
+          (four-by ρ (quotedLine "   7,250") (length table) ∙ four-reads ρ (length table) room .1)
 
   -- the second record's gives its cell still
-  pub second-still : SameReading (readAt commaS 305 4 (length table)) (done (pos 7250 ∷ [])) table
+  pub second-still : SameReading (readAt ρ commaS 305 4 (length table)) (done (pos 7250 ∷ [])) table
   second-still =
-      given commaS 4 table comma-second (comma-confined .others 1 4 (λ e f. omega arith) table)
-      (ap (λ p. readAt twiceS p 4 (length table)) spot-one ∙ read-second (length table) room)
+      given ρ commaS 4 table (comma-second ρ) (comma-confined ρ .others 1 4 (λ e f. omega arith) table)
+      (ap (λ p. readAt ρ twiceS p 4 (length table)) (spot-one ρ) ∙ read-second ρ (length table) room)
 
 -- so the first record's first characteristic is refused, and the second's is what it was, 7.250
-pub first-characteristic : characteristicAt commaS 0 1 ≡ Refused (BadField 1 1)
-first-characteristic =
+pub first-characteristic : (ρ : Rules) → characteristicAt ρ commaS 0 1 ≡ Refused (BadField 1 1)
+first-characteristic ρ =
     let table = replicate 49 (pos 0) in
-    sym (four-refused commaS 0 1 (omega arith) (omega arith) (sym (first-refused table (omega arith) .reply)))
+    sym (four-refused ρ commaS 0 1 (omega arith) (omega arith) (sym (first-refused ρ table (omega arith) .reply)))
 
-pub second-characteristic : characteristicAt commaS 305 1 ≡ Value (pos 7250)
+pub second-characteristic : (ρ : Rules) → characteristicAt ρ commaS 305 1 ≡ Value (pos 7250)
 unfolding characteristicAt NoReading.isNoReading
-second-characteristic =
-    ap (λ p. characteristicAt commaS p 1) comma-second
-    ∙ comma-confined .characteristics 1 (λ e f. omega arith) 1
-    ∙ ap (λ p. characteristicAt twiceS p 1) spot-one
-    ∙ ap (reported 1) (read-second 49 (omega arith))
+second-characteristic ρ =
+    ap (λ p. characteristicAt ρ commaS p 1) (comma-second ρ)
+    ∙ comma-confined ρ .characteristics 1 (λ e f. omega arith) 1
+    ∙ ap (λ p. characteristicAt ρ twiceS p 1) (spot-one ρ)
+    ∙ ap (reported 1) (read-second ρ 49 (omega arith))

@@ -11,6 +11,7 @@ use borrow.Author.Tests.{le-leb, lt-leb, leb-true, leb-false}
 use lib.Dec.{leb}
 use lib.IntN.{ℤ, pos}
 use lib.ListN.{length, drop, getD}
+use Rattle.rules.specs.declared.Rules.{Rules}
 use Rattle.base.specs.Pieces.{done, bad}
 use Rattle.base.proofs.Order.{le-or-lt}
 use Rattle.form.specs.declared.Form.the-variants.{F8}
@@ -60,178 +61,178 @@ use Rattle.group.proofs.Rooms.{form-four, cells-four, room-four, same-r
 
 -- ---- the lines of a group
 
-module _ (s : List ℕ) (at g : ℕ) where
-  found-none : NoSuchGroup g → foundAt s at g ≡ C.Refused NoSuchNumber
+module _ (ρ : Rules) (s : List ℕ) (at g : ℕ) where
+  found-none : NoSuchGroup g → foundAt ρ s at g ≡ C.Refused NoSuchNumber
   unfolding foundAt
   found-none n = rw (none-has g .1 (λ i. n (i .low, i .high))) refl
 
-  found-placing : (p : Placing) → PlacingDue s at g p → foundAt s at g ≡ asChecked p
+  found-placing : (p : Placing) → PlacingDue ρ s at g p → foundAt ρ s at g ≡ asChecked p
   unfolding foundAt
-  found-placing p d = rw (group-form g (d .low) (d .high) .1, Placing.first-due s at p .1 (d .placing)) refl
+  found-placing p d = rw (group-form g (d .low) (d .high) .1, Placing.first-due ρ s at p .1 (d .placing)) refl
 
-  missing-given : (r : Refusal) → RefusedFor s at g r → foundAt s at g ≡ C.Refused r
+  missing-given : (r : Refusal) → RefusedFor ρ s at g r → foundAt ρ s at g ≡ C.Refused r
   missing-given r (no-group d) = found-none d
   missing-given r (broken-rule h d) = found-placing (P.BrokenRule h (d .next)) (d .broken)
   missing-given r (unplaced q d) = found-placing (P.Refused q) d
 
-  found-given : (r : Checked) → FoundDue s at g r → foundAt s at g ≡ r
+  found-given : (r : Checked) → FoundDue ρ s at g r → foundAt ρ s at g ≡ r
   found-given C.Right d = found-placing (P.Placed (d .next)) (d .placed)
   found-given (C.Refused r) d = missing-given r d
 
-  from-placing : (p : Placing) → PlacingDue s at g p → FoundDue s at g (asChecked p)
+  from-placing : (p : Placing) → PlacingDue ρ s at g p → FoundDue ρ s at g (asChecked p)
   from-placing (P.Placed n) d = record { next = n; placed = d }
   from-placing (P.BrokenRule h n) d = broken-rule h record { next = n; broken = d }
   from-placing (P.Refused r) d = unplaced r d
 
-  found-is-due : FoundDue s at g (foundAt s at g)
+  found-is-due : FoundDue ρ s at g (foundAt ρ s at g)
   unfolding foundAt
   found-is-due = by (formOf g) refl
     where
-      by : (h : GroupForm) → formOf g ≡ h → FoundDue s at g (foundIn s at h)
+      by : (h : GroupForm) → formOf g ≡ h → FoundDue ρ s at g (foundIn ρ s at h)
       by (Has f) e =
           let r = form-range g f e in
-          from-placing (placingOf s at) record { low = r .0; high = r .1; placing = Placing.first-due s at (placingOf s at) .0 refl }
+          from-placing (placingOf ρ s at) record { low = r .0; high = r .1; placing = Placing.first-due ρ s at (placingOf ρ s at) .0 refl }
       by NoForm e = no-group (λ i. none-has g .0 e record { low = i .0; high = i .1 })
 
-  pub found-first-due : (r : Checked) → foundAt s at g ≡ r ↔ FoundDue s at g r
-  found-first-due r = (λ e. subst (FoundDue s at g) e found-is-due, found-given r)
+  pub found-first-due : (r : Checked) → foundAt ρ s at g ≡ r ↔ FoundDue ρ s at g r
+  found-first-due r = (λ e. subst (FoundDue ρ s at g) e found-is-due, found-given r)
 
 -- ---- a group
 
 -- the counts of a placed record are those that stand in its index
-counts-are : (s : List ℕ) (at n : ℕ) (d : Place.StandsRight s at n) → countsAt s at ≡ d .ns
-counts-are s at n d =
-    let p = is-placed s at n (Placing.first-due s at (P.Placed n) .1 d) in
-    let a = located-is s at n (countsAt s at) (p .located-at) .index in
-    let e : counts (countsAt s at) ≡ counts (d .ns) = sym a ∙ index-is (drop at s) (d .ns) .1 (d .lines .head .index .index) in
+counts-are : (ρ : Rules) (s : List ℕ) (at n : ℕ) (d : Place.StandsRight ρ s at n) → countsAt ρ s at ≡ d .ns
+counts-are ρ s at n d =
+    let p = is-placed ρ s at n (Placing.first-due ρ s at (P.Placed n) .1 d) in
+    let a = located-is ρ s at n (countsAt ρ s at) (p .located-at) .index in
+    let e : counts (countsAt ρ s at) ≡ counts (d .ns) = sym a ∙ index-is ρ (drop at s) (d .ns) .1 (d .lines .head .index .index) in
     cc
 
 -- ---- its part
 
-placed-part : (s : List ℕ) (at g n : ℕ) (d : PlacingDue s at g (P.Placed n)) → IsPart s at (d .placing .ns) g (start s at (d .placing .ns) g) (groupPart s at (d .placing .ns) g)
-placed-part s at g n d =
-    let q = is-placed s at n (Placing.first-due s at (P.Placed n) .1 (d .placing)) in
-    subst (λ ns. IsPart s at ns g (start s at ns g) (groupPart s at ns g)) (counts-are s at n (d .placing)) (part-is s at n (countsAt s at) (q .located-at) g (d .low) (d .high))
+placed-part : (ρ : Rules) (s : List ℕ) (at g n : ℕ) (d : PlacingDue ρ s at g (P.Placed n)) → IsPart s at (d .placing .ns) g (start s at (d .placing .ns) g) (groupPart s at (d .placing .ns) g)
+placed-part ρ s at g n d =
+    let q = is-placed ρ s at n (Placing.first-due ρ s at (P.Placed n) .1 (d .placing)) in
+    subst (λ ns. IsPart s at ns g (start s at ns g) (groupPart s at ns g)) (counts-are ρ s at n (d .placing)) (part-is ρ s at n (countsAt ρ s at) (q .located-at) g (d .low) (d .high))
 
-module _ (s : List ℕ) (at g : ℕ) where
-  part-placed : foundAt s at g ≡ C.Right → (d : FoundDue s at g C.Right) → GivenPart s at g (partStart s at g) (partAt s at g)
+module _ (ρ : Rules) (s : List ℕ) (at g : ℕ) where
+  part-placed : foundAt ρ s at g ≡ C.Right → (d : FoundDue ρ s at g C.Right) → GivenPart ρ s at g (partStart ρ s at g) (partAt ρ s at g)
   unfolding partStart
   part-placed e d =
       let p = d .placed .placing in
-      let q = is-placed s at (d .next) (Placing.first-due s at (P.Placed (d .next)) .1 p) in
-      let c = counts-are s at (d .next) p in
+      let q = is-placed ρ s at (d .next) (Placing.first-due ρ s at (P.Placed (d .next)) .1 p) in
+      let c = counts-are ρ s at (d .next) p in
       record {
         placed = d;
         lines =
-            subst (λ ns. IsPart s at ns g (startBy s at g (foundAt s at g)) (partAt s at g)) c
-            (rw (e, given-part s at g e) (part-is s at (d .next) (countsAt s at) (q .located-at) g (d .placed .low) (d .placed .high)));
+            subst (λ ns. IsPart s at ns g (startBy ρ s at g (foundAt ρ s at g)) (partAt ρ s at g)) c
+            (rw (e, given-part ρ s at g e) (part-is ρ s at (d .next) (countsAt ρ s at) (q .located-at) g (d .placed .low) (d .placed .high)));
       }
 
-  part-due : (r : Checked) → foundAt s at g ≡ r → FoundDue s at g r → PartDue s at g (partStart s at g) (partAt s at g)
+  part-due : (r : Checked) → foundAt ρ s at g ≡ r → FoundDue ρ s at g r → PartDue ρ s at g (partStart ρ s at g) (partAt ρ s at g)
   unfolding partAt
   part-due C.Right e d = inl (part-placed e d)
   part-due (C.Refused r) e d =
-      let b = missing-span s at g e in
+      let b = missing-span ρ s at g e in
       inr record { why = r; missing = d; text-start = sym (b .0); empty = rw (← b .0, ← b .1) (take-none s) }
 
-  due-part : (from : ℕ) (x : List ℕ) → PartDue s at g from x → (partStart s at g ≡ from) × (partAt s at g ≡ x)
+  due-part : (from : ℕ) (x : List ℕ) → PartDue ρ s at g from x → (partStart ρ s at g ≡ from) × (partAt ρ s at g ≡ x)
   unfolding partAt partStart
   due-part from x (inl h) =
       let d = h .placed .placed in
-      let e = found-placing s at g (P.Placed (h .placed .next)) d in
-      let c = counts-are s at (h .placed .next) (d .placing) in
+      let e = found-placing ρ s at g (P.Placed (h .placed .next)) d in
+      let c = counts-are ρ s at (h .placed .next) (d .placing) in
       let w = is-part s at (d .placing .ns) g from x (d .low) (d .high) (h .lines) in (
         rw (e, c) (sym (w .0)),
-        given-part s at g e ∙ rw c (sym (w .1)),
+        given-part ρ s at g e ∙ rw c (sym (w .1)),
       )
   due-part from x (inr h) =
-      let e = missing-given s at g (h .why) (h .missing) in
-      let b = missing-span s at g e in
+      let e = missing-given ρ s at g (h .why) (h .missing) in
+      let b = missing-span ρ s at g e in
       (sym (b .0) ∙ sym (h .text-start), rw (← b .0, ← b .1) (take-none s) ∙ sym (h .empty))
 
   -- the part that is given is the one that is due, and no other is
-  pub part-first-due : (from : ℕ) (x : List ℕ) → ((partStart s at g ≡ from) × (partAt s at g ≡ x)) ↔ PartDue s at g from x
+  pub part-first-due : (from : ℕ) (x : List ℕ) → ((partStart ρ s at g ≡ from) × (partAt ρ s at g ≡ x)) ↔ PartDue ρ s at g from x
   part-first-due from x = (
-    λ e. subst (λ f. PartDue s at g f x) (e .0) (subst (PartDue s at g (partStart s at g)) (e .1) (part-due (foundAt s at g) refl (found-first-due s at g (foundAt s at g) .0 refl))),
+    λ e. subst (λ f. PartDue ρ s at g f x) (e .0) (subst (PartDue ρ s at g (partStart ρ s at g)) (e .1) (part-due (foundAt ρ s at g) refl (found-first-due ρ s at g (foundAt ρ s at g) .0 refl))),
     due-part from x,
   )
 
 -- ---- reading it
 
-module _ (s : List ℕ) (at g room : ℕ) where
-  to-reading : (n : ℕ) (d : PlacingDue s at g (P.Placed n)) → readAt s at g room ≡ readGroup (d .placing .ns) g (groupPart s at (d .placing .ns) g) room
+module _ (ρ : Rules) (s : List ℕ) (at g room : ℕ) where
+  to-reading : (n : ℕ) (d : PlacingDue ρ s at g (P.Placed n)) → readAt ρ s at g room ≡ readGroup ρ (d .placing .ns) g (groupPart s at (d .placing .ns) g) room
   to-reading n d =
-      let e = found-placing s at g (P.Placed n) d in
-      read-given s at g room e ∙ rw (given-part s at g e, counts-are s at n (d .placing)) refl
+      let e = found-placing ρ s at g (P.Placed n) d in
+      read-given ρ s at g room e ∙ rw (given-part ρ s at g e, counts-are ρ s at n (d .placing)) refl
 
-  reading-given : (c : Cells) → ReadingDue s at g room c → readAt s at g room ≡ c
+  reading-given : (c : Cells) → ReadingDue ρ s at g room c → readAt ρ s at g room ≡ c
   reading-given c d =
       let ns = d .placed .placing .ns in
       let these = is-part s at ns g (d .from) (d .x) (d .placed .low) (d .placed .high) (d .lines) .1 in
-      to-reading (d .next) (d .placed) ∙ ap (λ y. readGroup ns g y room) (sym these) ∙ Reading.first-due ns g (d .x) room c .1 (d .reading)
+      to-reading (d .next) (d .placed) ∙ ap (λ y. readGroup ρ ns g y room) (sym these) ∙ Reading.first-due ρ ns g (d .x) room c .1 (d .reading)
 
-  missing-read : (r : Refusal) → RefusedFor s at g r → readAt s at g room ≡ bad r
-  missing-read r d = read-missing s at g room (missing-given s at g r d)
+  missing-read : (r : Refusal) → RefusedFor ρ s at g r → readAt ρ s at g room ≡ bad r
+  missing-read r d = read-missing ρ s at g room (missing-given ρ s at g r d)
 
-  given : (c : Cells) → Due s at g room c → readAt s at g room ≡ c
+  given : (c : Cells) → Due ρ s at g room c → readAt ρ s at g room ≡ c
   given (done cs) d = reading-given (done cs) d
   given (bad r) d = ⊎-elim (missing-read r) (reading-given (bad r)) d
 
-  from-reading : (c : Cells) → ReadingDue s at g room c → Due s at g room c
+  from-reading : (c : Cells) → ReadingDue ρ s at g room c → Due ρ s at g room c
   from-reading (done cs) d = d
   from-reading (bad r) d = inr d
 
-  from-found : (r : Checked) → foundAt s at g ≡ r → FoundDue s at g r → Due s at g room (readAt s at g room)
+  from-found : (r : Checked) → foundAt ρ s at g ≡ r → FoundDue ρ s at g r → Due ρ s at g room (readAt ρ s at g room)
   from-found C.Right e d =
       let ns = d .placed .placing .ns in
       let u = to-reading (d .next) (d .placed) in
-      from-reading (readAt s at g room) record {
+      from-reading (readAt ρ s at g room) record {
         next = d .next;
         placed = d .placed;
         from = start s at ns g;
         x = groupPart s at ns g;
-        lines = placed-part s at g (d .next) (d .placed);
-        reading = Reading.first-due ns g (groupPart s at ns g) room (readAt s at g room) .0 (sym u);
+        lines = placed-part ρ s at g (d .next) (d .placed);
+        reading = Reading.first-due ρ ns g (groupPart s at ns g) room (readAt ρ s at g room) .0 (sym u);
       }
-  from-found (C.Refused r) e d = subst (Due s at g room) (sym (read-missing s at g room e)) (inl d)
+  from-found (C.Refused r) e d = subst (Due ρ s at g room) (sym (read-missing ρ s at g room e)) (inl d)
 
   -- the reply that is given is the one that is due, and no other is
-  pub first-due : (c : Cells) → readAt s at g room ≡ c ↔ Due s at g room c
-  first-due c = (λ e. subst (Due s at g room) e (from-found (foundAt s at g) refl (found-first-due s at g (foundAt s at g) .0 refl)), given c)
+  pub first-due : (c : Cells) → readAt ρ s at g room ≡ c ↔ Due ρ s at g room c
+  first-due c = (λ e. subst (Due ρ s at g room) e (from-found (foundAt ρ s at g) refl (found-first-due ρ s at g (foundAt ρ s at g) .0 refl)), given c)
 
 -- ---- a characteristic
 
 -- group 4 has a cell for each element
-four-size : (s : List ℕ) (at room : ℕ) (cs : List ℤ) → Due s at 4 room (done cs) → length cs ≡ countOf (countsAt s at) 4
-four-size s at room cs d =
+four-size : (ρ : Rules) (s : List ℕ) (at room : ℕ) (cs : List ℤ) → Due ρ s at 4 room (done cs) → length cs ≡ countOf (countsAt ρ s at) 4
+four-size ρ s at room cs d =
     let ns = d .placed .placing .ns in
     let f = d .reading .cells .f in
     let h : Has f ≡ Has F8 = sym (d .reading .cells .roomy .ruled .form) ∙ form-four in
     let e : f ≡ F8 = cc in
-    d .reading .cells .values .size ∙ ap (λ y. cellsOf y (countOf ns 4)) e ∙ cells-four (countOf ns 4) ∙ ap (λ l. countOf l 4) (sym (counts-are s at (d .next) (d .placed .placing)))
+    d .reading .cells .values .size ∙ ap (λ y. cellsOf y (countOf ns 4)) e ∙ cells-four (countOf ns 4) ∙ ap (λ l. countOf l 4) (sym (counts-are ρ s at (d .next) (d .placed .placing)))
 
-module _ (s : List ℕ) (at k : ℕ) where
+module _ (ρ : Rules) (s : List ℕ) (at k : ℕ) where
   -- group 4 read into a table of 49 cells is group 4 read into every table with room
-  pub four-is : (c : Cells) → (readAt s at 4 49 ≡ c) ↔ ((room : ℕ) → 49 ≤ room → Due s at 4 room c)
+  pub four-is : (c : Cells) → (readAt ρ s at 4 49 ≡ c) ↔ ((room : ℕ) → 49 ≤ room → Due ρ s at 4 room c)
   four-is c =
-      (λ e room h. first-due s at 4 room c .0 (same-room s at room 49 h (omega arith) ∙ e), λ d. first-due s at 4 49 c .1 (d 49 (omega arith)))
+      (λ e room h. first-due ρ s at 4 room c .0 (same-room ρ s at room 49 h (omega arith) ∙ e), λ d. first-due ρ s at 4 49 c .1 (d 49 (omega arith)))
 
-  to-reported : (c : Cells) → FourReads s at k c → characteristicAt s at k ≡ reported k c
-  to-reported c d = number-inside s at k (d .low) (d .high) (four-is c .1 (d .four))
+  to-reported : (c : Cells) → FourReads ρ s at k c → characteristicAt ρ s at k ≡ reported k c
+  to-reported c d = number-inside ρ s at k (d .low) (d .high) (four-is c .1 (d .four))
 
-  read-size : (cs : List ℤ) → FourReads s at k (done cs) → length cs ≡ countOf (countsAt s at) 4
-  read-size cs d = four-size s at 49 cs (d .four 49 (omega arith))
+  read-size : (cs : List ℤ) → FourReads ρ s at k (done cs) → length cs ≡ countOf (countsAt ρ s at) 4
+  read-size cs d = four-size ρ s at 49 cs (d .four 49 (omega arith))
 
-  to-cell : (z : ℤ) → HasCell s at k z → characteristicAt s at k ≡ toldBy k z
+  to-cell : (z : ℤ) → HasCell ρ s at k z → characteristicAt ρ s at k ≡ toldBy k z
   to-cell z d =
       let t : leb k (length (d .cs)) ≡ true = le-leb k (length (d .cs)) (omega (arith, read-size (d .cs) (d .reads), d .within)) in
       to-reported (done (d .cs)) (d .reads) ∙ rw (t, d .cell) refl
 
-  told-given : (c : Characteristic) → CharacteristicDue s at k c → characteristicAt s at k ≡ c
+  told-given : (c : Characteristic) → CharacteristicDue ρ s at k c → characteristicAt ρ s at k ≡ c
   told-given (Refused r) d =
       ⊎-elim
-      (λ (n : NoNumber s at k r). number-none s at k (λ low high. n .none (low, high)) ∙ ap Refused (sym (n .twelve)))
-      (λ (h : FourReads s at k (bad r)). to-reported (bad r) h)
+      (λ (n : NoNumber ρ s at k r). number-none ρ s at k (λ low high. n .none (low, high)) ∙ ap Refused (sym (n .twelve)))
+      (λ (h : FourReads ρ s at k (bad r)). to-reported (bad r) h)
       d
   told-given NotReported d =
       let t : leb k (length (d .cs)) ≡ false = lt-leb k (length (d .cs)) (omega (arith, read-size (d .cs) (d .reads), d .above)) in
@@ -239,41 +240,41 @@ module _ (s : List ℕ) (at k : ℕ) where
   told-given NoReading d = to-cell (d .z) (d .cell) ∙ is-no-reading k (d .z) (d .none)
   told-given (Value z) d = to-cell z (d .cell) ∙ is-reading k z (d .reading)
 
-  from-cell : (z : ℤ) (t : Bool) → HasCell s at k z → isNoReading k z ≡ t → CharacteristicDue s at k (cond t NoReading (Value z))
+  from-cell : (z : ℤ) (t : Bool) → HasCell ρ s at k z → isNoReading k z ≡ t → CharacteristicDue ρ s at k (cond t NoReading (Value z))
   from-cell z true h e = record { z = z; cell = h; none = no-reading-exactly k z .0 (true-T (isNoReading k z) e) }
   from-cell z false h e =
       record { cell = h; reading = λ u. false≢true (sym e ∙ T-true (isNoReading k z) (no-reading-exactly k z .1 u)) }
 
-  from-count : (cs : List ℤ) (t : Bool) → FourReads s at k (done cs) → leb k (length cs) ≡ t → CharacteristicDue s at k (cond t (toldBy k (getD cs (k - 1) (pos 0))) NotReported)
+  from-count : (cs : List ℤ) (t : Bool) → FourReads ρ s at k (done cs) → leb k (length cs) ≡ t → CharacteristicDue ρ s at k (cond t (toldBy k (getD cs (k - 1) (pos 0))) NotReported)
   from-count cs true h e =
       from-cell (getD cs (k - 1) (pos 0)) (isNoReading k (getD cs (k - 1) (pos 0))) record { cs = cs; reads = h; within = omega (arith, leb-true k (length cs) e, read-size cs h); cell = refl } refl
   from-count cs false h e = record { cs = cs; reads = h; above = omega (arith, leb-false k (length cs) e, read-size cs h) }
 
-  from-four : (c : Cells) → FourReads s at k c → CharacteristicDue s at k (reported k c)
+  from-four : (c : Cells) → FourReads ρ s at k c → CharacteristicDue ρ s at k (reported k c)
   from-four (done cs) h = from-count cs (leb k (length cs)) h refl
   from-four (bad r) h = inr h
 
-  told-is-due : CharacteristicDue s at k (characteristicAt s at k)
+  told-is-due : CharacteristicDue ρ s at k (characteristicAt ρ s at k)
   told-is-due =
       ⊎-elim
       (λ (low : 1 ≤ k).
       ⊎-elim
-      (λ (high : k ≤ 49). subst (CharacteristicDue s at k) (sym (number-inside s at k low high refl))
-      (from-four (readAt s at 4 49) record { low = low; high = high; four = four-is (readAt s at 4 49) .0 refl }))
+      (λ (high : k ≤ 49). subst (CharacteristicDue ρ s at k) (sym (number-inside ρ s at k low high refl))
+      (from-four (readAt ρ s at 4 49) record { low = low; high = high; four = four-is (readAt ρ s at 4 49) .0 refl }))
       (λ (h : 49 < k). none (λ low high. omega arith))
       (le-or-lt k 49))
       (λ (h : k < 1). none (λ low high. omega arith))
       (le-or-lt 1 k)
     where
-      none : (1 ≤ k → k ≤ 49 → ⊥) → CharacteristicDue s at k (characteristicAt s at k)
-      none n = subst (CharacteristicDue s at k) (sym (number-none s at k n)) (inl record { none = λ r. n (r .0) (r .1); twelve = refl })
+      none : (1 ≤ k → k ≤ 49 → ⊥) → CharacteristicDue ρ s at k (characteristicAt ρ s at k)
+      none n = subst (CharacteristicDue ρ s at k) (sym (number-none ρ s at k n)) (inl record { none = λ r. n (r .0) (r .1); twelve = refl })
 
-  pub characteristic-first-due : (c : Characteristic) → characteristicAt s at k ≡ c ↔ CharacteristicDue s at k c
-  characteristic-first-due c = (λ e. subst (CharacteristicDue s at k) e told-is-due, told-given c)
+  pub characteristic-first-due : (c : Characteristic) → characteristicAt ρ s at k ≡ c ↔ CharacteristicDue ρ s at k c
+  characteristic-first-due c = (λ e. subst (CharacteristicDue ρ s at k) e told-is-due, told-given c)
 
 -- 49 cells always have room for group 4
-pub four-has-room : (s : List ℕ) (at n : ℕ) (placed : PlacingDue s at 4 (P.Placed n)) (x : List ℕ) → TableShort (placed .placing .ns) 4 x 49 → ⊥
-four-has-room s at n placed x d =
+pub four-has-room : (ρ : Rules) (s : List ℕ) (at n : ℕ) (placed : PlacingDue ρ s at 4 (P.Placed n)) (x : List ℕ) → TableShort ρ (placed .placing .ns) 4 x 49 → ⊥
+four-has-room ρ s at n placed x d =
     let ns = placed .placing .ns in
     let f = d .f in
     let h : Has f ≡ Has F8 = sym (d .ruled .form) ∙ form-four in

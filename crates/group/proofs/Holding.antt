@@ -1,14 +1,16 @@
 -- Whether a group can be asked about at a place, the counts of its record, and its lines as a part of the text: when they can be given,
 -- where they begin, and that they are the group's lines.
 -- Assumes nothing.
-use mathlib.Core.Path.{_≡_, refl, _∙_, ap}
-use mathlib.Core.List.{List}
+use mathlib.Core.Path.{_≡_, refl, sym, _∙_, ap}
+use mathlib.Core.List.{List, []}
 use Prim.Native.Nat.{ℕ, suc, _+_, _-_, _≤_}
 use native.Mathlib.Nat.{add-comm}
 use native.Mathlib.Numerals.{add-one}
 use native.Mathlib.Omega.{arith}
 use lib.ListN.{length, getD, replicate, drop, length-take, length-drop}
+use Rattle.rules.specs.declared.Rules.{Rules}
 use Rattle.base.specs.Part.{part}
+use Rattle.base.proofs.Taken.{take-none, part-zero}
 use Rattle.form.specs.declared.Form.{Form}
 use Rattle.form.specs.declared.GroupForm.{GroupForm}
 use Rattle.form.specs.declared.GroupForm.the-variants.{Has, NoGroup as NoForm}
@@ -33,22 +35,22 @@ use Rattle.reply.specs.declared.Checked.{Checked}
 use Rattle.reply.specs.declared.Checked.the-variants as C
 use Rattle.group.specs.Held.{countsFound, foundIn, foundAt, countsHeld, partStart, partEnd, partAt, moved}
 
-module _ (s : List ℕ) (at g : ℕ) where
-  pub held-none : formOf g ≡ NoForm → (foundAt s at g ≡ C.Refused NoSuchNumber) × (countsHeld s at g ≡ replicate 80 0)
+module _ (ρ : Rules) (s : List ℕ) (at g : ℕ) where
+  pub held-none : formOf g ≡ NoForm → (foundAt ρ s at g ≡ C.Refused NoSuchNumber) × (countsHeld ρ s at g ≡ replicate 80 0)
   unfolding foundAt countsHeld
   held-none e = rw e (refl, refl)
 
   module _ (f : Form) (e : formOf g ≡ Has f) where
-    pub held-placed : {n : ℕ} → placingOf s at ≡ Placed n → (foundAt s at g ≡ C.Right) × (countsHeld s at g ≡ countsAt s at)
+    pub held-placed : {n : ℕ} → placingOf ρ s at ≡ Placed n → (foundAt ρ s at g ≡ C.Right) × (countsHeld ρ s at g ≡ countsAt ρ s at)
     unfolding foundAt countsHeld
     held-placed u = rw (e, u) (refl, refl)
 
     -- any placing reply but 0
-    pub held-refused : (p : Placing) → placingOf s at ≡ p → ((n : ℕ) → p ≡ Placed n → ⊥) → (foundAt s at g ≡ asChecked p) × (countsHeld s at g ≡ replicate 80 0)
+    pub held-refused : (p : Placing) → placingOf ρ s at ≡ p → ((n : ℕ) → p ≡ Placed n → ⊥) → (foundAt ρ s at g ≡ asChecked p) × (countsHeld ρ s at g ≡ replicate 80 0)
     unfolding foundAt countsHeld
     held-refused p u never = rw (e, u) (refl, by p never)
       where
-        by : (p : Placing) → ((n : ℕ) → p ≡ Placed n → ⊥) → countsFound (asChecked p) (countsAt s at) ≡ replicate 80 0
+        by : (p : Placing) → ((n : ℕ) → p ≡ Placed n → ⊥) → countsFound (asChecked p) (countsAt ρ s at) ≡ replicate 80 0
         by (Placed n) never = absurd (never n refl)
         by (BrokenRule h n) never = refl
         by (Refused r) never = refl
@@ -58,95 +60,98 @@ module _ (s : List ℕ) (at g : ℕ) where
     pub form : Form
     pub has : formOf g ≡ Has form
     pub next : ℕ
-    pub placed : placingOf s at ≡ Placed next
-    pub counts : countsHeld s at g ≡ countsAt s at
+    pub placed : placingOf ρ s at ≡ Placed next
+    pub counts : countsHeld ρ s at g ≡ countsAt ρ s at
 
-  pub given-is : foundAt s at g ≡ C.Right → IsGiven
+  pub given-is : foundAt ρ s at g ≡ C.Right → IsGiven
   unfolding foundAt
   given-is e = by (formOf g) refl e
     where
       no-given : {A : Type 0} {r : Refusal} → C.Refused r ≡ C.Right → A
       no-given e = let z : _≡_ {A = ℕ} 0 1 = cc in absurd (omega arith)
 
-      place : (f : Form) (p : Placing) → formOf g ≡ Has f → placingOf s at ≡ p → asChecked p ≡ C.Right → IsGiven
+      place : (f : Form) (p : Placing) → formOf g ≡ Has f → placingOf ρ s at ≡ p → asChecked p ≡ C.Right → IsGiven
       place f (Placed n) h u v = record { form = f; has = h; next = n; placed = u; counts = held-placed f h u .1 }
       place f (BrokenRule k n) h u v = no-given v
       place f (Refused r) h u v = no-given v
 
-      by : (h : GroupForm) → formOf g ≡ h → foundIn s at h ≡ C.Right → IsGiven
-      by (Has f) h v = place f (placingOf s at) h refl v
+      by : (h : GroupForm) → formOf g ≡ h → foundIn ρ s at h ≡ C.Right → IsGiven
+      by (Has f) h v = place f (placingOf ρ s at) h refl v
       by NoForm h v = no-given v
 
-  pub span-part : (from to : ℕ) → (from ≡ partStart s at g) × (to ≡ partEnd s at g) → part from to s ≡ partAt s at g
+  pub span-part : (from to : ℕ) → (from ≡ partStart ρ s at g) × (to ≡ partEnd ρ s at g) → part from to s ≡ partAt ρ s at g
   unfolding partAt
   span-part from to a = rw (a .0, a .1) refl
 
   -- the lines, from where to where they stand in the record that was placed
-  module _ (e : foundAt s at g ≡ C.Right) (ns : List ℕ) (c : ns ≡ countsHeld s at g) where
+  module _ (e : foundAt ρ s at g ≡ C.Right) (ns : List ℕ) (c : ns ≡ countsHeld ρ s at g) where
     i : IsGiven
     i = given-is e
 
-    pub held-counts : ns ≡ countsAt s at
+    pub held-counts : ns ≡ countsAt ρ s at
     held-counts = c ∙ i .counts
 
     pub held-kept : rulingOf ns ≡ Kept
-    held-kept = ap rulingOf held-counts ∙ is-placed s at (i .next) (i .placed) .kept
+    held-kept = ap rulingOf held-counts ∙ is-placed ρ s at (i .next) (i .placed) .kept
 
     pub held-range : (from to : ℕ) → (from ≡ start s at ns g) × (to ≡ start s at ns (g + 1)) → (from ≤ to) × (to ≤ length s)
     held-range from to a =
-        let n = countsAt s at in
-        let l = is-placed s at (i .next) (i .placed) .located-at in
+        let n = countsAt ρ s at in
+        let l = is-placed ρ s at (i .next) (i .placed) .located-at in
         let x : from ≡ start s at n g = a .0 ∙ ap (λ y. start s at y g) held-counts in
         let y : to ≡ start s at n (g + 1) = a .1 ∙ ap (λ y. start s at y (g + 1)) held-counts in
         let few = form-range g (i .form) (i .has) .1 in
-        (omega (arith, x, y, start-mono s at n g (g + 1) (omega arith)), omega (arith, y, start-within s at (i .next) n l (g + 1) (omega (arith, few)), located-range s at (i .next) n l))
+        (omega (arith, x, y, start-mono s at n g (g + 1) (omega arith)), omega (arith, y, start-within ρ s at (i .next) n l (g + 1) (omega (arith, few)), located-range ρ s at (i .next) n l))
 
-    pub held-span : (from to : ℕ) → (from ≡ start s at ns g) × (to ≡ start s at ns (g + 1)) → (from ≡ partStart s at g) × (to ≡ partEnd s at g)
+    pub held-span : (from to : ℕ) → (from ≡ start s at ns g) × (to ≡ start s at ns (g + 1)) → (from ≡ partStart ρ s at g) × (to ≡ partEnd ρ s at g)
     unfolding partStart partEnd
     held-span from to a =
-        let x : from ≡ start s at (countsAt s at) g = a .0 ∙ ap (λ y. start s at y g) held-counts in
-        let y : to ≡ start s at (countsAt s at) (suc g) = a .1 ∙ ap (λ y. start s at y (g + 1)) held-counts ∙ ap (start s at (countsAt s at)) (add-one g) in
+        let x : from ≡ start s at (countsAt ρ s at) g = a .0 ∙ ap (λ y. start s at y g) held-counts in
+        let y : to ≡ start s at (countsAt ρ s at) (suc g) = a .1 ∙ ap (λ y. start s at y (g + 1)) held-counts ∙ ap (start s at (countsAt ρ s at)) (add-one g) in
         rw (e, x, y) (refl, refl)
 
-    pub held-part : (from to : ℕ) → (from ≡ start s at ns g) × (to ≡ start s at ns (g + 1)) → part from to s ≡ partAt s at g
+    pub held-part : (from to : ℕ) → (from ≡ start s at ns g) × (to ≡ start s at ns (g + 1)) → part from to s ≡ partAt ρ s at g
     held-part from to a = let b = held-span from to a in span-part from to b
 
-  pub missing-span : {r : Refusal} → foundAt s at g ≡ C.Refused r → (0 ≡ partStart s at g) × (0 ≡ partEnd s at g)
+  pub missing-span : {r : Refusal} → foundAt ρ s at g ≡ C.Refused r → (0 ≡ partStart ρ s at g) × (0 ≡ partEnd ρ s at g)
   unfolding partStart partEnd
   missing-span e = rw e (refl, refl)
 
+  pub missing-part : {r : Refusal} → foundAt ρ s at g ≡ C.Refused r → partAt ρ s at g ≡ []
+  missing-part e = let z = missing-span e in sym (span-part 0 0 z) ∙ part-zero 0 s ∙ take-none s
+
   -- the part lies in the text, whether there are lines or not
-  pub span-range : (partStart s at g ≤ partEnd s at g) × (partEnd s at g ≤ length s)
-  span-range = by (foundAt s at g) refl
+  pub span-range : (partStart ρ s at g ≤ partEnd ρ s at g) × (partEnd ρ s at g ≤ length s)
+  span-range = by (foundAt ρ s at g) refl
     where
-      by : (r : Checked) → foundAt s at g ≡ r → (partStart s at g ≤ partEnd s at g) × (partEnd s at g ≤ length s)
+      by : (r : Checked) → foundAt ρ s at g ≡ r → (partStart ρ s at g ≤ partEnd ρ s at g) × (partEnd ρ s at g ≤ length s)
       by C.Right e =
-          let ns = countsHeld s at g in
+          let ns = countsHeld ρ s at g in
           let a = held-range e ns refl (start s at ns g) (start s at ns (g + 1)) (refl, refl) in
           let b = held-span e ns refl (start s at ns g) (start s at ns (g + 1)) (refl, refl) in
           (omega (arith, a .0, b .0, b .1), omega (arith, a .1, b .1))
       by (C.Refused r) e = let b = missing-span e in (omega (arith, b .0, b .1), omega (arith, b .1))
 
-  pub span-length : partEnd s at g - partStart s at g ≡ length (partAt s at g)
+  pub span-length : partEnd ρ s at g - partStart ρ s at g ≡ length (partAt ρ s at g)
   unfolding partAt
   span-length =
       let r = span-range in
-      let n = length-take (partEnd s at g - partStart s at g) (drop (partStart s at g) s) in
-      let m = length-drop (partStart s at g) s in
+      let n = length-take (partEnd ρ s at g - partStart ρ s at g) (drop (partStart ρ s at g) s) in
+      let m = length-drop (partStart ρ s at g) s in
       omega (arith, r .0, r .1, n, m)
 
-  pub span-end : partEnd s at g ≡ partStart s at g + length (partAt s at g)
+  pub span-end : partEnd ρ s at g ≡ partStart ρ s at g + length (partAt ρ s at g)
   span-end = omega (arith, span-length, span-range .0)
 
   -- the part is the group's part of the record, and holds exactly the group's lines
-  pub given-part : foundAt s at g ≡ C.Right → partAt s at g ≡ groupPart s at (countsAt s at) g
+  pub given-part : foundAt ρ s at g ≡ C.Right → partAt ρ s at g ≡ groupPart s at (countsAt ρ s at) g
   unfolding partAt partStart partEnd Parts.groupPart
   given-part e = rw e refl
 
-  pub given-lines : foundAt s at g ≡ C.Right → Whole (getD (lineTally (countsAt s at)) g 0) (partAt s at g)
+  pub given-lines : foundAt ρ s at g ≡ C.Right → Whole (getD (lineTally (countsAt ρ s at)) g 0) (partAt ρ s at g)
   given-lines e =
       let i = given-is e in
-      rw (given-part e) (part-whole s at (i .next) (countsAt s at) (is-placed s at (i .next) (i .placed) .located-at) g (omega (arith, form-range g (i .form) (i .has) .1)))
+      rw (given-part e) (part-whole ρ s at (i .next) (countsAt ρ s at) (is-placed ρ s at (i .next) (i .placed) .located-at) g (omega (arith, form-range g (i .form) (i .has) .1)))
 
 -- the address that the machine makes of a part
 pub moved-by : (p : ℕ × ℕ) {from n : ℕ} → from ≡ n → _≡_ {A = ℕ × ℕ} (p .0, from + p .1) (moved p n)

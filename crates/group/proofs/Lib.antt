@@ -9,3 +9,6 @@ pub mod Damage
 pub mod DamageInstance
 pub mod Due
 pub mod Numbered
+pub mod Alike
+pub mod Ends
+pub mod TwiceEnds

@@ -3,6 +3,7 @@
 use mathlib.Core.Path.{_≡_, sym, _∙_, ap₂}
 use mathlib.Core.List.{List}
 use Prim.Native.Nat.{ℕ}
+use Rattle.rules.specs.declared.Rules.{Rules}
 use Rattle.place.specs.Walk.{IsRecord}
 use Rattle.place.specs.Parts.{groupPart}
 use Rattle.reading.specs.Read.{readGroup}
@@ -12,7 +13,7 @@ use Rattle.group.proofs.Texts.{read-located}
 -- ---- reading is local
 
 -- located records with the same counts, in whatever texts at whatever places: where the group has the same lines, it reads the same
-pub read-local : {s t : List ℕ} {at bt : ℕ} (p : IsRecord s at) (q : IsRecord t bt) (g room : ℕ) → p .ns ≡ q .ns → groupPart s at (p .ns) g ≡ groupPart t bt (q .ns) g
-    → readAt s at g room ≡ readAt t bt g room
-read-local {s = s} {t = t} {at = at} {bt = bt} p q g room c e =
-    read-located s at g room (p .next) (p .ns) (p .is) ∙ ap₂ (λ ns x. readGroup ns g x room) c e ∙ sym (read-located t bt g room (q .next) (q .ns) (q .is))
+pub read-local : (ρ : Rules) {s t : List ℕ} {at bt : ℕ} (p : IsRecord ρ s at) (q : IsRecord ρ t bt) (g room : ℕ) → p .ns ≡ q .ns → groupPart s at (p .ns) g ≡ groupPart t bt (q .ns) g
+    → readAt ρ s at g room ≡ readAt ρ t bt g room
+read-local ρ {s = s} {t = t} {at = at} {bt = bt} p q g room c e =
+    read-located ρ s at g room (p .next) (p .ns) (p .is) ∙ ap₂ (λ ns x. readGroup ρ ns g x room) c e ∙ sym (read-located ρ t bt g room (q .next) (q .ns) (q .is))

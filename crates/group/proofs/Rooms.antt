@@ -10,6 +10,7 @@ use native.Mathlib.Nat.{mul-one}
 use native.Mathlib.Omega.{arith}
 use borrow.Author.Tests.{leb-true}
 use lib.Dec.{leb}
+use Rattle.rules.specs.declared.Rules.{Rules}
 use Rattle.base.proofs.Choice.{and-second}
 use Rattle.form.specs.declared.Form.the-variants.{F8}
 use Rattle.form.specs.declared.GroupForm.the-variants.{Has}
@@ -50,12 +51,12 @@ kept-four ns e = by (leb 1 (countOf ns 4) && leb (countOf ns 4) 49) refl
 pub room-four : (ns : List ℕ) → rulingOf ns ≡ Kept → cellsOf F8 (countOf ns 4) ≤ 49
 room-four ns e = omega (arith, cells-four (countOf ns 4), kept-four ns e)
 
-pub same-room : (s : List ℕ) (at room more : ℕ) → 49 ≤ room → 49 ≤ more → readAt s at 4 room ≡ readAt s at 4 more
+pub same-room : (ρ : Rules) (s : List ℕ) (at room more : ℕ) → 49 ≤ room → 49 ≤ more → readAt ρ s at 4 room ≡ readAt ρ s at 4 more
 unfolding readAt
-same-room s at room more a b = by (foundAt s at 4)
+same-room ρ s at room more a b = by (foundAt ρ s at 4)
   where
-    by : (r : Checked) → readFound s at 4 room r ≡ readFound s at 4 more r
+    by : (r : Checked) → readFound ρ s at 4 room r ≡ readFound ρ s at 4 more r
     by C.Right =
-        let ns = countsAt s at in
-        read-room ns 4 (partAt s at 4) room more F8 form-four (λ e. (omega (arith, room-four ns e), omega (arith, room-four ns e)))
+        let ns = countsAt ρ s at in
+        read-room ρ ns 4 (partAt ρ s at 4) room more F8 form-four (λ e. (omega (arith, room-four ns e), omega (arith, room-four ns e)))
     by (C.Refused r) = refl

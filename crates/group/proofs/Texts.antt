@@ -5,6 +5,7 @@ use mathlib.Core.List.{List}
 use Prim.Native.Nat.{ℕ, _+_}
 use lib.IntN.{ℤ}
 use lib.ListN.{length}
+use Rattle.rules.specs.declared.Rules.{Rules}
 use Rattle.base.specs.Part.{part}
 use Rattle.base.specs.Pieces.{bad}
 use Rattle.form.specs.declared.Form.{Form}
@@ -31,42 +32,42 @@ use Rattle.group.specs.Held.{foundIn, foundAt, countsHeld, partAt}
 use Rattle.group.specs.Text.{readFound, readAt}
 use Rattle.group.proofs.Holding.{given-part, held-counts, held-part}
 
-module _ (s : List ℕ) (at g room : ℕ) where
+module _ (ρ : Rules) (s : List ℕ) (at g room : ℕ) where
   -- 12, or any placing reply but 0
-  pub read-missing : {r : Refusal} → foundAt s at g ≡ C.Refused r → readAt s at g room ≡ bad r
+  pub read-missing : {r : Refusal} → foundAt ρ s at g ≡ C.Refused r → readAt ρ s at g room ≡ bad r
   unfolding readAt
   read-missing e = rw e
 
   -- reply 0 in placing: the record's counts and the group's own lines
-  pub read-given : foundAt s at g ≡ C.Right → readAt s at g room ≡ readGroup (countsAt s at) g (partAt s at g) room
+  pub read-given : foundAt ρ s at g ≡ C.Right → readAt ρ s at g room ≡ readGroup ρ (countsAt ρ s at) g (partAt ρ s at g) room
   unfolding readAt
   read-given e = rw e
 
   -- a record that can be located: by its counts and the group's own lines, in which the text does not occur; 7 is decided by the counts
-  pub read-located : (n : ℕ) (ns : List ℕ) → locate s at ≡ located n ns → readAt s at g room ≡ readGroup ns g (groupPart s at ns g) room
+  pub read-located : (n : ℕ) (ns : List ℕ) → locate ρ s at ≡ located n ns → readAt ρ s at g room ≡ readGroup ρ ns g (groupPart s at ns g) room
   unfolding readAt foundAt Read.readGroup Placing.placingOf
   read-located n ns e = by (formOf g) refl
     where
-      ruled : (f : Form) (k : Ruling) → formOf g ≡ Has f → rulingOf ns ≡ k → readFound s at g room (asChecked (ruledAt n k)) ≡ readRuled f ns g (groupPart s at ns g) room k
+      ruled : (f : Form) (k : Ruling) → formOf g ≡ Has f → rulingOf ns ≡ k → readFound ρ s at g room (asChecked (ruledAt n k)) ≡ readRuled ρ f ns g (groupPart s at ns g) room k
       ruled f Kept h u =
-          let q : placingBy (locate s at) ≡ P.Placed n = rw (e, u) in
-          let given : foundIn s at (formOf g) ≡ C.Right = rw (h, q) in
-          let c : countsAt s at ≡ ns = counts-at s at n ns e in
-          rw (given-part s at g given, c, h, u)
+          let q : placingBy (locate ρ s at) ≡ P.Placed n = rw (e, u) in
+          let given : foundIn ρ s at (formOf g) ≡ C.Right = rw (h, q) in
+          let c : countsAt ρ s at ≡ ns = counts-at ρ s at n ns e in
+          rw (given-part ρ s at g given, c, h, u)
       ruled f (Broken b) h u = refl
 
-      by : (h : GroupForm) → formOf g ≡ h → readFound s at g room (foundIn s at h) ≡ readBy ns g (groupPart s at ns g) room h
+      by : (h : GroupForm) → formOf g ≡ h → readFound ρ s at g room (foundIn ρ s at h) ≡ readBy ρ ns g (groupPart s at ns g) room h
       by (Has f) h = rw e (ruled f (rulingOf ns) h refl)
       by NoForm h = refl
 
 -- the same, with the table
-module _ (s : List ℕ) (at g : ℕ) (old : List ℤ) where
-  pub text-missing : {r : Refusal} → C.Refused r ≡ foundAt s at g → Answers (readAt s at g (length old)) old (A.Refused r) old
-  text-missing e = rw (read-missing s at g (length old) (sym e)) (refl, refl)
+module _ (ρ : Rules) (s : List ℕ) (at g : ℕ) (old : List ℤ) where
+  pub text-missing : {r : Refusal} → C.Refused r ≡ foundAt ρ s at g → Answers (readAt ρ s at g (length old)) old (A.Refused r) old
+  text-missing e = rw (read-missing ρ s at g (length old) (sym e)) (refl, refl)
 
-  pub text-given : C.Right ≡ foundAt s at g → (ns : List ℕ) → ns ≡ countsHeld s at g → (from to : ℕ) → (from ≡ start s at ns g) × (to ≡ start s at ns (g + 1))
-      → {r : Answer} {new : List ℤ} → Answers (readGroup ns g (part from to s) (length old)) old r new → Answers (readAt s at g (length old)) old r new
+  pub text-given : C.Right ≡ foundAt ρ s at g → (ns : List ℕ) → ns ≡ countsHeld ρ s at g → (from to : ℕ) → (from ≡ start s at ns g) × (to ≡ start s at ns (g + 1))
+      → {r : Answer} {new : List ℤ} → Answers (readGroup ρ ns g (part from to s) (length old)) old r new → Answers (readAt ρ s at g (length old)) old r new
   text-given e ns c from to a {r} {new} b =
-      let same : readGroup ns g (part from to s) (length old) ≡ readAt s at g (length old) =
-      rw (held-part s at g (sym e) ns c from to a, held-counts s at g (sym e) ns c) (sym (read-given s at g (length old) (sym e))) in
+      let same : readGroup ρ ns g (part from to s) (length old) ≡ readAt ρ s at g (length old) =
+      rw (held-part ρ s at g (sym e) ns c from to a, held-counts ρ s at g (sym e) ns c) (sym (read-given ρ s at g (length old) (sym e))) in
       subst (λ y. Answers y old r new) same b

@@ -6,6 +6,7 @@ use Prim.Native.Nat.{ℕ, _-_}
 use lib.Dec.{leb}
 use lib.IntN.{ℤ, pos}
 use lib.ListN.{length, getD}
+use Rattle.rules.specs.declared.Rules.{Rules}
 use Rattle.base.specs.Pieces.{done, bad}
 use Rattle.characteristic.specs.NoReading.{isNoReading}
 use Rattle.reply.specs.declared.Refusal.the-variants.{NoSuchNumber}
@@ -24,5 +25,5 @@ reported k (done cs) = cond (leb k (length cs)) (toldBy k (getD cs (k - 1) (pos 
 reported k (bad r) = Refused r
 
 -- R294: a table of 49 cells has room: R124 lets group 4 have at most 49 elements, of one cell each
-unfoldable pub characteristicAt : List ℕ → ℕ → ℕ → Characteristic
-characteristicAt s at k = cond (leb 1 k && leb k 49) (reported k (readAt s at 4 49)) (Refused NoSuchNumber)
+unfoldable pub characteristicAt : Rules → List ℕ → ℕ → ℕ → Characteristic
+characteristicAt ρ s at k = cond (leb 1 k && leb k 49) (reported k (readAt ρ s at 4 49)) (Refused NoSuchNumber)

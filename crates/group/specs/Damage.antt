@@ -8,6 +8,7 @@ use mathlib.Core.Logic.{_↔_}
 use Prim.Native.Nat.{ℕ, suc, _≤_}
 use lib.IntN.{ℤ}
 use lib.ListN.{length}
+use Rattle.rules.specs.declared.Rules.{Rules}
 use Rattle.base.specs.Agree.{Agree, Between}
 use Rattle.base.specs.Part.{part}
 use Rattle.line.specs.Texts.{SameLines}
@@ -20,13 +21,14 @@ use Rattle.group.specs.Characteristics.{characteristicAt}
 use Rattle.group.specs.Held.{foundAt, partStart, partAt}
 use Rattle.group.specs.Text.{readAt}
 
--- R27: where the lines of group g of the record at a place begin; they end where those of the next group begin
-abbrev pub linesStart : List ℕ → ℕ → ℕ → ℕ
-linesStart s at g = start s at (countsAt s at) g
+module _ (ρ : Rules) where
+  -- R27: where the lines of group g of the record at a place begin; they end where those of the next group begin
+  abbrev pub linesStart : List ℕ → ℕ → ℕ → ℕ
+  linesStart s at g = start s at (countsAt ρ s at) g
 
--- the places of these lines
-abbrev pub LinesAt : List ℕ → ℕ → ℕ → ℕ → Type 0
-LinesAt s at g = Between (linesStart s at g) (linesStart s at (suc g))
+  -- the places of these lines
+  abbrev pub LinesAt : List ℕ → ℕ → ℕ → ℕ → Type 0
+  LinesAt s at g = Between (linesStart s at g) (linesStart s at (suc g))
 
 -- what reading gives: the reply with its numbers, and the table
 pub record SameReading (a b : Cells) (table : List ℤ) : Type 0 where
@@ -37,45 +39,46 @@ pub record SameReading (a b : Cells) (table : List ℤ) : Type 0 where
 abbrev pub Other : (k g j h : ℕ) → Type 0
 Other k g j h = j ≡ k → h ≡ g → ⊥
 
-module _ (t u : List ℕ) (k g : ℕ) where
+module _ (ρ : Rules) (t u : List ℕ) (k g : ℕ) where
   -- u is t with bytes exchanged for others in the lines of group g of record k
   pub record Damaged : Type 0 where
     -- D3.1: record k is one of the walk
-    pub placed : PlacedAt t (spot t k)
+    pub placed : PlacedAt ρ t (spot ρ t k)
     -- D3.2: g is a single group of it
     pub low : 1 ≤ g
     pub high : g ≤ 60
     -- D3.2: a byte for a byte, and no line feed appears or disappears: u is as long as t, with its line feeds at the same places
     pub lines : SameLines t u
     -- D3.2: only bytes of that group's data lines are exchanged: all others are what they were
-    pub elsewhere : Agree (LinesAt t (spot t k) g) t u
+    pub elsewhere : Agree (LinesAt ρ t (spot ρ t k) g) t u
 
   -- the damage is confined to that group
   pub record Confined : Type 0 where
     -- D3.3: the walk has the same number of records; D3.7: and behind them it stops with the reply and group that it had
-    pub as-many : (n : ℕ) (r : Refusal) → Stops t n r ↔ Stops u n r
+    pub as-many : (n : ℕ) (r : Refusal) → Stops ρ t n r ↔ Stops ρ u n r
     -- D3.4: each record is where it was; D3.7: and so is the place where the walk stops
-    pub places : (j : ℕ) → spot u j ≡ spot t j
+    pub places : (j : ℕ) → spot ρ u j ≡ spot ρ t j
     -- D3.4, D3.7: so each has the reply, blamed group and next place that it had
-    pub answers : (j : ℕ) → placingOf u (spot u j) ≡ placingOf t (spot t j)
+    pub answers : (j : ℕ) → placingOf ρ u (spot ρ u j) ≡ placingOf ρ t (spot ρ t j)
     -- D3.4: each record has the counts that it had
-    pub counts : (j : ℕ) → countsAt u (spot u j) ≡ countsAt t (spot t j)
+    pub counts : (j : ℕ) → countsAt ρ u (spot ρ u j) ≡ countsAt ρ t (spot ρ t j)
     -- D3.7: the lines of every group, the altered one too, begin and end where they did
-    pub starts : (j h : ℕ) → linesStart u (spot u j) h ≡ linesStart t (spot t j) h
+    pub starts : (j h : ℕ) → linesStart ρ u (spot ρ u j) h ≡ linesStart ρ t (spot ρ t j) h
     -- so the question for a group's part has the same answer, and the part lies at the same offsets: it begins there and is as long
-    pub part-answers : (j h : ℕ) → foundAt u (spot u j) h ≡ foundAt t (spot t j) h
-    pub part-starts : (j h : ℕ) → partStart u (spot u j) h ≡ partStart t (spot t j) h
-    pub part-lengths : (j h : ℕ) → length (partAt u (spot u j) h) ≡ length (partAt t (spot t j) h)
+    pub part-answers : (j h : ℕ) → foundAt ρ u (spot ρ u j) h ≡ foundAt ρ t (spot ρ t j) h
+    pub part-starts : (j h : ℕ) → partStart ρ u (spot ρ u j) h ≡ partStart ρ t (spot ρ t j) h
+    pub part-lengths : (j h : ℕ) → length (partAt ρ u (spot ρ u j) h) ≡ length (partAt ρ t (spot ρ t j) h)
     -- every other group's lines have the same bytes, whether the record's reply is 0 or 7
-    pub line-bytes : (j h : ℕ) → PlacedAt t (spot t j) → Other k g j h → groupPart u (spot u j) (countsAt u (spot u j)) h ≡ groupPart t (spot t j) (countsAt t (spot t j)) h
+    pub line-bytes : (j h : ℕ) → PlacedAt ρ t (spot ρ t j) → Other k g j h → groupPart u (spot ρ u j) (countsAt ρ u (spot ρ u j)) h ≡ groupPart t (spot ρ t j) (countsAt ρ t (spot ρ t j)) h
     -- and so has its part
-    pub part-bytes : (j h : ℕ) → Other k g j h → partAt u (spot u j) h ≡ partAt t (spot t j) h
+    pub part-bytes : (j h : ℕ) → Other k g j h → partAt ρ u (spot ρ u j) h ≡ partAt ρ t (spot ρ t j) h
     -- D3.5: all groups but that one, in all records, give the reply that they gave and put the same cells into the same table; also where h
     -- is no group (12)
-    pub others : (j h : ℕ) → Other k g j h → (table : List ℤ) → SameReading (readAt u (spot u j) h (length table)) (readAt t (spot t j) h (length table)) table
+    pub others : (j h : ℕ) → Other k g j h → (table : List ℤ) → SameReading (readAt ρ u (spot ρ u j) h (length table)) (readAt ρ t (spot ρ t j) h (length table)) table
     -- D3.6: that group is read or refused as D2 says, decided by its lines, the counts of its record and the table's length alone: by
     -- `readGroup`, in which the text does not occur, from the counts that the record has in t and what u has in place of the lines
     pub altered : (table : List ℤ)
-        → SameReading (readAt u (spot u k) g (length table)) (readGroup (countsAt t (spot t k)) g (part (linesStart t (spot t k) g) (linesStart t (spot t k) (suc g)) u) (length table)) table
+        → SameReading (readAt ρ u (spot ρ u k) g (length table))
+        (readGroup ρ (countsAt ρ t (spot ρ t k)) g (part (linesStart ρ t (spot ρ t k) g) (linesStart ρ t (spot ρ t k) (suc g)) u) (length table)) table
     -- D3.7: a characteristic is a cell of group 4: where that is not the altered group, every one is what it was
-    pub characteristics : (j : ℕ) → Other k g j 4 → (number : ℕ) → characteristicAt u (spot u j) number ≡ characteristicAt t (spot t j) number
+    pub characteristics : (j : ℕ) → Other k g j 4 → (number : ℕ) → characteristicAt ρ u (spot ρ u j) number ≡ characteristicAt ρ t (spot ρ t j) number

@@ -3,6 +3,7 @@
 use mathlib.Core.List.{List}
 use Prim.Native.Nat.{ℕ, suc, _+_}
 use lib.ListN.{replicate}
+use Rattle.rules.specs.declared.Rules.{Rules}
 use Rattle.base.specs.Part.{part}
 use Rattle.form.specs.declared.GroupForm.{GroupForm}
 use Rattle.form.specs.declared.GroupForm.the-variants.{Has, NoGroup as NoForm}
@@ -19,32 +20,33 @@ abbrev pub countsFound : Checked → List ℕ → List ℕ
 countsFound C.Right ns = ns
 countsFound (C.Refused r) ns = replicate 80 0
 
-abbrev pub foundIn : List ℕ → ℕ → GroupForm → Checked
-foundIn s at (Has f) = asChecked (placingOf s at)
-foundIn s at NoForm = C.Refused NoSuchNumber
+module _ (ρ : Rules) where
+  abbrev pub foundIn : List ℕ → ℕ → GroupForm → Checked
+  foundIn s at (Has f) = asChecked (placingOf ρ s at)
+  foundIn s at NoForm = C.Refused NoSuchNumber
 
--- R281: whether the lines of group g of the record at a place can be given
-unfoldable pub foundAt : List ℕ → ℕ → ℕ → Checked
-foundAt s at g = foundIn s at (formOf g)
+  -- R281: whether the lines of group g of the record at a place can be given
+  unfoldable pub foundAt : List ℕ → ℕ → ℕ → Checked
+  foundAt s at g = foundIn s at (formOf g)
 
--- the counts of the record, or zeros
-unfoldable pub countsHeld : List ℕ → ℕ → ℕ → List ℕ
-countsHeld s at g = countsFound (foundAt s at g) (countsAt s at)
+  -- the counts of the record, or zeros
+  unfoldable pub countsHeld : List ℕ → ℕ → ℕ → List ℕ
+  countsHeld s at g = countsFound (foundAt s at g) (countsAt ρ s at)
 
--- R280, R283: where the lines of group g begin, or the text's start
-abbrev pub startBy : List ℕ → ℕ → ℕ → Checked → ℕ
-startBy s at g C.Right = start s at (countsAt s at) g
-startBy s at g (C.Refused r) = 0
+  -- R280, R283: where the lines of group g begin, or the text's start
+  abbrev pub startBy : List ℕ → ℕ → ℕ → Checked → ℕ
+  startBy s at g C.Right = start s at (countsAt ρ s at) g
+  startBy s at g (C.Refused r) = 0
 
--- where the part begins and where it ends, and the part
-unfoldable pub partStart : List ℕ → ℕ → ℕ → ℕ
-partStart s at g = startBy s at g (foundAt s at g)
+  -- where the part begins and where it ends, and the part
+  unfoldable pub partStart : List ℕ → ℕ → ℕ → ℕ
+  partStart s at g = startBy s at g (foundAt s at g)
 
-unfoldable pub partEnd : List ℕ → ℕ → ℕ → ℕ
-partEnd s at g = startBy s at (suc g) (foundAt s at g)
+  unfoldable pub partEnd : List ℕ → ℕ → ℕ → ℕ
+  partEnd s at g = startBy s at (suc g) (foundAt s at g)
 
-unfoldable pub partAt : List ℕ → ℕ → ℕ → List ℕ
-partAt s at g = part (partStart s at g) (partEnd s at g) s
+  unfoldable pub partAt : List ℕ → ℕ → ℕ → List ℕ
+  partAt s at g = part (partStart s at g) (partEnd s at g) s
 
 -- where that stands, by the address of the text: a block and an offset
 abbrev pub moved : ℕ × ℕ → ℕ → ℕ × ℕ

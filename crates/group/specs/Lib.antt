@@ -8,3 +8,5 @@ pub mod Characteristics
 pub mod Numbered
 pub mod Due
 pub mod Damage
+-- R9: the same answers under two rules
+pub mod Ends

@@ -2,6 +2,7 @@
 -- (`readGroup`).
 use mathlib.Core.List.{List}
 use Prim.Native.Nat.{ℕ}
+use Rattle.rules.specs.declared.Rules.{Rules}
 use Rattle.base.specs.Pieces.{bad}
 use Rattle.place.specs.Placing.{countsAt}
 use Rattle.reading.specs.Read.{Cells, readGroup}
@@ -9,11 +10,12 @@ use Rattle.reply.specs.declared.Checked.{Checked}
 use Rattle.reply.specs.declared.Checked.the-variants as C
 use Rattle.group.specs.Held.{foundAt, partAt}
 
--- R269: the record's counts and the group's own lines decide
-abbrev pub readFound : List ℕ → ℕ → ℕ → ℕ → Checked → Cells
-readFound s at g room C.Right = readGroup (countsAt s at) g (partAt s at g) room
-readFound s at g room (C.Refused r) = bad r
+module _ (ρ : Rules) where
+  -- R269: the record's counts and the group's own lines decide
+  abbrev pub readFound : List ℕ → ℕ → ℕ → ℕ → Checked → Cells
+  readFound s at g room C.Right = readGroup ρ (countsAt ρ s at) g (partAt ρ s at g) room
+  readFound s at g room (C.Refused r) = bad r
 
--- group g of the record at a place, read into a table of this length
-unfoldable pub readAt : List ℕ → ℕ → ℕ → ℕ → Cells
-readAt s at g room = readFound s at g room (foundAt s at g)
+  -- group g of the record at a place, read into a table of this length
+  unfoldable pub readAt : List ℕ → ℕ → ℕ → ℕ → Cells
+  readAt s at g room = readFound s at g room (foundAt ρ s at g)

@@ -31,14 +31,14 @@ fn missing(found: Checked) -> Held
 }
 
 // R260, R281: what every question about a group asks first: 12, and the reply of placing, if it is not 0.
-fn held_at(text: &[u8], at: usize, group: usize) -> Held
-    ensures found { λ r. ⌜ r .found ≡ foundAt (now (text .entry)) at group ⌝ }
-    ensures counts { λ r. ⌜ r .counts ≡ countsHeld (now (text .entry)) at group ⌝ }
+fn held_at(rules: rules::Rules, text: &[u8], at: usize, group: usize) -> Held
+    ensures found { λ r. ⌜ r .found ≡ foundAt rules (now (text .entry)) at group ⌝ }
+    ensures counts { λ r. ⌜ r .counts ≡ countsHeld rules (now (text .entry)) at group ⌝ }
 {
     let form::GroupForm::Has(_) = form::form_of(group) else {
         return missing(Checked::Refused(Refusal::NoSuchNumber));
     };
-    let record = place::place(text, at);
+    let record = place::place(rules, text, at);
     let answer = record.answer;
     let place::Placing::Placed(_) = answer else {
         return missing(place::as_checked(answer));
@@ -59,12 +59,12 @@ pub struct Lines {
 
 // R280: asks where the lines of a group of the record at a place stand, their line ends among them. With count 0 both
 // places are where they would begin (R282), and at a refusal both are the text's start (R283).
-pub fn lines_at(text: &[u8], at: usize, group: usize) -> Lines
-    ensures found { λ r. ⌜ r .found ≡ foundAt (now (text .entry)) at group ⌝ }
-    ensures from { λ r. ⌜ r .from ≡ partStart (now (text .entry)) at group ⌝ }
-    ensures to { λ r. ⌜ r .to ≡ partEnd (now (text .entry)) at group ⌝ }
+pub fn lines_at(rules: rules::Rules, text: &[u8], at: usize, group: usize) -> Lines
+    ensures found { λ r. ⌜ r .found ≡ foundAt rules (now (text .entry)) at group ⌝ }
+    ensures from { λ r. ⌜ r .from ≡ partStart rules (now (text .entry)) at group ⌝ }
+    ensures to { λ r. ⌜ r .to ≡ partEnd rules (now (text .entry)) at group ⌝ }
 {
-    let held = held_at(text, at, group);
+    let held = held_at(rules, text, at, group);
     let found = held.found;
     let Checked::Right = found else {
         return Lines {
@@ -83,11 +83,11 @@ pub fn lines_at(text: &[u8], at: usize, group: usize) -> Lines
 }
 
 // R280, R446: the lines, as a part of the text that was lent; no copy is made.
-pub fn lines_part<'a>(text: &'a [u8], at: usize, group: usize) -> &'a [u8]
-    ensures bytes { λ r. ⌜ now r ≡ partAt (now (text .entry)) at group ⌝ }
-    ensures address { λ r. ⌜ r .ptr ≡ moved (text .entry .ptr) (partStart (now (text .entry)) at group) ⌝ }
+pub fn lines_part<'a>(rules: rules::Rules, text: &'a [u8], at: usize, group: usize) -> &'a [u8]
+    ensures bytes { λ r. ⌜ now r ≡ partAt rules (now (text .entry)) at group ⌝ }
+    ensures address { λ r. ⌜ r .ptr ≡ moved (text .entry .ptr) (partStart rules (now (text .entry)) at group) ⌝ }
 {
-    let lines = lines_at(text, at, group);
+    let lines = lines_at(rules, text, at, group);
     let from = lines.from;
     let to = lines.to;
     &text[from..to]
@@ -95,12 +95,18 @@ pub fn lines_part<'a>(text: &'a [u8], at: usize, group: usize) -> &'a [u8]
 
 // R260: reads a group of the record at a place of a text into a table: first as `held_at` says, then by the record's
 // counts and the group's own lines (R269). A refusal alters nothing (R267).
-pub fn read_group(text: &[u8], at: usize, group: usize, table: &mut [i64]) -> Answer
-    ensures answer { λ r. ⌜ r ≡ readingOf (readAt (now (text .entry)) at group (length (now (table .entry)))) ⌝ }
+pub fn read_group(
+    rules: rules::Rules,
+    text: &[u8],
+    at: usize,
+    group: usize,
+    table: &mut [i64],
+) -> Answer
+    ensures answer { λ r. ⌜ r ≡ readingOf (readAt rules (now (text .entry)) at group (length (now (table .entry)))) ⌝ }
     ensures table { λ _. ⌜ now (table .exit) ≡
-        tableBy (readAt (now (text .entry)) at group (length (now (table .entry)))) (now (table .entry)) ⌝ }
+        tableBy (readAt rules (now (text .entry)) at group (length (now (table .entry)))) (now (table .entry)) ⌝ }
 {
-    let held = held_at(text, at, group);
+    let held = held_at(rules, text, at, group);
     let found = held.found;
     match found {
         Checked::Refused(r) => Answer::Refused(r),
@@ -109,7 +115,7 @@ pub fn read_group(text: &[u8], at: usize, group: usize, table: &mut [i64]) -> An
             let lines = place::span_of(text, at, &counts, group);
             let from = lines.from;
             let to = lines.to;
-            reading::read_kept(&counts, group, &text[from..to], table)
+            reading::read_kept(rules, &counts, group, &text[from..to], table)
         }
     }
 }
@@ -142,14 +148,19 @@ fn is_characteristic(number: usize) -> bool
 }
 
 // R294: asks for a characteristic, 1 to 49, of the record at a place of a text.
-pub fn characteristic_at(text: &[u8], at: usize, number: usize) -> Characteristic
-    ensures { λ r. ⌜ r ≡ characteristicAt (now (text .entry)) at number ⌝ }
+pub fn characteristic_at(
+    rules: rules::Rules,
+    text: &[u8],
+    at: usize,
+    number: usize,
+) -> Characteristic
+    ensures { λ r. ⌜ r ≡ characteristicAt rules (now (text .entry)) at number ⌝ }
 {
     if !is_characteristic(number) {
         return Characteristic::Refused(Refusal::NoSuchNumber);
     }
     let mut table = [0i64; 49];
-    match read_group(text, at, 4, &mut table) {
+    match read_group(rules, text, at, 4, &mut table) {
         Answer::Refused(r) => Characteristic::Refused(r),
         Answer::Done(n) => {
             if n < number {

@@ -47,22 +47,30 @@ pub fn behind_or_end(text: &[u8], at: usize, lines: usize) -> usize
     n
 }
 
-// How many bytes of a line are its content, or that no carriage return stands before its line feed.
+// How many bytes of a line are its content, or that it has none: its line end is not one that the rules allow.
 pub enum Content {
     Length(usize),
     NoReturn,
 }
 
-// R4, R5: asks for the content of a line, which is given with its line feed. What doesn't end in a line feed has none.
-pub fn content_length(line: &[u8]) -> Content
-    ensures { λ r. ⌜ r ≡ contentOf (now (line .entry)) ⌝ }
+// R4, R5, R9: asks for the content of a line, which is given with its line feed. What doesn't end in a line feed has
+// none.
+pub fn content_length(rules: rules::Rules, line: &[u8]) -> Content
+    ensures { λ r. ⌜ r ≡ contentOf rules (now (line .entry)) ⌝ }
 {
     let n = line.len();
-    if n < 2 {
+    if n == 0 {
         return Content::NoReturn;
     }
-    if line[n - 2] == 13 && line[n - 1] == 10 {
+    if line[n - 1] != 10 {
+        return Content::NoReturn;
+    }
+    if 1 < n && line[n - 2] == 13 {
         return Content::Length(n - 2);
     }
-    Content::NoReturn
+    let ends = rules.ends;
+    match ends {
+        rules::LineEnds::Strict => Content::NoReturn,
+        rules::LineEnds::Either => Content::Length(n - 1),
+    }
 }

@@ -12,6 +12,7 @@ use borrow.Author.Tests.{le-leb, lt-leb, leb-true, leb-false}
 use lib.Dec.{leb}
 use lib.ListN.{length, take, drop, getD, length-append, length-map}
 use lib.Seq.{take-at, drop-at, ext-getD}
+use Rattle.rules.specs.declared.Rules.{Rules}
 use Rattle.reply.specs.declared.Refusal.{Refusal}
 use Rattle.reply.specs.declared.Refusal.the-variants.{NoRoom}
 use Rattle.reply.specs.declared.Answer.{Answer}
@@ -41,81 +42,81 @@ use Rattle.listing.specs.Numbered.{listingRows}
 use Rattle.listing.proofs.Counted.{records-are, records-stop}
 
 -- a listing has its line `end` at least
-some-line : (s : List ℕ) → 1 ≤ length (listing s)
+some-line : (ρ : Rules) (s : List ℕ) → 1 ≤ length (listing ρ s)
 unfolding listing listingOf endAt
-some-line s =
-    let many = recordsIn s in
-    let last = rowText (endRow many (spot s many) (placingOf s (spot s many))) in
-    omega (arith, length-append (rowsFrom s 0 many) (bytes "end " ++ last), length-append (bytes "end ") last)
+some-line ρ s =
+    let many = recordsIn ρ s in
+    let last = rowText (endRow many (spot ρ s many) (placingOf ρ s (spot ρ s many))) in
+    omega (arith, length-append (rowsFrom ρ s 0 many) (bytes "end " ++ last), length-append (bytes "end ") last)
 
-pub listed-numbered : (s : List ℕ) (room : ℕ) → Numbered listingRows (answerReply (listedIn (listing s) room))
-listed-numbered s room = by (leb (length (listing s)) room)
+pub listed-numbered : (ρ : Rules) (s : List ℕ) (room : ℕ) → Numbered listingRows (answerReply (listedIn (listing ρ s) room))
+listed-numbered ρ s room = by (leb (length (listing ρ s)) room)
   where
-    by : (t : Bool) → Numbered listingRows (answerReply (cond t (Done (length (listing s))) (Refused NoRoom)))
-    by true = inl (fills 0 ((textBytes, length (listing s)) ∷ []) (some-line s, tt))
+    by : (t : Bool) → Numbered listingRows (answerReply (cond t (Done (length (listing ρ s))) (Refused NoRoom)))
+    by true = inl (fills 0 ((textBytes, length (listing ρ s)) ∷ []) (some-line ρ s, tt))
     by false = inr (inl (refusal-fills NoRoom tt))
 
 -- ---- which text it is
 
 -- the seven numbers of record k, and the four of the end
-abbrev row : List ℕ → ℕ → List ℕ
-row s k = recordRow (suc k) (spot s k) (placingOf s (spot s k)) (countsAt s (spot s k))
+abbrev row : Rules → List ℕ → ℕ → List ℕ
+row ρ s k = recordRow (suc k) (spot ρ s k) (placingOf ρ s (spot ρ s k)) (countsAt ρ s (spot ρ s k))
 
-abbrev last : List ℕ → ℕ → List ℕ
-last s many = endRow many (spot s many) (placingOf s (spot s many))
+abbrev last : Rules → List ℕ → ℕ → List ℕ
+last ρ s many = endRow many (spot ρ s many) (placingOf ρ s (spot ρ s many))
 
-row-is : (s : List ℕ) (k : ℕ) → IsRow s k (row s k)
+row-is : (ρ : Rules) (s : List ℕ) (k : ℕ) → IsRow ρ s k (row ρ s k)
 unfolding recordRow
-row-is s k =
-    let at = spot s k in
+row-is ρ s k =
+    let at = spot ρ s k in
     record {
-      placing = placingOf s at;
-      placed = Placing.first-due s at (placingOf s at) .0 refl;
-      counts = countsAt s at;
-      counted = Placing.counts-first-due s at (countsAt s at) .0 refl;
+      placing = placingOf ρ s at;
+      placed = Placing.first-due ρ s at (placingOf ρ s at) .0 refl;
+      counts = countsAt ρ s at;
+      counted = Placing.counts-first-due ρ s at (countsAt ρ s at) .0 refl;
       numbers = refl;
     }
 
-is-row : (s : List ℕ) (k : ℕ) (ns : List ℕ) → IsRow s k ns → ns ≡ row s k
+is-row : (ρ : Rules) (s : List ℕ) (k : ℕ) (ns : List ℕ) → IsRow ρ s k ns → ns ≡ row ρ s k
 unfolding recordRow
-is-row s k ns h =
+is-row ρ s k ns h =
     h .numbers
-    ∙ rw (Placing.first-due s (spot s k) (h .placing) .1 (h .placed), Placing.counts-first-due s (spot s k) (h .counts) .1 (h .counted)) refl
+    ∙ rw (Placing.first-due ρ s (spot ρ s k) (h .placing) .1 (h .placed), Placing.counts-first-due ρ s (spot ρ s k) (h .counts) .1 (h .counted)) refl
 
-rows-text : (s : List ℕ) (k left : ℕ) → rowsFrom s k left ≡ flatMap rowText (map (row s) (upFrom k left))
+rows-text : (ρ : Rules) (s : List ℕ) (k left : ℕ) → rowsFrom ρ s k left ≡ flatMap rowText (map (row ρ s) (upFrom k left))
 unfolding rowsFrom rowAt Every.upFrom flatMap
-rows-text s k zero = refl
-rows-text s k (suc left) = ap (λ t. rowText (row s k) ++ t) (rows-text s (suc k) left)
+rows-text ρ s k zero = refl
+rows-text ρ s k (suc left) = ap (λ t. rowText (row ρ s k) ++ t) (rows-text ρ s (suc k) left)
 
-pub listing-is : (s : List ℕ) → IsListing s (listing s)
+pub listing-is : (ρ : Rules) (s : List ℕ) → IsListing ρ s (listing ρ s)
 unfolding listing listingOf endAt endRow
-listing-is s =
-    let many = recordsIn s in
+listing-is ρ s =
+    let many = recordsIn ρ s in
     record {
       many = many;
-      why = stops-some s .answer;
-      stops = records-stop s;
-      rows = map (row s) (upFrom 0 many);
-      as-many = length-map (upFrom 0 many) (row s) ∙ length-up 0 many;
-      each = λ k l. subst (IsRow s k) (sym (getD-map-up (row s) 0 many k [] l ∙ ap (row s) (zero-add k))) (row-is s k);
-      last = last s many;
-      end = record { placing = placingOf s (spot s many); placed = Placing.first-due s (spot s many) (placingOf s (spot s many)) .0 refl; numbers = refl };
-      text = ap (λ t. t ++ (bytes "end " ++ rowText (last s many))) (rows-text s 0 many);
+      why = stops-some ρ s .answer;
+      stops = records-stop ρ s;
+      rows = map (row ρ s) (upFrom 0 many);
+      as-many = length-map (upFrom 0 many) (row ρ s) ∙ length-up 0 many;
+      each = λ k l. subst (IsRow ρ s k) (sym (getD-map-up (row ρ s) 0 many k [] l ∙ ap (row ρ s) (zero-add k))) (row-is ρ s k);
+      last = last ρ s many;
+      end = record { placing = placingOf ρ s (spot ρ s many); placed = Placing.first-due ρ s (spot ρ s many) (placingOf ρ s (spot ρ s many)) .0 refl; numbers = refl };
+      text = ap (λ t. t ++ (bytes "end " ++ rowText (last ρ s many))) (rows-text ρ s 0 many);
     }
 
-pub is-listing : (s x : List ℕ) → IsListing s x → x ≡ listing s
+pub is-listing : (ρ : Rules) (s x : List ℕ) → IsListing ρ s x → x ≡ listing ρ s
 unfolding listing listingOf endAt endRow
-is-listing s x h =
+is-listing ρ s x h =
     let many = h .many in
-    let these : h .rows ≡ map (row s) (upFrom 0 many) =
-    ext-getD [] (h .rows) (map (row s) (upFrom 0 many)) (h .as-many ∙ sym (length-map (upFrom 0 many) (row s) ∙ length-up 0 many))
-    (λ k l. is-row s k (getD (h .rows) k []) (h .each k (omega (arith, l, h .as-many))) ∙ sym (getD-map-up (row s) 0 many k [] (omega (arith, l, h .as-many)) ∙ ap (row s) (zero-add k))) in
-    let final : h .last ≡ last s many = h .end .numbers ∙ rw (Placing.first-due s (spot s many) (h .end .placing) .1 (h .end .placed)) refl in
+    let these : h .rows ≡ map (row ρ s) (upFrom 0 many) =
+    ext-getD [] (h .rows) (map (row ρ s) (upFrom 0 many)) (h .as-many ∙ sym (length-map (upFrom 0 many) (row ρ s) ∙ length-up 0 many))
+    (λ k l. is-row ρ s k (getD (h .rows) k []) (h .each k (omega (arith, l, h .as-many))) ∙ sym (getD-map-up (row ρ s) 0 many k [] (omega (arith, l, h .as-many)) ∙ ap (row ρ s) (zero-add k))) in
+    let final : h .last ≡ last ρ s many = h .end .numbers ∙ rw (Placing.first-due ρ s (spot ρ s many) (h .end .placing) .1 (h .end .placed)) refl in
     h .text
     ∙ ap (λ t. flatMap rowText t ++ (bytes "end " ++ rowText (h .last))) these
-    ∙ ap (λ t. flatMap rowText (map (row s) (upFrom 0 many)) ++ (bytes "end " ++ rowText t)) final
-    ∙ ap (λ t. t ++ (bytes "end " ++ rowText (last s many))) (sym (rows-text s 0 many))
-    ∙ ap (listingOf s) (sym (records-are s many (h .why) (h .stops)))
+    ∙ ap (λ t. flatMap rowText (map (row ρ s) (upFrom 0 many)) ++ (bytes "end " ++ rowText t)) final
+    ∙ ap (λ t. t ++ (bytes "end " ++ rowText (last ρ s many))) (sym (rows-text ρ s 0 many))
+    ∙ ap (listingOf ρ s) (sym (records-are ρ s many (h .why) (h .stops)))
 
 -- ---- which answer
 

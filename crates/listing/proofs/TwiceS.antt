@@ -2,6 +2,7 @@
 -- Assumes nothing.
 use mathlib.Core.Path.{_≡_, refl, _∙_}
 use mathlib.Core.List.{[], _∷_, _++_}
+use Rattle.rules.specs.declared.Rules.{Rules}
 use Rattle.base.specs.Every
 use Rattle.base.specs.Quoted.{bytes}
 use Rattle.base.specs.Sum
@@ -29,14 +30,14 @@ unfolding filledGroups RecordS.countsS Tally.linesIn Tally.lineTally Sum.sum Eve
     Count.roundedUp Count.elementsOf Rules.rulingOf Rules.lowest Rules.headRules Rules.sets Rules.keeps Rules.letterRules
 counted = (refl, refl, refl)
 
-rows : (rowAt twiceS 0 ≡ bytes "1 0 305 0 0 3 5" ++ (10 ∷ [])) × (rowAt twiceS 1 ≡ bytes "2 305 610 0 0 3 5" ++ (10 ∷ [])) × (endAt twiceS 2 ≡ bytes "end 2 610 1 0" ++ (10 ∷ []))
+rows : (ρ : Rules) → (rowAt ρ twiceS 0 ≡ bytes "1 0 305 0 0 3 5" ++ (10 ∷ [])) × (rowAt ρ twiceS 1 ≡ bytes "2 305 610 0 0 3 5" ++ (10 ∷ [])) × (endAt ρ twiceS 2 ≡ bytes "end 2 610 1 0" ++ (10 ∷ []))
 unfolding rowAt endAt recordRow endRow Rows.rowText Numerals.numeral Numerals.digitsOf Numerals.digitsIn Placing.placingOf Placing.countsAt
-rows = (
-  rw (← spot-start twiceS, twice .first, counted .0, counted .1, counted .2) refl,
-  rw (spot-one, twice .second, counted .0, counted .1, counted .2) refl,
-  rw (spot-two, twice .last) refl,
+rows ρ = (
+  rw (← spot-start ρ twiceS, twice ρ .first, counted .0, counted .1, counted .2) refl,
+  rw (spot-one ρ, twice ρ .second, counted .0, counted .1, counted .2) refl,
+  rw (spot-two ρ, twice ρ .last) refl,
 )
 
-pub twice-listed : listing twiceS ≡ (bytes "1 0 305 0 0 3 5" ++ (10 ∷ [])) ++ ((bytes "2 305 610 0 0 3 5" ++ (10 ∷ [])) ++ (bytes "end 2 610 1 0" ++ (10 ∷ [])))
+pub twice-listed : (ρ : Rules) → listing ρ twiceS ≡ (bytes "1 0 305 0 0 3 5" ++ (10 ∷ [])) ++ ((bytes "2 305 610 0 0 3 5" ++ (10 ∷ [])) ++ (bytes "end 2 610 1 0" ++ (10 ∷ [])))
 unfolding listingOf rowsFrom
-twice-listed = listing-is twiceS 2 End two-records ∙ rw (rows .0, rows .1, rows .2) refl
+twice-listed ρ = listing-is ρ twiceS 2 End (two-records ρ) ∙ rw (rows ρ .0, rows ρ .1, rows ρ .2) refl

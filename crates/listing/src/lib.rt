@@ -53,14 +53,14 @@ fn end_row(records: usize, at: usize, answer: Placing) -> [u64; 4]
 }
 
 // Where the listing ends that is put into so many bytes from their start on: a walk with nothing put.
-fn listing_end(text: &[u8], size: usize) -> Put
-    ensures { λ r. ⌜ r ≡ endIn 0 (length (listing (now (text .entry)))) size ⌝ }
+fn listing_end(rules: rules::Rules, text: &[u8], size: usize) -> Put
+    ensures { λ r. ⌜ r ≡ endIn 0 (length (listing rules (now (text .entry)))) size ⌝ }
 {
     let mut a: usize = 0;
     let mut at: usize = 0;
     let mut k: usize = 0;
     loop {
-        let here = place::place(text, at);
+        let here = place::place(rules, text, at);
         let answer = here.answer;
         let r = place::reply_of(answer);
         if !place::is_placed(r.number) {
@@ -79,15 +79,15 @@ fn listing_end(text: &[u8], size: usize) -> Put
 }
 
 // Puts the listing, which has room: a second walk.
-fn put_listing(text: &[u8], out: &mut [u8])
-    requires { ⌜ length (listing (now text)) ≤ length (now out) ⌝ }
-    ensures { λ _. ⌜ now (out .exit) ≡ over 0 (listing (now (text .entry))) (now (out .entry)) ⌝ }
+fn put_listing(rules: rules::Rules, text: &[u8], out: &mut [u8])
+    requires { ⌜ length (listing rules (now text)) ≤ length (now out) ⌝ }
+    ensures { λ _. ⌜ now (out .exit) ≡ over 0 (listing rules (now (text .entry))) (now (out .entry)) ⌝ }
 {
     let mut a: usize = 0;
     let mut at: usize = 0;
     let mut k: usize = 0;
     loop {
-        let found = place::place(text, at);
+        let found = place::place(rules, text, at);
         let answer = found.answer;
         let r = place::reply_of(answer);
         if !place::is_placed(r.number) {
@@ -110,33 +110,33 @@ fn put_listing(text: &[u8], out: &mut [u8])
 // R310, R311: puts the listing of a text into the bytes from their start on: the number of bytes written (0), or that
 // there is no room (11), and then nothing is altered. So that nothing is, the text is walked twice: first for where the
 // listing ends, then to put it.
-pub fn render(text: &[u8], out: &mut [u8]) -> Put
-    ensures { λ r. ⌜ Puts 0 (listing (now (text .entry))) (now (out .entry)) r (now (out .exit)) ⌝ }
+pub fn render(rules: rules::Rules, text: &[u8], out: &mut [u8]) -> Put
+    ensures { λ r. ⌜ Puts 0 (listing rules (now (text .entry))) (now (out .entry)) r (now (out .exit)) ⌝ }
 {
-    let Put::Next(end) = listing_end(text, out.len()) else {
+    let Put::Next(end) = listing_end(rules, text, out.len()) else {
         return Put::NoRoom;
     };
-    put_listing(text, out);
+    put_listing(rules, text, out);
     Put::Next(end)
 }
 
 // R341: what the program prints for its input: the listing, or for more than 65,536 bytes the line `end 0 0 11 0`
 // alone.
-pub fn print(input: &[u8], out: &mut [u8]) -> Put
-    ensures { λ r. ⌜ Puts 0 (printedListing (now (input .entry))) (now (out .entry)) r (now (out .exit)) ⌝ }
+pub fn print(rules: rules::Rules, input: &[u8], out: &mut [u8]) -> Put
+    ensures { λ r. ⌜ Puts 0 (printedListing rules (now (input .entry))) (now (out .entry)) r (now (out .exit)) ⌝ }
 {
     if 65536 < input.len() {
         return decimal::put_row(out, 0, b"end ", &[0, 0, 11, 0]);
     }
-    render(input, out)
+    render(rules, input, out)
 }
 
 // R310: the same as the question's answer.
-pub fn list(text: &[u8], out: &mut [u8]) -> Answer
-    ensures answer { λ r. ⌜ r ≡ listedIn (listing (now (text .entry))) (length (now (out .entry))) ⌝ }
-    ensures output { λ _. ⌜ now (out .exit) ≡ putBytes 0 (listing (now (text .entry))) (now (out .entry)) ⌝ }
+pub fn list(rules: rules::Rules, text: &[u8], out: &mut [u8]) -> Answer
+    ensures answer { λ r. ⌜ r ≡ listedIn (listing rules (now (text .entry))) (length (now (out .entry))) ⌝ }
+    ensures output { λ _. ⌜ now (out .exit) ≡ putBytes 0 (listing rules (now (text .entry))) (now (out .entry)) ⌝ }
 {
-    match render(text, out) {
+    match render(rules, text, out) {
         Put::Next(bytes) => Answer::Done(bytes),
         Put::NoRoom => Answer::Refused(Refusal::NoRoom),
     }

@@ -10,6 +10,7 @@ use native.Mathlib.Omega.{arith}
 use borrow.Author.Tests.{ltb-true, ltb-false, eqb-true, eqb-false, leb-true, leb-false, le-leb, lt-leb}
 use lib.Dec.{leb, ltb, eqb}
 use lib.ListN.{length, drop}
+use Rattle.rules.specs.declared.Rules.{Rules}
 use Rattle.line.specs.Lines.{feeds, reach}
 use Rattle.count.specs.Tally.{recordLines}
 use Rattle.count.specs.Rules.{releaseOf, rulingOf}
@@ -32,57 +33,57 @@ use Rattle.place.proofs.Indexed.{index-is, no-index}
 use Rattle.place.proofs.Placed.{located-is}
 use Rattle.place.proofs.Steps.{locate-beyond, locate-end, locate-few, locate-index}
 
-module _ (s : List ℕ) (at : ℕ) where
+module _ (ρ : Rules) (s : List ℕ) (at : ℕ) where
   -- ---- what is due is given
 
-  to-counts : (ns : List ℕ) → HasEntries s at ns → locate s at ≡ locateRelease (drop at s) at ns (releaseOf ns)
-  to-counts ns h = locate-index s at (h .place .inside) (h .place .lines) ∙ rw (index-is (drop at s) ns .1 (h .index))
+  to-counts : (ns : List ℕ) → HasEntries ρ s at ns → locate ρ s at ≡ locateRelease (drop at s) at ns (releaseOf ns)
+  to-counts ns h = locate-index ρ s at (h .place .inside) (h .place .lines) ∙ rw (index-is ρ (drop at s) ns .1 (h .index))
 
-  to-lines : (ns : List ℕ) → HasRelease s at ns → locate s at ≡ locateLines (drop at s) at ns
+  to-lines : (ns : List ℕ) → HasRelease ρ s at ns → locate ρ s at ≡ locateLines (drop at s) at ns
   to-lines ns h = to-counts ns (h .index) ∙ rw (release-given ns Five (h .release))
 
-  to-located : (ns : List ℕ) (n : ℕ) → HasLines s at ns n → locate s at ≡ located n ns
+  to-located : (ns : List ℕ) (n : ℕ) → HasLines ρ s at ns n → locate ρ s at ≡ located n ns
   to-located ns n h =
       to-lines ns (h .head)
       ∙ rw (le-leb (recordLines ns) (feeds (drop at s)) (h .enough)) (ap (λ m. located m ns) (sym (h .next)))
 
-  given-refusal : (r : Refusal) → RefusedFor s at r → placingBy (locate s at) ≡ Refused r
-  given-refusal r (beyond d) = rw (locate-beyond s at d)
-  given-refusal r (text-end d) = rw (locate-end s at d)
-  given-refusal r (few-for-index d) = ap placingBy (locate-few s at (d .inside) (d .few))
+  given-refusal : (r : Refusal) → RefusedFor ρ s at r → placingBy (locate ρ s at) ≡ Refused r
+  given-refusal r (beyond d) = rw (locate-beyond ρ s at d)
+  given-refusal r (text-end d) = rw (locate-end ρ s at d)
+  given-refusal r (few-for-index d) = ap placingBy (locate-few ρ s at (d .inside) (d .few))
   given-refusal r (few-for-data d) = ap placingBy (to-lines (d .ns) (d .head)) ∙ rw (lt-leb (recordLines (d .ns)) (feeds (drop at s)) (d .few))
-  given-refusal r (bad-index d) = ap placingBy (locate-index s at (d .place .inside) (d .place .lines)) ∙ rw (no-index (drop at s) .1 (d .none))
+  given-refusal r (bad-index d) = ap placingBy (locate-index ρ s at (d .place .inside) (d .place .lines)) ∙ rw (no-index ρ (drop at s) .1 (d .none))
   given-refusal r (bad-release d) = ap placingBy (to-counts (d .ns) (d .index)) ∙ rw (release-given (d .ns) Other (d .other))
   given-refusal r (fills-vacant g d) = ap placingBy (to-counts (d .ns) (d .index)) ∙ rw (release-given (d .ns) (Filled g) (d .filled))
 
-  given : (p : Placing) → Due s at p → placingBy (locate s at) ≡ p
+  given : (p : Placing) → Due ρ s at p → placingBy (locate ρ s at) ≡ p
   given (Refused r) d = given-refusal r d
   given (BrokenRule g n) d = ap placingBy (to-located (d .ns) n (d .lines)) ∙ rw (broken-ruling (d .ns) (d .broken))
   given (Placed n) d = ap placingBy (to-located (d .ns) n (d .lines)) ∙ rw (kept-ruling (d .ns) (d .kept))
 
   -- ---- what is given is due
 
-  from-ruling : (ns : List ℕ) (n : ℕ) (k : Ruling) → HasLines s at ns n → rulingOf ns ≡ k → Due s at (ruledAt n k)
+  from-ruling : (ns : List ℕ) (n : ℕ) (k : Ruling) → HasLines ρ s at ns n → rulingOf ns ≡ k → Due ρ s at (ruledAt n k)
   from-ruling ns n Kept h e = record { ns = ns; lines = h; kept = ruling-kept ns e }
   from-ruling ns n (Broken g) h e = record { ns = ns; lines = h; broken = ruling-broken ns e }
 
-  from-lines : (ns : List ℕ) (t : Bool) → HasRelease s at ns → leb (recordLines ns) (feeds (drop at s)) ≡ t
-      → Due s at (placingBy (cond t (located (at + reach (drop at s) (recordLines ns)) ns) (refused TooFewLines)))
+  from-lines : (ns : List ℕ) (t : Bool) → HasRelease ρ s at ns → leb (recordLines ns) (feeds (drop at s)) ≡ t
+      → Due ρ s at (placingBy (cond t (located (at + reach (drop at s) (recordLines ns)) ns) (refused TooFewLines)))
   from-lines ns true h e =
       from-ruling ns (at + reach (drop at s) (recordLines ns)) (rulingOf ns) record { head = h; enough = leb-true (recordLines ns) (feeds (drop at s)) e; next = refl } refl
   from-lines ns false h e = few-for-data record { ns = ns; head = h; few = leb-false (recordLines ns) (feeds (drop at s)) e }
 
-  from-release : (ns : List ℕ) (r : Release) → HasEntries s at ns → ReleaseDue ns r → Due s at (placingBy (locateRelease (drop at s) at ns r))
+  from-release : (ns : List ℕ) (r : Release) → HasEntries ρ s at ns → ReleaseDue ns r → Due ρ s at (placingBy (locateRelease (drop at s) at ns r))
   from-release ns Five h f =
       from-lines ns (leb (recordLines ns) (feeds (drop at s))) record { index = h; release = f } refl
   from-release ns Other h f = bad-release record { ns = ns; index = h; other = f }
   from-release ns (Filled g) h f = fills-vacant g record { ns = ns; index = h; filled = f }
 
-  from-index : (q : Indexed) → HasIndex s at → readIndex (drop at s) ≡ q → Due s at (placingBy (locateIndex (drop at s) at q))
-  from-index (counts ns) h e = from-release ns (releaseOf ns) record { place = h; index = index-is (drop at s) ns .0 e } (release-due ns)
-  from-index misformed h e = bad-index record { place = h; none = no-index (drop at s) .0 e }
+  from-index : (q : Indexed) → HasIndex ρ s at → readIndex ρ (drop at s) ≡ q → Due ρ s at (placingBy (locateIndex (drop at s) at q))
+  from-index (counts ns) h e = from-release ns (releaseOf ns) record { place = h; index = index-is ρ (drop at s) ns .0 e } (release-due ns)
+  from-index misformed h e = bad-index record { place = h; none = no-index ρ (drop at s) .0 e }
 
-  is-due : Due s at (placingBy (locate s at))
+  is-due : Due ρ s at (placingBy (locate ρ s at))
   unfolding locate
   is-due = by (ltb (length s) at) (eqb (length s) at) (leb 2 (feeds (drop at s))) refl refl refl
     where
@@ -90,50 +91,50 @@ module _ (s : List ℕ) (at : ℕ) where
       inner u v = ⊎-elim (λ (e : at ≡ length s). absurd (eqb-false (length s) at v (sym e))) (λ l. l) (eq-or-lt-of-le (ltb-false (length s) at u))
 
       by : (a b c : Bool) → ltb (length s) at ≡ a → eqb (length s) at ≡ b → leb 2 (feeds (drop at s)) ≡ c
-          → Due s at (placingBy (cond a (refused Beyond) (cond b (refused End) (cond c (locateIndex (drop at s) at (readIndex (drop at s))) (refused TooFewLines)))))
+          → Due ρ s at (placingBy (cond a (refused Beyond) (cond b (refused End) (cond c (locateIndex (drop at s) at (readIndex ρ (drop at s))) (refused TooFewLines)))))
       by true b c u v w = beyond (ltb-true (length s) at u)
       by false true c u v w = text-end (eqb-true (length s) at v)
       by false false false u v w = few-for-index record { inside = inner u v; few = leb-false 2 (feeds (drop at s)) w }
-      by false false true u v w = from-index (readIndex (drop at s)) record { inside = inner u v; lines = leb-true 2 (feeds (drop at s)) w } refl
+      by false false true u v w = from-index (readIndex ρ (drop at s)) record { inside = inner u v; lines = leb-true 2 (feeds (drop at s)) w } refl
 
   -- the reply that is given is the one that is due, and no other is
-  pub first-due : (p : Placing) → placingOf s at ≡ p ↔ Due s at p
+  pub first-due : (p : Placing) → placingOf ρ s at ≡ p ↔ Due ρ s at p
   unfolding placingOf
-  first-due p = (λ e. subst (Due s at) e is-due, given p)
+  first-due p = (λ e. subst (Due ρ s at) e is-due, given p)
 
   -- what is refused
-  pub refused-due : (r : Refusal) → locate s at ≡ refused r → RefusedFor s at r
-  refused-due r e = subst (Due s at) (ap placingBy e) is-due
+  pub refused-due : (r : Refusal) → locate ρ s at ≡ refused r → RefusedFor ρ s at r
+  refused-due r e = subst (Due ρ s at) (ap placingBy e) is-due
 
   -- ---- the counts
 
-  located-lines : (n : ℕ) (ns : List ℕ) → locate s at ≡ located n ns → HasLines s at ns n
+  located-lines : (n : ℕ) (ns : List ℕ) → locate ρ s at ≡ located n ns → HasLines ρ s at ns n
   located-lines n ns e =
-      let p = located-is s at n ns e in
+      let p = located-is ρ s at n ns e in
       record {
         head = record {
-          index = record { place = record { inside = p .inside; lines = p .head }; index = index-is (drop at s) ns .0 (p .index) };
+          index = record { place = record { inside = p .inside; lines = p .head }; index = index-is ρ (drop at s) ns .0 (p .index) };
           release = rw (p .release) at (release-due ns);
         };
         enough = p .many;
         next = p .next;
       }
 
-  counts-given : (ns : List ℕ) → CountsDue s at ns → countsBy (locate s at) ≡ ns
+  counts-given : (ns : List ℕ) → CountsDue ρ s at ns → countsBy (locate ρ s at) ≡ ns
   counts-given ns (inl r) = ap countsBy (to-located ns (r .next) (r .lines))
-  counts-given ns (inr n) = by (locate s at) refl
+  counts-given ns (inr n) = by (locate ρ s at) refl
     where
-      by : (l : Located) → locate s at ≡ l → countsBy l ≡ ns
+      by : (l : Located) → locate ρ s at ≡ l → countsBy l ≡ ns
       by (located m ms) e = absurd (n .none ms record { next = m; lines = located-lines m ms e })
       by (refused p) e = sym (n .zeros)
 
-  counts-due : CountsDue s at (countsBy (locate s at))
-  counts-due = by (locate s at) refl
+  counts-due : CountsDue ρ s at (countsBy (locate ρ s at))
+  counts-due = by (locate ρ s at) refl
     where
-      by : (l : Located) → locate s at ≡ l → CountsDue s at (countsBy l)
+      by : (l : Located) → locate ρ s at ≡ l → CountsDue ρ s at (countsBy l)
       by (located n ns) e = inl record { next = n; lines = located-lines n ns e }
       by (refused p) e = inr record { none = λ ms r. let f = sym e ∙ to-located ms (r .next) (r .lines) in let z : _≡_ {A = ℕ} 0 1 = cc in omega arith; zeros = refl }
 
-  pub counts-first-due : (ns : List ℕ) → countsAt s at ≡ ns ↔ CountsDue s at ns
+  pub counts-first-due : (ns : List ℕ) → countsAt ρ s at ≡ ns ↔ CountsDue ρ s at ns
   unfolding countsAt
-  counts-first-due ns = (λ e. subst (CountsDue s at) e counts-due, counts-given ns)
+  counts-first-due ns = (λ e. subst (CountsDue ρ s at) e counts-due, counts-given ns)

@@ -7,6 +7,7 @@ use Prim.Native.Nat.{ℕ, zero, suc, _+_, _-_, _*_, _<_, _≤_}
 use native.Mathlib.Omega.{arith}
 use lib.ListN.{length, take, drop, set, length-append}
 use lib.Seq.{drop-drop}
+use Rattle.rules.specs.declared.Rules.{Rules}
 use Rattle.base.specs.Part.{part, over}
 use Rattle.base.proofs.Part.{over-none, over-one, over-all, over-then, over-length}
 use lib.Dec.{eqb}
@@ -114,9 +115,9 @@ entries-length zero s ns e =
     sym (ap length p)
 entries-length (suc k) s ns e = then-counts (entryOf (take 3 s)) (readEntries k (drop 3 s)) ns k (λ ms f. entries-length k (drop 3 s) ms f) e
 
-pub line-length : (x ns : List ℕ) → readIndexLine x ≡ counts ns → length ns ≡ 40
+pub line-length : (ρ : Rules) (x ns : List ℕ) → readIndexLine ρ x ≡ counts ns → length ns ≡ 40
 unfolding readIndexLine
-line-length x ns e = by (contentOf x) e
+line-length ρ x ns e = by (contentOf ρ x) e
   where
     forty : (n : ℕ) (t : Bool) → cond t (readEntries 40 (part 0 n x)) misformed ≡ counts ns → length ns ≡ 40
     forty n true f = entries-length 40 (part 0 n x) ns f

@@ -12,6 +12,7 @@ use borrow.Author.Tests.{eqb-true, leb-true, leb-false}
 use lib.Dec.{leb, eqb, leb→le, le→leb}
 use lib.ListN.{length, take, drop, getD, length-append, length-drop, take-append-drop, List·getD-append}
 use lib.Seq.{drop-drop, getD-append-add, getD-take, getD-drop, length-take-le}
+use Rattle.rules.specs.declared.Rules.{Rules}
 use Rattle.base.specs.Part.{part}
 use Rattle.form.specs.Count.{mostCount}
 use Rattle.count.specs.Tally.{countOf}
@@ -84,43 +85,43 @@ entries-read (suc k) s (n ∷ ns) h =
 -- ---- a line
 
 -- an index line of these counts
-record Line (x ns : List ℕ) : Type 0 where
+record Line (ρ : Rules) (x ns : List ℕ) : Type 0 where
   pub content : List ℕ
-  pub is : HasContent x content
+  pub is : HasContent ρ x content
   pub wide : length content ≡ 120
   pub entries : Entries 40 content ns
 
-read-line : (x ns : List ℕ) → readIndexLine x ≡ counts ns → Line x ns
+read-line : (ρ : Rules) (x ns : List ℕ) → readIndexLine ρ x ≡ counts ns → Line ρ x ns
 unfolding readIndexLine
-read-line x ns e = by (contentOf x) refl e
+read-line ρ x ns e = by (contentOf ρ x) refl e
   where
-    whole : (n : ℕ) (t : Bool) → contentOf x ≡ Length n → eqb n 120 ≡ t → cond t (readEntries 40 (part 0 n x)) misformed ≡ counts ns → Line x ns
+    whole : (n : ℕ) (t : Bool) → contentOf ρ x ≡ Length n → eqb n 120 ≡ t → cond t (readEntries 40 (part 0 n x)) misformed ≡ counts ns → Line ρ x ns
     whole n true f u g =
-        let c = is-content x n f in
+        let c = is-content ρ x n f in
         let p : part 0 n x ≡ take n x = rw (sub-zero n) in
         record { content = take n x; is = c .0; wide = c .1 ∙ eqb-true n 120 u; entries = read-entries 40 (take n x) ns (rw p at g) }
     whole n false f u g = let z : _≡_ {A = ℕ} 0 1 = cc in absurd (omega arith)
 
-    by : (c : Content) → contentOf x ≡ c → readIndexContent x c ≡ counts ns → Line x ns
+    by : (c : Content) → contentOf ρ x ≡ c → readIndexContent x c ≡ counts ns → Line ρ x ns
     by (Length n) f g = whole n (eqb n 120) f refl g
     by NoReturn f g = let z : _≡_ {A = ℕ} 0 1 = cc in absurd (omega arith)
 
-line-read : (x ns : List ℕ) → Line x ns → readIndexLine x ≡ counts ns
+line-read : (ρ : Rules) (x ns : List ℕ) → Line ρ x ns → readIndexLine ρ x ≡ counts ns
 unfolding readIndexLine
-line-read x ns h =
-    let f : contentOf x ≡ Length 120 = content-is x (h .content) (h .is) ∙ ap Length (h .wide) in
-    let p : part 0 120 x ≡ h .content = content-taken x (h .content) 120 (h .is) f in
+line-read ρ x ns h =
+    let f : contentOf ρ x ≡ Length 120 = content-is ρ x (h .content) (h .is) ∙ ap Length (h .wide) in
+    let p : part 0 120 x ≡ h .content = content-taken ρ x (h .content) 120 (h .is) f in
     rw (f, p) (entries-read 40 (h .content) ns (h .entries))
 
 -- ---- both lines
 
-module _ (xs ns : List ℕ) where
-  read-index : readIndex xs ≡ counts ns → IsIndex xs ns
+module _ (ρ : Rules) (xs ns : List ℕ) where
+  read-index : readIndex ρ xs ≡ counts ns → IsIndex ρ xs ns
   unfolding readIndex
   read-index e =
-      let t = two-lines (readIndexLine (lines 1 xs)) (readIndexLine (lines 1 (behind 1 xs))) ns e in
-      let a = read-line (lines 1 xs) (t .first) (t .first-is) in
-      let b = read-line (lines 1 (behind 1 xs)) (t .second) (t .second-is) in
+      let t = two-lines (readIndexLine ρ (lines 1 xs)) (readIndexLine ρ (lines 1 (behind 1 xs))) ns e in
+      let a = read-line ρ (lines 1 xs) (t .first) (t .first-is) in
+      let b = read-line ρ (lines 1 (behind 1 xs)) (t .second) (t .second-is) in
       let long : length (t .first) ≡ 40 = a .entries .many in
       record {
         many = ap length (t .all) ∙ length-append (t .first) (t .second) ∙ omega (arith, a .entries .many, b .entries .many);
@@ -144,10 +145,10 @@ module _ (xs ns : List ℕ) where
       right : (a b : List ℕ) (k : ℕ) → length a ≡ 40 → ns ≡ a ++ b → getD b k 0 ≡ countOf ns (40 + k + 1)
       right a b k l e = let n : 40 + k + 1 ≡ suc (length a + k) = omega (arith, l) in rw (e, n) (sym (getD-append-add a b k 0))
 
-  index-read : IsIndex xs ns → readIndex xs ≡ counts ns
+  index-read : IsIndex ρ xs ns → readIndex ρ xs ≡ counts ns
   unfolding readIndex
   index-read h =
-      let a : Line (lines 1 xs) (take 40 ns) = record {
+      let a : Line ρ (lines 1 xs) (take 40 ns) = record {
         content = h .first .content;
         is = h .first .is;
         wide = h .first .wide;
@@ -156,7 +157,7 @@ module _ (xs ns : List ℕ) where
           each = λ k l. subst (IsEntry (part (k * 3) (k * 3 + 3) (h .first .content))) (left k l) (h .first .each k l);
         };
       } in
-      let b : Line (lines 1 (behind 1 xs)) (drop 40 ns) = record {
+      let b : Line ρ (lines 1 (behind 1 xs)) (drop 40 ns) = record {
         content = h .second .content;
         is = h .second .is;
         wide = h .second .wide;
@@ -165,7 +166,7 @@ module _ (xs ns : List ℕ) where
           each = λ k l. subst (IsEntry (part (k * 3) (k * 3 + 3) (h .second .content))) (right k) (h .second .each k l);
         };
       } in
-      rw (line-read (lines 1 xs) (take 40 ns) a, line-read (lines 1 (behind 1 xs)) (drop 40 ns) b) (ap counts (take-append-drop 40 ns))
+      rw (line-read ρ (lines 1 xs) (take 40 ns) a, line-read ρ (lines 1 (behind 1 xs)) (drop 40 ns) b) (ap counts (take-append-drop 40 ns))
     where
       left : (k : ℕ) → k < 40 → countOf ns (0 + k + 1) ≡ getD (take 40 ns) k 0
       left k l = let n : 0 + k + 1 ≡ suc k = omega arith in rw n (sym (getD-take 40 ns k 0 l))
@@ -174,15 +175,15 @@ module _ (xs ns : List ℕ) where
       right k = let n : 40 + k + 1 ≡ suc (40 + k) = omega arith in rw n (sym (getD-drop 40 ns k 0))
 
   -- the two lines give these counts exactly if they are the index of these counts
-  pub index-is : readIndex xs ≡ counts ns ↔ IsIndex xs ns
+  pub index-is : readIndex ρ xs ≡ counts ns ↔ IsIndex ρ xs ns
   index-is = (read-index, index-read)
 
 -- 4 exactly if they are the index of no counts
-pub no-index : (xs : List ℕ) → readIndex xs ≡ misformed ↔ ((ns : List ℕ) → IsIndex xs ns → ⊥)
-no-index xs = (λ e ns h. let c = sym e ∙ index-is xs ns .1 h in let z : _≡_ {A = ℕ} 0 1 = cc in omega arith, λ n. by (readIndex xs) refl n)
+pub no-index : (ρ : Rules) (xs : List ℕ) → readIndex ρ xs ≡ misformed ↔ ((ns : List ℕ) → IsIndex ρ xs ns → ⊥)
+no-index ρ xs = (λ e ns h. let c = sym e ∙ index-is ρ xs ns .1 h in let z : _≡_ {A = ℕ} 0 1 = cc in omega arith, λ n. by (readIndex ρ xs) refl n)
   where
-    by : (r : Indexed) → readIndex xs ≡ r → ((ns : List ℕ) → IsIndex xs ns → ⊥) → r ≡ misformed
-    by (counts ns) e n = absurd (n ns (index-is xs ns .0 e))
+    by : (r : Indexed) → readIndex ρ xs ≡ r → ((ns : List ℕ) → IsIndex ρ xs ns → ⊥) → r ≡ misformed
+    by (counts ns) e n = absurd (n ns (index-is ρ xs ns .0 e))
     by misformed e n = refl
 
 -- ---- 80 counts that each have an entry
@@ -195,8 +196,8 @@ counts-entries ns = (
 )
 
 -- the counts of an index are such
-pub index-counts : (xs ns : List ℕ) → IsIndex xs ns → HasCounts ns
-index-counts xs ns h = counts-entries ns .1 (h .many, λ i l. by i l (leb 40 i) refl)
+pub index-counts : (ρ : Rules) (xs ns : List ℕ) → IsIndex ρ xs ns → HasCounts ns
+index-counts ρ xs ns h = counts-entries ns .1 (h .many, λ i l. by i l (leb 40 i) refl)
   where
     by : (i : ℕ) → i < 80 → (t : Bool) → leb 40 i ≡ t → HasEntry (getD ns i 0)
     by i l true e =

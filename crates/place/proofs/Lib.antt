@@ -10,7 +10,10 @@ pub mod Local
 pub mod SameWalk
 pub mod Numbered
 pub mod Zero
+pub mod Alike
+pub mod Ends
 pub mod Apart
 pub mod TwiceS
+pub mod TwiceEnds
 pub mod Indexed
 pub mod Stopped

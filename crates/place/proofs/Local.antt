@@ -9,6 +9,7 @@ use native.Mathlib.Omega.{arith}
 use lib.ListN.{length, drop, length-drop, take-append-drop}
 use borrow.Author.Tests.{le-ltb, ne-eqb, leb-true}
 use lib.Dec.{leb, ltb, eqb}
+use Rattle.rules.specs.declared.Rules.{Rules}
 use Rattle.base.specs.Part.{part}
 use Rattle.line.specs.Lines.{isFeed, feeds, reach, lines, behind}
 use Rattle.line.proofs.Feeds.{feeds-append, feeds-le}
@@ -31,17 +32,17 @@ inside : (xs : List ℕ) (at : ℕ) (s : List ℕ) → drop at s ≡ xs → 0 < 
 inside xs at s e h = omega (arith, length-drop at s, ap length e)
 
 -- two texts that are the same from the place on, and have something there
-pub locate-from : (s t : List ℕ) (at : ℕ) → drop at s ≡ drop at t → at < length s → locate s at ≡ locate t at
+pub locate-from : (ρ : Rules) (s t : List ℕ) (at : ℕ) → drop at s ≡ drop at t → at < length s → locate ρ s at ≡ locate ρ t at
 unfolding locate
-locate-from s t at e h =
+locate-from ρ s t at e h =
     let k : at < length t = omega (arith, length-drop at s, length-drop at t, ap length e) in
     rw (le-ltb (length s) at (omega arith), ne-eqb (length s) at (λ x. omega arith), le-ltb (length t) at (omega arith), ne-eqb (length t) at (λ x. omega arith), e)
 
 -- ---- the index lines alone decide the index
 
-pub index-lines : (xs : List ℕ) → 2 ≤ feeds xs → readIndex xs ≡ readIndex (lines 2 xs)
+pub index-lines : (ρ : Rules) (xs : List ℕ) → 2 ≤ feeds xs → readIndex ρ xs ≡ readIndex ρ (lines 2 xs)
 unfolding readIndex
-index-lines xs h =
+index-lines ρ xs h =
     let a = lines 2 xs in
     let b = behind 2 xs in
     let e : a ++ b ≡ xs = take-append-drop (reach xs 2) xs in
@@ -56,8 +57,8 @@ has-two : (xs ys : List ℕ) → 2 ≤ feeds xs → lines 2 xs ≡ lines 2 ys �
 has-two xs ys h e =
     omega (arith, feeds-lines xs 2 h, ap feeds e, feeds-append (lines 2 ys) (behind 2 ys), ap feeds (take-append-drop (reach ys 2) ys))
 
-pub index-local : (xs ys : List ℕ) → 2 ≤ feeds xs → lines 2 xs ≡ lines 2 ys → readIndex xs ≡ readIndex ys
-index-local xs ys h e = index-lines xs h ∙ ap readIndex e ∙ sym (index-lines ys (has-two xs ys h e))
+pub index-local : (ρ : Rules) (xs ys : List ℕ) → 2 ≤ feeds xs → lines 2 xs ≡ lines 2 ys → readIndex ρ xs ≡ readIndex ρ ys
+index-local ρ xs ys h e = index-lines ρ xs h ∙ ap (readIndex ρ) e ∙ sym (index-lines ρ ys (has-two xs ys h e))
 
 -- ---- replies 4, 5 and 6: the bytes up to the second line feed
 
@@ -81,19 +82,19 @@ not-by {p = p} {q = q} e n b =
     let f : p ≡ q = cc in
     absurd (n (subst ByIndex (sym f) b))
 
-module _ (at : ℕ) (p : Refusal) (b : ByIndex p) where
+module _ (ρ : Rules) (at : ℕ) (p : Refusal) (b : ByIndex p) where
   -- it was answered from the index, so there is one
   pub record FromIndex (s : List ℕ) : Type 0 where
     pub inner : at < length s
     pub two : 2 ≤ feeds (drop at s)
-    pub by : locateIndex (drop at s) at (readIndex (drop at s)) ≡ refused p
+    pub by : locateIndex (drop at s) at (readIndex ρ (drop at s)) ≡ refused p
 
-  from-index : (s : List ℕ) → locate s at ≡ refused p → FromIndex s
+  from-index : (s : List ℕ) → locate ρ s at ≡ refused p → FromIndex s
   unfolding locate
   from-index s e = by (ltb (length s) at) (eqb (length s) at) (leb 2 (feeds (drop at s))) refl e
     where
       by : (x y z : Bool) → leb 2 (feeds (drop at s)) ≡ z
-          → cond x (refused Beyond) (cond y (refused End) (cond z (locateIndex (drop at s) at (readIndex (drop at s))) (refused TooFewLines))) ≡ refused p → FromIndex s
+          → cond x (refused Beyond) (cond y (refused End) (cond z (locateIndex (drop at s) at (readIndex ρ (drop at s))) (refused TooFewLines))) ≡ refused p → FromIndex s
       by true y z u f = not-by f not-beyond b
       by false true z u f = not-by f not-end b
       by false false false u f = not-by f not-few b
@@ -114,32 +115,33 @@ module _ (at : ℕ) (p : Refusal) (b : ByIndex p) where
   by-index xs ys (counts ns) e = by-release xs ys ns (releaseOf ns) e
   by-index xs ys misformed e = e
 
-  pub refused-local : (s t : List ℕ) → lines 2 (drop at s) ≡ lines 2 (drop at t) → locate s at ≡ refused p → locate t at ≡ refused p
+  pub refused-local : (s t : List ℕ) → lines 2 (drop at s) ≡ lines 2 (drop at t) → locate ρ s at ≡ refused p → locate ρ t at ≡ refused p
   refused-local s t e f =
       let x = from-index s f in
       let two = has-two (drop at s) (drop at t) (x .two) e in
-      locate-index t at (omega (arith, two, feeds-le (drop at t), length-drop at t)) two
-      ∙ by-index (drop at s) (drop at t) (readIndex (drop at t)) (ap (locateIndex (drop at s) at) (sym (index-local (drop at s) (drop at t) (x .two) e)) ∙ x .by)
+      locate-index ρ t at (omega (arith, two, feeds-le (drop at t), length-drop at t)) two
+      ∙ by-index (drop at s) (drop at t) (readIndex ρ (drop at t)) (ap (locateIndex (drop at s) at) (sym (index-local ρ (drop at s) (drop at t) (x .two) e)) ∙ x .by)
 
 -- ---- replies 0 and 7: these bytes, and where the line feeds are up to the next place
 
-pub located-local : (s t : List ℕ) (at n : ℕ) (ns : List ℕ) → lines 2 (drop at s) ≡ lines 2 (drop at t) → map isFeed (part at n s) ≡ map isFeed (part at n t)
-    → locate s at ≡ located n ns → locate t at ≡ located n ns
-located-local s t at n ns e m f =
-    let p = located-is s at n ns f in
-    let two = has-two (drop at s) (drop at t) (p .head) e in
-    let a = behindAt-local s t at (recordLines ns) n m (is-at s at (recordLines ns) n record { many = p .many; place = p .next }) in
-    let q = at-is t at (recordLines ns) n a in
-    is-located t at n ns record {
-      inside = omega (arith, two, feeds-le (drop at t), length-drop at t);
-      head = two;
-      index = sym (index-local (drop at s) (drop at t) (p .head) e) ∙ p .index;
-      release = p .release;
-      many = q .many;
-      next = q .place;
-    }
+module _ (ρ : Rules) where
+  pub located-local : (s t : List ℕ) (at n : ℕ) (ns : List ℕ) → lines 2 (drop at s) ≡ lines 2 (drop at t) → map isFeed (part at n s) ≡ map isFeed (part at n t)
+      → locate ρ s at ≡ located n ns → locate ρ t at ≡ located n ns
+  located-local s t at n ns e m f =
+      let p = located-is ρ s at n ns f in
+      let two = has-two (drop at s) (drop at t) (p .head) e in
+      let a = behindAt-local s t at (recordLines ns) n m (is-at s at (recordLines ns) n record { many = p .many; place = p .next }) in
+      let q = at-is t at (recordLines ns) n a in
+      is-located ρ t at n ns record {
+        inside = omega (arith, two, feeds-le (drop at t), length-drop at t);
+        head = two;
+        index = sym (index-local ρ (drop at s) (drop at t) (p .head) e) ∙ p .index;
+        release = p .release;
+        many = q .many;
+        next = q .place;
+      }
 
 -- the answers and the counts, which follow from what is located
-pub placing-same : (s t : List ℕ) (at : ℕ) → locate s at ≡ locate t at → (placingOf s at ≡ placingOf t at) × (countsAt s at ≡ countsAt t at)
+pub placing-same : (ρ : Rules) (s t : List ℕ) (at : ℕ) → locate ρ s at ≡ locate ρ t at → (placingOf ρ s at ≡ placingOf ρ t at) × (countsAt ρ s at ≡ countsAt ρ t at)
 unfolding placingOf countsAt
-placing-same s t at e = (ap placingBy e, ap countsBy e)
+placing-same ρ s t at e = (ap placingBy e, ap countsBy e)

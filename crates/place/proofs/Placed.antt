@@ -8,6 +8,7 @@ use native.Mathlib.Omega.{arith}
 use borrow.Author.Tests.{eqb-true, leb-true, le-leb}
 use lib.Dec.{leb, ltb, eqb}
 use lib.ListN.{length, take, drop, length-drop}
+use Rattle.rules.specs.declared.Rules.{Rules}
 use Rattle.line.specs.Lines.{feeds, reach, lines, behind}
 use Rattle.line.specs.Contents.{contentOf}
 use Rattle.line.specs.declared.Content.{Content}
@@ -27,17 +28,17 @@ use Rattle.place.specs.Placing.{located, refused, locate, locateIndex, l
 use Rattle.place.proofs.Steps.{locate-index}
 
 -- the facts of a located record
-pub record IsLocated (s : List ℕ) (at n : ℕ) (ns : List ℕ) : Type 0 where
+pub record IsLocated (ρ : Rules) (s : List ℕ) (at n : ℕ) (ns : List ℕ) : Type 0 where
   pub inside : at < length s
   pub head : 2 ≤ feeds (drop at s)
-  pub index : readIndex (drop at s) ≡ counts ns
+  pub index : readIndex ρ (drop at s) ≡ counts ns
   pub release : releaseOf ns ≡ Five
   pub many : recordLines ns ≤ feeds (drop at s)
   pub next : n ≡ at + reach (drop at s) (recordLines ns)
 
-pub is-located : (s : List ℕ) (at n : ℕ) (ns : List ℕ) → IsLocated s at n ns → locate s at ≡ located n ns
-is-located s at n ns p =
-    locate-index s at (p .inside) (p .head)
+pub is-located : (ρ : Rules) (s : List ℕ) (at n : ℕ) (ns : List ℕ) → IsLocated ρ s at n ns → locate ρ s at ≡ located n ns
+is-located ρ s at n ns p =
+    locate-index ρ s at (p .inside) (p .head)
     ∙ rw (p .index, p .release, le-leb (recordLines ns) (feeds (drop at s)) (p .many))
     (ap (λ m. located m ns) (sym (p .next)))
 
@@ -46,12 +47,12 @@ is-located s at n ns p =
 pub no-record : {A : Type 0} {p : Refusal} {n : ℕ} {ns : List ℕ} → refused p ≡ located n ns → A
 no-record e = let z : _≡_ {A = ℕ} 0 1 = cc in absurd (omega arith)
 
-module _ (s : List ℕ) (at n : ℕ) (ns : List ℕ) where
+module _ (ρ : Rules) (s : List ℕ) (at n : ℕ) (ns : List ℕ) where
   xs : List ℕ
   xs = drop at s
 
-  by-lines : (ms : List ℕ) (t : Bool) → at < length s → 2 ≤ feeds xs → readIndex xs ≡ counts ms → releaseOf ms ≡ Five → leb (recordLines ms) (feeds xs) ≡ t
-      → cond t (located (at + reach xs (recordLines ms)) ms) (refused TooFewLines) ≡ located n ns → IsLocated s at n ns
+  by-lines : (ms : List ℕ) (t : Bool) → at < length s → 2 ≤ feeds xs → readIndex ρ xs ≡ counts ms → releaseOf ms ≡ Five → leb (recordLines ms) (feeds xs) ≡ t
+      → cond t (located (at + reach xs (recordLines ms)) ms) (refused TooFewLines) ≡ located n ns → IsLocated ρ s at n ns
   unfolding xs
   by-lines ms true i h r f u e =
       let p : ms ≡ ns = cc in
@@ -59,47 +60,47 @@ module _ (s : List ℕ) (at n : ℕ) (ns : List ℕ) where
       record { inside = i; head = h; index = r ∙ ap counts p; release = rw p at f; many = rw p at m; next = cc }
   by-lines ms false i h r f u e = no-record e
 
-  by-release : (ms : List ℕ) (r : Release) → at < length s → 2 ≤ feeds xs → readIndex xs ≡ counts ms → releaseOf ms ≡ r → locateRelease xs at ms r ≡ located n ns → IsLocated s at n ns
+  by-release : (ms : List ℕ) (r : Release) → at < length s → 2 ≤ feeds xs → readIndex ρ xs ≡ counts ms → releaseOf ms ≡ r → locateRelease xs at ms r ≡ located n ns → IsLocated ρ s at n ns
   unfolding xs
   by-release ms Five i h x f e = by-lines ms (leb (recordLines ms) (feeds xs)) i h x f refl e
   by-release ms Other i h x f e = no-record e
   by-release ms (Filled g) i h x f e = no-record e
 
-  by-index : (q : Indexed) → at < length s → 2 ≤ feeds xs → readIndex xs ≡ q → locateIndex xs at q ≡ located n ns → IsLocated s at n ns
+  by-index : (q : Indexed) → at < length s → 2 ≤ feeds xs → readIndex ρ xs ≡ q → locateIndex xs at q ≡ located n ns → IsLocated ρ s at n ns
   by-index (counts ms) i h x e = by-release ms (releaseOf ms) i h x refl e
   by-index misformed i h x e = no-record e
 
-  pub located-is : locate s at ≡ located n ns → IsLocated s at n ns
+  pub located-is : locate ρ s at ≡ located n ns → IsLocated ρ s at n ns
   unfolding locate xs
   located-is e = by (ltb (length s) at) (eqb (length s) at) (leb 2 (feeds xs)) refl refl refl e
     where
       by : (a b c : Bool) → ltb (length s) at ≡ a → eqb (length s) at ≡ b → leb 2 (feeds xs) ≡ c
-          → cond a (refused Beyond) (cond b (refused End) (cond c (locateIndex xs at (readIndex xs)) (refused TooFewLines))) ≡ located n ns → IsLocated s at n ns
+          → cond a (refused Beyond) (cond b (refused End) (cond c (locateIndex xs at (readIndex ρ xs)) (refused TooFewLines))) ≡ located n ns → IsLocated ρ s at n ns
       by true b c u v w e = no-record e
       by false true c u v w e = no-record e
       by false false false u v w e = no-record e
       by false false true u v w e =
           let h = leb-true 2 (feeds xs) w in
-          by-index (readIndex xs) (omega (arith, h, feeds-le xs, length-drop at s)) h refl e
+          by-index (readIndex ρ xs) (omega (arith, h, feeds-le xs, length-drop at s)) h refl e
 
 -- ---- where it lies
 
-pub located-range : (s : List ℕ) (at n : ℕ) (ns : List ℕ) → locate s at ≡ located n ns → n ≤ length s
-located-range s at n ns e =
-    let p = located-is s at n ns e in
+pub located-range : (ρ : Rules) (s : List ℕ) (at n : ℕ) (ns : List ℕ) → locate ρ s at ≡ located n ns → n ≤ length s
+located-range ρ s at n ns e =
+    let p = located-is ρ s at n ns e in
     omega (arith, p .next, p .inside, reach-le (drop at s) (recordLines ns), length-drop at s)
 
--- ---- the index is two lines of 122 bytes
+-- ---- the index is two lines of 121 bytes at least
 
-line-bytes : (x ns : List ℕ) → readIndexLine x ≡ counts ns → length x ≡ 122
+line-bytes : (ρ : Rules) (x ns : List ℕ) → readIndexLine ρ x ≡ counts ns → 121 ≤ length x
 unfolding readIndexLine
-line-bytes x ns e = by (contentOf x) refl e
+line-bytes ρ x ns e = by (contentOf ρ x) refl e
   where
-    whole : (n : ℕ) (t : Bool) → contentOf x ≡ Length n → eqb n 120 ≡ t → cond t (readEntries 40 (take (n - 0) (drop 0 x))) misformed ≡ counts ns → length x ≡ 122
-    whole n true f u g = content-two x n f ∙ omega (arith, eqb-true n 120 u)
+    whole : (n : ℕ) (t : Bool) → contentOf ρ x ≡ Length n → eqb n 120 ≡ t → cond t (readEntries 40 (take (n - 0) (drop 0 x))) misformed ≡ counts ns → 121 ≤ length x
+    whole n true f u g = omega (arith, content-two ρ x n f .0, eqb-true n 120 u)
     whole n false f u g = let z : _≡_ {A = ℕ} 0 1 = cc in absurd (omega arith)
 
-    by : (c : Content) → contentOf x ≡ c → readIndexContent x c ≡ counts ns → length x ≡ 122
+    by : (c : Content) → contentOf ρ x ≡ c → readIndexContent x c ≡ counts ns → 121 ≤ length x
     by (Length n) f g = whole n (eqb n 120) f refl g
     by NoReturn f g = let z : _≡_ {A = ℕ} 0 1 = cc in absurd (omega arith)
 
@@ -116,20 +117,20 @@ two-lines (counts x) (counts y) ns e = record { first = x; second = y; first-is 
 two-lines (counts x) misformed ns e = let z : _≡_ {A = ℕ} 0 1 = cc in absurd (omega arith)
 two-lines misformed b ns e = let z : _≡_ {A = ℕ} 0 1 = cc in absurd (omega arith)
 
-pub index-bytes : (xs ns : List ℕ) → readIndex xs ≡ counts ns → reach xs 2 ≡ 244
+pub index-bytes : (ρ : Rules) (xs ns : List ℕ) → readIndex ρ xs ≡ counts ns → 242 ≤ reach xs 2
 unfolding readIndex
-index-bytes xs ns e =
-    let t = two-lines (readIndexLine (lines 1 xs)) (readIndexLine (lines 1 (behind 1 xs))) ns e in
-    reach-add xs 1 1
-    ∙ omega (arith, length-lines xs 1, line-bytes (lines 1 xs) (t .first) (t .first-is), length-lines (behind 1 xs) 1, line-bytes (lines 1 (behind 1 xs)) (t .second) (t .second-is))
+index-bytes ρ xs ns e =
+    let t = two-lines (readIndexLine ρ (lines 1 xs)) (readIndexLine ρ (lines 1 (behind 1 xs))) ns e in
+    omega
+    (arith, reach-add xs 1 1, length-lines xs 1, line-bytes ρ (lines 1 xs) (t .first) (t .first-is), length-lines (behind 1 xs) 1, line-bytes ρ (lines 1 (behind 1 xs)) (t .second) (t .second-is))
 
--- so a record has at least 244 bytes
-pub located-long : (s : List ℕ) (at n : ℕ) (ns : List ℕ) → locate s at ≡ located n ns → at + 244 ≤ n
-located-long s at n ns e =
-    let p = located-is s at n ns e in
-    omega (arith, p .next, index-bytes (drop at s) ns (p .index), reach-mono (drop at s) 2 (recordLines ns) (record-two ns))
+-- so a record has at least 242 bytes
+pub located-long : (ρ : Rules) (s : List ℕ) (at n : ℕ) (ns : List ℕ) → locate ρ s at ≡ located n ns → at + 242 ≤ n
+located-long ρ s at n ns e =
+    let p = located-is ρ s at n ns e in
+    omega (arith, p .next, index-bytes ρ (drop at s) ns (p .index), reach-mono (drop at s) 2 (recordLines ns) (record-two ns))
 
 -- the counts beside the answer are those of the located record
-pub counts-at : (s : List ℕ) (at n : ℕ) (ns : List ℕ) → locate s at ≡ located n ns → countsAt s at ≡ ns
+pub counts-at : (ρ : Rules) (s : List ℕ) (at n : ℕ) (ns : List ℕ) → locate ρ s at ≡ located n ns → countsAt ρ s at ≡ ns
 unfolding countsAt
-counts-at s at n ns e = ap countsBy e
+counts-at ρ s at n ns e = ap countsBy e

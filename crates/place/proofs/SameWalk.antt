@@ -9,6 +9,7 @@ use native.Mathlib.Omega.{arith}
 use borrow.Author.Tests.{leb-true}
 use lib.Dec.{leb, ltb, eqb}
 use lib.ListN.{length, drop}
+use Rattle.rules.specs.declared.Rules.{Rules}
 use Rattle.base.specs.Part.{part}
 use Rattle.base.specs.Agree.{Agree, Misses}
 use Rattle.base.proofs.Agree.{part-agree}
@@ -29,7 +30,7 @@ use Rattle.place.proofs.Local.{index-local}
 
 -- ---- at one place
 
-module _ (s t : List ℕ) (h : SameLines s t) where
+module _ (ρ : Rules) (s t : List ℕ) (h : SameLines s t) where
   same-release : (at : ℕ) (ns : List ℕ) (r : Release) → locateRelease (drop at s) at ns r ≡ locateRelease (drop at t) at ns r
   same-release at ns Five = rw (feeds-from s t at h, reach-from s t at (recordLines ns) h)
   same-release at ns Other = refl
@@ -39,19 +40,19 @@ module _ (s t : List ℕ) (h : SameLines s t) where
   same-index at (counts ns) = same-release at ns (releaseOf ns)
   same-index at misformed = refl
 
-  pub locate-same : (at : ℕ) → lines 2 (drop at s) ≡ lines 2 (drop at t) → locate s at ≡ locate t at
+  pub locate-same : (at : ℕ) → lines 2 (drop at s) ≡ lines 2 (drop at t) → locate ρ s at ≡ locate ρ t at
   unfolding locate
   locate-same at e =
       rw (← h .long, ← feeds-from s t at h) (by (ltb (length s) at) (eqb (length s) at) (leb 2 (feeds (drop at s))) refl)
     where
       by : (a b c : Bool) → leb 2 (feeds (drop at s)) ≡ c
-          → cond a (refused Beyond) (cond b (refused End) (cond c (locateIndex (drop at s) at (readIndex (drop at s))) (refused TooFewLines))) ≡ cond a (refused Beyond)
-          (cond b (refused End) (cond c (locateIndex (drop at t) at (readIndex (drop at t))) (refused TooFewLines)))
+          → cond a (refused Beyond) (cond b (refused End) (cond c (locateIndex (drop at s) at (readIndex ρ (drop at s))) (refused TooFewLines))) ≡ cond a (refused Beyond)
+          (cond b (refused End) (cond c (locateIndex (drop at t) at (readIndex ρ (drop at t))) (refused TooFewLines)))
       by true b c u = refl
       by false true c u = refl
       by false false true u =
-          ap (locateIndex (drop at s) at) (index-local (drop at s) (drop at t) (leb-true 2 (feeds (drop at s)) u) e)
-          ∙ same-index at (readIndex (drop at t))
+          ap (locateIndex (drop at s) at) (index-local ρ (drop at s) (drop at t) (leb-true 2 (feeds (drop at s)) u) e)
+          ∙ same-index at (readIndex ρ (drop at t))
       by false false false u = refl
 
   -- the two index lines are the same where the texts agree there
@@ -71,21 +72,21 @@ module _ (s t : List ℕ) (h : SameLines s t) where
 
   -- where the index of record k of the walk ends
   abbrev pub headEnd : ℕ → ℕ
-  headEnd k = spot s k + reach (drop (spot s k) s) 2
+  headEnd k = spot ρ s k + reach (drop (spot ρ s k) s) 2
 
-  module _ {D : ℕ → Type 0} (a : Agree D s t) (m : (k : ℕ) → Misses D (spot s k) (headEnd k)) where
-    pub same-located : (k : ℕ) → locate s (spot s k) ≡ locate t (spot s k)
-    same-located k = locate-same (spot s k) (head-same (spot s k) a (m k))
+  module _ {D : ℕ → Type 0} (a : Agree D s t) (m : (k : ℕ) → Misses D (spot ρ s k) (headEnd k)) where
+    pub same-located : (k : ℕ) → locate ρ s (spot ρ s k) ≡ locate ρ t (spot ρ s k)
+    same-located k = locate-same (spot ρ s k) (head-same (spot ρ s k) a (m k))
 
-    pub same-spot : (k : ℕ) → spot s k ≡ spot t k
+    pub same-spot : (k : ℕ) → spot ρ s k ≡ spot ρ t k
     unfolding spot
     same-spot zero = refl
-    same-spot (suc k) = ap (onward (spot s k)) (same-located k) ∙ ap (λ p. onward p (locate t p)) (same-spot k)
+    same-spot (suc k) = ap (onward (spot ρ s k)) (same-located k) ∙ ap (λ p. onward p (locate ρ t p)) (same-spot k)
 
-    pub same-answer : (k : ℕ) → locate s (spot s k) ≡ locate t (spot t k)
-    same-answer k = same-located k ∙ ap (locate t) (same-spot k)
+    pub same-answer : (k : ℕ) → locate ρ s (spot ρ s k) ≡ locate ρ t (spot ρ t k)
+    same-answer k = same-located k ∙ ap (locate ρ t) (same-spot k)
 
-    pub same-stops : (many : ℕ) (p : Refusal) → Stops s many p → Stops t many p
+    pub same-stops : (many : ℕ) (p : Refusal) → Stops ρ s many p → Stops ρ t many p
     same-stops many p w =
         record {
           each = λ k l. let r = w .each k l in record { next = r .next; ns = r .ns; is = sym (same-answer k) ∙ r .is };

@@ -9,6 +9,7 @@ use borrow.Author.Tests.{lt-ltb, le-ltb, eq-eqb, ne-eqb, le-leb, lt-leb}
 use lib.Dec.{leb}
 use lib.Seq.{drop-drop}
 use lib.ListN.{length, drop, replicate}
+use Rattle.rules.specs.declared.Rules.{Rules}
 use Rattle.base.specs.Part.{part}
 use Rattle.line.specs.Lines.{feeds, reach, behind}
 use Rattle.line.specs.Places
@@ -32,36 +33,36 @@ use Rattle.place.specs.Placing.{Located, located, refused, locate, locat
 
 -- ---- an index line
 
-module _ (x : List ℕ) where
-  pub line-no-return : contentOf x ≡ NoReturn → readIndexLine x ≡ misformed
+module _ (ρ : Rules) (x : List ℕ) where
+  pub line-no-return : contentOf ρ x ≡ NoReturn → readIndexLine ρ x ≡ misformed
   unfolding readIndexLine
   line-no-return e = rw e
 
-  pub line-other-length : (n : ℕ) → contentOf x ≡ Length n → (n ≡ 120 → ⊥) → readIndexLine x ≡ misformed
+  pub line-other-length : (n : ℕ) → contentOf ρ x ≡ Length n → (n ≡ 120 → ⊥) → readIndexLine ρ x ≡ misformed
   unfolding readIndexLine
   line-other-length n e k = rw (e, ne-eqb n 120 k)
 
-  pub line-entries : (n : ℕ) → contentOf x ≡ Length n → n ≡ 120 → readIndexLine x ≡ readEntries 40 (part 0 n x)
+  pub line-entries : (n : ℕ) → contentOf ρ x ≡ Length n → n ≡ 120 → readIndexLine ρ x ≡ readEntries 40 (part 0 n x)
   unfolding readIndexLine
   line-entries n e k = rw (e, eq-eqb n 120 k)
 
 -- ---- a place in a text
 
-module _ (s : List ℕ) (at : ℕ) where
-  pub locate-beyond : length s < at → locate s at ≡ refused Beyond
+module _ (ρ : Rules) (s : List ℕ) (at : ℕ) where
+  pub locate-beyond : length s < at → locate ρ s at ≡ refused Beyond
   unfolding locate
   locate-beyond h = rw (lt-ltb (length s) at h)
 
-  pub locate-end : length s ≡ at → locate s at ≡ refused End
+  pub locate-end : length s ≡ at → locate ρ s at ≡ refused End
   unfolding locate
   locate-end e = rw (le-ltb (length s) at (omega arith), eq-eqb (length s) at e)
 
   module _ (inside : at < length s) where
-    pub locate-few : feeds (drop at s) < 2 → locate s at ≡ refused TooFewLines
+    pub locate-few : feeds (drop at s) < 2 → locate ρ s at ≡ refused TooFewLines
     unfolding locate
     locate-few h = rw (le-ltb (length s) at (omega arith), ne-eqb (length s) at (λ e. omega arith), lt-leb 2 (feeds (drop at s)) h)
 
-    pub locate-index : 2 ≤ feeds (drop at s) → locate s at ≡ locateIndex (drop at s) at (readIndex (drop at s))
+    pub locate-index : 2 ≤ feeds (drop at s) → locate ρ s at ≡ locateIndex (drop at s) at (readIndex ρ (drop at s))
     unfolding locate
     locate-index h = rw (le-ltb (length s) at (omega arith), ne-eqb (length s) at (λ e. omega arith), le-leb 2 (feeds (drop at s)) h)
 
@@ -94,13 +95,13 @@ lines-behind s at ns = by (leb (recordLines ns) (feeds (drop at s)))
     by true = refl
     by false = refl
 
-module _ (s : List ℕ) (at : ℕ) (inside : at < length s) where
-  pub first-few : behindAt s at 1 ≡ TooFew → locate s at ≡ refused TooFewLines
-  first-few e = locate-few s at inside (omega (arith, few-is s at 1 e))
+module _ (ρ : Rules) (s : List ℕ) (at : ℕ) (inside : at < length s) where
+  pub first-few : behindAt s at 1 ≡ TooFew → locate ρ s at ≡ refused TooFewLines
+  first-few e = locate-few ρ s at inside (omega (arith, few-is s at 1 e))
 
   module _ (second : ℕ) (f : behindAt s at 1 ≡ At second) where
-    pub second-few : behindAt s second 1 ≡ TooFew → locate s at ≡ refused TooFewLines
-    second-few e = locate-few s at inside (few-is s at 2 (behindAt-then s at 1 1 second f ∙ e))
+    pub second-few : behindAt s second 1 ≡ TooFew → locate ρ s at ≡ refused TooFewLines
+    second-few e = locate-few ρ s at inside (few-is s at 2 (behindAt-then s at 1 1 second f ∙ e))
 
     module _ (end : ℕ) (g : behindAt s second 1 ≡ At end) where
       both : behindAt s at 2 ≡ At end
@@ -109,17 +110,17 @@ module _ (s : List ℕ) (at : ℕ) (inside : at < length s) where
       second-from : behind 1 (drop at s) ≡ drop second s
       second-from = drop-drop (reach (drop at s) 1) at s ∙ ap (λ n. drop n s) (sym (at-is s at 1 second f .place))
 
-      index-lines : readIndex (drop at s) ≡ bothLines (readIndexLine (part at second s)) (readIndexLine (part second end s))
+      index-lines : readIndex ρ (drop at s) ≡ bothLines (readIndexLine ρ (part at second s)) (readIndexLine ρ (part second end s))
       unfolding readIndex
       index-lines = rw (lines-at s at 1 second f, second-from, lines-at s second 1 end g)
 
-      here : locate s at ≡ locateIndex (drop at s) at (bothLines (readIndexLine (part at second s)) (readIndexLine (part second end s)))
-      here = locate-index s at inside (at-is s at 2 end both .many) ∙ ap (locateIndex (drop at s) at) index-lines
+      here : locate ρ s at ≡ locateIndex (drop at s) at (bothLines (readIndexLine ρ (part at second s)) (readIndexLine ρ (part second end s)))
+      here = locate-index ρ s at inside (at-is s at 2 end both .many) ∙ ap (locateIndex (drop at s) at) index-lines
 
-      pub first-misformed : readIndexLine (part at second s) ≡ misformed → locate s at ≡ refused Misformed
+      pub first-misformed : readIndexLine ρ (part at second s) ≡ misformed → locate ρ s at ≡ refused Misformed
       first-misformed e = here ∙ rw e
 
-      pub second-misformed : (a : List ℕ) → readIndexLine (part at second s) ≡ counts a → readIndexLine (part second end s) ≡ misformed → locate s at ≡ refused Misformed
+      pub second-misformed : (a : List ℕ) → readIndexLine ρ (part at second s) ≡ counts a → readIndexLine ρ (part second end s) ≡ misformed → locate ρ s at ≡ refused Misformed
       second-misformed a e k = here ∙ rw (e, k)
 
       by-release : (ns : List ℕ) (r : Release) → locateRelease (drop at s) at ns r ≡ locateFive s end ns r
@@ -131,12 +132,12 @@ module _ (s : List ℕ) (at : ℕ) (inside : at < length s) where
       by-release ns Other = refl
       by-release ns (Filled g) = refl
 
-      pub with-index : (a b : List ℕ) → readIndexLine (part at second s) ≡ counts a → readIndexLine (part second end s) ≡ counts b → locate s at ≡ locateFrom s end (a ++ b)
+      pub with-index : (a b : List ℕ) → readIndexLine ρ (part at second s) ≡ counts a → readIndexLine ρ (part second end s) ≡ counts b → locate ρ s at ≡ locateFrom s end (a ++ b)
       unfolding locateFrom
       with-index a b e k = here ∙ rw (e, k) (by-release (a ++ b) (releaseOf (a ++ b)))
 
 -- ---- the answer
 
-pub answers-at : (s : List ℕ) (at : ℕ) {l : Located} {answer : Placing} {ns : List ℕ} → locate s at ≡ l → Answers l answer ns → (answer ≡ placingOf s at) × (ns ≡ countsAt s at)
+pub answers-at : (ρ : Rules) (s : List ℕ) (at : ℕ) {l : Located} {answer : Placing} {ns : List ℕ} → locate ρ s at ≡ l → Answers l answer ns → (answer ≡ placingOf ρ s at) × (ns ≡ countsAt ρ s at)
 unfolding placingOf countsAt
-answers-at s at e a = rw e (a .placing, a .beside)
+answers-at ρ s at e a = rw e (a .placing, a .beside)

@@ -8,6 +8,7 @@ use native.Mathlib.Nat.{add-zero}
 use native.Mathlib.Omega.{arith}
 use lib.ListN.{length, take, drop, getD, take-append-drop}
 use lib.Seq.{drop-drop, drop-at, length-take-le}
+use Rattle.rules.specs.declared.Rules.{Rules}
 use Rattle.base.specs.Part.{part}
 use Rattle.line.specs.Lines.{feeds, reach, lines, behind, Whole}
 use Rattle.line.proofs.Reach.{reach-zero, reach-add, reach-mono, feeds-behind, length-lines}
@@ -39,17 +40,23 @@ module _ (s : List ℕ) (at : ℕ) (ns : List ℕ) where
   unfolding start
   start-after g = omega arith
 
-  -- the part of group g is its lines, behind those before it
-  pub part-lines : (g : ℕ) → g < 61 → groupPart s at ns g ≡ lines (getD (lineTally ns) g 0) (behind (linesBefore ns g) (drop at s))
+  -- the part of group g is the lines between those before it and those before the next
+  pub part-between : (g : ℕ) → groupPart s at ns g ≡ lines (linesBefore ns (suc g) - linesBefore ns g) (behind (linesBefore ns g) (drop at s))
   unfolding groupPart start
-  part-lines g h =
+  part-between g =
       let j = linesBefore ns g in
-      let k = getD (lineTally ns) g 0 in
+      let k = linesBefore ns (suc g) - j in
       let xs = drop at s in
-      let e : linesBefore ns (suc g) ≡ j + k = lines-more ns g h in
+      let e : linesBefore ns (suc g) ≡ j + k = omega (arith, lines-below ns g (suc g) (omega arith)) in
       let r : reach xs (linesBefore ns (suc g)) ≡ reach xs j + reach (behind j xs) k = ap (reach xs) e ∙ reach-add xs j k in
       let w : at + reach xs (linesBefore ns (suc g)) - (at + reach xs j) ≡ reach (behind j xs) k = omega arith in
       rw (w, ← drop-drop (reach xs j) at s)
+
+  -- which are its own
+  pub part-lines : (g : ℕ) → g < 61 → groupPart s at ns g ≡ lines (getD (lineTally ns) g 0) (behind (linesBefore ns g) (drop at s))
+  part-lines g h =
+      let e : linesBefore ns (suc g) - linesBefore ns g ≡ getD (lineTally ns) g 0 = omega (arith, lines-more ns g h) in
+      part-between g ∙ ap (λ k. lines k (behind (linesBefore ns g) (drop at s))) e
 
   -- ---- and is the only part that follows them
 
@@ -66,9 +73,9 @@ module _ (s : List ℕ) (at : ℕ) (ns : List ℕ) where
 
 -- ---- a located record
 
-module _ (s : List ℕ) (at n : ℕ) (ns : List ℕ) (e : locate s at ≡ located n ns) where
-  p : IsLocated s at n ns
-  p = located-is s at n ns e
+module _ (ρ : Rules) (s : List ℕ) (at n : ℕ) (ns : List ℕ) (e : locate ρ s at ≡ located n ns) where
+  p : IsLocated ρ s at n ns
+  p = located-is ρ s at n ns e
 
   pub start-end : start s at ns 61 ≡ n
   unfolding start

@@ -5,11 +5,13 @@ use mathlib.Core.Path.{_≡_, refl}
 use Prim.Native.Nat.{ℕ, zero, suc, _<_}
 use native.Mathlib.Omega.{arith}
 use lib.ListN.{length, getD}
+use Rattle.rules.specs.declared.Rules.{Rules}
 use Rattle.base.specs.Every
 use Rattle.base.specs.Sum
 use Rattle.form.specs.Count
 use Rattle.form.specs.Table
 use Rattle.field.specs.Entry
+use Rattle.line.specs.Alike
 use Rattle.line.specs.Contents
 use Rattle.line.specs.Lines
 use Rattle.count.specs.Rules
@@ -22,12 +24,12 @@ use Rattle.place.specs.RecordS.{quotedLine, recordS, countsS, twiceS}
 use Rattle.place.specs.Walk.{spot, IsRecord, Stops}
 use Rattle.place.proofs.Walked.{spot-start, spot-more}
 
-pub record Twice : Type 0 where
+pub record Twice (ρ : Rules) : Type 0 where
   pub long : length twiceS ≡ 610
   -- the places of the listing: 0 to 305, 305 to 610, and the end at 610 with 1
-  pub first : locate twiceS 0 ≡ located 305 countsS
-  pub second : locate twiceS 305 ≡ located 610 countsS
-  pub last : locate twiceS 610 ≡ refused End
+  pub first : locate ρ twiceS 0 ≡ located 305 countsS
+  pub second : locate ρ twiceS 305 ≡ located 610 countsS
+  pub last : locate ρ twiceS 610 ≡ refused End
   -- the lines of group 4: where they are in the first record, and what they are in both
   pub from : start twiceS 0 countsS 4 ≡ 295
   pub to : start twiceS 0 countsS 5 ≡ 305
@@ -36,11 +38,11 @@ pub record Twice : Type 0 where
   -- its point
   pub point : getD twiceS 299 0 ≡ 46
 
-pub twice : Twice
-unfolding recordS twiceS countsS locate readIndex readIndexLine readEntries Entry.entryOf start groupPart Lines.feeds Lines.reach Contents.contentOf
+pub twice : (ρ : Rules) → Twice ρ
+unfolding recordS twiceS countsS Alike.endedBy locate readIndex readIndexLine readEntries Entry.entryOf start groupPart Lines.feeds Lines.reach Contents.contentOf
     Tally.linesIn Tally.lineTally Tally.linesBefore Sum.sum Every.upFrom Table.rowOf Table.listedAs Table.formAmong Table.formOf Count.linesOf Count.roundedUp
     Count.elementsOf Rules.releaseOf Rules.filledAmong
-twice = record {
+twice ρ = record {
   long = refl;
   first = refl;
   second = refl;
@@ -54,16 +56,16 @@ twice = record {
 
 -- ---- its walk
 
-pub spot-one : spot twiceS 1 ≡ 305
-spot-one = spot-more twiceS 0 305 countsS (rw (← spot-start twiceS) (twice .first))
+pub spot-one : (ρ : Rules) → spot ρ twiceS 1 ≡ 305
+spot-one ρ = spot-more ρ twiceS 0 305 countsS (rw (← spot-start ρ twiceS) (twice ρ .first))
 
-pub spot-two : spot twiceS 2 ≡ 610
-spot-two = spot-more twiceS 1 610 countsS (rw spot-one (twice .second))
+pub spot-two : (ρ : Rules) → spot ρ twiceS 2 ≡ 610
+spot-two ρ = spot-more ρ twiceS 1 610 countsS (rw (spot-one ρ) (twice ρ .second))
 
-pub two-records : Stops twiceS 2 End
-two-records = record { each = each; last = rw spot-two (twice .last) }
+pub two-records : (ρ : Rules) → Stops ρ twiceS 2 End
+two-records ρ = record { each = each; last = rw (spot-two ρ) (twice ρ .last) }
   where
-    each : (k : ℕ) → k < 2 → IsRecord twiceS (spot twiceS k)
-    each zero h = record { next = 305; ns = countsS; is = rw (← spot-start twiceS) (twice .first) }
-    each (suc zero) h = record { next = 610; ns = countsS; is = rw spot-one (twice .second) }
+    each : (k : ℕ) → k < 2 → IsRecord ρ twiceS (spot ρ twiceS k)
+    each zero h = record { next = 305; ns = countsS; is = rw (← spot-start ρ twiceS) (twice ρ .first) }
+    each (suc zero) h = record { next = 610; ns = countsS; is = rw (spot-one ρ) (twice ρ .second) }
     each (suc (suc k)) h = absurd (omega arith)

@@ -4,6 +4,7 @@ use mathlib.Core.List.{List}
 use mathlib.Core.Logic.{_⊎_}
 use Prim.Native.Nat.{ℕ, _+_, _<_, _≤_}
 use lib.ListN.{length, drop, replicate}
+use Rattle.rules.specs.declared.Rules.{Rules}
 use Rattle.line.specs.Lines.{feeds, reach}
 use Rattle.count.specs.Tally.{countOf, recordLines}
 use Rattle.count.specs.Blame.{KeepsRules, BreaksRules}
@@ -14,7 +15,7 @@ use Rattle.reply.specs.declared.Refusal.the-variants.{End, Beyond, TooFewLines,
 use Rattle.place.specs.declared.Placing.the-variants.{Placed, BrokenRule, Refused}
 use Rattle.place.specs.Index.{IsIndex}
 
-module _ (s : List ℕ) (at : ℕ) where
+module _ (ρ : Rules) (s : List ℕ) (at : ℕ) where
   -- neither 2, 1 nor 3 for the index lines: the place is inside, and two line feeds are left
   pub record HasIndex : Type 0 where
     pub inside : at < length s
@@ -23,7 +24,7 @@ module _ (s : List ℕ) (at : ℕ) where
   -- nor 4: the two lines are the index of these counts
   pub record HasEntries (ns : List ℕ) : Type 0 where
     pub place : HasIndex
-    pub index : IsIndex (drop at s) ns
+    pub index : IsIndex ρ (drop at s) ns
 
   -- nor 5 and 6: the release is 5, and no vacant group has a count
   pub record HasRelease (ns : List ℕ) : Type 0 where
@@ -49,7 +50,7 @@ module _ (s : List ℕ) (at : ℕ) where
   -- R204: they are the index of no counts
   pub record BadIndex : Type 0 where
     pub place : HasIndex
-    pub none : (ns : List ℕ) → IsIndex (drop at s) ns → ⊥
+    pub none : (ns : List ℕ) → IsIndex ρ (drop at s) ns → ⊥
 
   -- R205: the release is another than 5
   pub record BadRelease : Type 0 where

@@ -5,6 +5,7 @@ use mathlib.Core.List.{List, [], _∷_, _++_}
 use Prim.Native.Nat.{ℕ, zero, suc, _+_, _*_, _<_}
 use lib.Dec.{eqb}
 use lib.ListN.{length, take, drop}
+use Rattle.rules.specs.declared.Rules.{Rules}
 use Rattle.base.specs.Part.{part, over}
 use Rattle.count.specs.Tally.{countOf}
 use Rattle.field.specs.Entry.{entryOf, IsEntry}
@@ -35,33 +36,34 @@ readIndexContent x (Length n) = cond (eqb n 120) (readEntries 40 (part 0 n x)) m
 readIndexContent x NoReturn = misformed
 
 -- an index line, with its line feed
-unfoldable pub readIndexLine : List ℕ → Indexed
-readIndexLine x = readIndexContent x (contentOf x)
+unfoldable pub readIndexLine : Rules → List ℕ → Indexed
+readIndexLine ρ x = readIndexContent x (contentOf ρ x)
 
 abbrev pub bothLines : Indexed → Indexed → Indexed
 bothLines (counts a) (counts b) = counts (a ++ b)
 bothLines (counts a) misformed = misformed
 bothLines misformed r = misformed
 
--- the first two lines
-unfoldable pub readIndex : List ℕ → Indexed
-readIndex xs = bothLines (readIndexLine (lines 1 xs)) (readIndexLine (lines 1 (behind 1 xs)))
+module _ (ρ : Rules) where
+  -- the first two lines
+  unfoldable pub readIndex : List ℕ → Indexed
+  readIndex xs = bothLines (readIndexLine ρ (lines 1 xs)) (readIndexLine ρ (lines 1 (behind 1 xs)))
 
--- ---- the same as a statement (proofs/Indexed.antt)
+  -- ---- the same as a statement (proofs/Indexed.antt)
 
--- R21, R23: an index line: its content has 120 bytes, and the columns from 3k to 3k + 3 are an entry of the count that stands behind
--- `before` others and k more
-pub record IsIndexLine (x ns : List ℕ) (before : ℕ) : Type 0 where
-  pub content : List ℕ
-  pub is : HasContent x content
-  pub wide : length content ≡ 120
-  pub each : (k : ℕ) → k < 40 → IsEntry (part (k * 3) (k * 3 + 3) content) (countOf ns (before + k + 1))
+  -- R21, R23: an index line: its content has 120 bytes, and the columns from 3k to 3k + 3 are an entry of the count that stands behind
+  -- `before` others and k more
+  pub record IsIndexLine (x ns : List ℕ) (before : ℕ) : Type 0 where
+    pub content : List ℕ
+    pub is : HasContent ρ x content
+    pub wide : length content ≡ 120
+    pub each : (k : ℕ) → k < 40 → IsEntry (part (k * 3) (k * 3 + 3) content) (countOf ns (before + k + 1))
 
--- R22: the first line of xs has the entries of numbers 1 to 40, the second those of 41 to 80
-pub record IsIndex (xs ns : List ℕ) : Type 0 where
-  pub many : length ns ≡ 80
-  pub first : IsIndexLine (lines 1 xs) ns 0
-  pub second : IsIndexLine (lines 1 (behind 1 xs)) ns 40
+  -- R22: the first line of xs has the entries of numbers 1 to 40, the second those of 41 to 80
+  pub record IsIndex (xs ns : List ℕ) : Type 0 where
+    pub many : length ns ≡ 80
+    pub first : IsIndexLine (lines 1 xs) ns 0
+    pub second : IsIndexLine (lines 1 (behind 1 xs)) ns 40
 
 -- ---- what a function that stores the counts of a line from an index on leaves: all of them, or the answer that there are none
 abbrev pub Stored : Indexed → ℕ → List ℕ → Bool → List ℕ → Type 0

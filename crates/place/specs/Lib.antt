@@ -7,5 +7,7 @@ pub mod Parts
 pub mod Walk
 pub mod Numbered
 pub mod Due
+-- R9: answers that are the same but for the next place
+pub mod Alike
 -- R380, R382: record S, and S twice
 pub mod RecordS

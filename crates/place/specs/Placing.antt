@@ -6,6 +6,7 @@ use Prim.Native.Nat.{ℕ, _+_, _-_}
 use lib.Dec.{eqb, leb, ltb}
 use lib.ListN.{length, drop, replicate}
 use mathlib.Core.Path.{_≡_}
+use Rattle.rules.specs.declared.Rules.{Rules}
 use Rattle.line.specs.Places.{behindAt}
 use Rattle.line.specs.declared.Behind.{Behind}
 use Rattle.line.specs.declared.Behind.the-variants.{At, TooFew}
@@ -44,14 +45,15 @@ abbrev pub locateIndex : List ℕ → ℕ → Indexed → Located
 locateIndex xs at (counts ns) = locateRelease xs at ns (releaseOf ns)
 locateIndex xs at misformed = refused Misformed
 
--- R203: from the place on there are fewer than two line feeds
-abbrev pub locateHere : List ℕ → ℕ → Located
-locateHere xs at = cond (leb 2 (feeds xs)) (locateIndex xs at (readIndex xs)) (refused TooFewLines)
+module _ (ρ : Rules) where
+  -- R203: from the place on there are fewer than two line feeds
+  abbrev pub locateHere : List ℕ → ℕ → Located
+  locateHere xs at = cond (leb 2 (feeds xs)) (locateIndex xs at (readIndex ρ xs)) (refused TooFewLines)
 
--- R202: the place lies behind where the text ends; R201: it is there
-unfoldable pub locate : List ℕ → ℕ → Located
-locate s at =
-    cond (ltb (length s) at) (refused Beyond) (cond (eqb (length s) at) (refused End) (locateHere (drop at s) at))
+  -- R202: the place lies behind where the text ends; R201: it is there
+  unfoldable pub locate : List ℕ → ℕ → Located
+  locate s at =
+      cond (ltb (length s) at) (refused Beyond) (cond (eqb (length s) at) (refused End) (locateHere (drop at s) at))
 
 -- R207: counts that break a rule have a next place all the same
 abbrev pub ruledAt : ℕ → Ruling → Placing
@@ -67,12 +69,13 @@ abbrev pub countsBy : Located → List ℕ
 countsBy (located n ns) = ns
 countsBy (refused r) = replicate 80 0
 
--- R250: what placing answers, and the counts beside it
-unfoldable pub placingOf : List ℕ → ℕ → Placing
-placingOf s at = placingBy (locate s at)
+module _ (ρ : Rules) where
+  -- R250: what placing answers, and the counts beside it
+  unfoldable pub placingOf : List ℕ → ℕ → Placing
+  placingOf s at = placingBy (locate ρ s at)
 
-unfoldable pub countsAt : List ℕ → ℕ → List ℕ
-countsAt s at = countsBy (locate s at)
+  unfoldable pub countsAt : List ℕ → ℕ → List ℕ
+  countsAt s at = countsBy (locate ρ s at)
 
 pub record Answers (l : Located) (answer : Placing) (ns : List ℕ) : Type 0 where
   pub placing : answer ≡ placingBy l

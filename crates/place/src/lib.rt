@@ -46,11 +46,12 @@ fn store_entries(content: &[u8], counts: &mut [u16], from: usize) -> bool
 }
 
 // R204: an index line's counts, stored from an index on; whether the line and its entries are well formed.
-fn store_line(line: &[u8], counts: &mut [u16], from: usize) -> bool
+fn store_line(rules: rules::Rules, line: &[u8], counts: &mut [u16], from: usize) -> bool
     requires { ⌜ from + 40 ≤ length (now counts) ⌝ }
-    ensures { λ r. ⌜ Stored (readIndexLine (now (line .entry))) from (now (counts .entry)) r (now (counts .exit)) ⌝ }
+    ensures { λ r. ⌜ Stored (readIndexLine rules (now (line .entry))) from (now (counts .entry)) r
+        (now (counts .exit)) ⌝ }
 {
-    let line::Content::Length(n) = line::content_length(line) else {
+    let line::Content::Length(n) = line::content_length(rules, line) else {
         return false;
     };
     if n != 120 {
@@ -105,9 +106,9 @@ fn ruled_at(next: usize, ruling: count::Ruling) -> Placing
 }
 
 // R250, R251: the record at a place of a text, and what is refused, in placing's order.
-pub fn place(text: &[u8], at: usize) -> Record
-    ensures answer { λ r. ⌜ r .answer ≡ placingOf (now (text .entry)) at ⌝ }
-    ensures counts { λ r. ⌜ r .counts ≡ countsAt (now (text .entry)) at ⌝ }
+pub fn place(rules: rules::Rules, text: &[u8], at: usize) -> Record
+    ensures answer { λ r. ⌜ r .answer ≡ placingOf rules (now (text .entry)) at ⌝ }
+    ensures counts { λ r. ⌜ r .counts ≡ countsAt rules (now (text .entry)) at ⌝ }
 {
     if text.len() < at {
         return nothing(Refusal::Beyond);
@@ -122,10 +123,10 @@ pub fn place(text: &[u8], at: usize) -> Record
         return nothing(Refusal::TooFewLines);
     };
     let mut counts = [0u16; 80];
-    if !store_line(&text[at..second], &mut counts, 0) {
+    if !store_line(rules, &text[at..second], &mut counts, 0) {
         return nothing(Refusal::Misformed);
     }
-    if !store_line(&text[second..end], &mut counts, 40) {
+    if !store_line(rules, &text[second..end], &mut counts, 40) {
         return nothing(Refusal::Misformed);
     }
     with_counts(text, end, counts)

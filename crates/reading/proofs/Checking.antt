@@ -9,6 +9,7 @@ use native.Mathlib.Numerals.{add-one}
 use native.Mathlib.Omega.{arith}
 use lib.ListN.{length, take, drop, length-drop}
 use lib.Seq.{drop-drop}
+use Rattle.rules.specs.declared.Rules.{Rules}
 use Rattle.base.specs.Every
 use Rattle.base.specs.Every.{upFrom}
 use Rattle.base.specs.Part.{part}
@@ -47,16 +48,16 @@ stuck (bad q) h r e = e
 
 -- ---- the lines of a plan
 
-module _ (f : Form) (short : Bool) (s : List ℕ) (p n : ℕ) where
+module _ (ρ : Rules) (f : Form) (short : Bool) (s : List ℕ) (p n : ℕ) where
   pub lines-more : (j k at end : ℕ) → end ≡ at + reach (drop at s) 1
-      → readLinesOf f short (planFrom p n j (suc k)) (drop at s) ≡ both (readLine f short (lineAt p n j) (part at end s)) (readLinesOf f short (planFrom p n (j + 1) k) (drop end s))
+      → readLinesOf ρ f short (planFrom p n j (suc k)) (drop at s) ≡ both (readLine ρ f short (lineAt p n j) (part at end s)) (readLinesOf ρ f short (planFrom p n (j + 1) k) (drop end s))
   unfolding readLinesOf planFrom Pieces.gather Every.upFrom
   lines-more j k at end e =
       let r : end - at ≡ reach (drop at s) 1 = omega arith in
       let t : drop end s ≡ drop (reach (drop at s) 1) (drop at s) = ap (λ m. drop m s) e ∙ sym (drop-drop (reach (drop at s) 1) at s) in
       rw (r, t, add-one j)
 
-  pub lines-none : (j at : ℕ) → readLinesOf f short (planFrom p n j 0) (drop at s) ≡ done []
+  pub lines-none : (j at : ℕ) → readLinesOf ρ f short (planFrom p n j 0) (drop at s) ≡ done []
   unfolding readLinesOf planFrom Pieces.gather Every.upFrom
   lines-none j at = refl
 
@@ -87,7 +88,7 @@ pub walking-start : {f : Form} {count : ℕ} {s : List ℕ} {width perLine many 
 walking-start {f = f} a b c d e =
     record { wide = a; per = b; lines = c; small = e; few = omega arith; rest = omega (arith, zero-mul (rowOf f .«per_line»)); inside = omega arith }
 
-module _ (f : Form) (count : ℕ) (s : List ℕ) {width perLine many left at j : ℕ} (b : Walking f count s width perLine many left at j) where
+module _ (ρ : Rules) (f : Form) (count : ℕ) (s : List ℕ) {width perLine many left at j : ℕ} (b : Walking f count s width perLine many left at j) where
   -- the line that the state comes to
   abbrev pub lineHere : Line
   lineHere = lineAt (p f count) (n f count) j
@@ -140,20 +141,20 @@ module _ (f : Form) (count : ℕ) (s : List ℕ) {width perLine many left at j :
 
     module _ (short : Bool) (h : j < many) where
       others : Cells
-      others = readLinesOf f short (planFrom (p f count) (n f count) (j + 1) (many - (j + 1))) (drop end s)
+      others = readLinesOf ρ f short (planFrom (p f count) (n f count) (j + 1) (many - (j + 1))) (drop end s)
 
-      pub line-more : readLinesOf f short (planFrom (p f count) (n f count) j (many - j)) (drop at s) ≡ both (readLine f short lineHere (part at end s))
-          (readLinesOf f short (planFrom (p f count) (n f count) (j + 1) (many - (j + 1))) (drop end s))
+      pub line-more : readLinesOf ρ f short (planFrom (p f count) (n f count) j (many - j)) (drop at s) ≡ both (readLine ρ f short lineHere (part at end s))
+          (readLinesOf ρ f short (planFrom (p f count) (n f count) (j + 1) (many - (j + 1))) (drop end s))
       line-more =
           let m : many - j ≡ suc (many - (j + 1)) = omega arith in
-          rw m (lines-more f short s (p f count) (n f count) j (many - (j + 1)) at end w)
+          rw m (lines-more ρ f short s (p f count) (n f count) j (many - (j + 1)) at end w)
 
 -- ---- checking: the verdict on what is left is the verdict on all
 
-pub record Checking (f : Form) (short : Bool) (count : ℕ) (s : List ℕ) (width perLine many left at element j : ℕ) : Type 0 where
+pub record Checking (ρ : Rules) (f : Form) (short : Bool) (count : ℕ) (s : List ℕ) (width perLine many left at element j : ℕ) : Type 0 where
   pub walk : Walking f count s width perLine many left at j
   pub first : element ≡ j * rowOf f .«per_line» + 1
-  pub same : verdictOf (readLinesOf f short (planFrom (rowOf f .«per_line») (elementsOf f count) j (many - j)) (drop at s)) ≡ verdictOf (readLines f short count s)
+  pub same : verdictOf (readLinesOf ρ f short (planFrom (rowOf f .«per_line») (elementsOf f count) j (many - j)) (drop at s)) ≡ verdictOf (readLines ρ f short count s)
 
 -- the fields of a line from field i on
 pub record Fielding (f : Form) (l : Line) (text : List ℕ) (at i from : ℕ) : Type 0 where
@@ -161,61 +162,63 @@ pub record Fielding (f : Form) (l : Line) (text : List ℕ) (at i from : ℕ) : 
   pub within : i ≤ l .many
   pub same : verdictOf (readFields f (restOf l i) (drop (i * rowOf f .width) text)) ≡ verdictOf (readFields f l text)
 
-pub checking-start : {f : Form} {short : Bool} {count : ℕ} {s : List ℕ} {width perLine many left : ℕ} → Walking f count s width perLine many left 0 0
-    → Checking f short count s width perLine many left 0 1 0
+pub checking-start : (ρ : Rules) {f : Form} {short : Bool} {count : ℕ} {s : List ℕ} {width perLine many left : ℕ} → Walking f count s width perLine many left 0 0
+    → Checking ρ f short count s width perLine many left 0 1 0
 unfolding readLines planOf
-checking-start {f} {short} {count} {s} {width} {perLine} {many} {left} b =
+checking-start ρ {f} {short} {count} {s} {width} {perLine} {many} {left} b =
     record { walk = b; first = omega (arith, zero-mul (rowOf f .«per_line»)); same = rw (sub-zero many, b .lines, drop-none s) refl }
 
-pub checking-end : (f : Form) (short : Bool) (count : ℕ) (s : List ℕ) {width perLine many left at element j : ℕ} → Checking f short count s width perLine many left at element j → many ≤ j
-    → C.Right ≡ verdictOf (readLines f short count s)
-checking-end f short count s {many = many} {at = at} {j = j} b h =
+pub checking-end : (ρ : Rules) (f : Form) (short : Bool) (count : ℕ) (s : List ℕ) {width perLine many left at element j : ℕ} → Checking ρ f short count s width perLine many left at element j
+    → many ≤ j
+    → C.Right ≡ verdictOf (readLines ρ f short count s)
+checking-end ρ f short count s {many = many} {at = at} {j = j} b h =
     let z : many - j ≡ 0 = omega arith in
-    sym (ap verdictOf (lines-none f short s (rowOf f .«per_line») (elementsOf f count) j at)) ∙ (rw z at (b .same))
+    sym (ap verdictOf (lines-none ρ f short s (rowOf f .«per_line») (elementsOf f count) j at)) ∙ (rw z at (b .same))
 
-module _ (f : Form) (short : Bool) (count : ℕ) (s : List ℕ) {width perLine many left at element j : ℕ} (b : Checking f short count s width perLine many left at element j) (h : j < many) (k end : ℕ)
+module _ (ρ : Rules) (f : Form) (short : Bool) (count : ℕ) (s : List ℕ) {width perLine many left at element j : ℕ} (b : Checking ρ f short count s width perLine many left at element j) (h : j < many)
+    (k end : ℕ)
     (q : k ≡ min perLine left) (w : end ≡ at + reach (drop at s) 1) where
   abbrev l : Line
   l = lineAt (rowOf f .«per_line») (elementsOf f count) j
 
-  more : verdictOf (both (readLine f short l (part at end s)) (readLinesOf f short (planFrom (rowOf f .«per_line») (elementsOf f count) (j + 1) (many - (j + 1))) (drop end s)))
-      ≡ verdictOf (readLines f short count s)
-  more = sym (ap verdictOf (line-more f count s (b .walk) k end q w short h)) ∙ b .same
+  more : verdictOf (both (readLine ρ f short l (part at end s)) (readLinesOf ρ f short (planFrom (rowOf f .«per_line») (elementsOf f count) (j + 1) (many - (j + 1))) (drop end s)))
+      ≡ verdictOf (readLines ρ f short count s)
+  more = sym (ap verdictOf (line-more ρ f count s (b .walk) k end q w short h)) ∙ b .same
 
-  bad-line : (r : Refusal) → verdictOf (readLine f short l (part at end s)) ≡ C.Refused r → C.Refused r ≡ verdictOf (readLines f short count s)
-  bad-line r e = sym (stuck (readLine f short l (part at end s)) (readLinesOf f short (planFrom (rowOf f .«per_line») (elementsOf f count) (j + 1) (many - (j + 1))) (drop end s)) r e) ∙ more
+  bad-line : (r : Refusal) → verdictOf (readLine ρ f short l (part at end s)) ≡ C.Refused r → C.Refused r ≡ verdictOf (readLines ρ f short count s)
+  bad-line r e = sym (stuck (readLine ρ f short l (part at end s)) (readLinesOf ρ f short (planFrom (rowOf f .«per_line») (elementsOf f count) (j + 1) (many - (j + 1))) (drop end s)) r e) ∙ more
 
-  pub wrong-line : rightContent short (k * width) (part at end s) ≡ NoReturn → C.Refused (BadLine (j + 1)) ≡ verdictOf (readLines f short count s)
-  wrong-line e = bad-line (BadLine (j + 1)) (ap verdictOf (line-wrong f short l (part at end s) (rw (columns-here f count s (b .walk) k end q w) at e)))
+  pub wrong-line : rightContent ρ short (k * width) (part at end s) ≡ NoReturn → C.Refused (BadLine (j + 1)) ≡ verdictOf (readLines ρ f short count s)
+  wrong-line e = bad-line (BadLine (j + 1)) (ap verdictOf (line-wrong ρ f short l (part at end s) (rw (columns-here ρ f count s (b .walk) k end q w) at e)))
 
-  module _ (m : ℕ) (e : rightContent short (k * width) (part at end s) ≡ Length m) where
-    right : rightContent short (columnsOf f l) (part at end s) ≡ Length m
-    right = rw (columns-here f count s (b .walk) k end q w) at e
+  module _ (m : ℕ) (e : rightContent ρ short (k * width) (part at end s) ≡ Length m) where
+    right : rightContent ρ short (columnsOf f l) (part at end s) ≡ Length m
+    right = rw (columns-here ρ f count s (b .walk) k end q w) at e
 
     text : List ℕ
     text = lineText f l s at end m
 
-    pub content-inside : at + m + 2 ≤ length s
-    content-inside = omega (arith, line-ends f short l s at end m (end-range f count s (b .walk) k end q w .1) right, end-range f count s (b .walk) k end q w .1)
+    pub content-inside : at + m < length s
+    content-inside = omega (arith, line-ends ρ f short l s at end m (end-range ρ f count s (b .walk) k end q w .1) right, end-range ρ f count s (b .walk) k end q w .1)
 
     pub fielding-start : Fielding f l (lineText f l s at end m) at 0 at
     fielding-start = record { place = omega (arith, zero-mul (rowOf f .width)); within = omega arith; same = ap verdictOf (fields-start f l (lineText f l s at end m)) }
 
     module _ {i from : ℕ} (g : Fielding f l (lineText f l s at end m) at i from) where
       -- all fields are clean: the next line
-      pub checking-next : k ≤ i → Checking f short count s width perLine many (left - k) end (element + perLine) (j + 1)
+      pub checking-next : k ≤ i → Checking ρ f short count s width perLine many (left - k) end (element + perLine) (j + 1)
       checking-next d =
           record {
-            walk = walking-next f count s (b .walk) k end q w h;
-            first = omega (arith, b .first, b .walk .per, next-first f count s (b .walk));
-            same = sym (past (readLine f short l (part at end s)) (readLinesOf f short (planFrom (rowOf f .«per_line») (elementsOf f count) (j + 1) (many - (j + 1))) (drop end s)) clean) ∙ more;
+            walk = walking-next ρ f count s (b .walk) k end q w h;
+            first = omega (arith, b .first, b .walk .per, next-first ρ f count s (b .walk));
+            same = sym (past (readLine ρ f short l (part at end s)) (readLinesOf ρ f short (planFrom (rowOf f .«per_line») (elementsOf f count) (j + 1) (many - (j + 1))) (drop end s)) clean) ∙ more;
           }
         where
-          clean : verdictOf (readLine f short l (part at end s)) ≡ C.Right
+          clean : verdictOf (readLine ρ f short l (part at end s)) ≡ C.Right
           clean =
-              ap verdictOf (line-right f short l (part at end s) m right)
+              ap verdictOf (line-right ρ f short l (part at end s) m right)
               ∙ sym (g .same)
-              ∙ ap verdictOf (fields-none f l (lineText f l s at end m) i (drop (i * rowOf f .width) (lineText f l s at end m)) (omega (arith, many-here f count s (b .walk) k end q w)))
+              ∙ ap verdictOf (fields-none f l (lineText f l s at end m) i (drop (i * rowOf f .width) (lineText f l s at end m)) (omega (arith, many-here ρ f count s (b .walk) k end q w)))
 
       pub from-small : from ≤ length s + 120 * 120
       from-small = omega (arith, g .place, b .walk .inside, mul-le-mul few-passed (width-few f))
@@ -225,16 +228,16 @@ module _ (f : Form) (short : Bool) (count : ℕ) (s : List ℕ) {width perLine m
 
       module _ (begin to : ℕ) (c : i < k) (o : begin ≡ min from (at + m)) (t : to ≡ min (from + width) (at + m)) where
         inner : i < l .many
-        inner = omega (arith, many-here f count s (b .walk) k end q w)
+        inner = omega (arith, many-here ρ f count s (b .walk) k end q w)
 
         to-is : to ≡ min (from + rowOf f .width) (at + m)
         to-is = t ∙ rw (b .walk .wide)
 
         pub field-range : (begin ≤ to) × (to ≤ length s) × Fits f short (to - begin)
-        field-range = piece-range f short l s at end m (end-range f count s (b .walk) k end q w .1) right i from begin to inner (g .place) o to-is
+        field-range = piece-range ρ f short l s at end m (end-range ρ f count s (b .walk) k end q w .1) right i from begin to inner (g .place) o to-is
 
         field-is : filledTo (rowOf f .width) (part begin to s) ≡ take (rowOf f .width) (drop (i * rowOf f .width) (lineText f l s at end m))
-        field-is = piece f short l s at end m (end-range f count s (b .walk) k end q w .1) right i from begin to inner (g .place) o to-is
+        field-is = piece ρ f short l s at end m (end-range ρ f count s (b .walk) k end q w .1) right i from begin to inner (g .place) o to-is
 
         field-more : verdictOf
             (both (readField f (l .number) (l .first + i) (filledTo (rowOf f .width) (part begin to s)))
@@ -254,11 +257,11 @@ module _ (f : Form) (short : Bool) (count : ℕ) (s : List ℕ) {width perLine m
                   (readFields f (restOf l (i + 1)) (drop ((i + 1) * rowOf f .width) (lineText f l s at end m))) (rw y refl)) ∙ field-more;
             }
 
-        pub wrong-field : formed (fieldOf f (filledTo (rowOf f .width) (part begin to s))) ≡ false → C.Refused (BadField (j + 1) (element + i)) ≡ verdictOf (readLines f short count s)
+        pub wrong-field : formed (fieldOf f (filledTo (rowOf f .width) (part begin to s))) ≡ false → C.Refused (BadField (j + 1) (element + i)) ≡ verdictOf (readLines ρ f short count s)
         wrong-field y =
             ap (λ x. C.Refused (BadField (j + 1) (x + i))) (b .first)
             ∙ (bad-line (BadField (j + 1) (j * rowOf f .«per_line» + 1 + i))
-            (ap verdictOf (line-right f short l (part at end s) m right)
+            (ap verdictOf (line-right ρ f short l (part at end s) m right)
             ∙ sym field-more
             ∙ stuck (readField f (l .number) (l .first + i) (filledTo (rowOf f .width) (part begin to s)))
             (readFields f (restOf l (i + 1)) (drop ((i + 1) * rowOf f .width) (lineText f l s at end m))) (BadField (j + 1) (l .first + i)) (rw y refl)))

@@ -10,6 +10,7 @@ use borrow.Author.Tests.{le-leb, ne-eqb}
 use lib.IntN.{ℤ, pos}
 use lib.ListN.{length, take, drop, length-take, length-append}
 use lib.Seq.{take-at, length-take-le}
+use Rattle.rules.specs.declared.Rules.{Rules}
 use Rattle.base.specs.Every
 use Rattle.base.specs.Every.{upFrom}
 use Rattle.base.specs.Part.{part}
@@ -111,7 +112,7 @@ pub record FirstLetters (k : ℕ) (x letters : List ℕ) : Type 0 where
   pub many : k ≤ length letters
   pub same : take k letters ≡ take k x
 
-module _ (count : ℕ) (x : List ℕ) (cs : List ℤ) (h : readLines A1 false count x ≡ done cs) (enough : 19 ≤ count) (k : ℕ) (q : k ≡ min (rowOf A1 .«per_line») (elementsOf A1 count)) where
+module _ (ρ : Rules) (count : ℕ) (x : List ℕ) (cs : List ℤ) (h : readLines ρ A1 false count x ≡ done cs) (enough : 19 ≤ count) (k : ℕ) (q : k ≡ min (rowOf A1 .«per_line») (elementsOf A1 count)) where
   p : ℕ
   p = rowOf A1 .«per_line»
 
@@ -121,13 +122,14 @@ module _ (count : ℕ) (x : List ℕ) (cs : List ℤ) (h : readLines A1 false co
   line-one : Line
   line-one = lineAt p n 0
 
-  first-line : (l : Line) (y : List ℕ) (first : List ℤ) (end : ℕ) → l .many ≡ k → y ≡ part 0 end x → end ≤ length x → readLine A1 false l y ≡ done first → (k ≤ length x) × (first ≡ map pos (take k x))
+  first-line : (l : Line) (y : List ℕ) (first : List ℤ) (end : ℕ) → l .many ≡ k → y ≡ part 0 end x → end ≤ length x → readLine ρ A1 false l y ≡ done first
+      → (k ≤ length x) × (first ≡ map pos (take k x))
   first-line l y first end u v inside r =
-      let d = line-done A1 false l y first r in
+      let d = line-done ρ A1 false l y first r in
       let b = d .bytes in
       let cols : columnsOf A1 l ≡ k = ap (λ w. l .many * w) (letters-row .1) ∙ mul-one (l .many) ∙ u in
       let low : k ≤ length (part 0 b y) = subst (λ m. m ≤ length (part 0 b y)) cols (right-low false (columnsOf A1 l) (part 0 b y) (d .right)) in
-      let two = content-two y b (d .content) in
+      let two = content-two ρ y b (d .content) in
       let long : length y ≤ end - 0 = omega (arith, ap length v, length-take (end - 0) (drop 0 x)) in
       let content : part 0 b y ≡ take b x = ap (part 0 b) v ∙ part-begin 0 end b x (omega arith) ∙ ap (take b) (drop-none x) in
       let fits : k ≤ b = omega (arith, low, ap length content, length-take b x) in
@@ -142,8 +144,8 @@ module _ (count : ℕ) (x : List ℕ) (cs : List ℤ) (h : readLines A1 false co
   pub first-letters : FirstLetters k x (map sizeOf cs)
   unfolding p n line-one readLines planOf Count.linesOf
   first-letters =
-      by (both-done (readLine A1 false line-one (part 0 end x)) (readLinesOf A1 false (planFrom p n 1 (roundedUp n p - 1)) (drop end x)) cs
-      (sym (lines-more A1 false x p n 0 (roundedUp n p - 1) 0 end refl) ∙ some))
+      by (both-done (readLine ρ A1 false line-one (part 0 end x)) (readLinesOf ρ A1 false (planFrom p n 1 (roundedUp n p - 1)) (drop end x)) cs
+      (sym (lines-more ρ A1 false x p n 0 (roundedUp n p - 1) 0 end refl) ∙ some))
     where
       end : ℕ
       end = 0 + reach (drop 0 x) 1
@@ -151,13 +153,13 @@ module _ (count : ℕ) (x : List ℕ) (cs : List ℤ) (h : readLines A1 false co
       lines-some : roundedUp n p ≡ suc (roundedUp n p - 1)
       lines-some = omega (arith, quotient n p (omega (arith, letters-row .0)) (omega (arith, letters-count count)))
 
-      some : readLinesOf A1 false (planFrom p n 0 (suc (roundedUp n p - 1))) (drop 0 x) ≡ done cs
-      some = ap (λ i. readLinesOf A1 false (planFrom p n 0 i) (drop 0 x)) (sym lines-some) ∙ ap (λ y. readLinesOf A1 false (planFrom p n 0 (roundedUp n p)) y) (drop-none x) ∙ h
+      some : readLinesOf ρ A1 false (planFrom p n 0 (suc (roundedUp n p - 1))) (drop 0 x) ≡ done cs
+      some = ap (λ i. readLinesOf ρ A1 false (planFrom p n 0 i) (drop 0 x)) (sym lines-some) ∙ ap (λ y. readLinesOf ρ A1 false (planFrom p n 0 (roundedUp n p)) y) (drop-none x) ∙ h
 
       many-is : line-one .many ≡ k
       many-is = omega (arith, zero-mul p)
 
-      by : BothDone (readLine A1 false line-one (part 0 end x)) (readLinesOf A1 false (planFrom p n 1 (roundedUp n p - 1)) (drop end x)) cs → FirstLetters k x (map sizeOf cs)
+      by : BothDone (readLine ρ A1 false line-one (part 0 end x)) (readLinesOf ρ A1 false (planFrom p n 1 (roundedUp n p - 1)) (drop end x)) cs → FirstLetters k x (map sizeOf cs)
       by d =
           let r = first-line line-one (part 0 end x) (d .first) end many-is refl (omega (arith, reach-le (drop 0 x) 1, ap length (drop-none x))) (d .first-is) in
           let letters : map sizeOf cs ≡ take k x ++ map sizeOf (d .second) =
@@ -171,16 +173,16 @@ module _ (count : ℕ) (x : List ℕ) (cs : List ℤ) (h : readLines A1 false co
 
 -- ---- the date
 
-module _ (count : ℕ) (x : List ℕ) (v : verdictOf (readLines A1 false count x) ≡ C.Right) (enough : 19 ≤ count) (k : ℕ) (q : k ≡ min (rowOf A1 .«per_line») (elementsOf A1 count)) where
-  letters-first : FirstLetters k x (map sizeOf (clean-read (readLines A1 false count x) v .cells))
-  letters-first = let r = clean-read (readLines A1 false count x) v in first-letters count x (r .cells) (r .is) enough k q
+module _ (ρ : Rules) (count : ℕ) (x : List ℕ) (v : verdictOf (readLines ρ A1 false count x) ≡ C.Right) (enough : 19 ≤ count) (k : ℕ) (q : k ≡ min (rowOf A1 .«per_line») (elementsOf A1 count)) where
+  letters-first : FirstLetters k x (map sizeOf (clean-read (readLines ρ A1 false count x) v .cells))
+  letters-first = let r = clean-read (readLines ρ A1 false count x) v in first-letters ρ count x (r .cells) (r .is) enough k q
 
   pub letters-inside : k ≤ length x
   letters-inside = letters-first .inside
 
-  pub date-verdict : {d : Dated} → datedOf (part 0 k x) ≡ d → dateVerdict d ≡ verdictOf (dated 3 (readLines A1 false count x))
+  pub date-verdict : {d : Dated} → datedOf (part 0 k x) ≡ d → dateVerdict d ≡ verdictOf (dated 3 (readLines ρ A1 false count x))
   date-verdict {d = d} e =
-      let r = clean-read (readLines A1 false count x) v in
+      let r = clean-read (readLines ρ A1 false count x) v in
       let b = letters-first in
       let long : 19 ≤ k = omega (arith, letters-row .0, letters-count count) in
       let same : datedOf (map sizeOf (r .cells)) ≡ d =
@@ -209,5 +211,5 @@ date-form g f e t =
     cc
 
 -- and its lines may not be short
-pub date-lines : (g : ℕ) (f : Form) (count : ℕ) (x : List ℕ) → formOf g ≡ Has f → g ≡ 3 → readLines f (mayBeShort g) count x ≡ readLines A1 false count x
-date-lines g f count x e t = ap₂ (λ k short. readLines k short count x) (date-form g f e t) (ap mayBeShort t)
+pub date-lines : (ρ : Rules) (g : ℕ) (f : Form) (count : ℕ) (x : List ℕ) → formOf g ≡ Has f → g ≡ 3 → readLines ρ f (mayBeShort g) count x ≡ readLines ρ A1 false count x
+date-lines ρ g f count x e t = ap₂ (λ k short. readLines ρ k short count x) (date-form g f e t) (ap mayBeShort t)

@@ -11,6 +11,7 @@ use borrow.Author.Tests.{le-leb, lt-leb, leb-true, leb-false, eq-eqb, eqb-true, 
 use lib.Dec.{T, leb, eqb}
 use lib.IntN.{ℤ}
 use lib.ListN.{length, take}
+use Rattle.rules.specs.declared.Rules.{Rules}
 use Rattle.base.specs.Part.{part}
 use Rattle.base.specs.Pieces.{done, bad}
 use Rattle.base.specs.Sign.{sizeOf}
@@ -76,7 +77,7 @@ module _ (f : Form) (line e : ℕ) (y : List ℕ) where
 
 -- ---- a line: 8, then 9
 
-module _ (f : Form) (g : ℕ) (count : ℕ) (x : List ℕ) where
+module _ (ρ : Rules) (f : Form) (g : ℕ) (count : ℕ) (x : List ℕ) where
   abbrev short : Bool
   short = mayBeShort g
 
@@ -87,34 +88,34 @@ module _ (f : Form) (g : ℕ) (count : ℕ) (x : List ℕ) where
     -- the line is right, and its fields decide
     record LineRight : Type 0 where
       content : List ℕ
-      line : RightLine f g count x j content
-      reads : lineRead f short count x j ≡ readFields f (planned f count j) (filledTo (columnsOf f (planned f count j)) content)
+      line : RightLine ρ f g count x j content
+      reads : lineRead ρ f short count x j ≡ readFields f (planned f count j) (filledTo (columnsOf f (planned f count j)) content)
 
     record LineWrong : Type 0 where
-      none : (s : List ℕ) → RightLine f g count x j s → ⊥
-      told : lineRead f short count x j ≡ bad (BadLine (planned f count j .number))
+      none : (s : List ℕ) → RightLine ρ f g count x j s → ⊥
+      told : lineRead ρ f short count x j ≡ bad (BadLine (planned f count j .number))
 
-    right-content : (s : List ℕ) → RightLine f g count x j s → (rightContent short (columnsOf f l) (lineOf x j) ≡ Length (length s)) × (part 0 (length s) (lineOf x j) ≡ s)
+    right-content : (s : List ℕ) → RightLine ρ f g count x j s → (rightContent ρ short (columnsOf f l) (lineOf x j) ≡ Length (length s)) × (part 0 (length s) (lineOf x j) ≡ s)
     right-content s r =
         let y = lineOf x j in
-        let e = content-is y s (r .content) in
-        let t : part 0 (length s) y ≡ s = part-zero (length s) y ∙ content-taken y s (length s) (r .content) e in
-        (right-yes short (columnsOf f l) y (length s) e (ap (isRight short (columnsOf f l)) t ∙ right-plain g (columnsOf f l) s .1 (r .right)), t)
+        let e = content-is ρ y s (r .content) in
+        let t : part 0 (length s) y ≡ s = part-zero (length s) y ∙ content-taken ρ y s (length s) (r .content) e in
+        (right-yes ρ short (columnsOf f l) y (length s) e (ap (isRight short (columnsOf f l)) t ∙ right-plain g (columnsOf f l) s .1 (r .right)), t)
 
-    right-reads : (s : List ℕ) → RightLine f g count x j s → lineRead f short count x j ≡ readFields f (planned f count j) (filledTo (columnsOf f (planned f count j)) s)
+    right-reads : (s : List ℕ) → RightLine ρ f g count x j s → lineRead ρ f short count x j ≡ readFields f (planned f count j) (filledTo (columnsOf f (planned f count j)) s)
     right-reads s r =
         let c = right-content s r in
-        line-right f short l (lineOf x j) (length s) (c .0) ∙ ap (λ z. readFields f l (filledTo (columnsOf f l) z)) (c .1)
+        line-right ρ f short l (lineOf x j) (length s) (c .0) ∙ ap (λ z. readFields f l (filledTo (columnsOf f l) z)) (c .1)
 
     line-either : LineRight ⊎ LineWrong
-    line-either = by (rightContent short (columnsOf f l) (lineOf x j)) refl
+    line-either = by (rightContent ρ short (columnsOf f l) (lineOf x j)) refl
       where
-        by : (c : Content) → rightContent short (columnsOf f l) (lineOf x j) ≡ c → LineRight ⊎ LineWrong
+        by : (c : Content) → rightContent ρ short (columnsOf f l) (lineOf x j) ≡ c → LineRight ⊎ LineWrong
         by (Length n) e =
-            let i = right-is short (columnsOf f l) (lineOf x j) n e in
-            let r : RightLine f g count x j (take n (lineOf x j)) =
+            let i = right-is ρ short (columnsOf f l) (lineOf x j) n e in
+            let r : RightLine ρ f g count x j (take n (lineOf x j)) =
             record {
-              content = is-content (lineOf x j) n (i .content) .0;
+              content = is-content ρ (lineOf x j) n (i .content) .0;
               right = right-plain g (columnsOf f l) (take n (lineOf x j)) .0
                   (ap (isRight short (columnsOf f l)) (sym (part-zero n (lineOf x j))) ∙ i .right);
             } in
@@ -122,40 +123,40 @@ module _ (f : Form) (g : ℕ) (count : ℕ) (x : List ℕ) where
         by NoReturn e =
             inr record {
               none = λ s r. let w : Length (length s) ≡ NoReturn = sym (right-content s r .0) ∙ e in let z : _≡_ {A = ℕ} 0 1 = cc in omega arith;
-              told = line-wrong f short l (lineOf x j) e;
+              told = line-wrong ρ f short l (lineOf x j) e;
             }
 
-    wrong-told : ((s : List ℕ) → RightLine f g count x j s → ⊥) → lineRead f short count x j ≡ bad (BadLine (planned f count j .number))
+    wrong-told : ((s : List ℕ) → RightLine ρ f g count x j s → ⊥) → lineRead ρ f short count x j ≡ bad (BadLine (planned f count j .number))
     wrong-told n = ⊎-elim (λ (r : LineRight). absurd (n (r .content) (r .line))) (λ (w : LineWrong). w .told) line-either
 
     -- ---- clean exactly if it was read
 
-    clean-done : CleanLine f g count x j → IsDone (lineRead f short count x j)
+    clean-done : CleanLine ρ f g count x j → IsDone (lineRead ρ f short count x j)
     clean-done c =
         let text = filledTo (columnsOf f l) (c .content) in
         let d = all-done (fields-pieces f l text) (λ k h. field-reads f (l .number) (l .first + k) (fieldIn f count j (c .content) k) (c .fields k h)) in
         record { cells = d .cells; is = right-reads (c .content) (c .line) ∙ sym (fields-start f l text) ∙ d .is }
 
-    done-clean : IsDone (lineRead f short count x j) → CleanLine f g count x j
+    done-clean : IsDone (lineRead ρ f short count x j) → CleanLine ρ f g count x j
     done-clean d =
-        let r = line-read f g count x j (d .cells) (d .is) in
+        let r = line-read ρ f g count x j (d .cells) (d .is) in
         record { content = r .content; line = r .line; fields = λ k h. some-field f (fieldIn f count j (r .content) k) .0 (r .each k h .good) }
 
   -- ---- the lines
 
   data LinesDue : Refusal → Type 0 where
-    wrong-line : (n : ℕ) → WrongLine f g count x n → LinesDue (BadLine n)
-    wrong-field : (n e : ℕ) → WrongField f g count x n e → LinesDue (BadField n e)
+    wrong-line : (n : ℕ) → WrongLine ρ f g count x n → LinesDue (BadLine n)
+    wrong-field : (n e : ℕ) → WrongField ρ f g count x n e → LinesDue (BadField n e)
 
-  lines-told : (r : Refusal) (j : ℕ) → ComesTo f g count x j → lineRead f short count x j ≡ bad r → readLines f short count x ≡ bad r
+  lines-told : (r : Refusal) (j : ℕ) → ComesTo ρ f g count x j → lineRead ρ f short count x j ≡ bad r → readLines ρ f short count x ≡ bad r
   lines-told r j c e =
-      sym (lines-start f short count x)
-      ∙ bad-told (lines-pieces f short count x) r record { at = j; inside = c .inside; earlier = λ i h. clean-done i (c .earlier i h); told = e }
+      sym (lines-start ρ f short count x)
+      ∙ bad-told (lines-pieces ρ f short count x) r record { at = j; inside = c .inside; earlier = λ i h. clean-done i (c .earlier i h); told = e }
 
-  line-given : (n : ℕ) → WrongLine f g count x n → readLines f short count x ≡ bad (BadLine n)
+  line-given : (n : ℕ) → WrongLine ρ f g count x n → readLines ρ f short count x ≡ bad (BadLine n)
   line-given n w = lines-told (BadLine n) (w .j) (w .comes) (wrong-told (w .j) (w .wrong) ∙ ap (λ k. bad (BadLine k)) (sym (w .number)))
 
-  field-given : (n e : ℕ) → WrongField f g count x n e → readLines f short count x ≡ bad (BadField n e)
+  field-given : (n e : ℕ) → WrongField ρ f g count x n e → readLines ρ f short count x ≡ bad (BadField n e)
   field-given n e w =
       let t = filledTo (columnsOf f (l (w .j))) (w .content) in
       lines-told (BadField n e) (w .j) (w .comes)
@@ -169,13 +170,13 @@ module _ (f : Form) (g : ℕ) (count : ℕ) (x : List ℕ) where
       })
 
   -- what is told of the lines
-  lines-due : (r : Refusal) → readLines f short count x ≡ bad r → LinesDue r
+  lines-due : (r : Refusal) → readLines ρ f short count x ≡ bad r → LinesDue r
   lines-due r e = ⊎-elim inside wrong (line-either (b .at))
     where
-      b : FirstBad (linesOf f count) (lineRead f short count x) r
-      b = first-bad (lines-pieces f short count x) r .0 (lines-start f short count x ∙ e)
+      b : FirstBad (linesOf f count) (lineRead ρ f short count x) r
+      b = first-bad (lines-pieces ρ f short count x) r .0 (lines-start ρ f short count x ∙ e)
 
-      comes : ComesTo f g count x (b .at)
+      comes : ComesTo ρ f g count x (b .at)
       comes = record { inside = b .inside; earlier = λ i h. done-clean i (b .earlier i h) }
 
       wrong : LineWrong (b .at) → LinesDue r
@@ -209,89 +210,90 @@ module _ (f : Form) (g : ℕ) (count : ℕ) (x : List ℕ) where
   letters-one = refl
 
   -- R232: in A120 a line is an element, so both have the same number
-  pub letters-line : f ≡ A120 → (n e : ℕ) → WrongField f g count x n e → e ≡ n
+  pub letters-line : f ≡ A120 → (n e : ℕ) → WrongField ρ f g count x n e → e ≡ n
   letters-line u n e w =
       let p : rowOf f .«per_line» ≡ 1 = ap (λ k. rowOf k .«per_line») u ∙ letters-one in
       let m : w .j * rowOf f .«per_line» ≡ w .j = ap (λ k. w .j * k) p ∙ mul-one (w .j) in
       omega (arith, w .number, w .element, w .inside, p)
 
   -- all clean, with these values: these cells were read
-  pub lines-read : (cs : List ℤ) → AllClean f g count x → Values f g count x cs → readLines f short count x ≡ done cs
+  pub lines-read : (cs : List ℤ) → AllClean ρ f g count x → Values ρ f g count x cs → readLines ρ f short count x ≡ done cs
   lines-read cs c v =
-      let d = all-done (lines-pieces f short count x) (λ j h. clean-done j (c j h)) in
-      let e : readLines f short count x ≡ done (d .cells) = sym (lines-start f short count x) ∙ d .is in
-      e ∙ ap done (values-one f g count x (d .cells) cs (read-values f g count x (d .cells) e) v)
+      let d = all-done (lines-pieces ρ f short count x) (λ j h. clean-done j (c j h)) in
+      let e : readLines ρ f short count x ≡ done (d .cells) = sym (lines-start ρ f short count x) ∙ d .is in
+      e ∙ ap done (values-one ρ f g count x (d .cells) cs (read-values ρ f g count x (d .cells) e) v)
 
-  pub lines-clean : (cs : List ℤ) → readLines f short count x ≡ done cs → AllClean f g count x
-  lines-clean cs e j h = done-clean j record { cells = _; is = line-cells f g count x cs e j h }
+  pub lines-clean : (cs : List ℤ) → readLines ρ f short count x ≡ done cs → AllClean ρ f g count x
+  lines-clean cs e j h = done-clean j record { cells = _; is = line-cells ρ f g count x cs e j h }
 
 -- ---- a group
 
-module _ (ns : List ℕ) (g : ℕ) (x : List ℕ) (room : ℕ) where
+module _ (ρ : Rules) (ns : List ℕ) (g : ℕ) (x : List ℕ) (room : ℕ) where
   -- ---- what is due is given
 
-  to-lines : (f : Form) → Roomy ns g x room f → readGroup ns g x room ≡ dated g (readLines f (mayBeShort g) (countOf ns g) x)
+  to-lines : (f : Form) → Roomy ρ ns g x room f → readGroup ρ ns g x room ≡ dated g (readLines ρ f (mayBeShort g) (countOf ns g) x)
   unfolding readGroup readForm
   to-lines f r = rw (r .ruled .form, kept-ruling ns (r .ruled .kept), le-leb (cellsOf f (countOf ns g)) room (r .enough)) refl
 
-  to-cells : (cs : List ℤ) → CellsRead ns g x room cs → readGroup ns g x room ≡ dated g (done cs)
-  to-cells cs h = to-lines (h .f) (h .roomy) ∙ ap (dated g) (lines-read (h .f) g (countOf ns g) x cs (h .clean) (h .values))
+  to-cells : (cs : List ℤ) → CellsRead ρ ns g x room cs → readGroup ρ ns g x room ≡ dated g (done cs)
+  to-cells cs h = to-lines (h .f) (h .roomy) ∙ ap (dated g) (lines-read ρ (h .f) g (countOf ns g) x cs (h .clean) (h .values))
 
-  refusal-given : (r : Refusal) → RefusedFor ns g x room r → readGroup ns g x room ≡ bad r
+  refusal-given : (r : Refusal) → RefusedFor ρ ns g x room r → readGroup ρ ns g x room ≡ bad r
   unfolding readGroup readForm
   refusal-given r (no-group d) = rw (none-has g .1 (λ i. d (i .low, i .high))) refl
   refusal-given r (broken-rule h d) = rw (group-form g (d .low) (d .high) .1, broken-ruling ns (d .broken)) refl
   refusal-given r (no-room d) = rw (d .ruled .form, kept-ruling ns (d .ruled .kept), lt-leb (cellsOf (d .f) (countOf ns g)) room (d .few)) refl
-  refusal-given r (bad-line n d) = to-lines (d .f) (d .roomy) ∙ ap (dated g) (line-given (d .f) g (countOf ns g) x n (d .line))
-  refusal-given r (bad-field n e d) = to-lines (d .f) (d .roomy) ∙ ap (dated g) (field-given (d .f) g (countOf ns g) x n e (d .field))
+  refusal-given r (bad-line n d) = to-lines (d .f) (d .roomy) ∙ ap (dated g) (line-given ρ (d .f) g (countOf ns g) x n (d .line))
+  refusal-given r (bad-field n e d) = to-lines (d .f) (d .roomy) ∙ ap (dated g) (field-given ρ (d .f) g (countOf ns g) x n e (d .field))
   refusal-given r (bad-date p d) =
       to-cells (d .cs) (d .cells)
       ∙ rw (eq-eqb g 3 (d .three), Letters.first-due (map sizeOf (d .cs)) (Wrong p) .1 (d .wrong)) refl
 
-  done-given : (cs : List ℤ) → DoneDue ns g x room cs → readGroup ns g x room ≡ done cs
+  done-given : (cs : List ℤ) → DoneDue ρ ns g x room cs → readGroup ρ ns g x room ≡ done cs
   done-given cs d = to-cells cs (d .cells) ∙ by (eqb g 3) refl
     where
       by : (t : Bool) → eqb g 3 ≡ t → cond t (byDate cs (datedOf (map sizeOf cs))) (done cs) ≡ done cs
       by true e = let t = d .date (eqb-true g 3 e) in rw (Letters.first-due (map sizeOf cs) (Right (t .0)) .1 (t .1)) refl
       by false e = refl
 
-  given : (c : Cells) → Due ns g x room c → readGroup ns g x room ≡ c
+  given : (c : Cells) → Due ρ ns g x room c → readGroup ρ ns g x room ≡ c
   given (done cs) d = done-given cs d
   given (bad r) d = refusal-given r d
 
   -- ---- what is given is due
 
-  from-bad : (f : Form) (r : Refusal) → Roomy ns g x room f → LinesDue f g (countOf ns g) x r → RefusedFor ns g x room r
+  from-bad : (f : Form) (r : Refusal) → Roomy ρ ns g x room f → LinesDue ρ f g (countOf ns g) x r → RefusedFor ρ ns g x room r
   from-bad f r h (wrong-line n d) = bad-line n record { f = f; roomy = h; line = d }
   from-bad f r h (wrong-field n e d) = bad-field n e record { f = f; roomy = h; field = d }
 
-  from-date : (cs : List ℤ) (t : Bool) (c : Dated) → CellsRead ns g x room cs → eqb g 3 ≡ t → datedOf (map sizeOf cs) ≡ c → Due ns g x room (cond t (byDate cs c) (done cs))
+  from-date : (cs : List ℤ) (t : Bool) (c : Dated) → CellsRead ρ ns g x room cs → eqb g 3 ≡ t → datedOf (map sizeOf cs) ≡ c → Due ρ ns g x room (cond t (byDate cs c) (done cs))
   from-date cs true (Right d) h e u = record { cells = h; date = λ three. (d, Letters.first-due (map sizeOf cs) (Right d) .0 u) }
   from-date cs true (Wrong p) h e u = bad-date p record { cs = cs; cells = h; three = eqb-true g 3 e; wrong = Letters.first-due (map sizeOf cs) (Wrong p) .0 u }
   from-date cs false c h e u = record { cells = h; date = λ three. absurd (eqb-false g 3 e three) }
 
-  from-lines : (f : Form) (c : Cells) → Roomy ns g x room f → readLines f (mayBeShort g) (countOf ns g) x ≡ c → Due ns g x room (dated g c)
+  from-lines : (f : Form) (c : Cells) → Roomy ρ ns g x room f → readLines ρ f (mayBeShort g) (countOf ns g) x ≡ c → Due ρ ns g x room (dated g c)
   from-lines f (done cs) h e =
-      from-date cs (eqb g 3) (datedOf (map sizeOf cs)) record { f = f; roomy = h; clean = lines-clean f g (countOf ns g) x cs e; values = read-values f g (countOf ns g) x cs e } refl refl
-  from-lines f (bad r) h e = from-bad f r h (lines-due f g (countOf ns g) x r e)
+      from-date cs (eqb g 3) (datedOf (map sizeOf cs)) record { f = f; roomy = h; clean = lines-clean ρ f g (countOf ns g) x cs e; values = read-values ρ f g (countOf ns g) x cs e } refl refl
+  from-lines f (bad r) h e = from-bad f r h (lines-due ρ f g (countOf ns g) x r e)
 
-  from-room : (f : Form) (t : Bool) → Ruled ns g x room f → leb (cellsOf f (countOf ns g)) room ≡ t → Due ns g x room (cond t (dated g (readLines f (mayBeShort g) (countOf ns g) x)) (bad NoRoom))
-  from-room f true h e = from-lines f (readLines f (mayBeShort g) (countOf ns g) x) record { ruled = h; enough = leb-true (cellsOf f (countOf ns g)) room e } refl
+  from-room : (f : Form) (t : Bool) → Ruled ρ ns g x room f → leb (cellsOf f (countOf ns g)) room ≡ t
+      → Due ρ ns g x room (cond t (dated g (readLines ρ f (mayBeShort g) (countOf ns g) x)) (bad NoRoom))
+  from-room f true h e = from-lines f (readLines ρ f (mayBeShort g) (countOf ns g) x) record { ruled = h; enough = leb-true (cellsOf f (countOf ns g)) room e } refl
   from-room f false h e = no-room record { f = f; ruled = h; few = leb-false (cellsOf f (countOf ns g)) room e }
 
-  from-ruling : (f : Form) (k : Ruling) → formOf g ≡ Has f → rulingOf ns ≡ k → Due ns g x room (readRuled f ns g x room k)
+  from-ruling : (f : Form) (k : Ruling) → formOf g ≡ Has f → rulingOf ns ≡ k → Due ρ ns g x room (readRuled ρ f ns g x room k)
   unfolding readForm
   from-ruling f Kept h e = from-room f (leb (cellsOf f (countOf ns g)) room) record { form = h; kept = ruling-kept ns e } refl
   from-ruling f (Broken k) h e = let r = form-range g f h in broken-rule k record { low = r .0; high = r .1; broken = ruling-broken ns e }
 
-  is-due : Due ns g x room (readGroup ns g x room)
+  is-due : Due ρ ns g x room (readGroup ρ ns g x room)
   unfolding readGroup
   is-due = by (formOf g) refl
     where
-      by : (h : GroupForm) → formOf g ≡ h → Due ns g x room (readBy ns g x room h)
+      by : (h : GroupForm) → formOf g ≡ h → Due ρ ns g x room (readBy ρ ns g x room h)
       by (Has f) e = from-ruling f (rulingOf ns) e refl
       by NoForm e = no-group (λ i. none-has g .0 e record { low = i .0; high = i .1 })
 
   -- the reply that is given is the one that is due, and no other is
-  pub first-due : (c : Cells) → readGroup ns g x room ≡ c ↔ Due ns g x room c
-  first-due c = (λ e. subst (Due ns g x room) e is-due, given c)
+  pub first-due : (c : Cells) → readGroup ρ ns g x room ≡ c ↔ Due ρ ns g x room c
+  first-due c = (λ e. subst (Due ρ ns g x room) e is-due, given c)

@@ -11,6 +11,7 @@ use borrow.Author.Tests.{leb-true, leb-false}
 use lib.Dec.{leb}
 use lib.ListN.{length, take, drop, replicate, length-take, length-drop, drop-of-length-le}
 use lib.Seq.{drop-drop, length-take-le, take-take}
+use Rattle.rules.specs.declared.Rules.{Rules}
 use Rattle.base.proofs.Taken.{drop-none, take-none, drop-take, take-both, part-begin}
 use Rattle.base.specs.Every.{upFrom}
 use Rattle.base.specs.Part.{part}
@@ -87,14 +88,14 @@ part-found width column stop from to s b e =
     let t : to ≡ min (column + width) stop = omega arith in
     rw (t, b)
 
-module _ (f : Form) (short : Bool) (l : Line) (s : List ℕ) (at end n : ℕ) (inside : end ≤ length s) (e : rightContent short (columnsOf f l) (part at end s) ≡ Length n) where
+module _ (ρ : Rules) (f : Form) (short : Bool) (l : Line) (s : List ℕ) (at end n : ℕ) (inside : end ≤ length s) (e : rightContent ρ short (columnsOf f l) (part at end s) ≡ Length n) where
   abbrev w : ℕ
   w = rowOf f .width
 
-  pub line-ends : at + n + 2 ≡ end
+  pub line-ends : at + n < end
   line-ends =
-      let r = right-is short (columnsOf f l) (part at end s) n e in
-      omega (arith, content-two (part at end s) n (r .content), length-take (end - at) (drop at s), length-drop at s)
+      let r = right-is ρ short (columnsOf f l) (part at end s) n e in
+      omega (arith, content-two ρ (part at end s) n (r .content) .0, length-take (end - at) (drop at s), length-drop at s)
 
   content : part 0 n (part at end s) ≡ take n (drop at s)
   content = part-begin at end n s (omega (arith, line-ends))
@@ -103,7 +104,7 @@ module _ (f : Form) (short : Bool) (l : Line) (s : List ℕ) (at end n : ℕ) (i
   content-long = ap length content ∙ length-take-le n (drop at s) (omega (arith, line-ends, length-drop at s))
 
   pub enough : shortest short (columnsOf f l) ≤ n
-  enough = subst (λ m. shortest short (columnsOf f l) ≤ m) content-long (right-low short (columnsOf f l) (part 0 n (part at end s)) (right-is short (columnsOf f l) (part at end s) n e .right))
+  enough = subst (λ m. shortest short (columnsOf f l) ≤ m) content-long (right-low short (columnsOf f l) (part 0 n (part at end s)) (right-is ρ short (columnsOf f l) (part at end s) n e .right))
 
   -- no line feed stands in the content, so the line's end may be sought from any place of it
   pub end-from : end ≡ at + reach (drop at s) 1 → (m : ℕ) → m ≤ n → at + m + reach (drop (at + m) s) 1 ≡ at + reach (drop at s) 1
@@ -112,7 +113,7 @@ module _ (f : Form) (short : Bool) (l : Line) (s : List ℕ) (at end n : ℕ) (i
       plain : Plain (take n (drop at s))
       plain =
           let r : end - at ≡ reach (drop at s) 1 = omega arith in
-          first-plain (drop at s) n (rw r at (right-is short (columnsOf f l) (part at end s) n e .content))
+          first-plain ρ (drop at s) n (rw r at (right-is ρ short (columnsOf f l) (part at end s) n e .content))
 
       first : take m (take n (drop at s)) ≡ part at (at + m) s
       first =

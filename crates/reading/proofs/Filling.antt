@@ -9,6 +9,7 @@ use native.Mathlib.Omega.{arith}
 use lib.Dec.{T}
 use lib.IntN.{ℤ}
 use lib.ListN.{length, take, drop, length-append}
+use Rattle.rules.specs.declared.Rules.{Rules}
 use Rattle.base.specs.Part.{part, over}
 use Rattle.base.specs.Pieces.{done, both, cellsGot}
 use Rattle.base.proofs.Part.{over-none, over-then, over-length}
@@ -83,17 +84,17 @@ pub record Reached : Type 0 where
   pub j : ℕ
   pub table : List ℤ
 
-pub record Filling (f : Form) (short : Bool) (count : ℕ) (s : List ℕ) (old : List ℤ) (r : Reached) : Type 0 where
+pub record Filling (ρ : Rules) (f : Form) (short : Bool) (count : ℕ) (s : List ℕ) (old : List ℤ) (r : Reached) : Type 0 where
   pub walk : Walking f count s (r .width) (r .perLine) (r .many) (r .left) (r .at) (r .j)
   pub sized : r .cells ≡ rowOf f .cells
   pub more : List ℤ
-  pub rest : readLinesOf f short (planFrom (rowOf f .«per_line») (elementsOf f count) (r .j) (r .many - r .j)) (drop (r .at) s) ≡ done more
-  pub store : Stored (cellsGot (readLines f short count s)) old 0 (r .cell) (r .table) more
+  pub rest : readLinesOf ρ f short (planFrom (rowOf f .«per_line») (elementsOf f count) (r .j) (r .many - r .j)) (drop (r .at) s) ≡ done more
+  pub store : Stored (cellsGot (readLines ρ f short count s)) old 0 (r .cell) (r .table) more
 
 -- it has come to a line, of k elements, that ends at `end`
-pub record OnLine (f : Form) (short : Bool) (count : ℕ) (s : List ℕ) (old : List ℤ) (r : Reached) : Type 0 where
-  pub room : length (cellsGot (readLines f short count s)) ≤ length old
-  pub state : Filling f short count s old r
+pub record OnLine (ρ : Rules) (f : Form) (short : Bool) (count : ℕ) (s : List ℕ) (old : List ℤ) (r : Reached) : Type 0 where
+  pub room : length (cellsGot (readLines ρ f short count s)) ≤ length old
+  pub state : Filling ρ f short count s old r
   pub further : r .j < r .many
   pub k : ℕ
   pub end : ℕ
@@ -108,56 +109,57 @@ pub record FillingFields (f : Form) (l : Line) (text : List ℕ) (old : List ℤ
   pub rest : readFields f (restOf l i) (drop (i * rowOf f .width) text) ≡ done more
   pub store : Stored (cellsGot (readFields f l text)) old base cell table more
 
-pub enough-room : (f : Form) (short : Bool) (count : ℕ) (s : List ℕ) (old : List ℤ) → verdictOf (readLines f short count s) ≡ C.Right → cellsOf f count ≤ length old
-    → length (cellsGot (readLines f short count s)) ≤ length old
-enough-room f short count s old v room =
-    let r = clean-read (readLines f short count s) v in
-    omega (arith, ap (λ g. length (cellsGot g)) (r .is), group-size f short count s (r .cells) (r .is))
+pub enough-room : (ρ : Rules) (f : Form) (short : Bool) (count : ℕ) (s : List ℕ) (old : List ℤ) → verdictOf (readLines ρ f short count s) ≡ C.Right → cellsOf f count ≤ length old
+    → length (cellsGot (readLines ρ f short count s)) ≤ length old
+enough-room ρ f short count s old v room =
+    let r = clean-read (readLines ρ f short count s) v in
+    omega (arith, ap (λ g. length (cellsGot g)) (r .is), group-size ρ f short count s (r .cells) (r .is))
 
-pub filling-start : {f : Form} {short : Bool} {count : ℕ} {s : List ℕ} {r : Reached} → Walking f count s (r .width) (r .perLine) (r .many) (r .left) (r .at) (r .j) → r .cells ≡ rowOf f .cells
-    → verdictOf (readLines f short count s) ≡ C.Right → (r .at ≡ 0) × (r .cell ≡ 0) × (r .j ≡ 0) → Filling f short count s (r .table) r
+pub filling-start : (ρ : Rules) {f : Form} {short : Bool} {count : ℕ} {s : List ℕ} {r : Reached} → Walking f count s (r .width) (r .perLine) (r .many) (r .left) (r .at) (r .j)
+    → r .cells ≡ rowOf f .cells
+    → verdictOf (readLines ρ f short count s) ≡ C.Right → (r .at ≡ 0) × (r .cell ≡ 0) × (r .j ≡ 0) → Filling ρ f short count s (r .table) r
 unfolding readLines planOf
-filling-start {f} {short} {count} {s} {r} b z v none =
-    let g = clean-read (readLines f short count s) v in
+filling-start ρ {f} {short} {count} {s} {r} b z v none =
+    let g = clean-read (readLines ρ f short count s) v in
     record {
       walk = b;
       sized = z;
-      more = cellsGot (readLines f short count s);
+      more = cellsGot (readLines ρ f short count s);
       rest = rw (none .0, none .2, sub-zero (r .many), b .lines, drop-none s) (g .is ∙ ap done (sym (ap cellsGot (g .is))));
-      store = rw (none .1) (stored-none (cellsGot (readLines f short count s)) (r .table) 0);
+      store = rw (none .1) (stored-none (cellsGot (readLines ρ f short count s)) (r .table) 0);
     }
 
-pub filling-end : {f : Form} {short : Bool} {count : ℕ} {s : List ℕ} {old : List ℤ} {r : Reached} → Filling f short count s old r → r .many ≤ r .j
-    → r .table ≡ over 0 (cellsGot (readLines f short count s)) old
-filling-end {f} {short} {count} {s} {old} {r} b h =
+pub filling-end : (ρ : Rules) {f : Form} {short : Bool} {count : ℕ} {s : List ℕ} {old : List ℤ} {r : Reached} → Filling ρ f short count s old r → r .many ≤ r .j
+    → r .table ≡ over 0 (cellsGot (readLines ρ f short count s)) old
+filling-end ρ {f} {short} {count} {s} {old} {r} b h =
     let z : r .many - r .j ≡ 0 = omega arith in
-    let e : [] ≡ b .more = done-same (sym (lines-none f short s (rowOf f .«per_line») (elementsOf f count) (r .j) (r .at)) ∙ (rw z at (b .rest))) in
-    stored-all (cellsGot (readLines f short count s)) old (r .table) 0 (r .cell) (subst (λ x. Stored (cellsGot (readLines f short count s)) old 0 (r .cell) (r .table) x) (sym e) (b .store)) .here
+    let e : [] ≡ b .more = done-same (sym (lines-none ρ f short s (rowOf f .«per_line») (elementsOf f count) (r .j) (r .at)) ∙ (rw z at (b .rest))) in
+    stored-all (cellsGot (readLines ρ f short count s)) old (r .table) 0 (r .cell) (subst (λ x. Stored (cellsGot (readLines ρ f short count s)) old 0 (r .cell) (r .table) x) (sym e) (b .store)) .here
 
-pub filling-length : {f : Form} {short : Bool} {count : ℕ} {s : List ℕ} {old : List ℤ} {r : Reached} → length (cellsGot (readLines f short count s)) ≤ length old
-    → Filling f short count s old r → length (r .table) ≡ length old
-filling-length room b = stored-length (omega arith) (b .more) (b .store)
+pub filling-length : (ρ : Rules) {f : Form} {short : Bool} {count : ℕ} {s : List ℕ} {old : List ℤ} {r : Reached} → length (cellsGot (readLines ρ f short count s)) ≤ length old
+    → Filling ρ f short count s old r → length (r .table) ≡ length old
+filling-length ρ room b = stored-length (omega arith) (b .more) (b .store)
 
-module _ {f : Form} {short : Bool} {count : ℕ} {s : List ℕ} {old : List ℤ} {r : Reached} (o : OnLine f short count s old r) where
+module _ (ρ : Rules) {f : Form} {short : Bool} {count : ℕ} {s : List ℕ} {old : List ℤ} {r : Reached} (o : OnLine ρ f short count s old r) where
   abbrev pub l : Line
   l = lineAt (rowOf f .«per_line») (elementsOf f count) (r .j)
 
   -- the cells behind this line
   abbrev pub others : Cells
-  others = readLinesOf f short (planFrom (rowOf f .«per_line») (elementsOf f count) (r .j + 1) (r .many - (r .j + 1))) (drop (o .end) s)
+  others = readLinesOf ρ f short (planFrom (rowOf f .«per_line») (elementsOf f count) (r .j + 1) (r .many - (r .j + 1))) (drop (o .end) s)
 
-  split : BothDone (readLine f short l (part (r .at) (o .end) s)) others (o .state .more)
-  split = both-done (readLine f short l (part (r .at) (o .end) s)) others (o .state .more)
-      (sym (line-more f count s (o .state .walk) (o .k) (o .end) (o .elements) (o .behind) short (o .further)) ∙ o .state .rest)
+  split : BothDone (readLine ρ f short l (part (r .at) (o .end) s)) others (o .state .more)
+  split = both-done (readLine ρ f short l (part (r .at) (o .end) s)) others (o .state .more)
+      (sym (line-more ρ f count s (o .state .walk) (o .k) (o .end) (o .elements) (o .behind) short (o .further)) ∙ o .state .rest)
 
-  here : LineDone f short l (part (r .at) (o .end) s) (split .first)
-  here = line-done f short l (part (r .at) (o .end) s) (split .first) (split .first-is)
+  here : LineDone ρ f short l (part (r .at) (o .end) s) (split .first)
+  here = line-done ρ f short l (part (r .at) (o .end) s) (split .first) (split .first-is)
 
   pub line-inside : (r .at ≤ o .end) × (o .end ≤ length s)
-  line-inside = end-range f count s (o .state .walk) (o .k) (o .end) (o .elements) (o .behind)
+  line-inside = end-range ρ f count s (o .state .walk) (o .k) (o .end) (o .elements) (o .behind)
 
   -- a clean line has a content
-  pub has-content : contentOf (part (r .at) (o .end) s) ≡ NoReturn → ⊥
+  pub has-content : contentOf ρ (part (r .at) (o .end) s) ≡ NoReturn → ⊥
   has-content e =
       let y = sym (here .content) ∙ e in
       let z : _≡_ {A = ℕ} 0 1 = cc in
@@ -166,26 +168,26 @@ module _ {f : Form} {short : Bool} {count : ℕ} {s : List ℕ} {old : List ℤ}
   -- which is no shorter than the code takes it to be
   pub end-behind : (m : ℕ) → m ≡ shortest short (o .k * r .width) → r .at + m + reach (drop (r .at + m) s) 1 ≡ r .at + reach (drop (r .at) s) 1
   end-behind m e =
-      let y = right-yes short (columnsOf f l) (part (r .at) (o .end) s) (here .bytes) (here .content) (here .right) in
+      let y = right-yes ρ short (columnsOf f l) (part (r .at) (o .end) s) (here .bytes) (here .content) (here .right) in
       let i = line-inside .1 in
-      let n : m ≡ shortest short (columnsOf f l) = e ∙ ap (shortest short) (columns-here f count s (o .state .walk) (o .k) (o .end) (o .elements) (o .behind)) in
-      end-from f short l s (r .at) (o .end) (here .bytes) i y (o .behind) m (omega (arith, enough f short l s (r .at) (o .end) (here .bytes) i y))
+      let n : m ≡ shortest short (columnsOf f l) = e ∙ ap (shortest short) (columns-here ρ f count s (o .state .walk) (o .k) (o .end) (o .elements) (o .behind)) in
+      end-from ρ f short l s (r .at) (o .end) (here .bytes) i y (o .behind) m (omega (arith, enough ρ f short l s (r .at) (o .end) (here .bytes) i y))
 
-  module _ (m : ℕ) (e : contentOf (part (r .at) (o .end) s) ≡ Length m) where
+  module _ (m : ℕ) (e : contentOf ρ (part (r .at) (o .end) s) ≡ Length m) where
     bytes : here .bytes ≡ m
     bytes = same (sym (here .content) ∙ e)
       where
         same : {a b : ℕ} → Length a ≡ Length b → a ≡ b
         same e = cc
 
-    right : rightContent short (columnsOf f l) (part (r .at) (o .end) s) ≡ Length m
-    right = right-yes short (columnsOf f l) (part (r .at) (o .end) s) m e (subst (λ x. isRight short (columnsOf f l) (part 0 x (part (r .at) (o .end) s)) ≡ true) bytes (here .right))
+    right : rightContent ρ short (columnsOf f l) (part (r .at) (o .end) s) ≡ Length m
+    right = right-yes ρ short (columnsOf f l) (part (r .at) (o .end) s) m e (subst (λ x. isRight short (columnsOf f l) (part 0 x (part (r .at) (o .end) s)) ≡ true) bytes (here .right))
 
     inside : (o .end) ≤ length s
     inside = line-inside .1
 
-    pub fill-inside : (r .at) + m + 2 ≤ length s
-    fill-inside = omega (arith, line-ends f short l s (r .at) (o .end) m inside right, inside)
+    pub fill-inside : (r .at) + m < length s
+    fill-inside = omega (arith, line-ends ρ f short l s (r .at) (o .end) m inside right, inside)
 
     text-done : readFields f l (lineText f l s (r .at) (o .end) m) ≡ done (split .first)
     text-done = subst (λ x. readFields f l (filledTo (columnsOf f l) (part 0 x (part (r .at) (o .end) s))) ≡ done (split .first)) bytes (here .fields)
@@ -194,11 +196,11 @@ module _ {f : Form} {short : Bool} {count : ℕ} {s : List ℕ} {old : List ℤ}
     line-cells = ap cellsGot text-done
 
     -- what is left begins with the cells of this line
-    before : Stored (cellsGot (readLines f short count s)) old 0 (r .cell) (r .table) (split .first ++ split .second)
-    before = subst (λ x. Stored (cellsGot (readLines f short count s)) old 0 (r .cell) (r .table) x) (split .all) (o .state .store)
+    before : Stored (cellsGot (readLines ρ f short count s)) old 0 (r .cell) (r .table) (split .first ++ split .second)
+    before = subst (λ x. Stored (cellsGot (readLines ρ f short count s)) old 0 (r .cell) (r .table) x) (split .all) (o .state .store)
 
     line-room : r .cell + length (cellsGot (readFields f l (lineText f l s (r .at) (o .end) m))) ≤ length (r .table)
-    line-room = omega (arith, ap length line-cells, stored-room {base = 0} (omega arith) (split .first) (split .second) before, filling-length (o .room) (o .state))
+    line-room = omega (arith, ap length line-cells, stored-room {base = 0} (omega arith) (split .first) (split .second) before, filling-length ρ (o .room) (o .state))
 
     pub fields-filling : FillingFields f l (lineText f l s (r .at) (o .end) m) (r .table) (r .cell) (r .at) 0 (r .at) (r .cell) (r .table)
     fields-filling =
@@ -222,21 +224,21 @@ module _ {f : Form} {short : Bool} {count : ℕ} {s : List ℕ} {old : List ℤ}
 
       -- all fields are filled: the next line
       pub filling-next : o .k ≤ i
-          → Filling f short count s old record { width = r .width; perLine = r .perLine; cells = r .cells; many = r .many; left = r .left - o .k; at = o .end; cell = spot; j = r .j + 1; table = now }
+          → Filling ρ f short count s old record { width = r .width; perLine = r .perLine; cells = r .cells; many = r .many; left = r .left - o .k; at = o .end; cell = spot; j = r .j + 1; table = now }
       filling-next d =
           record {
-            walk = walking-next f count s (o .state .walk) (o .k) (o .end) (o .elements) (o .behind) (o .further);
+            walk = walking-next ρ f count s (o .state .walk) (o .k) (o .end) (o .elements) (o .behind) (o .further);
             sized = o .state .sized;
             more = split .second;
             rest = split .second-is;
-            store = subst (λ n. Stored (cellsGot (readLines f short count s)) old 0 n now (split .second)) (sym (whole .next ∙ ap (λ y. r .cell + length y) line-cells))
+            store = subst (λ n. Stored (cellsGot (readLines ρ f short count s)) old 0 n now (split .second)) (sym (whole .next ∙ ap (λ y. r .cell + length y) line-cells))
                 (stored-more {base = 0} (omega arith) (split .first) (split .second) now before (whole .here ∙ ap (λ y. over (r .cell) y (r .table)) line-cells));
           }
         where
           none : [] ≡ g .more
           none = done-same
               (sym (fields-none f l (lineText f l s (r .at) (o .end) m) i (drop (i * rowOf f .width) (lineText f l s (r .at) (o .end) m))
-              (omega (arith, many-here f count s (o .state .walk) (o .k) (o .end) (o .elements) (o .behind)))) ∙ g .rest)
+              (omega (arith, many-here ρ f count s (o .state .walk) (o .k) (o .end) (o .elements) (o .behind)))) ∙ g .rest)
 
           whole : AllStored (cellsGot (readFields f l (lineText f l s (r .at) (o .end) m))) (r .table) (r .cell) spot now
           whole = stored-all (cellsGot (readFields f l (lineText f l s (r .at) (o .end) m))) (r .table) now (r .cell) spot
@@ -251,7 +253,7 @@ module _ {f : Form} {short : Bool} {count : ℕ} {s : List ℕ} {old : List ℤ}
         to = min (from + r .width) (r .at + m)
 
         inner : i < l .many
-        inner = omega (arith, many-here f count s (o .state .walk) (o .k) (o .end) (o .elements) (o .behind))
+        inner = omega (arith, many-here ρ f count s (o .state .walk) (o .k) (o .end) (o .elements) (o .behind))
 
         to-is : to ≡ min (from + rowOf f .width) (r .at + m)
         to-is = rw (o .state .walk .wide)
@@ -259,7 +261,7 @@ module _ {f : Form} {short : Bool} {count : ℕ} {s : List ℕ} {old : List ℤ}
         field-is : filledTo (r .width) (part begin to s) ≡ take (rowOf f .width) (drop (i * rowOf f .width) (lineText f l s (r .at) (o .end) m))
         field-is =
             ap (λ n. filledTo n (part begin to s)) (o .state .walk .wide)
-            ∙ piece f short l s (r .at) (o .end) m inside right i from begin to inner (g .place) refl to-is
+            ∙ piece ρ f short l s (r .at) (o .end) m inside right i from begin to inner (g .place) refl to-is
 
         one : BothDone (readField f (l .number) (l .first + i) (filledTo (r .width) (part begin to s)))
             (readFields f (restOf l (i + 1)) (drop ((i + 1) * rowOf f .width) (lineText f l s (r .at) (o .end) m))) (g .more)
@@ -288,7 +290,7 @@ module _ {f : Form} {short : Bool} {count : ℕ} {s : List ℕ} {old : List ℤ}
 
         pub put-requires : Put
         put-requires =
-            let p = piece-range f short l s (r .at) (o .end) m inside right i from begin to inner (g .place) refl to-is in
+            let p = piece-range ρ f short l s (r .at) (o .end) m inside right i from begin to inner (g .place) refl to-is in
             record {
               ends = omega (arith, fill-inside);
               wide = o .state .walk .wide;
@@ -298,7 +300,7 @@ module _ {f : Form} {short : Bool} {count : ℕ} {s : List ℕ} {old : List ℤ}
             }
 
         pub cell-small : spot + r .cells ≤ length old
-        cell-small = omega (arith, o .state .sized, put-requires .room, fill-length, filling-length (o .room) (o .state))
+        cell-small = omega (arith, o .state .sized, put-requires .room, fill-length, filling-length ρ (o .room) (o .state))
 
         pub fields-next : {new : List ℤ} → new ≡ over spot
             (valueCells (filledTo (r .width) (fieldPart (r .width) from (r .at + m) s)) (fieldOf f (filledTo (r .width) (fieldPart (r .width) from (r .at + m) s)))) now

@@ -6,6 +6,7 @@ use mathlib.Core.List.{[], _∷_, _++_}
 use Prim.Native.Nat.{ℕ, _≤_}
 use borrow.Author.Tests.{le-leb}
 use lib.IntN.{pos}
+use Rattle.rules.specs.declared.Rules.{Rules}
 use Rattle.base.specs.Every
 use Rattle.base.specs.Pieces
 use Rattle.base.specs.Pieces.{done, bad}
@@ -21,8 +22,8 @@ use Rattle.reading.specs.Blanks.{isRight, filledTo}
 use Rattle.reading.specs.Plan.{planFrom, planOf}
 use Rattle.reading.specs.Read.{readFields, readLine, readLinesOf, readLines, readForm}
 
-pub four-reads : (room : ℕ) → 1 ≤ room
-    → (readForm F8 4 1 (bytes "   7.250" ++ (13 ∷ 10 ∷ [])) room ≡ done (pos 7250 ∷ [])) × (readForm F8 4 1 (bytes "   7,250" ++ (13 ∷ 10 ∷ [])) room ≡ bad (BadField 1 1))
+pub four-reads : (ρ : Rules) (room : ℕ) → 1 ≤ room
+    → (readForm ρ F8 4 1 (bytes "   7.250" ++ (13 ∷ 10 ∷ [])) room ≡ done (pos 7250 ∷ [])) × (readForm ρ F8 4 1 (bytes "   7,250" ++ (13 ∷ 10 ∷ [])) room ≡ bad (BadField 1 1))
 unfolding readForm readLines readLinesOf readLine readFields Pieces.gather planOf planFrom isRight filledTo Field.fieldOf Lines.reach Contents.contentOf
     Every.upFrom Table.rowOf Table.listedAs Count.linesOf Count.cellsOf Count.roundedUp Count.elementsOf
-four-reads room h = rw (le-leb 1 room h) (refl, refl)
+four-reads ρ room h = rw (le-leb 1 room h) (refl, refl)

@@ -4,6 +4,7 @@ use mathlib.Core.Path.{_≡_}
 use mathlib.Core.List.{List, map}
 use Prim.Native.Nat.{ℕ, _≤_}
 use lib.IntN.{ℤ}
+use Rattle.rules.specs.declared.Rules.{Rules}
 use Rattle.base.specs.Pieces.{done}
 use Rattle.base.specs.Sign.{sizeOf}
 use Rattle.form.specs.declared.Form.{Form}
@@ -29,36 +30,36 @@ pub record TellsDate (letters : List ℕ) : Type 0 where
   pub right : datedOf letters ≡ Right date
 
 -- the lines y of group g read as the cells c
-pub record GroupReads (ns : List ℕ) (g : ℕ) (y : List ℕ) (room : ℕ) (c : List ℤ) : Type 0 where
+pub record GroupReads (ρ : Rules) (ns : List ℕ) (g : ℕ) (y : List ℕ) (room : ℕ) (c : List ℤ) : Type 0 where
   pub form : Form
   pub has : formOf g ≡ Has form
   pub enough : cellsOf form (countOf ns g) ≤ room
-  pub lines : readLines form (mayBeShort g) (countOf ns g) y ≡ done c
+  pub lines : readLines ρ form (mayBeShort g) (countOf ns g) y ≡ done c
   pub date : g ≡ 3 → TellsDate (map sizeOf c)
 
-module _ (ns : List ℕ) (g : ℕ) (y : List ℕ) (room : ℕ) (c : List ℤ) where
-  pub reads-group : rulingOf ns ≡ Kept → GroupReads ns g y room c → readGroup ns g y room ≡ done c
+module _ (ρ : Rules) (ns : List ℕ) (g : ℕ) (y : List ℕ) (room : ℕ) (c : List ℤ) where
+  pub reads-group : rulingOf ns ≡ Kept → GroupReads ρ ns g y room c → readGroup ρ ns g y room ≡ done c
   reads-group kept r =
       let f = r .form in
       let n = countOf ns g in
-      first-due ns g y room (done c) .1 record {
+      first-due ρ ns g y room (done c) .1 record {
         cells = record {
           f = f;
           roomy = record { ruled = record { form = r .has; kept = ruling-kept ns kept }; enough = r .enough };
-          clean = lines-clean f g n y c (r .lines);
-          values = read-values f g n y c (r .lines);
+          clean = lines-clean ρ f g n y c (r .lines);
+          values = read-values ρ f g n y c (r .lines);
         };
         date = λ three. let d = r .date three in (d .date, Letters.first-due (map sizeOf c) (Right (d .date)) .0 (d .right));
       }
 
-  pub group-reads : readGroup ns g y room ≡ done c → GroupReads ns g y room c
+  pub group-reads : readGroup ρ ns g y room ≡ done c → GroupReads ρ ns g y room c
   group-reads e =
-      let d = first-due ns g y room (done c) .0 e in
+      let d = first-due ρ ns g y room (done c) .0 e in
       let h = d .cells in
       record {
         form = h .f;
         has = h .roomy .ruled .form;
         enough = h .roomy .enough;
-        lines = lines-read (h .f) g (countOf ns g) y c (h .clean) (h .values);
+        lines = lines-read ρ (h .f) g (countOf ns g) y c (h .clean) (h .values);
         date = λ three. let t = d .date three in record { date = t .0; right = Letters.first-due (map sizeOf c) (Right (t .0)) .1 (t .1) };
       }

@@ -15,3 +15,6 @@ pub mod FourS
 pub mod Values
 pub mod Due
 pub mod GroupRead
+pub mod ByLines
+pub mod Alike
+pub mod Ends

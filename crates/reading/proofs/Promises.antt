@@ -14,6 +14,7 @@ use lib.Dec.{lit<}
 use lib.IntN.{ℤ}
 use lib.ListN.{length, take, drop}
 use lib.Seq.{drop-at, take-at}
+use Rattle.rules.specs.declared.Rules.{Rules}
 use Rattle.base.specs.Every
 use Rattle.base.specs.Pieces
 use Rattle.base.specs.Pieces.{done, bad}
@@ -46,21 +47,21 @@ use Rattle.reading.proofs.Steps.{kept-letters}
 -- ---- numbered
 
 -- what is refused by the counts and the lines; 12 and placing's replies are told where they are asked
-pub refusal-numbered : (ns : List ℕ) (g : ℕ) (x : List ℕ) (room : ℕ) (r : Refusal) → RefusedFor ns g x room r → Numbered (rows readingRefusals) (refusalReply r)
-refusal-numbered ns g x room r (no-group d) = at-row 0 (rows readingRefusals) (refusalReply NoSuchNumber) (lit< tt) (refusal-fills NoSuchNumber tt)
-refusal-numbered ns g x room r (broken-rule h d) =
+pub refusal-numbered : (ρ : Rules) (ns : List ℕ) (g : ℕ) (x : List ℕ) (room : ℕ) (r : Refusal) → RefusedFor ρ ns g x room r → Numbered (rows readingRefusals) (refusalReply r)
+refusal-numbered ρ ns g x room r (no-group d) = at-row 0 (rows readingRefusals) (refusalReply NoSuchNumber) (lit< tt) (refusal-fills NoSuchNumber tt)
+refusal-numbered ρ ns g x room r (broken-rule h d) =
     at-row 7 (rows readingRefusals) (refusalReply (BrokenRule h)) (lit< tt) (refusal-fills (BrokenRule h) (broken-group ns (d .broken) .0, tt))
-refusal-numbered ns g x room r (no-room d) = at-row 8 (rows readingRefusals) (refusalReply NoRoom) (lit< tt) (refusal-fills NoRoom tt)
-refusal-numbered ns g x room r (bad-line l d) =
+refusal-numbered ρ ns g x room r (no-room d) = at-row 8 (rows readingRefusals) (refusalReply NoRoom) (lit< tt) (refusal-fills NoRoom tt)
+refusal-numbered ρ ns g x room r (bad-line l d) =
     at-row 9 (rows readingRefusals) (refusalReply (BadLine l)) (lit< tt) (refusal-fills (BadLine l) (omega (arith, d .line .number), tt))
-refusal-numbered ns g x room r (bad-field l e d) =
+refusal-numbered ρ ns g x room r (bad-field l e d) =
     at-row 10 (rows readingRefusals) (refusalReply (BadField l e)) (lit< tt) (refusal-fills (BadField l e) (omega (arith, d .field .number), (omega (arith, d .field .element), tt)))
-refusal-numbered ns g x room r (bad-date p d) =
+refusal-numbered ρ ns g x room r (bad-date p d) =
     at-row 11 (rows readingRefusals) (refusalReply (BadDate p)) (lit< tt) (refusal-fills (BadDate p) (blamed-position (map sizeOf (d .cs)) p (d .wrong), tt))
 
-pub cells-numbered : (ns : List ℕ) (g : ℕ) (x : List ℕ) (room : ℕ) (c : Cells) → Due ns g x room c → Numbered readingRows (answerReply (readingOf c))
-cells-numbered ns g x room (done cs) d = inl (fills 0 ((cells, length cs) ∷ []) (omega arith, tt))
-cells-numbered ns g x room (bad r) d = inr (refusal-numbered ns g x room r d)
+pub cells-numbered : (ρ : Rules) (ns : List ℕ) (g : ℕ) (x : List ℕ) (room : ℕ) (c : Cells) → Due ρ ns g x room c → Numbered readingRows (answerReply (readingOf c))
+cells-numbered ρ ns g x room (done cs) d = inl (fills 0 ((cells, length cs) ∷ []) (omega arith, tt))
+cells-numbered ρ ns g x room (bad r) d = inr (refusal-numbered ρ ns g x room r d)
 
 -- ---- the table
 
@@ -80,22 +81,24 @@ done-read-keeps-rest (done cs) old n e =
     rw (← m, zero-add (length cs)) (drop-at cs (drop (length cs) old) (length cs) refl)
 done-read-keeps-rest (bad r) old n e = let z : _≡_ {A = ℕ} 0 1 = cc in absurd (omega arith)
 
--- R261: a record that breaks a rule on counts gives 7 for every group, whatever its lines hold
-pub read-broken : (ns : List ℕ) (g : ℕ) (x : List ℕ) (room h : ℕ) (f : Form) → formOf g ≡ Has f → rulingOf ns ≡ Broken h → readGroup ns g x room ≡ bad (BrokenRule h)
-unfolding readGroup
-read-broken ns g x room h f e r = rw (e, r)
+module _ (ρ : Rules) where
+  -- R261: a record that breaks a rule on counts gives 7 for every group, whatever its lines hold
+  pub read-broken : (ns : List ℕ) (g : ℕ) (x : List ℕ) (room h : ℕ) (f : Form) → formOf g ≡ Has f → rulingOf ns ≡ Broken h → readGroup ρ ns g x room ≡ bad (BrokenRule h)
+  unfolding readGroup
+  read-broken ns g x room h f e r = rw (e, r)
 
--- R264: a group reads the same into every table with room for what its counts, if they keep the rules, let it fill
-pub read-room : (ns : List ℕ) (g : ℕ) (x : List ℕ) (room more : ℕ) (f : Form) → formOf g ≡ Has f
-    → (rulingOf ns ≡ Kept → (cellsOf f (countOf ns g) ≤ room) × (cellsOf f (countOf ns g) ≤ more)) → readGroup ns g x room ≡ readGroup ns g x more
-unfolding readGroup readForm
-read-room ns g x room more f e h = rw e (by (rulingOf ns) refl)
-  where
-    by : (k : Ruling) → rulingOf ns ≡ k → readRuled f ns g x room k ≡ readRuled f ns g x more k
-    by Kept u =
-        let m = h u in
-        rw (le-leb (cellsOf f (countOf ns g)) room (m .0), le-leb (cellsOf f (countOf ns g)) more (m .1)) refl
-    by (Broken b) u = refl
+module _ (ρ : Rules) where
+  -- R264: a group reads the same into every table with room for what its counts, if they keep the rules, let it fill
+  pub read-room : (ns : List ℕ) (g : ℕ) (x : List ℕ) (room more : ℕ) (f : Form) → formOf g ≡ Has f
+      → (rulingOf ns ≡ Kept → (cellsOf f (countOf ns g) ≤ room) × (cellsOf f (countOf ns g) ≤ more)) → readGroup ρ ns g x room ≡ readGroup ρ ns g x more
+  unfolding readGroup readForm
+  read-room ns g x room more f e h = rw e (by (rulingOf ns) refl)
+    where
+      by : (k : Ruling) → rulingOf ns ≡ k → readRuled ρ f ns g x room k ≡ readRuled ρ f ns g x more k
+      by Kept u =
+          let m = h u in
+          rw (le-leb (cellsOf f (countOf ns g)) room (m .0), le-leb (cellsOf f (countOf ns g)) more (m .1)) refl
+      by (Broken b) u = refl
 
 -- ---- R268: a group without elements reads with 0 and no cells, into an empty table too
 
@@ -103,16 +106,17 @@ no-elements : (f : Form) → (linesOf f 0 ≡ 0) × (cellsOf f 0 ≡ 0)
 unfolding Count.linesOf Count.cellsOf Count.elementsOf
 no-elements f = (rounded-none (rowOf f .«per_line»), zero-mul (rowOf f .cells))
 
-no-lines : (f : Form) (short : Bool) (x : List ℕ) → readLines f short 0 x ≡ done []
+no-lines : (ρ : Rules) (f : Form) (short : Bool) (x : List ℕ) → readLines ρ f short 0 x ≡ done []
 unfolding readLines readLinesOf planOf planFrom Pieces.gather Every.upFrom
-no-lines f short x = rw (no-elements f .0)
+no-lines ρ f short x = rw (no-elements f .0)
 
-pub read-none : (ns : List ℕ) (g : ℕ) (x : List ℕ) (room : ℕ) (f : Form) → formOf g ≡ Has f → rulingOf ns ≡ Kept → countOf ns g ≡ 0 → readGroup ns g x room ≡ done []
-unfolding readGroup readForm
-read-none ns g x room f e r c =
-    rw (e, r, c, no-elements f .1, le-leb 0 room (omega arith), no-lines f (mayBeShort g) x, ne-eqb g 3 other)
-  where
-    other : g ≡ 3 → ⊥
-    other t =
-        let k : countOf ns 3 ≡ 0 = ap (countOf ns) (sym t) ∙ c in
-        omega (arith, kept-letters ns r)
+module _ (ρ : Rules) where
+  pub read-none : (ns : List ℕ) (g : ℕ) (x : List ℕ) (room : ℕ) (f : Form) → formOf g ≡ Has f → rulingOf ns ≡ Kept → countOf ns g ≡ 0 → readGroup ρ ns g x room ≡ done []
+  unfolding readGroup readForm
+  read-none ns g x room f e r c =
+      rw (e, r, c, no-elements f .1, le-leb 0 room (omega arith), no-lines ρ f (mayBeShort g) x, ne-eqb g 3 other)
+    where
+      other : g ≡ 3 → ⊥
+      other t =
+          let k : countOf ns 3 ≡ 0 = ap (countOf ns) (sym t) ∙ c in
+          omega (arith, kept-letters ns r)

@@ -8,6 +8,7 @@ use native.Mathlib.Nat.{add-mul, one-mul, zero-mul, suc-mul, add-zero, zero-add}
 use native.Mathlib.Omega.{arith}
 use lib.IntN.{ℤ}
 use lib.ListN.{length, take, drop, length-append}
+use Rattle.rules.specs.declared.Rules.{Rules}
 use Rattle.base.specs.Every
 use Rattle.base.specs.Every.{upFrom}
 use Rattle.base.specs.Part.{part}
@@ -77,36 +78,36 @@ fields-size f number e (suc k) s cs h =
     )
 
 -- a line that was read is right, and its fields were
-pub record LineDone (f : Form) (short : Bool) (l : Line) (x : List ℕ) (cs : List ℤ) : Type 0 where
+pub record LineDone (ρ : Rules) (f : Form) (short : Bool) (l : Line) (x : List ℕ) (cs : List ℤ) : Type 0 where
   pub bytes : ℕ
-  pub content : contentOf x ≡ Length bytes
+  pub content : contentOf ρ x ≡ Length bytes
   pub right : isRight short (columnsOf f l) (part 0 bytes x) ≡ true
   pub fields : readFields f l (filledTo (columnsOf f l) (part 0 bytes x)) ≡ done cs
 
-pub line-done : (f : Form) (short : Bool) (l : Line) (x : List ℕ) (cs : List ℤ) → readLine f short l x ≡ done cs → LineDone f short l x cs
+pub line-done : (ρ : Rules) (f : Form) (short : Bool) (l : Line) (x : List ℕ) (cs : List ℤ) → readLine ρ f short l x ≡ done cs → LineDone ρ f short l x cs
 unfolding readLine
-line-done f short l x cs h = by (contentOf x) refl h
+line-done ρ f short l x cs h = by (contentOf ρ x) refl h
   where
-    test : (n : ℕ) (t : Bool) → contentOf x ≡ Length n → isRight short (columnsOf f l) (part 0 n x) ≡ t
-        → cond t (readFields f l (filledTo (columnsOf f l) (part 0 n x))) (bad (BadLine (l .number))) ≡ done cs → LineDone f short l x cs
+    test : (n : ℕ) (t : Bool) → contentOf ρ x ≡ Length n → isRight short (columnsOf f l) (part 0 n x) ≡ t
+        → cond t (readFields f l (filledTo (columnsOf f l) (part 0 n x))) (bad (BadLine (l .number))) ≡ done cs → LineDone ρ f short l x cs
     test n true u v w = record { bytes = n; content = u; right = v; fields = w }
     test n false u v w = no-done w
 
-    by : (c : Content) → contentOf x ≡ c → readContent f short l x c ≡ done cs → LineDone f short l x cs
+    by : (c : Content) → contentOf ρ x ≡ c → readContent f short l x c ≡ done cs → LineDone ρ f short l x cs
     by (Length n) u w = test n (isRight short (columnsOf f l) (part 0 n x)) u refl w
     by NoReturn u w = no-done w
 
-pub line-size : (f : Form) (short : Bool) (l : Line) (x : List ℕ) (cs : List ℤ) → readLine f short l x ≡ done cs → length cs ≡ l .many * rowOf f .cells
-line-size f short l x cs h =
-    let d = line-done f short l x cs h in
+pub line-size : (ρ : Rules) (f : Form) (short : Bool) (l : Line) (x : List ℕ) (cs : List ℤ) → readLine ρ f short l x ≡ done cs → length cs ≡ l .many * rowOf f .cells
+line-size ρ f short l x cs h =
+    let d = line-done ρ f short l x cs h in
     fields-size f (l .number) (l .first) (l .many) (filledTo (columnsOf f l) (part 0 (d .bytes) x)) cs (d .fields)
 
 -- ---- a group
 
-module _ (f : Form) (short : Bool) (s : List ℕ) (p n : ℕ) where
-  pub lines-size : (j k at : ℕ) (cs : List ℤ) → readLinesOf f short (planFrom p n j k) (drop at s) ≡ done cs → length cs ≡ (min n ((j + k) * p) - j * p) * rowOf f .cells
+module _ (ρ : Rules) (f : Form) (short : Bool) (s : List ℕ) (p n : ℕ) where
+  pub lines-size : (j k at : ℕ) (cs : List ℤ) → readLinesOf ρ f short (planFrom p n j k) (drop at s) ≡ done cs → length cs ≡ (min n ((j + k) * p) - j * p) * rowOf f .cells
   lines-size j zero at cs h =
-      let z : [] ≡ cs = done-same [] cs (sym (lines-none f short s p n j at) ∙ h) in
+      let z : [] ≡ cs = done-same [] cs (sym (lines-none ρ f short s p n j at) ∙ h) in
       let m : min n ((j + 0) * p) - j * p ≡ 0 = rw (add-zero j) (omega arith) in
       sym (ap length z) ∙ sym (rw m (zero-mul (rowOf f .cells)))
     where
@@ -114,8 +115,8 @@ module _ (f : Form) (short : Bool) (s : List ℕ) (p n : ℕ) where
       done-same a b e = cc
   lines-size j (suc k) at cs h =
       let end = at + reach (drop at s) 1 in
-      let d = both-done (readLine f short (lineAt p n j) (part at end s)) (readLinesOf f short (planFrom p n (j + 1) k) (drop end s)) cs (sym (lines-more f short s p n j k at end refl) ∙ h) in
-      let one = line-size f short (lineAt p n j) (part at end s) (d .first) (d .first-is) in
+      let d = both-done (readLine ρ f short (lineAt p n j) (part at end s)) (readLinesOf ρ f short (planFrom p n (j + 1) k) (drop end s)) cs (sym (lines-more ρ f short s p n j k at end refl) ∙ h) in
+      let one = line-size ρ f short (lineAt p n j) (part at end s) (d .first) (d .first-is) in
       let two = lines-size (j + 1) k end (d .second) (d .second-is) in
       ap length (d .all) ∙ length-append (d .first) (d .second)
       ∙ rw (one, two, ← add-mul (min p (n - j * p)) (min n ((j + 1 + k) * p) - (j + 1) * p) (rowOf f .cells))
@@ -126,10 +127,10 @@ module _ (f : Form) (short : Bool) (s : List ℕ) (p n : ℕ) where
           let e : j + suc k ≡ j + 1 + k = omega arith in
           rw e (omega (arith, add-mul j 1 p, one-mul p, add-mul (j + 1) k p))
 
-pub group-size : (f : Form) (short : Bool) (count : ℕ) (s : List ℕ) (cs : List ℤ) → readLines f short count s ≡ done cs → length cs ≡ cellsOf f count
+pub group-size : (ρ : Rules) (f : Form) (short : Bool) (count : ℕ) (s : List ℕ) (cs : List ℤ) → readLines ρ f short count s ≡ done cs → length cs ≡ cellsOf f count
 unfolding readLines planOf Count.cellsOf Count.linesOf
-group-size f short count s cs h =
+group-size ρ f short count s cs h =
     let p = rowOf f .«per_line» in
     let n = elementsOf f count in
     let m : min n ((0 + roundedUp n p) * p) - 0 * p ≡ n = rw (zero-add (roundedUp n p), zero-mul p) (omega (arith, lines-enough n p (row-fits f .some))) in
-    lines-size f short s p n 0 (roundedUp n p) 0 cs (rw (drop-none s) h) ∙ rw m
+    lines-size ρ f short s p n 0 (roundedUp n p) 0 cs (rw (drop-none s) h) ∙ rw m

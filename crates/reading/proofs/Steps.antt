@@ -10,6 +10,7 @@ use borrow.Author.Tests.{le-leb, lt-leb, leb-true}
 use lib.Dec.{leb, eqb}
 use lib.IntN.{ℤ}
 use lib.ListN.{length}
+use Rattle.rules.specs.declared.Rules.{Rules}
 use Rattle.base.specs.Part.{over}
 use Rattle.base.specs.Pieces.{done, bad, cellsGot}
 use Rattle.base.specs.Sign.{sizeOf}
@@ -56,30 +57,30 @@ clean-cells g (done cs) e = by (eqb g 3) (datedOf (map sizeOf cs)) e
     by false d e = refl
 clean-cells g (bad r) e = refl
 
-module _ (f : Form) (g count : ℕ) (x : List ℕ) (old : List ℤ) where
-  pub form-none : length old < cellsOf f count → Answers (readForm f g count x (length old)) old (Refused NoRoom) old
+module _ (ρ : Rules) (f : Form) (g count : ℕ) (x : List ℕ) (old : List ℤ) where
+  pub form-none : length old < cellsOf f count → Answers (readForm ρ f g count x (length old)) old (Refused NoRoom) old
   unfolding readForm
   form-none h =
-      let e : readForm f g count x (length old) ≡ bad NoRoom = rw (lt-leb (cellsOf f count) (length old) h) in
+      let e : readForm ρ f g count x (length old) ≡ bad NoRoom = rw (lt-leb (cellsOf f count) (length old) h) in
       refuses old e
 
   module _ (room : cellsOf f count ≤ length old) where
-    roomy : readForm f g count x (length old) ≡ dated g (readLines f (mayBeShort g) count x)
+    roomy : readForm ρ f g count x (length old) ≡ dated g (readLines ρ f (mayBeShort g) count x)
     unfolding readForm
     roomy = rw (le-leb (cellsOf f count) (length old) room)
 
-    pub form-bad : (r : Refusal) → verdictOf (dated g (readLines f (mayBeShort g) count x)) ≡ C.Refused r → Answers (readForm f g count x (length old)) old (Refused r) old
-    form-bad r e = refuses old (roomy ∙ bad-is (dated g (readLines f (mayBeShort g) count x)) r e)
+    pub form-bad : (r : Refusal) → verdictOf (dated g (readLines ρ f (mayBeShort g) count x)) ≡ C.Refused r → Answers (readForm ρ f g count x (length old)) old (Refused r) old
+    form-bad r e = refuses old (roomy ∙ bad-is (dated g (readLines ρ f (mayBeShort g) count x)) r e)
 
-    module _ (e : verdictOf (dated g (readLines f (mayBeShort g) count x)) ≡ C.Right) where
-      pub lines-clean : verdictOf (readLines f (mayBeShort g) count x) ≡ C.Right
-      lines-clean = ap verdictOf (sym (clean-cells g (readLines f (mayBeShort g) count x) e)) ∙ e
+    module _ (e : verdictOf (dated g (readLines ρ f (mayBeShort g) count x)) ≡ C.Right) where
+      pub lines-clean : verdictOf (readLines ρ f (mayBeShort g) count x) ≡ C.Right
+      lines-clean = ap verdictOf (sym (clean-cells g (readLines ρ f (mayBeShort g) count x) e)) ∙ e
 
-      pub form-done : {new : List ℤ} → new ≡ over 0 (cellsGot (readLines f (mayBeShort g) count x)) old → Answers (readForm f g count x (length old)) old (Done (cellsOf f count)) new
+      pub form-done : {new : List ℤ} → new ≡ over 0 (cellsGot (readLines ρ f (mayBeShort g) count x)) old → Answers (readForm ρ f g count x (length old)) old (Done (cellsOf f count)) new
       form-done {new = new} n =
-          let r = clean-read (readLines f (mayBeShort g) count x) lines-clean in
-          let all : readForm f g count x (length old) ≡ done (r .cells) = roomy ∙ clean-cells g (readLines f (mayBeShort g) count x) e ∙ r .is in
-          subst (λ y. Answers y old (Done (cellsOf f count)) new) (sym all) (ap Done (sym (group-size f (mayBeShort g) count x (r .cells) (r .is))), n ∙ ap (λ y. over 0 (cellsGot y) old) (r .is))
+          let r = clean-read (readLines ρ f (mayBeShort g) count x) lines-clean in
+          let all : readForm ρ f g count x (length old) ≡ done (r .cells) = roomy ∙ clean-cells g (readLines ρ f (mayBeShort g) count x) e ∙ r .is in
+          subst (λ y. Answers y old (Done (cellsOf f count)) new) (sym all) (ap Done (sym (group-size ρ f (mayBeShort g) count x (r .cells) (r .is))), n ∙ ap (λ y. over 0 (cellsGot y) old) (r .is))
 
 -- R123: group 3 has room for a date
 pub kept-letters : (ns : List ℕ) → rulingOf ns ≡ Kept → 19 ≤ countOf ns 3
@@ -90,17 +91,17 @@ kept-letters ns e = by (leb 19 (countOf ns 3)) refl
     by true u = leb-true 19 (countOf ns 3) u
     by false u = absurd (ruling-kept ns e 3 (inr (inr (inl (u, refl)))))
 
-module _ (ns : List ℕ) (g : ℕ) (x : List ℕ) (old : List ℤ) where
-  pub group-none : formOf g ≡ NoForm → Answers (readGroup ns g x (length old)) old (Refused NoSuchNumber) old
+module _ (ρ : Rules) (ns : List ℕ) (g : ℕ) (x : List ℕ) (old : List ℤ) where
+  pub group-none : formOf g ≡ NoForm → Answers (readGroup ρ ns g x (length old)) old (Refused NoSuchNumber) old
   unfolding readGroup
   group-none e =
-      let n : readGroup ns g x (length old) ≡ bad NoSuchNumber = rw e in
+      let n : readGroup ρ ns g x (length old) ≡ bad NoSuchNumber = rw e in
       refuses old n
 
   module _ (f : Form) (e : formOf g ≡ Has f) where
-    pub group-kept : rulingOf ns ≡ Kept → (count : ℕ) → count ≡ countOf ns g → {a : Answer} {new : List ℤ} → Answers (readForm f g count x (length old)) old a new
-        → Answers (readGroup ns g x (length old)) old a new
+    pub group-kept : rulingOf ns ≡ Kept → (count : ℕ) → count ≡ countOf ns g → {a : Answer} {new : List ℤ} → Answers (readForm ρ f g count x (length old)) old a new
+        → Answers (readGroup ρ ns g x (length old)) old a new
     unfolding readGroup
     group-kept r count c {a = a} {new = new} b =
-        let n : readGroup ns g x (length old) ≡ readForm f g (countOf ns g) x (length old) = rw (e, r) in
-        subst (λ y. Answers y old a new) (ap (λ m. readForm f g m x (length old)) c ∙ sym n) b
+        let n : readGroup ρ ns g x (length old) ≡ readForm ρ f g (countOf ns g) x (length old) = rw (e, r) in
+        subst (λ y. Answers y old a new) (ap (λ m. readForm ρ f g m x (length old)) c ∙ sym n) b

@@ -12,6 +12,7 @@ use native.Mathlib.Numerals.{add-one}
 use native.Mathlib.Omega.{arith}
 use lib.IntN.{ℤ}
 use lib.ListN.{length, take, drop}
+use Rattle.rules.specs.declared.Rules.{Rules}
 use Rattle.base.specs.Part.{part}
 use Rattle.base.specs.Pieces.{done, both}
 use Rattle.base.proofs.FirstBad.{InPieces, Sized, piece-done}
@@ -62,12 +63,12 @@ module _ (f : Form) (l : Line) (text : List ℕ) where
           omega (arith, suc-mul i (rowOf f .cells), reads-size f y ds (field-done f (l .number) (l .first + i) y ds u))
 
 -- the lines of a group
-module _ (f : Form) (short : Bool) (count : ℕ) (x : List ℕ) where
+module _ (ρ : Rules) (f : Form) (short : Bool) (count : ℕ) (x : List ℕ) where
   abbrev pub lineRead : ℕ → Cells
-  lineRead j = readLine f short (planned f count j) (lineOf x j)
+  lineRead j = readLine ρ f short (planned f count j) (lineOf x j)
 
   abbrev pub linesFrom : ℕ → Cells
-  linesFrom j = readLinesOf f short (planFrom (rowOf f .«per_line») (elementsOf f count) j (linesOf f count - j)) (behind j x)
+  linesFrom j = readLinesOf ρ f short (planFrom (rowOf f .«per_line») (elementsOf f count) j (linesOf f count - j)) (behind j x)
 
   pub lines-pieces : InPieces (linesOf f count) lineRead linesFrom
   lines-pieces = record { more = more; none = none }
@@ -85,41 +86,41 @@ module _ (f : Form) (short : Bool) (count : ℕ) (x : List ℕ) where
           let m : linesOf f count - j ≡ suc (linesOf f count - suc j) = omega arith in
           let c : end - at ≡ reach (drop at x) 1 = omega arith in
           let e : end ≡ reach x (suc j) = sym (reach-add x j 1) ∙ ap (reach x) (add-one j) in
-          rw m (lines-more f short x p n j (linesOf f count - suc j) at end refl ∙ rw (c, e, add-one j) refl)
+          rw m (lines-more ρ f short x p n j (linesOf f count - suc j) at end refl ∙ rw (c, e, add-one j) refl)
 
       none : linesFrom (linesOf f count) ≡ done []
       none =
           let m : linesOf f count - linesOf f count ≡ 0 = omega arith in
-          rw m (lines-none f short x p n (linesOf f count) (reach x (linesOf f count)))
+          rw m (lines-none ρ f short x p n (linesOf f count) (reach x (linesOf f count)))
 
-  pub lines-start : linesFrom 0 ≡ readLines f short count x
+  pub lines-start : linesFrom 0 ≡ readLines ρ f short count x
   unfolding readLines planOf
   lines-start = rw (reach-zero x, drop-none x, sub-zero (linesOf f count)) refl
 
 -- ---- a line that was read
 
-module _ (f : Form) (g : ℕ) (count : ℕ) (x : List ℕ) where
+module _ (ρ : Rules) (f : Form) (g : ℕ) (count : ℕ) (x : List ℕ) where
   abbrev short : Bool
   short = mayBeShort g
 
   -- it is right, and each of its fields has its cells
   pub record ReadLine (j : ℕ) (cs : List ℤ) : Type 0 where
     pub content : List ℕ
-    pub line : RightLine f g count x j content
+    pub line : RightLine ρ f g count x j content
     pub each : (k : ℕ) → k < planned f count j .many → ReadsAs f (fieldIn f count j content k) (part (k * rowOf f .cells) (suc k * rowOf f .cells) cs)
 
-  pub line-read : (j : ℕ) (cs : List ℤ) → lineRead f short count x j ≡ done cs → ReadLine j cs
+  pub line-read : (j : ℕ) (cs : List ℤ) → lineRead ρ f short count x j ≡ done cs → ReadLine j cs
   line-read j cs e =
       let l = planned f count j in
       let y = lineOf x j in
-      let d = line-done f short l y cs e in
+      let d = line-done ρ f short l y cs e in
       let t = part-zero (d .bytes) y in
       let s = take (d .bytes) y in
       let text = filledTo (columnsOf f l) s in
       let fields : fieldsFrom f l text 0 ≡ done cs = fields-start f l text ∙ ap (λ z. readFields f l (filledTo (columnsOf f l) z)) (sym t) ∙ d .fields in
       record {
         content = s;
-        line = record { content = is-content y (d .bytes) (d .content) .0; right = right-plain g (columnsOf f l) s .0 (ap (isRight short (columnsOf f l)) (sym t) ∙ d .right) };
+        line = record { content = is-content ρ y (d .bytes) (d .content) .0; right = right-plain g (columnsOf f l) s .0 (ap (isRight short (columnsOf f l)) (sym t) ∙ d .right) };
         each = λ k h. field-done f (l .number) (l .first + k) (fieldIn f count j s k) (part (k * rowOf f .cells) (suc k * rowOf f .cells) cs)
             (piece-done (fields-pieces f l text) (fields-sized f l text) cs fields k h);
       }
@@ -144,22 +145,22 @@ module _ (f : Form) (g : ℕ) (count : ℕ) (x : List ℕ) where
       (λ l. l)
       (le-or-lt (linesOf f count) j)
 
-  module _ (cs : List ℤ) (e : readLines f short count x ≡ done cs) where
-    pub line-cells : (j : ℕ) → j < linesOf f count → lineRead f short count x j ≡ done (part (begins j) (begins (suc j)) cs)
+  module _ (cs : List ℤ) (e : readLines ρ f short count x ≡ done cs) where
+    pub line-cells : (j : ℕ) → j < linesOf f count → lineRead ρ f short count x j ≡ done (part (begins j) (begins (suc j)) cs)
     line-cells j h =
-        piece-done (lines-pieces f short count x) record { begin = first; size = size } cs (lines-start f short count x ∙ e) j h
+        piece-done (lines-pieces ρ f short count x) record { begin = first; size = size } cs (lines-start ρ f short count x ∙ e) j h
       where
         first : begins 0 ≡ 0
         first =
             let z : min n (0 * p) ≡ 0 = rw (zero-mul p) (omega arith) in
             rw z (zero-mul (rowOf f .cells))
 
-        size : (i : ℕ) → i < linesOf f count → (ds : List ℤ) → lineRead f short count x i ≡ done ds → begins i + length ds ≡ begins (suc i)
+        size : (i : ℕ) → i < linesOf f count → (ds : List ℤ) → lineRead ρ f short count x i ≡ done ds → begins i + length ds ≡ begins (suc i)
         size i l ds u =
             let m : min n (i * p) + min p (n - i * p) ≡ min n (suc i * p) = omega (arith, suc-mul i p) in
-            omega (arith, line-size f short (planned f count i) (lineOf x i) ds u, add-mul (min n (i * p)) (min p (n - i * p)) (rowOf f .cells), ap (λ k. k * rowOf f .cells) m)
+            omega (arith, line-size ρ f short (planned f count i) (lineOf x i) ds u, add-mul (min n (i * p)) (min p (n - i * p)) (rowOf f .cells), ap (λ k. k * rowOf f .cells) m)
 
-    stands : (j k : ℕ) → k < p → j * p + k < n → Stands f g count x cs (j * p + k) j k
+    stands : (j k : ℕ) → k < p → j * p + k < n → Stands ρ f g count x cs (j * p + k) j k
     stands j k h l =
         let c = rowOf f .cells in
         let r = line-read j (part (begins j) (begins (suc j)) cs) (line-cells j (line-inside j (omega arith))) in
@@ -177,17 +178,17 @@ module _ (f : Form) (g : ℕ) (count : ℕ) (x : List ℕ) where
         }
 
     -- what was read is the group's values
-    pub read-values : Values f g count x cs
-    read-values = record { size = group-size f short count x cs e; each = stands }
+    pub read-values : Values ρ f g count x cs
+    read-values = record { size = group-size ρ f short count x cs e; each = stands }
 
   -- R45: counted from 0, element i stands in line i / per line, and i mod per line others stand before it there
-  pub values-divided : (cs : List ℤ) → Values f g count x cs → (i : ℕ) → i < n → Stands f g count x cs i (i / p) (i % p)
+  pub values-divided : (cs : List ℤ) → Values ρ f g count x cs → (i : ℕ) → i < n → Stands ρ f g count x cs i (i / p) (i % p)
   values-divided cs v i h =
       let e = div-add-mod' i p in
-      subst (λ m. Stands f g count x cs m (i / p) (i % p)) e (v .each (i / p) (i % p) (mod-lt i (row-fits f .some)) (omega arith))
+      subst (λ m. Stands ρ f g count x cs m (i / p) (i % p)) e (v .each (i / p) (i % p) (mod-lt i (row-fits f .some)) (omega arith))
 
   -- a group has one list of values
-  pub values-one : (cs ds : List ℤ) → Values f g count x cs → Values f g count x ds → cs ≡ ds
+  pub values-one : (cs ds : List ℤ) → Values ρ f g count x cs → Values ρ f g count x ds → cs ≡ ds
   unfolding Count.cellsOf
   values-one cs ds u v = parts-same (rowOf f .cells) n cs ds (u .size) (v .size) same
     where
@@ -195,7 +196,7 @@ module _ (f : Form) (g : ℕ) (count : ℕ) (x : List ℕ) where
       same i h =
           let a = values-divided cs u i h in
           let b = values-divided ds v i h in
-          let c : a .content ≡ b .content = content-one (lineOf x (i / p)) (a .content) (b .content) (a .line .content) (b .line .content) in
+          let c : a .content ≡ b .content = content-one ρ (lineOf x (i / p)) (a .content) (b .content) (a .line .content) (b .line .content) in
           let d = lawful f .is-reads (fieldIn f count (i / p) (a .content) (i % p)) (part (i * rowOf f .cells) (i * rowOf f .cells + rowOf f .cells) cs) (a .reads) in
           let o = lawful f .is-reads (fieldIn f count (i / p) (b .content) (i % p)) (part (i * rowOf f .cells) (i * rowOf f .cells + rowOf f .cells) ds) (b .reads) in
           sym (d .cells) ∙ ap (λ s. valueCells (fieldIn f count (i / p) s (i % p)) (fieldOf f (fieldIn f count (i / p) s (i % p)))) c ∙ o .cells

@@ -7,6 +7,7 @@ use mathlib.Core.List.{List, _++_}
 use Prim.Native.Nat.{ℕ, _+_, _-_, _≤_, min}
 use lib.Dec.{eqb, leb}
 use lib.ListN.{length, drop, replicate}
+use Rattle.rules.specs.declared.Rules.{Rules}
 use Rattle.base.specs.Every.{every}
 use Rattle.base.specs.Part.{part}
 use Rattle.form.specs.declared.Form.{Form}
@@ -64,8 +65,8 @@ abbrev pub ifRight : Bool → ℕ → List ℕ → Content → Content
 ifRight short columns x (Length n) = cond (isRight short columns (part 0 n x)) (Length n) NoReturn
 ifRight short columns x NoReturn = NoReturn
 
-unfoldable pub rightContent : Bool → ℕ → List ℕ → Content
-rightContent short columns x = ifRight short columns x (contentOf x)
+unfoldable pub rightContent : Rules → Bool → ℕ → List ℕ → Content
+rightContent ρ short columns x = ifRight short columns x (contentOf ρ x)
 
 -- ---- how far a line's fields are looked for before its end is known: over their columns, if there are so many bytes; a line that may be
 -- short has no length of its own, so its content is asked for first
@@ -74,6 +75,6 @@ abbrev pub contentLong : Content → ℕ
 contentLong (Length n) = n
 contentLong NoReturn = 0
 
-unfoldable pub fieldsSpan : Bool → ℕ → List ℕ → ℕ → ℕ
-fieldsSpan short columns s at =
-    cond short (contentLong (contentOf (part at (at + reach (drop at s) 1) s))) (min columns (length s - at))
+unfoldable pub fieldsSpan : Rules → Bool → ℕ → List ℕ → ℕ → ℕ
+fieldsSpan ρ short columns s at =
+    cond short (contentLong (contentOf ρ (part at (at + reach (drop at s) 1) s))) (min columns (length s - at))

@@ -6,6 +6,7 @@ use Prim.Native.Nat.{ℕ, _*_}
 use lib.Dec.{eqb, leb}
 use lib.IntN.{ℤ}
 use lib.ListN.{length}
+use Rattle.rules.specs.declared.Rules.{Rules}
 use Rattle.base.specs.Part.{part, over}
 use Rattle.base.specs.Pieces.{Got, done, bad, gather}
 use Rattle.base.specs.Sign.{sizeOf}
@@ -64,18 +65,19 @@ abbrev pub misfitOf : ℕ → ℕ → Content → Refusal
 misfitOf line e (Length n) = BadField line e
 misfitOf line e NoReturn = BadLine line
 
--- a line, with its line feed
-unfoldable pub readLine : Form → Bool → Line → List ℕ → Cells
-readLine f short l x = readContent f short l x (contentOf x)
+module _ (ρ : Rules) where
+  -- a line, with its line feed
+  unfoldable pub readLine : Form → Bool → Line → List ℕ → Cells
+  readLine f short l x = readContent f short l x (contentOf ρ x)
 
--- ---- a group
+  -- ---- a group
 
--- R262, R263: the lines in order; the first wrong line or misformed field ends the reading
-unfoldable pub readLinesOf : Form → Bool → List Line → List ℕ → Cells
-readLinesOf f short ls x = gather (λ (l : Line) s. reach s 1) (readLine f short) ls x
+  -- R262, R263: the lines in order; the first wrong line or misformed field ends the reading
+  unfoldable pub readLinesOf : Form → Bool → List Line → List ℕ → Cells
+  readLinesOf f short ls x = gather (λ (l : Line) s. reach s 1) (readLine f short) ls x
 
-unfoldable pub readLines : Form → Bool → ℕ → List ℕ → Cells
-readLines f short count x = readLinesOf f short (planOf f count) x
+  unfoldable pub readLines : Form → Bool → ℕ → List ℕ → Cells
+  readLines f short count x = readLinesOf f short (planOf f count) x
 
 -- R210, R265: the date, of group 3 alone, once its lines and fields are right
 abbrev pub byDate : List ℤ → Dated → Cells
@@ -86,23 +88,24 @@ abbrev pub dated : ℕ → Cells → Cells
 dated g (done cs) = cond (eqb g 3) (byDate cs (datedOf (map sizeOf cs))) (done cs)
 dated g (bad r) = bad r
 
--- R211, R264: 11 before any line is looked at; then the lines, then the date
-unfoldable pub readForm : Form → ℕ → ℕ → List ℕ → ℕ → Cells
-readForm f g count x room = cond (leb (cellsOf f count) room) (dated g (readLines f (mayBeShort g) count x)) (bad NoRoom)
+module _ (ρ : Rules) where
+  -- R211, R264: 11 before any line is looked at; then the lines, then the date
+  unfoldable pub readForm : Form → ℕ → ℕ → List ℕ → ℕ → Cells
+  readForm f g count x room = cond (leb (cellsOf f count) room) (dated g (readLines ρ f (mayBeShort g) count x)) (bad NoRoom)
 
--- R207, R261: counts that break a rule are 7 for every group
-abbrev pub readRuled : Form → List ℕ → ℕ → List ℕ → ℕ → Ruling → Cells
-readRuled f ns g x room Kept = readForm f g (countOf ns g) x room
-readRuled f ns g x room (Broken h) = bad (BrokenRule h)
+  -- R207, R261: counts that break a rule are 7 for every group
+  abbrev pub readRuled : Form → List ℕ → ℕ → List ℕ → ℕ → Ruling → Cells
+  readRuled f ns g x room Kept = readForm f g (countOf ns g) x room
+  readRuled f ns g x room (Broken h) = bad (BrokenRule h)
 
--- R212: the number is that of no group
-abbrev pub readBy : List ℕ → ℕ → List ℕ → ℕ → GroupForm → Cells
-readBy ns g x room (Has f) = readRuled f ns g x room (rulingOf ns)
-readBy ns g x room NoForm = bad NoSuchNumber
+  -- R212: the number is that of no group
+  abbrev pub readBy : List ℕ → ℕ → List ℕ → ℕ → GroupForm → Cells
+  readBy ns g x room (Has f) = readRuled f ns g x room (rulingOf ns)
+  readBy ns g x room NoForm = bad NoSuchNumber
 
--- a group of a record with these counts, whose lines are x, read into a table of this length
-unfoldable pub readGroup : List ℕ → ℕ → List ℕ → ℕ → Cells
-readGroup ns g x room = readBy ns g x room (formOf g)
+  -- a group of a record with these counts, whose lines are x, read into a table of this length
+  unfoldable pub readGroup : List ℕ → ℕ → List ℕ → ℕ → Cells
+  readGroup ns g x room = readBy ns g x room (formOf g)
 
 -- ---- the answer and the table
 

@@ -6,6 +6,7 @@ use mathlib.Core.List.{List}
 use Prim.Native.Nat.{ℕ, _+_, _*_, _<_, _≤_}
 use lib.IntN.{ℤ}
 use lib.ListN.{length, take, drop, getD}
+use Rattle.rules.specs.declared.Rules.{Rules}
 use Rattle.base.specs.Part.{part}
 use Rattle.form.specs.declared.Form.{Form}
 use Rattle.form.specs.Table.{rowOf}
@@ -37,10 +38,10 @@ pub record RightContent (g : ℕ) (columns : ℕ) (s : List ℕ) : Type 0 where
   pub blanks : (i : ℕ) → columns ≤ i → i < length s → getD s i 0 ≡ 32
 
 -- a group of this form, number and count, whose lines are x
-module _ (f : Form) (g : ℕ) (count : ℕ) (x : List ℕ) where
+module _ (ρ : Rules) (f : Form) (g : ℕ) (count : ℕ) (x : List ℕ) where
   -- R66: line j is right, so not 8: it is the content s, a carriage return and a line feed, and s is right for its fields
   pub record RightLine (j : ℕ) (s : List ℕ) : Type 0 where
-    pub content : HasContent (lineOf x j) s
+    pub content : HasContent ρ (lineOf x j) s
     pub right : RightContent g (columnsOf f (planned f count j)) s
 
   -- R45, R46: element i stands in line j behind k fields; its field has (field's Grammar) the cells from i times the form's cells on

@@ -68,10 +68,10 @@ fn is_right(short: bool, columns: usize, content: &[u8]) -> bool
 }
 
 // R66: the length of a line's content, if there is one and it is right.
-fn right_content(short: bool, columns: usize, line: &[u8]) -> line::Content
-    ensures { λ r. ⌜ r ≡ rightContent short columns (now (line .entry)) ⌝ }
+fn right_content(rules: rules::Rules, short: bool, columns: usize, line: &[u8]) -> line::Content
+    ensures { λ r. ⌜ r ≡ rightContent rules short columns (now (line .entry)) ⌝ }
 {
-    let line::Content::Length(n) = line::content_length(line) else {
+    let line::Content::Length(n) = line::content_length(rules, line) else {
         return line::Content::NoReturn;
     };
     if is_right(short, columns, &line[0..n]) {
@@ -128,13 +128,13 @@ fn is_field_at(
 
 // Where the fields of a line are looked for no further, before its end is known. A line that may be short has no length
 // of its own: its content is asked for first, and its bytes are looked at twice.
-fn fields_stop(short: bool, columns: usize, lines: &[u8], at: usize) -> usize
+fn fields_stop(rules: rules::Rules, short: bool, columns: usize, lines: &[u8], at: usize) -> usize
     requires { ⌜ at ≤ length (now lines) ⌝ }
-    ensures { λ r. ⌜ r ≡ at + fieldsSpan short columns (now (lines .entry)) at ⌝ }
+    ensures { λ r. ⌜ r ≡ at + fieldsSpan rules short columns (now (lines .entry)) at ⌝ }
 {
     if short {
         let end = line::behind_or_end(lines, at, 1);
-        let line::Content::Length(n) = line::content_length(&lines[at..end]) else {
+        let line::Content::Length(n) = line::content_length(rules, &lines[at..end]) else {
             return at;
         };
         return at + n;
@@ -144,6 +144,7 @@ fn fields_stop(short: bool, columns: usize, lines: &[u8], at: usize) -> usize
 
 // R262: what is blamed where a field is misformed. A line that is wrong comes before its fields.
 fn misfit(
+    rules: rules::Rules,
     short: bool,
     columns: usize,
     lines: &[u8],
@@ -154,10 +155,11 @@ fn misfit(
     requires { ⌜ at ≤ length (now lines) ⌝ }
     ensures { λ r. ⌜ r ≡
         misfitOf number element
-        (rightContent short columns (part at (at + reach (drop at (now (lines .entry))) 1) (now (lines .entry)))) ⌝ }
+        (rightContent rules short columns
+        (part at (at + reach (drop at (now (lines .entry))) 1) (now (lines .entry)))) ⌝ }
 {
     let end = line::behind_or_end(lines, at, 1);
-    match right_content(short, columns, &lines[at..end]) {
+    match right_content(rules, short, columns, &lines[at..end]) {
         line::Content::Length(_) => Refusal::BadField(number, element),
         line::Content::NoReturn => Refusal::BadLine(number),
     }
@@ -166,9 +168,9 @@ fn misfit(
 // The first pass, as R443 has it: each line's fields, and then what stands behind them, up to the first line that is
 // bad (R263). It looks at no table. No line feed stands in fields that are formed, so the line's end is sought behind
 // them.
-fn check_lines(form: Form, short: bool, count: u16, lines: &[u8]) -> Checked
+fn check_lines(rules: rules::Rules, form: Form, short: bool, count: u16, lines: &[u8]) -> Checked
     requires { ⌜ HoldsLetters form short ⌝ }
-    ensures { λ r. ⌜ r ≡ verdictOf (readLines form short count (now (lines .entry))) ⌝ }
+    ensures { λ r. ⌜ r ≡ verdictOf (readLines rules form short count (now (lines .entry))) ⌝ }
 {
     let row = form::row_of(form);
     let width = row.width;
@@ -181,7 +183,7 @@ fn check_lines(form: Form, short: bool, count: u16, lines: &[u8]) -> Checked
     let mut j: usize = 0;
     'lines: while j < many {
         let k = base::lesser(per_line, left);
-        let stop = fields_stop(short, k * width, lines, at);
+        let stop = fields_stop(rules, short, k * width, lines, at);
         let mut from = at;
         let mut i: usize = 0;
         while i < k {
@@ -189,12 +191,21 @@ fn check_lines(form: Form, short: bool, count: u16, lines: &[u8]) -> Checked
                 from += width;
                 i += 1;
             } else {
-                verdict = Checked::Refused(misfit(short, k * width, lines, at, j + 1, element + i));
+                verdict = Checked::Refused(misfit(
+                    rules,
+                    short,
+                    k * width,
+                    lines,
+                    at,
+                    j + 1,
+                    element + i,
+                ));
                 break 'lines;
             }
         }
         let end = line::behind_or_end(lines, stop, 1);
-        let line::Content::Length(_) = right_content(short, k * width, &lines[at..end]) else {
+        let line::Content::Length(_) = right_content(rules, short, k * width, &lines[at..end])
+        else {
             verdict = Checked::Refused(Refusal::BadLine(j + 1));
             break 'lines;
         };
@@ -207,10 +218,10 @@ fn check_lines(form: Form, short: bool, count: u16, lines: &[u8]) -> Checked
 }
 
 // R140, R210: the date stands in the first line of group 3, where R123 puts 19 characters at least.
-fn check_date(count: u16, lines: &[u8]) -> Checked
+fn check_date(rules: rules::Rules, count: u16, lines: &[u8]) -> Checked
     requires date { ⌜ 19 ≤ count ⌝ }
-    requires clean { ⌜ verdictOf (readLines Form.A1 Bool.false count (now lines)) ≡ Checked.Right ⌝ }
-    ensures { λ r. ⌜ r ≡ verdictOf (dated 3 (readLines Form.A1 Bool.false count (now (lines .entry)))) ⌝ }
+    requires clean { ⌜ verdictOf (readLines rules Form.A1 Bool.false count (now lines)) ≡ Checked.Right ⌝ }
+    ensures { λ r. ⌜ r ≡ verdictOf (dated 3 (readLines rules Form.A1 Bool.false count (now (lines .entry)))) ⌝ }
 {
     let n = form::elements(Form::A1, count);
     let row = form::row_of(Form::A1);
@@ -222,16 +233,17 @@ fn check_date(count: u16, lines: &[u8]) -> Checked
 }
 
 // R262, R265: lines, and then the date of group 3.
-fn check(form: Form, group: usize, count: u16, lines: &[u8]) -> Checked
+fn check(rules: rules::Rules, form: Form, group: usize, count: u16, lines: &[u8]) -> Checked
     requires form { ⌜ formOf group ≡ GroupForm.Has form ⌝ }
     requires date { ⌜ (group ≡ 3 → 19 ≤ count) ⌝ }
-    ensures { λ r. ⌜ r ≡ verdictOf (dated group (readLines form (mayBeShort group) count (now (lines .entry)))) ⌝ }
+    ensures { λ r. ⌜ r ≡
+        verdictOf (dated group (readLines rules form (mayBeShort group) count (now (lines .entry)))) ⌝ }
 {
-    match check_lines(form, may_be_short(group), count, lines) {
+    match check_lines(rules, form, may_be_short(group), count, lines) {
         Checked::Refused(r) => Checked::Refused(r),
         Checked::Right => {
             if group == 3 {
-                return check_date(count, lines);
+                return check_date(rules, count, lines);
             }
             Checked::Right
         }
@@ -321,12 +333,19 @@ fn put_field_at(
 }
 
 // R266: the second pass, the cells of lines that were found clean.
-fn fill_lines(form: Form, short: bool, count: u16, lines: &[u8], table: &mut [i64])
+fn fill_lines(
+    rules: rules::Rules,
+    form: Form,
+    short: bool,
+    count: u16,
+    lines: &[u8],
+    table: &mut [i64],
+)
     requires letters { ⌜ HoldsLetters form short ⌝ }
-    requires clean { ⌜ verdictOf (readLines form short count (now lines)) ≡ Checked.Right ⌝ }
+    requires clean { ⌜ verdictOf (readLines rules form short count (now lines)) ≡ Checked.Right ⌝ }
     requires room { ⌜ cellsOf form count ≤ length (now table) ⌝ }
     ensures { λ _. ⌜ now (table .exit) ≡
-        over 0 (cellsGot (readLines form short count (now (lines .entry)))) (now (table .entry)) ⌝ }
+        over 0 (cellsGot (readLines rules form short count (now (lines .entry)))) (now (table .entry)) ⌝ }
 {
     let row = form::row_of(form);
     let width = row.width;
@@ -343,7 +362,7 @@ fn fill_lines(form: Form, short: bool, count: u16, lines: &[u8], table: &mut [i6
         // are looked at twice
         let end = line::behind_or_end(lines, at + least(short, k * width), 1);
         // a clean line has a content, so this is never taken
-        let line::Content::Length(n) = line::content_length(&lines[at..end]) else {
+        let line::Content::Length(n) = line::content_length(rules, &lines[at..end]) else {
             return;
         };
         let stop = at + n;
@@ -364,22 +383,30 @@ fn fill_lines(form: Form, short: bool, count: u16, lines: &[u8], table: &mut [i6
 // ---- Reading a group's lines.
 
 // R260, for a group whose record is placed with 0: 11 (R264), then the lines and the date, and only then the table.
-fn read_form(form: Form, group: usize, count: u16, lines: &[u8], table: &mut [i64]) -> Answer
+fn read_form(
+    rules: rules::Rules,
+    form: Form,
+    group: usize,
+    count: u16,
+    lines: &[u8],
+    table: &mut [i64],
+) -> Answer
     requires form { ⌜ formOf group ≡ GroupForm.Has form ⌝ }
     requires date { ⌜ (group ≡ 3 → 19 ≤ count) ⌝ }
     ensures answer { λ r. ⌜ r ≡
-        readingOf (readForm form group count (now (lines .entry)) (length (now (table .entry)))) ⌝ }
+        readingOf (readForm rules form group count (now (lines .entry)) (length (now (table .entry)))) ⌝ }
     ensures table { λ _. ⌜ now (table .exit) ≡
-        tableBy (readForm form group count (now (lines .entry)) (length (now (table .entry)))) (now (table .entry)) ⌝ }
+        tableBy (readForm rules form group count (now (lines .entry)) (length (now (table .entry))))
+        (now (table .entry)) ⌝ }
 {
     let cells = form::cells(form, count);
     if table.len() < cells {
         return Answer::Refused(Refusal::NoRoom);
     }
-    match check(form, group, count, lines) {
+    match check(rules, form, group, count, lines) {
         Checked::Refused(r) => Answer::Refused(r),
         Checked::Right => {
-            fill_lines(form, may_be_short(group), count, lines, table);
+            fill_lines(rules, form, may_be_short(group), count, lines, table);
             Answer::Done(cells)
         }
     }
@@ -388,17 +415,23 @@ fn read_form(form: Form, group: usize, count: u16, lines: &[u8], table: &mut [i6
 // R260: reads a group of a record with these counts, whose lines these are, into a table. It is altered only if all is
 // clean, and then only as far as the group's cells go (R266, R267). The counts keep the rules, as those of a record
 // that was placed with 0 do: they are not tried again.
-pub fn read_kept(counts: &[u16], group: usize, lines: &[u8], table: &mut [i64]) -> Answer
+pub fn read_kept(
+    rules: rules::Rules,
+    counts: &[u16],
+    group: usize,
+    lines: &[u8],
+    table: &mut [i64],
+) -> Answer
     requires { ⌜ rulingOf (now counts) ≡ Ruling.Kept ⌝ }
     ensures answer { λ r. ⌜ r ≡
-        readingOf (readGroup (now (counts .entry)) group (now (lines .entry)) (length (now (table .entry)))) ⌝ }
+        readingOf (readGroup rules (now (counts .entry)) group (now (lines .entry)) (length (now (table .entry)))) ⌝ }
     ensures table { λ _. ⌜ now (table .exit) ≡
-        tableBy (readGroup (now (counts .entry)) group (now (lines .entry)) (length (now (table .entry))))
+        tableBy (readGroup rules (now (counts .entry)) group (now (lines .entry)) (length (now (table .entry))))
         (now (table .entry)) ⌝ }
 {
     let form::GroupForm::Has(form) = form::form_of(group) else {
         return Answer::Refused(Refusal::NoSuchNumber);
     };
     let count = count::count_of(counts, group);
-    read_form(form, group, count, lines, table)
+    read_form(rules, form, group, count, lines, table)
 }

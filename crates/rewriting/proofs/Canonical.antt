@@ -9,6 +9,7 @@ use native.Mathlib.Omega.{arith}
 use borrow.Author.Tests.{le-leb}
 use lib.Dec.{leb}
 use lib.ListN.{length, length-append}
+use Rattle.rules.specs.declared.Rules.{Rules}
 use Rattle.base.specs.Part.{part}
 use Rattle.base.specs.Pieces.{done}
 use Rattle.base.proofs.Part.{part-middle}
@@ -40,92 +41,93 @@ use Rattle.rewriting.proofs.Whole.{cellsOfGroup, whole-read, whole-join
 
 -- ---- a right record, wherever it stands, is rewritten as itself
 
-module _ {x : List ℕ} (r : RightRecord x) (a b : List ℕ) where
+module _ (ρ : Rules) {x : List ℕ} (r : RightRecord x) (a b : List ℕ) where
   abbrev here : List ℕ
   here = a ++ (x ++ b)
 
-  back : ReadsBack (r .ns) (r .cs) (length x) here (length a)
-  back = canonical-back (r .canonical) (release-given (r .ns) Five (r .release))
+  -- it reads back
+  pub right-back : ReadsBack ρ (r .ns) (r .cs) (length x) here (length a)
+  right-back = canonical-back ρ (r .canonical) (release-given (r .ns) Five (r .release))
       (kept-ruling (r .ns) (r .rules)) record { date = r .date; right = Letters.first-due (dateLetters (r .ns) (r .cs)) (Right (r .date)) .1 (r .dated) } a b
 
-  reads : (g : ℕ) → 1 ≤ g → g ≤ 60 → groupRead here (length a) g ≡ done (groupCells (r .ns) (r .cs) g)
-  reads g low high = back .groups g (cellsIn (countsAt here (length a)) g) low high (rw (back .counts) (omega arith))
+  reads : (g : ℕ) → 1 ≤ g → g ≤ 60 → groupRead ρ here (length a) g ≡ done (groupCells (r .ns) (r .cs) g)
+  reads g low high = right-back .groups g (cellsIn (countsAt ρ here (length a)) g) low high (rw (right-back .counts) (omega arith))
 
-  all : All ≡ groupsOf (allInTurn here (length a))
-  all = sym (ap groupsOf (turn-all (groupRead here (length a)) (λ g low high. record { cells = groupCells (r .ns) (r .cs) g; is = reads g low high }) .is))
+  all : All ≡ groupsOf (allInTurn ρ here (length a))
+  all = sym (ap groupsOf (turn-all (groupRead ρ here (length a)) (λ g low high. record { cells = groupCells (r .ns) (r .cs) g; is = reads g low high }) .is))
 
-  stands : CanonicalRecord (countsAt here (length a)) (part (length a) (length a + length x) here) (r .cs)
-  stands = rw (back .counts, part-middle a x b) (r .canonical)
+  stands : CanonicalRecord (countsAt ρ here (length a)) (part (length a) (length a + length x) here) (r .cs)
+  stands = rw (right-back .counts, part-middle a x b) (r .canonical)
 
-  read : ReadWhole here (length a) (length a + length x) (cellsOfGroup (groupRead here (length a)))
-  read = whole-read here (length a) (length a + length x) (back .placed) all
+  read : ReadWhole ρ here (length a) (length a + length x) (cellsOfGroup (groupRead ρ here (length a)))
+  read = whole-read ρ here (length a) (length a + length x) (right-back .placed) all
 
-  pub right-text : textAt here (length a) ≡ x
-  right-text = ap (recordText (countsAt here (length a))) (whole-joined here (length a) (length a + length x) (back .placed) all) ∙ written-again read stands ∙ part-middle a x b
+  pub right-text : textAt ρ here (length a) ≡ x
+  right-text = ap (recordText (countsAt ρ here (length a))) (whole-joined ρ here (length a) (length a + length x) (right-back .placed) all) ∙ written-again ρ read stands ∙ part-middle a x b
 
-  pub right-rewritten : length x ≤ 8192 → programRewriting here (length a) ≡ Done (length x) (length a + length x)
+  pub right-rewritten : length x ≤ 8192 → programRewriting ρ here (length a) ≡ Done (length x) (length a + length x)
   right-rewritten l =
-      let n : recordBytes (countsAt here (length a)) ≡ length x = again-bytes read stands ∙ omega arith in
-      first-due here (length a) 8192 8192 (Done (length x) (length a + length x)) .1 record {
-        roomy = record { placed = back .placed; text-fits = omega (arith, n); cells-fit = omega (arith, n, record-cells (countsAt here (length a))) };
+      let n : recordBytes (countsAt ρ here (length a)) ≡ length x = again-bytes ρ read stands ∙ omega arith in
+      first-due ρ here (length a) 8192 8192 (Done (length x) (length a + length x)) .1 record {
+        roomy = record { placed = right-back .placed; text-fits = omega (arith, n); cells-fit = omega (arith, n, record-cells (countsAt ρ here (length a))) };
         groups = λ g low high. record { cells = groupCells (r .ns) (r .cs) g; reads = reads g low high };
         written = n;
       }
 
 -- ---- a text of them
 
-rewritten-same : (a : List ℕ) {y : List ℕ} → CanonicalRecords y → (k : ℕ) → length y ≤ k → rewrittenFrom k (a ++ y) (length a) ≡ y
-rewritten-same a none k h = rewritten-stop (a ++ []) k (length a) (end-never (a ++ []) (length a) (omega (arith, ap length (append-nil a))))
-rewritten-same a (more x {y} r l ys) k h =
-    let e = right-rewritten r a y l in
-    let long = done-further (a ++ (x ++ y)) (length a) 8192 8192 (length x) (length a + length x) e in
+rewritten-same : (ρ : Rules) (a : List ℕ) {y : List ℕ} → CanonicalRecords y → (k : ℕ) → length y ≤ k → rewrittenFrom ρ k (a ++ y) (length a) ≡ y
+rewritten-same ρ a none k h = rewritten-stop ρ (a ++ []) k (length a) (end-never ρ (a ++ []) (length a) (omega (arith, ap length (append-nil a))))
+rewritten-same ρ a (more x {y} r l ys) k h =
+    let e = right-rewritten ρ r a y l in
+    let long = done-further ρ (a ++ (x ++ y)) (length a) 8192 8192 (length x) (length a + length x) e in
     let both : length (x ++ y) ≡ length x + length y = length-append x y in
     let j : k ≡ suc (k - 1) = omega arith in
-    let rest : rewrittenFrom (k - 1) (a ++ (x ++ y)) (length a + length x) ≡ y = rw (← append-assoc a x y, ← length-append a x) (rewritten-same (a ++ x) ys (k - 1) (omega arith)) in
-    ap (λ i. rewrittenFrom i (a ++ (x ++ y)) (length a)) j
-    ∙ rewritten-done (a ++ (x ++ y)) (k - 1) (length a) (length x) (length a + length x) e
-    ∙ ap₂ _++_ (right-text r a y) rest
+    let rest : rewrittenFrom ρ (k - 1) (a ++ (x ++ y)) (length a + length x) ≡ y = rw (← append-assoc a x y, ← length-append a x) (rewritten-same ρ (a ++ x) ys (k - 1) (omega arith)) in
+    ap (λ i. rewrittenFrom ρ i (a ++ (x ++ y)) (length a)) j
+    ∙ rewritten-done ρ (a ++ (x ++ y)) (k - 1) (length a) (length x) (length a + length x) e
+    ∙ ap₂ _++_ (right-text ρ r a y) rest
 
 -- R348: such a text is printed as it stands
-pub canonical-printed : (s : List ℕ) → CanonicalRecords s → length s ≤ 65536 → printed s ≡ s
+pub canonical-printed : (ρ : Rules) (s : List ℕ) → CanonicalRecords s → length s ≤ 65536 → printed ρ s ≡ s
 unfolding printed rewritten
-canonical-printed s c l = rw (le-leb (length s) 65536 l) (rewritten-same [] c (length s) (omega arith))
+canonical-printed ρ s c l = rw (le-leb (length s) 65536 l) (rewritten-same ρ [] c (length s) (omega arith))
 
 -- ---- what is printed is canonical records
 
-text-right : (s : List ℕ) (at cells room bytes next : ℕ) → rewritingOf s at cells room ≡ Done bytes next → RightRecord (textAt s at)
-text-right s at cells room bytes next e =
-    let w = done-writes s at cells room bytes next e in
-    let d = done-is (countsAt s at) (cellsAt s at) room bytes w in
+text-right : (ρ : Rules) (s : List ℕ) (at cells room bytes next : ℕ) → rewritingOf ρ s at cells room ≡ Done bytes next → RightRecord (textAt ρ s at)
+text-right ρ s at cells room bytes next e =
+    let w = done-writes ρ s at cells room bytes next e in
+    let d = done-is (countsAt ρ s at) (cellsAt ρ s at) room bytes w in
     record {
-      ns = countsAt s at;
-      cs = cellsAt s at;
-      canonical = done-canonical (countsAt s at) (cellsAt s at) room bytes w;
+      ns = countsAt ρ s at;
+      cs = cellsAt ρ s at;
+      canonical = done-canonical ρ (countsAt ρ s at) (cellsAt ρ s at) room bytes w;
       release = d .checked .rules .released .release;
       rules = d .checked .rules .kept;
       date = d .date;
-      dated = Letters.first-due (dateLetters (countsAt s at) (cellsAt s at)) (Right (d .date)) .0 (d .right);
+      dated = Letters.first-due (dateLetters (countsAt ρ s at) (cellsAt ρ s at)) (Right (d .date)) .0 (d .right);
     }
 
-rewritten-canonical : (k : ℕ) (s : List ℕ) (at : ℕ) → CanonicalRecords (rewrittenFrom k s at)
+rewritten-canonical : (ρ : Rules) (k : ℕ) (s : List ℕ) (at : ℕ) → CanonicalRecords (rewrittenFrom ρ k s at)
 unfolding rewrittenFrom
-rewritten-canonical zero s at = none
-rewritten-canonical (suc k) s at = by (programRewriting s at) refl (rewritten-canonical k s)
+rewritten-canonical ρ zero s at = none
+rewritten-canonical ρ (suc k) s at = by (programRewriting ρ s at) refl (rewritten-canonical ρ k s)
   where
-    by : (r : Rewriting) → programRewriting s at ≡ r → ((p : ℕ) → CanonicalRecords (rewrittenFrom k s p)) → CanonicalRecords (textThen (textAt s at) (rewrittenFrom k s) r)
+    by : (r : Rewriting) → programRewriting ρ s at ≡ r → ((p : ℕ) → CanonicalRecords (rewrittenFrom ρ k s p)) → CanonicalRecords (textThen (textAt ρ s at) (rewrittenFrom ρ k s) r)
     by (Done bytes next) e rest =
-        more (textAt s at) (text-right s at 8192 8192 bytes next e) (omega (arith, done-text s at 8192 8192 bytes next e, done-within s at 8192 8192 bytes next e)) (rest next)
+        more (textAt ρ s at) (text-right ρ s at 8192 8192 bytes next e) (omega (arith, done-text ρ s at 8192 8192 bytes next e, done-within ρ s at 8192 8192 bytes next e)) (rest next)
     by (Refused r) e rest = none
     by (GroupRefused g r) e rest = none
 
-pub printed-canonical : (s : List ℕ) → CanonicalRecords (printed s)
+pub printed-canonical : (ρ : Rules) (s : List ℕ) → CanonicalRecords (printed ρ s)
 unfolding printed rewritten
-printed-canonical s = by (leb (length s) 65536)
+printed-canonical ρ s = by (leb (length s) 65536)
   where
-    by : (t : Bool) → CanonicalRecords (cond t (rewrittenFrom (length s) s 0) [])
-    by true = rewritten-canonical (length s) s 0
+    by : (t : Bool) → CanonicalRecords (cond t (rewrittenFrom ρ (length s) s 0) [])
+    by true = rewritten-canonical ρ (length s) s 0
     by false = none
 
 -- so that it is printed again as itself, where it is not longer than the program takes
-pub printed-again : (s : List ℕ) → length (printed s) ≤ 65536 → printed (printed s) ≡ printed s
-printed-again s l = canonical-printed (printed s) (printed-canonical s) l
+pub printed-again : (ρ : Rules) (s : List ℕ) → length (printed ρ s) ≤ 65536 → printed ρ (printed ρ s) ≡ printed ρ s
+printed-again ρ s l = canonical-printed ρ (printed ρ s) (printed-canonical ρ s) l

@@ -8,6 +8,7 @@ use Prim.Native.Nat.{ℕ, zero, suc, _-_, _<_, _≤_}
 use native.Mathlib.Omega.{arith}
 use borrow.Author.Tests.{le-leb, lt-leb, leb-true, leb-false}
 use lib.Dec.{leb}
+use Rattle.rules.specs.declared.Rules.{Rules}
 use Rattle.base.specs.Every
 use Rattle.base.specs.Every.{upFrom}
 use Rattle.base.specs.Pieces.{done, bad}
@@ -83,39 +84,39 @@ module _ (read : ℕ → Cells) where
   pub turn-all : ((g : ℕ) → 1 ≤ g → g ≤ 60 → IsDone (read g)) → IsDone (inTurn read (upFrom 1 60))
   turn-all d = all-done in-turn (λ i l. let h = d (suc i) (omega arith) (omega arith) in record { cells = h .cells; is = rw (h .is) refl })
 
-module _ (s : List ℕ) (at cells room : ℕ) where
-  pub missing-is : (r : Refusal) → asChecked (placingOf s at) ≡ C.Refused r → rewritingOf s at cells room ≡ Refused r
+module _ (ρ : Rules) (s : List ℕ) (at cells room : ℕ) where
+  pub missing-is : (r : Refusal) → asChecked (placingOf ρ s at) ≡ C.Refused r → rewritingOf ρ s at cells room ≡ Refused r
   unfolding rewritingOf
   missing-is r e = rw e
 
-  pub roomy-is : {next : ℕ} → RoomForBoth s at cells room next → rewritingOf s at cells room ≡ rewrittenAs (countsAt s at) next (allInTurn s at)
+  pub roomy-is : {next : ℕ} → RoomForBoth ρ s at cells room next → rewritingOf ρ s at cells room ≡ rewrittenAs (countsAt ρ s at) next (allInTurn ρ s at)
   unfolding rewritingOf
-  roomy-is h = rw (h .placed, le-leb (recordBytes (countsAt s at)) room (h .text-fits), le-leb (recordCells (countsAt s at)) cells (h .cells-fit)) refl
+  roomy-is h = rw (h .placed, le-leb (recordBytes (countsAt ρ s at)) room (h .text-fits), le-leb (recordCells (countsAt ρ s at)) cells (h .cells-fit)) refl
 
-  pub short-is : NoRoomDue s at cells room → rewritingOf s at cells room ≡ Refused NoRoom
+  pub short-is : NoRoomDue ρ s at cells room → rewritingOf ρ s at cells room ≡ Refused NoRoom
   unfolding rewritingOf
   short-is h =
-      let ns = countsAt s at in
+      let ns = countsAt ρ s at in
       let e : hasRoom ns cells room ≡ false =
       ⊎-elim (λ (l : room < recordBytes ns). rw (lt-leb (recordBytes ns) room l) refl)
       (λ (l : cells < recordCells ns). rw (lt-leb (recordCells ns) cells l) (and-false (leb (recordBytes ns) room))) (h .short) in
       rw (h .placed, e) refl
 
   -- what is due is given
-  refusal-given : (r : Refusal) → RefusedFor s at cells room r → rewritingOf s at cells room ≡ Refused r
-  refusal-given r (unplaced q d) = missing-is q (ap asChecked (Placing.first-due s at (P.Refused q) .1 d))
-  refusal-given r (broken-rule g n d) = missing-is (BrokenRule g) (ap asChecked (Placing.first-due s at (P.BrokenRule g n) .1 d))
+  refusal-given : (r : Refusal) → RefusedFor ρ s at cells room r → rewritingOf ρ s at cells room ≡ Refused r
+  refusal-given r (unplaced q d) = missing-is q (ap asChecked (Placing.first-due ρ s at (P.Refused q) .1 d))
+  refusal-given r (broken-rule g n d) = missing-is (BrokenRule g) (ap asChecked (Placing.first-due ρ s at (P.BrokenRule g n) .1 d))
   refusal-given r (no-room d) = short-is d
 
-  due-given : (r : Rewriting) → Due s at cells room r → rewritingOf s at cells room ≡ r
+  due-given : (r : Rewriting) → Due ρ s at cells room r → rewritingOf ρ s at cells room ≡ r
   due-given (Done bytes next) d =
-      let i = turn-all (groupRead s at) (λ g low high. let x = d .groups g low high in record { cells = x .cells; is = x .reads }) in
-      roomy-is (d .roomy) ∙ ap (rewrittenAs (countsAt s at) next) (i .is) ∙ ap (λ n. Done n next) (d .written)
+      let i = turn-all (groupRead ρ s at) (λ g low high. let x = d .groups g low high in record { cells = x .cells; is = x .reads }) in
+      roomy-is (d .roomy) ∙ ap (rewrittenAs (countsAt ρ s at) next) (i .is) ∙ ap (λ n. Done n next) (d .written)
   due-given (Refused r) d = refusal-given r d
   due-given (GroupRefused g r) d =
       roomy-is (d .roomy)
-      ∙ ap (rewrittenAs (countsAt s at) (d .next))
-      (first-turn (groupRead s at) g r record {
+      ∙ ap (rewrittenAs (countsAt ρ s at) (d .next))
+      (first-turn (groupRead ρ s at) g r record {
         low = d .low;
         high = d .high;
         earlier = λ h low few. let x = d .earlier h low few in record { cells = x .cells; is = x .reads };
@@ -123,20 +124,20 @@ module _ (s : List ℕ) (at cells room : ℕ) where
       })
 
   -- what is given is due
-  given-due : Due s at cells room (rewritingOf s at cells room)
-  given-due = by (placingOf s at) refl
+  given-due : Due ρ s at cells room (rewritingOf ρ s at cells room)
+  given-due = by (placingOf ρ s at) refl
     where
       D : Rewriting → Type 0
-      D = Due s at cells room
+      D = Due ρ s at cells room
 
-      turn : (n : ℕ) → RoomForBoth s at cells room n → (t : Turn) → allInTurn s at ≡ t → D (rewrittenAs (countsAt s at) n t)
+      turn : (n : ℕ) → RoomForBoth ρ s at cells room n → (t : Turn) → allInTurn ρ s at ≡ t → D (rewrittenAs (countsAt ρ s at) n t)
       turn n h (done cs) e = record {
         roomy = h;
-        groups = λ g low high. record { cells = _; reads = all-read (groupRead s at) 1 60 cs e .each g low (omega arith) };
+        groups = λ g low high. record { cells = _; reads = all-read (groupRead ρ s at) 1 60 cs e .each g low (omega arith) };
         written = refl;
       }
       turn n h (bad u) e =
-          let f = turn-first (groupRead s at) u e in
+          let f = turn-first (groupRead ρ s at) u e in
           record {
             next = n;
             roomy = h;
@@ -146,23 +147,24 @@ module _ (s : List ℕ) (at cells room : ℕ) where
             told = f .told;
           }
 
-      room-by : (n : ℕ) → placingOf s at ≡ P.Placed n → (a b : Bool) → leb (recordBytes (countsAt s at)) room ≡ a → leb (recordCells (countsAt s at)) cells ≡ b → D (rewritingOf s at cells room)
+      room-by : (n : ℕ) → placingOf ρ s at ≡ P.Placed n → (a b : Bool) → leb (recordBytes (countsAt ρ s at)) room ≡ a → leb (recordCells (countsAt ρ s at)) cells ≡ b
+          → D (rewritingOf ρ s at cells room)
       room-by n u true true a b =
-          let h : RoomForBoth s at cells room n = record { placed = u; text-fits = leb-true (recordBytes (countsAt s at)) room a; cells-fit = leb-true (recordCells (countsAt s at)) cells b } in
-          subst D (sym (roomy-is h)) (turn n h (allInTurn s at) refl)
+          let h : RoomForBoth ρ s at cells room n = record { placed = u; text-fits = leb-true (recordBytes (countsAt ρ s at)) room a; cells-fit = leb-true (recordCells (countsAt ρ s at)) cells b } in
+          subst D (sym (roomy-is h)) (turn n h (allInTurn ρ s at) refl)
       room-by n u true false a b =
-          let d : NoRoomDue s at cells room = record { next = n; placed = u; short = inr (leb-false (recordCells (countsAt s at)) cells b) } in
+          let d : NoRoomDue ρ s at cells room = record { next = n; placed = u; short = inr (leb-false (recordCells (countsAt ρ s at)) cells b) } in
           subst D (sym (short-is d)) (no-room d)
       room-by n u false t a b =
-          let d : NoRoomDue s at cells room = record { next = n; placed = u; short = inl (leb-false (recordBytes (countsAt s at)) room a) } in
+          let d : NoRoomDue ρ s at cells room = record { next = n; placed = u; short = inl (leb-false (recordBytes (countsAt ρ s at)) room a) } in
           subst D (sym (short-is d)) (no-room d)
 
-      by : (p : Placing) → placingOf s at ≡ p → D (rewritingOf s at cells room)
-      by (P.Placed n) u = room-by n u (leb (recordBytes (countsAt s at)) room) (leb (recordCells (countsAt s at)) cells) refl refl
+      by : (p : Placing) → placingOf ρ s at ≡ p → D (rewritingOf ρ s at cells room)
+      by (P.Placed n) u = room-by n u (leb (recordBytes (countsAt ρ s at)) room) (leb (recordCells (countsAt ρ s at)) cells) refl refl
       by (P.BrokenRule g n) u =
-          subst D (sym (missing-is (BrokenRule g) (ap asChecked u))) (broken-rule g n (Placing.first-due s at (P.BrokenRule g n) .0 u))
-      by (P.Refused r) u = subst D (sym (missing-is r (ap asChecked u))) (unplaced r (Placing.first-due s at (P.Refused r) .0 u))
+          subst D (sym (missing-is (BrokenRule g) (ap asChecked u))) (broken-rule g n (Placing.first-due ρ s at (P.BrokenRule g n) .0 u))
+      by (P.Refused r) u = subst D (sym (missing-is r (ap asChecked u))) (unplaced r (Placing.first-due ρ s at (P.Refused r) .0 u))
 
   -- each answer is given exactly if it is due
-  pub first-due : (r : Rewriting) → rewritingOf s at cells room ≡ r ↔ Due s at cells room r
-  first-due r = (λ e. subst (Due s at cells room) e given-due, due-given r)
+  pub first-due : (r : Rewriting) → rewritingOf ρ s at cells room ≡ r ↔ Due ρ s at cells room r
+  first-due r = (λ e. subst (Due ρ s at cells room) e given-due, due-given r)

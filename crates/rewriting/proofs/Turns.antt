@@ -8,6 +8,7 @@ use native.Mathlib.Numerals.{add-one}
 use native.Mathlib.Omega.{arith}
 use lib.IntN.{ℤ}
 use lib.ListN.{length, take, drop}
+use Rattle.rules.specs.declared.Rules.{Rules}
 use Rattle.base.specs.Every.{upFrom}
 use Rattle.base.specs.Part.{part, over}
 use Rattle.base.specs.Pieces.{done, bad, both}
@@ -85,28 +86,28 @@ cells-below ns g = sum-take-all (cellTally ns) g
 
 -- ---- before group g: its lines begin at `from`, its cells at `cell`, and what remains to be read is what was asked
 
-pub record Turning (s : List ℕ) (at : ℕ) (old table : List ℤ) (g from cell : ℕ) : Type 0 where
+pub record Turning (ρ : Rules) (s : List ℕ) (at : ℕ) (old table : List ℤ) (g from cell : ℕ) : Type 0 where
   pub low : 1 ≤ g
   pub high : g ≤ 61
-  pub begins : from ≡ start s at (countsAt s at) g
-  pub before : cell ≡ cellsBefore (countsAt s at) g
+  pub begins : from ≡ start s at (countsAt ρ s at) g
+  pub before : cell ≡ cellsBefore (countsAt ρ s at) g
   pub same : length table ≡ length old
-  pub answer : groupsOf (inTurn (groupRead s at) (upFrom g (61 - g))) ≡ groupsOf (allInTurn s at)
-  pub cells : over cell (cellsInTurn (groupRead s at) (upFrom g (61 - g))) table ≡ over 0 (cellsAt s at) old
+  pub answer : groupsOf (inTurn (groupRead ρ s at) (upFrom g (61 - g))) ≡ groupsOf (allInTurn ρ s at)
+  pub cells : over cell (cellsInTurn (groupRead ρ s at) (upFrom g (61 - g))) table ≡ over 0 (cellsAt ρ s at) old
 
-module _ (s : List ℕ) (at : ℕ) (old : List ℤ) where
-  pub turning-first : {from : ℕ} → from ≡ at + reach (drop at s) 2 → Turning s at old old 1 from 0
+module _ (ρ : Rules) (s : List ℕ) (at : ℕ) (old : List ℤ) where
+  pub turning-first : {from : ℕ} → from ≡ at + reach (drop at s) 2 → Turning ρ s at old old 1 from 0
   turning-first e = record {
     low = omega arith;
     high = omega arith;
-    begins = e ∙ sym (start-one s at (countsAt s at));
-    before = before-groups (countsAt s at) .cells-are;
+    begins = e ∙ sym (start-one s at (countsAt ρ s at));
+    before = before-groups (countsAt ρ s at) .cells-are;
     same = refl;
     answer = refl;
     cells = refl;
   }
 
-  pub turning-all : {table : List ℤ} {g from cell : ℕ} → Turning s at old table g from cell → 61 ≤ g → (All ≡ groupsOf (allInTurn s at)) × (table ≡ over 0 (cellsAt s at) old)
+  pub turning-all : {table : List ℤ} {g from cell : ℕ} → Turning ρ s at old table g from cell → 61 ≤ g → (All ≡ groupsOf (allInTurn ρ s at)) × (table ≡ over 0 (cellsAt ρ s at) old)
   unfolding inTurn cellsInTurn
   turning-all {table} {g} {from} {cell} t h =
       let e : upFrom g (61 - g) ≡ [] = up-done g 60 (omega arith) in
@@ -114,40 +115,41 @@ module _ (s : List ℕ) (at : ℕ) (old : List ℤ) where
 
   -- ---- group g, with the form that it has, from `from` to `to`, into the cells from `cell` to `end`
 
-  module _ (ms : List ℕ) (counts : ms ≡ countsAt s at) (ready : Ready s at (length old)) {table : List ℤ} {g from cell : ℕ} (t : Turning s at old table g from cell) (few : g < 61)
+  module _ (ms : List ℕ) (counts : ms ≡ countsAt ρ s at) (ready : Ready ρ s at (length old)) {table : List ℤ} {g from cell : ℕ} (t : Turning ρ s at old table g from cell) (few : g < 61)
       (f : Form) (has : formOf g ≡ Has f) {to end : ℕ} (to-told : to ≡ from + reach (drop from s) (linesOf f (countOf ms g))) (end-told : end ≡ cell + cellsOf f (countOf ms g)) where
-    to-is : to ≡ from + reach (drop from s) (linesOf f (countOf (countsAt s at) g))
+    to-is : to ≡ from + reach (drop from s) (linesOf f (countOf (countsAt ρ s at) g))
     to-is = rw counts at to-told
 
-    end-is : end ≡ cell + cellsOf f (countOf (countsAt s at) g)
+    end-is : end ≡ cell + cellsOf f (countOf (countsAt ρ s at) g)
     end-is = rw counts at end-told
 
-    placed : IsPlaced s at (ready .next)
-    placed = is-placed s at (ready .next) (ready .placed)
+    placed : IsPlaced ρ s at (ready .next)
+    placed = is-placed ρ s at (ready .next) (ready .placed)
 
-    more : Tally.Before (countsAt s at) (g + 1) (linesBefore (countsAt s at) g + linesOf f (countOf (countsAt s at) g)) (cellsBefore (countsAt s at) g + cellsOf f (countOf (countsAt s at) g))
-    more = before-more (countsAt s at) g (linesBefore (countsAt s at) g) (cellsBefore (countsAt s at) g) (t .low) few record { lines-are = refl; cells-are = refl } f has
+    more : Tally.Before (countsAt ρ s at) (g + 1) (linesBefore (countsAt ρ s at) g + linesOf f (countOf (countsAt ρ s at) g))
+        (cellsBefore (countsAt ρ s at) g + cellsOf f (countOf (countsAt ρ s at) g))
+    more = before-more (countsAt ρ s at) g (linesBefore (countsAt ρ s at) g) (cellsBefore (countsAt ρ s at) g) (t .low) few record { lines-are = refl; cells-are = refl } f has
 
-    ends : to ≡ start s at (countsAt s at) (g + 1)
+    ends : to ≡ start s at (countsAt ρ s at) (g + 1)
     ends =
-        let e : linesBefore (countsAt s at) g + linesOf f (countOf (countsAt s at) g) - linesBefore (countsAt s at) g ≡ linesOf f (countOf (countsAt s at) g) = omega arith in
-        to-is ∙ ap (λ k. from + reach (drop from s) k) (sym e) ∙ start-next s at (countsAt s at) g (t .begins) refl (more .lines-are)
+        let e : linesBefore (countsAt ρ s at) g + linesOf f (countOf (countsAt ρ s at) g) - linesBefore (countsAt ρ s at) g ≡ linesOf f (countOf (countsAt ρ s at) g) = omega arith in
+        to-is ∙ ap (λ k. from + reach (drop from s) k) (sym e) ∙ start-next s at (countsAt ρ s at) g (t .begins) refl (more .lines-are)
 
-    behind : end ≡ cellsBefore (countsAt s at) (g + 1)
-    behind = end-is ∙ ap (λ k. k + cellsOf f (countOf (countsAt s at) g)) (t .before) ∙ more .cells-are
+    behind : end ≡ cellsBefore (countsAt ρ s at) (g + 1)
+    behind = end-is ∙ ap (λ k. k + cellsOf f (countOf (countsAt ρ s at) g)) (t .before) ∙ more .cells-are
 
-    cells-have : cellsIn (countsAt s at) g ≡ cellsOf f (countOf (countsAt s at) g)
+    cells-have : cellsIn (countsAt ρ s at) g ≡ cellsOf f (countOf (countsAt ρ s at) g)
     unfolding Tally.cellsIn
     cells-have = rw has
 
     -- both parts are parts of what they are lent from
     turning-range : (from ≤ to) × (to ≤ length s) × (cell ≤ end) × (end ≤ length table)
     turning-range =
-        let n = countsAt s at in
+        let n = countsAt ρ s at in
         let up = start-mono s at n g (g + 1) (omega arith) in
-        let within = start-within s at (ready .next) n (placed .located-at) (g + 1) (omega arith) in (
+        let within = start-within ρ s at (ready .next) n (placed .located-at) (g + 1) (omega arith) in (
           omega (arith, t .begins, ends, up),
-          omega (arith, ends, within, located-range s at (ready .next) n (placed .located-at)),
+          omega (arith, ends, within, located-range ρ s at (ready .next) n (placed .located-at)),
           omega (arith, end-is),
           omega
               (arith, behind, cells-below n (g + 1), ready .enough, t .same),
@@ -158,28 +160,28 @@ module _ (s : List ℕ) (at : ℕ) (old : List ℤ) where
     turning-ready = let r = turning-range in (ap rulingOf counts ∙ placed .kept, r .0, r .1, r .2, r .3)
 
     -- and what is read is the group of the record
-    pub turning-read : readGroup ms g (part from to s) (end - cell) ≡ groupRead s at g
+    pub turning-read : readGroup ρ ms g (part from to s) (end - cell) ≡ groupRead ρ s at g
     unfolding Parts.groupPart
     turning-read =
-        let n = countsAt s at in
+        let n = countsAt ρ s at in
         let e : end - cell ≡ cellsIn n g = omega (arith, end-is, cells-have) in
         let p : part from to s ≡ groupPart s at n g = rw (t .begins, ends ∙ ap (start s at n) (add-one g)) refl in
-        rw (counts, e, p) (sym (read-located s at g (cellsIn n g) (ready .next) n (placed .located-at)))
+        rw (counts, e, p) (sym (read-located ρ s at g (cellsIn n g) (ready .next) n (placed .located-at)))
 
     rest : upFrom g (61 - g) ≡ g ∷ upFrom (g + 1) (61 - (g + 1))
     rest = up-more g 60 (omega arith)
 
-    module _ {answer : Answer} {new : List ℤ} (a : answer ≡ readingOf (readGroup ms g (part from to s) (end - cell)))
-        (b : new ≡ over cell (tableBy (readGroup ms g (part from to s) (end - cell)) (part cell end table)) table) where
+    module _ {answer : Answer} {new : List ℤ} (a : answer ≡ readingOf (readGroup ρ ms g (part from to s) (end - cell)))
+        (b : new ≡ over cell (tableBy (readGroup ρ ms g (part from to s) (end - cell)) (part cell end table)) table) where
       -- it is refused: the answer has its number, and the table stays as the groups before it left it
-      pub turning-refused : {r : Refusal} → answer ≡ R.Refused r → (GroupRefused g r ≡ groupsOf (allInTurn s at)) × (new ≡ over 0 (cellsAt s at) old)
+      pub turning-refused : {r : Refusal} → answer ≡ R.Refused r → (GroupRefused g r ≡ groupsOf (allInTurn ρ s at)) × (new ≡ over 0 (cellsAt ρ s at) old)
       turning-refused {r} e =
-          let q : groupRead s at g ≡ bad r = refused (groupRead s at g) (sym e ∙ a ∙ ap readingOf turning-read) in
-          let u = turn-bad (groupRead s at) g (upFrom (g + 1) (61 - (g + 1))) q in
+          let q : groupRead ρ s at g ≡ bad r = refused (groupRead ρ s at g) (sym e ∙ a ∙ ap readingOf turning-read) in
+          let u = turn-bad (groupRead ρ s at) g (upFrom (g + 1) (61 - (g + 1))) q in
           let range = turning-range in (
-            sym (u .0) ∙ ap (λ gs. groupsOf (inTurn (groupRead s at) gs)) (sym rest) ∙ t .answer,
+            sym (u .0) ∙ ap (λ gs. groupsOf (inTurn (groupRead ρ s at) gs)) (sym rest) ∙ t .answer,
             b ∙ ap (λ c. over cell (tableBy c (part cell end table)) table) (turning-read ∙ q) ∙ over-same table cell end (range .2) (range .3) ∙ over-none table cell
-                ∙ ap (λ cs. over cell cs table) (sym (u .1) ∙ ap (cellsInTurn (groupRead s at)) (sym rest)) ∙ t .cells,
+                ∙ ap (λ cs. over cell cs table) (sym (u .1) ∙ ap (cellsInTurn (groupRead ρ s at)) (sym rest)) ∙ t .cells,
           )
         where
           refused : (c : Cells) → R.Refused r ≡ readingOf c → c ≡ bad r
@@ -187,15 +189,15 @@ module _ (s : List ℕ) (at : ℕ) (old : List ℤ) where
           refused (bad q) e = let p : q ≡ r = cc in ap bad p
 
       -- it is read: its cells fill its part, and the next group's turn comes
-      pub turning-more : {k : ℕ} → answer ≡ R.Done k → Turning s at old new (g + 1) to end
+      pub turning-more : {k : ℕ} → answer ≡ R.Done k → Turning ρ s at old new (g + 1) to end
       turning-more {k} e =
-          let q = read (groupRead s at g) (sym e ∙ a ∙ ap readingOf turning-read) in
+          let q = read (groupRead ρ s at g) (sym e ∙ a ∙ ap readingOf turning-read) in
           let cs = q .cells in
-          let n = countsAt s at in
-          let u = turn-done (groupRead s at) g (upFrom (g + 1) (61 - (g + 1))) (q .is) in
+          let n = countsAt ρ s at in
+          let u = turn-done (groupRead ρ s at) g (upFrom (g + 1) (61 - (g + 1))) (q .is) in
           let range = turning-range in
           let long : length cs ≡ cellsIn n g =
-          reads-cells (group-reads n g (groupPart s at n g) (cellsIn n g) cs (sym (read-located s at g (cellsIn n g) (ready .next) n (placed .located-at)) ∙ q .is)) in
+          reads-cells ρ (group-reads ρ n g (groupPart s at n g) (cellsIn n g) cs (sym (read-located ρ s at g (cellsIn n g) (ready .next) n (placed .located-at)) ∙ q .is)) in
           let wide : length (part cell end table) ≡ length cs =
           ap (λ k. length (part cell k table)) end-is ∙ part-length table cell (cellsOf f (countOf n g)) (omega (arith, range .3, end-is)) ∙ sym cells-have ∙ sym long in
           let new-is : new ≡ over cell cs table =
@@ -207,12 +209,12 @@ module _ (s : List ℕ) (at : ℕ) (old : List ℤ) where
             begins = ends;
             before = behind;
             same = ap length new-is ∙ over-length table cs cell (omega (arith, at-end, range .3)) ∙ t .same;
-            answer = sym (u .0) ∙ ap (λ gs. groupsOf (inTurn (groupRead s at) gs)) (sym rest) ∙ t .answer;
+            answer = sym (u .0) ∙ ap (λ gs. groupsOf (inTurn (groupRead ρ s at) gs)) (sym rest) ∙ t .answer;
             cells =
-                ap (over end (cellsInTurn (groupRead s at) (upFrom (g + 1) (61 - (g + 1))))) new-is
-                ∙ ap (λ k. over k (cellsInTurn (groupRead s at) (upFrom (g + 1) (61 - (g + 1)))) (over cell cs table)) at-end
-                ∙ over-over table cs (cellsInTurn (groupRead s at) (upFrom (g + 1) (61 - (g + 1)))) cell (omega (arith, at-end, range .3))
-                ∙ ap (λ xs. over cell xs table) (sym (u .1) ∙ ap (cellsInTurn (groupRead s at)) (sym rest))
+                ap (over end (cellsInTurn (groupRead ρ s at) (upFrom (g + 1) (61 - (g + 1))))) new-is
+                ∙ ap (λ k. over k (cellsInTurn (groupRead ρ s at) (upFrom (g + 1) (61 - (g + 1)))) (over cell cs table)) at-end
+                ∙ over-over table cs (cellsInTurn (groupRead ρ s at) (upFrom (g + 1) (61 - (g + 1)))) cell (omega (arith, at-end, range .3))
+                ∙ ap (λ xs. over cell xs table) (sym (u .1) ∙ ap (cellsInTurn (groupRead ρ s at)) (sym rest))
                 ∙ t .cells;
           }
         where

@@ -7,6 +7,7 @@ use Prim.Native.Nat.{ℕ, zero, suc, _+_, _≤_, _<_}
 use native.Mathlib.Omega.{arith}
 use lib.IntN.{ℤ}
 use lib.ListN.{length}
+use Rattle.rules.specs.declared.Rules.{Rules}
 use Rattle.base.specs.Every
 use Rattle.base.specs.Every.{upFrom}
 use Rattle.base.specs.Pieces.{done, bad, cellsGot}
@@ -66,31 +67,31 @@ module _ (read : ℕ → Cells) where
 
 -- ---- the groups of a record
 
-module _ (s : List ℕ) (at next : ℕ) (placed : placingOf s at ≡ Placed next) (all : All ≡ groupsOf (allInTurn s at)) where
+module _ (ρ : Rules) (s : List ℕ) (at next : ℕ) (placed : placingOf ρ s at ≡ Placed next) (all : All ≡ groupsOf (allInTurn ρ s at)) where
   -- the cells that were read, all of them
-  whole-cells : AllRead (groupRead s at) 1 60 (cellsAt s at)
-  whole-cells = by (allInTurn s at) refl all
+  whole-cells : AllRead (groupRead ρ s at) 1 60 (cellsAt ρ s at)
+  whole-cells = by (allInTurn ρ s at) refl all
     where
-      by : (t : Turn) → allInTurn s at ≡ t → All ≡ groupsOf t → AllRead (groupRead s at) 1 60 (cellsAt s at)
+      by : (t : Turn) → allInTurn ρ s at ≡ t → All ≡ groupsOf t → AllRead (groupRead ρ s at) 1 60 (cellsAt ρ s at)
       by (done cs) e a =
-          let r = all-read (groupRead s at) 1 60 cs e in
+          let r = all-read (groupRead ρ s at) 1 60 cs e in
           record { each = r .each; is = r .kept ∙ r .is; kept = refl }
       by (bad u) e a = let z : _≡_ {A = ℕ} 0 1 = cc in absurd (omega arith)
 
   abbrev cells : ℕ → List ℤ
-  cells = cellsOfGroup (groupRead s at)
+  cells = cellsOfGroup (groupRead ρ s at)
 
-  pub whole-each : (g : ℕ) → 1 ≤ g → g ≤ 60 → groupRead s at g ≡ done (cells g)
+  pub whole-each : (g : ℕ) → 1 ≤ g → g ≤ 60 → groupRead ρ s at g ≡ done (cells g)
   whole-each g low high = whole-cells .each g low (omega arith)
 
-  pub whole-read : ReadWhole s at next cells
-  whole-read = record { placed = placed; room = cellsIn (countsAt s at); groups = whole-each }
+  pub whole-read : ReadWhole ρ s at next cells
+  whole-read = record { placed = placed; room = cellsIn (countsAt ρ s at); groups = whole-each }
 
-  pub whole-joined : cellsAt s at ≡ joined cells
+  pub whole-joined : cellsAt ρ s at ≡ joined cells
   whole-joined = whole-cells .is
 
-  pub whole-length : length (cellsAt s at) ≡ recordCells (countsAt s at)
-  whole-length = ap length whole-joined ∙ joined-cells whole-read
+  pub whole-length : length (cellsAt ρ s at) ≡ recordCells (countsAt ρ s at)
+  whole-length = ap length whole-joined ∙ joined-cells ρ whole-read
 
-  pub whole-written : (room : ℕ) → recordBytes (countsAt s at) ≤ room → writingOf (countsAt s at) (cellsAt s at) room ≡ Done (recordBytes (countsAt s at))
-  whole-written room enough = ap (λ cs. writingOf (countsAt s at) cs room) whole-joined ∙ read-writes whole-read room enough
+  pub whole-written : (room : ℕ) → recordBytes (countsAt ρ s at) ≤ room → writingOf (countsAt ρ s at) (cellsAt ρ s at) room ≡ Done (recordBytes (countsAt ρ s at))
+  whole-written room enough = ap (λ cs. writingOf (countsAt ρ s at) cs room) whole-joined ∙ read-writes ρ whole-read room enough

@@ -6,6 +6,7 @@ use mathlib.Core.List.{List, [], _∷_, _++_}
 use Prim.Native.Nat.{ℕ, _≤_}
 use lib.Dec.{leb}
 use lib.IntN.{ℤ}
+use Rattle.rules.specs.declared.Rules.{Rules}
 use Rattle.base.specs.Every.{upFrom}
 use Rattle.base.specs.Part.{over}
 use Rattle.base.specs.Pieces.{Got, done, bad, both}
@@ -28,8 +29,8 @@ use Rattle.rewriting.specs.declared.Rewriting.the-variants.{Done, Refuse
 -- ---- the groups in turn
 
 -- each group is read into a part of the table that has as many cells as it needs
-abbrev pub groupRead : List ℕ → ℕ → ℕ → Cells
-groupRead s at g = readAt s at g (cellsIn (countsAt s at) g)
+abbrev pub groupRead : Rules → List ℕ → ℕ → ℕ → Cells
+groupRead ρ s at g = readAt ρ s at g (cellsIn (countsAt ρ s at) g)
 
 -- R323: the cells of all groups, joined, or the first refusal with its group
 abbrev pub Turn : Type 0
@@ -52,11 +53,12 @@ unfoldable pub cellsInTurn : (ℕ → Cells) → List ℕ → List ℤ
 cellsInTurn read [] = []
 cellsInTurn read (g ∷ gs) = firstThen (read g) (cellsInTurn read gs)
 
-abbrev pub allInTurn : List ℕ → ℕ → Turn
-allInTurn s at = inTurn (groupRead s at) (upFrom 1 60)
+module _ (ρ : Rules) where
+  abbrev pub allInTurn : List ℕ → ℕ → Turn
+  allInTurn s at = inTurn (groupRead ρ s at) (upFrom 1 60)
 
-abbrev pub cellsAt : List ℕ → ℕ → List ℤ
-cellsAt s at = cellsInTurn (groupRead s at) (upFrom 1 60)
+  abbrev pub cellsAt : List ℕ → ℕ → List ℤ
+  cellsAt s at = cellsInTurn (groupRead ρ s at) (upFrom 1 60)
 
 -- whether all were read, or the first refusal
 abbrev pub groupsOf : Turn → Groups
@@ -64,10 +66,10 @@ groupsOf (done cs) = G.All
 groupsOf (bad u) = G.GroupRefused (u .0) (u .1)
 
 -- what is asked before: the record is placed with 0, and its cells have room in a table of so many
-pub record Ready (s : List ℕ) (at cells : ℕ) : Type 0 where
+pub record Ready (ρ : Rules) (s : List ℕ) (at cells : ℕ) : Type 0 where
   pub next : ℕ
-  pub placed : placingOf s at ≡ P.Placed next
-  pub enough : recordCells (countsAt s at) ≤ cells
+  pub placed : placingOf ρ s at ≡ P.Placed next
+  pub enough : recordCells (countsAt ρ s at) ≤ cells
 
 -- ---- the answer
 
@@ -80,34 +82,35 @@ rewrittenAs ns next (done cs) = Done (recordBytes ns) next
 rewrittenAs ns next (bad u) = GroupRefused (u .0) (u .1)
 
 -- R322: a record that is placed with 0
-abbrev pub rewritingPlaced : List ℕ → ℕ → ℕ → ℕ → ℕ → Rewriting
-rewritingPlaced s at cells room next =
-    cond (hasRoom (countsAt s at) cells room) (rewrittenAs (countsAt s at) next (allInTurn s at)) (Refused NoRoom)
+abbrev pub rewritingPlaced : Rules → List ℕ → ℕ → ℕ → ℕ → ℕ → Rewriting
+rewritingPlaced ρ s at cells room next =
+    cond (hasRoom (countsAt ρ s at) cells room) (rewrittenAs (countsAt ρ s at) next (allInTurn ρ s at)) (Refused NoRoom)
 
 -- R321: what placing refuses with, 7 without its next place (R235)
 abbrev pub unlessRefused : Checked → Rewriting → Rewriting
 unlessRefused C.Right r = r
 unlessRefused (C.Refused why) r = Refused why
 
--- over a table of so many cells and an output of so many bytes
-unfoldable pub rewritingOf : List ℕ → ℕ → ℕ → ℕ → Rewriting
-rewritingOf s at cells room =
-    unlessRefused (asChecked (placingOf s at)) (rewritingPlaced s at cells room (placingReply (placingOf s at) .next))
+module _ (ρ : Rules) where
+  -- over a table of so many cells and an output of so many bytes
+  unfoldable pub rewritingOf : List ℕ → ℕ → ℕ → ℕ → Rewriting
+  rewritingOf s at cells room =
+      unlessRefused (asChecked (placingOf ρ s at)) (rewritingPlaced ρ s at cells room (placingReply (placingOf ρ s at) .next))
 
--- ---- what is lent, afterwards
+  -- ---- what is lent, afterwards
 
--- the canonical text of the record at a place
-abbrev pub textAt : List ℕ → ℕ → List ℕ
-textAt s at = recordText (countsAt s at) (cellsAt s at)
+  -- the canonical text of the record at a place
+  abbrev pub textAt : List ℕ → ℕ → List ℕ
+  textAt s at = recordText (countsAt ρ s at) (cellsAt ρ s at)
 
--- R325: a refusal leaves the whole output; R324: under 0 the text stands there from the first byte on
-abbrev pub bufferBy : List ℕ → ℕ → Rewriting → List ℕ → List ℕ
-bufferBy s at (Done n next) old = over 0 (textAt s at) old
-bufferBy s at (Refused r) old = old
-bufferBy s at (GroupRefused g r) old = old
+  -- R325: a refusal leaves the whole output; R324: under 0 the text stands there from the first byte on
+  abbrev pub bufferBy : List ℕ → ℕ → Rewriting → List ℕ → List ℕ
+  bufferBy s at (Done n next) old = over 0 (textAt s at) old
+  bufferBy s at (Refused r) old = old
+  bufferBy s at (GroupRefused g r) old = old
 
--- R326: groups are read into consecutive parts of the table, up to the first that is refused
-abbrev pub tableAfter : List ℕ → ℕ → Rewriting → List ℤ → List ℤ
-tableAfter s at (Done n next) old = over 0 (cellsAt s at) old
-tableAfter s at (Refused r) old = old
-tableAfter s at (GroupRefused g r) old = over 0 (cellsAt s at) old
+  -- R326: groups are read into consecutive parts of the table, up to the first that is refused
+  abbrev pub tableAfter : List ℕ → ℕ → Rewriting → List ℤ → List ℤ
+  tableAfter s at (Done n next) old = over 0 (cellsAt ρ s at) old
+  tableAfter s at (Refused r) old = old
+  tableAfter s at (GroupRefused g r) old = over 0 (cellsAt ρ s at) old

@@ -37,6 +37,7 @@ enum Groups {
 
 // A group whose lines are a part of the text, read into a part of the table.
 fn read_part(
+    rules: rules::Rules,
     counts: &[u16],
     group: usize,
     text: &[u8],
@@ -52,21 +53,27 @@ fn read_part(
     requires cells { ⌜ cell ≤ end ⌝ }
     requires room { ⌜ end ≤ length (now table) ⌝ }
     ensures answer { λ r. ⌜ r ≡
-        readingOf (readGroup (now (counts .entry)) group (part from to (now (text .entry))) (end - cell)) ⌝ }
+        readingOf (readGroup rules (now (counts .entry)) group (part from to (now (text .entry))) (end - cell)) ⌝ }
     ensures table { λ _. ⌜ now (table .exit) ≡
         over cell
-        (tableBy (readGroup (now (counts .entry)) group (part from to (now (text .entry))) (end - cell))
+        (tableBy (readGroup rules (now (counts .entry)) group (part from to (now (text .entry))) (end - cell))
         (part cell end (now (table .entry)))) (now (table .entry)) ⌝ }
 {
-    reading::read_kept(counts, group, &text[from..to], &mut table[cell..end])
+    reading::read_kept(rules, counts, group, &text[from..to], &mut table[cell..end])
 }
 
 // R326: groups 1 to 60 in turn, into consecutive parts of the table, up to the first that is refused.
-fn read_groups(text: &[u8], at: usize, counts: &[u16], table: &mut [i64]) -> Groups
-    requires counts { ⌜ now counts ≡ countsAt (now text) at ⌝ }
-    requires ready { ⌜ Ready (now text) at (length (now table)) ⌝ }
-    ensures answer { λ r. ⌜ r ≡ groupsOf (allInTurn (now (text .entry)) at) ⌝ }
-    ensures table { λ _. ⌜ now (table .exit) ≡ over 0 (cellsAt (now (text .entry)) at) (now (table .entry)) ⌝ }
+fn read_groups(
+    rules: rules::Rules,
+    text: &[u8],
+    at: usize,
+    counts: &[u16],
+    table: &mut [i64],
+) -> Groups
+    requires counts { ⌜ now counts ≡ countsAt rules (now text) at ⌝ }
+    requires ready { ⌜ Ready rules (now text) at (length (now table)) ⌝ }
+    ensures answer { λ r. ⌜ r ≡ groupsOf (allInTurn rules (now (text .entry)) at) ⌝ }
+    ensures table { λ _. ⌜ now (table .exit) ≡ over 0 (cellsAt rules (now (text .entry)) at) (now (table .entry)) ⌝ }
 {
     let mut from = line::behind_or_end(text, at, 2);
     let mut cell: usize = 0;
@@ -76,7 +83,7 @@ fn read_groups(text: &[u8], at: usize, counts: &[u16], table: &mut [i64]) -> Gro
         let n = count::count_of(counts, g);
         let to = line::behind_or_end(text, from, form::lines(f, n));
         let end = cell + form::cells(f, n);
-        let answer = read_part(counts, g, text, from, to, table, cell, end);
+        let answer = read_part(rules, counts, g, text, from, to, table, cell, end);
         match answer {
             Answer::Refused(r) => {
                 return Groups::GroupRefused(g, r);
@@ -105,6 +112,7 @@ fn write_cells(counts: &[u16], table: &[i64], cells: usize, out: &mut [u8])
 
 // R321 to R324, for a record that is placed with 0.
 fn rewrite_placed(
+    rules: rules::Rules,
     text: &[u8],
     at: usize,
     next: usize,
@@ -112,12 +120,12 @@ fn rewrite_placed(
     table: &mut [i64],
     out: &mut [u8],
 ) -> Rewriting
-    requires placed { ⌜ placingOf (now text) at ≡ Placing.Placed next ⌝ }
-    requires counts { ⌜ now counts ≡ countsAt (now text) at ⌝ }
+    requires placed { ⌜ placingOf rules (now text) at ≡ Placing.Placed next ⌝ }
+    requires counts { ⌜ now counts ≡ countsAt rules (now text) at ⌝ }
     ensures answer { λ r. ⌜ r ≡
-        rewritingOf (now (text .entry)) at (length (now (table .entry))) (length (now (out .entry))) ⌝ }
-    ensures table { λ r. ⌜ now (table .exit) ≡ tableAfter (now (text .entry)) at r (now (table .entry)) ⌝ }
-    ensures output { λ r. ⌜ now (out .exit) ≡ bufferBy (now (text .entry)) at r (now (out .entry)) ⌝ }
+        rewritingOf rules (now (text .entry)) at (length (now (table .entry))) (length (now (out .entry))) ⌝ }
+    ensures table { λ r. ⌜ now (table .exit) ≡ tableAfter rules (now (text .entry)) at r (now (table .entry)) ⌝ }
+    ensures output { λ r. ⌜ now (out .exit) ≡ bufferBy rules (now (text .entry)) at r (now (out .entry)) ⌝ }
 {
     let bytes = writing::canonical_length(counts);
     if out.len() < bytes {
@@ -127,7 +135,7 @@ fn rewrite_placed(
     if table.len() < all.cells {
         return Rewriting::Refused(Refusal::NoRoom);
     }
-    match read_groups(text, at, counts, table) {
+    match read_groups(rules, text, at, counts, table) {
         Groups::GroupRefused(g, r) => Rewriting::GroupRefused(g, r),
         Groups::All => {
             write_cells(counts, table, all.cells, out);
@@ -139,20 +147,26 @@ fn rewrite_placed(
 // Rewrites the record at a place of a text into an output, over a table. R321: what placing refuses with; 11 if output
 // or table is too short (R322); what the first group that is refused is refused with, and which group that is (R323);
 // else 0 with the bytes that were written and the next place. A refusal leaves the whole output as it was (R325).
-pub fn rewrite_record(text: &[u8], at: usize, table: &mut [i64], out: &mut [u8]) -> Rewriting
+pub fn rewrite_record(
+    rules: rules::Rules,
+    text: &[u8],
+    at: usize,
+    table: &mut [i64],
+    out: &mut [u8],
+) -> Rewriting
     ensures answer { λ r. ⌜ r ≡
-        rewritingOf (now (text .entry)) at (length (now (table .entry))) (length (now (out .entry))) ⌝ }
-    ensures table { λ r. ⌜ now (table .exit) ≡ tableAfter (now (text .entry)) at r (now (table .entry)) ⌝ }
-    ensures output { λ r. ⌜ now (out .exit) ≡ bufferBy (now (text .entry)) at r (now (out .entry)) ⌝ }
+        rewritingOf rules (now (text .entry)) at (length (now (table .entry))) (length (now (out .entry))) ⌝ }
+    ensures table { λ r. ⌜ now (table .exit) ≡ tableAfter rules (now (text .entry)) at r (now (table .entry)) ⌝ }
+    ensures output { λ r. ⌜ now (out .exit) ≡ bufferBy rules (now (text .entry)) at r (now (out .entry)) ⌝ }
 {
-    let placed = place::place(text, at);
+    let placed = place::place(rules, text, at);
     let answer = placed.answer;
     match answer {
         Placing::BrokenRule(g, _) => Rewriting::Refused(Refusal::BrokenRule(g)),
         Placing::Refused(why) => Rewriting::Refused(why),
         Placing::Placed(next) => {
             let counts = placed.counts;
-            rewrite_placed(text, at, next, &counts, table, out)
+            rewrite_placed(rules, text, at, next, &counts, table, out)
         }
     }
 }

@@ -18,6 +18,7 @@ use Rattle.writing.specs.Writing.{outputBy}
 use Rattle.rewriting.specs.Due as RewritingIs
 use Rattle.rewriting.specs.Record.{tableAfter, bufferBy}
 use Rattle.listing.specs.Listing.{listing, IsListing, ListingDue}
+use Rattle.rules.specs.Choice.{usual}
 use Rattle.sao.specs.Outcome.{Gives}
 use Rattle.sao.proofs.Demand2.{as-due}
 use Rattle.reply.specs.declared.Answer.{Answer}
@@ -39,47 +40,51 @@ use Rattle.sao.proofs.write_record
 use Rattle.sao.proofs.list
 use Rattle.sao.proofs.rewrite_record
 
-pub place-due : Gives place.ended place.Reads.Learnt (λ κs a r v. PlacingIs.Due (now (a .0)) (a .1 .0) (r .answer) × PlacingIs.CountsDue (now (a .0)) (a .1 .0) (r .counts))
-place-due κs (text, (at, _)) r v l = (as-due .placing (now text) at (r .answer) .0 (sym (l .0)), as-due .counts (now text) at (r .counts) .0 (sym (l .1)))
+pub place-due : Gives place.ended place.Reads.Learnt (λ κs a r v. PlacingIs.Due (a .0) (now (a .1 .0)) (a .1 .1 .0) (r .answer) × PlacingIs.CountsDue (a .0) (now (a .1 .0)) (a .1 .1 .0) (r .counts))
+place-due κs (ρ, (text, (at, _))) r v l = (as-due ρ .placing (now text) at (r .answer) .0 (sym (l .0)), as-due ρ .counts (now text) at (r .counts) .0 (sym (l .1)))
 
 -- the cells that are due, told and in the table
 pub read-group-due : Gives read_group.ended read_group.Reads.Learnt
-    (λ κs a r v. (c : Cells) × GroupIs.Due (now (a .0)) (a .1 .0) (a .1 .1 .0) (length (now (a .1 .1 .1 .0))) c × (r ≡ readingOf c) × (v .1 .1 .1 .0 ≡ tableBy c (now (a .1 .1 .1 .0))))
-read-group-due κs (text, (at, (g, (table, _)))) r v l =
-    let c = readAt (now text) at g (length (now table)) in
-    (c, as-due .reading (now text) at g (length (now table)) c .0 refl, l .0, l .1)
+    (λ κs a r v. (c : Cells) × GroupIs.Due (a .0) (now (a .1 .0)) (a .1 .1 .0) (a .1 .1 .1 .0) (length (now (a .1 .1 .1 .1 .0))) c × (r ≡ readingOf c) ×
+    (v .1 .1 .1 .1 .0 ≡ tableBy c (now (a .1 .1 .1 .1 .0))))
+read-group-due κs (ρ, (text, (at, (g, (table, _))))) r v l =
+    let c = readAt ρ (now text) at g (length (now table)) in
+    (c, as-due ρ .reading (now text) at g (length (now table)) c .0 refl, l .0, l .1)
 
 -- where the lines stand
 pub group-lines-at-due : Gives group_lines_at.ended group_lines_at.Reads.Learnt
-    (λ κs a r v. GroupIs.FoundDue (now (a .0)) (a .1 .0) (a .1 .1 .0) (r .found) × ((x : List ℕ) × GroupIs.PartDue (now (a .0)) (a .1 .0) (a .1 .1 .0) (r .from) x × (r .to ≡ r .from + length x)))
-group-lines-at-due κs (text, (at, (g, _))) r v l =
+    (λ κs a r v. GroupIs.FoundDue (a .0) (now (a .1 .0)) (a .1 .1 .0) (a .1 .1 .1 .0) (r .found) ×
+    ((x : List ℕ) × GroupIs.PartDue (a .0) (now (a .1 .0)) (a .1 .1 .0) (a .1 .1 .1 .0) (r .from) x × (r .to ≡ r .from + length x)))
+group-lines-at-due κs (ρ, (text, (at, (g, _)))) r v l =
     let s = now text in (
-      as-due .lines s at g (r .found) .0 (sym (l .0)),
-      (partAt s at g, as-due .part s at g (r .from) (partAt s at g) .0 (sym (l .1 .0), refl), l .1 .1 ∙ as-due .part-end s at g ∙ ap (λ n. n + length (partAt s at g)) (sym (l .1 .0))),
+      as-due ρ .lines s at g (r .found) .0 (sym (l .0)),
+      (partAt ρ s at g, as-due ρ .part s at g (r .from) (partAt ρ s at g) .0 (sym (l .1 .0), refl), l .1 .1 ∙ as-due ρ .part-end s at g ∙ ap (λ n. n + length (partAt ρ s at g)) (sym (l .1 .0))),
     )
 
 -- the caller's own text there: `from` places behind its address
-pub group-lines-due : Gives group_lines.ended group_lines.Reads.Learnt (λ κs a r v. (from : ℕ) × GroupIs.PartDue (now (a .0)) (a .1 .0) (a .1 .1 .0) from (now r) × (r .ptr ≡ moved (a .0 .ptr) from))
-group-lines-due κs (text, (at, (g, _))) r v l =
+pub group-lines-due : Gives group_lines.ended group_lines.Reads.Learnt
+    (λ κs a r v. (from : ℕ) × GroupIs.PartDue (a .0) (now (a .1 .0)) (a .1 .1 .0) (a .1 .1 .1 .0) from (now r) × (r .ptr ≡ moved (a .1 .0 .ptr) from))
+group-lines-due κs (ρ, (text, (at, (g, _)))) r v l =
     let s = now text in
-    (partStart s at g, as-due .part s at g (partStart s at g) (now r) .0 (refl, sym (l .0)), l .1)
+    (partStart ρ s at g, as-due ρ .part s at g (partStart ρ s at g) (now r) .0 (refl, sym (l .0)), l .1)
 
-pub characteristic-due : Gives characteristic.ended characteristic.Reads.Learnt (λ κs a r v. GroupIs.CharacteristicDue (now (a .0)) (a .1 .0) (a .1 .1 .0) r)
-characteristic-due κs (text, (at, (k, _))) r v l = as-due .characteristic (now text) at k r .0 (sym l)
+pub characteristic-due : Gives characteristic.ended characteristic.Reads.Learnt (λ κs a r v. GroupIs.CharacteristicDue (a .0) (now (a .1 .0)) (a .1 .1 .0) (a .1 .1 .1 .0) r)
+characteristic-due κs (ρ, (text, (at, (k, _)))) r v l = as-due ρ .characteristic (now text) at k r .0 (sym l)
 
 pub write-record-due : Gives write_record.ended write_record.Reads.Learnt
     (λ κs a r v. WritingIs.Due (now (a .0)) (now (a .1 .0)) (length (now (a .1 .1 .0))) r × (v .1 .1 .0 ≡ outputBy (now (a .0)) (now (a .1 .0)) r (now (a .1 .1 .0))))
-write-record-due κs (counts, (cells, (out, _))) r v l = (as-due .writing (now counts) (now cells) (length (now out)) r .0 (sym (l .0)), l .1)
+write-record-due κs (counts, (cells, (out, _))) r v l = (as-due usual .writing (now counts) (now cells) (length (now out)) r .0 (sym (l .0)), l .1)
 
-pub list-due : Gives list.ended list.Reads.Learnt (λ κs a r v. (x : List ℕ) × IsListing (now (a .0)) x × ListingDue x (length (now (a .1 .0))) r × (v .1 .0 ≡ putBytes 0 x (now (a .1 .0))))
-list-due κs (text, (out, _)) r v l =
-    let x = listing (now text) in
-    (x, as-due .listing-is (now text) x .0 refl, as-due .listed (now text) (length (now out)) r .0 (sym (l .0)), l .1)
+pub list-due : Gives list.ended list.Reads.Learnt
+    (λ κs a r v. (x : List ℕ) × IsListing (a .0) (now (a .1 .0)) x × ListingDue x (length (now (a .1 .1 .0))) r × (v .1 .1 .0 ≡ putBytes 0 x (now (a .1 .1 .0))))
+list-due κs (ρ, (text, (out, _))) r v l =
+    let x = listing ρ (now text) in
+    (x, as-due ρ .listing-is (now text) x .0 refl, as-due ρ .listed (now text) (length (now out)) r .0 (sym (l .0)), l .1)
 
 pub rewrite-record-due : Gives rewrite_record.ended rewrite_record.Reads.Learnt
-    (λ κs a r v. RewritingIs.Due (now (a .0)) (a .1 .0) (length (now (a .1 .1 .0))) (length (now (a .1 .1 .1 .0))) r ×
-    (v .1 .1 .0 ≡ tableAfter (now (a .0)) (a .1 .0) r (now (a .1 .1 .0))) × (v .1 .1 .1 .0 ≡ bufferBy (now (a .0)) (a .1 .0) r (now (a .1 .1 .1 .0))))
-rewrite-record-due κs (text, (at, (table, (out, _)))) r v l = (as-due .rewriting (now text) at (length (now table)) (length (now out)) r .0 (sym (l .0)), l .1 .0, l .1 .1)
+    (λ κs a r v. RewritingIs.Due (a .0) (now (a .1 .0)) (a .1 .1 .0) (length (now (a .1 .1 .1 .0))) (length (now (a .1 .1 .1 .1 .0))) r ×
+    (v .1 .1 .1 .0 ≡ tableAfter (a .0) (now (a .1 .0)) (a .1 .1 .0) r (now (a .1 .1 .1 .0))) × (v .1 .1 .1 .1 .0 ≡ bufferBy (a .0) (now (a .1 .0)) (a .1 .1 .0) r (now (a .1 .1 .1 .1 .0))))
+rewrite-record-due κs (ρ, (text, (at, (table, (out, _))))) r v l = (as-due ρ .rewriting (now text) at (length (now table)) (length (now out)) r .0 (sym (l .0)), l .1 .0, l .1 .1)
 
 -- ---- the edit journal: the reply that is due, and what is due to be left: bytes used, cells and journal
 
@@ -87,7 +92,7 @@ abbrev CallDue : List ℕ → Call → Kept → Answer → Kept → Type 0
 CallDue ns c k a k′ = JournalIs.Due ns (k .journal) (k .used) (length (k .cells)) c a × JournalIs.LeftDue ns c k a k′
 
 call-due : (ns : List ℕ) (c : Call) (k : Kept) (a : Answer) (k′ : Kept) → a ≡ answerTo ns c k → k′ ≡ leftBy ns c k a → CallDue ns c k a k′
-call-due ns c k a k′ e q = (as-due .call ns (k .journal) (k .used) (length (k .cells)) c a .0 (sym e), as-due .call-left ns c k a k′ (sym e) .0 (sym q))
+call-due ns c k a k′ e q = (as-due usual .call ns (k .journal) (k .used) (length (k .cells)) c a .0 (sym e), as-due usual .call-left ns c k a k′ (sym e) .0 (sym q))
 
 -- cells that are not lent to be altered
 same-cells : (t : List ℤ) (a : Answer) → t ≡ byAnswer a t t
@@ -127,6 +132,6 @@ pub replay-due : Gives replay.ended replay.Reads.Learnt
     (λ κs a r v. JournalIs.ReplayDue (now (a .0)) (now (a .1 .1 .0)) (a .1 .1 .1 .0) (now (a .1 .0)) (r .answer) ×
     JournalIs.ReplayLeftDue (now (a .0)) (now (a .1 .1 .0)) (a .1 .1 .1 .0) (now (a .1 .0)) (r .answer) (v .1 .0) (r .«open»))
 replay-due κs (counts, (cells, (journal, (used, _)))) r v l = (
-  as-due .replay (now counts) (now journal) used (now cells) (r .answer) .0 (sym (l .0)),
-  as-due .replay-left (now counts) (now journal) used (now cells) (r .answer) (v .1 .0) (r .«open») (sym (l .0)) .0 (sym (l .1 .1), sym (l .1 .0)),
+  as-due usual .replay (now counts) (now journal) used (now cells) (r .answer) .0 (sym (l .0)),
+  as-due usual .replay-left (now counts) (now journal) used (now cells) (r .answer) (v .1 .0) (r .«open») (sym (l .0)) .0 (sym (l .1 .1), sym (l .1 .0)),
 )

@@ -5,6 +5,7 @@ use mathlib.Core.List.{List}
 use Prim.Native.Nat.{ℕ}
 use lib.IntN.{ℤ}
 use lib.ListN.{length, drop}
+use Rattle.rules.specs.declared.Rules.{Rules}
 use Rattle.base.specs.Pieces.{done, bad}
 use Rattle.decimal.specs.Writing.{putBytes}
 use Rattle.reply.specs.declared.Checked.{Checked}
@@ -34,35 +35,35 @@ use Rattle.journal.proofs.Numbered.{call-numbered, replay-numbered}
 use Rattle.sao.proofs.Numbers.{answers-told}
 use Rattle.sao.specs.Demand1.{NotDone, EndsNumbered, RefusedWriteKeeps, RefusedEditKeeps, KeepsRest, Demand1}
 
-ends-numbered : EndsNumbered
-ends-numbered =
+ends-numbered : (ρ : Rules) → EndsNumbered ρ
+ends-numbered ρ =
     record {
       told = answers-told;
-      placing = placing-numbered;
-      reading = reading-numbered;
-      lines = found-numbered;
-      characteristic = characteristic-numbered;
+      placing = placing-numbered ρ;
+      reading = reading-numbered ρ;
+      lines = found-numbered ρ;
+      characteristic = characteristic-numbered ρ;
       writing = writing-numbered;
-      listed = listed-numbered;
-      rewriting = rewriting-numbered;
+      listed = listed-numbered ρ;
+      rewriting = rewriting-numbered ρ;
       call = call-numbered;
       replay = replay-numbered;
-      unread = unread-group;
+      unread = unread-group ρ;
     }
 
-listing-keeps : (s out : List ℕ) → NotDone (answerReply (listedIn (listing s) (length out))) → putBytes 0 (listing s) out ≡ out
-listing-keeps s out refused = by (listedIn (listing s) (length out)) refl refused
+listing-keeps : (ρ : Rules) (s out : List ℕ) → NotDone (answerReply (listedIn (listing ρ s) (length out))) → putBytes 0 (listing ρ s) out ≡ out
+listing-keeps ρ s out refused = by (listedIn (listing ρ s) (length out)) refl refused
   where
-    by : (r : Answer) → listedIn (listing s) (length out) ≡ r → NotDone (answerReply r) → putBytes 0 (listing s) out ≡ out
+    by : (r : Answer) → listedIn (listing ρ s) (length out) ≡ r → NotDone (answerReply r) → putBytes 0 (listing ρ s) out ≡ out
     by (A.Done n) e h = absurd (h refl)
-    by (A.Refused r) e h = listed-keeps (listing s) out r e
+    by (A.Refused r) e h = listed-keeps (listing ρ s) out r e
 
-write-keeps : RefusedWriteKeeps
-write-keeps =
+write-keeps : (ρ : Rules) → RefusedWriteKeeps ρ
+write-keeps ρ =
     record {
       writing = λ ns cs out. refused-write-keeps ns cs (writingOf ns cs (length out)) out;
-      listed = listing-keeps;
-      rewriting = λ s at cells out. refused-rewriting-keeps s at (rewritingOf s at cells (length out)) out;
+      listed = listing-keeps ρ;
+      rewriting = λ s at cells out. refused-rewriting-keeps ρ s at (rewritingOf ρ s at cells (length out)) out;
     }
 
 edit-keeps : RefusedEditKeeps
@@ -98,31 +99,31 @@ write-rest : (ns : List ℕ) (cs : List ℤ) (out : List ℕ) (w : Answer) → w
 write-rest ns cs out (A.Done n) e = done-write-keeps-rest ns cs out n e
 write-rest ns cs out (A.Refused r) e = refl
 
-list-rest : (s out : List ℕ) (r : Answer) → listedIn (listing s) (length out) ≡ r → drop (answerReply r .written) (putBytes 0 (listing s) out) ≡ drop (answerReply r .written) out
-list-rest s out (A.Done n) e = listed-rest (listing s) out n e
-list-rest s out (A.Refused r) e = ap (drop (refusalReply r .written)) (listed-keeps (listing s) out r e)
+list-rest : (ρ : Rules) (s out : List ℕ) (r : Answer) → listedIn (listing ρ s) (length out) ≡ r → drop (answerReply r .written) (putBytes 0 (listing ρ s) out) ≡ drop (answerReply r .written) out
+list-rest ρ s out (A.Done n) e = listed-rest (listing ρ s) out n e
+list-rest ρ s out (A.Refused r) e = ap (drop (refusalReply r .written)) (listed-keeps (listing ρ s) out r e)
 
-rewrite-rest : (s : List ℕ) (at cells : ℕ) (out : List ℕ) (r : Rewriting) → rewritingOf s at cells (length out) ≡ r
-    → drop (rewritingReply r .written) (bufferBy s at r out) ≡ drop (rewritingReply r .written) out
-rewrite-rest s at cells out (R.Done bytes next) e = done-keeps-rest s at cells (length out) bytes next e out
-rewrite-rest s at cells out (R.Refused r) e = refl
-rewrite-rest s at cells out (R.GroupRefused g r) e = refl
+rewrite-rest : (ρ : Rules) (s : List ℕ) (at cells : ℕ) (out : List ℕ) (r : Rewriting) → rewritingOf ρ s at cells (length out) ≡ r
+    → drop (rewritingReply r .written) (bufferBy ρ s at r out) ≡ drop (rewritingReply r .written) out
+rewrite-rest ρ s at cells out (R.Done bytes next) e = done-keeps-rest ρ s at cells (length out) bytes next e out
+rewrite-rest ρ s at cells out (R.Refused r) e = refl
+rewrite-rest ρ s at cells out (R.GroupRefused g r) e = refl
 
-keeps-rest : KeepsRest
-keeps-rest =
+keeps-rest : (ρ : Rules) → KeepsRest ρ
+keeps-rest ρ =
     record {
-      reading = λ s at g table. read-rest (readAt s at g (length table)) table;
+      reading = λ s at g table. read-rest (readAt ρ s at g (length table)) table;
       writing = λ ns cs out. write-rest ns cs out (writingOf ns cs (length out)) refl;
-      listed = λ s out. list-rest s out (listedIn (listing s) (length out)) refl;
-      rewriting = λ s at cells out. rewrite-rest s at cells out (rewritingOf s at cells (length out)) refl;
+      listed = λ s out. list-rest ρ s out (listedIn (listing ρ s) (length out)) refl;
+      rewriting = λ s at cells out. rewrite-rest ρ s at cells out (rewritingOf ρ s at cells (length out)) refl;
     }
 
-pub demand-1 : Demand1
-demand-1 =
+pub demand-1 : (ρ : Rules) → Demand1 ρ
+demand-1 ρ =
     record {
-      numbered = ends-numbered;
-      refused-read = λ s at g table. refused-read-keeps (readAt s at g (length table)) table;
-      refused-write = write-keeps;
+      numbered = ends-numbered ρ;
+      refused-read = λ s at g table. refused-read-keeps (readAt ρ s at g (length table)) table;
+      refused-write = write-keeps ρ;
       refused-edit = edit-keeps;
-      rest = keeps-rest;
+      rest = keeps-rest ρ;
     }

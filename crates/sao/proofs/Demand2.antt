@@ -5,6 +5,7 @@ use mathlib.Core.List.{List}
 use Prim.Native.Nat.{ℕ}
 use lib.IntN.{ℤ}
 use lib.ListN.{length}
+use Rattle.rules.specs.declared.Rules.{Rules}
 use Rattle.place.specs.Placing.{countsAt}
 use Rattle.place.proofs.Due as PlacingDue
 use Rattle.place.proofs.Stopped.{walks}
@@ -34,58 +35,58 @@ use Rattle.rewriting.proofs.Whole.{whole-read, whole-joined}
 use Rattle.rewriting.proofs.Canonical.{canonical-printed, printed-canonical, printed-again}
 use Rattle.sao.specs.Demand2.{GivenAsDue, Rewrites, LentHolds, OneCanonical, Edits, Demand2}
 
-pub as-due : GivenAsDue
-as-due =
+pub as-due : (ρ : Rules) → GivenAsDue ρ
+as-due ρ =
     record {
-      placing = λ s at. PlacingDue.first-due s at;
-      counts = λ s at. PlacingDue.counts-first-due s at;
-      walk = walks;
-      reading = λ s at g room. GroupDue.first-due s at g room;
-      lines = λ s at g. GroupDue.found-first-due s at g;
-      part = λ s at g. GroupDue.part-first-due s at g;
-      part-end = span-end;
-      characteristic = λ s at k. GroupDue.characteristic-first-due s at k;
+      placing = λ s at. PlacingDue.first-due ρ s at;
+      counts = λ s at. PlacingDue.counts-first-due ρ s at;
+      walk = walks ρ;
+      reading = λ s at g room. GroupDue.first-due ρ s at g room;
+      lines = λ s at g. GroupDue.found-first-due ρ s at g;
+      part = λ s at g. GroupDue.part-first-due ρ s at g;
+      part-end = span-end ρ;
+      characteristic = λ s at k. GroupDue.characteristic-first-due ρ s at k;
       writing = λ ns cs room. WritingDue.first-due ns cs room;
-      rewriting = λ s at cells room. RewritingDue.first-due s at cells room;
-      listed = λ s room. Listed.first-due (listing s) room;
+      rewriting = λ s at cells room. RewritingDue.first-due ρ s at cells room;
+      listed = λ s room. Listed.first-due (listing ρ s) room;
       call = λ ns j used cells c. JournalDue.first-due ns j used cells c;
       call-left = λ ns c k a k′ e. JournalDue.left-due ns c k a k′ e;
       replay = λ ns j used cs. JournalDue.replay-first-due ns j used cs;
       replay-left = λ ns j used cs a cs′ d e. JournalDue.replay-left-due ns j used cs a cs′ d e;
-      listing-is = λ s x. (λ e. subst (IsListing s) e (Listed.listing-is s), λ h. sym (Listed.is-listing s x h));
+      listing-is = λ s x. (λ e. subst (IsListing ρ s) e (Listed.listing-is ρ s), λ h. sym (Listed.is-listing ρ s x h));
     }
 
-rewrites : (s : List ℕ) (at cells : ℕ) (out : List ℕ) (bytes next : ℕ) → rewritingOf s at cells (length out) ≡ Rewritten bytes next
-    → Rewrites s at bytes next (bufferBy s at (Rewritten bytes next) out)
-rewrites s at cells out bytes next e =
-    let placed = RewritingDue.first-due s at cells (length out) (Rewritten bytes next) .0 e .roomy .placed in
-    let all = done-all s at cells (length out) bytes next e in
-    let written = done-writes s at cells (length out) bytes next e in
+rewrites : (ρ : Rules) (s : List ℕ) (at cells : ℕ) (out : List ℕ) (bytes next : ℕ) → rewritingOf ρ s at cells (length out) ≡ Rewritten bytes next
+    → Rewrites ρ s at bytes next (bufferBy ρ s at (Rewritten bytes next) out)
+rewrites ρ s at cells out bytes next e =
+    let placed = RewritingDue.first-due ρ s at cells (length out) (Rewritten bytes next) .0 e .roomy .placed in
+    let all = done-all ρ s at cells (length out) bytes next e in
+    let written = done-writes ρ s at cells (length out) bytes next e in
     record {
       cells = _;
-      read = whole-read s at next placed all;
-      text = textAt s at;
-      canonical = subst (CanonicalRecord (countsAt s at) (textAt s at)) (whole-joined s at next placed all) (done-canonical (countsAt s at) (cellsAt s at) (length out) bytes written);
-      long = done-text s at cells (length out) bytes next e;
-      front = done-front s at cells (length out) bytes next e out;
+      read = whole-read ρ s at next placed all;
+      text = textAt ρ s at;
+      canonical = subst (CanonicalRecord (countsAt ρ s at) (textAt ρ s at)) (whole-joined ρ s at next placed all) (done-canonical ρ (countsAt ρ s at) (cellsAt ρ s at) (length out) bytes written);
+      long = done-text ρ s at cells (length out) bytes next e;
+      front = done-front ρ s at cells (length out) bytes next e out;
     }
 
-lent-holds : LentHolds
-lent-holds =
+lent-holds : (ρ : Rules) → LentHolds ρ
+lent-holds ρ =
     record {
       reading = λ s at g table cs e. rw e (done-read-holds cs table);
       writing = λ ns cs out n e. rw e (done-write-begins ns cs out n e);
-      listed = λ s out n e. Listed.listed-begins (listing s) out n e;
-      rewriting = λ s at cells out bytes next e. rw e (rewrites s at cells out bytes next e);
-      rewriting-table = λ s at room table. table-has s at table (length table) room (rewritingOf s at (length table) room) refl;
+      listed = λ s out n e. Listed.listed-begins (listing ρ s) out n e;
+      rewriting = λ s at cells out bytes next e. rw e (rewrites ρ s at cells out bytes next e);
+      rewriting-table = λ s at room table. table-has ρ s at table (length table) room (rewritingOf ρ s at (length table) room) refl;
     }
 
-one-canonical : (ns : List ℕ) (cs : List ℤ) (room n : ℕ) → writingOf ns cs room ≡ Done n → OneCanonical ns cs n
-one-canonical ns cs room n e =
+one-canonical : (ρ : Rules) (ns : List ℕ) (cs : List ℤ) (room n : ℕ) → writingOf ns cs room ≡ Done n → OneCanonical ns cs n
+one-canonical ρ ns cs room n e =
     record {
-      long = done-bytes ns cs room n e;
-      canonical = done-canonical ns cs room n e;
-      one = λ x h. canonical-text h;
+      long = done-bytes ρ ns cs room n e;
+      canonical = done-canonical ρ ns cs room n e;
+      one = λ x h. canonical-text ρ h;
     }
 
 edits : Edits
@@ -101,17 +102,17 @@ edits =
       made = λ ns t k f b r. reopened ns t (k .journal) (k .used) f b r;
     }
 
-pub demand-2 : Demand2
-demand-2 =
+pub demand-2 : (ρ : Rules) → Demand2 ρ
+demand-2 ρ =
     record {
-      due = as-due;
-      lent = lent-holds;
-      canonical = one-canonical;
-      reads-back = λ ns cs room n e a b. reads-back ns cs room n e a b;
+      due = as-due ρ;
+      lent = lent-holds ρ;
+      canonical = one-canonical ρ;
+      reads-back = λ ns cs room n e a b. reads-back ρ ns cs room n e a b;
       edits = edits;
       read-writes = record {
-        record-returns = λ {ds} s at next cells r h out enough. returns-same r h out enough;
-        text-returns = canonical-printed;
-        printed-returns = λ s few. (printed-canonical s, printed-again s few);
+        record-returns = λ {ds} s at next cells r h out enough. returns-same ρ r h out enough;
+        text-returns = canonical-printed ρ;
+        printed-returns = λ s few. (printed-canonical ρ s, printed-again ρ s few);
       };
     }

@@ -27,26 +27,26 @@ pub place-one : OneOutcome place.ended place.Reads.Learnt
 place-one κs a r q v w l k =
     let answer = l .0 ∙ sym (k .0) in
     let counts = l .1 ∙ sym (k .1) in
-    (λ i. record { answer = answer i; counts = counts i }, λ i. (tt, (tt, tt)))
+    (λ i. record { answer = answer i; counts = counts i }, λ i. (tt, (tt, (tt, tt))))
 
 pub read-group-one : OneOutcome read_group.ended read_group.Reads.Learnt
 read-group-one κs a r q v w l k =
     let table = l .1 ∙ sym (k .1) in
-    (l .0 ∙ sym (k .0), λ i. (tt, (tt, (tt, (table i, tt)))))
+    (l .0 ∙ sym (k .0), λ i. (tt, (tt, (tt, (tt, (table i, tt))))))
 
 pub group-lines-at-one : OneOutcome group_lines_at.ended group_lines_at.Reads.Learnt
 group-lines-at-one κs a r q v w l k =
     let found = l .0 ∙ sym (k .0) in
     let from = l .1 .0 ∙ sym (k .1 .0) in
     let to = l .1 .1 ∙ sym (k .1 .1) in
-    (λ i. record { found = found i; from = from i; to = to i }, λ i. (tt, (tt, (tt, tt))))
+    (λ i. record { found = found i; from = from i; to = to i }, λ i. (tt, (tt, (tt, (tt, tt)))))
 
 -- the part's bytes, and where in the caller's text they stand
 pub group-lines-one : OneUpTo group_lines.ended (λ κs r q. (now r ≡ now q) × (r .ptr ≡ q .ptr)) group_lines.Reads.Learnt
-group-lines-one κs a r q v w l k = ((l .0 ∙ sym (k .0), l .1 ∙ sym (k .1)), λ i. (tt, (tt, (tt, tt))))
+group-lines-one κs a r q v w l k = ((l .0 ∙ sym (k .0), l .1 ∙ sym (k .1)), λ i. (tt, (tt, (tt, (tt, tt)))))
 
 pub characteristic-one : OneOutcome characteristic.ended characteristic.Reads.Learnt
-characteristic-one κs a r q v w l k = (l ∙ sym k, λ i. (tt, (tt, (tt, tt))))
+characteristic-one κs a r q v w l k = (l ∙ sym k, λ i. (tt, (tt, (tt, (tt, tt)))))
 
 pub write-record-one : OneOutcome write_record.ended write_record.Reads.Learnt
 write-record-one κs (counts, (cells, (out, _))) r q v w l k =
@@ -57,14 +57,14 @@ write-record-one κs (counts, (cells, (out, _))) r q v w l k =
 pub list-one : OneOutcome list.ended list.Reads.Learnt
 list-one κs a r q v w l k =
     let bytes = l .1 ∙ sym (k .1) in
-    (l .0 ∙ sym (k .0), λ i. (tt, (bytes i, tt)))
+    (l .0 ∙ sym (k .0), λ i. (tt, (tt, (bytes i, tt))))
 
 pub rewrite-record-one : OneOutcome rewrite_record.ended rewrite_record.Reads.Learnt
-rewrite-record-one κs (text, (at, (table, (out, _)))) r q v w l k =
+rewrite-record-one κs (ρ, (text, (at, (table, (out, _))))) r q v w l k =
     let answer = l .0 ∙ sym (k .0) in
-    let cells = l .1 .0 ∙ ap (λ p. tableAfter (now text) at p (now table)) answer ∙ sym (k .1 .0) in
-    let bytes = l .1 .1 ∙ ap (λ p. bufferBy (now text) at p (now out)) answer ∙ sym (k .1 .1) in
-    (answer, λ i. (tt, (tt, (cells i, (bytes i, tt)))))
+    let cells = l .1 .0 ∙ ap (λ p. tableAfter ρ (now text) at p (now table)) answer ∙ sym (k .1 .0) in
+    let bytes = l .1 .1 ∙ ap (λ p. bufferBy ρ (now text) at p (now out)) answer ∙ sym (k .1 .1) in
+    (answer, λ i. (tt, (tt, (tt, (cells i, (bytes i, tt))))))
 
 -- ---- the edit journal
 

@@ -10,6 +10,7 @@ use mathlib.Core.List.{List}
 use Prim.Native.Nat.{ℕ, _≤_}
 use lib.IntN.{ℤ}
 use lib.ListN.{length, drop}
+use Rattle.rules.specs.declared.Rules.{Rules}
 use Rattle.reply.specs.declared.Reply.{Reply}
 use Rattle.reply.specs.Table.{Numbered}
 use Rattle.decimal.specs.Writing.{putBytes}
@@ -40,33 +41,34 @@ use Rattle.sao.specs.Numbers.{AnswersTold}
 abbrev pub NotDone : Reply → Type 0
 NotDone r = r .number ≡ 0 → ⊥
 
--- D1.2: the reply fills a row of the question's own table, with each number that the row names and 0 for the others (R230)
-pub record EndsNumbered : Type 0 where
-  -- which number each answer has, in figures
-  pub told : AnswersTold
-  pub placing : (s : List ℕ) (at : ℕ) → Numbered placingRows (placingReply (placingOf s at))
-  pub reading : (s : List ℕ) (at g room : ℕ) → Numbered readingRows (answerReply (readingOf (readAt s at g room)))
-  pub lines : (s : List ℕ) (at g : ℕ) → Numbered foundRows (checkedReply (foundAt s at g))
-  pub characteristic : (s : List ℕ) (at k : ℕ) → Numbered characteristicRows (characteristicReply (characteristicAt s at k))
-  pub writing : (ns : List ℕ) (cs : List ℤ) (room : ℕ) → Numbered writingRows (answerReply (writingOf ns cs room))
-  pub listed : (s : List ℕ) (room : ℕ) → Numbered listingRows (answerReply (listedIn (listing s) room))
-  pub rewriting : (s : List ℕ) (at cells room : ℕ) → Numbered rewritingRows (rewritingReply (rewritingOf s at cells room))
-  -- R550, R540: the calls of the edit journal, and a replay
-  pub call : (ns j : List ℕ) (used cells : ℕ) (c : Call) → Numbered (callRows c) (editReply (answerOf ns j used cells c))
-  pub replay : (ns j : List ℕ) (used : ℕ) (cs : List ℤ) → Numbered replayRows (checkedReply (replayOf ns j used cs))
-  -- R323: the group that rewriting tells apart from the reply is one of 1 to 60
-  pub unread : (s : List ℕ) (at cells room g : ℕ) (r : Refusal) → rewritingOf s at cells room ≡ GroupRefused g r → (1 ≤ g) × (g ≤ 60)
+module _ (ρ : Rules) where
+  -- D1.2: the reply fills a row of the question's own table, with each number that the row names and 0 for the others (R230)
+  pub record EndsNumbered : Type 0 where
+    -- which number each answer has, in figures
+    pub told : AnswersTold
+    pub placing : (s : List ℕ) (at : ℕ) → Numbered placingRows (placingReply (placingOf ρ s at))
+    pub reading : (s : List ℕ) (at g room : ℕ) → Numbered readingRows (answerReply (readingOf (readAt ρ s at g room)))
+    pub lines : (s : List ℕ) (at g : ℕ) → Numbered foundRows (checkedReply (foundAt ρ s at g))
+    pub characteristic : (s : List ℕ) (at k : ℕ) → Numbered characteristicRows (characteristicReply (characteristicAt ρ s at k))
+    pub writing : (ns : List ℕ) (cs : List ℤ) (room : ℕ) → Numbered writingRows (answerReply (writingOf ns cs room))
+    pub listed : (s : List ℕ) (room : ℕ) → Numbered listingRows (answerReply (listedIn (listing ρ s) room))
+    pub rewriting : (s : List ℕ) (at cells room : ℕ) → Numbered rewritingRows (rewritingReply (rewritingOf ρ s at cells room))
+    -- R550, R540: the calls of the edit journal, and a replay
+    pub call : (ns j : List ℕ) (used cells : ℕ) (c : Call) → Numbered (callRows c) (editReply (answerOf ns j used cells c))
+    pub replay : (ns j : List ℕ) (used : ℕ) (cs : List ℤ) → Numbered replayRows (checkedReply (replayOf ns j used cs))
+    -- R323: the group that rewriting tells apart from the reply is one of 1 to 60
+    pub unread : (s : List ℕ) (at cells room g : ℕ) (r : Refusal) → rewritingOf ρ s at cells room ≡ GroupRefused g r → (1 ≤ g) × (g ≤ 60)
 
--- D1.4: after a refused read the table is what it was (R267)
-abbrev pub RefusedReadKeeps : Type 0
-RefusedReadKeeps =
-    (s : List ℕ) (at g : ℕ) (table : List ℤ) → NotDone (answerReply (readingOf (readAt s at g (length table)))) → tableBy (readAt s at g (length table)) table ≡ table
+  -- D1.4: after a refused read the table is what it was (R267)
+  abbrev pub RefusedReadKeeps : Type 0
+  RefusedReadKeeps =
+      (s : List ℕ) (at g : ℕ) (table : List ℤ) → NotDone (answerReply (readingOf (readAt ρ s at g (length table)))) → tableBy (readAt ρ s at g (length table)) table ≡ table
 
--- D1.5: after a refused write the output is what it was: writing a record (R307), listing a text (R311), rewriting a record (R325)
-pub record RefusedWriteKeeps : Type 0 where
-  pub writing : (ns : List ℕ) (cs : List ℤ) (out : List ℕ) → NotDone (answerReply (writingOf ns cs (length out))) → outputBy ns cs (writingOf ns cs (length out)) out ≡ out
-  pub listed : (s out : List ℕ) → NotDone (answerReply (listedIn (listing s) (length out))) → putBytes 0 (listing s) out ≡ out
-  pub rewriting : (s : List ℕ) (at cells : ℕ) (out : List ℕ) → NotDone (rewritingReply (rewritingOf s at cells (length out))) → bufferBy s at (rewritingOf s at cells (length out)) out ≡ out
+  -- D1.5: after a refused write the output is what it was: writing a record (R307), listing a text (R311), rewriting a record (R325)
+  pub record RefusedWriteKeeps : Type 0 where
+    pub writing : (ns : List ℕ) (cs : List ℤ) (out : List ℕ) → NotDone (answerReply (writingOf ns cs (length out))) → outputBy ns cs (writingOf ns cs (length out)) out ≡ out
+    pub listed : (s out : List ℕ) → NotDone (answerReply (listedIn (listing ρ s) (length out))) → putBytes 0 (listing ρ s) out ≡ out
+    pub rewriting : (s : List ℕ) (at cells : ℕ) (out : List ℕ) → NotDone (rewritingReply (rewritingOf ρ s at cells (length out))) → bufferBy ρ s at (rewritingOf ρ s at cells (length out)) out ≡ out
 
 -- D1.4, D1.5: after a refused call, cells, journal and bytes used are what they were (R518); after a refused replay the cells are, and no
 -- savepoint is told (R542)
@@ -84,24 +86,25 @@ pub record RefusedEditKeeps : Type 0 where
       → NotDone (checkedReply (replayOf ns j used cs))
       → (replayedCells ns j used cs (replayOf ns j used cs) ≡ cs) × (replayedOpen ns j used cs (replayOf ns j used cs) ≡ 0)
 
--- R266, R306, R311, R324: what stands behind the cells or bytes that were written stays as it was
-pub record KeepsRest : Type 0 where
-  pub reading : (s : List ℕ) (at g : ℕ) (table : List ℤ)
-      → drop (answerReply (readingOf (readAt s at g (length table))) .written) (tableBy (readAt s at g (length table)) table)
-      ≡ drop (answerReply (readingOf (readAt s at g (length table))) .written) table
-  pub writing : (ns : List ℕ) (cs : List ℤ) (out : List ℕ)
-      → drop (answerReply (writingOf ns cs (length out)) .written) (outputBy ns cs (writingOf ns cs (length out)) out)
-      ≡ drop (answerReply (writingOf ns cs (length out)) .written) out
-  pub listed : (s out : List ℕ)
-      → drop (answerReply (listedIn (listing s) (length out)) .written) (putBytes 0 (listing s) out)
-      ≡ drop (answerReply (listedIn (listing s) (length out)) .written) out
-  pub rewriting : (s : List ℕ) (at cells : ℕ) (out : List ℕ)
-      → drop (rewritingReply (rewritingOf s at cells (length out)) .written) (bufferBy s at (rewritingOf s at cells (length out)) out)
-      ≡ drop (rewritingReply (rewritingOf s at cells (length out)) .written) out
+module _ (ρ : Rules) where
+  -- R266, R306, R311, R324: what stands behind the cells or bytes that were written stays as it was
+  pub record KeepsRest : Type 0 where
+    pub reading : (s : List ℕ) (at g : ℕ) (table : List ℤ)
+        → drop (answerReply (readingOf (readAt ρ s at g (length table))) .written) (tableBy (readAt ρ s at g (length table)) table)
+        ≡ drop (answerReply (readingOf (readAt ρ s at g (length table))) .written) table
+    pub writing : (ns : List ℕ) (cs : List ℤ) (out : List ℕ)
+        → drop (answerReply (writingOf ns cs (length out)) .written) (outputBy ns cs (writingOf ns cs (length out)) out)
+        ≡ drop (answerReply (writingOf ns cs (length out)) .written) out
+    pub listed : (s out : List ℕ)
+        → drop (answerReply (listedIn (listing ρ s) (length out)) .written) (putBytes 0 (listing ρ s) out)
+        ≡ drop (answerReply (listedIn (listing ρ s) (length out)) .written) out
+    pub rewriting : (s : List ℕ) (at cells : ℕ) (out : List ℕ)
+        → drop (rewritingReply (rewritingOf ρ s at cells (length out)) .written) (bufferBy ρ s at (rewritingOf ρ s at cells (length out)) out)
+        ≡ drop (rewritingReply (rewritingOf ρ s at cells (length out)) .written) out
 
-pub record Demand1 : Type 0 where
-  pub numbered : EndsNumbered
-  pub refused-read : RefusedReadKeeps
-  pub refused-write : RefusedWriteKeeps
-  pub refused-edit : RefusedEditKeeps
-  pub rest : KeepsRest
+  pub record Demand1 : Type 0 where
+    pub numbered : EndsNumbered ρ
+    pub refused-read : RefusedReadKeeps ρ
+    pub refused-write : RefusedWriteKeeps ρ
+    pub refused-edit : RefusedEditKeeps
+    pub rest : KeepsRest

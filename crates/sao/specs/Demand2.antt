@@ -10,6 +10,7 @@ use mathlib.Core.Logic.{_↔_}
 use Prim.Native.Nat.{ℕ, _+_, _-_, _≤_}
 use lib.IntN.{ℤ}
 use lib.ListN.{length, take}
+use Rattle.rules.specs.declared.Rules.{Rules}
 use Rattle.base.specs.Part.{part, over}
 use Rattle.base.specs.Pieces.{done}
 use Rattle.decimal.specs.Writing.{putBytes}
@@ -50,55 +51,56 @@ use Rattle.rewriting.specs.Due.{TableHas, groupsRead}
 use Rattle.rewriting.specs.Printed.{printed}
 use Rattle.rewriting.specs.Record.{rewritingOf, bufferBy, tableAfter}
 
--- D2.1, D2.2: every answer is given exactly if it is due. Where a Due cites another answer (the placing, the counts, what a group reads as),
--- that answer's own Due is a field here. So a reader comes to plain words: of an index that its columns are entries (R22, R23; place's IsIndex);
--- of a rule that some rule which blames the group is broken and none that blames a lower one (R120; count's Blame); of 0 that the cells are the
--- values of the fields in their columns (R45, R61; reading's Values), each field blanks, at most one minus, digits (R70 to R77; number's
--- Grammar); of a date that the first field which fails alone is blamed (R147; date's Due); of a refusal that its condition holds and none
--- earlier in the order does (R233).
-pub record GivenAsDue : Type 0 where
-  pub placing : (s : List ℕ) (at : ℕ) (p : Placing) → placingOf s at ≡ p ↔ PlacingIs.Due s at p
-  pub counts : (s : List ℕ) (at : ℕ) (ns : List ℕ) → countsAt s at ≡ ns ↔ PlacingIs.CountsDue s at ns
-  -- the records one after another, by what placing gives
-  pub walk : (s : List ℕ) → Walks s
-  pub reading : (s : List ℕ) (at g room : ℕ) (c : Cells) → readAt s at g room ≡ c ↔ GroupIs.Due s at g room c
-  pub lines : (s : List ℕ) (at g : ℕ) (r : Checked) → foundAt s at g ≡ r ↔ GroupIs.FoundDue s at g r
-  -- R280: the part is exactly those lines, and stands there
-  pub part : (s : List ℕ) (at g from : ℕ) (x : List ℕ) → ((partStart s at g ≡ from) × (partAt s at g ≡ x)) ↔ GroupIs.PartDue s at g from x
-  pub part-end : (s : List ℕ) (at g : ℕ) → partEnd s at g ≡ partStart s at g + length (partAt s at g)
-  pub characteristic : (s : List ℕ) (at k : ℕ) (c : Characteristic) → characteristicAt s at k ≡ c ↔ GroupIs.CharacteristicDue s at k c
-  pub writing : (ns : List ℕ) (cs : List ℤ) (room : ℕ) (r : Answer) → writingOf ns cs room ≡ r ↔ WritingIs.Due ns cs room r
-  pub rewriting : (s : List ℕ) (at cells room : ℕ) (r : Rewriting) → rewritingOf s at cells room ≡ r ↔ RewritingIs.Due s at cells room r
-  pub listed : (s : List ℕ) (room : ℕ) (r : Answer) → listedIn (listing s) room ≡ r ↔ ListingDue (listing s) room r
-  pub listing-is : (s x : List ℕ) → listing s ≡ x ↔ IsListing s x
-  -- the edit journal: a call, and what it leaves: bytes used, journal and cells (R512 to R520); a replay, and what it leaves: cells and open
-  -- savepoints (R540 to R542). Fields in order, and a field at fault, are said of one field after the other (R530, R531; journal's Order)
-  pub call : (ns j : List ℕ) (used cells : ℕ) (c : Call) (a : Answer) → answerOf ns j used cells c ≡ a ↔ JournalIs.Due ns j used cells c a
-  pub call-left : (ns : List ℕ) (c : Call) (k : Kept) (a : Answer) (k′ : Kept) → answerTo ns c k ≡ a → leftBy ns c k a ≡ k′ ↔ JournalIs.LeftDue ns c k a k′
-  pub replay : (ns j : List ℕ) (used : ℕ) (cs : List ℤ) (a : Checked) → replayOf ns j used cs ≡ a ↔ JournalIs.ReplayDue ns j used cs a
-  pub replay-left : (ns j : List ℕ) (used : ℕ) (cs : List ℤ) (a : Checked) (cs′ : List ℤ) (d : ℕ) → replayOf ns j used cs ≡ a
-      → ((replayedCells ns j used cs a ≡ cs′) × (replayedOpen ns j used cs a ≡ d)) ↔ JournalIs.ReplayLeftDue ns j used cs a cs′ d
+module _ (ρ : Rules) where
+  -- D2.1, D2.2: every answer is given exactly if it is due. Where a Due cites another answer (the placing, the counts, what a group reads as),
+  -- that answer's own Due is a field here. So a reader comes to plain words: of an index that its columns are entries (R22, R23; place's IsIndex);
+  -- of a rule that some rule which blames the group is broken and none that blames a lower one (R120; count's Blame); of 0 that the cells are the
+  -- values of the fields in their columns (R45, R61; reading's Values), each field blanks, at most one minus, digits (R70 to R77; number's
+  -- Grammar); of a date that the first field which fails alone is blamed (R147; date's Due); of a refusal that its condition holds and none
+  -- earlier in the order does (R233).
+  pub record GivenAsDue : Type 0 where
+    pub placing : (s : List ℕ) (at : ℕ) (p : Placing) → placingOf ρ s at ≡ p ↔ PlacingIs.Due ρ s at p
+    pub counts : (s : List ℕ) (at : ℕ) (ns : List ℕ) → countsAt ρ s at ≡ ns ↔ PlacingIs.CountsDue ρ s at ns
+    -- the records one after another, by what placing gives
+    pub walk : (s : List ℕ) → Walks ρ s
+    pub reading : (s : List ℕ) (at g room : ℕ) (c : Cells) → readAt ρ s at g room ≡ c ↔ GroupIs.Due ρ s at g room c
+    pub lines : (s : List ℕ) (at g : ℕ) (r : Checked) → foundAt ρ s at g ≡ r ↔ GroupIs.FoundDue ρ s at g r
+    -- R280: the part is exactly those lines, and stands there
+    pub part : (s : List ℕ) (at g from : ℕ) (x : List ℕ) → ((partStart ρ s at g ≡ from) × (partAt ρ s at g ≡ x)) ↔ GroupIs.PartDue ρ s at g from x
+    pub part-end : (s : List ℕ) (at g : ℕ) → partEnd ρ s at g ≡ partStart ρ s at g + length (partAt ρ s at g)
+    pub characteristic : (s : List ℕ) (at k : ℕ) (c : Characteristic) → characteristicAt ρ s at k ≡ c ↔ GroupIs.CharacteristicDue ρ s at k c
+    pub writing : (ns : List ℕ) (cs : List ℤ) (room : ℕ) (r : Answer) → writingOf ns cs room ≡ r ↔ WritingIs.Due ns cs room r
+    pub rewriting : (s : List ℕ) (at cells room : ℕ) (r : Rewriting) → rewritingOf ρ s at cells room ≡ r ↔ RewritingIs.Due ρ s at cells room r
+    pub listed : (s : List ℕ) (room : ℕ) (r : Answer) → listedIn (listing ρ s) room ≡ r ↔ ListingDue (listing ρ s) room r
+    pub listing-is : (s x : List ℕ) → listing ρ s ≡ x ↔ IsListing ρ s x
+    -- the edit journal: a call, and what it leaves: bytes used, journal and cells (R512 to R520); a replay, and what it leaves: cells and open
+    -- savepoints (R540 to R542). Fields in order, and a field at fault, are said of one field after the other (R530, R531; journal's Order)
+    pub call : (ns j : List ℕ) (used cells : ℕ) (c : Call) (a : Answer) → answerOf ns j used cells c ≡ a ↔ JournalIs.Due ns j used cells c a
+    pub call-left : (ns : List ℕ) (c : Call) (k : Kept) (a : Answer) (k′ : Kept) → answerTo ns c k ≡ a → leftBy ns c k a ≡ k′ ↔ JournalIs.LeftDue ns c k a k′
+    pub replay : (ns j : List ℕ) (used : ℕ) (cs : List ℤ) (a : Checked) → replayOf ns j used cs ≡ a ↔ JournalIs.ReplayDue ns j used cs a
+    pub replay-left : (ns j : List ℕ) (used : ℕ) (cs : List ℤ) (a : Checked) (cs′ : List ℤ) (d : ℕ) → replayOf ns j used cs ≡ a
+        → ((replayedCells ns j used cs a ≡ cs′) × (replayedOpen ns j used cs a ≡ d)) ↔ JournalIs.ReplayLeftDue ns j used cs a cs′ d
 
--- what rewriting's output holds under 0: the canonical text of the counts and of what every group read as
-pub record Rewrites (s : List ℕ) (at bytes next : ℕ) (buffer : List ℕ) : Type 0 where
-  pub cells : ℕ → List ℤ
-  pub read : ReadWhole s at next cells
-  pub text : List ℕ
-  pub canonical : CanonicalRecord (countsAt s at) text (joined cells)
-  pub long : length text ≡ bytes
-  pub front : take bytes buffer ≡ text
+  -- what rewriting's output holds under 0: the canonical text of the counts and of what every group read as
+  pub record Rewrites (s : List ℕ) (at bytes next : ℕ) (buffer : List ℕ) : Type 0 where
+    pub cells : ℕ → List ℤ
+    pub read : ReadWhole ρ s at next cells
+    pub text : List ℕ
+    pub canonical : CanonicalRecord (countsAt ρ s at) text (joined cells)
+    pub long : length text ≡ bytes
+    pub front : take bytes buffer ≡ text
 
--- R266, R306, R311, R324: what is lent holds what the answer says: under 0 the table's first cells are the cells read, and the output's first
--- bytes the text
-pub record LentHolds : Type 0 where
-  pub reading : (s : List ℕ) (at g : ℕ) (table cs : List ℤ) → readAt s at g (length table) ≡ done cs → take (length cs) (tableBy (readAt s at g (length table)) table) ≡ cs
-  pub writing : (ns : List ℕ) (cs : List ℤ) (out : List ℕ) (n : ℕ) → writingOf ns cs (length out) ≡ Done n → take n (outputBy ns cs (writingOf ns cs (length out)) out) ≡ recordText ns cs
-  pub listed : (s out : List ℕ) (n : ℕ) → listedIn (listing s) (length out) ≡ Done n → take n (putBytes 0 (listing s) out) ≡ listing s
-  pub rewriting : (s : List ℕ) (at cells : ℕ) (out : List ℕ) (bytes next : ℕ) → rewritingOf s at cells (length out) ≡ Rewritten bytes next
-      → Rewrites s at bytes next (bufferBy s at (rewritingOf s at cells (length out)) out)
-  -- R326: rewriting's table begins with the cells of the groups that were read, also where a later group was refused, and is as it was behind them
-  pub rewriting-table : (s : List ℕ) (at room : ℕ) (table : List ℤ)
-      → TableHas s at (groupsRead (rewritingOf s at (length table) room)) table (tableAfter s at (rewritingOf s at (length table) room) table)
+  -- R266, R306, R311, R324: what is lent holds what the answer says: under 0 the table's first cells are the cells read, and the output's first
+  -- bytes the text
+  pub record LentHolds : Type 0 where
+    pub reading : (s : List ℕ) (at g : ℕ) (table cs : List ℤ) → readAt ρ s at g (length table) ≡ done cs → take (length cs) (tableBy (readAt ρ s at g (length table)) table) ≡ cs
+    pub writing : (ns : List ℕ) (cs : List ℤ) (out : List ℕ) (n : ℕ) → writingOf ns cs (length out) ≡ Done n → take n (outputBy ns cs (writingOf ns cs (length out)) out) ≡ recordText ns cs
+    pub listed : (s out : List ℕ) (n : ℕ) → listedIn (listing ρ s) (length out) ≡ Done n → take n (putBytes 0 (listing ρ s) out) ≡ listing ρ s
+    pub rewriting : (s : List ℕ) (at cells : ℕ) (out : List ℕ) (bytes next : ℕ) → rewritingOf ρ s at cells (length out) ≡ Rewritten bytes next
+        → Rewrites s at bytes next (bufferBy ρ s at (rewritingOf ρ s at cells (length out)) out)
+    -- R326: rewriting's table begins with the cells of the groups that were read, also where a later group was refused, and is as it was behind them
+    pub rewriting-table : (s : List ℕ) (at room : ℕ) (table : List ℤ)
+        → TableHas ρ s at (groupsRead (rewritingOf ρ s at (length table) room)) table (tableAfter ρ s at (rewritingOf ρ s at (length table) room) table)
 
 -- D2.3: n bytes, canonical with these counts and cells, and no other text is (R100)
 pub record OneCanonical (ns : List ℕ) (cs : List ℤ) (n : ℕ) : Type 0 where
@@ -109,22 +111,23 @@ pub record OneCanonical (ns : List ℕ) (cs : List ℤ) (n : ℕ) : Type 0 where
 abbrev pub WritesCanonical : Type 0
 WritesCanonical = (ns : List ℕ) (cs : List ℤ) (room n : ℕ) → writingOf ns cs room ≡ Done n → OneCanonical ns cs n
 
--- D2.4: what was written reads as its counts and cells, wherever it stands in whatever text
-abbrev pub WrittenReadsBack : Type 0
-WrittenReadsBack =
-    (ns : List ℕ) (cs : List ℤ) (room n : ℕ) → writingOf ns cs room ≡ Done n → (a b : List ℕ) → ReadsBack ns cs n (a ++ (recordText ns cs ++ b)) (length a)
+module _ (ρ : Rules) where
+  -- D2.4: what was written reads as its counts and cells, wherever it stands in whatever text
+  abbrev pub WrittenReadsBack : Type 0
+  WrittenReadsBack =
+      (ns : List ℕ) (cs : List ℤ) (room n : ℕ) → writingOf ns cs room ≡ Done n → (a b : List ℕ) → ReadsBack ρ ns cs n (a ++ (recordText ns cs ++ b)) (length a)
 
--- D2.5: what was read from canonical text is written as that text
-pub record ReadWrites : Type 0 where
-  -- a record of any text whose groups all read with 0 and whose bytes are canonical
-  pub record-returns : {ds : List ℤ} (s : List ℕ) (at next : ℕ) (cells : ℕ → List ℤ) → ReadWhole s at next cells → CanonicalRecord (countsAt s at) (part at next s) ds
-      → (out : List ℕ) → next - at ≤ length out
-      → (writingOf (countsAt s at) (joined cells) (length out) ≡ Done (next - at))
-      × (outputBy (countsAt s at) (joined cells) (writingOf (countsAt s at) (joined cells) (length out)) out ≡ over 0 (part at next s) out)
-  -- R348: what the program prints for a text of canonical records, each of at most 8,192 bytes
-  pub text-returns : (s : List ℕ) → CanonicalRecords s → length s ≤ 65536 → printed s ≡ s
-  -- and for what it printed itself
-  pub printed-returns : (s : List ℕ) → length (printed s) ≤ 65536 → CanonicalRecords (printed s) × (printed (printed s) ≡ printed s)
+  -- D2.5: what was read from canonical text is written as that text
+  pub record ReadWrites : Type 0 where
+    -- a record of any text whose groups all read with 0 and whose bytes are canonical
+    pub record-returns : {ds : List ℤ} (s : List ℕ) (at next : ℕ) (cells : ℕ → List ℤ) → ReadWhole ρ s at next cells → CanonicalRecord (countsAt ρ s at) (part at next s) ds
+        → (out : List ℕ) → next - at ≤ length out
+        → (writingOf (countsAt ρ s at) (joined cells) (length out) ≡ Done (next - at))
+        × (outputBy (countsAt ρ s at) (joined cells) (writingOf (countsAt ρ s at) (joined cells) (length out)) out ≡ over 0 (part at next s) out)
+    -- R348: what the program prints for a text of canonical records, each of at most 8,192 bytes
+    pub text-returns : (s : List ℕ) → CanonicalRecords s → length s ≤ 65536 → printed ρ s ≡ s
+    -- and for what it printed itself
+    pub printed-returns : (s : List ℕ) → length (printed ρ s) ≤ 65536 → CanonicalRecords (printed ρ s) × (printed ρ (printed ρ s) ≡ printed ρ s)
 
 -- R516, R520, R543, R544: what the calls of the edit journal leave, over any counts, table t and buffer j: on a fresh journal all that they
 -- answer and leave is that of a plain stack of whole tables.
@@ -153,10 +156,10 @@ pub record Edits : Type 0 where
       → replayOf ns (k .journal) (k .used) t ≡ Right
       → MadeBy ns (kept t (k .journal) 0) (behindReplay ns t k)
 
-pub record Demand2 : Type 0 where
-  pub due : GivenAsDue
-  pub lent : LentHolds
+pub record Demand2 (ρ : Rules) : Type 0 where
+  pub due : GivenAsDue ρ
+  pub lent : LentHolds ρ
   pub canonical : WritesCanonical
-  pub reads-back : WrittenReadsBack
-  pub read-writes : ReadWrites
+  pub reads-back : WrittenReadsBack ρ
+  pub read-writes : ReadWrites ρ
   pub edits : Edits

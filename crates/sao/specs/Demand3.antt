@@ -7,8 +7,9 @@
 -- group's specs/Damage.antt has it sentence by sentence: Damaged is D3.1 and D3.2, Confined is D3.3 to D3.7.
 use mathlib.Core.List.{List}
 use Prim.Native.Nat.{ℕ}
+use Rattle.rules.specs.declared.Rules.{Rules}
 use Rattle.group.specs.Damage.{Damaged, Confined}
 
 -- t is a text, u the same with bytes of group g of its record k replaced
-abbrev pub Demand3 : Type 0
-Demand3 = (t u : List ℕ) (k g : ℕ) → Damaged t u k g → Confined t u k g
+abbrev pub Demand3 : Rules → Type 0
+Demand3 ρ = (t u : List ℕ) (k g : ℕ) → Damaged ρ t u k g → Confined ρ t u k g

@@ -26,52 +26,58 @@ ghost use Rattle.listing.specs.Listing.{listing, listedIn};
 // R250 to R253. Asked: which record stands at a place of a text.
 // Answered: the placing, with the next place under 0 and 7, and the record's 80 counts.
 // A refusal but 7 has next place 0 and 80 zero counts.
-pub fn place(text: &[u8], at: usize) -> Record
-    ensures answer { λ r. ⌜ r .answer ≡ placingOf (now (text .entry)) at ⌝ }
-    ensures counts { λ r. ⌜ r .counts ≡ countsAt (now (text .entry)) at ⌝ }
+pub fn place(rules: rules::Rules, text: &[u8], at: usize) -> Record
+    ensures answer { λ r. ⌜ r .answer ≡ placingOf rules (now (text .entry)) at ⌝ }
+    ensures counts { λ r. ⌜ r .counts ≡ countsAt rules (now (text .entry)) at ⌝ }
 {
-    place::place(text, at)
+    place::place(rules, text, at)
 }
 
 // R260 to R268. Asked: the cells of a group, 1 to 60, of the record at a place.
 // Answered: 0 with the number of cells, which stand in the table from its first cell on; what stands behind them is
 // kept. A refusal leaves the whole table as it was.
-pub fn read_group(text: &[u8], at: usize, group: usize, table: &mut [i64]) -> Answer
-    ensures answer { λ r. ⌜ r ≡ readingOf (readAt (now (text .entry)) at group (length (now (table .entry)))) ⌝ }
+pub fn read_group(
+    rules: rules::Rules,
+    text: &[u8],
+    at: usize,
+    group: usize,
+    table: &mut [i64],
+) -> Answer
+    ensures answer { λ r. ⌜ r ≡ readingOf (readAt rules (now (text .entry)) at group (length (now (table .entry)))) ⌝ }
     ensures table { λ _. ⌜ now (table .exit) ≡
-        tableBy (readAt (now (text .entry)) at group (length (now (table .entry)))) (now (table .entry)) ⌝ }
+        tableBy (readAt rules (now (text .entry)) at group (length (now (table .entry)))) (now (table .entry)) ⌝ }
 {
-    group::read_group(text, at, group, table)
+    group::read_group(rules, text, at, group, table)
 }
 
 // R280 to R284. Asked: where the lines of a group of the record at a place stand in the text.
 // Answered: that they can be given, and from where to where they stand; with count 0 both places are where they would
 // be. A refusal has its reply, 12 or what placing refuses with, and both places are 0.
-pub fn group_lines_at(text: &[u8], at: usize, group: usize) -> Lines
-    ensures found { λ r. ⌜ r .found ≡ foundAt (now (text .entry)) at group ⌝ }
-    ensures from { λ r. ⌜ r .from ≡ partStart (now (text .entry)) at group ⌝ }
-    ensures to { λ r. ⌜ r .to ≡ partEnd (now (text .entry)) at group ⌝ }
+pub fn group_lines_at(rules: rules::Rules, text: &[u8], at: usize, group: usize) -> Lines
+    ensures found { λ r. ⌜ r .found ≡ foundAt rules (now (text .entry)) at group ⌝ }
+    ensures from { λ r. ⌜ r .from ≡ partStart rules (now (text .entry)) at group ⌝ }
+    ensures to { λ r. ⌜ r .to ≡ partEnd rules (now (text .entry)) at group ⌝ }
 {
-    group::lines_at(text, at, group)
+    group::lines_at(rules, text, at, group)
 }
 
 // R280 to R284. Asked: the lines of a group, with their line ends.
 // Answered: that part of the lent text, not a copy; with count 0 it is empty, and lies where the lines would be.
 // A refusal gives the empty part at place 0.
-pub fn group_lines<'a>(text: &'a [u8], at: usize, group: usize) -> &'a [u8]
-    ensures bytes { λ r. ⌜ now r ≡ partAt (now (text .entry)) at group ⌝ }
-    ensures address { λ r. ⌜ r .ptr ≡ moved (text .entry .ptr) (partStart (now (text .entry)) at group) ⌝ }
+pub fn group_lines<'a>(rules: rules::Rules, text: &'a [u8], at: usize, group: usize) -> &'a [u8]
+    ensures bytes { λ r. ⌜ now r ≡ partAt rules (now (text .entry)) at group ⌝ }
+    ensures address { λ r. ⌜ r .ptr ≡ moved (text .entry .ptr) (partStart rules (now (text .entry)) at group) ⌝ }
 {
-    group::lines_part(text, at, group)
+    group::lines_part(rules, text, at, group)
 }
 
 // R290 to R296. Asked: a characteristic, 1 to 49, of the record at a place.
 // Answered: its value in thousandths, or that there is no reading, or that it is not reported.
 // A refusal has its reply: 12, or that of reading group 4.
-pub fn characteristic(text: &[u8], at: usize, number: usize) -> Characteristic
-    ensures { λ r. ⌜ r ≡ characteristicAt (now (text .entry)) at number ⌝ }
+pub fn characteristic(rules: rules::Rules, text: &[u8], at: usize, number: usize) -> Characteristic
+    ensures { λ r. ⌜ r ≡ characteristicAt rules (now (text .entry)) at number ⌝ }
 {
-    group::characteristic_at(text, at, number)
+    group::characteristic_at(rules, text, at, number)
 }
 
 // R300 to R307. Asked: to write a record of these counts and of the cells of all groups, group 1's first.
@@ -88,24 +94,30 @@ pub fn write_record(counts: &[u16], cells: &[i64], out: &mut [u8]) -> Answer
 // R310, R311. Asked: the listing of a text, a line for each record of its walk and the line `end`.
 // Answered: 0 with the number of bytes, which stand in the output from its first byte on; what stands behind them is
 // kept. A refusal (11) leaves the whole output as it was.
-pub fn list(text: &[u8], out: &mut [u8]) -> Answer
-    ensures answer { λ r. ⌜ r ≡ listedIn (listing (now (text .entry))) (length (now (out .entry))) ⌝ }
-    ensures output { λ _. ⌜ now (out .exit) ≡ putBytes 0 (listing (now (text .entry))) (now (out .entry)) ⌝ }
+pub fn list(rules: rules::Rules, text: &[u8], out: &mut [u8]) -> Answer
+    ensures answer { λ r. ⌜ r ≡ listedIn (listing rules (now (text .entry))) (length (now (out .entry))) ⌝ }
+    ensures output { λ _. ⌜ now (out .exit) ≡ putBytes 0 (listing rules (now (text .entry))) (now (out .entry)) ⌝ }
 {
-    listing::list(text, out)
+    listing::list(rules, text, out)
 }
 
 // R320 to R326. Asked: to rewrite the record at a place as canonical text.
 // Answered: 0 with the number of bytes and the next place; the bytes stand in the output from its first byte on, the
 // record's cells in the table from its first cell on, and what stands behind them is kept.
 // A refusal leaves the whole output as it was; the table has the cells of the groups that were read before it.
-pub fn rewrite_record(text: &[u8], at: usize, table: &mut [i64], out: &mut [u8]) -> Rewriting
+pub fn rewrite_record(
+    rules: rules::Rules,
+    text: &[u8],
+    at: usize,
+    table: &mut [i64],
+    out: &mut [u8],
+) -> Rewriting
     ensures answer { λ r. ⌜ r ≡
-        rewritingOf (now (text .entry)) at (length (now (table .entry))) (length (now (out .entry))) ⌝ }
-    ensures table { λ r. ⌜ now (table .exit) ≡ tableAfter (now (text .entry)) at r (now (table .entry)) ⌝ }
-    ensures output { λ r. ⌜ now (out .exit) ≡ bufferBy (now (text .entry)) at r (now (out .entry)) ⌝ }
+        rewritingOf rules (now (text .entry)) at (length (now (table .entry))) (length (now (out .entry))) ⌝ }
+    ensures table { λ r. ⌜ now (table .exit) ≡ tableAfter rules (now (text .entry)) at r (now (table .entry)) ⌝ }
+    ensures output { λ r. ⌜ now (out .exit) ≡ bufferBy rules (now (text .entry)) at r (now (out .entry)) ⌝ }
 {
-    rewriting::rewrite_record(text, at, table, out)
+    rewriting::rewrite_record(rules, text, at, table, out)
 }
 
 // ---- The edit journal, R500 to R550. What is kept between two calls is the caller's: the counts of a record, the

@@ -20,26 +20,26 @@ pub place-one : OneOutcome place.ended place.Reads.Learnt
 place-one κs a n m v w l k =
     let beside = l .0 .besides ∙ sym (k .0 .besides) in
     let counts = l .1 ∙ sym (k .1) in
-    (l .0 .number ∙ sym (k .0 .number), λ i. (tt, (tt, (counts i, (beside i, tt)))))
+    (l .0 .number ∙ sym (k .0 .number), λ i. (tt, (tt, (tt, (counts i, (beside i, tt))))))
 
 pub read-group-one : OneOutcome read-group.ended read-group.Reads.Learnt
 read-group-one κs a n m v w l k =
     let beside = l .0 .besides ∙ sym (k .0 .besides) in
     let table = l .1 ∙ sym (k .1) in
-    (l .0 .number ∙ sym (k .0 .number), λ i. (tt, (tt, (tt, (table i, (beside i, tt))))))
+    (l .0 .number ∙ sym (k .0 .number), λ i. (tt, (tt, (tt, (tt, (table i, (beside i, tt)))))))
 
 pub group-lines-one : OneOutcome group-lines.ended group-lines.Reads.Learnt
 group-lines-one κs a n m v w l k =
     let beside = l .0 .besides ∙ sym (k .0 .besides) in
     let part = l .1 ∙ sym (k .1) in
-    (l .0 .number ∙ sym (k .0 .number), λ i. (tt, (tt, (tt, (part i, (beside i, tt))))))
+    (l .0 .number ∙ sym (k .0 .number), λ i. (tt, (tt, (tt, (tt, (part i, (beside i, tt)))))))
 
 pub characteristic-one : OneOutcome characteristic.ended characteristic.Reads.Learnt
 characteristic-one κs a n m v w l k =
     let beside = l .0 .besides ∙ sym (k .0 .besides) in
     let kind = l .1 .0 ∙ sym (k .1 .0) in
     let value = l .1 .1 ∙ sym (k .1 .1) in
-    (l .0 .number ∙ sym (k .0 .number), λ i. (tt, (tt, (tt, (kind i, (value i, (beside i, tt)))))))
+    (l .0 .number ∙ sym (k .0 .number), λ i. (tt, (tt, (tt, (tt, (kind i, (value i, (beside i, tt))))))))
 
 pub write-record-one : OneOutcome write-record.ended write-record.Reads.Learnt
 write-record-one κs a n m v w l k =
@@ -51,7 +51,7 @@ pub list-one : OneOutcome list.ended list.Reads.Learnt
 list-one κs a n m v w l k =
     let beside = l .0 .besides ∙ sym (k .0 .besides) in
     let out = l .1 ∙ sym (k .1) in
-    (l .0 .number ∙ sym (k .0 .number), λ i. (tt, (out i, (beside i, tt))))
+    (l .0 .number ∙ sym (k .0 .number), λ i. (tt, (tt, (out i, (beside i, tt)))))
 
 pub rewrite-record-one : OneOutcome rewrite-record.ended rewrite-record.Reads.Learnt
 rewrite-record-one κs a n m v w l k =
@@ -59,7 +59,7 @@ rewrite-record-one κs a n m v w l k =
     let unread = l .1 .0 ∙ sym (k .1 .0) in
     let table = l .1 .1 .0 ∙ sym (k .1 .1 .0) in
     let out = l .1 .1 .1 ∙ sym (k .1 .1 .1) in
-    (l .0 .number ∙ sym (k .0 .number), λ i. (tt, (tt, (table i, (out i, (unread i, (beside i, tt)))))))
+    (l .0 .number ∙ sym (k .0 .number), λ i. (tt, (tt, (tt, (table i, (out i, (unread i, (beside i, tt))))))))
 
 -- ---- the edit journal
 

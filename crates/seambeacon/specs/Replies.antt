@@ -1,8 +1,9 @@
--- R200 to R214: each question's reply, from what is asked: the layers' answers as replies.
+-- R200 to R214: each question's reply, from what is asked and, where a text is read, the rules (R12): the layers' answers as replies.
 use mathlib.Core.List.{List}
 use Prim.Native.Nat.{ℕ}
 use lib.IntN.{ℤ}
 use lib.ListN.{length}
+use Rattle.rules.specs.declared.Rules.{Rules}
 use Rattle.reply.specs.declared.Reply.{Reply}
 use Rattle.reply.specs.Refusals.{checkedReply, answerReply}
 use Rattle.place.specs.Placing.{placingOf}
@@ -20,29 +21,29 @@ use Rattle.journal.specs.Model.{Call}
 use Rattle.journal.specs.Calls.{answerOf}
 use Rattle.listing.specs.Listing.{listing, listedIn}
 
-abbrev pub placeReply : List ℕ → ℕ → Reply
-placeReply s at = placingReply (placingOf s at)
+abbrev pub placeReply : Rules → List ℕ → ℕ → Reply
+placeReply ρ s at = placingReply (placingOf ρ s at)
 
 -- into a table of so many cells
-abbrev pub readReply : List ℕ → ℕ → ℕ → ℕ → Reply
-readReply s at g cells = answerReply (readingOf (readAt s at g cells))
+abbrev pub readReply : Rules → List ℕ → ℕ → ℕ → ℕ → Reply
+readReply ρ s at g cells = answerReply (readingOf (readAt ρ s at g cells))
 
-abbrev pub linesReply : List ℕ → ℕ → ℕ → Reply
-linesReply s at g = checkedReply (foundAt s at g)
+abbrev pub linesReply : Rules → List ℕ → ℕ → ℕ → Reply
+linesReply ρ s at g = checkedReply (foundAt ρ s at g)
 
-abbrev pub characteristicReplyAt : List ℕ → ℕ → ℕ → Reply
-characteristicReplyAt s at k = characteristicReply (characteristicAt s at k)
+abbrev pub characteristicReplyAt : Rules → List ℕ → ℕ → ℕ → Reply
+characteristicReplyAt ρ s at k = characteristicReply (characteristicAt ρ s at k)
 
 -- into an output of so many bytes
 abbrev pub writeReply : List ℕ → List ℤ → ℕ → Reply
 writeReply ns cs room = answerReply (writingOf ns cs room)
 
-abbrev pub listReply : List ℕ → ℕ → Reply
-listReply s room = answerReply (listedIn (listing s) room)
+abbrev pub listReply : Rules → List ℕ → ℕ → Reply
+listReply ρ s room = answerReply (listedIn (listing ρ s) room)
 
 -- with a table of so many cells, into an output of so many bytes
-abbrev pub rewriteReply : List ℕ → ℕ → ℕ → ℕ → Reply
-rewriteReply s at cells room = rewritingReply (rewritingOf s at cells room)
+abbrev pub rewriteReply : Rules → List ℕ → ℕ → ℕ → ℕ → Reply
+rewriteReply ρ s at cells room = rewritingReply (rewritingOf ρ s at cells room)
 
 -- what a call of the edit journal answers, on these cells
 abbrev pub callAnswer : List ℕ → List ℕ → ℕ → List ℤ → Call → Answer

@@ -1,12 +1,14 @@
 // For C: each question of `sao` under a name of its own, in numbers and slices alone. R360: a function answers with the
 // reply's number and writes the eight numbers beside it, in the order of `eightBeside`, into lent memory; those that
-// the reply's row doesn't name are 0. What else is lent is altered as the question of the same name says.
-// include/seambeacon.h tells a caller in C.
+// the reply's row doesn't name are 0. What else is lent is altered as the question of the same name says. R365: what
+// reads a text takes the rules first, as a number of flags. include/seambeacon.h tells a caller in C.
 use group::Characteristic;
 use reply::Reply;
+use rules::Rules;
 ghost use mathlib.Core.Path.{_≡_};
 ghost use mathlib.Core.List.{[], _∷_};
 ghost use lib.ListN.{length};
+ghost use Rattle.seambeacon.specs.Flags.{flagged};
 ghost use Rattle.seambeacon.specs.Numbers.{Told, answerKind, answerValue};
 ghost use Rattle.seambeacon.specs.Replies.{placeReply, readReply, linesReply, characteristicReplyAt, writeReply};
 ghost use Rattle.seambeacon.specs.Replies.{listReply, rewriteReply, callAnswer};
@@ -69,6 +71,13 @@ fn value_of(c: Characteristic) -> i64
     }
 }
 
+// R365: the rules that a number of flags stands for.
+fn rules_of(flags: u32) -> Rules
+    ensures { λ r. ⌜ r ≡ flagged flags ⌝ }
+{
+    rules::choose(flags % 2 == 1)
+}
+
 // ---- The questions.
 
 // R250 to R253. Asked: which record stands at a place of a text.
@@ -76,15 +85,16 @@ fn value_of(c: Characteristic) -> i64
 // A refusal but 7 leaves 80 zero counts.
 #[no_mangle]
 pub extern "C" fn seambeacon_place(
+    rules: u32,
     text: &[u8],
     at: usize,
     counts: &mut [u16; 80],
     beside: &mut [usize; 8],
 ) -> u32
-    ensures reply { λ n. ⌜ Told (placeReply (now (text .entry)) at) n (now (beside .exit)) ⌝ }
-    ensures counts { λ _. ⌜ now (counts .exit) ≡ countsAt (now (text .entry)) at ⌝ }
+    ensures reply { λ n. ⌜ Told (placeReply (flagged rules) (now (text .entry)) at) n (now (beside .exit)) ⌝ }
+    ensures counts { λ _. ⌜ now (counts .exit) ≡ countsAt (flagged rules) (now (text .entry)) at ⌝ }
 {
-    let record = sao::place(text, at);
+    let record = sao::place(rules_of(rules), text, at);
     let answer = record.answer;
     let found = record.counts;
     *counts = found;
@@ -96,18 +106,19 @@ pub extern "C" fn seambeacon_place(
 // kept. A refusal leaves the whole table as it was.
 #[no_mangle]
 pub extern "C" fn seambeacon_read_group(
+    rules: u32,
     text: &[u8],
     at: usize,
     group: usize,
     table: &mut [i64],
     beside: &mut [usize; 8],
 ) -> u32
-    ensures reply { λ n. ⌜ Told (readReply (now (text .entry)) at group (length (now (table .entry)))) n
+    ensures reply { λ n. ⌜ Told (readReply (flagged rules) (now (text .entry)) at group (length (now (table .entry)))) n
         (now (beside .exit)) ⌝ }
-    ensures table { λ _. ⌜ now (table .exit) ≡
-        tableBy (readAt (now (text .entry)) at group (length (now (table .entry)))) (now (table .entry)) ⌝ }
+    ensures table { λ _. ⌜ now (table .exit) ≡ tableBy
+        (readAt (flagged rules) (now (text .entry)) at group (length (now (table .entry)))) (now (table .entry)) ⌝ }
 {
-    let answer = sao::read_group(text, at, group, table);
+    let answer = sao::read_group(rules_of(rules), text, at, group, table);
     tell(reply::of_answer(answer), beside)
 }
 
@@ -117,17 +128,19 @@ pub extern "C" fn seambeacon_read_group(
 // A refusal, 12 or what placing refuses with, gives the empty part at place 0.
 #[no_mangle]
 pub extern "C" fn seambeacon_group_lines(
+    rules: u32,
     text: &[u8],
     at: usize,
     group: usize,
     part: &mut [usize; 2],
     beside: &mut [usize; 8],
 ) -> u32
-    ensures reply { λ n. ⌜ Told (linesReply (now (text .entry)) at group) n (now (beside .exit)) ⌝ }
+    ensures reply { λ n. ⌜ Told (linesReply (flagged rules) (now (text .entry)) at group) n (now (beside .exit)) ⌝ }
     ensures part { λ _. ⌜ now (part .exit) ≡
-        partStart (now (text .entry)) at group ∷ length (partAt (now (text .entry)) at group) ∷ [] ⌝ }
+        partStart (flagged rules) (now (text .entry)) at group ∷
+        length (partAt (flagged rules) (now (text .entry)) at group) ∷ [] ⌝ }
 {
-    let lines = sao::group_lines_at(text, at, group);
+    let lines = sao::group_lines_at(rules_of(rules), text, at, group);
     let found = lines.found;
     let length = lines.to - lines.from;
     *part = [lines.from, length];
@@ -139,6 +152,7 @@ pub extern "C" fn seambeacon_group_lines(
 // A refusal is a kind too, and has its reply: 12, or that of reading group 4.
 #[no_mangle]
 pub extern "C" fn seambeacon_characteristic(
+    rules: u32,
     text: &[u8],
     at: usize,
     number: usize,
@@ -146,11 +160,14 @@ pub extern "C" fn seambeacon_characteristic(
     value: &mut i64,
     beside: &mut [usize; 8],
 ) -> u32
-    ensures reply { λ n. ⌜ Told (characteristicReplyAt (now (text .entry)) at number) n (now (beside .exit)) ⌝ }
-    ensures kind { λ _. ⌜ now (kind .exit) ≡ answerKind (characteristicAt (now (text .entry)) at number) ⌝ }
-    ensures value { λ _. ⌜ now (value .exit) ≡ answerValue (characteristicAt (now (text .entry)) at number) ⌝ }
+    ensures reply { λ n. ⌜ Told (characteristicReplyAt (flagged rules) (now (text .entry)) at number) n
+        (now (beside .exit)) ⌝ }
+    ensures kind { λ _. ⌜ now (kind .exit) ≡
+        answerKind (characteristicAt (flagged rules) (now (text .entry)) at number) ⌝ }
+    ensures value { λ _. ⌜ now (value .exit) ≡
+        answerValue (characteristicAt (flagged rules) (now (text .entry)) at number) ⌝ }
 {
-    let known = sao::characteristic(text, at, number);
+    let known = sao::characteristic(rules_of(rules), text, at, number);
     *kind = kind_of(known);
     *value = value_of(known);
     tell(group::reply_of(known), beside)
@@ -180,11 +197,18 @@ pub extern "C" fn seambeacon_write_record(
 // Answered: 0 with the number of bytes, which stand in the output from its first byte on; what stands behind them is
 // kept. A refusal (11) leaves the whole output as it was.
 #[no_mangle]
-pub extern "C" fn seambeacon_list(text: &[u8], out: &mut [u8], beside: &mut [usize; 8]) -> u32
-    ensures reply { λ n. ⌜ Told (listReply (now (text .entry)) (length (now (out .entry)))) n (now (beside .exit)) ⌝ }
-    ensures output { λ _. ⌜ now (out .exit) ≡ putBytes 0 (listing (now (text .entry))) (now (out .entry)) ⌝ }
+pub extern "C" fn seambeacon_list(
+    rules: u32,
+    text: &[u8],
+    out: &mut [u8],
+    beside: &mut [usize; 8],
+) -> u32
+    ensures reply { λ n. ⌜ Told (listReply (flagged rules) (now (text .entry)) (length (now (out .entry)))) n
+        (now (beside .exit)) ⌝ }
+    ensures output { λ _. ⌜ now (out .exit) ≡
+        putBytes 0 (listing (flagged rules) (now (text .entry))) (now (out .entry)) ⌝ }
 {
-    let answer = sao::list(text, out);
+    let answer = sao::list(rules_of(rules), text, out);
     tell(reply::of_answer(answer), beside)
 }
 
@@ -195,6 +219,7 @@ pub extern "C" fn seambeacon_list(text: &[u8], out: &mut [u8], beside: &mut [usi
 // A refusal leaves the whole output as it was; the table has the cells of the groups that were read before it.
 #[no_mangle]
 pub extern "C" fn seambeacon_rewrite_record(
+    rules: u32,
     text: &[u8],
     at: usize,
     table: &mut [i64],
@@ -203,21 +228,22 @@ pub extern "C" fn seambeacon_rewrite_record(
     beside: &mut [usize; 8],
 ) -> u32
     ensures reply { λ n. ⌜ Told
-        (rewriteReply (now (text .entry)) at (length (now (table .entry))) (length (now (out .entry)))) n
-        (now (beside .exit)) ⌝ }
+        (rewriteReply (flagged rules) (now (text .entry)) at (length (now (table .entry))) (length (now (out .entry))))
+        n (now (beside .exit)) ⌝ }
     ensures unread { λ _. ⌜ now (unread .exit) ≡
-        rewritingGroup (rewritingOf (now (text .entry)) at (length (now (table .entry))) (length (now (out .entry)))) ∷
+        rewritingGroup
+        (rewritingOf (flagged rules) (now (text .entry)) at (length (now (table .entry))) (length (now (out .entry)))) ∷
         [] ⌝ }
     ensures table { λ _. ⌜ now (table .exit) ≡
-        tableAfter (now (text .entry)) at
-        (rewritingOf (now (text .entry)) at (length (now (table .entry))) (length (now (out .entry))))
+        tableAfter (flagged rules) (now (text .entry)) at
+        (rewritingOf (flagged rules) (now (text .entry)) at (length (now (table .entry))) (length (now (out .entry))))
         (now (table .entry)) ⌝ }
     ensures output { λ _. ⌜ now (out .exit) ≡
-        bufferBy (now (text .entry)) at
-        (rewritingOf (now (text .entry)) at (length (now (table .entry))) (length (now (out .entry))))
+        bufferBy (flagged rules) (now (text .entry)) at
+        (rewritingOf (flagged rules) (now (text .entry)) at (length (now (table .entry))) (length (now (out .entry))))
         (now (out .entry)) ⌝ }
 {
-    let answer = sao::rewrite_record(text, at, table, out);
+    let answer = sao::rewrite_record(rules_of(rules), text, at, table, out);
     *unread = [rewriting::group_of(answer)];
     tell(rewriting::reply_of(answer), beside)
 }

@@ -11,6 +11,7 @@ use lib.Dec.{T, leb, leb→le, le→leb}
 use lib.IntN.{ℤ}
 use lib.ListN.{length, take}
 use lib.Seq.{take-at}
+use Rattle.rules.specs.declared.Rules.{Rules}
 use Rattle.base.specs.Every
 use Rattle.base.specs.Every.{every}
 use Rattle.base.specs.Part.{part}
@@ -45,7 +46,7 @@ use Rattle.writing.proofs.Lengths.{plan-length}
 
 -- ---- a field, and the fields of a line
 
-module _ (f : Form) where
+module _ (ρ : Rules) (f : Form) where
   abbrev Field : ℕ → List ℕ → List ℤ → Type 0
   Field e s c = IsCanonical f s c
 
@@ -94,7 +95,7 @@ module _ (f : Form) where
     line-whole = subst (Whole 1) (sym (h .is)) (content-line (h .content) (each-plain field-plain (elementsIn l) (h .content) cs (h .good)))
 
     -- nothing stands behind the fields, and nothing is filled
-    pub line-read : (short : Bool) → l .many ≤ rowOf f .«per_line» → readLine f short l x ≡ done cs
+    pub line-read : (short : Bool) → l .many ≤ rowOf f .«per_line» → readLine ρ f short l x ≡ done cs
     unfolding Read.readLine
     line-read short few =
         let s = h .content in
@@ -102,7 +103,7 @@ module _ (f : Form) where
         let w : columnsOf f l ≤ 120 = omega (arith, mul-le-mul-right (rowOf f .width) few, row-fits f .columns, mul-comm (rowOf f .width) (rowOf f .«per_line»)) in
         let p : part 0 (length s) (s ++ lineEnd) ≡ s = ap (take (length s - 0)) (drop-none (s ++ lineEnd)) ∙ take-at s lineEnd (length s - 0) (omega arith) in
         let r : isRight short (columnsOf f l) s ≡ true = right-exact short (columnsOf f l) s (enough short n) (omega arith) (omega arith) in
-        rw (h .is, content-append s, p, r, filled-enough (columnsOf f l) s (omega arith)) (fields-read l s cs (h .good))
+        rw (h .is, content-append ρ s, p, r, filled-enough (columnsOf f l) s (omega arith)) (fields-read l s cs (h .good))
       where
         enough : (t : Bool) {n m : ℕ} → n ≡ m → cond t 0 m ≤ n
         enough true e = omega arith
@@ -128,17 +129,17 @@ module _ (f : Form) where
         subst (λ k. Whole k x) (sum-ones (planOf f count) ∙ plan-length f count)
         (each-whole (λ (l : Line). 1) line-whole (planOf f count) x cs h)
 
-    pub lines-read : (short : Bool) → readLines f short count x ≡ done cs
+    pub lines-read : (short : Bool) → readLines ρ f short count x ≡ done cs
     unfolding Read.readLines Read.readLinesOf Plan.planOf
     lines-read short =
         let p = rowOf f .«per_line» in
         let few = each-passed (λ l. leb (l .many) p) (planOf f count) x cs (plan-few p (elementsOf f count) 0 (linesOf f count)) h in
-        ap (readLines f short count) (sym (append-nil x))
-        ∙ each-gather {wide = λ (l : Line) s. reach s 1} {read = readLine f short} record {
+        ap (readLines ρ f short count) (sym (append-nil x))
+        ∙ each-gather {wide = λ (l : Line) s. reach s 1} {read = readLine ρ f short} record {
           back = λ l y c q. line-read l y c (q .1) short
               (leb→le (l .many) p (q .0));
           exact = λ l y c b q. reach-whole b (line-whole l y c (q .1));
         } (planOf f count) x cs [] few
 
     pub lines-cells : length cs ≡ cellsOf f count
-    lines-cells = group-size f false count x cs (lines-read false)
+    lines-cells = group-size ρ f false count x cs (lines-read false)

@@ -9,6 +9,7 @@ use borrow.Author.Tests.{eq-eqb}
 use lib.Dec.{lit<}
 use lib.ListN.{length, take, drop, length-append, length-drop, take-append-drop}
 use lib.Seq.{take-at, drop-at, length-take-le}
+use Rattle.rules.specs.declared.Rules.{Rules}
 use Rattle.base.specs.Part.{part}
 use Rattle.base.specs.Pieces.{Each, none, more}
 use Rattle.base.proofs.Ascii.{printable-without}
@@ -50,39 +51,39 @@ entries-read (n ∷ ns) s cs (more x c {y} {d} p h) =
 
 -- ---- a line of 40 counts
 
-module _ (ns x : List ℕ) (h : CanonicalIndexLine ns x) where
+module _ (ρ : Rules) (ns x : List ℕ) (h : CanonicalIndexLine ns x) where
   pub index-line-text : x ≡ entriesText ns ++ lineEnd
   index-line-text = h .is ∙ ap (λ s. s ++ lineEnd) (entries-text ns (h .content) ns (h .good))
 
   pub index-line-whole : Whole 1 x
   index-line-whole = subst (Whole 1) (sym (h .is)) (content-line (h .content) (entries-plain ns (h .content) ns (h .good)))
 
-  pub index-line-read : length ns ≡ 40 → readIndexLine x ≡ counts ns
+  pub index-line-read : length ns ≡ 40 → readIndexLine ρ x ≡ counts ns
   unfolding Index.readIndexLine
   index-line-read many =
       let s = h .content in
       let n : length s ≡ 120 = entries-bytes ns s ns (h .good) ∙ omega arith in
       let p : part 0 (length s) (s ++ lineEnd) ≡ s = ap (take (length s - 0)) (drop-none (s ++ lineEnd)) ∙ take-at s lineEnd (length s - 0) (omega arith) in
-      rw (h .is, content-append s, eq-eqb (length s) 120 n, p) (ap (λ k. readEntries k s) (sym many) ∙ entries-read ns s ns (h .good))
+      rw (h .is, content-append ρ s, eq-eqb (length s) 120 n, p) (ap (λ k. readEntries k s) (sym many) ∙ entries-read ns s ns (h .good))
 
 -- ---- both lines
 
-module _ (ns first second : List ℕ) (many : length ns ≡ 80) (a : CanonicalIndexLine (take 40 ns) first) (b : CanonicalIndexLine (drop 40 ns) second) where
+module _ (ρ : Rules) (ns first second : List ℕ) (many : length ns ≡ 80) (a : CanonicalIndexLine (take 40 ns) first) (b : CanonicalIndexLine (drop 40 ns) second) where
   pub index-whole : Whole 2 (first ++ second)
-  index-whole = whole-append (index-line-whole (take 40 ns) first a) (index-line-whole (drop 40 ns) second b)
+  index-whole = whole-append (index-line-whole ρ (take 40 ns) first a) (index-line-whole ρ (drop 40 ns) second b)
 
-  pub index-read : (rest : List ℕ) → readIndex ((first ++ second) ++ rest) ≡ counts ns
+  pub index-read : (rest : List ℕ) → readIndex ρ ((first ++ second) ++ rest) ≡ counts ns
   unfolding Index.readIndex
   index-read rest =
-      let u = index-line-whole (take 40 ns) first a in
-      let v = index-line-whole (drop 40 ns) second b in
+      let u = index-line-whole ρ (take 40 ns) first a in
+      let v = index-line-whole ρ (drop 40 ns) second b in
       rw (
         append-assoc first second rest,
         lines-whole (second ++ rest) u,
         behind-whole (second ++ rest) u,
         lines-whole rest v,
-        index-line-read (take 40 ns) first a
+        index-line-read ρ (take 40 ns) first a
             (length-take-le 40 ns (omega arith)),
-        index-line-read (drop 40 ns) second b (length-drop 40 ns ∙ omega arith),
+        index-line-read ρ (drop 40 ns) second b (length-drop 40 ns ∙ omega arith),
       )
       (ap counts (take-append-drop 40 ns))

@@ -1,6 +1,7 @@
 -- R425: the marked cases hold, R401 to R410, all rows of the one table, by computation.
 -- Assumes nothing.
 use mathlib.Core.Path.{refl}
+use Rattle.rules.specs.declared.Rules.{Rules}
 use Rattle.base.specs.Every
 use Rattle.base.specs.Pieces
 use Rattle.form.specs.Table
@@ -24,12 +25,12 @@ infixr 4 _also_
 _also_ : {A B : Type 0} → A → B → A × B
 a also b = (a, b)
 
-pub marked : AllHolding cases
+pub marked : (ρ : Rules) → AllHolding ρ cases
 unfolding Read.readForm Read.readLines Read.readLinesOf Read.readLine Read.readFields Pieces.gather Pieces.emit Plan.planOf Plan.planFrom Every.upFrom
     Table.rowOf Table.listedAs Count.elementsOf Count.linesOf Count.roundedUp Count.cellsOf Lines.reach Contents.contentOf Blanks.isRight Blanks.filledTo
     FieldRead.fieldOf Write.fitsOf Write.fieldText Entry.entryOf elementsFit firstMisfit linesText lineText fieldsText Date.datedOf Date.firstBlamed
     Digits.fieldDigits Calendar.nameDay Calendar.daysTo Calendar.monthLength Calendar.isLeap
-marked =
+marked ρ =
     (refl, refl)
     also (λ g. refl)
     also (refl, refl)

@@ -6,6 +6,7 @@ use Prim.Native.Nat.{ℕ}
 use Prim.Native.String.{String}
 use lib.IntN.{ℤ, pos, negℤ}
 use lib.ListN.{length, replicate}
+use Rattle.rules.specs.declared.Rules.{Rules}
 use Rattle.base.specs.Every
 use Rattle.base.specs.Pieces
 use Rattle.base.specs.Quoted.{bytes}
@@ -65,8 +66,8 @@ unfolding writingOf recordBytes bytesIn fitOf elementsFit firstMisfit Check.chec
     Digits.fieldDigits Calendar.nameDay Calendar.daysTo Calendar.monthLength Calendar.isLeap
 done = refl
 
-pub is-canonical : CanonicalRecord counts text cells
-is-canonical = subst (λ x. CanonicalRecord counts x cells) written (done-canonical counts cells 305 305 done)
+pub is-canonical : Rules → CanonicalRecord counts text cells
+is-canonical ρ = subst (λ x. CanonicalRecord counts x cells) written (done-canonical ρ counts cells 305 305 done)
 
-pub back : (a b : List ℕ) → ReadsBack counts cells 305 (a ++ (text ++ b)) (length a)
-back a b = subst (λ x. ReadsBack counts cells 305 (a ++ (x ++ b)) (length a)) written (reads-back counts cells 305 305 done a b)
+pub back : (ρ : Rules) (a b : List ℕ) → ReadsBack ρ counts cells 305 (a ++ (text ++ b)) (length a)
+back ρ a b = subst (λ x. ReadsBack ρ counts cells 305 (a ++ (x ++ b)) (length a)) written (reads-back ρ counts cells 305 305 done a b)

@@ -3,7 +3,7 @@
 -- each is due (Misfits, Due); a canonical group (CanonicalGroups), index (CanonicalIndex) and record (Canonical), and where it stands in a text
 -- (Standing) with each group's own cells (GroupCells); that what is written is canonical (Written). What reply 0 of
 -- writing says (Done). What was written reads back (ReadsBack); what reads fits (ReadFits), and what was read is written again
--- (ReadWrites). Record S (Instance) and the marked cases (Cases).
+-- (ReadWrites). A canonical record under any two rules for line ends (Ends). Record S (Instance) and the marked cases (Cases).
 pub mod Fitting
 pub mod Lengths
 pub mod Checking
@@ -23,5 +23,6 @@ pub mod Done
 pub mod ReadsBack
 pub mod ReadFits
 pub mod ReadWrites
+pub mod Ends
 pub mod Instance
 pub mod Cases

@@ -8,6 +8,7 @@ use native.Mathlib.Nat.{add-zero, zero-add, zero-mul, add-mul, suc-mul}
 use native.Mathlib.Omega.{arith}
 use lib.Dec.{T}
 use lib.IntN.{ℤ}
+use Rattle.rules.specs.declared.Rules.{Rules}
 use Rattle.base.specs.Every
 use Rattle.base.specs.Every.{upFrom}
 use Rattle.base.specs.Part.{part}
@@ -61,7 +62,7 @@ plan-elements p n j (suc k) =
 
 -- ---- what reads fits
 
-module _ (f : Form) where
+module _ (ρ : Rules) (f : Form) where
   abbrev Fits : ℕ → List ℕ → List ℤ → Type 0
   Fits e x c = T (fitsOf f c)
 
@@ -71,15 +72,15 @@ module _ (f : Form) where
       let g = gather-each (λ (e : ℕ) x. rowOf f .width) (readField f (l .number)) (elementsIn l) s c e in
       record { text = g .text; each = each-imply (λ e x c r. lawful f .fitting x c (field-done f (l .number) e x c r)) (elementsIn l) (g .text) c (g .each) }
 
-  line-fits : (short : Bool) (l : Line) (x : List ℕ) (c : List ℤ) → readLine f short l x ≡ done c → Pieced Fits (elementsIn l) c
+  line-fits : (short : Bool) (l : Line) (x : List ℕ) (c : List ℤ) → readLine ρ f short l x ≡ done c → Pieced Fits (elementsIn l) c
   line-fits short l x c e =
-      let d = line-done f short l x c e in
+      let d = line-done ρ f short l x c e in
       fields-fit l (filledTo (columnsOf f l) (part 0 (d .bytes) x)) c (d .fields)
 
-  lines-fit : (short : Bool) (count : ℕ) (x : List ℕ) (c : List ℤ) → readLines f short count x ≡ done c → Pieced Fits (upFrom 1 (elementsOf f count)) c
+  lines-fit : (short : Bool) (count : ℕ) (x : List ℕ) (c : List ℤ) → readLines ρ f short count x ≡ done c → Pieced Fits (upFrom 1 (elementsOf f count)) c
   unfolding Read.readLines Read.readLinesOf Plan.planOf Count.linesOf
   lines-fit short count x c e =
-      let g = gather-each (λ (l : Line) s. reach s 1) (readLine f short) (planOf f count) x c e in
+      let g = gather-each (λ (l : Line) s. reach s 1) (readLine ρ f short) (planOf f count) x c e in
       let p = rowOf f .«per_line» in
       let n = elementsOf f count in
       let k = roundedUp n p in
@@ -88,7 +89,7 @@ module _ (f : Form) where
       subst (λ es. Pieced Fits es c) (plan-elements p n 0 k ∙ rw (m, a))
       (each-flat elementsIn (planOf f count) (g .text) c (each-imply (λ l y d r. line-fits short l y d r) (planOf f count) (g .text) c (g .each)))
 
-  pub group-fit : (short : Bool) (g count : ℕ) (x : List ℕ) (c : List ℤ) → readLines f short count x ≡ done c → elementsFit f g count c ≡ All
+  pub group-fit : (short : Bool) (g count : ℕ) (x : List ℕ) (c : List ℤ) → readLines ρ f short count x ≡ done c → elementsFit f g count c ≡ All
   unfolding elementsFit
   group-fit short g count x c e =
       let p = lines-fit short count x c e in

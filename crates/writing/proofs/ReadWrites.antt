@@ -11,6 +11,7 @@ use lib.Dec.{T, leb, leb→le}
 use lib.IntN.{ℤ}
 use lib.ListN.{length, take, drop}
 use lib.Seq.{length-take-le, drop-drop}
+use Rattle.rules.specs.declared.Rules.{Rules}
 use Rattle.base.specs.Every.{upFrom}
 use Rattle.base.specs.Part.{part, over}
 use Rattle.base.specs.Pieces.{done, Each}
@@ -52,28 +53,28 @@ use Rattle.writing.proofs.Written.{all-groups}
 
 -- ---- what a group that was read says
 
-module _ {ns : List ℕ} {g : ℕ} {y : List ℕ} {room : ℕ} {c : List ℤ} (r : GroupReads ns g y room c) where
+module _ (ρ : Rules) {ns : List ℕ} {g : ℕ} {y : List ℕ} {room : ℕ} {c : List ℤ} (r : GroupReads ρ ns g y room c) where
   pub reads-cells : length c ≡ cellsIn ns g
   unfolding Tally.cellsIn
-  reads-cells = rw (r .has) (group-size (r .form) (mayBeShort g) (countOf ns g) y c (r .lines))
+  reads-cells = rw (r .has) (group-size ρ (r .form) (mayBeShort g) (countOf ns g) y c (r .lines))
 
   reads-fit : groupFit ns g c ≡ All
-  reads-fit = rw (r .has) (group-fit (r .form) (mayBeShort g) g (countOf ns g) y c (r .lines))
+  reads-fit = rw (r .has) (group-fit ρ (r .form) (mayBeShort g) g (countOf ns g) y c (r .lines))
 
-module _ {s : List ℕ} {at n : ℕ} {cells : ℕ → List ℤ} (r : ReadWhole s at n cells) where
+module _ (ρ : Rules) {s : List ℕ} {at n : ℕ} {cells : ℕ → List ℤ} (r : ReadWhole ρ s at n cells) where
   abbrev ns : List ℕ
-  ns = countsAt s at
+  ns = countsAt ρ s at
 
-  placed : IsPlaced s at n
-  placed = is-placed s at n (r .placed)
+  placed : IsPlaced ρ s at n
+  placed = is-placed ρ s at n (r .placed)
 
-  here : IsLocated s at n ns
-  here = located-is s at n ns (placed .located-at)
+  here : IsLocated ρ s at n ns
+  here = located-is ρ s at n ns (placed .located-at)
 
-  reads : (g : ℕ) → 1 ≤ g → g ≤ 60 → GroupReads ns g (groupPart s at ns g) (r .room g) (cells g)
+  reads : (g : ℕ) → 1 ≤ g → g ≤ 60 → GroupReads ρ ns g (groupPart s at ns g) (r .room g) (cells g)
   reads g low high =
-      group-reads ns g (groupPart s at ns g) (r .room g) (cells g)
-      (sym (read-located s at g (r .room g) n ns (placed .located-at)) ∙ r .groups g low high)
+      group-reads ρ ns g (groupPart s at ns g) (r .room g) (cells g)
+      (sym (read-located ρ s at g (r .room g) n ns (placed .located-at)) ∙ r .groups g low high)
 
   -- the groups with their cells, as pieces
   abbrev Known : ℕ → List ℕ → List ℤ → Type 0
@@ -90,7 +91,7 @@ module _ {s : List ℕ} {at n : ℕ} {cells : ℕ → List ℤ} (r : ReadWhole s
       one : (g : ℕ) (x : List ℕ) (c : List ℤ) → T (leb 1 g && leb g 60) → c ≡ cells g → Known g x c
       one g x c t e =
           let q = reads g (leb→le 1 g (and-left (leb 1 g) (leb g 60) t)) (leb→le g 60 (and-right (leb 1 g) (leb g 60) t)) in
-          rw e (reads-cells q, reads-fit q, refl)
+          rw e (reads-cells ρ q, reads-fit ρ q, refl)
 
   sizes : (g : ℕ) (x : List ℕ) (c : List ℤ) → Known g x c → length c ≡ cellsIn ns g
   sizes g x c k = k .0
@@ -111,7 +112,7 @@ module _ {s : List ℕ} {at n : ℕ} {cells : ℕ → List ℤ} (r : ReadWhole s
   read-writes room enough =
       let told = reads 3 (omega arith) (omega arith) .date refl in
       is-done ns (joined cells) room (recordBytes ns) record {
-        checked = has-cells ns (length (joined cells)) (index-counts (drop at s) ns (index-is (drop at s) ns .0 (here .index))) (here .release) (placed .kept) joined-cells;
+        checked = has-cells ns (length (joined cells)) (index-counts ρ (drop at s) ns (index-is ρ (drop at s) ns .0 (here .index))) (here .release) (placed .kept) joined-cells;
         fit = joined-fit;
         date = told .date;
         right = ap (λ c. datedOf (map sizeOf c)) (joined-group 3 (omega arith) (omega arith)) ∙ told .right;
@@ -122,8 +123,8 @@ module _ {s : List ℕ} {at n : ℕ} {cells : ℕ → List ℤ} (r : ReadWhole s
   -- ---- a record whose bytes were canonical
 
   module _ {ds : List ℤ} (h : CanonicalRecord ns (part at n s) ds) where
-    inside : (at + 244 ≤ n) × (n ≤ length s)
-    inside = (located-long s at n ns (placed .located-at), located-range s at n ns (placed .located-at))
+    inside : (at + 242 ≤ n) × (n ≤ length s)
+    inside = (located-long ρ s at n ns (placed .located-at), located-range ρ s at n ns (placed .located-at))
 
     whole : take at s ++ (part at n s ++ drop n s) ≡ s
     whole =
@@ -134,11 +135,11 @@ module _ {s : List ℕ} {at n : ℕ} {cells : ℕ → List ℤ} (r : ReadWhole s
     group-again g low high =
         let e : length (take at s) ≡ at = length-take-le at s (omega (arith, inside .0, inside .1)) in
         subst (λ m. CanonicalGroup ns g (groupPart s m ns g) (groupCells ns ds g)) e
-        (subst (λ t. CanonicalGroup ns g (groupPart t (length (take at s)) ns g) (groupCells ns ds g)) whole (standing-group h (take at s) (drop n s) g low high))
+        (subst (λ t. CanonicalGroup ns g (groupPart t (length (take at s)) ns g) (groupCells ns ds g)) whole (standing-group ρ h (take at s) (drop n s) g low high))
 
     -- its cells are those that are read
     pub canonical-joined : ds ≡ joined cells
-    canonical-joined = cells-joined ns ds cells (canonical-cells h) each
+    canonical-joined = cells-joined ns ds cells (canonical-cells ρ h) each
       where
         same : {a b : List ℤ} → _≡_ {A = Cells} (done a) (done b) → a ≡ b
         same e = cc
@@ -146,16 +147,16 @@ module _ {s : List ℕ} {at n : ℕ} {cells : ℕ → List ℤ} (r : ReadWhole s
         each : (g : ℕ) → 1 ≤ g → g ≤ 60 → groupCells ns ds g ≡ cells g
         each g low high =
             let q = reads g low high in
-            same (sym (group-read ns g (q .form) (groupPart s at ns g) (groupCells ns ds g) (q .has) (group-again g low high)) ∙ q .lines)
+            same (sym (group-read ρ ns g (q .form) (groupPart s at ns g) (groupCells ns ds g) (q .has) (group-again g low high)) ∙ q .lines)
 
     -- and what is written for them is these bytes
     pub written-again : recordText ns (joined cells) ≡ part at n s
-    written-again = ap (recordText ns) (sym canonical-joined) ∙ sym (canonical-text h)
+    written-again = ap (recordText ns) (sym canonical-joined) ∙ sym (canonical-text ρ h)
 
     pub again-bytes : recordBytes ns ≡ n - at
     again-bytes =
         let e : at + (n - at) ≡ n = omega (arith, inside .0) in
-        sym (record-length ns (joined cells) (index-is (drop at s) ns .0 (here .index) .many) joined-fit)
+        sym (record-length ns (joined cells) (index-is ρ (drop at s) ns .0 (here .index) .many) joined-fit)
         ∙ ap length written-again
         ∙ ap (λ m. length (part at m s)) (sym e)
         ∙ part-length s at (n - at) (omega (arith, inside .0, inside .1))
@@ -167,5 +168,5 @@ module _ {s : List ℕ} {at n : ℕ} {cells : ℕ → List ℤ} (r : ReadWhole s
         let w : writingOf ns (joined cells) (length old) ≡ Done (n - at) = read-writes (length old) (omega (arith, again-bytes)) ∙ ap Done again-bytes in
         (w, rw (w, written-again))
 
-  pub writes-again : WritesAgain s at n cells
+  pub writes-again : WritesAgain ρ s at n cells
   writes-again = record { written = read-writes; cells-same = λ ds h. canonical-joined h; bytes-same = λ ds h. written-again h }

@@ -8,6 +8,7 @@ use native.Mathlib.Omega.{arith}
 use lib.IntN.{ℤ}
 use lib.ListN.{length, take, drop, length-take, length-drop}
 use lib.Seq.{take-at, length-take-le}
+use Rattle.rules.specs.declared.Rules.{Rules}
 use Rattle.base.specs.Part.{part}
 use Rattle.base.proofs.Part.{part-cut}
 use Rattle.base.proofs.Taken.{take-none}
@@ -41,32 +42,32 @@ use Rattle.writing.proofs.Written.{written-canonical}
 
 -- ---- a canonical record reads back
 
-module _ {ns x : List ℕ} {cs : List ℤ} (h : CanonicalRecord ns x cs) (five : releaseOf ns ≡ Five) (kept : rulingOf ns ≡ Kept) (told : TellsDate (dateLetters ns cs)) where
-  group-back : (g room : ℕ) (y : List ℕ) → 1 ≤ g → g ≤ 60 → cellsIn ns g ≤ room → CanonicalGroup ns g y (groupCells ns cs g) → GroupReads ns g y room (groupCells ns cs g)
+module _ (ρ : Rules) {ns x : List ℕ} {cs : List ℤ} (h : CanonicalRecord ns x cs) (five : releaseOf ns ≡ Five) (kept : rulingOf ns ≡ Kept) (told : TellsDate (dateLetters ns cs)) where
+  group-back : (g room : ℕ) (y : List ℕ) → 1 ≤ g → g ≤ 60 → cellsIn ns g ≤ room → CanonicalGroup ns g y (groupCells ns cs g) → GroupReads ρ ns g y room (groupCells ns cs g)
   unfolding Tally.cellsIn
   group-back g room y low high enough p = by (formOf g) refl enough
     where
-      by : (h : GroupForm) → formOf g ≡ h → cellsBy h (countOf ns g) ≤ room → GroupReads ns g y room (groupCells ns cs g)
-      by (Has f) u l = record { form = f; has = u; enough = l; lines = group-read ns g f y (groupCells ns cs g) u p; date = λ e. rw e told }
+      by : (h : GroupForm) → formOf g ≡ h → cellsBy h (countOf ns g) ≤ room → GroupReads ρ ns g y room (groupCells ns cs g)
+      by (Has f) u l = record { form = f; has = u; enough = l; lines = group-read ρ ns g f y (groupCells ns cs g) u p; date = λ e. rw e told }
       by NoGroup u l = absurd (has-form g low (omega arith) u)
 
-  pub canonical-back : (a b : List ℕ) → ReadsBack ns cs (length x) (a ++ (x ++ b)) (length a)
+  pub canonical-back : (a b : List ℕ) → ReadsBack ρ ns cs (length x) (a ++ (x ++ b)) (length a)
   unfolding Placing.placingOf Placing.countsAt
   canonical-back a b =
       let s = a ++ (x ++ b) in
       let at = length a in
-      let l = standing-located h a b five in
+      let l = standing-located ρ h a b five in
       record {
         placed = ap placingBy l ∙ rw kept;
         counts = ap countsBy l;
         groups = λ g room low high enough.
-            read-located s at g room (at + length x) ns l
-            ∙ reads-group ns g (groupPart s at ns g) room (groupCells ns cs g) kept (group-back g room (groupPart s at ns g) low high enough (standing-group h a b g low high));
+            read-located ρ s at g room (at + length x) ns l
+            ∙ reads-group ρ ns g (groupPart s at ns g) room (groupCells ns cs g) kept (group-back g room (groupPart s at ns g) low high enough (standing-group ρ h a b g low high));
       }
 
 -- ---- what was written reads back
 
-module _ (ns : List ℕ) (cs : List ℤ) (room n : ℕ) (e : writingOf ns cs room ≡ Done n) where
+module _ (ρ : Rules) (ns : List ℕ) (cs : List ℤ) (room n : ℕ) (e : writingOf ns cs room ≡ Done n) where
   d : IsDone ns cs room n
   d = done-is ns cs room n e
 
@@ -79,10 +80,10 @@ module _ (ns : List ℕ) (cs : List ℤ) (room n : ℕ) (e : writingOf ns cs roo
   pub done-bytes : length (recordText ns cs) ≡ n
   done-bytes = record-length ns cs (has .counts .many) (d .fit) ∙ sym (d .bytes)
 
-  pub reads-back : (a b : List ℕ) → ReadsBack ns cs n (a ++ (recordText ns cs ++ b)) (length a)
+  pub reads-back : (a b : List ℕ) → ReadsBack ρ ns cs n (a ++ (recordText ns cs ++ b)) (length a)
   reads-back a b =
-      subst (λ m. ReadsBack ns cs m (a ++ (recordText ns cs ++ b)) (length a)) done-bytes
-      (canonical-back done-canonical (released ns Five has) (kept-ruling ns (d .checked .rules .kept)) record { date = d .date; right = d .right } a b)
+      subst (λ m. ReadsBack ρ ns cs m (a ++ (recordText ns cs ++ b)) (length a)) done-bytes
+      (canonical-back ρ done-canonical (released ns Five has) (kept-ruling ns (d .checked .rules .kept)) record { date = d .date; right = d .right } a b)
 
   -- the same of the output: wherever its first n bytes stand
   pub output-bytes : (old : List ℕ) → take n (outputBy ns cs (Done n) old) ≡ recordText ns cs
@@ -90,7 +91,7 @@ module _ (ns : List ℕ) (cs : List ℤ) (room n : ℕ) (e : writingOf ns cs roo
       ap (λ t. take n (t ++ (recordText ns cs ++ drop (0 + length (recordText ns cs)) old))) (take-none old)
       ∙ take-at (recordText ns cs) (drop (0 + length (recordText ns cs)) old) n done-bytes
 
-  pub output-reads-back : (old s : List ℕ) (at : ℕ) → part at (at + n) s ≡ take n (outputBy ns cs (Done n) old) → ReadsBack ns cs n s at
+  pub output-reads-back : (old s : List ℕ) (at : ℕ) → part at (at + n) s ≡ take n (outputBy ns cs (Done n) old) → ReadsBack ρ ns cs n s at
   unfolding recordBytes
   output-reads-back old s at p =
       let m : at + n - at ≡ n = omega arith in
@@ -99,4 +100,4 @@ module _ (ns : List ℕ) (cs : List ℤ) (room n : ℕ) (e : writingOf ns cs roo
       let k : length (part at (at + n) s) ≡ min (at + n - at) (length s - at) = length-take (at + n - at) (drop at s) ∙ ap (min (at + n - at)) (length-drop at s) in
       let e : length (take at s) ≡ at = length-take-le at s (omega (arith, d .bytes)) in
       let w : take at s ++ (recordText ns cs ++ drop n (drop at s)) ≡ s = ap (λ y. take at s ++ (y ++ drop n (drop at s))) (sym t) ∙ sym (part-cut s at n) in
-      subst (λ i. ReadsBack ns cs n s i) e (subst (λ y. ReadsBack ns cs n y (length (take at s))) w (reads-back (take at s) (drop n (drop at s))))
+      subst (λ i. ReadsBack ρ ns cs n s i) e (subst (λ y. ReadsBack ρ ns cs n y (length (take at s))) w (reads-back (take at s) (drop n (drop at s))))

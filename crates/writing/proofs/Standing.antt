@@ -8,6 +8,7 @@ use native.Mathlib.Omega.{arith}
 use lib.IntN.{ℤ}
 use lib.ListN.{length, take, drop, length-append}
 use lib.Seq.{drop-append-seam}
+use Rattle.rules.specs.declared.Rules.{Rules}
 use Rattle.base.specs.Every.{upFrom}
 use Rattle.base.specs.Sum
 use Rattle.base.specs.Sum.{sum}
@@ -40,18 +41,18 @@ lines-before ns (suc k) low =
     let e : suc k - 1 ≡ k = omega arith in
     rw (e, map-take (linesIn ns) k (upFrom 1 60))
 
-module _ {ns x : List ℕ} {cs : List ℤ} (h : CanonicalRecord ns x cs) (a b : List ℕ) where
+module _ (ρ : Rules) {ns x : List ℕ} {cs : List ℤ} (h : CanonicalRecord ns x cs) (a b : List ℕ) where
   abbrev pub inText : List ℕ
   inText = a ++ (x ++ b)
 
-  pub standing-located : releaseOf ns ≡ Five → locate inText (length a) ≡ located (length a + length x) ns
+  pub standing-located : releaseOf ns ≡ Five → locate ρ inText (length a) ≡ located (length a + length x) ns
   standing-located five =
-      let u : Whole (recordLines ns) x = canonical-whole h in
+      let u : Whole (recordLines ns) x = canonical-whole ρ h in
       let d : drop (length a) inText ≡ x ++ b = drop-append-seam a (x ++ b) in
       let n : feeds (x ++ b) ≡ recordLines ns + feeds b = feeds-whole b u in
-      let i : readIndex (x ++ b) ≡ counts ns =
-      rw (h .is, append-assoc (h .first ++ h .second) (h .groups) b) (index-read ns (h .first) (h .second) (h .many) (h .first-line) (h .second-line) (h .groups ++ b)) in
-      is-located inText (length a) (length a + length x) ns record {
+      let i : readIndex ρ (x ++ b) ≡ counts ns =
+      rw (h .is, append-assoc (h .first ++ h .second) (h .groups) b) (index-read ρ ns (h .first) (h .second) (h .many) (h .first-line) (h .second-line) (h .groups ++ b)) in
+      is-located ρ inText (length a) (length a + length x) ns record {
         inside = omega (arith, length-append a (x ++ b), feeds-le (x ++ b), record-two ns);
         head = rw d (omega (arith, record-two ns));
         index = rw d i;
@@ -63,20 +64,20 @@ module _ {ns x : List ℕ} {cs : List ℤ} (h : CanonicalRecord ns x cs) (a b : 
   -- a group is found behind the lines of the groups before it
   module _ (g : ℕ) (low : 1 ≤ g) (high : g ≤ 60) where
     m : GroupAmong ns (CanonicalGroup ns) (h .groups) cs g
-    m = group-among ns (group-cells ns) (h .groups) cs (h .each) g low high
+    m = group-among ns (group-cells ρ ns) (h .groups) cs (h .each) g low high
 
     before-lines : Whole (linesBefore ns g) ((h .first ++ h .second) ++ m .first)
     before-lines =
         subst (λ k. Whole k ((h .first ++ h .second) ++ m .first)) (sym (lines-before ns g low))
-        (whole-append (index-whole ns (h .first) (h .second) (h .many) (h .first-line) (h .second-line))
-        (each-whole (linesIn ns) (group-whole ns) (take (g - 1) (upFrom 1 60)) (m .first) (m .first-cells) (m .before)))
+        (whole-append (index-whole ρ ns (h .first) (h .second) (h .many) (h .first-line) (h .second-line))
+        (each-whole (linesIn ns) (group-whole ρ ns) (take (g - 1) (upFrom 1 60)) (m .first) (m .first-cells) (m .before)))
 
     its-lines : groupPart inText (length a) ns g ≡ m .itself
     its-lines =
         let t : x ++ b ≡ ((h .first ++ h .second) ++ m .first) ++ (m .itself ++ (m .rest ++ b)) = ap (λ y. y ++ b) (h .is ∙ ap (λ y. (h .first ++ h .second) ++ y) (m .text)) ∙ simp append-assoc in
         part-lines inText (length a) ns g (omega arith)
         ∙ rw (line-entry ns g low (omega arith), drop-append-seam a (x ++ b), t, behind-whole (m .itself ++ (m .rest ++ b)) before-lines)
-        (lines-whole (m .rest ++ b) (group-whole ns g (m .itself) (groupCells ns cs g) (m .holds)))
+        (lines-whole (m .rest ++ b) (group-whole ρ ns g (m .itself) (groupCells ns cs g) (m .holds)))
 
     pub standing-group : CanonicalGroup ns g (groupPart inText (length a) ns g) (groupCells ns cs g)
     standing-group = rw its-lines (m .holds)

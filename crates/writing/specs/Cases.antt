@@ -7,6 +7,7 @@ use Prim.Native.Nat.{ℕ}
 use Prim.Native.String.{String}
 use lib.IntN.{ℤ, pos, negℤ}
 use lib.ListN.{length}
+use Rattle.rules.specs.declared.Rules.{Rules}
 use Rattle.base.specs.Pieces.{cellsGot}
 use Rattle.base.specs.Quoted.{bytes}
 use Rattle.form.specs.declared.Form.{Form}
@@ -57,22 +58,23 @@ abbrev pub fitNumber : Fit → ℕ
 fitNumber All = 0
 fitNumber (Not g e) = refusalNumber (NoField g e)
 
--- letters as group 3
-abbrev pub lettersRead : String → Cells
-lettersRead t = readForm A1 3 (length (bytes t)) (line t) (length (bytes t))
+module _ (ρ : Rules) where
+  -- letters as group 3
+  abbrev pub lettersRead : String → Cells
+  lettersRead t = readForm ρ A1 3 (length (bytes t)) (line t) (length (bytes t))
 
-abbrev pub Holding : Case → Type 0
-Holding (reads f t n cs) = (caseReply (readLines f false 1 (line t)) .number ≡ n) × (cellsGot (readLines f false 1 (line t)) ≡ cs)
-Holding (writes f cs t) = (g : ℕ) → (fitNumber (elementsFit f g 1 cs) ≡ 0) × (linesText f 1 cs ≡ line t)
-Holding (refuses f cs n) = (g : ℕ) → fitNumber (elementsFit f g 1 cs) ≡ n
-Holding (entry t e) = entryOf (bytes t) ≡ e
-Holding (takes f count n) = linesOf f count ≡ n
-Holding (dates t d) = (caseReply (lettersRead t) .number ≡ 0) × (datedOf (bytes t) ≡ Right d)
-Holding (blames t n p) = (caseReply (lettersRead t) .number ≡ n) × (caseReply (lettersRead t) .position ≡ p)
+  abbrev pub Holding : Case → Type 0
+  Holding (reads f t n cs) = (caseReply (readLines ρ f false 1 (line t)) .number ≡ n) × (cellsGot (readLines ρ f false 1 (line t)) ≡ cs)
+  Holding (writes f cs t) = (g : ℕ) → (fitNumber (elementsFit f g 1 cs) ≡ 0) × (linesText f 1 cs ≡ line t)
+  Holding (refuses f cs n) = (g : ℕ) → fitNumber (elementsFit f g 1 cs) ≡ n
+  Holding (entry t e) = entryOf (bytes t) ≡ e
+  Holding (takes f count n) = linesOf f count ≡ n
+  Holding (dates t d) = (caseReply (lettersRead t) .number ≡ 0) × (datedOf (bytes t) ≡ Right d)
+  Holding (blames t n p) = (caseReply (lettersRead t) .number ≡ n) × (caseReply (lettersRead t) .position ≡ p)
 
-abbrev pub AllHolding : List Case → Type 0
-AllHolding [] = Unit {0}
-AllHolding (c ∷ cs) = Holding c × AllHolding cs
+  abbrev pub AllHolding : List Case → Type 0
+  AllHolding [] = Unit {0}
+  AllHolding (c ∷ cs) = Holding c × AllHolding cs
 
 -- year, day of year, month, day, hour, minute, second
 abbrev pub date : ℕ → ℕ → ℕ → ℕ → ℕ → ℕ → ℕ → Date

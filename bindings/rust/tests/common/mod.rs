@@ -1,7 +1,7 @@
 //! What the tests share: the project's example texts, and record S with its numbers as the rules state them.
 #![allow(dead_code)]
 
-use seambeacon::Rewritten;
+use seambeacon::{Rewritten, Rules};
 use std::fs;
 use std::path::PathBuf;
 
@@ -46,10 +46,10 @@ pub fn replaced(text: &[u8], old: &str, new: &str) -> Vec<u8> {
 
 /// R346: what the rewriting program prints of a text, up to the first record that is refused or has more than 8,192 canonical bytes.
 /// Also the place where it stops.
-pub fn rewritten(text: &[u8]) -> (Vec<u8>, usize) {
+pub fn rewritten(rules: Rules, text: &[u8]) -> (Vec<u8>, usize) {
     let (mut table, mut out) = ([0; 8192], [0; 8192]);
     let (mut at, mut all) = (0, Vec::new());
-    while let Ok(Rewritten { bytes, next }) = seambeacon::rewrite_record(text, at, &mut table, &mut out) {
+    while let Ok(Rewritten { bytes, next }) = seambeacon::rewrite_record(rules, text, at, &mut table, &mut out) {
         assert!(next > at, "a walk goes forward");
         all.extend_from_slice(&out[..bytes]);
         at = next;

@@ -8,10 +8,10 @@ use Rattle.dump.proofs.print_characteristics.Statement.{statement}
 use Rattle.dump.proofs.print_characteristics.Tie as tie
 
 abbrev Inv-loop : tie.InvT-loop
-Inv-loop text at page₀ number₀ page number = length page ≡ length page₀
+Inv-loop rules text at page₀ number₀ page number = length page ≡ length page₀
 
 abbrev μ-loop : tie.MeasureT-loop
-μ-loop text at page₀ number₀ page number = 50 - number
+μ-loop rules text at page₀ number₀ page number = 50 - number
 
 pub print-characteristics-spec : {M : Type 1} → statement M
 print-characteristics-spec =

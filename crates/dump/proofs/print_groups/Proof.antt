@@ -8,10 +8,10 @@ use Rattle.dump.proofs.print_groups.Statement.{statement}
 use Rattle.dump.proofs.print_groups.Tie as tie
 
 abbrev Inv-loop : tie.InvT-loop
-Inv-loop text at page₀ g₀ page g = length page ≡ length page₀
+Inv-loop rules text at page₀ g₀ page g = length page ≡ length page₀
 
 abbrev μ-loop : tie.MeasureT-loop
-μ-loop text at page₀ g₀ page g = 61 - g
+μ-loop rules text at page₀ g₀ page g = 61 - g
 
 pub print-groups-spec : {M : Type 1} → statement M
 print-groups-spec =

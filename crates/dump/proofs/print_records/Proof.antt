@@ -8,10 +8,10 @@ use Rattle.dump.proofs.print_records.Statement.{statement}
 use Rattle.dump.proofs.print_records.Tie as tie
 
 abbrev Inv-loop : tie.InvT-loop
-Inv-loop text page₀ at₀ k₀ page at k = length page ≡ length page₀
+Inv-loop rules text page₀ at₀ k₀ page at k = length page ≡ length page₀
 
 abbrev μ-loop : tie.MeasureT-loop
-μ-loop text page₀ at₀ k₀ page at k = 300 - k
+μ-loop rules text page₀ at₀ k₀ page at k = 300 - k
 
 pub print-records-spec : {M : Type 1} → statement M
 print-records-spec =

@@ -15,20 +15,20 @@ use Rattle.group.proofs.characteristic_at.Tie as tie
 returns : tie.Need-returns
 returns c =
     let o = c .before .before .before in
-    number-outside (o .args .text .now) (o .args .at) (o .args .number) (sym (c .before .is-characteristic .ensures) ∙ not-true _ (c .if1 .taken))
+    number-outside (o .args .rules) (o .args .text .now) (o .args .at) (o .args .number) (sym (c .before .is-characteristic .ensures) ∙ not-true _ (c .if1 .taken))
 
 -- the number is one of 1 to 49
 within : (c : tie.Else1) → (1 ≤ c .before .before .before .args .number) × (c .before .before .before .args .number ≤ 49)
 within c =
     let o = c .before .before .before in
-    number-within (o .args .text .now) (o .args .at) (o .args .number) (sym (c .before .is-characteristic .ensures) ∙ not-false _ (c .if1 .left))
+    number-within (o .args .rules) (o .args .text .now) (o .args .at) (o .args .number) (sym (c .before .is-characteristic .ensures) ∙ not-false _ (c .if1 .left))
 
 returns-2 : tie.Need-returns-2
 returns-2 c =
     let at-if1 = c .before .before .before .before .before .before .before in
     let o = at-if1 .before .before .before in
     let w = within at-if1 in
-    four-few (o .args .text .now) (o .args .at) (o .args .number) (w .0) (w .1)
+    four-few (o .args .rules) (o .args .text .now) (o .args .at) (o .args .number) (w .0) (w .1)
     (sym (c .before .before .n .given .1) ∙ c .before .before .before .before .before .read-group .ensures .0) (c .if2 .taken)
 
 returns-3 : tie.Need-returns-3
@@ -36,7 +36,7 @@ returns-3 c =
     let at-if1 = c .before .before .before .before .before .before in
     let o = at-if1 .before .before .before in
     let w = within at-if1 in
-    four-refused (o .args .text .now) (o .args .at) (o .args .number) (w .0) (w .1) (sym (c .before .r .given .1) ∙ c .before .before .before .before .read-group .ensures .0)
+    four-refused (o .args .rules) (o .args .text .now) (o .args .at) (o .args .number) (w .0) (w .1) (sym (c .before .r .given .1) ∙ c .before .before .before .before .read-group .ensures .0)
 
 sub-told-by : tie.Need-sub-told-by
 sub-told-by c = within (c .before .before .before .before .before .before .before) .0
@@ -54,7 +54,7 @@ returns-4 c =
     let w = within at-if1 in
     c .told-by .ensures
     ∙ ap (toldBy (o .args .number)) (toZ-ofZ {w = w64} (sfits-of {w = w64} (c .before .told-by-arg .given)))
-    ∙ four-told (o .args .text .now) (o .args .at) (o .args .number) (w .0) (w .1)
+    ∙ four-told (o .args .rules) (o .args .text .now) (o .args .at) (o .args .number) (w .0) (w .1)
     (sym (c .before .before .before .before .n .given .1) ∙ c .before .before .before .before .before .before .before .read-group .ensures .0)
     (c .before .before .if2 .left) _ _ (c .before .before .before .before .before .before .before .read-group .ensures .1)
 

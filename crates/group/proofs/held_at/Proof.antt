@@ -16,7 +16,7 @@ use Rattle.group.proofs.held_at.Tie as tie
 
 returns : tie.Need-returns
 returns c =
-    let h = held-none (c .before .before .before .before .before .args .text .now) (c .before .before .before .before .before .args .at)
+    let h = held-none (c .before .before .before .before .before .args .rules) (c .before .before .before .before .before .args .text .now) (c .before .before .before .before .before .args .at)
     (c .before .before .before .before .before .args .group) (sym (c .before .before .before .form-of .ensures) ∙ c .before .enum-told2 .given .1) in
     (c .missing .ensures .0 ∙ sym (h .0), c .missing .ensures .1 ∙ sym (h .1))
 
@@ -25,7 +25,7 @@ has-form c = sym (c .before .before .form-of .ensures) ∙ c .enum-told .given .
 
 returns-2 : tie.Need-returns-2
 returns-2 c =
-    let h = held-refused (c .before .before .before .before .before .before .before .before .args .text .now)
+    let h = held-refused (c .before .before .before .before .before .before .before .before .args .rules) (c .before .before .before .before .before .before .before .before .args .text .now)
     (c .before .before .before .before .before .before .before .before .args .at) (c .before .before .before .before .before .before .before .before .args .group)
     (c .before .before .before .before .enum-told .given .0 .0) (has-form (c .before .before .before .before)) _ (sym (c .before .before .before .place .ensures .0))
     (λ n e. not-first (1 ∷ 2 ∷ []) tt (subst (λ (p : Placing). OneOf (1 ∷ 2 ∷ []) (tagOf the-type p)) e (c .before .before .match2 .keys2))) in
@@ -33,7 +33,7 @@ returns-2 c =
 
 returns-3 : tie.Need-returns-3
 returns-3 c =
-    let h = held-placed (c .before .before .before .before .before .before .before .before .args .text .now)
+    let h = held-placed (c .before .before .before .before .before .before .before .before .args .rules) (c .before .before .before .before .before .before .before .before .args .text .now)
     (c .before .before .before .before .before .before .before .before .args .at) (c .before .before .before .before .before .before .before .before .args .group)
     (c .before .before .before .before .enum-told .given .0 .0) (has-form (c .before .before .before .before))
     (sym (c .before .before .before .place .ensures .0) ∙ c .before .enum-told3 .given .1) in

@@ -10,14 +10,14 @@ returns : tie.Need-returns
 returns c =
     let a = c .before .before .before .before .args in
     let h = c .before .before .held-at .ensures in
-    let m = missing-span (a .text .now) (a .at) (a .group) (sym (h .0) ∙ c .enum-told2 .given .1) in
+    let m = missing-span (a .rules) (a .text .now) (a .at) (a .group) (sym (h .0) ∙ c .enum-told2 .given .1) in
     (h .0, (m .0, m .1))
 
 returns-2 : tie.Need-returns-2
 returns-2 c =
     let a = c .before .before .before .before .before .before .before .args in
     let h = c .before .before .before .before .before .held-at .ensures in
-    let m = held-span (a .text .now) (a .at) (a .group) (sym (h .0) ∙ c .before .before .before .enum-told .given .1) _ (h .1) _ _ (c .span-of .ensures) in
+    let m = held-span (a .rules) (a .text .now) (a .at) (a .group) (sym (h .0) ∙ c .before .before .before .enum-told .given .1) _ (h .1) _ _ (c .span-of .ensures) in
     (h .0, (m .0, m .1))
 
 pub lines-at-spec : {M : Type 1} → statement M

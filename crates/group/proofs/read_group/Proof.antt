@@ -13,14 +13,15 @@ use Rattle.group.proofs.read_group.Statement.{statement}
 use Rattle.group.proofs.read_group.Tie as tie
 
 given : (c : tie.After-span-of)
-    → foundAt (c .before .before .before .before .before .before .before .args .text .now) (c .before .before .before .before .before .before .before .args .at)
+    → foundAt (c .before .before .before .before .before .before .before .args .rules) (c .before .before .before .before .before .before .before .args .text .now)
+    (c .before .before .before .before .before .before .before .args .at)
     (c .before .before .before .before .before .before .before .args .group) ≡ C.Right
 given c = sym (c .before .before .before .before .before .held-at .ensures .0) ∙ c .before .before .before .enum-told .given .1
 
 range : (c : tie.After-span-of) → (c .span-of .result .from ≤ c .span-of .result .to) × (c .span-of .result .to ≤ length (c .before .before .before .before .before .before .before .args .text .now))
 range c =
     let o = c .before .before .before .before .before .before .before in
-    held-range (o .args .text .now) (o .args .at) (o .args .group) (given c) _ (c .before .before .before .before .before .held-at .ensures .1) _ _ (c .span-of .ensures)
+    held-range (o .args .rules) (o .args .text .now) (o .args .at) (o .args .group) (given c) _ (c .before .before .before .before .before .held-at .ensures .1) _ _ (c .span-of .ensures)
 
 sub-read-kept : tie.Need-sub-read-kept
 sub-read-kept c = range (c .before) .0
@@ -34,17 +35,18 @@ part-read-kept-end c = omega (arith, range (c .before) .1)
 read-kept-requires : tie.Need-read-kept-requires
 read-kept-requires c κs =
     let o = c .before .before .before .before .before .before .before .before .before .before in
-    held-kept (o .args .text .now) (o .args .at) (o .args .group) (given (c .before .before .before)) _ (c .before .before .before .before .before .before .before .before .held-at .ensures .1)
+    held-kept (o .args .rules) (o .args .text .now) (o .args .at) (o .args .group) (given (c .before .before .before)) _
+    (c .before .before .before .before .before .before .before .before .held-at .ensures .1)
 
 returns : tie.Need-returns
 returns c =
     let o = c .before .before .before .before .before in
-    text-missing (o .args .text .now) (o .args .at) (o .args .group) (o .args .table .now) (sym (c .before .found .given .1) ∙ c .before .before .before .held-at .ensures .0)
+    text-missing (o .args .rules) (o .args .text .now) (o .args .at) (o .args .group) (o .args .table .now) (sym (c .before .found .given .1) ∙ c .before .before .before .held-at .ensures .0)
 
 returns-2 : tie.Need-returns-2
 returns-2 c =
     let o = c .before .before .before .before .before .before .before .before .before .before .before .before in
-    text-given (o .args .text .now) (o .args .at) (o .args .group) (o .args .table .now) (sym (given (c .before .before .before .before .before))) _
+    text-given (o .args .rules) (o .args .text .now) (o .args .at) (o .args .group) (o .args .table .now) (sym (given (c .before .before .before .before .before))) _
     (c .before .before .before .before .before .before .before .before .before .before .held-at .ensures .1) _ _ (c .before .before .before .before .before .span-of .ensures)
     (c .before .read-kept .ensures)
 

@@ -8,8 +8,8 @@ use Rattle.listing.proofs.Bound.{print-no-refusal}
 use Rattle.list.proofs.main.Statement.{statement}
 use Rattle.list.proofs.main.Tie as tie
 
-returns : tie.Need-returns
-returns c = absurd (print-no-refusal _ _ _ refl (rw (c .enum-told .given .1) at (c .before .before .before .print .ensures)))
+returns-2 : tie.Need-returns-2
+returns-2 c = absurd (print-no-refusal _ _ _ _ refl (rw (c .enum-told .given .1) at (c .before .before .before .print .ensures)))
 
 part-write-all-end : tie.Need-part-write-all-end
 part-write-all-end c =
@@ -25,13 +25,17 @@ main-spec =
     (λ c. search needs)
     (λ c κs. search needs)
     (λ c. search needs)
+    (λ c κs. search needs)
+    (λ c. search needs)
+    (λ c κs. search needs)
+    (λ c. search needs)
     (λ c. search needs)
     (λ c. search needs)
     (λ c. search needs)
     (λ c κs. search needs)
     (λ c. search needs)
     (λ c. search needs)
-    returns
+    returns-2
     (λ c. search needs)
     (λ c. search needs)
     part-write-all-end

@@ -9,12 +9,12 @@ use Rattle.listing.proofs.list.Tie as tie
 returns : tie.Need-returns
 returns c =
     let o = c .before .before .before .before .before .before .before .before .before in
-    put-done (listing (o .args .text .now)) (o .args .out .now) (c .before .bytes .given .1) (c .before .before .before .before .before .render .ensures)
+    put-done (listing (o .args .rules) (o .args .text .now)) (o .args .out .now) (c .before .bytes .given .1) (c .before .before .before .before .before .render .ensures)
 
 returns-2 : tie.Need-returns-2
 returns-2 c =
     let o = c .before .before .before .before .before .before .before .before in
-    put-none (listing (o .args .text .now)) (o .args .out .now) (c .enum-told .given .1) (c .before .before .before .before .render .ensures)
+    put-none (listing (o .args .rules) (o .args .text .now)) (o .args .out .now) (c .enum-told .given .1) (c .before .before .before .before .render .ensures)
 
 pub list-spec : {M : Type 1} → statement M
 list-spec =

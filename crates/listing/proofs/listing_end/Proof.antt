@@ -20,16 +20,17 @@ use Rattle.listing.proofs.listing_end.Statement.{statement}
 use Rattle.listing.proofs.listing_end.Tie as tie
 
 abbrev Inv-loop : tie.InvT-loop
-Inv-loop text size a₀ at₀ k₀ t13 t14 a at k = (k ≤ recordsIn text) × (at ≡ spot text k) × (endIn a (length (linesFrom text k)) size ≡ endIn 0 (length (listing text)) size)
+Inv-loop rules text size a₀ at₀ k₀ t13 t14 a at k =
+    (k ≤ recordsIn rules text) × (at ≡ spot rules text k) × (endIn a (length (linesFrom rules text k)) size ≡ endIn 0 (length (listing rules text)) size)
 
 abbrev μ-loop : tie.MeasureT-loop
-μ-loop text size a₀ at₀ k₀ t13 t14 a at k = suc (recordsIn text) - k
+μ-loop rules text size a₀ at₀ k₀ t13 t14 a at k = suc (recordsIn rules text) - k
 
 loop-holds : tie.Need-loop-holds Inv-loop μ-loop
-loop-holds c = (omega arith, spot-start _, ap (λ t. endIn 0 (length t) (c .before .args .size)) (lines-all (c .before .args .text .now)))
+loop-holds c = (omega arith, spot-start (c .before .args .rules) _, ap (λ t. endIn 0 (length t) (c .before .args .size)) (lines-all (c .before .args .rules) (c .before .args .text .now)))
 
 met : (c : tie.After-is-placed Inv-loop μ-loop)
-    → (let s = c .before .before .before .before .before .args .text .now in let l = c .before .before .before .loop in let p = c .before .before .place .result in Met s (l .k)
+    → (let o = c .before .before .before .before .before .args in let l = c .before .before .before .loop in let p = c .before .before .place .result in Met (o .rules) (o .text .now) (l .k)
     (l .at) (p .answer) (p .counts) (c .before .reply-of .result .next) (c .is-placed .result))
 met c =
     let l = c .before .before .before .loop in
@@ -48,32 +49,35 @@ returns : tie.Need-returns Inv-loop μ-loop
 returns c =
     let s = c .before .before .before .before .before .before .before .before .before .before .args .text .now in
     let l = c .before .before .before .before .before .before .before .before .loop in
-    end-stops s (l .k) (l .a) _ _ (l .inv .2) _ _
-    (met-last (met (c .before .before .before .before .before)) (not-true _ (c .before .before .before .before .if1 .taken)) (c .before .before .before .end-row .ensures)) (c .row-end .ensures)
+    end-stops _ s (l .k) (l .a) _ _ (l .inv .2) _ _
+    (met-last _ (met (c .before .before .before .before .before)) (not-true _ (c .before .before .before .before .if1 .taken)) (c .before .before .before .end-row .ensures)) (c .row-end .ensures)
 
 add-record-row : tie.Need-add-record-row Inv-loop μ-loop
-add-record-row c = omega (arith, c .before .before .before .before .before .loop .inv .0, records-bytes (c .before .before .before .before .before .before .before .args .text .now))
+add-record-row c =
+    omega (
+      arith,
+      c .before .before .before .before .before .loop .inv .0,
+      records-bytes (c .before .before .before .before .before .before .before .args .rules)
+          (c .before .before .before .before .before .before .before .args .text .now),
+    )
 
 more : (c : tie.After-record-row Inv-loop μ-loop)
-    → (let l = c .before .before .before .before .before .before .before .loop in More (c .before .before .before .before .before .before .before .before .before .args .text .now)
+    →
+    (let l = c .before .before .before .before .before .before .before .loop in More (c .before .before .before .before .before .before .before .before .before .args .rules)
+    (c .before .before .before .before .before .before .before .before .before .args .text .now)
     (l .k) (l .at) (c .record-row .result) (c .before .before .before .before .before .reply-of .result .next))
-more c = met-more (met (c .before .before .before .before)) (not-false _ (c .before .before .before .if1 .left)) (c .record-row .ensures)
+more c = met-more _ (met (c .before .before .before .before)) (not-false _ (c .before .before .before .if1 .left)) (c .record-row .ensures)
 
 returns-2 : tie.Need-returns-2 Inv-loop μ-loop
 returns-2 c =
     let l = c .before .before .before .before .before .before .before .before .before .before .before .before .loop in
-    end-no-room _ (l .k) (l .a) _ _ (l .inv .2) _ (more (c .before .before .before .before .before) .lines) (sym (c .before .before .row-end2 .ensures) ∙ c .enum-told .given .1)
+    end-no-room _ _ (l .k) (l .a) _ _ (l .inv .2) _ (more (c .before .before .before .before .before) .lines) (sym (c .before .before .row-end2 .ensures) ∙ c .enum-told .given .1)
 
 add-k : tie.Need-add-k Inv-loop μ-loop
-add-k c = let m =
-    more (c .before .before .before .before .before .before) in omega (
-      arith,
-      m .forward,
-      m .inside,
-      m .few,
-      records-bytes
-          (c .before .before .before .before .before .before .before .before .before .before .before .before .before .before .before .args .text .now),
-    )
+add-k c =
+    let m = more (c .before .before .before .before .before .before) in
+    let o = c .before .before .before .before .before .before .before .before .before .before .before .before .before .before .before .args in
+    omega (arith, m .forward, m .inside, m .few, records-bytes (o .rules) (o .text .now))
 
 loop-less : tie.Need-loop-less Inv-loop μ-loop
 loop-less c = omega (arith, c .before .before .before .before .before .before .before .before .before .before .before .before .before .loop .inv .0)
@@ -82,7 +86,7 @@ loop-again : tie.Need-loop-again Inv-loop μ-loop
 loop-again c =
     let l = c .before .before .before .before .before .before .before .before .before .before .before .before .before .loop in
     let m = more (c .before .before .before .before .before .before) in
-    (m .few, m .here, end-more _ (l .k) (l .a) _ _ (l .inv .2) _ (m .lines) _ (sym (c .before .before .before .row-end2 .ensures) ∙ c .before .end .given .1))
+    (m .few, m .here, end-more _ _ (l .k) (l .a) _ _ (l .inv .2) _ (m .lines) _ (sym (c .before .before .before .row-end2 .ensures) ∙ c .before .end .given .1))
 
 pub listing-end-spec : {M : Type 1} → statement M
 listing-end-spec =

@@ -16,16 +16,16 @@ use Rattle.listing.proofs.put_listing.Statement.{statement}
 use Rattle.listing.proofs.put_listing.Tie as tie
 
 abbrev Inv-loop : tie.InvT-loop
-Inv-loop text out₀ a₀ at₀ k₀ t13 t14 out a at k = (k ≤ recordsIn text) × (at ≡ spot text k) × Putting text k a out out₀
+Inv-loop rules text out₀ a₀ at₀ k₀ t13 t14 out a at k = (k ≤ recordsIn rules text) × (at ≡ spot rules text k) × Putting rules text k a out out₀
 
 abbrev μ-loop : tie.MeasureT-loop
-μ-loop text out₀ a₀ at₀ k₀ t13 t14 out a at k = suc (recordsIn text) - k
+μ-loop rules text out₀ a₀ at₀ k₀ t13 t14 out a at k = suc (recordsIn rules text) - k
 
 loop-holds : tie.Need-loop-holds Inv-loop μ-loop
-loop-holds c = (omega arith, spot-start _, put-starts _ _ (c .before .before .pre))
+loop-holds c = (omega arith, spot-start _ _, put-starts _ _ _ (c .before .before .pre))
 
 met : (c : tie.After-is-placed Inv-loop μ-loop)
-    → (let s = c .before .before .before .before .before .before .args .text .now in let l = c .before .before .before .loop in let p = c .before .before .place .result in Met s
+    → (let o = c .before .before .before .before .before .before .args in let l = c .before .before .before .loop in let p = c .before .before .place .result in Met (o .rules) (o .text .now)
     (l .k) (l .at) (p .answer) (p .counts) (c .before .reply-of .result .next) (c .is-placed .result))
 met c =
     let l = c .before .before .before .loop in
@@ -43,35 +43,36 @@ met c =
 returns : tie.Need-returns Inv-loop μ-loop
 returns c =
     let l = c .before .before .before .before .before .before .before .before .before .before .before .loop in
-    put-stops _ (l .k) (l .a) _ _ _ (l .inv .2) _ _
-    (met-last (met (c .before .before .before .before .before .before .before .before)) (not-true _ (c .before .before .before .before .before .before .before .if1 .taken))
+    put-stops _ _ (l .k) (l .a) _ _ _ (l .inv .2) _ _
+    (met-last _ (met (c .before .before .before .before .before .before .before .before)) (not-true _ (c .before .before .before .before .before .before .before .if1 .taken))
     (c .before .before .before .before .before .before .end-row .ensures)) (c .before .before .put-row .ensures)
 
 add-record-row : tie.Need-add-record-row Inv-loop μ-loop
-add-record-row c = omega (arith, c .before .before .before .before .before .loop .inv .0, records-bytes (c .before .before .before .before .before .before .before .before .args .text .now))
+add-record-row c =
+    omega (
+      arith,
+      c .before .before .before .before .before .loop .inv .0,
+      records-bytes (c .before .before .before .before .before .before .before .before .args .rules)
+          (c .before .before .before .before .before .before .before .before .args .text .now),
+    )
 
 more : (c : tie.After-record-row Inv-loop μ-loop)
-    → (let l = c .before .before .before .before .before .before .before .loop in More
-    (c .before .before .before .before .before .before .before .before .before .before .args .text .now) (l .k) (l .at) (c .record-row .result)
+    → (let l = c .before .before .before .before .before .before .before .loop in let o = c .before .before .before .before .before .before .before .before .before .before .args in More (o .rules)
+    (o .text .now) (l .k) (l .at) (c .record-row .result)
     (c .before .before .before .before .before .reply-of .result .next))
-more c = met-more (met (c .before .before .before .before)) (not-false _ (c .before .before .before .if1 .left)) (c .record-row .ensures)
+more c = met-more _ (met (c .before .before .before .before)) (not-false _ (c .before .before .before .if1 .left)) (c .record-row .ensures)
 
 returns-2 : tie.Need-returns-2 Inv-loop μ-loop
 returns-2 c =
     let l = c .before .before .before .before .before .before .before .before .before .before .before .before .before .before .before .loop in
-    absurd (put-has-room _ (l .k) (l .a) _ _ _ (l .inv .2) _ (more (c .before .before .before .before .before .before .before .before) .lines)
+    absurd (put-has-room _ _ (l .k) (l .a) _ _ _ (l .inv .2) _ (more (c .before .before .before .before .before .before .before .before) .lines)
     (rw (c .enum-told .given .1) at (c .before .before .before .before .put-row2 .ensures)))
 
 add-k : tie.Need-add-k Inv-loop μ-loop
-add-k c = let m =
-    more (c .before .before .before .before .before .before .before .before .before) in omega (
-      arith,
-      m .forward,
-      m .inside,
-      m .few,
-      records-bytes
-          (c .before .before .before .before .before .before .before .before .before .before .before .before .before .before .before .before .before .before .before .args .text .now),
-    )
+add-k c =
+    let m = more (c .before .before .before .before .before .before .before .before .before) in
+    let o = c .before .before .before .before .before .before .before .before .before .before .before .before .before .before .before .before .before .before .before in
+    omega (arith, o .good, m .forward, m .inside, m .few, records-bytes (o .args .rules) (o .args .text .now))
 
 loop-less : tie.Need-loop-less Inv-loop μ-loop
 loop-less c = omega (arith, c .before .before .before .before .before .before .before .before .before .before .before .before .before .before .before .before .loop .inv .0)
@@ -80,7 +81,7 @@ loop-again : tie.Need-loop-again Inv-loop μ-loop
 loop-again c =
     let l = c .before .before .before .before .before .before .before .before .before .before .before .before .before .before .before .before .loop in
     let m = more (c .before .before .before .before .before .before .before .before .before) in
-    (m .few, m .here, put-more _ (l .k) (l .a) _ _ _ (l .inv .2) _ (m .lines) _ (rw (c .before .end .given .1) at (c .before .before .before .before .before .put-row2 .ensures)))
+    (m .few, m .here, put-more _ _ (l .k) (l .a) _ _ _ (l .inv .2) _ (m .lines) _ (rw (c .before .end .given .1) at (c .before .before .before .before .before .put-row2 .ensures)))
 
 pub put-listing-spec : {M : Type 1} → statement M
 put-listing-spec =

@@ -15,12 +15,13 @@ returns : tie.Need-returns
 returns c = puts-none _ _ _ (end-full _ _ _ (sym (c .before .before .listing-end .ensures) ∙ c .enum-told .given .1))
 
 fits : (c : tie.After-known-told)
-    → endIn 0 (length (listing (c .before .before .before .before .before .before .args .text .now)))
+    → endIn 0 (length (listing (c .before .before .before .before .before .before .args .rules) (c .before .before .before .before .before .before .args .text .now)))
     (length (c .before .before .before .before .before .before .args .out .now)) ≡ Next (c .before .end .given .0 .0)
 fits c = sym (c .before .before .before .listing-end .ensures) ∙ c .before .end .given .1
 
 put-listing-requires : tie.Need-put-listing-requires
-put-listing-requires c κs = put-room (listing (c .before .before .before .before .before .before .before .args .text .now)) _ _ (fits (c .before))
+put-listing-requires c κs =
+    put-room (listing (c .before .before .before .before .before .before .before .args .rules) (c .before .before .before .before .before .before .before .args .text .now)) _ _ (fits (c .before))
 
 returns-2 : tie.Need-returns-2
 returns-2 c = put-whole _ _ _ _ (fits (c .before .before .before .before)) (c .before .before .put-listing .ensures)

@@ -8,6 +8,7 @@ use Prim.Native.Nat.{ℕ, _≤_}
 use borrow.Author.Tests.{not-true, not-false}
 use lib.ListN.{length, replicate}
 use Rattle.base.specs.Part.{part}
+use Rattle.rules.specs.declared.Rules.{Rules}
 use Rattle.line.specs.Places.{behindAt}
 use Rattle.line.specs.declared.Behind.the-variants.{At}
 use Rattle.line.proofs.Places.{at-range}
@@ -20,20 +21,20 @@ use Rattle.place.proofs.place.Tie as tie
 returns : tie.Need-returns
 returns c =
     let o = c .before .before .before in
-    answers-at (o .args .text .now) (o .args .at)
-    (locate-beyond (o .args .text .now) (o .args .at) (c .before .if1 .taken)) (refuses refl (c .nothing .ensures))
+    answers-at (o .args .rules) (o .args .text .now) (o .args .at)
+    (locate-beyond (o .args .rules) (o .args .text .now) (o .args .at) (c .before .if1 .taken)) (refuses refl (c .nothing .ensures))
 
 returns-2 : tie.Need-returns-2
 returns-2 c =
     let o = c .before .before .before .before in
-    answers-at (o .args .text .now) (o .args .at)
-    (locate-end (o .args .text .now) (o .args .at) (c .before .if2 .taken)) (refuses refl (c .nothing2 .ensures))
+    answers-at (o .args .rules) (o .args .text .now) (o .args .at)
+    (locate-end (o .args .rules) (o .args .text .now) (o .args .at) (c .before .if2 .taken)) (refuses refl (c .nothing2 .ensures))
 
 returns-3 : tie.Need-returns-3
 returns-3 c =
     let o = c .before .before .before .before .before .before .before in
-    answers-at (o .args .text .now) (o .args .at)
-    (first-few (o .args .text .now) (o .args .at) (omega arith)
+    answers-at (o .args .rules) (o .args .text .now) (o .args .at)
+    (first-few (o .args .rules) (o .args .text .now) (o .args .at) (omega arith)
     (sym (c .before .before .before .place-behind .ensures) ∙ c .before .enum-told .given .1))
     (refuses refl (c .nothing3 .ensures))
 
@@ -42,13 +43,16 @@ returns-4 c =
     let at-second = c .before .before .before .before .before in
     let at-place-behind = at-second .before .before in
     let o = at-place-behind .before .before .before .before in
-    answers-at (o .args .text .now) (o .args .at)
-    (second-few (o .args .text .now) (o .args .at) (omega arith) (at-second .second .given .0 .0)
+    answers-at (o .args .rules) (o .args .text .now) (o .args .at)
+    (second-few (o .args .rules) (o .args .text .now) (o .args .at) (omega arith) (at-second .second .given .0 .0)
     (sym (at-place-behind .place-behind .ensures) ∙ at-second .second .given .1)
     (sym (c .before .before .before .place-behind2 .ensures) ∙ c .before .enum-told2 .given .1))
     (refuses refl (c .nothing4 .ensures))
 
--- ---- the two index lines have ends: the text and the place, where the second line begins and where it ends
+-- ---- the two index lines have ends: the rules, the text and the place, where the second line begins and where it ends
+
+abbrev ruled : tie.After-known-told2 → Rules
+ruled c = c .before .before .before .before .before .before .before .before .before .before .before .args .rules
 
 abbrev text : tie.After-known-told2 → List ℕ
 text c = c .before .before .before .before .before .before .before .before .before .before .before .args .text .now
@@ -95,8 +99,8 @@ returns-5 c =
     let at-end = at-first .before in
     let at-second = at-end .before .before .before .before in
     let o = at-second .before .before .before .before .before .before in
-    answers-at (o .args .text .now) (o .args .at)
-    (first-misformed (o .args .text .now) (o .args .at) (omega arith) (at-second .second .given .0 .0) (first at-first)
+    answers-at (o .args .rules) (o .args .text .now) (o .args .at)
+    (first-misformed (o .args .rules) (o .args .text .now) (o .args .at) (omega arith) (at-second .second .given .0 .0) (first at-first)
     (at-end .end .given .0 .0) (then at-first)
     (stored-none _ 0 _ _ (not-true _ (c .before .if3 .taken)) (c .before .before .before .store-line .ensures)))
     (refuses refl (c .nothing5 .ensures))
@@ -105,7 +109,8 @@ abbrev index : tie.Else3 → tie.After-known-told2
 index c = c .before .before .before .before .before
 
 -- the counts of the first line
-first-counts : (c : tie.Else3) → StoredCounts (readIndexLine (part (spot (index c)) (second (index c)) (text (index c)))) 0 (replicate 80 0) (c .before .before .store-line .last .1 .0)
+first-counts : (c : tie.Else3)
+    → StoredCounts (readIndexLine (ruled (index c)) (part (spot (index c)) (second (index c)) (text (index c)))) 0 (replicate 80 0) (c .before .before .store-line .last .1 .1 .0)
 first-counts c = stored-counts _ 0 _ _ (not-false _ (c .if3 .left)) (c .before .before .store-line .ensures)
 
 sub-store-line-2 : tie.Need-sub-store-line-2
@@ -125,8 +130,8 @@ returns-6 c =
     let at-second = at-end .before .before .before .before in
     let start = at-second .before .before .before .before .before .before in
     let line = first-counts at-first-counts in
-    answers-at (start .args .text .now) (start .args .at)
-    (second-misformed (start .args .text .now) (start .args .at) (omega arith) (at-second .second .given .0 .0)
+    answers-at _ (start .args .text .now) (start .args .at)
+    (second-misformed _ (start .args .text .now) (start .args .at) (omega arith) (at-second .second .given .0 .0)
     (first at-first) (at-end .end .given .0 .0) (then at-first) (line .these) (line .read)
     (stored-none _ 40 _ _ (not-true _ (c .before .if4 .taken)) (c .before .before .before .store-line2 .ensures)))
     (refuses refl (c .nothing6 .ensures))
@@ -141,10 +146,10 @@ returns-7 c =
     let line = first-counts at-first-counts in
     let next = stored-counts _ 40 _ _ (not-false _ (c .before .if4 .left))
     (c .before .before .before .store-line2 .ensures) in
-    let all = both-stored (line .these) (next .these) _ (line-length _ (line .these) (line .read))
-    (line-length _ (next .these) (next .read)) refl (line .place) (next .place) in
-    answers-at (start .args .text .now) (start .args .at)
-    (with-index (start .args .text .now) (start .args .at) (omega arith) (at-second .second .given .0 .0)
+    let all = both-stored (line .these) (next .these) _ (line-length _ _ (line .these) (line .read))
+    (line-length _ _ (next .these) (next .read)) refl (line .place) (next .place) in
+    answers-at _ (start .args .text .now) (start .args .at)
+    (with-index _ (start .args .text .now) (start .args .at) (omega arith) (at-second .second .given .0 .0)
     (first at-first) (at-end .end .given .0 .0) (then at-first) (line .these) (next .these) (line .read) (next .read))
     (rw all at (c .with-counts .ensures))
 

@@ -1,9 +1,9 @@
--- `place::store_line` meets its contract: the content is what stands before the last two bytes.
+-- `place::store_line` meets its contract: the content is what stands before the line end.
 -- Assumes nothing.
 use borrow.Author.Needs.{needs}
 use native.Mathlib.Omega.{arith}
 use mathlib.Core.Path.{_≡_, refl, sym, _∙_}
-use Prim.Native.Nat.{_+_, _-_}
+use Prim.Native.Nat.{_-_, _<_}
 use lib.ListN.{length, length-take}
 use Rattle.line.proofs.Contents.{content-two}
 use Rattle.place.proofs.Steps.{line-no-return, line-other-length, line-entries}
@@ -11,16 +11,20 @@ use Rattle.place.proofs.store_line.Statement.{statement}
 use Rattle.place.proofs.store_line.Tie as tie
 
 returns : tie.Need-returns
-returns c = rw (line-no-return (c .before .before .before .before .before .args .line .now) (sym (c .before .before .content-length .ensures) ∙ c .enum-told .given .1)) refl
+returns c =
+    let o = c .before .before .before .before .before .args in
+    rw (line-no-return (o .rules) (o .line .now) (sym (c .before .before .content-length .ensures) ∙ c .enum-told .given .1)) refl
 
 returns-2 : tie.Need-returns-2
 returns-2 c =
-    rw (line-other-length (c .before .before .before .before .before .before .before .args .line .now) (c .before .before .n .given .0 .0)
+    let o = c .before .before .before .before .before .before .before .args in
+    rw (line-other-length (o .rules) (o .line .now) (c .before .before .n .given .0 .0)
     (sym (c .before .before .before .before .content-length .ensures) ∙ c .before .before .n .given .1) (c .if1 .taken)) refl
 
-long : (c : tie.Else1) → length (c .before .before .before .before .before .before .before .args .line .now) ≡ c .before .before .n .given .0 .0 + 2
-long c = content-two (c .before .before .before .before .before .before .before .args .line .now) (c .before .before .n .given .0 .0)
-    (sym (c .before .before .before .before .content-length .ensures) ∙ c .before .before .n .given .1)
+long : (c : tie.Else1) → c .before .before .n .given .0 .0 < length (c .before .before .before .before .before .before .before .args .line .now)
+long c =
+    let o = c .before .before .before .before .before .before .before .args in
+    content-two (o .rules) (o .line .now) (c .before .before .n .given .0 .0) (sym (c .before .before .before .before .content-length .ensures) ∙ c .before .before .n .given .1) .0
 
 sub-store-entries : tie.Need-sub-store-entries
 sub-store-entries c = omega arith
@@ -36,7 +40,8 @@ store-entries-requires c κs = (length-take (c .before .before .before .before .
 
 returns-3 : tie.Need-returns-3
 returns-3 c =
-    rw (line-entries (c .before .before .before .before .before .before .before .before .before .before .before .before .args .line .now)
+    let o = c .before .before .before .before .before .before .before .before .before .before .before .before .args in
+    rw (line-entries (o .rules) (o .line .now)
     (c .before .before .before .before .before .before .before .n .given .0 .0)
     (sym (c .before .before .before .before .before .before .before .before .before .content-length .ensures)
     ∙ c .before .before .before .before .before .before .before .n .given .1) (c .before .before .before .before .before .if1 .left)) (c .before .before .store-entries .ensures)

@@ -20,18 +20,20 @@ abbrev start : tie.After-check-lines → tie.Start
 start c = c .before .before .before
 
 abbrev lines : tie.After-check-lines → Cells
-lines c = readLines (start c .args .form) (mayBeShort (start c .args .group)) (start c .args .count) (start c .args .lines .now)
+lines c = readLines (start c .args .rules) (start c .args .form) (mayBeShort (start c .args .group)) (start c .args .count) (start c .args .lines .now)
 
 checked : (c : tie.After-check-lines) → c .check-lines .result ≡ verdictOf (lines c)
 checked c =
     let o = start c in
-    c .check-lines .ensures ∙ ap (λ short. verdictOf (readLines (o .args .form) short (o .args .count) (o .args .lines .now))) (c .before .may-be-short .ensures)
+    c .check-lines .ensures ∙ ap (λ short. verdictOf (readLines (o .args .rules) (o .args .form) short (o .args .count) (o .args .lines .now))) (c .before .may-be-short .ensures)
 
 -- the lines of group 3, with its form
-letters : (c : tie.Then1) → lines (c .before .before .before) ≡ readLines A1 false (start (c .before .before .before) .args .count) (start (c .before .before .before) .args .lines .now)
+letters : (c : tie.Then1)
+    → lines (c .before .before .before) ≡ readLines (start (c .before .before .before) .args .rules) A1 false (start (c .before .before .before) .args .count)
+    (start (c .before .before .before) .args .lines .now)
 letters c =
     let o = start (c .before .before .before) in
-    date-lines (o .args .group) (o .args .form) (o .args .count) (o .args .lines .now) (o .pre .0) (c .if1 .taken)
+    date-lines (o .args .rules) (o .args .group) (o .args .form) (o .args .count) (o .args .lines .now) (o .pre .0) (c .if1 .taken)
 
 check-date-requires : tie.Need-check-date-requires
 check-date-requires c κs =

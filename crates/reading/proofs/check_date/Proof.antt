@@ -18,18 +18,18 @@ first-many c = c .lesser .ensures ∙ rw (c .before .row-of .ensures, c .before 
 part-new-end : tie.Need-part-new-end
 part-new-end c =
     let o = c .before .before .before .before in
-    omega (arith, letters-inside (o .args .count) (o .args .lines .now) (o .pre .1) (o .pre .0) (c .lesser .result) (first-many c))
+    omega (arith, letters-inside (o .args .rules) (o .args .count) (o .args .lines .now) (o .pre .1) (o .pre .0) (c .lesser .result) (first-many c))
 
 returns : tie.Need-returns
 returns c =
     let o = c .before .before .before .before .before .before .before .before in
-    date-verdict (o .args .count) (o .args .lines .now) (o .pre .1) (o .pre .0) (c .before .before .before .before .lesser .result) (first-many (c .before .before .before .before))
+    date-verdict (o .args .rules) (o .args .count) (o .args .lines .now) (o .pre .1) (o .pre .0) (c .before .before .before .before .lesser .result) (first-many (c .before .before .before .before))
     (sym (c .before .before .new .ensures) ∙ c .enum-told .given .1)
 
 returns-2 : tie.Need-returns-2
 returns-2 c =
     let o = c .before .before .before .before .before .before .before .before .before in
-    date-verdict (o .args .count) (o .args .lines .now) (o .pre .1) (o .pre .0) (c .before .before .before .before .before .lesser .result)
+    date-verdict (o .args .rules) (o .args .count) (o .args .lines .now) (o .pre .1) (o .pre .0) (c .before .before .before .before .before .lesser .result)
     (first-many (c .before .before .before .before .before)) (sym (c .before .before .before .new .ensures) ∙ c .before .position .given .1)
 
 pub check-date-spec : {M : Type 1} → statement M

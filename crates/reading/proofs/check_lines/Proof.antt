@@ -16,30 +16,30 @@ use Rattle.reading.proofs.check_lines.Statement.{statement}
 use Rattle.reading.proofs.check_lines.Tie as tie
 
 abbrev Inv-loop : tie.InvT-loop
-Inv-loop form short count lines width per-line many left verdict₀ at element j k stop from₀ i₀ verdict from i =
-    (verdict ≡ C.Right) × Trying form short (lineAt (rowOf form .«per_line») (elementsOf form count) j) lines at stop i from
+Inv-loop rules form short count lines width per-line many left verdict₀ at element j k stop from₀ i₀ verdict from i =
+    (verdict ≡ C.Right) × Trying rules form short (lineAt (rowOf form .«per_line») (elementsOf form count) j) lines at stop i from
 
 abbrev μ-loop : tie.MeasureT-loop
-μ-loop form short count lines width per-line many left verdict₀ at element j k stop from₀ i₀ verdict from i = k - i
+μ-loop rules form short count lines width per-line many left verdict₀ at element j k stop from₀ i₀ verdict from i = k - i
 
 abbrev Inv-lines : tie.InvT-lines
-Inv-lines form short count lines width per-line many left₀ verdict₀ at₀ element₀ j₀ left verdict at element j =
-    (verdict ≡ C.Right) × Checking form short count lines width per-line many left at element j
+Inv-lines rules form short count lines width per-line many left₀ verdict₀ at₀ element₀ j₀ left verdict at element j =
+    (verdict ≡ C.Right) × Checking rules form short count lines width per-line many left at element j
 
 abbrev μ-lines : tie.MeasureT-lines
-μ-lines form short count lines width per-line many left₀ verdict₀ at₀ element₀ j₀ left verdict at element j = many - j
+μ-lines rules form short count lines width per-line many left₀ verdict₀ at₀ element₀ j₀ left verdict at element j = many - j
 
 lines-holds : tie.Need-lines-holds Inv-loop μ-loop Inv-lines μ-lines
 lines-holds c =
     let row = c .before .before .row-of .ensures in
     let walk = walking-start (ap (λ r. r .width) row) (ap (λ r. r .«per_line») row) (c .before .lines2 .ensures) (c .elements .ensures) (omega arith) in
-    (refl, checking-start walk)
+    (refl, checking-start _ walk)
 
 mul-fields-stop : tie.Need-mul-fields-stop Inv-loop μ-loop Inv-lines μ-lines
 mul-fields-stop c =
     let o = c .before .before .before .before .before .before .before in
     let walk = c .before .before .lines .inv .1 .walk in
-    omega (arith, columns-small (o .args .form) (o .args .count) (o .args .lines .now) walk (c .lesser .result) _ (c .lesser .ensures) refl)
+    omega (arith, columns-small (o .args .rules) (o .args .form) (o .args .count) (o .args .lines .now) walk (c .lesser .result) _ (c .lesser .ensures) refl)
 
 fields-stop-requires : tie.Need-fields-stop-requires Inv-loop μ-loop Inv-lines μ-lines
 fields-stop-requires c κs = c .before .before .lines .inv .1 .walk .inside
@@ -52,7 +52,7 @@ AtLine = tie.After-fields-stop Inv-loop μ-loop Inv-lines μ-lines
 abbrev start : AtLine → tie.Start Inv-loop μ-loop Inv-lines μ-lines
 start c = c .before .before .before .before .before .before .before .before
 
-abbrev line : (c : AtLine) → OnLine (start c .args .form) (start c .args .short) (start c .args .count) (start c .args .lines .now)
+abbrev line : (c : AtLine) → OnLine (start c .args .rules) (start c .args .form) (start c .args .short) (start c .args .count) (start c .args .lines .now)
 line c =
     let at-lines = c .before .before .before .lines in
     let row = c .before .before .before .before .before .before .row-of .result in
@@ -74,29 +74,29 @@ line c =
 
 -- the columns of its fields are few
 few-columns : (c : AtLine) → line c .k * line c .width ≤ 120 * 120
-few-columns c = columns-small (start c .args .form) (start c .args .count) (start c .args .lines .now) (line c .state .walk) (line c .k) _ (line c .elements) refl
+few-columns c = columns-small (start c .args .rules) (start c .args .form) (start c .args .count) (start c .args .lines .now) (line c .state .walk) (line c .k) _ (line c .elements) refl
 
 loop-holds : tie.Need-loop-holds Inv-loop μ-loop Inv-lines μ-lines
-loop-holds c = (c .before .before .before .lines .inv .0, trying-start (line c))
+loop-holds c = (c .before .before .before .lines .inv .0, trying-start _ (line c))
 
 is-field-at-requires : tie.Need-is-field-at-requires Inv-loop μ-loop Inv-lines μ-lines
 is-field-at-requires c κs =
     let at-line = c .before .before in
-    (start at-line .pre, (stops (line at-line) .1, line at-line .state .walk .wide))
+    (start at-line .pre, (stops _ (line at-line) .1, line at-line .state .walk .wide))
 
 add-from : tie.Need-add-from Inv-loop μ-loop Inv-lines μ-lines
 add-from c =
     let at-loop = c .before .before .before in
     let at-line = at-loop .before in
     let o = start at-line in
-    omega (arith, try-small (line at-line) (at-loop .loop .inv .1), line at-line .state .walk .wide, width-few (o .args .form))
+    omega (arith, try-small (o .args .rules) (line at-line) (at-loop .loop .inv .1), line at-line .state .walk .wide, width-few (o .args .form))
 
 loop-again : tie.Need-loop-again Inv-loop μ-loop Inv-lines μ-lines
 loop-again c =
     let in-loop = c .before .before in
     let at-loop = in-loop .before in
     let good = sym (c .before .is-field-at .ensures) ∙ c .if1 .taken in
-    (at-loop .loop .inv .0, trying-next (line (at-loop .before)) (at-loop .loop .inv .1) (in-loop .loop-test .taken) good)
+    (at-loop .loop .inv .0, trying-next _ (line (at-loop .before)) (at-loop .loop .inv .1) (in-loop .loop-test .taken) good)
 
 mul-misfit : tie.Need-mul-misfit Inv-loop μ-loop Inv-lines μ-lines
 mul-misfit c = omega (arith, few-columns (c .before .before .before .before))
@@ -105,7 +105,7 @@ add-misfit-2 : tie.Need-add-misfit-2 Inv-loop μ-loop Inv-lines μ-lines
 add-misfit-2 c =
     let in-loop = c .before .before in
     let at-loop = in-loop .before in
-    omega (arith, element-few (line (at-loop .before)) (at-loop .loop .inv .1) (in-loop .loop-test .taken))
+    omega (arith, element-few _ (line (at-loop .before)) (at-loop .loop .inv .1) (in-loop .loop-test .taken))
 
 misfit-requires : tie.Need-misfit-requires Inv-loop μ-loop Inv-lines μ-lines
 misfit-requires c κs = line (c .before .before .before .before) .state .walk .inside
@@ -118,7 +118,7 @@ inside : (c : tie.After-behind-or-end Inv-loop μ-loop Inv-lines μ-lines)
     → (let l = line (c .before .before .before) in (l .at ≤ c .behind-or-end .result) × (c .behind-or-end .result ≤ length (start (c .before .before .before) .args .lines .now)))
 inside c =
     let at-loop = c .before .before in
-    tried-range (line (at-loop .before)) (at-loop .loop .inv .1) (omega arith) (c .behind-or-end .result) (c .behind-or-end .ensures)
+    tried-range _ (line (at-loop .before)) (at-loop .loop .inv .1) (omega arith) (c .behind-or-end .result) (c .behind-or-end .ensures)
 
 sub-right-content : tie.Need-sub-right-content Inv-loop μ-loop Inv-lines μ-lines
 sub-right-content c = let r = inside c in search needs
@@ -139,34 +139,34 @@ add-element c =
     let at-line = c .before .before .before .before .before .before .before in
     let o = start at-line in
     let state = line at-line .state in
-    let next = next-first (o .args .form) (o .args .count) (o .args .lines .now) (state .walk) in
-    omega (arith, state .first, state .walk .per, next, element-small (o .args .form) (o .args .count) (o .args .lines .now) (state .walk))
+    let next = next-first (o .args .rules) (o .args .form) (o .args .count) (o .args .lines .now) (state .walk) in
+    omega (arith, state .first, state .walk .per, next, element-small (o .args .rules) (o .args .form) (o .args .count) (o .args .lines .now) (state .walk))
 
 lines-again : tie.Need-lines-again Inv-loop μ-loop Inv-lines μ-lines
 lines-again c =
     let end = c .before .before .before .before .behind-or-end in
     let at-loop = c .before .before .before .before .before .before in
     let right = sym (c .before .before .right-content .ensures) ∙ c .enum-told .given .1 in
-    (at-loop .loop .inv .0, tried-next (line (at-loop .before)) (at-loop .loop .inv .1) (omega arith) (end .result) (end .ensures) (c .enum-told .given .0 .0) right)
+    (at-loop .loop .inv .0, tried-next _ (line (at-loop .before)) (at-loop .loop .inv .1) (omega arith) (end .result) (end .ensures) (c .enum-told .given .0 .0) right)
 
 returns : tie.Need-returns Inv-loop μ-loop Inv-lines μ-lines
 returns c =
     let o = c .before .before .before .before .before .before in
-    c .before .lines .inv .0 ∙ checking-end (o .args .form) (o .args .short) (o .args .count) (o .args .lines .now) (c .before .lines .inv .1) (omega arith)
+    c .before .lines .inv .0 ∙ checking-end (o .args .rules) (o .args .form) (o .args .short) (o .args .count) (o .args .lines .now) (c .before .lines .inv .1) (omega arith)
 
 returns-2 : tie.Need-returns-2 Inv-loop μ-loop Inv-lines μ-lines
 returns-2 c =
     let in-loop = c .before .before .before in
     let at-loop = in-loop .before in
     let bad = sym (c .before .before .is-field-at .ensures) ∙ c .before .if1 .left in
-    trying-wrong (line (at-loop .before)) (at-loop .loop .inv .1) (in-loop .loop-test .taken) bad (c .misfit .result) (c .misfit .ensures)
+    trying-wrong _ (line (at-loop .before)) (at-loop .loop .inv .1) (in-loop .loop-test .taken) bad (c .misfit .result) (c .misfit .ensures)
 
 returns-3 : tie.Need-returns-3 Inv-loop μ-loop Inv-lines μ-lines
 returns-3 c =
     let end = c .before .before .before .before .behind-or-end in
     let at-loop = c .before .before .before .before .before .before in
     let wrong = sym (c .before .before .right-content .ensures) ∙ c .enum-told2 .given .1 in
-    tried-wrong (line (at-loop .before)) (at-loop .loop .inv .1) (omega arith) (end .result) (end .ensures) wrong
+    tried-wrong _ (line (at-loop .before)) (at-loop .loop .inv .1) (omega arith) (end .result) (end .ensures) wrong
 
 pub check-lines-spec : {M : Type 1} → statement M
 check-lines-spec =

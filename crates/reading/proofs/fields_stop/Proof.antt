@@ -15,7 +15,7 @@ use Rattle.reading.proofs.fields_stop.Tie as tie
 inside : (c : tie.After-behind-or-end) → (let a = c .before .before .before .args in (a .at ≤ c .behind-or-end .result) × (c .behind-or-end .result ≤ length (a .lines .now)))
 inside c =
     let o = c .before .before .before in
-    let r = line-range (o .args .lines .now) (o .args .at) (o .pre) in
+    let r = line-range (o .args .rules) (o .args .lines .now) (o .args .at) (o .pre) in
     (omega (arith, c .behind-or-end .ensures), omega (arith, r .1, c .behind-or-end .ensures))
 
 sub-content-length : tie.Need-sub-content-length
@@ -30,9 +30,9 @@ part-content-length-end c = let r = inside c in search needs
 returns : tie.Need-returns
 returns c =
     let o = c .before .before .before .before .before .before .before in
-    span-none (o .args .short) (o .args .columns) (o .args .lines .now) (o .args .at) (o .pre)
+    span-none (o .args .rules) (o .args .short) (o .args .columns) (o .args .lines .now) (o .args .at) (o .pre)
     (c .before .before .before .before .before .if1 .taken)
-    (ap (λ x. contentOf (part (o .args .at) x (o .args .lines .now))) (sym (c .before .before .before .before .behind-or-end .ensures))
+    (ap (λ x. contentOf (o .args .rules) (part (o .args .at) x (o .args .lines .now))) (sym (c .before .before .before .before .behind-or-end .ensures))
     ∙ sym (c .before .before .content-length .ensures) ∙ c .enum-told .given .1)
 
 add-result : tie.Need-add-result
@@ -40,17 +40,17 @@ add-result c =
     let o = c .before .before .before .before .before .before .before .before in
     omega (
       arith,
-      content-fits (o .args .lines .now) (o .args .at) (o .pre) (c .before .n .given .0 .0)
-          (ap (λ x. contentOf (part (o .args .at) x (o .args .lines .now))) (sym (c .before .before .before .before .before .behind-or-end .ensures))
+      content-fits (o .args .rules) (o .args .lines .now) (o .args .at) (o .pre) (c .before .n .given .0 .0)
+          (ap (λ x. contentOf (o .args .rules) (part (o .args .at) x (o .args .lines .now))) (sym (c .before .before .before .before .before .behind-or-end .ensures))
           ∙ sym (c .before .before .before .content-length .ensures) ∙ c .before .n .given .1),
     )
 
 returns-2 : tie.Need-returns-2
 returns-2 c =
     let o = c .before .before .before .before .before .before .before .before in
-    span-content (o .args .short) (o .args .columns) (o .args .lines .now) (o .args .at) (o .pre)
+    span-content (o .args .rules) (o .args .short) (o .args .columns) (o .args .lines .now) (o .args .at) (o .pre)
     (c .before .before .before .before .before .before .if1 .taken) (c .before .n .given .0 .0)
-    (ap (λ x. contentOf (part (o .args .at) x (o .args .lines .now))) (sym (c .before .before .before .before .before .behind-or-end .ensures))
+    (ap (λ x. contentOf (o .args .rules) (part (o .args .at) x (o .args .lines .now))) (sym (c .before .before .before .before .before .behind-or-end .ensures))
     ∙ sym (c .before .before .before .content-length .ensures) ∙ c .before .n .given .1)
 
 add-result-2 : tie.Need-add-result-2
@@ -60,7 +60,7 @@ returns-3 : tie.Need-returns-3
 returns-3 c =
     let o = c .before .before .before in
     ap (λ n. o .args .at + n) (c .lesser .ensures)
-    ∙ span-columns (o .args .short) (o .args .columns) (o .args .lines .now) (o .args .at) (o .pre) (c .before .if1 .left)
+    ∙ span-columns (o .args .rules) (o .args .short) (o .args .columns) (o .args .lines .now) (o .args .at) (o .pre) (c .before .if1 .left)
 
 pub fields-stop-spec : {M : Type 1} → statement M
 fields-stop-spec =

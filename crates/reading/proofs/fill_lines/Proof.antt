@@ -23,16 +23,16 @@ use Rattle.reading.proofs.fill_lines.Statement.{statement}
 use Rattle.reading.proofs.fill_lines.Tie as tie
 
 abbrev Inv-loop2 : tie.InvT-loop2
-Inv-loop2 form short count lines table₀ width per-line cells many left at cell₀ j k end n stop from₀ i₀ table cell from i =
+Inv-loop2 rules form short count lines table₀ width per-line cells many left at cell₀ j k end n stop from₀ i₀ table cell from i =
     let l = lineAt (rowOf form .«per_line») (elementsOf form count) j in
     FillingFields form l (lineText form l lines at end n) table₀ cell₀ at i from cell table
 
 abbrev μ-loop2 : tie.MeasureT-loop2
-μ-loop2 form short count lines table₀ width per-line cells many left at cell₀ j k end n stop from₀ i₀ table cell from i = k - i
+μ-loop2 rules form short count lines table₀ width per-line cells many left at cell₀ j k end n stop from₀ i₀ table cell from i = k - i
 
 abbrev Inv-loop : tie.InvT-loop
-Inv-loop form short count lines table₀ width per-line cells many left₀ at₀ cell₀ j₀ table left at cell j =
-    Filling form short count lines table₀ record {
+Inv-loop rules form short count lines table₀ width per-line cells many left₀ at₀ cell₀ j₀ table left at cell j =
+    Filling rules form short count lines table₀ record {
       width = width;
       perLine = per-line;
       cells = cells;
@@ -45,30 +45,31 @@ Inv-loop form short count lines table₀ width per-line cells many left₀ at₀
     }
 
 abbrev μ-loop : tie.MeasureT-loop
-μ-loop form short count lines table₀ width per-line cells many left₀ at₀ cell₀ j₀ table left at cell j = many - j
+μ-loop rules form short count lines table₀ width per-line cells many left₀ at₀ cell₀ j₀ table left at cell j = many - j
 
 loop-holds : tie.Need-loop-holds Inv-loop2 μ-loop2 Inv-loop μ-loop
 loop-holds c =
     let row = c .before .before .row-of .ensures in
     let walk = walking-start (ap (λ r. r .width) row) (ap (λ r. r .«per_line») row) (c .before .lines .ensures) (c .elements .ensures) (omega arith) in
-    filling-start walk (ap (λ r. r .cells) row) (c .before .before .before .before .pre .1 .0) (refl, refl, refl)
+    filling-start _ walk (ap (λ r. r .cells) row) (c .before .before .before .before .pre .1 .0) (refl, refl, refl)
 
 mul-least : tie.Need-mul-least Inv-loop2 μ-loop2 Inv-loop μ-loop
 mul-least c =
     let o = c .before .before .before .before .before .before .before in
     let walk = c .before .before .loop .inv .walk in
-    omega (arith, columns-small (o .args .form) (o .args .count) (o .args .lines .now) walk (c .lesser .result) _ (c .lesser .ensures) refl)
+    omega (arith, columns-small (o .args .rules) (o .args .form) (o .args .count) (o .args .lines .now) walk (c .lesser .result) _ (c .lesser .ensures) refl)
 
 add-behind-or-end : tie.Need-add-behind-or-end Inv-loop2 μ-loop2 Inv-loop μ-loop
 add-behind-or-end c =
     let o = c .before .before .before .before .before .before .before .before in
     let walk = c .before .before .before .loop .inv .walk in
     let k = c .before .lesser in
-    omega (arith, seek-small (o .args .form) (o .args .count) (o .args .lines .now) walk (k .result) _ (k .ensures) refl (o .args .short) (c .least .result) (c .least .ensures))
+    omega (arith, seek-small (o .args .rules) (o .args .form) (o .args .count) (o .args .lines .now) walk (k .result) _ (k .ensures) refl (o .args .short) (c .least .result) (c .least .ensures))
 
 -- the table has room for the cells of lines that are clean
-room : (c : tie.Start Inv-loop2 μ-loop2 Inv-loop μ-loop) → length (cellsGot (readLines (c .args .form) (c .args .short) (c .args .count) (c .args .lines .now))) ≤ length (c .args .table .now)
-room c = enough-room (c .args .form) (c .args .short) (c .args .count) (c .args .lines .now) (c .args .table .now) (c .pre .1 .0) (c .pre .1 .1)
+room : (c : tie.Start Inv-loop2 μ-loop2 Inv-loop μ-loop)
+    → length (cellsGot (readLines (c .args .rules) (c .args .form) (c .args .short) (c .args .count) (c .args .lines .now))) ≤ length (c .args .table .now)
+room c = enough-room (c .args .rules) (c .args .form) (c .args .short) (c .args .count) (c .args .lines .now) (c .args .table .now) (c .pre .1 .0) (c .pre .1 .1)
 
 -- ---- a line whose end is known
 
@@ -95,7 +96,7 @@ reached c =
     }
 
 abbrev OnThis : AtLine → Type 0
-OnThis c = OnLine (start c .args .form) (start c .args .short) (start c .args .count) (start c .args .lines .now) (start c .args .table .now) (reached c)
+OnThis c = OnLine (start c .args .rules) (start c .args .form) (start c .args .short) (start c .args .count) (start c .args .lines .now) (start c .args .table .now) (reached c)
 
 abbrev line-to : (c : AtLine) (end : ℕ) → end ≡ reached c .at + reach (drop (reached c .at) (start c .args .lines .now)) 1 → OnThis c
 line-to c end e =
@@ -113,24 +114,24 @@ line-to c end e =
 abbrev line : (c : AtLine) → OnThis c
 line c =
     let least = c .before .least in
-    line-to c (c .behind-or-end .result) (c .behind-or-end .ensures ∙ end-behind (line-to c _ refl) (least .result) (least .ensures))
+    line-to c (c .behind-or-end .result) (c .behind-or-end .ensures ∙ end-behind _ (line-to c _ refl) (least .result) (least .ensures))
 
 sub-content-length : tie.Need-sub-content-length Inv-loop2 μ-loop2 Inv-loop μ-loop
-sub-content-length c = let r = line-inside (line c) in search needs
+sub-content-length c = let r = line-inside _ (line c) in search needs
 
 part-content-length-start : tie.Need-part-content-length-start Inv-loop2 μ-loop2 Inv-loop μ-loop
-part-content-length-start c = let r = line-inside (line c) in search needs
+part-content-length-start c = let r = line-inside _ (line c) in search needs
 
 part-content-length-end : tie.Need-part-content-length-end Inv-loop2 μ-loop2 Inv-loop μ-loop
-part-content-length-end c = let r = line-inside (line c) in search needs
+part-content-length-end c = let r = line-inside _ (line c) in search needs
 
 same-length : tie.Need-same-length Inv-loop2 μ-loop2 Inv-loop μ-loop
 same-length c =
     let at-line = line (c .before .before .before .before) in
-    filling-length (at-line .room) (at-line .state)
+    filling-length _ (at-line .room) (at-line .state)
 
 returns : tie.Need-returns Inv-loop2 μ-loop2 Inv-loop μ-loop
-returns c = absurd (has-content (line (c .before .before .before .before)) (sym (c .before .before .content-length .ensures) ∙ c .enum-told .given .1))
+returns c = absurd (has-content _ (line (c .before .before .before .before)) (sym (c .before .before .content-length .ensures) ∙ c .enum-told .given .1))
 
 -- ---- its fields, where it has a content
 
@@ -140,21 +141,22 @@ AtFields = tie.After-known-told Inv-loop2 μ-loop2 Inv-loop μ-loop
 abbrev line-of : AtFields → AtLine
 line-of c = c .before .before .before .before .before
 
-content : (c : AtFields) → contentOf (part (reached (line-of c) .at) (line (line-of c) .end) (start (line-of c) .args .lines .now)) ≡ Length (c .before .n .given .0 .0)
+content : (c : AtFields)
+    → contentOf (start (line-of c) .args .rules) (part (reached (line-of c) .at) (line (line-of c) .end) (start (line-of c) .args .lines .now)) ≡ Length (c .before .n .given .0 .0)
 content c = sym (c .before .before .before .content-length .ensures) ∙ c .before .n .given .1
 
 add-stop : tie.Need-add-stop Inv-loop2 μ-loop2 Inv-loop μ-loop
-add-stop c = omega (arith, fill-inside (line (line-of c)) _ (content c))
+add-stop c = omega (arith, fill-inside _ (line (line-of c)) _ (content c))
 
 loop2-holds : tie.Need-loop2-holds Inv-loop2 μ-loop2 Inv-loop μ-loop
-loop2-holds c = fields-filling (line (line-of c)) _ (content c)
+loop2-holds c = fields-filling _ (line (line-of c)) _ (content c)
 
 put-field-at-requires : tie.Need-put-field-at-requires Inv-loop2 μ-loop2 Inv-loop μ-loop
 put-field-at-requires c κs =
     let in-loop = c .before in
     let at-fields = in-loop .before .before in
     let letters = start (line-of at-fields) .pre .0 in
-    let all = put-requires (line (line-of at-fields)) _ (content at-fields) (in-loop .before .loop2 .inv) (in-loop .loop2-test .taken) in
+    let all = put-requires _ (line (line-of at-fields)) _ (content at-fields) (in-loop .before .loop2 .inv) (in-loop .loop2-test .taken) in
     (letters, (all .ends, (all .wide, (all .fits, (all .good, all .room)))))
 
 add-from : tie.Need-add-from Inv-loop2 μ-loop2 Inv-loop μ-loop
@@ -163,21 +165,21 @@ add-from c =
     let at-fields = at-loop .before in
     let at-line = line-of at-fields in
     let o = start at-line in
-    omega (arith, fill-small (line at-line) _ (content at-fields) (at-loop .loop2 .inv), line at-line .state .walk .wide, width-few (o .args .form))
+    omega (arith, fill-small (o .args .rules) (line at-line) _ (content at-fields) (at-loop .loop2 .inv), line at-line .state .walk .wide, width-few (o .args .form))
 
 add-cell : tie.Need-add-cell Inv-loop2 μ-loop2 Inv-loop μ-loop
 add-cell c =
     let in-loop = c .before .before .before in
     let at-fields = in-loop .before .before in
     let o = start (line-of at-fields) in
-    let small = cell-small (line (line-of at-fields)) _ (content at-fields) (in-loop .before .loop2 .inv) (in-loop .loop2-test .taken) in
+    let small = cell-small _ (line (line-of at-fields)) _ (content at-fields) (in-loop .before .loop2 .inv) (in-loop .loop2-test .taken) in
     omega (arith, o .good .1 .1 .1 .0, small)
 
 loop2-again : tie.Need-loop2-again Inv-loop2 μ-loop2 Inv-loop μ-loop
 loop2-again c =
     let in-loop = c .before .before .before in
     let at-fields = in-loop .before .before in
-    fields-next (line (line-of at-fields)) _ (content at-fields) (in-loop .before .loop2 .inv) (in-loop .loop2-test .taken) (c .before .put-field-at .ensures)
+    fields-next _ (line (line-of at-fields)) _ (content at-fields) (in-loop .before .loop2 .inv) (in-loop .loop2-test .taken) (c .before .put-field-at .ensures)
 
 -- ---- the next line, and the end
 
@@ -187,13 +189,13 @@ sub-left c = omega (arith, c .before .before .before .before .before .before .be
 loop-again : tie.Need-loop-again Inv-loop2 μ-loop2 Inv-loop μ-loop
 loop-again c =
     let at-fields = c .before .before in
-    filling-next (line (line-of at-fields)) _ (content at-fields) (c .before .loop2 .inv) (omega arith)
+    filling-next _ (line (line-of at-fields)) _ (content at-fields) (c .before .loop2 .inv) (omega arith)
 
 same-length-2 : tie.Need-same-length-2 Inv-loop2 μ-loop2 Inv-loop μ-loop
-same-length-2 c = filling-length (room (c .before .before .before .before .before .before)) (c .before .loop .inv)
+same-length-2 c = filling-length _ (room (c .before .before .before .before .before .before)) (c .before .loop .inv)
 
 returns-2 : tie.Need-returns-2 Inv-loop2 μ-loop2 Inv-loop μ-loop
-returns-2 c = filling-end (c .before .loop .inv) (omega arith)
+returns-2 c = filling-end _ (c .before .loop .inv) (omega arith)
 
 pub fill-lines-spec : {M : Type 1} → statement M
 fill-lines-spec =

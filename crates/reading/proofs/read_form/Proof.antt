@@ -16,7 +16,8 @@ use Rattle.reading.proofs.read_form.Tie as tie
 returns : tie.Need-returns
 returns c =
     let o = c .before .before .before in
-    form-none (o .args .form) (o .args .group) (o .args .count) (o .args .lines .now) (o .args .table .now) (subst (λ m. length (o .args .table .now) < m) (c .before .cells .ensures) (c .if1 .taken))
+    form-none (o .args .rules) (o .args .form) (o .args .group) (o .args .count) (o .args .lines .now) (o .args .table .now)
+    (subst (λ m. length (o .args .table .now) < m) (c .before .cells .ensures) (c .if1 .taken))
 
 fill-lines-requires : tie.Need-fill-lines-requires
 fill-lines-requires c κs =
@@ -26,13 +27,14 @@ fill-lines-requires c κs =
     let short = c .before .may-be-short .ensures in
     let enough = subst (λ m. m ≤ length (o .args .table .now)) (at-cells .cells .ensures) (at-check .before .if1 .left) in
     let clean =
-    lines-clean (o .args .form) (o .args .group) (o .args .count) (o .args .lines .now) (o .args .table .now) enough (sym (at-check .check .ensures) ∙ c .before .before .enum-told .given .1) in
+    lines-clean (o .args .rules) (o .args .form) (o .args .group) (o .args .count) (o .args .lines .now) (o .args .table .now) enough
+    (sym (at-check .check .ensures) ∙ c .before .before .enum-told .given .1) in
     (rw short (short-letters (o .args .group) (o .args .form) (o .pre .0)), (rw short clean, enough))
 
 returns-2 : tie.Need-returns-2
 returns-2 c =
     let o = c .before .before .before .before .before .before .before in
-    form-bad (o .args .form) (o .args .group) (o .args .count) (o .args .lines .now) (o .args .table .now)
+    form-bad (o .args .rules) (o .args .form) (o .args .group) (o .args .count) (o .args .lines .now) (o .args .table .now)
     (subst (λ m. m ≤ length (o .args .table .now)) (c .before .before .before .before .before .cells .ensures) (c .before .before .before .before .if1 .left)) _
     (sym (c .before .before .before .check .ensures) ∙ c .before .r .given .1)
 
@@ -42,10 +44,10 @@ returns-3 c =
     let at-check = at-short .before .before .before in
     let at-cells = at-check .before .before in
     let o = at-cells .before .before in
-    let b = form-done (o .args .form) (o .args .group) (o .args .count) (o .args .lines .now) (o .args .table .now)
+    let b = form-done (o .args .rules) (o .args .form) (o .args .group) (o .args .count) (o .args .lines .now) (o .args .table .now)
     (subst (λ m. m ≤ length (o .args .table .now)) (at-cells .cells .ensures) (at-check .before .if1 .left))
     (sym (at-check .check .ensures) ∙ at-short .before .enum-told .given .1)
-    (c .before .fill-lines .ensures ∙ ap (λ short. over 0 (cellsGot (readLines (o .args .form) short (o .args .count) (o .args .lines .now))) (o .args .table .now))
+    (c .before .fill-lines .ensures ∙ ap (λ short. over 0 (cellsGot (readLines (o .args .rules) (o .args .form) short (o .args .count) (o .args .lines .now))) (o .args .table .now))
     (at-short .may-be-short .ensures)) in
     (ap Done (at-cells .cells .ensures) ∙ b .0, b .1)
 

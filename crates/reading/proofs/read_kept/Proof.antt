@@ -11,7 +11,7 @@ use Rattle.reading.proofs.read_kept.Tie as tie
 returns : tie.Need-returns
 returns c =
     let o = c .before .before .before .before .before in
-    group-none (o .args .counts .now) (o .args .group) (o .args .lines .now) (o .args .table .now) (sym (c .before .before .form-of .ensures) ∙ c .enum-told .given .1)
+    group-none (o .args .rules) (o .args .counts .now) (o .args .group) (o .args .lines .now) (o .args .table .now) (sym (c .before .before .form-of .ensures) ∙ c .enum-told .given .1)
 
 read-form-requires : tie.Need-read-form-requires
 read-form-requires c κs =
@@ -27,7 +27,7 @@ returns-2 c =
     let o = c .before .before .before .before .before .before .before .before .before .before in
     let f = c .before .before .before .before .before .form .given in
     let has = sym (c .before .before .before .before .before .before .before .form-of .ensures) ∙ f .1 in
-    group-kept (o .args .counts .now) (o .args .group) (o .args .lines .now) (o .args .table .now) (f .0 .0) has (o .pre) _ (c .before .before .before .count-of .ensures)
+    group-kept (o .args .rules) (o .args .counts .now) (o .args .group) (o .args .lines .now) (o .args .table .now) (f .0 .0) has (o .pre) _ (c .before .before .before .count-of .ensures)
     (c .before .read-form .ensures)
 
 pub read-kept-spec : {M : Type 1} → statement M

@@ -16,27 +16,29 @@ use Rattle.rewrite.proofs.print_text.Statement.{statement}
 use Rattle.rewrite.proofs.print_text.Tie as tie
 
 abbrev Inv-loop : tie.InvT-loop
-Inv-loop text table₀ page₀ at₀ table page at = (length table ≡ 8192) × (length page ≡ 8192) × Printing text at
+Inv-loop rules text table₀ page₀ at₀ table page at = (length table ≡ 8192) × (length page ≡ 8192) × Printing rules text at
 
 abbrev μ-loop : tie.MeasureT-loop
-μ-loop text table₀ page₀ at₀ table page at = length text - at
+μ-loop rules text table₀ page₀ at₀ table page at = length text - at
 
 returns : tie.Need-returns Inv-loop μ-loop
-returns c = printing-none (c .before .before .before .args .text .now) (omega arith)
+returns c = printing-none (c .before .before .before .args .rules) (c .before .before .before .args .text .now) (omega arith)
 
 loop-holds : tie.Need-loop-holds Inv-loop μ-loop
-loop-holds c = (c .before .before .before .pre .0, c .before .before .before .pre .1, printing-first (c .before .before .before .args .text .now))
+loop-holds c = (c .before .before .before .pre .0, c .before .before .before .pre .1, printing-first (c .before .before .before .args .rules) (c .before .before .before .args .text .now))
 
 returns-2 : tie.Need-returns-2 Inv-loop μ-loop
 returns-2 c =
     let t = c .before .before .before .before .before .before .before .before in
-    printing-stop (c .before .before .before .before .before .before .before .before .before .before .before .before .args .text .now) (t .loop .at) (t .loop .inv .2)
+    printing-stop (c .before .before .before .before .before .before .before .before .before .before .before .before .args .rules)
+    (c .before .before .before .before .before .before .before .before .before .before .before .before .args .text .now) (t .loop .at) (t .loop .inv .2)
     (t .loop .inv .0) (t .loop .inv .1) _ (c .before .before .before .before .rewrite-record .ensures .0) (omega arith)
     (λ bytes next e. not-first (1 ∷ 2 ∷ []) tt (subst (λ (r : Rewriting). OneOf (1 ∷ 2 ∷ []) (tagOf the-type r)) e (c .match .keys2)))
 
 part-write-all-end : tie.Need-part-write-all-end Inv-loop μ-loop
 part-write-all-end c = let l =
-    printing-room (c .before .before .before .before .before .before .before .before .before .before .before .before .before .before .before .args .text .now)
+    printing-room (c .before .before .before .before .before .before .before .before .before .before .before .before .before .before .before .args .rules)
+    (c .before .before .before .before .before .before .before .before .before .before .before .before .before .before .before .args .text .now)
     (c .before .before .before .before .before .before .before .before .before .before .before .loop .at)
     (c .before .before .before .before .before .before .before .before .before .before .before .loop .inv .2)
     (c .before .before .before .before .before .before .before .before .before .before .before .loop .inv .0)
@@ -45,7 +47,8 @@ part-write-all-end c = let l =
 
 loop-less : tie.Need-loop-less Inv-loop μ-loop
 loop-less c = let l =
-    printing-further (c .before .before .before .before .before .before .before .before .before .before .before .before .before .before .before .before .before .args .text .now)
+    printing-further (c .before .before .before .before .before .before .before .before .before .before .before .before .before .before .before .before .before .args .rules)
+    (c .before .before .before .before .before .before .before .before .before .before .before .before .before .before .before .before .before .args .text .now)
     (c .before .before .before .before .before .before .before .before .before .before .before .before .before .loop .at)
     (c .before .before .before .before .before .before .before .before .before .before .before .before .before .loop .inv .2)
     (c .before .before .before .before .before .before .before .before .before .before .before .before .before .loop .inv .0)
@@ -58,14 +61,16 @@ loop-again c =
     let t = c .before .before .before .before .before .before .before .before .before .before .before .before .before in (
       search needs,
       search needs,
-      printing-more
+      printing-more _
           (c .before .before .before .before .before .before .before .before .before .before .before .before .before .before .before .before .before .args .text .now) (t .loop .at)
           (t .loop .inv .2) (t .loop .inv .0) (t .loop .inv .1) _ (c .before .before .before .before .before .before .before .before .before .rewrite-record .ensures .0) _ _
           (c .before .before .before .before .answer .given .1),
     )
 
 returns-3 : tie.Need-returns-3 Inv-loop μ-loop
-returns-3 c = printing-ended (c .before .before .before .before .before .args .text .now) (omega arith) (c .before .loop .at) (c .before .loop .inv .2) (omega arith)
+returns-3 c =
+    printing-ended (c .before .before .before .before .before .args .rules) (c .before .before .before .before .before .args .text .now) (omega arith) (c .before .loop .at) (c .before .loop .inv .2)
+    (omega arith)
 
 pub print-text-spec : {M : Type 1} → statement M
 print-text-spec =

@@ -13,15 +13,15 @@ use Rattle.rewriting.proofs.read_groups.Statement.{statement}
 use Rattle.rewriting.proofs.read_groups.Tie as tie
 
 abbrev Inv-loop : tie.InvT-loop
-Inv-loop text at counts table₀ from₀ cell₀ g₀ table from cell g = Turning text at table₀ table g from cell
+Inv-loop rules text at counts table₀ from₀ cell₀ g₀ table from cell g = Turning rules text at table₀ table g from cell
 
 abbrev μ-loop : tie.MeasureT-loop
-μ-loop text at counts table₀ from₀ cell₀ g₀ table from cell g = 61 - g
+μ-loop rules text at counts table₀ from₀ cell₀ g₀ table from cell g = 61 - g
 
 loop-holds : tie.Need-loop-holds Inv-loop μ-loop
 loop-holds c =
     let o = c .before .before .before in
-    turning-first (o .args .text .now) (o .args .at) (o .args .table .now) (c .behind-or-end .ensures)
+    turning-first (o .args .rules) (o .args .text .now) (o .args .at) (o .args .table .now) (c .behind-or-end .ensures)
 
 form-in-requires : tie.Need-form-in-requires Inv-loop μ-loop
 form-in-requires c κs = (c .before .loop .inv .low, omega arith)
@@ -41,7 +41,8 @@ end-is c = rw (c .before .before .before .count-of .ensures) at (ap (λ n. c .be
 
 add-end : tie.Need-add-end Inv-loop μ-loop
 add-end c = let h =
-    turning-ready (c .before .before .before .before .before .before .before .before .before .before .args .text .now)
+    turning-ready (c .before .before .before .before .before .before .before .before .before .before .args .rules)
+    (c .before .before .before .before .before .before .before .before .before .before .args .text .now)
     (c .before .before .before .before .before .before .before .before .before .before .args .at)
     (c .before .before .before .before .before .before .before .before .before .before .args .table .now) _
     (c .before .before .before .before .before .before .before .before .before .before .pre .0)
@@ -52,14 +53,14 @@ read-part-requires : tie.Need-read-part-requires Inv-loop μ-loop
 read-part-requires c κs =
     let o = c .before .before .before .before .before .before .before .before .before .before .before in
     let all =
-    turning-ready (o .args .text .now) (o .args .at) (o .args .table .now) _ (o .pre .0) (o .pre .1) (c .before .before .before .before .before .before .before .loop .inv)
+    turning-ready (o .args .rules) (o .args .text .now) (o .args .at) (o .args .table .now) _ (o .pre .0) (o .pre .1) (c .before .before .before .before .before .before .before .loop .inv)
     (omega arith) (c .before .before .before .before .before .form-in .result) (c .before .before .before .before .before .form-in .ensures) (to-is (c .before)) (end-is (c .before)) in
     (all .0, (all .1, (all .2, (all .3, all .4))))
 
 returns : tie.Need-returns Inv-loop μ-loop
 returns c =
     let o = c .before .before .before .before .before .before .before .before .before .before .before .before .before .before .before .before in
-    turning-refused (o .args .text .now) (o .args .at) (o .args .table .now) _ (o .pre .0) (o .pre .1)
+    turning-refused (o .args .rules) (o .args .text .now) (o .args .at) (o .args .table .now) _ (o .pre .0) (o .pre .1)
     (c .before .before .before .before .before .before .before .before .before .before .before .before .loop .inv) (omega arith)
     (c .before .before .before .before .before .before .before .before .before .before .form-in .result)
     (c .before .before .before .before .before .before .before .before .before .before .form-in .ensures) (to-is (c .before .before .before .before .before .before))
@@ -69,7 +70,7 @@ returns c =
 loop-again : tie.Need-loop-again Inv-loop μ-loop
 loop-again c =
     let o = c .before .before .before .before .before .before .before .before .before .before .before .before .before .before .before in
-    turning-more (o .args .text .now) (o .args .at) (o .args .table .now) _ (o .pre .0) (o .pre .1)
+    turning-more (o .args .rules) (o .args .text .now) (o .args .at) (o .args .table .now) _ (o .pre .0) (o .pre .1)
     (c .before .before .before .before .before .before .before .before .before .before .before .loop .inv) (omega arith)
     (c .before .before .before .before .before .before .before .before .before .form-in .result)
     (c .before .before .before .before .before .before .before .before .before .form-in .ensures) (to-is (c .before .before .before .before .before))
@@ -78,7 +79,7 @@ loop-again c =
 returns-2 : tie.Need-returns-2 Inv-loop μ-loop
 returns-2 c =
     let o = c .before .before .before .before .before in
-    turning-all (o .args .text .now) (o .args .at) (o .args .table .now) (c .before .loop .inv) (omega arith)
+    turning-all (o .args .rules) (o .args .text .now) (o .args .at) (o .args .table .now) (c .before .loop .inv) (omega arith)
 
 pub read-groups-spec : {M : Type 1} → statement M
 read-groups-spec =

@@ -15,8 +15,8 @@ returns c =
     let o = c .before .before .before .before .before .before in
     let a = o .args in
     let r = c .before .read-kept in
-    let same : length (r .last .1 .1 .1 .0) ≡ length (part (a .cell) (a .end) (a .table .now)) = search needs in
-    lent-read (readGroup (a .counts .now) (a .group) (part (a .from) (a .to) (a .text .now))) (a .table .now) (r .last .1 .1 .1 .0) (a .cell) (a .end) (o .pre .1 .1 .1 .0)
+    let same : length (r .last .1 .1 .1 .1 .0) ≡ length (part (a .cell) (a .end) (a .table .now)) = search needs in
+    lent-read (readGroup (a .rules) (a .counts .now) (a .group) (part (a .from) (a .to) (a .text .now))) (a .table .now) (r .last .1 .1 .1 .1 .0) (a .cell) (a .end) (o .pre .1 .1 .1 .0)
     (o .pre .1 .1 .1 .1) (r .result) (r .ensures) same
 
 pub read-part-spec : {M : Type 1} → statement M

@@ -11,14 +11,14 @@ use Rattle.rewriting.proofs.rewrite_placed.Tie as tie
 returns : tie.Need-returns
 returns c =
     let o = c .before .before .before .before .before in
-    let all = step-no-text (o .args .text .now) (o .args .at) (o .args .table .now) (o .args .out .now) _ (o .pre .0) _ (o .pre .1)
+    let all = step-no-text (o .args .rules) (o .args .text .now) (o .args .at) (o .args .table .now) (o .args .out .now) _ (o .pre .0) _ (o .pre .1)
     (omega (arith, c .before .canonical-length .ensures)) in
     (all .0, (all .1, all .2))
 
 returns-2 : tie.Need-returns-2
 returns-2 c =
     let o = c .before .before .before .before .before .before .before .before in
-    let all = step-no-cells (o .args .text .now) (o .args .at) (o .args .table .now) (o .args .out .now) _ (o .pre .0) _ (o .pre .1)
+    let all = step-no-cells (o .args .rules) (o .args .text .now) (o .args .at) (o .args .table .now) (o .args .out .now) _ (o .pre .0) _ (o .pre .1)
     (omega (arith, c .before .before .add-up .ensures .cells-are, all-cells (o .args .counts .now))) in
     (all .0, (all .1, all .2))
 
@@ -29,7 +29,7 @@ read-groups-requires c κs =
     let o = at-canonical-length .before .before .before .before in
     let many = at-add-up .add-up .ensures .cells-are ∙ all-cells (o .args .counts .now) in (
       o .pre .1,
-      step-ready (o .args .text .now) (o .args .at) (o .args .table .now) (o .args .out .now) _ (o .pre .0) _ (o .pre .1)
+      step-ready (o .args .rules) (o .args .text .now) (o .args .at) (o .args .table .now) (o .args .out .now) _ (o .pre .0) _ (o .pre .1)
           (omega (arith, at-canonical-length .canonical-length .ensures)) (omega (arith, many)),
     )
 
@@ -40,7 +40,7 @@ write-cells-requires c κs =
     let at-canonical-length = at-add-up .before .before in
     let o = at-canonical-length .before .before .before .before in
     let many = at-add-up .add-up .ensures .cells-are ∙ all-cells (o .args .counts .now) in
-    step-writes (o .args .text .now) (o .args .at) (o .args .table .now) (o .args .out .now) _ (o .pre .0) _ (o .pre .1)
+    step-writes (o .args .rules) (o .args .text .now) (o .args .at) (o .args .table .now) (o .args .out .now) _ (o .pre .0) _ (o .pre .1)
     (omega (arith, at-canonical-length .canonical-length .ensures)) (omega (arith, many)) (
       sym (c .before .before .enum-told .given .1) ∙ at-read-groups .read-groups .ensures .0,
       at-read-groups .read-groups .ensures .1,
@@ -54,7 +54,7 @@ returns-3 c =
     let at-canonical-length = at-add-up .before .before in
     let o = at-canonical-length .before .before .before .before in
     let many = at-add-up .add-up .ensures .cells-are ∙ all-cells (o .args .counts .now) in
-    let all = step-unread (o .args .text .now) (o .args .at) (o .args .table .now) (o .args .out .now) _ (o .pre .0) _ (o .pre .1)
+    let all = step-unread (o .args .rules) (o .args .text .now) (o .args .at) (o .args .table .now) (o .args .out .now) _ (o .pre .0) _ (o .pre .1)
     (omega (arith, at-canonical-length .canonical-length .ensures)) (omega (arith, many))
     (sym (c .before .g .given .1) ∙ at-read-groups .read-groups .ensures .0, at-read-groups .read-groups .ensures .1) in
     (all .0, (all .1, all .2))
@@ -67,7 +67,7 @@ returns-4 c =
     let at-canonical-length = at-add-up .before .before in
     let o = at-canonical-length .before .before .before .before in
     let many = at-add-up .add-up .ensures .cells-are ∙ all-cells (o .args .counts .now) in
-    let all = step-done (o .args .text .now) (o .args .at) (o .args .table .now) (o .args .out .now) _ (o .pre .0) _ (o .pre .1)
+    let all = step-done (o .args .rules) (o .args .text .now) (o .args .at) (o .args .table .now) (o .args .out .now) _ (o .pre .0) _ (o .pre .1)
     (omega (arith, at-canonical-length .canonical-length .ensures)) (omega (arith, many)) (
       sym (at-enum-told .enum-told .given .1) ∙ at-read-groups .read-groups .ensures .0,
       at-read-groups .read-groups .ensures .1,

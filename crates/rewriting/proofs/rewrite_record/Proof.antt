@@ -11,7 +11,7 @@ returns : tie.Need-returns
 returns c =
     let at-place = c .before .before .before in
     let o = at-place .before .before .before in
-    let h = step-refused (o .args .text .now) (o .args .at) (o .args .table .now) (o .args .out .now)
+    let h = step-refused (o .args .rules) (o .args .text .now) (o .args .at) (o .args .table .now) (o .args .out .now)
     (ap asChecked (sym (at-place .place .ensures .0) ∙ c .before .answer .given .1)) in
     (h .0, (h .1, h .2))
 
@@ -19,7 +19,7 @@ returns-2 : tie.Need-returns-2
 returns-2 c =
     let at-place = c .before .before .before in
     let o = at-place .before .before .before in
-    let h = step-refused (o .args .text .now) (o .args .at) (o .args .table .now) (o .args .out .now)
+    let h = step-refused (o .args .rules) (o .args .text .now) (o .args .at) (o .args .table .now) (o .args .out .now)
     (ap asChecked (sym (at-place .place .ensures .0) ∙ c .before .answer2 .given .1)) in
     (h .0, (h .1, h .2))
 

@@ -13,7 +13,8 @@ use Rattle.seambeacon.proofs.seambeacon_characteristic.Tie as tie
 returns : tie.Need-returns
 returns c =
     let valued = c .before .before .before in
-    let known = valued .before .before .characteristic .ensures in
+    let at-call = valued .before .before in
+    let known = rw (at-call .before .rules-of .ensures) at (at-call .characteristic .ensures) in
     let stored = toZ-ofZ {w = w64} (sfits-of {w = w64} (valued .value-of .ok)) in (
       told-as (c .before .before .reply-of .ensures ∙ ap characteristicReply known)
           (c .tell .ensures),
@@ -23,4 +24,4 @@ returns c =
 pub seambeacon-characteristic-spec : {M : Type 1} → statement M
 seambeacon-characteristic-spec =
     tie.close
-    (tie.spec (λ c κs. search needs) (λ c κs. search needs) (λ c κs. search needs) (λ c κs. search needs) (λ c κs. search needs) returns)
+    (tie.spec (λ c κs. search needs) (λ c κs. search needs) (λ c κs. search needs) (λ c κs. search needs) (λ c κs. search needs) (λ c κs. search needs) returns)

@@ -9,9 +9,10 @@ use Rattle.seambeacon.proofs.seambeacon_list.Tie as tie
 
 returns : tie.Need-returns
 returns c =
-    let e = c .before .before .before .before .before .list .ensures in
+    let at-call = c .before .before .before .before .before in
+    let e = rw (at-call .before .before .rules-of .ensures) at (at-call .list .ensures) in
     (told-as (c .before .before .of-answer .ensures ∙ ap answerReply (e .0)) (c .tell .ensures), e .1)
 
 pub seambeacon-list-spec : {M : Type 1} → statement M
 seambeacon-list-spec =
-    tie.close (tie.spec (λ c κs. search needs) (λ c κs. search needs) (λ c κs. search needs) (λ c. search needs) returns)
+    tie.close (tie.spec (λ c κs. search needs) (λ c κs. search needs) (λ c κs. search needs) (λ c κs. search needs) (λ c. search needs) returns)

@@ -9,8 +9,9 @@ use Rattle.seambeacon.proofs.seambeacon_place.Tie as tie
 
 returns : tie.Need-returns
 returns c =
-    let e = c .before .before .before .before .place .ensures in
+    let at-call = c .before .before .before .before in
+    let e = rw (at-call .before .rules-of .ensures) at (at-call .place .ensures) in
     (told-as (c .before .before .reply-of .ensures ∙ ap placingReply (e .0)) (c .tell .ensures), e .1)
 
 pub seambeacon-place-spec : {M : Type 1} → statement M
-seambeacon-place-spec = tie.close (tie.spec (λ c κs. search needs) (λ c κs. search needs) (λ c κs. search needs) returns)
+seambeacon-place-spec = tie.close (tie.spec (λ c κs. search needs) (λ c κs. search needs) (λ c κs. search needs) (λ c κs. search needs) returns)

@@ -9,10 +9,11 @@ use Rattle.seambeacon.proofs.seambeacon_read_group.Tie as tie
 
 returns : tie.Need-returns
 returns c =
-    let e = c .before .before .before .before .read-group .ensures in
+    let at-call = c .before .before .before .before in
+    let e = rw (at-call .before .before .rules-of .ensures) at (at-call .read-group .ensures) in
     let told = told-as (c .before .before .of-answer .ensures ∙ ap answerReply (e .0)) (c .tell .ensures) in
     search (needs, told, e)
 
 pub seambeacon-read-group-spec : {M : Type 1} → statement M
 seambeacon-read-group-spec =
-    tie.close (tie.spec (λ c κs. search needs) (λ c κs. search needs) (λ c κs. search needs) (λ c. search needs) returns)
+    tie.close (tie.spec (λ c κs. search needs) (λ c κs. search needs) (λ c κs. search needs) (λ c κs. search needs) (λ c. search needs) returns)

@@ -1,0 +1,56 @@
+-- R9: what reads with 0 under the strict rule reads so under each: a line, the lines of a group, the group.
+-- Assumes nothing.
+use mathlib.Core.Path.{_≡_, refl, sym, _∙_, ap}
+use mathlib.Core.Bool.{Bool}
+use mathlib.Core.List.{List, [], _∷_}
+use Prim.Native.Nat.{ℕ}
+use native.Mathlib.Omega.{arith}
+use lib.IntN.{ℤ}
+use Rattle.rules.specs.declared.LineEnds.the-variants.{Strict}
+use Rattle.rules.specs.declared.Rules.{Rules}
+use Rattle.base.specs.Pieces
+use Rattle.base.specs.Pieces.{done}
+use Rattle.base.proofs.Pieces.{both-done}
+use Rattle.form.specs.declared.Form.{Form}
+use Rattle.form.specs.declared.GroupForm.the-variants.{Has}
+use Rattle.form.specs.Table.{formOf}
+use Rattle.line.specs.Contents.{contentOf}
+use Rattle.line.specs.Lines.{lines, behind}
+use Rattle.line.specs.declared.Content.{Content}
+use Rattle.line.specs.declared.Content.the-variants.{Length, NoReturn}
+use Rattle.line.proofs.Ends.{strict-content}
+use Rattle.count.specs.Tally.{countOf}
+use Rattle.reading.specs.Blanks.{mayBeShort}
+use Rattle.reading.specs.Plan.{Line, planOf}
+use Rattle.reading.specs.Read.{readContent, readLine, readLinesOf, readLines, readGroup}
+use Rattle.reading.proofs.ByLines.{group-by-lines}
+use Rattle.reading.proofs.GroupRead.{group-reads}
+
+module _ (σ ρ : Rules) (only : σ .ends ≡ Strict) where
+  strict-line-read : (f : Form) (short : Bool) (l : Line) (x : List ℕ) (c : List ℤ) → readLine σ f short l x ≡ done c → readLine ρ f short l x ≡ done c
+  unfolding readLine
+  strict-line-read f short l x c e = by (contentOf σ x) refl e
+    where
+      by : (o : Content) → contentOf σ x ≡ o → readContent f short l x o ≡ done c → readContent f short l x (contentOf ρ x) ≡ done c
+      by (Length n) u v = rw (strict-content σ ρ only x n u) v
+      by NoReturn u v = let z : _≡_ {A = ℕ} 0 1 = cc in absurd (omega arith)
+
+  strict-lines-read : (f : Form) (short : Bool) (ls : List Line) (x : List ℕ) (c : List ℤ) → readLinesOf σ f short ls x ≡ done c → readLinesOf ρ f short ls x ≡ done c
+  unfolding readLinesOf Pieces.gather
+  strict-lines-read f short [] x c e = e
+  strict-lines-read f short (l ∷ ls) x c e =
+      let d = both-done (readLine σ f short l (lines 1 x)) (readLinesOf σ f short ls (behind 1 x)) c e in
+      rw (strict-line-read f short l (lines 1 x) (d .first) (d .first-is), strict-lines-read f short ls (behind 1 x) (d .second) (d .second-is)) (ap done (sym (d .all)))
+
+  -- a group of a record with these counts
+  pub strict-group-read : (ns : List ℕ) (g : ℕ) (x : List ℕ) (room : ℕ) (c : List ℤ) → readGroup σ ns g x room ≡ done c → readGroup ρ ns g x room ≡ done c
+  unfolding readLines
+  strict-group-read ns g x room c e = group-by-lines ρ σ ns g x x same room ∙ e
+    where
+      same : (f : Form) → formOf g ≡ Has f → readLines ρ f (mayBeShort g) (countOf ns g) x ≡ readLines σ f (mayBeShort g) (countOf ns g) x
+      same f u =
+          let r = group-reads σ ns g x room c e in
+          let w : Has (r .form) ≡ Has f = sym (r .has) ∙ u in
+          let k : r .form ≡ f = cc in
+          let v : readLines σ f (mayBeShort g) (countOf ns g) x ≡ done c = rw k at (r .lines) in
+          strict-lines-read f (mayBeShort g) (planOf f (countOf ns g)) x c v ∙ sym v

@@ -1,0 +1,91 @@
+-- R9, R12: what the rules for line ends promise of one another. Strict: a line ends in a carriage return and a line feed. Either: in these, or in a
+-- line feed alone. The demands hold under each rule; here is what moves between them, and what does not.
+--
+-- s and t are texts, p and q places of them; ρ is the rule that is asked with, whatever it is.
+use mathlib.Core.Path.{_≡_}
+use mathlib.Core.Bool.{Bool}
+use mathlib.Core.List.{List, [], _∷_, _++_}
+use mathlib.Core.Logic.{_↔_}
+use Prim.Native.Nat.{ℕ, _≤_}
+use lib.IntN.{ℤ}
+use lib.ListN.{length}
+use Rattle.rules.specs.Choice.{strict}
+use Rattle.rules.specs.declared.LineEnds.the-variants.{Either}
+use Rattle.rules.specs.declared.Rules.{Rules}
+use Rattle.base.specs.Pieces.{done}
+use Rattle.line.specs.Alike.{Alike, AlikeFrom, endedBy, EitherWay}
+use Rattle.line.specs.Contents.{EndsInReturn, contentOf}
+use Rattle.line.specs.Lines.{Whole}
+use Rattle.line.specs.declared.Content.the-variants.{Length, NoReturn}
+use Rattle.place.specs.Alike.{SamePlacing}
+use Rattle.place.specs.Placing.{placingOf, countsAt}
+use Rattle.place.specs.Walk.{PlacedAt, spot, Stops}
+use Rattle.reply.specs.declared.Refusal.{Refusal}
+use Rattle.group.specs.declared.Characteristic.the-variants.{Refused}
+use Rattle.group.specs.Characteristics.{characteristicAt}
+use Rattle.group.specs.Ends.{SameAnswers}
+use Rattle.group.specs.Held.{foundAt, partAt}
+use Rattle.group.specs.Text.{readAt}
+use Rattle.writing.specs.RoundTrip.{ReadsBack}
+use Rattle.rewriting.specs.Alike.{SameRewriting}
+use Rattle.rewriting.specs.Canonical.{RightRecord}
+use Rattle.rewriting.specs.Printed.{printed}
+use Rattle.rewriting.specs.Record.{rewritingOf, textAt}
+
+-- R9: under either
+pub record UnderEither (ρ : Rules) : Type 0 where
+  -- a is the content of a line, whether a carriage return stands before its line feed or not; unless a itself ends in one, which is then that one
+  pub either-end : (a : List ℕ) → (EndsInReturn a → ⊥) → (contentOf ρ (a ++ (10 ∷ [])) ≡ Length (length a)) × (contentOf ρ (a ++ (13 ∷ 10 ∷ [])) ≡ Length (length a))
+  -- every line has a content, so that the missing carriage return gives neither 4 nor 8: these are given for what the content is
+  pub some-content : (x : List ℕ) → Whole 1 x → contentOf ρ x ≡ NoReturn → ⊥
+  -- lines with these contents are alike, wherever carriage returns stand and wherever they lack
+  pub here-and-there : (cs : List (List ℕ)) → EitherWay cs → (v w : ℕ → Bool) → Alike ρ (endedBy v cs) (endedBy w cs)
+
+-- R9, R12: what is right under the strict rule is the same under ρ; so only refusals of it can move
+pub record StrictStays (ρ : Rules) : Type 0 where
+  pub content : (x : List ℕ) (n : ℕ) → contentOf strict x ≡ Length n → contentOf ρ x ≡ Length n
+  -- replies 0 and 7 with their numbers, and the counts beside them
+  pub placing : (s : List ℕ) (at : ℕ) → PlacedAt strict s at → placingOf ρ s at ≡ placingOf strict s at
+  pub counts : (s : List ℕ) (at : ℕ) → PlacedAt strict s at → countsAt ρ s at ≡ countsAt strict s at
+  -- reply 0 of a group with its cells
+  pub reading : (s : List ℕ) (at g room : ℕ) (cs : List ℤ) → readAt strict s at g room ≡ done cs → readAt ρ s at g room ≡ done cs
+  -- a characteristic that is not refused
+  pub characteristic : (s : List ℕ) (at k : ℕ) → ((r : Refusal) → characteristicAt strict s at k ≡ Refused r → ⊥) → characteristicAt ρ s at k ≡ characteristicAt strict s at k
+
+-- R9: where s from p on and t from q on have the same contents line by line, what is asked there is answered the same
+pub record AnsweredAlike (ρ : Rules) (s : List ℕ) (p : ℕ) (t : List ℕ) (q : ℕ) : Type 0 where
+  -- the same reply with its numbers but the next place, and from the next places on the texts are alike again
+  pub placing : SamePlacing ρ s t (placingOf ρ s p) (placingOf ρ t q)
+  pub counts : countsAt ρ s p ≡ countsAt ρ t q
+  -- every group: the cells, or the refusal with its numbers
+  pub reading : (g room : ℕ) → readAt ρ s p g room ≡ readAt ρ t q g room
+  -- its lines, which have the same contents
+  pub lines : (g : ℕ) → foundAt ρ s p g ≡ foundAt ρ t q g
+  pub part : (g : ℕ) → Alike ρ (partAt ρ s p g) (partAt ρ t q g)
+  pub characteristic : (k : ℕ) → characteristicAt ρ s p k ≡ characteristicAt ρ t q k
+  -- rewriting gives the same reply with its numbers but the next place, and the canonical text is the same: its line ends are those of R101
+  pub rewriting : (cells room : ℕ) → SameRewriting ρ s t (rewritingOf ρ s p cells room) (rewritingOf ρ t q cells room)
+  pub text : textAt ρ s p ≡ textAt ρ t q
+
+-- R9, R254: where whole texts are alike, so is the walk
+pub record WalkedAlike (ρ : Rules) (s t : List ℕ) : Type 0 where
+  -- record k of the one is record k of the other, and is answered alike
+  pub spots : (k : ℕ) → AlikeFrom ρ s (spot ρ s k) t (spot ρ t k)
+  -- as many records, and the same refusal behind them
+  pub stops : (many : ℕ) (r : Refusal) → Stops ρ s many r ↔ Stops ρ t many r
+  -- R341: the rewriting program prints the same for both, where both are within its limit
+  pub prints : length s ≤ 65536 → length t ≤ 65536 → printed ρ s ≡ printed ρ t
+
+-- R9, R101: canonical text ends its lines with a carriage return and a line feed: each rule reads it as what it is
+pub record CanonicalStays (ρ : Rules) : Type 0 where
+  -- 0 with the place behind it, its counts and each group's cells, wherever it stands
+  pub reads-back : (x : List ℕ) (r : RightRecord x) (a b : List ℕ) → ReadsBack ρ (r .ns) (r .cs) (length x) (a ++ (x ++ b)) (length a)
+  -- so any other rule answers the same
+  pub same : (σ : Rules) (x : List ℕ) → RightRecord x → (a b : List ℕ) → SameAnswers ρ σ (a ++ (x ++ b)) (length a)
+
+pub record LineEndsKept (ρ : Rules) : Type 0 where
+  pub either : ρ .ends ≡ Either → UnderEither ρ
+  pub strict-stays : StrictStays ρ
+  pub alike : (s : List ℕ) (p : ℕ) (t : List ℕ) (q : ℕ) → AlikeFrom ρ s p t q → AnsweredAlike ρ s p t q
+  pub walk : (s t : List ℕ) → Alike ρ s t → WalkedAlike ρ s t
+  pub canonical : CanonicalStays ρ

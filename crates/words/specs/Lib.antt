@@ -1,0 +1,2 @@
+-- R349: the words that a program is started with (Words).
+pub mod Words
