@@ -20,7 +20,7 @@ use Rattle.rewriting.proofs.Canonical.{right-back}
 use Rattle.rewriting.proofs.Ends.{strict-rewriting, strict-text}
 use Rattle.sao.specs.Ends.{StrictStays, LineEndsKept}
 
-strict-stays-so : (ρ : Rules) → StrictStays ρ
+strict-stays-so : (ρ : Rules) → StrictStays (ended Strict ρ) ρ
 strict-stays-so ρ =
     let σ = ended Strict ρ in
     record {

@@ -39,7 +39,7 @@ use Rattle.rewriting.specs.Canonical.{RightRecord}
 use Rattle.rewriting.specs.Printed.{printed}
 use Rattle.rewriting.specs.Record.{rewritingOf, textAt}
 
--- R9: under strict, what stands before a line feed and doesn't end in a carriage return
+-- R9: under strict, a line whose line feed has no carriage return before it
 pub record UnderStrict (ρ : Rules) : Type 0 where
   -- has no content
   pub no-end : (a : List ℕ) → (EndsInReturn a → ⊥) → contentOf ρ (a ++ (10 ∷ [])) ≡ NoReturn
@@ -50,7 +50,7 @@ pub record UnderStrict (ρ : Rules) : Type 0 where
 
 -- R9: under either
 pub record UnderEither (ρ : Rules) : Type 0 where
-  -- it is a content. Where a ends in a carriage return, that one belongs to the line end, and the content is what stands before it (`one-return`)
+  -- a is the content of a line feed behind it; unless a ends in a carriage return, which is then part of the line end (`one-return`)
   pub either-end : (a : List ℕ) → (EndsInReturn a → ⊥) → contentOf ρ (a ++ (10 ∷ [])) ≡ Length (length a)
   -- every line has a content, so that the missing carriage return gives neither 4 nor 8: these are given for what the content is
   pub some-content : (x : List ℕ) → Whole 1 x → contentOf ρ x ≡ NoReturn → ⊥
@@ -60,8 +60,8 @@ pub record UnderEither (ρ : Rules) : Type 0 where
   pub one-line : (k : ℕ) (x : List ℕ) → Whole k x → (a : List ℕ) → Plain a → (EndsInReturn a → ⊥) → (y : List ℕ)
       → Alike ρ (x ++ ((a ++ (10 ∷ [])) ++ y)) (x ++ ((a ++ (13 ∷ 10 ∷ [])) ++ y))
 
--- R9, R12: σ and ρ agree in all but line ends, and σ is strict: what is right under σ is the same under ρ; so only refusals of σ can move
-pub record StaysFrom (σ ρ : Rules) : Type 0 where
+-- R9, R12: σ is strict, and as ρ in all else: what is right under σ is the same under ρ; so only refusals of σ can move
+pub record StrictStays (σ ρ : Rules) : Type 0 where
   pub content : (x : List ℕ) (n : ℕ) → contentOf σ x ≡ Length n → contentOf ρ x ≡ Length n
   -- replies 0 and 7 with their numbers, and the counts beside them
   pub placing : (s : List ℕ) (at : ℕ) → PlacedAt σ s at → placingOf ρ s at ≡ placingOf σ s at
@@ -79,9 +79,6 @@ pub record StaysFrom (σ ρ : Rules) : Type 0 where
   -- reply 0 of rewriting with its numbers, and its text
   pub rewriting : (s : List ℕ) (at cells room bytes next : ℕ) → rewritingOf σ s at cells room ≡ Done bytes next → rewritingOf ρ s at cells room ≡ Done bytes next
   pub text : (s : List ℕ) (at cells room bytes next : ℕ) → rewritingOf σ s at cells room ≡ Done bytes next → textAt ρ s at ≡ textAt σ s at
-
-abbrev pub StrictStays : Rules → Type 0
-StrictStays ρ = StaysFrom (ended Strict ρ) ρ
 
 -- R9: where s from p on and t from q on have the same contents line by line, what is asked there is answered the same
 pub record AnsweredAlike (ρ : Rules) (s : List ℕ) (p : ℕ) (t : List ℕ) (q : ℕ) : Type 0 where
@@ -119,7 +116,7 @@ pub record LineEndsKept (ρ : Rules) : Type 0 where
   pub one-return : (a : List ℕ) → contentOf ρ (a ++ (13 ∷ 10 ∷ [])) ≡ Length (length a)
   pub strictly : ρ .ends ≡ Strict → UnderStrict ρ
   pub either : ρ .ends ≡ Either → UnderEither ρ
-  pub strict-stays : StrictStays ρ
+  pub strict-stays : StrictStays (ended Strict ρ) ρ
   pub alike : (s : List ℕ) (p : ℕ) (t : List ℕ) (q : ℕ) → AlikeFrom ρ s p t q → AnsweredAlike ρ s p t q
   pub walk : (s t : List ℕ) → Alike ρ s t → WalkedAlike ρ s t
   pub canonical : CanonicalStays ρ
