@@ -493,6 +493,15 @@ holds 'a day that cannot be written' "$(set_field 4 1 3525 7301)"
 files 'a day that cannot be written' journal "$name_of_250"
 day=$work/files/day
 
+# R101: the saved record, the lines from 26 to 50, has carriage returns, and all other bytes of a day without them stay
+begin
+tr -d '\r' <examples/day.sao >"$day"
+edit 2 'set 4 1 7301' 'save'
+said 'a day without carriage returns' "$loaded" 'done: cell 1 of group 4 is 7301' "$done_saved"
+edited 's/^   3\.5259999/   7.3019999/' | awk 'NR < 26 || NR > 50 { sub(/\r$/, "") } { print }' >"$work/want"
+cp "$day" "$work/got"
+compared 'a day without carriage returns, saved' "$work/want"
+
 # a journal with any name that a new day might have
 edited 's/^   3\.5259999/   7.3019999/' >"$work/saved"
 begin
