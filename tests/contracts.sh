@@ -1,7 +1,7 @@
 #!/bin/sh
-# Contracts: every public function of every crate has an `ensures`, but for `words::given`: what the system hands over is in no contract. No public
-# question of `sao` or `seambeacon` has a `requires`. The questions are those of README.md and of the header, name for name. The check is tried on
-# made-up functions first.
+# Contracts: every public function of every crate has an `ensures`, but for `words::given`: what the system hands over is in no contract. No
+# public question of `sao` or `seambeacon` has a `requires`. The questions are those of README.md and of the header, name for name. The check is
+# tried on made-up functions first.
 set -u
 LC_ALL=C
 export LC_ALL

@@ -1,8 +1,8 @@
 #!/bin/sh
-# The example day and its damaged copy: rewriting returns the day byte for byte, both are listed alike, and one byte that was replaced in a
-# trace is seen in the row of one group alone. Where that group stands, which line and element are refused and what foF2 was are cut out of the
-# text's fixed columns here (R41, R61, R140); one hour has no foF2 (R291). Without its carriage returns the day answers as before (R9). Prints each
-# case that fails, and how many passed.
+# The example day and its damaged copy: rewriting returns the day byte for byte, both are listed alike, and one byte that was replaced in a trace
+# is seen in the row of one group alone. Where that group stands, which line and element are refused and what foF2 was are cut out of the text's
+# fixed columns here (R41, R61, R140); one hour has no foF2 (R291). Without its carriage returns the day answers as before (R9). Prints each case
+# that fails, and how many passed.
 set -u
 LC_ALL=C
 export LC_ALL

@@ -1,8 +1,8 @@
 #!/bin/sh
 # examples/edit.c on copies of the example day: what it says, the bytes of its journal, and the day that it saves. It is killed between two
 # commands, with a part of a further field behind them, and started again: every edit that was said to be done is there. It is killed in a save,
-# before and behind the renaming, and functions of the C library fail it, each flush in turn (tests/edit/faults.c). Two of them meet on one journal
-# and on one day; journal and day are removed or replaced beside it; a journal is taken for that of another record.
+# before and behind the renaming, and functions of the C library fail it, each flush in turn (tests/edit/faults.c). Two of them meet on one
+# journal and on one day; journal and day are removed or replaced beside it; a journal is taken for that of another record.
 # What is expected comes from the text's columns and from the rules: fields of the forms F7.3 and F8.3 (R73, R104), and the journal's fields byte
 # by byte.
 set -u
