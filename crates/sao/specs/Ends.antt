@@ -50,7 +50,7 @@ pub record UnderStrict (ρ : Rules) : Type 0 where
 
 -- R9: under either
 pub record UnderEither (ρ : Rules) : Type 0 where
-  -- a is the content of a line feed behind it; unless a ends in a carriage return, which is then part of the line end (`one-return`)
+  -- with a line feed behind it a is the content of a line; unless it ends in a carriage return, which is then part of the line end (`one-return`)
   pub either-end : (a : List ℕ) → (EndsInReturn a → ⊥) → contentOf ρ (a ++ (10 ∷ [])) ≡ Length (length a)
   -- every line has a content, so that the missing carriage return gives neither 4 nor 8: these are given for what the content is
   pub some-content : (x : List ℕ) → Whole 1 x → contentOf ρ x ≡ NoReturn → ⊥
