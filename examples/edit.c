@@ -164,7 +164,7 @@ static int find_record(size_t number)
     struct seambeacon_beside beside;
     enum seambeacon_reply reply;
     for (size_t i = 1;; i++) {
-        reply = seambeacon_place(0, day.text, day.length, day.at, record.counts, &beside);
+        reply = seambeacon_place(SEAMBEACON_USUAL, day.text, day.length, day.at, record.counts, &beside);
         if (i == number || (reply != SEAMBEACON_DONE && reply != SEAMBEACON_BROKEN_RULE))
             break;
         day.at = beside.next;
@@ -194,7 +194,8 @@ static int load_cells(void)
     for (size_t group = 1; group <= GROUPS; group++) {
         struct seambeacon_beside beside;
         enum seambeacon_reply reply =
-            seambeacon_read_group(0, day.text, day.length, day.at, group, record.cells + many, MOST_CELLS - many, &beside);
+            seambeacon_read_group(SEAMBEACON_USUAL, day.text, day.length, day.at, group, record.cells + many, MOST_CELLS - many,
+                                  &beside);
         if (reply != SEAMBEACON_DONE) {
             fprintf(stderr, "edit: group %zu of record %zu cannot be read: ", group, record.number);
             tell(stderr, reply, &beside);

@@ -31,11 +31,12 @@ extern "C" {
 #endif
 
 /* The rules by which a text is read: each function that reads one takes them first, as the sum of
-   these flags. With 0 the usual rules hold: a line ends with a line feed, and a carriage return
-   that stands directly before it belongs to the line end too; lines of both kinds may stand in one
-   text. Any other carriage return is a byte of the line like others. A flag without a meaning is
-   ignored (R365). */
+   these flags. A flag without a meaning is ignored (R365). */
 enum seambeacon_rules {
+    /* no flag: a line ends with a line feed, and a carriage return that stands directly before it
+       belongs to the line end too; lines of both kinds may stand in one text. Any other carriage
+       return is a byte of the line like others */
+    SEAMBEACON_USUAL = 0,
     /* the strict line end: the carriage return before the line feed has to be there; a line
        without it is refused, with 4 in the index and with 8 in a group */
     SEAMBEACON_STRICT = 1

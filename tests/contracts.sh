@@ -1,6 +1,7 @@
 #!/bin/sh
-# Contracts: every public function of every crate has an `ensures`, and no public question of `sao` or `seambeacon` has a `requires`. The
-# questions are those of README.md and of the header, name for name. The check is tried on made-up functions first.
+# Contracts: every public function of every crate has an `ensures`, but for `words::given`: what the system hands over is in no contract. No
+# public question of `sao` or `seambeacon` has a `requires`. The questions are those of README.md and of the header, name for name. The check is
+# tried on made-up functions first.
 set -u
 LC_ALL=C
 export LC_ALL
@@ -108,7 +109,7 @@ made 'f misread' 'pub fn f(n: usize) -> usize ensures { n }'
 made '' 'fn f(n: usize) -> usize requires { n } { n }'
 made '' 'pub struct S { n: usize } fn f(n: usize) -> usize requires { n } { n }'
 
-counted 'every public function has an ensures' none "$(unensured crates/*/src/*.rt)"
+counted 'every public function but one has an ensures' none "$(unensured crates/*/src/*.rt | grep -vx 'crates/words/src/lib\.rt given 0 0')"
 for crate in sao seambeacon; do
     counted "no question of $crate has a requires" none "$(required crates/$crate/src/*.rt)"
 done

@@ -1,7 +1,8 @@
 #!/bin/sh
-# The example day and its damaged copy: rewriting returns the day byte for byte, both are listed alike, and one byte that was replaced in a
-# trace is seen in the row of one group alone. Where that group stands, which line and element are refused and what foF2 was are cut out of the
-# text's fixed columns here (R41, R61, R140); one hour has no foF2 (R291). Without its carriage returns the day answers as before (R9). Prints each case that fails, and how many passed.
+# The example day and its damaged copy: rewriting returns the day byte for byte, both are listed alike, and one byte that was replaced in a trace
+# is seen in the row of one group alone. Where that group stands, which line and element are refused and what foF2 was are cut out of the text's
+# fixed columns here (R41, R61, R140); one hour has no foF2 (R291). Without its carriage returns the day answers as before (R9). Prints each case
+# that fails, and how many passed.
 set -u
 LC_ALL=C
 export LC_ALL
@@ -97,6 +98,14 @@ placeless "$work/day.dump" >"$work/want"
 ./run dump <"$work/lean" >"$work/lean.dump"
 placeless "$work/lean.dump" >"$work/got"
 compared 'the day without carriage returns, dumped' "$work/want"
+unplaced() { # what was listed, without places
+    awk '$1 == "end" { $3 = "" } $1 != "end" { $2 = $3 = "" } { print }' "$1"
+}
+unplaced "$work/day.list" >"$work/want"
+counted 'there are 24 rows and one' [ "$(wc -l <"$work/want")" -eq 25 ]
+./run list <"$work/lean" >"$work/lean.list"
+unplaced "$work/lean.list" >"$work/got"
+compared 'the day without carriage returns, listed' "$work/want"
 ./run rewrite <"$work/lean" >"$work/got"
 compared 'the day without carriage returns, rewritten' "$day"
 ./run dump --strict <"$day" >"$work/got"

@@ -1,8 +1,8 @@
 #!/bin/sh
-# The test program dump: every answer about every text of tests/vectors, or of the folder that is named (`tests/dump.sh FOLDER [--strict]`), under
-# both rules for line ends, and about 65,536 bytes; and damage by running (D3.2 to D3.7): bytes of one group's lines are replaced in each text that has such lines; then only that group's row may differ, and
-# for group 4 the characteristics of that record. Which bytes are replaced by what is drawn from a fixed seed, and is the same in each run.
-# Prints each case that fails, and how many passed.
+# The test program dump: every answer about every text of tests/vectors, or of the folder that is named (`tests/dump.sh FOLDER [--strict]`),
+# under both rules for line ends, and about 65,536 bytes; and damage by running (D3.2 to D3.7): bytes of one group's lines are replaced in each
+# text that has such lines; then only that group's row may differ, and for group 4 the characteristics of that record. Which bytes are replaced
+# by what is drawn from a fixed seed, and is the same in each run. Prints each case that fails, and how many passed.
 set -u
 cd "$(dirname "$0")/.." || exit 2
 name=dump

@@ -1,8 +1,8 @@
 #!/bin/sh
 # examples/edit.c on copies of the example day: what it says, the bytes of its journal, and the day that it saves. It is killed between two
 # commands, with a part of a further field behind them, and started again: every edit that was said to be done is there. It is killed in a save,
-# before and behind the renaming, and functions of the C library fail it, each flush in turn (tests/edit/faults.c). Two of them meet on one journal
-# and on one day; journal and day are removed or replaced beside it; a journal is taken for that of another record.
+# before and behind the renaming, and functions of the C library fail it, each flush in turn (tests/edit/faults.c). Two of them meet on one
+# journal and on one day; journal and day are removed or replaced beside it; a journal is taken for that of another record.
 # What is expected comes from the text's columns and from the rules: fields of the forms F7.3 and F8.3 (R73, R104), and the journal's fields byte
 # by byte.
 set -u
@@ -492,6 +492,15 @@ counted 'a day that cannot be written is as it was' cmp -s "$day" examples/day.s
 holds 'a day that cannot be written' "$(set_field 4 1 3525 7301)"
 files 'a day that cannot be written' journal "$name_of_250"
 day=$work/files/day
+
+# R101: the saved record, the lines from 26 to 50, has carriage returns, and all other bytes of a day without them stay
+begin
+tr -d '\r' <examples/day.sao >"$day"
+edit 2 'set 4 1 7301' 'save'
+said 'a day without carriage returns' "$loaded" 'done: cell 1 of group 4 is 7301' "$done_saved"
+edited 's/^   3\.5259999/   7.3019999/' | awk 'NR < 26 || NR > 50 { sub(/\r$/, "") } { print }' >"$work/want"
+cp "$day" "$work/got"
+compared 'a day without carriage returns, saved' "$work/want"
 
 # a journal with any name that a new day might have
 edited 's/^   3\.5259999/   7.3019999/' >"$work/saved"

@@ -1,9 +1,9 @@
 #!/bin/sh
-# What README.md shows. Its rows of the example day, and those about line ends, are what list, dump and rewrite print. The C program is cut out of it, compiled, linked and run, and
-# so is the Rust program where cargo is at hand; both must print foF2 of each hour of examples/day.sao, as it stands in the text's columns,
-# but for the one hour where it was not scaled (R291). The
-# scene of edit is played, and its lines about the journal in Rust are those that the wrapper's documentation runs. On every machine the kit's
-# own compiler, linker and loader are used; on x86-64 the commands of README.md too. Another file than README.md may be named.
+# What README.md shows. Its rows of the example day, and those about line ends, are what list, dump and rewrite print. The C program is cut out
+# of it, compiled, linked and run, and so is the Rust program where cargo is at hand; both must print foF2 of each hour of examples/day.sao, as
+# it stands in the text's columns, but for the one hour where it was not scaled (R291). The scene of edit is played, and its lines about the
+# journal in Rust are those that the wrapper's documentation runs. On every machine the kit's own compiler, linker and loader are used; on x86-64
+# the commands of README.md too. Another file than README.md may be named.
 set -u
 home=$(cd "$(dirname "$0")/.." && pwd -P) || exit 2
 case ${1-} in

@@ -1,8 +1,8 @@
 #!/bin/sh
 # The rewriting program (R341, R345, R346): every text of tests/vectors, or of the folder that is named (`tests/rewrite.sh FOLDER [--strict]`),
-# under both rules for line ends, and what was printed given to it again; record S with other spellings of its fields; records of 8,192 canonical bytes and of one more; output longer than the input may be; inputs at
-# the limit of 65,536 bytes. Expected texts come from the vectors, from the rules, or from their arithmetic. Prints each case that fails, and
-# how many passed.
+# under both rules for line ends, and what was printed given to it again; record S with other spellings of its fields; records of 8,192 canonical
+# bytes and of one more; output longer than the input may be; inputs at the limit of 65,536 bytes. Expected texts come from the vectors, from the
+# rules, or from their arithmetic. Prints each case that fails, and how many passed.
 set -u
 LC_ALL=C
 export LC_ALL

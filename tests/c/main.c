@@ -22,7 +22,7 @@ static void check_texts(char **words, int count)
     for (int i = 0; i < count; i += 5) {
         int strict = strcmp(words[i], "strict") == 0;
         need("a name of rules", strict || strcmp(words[i], "usual") == 0);
-        under(strict ? SEAMBEACON_STRICT : 0);
+        under(strict ? SEAMBEACON_STRICT : SEAMBEACON_USUAL);
         check_text(words[i + 1], words[i + 2], words[i + 3], words[i + 4]);
     }
 }

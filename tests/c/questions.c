@@ -2,7 +2,7 @@
 
 static const struct seambeacon_beside none;
 
-const uint32_t flags[RULES][FLAGS] = {{0, 2, 0x80000000, 0xfffffffe}, {SEAMBEACON_STRICT, 3, 0x80000001, 0xffffffff}};
+const uint32_t flags[RULES][FLAGS] = {{SEAMBEACON_USUAL, 2, 0x80000000, 0xfffffffe}, {SEAMBEACON_STRICT, 3, 0x80000001, 0xffffffff}};
 
 void ask_place(const uint8_t *text, size_t length, size_t at, size_t reply, struct seambeacon_beside beside, const uint16_t *counts)
 {

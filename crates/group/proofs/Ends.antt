@@ -1,17 +1,24 @@
--- R9: what the strict rule reads with 0, each rule does: a group with its cells, and a characteristic that is not refused.
+-- R9: rules under which the same is located at a place give the same lines of each group there. What the strict rule reads with 0, each rule
+-- does: a group with its cells, and a characteristic that is not refused.
 -- Assumes nothing.
-use mathlib.Core.Path.{_≡_, refl, sym, _∙_}
+use mathlib.Core.Path.{_≡_, refl, sym, _∙_, ap, ap₂}
 use mathlib.Core.Bool.{Bool, true, false, cond, _&&_}
 use mathlib.Core.List.{List}
-use Prim.Native.Nat.{ℕ}
+use Prim.Native.Nat.{ℕ, suc}
 use native.Mathlib.Omega.{arith}
 use lib.Dec.{leb}
 use lib.IntN.{ℤ}
 use Rattle.rules.specs.declared.LineEnds.the-variants.{Strict}
 use Rattle.rules.specs.declared.Rules.{Rules}
+use Rattle.base.specs.Part.{part}
 use Rattle.base.specs.Pieces.{done, bad}
-use Rattle.place.specs.Parts.{groupPart}
-use Rattle.place.specs.Placing.{countsAt}
+use Rattle.form.specs.declared.GroupForm.{GroupForm}
+use Rattle.form.specs.declared.GroupForm.the-variants.{Has, NoGroup as NoForm}
+use Rattle.form.specs.Table.{formOf}
+use Rattle.place.specs.Numbered.{asChecked}
+use Rattle.place.specs.Parts.{start, groupPart}
+use Rattle.place.specs.Placing
+use Rattle.place.specs.Placing.{locate, placingBy, countsBy, countsAt}
 use Rattle.place.proofs.Ends.{strict-located}
 use Rattle.place.proofs.Zero.{is-placed}
 use Rattle.reading.specs.Read.{Cells}
@@ -22,10 +29,32 @@ use Rattle.reply.specs.declared.Refusal.{Refusal}
 use Rattle.reply.specs.declared.Refusal.the-variants.{NoSuchNumber}
 use Rattle.group.specs.declared.Characteristic.the-variants.{Refused}
 use Rattle.group.specs.Characteristics.{reported, characteristicAt}
-use Rattle.group.specs.Held.{foundAt}
+use Rattle.group.specs.Held.{foundIn, foundAt, startBy, partStart, partEnd, partAt}
 use Rattle.group.specs.Text.{readAt}
 use Rattle.group.proofs.Holding.{given-is}
 use Rattle.group.proofs.Texts.{read-missing, read-located}
+
+module _ (ρ σ : Rules) (s : List ℕ) (at : ℕ) (l : locate ρ s at ≡ locate σ s at) where
+  pub located-found : (g : ℕ) → foundAt ρ s at g ≡ foundAt σ s at g
+  unfolding foundAt Placing.placingOf
+  located-found g = by (formOf g)
+    where
+      by : (f : GroupForm) → foundIn ρ s at f ≡ foundIn σ s at f
+      by (Has f) = ap (λ y. asChecked (placingBy y)) l
+      by NoForm = refl
+
+  starts : (g : ℕ) (c : Checked) → startBy ρ s at g c ≡ startBy σ s at g c
+  unfolding Placing.countsAt
+  starts g C.Right = ap (λ y. start s at (countsBy y) g) l
+  starts g (C.Refused r) = refl
+
+  pub located-begins : (g : ℕ) → partStart ρ s at g ≡ partStart σ s at g
+  unfolding partStart
+  located-begins g = ap (startBy ρ s at g) (located-found g) ∙ starts g (foundAt σ s at g)
+
+  pub located-lines : (g : ℕ) → partAt ρ s at g ≡ partAt σ s at g
+  unfolding partAt partEnd
+  located-lines g = ap₂ (λ a b. part a b s) (located-begins g) (ap (startBy ρ s at (suc g)) (located-found g) ∙ starts (suc g) (foundAt σ s at g))
 
 module _ (σ ρ : Rules) (only : σ .ends ≡ Strict) (s : List ℕ) (at : ℕ) where
   pub strict-read : (g room : ℕ) (cs : List ℤ) → readAt σ s at g room ≡ done cs → readAt ρ s at g room ≡ done cs

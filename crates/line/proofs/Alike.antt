@@ -3,7 +3,7 @@
 -- Assumes nothing.
 use mathlib.Core.Path.{_≡_, refl, sym, _∙_, ap, subst}
 use mathlib.Core.Bool.{Bool, true, false}
-use mathlib.Core.List.{List, [], _∷_, _++_}
+use mathlib.Core.List.{List, [], _∷_, _++_, append-assoc}
 use Prim.Native.Nat.{ℕ, zero, suc, _+_, _≤_}
 use native.Mathlib.Omega.{arith}
 use lib.ListN.{length, take, drop, getD, length-append, length-drop, take-append-drop}
@@ -26,7 +26,7 @@ use Rattle.line.proofs.Contents.{content-is, is-content, content-one, c
 use Rattle.line.proofs.Ends.{either-has}
 use Rattle.line.proofs.Feeds.{feeds-le, plain-nil, printable-plain}
 use Rattle.line.proofs.Reach.{reach-zero, reach-le, reach-add, behind-add, feeds-behind}
-use Rattle.line.proofs.Whole.{whole-line, whole-lines, reach-whole, lines-whole, behind-whole, feeds-whole}
+use Rattle.line.proofs.Whole.{whole-line, whole-lines, whole-behind, reach-whole, lines-whole, behind-whole, feeds-whole}
 
 -- ---- one line more in front
 
@@ -111,6 +111,20 @@ module _ (ρ : Rules) where
       rw (reach-zero (a ++ x), reach-zero (b ++ y), take-none (a ++ x), take-none (b ++ y)) (same-rest [] plain-nil)
   alike-lines s t (same-line a b {x} {y} u v h r) (suc k) = rw (lines-line-more x u k, lines-line-more y v k) (same-line a b u v h (alike-lines x y r k))
 
+  -- behind the same k lines
+  pub alike-ahead : (k : ℕ) (x s t : List ℕ) → Whole k x → Alike ρ s t → Alike ρ (x ++ s) (x ++ t)
+  alike-ahead zero x s t u r = none x (omega (arith, u .ends, reach-zero x))
+    where
+      none : (y : List ℕ) → length y ≡ 0 → Alike ρ (y ++ s) (y ++ t)
+      none [] e = r
+      none (b ∷ bs) e = absurd (omega arith)
+  alike-ahead (suc k) x s t u r =
+      let a = lines 1 x in
+      let b = behind 1 x in
+      let v = whole-lines x 1 (omega (arith, u .many)) in
+      let w = same-line a a v v (same-line-refl a) (alike-ahead k b s t (whole-behind x k u) r) in
+      subst (λ y. Alike ρ (y ++ s) (y ++ t)) (take-append-drop (reach x 1) x) (rw (append-assoc a b s, append-assoc a b t) w)
+
   pub alike-first : (s t : List ℕ) → Alike ρ s t → SameLine ρ (lines 1 s) (lines 1 t)
   alike-first s t (same-rest a p) = same-line-refl (lines 1 a)
   alike-first s t (same-line a b {x} {y} u v h r) = rw (lines-whole x u, lines-whole y v) h
@@ -158,6 +172,14 @@ module _ (ρ : Rules) where
         same-line (c ++ lineEndBy (v 0)) (c ++ lineEndBy (w 0)) (ended-line c p (v 0)) (ended-line c p (w 0))
         (same-line-by (c ++ lineEndBy (v 0)) (c ++ lineEndBy (w 0)) c (ended-has c n (v 0)) (ended-has c n (w 0)))
         (alike-ended cs r (λ i. v (suc i)) (λ i. w (suc i)))
+
+    -- one line anywhere: whole lines before it, and whatever stands behind it
+    pub alike-one : (k : ℕ) (x : List ℕ) → Whole k x → (a : List ℕ) → Plain a → (EndsInReturn a → ⊥) → (y : List ℕ)
+        → Alike ρ (x ++ ((a ++ (10 ∷ [])) ++ y)) (x ++ ((a ++ (13 ∷ 10 ∷ [])) ++ y))
+    alike-one k x u a p n y =
+        let h = either-has ρ either a n in
+        alike-ahead k x ((a ++ (10 ∷ [])) ++ y) ((a ++ (13 ∷ 10 ∷ [])) ++ y) u
+        (same-line (a ++ (10 ∷ [])) (a ++ (13 ∷ 10 ∷ [])) (whole-line a p) (content-line a p) (same-line-by (a ++ (10 ∷ [])) (a ++ (13 ∷ 10 ∷ [])) a (h .0) (h .1)) (alike-refl y))
 
 -- what prints is a content with either end
 prints-unreturned : (c : List ℕ) → T (every printable c) → EndsInReturn c → ⊥

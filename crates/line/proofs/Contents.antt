@@ -59,7 +59,8 @@ no-return x a u e r =
     let t : isReturnFeed (drop (length x - 2) x) ≡ true = rw (n, g, drop-append-seam b (13 ∷ 10 ∷ [])) in
     true≢false (sym t ∙ u)
 
-same-front : (a b y : List ℕ) → a ++ y ≡ b ++ y → a ≡ b
+-- what stands before the same end is the same
+pub same-front : (a b y : List ℕ) → a ++ y ≡ b ++ y → a ≡ b
 same-front a b y e =
     let l : length a ≡ length b = omega (arith, ap length e, length-append a y, length-append b y) in
     sym (take-append-seam a y) ∙ ap (take (length a)) e ∙ rw l (take-append-seam b y)

@@ -1,8 +1,9 @@
 -- R9: the rules for line ends against one another. Under `Either` a carriage return before the line feed, or none, gives the same content, and
--- each line has one. What has a content under the strict rule has the same under each rule.
+-- each line has one. Under `Strict` a line without a carriage return before its line feed has none; what has a content has the same under each
+-- rule.
 -- Assumes nothing.
 use mathlib.Core.Path.{_≡_, refl, sym, _∙_, ap}
-use mathlib.Core.List.{List, [], _∷_, _++_}
+use mathlib.Core.List.{List, [], _∷_, _++_, append-assoc}
 use Prim.Native.Nat.{ℕ, _-_}
 use native.Mathlib.Omega.{arith}
 use lib.ListN.{length, take, take-append-drop}
@@ -11,7 +12,7 @@ use Rattle.rules.specs.declared.Rules.{Rules}
 use Rattle.line.specs.Contents.{EndsInReturn, HasContent, returned, alone, contentOf}
 use Rattle.line.specs.Lines.{Whole}
 use Rattle.line.specs.declared.Content.the-variants.{Length, NoReturn}
-use Rattle.line.proofs.Contents.{content-is, is-content, content-either, last-one}
+use Rattle.line.proofs.Contents.{same-front, content-is, is-content, is-none, content-either, last-one}
 use Rattle.line.proofs.Feeds.{feeds-le}
 use Rattle.line.proofs.Last.{whole-last}
 
@@ -22,8 +23,8 @@ module _ (ρ : Rules) (either : ρ .ends ≡ Either) where
   pub either-has : (a : List ℕ) → (EndsInReturn a → ⊥) → HasContent ρ (a ++ (10 ∷ [])) a × HasContent ρ (a ++ (13 ∷ 10 ∷ [])) a
   either-has a n = (alone either refl n, returned refl)
 
-  pub either-content : (a : List ℕ) → (EndsInReturn a → ⊥) → (contentOf ρ (a ++ (10 ∷ [])) ≡ Length (length a)) × (contentOf ρ (a ++ (13 ∷ 10 ∷ [])) ≡ Length (length a))
-  either-content a n = let h = either-has a n in (content-is ρ (a ++ (10 ∷ [])) a (h .0), content-is ρ (a ++ (13 ∷ 10 ∷ [])) a (h .1))
+  pub either-content : (a : List ℕ) → (EndsInReturn a → ⊥) → contentOf ρ (a ++ (10 ∷ [])) ≡ Length (length a)
+  either-content a n = content-is ρ (a ++ (10 ∷ [])) a (either-has a n .0)
 
   -- no line is without a content
   pub either-some : (x : List ℕ) → Whole 1 x → contentOf ρ x ≡ NoReturn → ⊥
@@ -34,6 +35,14 @@ module _ (ρ : Rules) (either : ρ .ends ≡ Either) where
       content-either ρ either (take n x) (ap (contentOf ρ) (sym s) ∙ e)
 
 -- ---- strict
+
+-- a line feed alone ends no line under the strict rule
+pub strict-none : (σ : Rules) → σ .ends ≡ Strict → (a : List ℕ) → (EndsInReturn a → ⊥) → contentOf σ (a ++ (10 ∷ [])) ≡ NoReturn
+strict-none σ s a n = is-none σ (a ++ (10 ∷ [])) by
+  where
+    by : (c : List ℕ) → HasContent σ (a ++ (10 ∷ [])) c → ⊥
+    by c (returned e) = n record { before = c; is = same-front a (c ++ (13 ∷ [])) (10 ∷ []) (e ∙ sym (append-assoc c (13 ∷ []) (10 ∷ []))) }
+    by c (alone k e m) = let z : _≡_ {A = ℕ} 0 1 = cc in omega arith
 
 -- only a carriage return and a line feed end a line under the strict rule, and they end it under each
 pub strict-has : (σ ρ : Rules) → σ .ends ≡ Strict → (x a : List ℕ) → HasContent σ x a → HasContent ρ x a

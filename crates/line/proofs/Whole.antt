@@ -5,12 +5,12 @@ use mathlib.Core.Bool.{Bool, true, false, cond}
 use mathlib.Core.List.{List, [], _∷_, _++_, map}
 use Prim.Native.Nat.{ℕ, suc, _+_, _-_, _≤_}
 use native.Mathlib.Omega.{arith}
-use lib.ListN.{length, length-append, take-append-drop}
+use lib.ListN.{length, length-append, length-drop, take-append-drop}
 use lib.Seq.{take-append-seam, drop-append-seam}
 use Rattle.base.proofs.Mapped.{map-length}
 use Rattle.line.specs.Lines.{isFeed, feeds, reach, lines, behind, Whole, Plain}
 use Rattle.line.proofs.Feeds.{feeds-append, feeds-one, feeds-same}
-use Rattle.line.proofs.Reach.{reach-append, reach-add, reach-same, feeds-lines, length-lines}
+use Rattle.line.proofs.Reach.{reach-append, reach-add, reach-same, feeds-lines, feeds-behind, length-lines}
 
 pub whole-nil : Whole 0 []
 unfolding feeds reach
@@ -62,6 +62,15 @@ whole-lines xs k h =
     record {
       many = f;
       ends = sym (reach-append (lines k xs) (behind k xs) k (omega arith)) ∙ ap (λ (y : List ℕ). reach y k) e ∙ sym (length-lines xs k);
+    }
+
+-- k lines behind the first of k lines and one
+pub whole-behind : (xs : List ℕ) (k : ℕ) → Whole (suc k) xs → Whole k (behind 1 xs)
+whole-behind xs k u =
+    let e : suc k ≡ 1 + k = omega arith in
+    record {
+      many = omega (arith, feeds-behind xs 1 (omega (arith, u .many)), u .many);
+      ends = omega (arith, reach-add xs 1 k, ap (reach xs) e, u .ends, length-drop (reach xs 1) xs);
     }
 
 -- a text has one way to be k lines and a rest

@@ -1,22 +1,28 @@
--- R9: what is located under the strict rule is located under each, with the same next place and counts. So 0 and 7 stay with their numbers.
+-- R9: an index line without its carriage return is misformed under the strict rule. What is located under it is located under each rule, with
+-- the same next place and counts. So 0 and 7 stay with their numbers, and the walk stays on its way through placed records.
 -- Assumes nothing.
 use mathlib.Core.Path.{_≡_, refl, sym, _∙_, ap}
-use mathlib.Core.List.{List}
-use Prim.Native.Nat.{ℕ}
+use mathlib.Core.List.{List, [], _∷_, _++_}
+use Prim.Native.Nat.{ℕ, zero, suc, _<_}
 use native.Mathlib.Omega.{arith}
 use lib.ListN.{drop}
 use Rattle.rules.specs.declared.LineEnds.the-variants.{Strict}
 use Rattle.rules.specs.declared.Rules.{Rules}
-use Rattle.line.specs.Contents.{contentOf}
+use Rattle.line.specs.Contents.{EndsInReturn, contentOf}
 use Rattle.line.specs.Lines.{lines, behind}
 use Rattle.line.specs.declared.Content.{Content}
 use Rattle.line.specs.declared.Content.the-variants.{Length, NoReturn}
-use Rattle.line.proofs.Ends.{strict-content}
-use Rattle.place.specs.Index.{counts, readIndexContent, readIndexLine, readIndex}
+use Rattle.line.proofs.Ends.{strict-none, strict-content}
+use Rattle.place.specs.Index.{counts, misformed, readIndexContent, readIndexLine, readIndex}
 use Rattle.place.specs.Placing.{located, locate, placingBy, countsBy, placingOf, countsAt}
-use Rattle.place.specs.Walk.{PlacedAt}
+use Rattle.place.specs.Walk.{PlacedAt, spot}
 use Rattle.place.proofs.Placed.{two-lines, is-located, located-is}
 use Rattle.place.proofs.Stopped.{placed-record}
+use Rattle.place.proofs.Walked.{spot-start, spot-more}
+
+pub strict-misformed : (σ : Rules) → σ .ends ≡ Strict → (a : List ℕ) → (EndsInReturn a → ⊥) → readIndexLine σ (a ++ (10 ∷ [])) ≡ misformed
+unfolding readIndexLine
+strict-misformed σ only a n = ap (readIndexContent (a ++ (10 ∷ []))) (strict-none σ only a n)
 
 module _ (σ ρ : Rules) (only : σ .ends ≡ Strict) where
   strict-index-line : (x ns : List ℕ) → readIndexLine σ x ≡ counts ns → readIndexLine ρ x ≡ counts ns
@@ -47,10 +53,21 @@ module _ (σ ρ : Rules) (only : σ .ends ≡ Strict) where
         next = p .next;
       }
 
+  pub strict-same : (s : List ℕ) (at : ℕ) → PlacedAt σ s at → locate ρ s at ≡ locate σ s at
+  strict-same s at p =
+      let r = placed-record σ s at .0 p in
+      strict-located s at (r .next) (r .ns) (r .is) ∙ sym (r .is)
+
   -- 0 and 7, with their numbers and counts
   pub strict-placing : (s : List ℕ) (at : ℕ) → PlacedAt σ s at → (placingOf ρ s at ≡ placingOf σ s at) × (countsAt ρ s at ≡ countsAt σ s at)
   unfolding placingOf countsAt
-  strict-placing s at p =
-      let r = placed-record σ s at .0 p in
-      let e = strict-located s at (r .next) (r .ns) (r .is) ∙ sym (r .is) in
-      (ap placingBy e, ap countsBy e)
+  strict-placing s at p = let e = strict-same s at p in (ap placingBy e, ap countsBy e)
+
+  -- record k stands at the same place, where all before it are placed
+  pub strict-spot : (s : List ℕ) (k : ℕ) → ((j : ℕ) → j < k → PlacedAt σ s (spot σ s j)) → spot ρ s k ≡ spot σ s k
+  strict-spot s zero h = sym (spot-start ρ s) ∙ spot-start σ s
+  strict-spot s (suc k) h =
+      let p = strict-spot s k (λ j l. h j (omega arith)) in
+      let r = placed-record σ s (spot σ s k) .0 (h k (omega arith)) in
+      let l : locate ρ s (spot ρ s k) ≡ located (r .next) (r .ns) = rw p (strict-located s (spot σ s k) (r .next) (r .ns) (r .is)) in
+      spot-more ρ s k (r .next) (r .ns) l ∙ sym (spot-more σ s k (r .next) (r .ns) (r .is))

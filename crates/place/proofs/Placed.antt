@@ -1,4 +1,4 @@
--- What it means that a record is located, as one record of facts, both ways; where it lies; and that its index lines are 122 bytes each.
+-- What it means that a record is located, as one record of facts, both ways; where it lies; and that its index lines are 121 bytes each at least.
 -- Assumes nothing.
 use mathlib.Core.Path.{_≡_, refl, sym, _∙_, ap}
 use mathlib.Core.Bool.{Bool, true, false, cond}

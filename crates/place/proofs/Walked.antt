@@ -44,7 +44,7 @@ module _ (ρ : Rules) (s : List ℕ) where
       by (located n ns) e h = located-range ρ s (spot ρ s k) n ns e
       by (refused p) e h = h
 
-  -- ---- so many records take 244 bytes each at least
+  -- ---- so many records take 242 bytes each at least: two index lines of 120 bytes, each with a line feed
 
   abbrev Records : ℕ → Type 0
   Records many = (k : ℕ) → k < many → IsRecord ρ s (spot ρ s k)

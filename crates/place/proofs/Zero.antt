@@ -1,4 +1,4 @@
--- A record that is placed with 0: it is located, with the counts that placing gives, and these keep the rules.
+-- A record that is placed with 0: it is located, with the counts that placing gives, and these keep the rules on counts.
 -- Assumes nothing.
 use mathlib.Core.Path.{_≡_, sym, _∙_, ap}
 use mathlib.Core.List.{List}

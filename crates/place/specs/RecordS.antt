@@ -5,11 +5,11 @@ use Prim.Native.Nat.{ℕ}
 use Prim.Native.String.{String}
 use lib.ListN.{replicate}
 use Rattle.base.specs.Quoted.{bytes}
-use Rattle.line.specs.Alike.{endedBy}
+use Rattle.line.specs.Alike.{lineEndBy, endedBy}
 
 -- R4: a line with this content: carriage return and line feed behind it
 abbrev pub quotedLine : String → List ℕ
-quotedLine content = bytes content ++ (13 ∷ 10 ∷ [])
+quotedLine content = bytes content ++ lineEndBy true
 
 abbrev pub contentsS : List (List ℕ)
 contentsS =

@@ -1,30 +1,37 @@
--- R9: what reads with 0 under the strict rule reads so under each: a line, the lines of a group, the group.
+-- R9: a data line without its carriage return is wrong under the strict rule. What reads with 0 under it reads so under each: a line, the lines
+-- of a group, the group.
 -- Assumes nothing.
 use mathlib.Core.Path.{_≡_, refl, sym, _∙_, ap}
 use mathlib.Core.Bool.{Bool}
-use mathlib.Core.List.{List, [], _∷_}
+use mathlib.Core.List.{List, [], _∷_, _++_}
 use Prim.Native.Nat.{ℕ}
 use native.Mathlib.Omega.{arith}
 use lib.IntN.{ℤ}
 use Rattle.rules.specs.declared.LineEnds.the-variants.{Strict}
 use Rattle.rules.specs.declared.Rules.{Rules}
 use Rattle.base.specs.Pieces
-use Rattle.base.specs.Pieces.{done}
+use Rattle.base.specs.Pieces.{done, bad}
 use Rattle.base.proofs.Pieces.{both-done}
 use Rattle.form.specs.declared.Form.{Form}
 use Rattle.form.specs.declared.GroupForm.the-variants.{Has}
 use Rattle.form.specs.Table.{formOf}
-use Rattle.line.specs.Contents.{contentOf}
+use Rattle.line.specs.Contents.{EndsInReturn, contentOf}
 use Rattle.line.specs.Lines.{lines, behind}
 use Rattle.line.specs.declared.Content.{Content}
 use Rattle.line.specs.declared.Content.the-variants.{Length, NoReturn}
-use Rattle.line.proofs.Ends.{strict-content}
+use Rattle.line.proofs.Ends.{strict-none, strict-content}
 use Rattle.count.specs.Tally.{countOf}
+use Rattle.reply.specs.declared.Refusal.the-variants.{BadLine}
 use Rattle.reading.specs.Blanks.{mayBeShort}
 use Rattle.reading.specs.Plan.{Line, planOf}
 use Rattle.reading.specs.Read.{readContent, readLine, readLinesOf, readLines, readGroup}
 use Rattle.reading.proofs.ByLines.{group-by-lines}
 use Rattle.reading.proofs.GroupRead.{group-reads}
+
+pub strict-bad-line : (σ : Rules) → σ .ends ≡ Strict → (f : Form) (short : Bool) (l : Line) (a : List ℕ) → (EndsInReturn a → ⊥)
+    → readLine σ f short l (a ++ (10 ∷ [])) ≡ bad (BadLine (l .number))
+unfolding readLine
+strict-bad-line σ only f short l a n = ap (readContent f short l (a ++ (10 ∷ []))) (strict-none σ only a n)
 
 module _ (σ ρ : Rules) (only : σ .ends ≡ Strict) where
   strict-line-read : (f : Form) (short : Bool) (l : Line) (x : List ℕ) (c : List ℤ) → readLine σ f short l x ≡ done c → readLine ρ f short l x ≡ done c

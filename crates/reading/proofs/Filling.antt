@@ -224,7 +224,8 @@ module _ (ρ : Rules) {f : Form} {short : Bool} {count : ℕ} {s : List ℕ} {ol
 
       -- all fields are filled: the next line
       pub filling-next : o .k ≤ i
-          → Filling ρ f short count s old record { width = r .width; perLine = r .perLine; cells = r .cells; many = r .many; left = r .left - o .k; at = o .end; cell = spot; j = r .j + 1; table = now }
+          → Filling ρ f short count s old
+          record { width = r .width; perLine = r .perLine; cells = r .cells; many = r .many; left = r .left - o .k; at = o .end; cell = spot; j = r .j + 1; table = now }
       filling-next d =
           record {
             walk = walking-next ρ f count s (o .state .walk) (o .k) (o .end) (o .elements) (o .behind) (o .further);

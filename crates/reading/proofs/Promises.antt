@@ -88,7 +88,7 @@ module _ (ρ : Rules) where
   read-broken ns g x room h f e r = rw (e, r)
 
 module _ (ρ : Rules) where
-  -- R264: a group reads the same into every table with room for what its counts, if they keep the rules, let it fill
+  -- R264: a group reads the same into every table with room for what its counts, if they keep the rules on counts, let it fill
   pub read-room : (ns : List ℕ) (g : ℕ) (x : List ℕ) (room more : ℕ) (f : Form) → formOf g ≡ Has f
       → (rulingOf ns ≡ Kept → (cellsOf f (countOf ns g) ≤ room) × (cellsOf f (countOf ns g) ≤ more)) → readGroup ρ ns g x room ≡ readGroup ρ ns g x more
   unfolding readGroup readForm

@@ -39,7 +39,7 @@ pub record RightContent (g : ℕ) (columns : ℕ) (s : List ℕ) : Type 0 where
 
 -- a group of this form, number and count, whose lines are x
 module _ (ρ : Rules) (f : Form) (g : ℕ) (count : ℕ) (x : List ℕ) where
-  -- R66: line j is right, so not 8: it is the content s, a carriage return and a line feed, and s is right for its fields
+  -- R66: line j is right, so not 8: it is the content s and a line end (R9), and s is right for its fields
   pub record RightLine (j : ℕ) (s : List ℕ) : Type 0 where
     pub content : HasContent ρ (lineOf x j) s
     pub right : RightContent g (columnsOf f (planned f count j)) s

@@ -413,8 +413,8 @@ fn read_form(
 }
 
 // R260: reads a group of a record with these counts, whose lines these are, into a table. It is altered only if all is
-// clean, and then only as far as the group's cells go (R266, R267). The counts keep the rules, as those of a record
-// that was placed with 0 do: they are not tried again.
+// clean, and then only as far as the group's cells go (R266, R267). The counts keep the rules on counts, as those of a
+// record that was placed with 0 do: they are not tried again.
 pub fn read_kept(
     rules: rules::Rules,
     counts: &[u16],

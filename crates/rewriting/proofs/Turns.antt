@@ -155,7 +155,7 @@ module _ (ρ : Rules) (s : List ℕ) (at : ℕ) (old : List ℤ) where
               (arith, behind, cells-below n (g + 1), ready .enough, t .same),
         )
 
-    -- and the counts keep the rules
+    -- and the counts keep the rules on counts
     pub turning-ready : (rulingOf ms ≡ Kept) × (from ≤ to) × (to ≤ length s) × (cell ≤ end) × (end ≤ length table)
     turning-ready = let r = turning-range in (ap rulingOf counts ∙ placed .kept, r .0, r .1, r .2, r .3)
 

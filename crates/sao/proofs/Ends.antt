@@ -1,32 +1,48 @@
 -- R9, R12: what the rules for line ends promise of one another (specs/Ends.antt).
 -- Assumes nothing.
 use mathlib.Core.Path.{refl}
-use Rattle.rules.specs.Choice.{strict}
+use Rattle.rules.specs.Choice.{ended}
+use Rattle.rules.specs.declared.LineEnds.the-variants.{Strict}
 use Rattle.rules.specs.declared.Rules.{Rules}
 use Rattle.count.specs.declared.Release.the-variants.{Five}
 use Rattle.count.proofs.Releases.{release-given}
-use Rattle.line.proofs.Alike.{alike-ended}
-use Rattle.line.proofs.Ends.{either-content, either-some, strict-content}
+use Rattle.line.proofs.Alike.{alike-ended, alike-one}
+use Rattle.line.proofs.Contents.{content-append}
+use Rattle.line.proofs.Ends.{either-content, either-some, strict-none, strict-content}
 use Rattle.place.proofs.Alike.{alike-placing, alike-counts, alike-spot, alike-stops}
-use Rattle.place.proofs.Ends.{strict-placing}
+use Rattle.place.proofs.Ends.{strict-misformed, strict-same, strict-placing, strict-spot}
+use Rattle.reading.proofs.Ends.{strict-bad-line}
 use Rattle.group.proofs.Alike.{alike-read, alike-found, alike-given, alike-characteristic}
-use Rattle.group.proofs.Ends.{strict-read, strict-characteristic}
+use Rattle.group.proofs.Ends.{located-found, located-begins, located-lines, strict-read, strict-characteristic}
 use Rattle.writing.proofs.Ends.{canonical-same}
 use Rattle.rewriting.proofs.Alike.{alike-rewriting, alike-text, alike-printed}
 use Rattle.rewriting.proofs.Canonical.{right-back}
-use Rattle.sao.specs.Ends.{LineEndsKept}
+use Rattle.rewriting.proofs.Ends.{strict-rewriting, strict-text}
+use Rattle.sao.specs.Ends.{StrictStays, LineEndsKept}
+
+strict-stays-so : (ρ : Rules) → StrictStays (ended Strict ρ) ρ
+strict-stays-so ρ =
+    let σ = ended Strict ρ in
+    record {
+      content = strict-content σ ρ refl;
+      placing = λ s at p. strict-placing σ ρ refl s at p .0;
+      counts = λ s at p. strict-placing σ ρ refl s at p .1;
+      found = λ s at p. located-found ρ σ s at (strict-same σ ρ refl s at p);
+      begins = λ s at p. located-begins ρ σ s at (strict-same σ ρ refl s at p);
+      lines = λ s at p. located-lines ρ σ s at (strict-same σ ρ refl s at p);
+      spots = strict-spot σ ρ refl;
+      reading = λ s at. strict-read σ ρ refl s at;
+      characteristic = λ s at. strict-characteristic σ ρ refl s at;
+      rewriting = strict-rewriting σ ρ refl;
+      text = strict-text σ ρ refl;
+    }
 
 pub line-ends : (ρ : Rules) → LineEndsKept ρ
 line-ends ρ = record {
-  either = λ e. record { either-end = either-content ρ e; some-content = either-some ρ e; here-and-there = alike-ended ρ e };
-  strict-stays =
-      record {
-        content = strict-content strict ρ refl;
-        placing = λ s at p. strict-placing strict ρ refl s at p .0;
-        counts = λ s at p. strict-placing strict ρ refl s at p .1;
-        reading = λ s at. strict-read strict ρ refl s at;
-        characteristic = λ s at. strict-characteristic strict ρ refl s at;
-      };
+  one-return = content-append ρ;
+  strictly = λ e. record { no-end = strict-none ρ e; index-line = strict-misformed ρ e; data-line = strict-bad-line ρ e };
+  either = λ e. record { either-end = either-content ρ e; some-content = either-some ρ e; here-and-there = alike-ended ρ e; one-line = alike-one ρ e };
+  strict-stays = strict-stays-so ρ;
   alike = λ s p t q h.
       record {
         placing = alike-placing ρ s p t q h;
@@ -42,6 +58,6 @@ line-ends ρ = record {
   canonical =
       record {
         reads-back = λ x r a b. right-back ρ r a b;
-        same = λ σ x r a b. canonical-same ρ σ (r .canonical) (release-given (r .ns) Five (r .release)) a b;
+        same = λ e x r a b. canonical-same ρ (ended e ρ) (r .canonical) (release-given (r .ns) Five (r .release)) a b;
       };
 }

@@ -6,51 +6,79 @@ use mathlib.Core.Path.{_≡_}
 use mathlib.Core.Bool.{Bool}
 use mathlib.Core.List.{List, [], _∷_, _++_}
 use mathlib.Core.Logic.{_↔_}
-use Prim.Native.Nat.{ℕ, _≤_}
+use Prim.Native.Nat.{ℕ, _<_, _≤_}
 use lib.IntN.{ℤ}
 use lib.ListN.{length}
-use Rattle.rules.specs.Choice.{strict}
-use Rattle.rules.specs.declared.LineEnds.the-variants.{Either}
+use Rattle.rules.specs.Choice.{ended}
+use Rattle.rules.specs.declared.LineEnds.{LineEnds}
+use Rattle.rules.specs.declared.LineEnds.the-variants.{Strict, Either}
 use Rattle.rules.specs.declared.Rules.{Rules}
-use Rattle.base.specs.Pieces.{done}
+use Rattle.base.specs.Pieces.{done, bad}
+use Rattle.form.specs.declared.Form.{Form}
 use Rattle.line.specs.Alike.{Alike, AlikeFrom, endedBy, EitherWay}
 use Rattle.line.specs.Contents.{EndsInReturn, contentOf}
-use Rattle.line.specs.Lines.{Whole}
+use Rattle.line.specs.Lines.{Whole, Plain}
 use Rattle.line.specs.declared.Content.the-variants.{Length, NoReturn}
 use Rattle.place.specs.Alike.{SamePlacing}
+use Rattle.place.specs.Index.{misformed, readIndexLine}
 use Rattle.place.specs.Placing.{placingOf, countsAt}
 use Rattle.place.specs.Walk.{PlacedAt, spot, Stops}
+use Rattle.reading.specs.Plan.{Line}
+use Rattle.reading.specs.Read.{readLine}
 use Rattle.reply.specs.declared.Refusal.{Refusal}
+use Rattle.reply.specs.declared.Refusal.the-variants.{BadLine}
 use Rattle.group.specs.declared.Characteristic.the-variants.{Refused}
 use Rattle.group.specs.Characteristics.{characteristicAt}
 use Rattle.group.specs.Ends.{SameAnswers}
-use Rattle.group.specs.Held.{foundAt, partAt}
+use Rattle.group.specs.Held.{foundAt, partStart, partAt}
 use Rattle.group.specs.Text.{readAt}
 use Rattle.writing.specs.RoundTrip.{ReadsBack}
+use Rattle.rewriting.specs.declared.Rewriting.the-variants.{Done}
 use Rattle.rewriting.specs.Alike.{SameRewriting}
 use Rattle.rewriting.specs.Canonical.{RightRecord}
 use Rattle.rewriting.specs.Printed.{printed}
 use Rattle.rewriting.specs.Record.{rewritingOf, textAt}
 
+-- R9: under strict, a line whose line feed has no carriage return before it
+pub record UnderStrict (ρ : Rules) : Type 0 where
+  -- has no content
+  pub no-end : (a : List ℕ) → (EndsInReturn a → ⊥) → contentOf ρ (a ++ (10 ∷ [])) ≡ NoReturn
+  -- R204: as an index line it is misformed, which is reply 4
+  pub index-line : (a : List ℕ) → (EndsInReturn a → ⊥) → readIndexLine ρ (a ++ (10 ∷ [])) ≡ misformed
+  -- R208: as a data line it is wrong, which is reply 8 with the line's number, whatever its form and fields
+  pub data-line : (f : Form) (short : Bool) (l : Line) (a : List ℕ) → (EndsInReturn a → ⊥) → readLine ρ f short l (a ++ (10 ∷ [])) ≡ bad (BadLine (l .number))
+
 -- R9: under either
 pub record UnderEither (ρ : Rules) : Type 0 where
-  -- a is the content of a line, whether a carriage return stands before its line feed or not; unless a itself ends in one, which is then that one
-  pub either-end : (a : List ℕ) → (EndsInReturn a → ⊥) → (contentOf ρ (a ++ (10 ∷ [])) ≡ Length (length a)) × (contentOf ρ (a ++ (13 ∷ 10 ∷ [])) ≡ Length (length a))
+  -- with a line feed behind it a is the content of a line; unless it ends in a carriage return, which is then part of the line end (`one-return`)
+  pub either-end : (a : List ℕ) → (EndsInReturn a → ⊥) → contentOf ρ (a ++ (10 ∷ [])) ≡ Length (length a)
   -- every line has a content, so that the missing carriage return gives neither 4 nor 8: these are given for what the content is
   pub some-content : (x : List ℕ) → Whole 1 x → contentOf ρ x ≡ NoReturn → ⊥
   -- lines with these contents are alike, wherever carriage returns stand and wherever they lack
   pub here-and-there : (cs : List (List ℕ)) → EitherWay cs → (v w : ℕ → Bool) → Alike ρ (endedBy v cs) (endedBy w cs)
+  -- and so are texts that differ in one carriage return, behind whole lines and before whatever else: also what is no line, or no right one
+  pub one-line : (k : ℕ) (x : List ℕ) → Whole k x → (a : List ℕ) → Plain a → (EndsInReturn a → ⊥) → (y : List ℕ)
+      → Alike ρ (x ++ ((a ++ (10 ∷ [])) ++ y)) (x ++ ((a ++ (13 ∷ 10 ∷ [])) ++ y))
 
--- R9, R12: what is right under the strict rule is the same under ρ; so only refusals of it can move
-pub record StrictStays (ρ : Rules) : Type 0 where
-  pub content : (x : List ℕ) (n : ℕ) → contentOf strict x ≡ Length n → contentOf ρ x ≡ Length n
+-- R9, R12: σ is strict, and as ρ in all else: what is right under σ is the same under ρ; so only refusals of σ can move
+pub record StrictStays (σ ρ : Rules) : Type 0 where
+  pub content : (x : List ℕ) (n : ℕ) → contentOf σ x ≡ Length n → contentOf ρ x ≡ Length n
   -- replies 0 and 7 with their numbers, and the counts beside them
-  pub placing : (s : List ℕ) (at : ℕ) → PlacedAt strict s at → placingOf ρ s at ≡ placingOf strict s at
-  pub counts : (s : List ℕ) (at : ℕ) → PlacedAt strict s at → countsAt ρ s at ≡ countsAt strict s at
+  pub placing : (s : List ℕ) (at : ℕ) → PlacedAt σ s at → placingOf ρ s at ≡ placingOf σ s at
+  pub counts : (s : List ℕ) (at : ℕ) → PlacedAt σ s at → countsAt ρ s at ≡ countsAt σ s at
+  -- there, whether a group's lines can be given, where they begin, and they themselves
+  pub found : (s : List ℕ) (at : ℕ) → PlacedAt σ s at → (g : ℕ) → foundAt ρ s at g ≡ foundAt σ s at g
+  pub begins : (s : List ℕ) (at : ℕ) → PlacedAt σ s at → (g : ℕ) → partStart ρ s at g ≡ partStart σ s at g
+  pub lines : (s : List ℕ) (at : ℕ) → PlacedAt σ s at → (g : ℕ) → partAt ρ s at g ≡ partAt σ s at g
+  -- R254: the walk, as far as σ places its records
+  pub spots : (s : List ℕ) (k : ℕ) → ((j : ℕ) → j < k → PlacedAt σ s (spot σ s j)) → spot ρ s k ≡ spot σ s k
   -- reply 0 of a group with its cells
-  pub reading : (s : List ℕ) (at g room : ℕ) (cs : List ℤ) → readAt strict s at g room ≡ done cs → readAt ρ s at g room ≡ done cs
+  pub reading : (s : List ℕ) (at g room : ℕ) (cs : List ℤ) → readAt σ s at g room ≡ done cs → readAt ρ s at g room ≡ done cs
   -- a characteristic that is not refused
-  pub characteristic : (s : List ℕ) (at k : ℕ) → ((r : Refusal) → characteristicAt strict s at k ≡ Refused r → ⊥) → characteristicAt ρ s at k ≡ characteristicAt strict s at k
+  pub characteristic : (s : List ℕ) (at k : ℕ) → ((r : Refusal) → characteristicAt σ s at k ≡ Refused r → ⊥) → characteristicAt ρ s at k ≡ characteristicAt σ s at k
+  -- reply 0 of rewriting with its numbers, and its text
+  pub rewriting : (s : List ℕ) (at cells room bytes next : ℕ) → rewritingOf σ s at cells room ≡ Done bytes next → rewritingOf ρ s at cells room ≡ Done bytes next
+  pub text : (s : List ℕ) (at cells room bytes next : ℕ) → rewritingOf σ s at cells room ≡ Done bytes next → textAt ρ s at ≡ textAt σ s at
 
 -- R9: where s from p on and t from q on have the same contents line by line, what is asked there is answered the same
 pub record AnsweredAlike (ρ : Rules) (s : List ℕ) (p : ℕ) (t : List ℕ) (q : ℕ) : Type 0 where
@@ -67,7 +95,7 @@ pub record AnsweredAlike (ρ : Rules) (s : List ℕ) (p : ℕ) (t : List ℕ) (q
   pub rewriting : (cells room : ℕ) → SameRewriting ρ s t (rewritingOf ρ s p cells room) (rewritingOf ρ t q cells room)
   pub text : textAt ρ s p ≡ textAt ρ t q
 
--- R9, R254: where whole texts are alike, so is the walk
+-- R9, R254: where whole texts are alike, so is the walk. A listing is not the same for both: it holds places, which line ends move
 pub record WalkedAlike (ρ : Rules) (s t : List ℕ) : Type 0 where
   -- record k of the one is record k of the other, and is answered alike
   pub spots : (k : ℕ) → AlikeFrom ρ s (spot ρ s k) t (spot ρ t k)
@@ -80,12 +108,15 @@ pub record WalkedAlike (ρ : Rules) (s t : List ℕ) : Type 0 where
 pub record CanonicalStays (ρ : Rules) : Type 0 where
   -- 0 with the place behind it, its counts and each group's cells, wherever it stands
   pub reads-back : (x : List ℕ) (r : RightRecord x) (a b : List ℕ) → ReadsBack ρ (r .ns) (r .cs) (length x) (a ++ (x ++ b)) (length a)
-  -- so any other rule answers the same
-  pub same : (σ : Rules) (x : List ℕ) → RightRecord x → (a b : List ℕ) → SameAnswers ρ σ (a ++ (x ++ b)) (length a)
+  -- so any other rule for line ends answers the same
+  pub same : (e : LineEnds) (x : List ℕ) → RightRecord x → (a b : List ℕ) → SameAnswers ρ (ended e ρ) (a ++ (x ++ b)) (length a)
 
 pub record LineEndsKept (ρ : Rules) : Type 0 where
+  -- R5: whatever a is, exactly one carriage return is dropped with the line feed
+  pub one-return : (a : List ℕ) → contentOf ρ (a ++ (13 ∷ 10 ∷ [])) ≡ Length (length a)
+  pub strictly : ρ .ends ≡ Strict → UnderStrict ρ
   pub either : ρ .ends ≡ Either → UnderEither ρ
-  pub strict-stays : StrictStays ρ
+  pub strict-stays : StrictStays (ended Strict ρ) ρ
   pub alike : (s : List ℕ) (p : ℕ) (t : List ℕ) (q : ℕ) → AlikeFrom ρ s p t q → AnsweredAlike ρ s p t q
   pub walk : (s t : List ℕ) → Alike ρ s t → WalkedAlike ρ s t
   pub canonical : CanonicalStays ρ

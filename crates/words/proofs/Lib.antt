@@ -1,3 +1,2 @@
--- Words that are the same (Same), and what words ask for (Asked).
+-- Words that are the same (Same).
 pub mod Same
-pub mod Asked

@@ -1,5 +1,4 @@
 -- R349: `--strict` asks for the strict line end; every other word is unknown, and no later word makes it known.
-use mathlib.Core.Path.{_≡_}
 use mathlib.Core.Bool.{Bool, true, false, cond, _&&_}
 use mathlib.Core.List.{List, [], _∷_}
 use Prim.Native.Nat.{ℕ}
@@ -14,18 +13,6 @@ sameBytes [] (y ∷ ys) = false
 sameBytes (x ∷ xs) [] = false
 sameBytes (x ∷ xs) (y ∷ ys) = eqb x y && sameBytes xs ys
 
--- no word yet
-abbrev pub none : Words
-none = record { known = true; strict = false }
-
+-- one word more
 unfoldable pub withWord : Words → List ℕ → Words
 withWord w word = cond (sameBytes word (bytes "--strict")) (record { known = w .known; strict = true }) (record { known = false; strict = w .strict })
-
-unfoldable pub withWords : Words → List (List ℕ) → Words
-withWords w [] = w
-withWords w (x ∷ xs) = withWords (withWord w x) xs
-
--- what some words ask for
-pub record AskedFor (w : Words) : Type 0 where
-  pub words : List (List ℕ)
-  pub told : w ≡ withWords none words

@@ -1,6 +1,6 @@
 // R349: the words that a program is started with: which are known, and what they ask for.
 ghost use mathlib.Core.Path.{_≡_};
-ghost use Rattle.words.specs.Words.{sameBytes, withWord, AskedFor};
+ghost use Rattle.words.specs.Words.{sameBytes, withWord};
 
 // Whether all words so far were known, and what they asked for.
 pub struct Words {
@@ -48,11 +48,9 @@ pub fn with_word(words: Words, word: &[u8]) -> Words
 }
 
 // All words that the program of this name was started with; where one is unknown, how the program is asked is written
-// to standard error. Which words there are is the system's to say: the contract has that the answer is what some words
-// ask for. One that is longer than every known one is read as an empty word, which is none of them.
-pub fn given(program: &[u8]) -> Words
-    ensures { λ r. ⌜ AskedFor r ⌝ }
-{
+// to standard error. What the system hands over is in no contract, so this has none but that it is safe and ends. A
+// word of more than 16 bytes is read as an empty one, which is unknown too; 16 is more than every known word has.
+pub fn given(program: &[u8]) -> Words {
     let mut words = NONE;
     let mut i: usize = 1;
     let count = os::arg_count();

@@ -22,6 +22,7 @@ use Rattle.group.specs.Characteristics
 use Rattle.group.specs.Characteristics.{reported}
 use Rattle.group.specs.Ends.{SameAnswers}
 use Rattle.group.specs.Text.{readAt}
+use Rattle.group.proofs.Ends.{located-found, located-begins, located-lines}
 use Rattle.group.proofs.Texts.{read-located}
 use Rattle.writing.specs.Canonical.{CanonicalRecord}
 use Rattle.writing.specs.RoundTrip.{groupCells}
@@ -57,5 +58,8 @@ module _ (ρ σ : Rules) {ns x : List ℕ} {cs : List ℤ} (h : CanonicalRecord 
         placing = ap placingBy l;
         counts = ap countsBy l;
         groups = read-same;
+        found = located-found ρ σ text place l;
+        begins = located-begins ρ σ text place l;
+        lines = located-lines ρ σ text place l;
         characteristics = λ k. ap (λ c. cond (leb 1 k && leb k 49) (reported k c) (Refused NoSuchNumber)) (read-same 4 49);
       }

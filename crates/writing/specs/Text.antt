@@ -1,4 +1,5 @@
 -- R100: the canonical text of counts and cells. R20: the two lines of the index, and behind them those of group 1, of group 2, up to 60.
+use mathlib.Core.Bool.{true}
 use mathlib.Core.List.{List, [], _∷_, _++_, map}
 use Prim.Native.Nat.{ℕ, _+_, _*_}
 use lib.IntN.{ℤ}
@@ -13,12 +14,13 @@ use Rattle.form.specs.Table.{rowOf, formOf}
 use Rattle.form.specs.Count.{elementsOf, linesOf}
 use Rattle.field.specs.Write.{fieldText}
 use Rattle.field.specs.Entry.{indexEntryText}
+use Rattle.line.specs.Alike.{lineEndBy}
 use Rattle.count.specs.Tally.{countOf, cellsIn}
 use Rattle.reading.specs.Plan.{Line, planOf, elementsIn}
 
 -- R101: every line ends so
 abbrev pub lineEnd : List ℕ
-lineEnd = 13 ∷ 10 ∷ []
+lineEnd = lineEndBy true
 
 -- ---- the index
 

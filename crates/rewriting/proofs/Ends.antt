@@ -1,0 +1,62 @@
+-- R9: a record that the strict rule rewrites with 0 is rewritten so under each rule: as many bytes, the same next place, the same text.
+-- Assumes nothing.
+use mathlib.Core.Path.{_≡_, refl, sym, _∙_, ap, ap₂}
+use mathlib.Core.List.{List}
+use mathlib.Core.Logic.{inl}
+use Prim.Native.Nat.{ℕ, zero, suc, _+_, _<_, _≤_}
+use native.Mathlib.Omega.{arith}
+use Rattle.rules.specs.declared.LineEnds.the-variants.{Strict}
+use Rattle.rules.specs.declared.Rules.{Rules}
+use Rattle.base.specs.Every
+use Rattle.base.specs.Every.{upFrom}
+use Rattle.count.specs.Tally.{cellsIn}
+use Rattle.place.specs.Numbered.{placingReply}
+use Rattle.place.specs.Placing.{placingOf, countsAt}
+use Rattle.place.specs.Walk.{PlacedAt}
+use Rattle.place.proofs.Ends.{strict-placing}
+use Rattle.reading.specs.Read.{Cells}
+use Rattle.group.specs.Text.{readAt}
+use Rattle.group.proofs.Ends.{strict-read}
+use Rattle.writing.specs.Text.{recordText, recordBytes}
+use Rattle.count.specs.Tally.{recordCells}
+use Rattle.rewriting.specs.declared.Rewriting.the-variants.{Done}
+use Rattle.rewriting.specs.Due.{RewrittenDue}
+use Rattle.rewriting.specs.Record.{groupRead, firstThen, cellsInTurn, rewritingOf, textAt}
+use Rattle.rewriting.proofs.Due.{first-due}
+
+-- groups that read the same have the same cells, one behind the other
+cells-same : (f h : ℕ → Cells) (a k : ℕ) → ((g : ℕ) → a ≤ g → g < a + k → f g ≡ h g) → cellsInTurn f (upFrom a k) ≡ cellsInTurn h (upFrom a k)
+unfolding cellsInTurn Every.upFrom
+cells-same f h a zero e = refl
+cells-same f h a (suc k) e = ap₂ firstThen (e a (omega arith) (omega arith)) (cells-same f h (suc a) k (λ g l m. e g (omega arith) (omega arith)))
+
+module _ (σ ρ : Rules) (only : σ .ends ≡ Strict) (s : List ℕ) (at cells room bytes next : ℕ) (done : rewritingOf σ s at cells room ≡ Done bytes next) where
+  due : RewrittenDue σ s at cells room bytes next
+  due = first-due σ s at cells room (Done bytes next) .0 done
+
+  placed : PlacedAt σ s at
+  placed = inl (ap (λ p. placingReply p .number) (due .roomy .placed))
+
+  counts : countsAt ρ s at ≡ countsAt σ s at
+  counts = strict-placing σ ρ only s at placed .1
+
+  same : (g : ℕ) → 1 ≤ g → g ≤ 60 → groupRead ρ s at g ≡ groupRead σ s at g
+  same g low high =
+      let d = due .groups g low high in
+      ap (λ ns. readAt ρ s at g (cellsIn ns g)) counts ∙ strict-read σ ρ only s at g (cellsIn (countsAt σ s at) g) (d .cells) (d .reads) ∙ sym (d .reads)
+
+  pub strict-rewriting : rewritingOf ρ s at cells room ≡ Done bytes next
+  strict-rewriting =
+      first-due ρ s at cells room (Done bytes next) .1 record {
+        roomy =
+            record {
+              placed = strict-placing σ ρ only s at placed .0 ∙ due .roomy .placed;
+              text-fits = omega (arith, ap recordBytes counts, due .roomy .text-fits);
+              cells-fit = omega (arith, ap recordCells counts, due .roomy .cells-fit);
+            };
+        groups = λ g low high. let d = due .groups g low high in record { cells = d .cells; reads = same g low high ∙ d .reads };
+        written = ap recordBytes counts ∙ due .written;
+      }
+
+  pub strict-text : textAt ρ s at ≡ textAt σ s at
+  strict-text = ap₂ recordText counts (cells-same (groupRead ρ s at) (groupRead σ s at) 1 60 (λ g low high. same g low (omega arith)))
