@@ -34,5 +34,5 @@ cells-few ρ f n h =
       arith,
       mul-le-mul-right (rowOf f .cells) (elements-few ρ f n),
       mul-assoc n (rowOf f .«per_line») (rowOf f .cells),
-      mul-le-mul h (row-fits f .few-cells)
+      mul-le-mul h (row-fits f .few-cells),
     )
