@@ -7,4 +7,4 @@ pub mod Checks
 pub mod Due
 pub mod Numbered
 pub mod Releases
-pub mod Alike
+pub mod SameCounting
