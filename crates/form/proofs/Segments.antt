@@ -11,7 +11,7 @@ use Rattle.rules.specs.declared.Rules.{Rules}
 use Rattle.rules.specs.declared.Counting.{Counting}
 use Rattle.rules.specs.declared.Counting.the-variants.{Elements, Entries}
 use Rattle.form.specs.declared.Form.{Form}
-use Rattle.form.specs.declared.Form.the-variants.{E20}
+use Rattle.form.specs.declared.Form.the-variants.{A1, E20}
 use Rattle.form.specs.Table.{listedAs, rowOf, forms}
 use Rattle.form.specs.Count.{isSegments, segmentElements, elementsOf, roundedUp, linesOf, cellsOf, Takes}
 use Rattle.form.proofs.Table.{each-form}
@@ -94,6 +94,11 @@ module _ (ρ : Rules) where
   pub elements-other : (f : Form) (n : ℕ) → isSegments f ≡ false → elementsOf ρ f n ≡ n
   unfolding elementsOf
   elements-other f n e = rw e
+
+  -- letters, so group 3 among them
+  pub letters-elements : (n : ℕ) → elementsOf ρ A1 n ≡ n
+  unfolding isSegments listedAs
+  letters-elements n = elements-other A1 n refl
 
   pub elements-plain : ρ .counting ≡ Elements → (f : Form) (n : ℕ) → elementsOf ρ f n ≡ n
   unfolding elementsOf

@@ -1,6 +1,7 @@
 -- R44, R45: which elements stand in which line of a group. Only this says so: nobody else divides or multiplies to know what a line holds.
 use mathlib.Core.List.{List, map}
 use Prim.Native.Nat.{ℕ, _+_, _-_, _*_, min}
+use Rattle.rules.specs.declared.Rules.{Rules}
 use Rattle.base.specs.Every.{upFrom}
 use Rattle.form.specs.declared.Form.{Form}
 use Rattle.form.specs.Table.{rowOf}
@@ -20,9 +21,10 @@ lineAt p n j = record { number = j + 1; first = j * p + 1; many = min p (n - j *
 unfoldable pub planFrom : (p n j k : ℕ) → List Line
 planFrom p n j k = map (lineAt p n) (upFrom j k)
 
--- the lines of a group of this form and count
-unfoldable pub planOf : Form → ℕ → List Line
-planOf f count = planFrom (rowOf f .«per_line») (elementsOf f count) 0 (linesOf f count)
+module _ (ρ : Rules) where
+  -- the lines of a group of this form and count
+  unfoldable pub planOf : Form → ℕ → List Line
+  planOf f count = planFrom (rowOf f .«per_line») (elementsOf ρ f count) 0 (linesOf ρ f count)
 
 -- the numbers of a line's elements, through the group
 abbrev pub elementsIn : Line → List ℕ

@@ -27,7 +27,7 @@ a also b = (a, b)
 
 pub marked : (ρ : Rules) → AllHolding ρ cases
 unfolding Read.readForm Read.readLines Read.readLinesOf Read.readLine Read.readFields Pieces.gather Pieces.emit Plan.planOf Plan.planFrom Every.upFrom
-    Table.rowOf Table.listedAs Count.elementsOf Count.linesOf Count.roundedUp Count.cellsOf Lines.reach Contents.contentOf Blanks.isRight Blanks.filledTo
+    Table.rowOf Table.listedAs Count.elementsOf Count.isSegments Count.segmentElements Count.linesOf Count.roundedUp Count.cellsOf Lines.reach Contents.contentOf Blanks.isRight Blanks.filledTo
     FieldRead.fieldOf Write.fitsOf Write.fieldText Entry.entryOf elementsFit firstMisfit linesText lineText fieldsText Date.datedOf Date.firstBlamed
     Digits.fieldDigits Calendar.nameDay Calendar.daysTo Calendar.monthLength Calendar.isLeap
 marked ρ =

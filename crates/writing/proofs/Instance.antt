@@ -51,7 +51,7 @@ text =
 
 pub written : recordText counts cells ≡ text
 unfolding recordText indexText entriesText groupsText groupText linesText lineText fieldsText Pieces.emit Every.upFrom Tally.cellsIn Table.formOf
-    Table.formAmong Table.rowOf Table.listedAs Count.elementsOf Count.linesOf Count.roundedUp Count.cellsOf Plan.planOf Plan.planFrom Write.fieldText
+    Table.formAmong Table.rowOf Table.listedAs Count.elementsOf Count.isSegments Count.segmentElements Count.linesOf Count.roundedUp Count.cellsOf Plan.planOf Plan.planFrom Write.fieldText
 written = refl
 
 -- R381: how long it is
@@ -62,7 +62,7 @@ size = refl
 pub done : writingOf counts cells 305 ≡ Done 305
 unfolding writingOf recordBytes bytesIn fitOf elementsFit firstMisfit Check.checkedOf Check.wellFormed Rules.releaseOf Rules.filledAmong Rules.rulingOf
     Rules.lowest Rules.headRules Rules.sets Rules.keeps Rules.letterRules Every.upFrom Sum.sum Tally.cellsIn Tally.cellTally Tally.cellsBefore Table.formOf
-    Table.formAmong Table.rowOf Table.listedAs Count.elementsOf Count.linesOf Count.roundedUp Count.cellsOf Write.fitsOf Date.datedOf Date.firstBlamed
+    Table.formAmong Table.rowOf Table.listedAs Count.elementsOf Count.isSegments Count.segmentElements Count.linesOf Count.roundedUp Count.cellsOf Write.fitsOf Date.datedOf Date.firstBlamed
     Digits.fieldDigits Calendar.nameDay Calendar.daysTo Calendar.monthLength Calendar.isLeap
 done = refl
 

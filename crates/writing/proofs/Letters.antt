@@ -76,11 +76,11 @@ unfolding Table.formOf Table.formAmong Table.listedAs
 three = refl
 
 letters-many : (count : ℕ) → cellsOf A1 count ≡ count
-unfolding Count.cellsOf Count.elementsOf
+unfolding Count.cellsOf Count.elementsOf Count.isSegments Count.segmentElements
 letters-many count = ap (λ c. count * c) letter-row ∙ mul-one count
 
 elements-many : (count : ℕ) → elementsOf A1 count ≡ count
-unfolding Count.elementsOf
+unfolding Count.elementsOf Count.isSegments Count.segmentElements
 elements-many count = refl
 
 module _ (ns : List ℕ) (cs : List ℤ) (c : checkedOf ns (length cs) ≡ C.Right) (fit : fitOf ns cs ≡ All) where
