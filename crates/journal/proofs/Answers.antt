@@ -86,7 +86,7 @@ module _ (ρ : Rules) (ns j : List ℕ) (used cells : ℕ) where
 -- the answer a of a call on what was kept, and what is kept then, are those that the contracts cite
 pub record Answered (ρ : Rules) (ns : List ℕ) (c : Call) (k : Kept) (a : Answer) (k′ : Kept) : Type 0 where
   pub answer : a ≡ answerTo ρ ns c k
-  pub used : k′ .used ≡ leftBy ns c k a .used
+  pub used : k′ .used ≡ leftBy ρ ns c k a .used
   pub cells : k′ .cells ≡ leftBy ρ ns c k a .cells
   pub journal : k′ .journal ≡ leftBy ρ ns c k a .journal
 

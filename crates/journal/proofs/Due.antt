@@ -84,7 +84,7 @@ some-bytes (Undoes k) = omega arith
 -- steps from the first state up to the end, where none is right
 module _ (ρ : Rules) {S : Type 0} {right : S → Type 0} {next : S → S} {first end : S} (st : Stops S right next first end) (place : S → ℕ) (used : ℕ) where
   used-is : (x : S) → (place x ≡ used → right x → ⊥) → AllUsed S place (Goes S right next first) right used x → x ≡ end
-  used-is x (past ρ) h = goes-one (h .fields) (past ρ (h .ends)) (st .goes) (st .stuck)
+  used-is x past h = goes-one (h .fields) (past (h .ends)) (st .goes) (st .stuck)
 
   fault-given : (ns : List ℕ) (cells p : ℕ) → Counts.HasCells ρ ns cells → Faulty S place (Goes S right next first) right used p
       → checks ρ ns cells used (place end) ≡ C.Refused (BadEntry p)

@@ -174,7 +174,7 @@ module _ (ρ : Rules) (ns : List ℕ) (t₀ : List ℤ) where
   pub record Next (c : Call) (k : Kept) (ts : List (List ℤ)) (es : List Entry) : Type 0 where
     pub answer : answerTo ρ ns c k ≡ modelAnswer ρ ns c (stackOf k ts)
     pub saved : List (List ℤ)
-    pub model : modelStep ns c (stackOf k ts) ≡ stackOf (leftBy ns c k (answerTo ns c k)) saved
+    pub model : modelStep ρ ns c (stackOf k ts) ≡ stackOf (leftBy ρ ns c k (answerTo ρ ns c k)) saved
     pub left : With (leftBy ρ ns c k (answerTo ρ ns c k)) saved (es ++ told-by c k (answerTo ρ ns c k))
 
   module _ (c : Call) (k : Kept) (ts : List (List ℤ)) (s : Stands k ts) where
@@ -305,7 +305,7 @@ module _ (ρ : Rules) (ns : List ℕ) (t₀ : List ℤ) where
   -- what is left by calls, the stack's tables there, and the entries
   pub record After (cs : List Call) (k : Kept) (ts : List (List ℤ)) (es : List Entry) : Type 0 where
     pub saved : List (List ℤ)
-    pub model : modelRun ns cs (stackOf k ts) ≡ stackOf (leftTo ns cs k) saved
+    pub model : modelRun ρ ns cs (stackOf k ts) ≡ stackOf (leftTo ρ ns cs k) saved
     pub left : With (leftTo ρ ns cs k) saved (es ++ entriesTo ρ ns cs k)
 
   pub after-calls : (cs : List Call) (k : Kept) (ts : List (List ℤ)) → FitCalls cs → (s : Stands k ts) → After cs k ts (s .entries)

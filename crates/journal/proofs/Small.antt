@@ -17,7 +17,8 @@ use Rattle.form.specs.declared.Form.{Form}
 use Rattle.form.specs.declared.Form.the-variants.{F7, A120, A1, F8, I2, I3, I1, E11, E20, E8}
 use Rattle.form.specs.declared.GroupForm.the-variants.{Has}
 use Rattle.form.specs.Table.{listedAs, rowOf}
-use Rattle.form.specs.Count.{elementsOf, cellsOf}
+use Rattle.form.specs.Count.{isSegments, elementsOf, cellsOf}
+use Rattle.form.proofs.Segments.{elements-few}
 use Rattle.form.proofs.Table.{form-listed, group-form}
 use Rattle.count.specs.Tally.{countOf, cellsBefore, cellsIn}
 use Rattle.count.specs.Rules.{headRules}
@@ -42,7 +43,7 @@ two-few ns k = by (leb (countOf ns 2) 2) refl
     by false e = absurd (k 2 (inr (inl (e, refl))))
 
 form-small : (ρ : Rules) (f : Form) (n : ℕ) → n ≤ 999 → (f ≡ A120 → n ≤ 2) → cellsOf ρ f n < 65536
-unfolding cellsOf elementsOf rowOf listedAs
+unfolding cellsOf elementsOf isSegments rowOf listedAs
 form-small ρ F7 n h k = omega arith
 form-small ρ A120 n h k = let l = k refl in omega arith
 form-small ρ A1 n h k = omega arith
@@ -51,7 +52,7 @@ form-small ρ I2 n h k = omega arith
 form-small ρ I3 n h k = omega arith
 form-small ρ I1 n h k = omega arith
 form-small ρ E11 n h k = omega arith
-form-small ρ E20 n h k = omega arith
+form-small ρ E20 n h k = omega (arith, elements-few ρ E20 n)
 form-small ρ E8 n h k = omega arith
 
 letters : (g : ℕ) → T (has (listedAs A120 .groups) g) → g ≡ 2

@@ -46,7 +46,7 @@ module _ (ρ : Rules) (ns : List ℕ) (t₀ : List ℤ) (right : checkedOf ρ ns
       let b : take n j ≡ journalText es ++ drop (k .used) (take n j) =
       sym (take-append-drop (k .used) (take n j)) ∙ ap (λ y. y ++ drop (k .used) (take n j)) (take-take (k .used) n j l ∙ q ∙ s .bytes) in
       let m : length es ≤ length (take n j) = omega (arith, ap length b, length-append (journalText es) (drop (k .used) (take n j)), text-length (s .fine)) in
-      let p = ap (λ r. r .place) (play-cut (take n j) (drop (k .used) (take n j)) x es (s .leads) b m) ∙ used-is ns t₀ Opens k ts s in
+      let p = ap (λ r. r .place) (play-cut (take n j) (drop (k .used) (take n j)) x es (s .leads) b m) ∙ used-is ρ ns t₀ Opens k ts s in
       rw (right, p) refl
 
   abbrev after : Call → Kept → Kept

@@ -16,7 +16,7 @@ returns c =
     let j = a .journal .now in
     let r = c .before .before .before .walk-used .result in
     let checked = c .before .check .result in
-    let starts : c .before .before .before .before .before .before .before .put-starts .last .1 .0 ≡ startsOf _ ns = c .before .before .before .before .before .before .before .put-starts .ensures in
+    let starts : c .before .before .before .before .before .before .before .put-starts .last .1 .1 .0 ≡ startsOf (a .rules) ns = c .before .before .before .before .before .before .before .put-starts .ensures in
     let w = subst (λ q. WalksTo q (take (a .used) j) r) starts (c .before .before .before .walk-used .ensures) in (
       starts,
       record {
@@ -25,7 +25,7 @@ returns c =
         marks = marks-found (a .rules) ns j (a .used) (a .cells) r w;
         few = w .small;
         below = w .below;
-        inside = λ e. used-inside ns j (a .used) (a .cells) r w checked (sym (c .standing .ensures) ∙ e);
+        inside = λ e. used-inside (a .rules) ns j (a .used) (a .cells) r w checked (sym (c .standing .ensures) ∙ e);
       },
     )
 

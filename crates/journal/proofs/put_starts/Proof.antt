@@ -34,24 +34,27 @@ add-sum : tie.Need-add-sum Inv-loop μ-loop
 add-sum c =
     let l = c .before .before .before .before .loop in
     let n : c .before .count-of .result ≤ 65535 = omega arith in
-    record { fits = omega (arith, c .cells .ensures, cells-few _ (c .before .before .form-in .result) (c .before .count-of .result) n) }
+    let asked = c .before .before .before .before .before .before .before .args in
+    record { fits = omega (arith, c .cells .ensures, cells-few (asked .rules) (c .before .before .form-in .result) (c .before .count-of .result) n) }
 
 loop-again : tie.Need-loop-again Inv-loop μ-loop
 loop-again c =
     let l = c .before .before .before .before .loop in
-    let ns = c .before .before .before .before .before .before .before .args .counts .now in
+    let asked = c .before .before .before .before .before .before .before .args in
+    let ρ = asked .rules in
+    let ns = asked .counts .now in
     let f = c .before .before .form-in .result in
     let n : c .before .count-of .result ≤ 65535 = omega arith in
-    let m : c .cells .result ≡ cellsIn _ ns (l .g) = c .cells .ensures ∙ ap (cellsOf _ f) (c .before .count-of .ensures) ∙ sym (cells-has _ ns (l .g) f (c .before .before .form-in .ensures)) in
-    let k = cells-few _ f (c .before .count-of .result) n in
-    let e : l .sum + c .cells .result ≡ cellsBefore _ ns (l .g + 1) = rw (l .inv .4, m) (sym (cells-next _ ns (l .g) (omega arith) (omega arith))) in (
+    let m : c .cells .result ≡ cellsIn ρ ns (l .g) = c .cells .ensures ∙ ap (cellsOf ρ f) (c .before .count-of .ensures) ∙ sym (cells-has ρ ns (l .g) f (c .before .before .form-in .ensures)) in
+    let k = cells-few ρ f (c .before .count-of .result) n in
+    let e : l .sum + c .cells .result ≡ cellsBefore ρ ns (l .g + 1) = rw (l .inv .4, m) (sym (cells-next ρ ns (l .g) (omega arith) (omega arith))) in (
       omega arith,
       omega arith,
       length-set (l .starts) (l .g + 1) (l .sum + c .cells .result)
           ∙ l .inv .2,
       omega (arith, c .cells .ensures),
       e,
-      filled-more _ ns (l .starts) (l .g) (l .sum + c .cells .result) (omega arith) e (l .inv .5),
+      filled-more ρ ns (l .starts) (l .g) (l .sum + c .cells .result) (omega arith) e (l .inv .5),
     )
 
 returns : tie.Need-returns Inv-loop μ-loop

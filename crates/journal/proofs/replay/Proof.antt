@@ -19,7 +19,7 @@ returns c =
 returns-2 : tie.Need-returns-2
 returns-2 c =
     let a = c .before .before .before .before .before .before .before .before .before .before .before .before .before .before .args in
-    let p : c .before .before .before .before .before .before .before .put-starts .last .1 .0 ≡ startsOf (a .rules) (a .counts .now) =
+    let p : c .before .before .before .before .before .before .before .put-starts .last .1 .1 .0 ≡ startsOf (a .rules) (a .counts .now) =
     c .before .before .before .before .before .before .before .put-starts .ensures in
     let s = part-used (a .used) (c .before .before .before .before .before .lesser .result) (a .journal .now) (c .before .before .before .before .before .lesser .ensures) in
     let e = rw (p, s) at (c .before .replay-in .ensures) in (
