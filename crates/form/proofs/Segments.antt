@@ -56,7 +56,7 @@ pub segments-none : (k : Counting) → segmentElements 0 k ≡ 0
 unfolding segmentElements
 segments-none k = refl
 
-segments-one : (k : Counting) → segmentElements 1 k ≡ 1
+pub segments-one : (k : Counting) → segmentElements 1 k ≡ 1
 unfolding segmentElements
 segments-one Elements = refl
 segments-one Entries = refl

@@ -9,13 +9,13 @@ use Rattle.writing.proofs.cells_fit.Statement.{statement}
 use Rattle.writing.proofs.cells_fit.Tie as tie
 
 abbrev Inv-loop : tie.InvT-loop
-Inv-loop counts cells from₀ g₀ from g = Groups counts cells from g
+Inv-loop rules counts cells from₀ g₀ from g = Groups rules counts cells from g
 
 abbrev μ-loop : tie.MeasureT-loop
-μ-loop counts cells from₀ g₀ from g = 61 - g
+μ-loop rules counts cells from₀ g₀ from g = 61 - g
 
 loop-holds : tie.Need-loop-holds Inv-loop μ-loop
-loop-holds c = groups-start (c .before .args .counts .now) (c .before .args .cells .now)
+loop-holds c = groups-start (c .before .args .rules) (c .before .args .counts .now) (c .before .args .cells .now)
 
 form-in-requires : tie.Need-form-in-requires Inv-loop μ-loop
 form-in-requires c κs = (c .before .loop .inv .low, omega arith)
@@ -23,13 +23,13 @@ form-in-requires c κs = (c .before .loop .inv .low, omega arith)
 elements-fit-requires : tie.Need-elements-fit-requires Inv-loop μ-loop
 elements-fit-requires c κs =
     let o = c .before .before .before .before .before in
-    group-range (o .args .counts .now) (o .args .cells .now) (c .before .before .before .loop .inv) (c .before .before .loop-test .taken) (c .before .form-in .result)
+    group-range (o .args .rules) (o .args .counts .now) (o .args .cells .now) (c .before .before .before .loop .inv) (c .before .before .loop-test .taken) (c .before .form-in .result)
     (c .before .form-in .ensures) (c .count-of .result) (c .count-of .ensures) (o .pre)
 
 returns : tie.Need-returns Inv-loop μ-loop
 returns c =
     let o = c .before .before .before .before .before .before .before .before .before in
-    groups-bad (o .args .counts .now) (o .args .cells .now) (c .before .before .before .before .before .before .before .loop .inv)
+    groups-bad (o .args .rules) (o .args .counts .now) (o .args .cells .now) (c .before .before .before .before .before .before .before .loop .inv)
     (c .before .before .before .before .before .before .loop-test .taken) (c .before .before .before .before .before .form-in .result)
     (c .before .before .before .before .before .form-in .ensures) (c .before .before .before .before .count-of .result)
     (c .before .before .before .before .count-of .ensures) (sym (c .before .before .before .elements-fit .ensures) ∙ c .before .fit .given .1)
@@ -41,7 +41,7 @@ add-from c =
       fits = omega (
         arith,
         c .cells .ensures,
-        group-range (o .args .counts .now) (o .args .cells .now) (c .before .before .before .before .before .before .before .loop .inv)
+        group-range (o .args .rules) (o .args .counts .now) (o .args .cells .now) (c .before .before .before .before .before .before .before .loop .inv)
             (c .before .before .before .before .before .before .loop-test .taken) (c .before .before .before .before .before .form-in .result)
             (c .before .before .before .before .before .form-in .ensures) (c .before .before .before .before .count-of .result) (c .before .before .before .before .count-of .ensures) (o .pre),
       );
@@ -51,7 +51,7 @@ loop-again : tie.Need-loop-again Inv-loop μ-loop
 loop-again c =
     let o = c .before .before .before .before .before .before .before .before .before in
     rw (c .cells .ensures)
-    (groups-more (o .args .counts .now) (o .args .cells .now) (c .before .before .before .before .before .before .before .loop .inv)
+    (groups-more (o .args .rules) (o .args .counts .now) (o .args .cells .now) (c .before .before .before .before .before .before .before .loop .inv)
     (c .before .before .before .before .before .before .loop-test .taken) (c .before .before .before .before .before .form-in .result)
     (c .before .before .before .before .before .form-in .ensures) (c .before .before .before .before .count-of .result)
     (c .before .before .before .before .count-of .ensures) (sym (c .before .before .before .elements-fit .ensures) ∙ c .before .enum-told .given .1))
@@ -59,7 +59,7 @@ loop-again c =
 returns-2 : tie.Need-returns-2 Inv-loop μ-loop
 returns-2 c =
     let o = c .before .before .before in
-    groups-end (o .args .counts .now) (o .args .cells .now) (c .before .loop .inv) (c .loop-test .left)
+    groups-end (o .args .rules) (o .args .counts .now) (o .args .cells .now) (c .before .loop .inv) (c .loop-test .left)
 
 pub cells-fit-spec : {M : Type 1} → statement M
 cells-fit-spec =
