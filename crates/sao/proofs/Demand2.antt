@@ -46,13 +46,13 @@ as-due ρ =
       part = λ s at g. GroupDue.part-first-due ρ s at g;
       part-end = span-end ρ;
       characteristic = λ s at k. GroupDue.characteristic-first-due ρ s at k;
-      writing = λ ns cs room. WritingDue.first-due ns cs room;
+      writing = λ ns cs room. WritingDue.first-due ρ ns cs room;
       rewriting = λ s at cells room. RewritingDue.first-due ρ s at cells room;
       listed = λ s room. Listed.first-due (listing ρ s) room;
-      call = λ ns j used cells c. JournalDue.first-due ns j used cells c;
-      call-left = λ ns c k a k′ e. JournalDue.left-due ns c k a k′ e;
-      replay = λ ns j used cs. JournalDue.replay-first-due ns j used cs;
-      replay-left = λ ns j used cs a cs′ d e. JournalDue.replay-left-due ns j used cs a cs′ d e;
+      call = λ ns j used cells c. JournalDue.first-due ρ ns j used cells c;
+      call-left = λ ns c k a k′ e. JournalDue.left-due ρ ns c k a k′ e;
+      replay = λ ns j used cs. JournalDue.replay-first-due ρ ns j used cs;
+      replay-left = λ ns j used cs a cs′ d e. JournalDue.replay-left-due ρ ns j used cs a cs′ d e;
       listing-is = λ s x. (λ e. subst (IsListing ρ s) e (Listed.listing-is ρ s), λ h. sym (Listed.is-listing ρ s x h));
     }
 
@@ -66,7 +66,7 @@ rewrites ρ s at cells out bytes next e =
       cells = _;
       read = whole-read ρ s at next placed all;
       text = textAt ρ s at;
-      canonical = subst (CanonicalRecord (countsAt ρ s at) (textAt ρ s at)) (whole-joined ρ s at next placed all) (done-canonical ρ (countsAt ρ s at) (cellsAt ρ s at) (length out) bytes written);
+      canonical = subst (CanonicalRecord ρ (countsAt ρ s at) (textAt ρ s at)) (whole-joined ρ s at next placed all) (done-canonical ρ (countsAt ρ s at) (cellsAt ρ s at) (length out) bytes written);
       long = done-text ρ s at cells (length out) bytes next e;
       front = done-front ρ s at cells (length out) bytes next e out;
     }
@@ -75,13 +75,13 @@ lent-holds : (ρ : Rules) → LentHolds ρ
 lent-holds ρ =
     record {
       reading = λ s at g table cs e. rw e (done-read-holds cs table);
-      writing = λ ns cs out n e. rw e (done-write-begins ns cs out n e);
+      writing = λ ns cs out n e. rw e (done-write-begins ρ ns cs out n e);
       listed = λ s out n e. Listed.listed-begins (listing ρ s) out n e;
       rewriting = λ s at cells out bytes next e. rw e (rewrites ρ s at cells out bytes next e);
       rewriting-table = λ s at room table. table-has ρ s at table (length table) room (rewritingOf ρ s at (length table) room) refl;
     }
 
-one-canonical : (ρ : Rules) (ns : List ℕ) (cs : List ℤ) (room n : ℕ) → writingOf ns cs room ≡ Done n → OneCanonical ns cs n
+one-canonical : (ρ : Rules) (ns : List ℕ) (cs : List ℤ) (room n : ℕ) → writingOf ρ ns cs room ≡ Done n → OneCanonical ρ ns cs n
 one-canonical ρ ns cs room n e =
     record {
       long = done-bytes ρ ns cs room n e;
@@ -89,17 +89,17 @@ one-canonical ρ ns cs room n e =
       one = λ x h. canonical-text ρ h;
     }
 
-edits : Edits
-edits =
+edits : (ρ : Rules) → Edits ρ
+edits ρ =
     record {
-      stack = journal-is-stack;
-      adds = adds-field;
+      stack = journal-is-stack ρ;
+      adds = adds-field ρ;
       codec = both-ways;
-      reads-as = reads-as;
-      replayed = replay-same;
-      goes-on = goes-on;
-      torn = torn-calls;
-      made = λ ns t k f b r. reopened ns t (k .journal) (k .used) f b r;
+      reads-as ρ = reads-as ρ;
+      replayed = replay-same ρ;
+      goes-on ρ = goes-on ρ;
+      torn = torn-calls ρ;
+      made = λ ns t k f b r. reopened ρ ns t (k .journal) (k .used) f b r;
     }
 
 pub demand-2 : (ρ : Rules) → Demand2 ρ

@@ -29,12 +29,12 @@ form-in-requires c κs = (c .before .loop .inv .low, omega arith)
 to-is : (c : tie.After-cells Inv-loop μ-loop)
     → c .before .behind-or-end2 .result ≡ c .before .before .before .before .before .before .loop .from + reach
     (drop (c .before .before .before .before .before .before .loop .from) (c .before .before .before .before .before .before .before .before .before .before .args .text .now))
-    (linesOf (c .before .before .before .before .form-in .result)
+    (linesOf (c .before .before .before .before .before .before .before .before .before .before .args .rules) (c .before .before .before .before .form-in .result)
     (countOf (c .before .before .before .before .before .before .before .before .before .before .args .counts .now) (c .before .before .before .before .before .before .loop .g)))
 to-is c = rw (c .before .before .lines .ensures, c .before .before .before .count-of .ensures) at (c .before .behind-or-end2 .ensures)
 
 end-is : (c : tie.After-cells Inv-loop μ-loop)
-    → c .before .before .before .before .before .before .loop .cell + c .cells .result ≡ c .before .before .before .before .before .before .loop .cell + cellsOf
+    → c .before .before .before .before .before .before .loop .cell + c .cells .result ≡ c .before .before .before .before .before .before .loop .cell + cellsOf (c .before .before .before .before .before .before .before .before .before .before .args .rules)
     (c .before .before .before .before .form-in .result)
     (countOf (c .before .before .before .before .before .before .before .before .before .before .args .counts .now) (c .before .before .before .before .before .before .loop .g))
 end-is c = rw (c .before .before .before .count-of .ensures) at (ap (λ n. c .before .before .before .before .before .before .loop .cell + n) (c .cells .ensures))
