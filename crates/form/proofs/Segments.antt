@@ -7,14 +7,16 @@ use native.Mathlib.Nat.{le-mul-of-pos-right, suc-mul}
 use native.Mathlib.Omega.{arith}
 use lib.Dec.{T, eqb, eqb→eq}
 use Rattle.base.specs.Every.{every, has}
+use Rattle.base.proofs.Every.{every-has}
 use Rattle.rules.specs.declared.Rules.{Rules}
 use Rattle.rules.specs.declared.Counting.{Counting}
 use Rattle.rules.specs.declared.Counting.the-variants.{Elements, Entries}
 use Rattle.form.specs.declared.Form.{Form}
 use Rattle.form.specs.declared.Form.the-variants.{A1, E20}
-use Rattle.form.specs.Table.{listedAs, rowOf, forms}
+use Rattle.form.specs.declared.GroupForm.the-variants.{Has}
+use Rattle.form.specs.Table.{listedAs, rowOf, forms, formOf}
 use Rattle.form.specs.Count.{isSegments, segmentElements, elementsOf, roundedUp, linesOf, cellsOf, Takes}
-use Rattle.form.proofs.Table.{each-form}
+use Rattle.form.proofs.Table.{each-form, form-listed}
 use Rattle.form.proofs.Rows.{row-fits}
 use Rattle.form.proofs.Rounding.{rounded-none, lines-are}
 
@@ -24,10 +26,29 @@ all-six : T (every (λ f. not (isSegments f) || eqb (rowOf f .«per_line») 6) f
 unfolding isSegments rowOf listedAs
 all-six = tt
 
+-- its list of groups is 40 alone
+all-forty : T (every (λ f. not (isSegments f) || every (λ g. eqb g 40) (listedAs f .groups)) forms)
+unfolding isSegments listedAs
+all-forty = tt
+
+forty-only : (f : Form) → isSegments f ≡ true → (g : ℕ) → T (has (listedAs f .groups) g) → g ≡ 40
+forty-only f e g h =
+    let t = subst (λ (t : Bool). T (not t || every (λ k. eqb k 40) (listedAs f .groups))) e
+    (each-form (λ k. not (isSegments k) || every (λ j. eqb j 40) (listedAs k .groups)) all-forty f) in
+    eqb→eq g 40 (every-has (λ k. eqb k 40) (listedAs f .groups) t g h)
+
 segments-six : (f : Form) → isSegments f ≡ true → rowOf f .«per_line» ≡ 6
 segments-six f e =
     eqb→eq (rowOf f .«per_line») 6
     (subst (λ (t : Bool). T (not t || eqb (rowOf f .«per_line») 6)) e (each-form (λ g. not (isSegments g) || eqb (rowOf g .«per_line») 6) all-six f))
+
+-- and no other group has it
+pub segments-forty : (g : ℕ) (f : Form) → formOf g ≡ Has f → (g ≡ 40 → ⊥) → isSegments f ≡ false
+segments-forty g f h other = by (isSegments f) refl
+  where
+    by : (t : Bool) → isSegments f ≡ t → isSegments f ≡ false
+    by true e = absurd (other (forty-only f e g (form-listed f g .0 h)))
+    by false e = e
 
 e20-segments : isSegments E20 ≡ true
 unfolding isSegments listedAs

@@ -155,7 +155,8 @@ module _ {ps s : List ℕ} {t : List ℤ} {r : State} {t′ : List ℤ} (w : Pla
 
 -- R518: a refused call keeps every cell, every byte of the journal, and the bytes used
 pub refused-keeps : (ρ : Rules) (ns j : List ℕ) (used : ℕ) (t : List ℤ) (c : Call) {r : Refusal} → answerOf ρ ns j used (length t) c ≡ Refused r
-    → (cellsAfter ρ ns j used c t (answerOf ρ ns j used (length t) c) ≡ t) × (journalBy ρ ns j used c t (answerOf ρ ns j used (length t) c) ≡ j) × (usedBy used c (answerOf ρ ns j used (length t) c) ≡ used)
+    → (cellsAfter ρ ns j used c t (answerOf ρ ns j used (length t) c) ≡ t) × (journalBy ρ ns j used c t (answerOf ρ ns j used (length t) c) ≡ j) ×
+    (usedBy used c (answerOf ρ ns j used (length t) c) ≡ used)
 refused-keeps ρ ns j used t c e = rw e (refl, refl, refl)
 
 pub refused-replay-keeps : (ρ : Rules) (ns j : List ℕ) (used : ℕ) (t : List ℤ) {r : Refusal} → replayOf ρ ns j used t ≡ C.Refused r → replayedCells ρ ns j used t (replayOf ρ ns j used t) ≡ t

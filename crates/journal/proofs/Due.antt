@@ -195,7 +195,8 @@ module _ (ρ : Rules) (ns : List ℕ) (d : ℕ) (t : List ℤ) where
   field-right (Undoes k) h = h
 
 -- what a call leaves is what a replay of its field does
-cells-played : (ρ : Rules) (ns : List ℕ) (d : ℕ) (c : Call) (s : List ℕ) (w : Walked) (t : List ℤ) → cellsFor (startsOf ρ ns) c s w t ≡ playedBy (startsOf ρ ns) (fieldFor ρ ns d t c) s (w .count) (w .marks) t
+cells-played : (ρ : Rules) (ns : List ℕ) (d : ℕ) (c : Call) (s : List ℕ) (w : Walked) (t : List ℤ)
+    → cellsFor (startsOf ρ ns) c s w t ≡ playedBy (startsOf ρ ns) (fieldFor ρ ns d t c) s (w .count) (w .marks) t
 cells-played ρ ns d (Sets g i v) s w t = refl
 cells-played ρ ns d Opens s w t = refl
 cells-played ρ ns d (Releases k) s w t = refl

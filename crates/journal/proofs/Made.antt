@@ -372,7 +372,8 @@ module _ (ρ : Rules) (ns : List ℕ) (t : List ℤ) (j : List ℕ) (cs : List C
       record {
         answers = run-answers ρ ns t cs (kept t j 0) [] fc s ∙ ap (λ n. modelAnswers ρ ns cs (stacked t [] n)) z;
         cells = sym (ap (λ x. x .cells) (a .model)) ∙ ap (λ n. modelRun ρ ns cs (stacked t [] n) .cells) z;
-        opened = open-is ρ ns t (leftTo ρ ns cs (kept t j 0)) (a .saved) (a .left .stands) ∙ sym (ap (λ x. length (x .saved)) (a .model)) ∙ ap (λ n. length (modelRun ρ ns cs (stacked t [] n) .saved)) z;
+        opened = open-is ρ ns t (leftTo ρ ns cs (kept t j 0)) (a .saved) (a .left .stands) ∙ sym (ap (λ x. length (x .saved)) (a .model)) ∙
+            ap (λ n. length (modelRun ρ ns cs (stacked t [] n) .saved)) z;
       }
 
   -- R543: a journal that calls made, replayed over the table that they began with

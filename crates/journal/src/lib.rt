@@ -589,11 +589,11 @@ pub fn set_cell(
         value) ⌝ }
     ensures used { λ r. ⌜ r .used ≡ usedBy used (Sets group cell value) (r .answer) ⌝ }
     ensures cells { λ r. ⌜ now (cells .exit) ≡
-        cellsAfter rules (now (counts .entry)) (now (journal .entry)) used (Sets group cell value) (now (cells .entry)) (r
-        .answer) ⌝ }
+        cellsAfter rules (now (counts .entry)) (now (journal .entry)) used (Sets group cell value)
+        (now (cells .entry)) (r .answer) ⌝ }
     ensures journal { λ r. ⌜ now (journal .exit) ≡
-        journalBy rules (now (counts .entry)) (now (journal .entry)) used (Sets group cell value) (now (cells .entry)) (r
-        .answer) ⌝ }
+        journalBy rules (now (counts .entry)) (now (journal .entry)) used (Sets group cell value)
+        (now (cells .entry)) (r .answer) ⌝ }
 {
     let mut starts = [0usize; 62];
     let found = look(rules, counts, cells.len(), journal, used, &mut starts);
@@ -663,8 +663,8 @@ pub fn undo_to_savepoint(
     savepoint: usize,
 ) -> Edited
     ensures answer { λ r. ⌜ r .answer ≡
-        answerOf rules (now (counts .entry)) (now (journal .entry)) used (length (now (cells .entry))) (Undoes savepoint)
-        ⌝ }
+        answerOf rules (now (counts .entry)) (now (journal .entry)) used (length (now (cells .entry)))
+        (Undoes savepoint) ⌝ }
     ensures used { λ r. ⌜ r .used ≡ usedBy used (Undoes savepoint) (r .answer) ⌝ }
     ensures cells { λ r. ⌜ now (cells .exit) ≡
         cellsAfter rules (now (counts .entry)) (now (journal .entry)) used (Undoes savepoint) (now (cells .entry)) (r

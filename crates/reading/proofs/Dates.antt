@@ -109,7 +109,8 @@ pub record FirstLetters (k : ℕ) (x letters : List ℕ) : Type 0 where
   pub many : k ≤ length letters
   pub same : take k letters ≡ take k x
 
-module _ (ρ : Rules) (count : ℕ) (x : List ℕ) (cs : List ℤ) (h : readLines ρ A1 false count x ≡ done cs) (enough : 19 ≤ count) (k : ℕ) (q : k ≡ min (rowOf A1 .«per_line») (elementsOf ρ A1 count)) where
+module _ (ρ : Rules) (count : ℕ) (x : List ℕ) (cs : List ℤ) (h : readLines ρ A1 false count x ≡ done cs) (enough : 19 ≤ count) (k : ℕ)
+    (q : k ≡ min (rowOf A1 .«per_line») (elementsOf ρ A1 count)) where
   p : ℕ
   p = rowOf A1 .«per_line»
 

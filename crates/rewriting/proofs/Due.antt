@@ -150,7 +150,8 @@ module _ (ρ : Rules) (s : List ℕ) (at cells room : ℕ) where
       room-by : (n : ℕ) → placingOf ρ s at ≡ P.Placed n → (a b : Bool) → leb (recordBytes ρ (countsAt ρ s at)) room ≡ a → leb (recordCells ρ (countsAt ρ s at)) cells ≡ b
           → D (rewritingOf ρ s at cells room)
       room-by n u true true a b =
-          let h : RoomForBoth ρ s at cells room n = record { placed = u; text-fits = leb-true (recordBytes ρ (countsAt ρ s at)) room a; cells-fit = leb-true (recordCells ρ (countsAt ρ s at)) cells b } in
+          let h : RoomForBoth ρ s at cells room n =
+          record { placed = u; text-fits = leb-true (recordBytes ρ (countsAt ρ s at)) room a; cells-fit = leb-true (recordCells ρ (countsAt ρ s at)) cells b } in
           subst D (sym (roomy-is h)) (turn n h (allInTurn ρ s at) refl)
       room-by n u true false a b =
           let d : NoRoomDue ρ s at cells room = record { next = n; placed = u; short = inr (leb-false (recordCells ρ (countsAt ρ s at)) cells b) } in

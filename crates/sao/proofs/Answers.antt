@@ -19,7 +19,6 @@ use Rattle.writing.specs.Writing.{outputBy}
 use Rattle.rewriting.specs.Due as RewritingIs
 use Rattle.rewriting.specs.Record.{tableAfter, bufferBy}
 use Rattle.listing.specs.Listing.{listing, IsListing, ListingDue}
-use Rattle.rules.specs.Choice.{usual}
 use Rattle.sao.specs.Outcome.{Gives}
 use Rattle.sao.proofs.Demand2.{as-due}
 use Rattle.reply.specs.declared.Answer.{Answer}
@@ -72,9 +71,10 @@ group-lines-due κs (ρ, (text, (at, (g, _)))) r v l =
 pub characteristic-due : Gives characteristic.ended characteristic.Reads.Learnt (λ κs a r v. GroupIs.CharacteristicDue (a .0) (now (a .1 .0)) (a .1 .1 .0) (a .1 .1 .1 .0) r)
 characteristic-due κs (ρ, (text, (at, (k, _)))) r v l = as-due ρ .characteristic (now text) at k r .0 (sym l)
 
-pub write-record-due : Rules → Gives write_record.ended write_record.Reads.Learnt
-    (λ κs a r v. WritingIs.Due ρ (now (a .0)) (now (a .1 .0)) (length (now (a .1 .1 .0))) r × (v .1 .1 .0 ≡ outputBy ρ (now (a .0)) (now (a .1 .0)) r (now (a .1 .1 .0))))
-write-record-due ρ κs (counts, (cells, (out, _))) r v l = (as-due usual .writing (now counts) (now cells) (length (now out)) r .0 (sym (l .0)), l .1)
+pub write-record-due : Gives write_record.ended write_record.Reads.Learnt
+    (λ κs a r v. WritingIs.Due (a .0) (now (a .1 .0)) (now (a .1 .1 .0)) (length (now (a .1 .1 .1 .0))) r ×
+    (v .1 .1 .1 .0 ≡ outputBy (a .0) (now (a .1 .0)) (now (a .1 .1 .0)) r (now (a .1 .1 .1 .0))))
+write-record-due κs (ρ, (counts, (cells, (out, _)))) r v l = (as-due ρ .writing (now counts) (now cells) (length (now out)) r .0 (sym (l .0)), l .1)
 
 pub list-due : Gives list.ended list.Reads.Learnt
     (λ κs a r v. (x : List ℕ) × IsListing (a .0) (now (a .1 .0)) x × ListingDue x (length (now (a .1 .1 .0))) r × (v .1 .1 .0 ≡ putBytes 0 x (now (a .1 .1 .0))))
@@ -93,46 +93,46 @@ abbrev CallDue : Rules → List ℕ → Call → Kept → Answer → Kept → Ty
 CallDue ρ ns c k a k′ = JournalIs.Due ρ ns (k .journal) (k .used) (length (k .cells)) c a × JournalIs.LeftDue ρ ns c k a k′
 
 call-due : (ρ : Rules) (ns : List ℕ) (c : Call) (k : Kept) (a : Answer) (k′ : Kept) → a ≡ answerTo ρ ns c k → k′ ≡ leftBy ρ ns c k a → CallDue ρ ns c k a k′
-call-due ρ ns c k a k′ e q = (as-due usual .call ns (k .journal) (k .used) (length (k .cells)) c a .0 (sym e), as-due usual .call-left ns c k a k′ (sym e) .0 (sym q))
+call-due ρ ns c k a k′ e q = (as-due ρ .call ns (k .journal) (k .used) (length (k .cells)) c a .0 (sym e), as-due ρ .call-left ns c k a k′ (sym e) .0 (sym q))
 
 -- cells that are not lent to be altered
 same-cells : (t : List ℤ) (a : Answer) → t ≡ byAnswer a t t
 same-cells t (Done n) = refl
 same-cells t (Refused r) = refl
 
-pub set-cell-due : Rules → Gives set_cell.ended set_cell.Reads.Learnt
+pub set-cell-due : Gives set_cell.ended set_cell.Reads.Learnt
     (λ κs a r v.
-    CallDue ρ (now (a .0)) (Sets (a .1 .1 .1 .1 .0) (a .1 .1 .1 .1 .1 .0) (a .1 .1 .1 .1 .1 .1 .0)) (kept (now (a .1 .0)) (now (a .1 .1 .0)) (a .1 .1 .1 .0)) (r .answer)
-    (kept (v .1 .0) (v .1 .1 .0) (r .used)))
-set-cell-due ρ κs (counts, (cells, (journal, (used, (g, (i, (z, _))))))) r v l =
-    call-due ρ (now counts) (Sets g i z) (kept (now cells) (now journal) used) (r .answer) (kept (v .1 .0) (v .1 .1 .0) (r .used)) (l .0)
+    CallDue (a .0) (now (a .1 .0)) (Sets (a .1 .1 .1 .1 .1 .0) (a .1 .1 .1 .1 .1 .1 .0) (a .1 .1 .1 .1 .1 .1 .1 .0)) (kept (now (a .1 .1 .0)) (now (a .1 .1 .1 .0)) (a .1 .1 .1 .1 .0)) (r .answer)
+    (kept (v .1 .1 .0) (v .1 .1 .1 .0) (r .used)))
+set-cell-due κs (ρ, (counts, (cells, (journal, (used, (g, (i, (z, _)))))))) r v l =
+    call-due ρ (now counts) (Sets g i z) (kept (now cells) (now journal) used) (r .answer) (kept (v .1 .1 .0) (v .1 .1 .1 .0) (r .used)) (l .0)
     (λ x. kept (l .1 .1 .0 x) (l .1 .1 .1 x) (l .1 .0 x))
 
-pub open-savepoint-due : Rules → Gives open_savepoint.ended open_savepoint.Reads.Learnt
+pub open-savepoint-due : Gives open_savepoint.ended open_savepoint.Reads.Learnt
     (λ κs a r v.
-    CallDue ρ (now (a .0)) Opens (kept (now (a .1 .0)) (now (a .1 .1 .0)) (a .1 .1 .1 .0)) (r .answer) (kept (now (a .1 .0)) (v .1 .1 .0) (r .used)))
-open-savepoint-due ρ κs (counts, (cells, (journal, (used, _)))) r v l =
-    call-due ρ (now counts) Opens (kept (now cells) (now journal) used) (r .answer) (kept (now cells) (v .1 .1 .0) (r .used)) (l .0)
+    CallDue (a .0) (now (a .1 .0)) Opens (kept (now (a .1 .1 .0)) (now (a .1 .1 .1 .0)) (a .1 .1 .1 .1 .0)) (r .answer) (kept (now (a .1 .1 .0)) (v .1 .1 .1 .0) (r .used)))
+open-savepoint-due κs (ρ, (counts, (cells, (journal, (used, _))))) r v l =
+    call-due ρ (now counts) Opens (kept (now cells) (now journal) used) (r .answer) (kept (now cells) (v .1 .1 .1 .0) (r .used)) (l .0)
     (λ x. kept (same-cells (now cells) (r .answer) x) (l .1 .1 x) (l .1 .0 x))
 
-pub release-savepoint-due : Rules → Gives release_savepoint.ended release_savepoint.Reads.Learnt
+pub release-savepoint-due : Gives release_savepoint.ended release_savepoint.Reads.Learnt
     (λ κs a r v.
-    CallDue ρ (now (a .0)) (Releases (a .1 .1 .1 .1 .0)) (kept (now (a .1 .0)) (now (a .1 .1 .0)) (a .1 .1 .1 .0)) (r .answer) (kept (now (a .1 .0)) (v .1 .1 .0) (r .used)))
-release-savepoint-due ρ κs (counts, (cells, (journal, (used, (n, _))))) r v l =
-    call-due ρ (now counts) (Releases n) (kept (now cells) (now journal) used) (r .answer) (kept (now cells) (v .1 .1 .0) (r .used)) (l .0)
+    CallDue (a .0) (now (a .1 .0)) (Releases (a .1 .1 .1 .1 .1 .0)) (kept (now (a .1 .1 .0)) (now (a .1 .1 .1 .0)) (a .1 .1 .1 .1 .0)) (r .answer) (kept (now (a .1 .1 .0)) (v .1 .1 .1 .0) (r .used)))
+release-savepoint-due κs (ρ, (counts, (cells, (journal, (used, (n, _)))))) r v l =
+    call-due ρ (now counts) (Releases n) (kept (now cells) (now journal) used) (r .answer) (kept (now cells) (v .1 .1 .1 .0) (r .used)) (l .0)
     (λ x. kept (same-cells (now cells) (r .answer) x) (l .1 .1 x) (l .1 .0 x))
 
-pub undo-to-savepoint-due : Rules → Gives undo_to_savepoint.ended undo_to_savepoint.Reads.Learnt
+pub undo-to-savepoint-due : Gives undo_to_savepoint.ended undo_to_savepoint.Reads.Learnt
     (λ κs a r v.
-    CallDue ρ (now (a .0)) (Undoes (a .1 .1 .1 .1 .0)) (kept (now (a .1 .0)) (now (a .1 .1 .0)) (a .1 .1 .1 .0)) (r .answer) (kept (v .1 .0) (v .1 .1 .0) (r .used)))
-undo-to-savepoint-due ρ κs (counts, (cells, (journal, (used, (n, _))))) r v l =
-    call-due ρ (now counts) (Undoes n) (kept (now cells) (now journal) used) (r .answer) (kept (v .1 .0) (v .1 .1 .0) (r .used)) (l .0)
+    CallDue (a .0) (now (a .1 .0)) (Undoes (a .1 .1 .1 .1 .1 .0)) (kept (now (a .1 .1 .0)) (now (a .1 .1 .1 .0)) (a .1 .1 .1 .1 .0)) (r .answer) (kept (v .1 .1 .0) (v .1 .1 .1 .0) (r .used)))
+undo-to-savepoint-due κs (ρ, (counts, (cells, (journal, (used, (n, _)))))) r v l =
+    call-due ρ (now counts) (Undoes n) (kept (now cells) (now journal) used) (r .answer) (kept (v .1 .1 .0) (v .1 .1 .1 .0) (r .used)) (l .0)
     (λ x. kept (l .1 .1 .0 x) (l .1 .1 .1 x) (l .1 .0 x))
 
-pub replay-due : Rules → Gives replay.ended replay.Reads.Learnt
-    (λ κs a r v. JournalIs.ReplayDue ρ (now (a .0)) (now (a .1 .1 .0)) (a .1 .1 .1 .0) (now (a .1 .0)) (r .answer) ×
-    JournalIs.ReplayLeftDue ρ (now (a .0)) (now (a .1 .1 .0)) (a .1 .1 .1 .0) (now (a .1 .0)) (r .answer) (v .1 .0) (r .«open»))
-replay-due ρ κs (counts, (cells, (journal, (used, _)))) r v l = (
-  as-due usual .replay (now counts) (now journal) used (now cells) (r .answer) .0 (sym (l .0)),
-  as-due usual .replay-left (now counts) (now journal) used (now cells) (r .answer) (v .1 .0) (r .«open») (sym (l .0)) .0 (sym (l .1 .1), sym (l .1 .0)),
+pub replay-due : Gives replay.ended replay.Reads.Learnt
+    (λ κs a r v. JournalIs.ReplayDue (a .0) (now (a .1 .0)) (now (a .1 .1 .1 .0)) (a .1 .1 .1 .1 .0) (now (a .1 .1 .0)) (r .answer) ×
+    JournalIs.ReplayLeftDue (a .0) (now (a .1 .0)) (now (a .1 .1 .1 .0)) (a .1 .1 .1 .1 .0) (now (a .1 .1 .0)) (r .answer) (v .1 .1 .0) (r .«open»))
+replay-due κs (ρ, (counts, (cells, (journal, (used, _))))) r v l = (
+  as-due ρ .replay (now counts) (now journal) used (now cells) (r .answer) .0 (sym (l .0)),
+  as-due ρ .replay-left (now counts) (now journal) used (now cells) (r .answer) (v .1 .1 .0) (r .«open») (sym (l .0)) .0 (sym (l .1 .1), sym (l .1 .0)),
 )

@@ -95,7 +95,8 @@ read-rest : (c : Cells) (table : List ℤ) → drop (answerReply (readingOf c) .
 read-rest (done cs) table = done-read-keeps-rest (done cs) table (length cs) refl
 read-rest (bad r) table = refl
 
-write-rest : (ρ : Rules) (ns : List ℕ) (cs : List ℤ) (out : List ℕ) (w : Answer) → writingOf ρ ns cs (length out) ≡ w → drop (answerReply w .written) (outputBy ρ ns cs w out) ≡ drop (answerReply w .written) out
+write-rest : (ρ : Rules) (ns : List ℕ) (cs : List ℤ) (out : List ℕ) (w : Answer) → writingOf ρ ns cs (length out) ≡ w
+    → drop (answerReply w .written) (outputBy ρ ns cs w out) ≡ drop (answerReply w .written) out
 write-rest ρ ns cs out (A.Done n) e = done-write-keeps-rest ρ ns cs out n e
 write-rest ρ ns cs out (A.Refused r) e = refl
 

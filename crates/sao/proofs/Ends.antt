@@ -25,16 +25,16 @@ strict-stays-so ρ =
     let σ = ended Strict ρ in
     record {
       content = strict-content σ ρ refl;
-      placing = λ s at p. strict-placing σ ρ refl s at p .0;
-      counts = λ s at p. strict-placing σ ρ refl s at p .1;
-      found = λ s at p. located-found ρ σ s at (strict-same σ ρ refl s at p);
-      begins = λ s at p. located-begins ρ σ s at (strict-same σ ρ refl s at p);
-      lines = λ s at p. located-lines ρ σ s at (strict-same σ ρ refl s at p);
-      spots = strict-spot σ ρ refl;
-      reading = λ s at. strict-read σ ρ refl s at;
-      characteristic = λ s at. strict-characteristic σ ρ refl s at;
-      rewriting = strict-rewriting σ ρ refl;
-      text = strict-text σ ρ refl;
+      placing = λ s at p. strict-placing σ ρ refl refl s at p .0;
+      counts = λ s at p. strict-placing σ ρ refl refl s at p .1;
+      found = λ s at p. located-found ρ σ refl s at (strict-same σ ρ refl refl s at p);
+      begins = λ s at p. located-begins ρ σ refl s at (strict-same σ ρ refl refl s at p);
+      lines = λ s at p. located-lines ρ σ refl s at (strict-same σ ρ refl refl s at p);
+      spots = strict-spot σ ρ refl refl;
+      reading = λ s at. strict-read σ ρ refl refl s at;
+      characteristic = λ s at. strict-characteristic σ ρ refl refl s at;
+      rewriting = strict-rewriting σ ρ refl refl;
+      text = strict-text σ ρ refl refl;
     }
 
 pub line-ends : (ρ : Rules) → LineEndsKept ρ
@@ -58,6 +58,6 @@ line-ends ρ = record {
   canonical =
       record {
         reads-back = λ x r a b. right-back ρ r a b;
-        same = λ e x r a b. canonical-same ρ (ended e ρ) (r .canonical) (release-given (r .ns) Five (r .release)) a b;
+        same = λ e x r a b. canonical-same ρ (ended e ρ) refl (r .canonical) (release-given (r .ns) Five (r .release)) a b;
       };
 }

@@ -3,7 +3,6 @@
 -- Assumes nothing.
 use mathlib.Core.Path.{_≡_, sym, _∙_, ap}
 use denote.Ref.{now}
-use Rattle.rules.specs.declared.Rules.{Rules}
 use Rattle.sao.specs.Outcome.{OneOutcome, OneUpTo}
 use Rattle.writing.specs.Writing.{outputBy}
 use Rattle.rewriting.specs.Record.{tableAfter, bufferBy}
@@ -49,11 +48,11 @@ group-lines-one κs a r q v w l k = ((l .0 ∙ sym (k .0), l .1 ∙ sym (k .1)),
 pub characteristic-one : OneOutcome characteristic.ended characteristic.Reads.Learnt
 characteristic-one κs a r q v w l k = (l ∙ sym k, λ i. (tt, (tt, (tt, (tt, tt)))))
 
-pub write-record-one : Rules → OneOutcome write_record.ended write_record.Reads.Learnt
-write-record-one ρ κs (counts, (cells, (out, _))) r q v w l k =
+pub write-record-one : OneOutcome write_record.ended write_record.Reads.Learnt
+write-record-one κs (ρ, (counts, (cells, (out, _)))) r q v w l k =
     let answer = l .0 ∙ sym (k .0) in
     let bytes = l .1 ∙ ap (λ p. outputBy ρ (now counts) (now cells) p (now out)) answer ∙ sym (k .1) in
-    (answer, λ i. (tt, (tt, (bytes i, tt))))
+    (answer, λ i. (tt, (tt, (tt, (bytes i, tt)))))
 
 pub list-one : OneOutcome list.ended list.Reads.Learnt
 list-one κs a r q v w l k =
@@ -69,39 +68,39 @@ rewrite-record-one κs (ρ, (text, (at, (table, (out, _))))) r q v w l k =
 
 -- ---- the edit journal
 
-pub set-cell-one : Rules → OneOutcome set_cell.ended set_cell.Reads.Learnt
-set-cell-one ρ κs (counts, (cells, (journal, (used, (g, (i, (z, _))))))) r q v w l k =
+pub set-cell-one : OneOutcome set_cell.ended set_cell.Reads.Learnt
+set-cell-one κs (ρ, (counts, (cells, (journal, (used, (g, (i, (z, _)))))))) r q v w l k =
     let answer = l .0 ∙ sym (k .0) in
     let bytes = l .1 .0 ∙ ap (usedBy used (Sets g i z)) answer ∙ sym (k .1 .0) in
     let table = l .1 .1 .0 ∙ ap (cellsAfter ρ (now counts) (now journal) used (Sets g i z) (now cells)) answer ∙ sym (k .1 .1 .0) in
     let text = l .1 .1 .1 ∙ ap (journalBy ρ (now counts) (now journal) used (Sets g i z) (now cells)) answer ∙ sym (k .1 .1 .1) in
-    (λ i. record { answer = answer i; used = bytes i }, λ i. (tt, (table i, (text i, (tt, (tt, (tt, (tt, tt))))))))
+    (λ i. record { answer = answer i; used = bytes i }, λ i. (tt, (tt, (table i, (text i, (tt, (tt, (tt, (tt, tt)))))))))
 
-pub open-savepoint-one : Rules → OneOutcome open_savepoint.ended open_savepoint.Reads.Learnt
-open-savepoint-one ρ κs (counts, (cells, (journal, (used, _)))) r q v w l k =
+pub open-savepoint-one : OneOutcome open_savepoint.ended open_savepoint.Reads.Learnt
+open-savepoint-one κs (ρ, (counts, (cells, (journal, (used, _))))) r q v w l k =
     let answer = l .0 ∙ sym (k .0) in
     let bytes = l .1 .0 ∙ ap (usedBy used Opens) answer ∙ sym (k .1 .0) in
     let text = l .1 .1 ∙ ap (journalBy ρ (now counts) (now journal) used Opens (now cells)) answer ∙ sym (k .1 .1) in
-    (λ i. record { answer = answer i; used = bytes i }, λ i. (tt, (tt, (text i, (tt, tt)))))
+    (λ i. record { answer = answer i; used = bytes i }, λ i. (tt, (tt, (tt, (text i, (tt, tt))))))
 
-pub release-savepoint-one : Rules → OneOutcome release_savepoint.ended release_savepoint.Reads.Learnt
-release-savepoint-one ρ κs (counts, (cells, (journal, (used, (n, _))))) r q v w l k =
+pub release-savepoint-one : OneOutcome release_savepoint.ended release_savepoint.Reads.Learnt
+release-savepoint-one κs (ρ, (counts, (cells, (journal, (used, (n, _)))))) r q v w l k =
     let answer = l .0 ∙ sym (k .0) in
     let bytes = l .1 .0 ∙ ap (usedBy used (Releases n)) answer ∙ sym (k .1 .0) in
     let text = l .1 .1 ∙ ap (journalBy ρ (now counts) (now journal) used (Releases n) (now cells)) answer ∙ sym (k .1 .1) in
-    (λ i. record { answer = answer i; used = bytes i }, λ i. (tt, (tt, (text i, (tt, (tt, tt))))))
+    (λ i. record { answer = answer i; used = bytes i }, λ i. (tt, (tt, (tt, (text i, (tt, (tt, tt)))))))
 
-pub undo-to-savepoint-one : Rules → OneOutcome undo_to_savepoint.ended undo_to_savepoint.Reads.Learnt
-undo-to-savepoint-one ρ κs (counts, (cells, (journal, (used, (n, _))))) r q v w l k =
+pub undo-to-savepoint-one : OneOutcome undo_to_savepoint.ended undo_to_savepoint.Reads.Learnt
+undo-to-savepoint-one κs (ρ, (counts, (cells, (journal, (used, (n, _)))))) r q v w l k =
     let answer = l .0 ∙ sym (k .0) in
     let bytes = l .1 .0 ∙ ap (usedBy used (Undoes n)) answer ∙ sym (k .1 .0) in
     let table = l .1 .1 .0 ∙ ap (cellsAfter ρ (now counts) (now journal) used (Undoes n) (now cells)) answer ∙ sym (k .1 .1 .0) in
     let text = l .1 .1 .1 ∙ ap (journalBy ρ (now counts) (now journal) used (Undoes n) (now cells)) answer ∙ sym (k .1 .1 .1) in
-    (λ i. record { answer = answer i; used = bytes i }, λ i. (tt, (table i, (text i, (tt, (tt, tt))))))
+    (λ i. record { answer = answer i; used = bytes i }, λ i. (tt, (tt, (table i, (text i, (tt, (tt, tt)))))))
 
-pub replay-one : Rules → OneOutcome replay.ended replay.Reads.Learnt
-replay-one ρ κs (counts, (cells, (journal, (used, _)))) r q v w l k =
+pub replay-one : OneOutcome replay.ended replay.Reads.Learnt
+replay-one κs (ρ, (counts, (cells, (journal, (used, _))))) r q v w l k =
     let answer = l .0 ∙ sym (k .0) in
     let opened = l .1 .0 ∙ ap (replayedOpen ρ (now counts) (now journal) used (now cells)) answer ∙ sym (k .1 .0) in
     let table = l .1 .1 ∙ ap (replayedCells ρ (now counts) (now journal) used (now cells)) answer ∙ sym (k .1 .1) in
-    (λ i. record { answer = answer i; «open» = opened i }, λ i. (tt, (table i, (tt, (tt, tt)))))
+    (λ i. record { answer = answer i; «open» = opened i }, λ i. (tt, (tt, (table i, (tt, (tt, tt))))))

@@ -39,27 +39,26 @@ use Rattle.rewriting.specs.Canonical.{RightRecord}
 use Rattle.rewriting.specs.Printed.{printed}
 use Rattle.rewriting.specs.Record.{rewritingOf, textAt}
 
-module _ (ρ : Rules) where
-  -- R9: under strict, a line whose line feed has no carriage return before it
-  pub record UnderStrict : Type 0 where
-    -- has no content
-    pub no-end : (a : List ℕ) → (EndsInReturn a → ⊥) → contentOf ρ (a ++ (10 ∷ [])) ≡ NoReturn
-    -- R204: as an index line it is misformed, which is reply 4
-    pub index-line : (a : List ℕ) → (EndsInReturn a → ⊥) → readIndexLine ρ (a ++ (10 ∷ [])) ≡ misformed
-    -- R208: as a data line it is wrong, which is reply 8 with the line's number, whatever its form and fields
-    pub data-line : (f : Form) (short : Bool) (l : Line) (a : List ℕ) → (EndsInReturn a → ⊥) → readLine ρ f short l (a ++ (10 ∷ [])) ≡ bad (BadLine (l .number))
+-- R9: under strict, a line whose line feed has no carriage return before it
+pub record UnderStrict (ρ : Rules) : Type 0 where
+  -- has no content
+  pub no-end : (a : List ℕ) → (EndsInReturn a → ⊥) → contentOf ρ (a ++ (10 ∷ [])) ≡ NoReturn
+  -- R204: as an index line it is misformed, which is reply 4
+  pub index-line : (a : List ℕ) → (EndsInReturn a → ⊥) → readIndexLine ρ (a ++ (10 ∷ [])) ≡ misformed
+  -- R208: as a data line it is wrong, which is reply 8 with the line's number, whatever its form and fields
+  pub data-line : (f : Form) (short : Bool) (l : Line) (a : List ℕ) → (EndsInReturn a → ⊥) → readLine ρ f short l (a ++ (10 ∷ [])) ≡ bad (BadLine (l .number))
 
-  -- R9: under either
-  pub record UnderEither : Type 0 where
-    -- with a line feed behind it a is the content of a line; unless it ends in a carriage return, which is then part of the line end (`one-return`)
-    pub either-end : (a : List ℕ) → (EndsInReturn a → ⊥) → contentOf ρ (a ++ (10 ∷ [])) ≡ Length (length a)
-    -- every line has a content, so that the missing carriage return gives neither 4 nor 8: these are given for what the content is
-    pub some-content : (x : List ℕ) → Whole 1 x → contentOf ρ x ≡ NoReturn → ⊥
-    -- lines with these contents are alike, wherever carriage returns stand and wherever they lack
-    pub here-and-there : (cs : List (List ℕ)) → EitherWay cs → (v w : ℕ → Bool) → Alike ρ (endedBy v cs) (endedBy w cs)
-    -- and so are texts that differ in one carriage return, behind whole lines and before whatever else: also what is no line, or no right one
-    pub one-line : (k : ℕ) (x : List ℕ) → Whole k x → (a : List ℕ) → Plain a → (EndsInReturn a → ⊥) → (y : List ℕ)
-        → Alike ρ (x ++ ((a ++ (10 ∷ [])) ++ y)) (x ++ ((a ++ (13 ∷ 10 ∷ [])) ++ y))
+-- R9: under either
+pub record UnderEither (ρ : Rules) : Type 0 where
+  -- with a line feed behind it a is the content of a line; unless it ends in a carriage return, which is then part of the line end (`one-return`)
+  pub either-end : (a : List ℕ) → (EndsInReturn a → ⊥) → contentOf ρ (a ++ (10 ∷ [])) ≡ Length (length a)
+  -- every line has a content, so that the missing carriage return gives neither 4 nor 8: these are given for what the content is
+  pub some-content : (x : List ℕ) → Whole 1 x → contentOf ρ x ≡ NoReturn → ⊥
+  -- lines with these contents are alike, wherever carriage returns stand and wherever they lack
+  pub here-and-there : (cs : List (List ℕ)) → EitherWay cs → (v w : ℕ → Bool) → Alike ρ (endedBy v cs) (endedBy w cs)
+  -- and so are texts that differ in one carriage return, behind whole lines and before whatever else: also what is no line, or no right one
+  pub one-line : (k : ℕ) (x : List ℕ) → Whole k x → (a : List ℕ) → Plain a → (EndsInReturn a → ⊥) → (y : List ℕ)
+      → Alike ρ (x ++ ((a ++ (10 ∷ [])) ++ y)) (x ++ ((a ++ (13 ∷ 10 ∷ [])) ++ y))
 
 -- R9, R12: σ is strict, and as ρ in all else: what is right under σ is the same under ρ; so only refusals of σ can move
 pub record StrictStays (σ ρ : Rules) : Type 0 where
@@ -81,44 +80,43 @@ pub record StrictStays (σ ρ : Rules) : Type 0 where
   pub rewriting : (s : List ℕ) (at cells room bytes next : ℕ) → rewritingOf σ s at cells room ≡ Done bytes next → rewritingOf ρ s at cells room ≡ Done bytes next
   pub text : (s : List ℕ) (at cells room bytes next : ℕ) → rewritingOf σ s at cells room ≡ Done bytes next → textAt ρ s at ≡ textAt σ s at
 
-module _ (ρ : Rules) where
-  -- R9: where s from p on and t from q on have the same contents line by line, what is asked there is answered the same
-  pub record AnsweredAlike (s : List ℕ) (p : ℕ) (t : List ℕ) (q : ℕ) : Type 0 where
-    -- the same reply with its numbers but the next place, and from the next places on the texts are alike again
-    pub placing : SamePlacing ρ s t (placingOf ρ s p) (placingOf ρ t q)
-    pub counts : countsAt ρ s p ≡ countsAt ρ t q
-    -- every group: the cells, or the refusal with its numbers
-    pub reading : (g room : ℕ) → readAt ρ s p g room ≡ readAt ρ t q g room
-    -- its lines, which have the same contents
-    pub lines : (g : ℕ) → foundAt ρ s p g ≡ foundAt ρ t q g
-    pub part : (g : ℕ) → Alike ρ (partAt ρ s p g) (partAt ρ t q g)
-    pub characteristic : (k : ℕ) → characteristicAt ρ s p k ≡ characteristicAt ρ t q k
-    -- rewriting gives the same reply with its numbers but the next place, and the canonical text is the same: its line ends are those of R101
-    pub rewriting : (cells room : ℕ) → SameRewriting ρ s t (rewritingOf ρ s p cells room) (rewritingOf ρ t q cells room)
-    pub text : textAt ρ s p ≡ textAt ρ t q
+-- R9: where s from p on and t from q on have the same contents line by line, what is asked there is answered the same
+pub record AnsweredAlike (ρ : Rules) (s : List ℕ) (p : ℕ) (t : List ℕ) (q : ℕ) : Type 0 where
+  -- the same reply with its numbers but the next place, and from the next places on the texts are alike again
+  pub placing : SamePlacing ρ s t (placingOf ρ s p) (placingOf ρ t q)
+  pub counts : countsAt ρ s p ≡ countsAt ρ t q
+  -- every group: the cells, or the refusal with its numbers
+  pub reading : (g room : ℕ) → readAt ρ s p g room ≡ readAt ρ t q g room
+  -- its lines, which have the same contents
+  pub lines : (g : ℕ) → foundAt ρ s p g ≡ foundAt ρ t q g
+  pub part : (g : ℕ) → Alike ρ (partAt ρ s p g) (partAt ρ t q g)
+  pub characteristic : (k : ℕ) → characteristicAt ρ s p k ≡ characteristicAt ρ t q k
+  -- rewriting gives the same reply with its numbers but the next place, and the canonical text is the same: its line ends are those of R101
+  pub rewriting : (cells room : ℕ) → SameRewriting ρ s t (rewritingOf ρ s p cells room) (rewritingOf ρ t q cells room)
+  pub text : textAt ρ s p ≡ textAt ρ t q
 
-  -- R9, R254: where whole texts are alike, so is the walk. A listing is not the same for both: it holds places, which line ends move
-  pub record WalkedAlike (s t : List ℕ) : Type 0 where
-    -- record k of the one is record k of the other, and is answered alike
-    pub spots : (k : ℕ) → AlikeFrom ρ s (spot ρ s k) t (spot ρ t k)
-    -- as many records, and the same refusal behind them
-    pub stops : (many : ℕ) (r : Refusal) → Stops ρ s many r ↔ Stops ρ t many r
-    -- R341: the rewriting program prints the same for both, where both are within its limit
-    pub prints : length s ≤ 65536 → length t ≤ 65536 → printed ρ s ≡ printed ρ t
+-- R9, R254: where whole texts are alike, so is the walk. A listing is not the same for both: it holds places, which line ends move
+pub record WalkedAlike (ρ : Rules) (s t : List ℕ) : Type 0 where
+  -- record k of the one is record k of the other, and is answered alike
+  pub spots : (k : ℕ) → AlikeFrom ρ s (spot ρ s k) t (spot ρ t k)
+  -- as many records, and the same refusal behind them
+  pub stops : (many : ℕ) (r : Refusal) → Stops ρ s many r ↔ Stops ρ t many r
+  -- R341: the rewriting program prints the same for both, where both are within its limit
+  pub prints : length s ≤ 65536 → length t ≤ 65536 → printed ρ s ≡ printed ρ t
 
-  -- R9, R101: canonical text ends its lines with a carriage return and a line feed: each rule reads it as what it is
-  pub record CanonicalStays : Type 0 where
-    -- 0 with the place behind it, its counts and each group's cells, wherever it stands
-    pub reads-back : (x : List ℕ) (r : RightRecord ρ x) (a b : List ℕ) → ReadsBack ρ (r .ns) (r .cs) (length x) (a ++ (x ++ b)) (length a)
-    -- so any other rule for line ends answers the same
-    pub same : (e : LineEnds) (x : List ℕ) → RightRecord ρ x → (a b : List ℕ) → SameAnswers ρ (ended e ρ) (a ++ (x ++ b)) (length a)
+-- R9, R101: canonical text ends its lines with a carriage return and a line feed: each rule reads it as what it is
+pub record CanonicalStays (ρ : Rules) : Type 0 where
+  -- 0 with the place behind it, its counts and each group's cells, wherever it stands
+  pub reads-back : (x : List ℕ) (r : RightRecord ρ x) (a b : List ℕ) → ReadsBack ρ (r .ns) (r .cs) (length x) (a ++ (x ++ b)) (length a)
+  -- so any other rule for line ends answers the same
+  pub same : (e : LineEnds) (x : List ℕ) → RightRecord ρ x → (a b : List ℕ) → SameAnswers ρ (ended e ρ) (a ++ (x ++ b)) (length a)
 
-  pub record LineEndsKept : Type 0 where
-    -- R5: whatever a is, exactly one carriage return is dropped with the line feed
-    pub one-return : (a : List ℕ) → contentOf ρ (a ++ (13 ∷ 10 ∷ [])) ≡ Length (length a)
-    pub strictly : ρ .ends ≡ Strict → UnderStrict ρ
-    pub either : ρ .ends ≡ Either → UnderEither ρ
-    pub strict-stays : StrictStays (ended Strict ρ) ρ
-    pub alike : (s : List ℕ) (p : ℕ) (t : List ℕ) (q : ℕ) → AlikeFrom ρ s p t q → AnsweredAlike s p t q
-    pub walk : (s t : List ℕ) → Alike ρ s t → WalkedAlike s t
-    pub canonical : CanonicalStays
+pub record LineEndsKept (ρ : Rules) : Type 0 where
+  -- R5: whatever a is, exactly one carriage return is dropped with the line feed
+  pub one-return : (a : List ℕ) → contentOf ρ (a ++ (13 ∷ 10 ∷ [])) ≡ Length (length a)
+  pub strictly : ρ .ends ≡ Strict → UnderStrict ρ
+  pub either : ρ .ends ≡ Either → UnderEither ρ
+  pub strict-stays : StrictStays (ended Strict ρ) ρ
+  pub alike : (s : List ℕ) (p : ℕ) (t : List ℕ) (q : ℕ) → AlikeFrom ρ s p t q → AnsweredAlike ρ s p t q
+  pub walk : (s t : List ℕ) → Alike ρ s t → WalkedAlike ρ s t
+  pub canonical : CanonicalStays ρ

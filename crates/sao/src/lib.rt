@@ -84,7 +84,8 @@ pub fn characteristic(rules: rules::Rules, text: &[u8], at: usize, number: usize
 // Answered: 0 with the number of bytes, which stand in the output from its first byte on; what stands behind them is
 // kept. A refusal leaves the whole output as it was.
 pub fn write_record(rules: rules::Rules, counts: &[u16], cells: &[i64], out: &mut [u8]) -> Answer
-    ensures answer { λ r. ⌜ r ≡ writingOf rules (now (counts .entry)) (now (cells .entry)) (length (now (out .entry))) ⌝ }
+    ensures answer { λ r. ⌜ r ≡
+        writingOf rules (now (counts .entry)) (now (cells .entry)) (length (now (out .entry))) ⌝ }
     ensures output { λ r. ⌜ now (out .exit) ≡
         outputBy rules (now (counts .entry)) (now (cells .entry)) r (now (out .entry)) ⌝ }
 {
@@ -200,7 +201,8 @@ pub fn undo_to_savepoint(
     savepoint: usize,
 ) -> Edited
     ensures answer { λ r. ⌜ r .answer ≡
-        answerOf rules (now (counts .entry)) (now (journal .entry)) used (length (now (cells .entry))) (Undoes savepoint) ⌝ }
+        answerOf rules (now (counts .entry)) (now (journal .entry)) used (length (now (cells .entry)))
+        (Undoes savepoint) ⌝ }
     ensures used { λ r. ⌜ r .used ≡ usedBy used (Undoes savepoint) (r .answer) ⌝ }
     ensures cells { λ r. ⌜ now (cells .exit) ≡
         cellsAfter rules (now (counts .entry)) (now (journal .entry)) used (Undoes savepoint)

@@ -201,7 +201,8 @@ group-fits ρ ns cs e (suc i) a b =
     subst (λ g. groupFit ρ ns g (take (cellsIn ρ ns g) (drop (cellsBefore ρ ns (suc i)) cs)) ≡ All) k
     (subst (λ m. groupFit ρ ns (1 + i) (take (cellsIn ρ ns (1 + i)) (drop m cs)) ≡ All) (cells-before ρ ns i (omega arith)) o)
 
-pub group-fitted : (ρ : Rules) (ns : List ℕ) (cs : List ℤ) → fitOf ρ ns cs ≡ All → (g : ℕ) (f : Form) → 0 < g → g < 61 → formOf g ≡ Has f → Fitted f (elementsOf ρ f (countOf ns g)) (drop (cellsBefore ρ ns g) cs)
+pub group-fitted : (ρ : Rules) (ns : List ℕ) (cs : List ℤ) → fitOf ρ ns cs ≡ All → (g : ℕ) (f : Form) → 0 < g → g < 61 → formOf g ≡ Has f
+    → Fitted f (elementsOf ρ f (countOf ns g)) (drop (cellsBefore ρ ns g) cs)
 unfolding Tally.cellsIn
 group-fitted ρ ns cs e g f a b h =
     let u : groupFit ρ ns g (take (cellsIn ρ ns g) (drop (cellsBefore ρ ns g) cs)) ≡ All = group-fits ρ ns cs e g a b in

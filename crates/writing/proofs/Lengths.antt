@@ -200,7 +200,8 @@ module _ (ρ : Rules) (ns : List ℕ) where
     pub adding-more : g < 61 → (f : Form) → formOf g ≡ Has f → (n : ℕ) → n ≡ countOf ns g → n ≤ 65535 → Adding ρ ns (total + bytesOf ρ f n) (g + 1)
     unfolding Sum.sum bytesIn
     adding-more h f e n c few =
-        let s : sum (map (bytesIn ρ ns) (upFrom g (61 - g))) ≡ bytesIn ρ ns g + sum (map (bytesIn ρ ns) (upFrom (g + 1) (61 - (g + 1)))) = ap (λ l. sum (map (bytesIn ρ ns) l)) (up-more g 60 (omega arith)) in
+        let s : sum (map (bytesIn ρ ns) (upFrom g (61 - g))) ≡ bytesIn ρ ns g + sum (map (bytesIn ρ ns) (upFrom (g + 1) (61 - (g + 1)))) =
+        ap (λ l. sum (map (bytesIn ρ ns) l)) (up-more g 60 (omega arith)) in
         let t : bytesIn ρ ns g ≡ bytesOf ρ f n = by f e ∙ ap (bytesOf ρ f) (sym c) in
         let k = bytes-few ρ f n few in
         record { low = omega arith; high = omega arith; small = omega (arith, b .small, k .0, k .1); same = omega (arith, b .same) }

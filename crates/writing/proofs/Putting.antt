@@ -363,5 +363,6 @@ module _ (ρ : Rules) (ns : List ℕ) (cs : List ℤ) (at : ℕ) (old : List ℕ
             low = omega arith;
             high = omega arith;
             cells = sym next-group;
-            put = putting-more (b .put) (linesText ρ f count (drop from cs)) (groupsFrom ρ ns (g + 1) (drop (from + cellsOf ρ f count) cs)) new end step-groups (omega (arith, long-group)) (y ∙ ap (λ t. over a t out) (sym lines-here));
+            put = putting-more (b .put) (linesText ρ f count (drop from cs)) (groupsFrom ρ ns (g + 1) (drop (from + cellsOf ρ f count) cs)) new end step-groups
+                (omega (arith, long-group)) (y ∙ ap (λ t. over a t out) (sym lines-here));
           }

@@ -72,7 +72,8 @@ module _ (ρ : Rules) (f : Form) where
   lines-canonical count cs n h =
       own-each (lineCells f) (lineText f) (λ l c. Fitted f (l .many) c) line-canonical (planOf ρ f count) cs (n ∙ sym (plan-cells ρ f count (rowOf f .cells))) (lines-own ρ f count cs h)
 
-by-canonical : (ρ : Rules) (h : GroupForm) (g count : ℕ) (c : List ℤ) → (h ≡ NoGroup → ⊥) → length c ≡ cellsBy ρ h count → groupFitBy ρ h g count c ≡ All → CanonicalGroupBy ρ h count (groupTextBy ρ h count c) c
+by-canonical : (ρ : Rules) (h : GroupForm) (g count : ℕ) (c : List ℤ) → (h ≡ NoGroup → ⊥) → length c ≡ cellsBy ρ h count → groupFitBy ρ h g count c ≡ All
+    → CanonicalGroupBy ρ h count (groupTextBy ρ h count c) c
 by-canonical ρ (Has f) g count c some n e = lines-canonical ρ f count c n (elements-fitted ρ f g count c e)
 by-canonical ρ NoGroup g count c some n e = some refl
 

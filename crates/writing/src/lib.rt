@@ -318,7 +318,8 @@ fn write_checked(rules: rules::Rules, counts: &[u16], cells: &[i64], out: &mut [
 // answers 0 with its length; or answers the first of 4, 5, 6, 7, 14, 13, 10 and 11 that is due, and alters no byte.
 // What stands behind the text stays.
 pub fn write_record(rules: rules::Rules, counts: &[u16], cells: &[i64], out: &mut [u8]) -> Answer
-    ensures answer { λ r. ⌜ r ≡ writingOf rules (now (counts .entry)) (now (cells .entry)) (length (now (out .entry))) ⌝ }
+    ensures answer { λ r. ⌜ r ≡
+        writingOf rules (now (counts .entry)) (now (cells .entry)) (length (now (out .entry))) ⌝ }
     ensures output { λ r. ⌜ now (out .exit) ≡
         outputBy rules (now (counts .entry)) (now (cells .entry)) r (now (out .entry)) ⌝ }
 {

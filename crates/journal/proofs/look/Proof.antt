@@ -16,7 +16,8 @@ returns c =
     let j = a .journal .now in
     let r = c .before .before .before .walk-used .result in
     let checked = c .before .check .result in
-    let starts : c .before .before .before .before .before .before .before .put-starts .last .1 .1 .0 ≡ startsOf (a .rules) ns = c .before .before .before .before .before .before .before .put-starts .ensures in
+    let starts : c .before .before .before .before .before .before .before .put-starts .last .1 .1 .0 ≡ startsOf (a .rules) ns =
+    c .before .before .before .before .before .before .before .put-starts .ensures in
     let w = subst (λ q. WalksTo q (take (a .used) j) r) starts (c .before .before .before .walk-used .ensures) in (
       starts,
       record {

@@ -21,7 +21,8 @@ returns c =
     let a = c .before .before .before .before .before .before .before .before .before .before .args in
     let k = kept (a .cells .now) (a .journal .now) (a .used) in
     let found = c .before .before .before .before .before .look .ensures in
-    let x = call-refused (a .rules) (Sets (a .group) (a .cell) (a .value)) k (found .1) (c .refused .result .used) (c .before .before .stands .given .1) (c .refused .ensures .0) (c .refused .ensures .1) in
+    let x = call-refused (a .rules) (Sets (a .group) (a .cell) (a .value)) k (found .1) (c .refused .result .used) (c .before .before .stands .given .1)
+    (c .refused .ensures .0) (c .refused .ensures .1) in
     (x .answer, (x .used, (x .cells, x .journal)))
 
 returns-2 : tie.Need-returns-2

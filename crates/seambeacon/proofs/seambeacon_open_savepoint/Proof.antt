@@ -14,7 +14,7 @@ returns c =
     let at-call = c .before .before .before .before .before in
     let a = at-call .before .before .before .before .before .args in
     let e = at-call .open-savepoint .ensures in
-    let journal = e .1 .1 ∙ ap (journalBy (a .counts .now) (a .journal .now) (a .used .now) Opens (a .cells .now)) (e .0) in
+    let journal = e .1 .1 ∙ ap (journalBy ρ (a .counts .now) (a .journal .now) (a .used .now) Opens (a .cells .now)) (e .0) in
     let used = e .1 .0 ∙ ap (usedBy (a .used .now) Opens) (e .0) in
     (told-as (c .before .before .reply-of .ensures ∙ ap editReply (e .0)) (c .tell .ensures), (used, journal))
 

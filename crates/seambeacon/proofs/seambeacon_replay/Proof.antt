@@ -13,8 +13,8 @@ returns c =
     let at-call = c .before .before .before .before in
     let a = at-call .before .before .before .before .args in
     let e = at-call .replay .ensures in
-    let opened = e .1 .0 ∙ ap (replayedOpen (a .counts .now) (a .journal .now) (a .used) (a .cells .now)) (e .0) in
-    let cells = e .1 .1 ∙ ap (replayedCells (a .counts .now) (a .journal .now) (a .used) (a .cells .now)) (e .0) in
+    let opened = e .1 .0 ∙ ap (replayedOpen ρ (a .counts .now) (a .journal .now) (a .used) (a .cells .now)) (e .0) in
+    let cells = e .1 .1 ∙ ap (replayedCells ρ (a .counts .now) (a .journal .now) (a .used) (a .cells .now)) (e .0) in
     (told-as (c .before .before .of-checked .ensures ∙ ap checkedReply (e .0)) (c .tell .ensures), (opened, cells))
 
 pub seambeacon-replay-spec : {M : Type 1} → statement M

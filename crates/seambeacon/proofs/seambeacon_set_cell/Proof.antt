@@ -17,8 +17,8 @@ returns c =
     let a = at-call .before .before .before .before .before .before .args in
     let z : toZ w64 (ofZ w64 (a .value)) ≡ a .value = search needs in
     let e = rw z at (at-call .set-cell .ensures) in
-    let journal = e .1 .1 .1 ∙ ap (journalBy (a .counts .now) (a .journal .now) (a .used .now) (Sets (a .group) (a .cell) (a .value)) (a .cells .now)) (e .0) in
-    let cells = e .1 .1 .0 ∙ ap (cellsAfter (a .counts .now) (a .journal .now) (a .used .now) (Sets (a .group) (a .cell) (a .value)) (a .cells .now)) (e .0) in
+    let journal = e .1 .1 .1 ∙ ap (journalBy ρ (a .counts .now) (a .journal .now) (a .used .now) (Sets (a .group) (a .cell) (a .value)) (a .cells .now)) (e .0) in
+    let cells = e .1 .1 .0 ∙ ap (cellsAfter ρ (a .counts .now) (a .journal .now) (a .used .now) (Sets (a .group) (a .cell) (a .value)) (a .cells .now)) (e .0) in
     let used = e .1 .0 ∙ ap (usedBy (a .used .now) (Sets (a .group) (a .cell) (a .value))) (e .0) in
     (told-as (c .before .before .reply-of .ensures ∙ ap editReply (e .0)) (c .tell .ensures), (used, (cells, journal)))
 

@@ -14,8 +14,8 @@ returns c =
     let at-call = c .before .before .before .before .before .before in
     let a = at-call .before .before .before .before .before .before .args in
     let e = at-call .undo-to-savepoint .ensures in
-    let journal = e .1 .1 .1 ∙ ap (journalBy (a .counts .now) (a .journal .now) (a .used .now) (Undoes (a .savepoint)) (a .cells .now)) (e .0) in
-    let cells = e .1 .1 .0 ∙ ap (cellsAfter (a .counts .now) (a .journal .now) (a .used .now) (Undoes (a .savepoint)) (a .cells .now)) (e .0) in
+    let journal = e .1 .1 .1 ∙ ap (journalBy ρ (a .counts .now) (a .journal .now) (a .used .now) (Undoes (a .savepoint)) (a .cells .now)) (e .0) in
+    let cells = e .1 .1 .0 ∙ ap (cellsAfter ρ (a .counts .now) (a .journal .now) (a .used .now) (Undoes (a .savepoint)) (a .cells .now)) (e .0) in
     let used = e .1 .0 ∙ ap (usedBy (a .used .now) (Undoes (a .savepoint))) (e .0) in
     (told-as (c .before .before .reply-of .ensures ∙ ap editReply (e .0)) (c .tell .ensures), (used, (cells, journal)))
 

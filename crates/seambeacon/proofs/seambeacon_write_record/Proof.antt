@@ -12,7 +12,7 @@ returns : tie.Need-returns
 returns c =
     let e = c .before .before .before .before .before .write-record .ensures in
     let a = c .before .before .before .before .before .before .before .before .before .args in
-    (told-as (c .before .before .of-answer .ensures ∙ ap answerReply (e .0)) (c .tell .ensures), e .1 ∙ ap (λ w. outputBy (a .counts .now) (a .cells .now) w (a .out .now)) (e .0))
+    (told-as (c .before .before .of-answer .ensures ∙ ap answerReply (e .0)) (c .tell .ensures), e .1 ∙ ap (λ w. outputBy ρ (a .counts .now) (a .cells .now) w (a .out .now)) (e .0))
 
 pub seambeacon-write-record-spec : {M : Type 1} → statement M
 seambeacon-write-record-spec =

@@ -21,17 +21,23 @@ form-in-requires c κs = (c .before .loop .inv .low, omega arith)
 
 add-total : tie.Need-add-total Inv-loop μ-loop
 add-total c =
-    let b = adding-more (c .before .before .before .before .before .before .args .rules) (c .before .before .before .before .before .before .args .counts .now) (c .before .before .before .before .loop .inv)
-    (c .before .before .before .loop-test .taken) (c .before .before .form-in .result) (c .before .before .form-in .ensures) (c .before .count-of .result)
-    (c .before .count-of .ensures) (omega arith) in
+    let at-count = c .before in
+    let at-form = at-count .before in
+    let in-loop = at-form .before in
+    let o = in-loop .before .before .before .args in
+    let b = adding-more (o .rules) (o .counts .now) (in-loop .before .loop .inv) (in-loop .loop-test .taken) (at-form .form-in .result) (at-form .form-in .ensures)
+    (at-count .count-of .result) (at-count .count-of .ensures) (omega arith) in
     record { fits = omega (arith, b .small, c .group-bytes .ensures) }
 
 loop-again : tie.Need-loop-again Inv-loop μ-loop
 loop-again c =
+    let at-count = c .before in
+    let at-form = at-count .before in
+    let in-loop = at-form .before in
+    let o = in-loop .before .before .before .args in
     rw (c .group-bytes .ensures)
-    (adding-more (c .before .before .before .before .before .before .args .rules) (c .before .before .before .before .before .before .args .counts .now) (c .before .before .before .before .loop .inv)
-    (c .before .before .before .loop-test .taken) (c .before .before .form-in .result) (c .before .before .form-in .ensures) (c .before .count-of .result)
-    (c .before .count-of .ensures) (omega arith))
+    (adding-more (o .rules) (o .counts .now) (in-loop .before .loop .inv) (in-loop .loop-test .taken) (at-form .form-in .result) (at-form .form-in .ensures)
+    (at-count .count-of .result) (at-count .count-of .ensures) (omega arith))
 
 returns : tie.Need-returns Inv-loop μ-loop
 returns c = adding-end (c .before .before .before .args .rules) (c .before .before .before .args .counts .now) (c .before .loop .inv) (c .loop-test .left)

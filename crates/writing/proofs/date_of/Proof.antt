@@ -14,8 +14,10 @@ use Rattle.writing.proofs.date_of.Tie as tie
 date-at-requires : tie.Need-date-at-requires
 date-at-requires c κs =
     let o = c .before .before in
-    rw (c .add-up .ensures .cells-are)
-    (date-inside (o .args .rules) (o .args .counts .now) (o .args .cells .now) (o .pre .0) (o .pre .1), date-letters (o .args .rules) (o .args .counts .now) (o .args .cells .now) (o .pre .0) (o .pre .1))
+    rw (c .add-up .ensures .cells-are) (
+      date-inside (o .args .rules) (o .args .counts .now) (o .args .cells .now) (o .pre .0) (o .pre .1),
+      date-letters (o .args .rules) (o .args .counts .now) (o .args .cells .now) (o .pre .0) (o .pre .1),
+    )
 
 returns : tie.Need-returns
 returns c =
