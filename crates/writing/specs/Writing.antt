@@ -29,7 +29,7 @@ module _ (ρ : Rules) where
   abbrev pub dateLetters : List ℕ → List ℤ → List ℕ
   dateLetters ns cs = map sizeOf (part (cellsBefore ρ ns 3) (cellsBefore ρ ns 4) cs)
 
-  -- R305: 11, if the canonical text is longer than the output
+  -- R305: 11, if the output has no room for the canonical text
   abbrev pub writeRoom : List ℕ → ℕ → Answer
   writeRoom ns room = cond (leb (recordBytes ρ ns) room) (Done (recordBytes ρ ns)) (Refused NoRoom)
 
