@@ -82,13 +82,13 @@ some-bytes (Releases k) = omega arith
 some-bytes (Undoes k) = omega arith
 
 -- steps from the first state up to the end, where none is right
-module _ (ρ : Rules) {S : Type 0} {right : S → Type 0} {next : S → S} {first end : S} (st : Stops S right next first end) (place : S → ℕ) (used : ℕ) where
+module _ {S : Type 0} {right : S → Type 0} {next : S → S} {first end : S} (st : Stops S right next first end) (place : S → ℕ) (used : ℕ) where
   used-is : (x : S) → (place x ≡ used → right x → ⊥) → AllUsed S place (Goes S right next first) right used x → x ≡ end
   used-is x past h = goes-one (h .fields) (past (h .ends)) (st .goes) (st .stuck)
 
-  fault-given : (ns : List ℕ) (cells p : ℕ) → Counts.HasCells ρ ns cells → Faulty S place (Goes S right next first) right used p
+  fault-given : (ρ : Rules) (ns : List ℕ) (cells p : ℕ) → Counts.HasCells ρ ns cells → Faulty S place (Goes S right next first) right used p
       → checks ρ ns cells used (place end) ≡ C.Refused (BadEntry p)
-  fault-given ns cells p c h =
+  fault-given ρ ns cells p c h =
       let q = ap place (goes-one (st .goes) (st .stuck) (h .fields) (h .fault)) ∙ h .stops in
       checks-entry ρ ns cells used (place end) c (λ e. h .other (sym q ∙ e)) ∙ ap (λ x. C.Refused (BadEntry x)) q
 
@@ -104,7 +104,7 @@ module _ (ρ : Rules) (ns j : List ℕ) (used : ℕ) where
   ended d p q = past ρ ns (take used j) p d (omega (arith, length-take used j))
 
   order-is : (w : Walked) → AllInOrder ρ ns j used w → w ≡ walkIn ρ ns j used
-  order-is w h = used-is ρ (walk-ends ρ ns (take used j)) (λ x. x .place) used w (ended (length (w .marks)) (w .place)) h
+  order-is w h = used-is (walk-ends ρ ns (take used j)) (λ x. x .place) used w (ended (length (w .marks)) (w .place)) h
 
 module _ (ρ : Rules) (ns j : List ℕ) (used cells : ℕ) (c : Call) where
   abbrev stop : ℕ
@@ -126,7 +126,7 @@ module _ (ρ : Rules) (ns j : List ℕ) (used cells : ℕ) (c : Call) where
 
   refusal-given : (r : Refusal) → RefusedFor ρ ns j used cells c r → answerOf ρ ns j used cells c ≡ Refused r
   refusal-given r (wrong-counts q h) = to-refused q (checks-counts ρ ns cells used stop q h)
-  refusal-given r (bad-entry p h f) = to-refused (BadEntry p) (fault-given ρ (walk-ends ρ ns (take used j)) (λ x. x .place) used ns cells p h f)
+  refusal-given r (bad-entry p h f) = to-refused (BadEntry p) (fault-given (walk-ends ρ ns (take used j)) (λ x. x .place) used ρ ns cells p h f)
   refusal-given r (unaccepted w h n) =
       let m = subst (λ x. Accepted ρ ns (length (x .marks)) c → ⊥) (order-is ρ ns j used w (h .fields)) n in
       to-decided (h .table) (stop-is w h) ∙ rw (no-accepted ρ ns opened c m)
@@ -165,9 +165,9 @@ module _ (ρ : Rules) (ns j : List ℕ) (used cells : ℕ) (c : Call) where
   is-due = by (checks ρ ns cells used stop) (which ρ ns cells used stop) refl
     where
       by : (x : Checked) → Which ρ ns cells used stop x → checks ρ ns cells used stop ≡ x → Due ρ ns j used cells c (answerOf ρ ns j used cells c)
-      by x (stands h q) e = subst (Due ρ ns j used cells c) (sym (to-decided h q)) (from-decided record { table = h; fields = all-used ρ (walk-ends ρ ns (take used j)) (λ x. x .place) used q })
+      by x (stands h q) e = subst (Due ρ ns j used cells c) (sym (to-decided h q)) (from-decided record { table = h; fields = all-used (walk-ends ρ ns (take used j)) (λ x. x .place) used q })
       by x (counts r h) e = subst (Due ρ ns j used cells c) (sym (to-refused r e)) (wrong-counts r h)
-      by x (entry h n) e = subst (Due ρ ns j used cells c) (sym (to-refused (BadEntry stop) e)) (bad-entry stop h (faulty ρ (walk-ends ρ ns (take used j)) (λ x. x .place) used n))
+      by x (entry h n) e = subst (Due ρ ns j used cells c) (sym (to-refused (BadEntry stop) e)) (bad-entry stop h (faulty (walk-ends ρ ns (take used j)) (λ x. x .place) used n))
 
   -- the reply that is given is the one that is due, and no other is
   pub first-due : (a : Answer) → answerOf ρ ns j used cells c ≡ a ↔ Due ρ ns j used cells c a
@@ -259,11 +259,11 @@ module _ (ρ : Rules) (ns j : List ℕ) (used : ℕ) (t : List ℤ) where
   run = playIn ρ ns j used t
 
   replay-order-is : (x : Played) → AllReplayed ρ ns j used t x → x ≡ run
-  replay-order-is x h = used-is ρ (play-ends ρ ns (take used j) t) (λ y. y .place) used x (λ q r. ended ρ ns j used (length (x .marks)) (x .place) q (r .0)) h
+  replay-order-is x h = used-is (play-ends ρ ns (take used j) t) (λ y. y .place) used x (λ q r. ended ρ ns j used (length (x .marks)) (x .place) q (r .0)) h
 
   replay-refusal : (r : Refusal) → ReplayRefusedFor ρ ns j used t r → checks ρ ns (length t) used (run .place) ≡ C.Refused r
   replay-refusal r (replay-counts q h) = checks-counts ρ ns (length t) used (run .place) q h
-  replay-refusal r (replay-entry p h f) = fault-given ρ (play-ends ρ ns (take used j) t) (λ x. x .place) used ns (length t) p h f
+  replay-refusal r (replay-entry p h f) = fault-given (play-ends ρ ns (take used j) t) (λ x. x .place) used ρ ns (length t) p h f
 
   replay-given : (a : Checked) → ReplayDue ρ ns j used t a → checks ρ ns (length t) used (run .place) ≡ a
   replay-given C.Right h =
@@ -275,9 +275,9 @@ module _ (ρ : Rules) (ns j : List ℕ) (used : ℕ) (t : List ℤ) where
   replay-is = refl
 
   replay-due : (a : Checked) → Which ρ ns (length t) used (run .place) a → ReplayDue ρ ns j used t a
-  replay-due a (stands h q) = record { table = h; last = run; fields = all-used ρ (play-ends ρ ns (take used j) t) (λ x. x .place) used q }
+  replay-due a (stands h q) = record { table = h; last = run; fields = all-used (play-ends ρ ns (take used j) t) (λ x. x .place) used q }
   replay-due a (counts r h) = replay-counts r h
-  replay-due a (entry h n) = replay-entry (run .place) h (faulty ρ (play-ends ρ ns (take used j) t) (λ x. x .place) used n)
+  replay-due a (entry h n) = replay-entry (run .place) h (faulty (play-ends ρ ns (take used j) t) (λ x. x .place) used n)
 
   pub replay-first-due : (a : Checked) → replayOf ρ ns j used t ≡ a ↔ ReplayDue ρ ns j used t a
   replay-first-due a = (

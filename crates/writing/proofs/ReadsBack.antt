@@ -76,7 +76,7 @@ module _ (ρ : Rules) (ns : List ℕ) (cs : List ℤ) (room n : ℕ) (e : writin
   has = d .checked .rules .released
 
   pub done-canonical : CanonicalRecord ρ ns (recordText ρ ns cs) cs
-  done-canonical = written-canonical ρ ns cs (has .counts .many) (counts-small ρ ns (has .counts)) (d .checked .needed) (d .fit)
+  done-canonical = written-canonical ρ ns cs (has .counts .many) (counts-small ns (has .counts)) (d .checked .needed) (d .fit)
 
   pub done-bytes : length (recordText ρ ns cs) ≡ n
   done-bytes = record-length ρ ns cs (has .counts .many) (d .fit) ∙ sym (d .bytes)
@@ -84,7 +84,7 @@ module _ (ρ : Rules) (ns : List ℕ) (cs : List ℤ) (room n : ℕ) (e : writin
   pub reads-back : (a b : List ℕ) → ReadsBack ρ ns cs n (a ++ (recordText ρ ns cs ++ b)) (length a)
   reads-back a b =
       subst (λ m. ReadsBack ρ ns cs m (a ++ (recordText ρ ns cs ++ b)) (length a)) done-bytes
-      (canonical-back ρ done-canonical (released ρ ns Five has) (kept-ruling ns (d .checked .rules .kept)) record { date = d .date; right = d .right } a b)
+      (canonical-back ρ done-canonical (released ns Five has) (kept-ruling ns (d .checked .rules .kept)) record { date = d .date; right = d .right } a b)
 
   -- the same of the output: wherever its first n bytes stand
   pub output-bytes : (old : List ℕ) → take n (outputBy ρ ns cs (Done n) old) ≡ recordText ρ ns cs
