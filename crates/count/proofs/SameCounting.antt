@@ -1,8 +1,10 @@
--- R12: rules that count alike give counts the same lines and cells.
+-- R12: rules that count alike give counts the same lines and cells, and check them alike.
 -- Assumes nothing.
 use mathlib.Core.Path.{_≡_, refl, ap}
+use mathlib.Core.Bool.{cond}
 use mathlib.Core.List.{List, _∷_}
 use Prim.Native.Nat.{ℕ}
+use lib.Dec.{eqb}
 use lib.ListN.{take}
 use Rattle.rules.specs.declared.Rules.{Rules}
 use Rattle.base.specs.Every.{upFrom}
@@ -12,7 +14,15 @@ use Rattle.form.specs.declared.GroupForm.{GroupForm}
 use Rattle.form.specs.declared.GroupForm.the-variants.{Has, NoGroup}
 use Rattle.form.specs.Table.{formOf}
 use Rattle.form.proofs.Segments as Segments
-use Rattle.count.specs.Tally.{countOf, linesBy, cellsBy, linesIn, cellsIn, lineTally, cellTally, linesBefore, recordLines, recordCells}
+use Rattle.reply.specs.declared.Refusal.the-variants.{Misformed, OtherLength}
+use Rattle.reply.specs.declared.Checked.the-variants.{Right, Refused}
+use Rattle.count.specs.declared.Release.{Release}
+use Rattle.count.specs.declared.Release.the-variants.{Five, Other, Filled}
+use Rattle.count.specs.declared.Ruling.{Ruling}
+use Rattle.count.specs.declared.Ruling.the-variants.{Kept, Broken}
+use Rattle.count.specs.Tally.{countOf, linesBy, cellsBy, linesIn, cellsIn, lineTally, cellTally, linesBefore, cellsBefore, recordLines, recordCells}
+use Rattle.count.specs.Rules.{releaseOf, rulingOf}
+use Rattle.count.specs.Check.{wellFormed, byRules, byRelease, checkedOf}
 
 module _ (σ ρ : Rules) (alike : σ .counting ≡ ρ .counting) (ns : List ℕ) where
   pub lines-same : (g : ℕ) → linesIn σ ns g ≡ linesIn ρ ns g
@@ -48,3 +58,21 @@ module _ (σ ρ : Rules) (alike : σ .counting ≡ ρ .counting) (ns : List ℕ)
 
   pub record-cells-same : recordCells σ ns ≡ recordCells ρ ns
   record-cells-same = ap sum cell-tally-same
+
+  pub cells-before-same : (g : ℕ) → cellsBefore σ ns g ≡ cellsBefore ρ ns g
+  unfolding cellsBefore
+  cells-before-same g = ap (λ xs. sum (take g xs)) cell-tally-same
+
+  -- R302: so a table is as long as they ask for under each of them or under none
+  pub check-same : (cells : ℕ) → checkedOf σ ns cells ≡ checkedOf ρ ns cells
+  unfolding checkedOf
+  check-same cells = ap (λ c. cond (wellFormed ns) c (Refused Misformed)) (released (releaseOf ns))
+    where
+      ruled : (r : Ruling) → byRules σ ns cells r ≡ byRules ρ ns cells r
+      ruled Kept = ap (λ n. cond (eqb cells n) Right (Refused OtherLength)) record-cells-same
+      ruled (Broken g) = refl
+
+      released : (r : Release) → byRelease σ ns cells r ≡ byRelease ρ ns cells r
+      released Five = ruled (rulingOf ns)
+      released Other = refl
+      released (Filled g) = refl

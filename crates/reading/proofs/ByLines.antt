@@ -1,7 +1,7 @@
 -- R269: under counts and a group's number, what its lines read as decides what the group reads as, whatever the bytes, and whatever the rules
 -- that count alike.
 -- Assumes nothing.
-use mathlib.Core.Path.{_≡_, refl}
+use mathlib.Core.Path.{_≡_, refl, ap}
 use mathlib.Core.List.{List}
 use Prim.Native.Nat.{ℕ}
 use Rattle.rules.specs.declared.Rules.{Rules}
@@ -9,19 +9,19 @@ use Rattle.form.specs.declared.Form.{Form}
 use Rattle.form.specs.declared.GroupForm.{GroupForm}
 use Rattle.form.specs.declared.GroupForm.the-variants.{Has, NoGroup as NoForm}
 use Rattle.form.specs.Table.{formOf}
-use Rattle.form.proofs.Segments.{elements-same, lines-same, cells-same}
+use Rattle.form.proofs.Segments.{elements-same, cells-same}
 use Rattle.count.specs.Tally.{countOf}
 use Rattle.count.specs.Rules.{rulingOf}
 use Rattle.count.specs.declared.Ruling.{Ruling}
 use Rattle.count.specs.declared.Ruling.the-variants.{Kept, Broken}
 use Rattle.reading.specs.Blanks.{mayBeShort}
-use Rattle.reading.specs.Plan.{planOf}
+use Rattle.reading.specs.Plan.{manyPlan, planOf}
 use Rattle.reading.specs.Read.{readLines, readForm, readRuled, readBy, readGroup}
 
 -- rules that count alike plan alike
 pub plan-same : (σ ρ : Rules) → σ .counting ≡ ρ .counting → (f : Form) (n : ℕ) → planOf σ f n ≡ planOf ρ f n
 unfolding planOf
-plan-same σ ρ alike f n = rw (elements-same σ ρ alike f n, lines-same σ ρ alike f n)
+plan-same σ ρ alike f n = ap (manyPlan f) (elements-same σ ρ alike f n)
 
 -- x under ρ and y under σ
 module _ (ρ σ : Rules) (ns : List ℕ) (g : ℕ) (x y : List ℕ) where

@@ -18,6 +18,7 @@ use Rattle.base.specs.Pieces.{done, bad, both, gather}
 use Rattle.base.proofs.Taken.{drop-none}
 use Rattle.form.specs.declared.Form.{Form}
 use Rattle.form.specs.Table.{rowOf}
+use Rattle.form.specs.Count
 use Rattle.form.specs.Count.{elementsOf, linesOf}
 use Rattle.form.proofs.Rows.{row-fits}
 use Rattle.form.proofs.Counted.{lines-few}
@@ -164,7 +165,7 @@ pub record Fielding (f : Form) (l : Line) (text : List ℕ) (at i from : ℕ) : 
 
 pub checking-start : (ρ : Rules) {f : Form} {short : Bool} {count : ℕ} {s : List ℕ} {width perLine many left : ℕ} → Walking ρ f count s width perLine many left 0 0
     → Checking ρ f short count s width perLine many left 0 1 0
-unfolding readLines planOf
+unfolding readLines planOf Count.linesOf
 checking-start ρ {f} {short} {count} {s} {width} {perLine} {many} {left} b =
     record { walk = b; first = omega (arith, zero-mul (rowOf f .«per_line»)); same = rw (sub-zero many, b .lines, drop-none s) refl }
 

@@ -17,6 +17,7 @@ use Rattle.base.proofs.Pieces.{BothDone, both-done}
 use Rattle.base.proofs.Taken.{drop-none}
 use Rattle.form.specs.declared.Form.{Form}
 use Rattle.form.specs.Table.{rowOf}
+use Rattle.form.specs.Count
 use Rattle.form.specs.Count.{elementsOf, cellsOf}
 use Rattle.form.proofs.Rows.{row-fits}
 use Rattle.field.specs.Read.{fieldOf, formed, valueCells, ReadsAs}
@@ -118,7 +119,7 @@ enough-room ρ f short count s old v room =
 pub filling-start : (ρ : Rules) {f : Form} {short : Bool} {count : ℕ} {s : List ℕ} {r : Reached} → Walking ρ f count s (r .width) (r .perLine) (r .many) (r .left) (r .at) (r .j)
     → r .cells ≡ rowOf f .cells
     → verdictOf (readLines ρ f short count s) ≡ C.Right → (r .at ≡ 0) × (r .cell ≡ 0) × (r .j ≡ 0) → Filling ρ f short count s (r .table) r
-unfolding readLines planOf
+unfolding readLines planOf Count.linesOf
 filling-start ρ {f} {short} {count} {s} {r} b z v none =
     let g = clean-read (readLines ρ f short count s) v in
     record {

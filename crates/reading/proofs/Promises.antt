@@ -108,7 +108,7 @@ unfolding Count.linesOf Count.cellsOf
 no-elements ρ f = rw (elements-none ρ f) (rounded-none (rowOf f .«per_line»), zero-mul (rowOf f .cells))
 
 no-lines : (ρ : Rules) (f : Form) (short : Bool) (x : List ℕ) → readLines ρ f short 0 x ≡ done []
-unfolding readLines readLinesOf planOf planFrom Pieces.gather Every.upFrom
+unfolding readLines readLinesOf planOf Count.linesOf planFrom Pieces.gather Every.upFrom
 no-lines ρ f short x = rw (no-elements ρ f .0)
 
 module _ (ρ : Rules) where

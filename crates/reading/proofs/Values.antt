@@ -94,7 +94,7 @@ module _ (ρ : Rules) (f : Form) (short : Bool) (count : ℕ) (x : List ℕ) whe
           rw m (lines-none ρ f short x p n (linesOf ρ f count) (reach x (linesOf ρ f count)))
 
   pub lines-start : linesFrom 0 ≡ readLines ρ f short count x
-  unfolding readLines planOf
+  unfolding readLines planOf Count.linesOf
   lines-start = rw (reach-zero x, drop-none x, sub-zero (linesOf ρ f count)) refl
 
 -- ---- a line that was read

@@ -23,6 +23,7 @@ use Rattle.base.proofs.Taken.{drop-none}
 use Rattle.base.proofs.UpFrom.{sum-up-same}
 use Rattle.form.specs.declared.Form.{Form}
 use Rattle.form.specs.Table.{rowOf}
+use Rattle.form.specs.Count
 use Rattle.form.specs.Count.{elementsOf, linesOf, cellsOf}
 use Rattle.form.proofs.Rows.{row-fits}
 use Rattle.field.specs.Read.{fieldOf, formed}
@@ -40,7 +41,7 @@ use Rattle.reading.specs.Plan.{Line, planFrom, planOf, elementsIn}
 use Rattle.reading.specs.Read
 use Rattle.reading.specs.Read.{readField, readFields, columnsOf, readLine, readLines}
 use Rattle.reading.proofs.Sizes.{group-size}
-use Rattle.writing.specs.Text.{lineEnd, lineCells, fieldsText, lineText, linesText}
+use Rattle.writing.specs.Text.{lineEnd, lineCells, fieldsText, lineText, manyText, linesText}
 use Rattle.writing.specs.Canonical.{CanonicalLine, CanonicalLines}
 use Rattle.writing.proofs.Lengths.{plan-length}
 
@@ -120,17 +121,17 @@ module _ (ρ : Rules) (f : Form) where
 
   module _ (count : ℕ) (x : List ℕ) (cs : List ℤ) (h : CanonicalLines ρ f count x cs) where
     pub lines-text : x ≡ linesText ρ f count cs
-    unfolding linesText
+    unfolding linesText manyText Plan.planOf
     lines-text = each-emit (lineCells f) (lineText f) (λ l x c p. (line-text l x c p, line-cells l x c p)) (planOf ρ f count) x cs h
 
     pub lines-whole : Whole (linesOf ρ f count) x
-    unfolding Plan.planOf
+    unfolding Plan.planOf Count.linesOf
     lines-whole =
         subst (λ k. Whole k x) (sum-ones (planOf ρ f count) ∙ plan-length ρ f count)
         (each-whole (λ (l : Line). 1) line-whole (planOf ρ f count) x cs h)
 
     pub lines-read : (short : Bool) → readLines ρ f short count x ≡ done cs
-    unfolding Read.readLines Read.readLinesOf Plan.planOf
+    unfolding Read.readLines Read.readLinesOf Plan.planOf Count.linesOf
     lines-read short =
         let p = rowOf f .«per_line» in
         let few = each-passed (λ l. leb (l .many) p) (planOf ρ f count) x cs (plan-few p (elementsOf ρ f count) 0 (linesOf ρ f count)) h in

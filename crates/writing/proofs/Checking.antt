@@ -85,7 +85,7 @@ module _ (f : Form) (g : ℕ) (cs : List ℤ) (from : ℕ) where
       pub elements-bad : fitsOf f (part at (at + size) cs) ≡ false → Not g (e + 1) ≡ manyFit f g many (drop from cs)
       elements-bad t = rw t at more
 
--- the elements of a count, and their cells
+-- those of a count, and their cells
 module _ (ρ : Rules) (f : Form) (count many : ℕ) (all : many ≡ elementsOf ρ f count) where
   pub elements-all : (g : ℕ) (cs : List ℤ) → manyFit f g many cs ≡ elementsFit ρ f g count cs
   unfolding elementsFit

@@ -32,11 +32,11 @@ use Rattle.count.specs.Tally
 use Rattle.count.specs.Tally.{countOf, cellsIn, cellsBefore}
 use Rattle.count.proofs.Tallied.{cells-first, cells-next}
 use Rattle.reading.specs.Plan
-use Rattle.reading.specs.Plan.{planFrom, planOf}
+use Rattle.reading.specs.Plan.{planFrom, planOf, manyPlan}
 use Rattle.writing.specs.declared.Fit.{Fit}
 use Rattle.writing.specs.declared.Fit.the-variants.{All, Not}
 use Rattle.writing.specs.Fitting.{Fitted, firstOf, firstMisfit, elementFit, elementsFit, groupFit, fitOf}
-use Rattle.writing.specs.Text.{lineCells, manyPlan}
+use Rattle.writing.specs.Text.{lineCells}
 
 -- ---- pieces of which all fit
 
@@ -163,7 +163,7 @@ module _ (ρ : Rules) (f : Form) where
       misfit-take (size f) (elementFit f g) (upFrom 1 (elementsOf ρ f count)) cs (elementsOf ρ f count * rowOf f .cells) (omega (arith, sum-up-same (rowOf f .cells) 1 (elementsOf ρ f count)))
 
   pub lines-own : (count : ℕ) (cs : List ℤ) → Fitted f (elementsOf ρ f count) cs → Own (lineCells f) (λ l c. Fitted f (l .many) c) (planOf ρ f count) cs
-  unfolding Plan.planOf Count.linesOf
+  unfolding Plan.planOf
   lines-own count cs h = many-own f (elementsOf ρ f count) cs h
 
 -- ---- the groups of a record

@@ -25,7 +25,7 @@ use Rattle.reply.specs.declared.Answer.the-variants.{Done}
 use Rattle.writing.specs.Canonical.{CanonicalRecord}
 use Rattle.writing.specs.Fitting.{firstMisfit, elementsFit, fitOf}
 use Rattle.writing.specs.RoundTrip.{ReadsBack}
-use Rattle.writing.specs.Text.{lineEnd, entriesText, indexText, fieldsText, lineText, linesText, groupText, groupsText, recordText, bytesIn, recordBytes}
+use Rattle.writing.specs.Text.{lineEnd, entriesText, indexText, fieldsText, lineText, manyText, linesText, groupText, groupsText, recordText, bytesIn, recordBytes}
 use Rattle.writing.specs.Writing.{writingOf}
 use Rattle.writing.proofs.ReadsBack.{done-canonical, reads-back}
 
@@ -50,7 +50,7 @@ text =
     ++ line "   7.250")))
 
 pub written : (ρ : Rules) → recordText ρ counts cells ≡ text
-unfolding recordText indexText entriesText groupsText groupText linesText lineText fieldsText Pieces.emit Every.upFrom Tally.cellsIn Table.formOf
+unfolding recordText indexText entriesText groupsText groupText linesText manyText lineText fieldsText Pieces.emit Every.upFrom Tally.cellsIn Table.formOf
     Table.formAmong Table.rowOf Table.listedAs Count.elementsOf Count.isSegments Count.segmentElements Count.linesOf Count.roundedUp Count.cellsOf Plan.planOf Plan.planFrom Write.fieldText
 written ρ = refl
 

@@ -32,10 +32,10 @@ use Rattle.field.proofs.Laws.{lawful}
 use Rattle.count.specs.Tally.{countOf, cellsIn}
 use Rattle.reading.proofs.Checking.{width-few}
 use Rattle.reading.specs.Plan
-use Rattle.reading.specs.Plan.{Line, lineAt, planFrom, planOf, elementsIn}
+use Rattle.reading.specs.Plan.{Line, lineAt, planFrom, planOf, elementsIn, manyPlan}
 use Rattle.writing.specs.declared.Fit.the-variants.{All}
 use Rattle.writing.specs.Fitting.{Fitted, groupFitBy, groupFit, fitOf}
-use Rattle.writing.specs.Text.{lineEnd, entriesText, indexText, lineCells, fieldsText, lineText, manyPlan, manyText, linesText, groupTextBy, groupText, groupsText}
+use Rattle.writing.specs.Text.{lineEnd, entriesText, indexText, lineCells, fieldsText, lineText, manyText, linesText, groupTextBy, groupText, groupsText}
 use Rattle.writing.specs.Text.{recordText, manyBytes, bytesOf, bytesBy, bytesIn, recordBytes}
 use Rattle.writing.proofs.Fitting.{elements-fitted, fitted-own, many-own, groups-own}
 
@@ -124,28 +124,21 @@ module _ (f : Form) (n : ℕ) where
 -- of a count
 module _ (ρ : Rules) (f : Form) (count : ℕ) where
   pub plan-cells : (c : ℕ) → sum (map (λ (l : Line). l .many * c) (planOf ρ f count)) ≡ elementsOf ρ f count * c
-  unfolding Plan.planOf Count.linesOf
+  unfolding Plan.planOf
   plan-cells c = many-cells f (elementsOf ρ f count) c
 
   pub plan-length : length (planOf ρ f count) ≡ linesOf ρ f count
   unfolding Plan.planOf Count.linesOf
   plan-length = many-lines f (elementsOf ρ f count)
 
-  pub lines-many : (cs : List ℤ) → linesText ρ f count cs ≡ manyText f (elementsOf ρ f count) cs
-  unfolding linesText manyText Plan.planOf Count.linesOf
-  lines-many cs = refl
-
-  pub bytes-many : bytesOf ρ f count ≡ manyBytes f (elementsOf ρ f count)
-  unfolding Count.linesOf
-  bytes-many = refl
-
   pub lines-length : (cs : List ℤ) → Fitted f (elementsOf ρ f count) cs → length (linesText ρ f count cs) ≡ bytesOf ρ f count
-  lines-length cs h = ap length (lines-many cs) ∙ many-length f (elementsOf ρ f count) cs h ∙ sym bytes-many
+  unfolding linesText
+  lines-length cs h = many-length f (elementsOf ρ f count) cs h
 
 -- only the group's own cells matter
 pub lines-take : (ρ : Rules) (f : Form) (count : ℕ) (cs : List ℤ) → linesText ρ f count (take (cellsOf ρ f count) cs) ≡ linesText ρ f count cs
-unfolding linesText Count.cellsOf
-lines-take ρ f count cs = emit-take (lineCells f) (lineText f) (planOf ρ f count) cs (elementsOf ρ f count * rowOf f .cells) (omega (arith, plan-cells ρ f count (rowOf f .cells)))
+unfolding linesText manyText Count.cellsOf
+lines-take ρ f count cs = let n = elementsOf ρ f count in emit-take (lineCells f) (lineText f) (manyPlan f n) cs (n * rowOf f .cells) (omega (arith, many-cells f n (rowOf f .cells)))
 
 pub group-length : (ρ : Rules) (ns : List ℕ) (g : ℕ) (cs : List ℤ) → groupFit ρ ns g cs ≡ All → length (groupText ρ ns g cs) ≡ bytesIn ρ ns g
 unfolding groupText bytesIn
@@ -170,7 +163,8 @@ record-length ρ ns cs e h = length-append (indexText ns) (groupsText ρ ns cs) 
 -- ---- a loop that adds the groups' bytes up
 
 -- the bytes of a group whose count is 65,535 at most
-pub bytes-few : (ρ : Rules) (f : Form) (n : ℕ) → n ≤ 65535 → (elementsOf ρ f n * rowOf f .width ≤ 65535 * 120) × (linesOf ρ f n ≤ 65535)
+pub bytes-few : (ρ : Rules) (f : Form) (n : ℕ) → n ≤ 65535 → (elementsOf ρ f n * rowOf f .width ≤ 65535 * 120) × (roundedUp (elementsOf ρ f n) (rowOf f .«per_line») ≤ 65535)
+unfolding Count.linesOf
 bytes-few ρ f n h =
     let p = rowOf f .«per_line» in
     let w = rowOf f .width in

@@ -40,7 +40,7 @@ use Rattle.writing.specs.declared.Fit.the-variants.{All}
 use Rattle.writing.specs.Fitting.{Fitted, fitOf}
 use Rattle.writing.specs.Text.{lineEnd, entriesText, indexText, lineCells, fieldsText, lineText, lineOfMany, manyText, linesText, groupText, groupsText, manyBytes}
 use Rattle.writing.proofs.Fitting.{fitted-drop, fitted-fewer, line-behind, group-fitted}
-use Rattle.writing.proofs.Lengths.{entries-length, fields-length, line-length, many-length, lines-many, lines-take}
+use Rattle.writing.proofs.Lengths.{entries-length, fields-length, line-length, many-length, lines-take}
 
 -- ---- the end of a line
 
@@ -340,11 +340,9 @@ module _ (ρ : Rules) (ns : List ℕ) (cs : List ℤ) (at : ℕ) (old : List ℕ
       abbrev n : ℕ
       n = elementsOf ρ f count
 
-      lines-here : linesText ρ f count (drop from cs) ≡ manyText f n (drop from cs)
-      lines-here = lines-many ρ f count (drop from cs)
-
       long-group : length (linesText ρ f count (drop from cs)) ≡ manyBytes f n
-      long-group = ap length lines-here ∙ many-length f n (drop from cs) fits-group
+      unfolding linesText
+      long-group = many-length f n (drop from cs) fits-group
 
       pub group-cells : from + cellsOf ρ f count ≤ length cs
       group-cells = omega (arith, next-group, cells-below ρ ns (g + 1) 61 (omega arith))
@@ -357,6 +355,10 @@ module _ (ρ : Rules) (ns : List ℕ) (cs : List ℤ) (at : ℕ) (old : List ℕ
         omega (arith, putting-room (b .put) (linesText ρ f count (drop from cs)) (groupsFrom ρ ns (g + 1) (drop (from + cellsOf ρ f count) cs)) step-groups, long-group),
       )
 
+      in-lines : {new : List ℕ} → new ≡ over a (manyText f n (drop from cs)) out → new ≡ over a (linesText ρ f count (drop from cs)) out
+      unfolding linesText
+      in-lines y = y
+
       pub groups-put-next : (new : List ℕ) (end : ℕ) → end ≡ a + manyBytes f n → new ≡ over a (manyText f n (drop from cs)) out → GroupsPut ρ ns cs at old (from + cellsOf ρ f count) end (g + 1) new
       groups-put-next new end x y =
           record {
@@ -364,5 +366,5 @@ module _ (ρ : Rules) (ns : List ℕ) (cs : List ℤ) (at : ℕ) (old : List ℕ
             high = omega arith;
             cells = sym next-group;
             put = putting-more (b .put) (linesText ρ f count (drop from cs)) (groupsFrom ρ ns (g + 1) (drop (from + cellsOf ρ f count) cs)) new end step-groups
-                (omega (arith, long-group)) (y ∙ ap (λ t. over a t out) (sym lines-here));
+                (omega (arith, long-group)) (in-lines y);
           }

@@ -32,9 +32,10 @@ use Rattle.field.proofs.Laws.{lawful}
 use Rattle.count.specs.Tally
 use Rattle.count.specs.Tally.{countOf, cellsBy, cellsIn, recordCells}
 use Rattle.form.proofs.Table.{has-form}
+use Rattle.reading.specs.Plan
 use Rattle.reading.specs.Plan.{Line, planOf, elementsIn}
 use Rattle.writing.specs.declared.Fit.the-variants.{All}
-use Rattle.writing.specs.Text.{lineEnd, entriesText, indexText, lineCells, fieldsText, lineText, linesText, groupTextBy, groupText, groupsText, recordText}
+use Rattle.writing.specs.Text.{lineEnd, entriesText, indexText, lineCells, fieldsText, lineText, manyText, linesText, groupTextBy, groupText, groupsText, recordText}
 use Rattle.writing.specs.Fitting.{Fitted, groupFitBy, groupFit, fitOf}
 use Rattle.writing.specs.Canonical.{EntryOf, CanonicalIndexLine, CanonicalLine, CanonicalLines, CanonicalGroupBy, CanonicalGroup, CanonicalRecord}
 use Rattle.writing.proofs.Fitting.{elements-fitted, fitted-own, lines-own, groups-own}
@@ -68,7 +69,7 @@ module _ (ρ : Rules) (f : Form) where
   -- ---- a group
 
   lines-canonical : (count : ℕ) (cs : List ℤ) → length cs ≡ cellsOf ρ f count → Fitted f (elementsOf ρ f count) cs → CanonicalLines ρ f count (linesText ρ f count cs) cs
-  unfolding linesText Count.cellsOf
+  unfolding linesText manyText Plan.planOf Count.cellsOf
   lines-canonical count cs n h =
       own-each (lineCells f) (lineText f) (λ l c. Fitted f (l .many) c) line-canonical (planOf ρ f count) cs (n ∙ sym (plan-cells ρ f count (rowOf f .cells))) (lines-own ρ f count cs h)
 

@@ -12,12 +12,12 @@ use Rattle.form.specs.declared.Form.{Form}
 use Rattle.form.specs.declared.GroupForm.{GroupForm}
 use Rattle.form.specs.declared.GroupForm.the-variants.{Has, NoGroup}
 use Rattle.form.specs.Table.{rowOf, formOf}
-use Rattle.form.specs.Count.{elementsOf, linesOf, roundedUp}
+use Rattle.form.specs.Count.{elementsOf, roundedUp}
 use Rattle.field.specs.Write.{fieldText}
 use Rattle.field.specs.Entry.{indexEntryText}
 use Rattle.line.specs.Alike.{lineEndBy}
 use Rattle.count.specs.Tally.{countOf, cellsIn}
-use Rattle.reading.specs.Plan.{Line, planFrom, planOf, elementsIn}
+use Rattle.reading.specs.Plan.{Line, manyPlan, elementsIn}
 
 -- R101: every line ends so
 abbrev pub lineEnd : List ℕ
@@ -51,16 +51,13 @@ abbrev pub lineOfMany : ℕ → Line
 lineOfMany k = record { number = 1; first = 1; many = k }
 
 -- the lines of so many elements, one behind the other
-abbrev pub manyPlan : Form → ℕ → List Line
-manyPlan f n = planFrom (rowOf f .«per_line») n 0 (roundedUp n (rowOf f .«per_line»))
-
 unfoldable pub manyText : Form → ℕ → List ℤ → List ℕ
 manyText f n cs = emit (lineCells f) (lineText f) (manyPlan f n) cs
 
 module _ (ρ : Rules) where
-  -- the same of a count's (`lines-many` in proofs/Lengths)
+  -- those of a count
   unfoldable pub linesText : Form → ℕ → List ℤ → List ℕ
-  linesText f count cs = emit (lineCells f) (lineText f) (planOf ρ f count) cs
+  linesText f count cs = manyText f (elementsOf ρ f count) cs
 
   abbrev pub groupTextBy : GroupForm → ℕ → List ℤ → List ℕ
   groupTextBy (Has f) count cs = linesText f count cs
@@ -85,7 +82,7 @@ manyBytes f n = n * rowOf f .width + roundedUp n (rowOf f .«per_line») * 2
 
 module _ (ρ : Rules) where
   abbrev pub bytesOf : Form → ℕ → ℕ
-  bytesOf f count = elementsOf ρ f count * rowOf f .width + linesOf ρ f count * 2
+  bytesOf f count = manyBytes f (elementsOf ρ f count)
 
   abbrev pub bytesBy : GroupForm → ℕ → ℕ
   bytesBy (Has f) count = bytesOf f count

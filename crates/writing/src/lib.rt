@@ -13,12 +13,11 @@ ghost use Rattle.base.specs.Every.{every};
 ghost use Rattle.base.specs.Part.{part, over};
 ghost use Rattle.base.specs.Sign.{sizeOf};
 ghost use Rattle.form.specs.Table.{rowOf};
-ghost use Rattle.form.specs.Count.{cellsOf};
 ghost use Rattle.field.specs.Write.{isLetter, fitsOf, fieldText};
 ghost use Rattle.count.specs.Check.{checkedOf};
 ghost use Rattle.count.specs.Tally.{cellsBefore};
 ghost use Rattle.date.specs.Date.{datedOf};
-ghost use Rattle.writing.specs.Fitting.{elementsFit, fitOf, Fitted};
+ghost use Rattle.writing.specs.Fitting.{manyFit, fitOf, Fitted};
 ghost use Rattle.writing.specs.Text.{lineEnd, entriesText, indexText, lineOfMany, fieldsText, manyText};
 ghost use Rattle.writing.specs.Text.{groupsText, recordText, manyBytes, bytesOf, recordBytes};
 ghost use Rattle.writing.specs.Writing.{dateLetters, writeFit, writeRoom, writingOf, outputBy};
@@ -31,24 +30,16 @@ enum Fit {
 
 // ---- Checking.
 
-// The first element of a group whose cells fit no field; the group's cells begin at a place of the table.
-fn elements_fit(
-    rules: rules::Rules,
-    form: Form,
-    group: usize,
-    count: u16,
-    cells: &[i64],
-    from: usize,
-) -> Fit
-    requires { ⌜ from + cellsOf rules form count ≤ length (now cells) ⌝ }
-    ensures { λ r. ⌜ r ≡ elementsFit rules form group count (drop from (now (cells .entry))) ⌝ }
+// The first of so many elements of a group whose cells fit no field; they begin at a place of the table.
+fn elements_fit(form: Form, group: usize, elements: usize, cells: &[i64], from: usize) -> Fit
+    requires { ⌜ from + elements * rowOf form .cells ≤ length (now cells) ⌝ }
+    ensures { λ r. ⌜ r ≡ manyFit form group elements (drop from (now (cells .entry))) ⌝ }
 {
     let row = form::row_of(form);
     let size = row.cells;
-    let many = form::elements(rules, form, count);
     let mut at = from;
     let mut e: usize = 0;
-    while e < many {
+    while e < elements {
         let to = at + size;
         if field::fits(form, &cells[at..to]) {
             at = to;
@@ -70,7 +61,8 @@ fn cells_fit(rules: rules::Rules, counts: &[u16], cells: &[i64]) -> Fit
     while g < 61 {
         let f = form::form_in(g);
         let n = count::count_of(counts, g);
-        let fit = elements_fit(rules, f, g, n, cells, from);
+        let elements = form::elements(rules, f, n);
+        let fit = elements_fit(f, g, elements, cells, from);
         match fit {
             Fit::Not(h, e) => {
                 return Fit::Not(h, e);
