@@ -1,8 +1,9 @@
 #!/bin/sh
-# The test program dump: every answer about every text of tests/vectors, or of the folder that is named (`tests/dump.sh FOLDER [--strict]`),
-# under both rules for line ends, and about 65,536 bytes; and damage by running (D3.2 to D3.7): bytes of one group's lines are replaced in each
-# text that has such lines; then only that group's row may differ, and for group 4 the characteristics of that record. Which bytes are replaced
-# by what is drawn from a fixed seed, and is the same in each run. Prints each case that fails, and how many passed.
+# The test program dump: every answer about every text of tests/vectors, or of the folder that is named (`tests/dump.sh FOLDER [--strict]
+# [--entries]`), under both rules for line ends and both for counts of group 40, and about 65,536 bytes; and damage by running (D3.2 to D3.7):
+# bytes of one group's lines are replaced in each text that has such lines; then only that group's row may differ, and for group 4 the
+# characteristics of that record. Which bytes are replaced by what is drawn from a fixed seed, and is the same in each run. Prints each case that
+# fails, and how many passed.
 set -u
 cd "$(dirname "$0")/.." || exit 2
 name=dump
@@ -102,9 +103,15 @@ if own; then
     done
 fi
 
+damaged_by() { # TEXT: the rules under which it is asked with damage: entries where it has its own answer under them, else the first
+    case " $rules " in
+    *' entries '*) [ ! -e "${1%.sao}.entries.dump" ] || { echo entries; return; } ;;
+    esac
+    echo "${rules%% *}"
+}
+
 # Five replacements for each text: the record and the group by their rows in the dump, up to four bytes of its lines, none of them a line
-# feed. One line each: text, number of the row, record's place, group, and then places and bytes. Asked by the first of the rules.
-first=${rules%% *}
+# feed. One line each: text, number of the row, record's place, group, and then places and bytes.
 for text in "$vectors"/*.sao; do
     od -An -v -tu1 -w1 "$text" >"$work/bytes"
     awk -v text="$text" -v seed="${text##*/}" '
@@ -135,7 +142,7 @@ for text in "$vectors"/*.sao; do
                 if (many)
                     print line
             }
-        }' "$work/bytes" "$(answer_of "$text" "$first" dump)"
+        }' "$work/bytes" "$(answer_of "$text" "$(damaged_by "$text")" dump)"
 done >"$work/damage"
 
 confined() { # EXPECTED ROW PLACE GROUP: what was dumped differs from it only in that row, and for group 4 in that record's characteristics
@@ -161,11 +168,12 @@ while read -r text row place group bytes; do
         printf "\\$(printf '%03o' "$2")" | dd of="$work/damaged" bs=1 seek="$1" conv=notrunc 2>/dev/null
         shift 2
     done
+    ruled=$(damaged_by "$text")
     # shellcheck disable=SC2046
-    ./run dump $([ "$first" = usual ] || echo "--$first") <"$work/damaged" >"$work/got"
-    want=$(answer_of "$text" "$first" dump)
+    ./run dump $(words_for "$ruled") <"$work/damaged" >"$work/got"
+    want=$(answer_of "$text" "$ruled" dump)
     cmp -s "$work/got" "$want" || differ=$((differ + 1))
-    counted "$text, group $group of the record at $place, bytes $bytes" confined "$want" "$row" "$place" "$group"
+    counted "$text, $ruled, group $group of the record at $place, bytes $bytes" confined "$want" "$row" "$place" "$group"
 done <"$work/damage"
 
 # these cases show something only if most of them change an answer, and if the worst bytes are among them
@@ -175,4 +183,4 @@ if own; then
         counted "damage with byte $byte" grep -q " $byte\$" "$work/damage"
     done
 fi
-finished 1150
+finished 1640
