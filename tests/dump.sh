@@ -62,6 +62,27 @@ sized '65,537 bytes' "$work/text" 65537
 ./run dump <"$work/text" >"$work/got"
 compared '65,537 bytes' "$work/want"
 
+# R13: as many elements of group 40 as the input has room for, with the longest cells. S without carriage returns has 300 bytes; 539 entries behind
+# it are 538 lines of 121 bytes and one of 21, so they end at 65,419, and have 3,229 elements.
+tr -d '\r' <examples/s.sao | awk '
+    NR == 1 { $0 = substr($0, 1, 117) "539" }
+    { print }
+    END {
+        for (i = 1; i <= 3229; i++)
+            printf " -0.999999999999E-99%s", i % 6 == 0 || i == 3229 ? "\n" : ""
+    }' >"$work/text"
+sized '539 entries' "$work/text" 65419
+./run dump --entries <"$work/text" | grep -E '^(group (39|40|41)|stop) ' >"$work/got"
+awk 'BEGIN {
+    print "group 39 0 0 0 300 300"
+    printf "group 40 0 6458 0 300 65419"
+    for (i = 1; i <= 3229; i++)
+        printf " -999999999999 -99"
+    print "\ngroup 41 0 0 0 65419 65419"
+    print "stop 65419 1 0 0"
+}' >"$work/want"
+compared '539 entries' "$work/want"
+
 # R411, R412: S with blanks behind the field of its last line, up to 120 bytes and one more; R414: with a blank for its last carriage return
 row() { # CASE EXPECTED [WORD]: the row of group 4 of the text made
     # shellcheck disable=SC2086
