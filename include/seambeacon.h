@@ -204,8 +204,9 @@ enum seambeacon_reply seambeacon_rewrite_record(uint32_t rules, const uint8_t *t
    order, and a journal: a buffer of which *used bytes are used, 0 when it is fresh. Each accepted
    call adds one field to it, 22 bytes for a set and 4 for the others; *used is then the bytes used
    afterwards. Bytes of the buffer behind the used ones are kept.
-   The rules are those by which the cells were read. SEAMBEACON_STRICT makes no difference here;
-   with SEAMBEACON_ENTRIES on one side alone, a count above 1 of group 40 leads to 14.
+   The rules are those by which the cells were read. Cells that were read with SEAMBEACON_ENTRIES
+   and are lent without it, or the other way round, are refused with 14 where group 40 has a count
+   above 1; SEAMBEACON_STRICT makes no difference here.
    A refusal (4, 5, 6, 7, 14, 17, 12, 15, 16, 11, in this order, of those that a function can have)
    leaves all cells, the whole journal and *used as they were. The used bytes are looked at first,
    field by field, so any of these functions may find 17; if *used is more than the buffer has, and

@@ -370,8 +370,8 @@ pub fn rewrite_record(rules: Rules, text: &[u8], at: usize, table: &mut [i64], o
 }
 
 /// A record's cells with the journal of their edits, over memory that the caller lends: the record's counts, which are 80, all its cells in
-/// group order, and a buffer of which so many bytes are used. The rules are those by which the cells were read: with another [`Counting`] a count
-/// above 1 of group 40 leads to [`Refusal::OtherLength`], and the line end makes no difference.
+/// group order, and a buffer of which so many bytes are used. The rules are those by which the cells were read. Those of another [`Counting`] are
+/// refused with [`Refusal::OtherLength`] where group 40 has a count above 1; the line end makes no difference here.
 ///
 /// Each accepted call adds one field to the used bytes, 22 for a set and 4 for the others. A caller who writes these to a file before going on
 /// loses nothing when the program is killed: [`Journal::replay`] makes the calls again. A refused call leaves cells, journal and used bytes as
