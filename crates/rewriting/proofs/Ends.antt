@@ -1,6 +1,7 @@
--- R9: a record that the strict rule rewrites with 0 is rewritten so under each rule: as many bytes, the same next place, the same text.
+-- R9: a record that the strict rule rewrites with 0 is rewritten so under each that counts alike: as many bytes, the same next place, the same
+-- text. What is canonical for one of two such rules is so for the other.
 -- Assumes nothing.
-use mathlib.Core.Path.{_≡_, refl, sym, _∙_, ap, ap₂}
+use mathlib.Core.Path.{_≡_, refl, sym, _∙_, ap, ap₂, subst}
 use mathlib.Core.List.{List}
 use mathlib.Core.Logic.{inl}
 use Prim.Native.Nat.{ℕ, zero, suc, _+_, _<_, _≤_}
@@ -20,7 +21,10 @@ use Rattle.group.proofs.Ends.{strict-read}
 use Rattle.writing.specs.Text.{recordText, recordBytes}
 use Rattle.count.specs.Tally.{recordCells}
 use Rattle.count.proofs.SameCounting as Counted
-use Rattle.writing.proofs.SameCounting.{record-text-same, record-bytes-same}
+use Rattle.date.specs.Due.{IsDate}
+use Rattle.writing.proofs.Ends.{canonical-record}
+use Rattle.writing.proofs.SameCounting.{record-text-same, record-bytes-same, date-letters-same}
+use Rattle.rewriting.specs.Canonical.{RightRecord, CanonicalRecords, none, more}
 use Rattle.rewriting.specs.declared.Rewriting.the-variants.{Done}
 use Rattle.rewriting.specs.Due.{RewrittenDue}
 use Rattle.rewriting.specs.Record.{groupRead, firstThen, cellsInTurn, rewritingOf, textAt}
@@ -74,3 +78,21 @@ module _ (σ ρ : Rules) (only : σ .ends ≡ Strict) (alike : σ .counting ≡ 
   strict-text =
       ap₂ (recordText ρ) counts (cells-same (groupRead ρ s at) (groupRead σ s at) 1 60 (λ g low high. same g low (omega arith)))
       ∙ record-text-same ρ σ (sym alike) (countsAt σ s at) _
+
+-- what is canonical for one of two rules that count alike is so for the other: it has no line end that one of them refuses
+module _ (ρ σ : Rules) (alike : ρ .counting ≡ σ .counting) where
+  pub right-record-same : {x : List ℕ} → RightRecord ρ x → RightRecord σ x
+  right-record-same {x} r =
+      record {
+        ns = r .ns;
+        cs = r .cs;
+        canonical = canonical-record ρ σ alike (r .ns) x (r .cs) (r .canonical);
+        release = r .release;
+        rules = r .rules;
+        date = r .date;
+        dated = subst (λ l. IsDate l (r .date)) (date-letters-same ρ σ alike (r .ns) (r .cs)) (r .dated);
+      }
+
+  pub canonical-records-same : (s : List ℕ) → CanonicalRecords ρ s → CanonicalRecords σ s
+  canonical-records-same s none = none
+  canonical-records-same s (more x {y} r few rest) = more x (right-record-same r) few (canonical-records-same y rest)

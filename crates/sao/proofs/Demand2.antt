@@ -1,11 +1,12 @@
 -- D2, the second demand (specs/Demand2.antt).
 -- Assumes nothing.
-use mathlib.Core.Path.{_≡_, refl, sym, subst}
-use mathlib.Core.List.{List}
+use mathlib.Core.Path.{_≡_, refl, sym, _∙_, subst}
+use mathlib.Core.List.{List, _++_}
 use Prim.Native.Nat.{ℕ}
 use lib.IntN.{ℤ}
 use lib.ListN.{length}
 use Rattle.rules.specs.declared.Rules.{Rules}
+use Rattle.rules.specs.Choice.{ended}
 use Rattle.place.specs.Placing.{countsAt}
 use Rattle.place.proofs.Due as PlacingDue
 use Rattle.place.proofs.Stopped.{walks}
@@ -14,12 +15,14 @@ use Rattle.group.proofs.Due as GroupDue
 use Rattle.group.proofs.Holding.{span-end}
 use Rattle.reply.specs.declared.Answer.the-variants.{Done}
 use Rattle.writing.specs.Canonical.{CanonicalRecord}
+use Rattle.writing.specs.RoundTrip.{ReadsBack}
 use Rattle.writing.specs.Writing.{writingOf}
 use Rattle.writing.proofs.Canonical.{canonical-text}
 use Rattle.writing.proofs.Due as WritingDue
 use Rattle.writing.proofs.ReadsBack.{done-canonical, done-bytes, reads-back}
 use Rattle.writing.proofs.Promises.{done-write-begins}
 use Rattle.writing.proofs.ReadWrites.{returns-same}
+use Rattle.writing.proofs.SameCounting.{record-text-same, writing-same}
 use Rattle.listing.specs.Listing.{listing, IsListing}
 use Rattle.listing.proofs.Replies as Listed
 use Rattle.rewriting.specs.declared.Rewriting.the-variants.{Done as Rewritten}
@@ -33,7 +36,8 @@ use Rattle.journal.proofs.Reopened.{reopened}
 use Rattle.rewriting.proofs.Promises.{done-all, done-writes, done-text, done-front, table-has}
 use Rattle.rewriting.proofs.Whole.{whole-read, whole-joined}
 use Rattle.rewriting.proofs.Canonical.{canonical-printed, printed-canonical, printed-again}
-use Rattle.sao.specs.Demand2.{GivenAsDue, Rewrites, LentHolds, OneCanonical, Edits, Demand2}
+use Rattle.rewriting.proofs.Ends.{canonical-records-same}
+use Rattle.sao.specs.Demand2.{GivenAsDue, Rewrites, LentHolds, OneCanonical, WrittenReadsBack, Edits, Demand2}
 
 pub as-due : (ρ : Rules) → GivenAsDue ρ
 as-due ρ =
@@ -102,17 +106,23 @@ edits ρ =
       made = λ ns t k f b r. reopened ρ ns t (k .journal) (k .used) f b r;
     }
 
+-- R12: rules that differ in line ends alone write the same, so what one of them wrote the other reads
+reads-back-ended : (ρ : Rules) → WrittenReadsBack ρ
+reads-back-ended ρ ns cs room n w e a b =
+    let σ = ended e ρ in
+    subst (λ t. ReadsBack σ ns cs n (a ++ (t ++ b)) (length a)) (record-text-same σ ρ refl ns cs) (reads-back σ ns cs room n (writing-same σ ρ refl ns cs room ∙ w) a b)
+
 pub demand-2 : (ρ : Rules) → Demand2 ρ
 demand-2 ρ =
     record {
       due = as-due ρ;
       lent = lent-holds ρ;
       canonical = one-canonical ρ;
-      reads-back = λ ns cs room n e a b. reads-back ρ ns cs room n e a b;
+      reads-back = reads-back-ended ρ;
       edits = edits ρ;
       read-writes = record {
         record-returns = λ {ds} s at next cells r h out enough. returns-same ρ r h out enough;
-        text-returns = canonical-printed ρ;
+        text-returns = λ s c few e. canonical-printed (ended e ρ) s (canonical-records-same ρ (ended e ρ) refl s c) few;
         printed-returns = λ s few. (printed-canonical ρ s, printed-again ρ s few);
       };
     }

@@ -17,8 +17,10 @@ use Rattle.group.proofs.Ends.{located-found, located-begins, located-lines, str
 use Rattle.writing.proofs.Ends.{canonical-same}
 use Rattle.rewriting.proofs.Alike.{alike-rewriting, alike-text, alike-printed}
 use Rattle.rewriting.proofs.Canonical.{right-back}
-use Rattle.rewriting.proofs.Ends.{strict-rewriting, strict-text}
-use Rattle.sao.specs.Ends.{StrictStays, LineEndsKept}
+use Rattle.journal.proofs.SameCounting.{answer-same, left-same, replay-answer-same, replay-left-same}
+use Rattle.writing.proofs.SameCounting.{writing-same, output-same}
+use Rattle.rewriting.proofs.Ends.{strict-rewriting, strict-text, right-record-same}
+use Rattle.sao.specs.Ends.{StrictStays, UnreadSame, LineEndsKept}
 
 strict-stays-so : (ρ : Rules) → StrictStays (ended Strict ρ) ρ
 strict-stays-so ρ =
@@ -36,6 +38,16 @@ strict-stays-so ρ =
       rewriting = strict-rewriting σ ρ refl refl;
       text = strict-text σ ρ refl refl;
     }
+
+unread-same : (σ ρ : Rules) → σ .counting ≡ ρ .counting → UnreadSame σ ρ
+unread-same σ ρ alike = record {
+  writing = writing-same σ ρ alike;
+  output = output-same σ ρ alike;
+  call = answer-same σ ρ alike;
+  call-left = left-same σ ρ alike;
+  replay = replay-answer-same σ ρ alike;
+  replay-left = replay-left-same σ ρ alike;
+}
 
 pub line-ends : (ρ : Rules) → LineEndsKept ρ
 line-ends ρ = record {
@@ -57,7 +69,8 @@ line-ends ρ = record {
   walk = λ s t h. record { spots = alike-spot ρ s t h; stops = alike-stops ρ s t h; prints = alike-printed ρ s t h };
   canonical =
       record {
-        reads-back = λ x r a b. right-back ρ r a b;
+        reads-back = λ e x r a b. right-back (ended e ρ) (right-record-same ρ (ended e ρ) refl r) a b;
         same = λ e x r a b. canonical-same ρ (ended e ρ) refl (r .canonical) (release-given (r .ns) Five (r .release)) a b;
       };
+  unread = λ e. unread-same (ended e ρ) ρ refl;
 }

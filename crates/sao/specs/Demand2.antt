@@ -10,7 +10,9 @@ use mathlib.Core.Logic.{_↔_}
 use Prim.Native.Nat.{ℕ, _+_, _-_, _≤_}
 use lib.IntN.{ℤ}
 use lib.ListN.{length, take}
+use Rattle.rules.specs.declared.LineEnds.{LineEnds}
 use Rattle.rules.specs.declared.Rules.{Rules}
+use Rattle.rules.specs.Choice.{ended}
 use Rattle.base.specs.Part.{part, over}
 use Rattle.base.specs.Pieces.{done}
 use Rattle.decimal.specs.Writing.{putBytes}
@@ -111,10 +113,11 @@ module _ (ρ : Rules) where
   abbrev pub WritesCanonical : Type 0
   WritesCanonical = (ns : List ℕ) (cs : List ℤ) (room n : ℕ) → writingOf ρ ns cs room ≡ Done n → OneCanonical ns cs n
 
-  -- D2.4: what was written reads as its counts and cells, wherever it stands in whatever text
+  -- D2.4: what was written reads as its counts and cells, wherever it stands in whatever text, by each rule for line ends (R12)
   abbrev pub WrittenReadsBack : Type 0
   WrittenReadsBack =
-      (ns : List ℕ) (cs : List ℤ) (room n : ℕ) → writingOf ρ ns cs room ≡ Done n → (a b : List ℕ) → ReadsBack ρ ns cs n (a ++ (recordText ρ ns cs ++ b)) (length a)
+      (ns : List ℕ) (cs : List ℤ) (room n : ℕ) → writingOf ρ ns cs room ≡ Done n
+      → (e : LineEnds) (a b : List ℕ) → ReadsBack (ended e ρ) ns cs n (a ++ (recordText ρ ns cs ++ b)) (length a)
 
   -- D2.5: what was read from canonical text is written as that text
   pub record ReadWrites : Type 0 where
@@ -123,8 +126,8 @@ module _ (ρ : Rules) where
         → (out : List ℕ) → next - at ≤ length out
         → (writingOf ρ (countsAt ρ s at) (joined cells) (length out) ≡ Done (next - at))
         × (outputBy ρ (countsAt ρ s at) (joined cells) (writingOf ρ (countsAt ρ s at) (joined cells) (length out)) out ≡ over 0 (part at next s) out)
-    -- R348: what the program prints for a text of canonical records, each of at most 8,192 bytes
-    pub text-returns : (s : List ℕ) → CanonicalRecords ρ s → length s ≤ 65536 → printed ρ s ≡ s
+    -- R348: what the program prints for a text of canonical records, each of at most 8,192 bytes, by each rule for line ends
+    pub text-returns : (s : List ℕ) → CanonicalRecords ρ s → length s ≤ 65536 → (e : LineEnds) → printed (ended e ρ) s ≡ s
     -- and for what it printed itself
     pub printed-returns : (s : List ℕ) → length (printed ρ s) ≤ 65536 → CanonicalRecords ρ (printed ρ s) × (printed ρ (printed ρ s) ≡ printed ρ s)
 
