@@ -81,7 +81,7 @@ module _ (σ ρ : Rules) (only : σ .ends ≡ Strict) (alike : σ .counting ≡ 
 
 -- what is canonical for one of two rules that count alike is so for the other: it has no line end that one of them refuses
 module _ (ρ σ : Rules) (alike : ρ .counting ≡ σ .counting) where
-  pub right-record-same : {x : List ℕ} → RightRecord ρ x → RightRecord σ x
+  abbrev pub right-record-same : {x : List ℕ} → RightRecord ρ x → RightRecord σ x
   right-record-same {x} r =
       record {
         ns = r .ns;

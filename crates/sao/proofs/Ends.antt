@@ -1,6 +1,6 @@
 -- R9, R12: what the rules for line ends promise of one another (specs/Ends.antt).
 -- Assumes nothing.
-use mathlib.Core.Path.{refl}
+use mathlib.Core.Path.{_≡_, refl}
 use Rattle.rules.specs.Choice.{ended}
 use Rattle.rules.specs.declared.LineEnds.the-variants.{Strict}
 use Rattle.rules.specs.declared.Rules.{Rules}
