@@ -18,7 +18,7 @@ pub lines-needed : (ρ : Rules) (f : Form) (n k : ℕ) → linesOf ρ f n ≡ k 
 unfolding linesOf
 lines-needed ρ f n k = lines-are (elementsOf ρ f n) (rowOf f .«per_line») (row-fits f .some) k
 
--- a count has at most as many lines
+-- a count of n has at most n lines
 pub lines-within : (ρ : Rules) (f : Form) (n : ℕ) → linesOf ρ f n ≤ n
 unfolding linesOf
 lines-within ρ f n = lines-least (elementsOf ρ f n) (rowOf f .«per_line») (row-fits f .some) n (elements-few ρ f n)

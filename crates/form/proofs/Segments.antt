@@ -15,7 +15,7 @@ use Rattle.form.specs.declared.Form.{Form}
 use Rattle.form.specs.declared.Form.the-variants.{A1, E20}
 use Rattle.form.specs.declared.GroupForm.the-variants.{Has}
 use Rattle.form.specs.Table.{listedAs, rowOf, forms, formOf}
-use Rattle.form.specs.Count.{isSegments, segmentElements, elementsOf, roundedUp, linesOf, cellsOf, Takes}
+use Rattle.form.specs.Count.{isSegments, segmentElements, elementsOf, roundedUp, linesOf, cellsOf}
 use Rattle.form.proofs.Table.{each-form, form-listed}
 use Rattle.form.proofs.Rows.{row-fits}
 use Rattle.form.proofs.Rounding.{rounded-none, lines-are}

@@ -1,4 +1,4 @@
--- R42 to R46: which counts there are, and what a group's count comes to: its elements, lines and cells.
+-- R13, R42 to R46: which counts there are, and what a group's count comes to: its elements, lines and cells.
 use mathlib.Core.Bool.{Bool, cond}
 use Prim.Native.Nat.{ℕ, zero, suc, _+_, _-_, _*_, _/_, _<_, _≤_}
 use lib.Dec.{leb}
@@ -16,7 +16,7 @@ mostCount = 999
 abbrev pub isCount : ℕ → Bool
 isCount n = leb n mostCount
 
--- R13: group 40's form, which no other group has, is the one whose count is a matter of the rules
+-- R13: the form is group 40's, which no other group has: its count is a matter of the rules
 unfoldable pub isSegments : Form → Bool
 isSegments f = has (listedAs f .groups) 40
 

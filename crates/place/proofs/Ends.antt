@@ -1,4 +1,4 @@
--- R9: an index line without its carriage return is misformed under the strict rule. What is located under it is located under each rule, with
+-- R9: an index line without its carriage return is misformed under the strict rule. What is located under it is located under each that counts alike, with
 -- the same next place and counts. So 0 and 7 stay with their numbers, and the walk stays on its way through placed records.
 -- Assumes nothing.
 use mathlib.Core.Path.{_≡_, refl, sym, _∙_, ap}

@@ -11,10 +11,10 @@ use Rattle.count.proofs.SameCounting.{lines-before-same}
 use Rattle.place.specs.Parts.{start, groupPart}
 
 module _ (σ ρ : Rules) (alike : σ .counting ≡ ρ .counting) (s : List ℕ) (at : ℕ) (ns : List ℕ) where
-  pub start-same : (g : ℕ) → start σ s at ns g ≡ start ρ s at ns g
+  pub start-counted : (g : ℕ) → start σ s at ns g ≡ start ρ s at ns g
   unfolding start
-  start-same g = ap (λ k. at + reach (drop at s) k) (lines-before-same σ ρ alike ns g)
+  start-counted g = ap (λ k. at + reach (drop at s) k) (lines-before-same σ ρ alike ns g)
 
-  pub part-same : (g : ℕ) → groupPart σ s at ns g ≡ groupPart ρ s at ns g
+  pub part-counted : (g : ℕ) → groupPart σ s at ns g ≡ groupPart ρ s at ns g
   unfolding groupPart
-  part-same g = ap₂ (λ a b. part a b s) (start-same g) (start-same (suc g))
+  part-counted g = ap₂ (λ a b. part a b s) (start-counted g) (start-counted (suc g))

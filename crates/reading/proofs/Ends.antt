@@ -1,5 +1,5 @@
--- R9: a data line without its carriage return is wrong under the strict rule. What reads with 0 under it reads so under each: a line, the lines
--- of a group, the group.
+-- R9: a data line without its carriage return is wrong under the strict rule. What reads with 0 under it reads so under each: a line, the
+-- lines of a group, and under each that counts alike the group.
 -- Assumes nothing.
 use mathlib.Core.Path.{_≡_, refl, sym, _∙_, ap}
 use mathlib.Core.Bool.{Bool}

@@ -1,4 +1,4 @@
-// The rules by which texts, counts and cells are read. A caller chooses them; who chooses nothing has the usual ones.
+// The rules under which questions are asked. A caller chooses them; who chooses nothing has the usual ones.
 ghost use mathlib.Core.Path.{_≡_};
 ghost use Rattle.rules.specs.Choice.{chosen, endsBy, countingBy};
 
@@ -14,7 +14,7 @@ pub enum LineEnds {
 pub enum Counting {
     // elements, as a count of every other group
     Elements,
-    // entries: lines, of which the last has one element
+    // entries, a line each: of six elements, and the last one of one
     Entries,
 }
 

@@ -22,7 +22,7 @@ use Rattle.count.specs.declared.Release.the-variants.{Five}
 use Rattle.place.specs.Placing
 use Rattle.place.specs.Placing.{located, locate, placingBy, countsBy}
 use Rattle.place.specs.Parts.{groupPart}
-use Rattle.place.proofs.SameCounting.{part-same}
+use Rattle.place.proofs.SameCounting.{part-counted}
 use Rattle.reading.specs.Read.{readGroup}
 use Rattle.reading.proofs.ByLines.{plan-same, LinesReadSame, group-by-lines}
 use Rattle.reply.specs.declared.Refusal.the-variants.{NoSuchNumber}
@@ -82,7 +82,7 @@ module _ (ρ σ : Rules) (alike : ρ .counting ≡ σ .counting) {ns x : List �
       let n = place + length x in
       read-located ρ text place g room n ns (standing-located ρ h a b five)
       ∙ group-by-lines ρ σ ns g (groupPart ρ text place ns g) (groupPart ρ text place ns g) alike (lines-same g) room
-      ∙ ap (λ y. readGroup σ ns g y room) (part-same ρ σ alike text place ns g)
+      ∙ ap (λ y. readGroup σ ns g y room) (part-counted ρ σ alike text place ns g)
       ∙ sym (read-located σ text place g room n ns located-there)
 
   pub canonical-same : SameAnswers ρ σ (a ++ (x ++ b)) (length a)

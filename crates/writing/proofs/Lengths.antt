@@ -30,7 +30,6 @@ use Rattle.field.specs.Write.{fitsOf, fieldText}
 use Rattle.field.proofs.Entries.{entry-wide}
 use Rattle.field.proofs.Laws.{lawful}
 use Rattle.count.specs.Tally.{countOf, cellsIn}
-use Rattle.reading.proofs.Checking.{width-few}
 use Rattle.reading.specs.Plan
 use Rattle.reading.specs.Plan.{Line, lineAt, planFrom, planOf, elementsIn, manyPlan}
 use Rattle.writing.specs.declared.Fit.the-variants.{All}

@@ -43,7 +43,7 @@ pub data Case : Type 0 where
   refuses : Form → List ℤ → ℕ → Case
   -- an index entry
   entry : String → IndexEntry → Case
-  -- so many elements have so many lines
+  -- such a count has so many lines
   takes : Form → ℕ → ℕ → Case
   -- the letters of group 3 are read with 0 and tell this date
   dates : String → Date → Case

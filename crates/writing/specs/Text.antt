@@ -55,7 +55,7 @@ unfoldable pub manyText : Form → ℕ → List ℤ → List ℕ
 manyText f n cs = emit (lineCells f) (lineText f) (manyPlan f n) cs
 
 module _ (ρ : Rules) where
-  -- those of a count
+  -- those of a group of this form and count
   unfoldable pub linesText : Form → ℕ → List ℤ → List ℕ
   linesText f count cs = manyText f (elementsOf ρ f count) cs
 

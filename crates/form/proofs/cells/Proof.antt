@@ -1,4 +1,4 @@
--- `form::cells` meets its contract: a row's cells are at most 120, so the product fits.
+-- `form::cells` meets its contract: a count of n has at most n full lines of at most 120 cells, so the product fits.
 -- Assumes nothing.
 use mathlib.Core.Path.{_≡_}
 use Prim.Native.Nat.{_*_}

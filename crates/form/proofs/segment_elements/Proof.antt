@@ -2,7 +2,7 @@
 -- Assumes nothing.
 use borrow.Author.Needs.{needs}
 use native.Mathlib.Omega.{arith}
-use mathlib.Core.Path.{_≡_, sym, _∙_, ap}
+use mathlib.Core.Path.{sym, _∙_, ap}
 use Rattle.form.specs.Count.{segmentElements}
 use Rattle.form.proofs.Segments.{segments-none, segments-plain, segments-entries}
 use Rattle.form.proofs.segment_elements.Statement.{statement}
