@@ -23,8 +23,9 @@ use Rattle.place.specs.declared.Placing.the-variants.{Placed, Refused}
 use Rattle.place.specs.Growth.{numberAt}
 use Rattle.place.specs.Index.{readEntries, readIndexLine, readIndex}
 use Rattle.place.specs.Numbered.{placingReply}
+use Rattle.place.specs.Parts.{start, groupPart}
 use Rattle.place.specs.Placing.{located, refused, locate, placingOf}
-use Rattle.place.specs.RecordS.{recordS, countsS, twiceS}
+use Rattle.place.specs.RecordS.{quotedLine, recordS, countsS, twiceS}
 use Rattle.place.specs.Walk.{spot, IsRecord, Stops}
 use Rattle.place.proofs.Growth.{growth-keeps}
 use Rattle.place.proofs.Walked.{spot-start, spot-more}
@@ -71,12 +72,13 @@ pub record CutTwice (ρ : Rules) : Type 0 where
   pub first : locate ρ cutS 0 ≡ located 305 countsS
   pub answer : placingOf ρ cutS 0 ≡ Placed 305
   pub second : locate ρ cutS 305 ≡ refused TooFewLines
+  pub four : groupPart ρ cutS 0 countsS 4 ≡ quotedLine "   7.250"
 
 pub cut-twice : (ρ : Rules) → CutTwice ρ
-unfolding cutS twiceS recordS countsS Alike.endedBy locate placingOf readIndex readIndexLine readEntries Entry.entryOf Lines.feeds Lines.reach Contents.contentOf Tally.linesIn
+unfolding cutS twiceS recordS countsS Alike.endedBy locate placingOf start groupPart readIndex readIndexLine readEntries Entry.entryOf Lines.feeds Lines.reach Contents.contentOf Tally.linesIn
     Tally.lineTally Tally.linesBefore Sum.sum Every.upFrom Table.rowOf Table.listedAs Table.formAmong Table.formOf Count.linesOf Count.roundedUp Count.elementsOf
     Count.isSegments Count.segmentElements Rules.releaseOf Rules.filledAmong Rules.rulingOf Rules.lowest Rules.headRules Rules.sets Rules.keeps Rules.letterRules
-cut-twice ρ = record { first = refl; answer = refl; second = refl }
+cut-twice ρ = record { first = refl; answer = refl; second = refl; four = refl }
 
 cut-one : (ρ : Rules) → spot ρ cutS 1 ≡ 305
 cut-one ρ = spot-more ρ cutS 0 305 countsS (rw (← spot-start ρ cutS) (cut-twice ρ .first))
@@ -92,7 +94,7 @@ cut-stops ρ = record { each = each; last = rw (cut-one ρ) (cut-twice ρ .secon
 -- ---- what growth says of it
 
 module _ (ρ : Rules) where
-  cut-settled : numberAt ρ cutS 0 ≡ 0
+  pub cut-settled : numberAt ρ cutS 0 ≡ 0
   cut-settled = ap (λ p. placingReply p .number) (cut-twice ρ .answer)
 
   -- the first record is placed as before

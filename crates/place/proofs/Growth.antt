@@ -1,27 +1,35 @@
 -- R256, R257: bytes that are added at a text's end (specs/Growth.antt). By *placing is local* (Local): 4, 5 and 6 rest on the two index lines, 0
 -- and 7 on these and on where line feeds are up to the next place, and all of that is there already.
 -- Assumes nothing.
-use mathlib.Core.Path.{_≡_, refl, sym, _∙_, ap, subst}
+use mathlib.Core.Path.{_≡_, refl, sym, _∙_, ap}
 use mathlib.Core.List.{List, _++_, map}
 use mathlib.Core.Logic.{_⊎_, _↔_, inl, inr, ⊎-elim}
 use Prim.Native.Nat.{ℕ, zero, suc, _<_, _≤_}
 use native.Mathlib.Omega.{arith}
-use lib.ListN.{length, drop}
+use lib.ListN.{length, drop, replicate, length-drop}
 use lib.Seq.{drop-append-le}
 use Rattle.rules.specs.declared.Rules.{Rules}
+use Rattle.base.specs.Every
+use Rattle.base.specs.Sum
 use Rattle.base.proofs.Order.{le-or-lt}
 use Rattle.base.proofs.Part.{part-within}
+use Rattle.form.specs.Count
+use Rattle.form.specs.Table
 use Rattle.line.specs.Lines.{isFeed, feeds, lines}
-use Rattle.line.proofs.Reach.{lines-append}
+use Rattle.line.proofs.Reach.{reach-le, reach-append, lines-append}
 use Rattle.count.specs.Rules.{rulingOf}
 use Rattle.count.specs.declared.Ruling.{Ruling}
 use Rattle.count.specs.declared.Ruling.the-variants.{Kept, Broken}
+use Rattle.count.specs.Tally
+use Rattle.count.specs.Tally.{linesBefore, recordLines}
+use Rattle.count.proofs.Tallied.{all-lines, lines-below, lines-all}
 use Rattle.reply.specs.Refusals.{refusalNumber}
 use Rattle.reply.specs.declared.Refusal.{Refusal}
 use Rattle.place.specs.Due.{RefusedFor, beyond, text-end, few-for-index, few-for-data, bad-index, bad-release, fills-vacant}
 use Rattle.place.specs.Growth.{Settled, Unsettled, numberAt, PlacingStays, WalkStays, GrowthKeeps}
 use Rattle.place.specs.Numbered.{placingReply}
-use Rattle.place.specs.Placing.{Located, located, refused, locate, ruledAt, placingBy, placingOf}
+use Rattle.place.specs.Parts.{start}
+use Rattle.place.specs.Placing.{Located, located, refused, locate, ruledAt, placingBy, placingOf, countsAt}
 use Rattle.place.specs.Walk.{spot, IsRecord, Stops}
 use Rattle.place.proofs.Due.{refused-due}
 use Rattle.place.proofs.Local.{ByIndex, four, five, six, from-index, refused-local, located-local, placing-same}
@@ -113,6 +121,48 @@ module _ (ρ : Rules) (s b : List ℕ) (at : ℕ) where
 
   as-located : locate ρ (s ++ b) at ≡ locate ρ s at → PlacingStays ρ s b at
   as-located e = let p = placing-same ρ (s ++ b) s at e in record { answer = p .0; counts = p .1 }
+
+-- ---- where the lines of the groups stand
+
+-- what has no counts has no lines but the index
+zeros-two : (ρ : Rules) → recordLines ρ (replicate 80 0) ≡ 2
+unfolding Tally.lineTally Tally.linesIn Sum.sum Every.upFrom Table.formOf Table.formAmong Table.listedAs Table.rowOf Count.linesOf Count.roundedUp Count.elementsOf Count.isSegments Count.segmentElements
+zeros-two ρ = refl
+
+module _ (ρ : Rules) (s : List ℕ) (at : ℕ) (h : Settled (numberAt ρ s at)) where
+  ns : List ℕ
+  ns = countsAt ρ s at
+
+  -- all lines of the record are there; under 4, 5 and 6 those of the index are
+  record AllThere : Type 0 where
+    within : at ≤ length s
+    many : recordLines ρ ns ≤ feeds (drop at s)
+
+  all-there : AllThere
+  unfolding ns placingOf countsAt
+  all-there = by (locate ρ s at) refl h
+    where
+      by : (l : Located) → locate ρ s at ≡ l → Settled (placingReply (placingBy l) .number) → AllThere
+      by (located n ms) e h = let p = located-is ρ s at n ms e in record { within = omega (arith, p .inside); many = rw e (p .many) }
+      by (refused r) e h =
+          let x = from-index ρ at r (settled-index ρ s at r (refused-due ρ s at r e) h) s e in
+          record { within = omega (arith, x .inner); many = rw e (rw (zeros-two ρ) (x .two)) }
+
+  before-there : (g : ℕ) → linesBefore ρ ns g ≤ feeds (drop at s)
+  before-there g =
+      let a = all-there .many in
+      ⊎-elim
+      (λ (l : g ≤ 61). omega (arith, lines-below ρ ns g 61 l, all-lines ρ ns))
+      (λ (l : 61 < g). omega (arith, lines-all ρ ns g (omega arith)))
+      (le-or-lt g 61)
+
+  pub start-inside : (g : ℕ) → start ρ s at (countsAt ρ s at) g ≤ length s
+  unfolding ns start
+  start-inside g = omega (arith, all-there .within, reach-le (drop at s) (linesBefore ρ ns g), length-drop at s)
+
+  pub start-grown : (b : List ℕ) (g : ℕ) → start ρ (s ++ b) at (countsAt ρ s at) g ≡ start ρ s at (countsAt ρ s at) g
+  unfolding ns start
+  start-grown b g = rw (drop-append-le at s b (all-there .within), reach-append (drop at s) b (linesBefore ρ ns g) (before-there g))
 
 -- ---- the walk
 
