@@ -73,11 +73,9 @@ module _ (ρ : Rules) where
       let one : InLines ρ twiceS struck 247 = stand-within ρ first-one (omega arith, omega arith) (inl (refl, refl)) 247 (omega arith) (omega arith) in
       let four : InLines ρ twiceS struck 299 = stand-within ρ (first-four ρ) (omega arith, omega arith) (inr (inl (refl, refl))) 299 (omega arith) (omega arith) in
       let second : InLines ρ twiceS struck 603 = stand-within ρ second-four (omega arith, omega arith) (inr (inr (refl, refl))) 603 (omega arith) (omega arith) in
-      damaged-more ρ twiceS struck 603 56
-      (damaged-more ρ twiceS struck 299 44 (damaged-more ρ twiceS struck 247 44 (damaged-none ρ twiceS struck) one (omega (arith, long)) (lines .points .0)) four (omega (arith, long)) (lines .points .1))
-      second
-      (omega (arith, long))
-      (lines .seven)
+      let once = damaged-more ρ twiceS struck 247 44 (damaged-none ρ twiceS struck) one (omega (arith, long)) (lines .points .0) in
+      let more = damaged-more ρ twiceS struck 299 44 once four (omega (arith, long)) (lines .points .1) in
+      damaged-more ρ twiceS struck 603 56 more second (omega (arith, long)) (lines .seven)
 
   pub struck-confined : Confined ρ twiceS struckS struck
   struck-confined = damage-stays ρ twiceS struckS struck struck-damages

@@ -126,7 +126,8 @@ module _ (ρ : Rules) (s b : List ℕ) (at : ℕ) where
 
 -- what has no counts has no lines but the index
 zeros-two : (ρ : Rules) → recordLines ρ (replicate 80 0) ≡ 2
-unfolding Tally.lineTally Tally.linesIn Sum.sum Every.upFrom Table.formOf Table.formAmong Table.listedAs Table.rowOf Count.linesOf Count.roundedUp Count.elementsOf Count.isSegments Count.segmentElements
+unfolding Tally.lineTally Tally.linesIn Sum.sum Every.upFrom Table.formOf Table.formAmong Table.listedAs Table.rowOf Count.linesOf Count.roundedUp
+    Count.elementsOf Count.isSegments Count.segmentElements
 zeros-two ρ = refl
 
 module _ (ρ : Rules) (s : List ℕ) (at : ℕ) (h : Settled (numberAt ρ s at)) where
