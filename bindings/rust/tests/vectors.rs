@@ -64,7 +64,7 @@ fn numbers(why: Refusal) -> [usize; 3] {
     [why.number() as usize, first, second]
 }
 
-/// `group G REPLY A B START END CELL1 ..`
+/// A dump's `group` row: the group, the reply with its two numbers, where its lines start and end, its cells.
 fn group_row(rules: Rules, text: &[u8], at: usize, group: usize) -> String {
     let mut table = [0; 2000];
     let ([reply, a, b], cells) = match seambeacon::read_group(rules, text, at, group, &mut table) {
@@ -85,7 +85,7 @@ fn group_row(rules: Rules, text: &[u8], at: usize, group: usize) -> String {
     row
 }
 
-/// `char C KIND VALUE REPLY A B`
+/// A dump's `char` row: the characteristic, its kind and value, the reply with its two numbers.
 fn characteristic_row(rules: Rules, text: &[u8], at: usize, number: usize) -> String {
     let (kind, value, [reply, a, b]) = match seambeacon::characteristic(rules, text, at, number) {
         Ok(Characteristic::Value(value)) => (0, value, [0; 3]),
@@ -130,7 +130,8 @@ fn every_answer_about_every_record() {
     assert!(records.get() >= 200, "{} records", records.get());
 }
 
-/// `ROOM K count.. M cell.. REPLY A B HEX`, where A and B are bytes, group or position, and element.
+/// A line is a question to write: the output's room, the counts, the cells; and its answer: the reply, two numbers (bytes, group or position;
+/// element), the text in hexadecimal.
 #[test]
 fn write_questions() {
     let file = String::from_utf8(bytes("tests/vectors/writes.txt")).expect("ASCII");

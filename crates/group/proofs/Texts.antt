@@ -43,7 +43,7 @@ module _ (ρ : Rules) (s : List ℕ) (at g room : ℕ) where
   unfolding readAt
   read-given e = rw e
 
-  -- a record that can be located: by its counts and the group's own lines, in which the text does not occur; 7 is decided by the counts
+  -- where a record can be located, its counts and the group's own lines are all that is looked at of the text, and 7 comes from the counts
   pub read-located : (n : ℕ) (ns : List ℕ) → locate ρ s at ≡ located n ns → readAt ρ s at g room ≡ readGroup ρ ns g (groupPart ρ s at ns g) room
   unfolding readAt foundAt Read.readGroup Placing.placingOf
   read-located n ns e = by (formOf g) refl

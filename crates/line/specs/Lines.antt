@@ -14,7 +14,7 @@ unfoldable pub feeds : List ℕ → ℕ
 feeds [] = zero
 feeds (x ∷ xs) = cond (isFeed x) (suc (feeds xs)) (feeds xs)
 
--- the bytes of the first k lines; all bytes where there are fewer
+-- how far k lines reach, in bytes: through the k-th line feed, or to the end if there are fewer
 unfoldable pub reach : List ℕ → ℕ → ℕ
 reach [] k = zero
 reach (x ∷ xs) zero = zero

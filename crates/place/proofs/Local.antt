@@ -1,5 +1,5 @@
--- R255: placing is local. What is answered at a place depends on nothing before it; 4, 5 and 6 only on the bytes up to the second line
--- feed; 0 and 7, with all their numbers, only on these and on where the line feeds are up to the next place.
+-- R255: placing is local. Whatever stands before the place, the answer is the same. Two texts that have the same two lines from there on
+-- share 4, 5 and 6; if their line feeds agree too, as far as the record goes, they share 0 and 7 and all that is told with these.
 -- Assumes nothing.
 use mathlib.Core.Path.{_≡_, refl, sym, _∙_, ap, subst}
 use mathlib.Core.Bool.{Bool, true, false, cond}
@@ -60,7 +60,7 @@ has-two xs ys h e =
 pub index-local : (ρ : Rules) (xs ys : List ℕ) → 2 ≤ feeds xs → lines 2 xs ≡ lines 2 ys → readIndex ρ xs ≡ readIndex ρ ys
 index-local ρ xs ys h e = index-lines ρ xs h ∙ ap (readIndex ρ) e ∙ sym (index-lines ρ ys (has-two xs ys h e))
 
--- ---- replies 4, 5 and 6: the bytes up to the second line feed
+-- ---- replies 4, 5 and 6: the two lines from the place on
 
 -- 4, 5 or 6
 pub data ByIndex : Refusal → Type 0 where
@@ -122,7 +122,7 @@ module _ (ρ : Rules) (at : ℕ) (p : Refusal) (b : ByIndex p) where
       locate-index ρ t at (omega (arith, two, feeds-le (drop at t), length-drop at t)) two
       ∙ by-index (drop at s) (drop at t) (readIndex ρ (drop at t)) (ap (locateIndex ρ (drop at s) at) (sym (index-local ρ (drop at s) (drop at t) (x .two) e)) ∙ x .by)
 
--- ---- replies 0 and 7: these bytes, and where the line feeds are up to the next place
+-- ---- replies 0 and 7: these two lines, and the line feeds of the whole record
 
 module _ (ρ : Rules) where
   pub located-local : (s t : List ℕ) (at n : ℕ) (ns : List ℕ) → lines 2 (drop at s) ≡ lines 2 (drop at t) → map isFeed (part at n s) ≡ map isFeed (part at n t)

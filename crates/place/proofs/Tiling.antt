@@ -1,5 +1,5 @@
--- R27, R28: lines and tiling of a located record: from its place to the next it holds exactly its lines and ends with a line feed; the
--- index and the lines of groups 1 to 60 follow one another without gap or overlap, each part holding exactly its lines.
+-- R27, R28: lines and tiling of a located record. From its place to the next there are just as many lines as its counts say, with a line feed
+-- as the last byte. Index and groups share them out: each begins where the one before it ends, and is just its own number of lines.
 -- Assumes nothing.
 use mathlib.Core.Path.{_≡_, sym, _∙_, ap, subst}
 use mathlib.Core.List.{List, _++_}

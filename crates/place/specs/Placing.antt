@@ -1,5 +1,5 @@
--- R251: what placing answers, in its order: 2, 1, 3 for the index, 4, 5, 6, 3 for the record's other lines, 7. In two steps: first whether
--- a record can be located, then the rules on its counts.
+-- R251: what placing answers, in its order: 2, 1, 3 for the index, 4, 5, 6, 3 for the record's other lines, 7. Locating a record
+-- tries all of these but the last; the counts that it finds are then held to their rules.
 use mathlib.Core.Bool.{cond}
 use mathlib.Core.List.{List}
 use Prim.Native.Nat.{ℕ, _+_, _-_}

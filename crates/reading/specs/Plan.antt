@@ -1,4 +1,4 @@
--- R44, R45: which elements stand in which line of a group. Only this says so: nobody else divides or multiplies to know what a line holds.
+-- R44, R45: which elements stand in which line of a group. This is worked out here alone; all others ask the plan of a line for its elements.
 use mathlib.Core.List.{List, map}
 use Prim.Native.Nat.{ℕ, _+_, _-_, _*_, min}
 use Rattle.rules.specs.declared.Rules.{Rules}

@@ -1,5 +1,5 @@
--- R260, R269: what a group reads as: a definition over the record's counts, the group's number, the bytes of its own lines and the table's
--- length, in which the text does not occur.
+-- R260, R269: what a group reads as. No text comes into it: the group's lines are bytes by themselves here, beside its number, the counts of
+-- its record and the length of the table.
 use mathlib.Core.Bool.{Bool, cond}
 use mathlib.Core.List.{List, map}
 use Prim.Native.Nat.{ℕ, _*_}

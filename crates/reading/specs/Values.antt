@@ -1,6 +1,6 @@
 -- R45, R46, R61: where an element of a group stands in the group's lines, and which cells it fills. Lines, elements, and the fields of a
--- line count from 0 here: element i stands in line i / per line, in the columns from (i mod per line) times the width, and fills the cells
--- from i times the form's cells on (proofs/Values.antt).
+-- line count from 0 here. With p elements to a line, each of w columns and c cells, element i is found in line i / p behind (i mod p) * w
+-- columns, and its cells are the c from i * c on (proofs/Values.antt).
 use mathlib.Core.Path.{_≡_}
 use mathlib.Core.List.{List}
 use Prim.Native.Nat.{ℕ, _+_, _*_, _<_, _≤_}

@@ -1,5 +1,5 @@
--- A canonical record: each canonical record is the text that is written for its counts and cells, so that two with equal counts and cells are
--- equal bytes; and wherever it stands in whatever text, its counts are found, and the lines of each group read as the group's own cells.
+-- A canonical record: each canonical record is the text that is written for its counts and cells, so that these have no second one; and
+-- wherever it stands in whatever text, its counts are found, and the lines of each group read as the group's own cells.
 -- Assumes nothing.
 use mathlib.Core.Path.{_≡_, sym, _∙_, ap₂, subst}
 use mathlib.Core.List.{List, _++_, map}
@@ -82,6 +82,6 @@ module _ (ρ : Rules) {ns x : List ℕ} {cs : List ℤ} (h : CanonicalRecord ns 
       subst (Whole (recordLines ns)) (sym (h .is))
       (whole-append (index-whole ρ ns (h .first) (h .second) (h .many) (h .first-line) (h .second-line)) (each-whole (linesIn ns) (group-whole ρ ns) (upFrom 1 60) (h .groups) cs (h .each)))
 
--- two canonical records with equal counts and cells are equal bytes
+-- the same counts and cells have one canonical record and no second
 pub canonical-one : (ρ : Rules) (ns x y : List ℕ) (cs : List ℤ) → CanonicalRecord ns x cs → CanonicalRecord ns y cs → x ≡ y
 canonical-one ρ ns x y cs p q = canonical-text ρ p ∙ sym (canonical-text ρ q)

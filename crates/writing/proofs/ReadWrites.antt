@@ -1,5 +1,5 @@
--- *Read writes*: if every group of a record placed with 0 reads with 0, writing the counts and the joined cells gives 0, where there is room;
--- and if the record's bytes were canonical, gives these bytes.
+-- *Read writes*: a record that is placed with 0, and none of whose groups is refused, can be written again from its counts and the cells of
+-- its groups in turn: with 0, where there is room, and byte for byte as it was, if it was canonical.
 -- Assumes nothing.
 use mathlib.Core.Path.{_≡_, refl, sym, _∙_, ap, subst}
 use mathlib.Core.Bool.{_&&_}

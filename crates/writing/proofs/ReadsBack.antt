@@ -1,5 +1,6 @@
--- *Written reads back*: if writing gives 0 with n bytes, then wherever these bytes stand in whatever text, placing there gives 0 with the place
--- n behind and the same counts, and every group reads with 0 as its own cells into any table with room.
+-- *Written reads back*: what was written with 0 is found again in any text that has it, at any place. A record is placed there with 0, with
+-- the counts that were written and the end of these bytes as the next place; and a group is read with 0 as the cells that were written of
+-- it, if the table has room.
 -- Assumes nothing.
 use mathlib.Core.Path.{_≡_, refl, sym, _∙_, ap, subst}
 use mathlib.Core.List.{List, _++_}

@@ -26,10 +26,10 @@ module _ (ρ : Rules) where
     -- placing gives 0, with the place behind the n bytes and the same counts
     pub placed : placingOf ρ s at ≡ Placed (at + n)
     pub counts : countsAt ρ s at ≡ ns
-    -- every group reads with 0 as its own cells, into any table with room
+    -- a group is read with 0 as the cells that are its own, if the table has room for them
     pub groups : (g room : ℕ) → 1 ≤ g → g ≤ 60 → cellsIn ns g ≤ room → readAt ρ s at g room ≡ done (groupCells ns cs g)
 
-  -- a record is placed with 0 at a place of a text, with its next place, and every group reads with 0 as its cells
+  -- a record is placed with 0 at a place of a text, with its next place, and each of its groups is read with 0, as these cells
   pub record ReadWhole (s : List ℕ) (at next : ℕ) (cells : ℕ → List ℤ) : Type 0 where
     pub placed : placingOf ρ s at ≡ Placed next
     pub room : ℕ → ℕ

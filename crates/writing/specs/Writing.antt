@@ -27,7 +27,7 @@ use Rattle.writing.specs.Text.{recordText, recordBytes}
 abbrev pub dateLetters : List ℕ → List ℤ → List ℕ
 dateLetters ns cs = map sizeOf (part (cellsBefore ns 3) (cellsBefore ns 4) cs)
 
--- R305: 11, if the canonical text is longer than the output
+-- R305: 11, if the output has no room for the canonical text
 abbrev pub writeRoom : List ℕ → ℕ → Answer
 writeRoom ns room = cond (leb (recordBytes ns) room) (Done (recordBytes ns)) (Refused NoRoom)
 
