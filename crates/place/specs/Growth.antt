@@ -1,5 +1,5 @@
--- R256, R257: a text that still grows. s is the text, b are bytes that were added at its end. Placing gives another reply only where it gave 1, 2
--- or 3, and the walk of s ++ b begins with the walk of s (`growth-keeps` in proofs/Growth.antt).
+-- R256, R257: a text that still grows. s is the text, b are bytes that were added at its end. What placing has found stays found; only 1, 2 and 3,
+-- which say that something is missing, may turn into other replies. The records of s are the first of s ++ b (`growth-keeps` in proofs/Growth.antt).
 use mathlib.Core.Path.{_≡_}
 use mathlib.Core.List.{List, _++_}
 use mathlib.Core.Logic.{_⊎_}
