@@ -41,16 +41,16 @@ unfoldable pub struckS : List ℕ
 struckS = set (set (set twiceS 247 44) 299 44) 603 56
 
 -- none of the bytes is a line feed, and the lines that they stand in
-record Lines : Type 0 where
+record StruckLines : Type 0 where
   points : (isFeed (getD twiceS 247 0) ≡ isFeed 44) × (isFeed (getD twiceS 299 0) ≡ isFeed 44)
   seven : isFeed (getD twiceS 603 0) ≡ isFeed 56
   first-one : part 244 274 struckS ≡ quotedLine "  1,200 67.000-23.500143.000"
   first-four : part 295 305 struckS ≡ quotedLine "   7,250"
   second-four : part 600 610 struckS ≡ quotedLine "   8.250"
 
-lines : Lines
+struck-lines : StruckLines
 unfolding struckS RecordS.recordS RecordS.twiceS Alike.endedBy
-lines = record { points = (refl, refl); seven = refl; first-one = refl; first-four = refl; second-four = refl }
+struck-lines = record { points = (refl, refl); seven = refl; first-one = refl; first-four = refl; second-four = refl }
 
 -- group 1 of a record with S's counts
 one-by : (ρ : Rules) (x : List ℕ) (room : ℕ) → readGroup ρ countsS 1 x room ≡ readForm ρ F7 1 4 x room
@@ -73,9 +73,9 @@ module _ (ρ : Rules) where
       let one : InLines ρ twiceS struck 247 = stand-within ρ first-one (omega arith, omega arith) (inl (refl, refl)) 247 (omega arith) (omega arith) in
       let four : InLines ρ twiceS struck 299 = stand-within ρ (first-four ρ) (omega arith, omega arith) (inr (inl (refl, refl))) 299 (omega arith) (omega arith) in
       let second : InLines ρ twiceS struck 603 = stand-within ρ second-four (omega arith, omega arith) (inr (inr (refl, refl))) 603 (omega arith) (omega arith) in
-      let once = damaged-more ρ twiceS struck 247 44 (damaged-none ρ twiceS struck) one (omega (arith, long)) (lines .points .0) in
-      let more = damaged-more ρ twiceS struck 299 44 once four (omega (arith, long)) (lines .points .1) in
-      damaged-more ρ twiceS struck 603 56 more second (omega (arith, long)) (lines .seven)
+      let once = damaged-more ρ twiceS struck 247 44 (damaged-none ρ twiceS struck) one (omega (arith, long)) (struck-lines .points .0) in
+      let more = damaged-more ρ twiceS struck 299 44 once four (omega (arith, long)) (struck-lines .points .1) in
+      damaged-more ρ twiceS struck 603 56 more second (omega (arith, long)) (struck-lines .seven)
 
   pub struck-confined : Confined ρ twiceS struckS struck
   struck-confined = damage-stays ρ twiceS struckS struck struck-damages
@@ -112,7 +112,7 @@ module _ (ρ : Rules) where
     struck-spares {k = k} {g = g} here e out =
         given ρ struckS g table here (struck-confined .others k g out table) (ap (λ p. readAt ρ twiceS p g (length table)) e)
 
-    pub record Struck : Type 0 where
+    pub record StruckGives : Type 0 where
       -- still two records
       pub two-still : Stops ρ struckS 2 End
       -- the three groups
@@ -124,15 +124,15 @@ module _ (ρ : Rules) where
       pub second-three : SameReading (readAt ρ struckS 305 3 (length table)) (readAt ρ twiceS 305 3 (length table)) table
       pub second-one : SameReading (readAt ρ struckS 305 1 (length table)) (readAt ρ twiceS 305 1 (length table)) table
 
-    pub struck-reads : 4 ≤ length table → Struck
+    pub struck-reads : 4 ≤ length table → StruckGives
     struck-reads room =
         let n = length table in
         let four = four-reads ρ n (omega arith) in
         record {
           two-still = struck-confined .as-many 2 End .0 (two-records ρ);
-          first-one = struck-gives here-first first-one (lines .first-one) (one-by ρ (quotedLine "  1,200 67.000-23.500143.000") n ∙ one-refused ρ n room);
-          first-four = struck-gives here-first (first-four ρ) (lines .first-four) (four-by ρ (quotedLine "   7,250") n ∙ four .comma);
-          second-four = struck-gives here-second second-four (lines .second-four) (four-by ρ (quotedLine "   8.250") n ∙ four .eight);
+          first-one = struck-gives here-first first-one (struck-lines .first-one) (one-by ρ (quotedLine "  1,200 67.000-23.500143.000") n ∙ one-refused ρ n room);
+          first-four = struck-gives here-first (first-four ρ) (struck-lines .first-four) (four-by ρ (quotedLine "   7,250") n ∙ four .comma);
+          second-four = struck-gives here-second second-four (struck-lines .second-four) (four-by ρ (quotedLine "   8.250") n ∙ four .eight);
           first-three = struck-spares here-first (sym (spot-start ρ twiceS)) (outside-three 0);
           second-three = struck-spares here-second (spot-one ρ) (outside-three 1);
           second-one = struck-spares here-second (spot-one ρ) outside-one;
