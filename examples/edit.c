@@ -29,8 +29,9 @@
 
 enum { COUNTS = 80, GROUPS = 60, MOST_LINE = 200 };
 
-/* No record that the rules on counts let pass has more cells. A count is at most 999. Of the sixty groups 48 have one cell an element, and eight
-   (37 to 40, 42, 53, 57 and 60) have two; group 2 has at most two elements, of 120 cells each, and groups 4, 54 and 55 at most 49. */
+/* No record that the rules on counts let pass has more cells, read by the usual rules as all is here: a count is at most 999, and is the number of
+   its group's elements in group 40 too. Of the sixty groups 48 have one cell an element, and eight (37 to 40, 42, 53, 57 and 60) have two; group 2
+   has at most two elements, of 120 cells each, and groups 4, 54 and 55 at most 49. */
 enum { MOST_CELLS = 48 * 999 + 8 * 2 * 999 + 2 * 120 + 3 * 49 };
 
 /* Nor a longer text: two index lines of 122 bytes, and for each cell at most ten bytes of its field and the two of a line's end. */
@@ -315,8 +316,8 @@ static int kept(size_t from)
 
 static enum seambeacon_reply replay_over(int64_t *cells, size_t *savepoints, struct seambeacon_beside *beside)
 {
-    return seambeacon_replay(record.counts, COUNTS, cells, record.starts[GROUPS], journal.bytes, MOST_JOURNAL, journal.used, savepoints,
-                             beside);
+    return seambeacon_replay(SEAMBEACON_USUAL, record.counts, COUNTS, cells, record.starts[GROUPS], journal.bytes, MOST_JOURNAL, journal.used,
+                             savepoints, beside);
 }
 
 /* The bytes of the field at a place, by its tag and length as far as they are there; 0 if none begins so. */
@@ -435,7 +436,7 @@ static int set(size_t group, size_t cell, int64_t value)
 {
     struct seambeacon_beside beside;
     size_t from = journal.used;
-    if (refused(seambeacon_set_cell(record.counts, COUNTS, record.cells, record.starts[GROUPS], journal.bytes,
+    if (refused(seambeacon_set_cell(SEAMBEACON_USUAL, record.counts, COUNTS, record.cells, record.starts[GROUPS], journal.bytes,
                                     room(journal.save_refused ? MOST_JOURNAL : MOST_EDITS), &journal.used, group, cell, value, &beside),
                 &beside))
         return 1;
@@ -449,8 +450,8 @@ static int open_savepoint(void)
 {
     struct seambeacon_beside beside;
     size_t from = journal.used;
-    if (refused(seambeacon_open_savepoint(record.counts, COUNTS, record.cells, record.starts[GROUPS], journal.bytes, room(MOST_EDITS),
-                                          &journal.used, &beside),
+    if (refused(seambeacon_open_savepoint(SEAMBEACON_USUAL, record.counts, COUNTS, record.cells, record.starts[GROUPS], journal.bytes,
+                                          room(MOST_EDITS), &journal.used, &beside),
                 &beside))
         return 1;
     if (!kept(from))
@@ -463,8 +464,8 @@ static int release_savepoint(size_t savepoint)
 {
     struct seambeacon_beside beside;
     size_t from = journal.used;
-    if (refused(seambeacon_release_savepoint(record.counts, COUNTS, record.cells, record.starts[GROUPS], journal.bytes, MOST_JOURNAL,
-                                             &journal.used, savepoint, &beside),
+    if (refused(seambeacon_release_savepoint(SEAMBEACON_USUAL, record.counts, COUNTS, record.cells, record.starts[GROUPS], journal.bytes,
+                                             MOST_JOURNAL, &journal.used, savepoint, &beside),
                 &beside))
         return 1;
     if (!kept(from))
@@ -477,8 +478,8 @@ static int undo(size_t savepoint)
 {
     struct seambeacon_beside beside;
     size_t from = journal.used;
-    if (refused(seambeacon_undo_to_savepoint(record.counts, COUNTS, record.cells, record.starts[GROUPS], journal.bytes, MOST_JOURNAL,
-                                             &journal.used, savepoint, &beside),
+    if (refused(seambeacon_undo_to_savepoint(SEAMBEACON_USUAL, record.counts, COUNTS, record.cells, record.starts[GROUPS], journal.bytes,
+                                             MOST_JOURNAL, &journal.used, savepoint, &beside),
                 &beside))
         return 1;
     if (!kept(from))
@@ -531,7 +532,8 @@ static size_t new_day(uint8_t **text, size_t *written)
     static uint8_t out[MOST_TEXT];
     struct seambeacon_beside beside;
     size_t behind = day.length - day.next;
-    if (refused(seambeacon_write_record(record.counts, COUNTS, record.cells, record.starts[GROUPS], out, sizeof out, &beside), &beside))
+    if (refused(seambeacon_write_record(SEAMBEACON_USUAL, record.counts, COUNTS, record.cells, record.starts[GROUPS], out, sizeof out, &beside),
+                &beside))
         return 0;
     *written = beside.written;
     *text = malloc(day.at + *written + behind);

@@ -30,16 +30,21 @@
 extern "C" {
 #endif
 
-/* The rules by which a text is read: each function that reads one takes them first, as the sum of
-   these flags. A flag without a meaning is ignored (R365). */
+/* The rules (R12): how the lines of a text end, and what a count of group 40 counts. Each function
+   takes them first, as the sum of these flags. A flag without a meaning is ignored (R365). */
 enum seambeacon_rules {
     /* no flag: a line ends with a line feed, and a carriage return that stands directly before it
        belongs to the line end too; lines of both kinds may stand in one text. Any other carriage
-       return is a byte of the line like others */
+       return is a byte of the line like others. A count is the number of its group's elements,
+       in group 40 as in every other */
     SEAMBEACON_USUAL = 0,
     /* the strict line end: the carriage return before the line feed has to be there; a line
        without it is refused, with 4 in the index and with 8 in a group */
-    SEAMBEACON_STRICT = 1
+    SEAMBEACON_STRICT = 1,
+    /* a count of group 40 is a number of entries, parabolic segments and one more: n above 0 are
+       n lines, the last with one element and each other one with six, so 6 (n - 1) + 1 elements
+       of two cells each. A count of 0 or 1 means the same without this flag (R13) */
+    SEAMBEACON_ENTRIES = 2
 };
 
 /* The replies (reply n is R200 + n), each with the numbers that are given beside it. */
@@ -76,7 +81,8 @@ enum seambeacon_reply {
     SEAMBEACON_NO_SUCH_NUMBER = 12,
     /* in writing, no field of its form reads as an element's cells: its group and its element */
     SEAMBEACON_NO_FIELD = 13,
-    /* in writing and in a journal, there are more or fewer cells than the counts ask for */
+    /* in writing and in a journal, there are more or fewer cells than the counts ask for under
+       the rules */
     SEAMBEACON_OTHER_LENGTH = 14,
     /* the savepoint is not open or, in releasing, not the innermost */
     SEAMBEACON_NOT_OPEN = 15,
@@ -131,7 +137,7 @@ enum seambeacon_reply seambeacon_place(uint32_t rules, const uint8_t *text, size
    Answered: 0 with the number of cells, which stand in the table from its first cell on; what
    stands behind them is kept. I fields are whole numbers, F fields thousandths, A fields a cell
    for each byte; an E field has two cells, its digits and its exponent. No group has more than
-   1,998 cells.
+   1,998 cells but, under SEAMBEACON_ENTRIES, group 40, which has up to 11,978.
    A refusal (12, a placing reply but 0, 11, 8, 9, 10, in this order) leaves the whole table as it
    was; of 7 it gives the group, without a next place. */
 enum seambeacon_reply seambeacon_read_group(uint32_t rules, const uint8_t *text,
@@ -158,13 +164,16 @@ enum seambeacon_reply seambeacon_characteristic(uint32_t rules, const uint8_t *t
                                                 enum seambeacon_kind *kind, int64_t *value,
                                                 struct seambeacon_beside *beside);
 
-/* Asked: to write a record of these counts, which are 80, and of all its cells in group order.
+/* Asked: to write a record of these counts, which are 80, and of all its cells in group order:
+   under SEAMBEACON_ENTRIES those of group 40 are 2 (6 (n - 1) + 1) for its count n above 0.
    Answered: 0 with the number of bytes of its canonical text, which stand in out from its first
-   byte on; what stands behind them is kept.
+   byte on; what stands behind them is kept. Its lines end with carriage return and line feed, with
+   SEAMBEACON_STRICT and without.
    A refusal (4, 5, 6, 7, 14, 13, 10, 11, in this order) leaves the whole output as it was. */
-enum seambeacon_reply seambeacon_write_record(const uint16_t *counts, size_t counts_length,
-                                              const int64_t *cells, size_t cells_length,
-                                              uint8_t *out, size_t out_length,
+enum seambeacon_reply seambeacon_write_record(uint32_t rules, const uint16_t *counts,
+                                              size_t counts_length, const int64_t *cells,
+                                              size_t cells_length, uint8_t *out,
+                                              size_t out_length,
                                               struct seambeacon_beside *beside);
 
 /* Asked: the listing of a text: a line of seven numbers for each record of the walk (R342), and
@@ -195,6 +204,9 @@ enum seambeacon_reply seambeacon_rewrite_record(uint32_t rules, const uint8_t *t
    order, and a journal: a buffer of which *used bytes are used, 0 when it is fresh. Each accepted
    call adds one field to it, 22 bytes for a set and 4 for the others; *used is then the bytes used
    afterwards. Bytes of the buffer behind the used ones are kept.
+   The rules are those by which the cells were read. Cells that were read with SEAMBEACON_ENTRIES
+   and are lent without it, or the other way round, are refused with 14 where group 40 has a count
+   above 1; SEAMBEACON_STRICT makes no difference here.
    A refusal (4, 5, 6, 7, 14, 17, 12, 15, 16, 11, in this order, of those that a function can have)
    leaves all cells, the whole journal and *used as they were. The used bytes are looked at first,
    field by field, so any of these functions may find 17; if *used is more than the buffer has, and
@@ -203,8 +215,9 @@ enum seambeacon_reply seambeacon_rewrite_record(uint32_t rules, const uint8_t *t
 /* Asked: to set a cell of a group. Every value can be set; whether it has a field, writing says.
    Answered: 0; the cell has the value, and the journal a field with the old value and the new.
    A refusal is 4, 5, 6, 7, 14, 17, 12 or 11. */
-enum seambeacon_reply seambeacon_set_cell(const uint16_t *counts, size_t counts_length,
-                                          int64_t *cells, size_t cells_length, uint8_t *journal,
+enum seambeacon_reply seambeacon_set_cell(uint32_t rules, const uint16_t *counts,
+                                          size_t counts_length, int64_t *cells,
+                                          size_t cells_length, uint8_t *journal,
                                           size_t journal_length, size_t *used, size_t group,
                                           size_t cell, int64_t value,
                                           struct seambeacon_beside *beside);
@@ -212,28 +225,31 @@ enum seambeacon_reply seambeacon_set_cell(const uint16_t *counts, size_t counts_
 /* Asked: to open a savepoint inside those that are open.
    Answered: 0 with its number, 1 to 16: one more than were open.
    A refusal is 4, 5, 6, 7, 14, 17, 16 or 11. */
-enum seambeacon_reply seambeacon_open_savepoint(const uint16_t *counts, size_t counts_length,
-                                                const int64_t *cells, size_t cells_length,
-                                                uint8_t *journal, size_t journal_length,
-                                                size_t *used, struct seambeacon_beside *beside);
+enum seambeacon_reply seambeacon_open_savepoint(uint32_t rules, const uint16_t *counts,
+                                                size_t counts_length, const int64_t *cells,
+                                                size_t cells_length, uint8_t *journal,
+                                                size_t journal_length, size_t *used,
+                                                struct seambeacon_beside *beside);
 
 /* Asked: to release the innermost savepoint, named by its number.
    Answered: 0; it is closed, and what was set since it was opened belongs to the one outside.
    A refusal is 4, 5, 6, 7, 14, 17, 15 or 11. */
-enum seambeacon_reply seambeacon_release_savepoint(const uint16_t *counts, size_t counts_length,
-                                                   const int64_t *cells, size_t cells_length,
-                                                   uint8_t *journal, size_t journal_length,
-                                                   size_t *used, size_t savepoint,
+enum seambeacon_reply seambeacon_release_savepoint(uint32_t rules, const uint16_t *counts,
+                                                   size_t counts_length, const int64_t *cells,
+                                                   size_t cells_length, uint8_t *journal,
+                                                   size_t journal_length, size_t *used,
+                                                   size_t savepoint,
                                                    struct seambeacon_beside *beside);
 
 /* Asked: to undo all that was set since a savepoint, any that is open, was opened.
    Answered: 0; every cell is what it was then, the savepoint stays open, and those inside it are
    closed.
    A refusal is 4, 5, 6, 7, 14, 17, 15 or 11. */
-enum seambeacon_reply seambeacon_undo_to_savepoint(const uint16_t *counts, size_t counts_length,
-                                                   int64_t *cells, size_t cells_length,
-                                                   uint8_t *journal, size_t journal_length,
-                                                   size_t *used, size_t savepoint,
+enum seambeacon_reply seambeacon_undo_to_savepoint(uint32_t rules, const uint16_t *counts,
+                                                   size_t counts_length, int64_t *cells,
+                                                   size_t cells_length, uint8_t *journal,
+                                                   size_t journal_length, size_t *used,
+                                                   size_t savepoint,
                                                    struct seambeacon_beside *beside);
 
 /* Asked: to make the calls of a journal again, over the cells that they began with.
@@ -242,8 +258,8 @@ enum seambeacon_reply seambeacon_undo_to_savepoint(const uint16_t *counts, size_
    A refusal (4, 5, 6, 7, 14, 17, in this order) leaves all cells as they were, and *open is 0. If
    the journal's last field was cut short, 17 has its place, and so many bytes of it can be
    replayed. */
-enum seambeacon_reply seambeacon_replay(const uint16_t *counts, size_t counts_length,
-                                        int64_t *cells, size_t cells_length,
+enum seambeacon_reply seambeacon_replay(uint32_t rules, const uint16_t *counts,
+                                        size_t counts_length, int64_t *cells, size_t cells_length,
                                         const uint8_t *journal, size_t journal_length, size_t used,
                                         size_t *open, struct seambeacon_beside *beside);
 

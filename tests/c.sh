@@ -1,9 +1,10 @@
 #!/bin/sh
 # The library from C: include/seambeacon.h compiles alone as C and as C++, and the program of tests/c asks every question on record S, S twice,
-# damaged texts and texts with other line ends, by several numbers for the rules, every month and day of seven years, every line of
-# tests/vectors/writes.txt and, by both rules for line ends, every answer of the texts of tests/vectors, or of the folder that is named
-# (`tests/c.sh FOLDER [--strict]`), and compares all lent memory. The program counts its checks; so many are demanded that none of its parts can
-# be left out. examples/fof2.c prints a value below zero too.
+# damaged texts, texts with other line ends and records with a group 40 of up to 999 elements and 999 entries, by several numbers for the rules,
+# every month and day of seven years, every line of tests/vectors/writes.txt and tests/vectors/W10/writes.txt and, by both rules for line ends and
+# both for counts of group 40, every answer of the texts of tests/vectors, or of the folder that is named (`tests/c.sh FOLDER [--strict]
+# [--entries]`), and compares all lent memory. The program counts its checks; so many are demanded that none of its parts can be left out.
+# examples/fof2.c prints a value below zero too.
 set -u
 cd "$(dirname "$0")/.." || exit 2
 name=c
@@ -40,9 +41,10 @@ held() { # OF LEAST WORD..: the program's checks hold; over the project's own ve
     ! own || counted "$of: as many checks as there are" [ "${made:-0}" -ge "$least" ]
 }
 
-writes=$vectors/writes.txt
-own || [ -e "$writes" ] || writes=/dev/null # a folder of texts alone
-held 'record S, line ends, dates and writing' 36374 answers "$writes"
+set -- "$vectors/writes.txt"
+! own || set -- "$@" "$vectors/W10/writes.txt"
+own || [ -e "$1" ] || shift # a folder of texts alone
+held 'record S, line ends, group 40, dates and writing' 49344 answers "${rules%% *}" "$@"
 
 counted 'there are texts' texts
 set --
@@ -51,14 +53,14 @@ for text in "$vectors"/*.sao; do
         list=$(answer_of "$text" "$ruled" list)
         rewrite=$(answer_of "$text" "$ruled" rewrite)
         dump=$(answer_of "$text" "$ruled" dump)
-        [ -z "$list" ] || [ -z "$rewrite" ] || [ -z "$dump" ] || set -- "$@" "$ruled" "$text" "$list" "$rewrite" "$dump"
+        [ -z "$list$rewrite$dump" ] || set -- "$@" "$ruled" "$text" "${list:--}" "${rewrite:--}" "${dump:--}"
     done
 done
-held 'texts' 201398 texts "$@"
+held 'texts' 326828 texts "$@"
 
 counted 'the example' compiled examples/fof2.c "$work/fof2.o" -std=c99 && linked "$work/fof2" "$work/fof2.o"
 below_zero >"$work/below"
 started "$work/fof2" <"$work/below" >"$work/got"
 below_zero_due >"$work/want"
 compared 'values below zero' "$work/want"
-finished 23
+finished 24

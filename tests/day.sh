@@ -1,8 +1,8 @@
 #!/bin/sh
 # The example day and its damaged copy: rewriting returns the day byte for byte, both are listed alike, and one byte that was replaced in a trace
 # is seen in the row of one group alone. Where that group stands, which line and element are refused and what foF2 was are cut out of the text's
-# fixed columns here (R41, R61, R140); one hour has no foF2 (R291). Without its carriage returns the day answers as before (R9). Prints each case
-# that fails, and how many passed.
+# fixed columns here (R41, R61, R140); one hour has no foF2 (R291). Without its carriage returns the day answers as before (R9), and so it does
+# with counts of entries, since it has no group 40 (R13). Prints each case that fails, and how many passed.
 set -u
 LC_ALL=C
 export LC_ALL
@@ -110,6 +110,10 @@ compared 'the day without carriage returns, listed' "$work/want"
 compared 'the day without carriage returns, rewritten' "$day"
 ./run dump --strict <"$day" >"$work/got"
 compared 'the day, strict' "$work/day.dump"
+# R13: it has no group 40
+counted 'no record of the day has a group 40' [ "$(awk '$3 == 40' "$work/lines" | wc -l)" -eq 0 ]
+./run dump --entries <"$day" >"$work/got"
+compared 'the day, by entries' "$work/day.dump"
 ./run rewrite --strict <"$work/lean" >"$work/got"
 counted 'the day without carriage returns, rewritten strict' [ ! -s "$work/got" ]
 ./run list --strict <"$work/lean" >"$work/got"
@@ -222,4 +226,4 @@ counted 'a Doppler number of the table for each echo, 9 for each interpolated po
 counted 'profile heights rise' sound 'rising(51)'
 counted 'plasma frequencies rise' sound 'rising(52)'
 counted 'the profile ends at foF2 and the peak height' sound 'cell[52, n[52]] == peak() && cell[51, n[51]] == cell[4, 32]'
-finished 42
+finished 44

@@ -1,8 +1,9 @@
 #!/bin/sh
-# The test program dump: every answer about every text of tests/vectors, or of the folder that is named (`tests/dump.sh FOLDER [--strict]`),
-# under both rules for line ends, and about 65,536 bytes; and damage by running (D3.2 to D3.7): bytes of one group's lines are replaced in each
-# text that has such lines; then only that group's row may differ, and for group 4 the characteristics of that record. Which bytes are replaced
-# by what is drawn from a fixed seed, and is the same in each run. Prints each case that fails, and how many passed.
+# The test program dump: every answer about every text of tests/vectors, or of the folder that is named (`tests/dump.sh FOLDER [--strict]
+# [--entries]`), under both rules for line ends and both for counts of group 40, and about 65,536 bytes; and damage by running (D3.2 to D3.7):
+# bytes of one group's lines are replaced in each text that has such lines; then only that group's row may differ, and for group 4 the
+# characteristics of that record. Which bytes are replaced by what is drawn from a fixed seed, and is the same in each run. Prints each case that
+# fails, and how many passed.
 set -u
 cd "$(dirname "$0")/.." || exit 2
 name=dump
@@ -61,6 +62,27 @@ sized '65,537 bytes' "$work/text" 65537
 ./run dump <"$work/text" >"$work/got"
 compared '65,537 bytes' "$work/want"
 
+# R13: as many elements of group 40 as the input has room for, with the longest cells. S without carriage returns has 300 bytes; 539 entries behind
+# it are 538 lines of 121 bytes and one of 21, so they end at 65,419, and have 3,229 elements.
+tr -d '\r' <examples/s.sao | awk '
+    NR == 1 { $0 = substr($0, 1, 117) "539" }
+    { print }
+    END {
+        for (i = 1; i <= 3229; i++)
+            printf " -0.999999999999E-99%s", i % 6 == 0 || i == 3229 ? "\n" : ""
+    }' >"$work/text"
+sized '539 entries' "$work/text" 65419
+./run dump --entries <"$work/text" | grep -E '^(group (39|40|41)|stop) ' >"$work/got"
+awk 'BEGIN {
+    print "group 39 0 0 0 300 300"
+    printf "group 40 0 6458 0 300 65419"
+    for (i = 1; i <= 3229; i++)
+        printf " -999999999999 -99"
+    print "\ngroup 41 0 0 0 65419 65419"
+    print "stop 65419 1 0 0"
+}' >"$work/want"
+compared '539 entries' "$work/want"
+
 # R411, R412: S with blanks behind the field of its last line, up to 120 bytes and one more; R414: with a blank for its last carriage return
 row() { # CASE EXPECTED [WORD]: the row of group 4 of the text made
     # shellcheck disable=SC2086
@@ -102,9 +124,15 @@ if own; then
     done
 fi
 
+damaged_by() { # TEXT: the rules under which it is asked with damage: entries where it has its own answer under them, else the first
+    case " $rules " in
+    *' entries '*) [ ! -e "${1%.sao}.entries.dump" ] || { echo entries; return; } ;;
+    esac
+    echo "${rules%% *}"
+}
+
 # Five replacements for each text: the record and the group by their rows in the dump, up to four bytes of its lines, none of them a line
-# feed. One line each: text, number of the row, record's place, group, and then places and bytes. Asked by the first of the rules.
-first=${rules%% *}
+# feed. One line each: text, number of the row, record's place, group, and then places and bytes.
 for text in "$vectors"/*.sao; do
     od -An -v -tu1 -w1 "$text" >"$work/bytes"
     awk -v text="$text" -v seed="${text##*/}" '
@@ -135,7 +163,7 @@ for text in "$vectors"/*.sao; do
                 if (many)
                     print line
             }
-        }' "$work/bytes" "$(answer_of "$text" "$first" dump)"
+        }' "$work/bytes" "$(answer_of "$text" "$(damaged_by "$text")" dump)"
 done >"$work/damage"
 
 confined() { # EXPECTED ROW PLACE GROUP: what was dumped differs from it only in that row, and for group 4 in that record's characteristics
@@ -161,11 +189,12 @@ while read -r text row place group bytes; do
         printf "\\$(printf '%03o' "$2")" | dd of="$work/damaged" bs=1 seek="$1" conv=notrunc 2>/dev/null
         shift 2
     done
+    ruled=$(damaged_by "$text")
     # shellcheck disable=SC2046
-    ./run dump $([ "$first" = usual ] || echo "--$first") <"$work/damaged" >"$work/got"
-    want=$(answer_of "$text" "$first" dump)
+    ./run dump $(words_for "$ruled") <"$work/damaged" >"$work/got"
+    want=$(answer_of "$text" "$ruled" dump)
     cmp -s "$work/got" "$want" || differ=$((differ + 1))
-    counted "$text, group $group of the record at $place, bytes $bytes" confined "$want" "$row" "$place" "$group"
+    counted "$text, $ruled, group $group of the record at $place, bytes $bytes" confined "$want" "$row" "$place" "$group"
 done <"$work/damage"
 
 # these cases show something only if most of them change an answer, and if the worst bytes are among them
@@ -175,4 +204,4 @@ if own; then
         counted "damage with byte $byte" grep -q " $byte\$" "$work/damage"
     done
 fi
-finished 1150
+finished 1640

@@ -1,7 +1,8 @@
 #!/bin/sh
 # The listing program (R341 to R344): record S and its neighbours, inputs at the limit of 65,536 bytes, and every text of tests/vectors, or of
-# the folder that is named (`tests/list.sh FOLDER [--strict]`), under both rules for line ends. Expected lines come from the rules (R382, R411 to
-# R415), from their arithmetic, or from the vectors. Prints each case that fails, and how many passed.
+# the folder that is named (`tests/list.sh FOLDER [--strict] [--entries]`), under both rules for line ends and both for counts of group 40.
+# Expected lines come from the rules (R382, R411 to R415), from their arithmetic, or from the vectors. Prints each case that fails, and how many
+# passed.
 set -u
 cd "$(dirname "$0")/.." || exit 2
 name=list
@@ -153,4 +154,4 @@ listed '270 records, strict' "$work/want" --strict <"$work/in"
 counted 'there are texts' texts
 answered list list
 
-finished 440
+finished 790

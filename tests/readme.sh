@@ -1,5 +1,5 @@
 #!/bin/sh
-# What README.md shows. Its rows of the example day, and those about line ends, are what list, dump and rewrite print. The C program is cut out
+# What README.md shows. Its rows of the example day, and those about the rules, are what list, dump and rewrite print. The C program is cut out
 # of it, compiled, linked and run, and so is the Rust program where cargo is at hand; both must print foF2 of each hour of examples/day.sao, as
 # it stands in the text's columns, but for the one hour where it was not scaled (R291). The scene of edit is played, and its lines about the
 # journal in Rust are those that the wrapper's documentation runs. On every machine the kit's own compiler, linker and loader are used; on x86-64
@@ -43,9 +43,9 @@ for text in day damaged; do
     counted 'and is printed once' [ "$(awk -v row="$row" 'index($0 " ", row " ") == 1' "$work/dump" | grep -c .)" -eq 1 ]
 done
 
-# the commands about line ends, each with what it prints behind it: the rows, parted by commas, up to a colon; or the day itself
-block sh | grep '^tr ' >"$work/ends"
-counted 'three commands about line ends are shown' [ "$(wc -l <"$work/ends")" -eq 3 ]
+# the commands about line ends and group 40, each with what it prints behind it: the rows, parted by commas, up to a colon; or the day itself
+block sh | grep ' # ' >"$work/ruled"
+counted 'three commands about line ends and two about group 40 are shown' [ "$(wc -l <"$work/ruled")" -eq 5 ]
 while read -r shown; do
     eval "${shown%%#*}" >"$work/got" </dev/null
     told=${shown#*# }
@@ -54,7 +54,7 @@ while read -r shown; do
     *) echo "${told%%:*}" | sed 's/, /\n/g' >"$work/said" ;;
     esac
     compared "$shown" "$work/said"
-done <"$work/ends"
+done <"$work/ruled"
 
 block c 1 >"$work/fof2.c"
 counted 'the C program is that of examples' cmp -s "$work/fof2.c" examples/fof2.c

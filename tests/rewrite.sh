@@ -1,8 +1,8 @@
 #!/bin/sh
-# The rewriting program (R341, R345, R346): every text of tests/vectors, or of the folder that is named (`tests/rewrite.sh FOLDER [--strict]`),
-# under both rules for line ends, and what was printed given to it again; record S with other spellings of its fields; records of 8,192 canonical
-# bytes and of one more; output longer than the input may be; inputs at the limit of 65,536 bytes. Expected texts come from the vectors, from the
-# rules, or from their arithmetic. Prints each case that fails, and how many passed.
+# The rewriting program (R341, R345, R346): every text of tests/vectors, or of the folder that is named (`tests/rewrite.sh FOLDER [--strict]
+# [--entries]`), under both rules for line ends and both for counts of group 40, and what was printed given to it again; record S with other
+# spellings of its fields; records of 8,192 canonical bytes and of one more; output longer than the input may be; inputs at the limit of 65,536
+# bytes. Expected texts come from the vectors, from the rules, or from their arithmetic. Prints each case that fails, and how many passed.
 set -u
 LC_ALL=C
 export LC_ALL
@@ -12,7 +12,7 @@ name=rewrite
 . tests/limit
 chosen "$@"
 
-rewritten() { # CASE TEXT EXPECTED [WORD]: what is printed for the text, with what is expected
+rewritten() { # CASE TEXT EXPECTED [WORDS]: what is printed for the text, with what is expected
     # shellcheck disable=SC2086
     ./run rewrite ${4-} <"$2" >"$work/got"
     compared "$1" "$3"
@@ -24,15 +24,20 @@ s=examples/s.sao
 counted 'there are texts' texts
 answered rewrite rewrite
 
-# what was printed, given to the program again, comes out byte for byte, under either rule; longer than it takes, nothing
+# what was printed, given to the program again, comes out byte for byte, under either rule for line ends and with counts as before; longer than it
+# takes, nothing
 again=0
 for text in "$vectors"/*.rewrite; do
+    case "${rules%% *} $text" in
+    entries\ * | strict-entries\ * | *entries.rewrite) counting=--entries ;;
+    *) counting='' ;;
+    esac
     if [ "$(wc -c <"$text")" -le 65536 ]; then
-        rewritten "$text again" "$text" "$text"
-        rewritten "$text again, strict" "$text" "$text" --strict
+        rewritten "$text again" "$text" "$text" "$counting"
+        rewritten "$text again, strict" "$text" "$text" "--strict $counting"
         [ -s "$text" ] && again=$((again + 1))
     else
-        rewritten "$text again" "$text" "$work/nothing"
+        rewritten "$text again" "$text" "$work/nothing" "$counting"
     fi
 done
 ! own || counted 'canonical texts among the vectors' [ "$again" -gt 20 ]
@@ -163,4 +168,4 @@ repeated 212 "$work/wide" >"$work/want"
 sized 'the output' "$work/want" 116388
 rewritten 'output of 116,388 bytes' "$work/text" "$work/want"
 
-finished 940
+finished 1430

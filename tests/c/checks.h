@@ -6,6 +6,7 @@
 
 /* Of the C library; the kit's compiler has no headers of it. */
 int printf(const char *form, ...);
+int sprintf(char *to, const char *form, ...);
 int open(const char *path, int flags, ...);
 long read(int file, void *bytes, size_t length);
 int close(int file);

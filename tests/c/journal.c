@@ -1,13 +1,15 @@
 /* The journal's functions on the scripts of a file. What is due is kept here: counts, cells, the journal's bytes and how many are used. Each call
    is lent a copy of it between guards, and afterwards every cell and every byte is compared. Which cell a set alters follows from the counts.
    What a fresh journal has to undo is known from a plain stack of whole tables; what a lent one has, which need not fit its table, from its
-   fields (R515). */
+   fields (R515). A script is gone through several times, by numbers that stand for the same rules as its own. */
 #include "journal.h"
+#include "questions.h"
 #include "words.h"
 
 enum { MOST_COUNTS = 100, MOST_CELLS = 20000, MOST_BYTES = 20000, MOST_OPEN = 16 };
 
 struct state {
+    uint32_t rules;
     size_t count_length, cell_length, room, used;
     size_t filled; /* bytes of the journal that a script gives: the used ones, or all where fewer are there */
     uint16_t counts[MOST_COUNTS];
@@ -18,7 +20,7 @@ struct state {
 static const struct seambeacon_beside none;
 static struct state script, replayed;
 static int lent_journal; /* the script did not begin with a fresh one */
-static size_t line;
+static size_t line, turn; /* how often the file was gone through before */
 static int64_t opened[MOST_OPEN + 1][MOST_CELLS];
 static size_t open_now;
 
@@ -71,7 +73,7 @@ static size_t reply_due(int opening)
     return reply;
 }
 
-/* ---- The table's layout, by the counts alone (R501, R502). */
+/* ---- The table's layout, by the rules and the counts alone (R13, R501, R502). */
 
 static const uint8_t cells_of_an_element[60] = {
     1, 120, 1, 1, 1, 1, 1, 1, 1, 1, /* groups 1 to 10 */
@@ -82,9 +84,15 @@ static const uint8_t cells_of_an_element[60] = {
     1, 1,   2, 1, 1, 1, 2, 1, 1, 2, /* 51 to 60 */
 };
 
+static size_t elements_of(size_t group)
+{
+    size_t count = script.counts[group - 1];
+    return group == 40 && (script.rules & SEAMBEACON_ENTRIES) && count > 0 ? 6 * (count - 1) + 1 : count;
+}
+
 static size_t cells_of(size_t group)
 {
-    return script.counts[group - 1] * cells_of_an_element[group - 1];
+    return elements_of(group) * cells_of_an_element[group - 1];
 }
 
 /* Where a cell of a group stands in the table. */
@@ -186,7 +194,7 @@ static void check_set(void)
     uint8_t *journal = lend_journal(&script);
     reply = call_due(0);
     answered("set_cell",
-             seambeacon_set_cell(script.counts, script.count_length, table, script.cell_length, journal, script.room, &lent.used, group, cell,
+             seambeacon_set_cell(rules, script.counts, script.count_length, table, script.cell_length, journal, script.room, &lent.used, group, cell,
                                  value, &lent.beside),
              reply);
     if (reply == 0) {
@@ -204,7 +212,7 @@ static void check_open(void)
     uint8_t *journal = lend_journal(&script);
     reply = call_due(1);
     answered("open_savepoint",
-             seambeacon_open_savepoint(script.counts, script.count_length, table, script.cell_length, journal, script.room, &lent.used,
+             seambeacon_open_savepoint(rules, script.counts, script.count_length, table, script.cell_length, journal, script.room, &lent.used,
                                        &lent.beside),
              reply);
     if (reply == 0) {
@@ -223,7 +231,7 @@ static void check_release(void)
     uint8_t *journal = lend_journal(&script);
     reply = call_due(0);
     answered("release_savepoint",
-             seambeacon_release_savepoint(script.counts, script.count_length, table, script.cell_length, journal, script.room, &lent.used,
+             seambeacon_release_savepoint(rules, script.counts, script.count_length, table, script.cell_length, journal, script.room, &lent.used,
                                           savepoint, &lent.beside),
              reply);
     if (reply == 0) {
@@ -241,7 +249,7 @@ static void check_undo(void)
     uint8_t *journal = lend_journal(&script);
     reply = call_due(0);
     answered("undo_to_savepoint",
-             seambeacon_undo_to_savepoint(script.counts, script.count_length, table, script.cell_length, journal, script.room, &lent.used,
+             seambeacon_undo_to_savepoint(rules, script.counts, script.count_length, table, script.cell_length, journal, script.room, &lent.used,
                                           savepoint, &lent.beside),
              reply);
     if (reply == 0) {
@@ -258,15 +266,17 @@ static void check_undo(void)
 
 /* ---- The state, as the script tells it. */
 
-static void begin(struct state *state)
+static void begin(struct state *state, uint32_t told)
 {
     state->count_length = counts_given(state->counts, MOST_COUNTS);
     state->cell_length = numbers(state->cells, MOST_CELLS);
+    state->rules = alike(told, state->counts, turn);
+    under(state->rules);
 }
 
-static void check_start(int with_journal)
+static void check_start(int with_journal, uint32_t told)
 {
-    begin(&script);
+    begin(&script, told);
     script.room = size();
     need("a journal that the test has room for", script.room <= MOST_BYTES);
     if (script.room > MOST_BYTES)
@@ -306,17 +316,17 @@ static void ask_replay(const int64_t *cells, size_t behind, size_t reply)
     memcpy(table, cells, replayed.cell_length * sizeof *table);
     memcpy(journal, replayed.bytes, replayed.filled);
     answered("replay",
-             seambeacon_replay(replayed.counts, replayed.count_length, table, replayed.cell_length, journal, replayed.filled + behind,
+             seambeacon_replay(rules, replayed.counts, replayed.count_length, table, replayed.cell_length, journal, replayed.filled + behind,
                                replayed.used, &lent.open, &lent.beside),
              reply);
     state_due("replay: cells and journal", &replayed);
 }
 
-static void check_replay(void)
+static void check_replay(uint32_t told)
 {
     static int64_t cells[MOST_CELLS];
     size_t reply;
-    begin(&replayed);
+    begin(&replayed, told);
     memcpy(cells, replayed.cells, sizeof cells);
     replayed.used = size();
     replayed.filled = hexadecimal(replayed.bytes, MOST_BYTES);
@@ -331,6 +341,7 @@ static void check_replay(void)
     ask_replay(cells, 0, reply);
     if (replayed.used <= replayed.filled)
         ask_replay(cells, 5, reply);
+    under(script.rules);
 }
 
 /* ---- No memory at all. */
@@ -349,22 +360,22 @@ static void ask_nothing(const uint16_t *counts, size_t count_length, int64_t *ce
         due.beside = beside;
         due.used = lent.used = used;
         if (i == 0)
-            reply = seambeacon_set_cell(counts, count_length, cells, cell_length, NULL, 0, lent_used, 4, 1, 7, &lent.beside);
+            reply = seambeacon_set_cell(rules, counts, count_length, cells, cell_length, NULL, 0, lent_used, 4, 1, 7, &lent.beside);
         else if (i == 1)
-            reply = seambeacon_open_savepoint(counts, count_length, cells, cell_length, NULL, 0, lent_used, &lent.beside);
+            reply = seambeacon_open_savepoint(rules, counts, count_length, cells, cell_length, NULL, 0, lent_used, &lent.beside);
         else if (i == 2)
-            reply = seambeacon_release_savepoint(counts, count_length, cells, cell_length, NULL, 0, lent_used, 1, &lent.beside);
+            reply = seambeacon_release_savepoint(rules, counts, count_length, cells, cell_length, NULL, 0, lent_used, 1, &lent.beside);
         else if (i == 3)
-            reply = seambeacon_undo_to_savepoint(counts, count_length, cells, cell_length, NULL, 0, lent_used, 1, &lent.beside);
+            reply = seambeacon_undo_to_savepoint(rules, counts, count_length, cells, cell_length, NULL, 0, lent_used, 1, &lent.beside);
         else {
             due.open = 0;
-            reply = seambeacon_replay(counts, count_length, cells, cell_length, NULL, 0, used, &lent.open, &lent.beside);
+            reply = seambeacon_replay(rules, counts, count_length, cells, cell_length, NULL, 0, used, &lent.open, &lent.beside);
         }
         answered("a call without memory", reply, replies[i]);
     }
 }
 
-static void check_no_memory(void)
+static void check_nothing(void)
 {
     static const size_t no_counts[] = {4, 4, 4, 4, 4}, no_cells[] = {14, 14, 14, 14, 14}, no_journal[] = {11, 11, 15, 15, 0},
                         beyond[] = {17, 17, 17, 17, 17};
@@ -380,16 +391,25 @@ static void check_no_memory(void)
         check("the cells are as they were", cells_of_s[i] == 0);
 }
 
+void check_no_memory(void)
+{
+    for (size_t i = 0; i < RULES * FLAGS; i++) {
+        under(flags[i / FLAGS][i % FLAGS]);
+        check_nothing();
+    }
+}
+
 /* ---- The file. */
 
-static int check_line(void)
+static int check_line(uint32_t told)
 {
+    told = rules_told(told);
     if (word_is("#"))
         skip_line();
     else if (word_is("start"))
-        check_start(0);
+        check_start(0, told);
     else if (word_is("begin"))
-        check_start(1);
+        check_start(1, told);
     else if (word_is("set"))
         check_set();
     else if (word_is("open"))
@@ -403,22 +423,27 @@ static int check_line(void)
     else if (word_is("journal"))
         check_bytes();
     else if (word_is("replay"))
-        check_replay();
+        check_replay(told);
     else
         return 0;
     return 1;
 }
 
-void check_journal(const char *file)
+static void check_lines(const char *file, uint32_t told)
 {
-    check_no_memory();
     of_case(file, 0);
     read_words(file);
     for (line = 1; more(); line++) {
         of_case(file, line);
-        if (!check_line()) {
+        if (!check_line(told)) {
             need("a line of the format", 0);
             return;
         }
     }
+}
+
+void check_journal(const char *file, uint32_t told)
+{
+    for (turn = 0; turn < ALIKE; turn++)
+        check_lines(file, told);
 }

@@ -1,11 +1,14 @@
-/* R9, R365, R414: S with other line ends, under the usual rules and under the strict line end, both asked for by several numbers. S has carriage
+/* R9, R365, R414: S with other line ends, under either line end and under the strict one, both asked for by several numbers. S has carriage
    returns at 120, 242, 272, 293 and 303; what is due where one is missing or a second one stands is by the rules what is due of S, at places that
-   are so much nearer or further, or a refusal. */
+   are so much nearer or further, or a refusal. S has no group 40, so what a count of it counts is the same here. */
 #include "line_ends.h"
 #include "questions.h"
 #include "texts.h"
 
 #define LENGTH(list) (sizeof(list) / sizeof(list)[0])
+
+/* Either line end, and the strict one. */
+enum { ENDS = 2 };
 
 static const struct seambeacon_beside none, first_line = {.line = 1};
 static const uint16_t no_counts[80];
@@ -22,7 +25,7 @@ static const struct {
     const struct text *text;
     struct {
         size_t reply, next;
-    } by[RULES];
+    } by[ENDS];
 } places[] = {
     {&s, {{0, 305}, {0, 305}}},
     {&no_returns, {{0, 300}, {4, 0}}},
@@ -34,13 +37,13 @@ static const struct {
     {&s_no_returns, {{0, 605}, {4, 0}}},
 };
 
-static void check_places(size_t rule)
+static void check_places(size_t ends)
 {
     for (size_t i = 0; i < LENGTH(places); i++) {
         const struct text *text = places[i].text;
-        size_t reply = places[i].by[rule].reply;
+        size_t reply = places[i].by[ends].reply;
         of_case("placing with other line ends", i);
-        ask_place(text->bytes, text->length, place_in(text), reply, (struct seambeacon_beside){.next = places[i].by[rule].next},
+        ask_place(text->bytes, text->length, place_in(text), reply, (struct seambeacon_beside){.next = places[i].by[ends].next},
                   reply == 0 ? s.counts : no_counts);
     }
 }
@@ -51,7 +54,7 @@ static const struct {
     const struct text *text;
     size_t group;
     const int64_t *cells;
-    size_t count, by[RULES];
+    size_t count, by[ENDS];
     struct seambeacon_part part;
 } groups[] = {
     {&s, 4, all_of_s + 23, 1, {0, 0}, {295, 10}},
@@ -73,11 +76,11 @@ static const struct {
     {&s_no_returns, 4, all_of_s + 23, 1, {0, 4}, {596, 9}},
 };
 
-static void check_groups(size_t rule)
+static void check_groups(size_t ends)
 {
     for (size_t i = 0; i < LENGTH(groups); i++) {
         const struct text *text = groups[i].text;
-        size_t at = place_in(text), group = groups[i].group, reply = groups[i].by[rule];
+        size_t at = place_in(text), group = groups[i].group, reply = groups[i].by[ends];
         of_case("a group with other line ends", i);
         if (reply == 0)
             ask_read_all(text->bytes, text->length, at, group, groups[i].cells, groups[i].count);
@@ -94,7 +97,7 @@ static void check_groups(size_t rule)
 
 static const struct {
     const struct text *text;
-    size_t number, by[RULES];
+    size_t number, by[ENDS];
     enum seambeacon_kind kind;
     int64_t value;
 } characteristics[] = {
@@ -108,11 +111,11 @@ static const struct {
     {&s_no_returns, 1, {0, 4}, SEAMBEACON_VALUE, 7250},
 };
 
-static void check_characteristics(size_t rule)
+static void check_characteristics(size_t ends)
 {
     for (size_t i = 0; i < LENGTH(characteristics); i++) {
         const struct text *text = characteristics[i].text;
-        size_t reply = characteristics[i].by[rule];
+        size_t reply = characteristics[i].by[ends];
         of_case("a characteristic with other line ends", i);
         ask_characteristic(text->bytes, text->length, place_in(text), characteristics[i].number, reply, reply == 8 ? first_line : none,
                            reply == 0 ? characteristics[i].kind : SEAMBEACON_REFUSED, reply == 0 ? characteristics[i].value : 0);
@@ -123,7 +126,7 @@ static void check_characteristics(size_t rule)
 
 static const struct {
     const struct text *text;
-    const char *by[RULES];
+    const char *by[ENDS];
 } listings[] = {
     {&no_returns, {"1 0 300 0 0 3 5\nend 1 300 1 0\n", "end 0 0 4 0\n"}},
     {&no_data_returns, {"1 0 302 0 0 3 5\nend 1 302 1 0\n", "1 0 302 0 0 3 5\nend 1 302 1 0\n"}},
@@ -132,10 +135,10 @@ static const struct {
     {&s_no_returns, {"1 0 305 0 0 3 5\n2 305 605 0 0 3 5\nend 2 605 1 0\n", "1 0 305 0 0 3 5\nend 1 305 4 0\n"}},
 };
 
-static void check_listings(size_t rule)
+static void check_listings(size_t ends)
 {
     for (size_t i = 0; i < LENGTH(listings); i++) {
-        const char *listed = listings[i].by[rule];
+        const char *listed = listings[i].by[ends];
         of_case("listing with other line ends", i);
         ask_list_all(listings[i].text->bytes, listings[i].text->length, (const uint8_t *)listed, strlen(listed));
     }
@@ -147,7 +150,7 @@ static const struct {
     const struct text *text;
     struct {
         size_t reply, next, unread, cells_due;
-    } by[RULES];
+    } by[ENDS];
 } rewritings[] = {
     {&no_returns, {{0, 300, 0, 24}, {4, 0, 0, 0}}},
     {&no_index_return, {{0, 304, 0, 24}, {4, 0, 0, 0}}},
@@ -158,29 +161,29 @@ static const struct {
     {&s_no_returns, {{0, 605, 0, 24}, {4, 0, 0, 0}}},
 };
 
-static void check_rewritings(size_t rule)
+static void check_rewritings(size_t ends)
 {
     for (size_t i = 0; i < LENGTH(rewritings); i++) {
         const struct text *text = rewritings[i].text;
-        size_t reply = rewritings[i].by[rule].reply;
+        size_t reply = rewritings[i].by[ends].reply;
         struct seambeacon_beside beside = reply == 8 ? first_line : none;
         of_case("rewriting with other line ends", i);
-        beside.next = rewritings[i].by[rule].next;
+        beside.next = rewritings[i].by[ends].next;
         beside.written = reply == 0 ? s.length : 0;
-        ask_rewrite(text->bytes, text->length, place_in(text), 30, 320, reply, beside, rewritings[i].by[rule].unread, s.bytes, all_of_s,
-                    rewritings[i].by[rule].cells_due);
+        ask_rewrite(text->bytes, text->length, place_in(text), 30, 320, reply, beside, rewritings[i].by[ends].unread, s.bytes, all_of_s,
+                    rewritings[i].by[ends].cells_due);
     }
 }
 
 void check_line_ends(void)
 {
     for (size_t i = 0; i < RULES * FLAGS; i++) {
-        size_t rule = i / FLAGS;
+        size_t rule = i / FLAGS, ends = rule == STRICT || rule == BOTH;
         under(flags[rule][i % FLAGS]);
-        check_places(rule);
-        check_groups(rule);
-        check_characteristics(rule);
-        check_listings(rule);
-        check_rewritings(rule);
+        check_places(ends);
+        check_groups(ends);
+        check_characteristics(ends);
+        check_listings(ends);
+        check_rewritings(ends);
     }
 }

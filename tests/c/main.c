@@ -1,41 +1,68 @@
-/* main answers WRITES: checks the library in C on record S, on line ends, on dates, and on a file of write questions.
-   main texts RULES TEXT LIST REWRITE DUMP ..: on texts, each read by the rules `usual` or `strict`, and the files of their answers.
-   main journal SCRIPTS: checks the journal's functions on a file of scripts.
+/* main answers RULES WRITES ..: checks the library in C on record S, on line ends, on group 40, on dates, and on files of write questions.
+   main texts RULES TEXT LIST REWRITE DUMP ..: on texts, each read by its rules, and the files of their answers, `-` for one that there isn't.
+   main journal RULES SCRIPTS ..: checks the journal's functions on files of scripts.
+   RULES is `usual`, `strict`, `entries` or `strict-entries`; a write question or a script may say itself what a count of group 40 counts.
    Ends with the number of checks, and with exit 1 where one failed. */
 #include "checks.h"
 #include "dates.h"
+#include "entries.h"
 #include "journal.h"
 #include "line_ends.h"
 #include "record_s.h"
 #include "vectors.h"
 
-static void check_answers(const char *writes)
+static uint32_t named(const char *name)
+{
+    static const struct {
+        const char *name;
+        uint32_t flags;
+    } all[] = {
+        {"usual", SEAMBEACON_USUAL},
+        {"strict", SEAMBEACON_STRICT},
+        {"entries", SEAMBEACON_ENTRIES},
+        {"strict-entries", SEAMBEACON_STRICT + SEAMBEACON_ENTRIES},
+    };
+    for (size_t i = 0; i < sizeof all / sizeof all[0]; i++)
+        if (strcmp(name, all[i].name) == 0)
+            return all[i].flags;
+    need("a name of rules", 0);
+    return SEAMBEACON_USUAL;
+}
+
+static void check_answers(uint32_t told, char **files, int count)
 {
     check_record_s();
     check_line_ends();
+    check_entries();
     check_dates();
-    check_writes(writes);
+    for (int i = 0; i < count; i++)
+        check_writes(files[i], told);
 }
 
 static void check_texts(char **words, int count)
 {
     for (int i = 0; i < count; i += 5) {
-        int strict = strcmp(words[i], "strict") == 0;
-        need("a name of rules", strict || strcmp(words[i], "usual") == 0);
-        under(strict ? SEAMBEACON_STRICT : SEAMBEACON_USUAL);
+        under(named(words[i]));
         check_text(words[i + 1], words[i + 2], words[i + 3], words[i + 4]);
     }
+}
+
+static void check_journals(uint32_t told, char **files, int count)
+{
+    check_no_memory();
+    for (int i = 0; i < count; i++)
+        check_journal(files[i], told);
 }
 
 int main(int count, char **words)
 {
     of_case("main", 0);
-    if (count == 3 && strcmp(words[1], "answers") == 0)
-        check_answers(words[2]);
+    if (count > 2 && strcmp(words[1], "answers") == 0)
+        check_answers(named(words[2]), words + 3, count - 3);
     else if (count > 2 && (count - 2) % 5 == 0 && strcmp(words[1], "texts") == 0)
         check_texts(words + 2, count - 2);
-    else if (count == 3 && strcmp(words[1], "journal") == 0)
-        check_journal(words[2]);
+    else if (count > 3 && strcmp(words[1], "journal") == 0)
+        check_journals(named(words[2]), words + 3, count - 3);
     else
         need("words that say what to check", 0);
     return checks_ended();

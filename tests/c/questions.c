@@ -2,7 +2,26 @@
 
 static const struct seambeacon_beside none;
 
-const uint32_t flags[RULES][FLAGS] = {{SEAMBEACON_USUAL, 2, 0x80000000, 0xfffffffe}, {SEAMBEACON_STRICT, 3, 0x80000001, 0xffffffff}};
+const uint32_t flags[RULES][FLAGS] = {
+    [USUAL] = {SEAMBEACON_USUAL, 4, 0x80000000, 0xfffffffc},
+    [STRICT] = {SEAMBEACON_STRICT, 5, 0x80000001, 0xfffffffd},
+    [ENTRIES] = {SEAMBEACON_ENTRIES, 6, 0x80000002, 0xfffffffe},
+    [BOTH] = {SEAMBEACON_STRICT + SEAMBEACON_ENTRIES, 7, 0x80000003, 0xffffffff},
+};
+
+uint32_t alike(uint32_t asked, const uint16_t counts[80], size_t i)
+{
+    switch (i) {
+    case 0:
+        return asked;
+    case 1:
+        return asked ^ SEAMBEACON_STRICT;
+    case 2:
+        return asked ^ 0xfffffffc;
+    default:
+        return counts[39] <= 1 ? asked ^ SEAMBEACON_ENTRIES : asked;
+    }
+}
 
 void ask_place(const uint8_t *text, size_t length, size_t at, size_t reply, struct seambeacon_beside beside, const uint16_t *counts)
 {
@@ -47,7 +66,7 @@ void ask_write(const uint16_t *counts, size_t many, const int64_t *cells, size_t
     uint8_t *out = lend_bytes(room);
     fresh();
     due.beside = beside;
-    answered("write_record", seambeacon_write_record(counts, many, cells, cell_count, out, room, &lent.beside), reply);
+    answered("write_record", seambeacon_write_record(rules, counts, many, cells, cell_count, out, room, &lent.beside), reply);
     bytes_due("write_record: the output", bytes, beside.written);
 }
 

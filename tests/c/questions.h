@@ -3,9 +3,14 @@
 
 #include "checks.h"
 
-/* R365: numbers that stand for the usual rules, and for the strict line end. */
-enum { USUAL, STRICT, RULES, FLAGS = 4 };
+/* R365: numbers that stand for the usual rules, for the strict line end, for entries, and for both. */
+enum { USUAL, STRICT, ENTRIES, BOTH, RULES, FLAGS = 4 };
 extern const uint32_t flags[RULES][FLAGS];
+
+/* Where counts and cells are lent and no text, several numbers ask for the same as the rules do: the line end makes no difference, nor does a flag
+   without a meaning, nor what a count of group 40 counts where it is 0 or 1 (R13). One of them; counts that are not 80 are refused by all. */
+enum { ALIKE = 4 };
+uint32_t alike(uint32_t asked, const uint16_t counts[80], size_t i);
 
 /* Asks the question and checks the reply, the numbers beside it and every byte of what is lent. */
 void ask_place(const uint8_t *text, size_t length, size_t at, size_t reply, struct seambeacon_beside beside, const uint16_t *counts);

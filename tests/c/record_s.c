@@ -1,5 +1,5 @@
 /* What is due here is what the rules give for record S and its neighbours (R380 to R382, R411 to R415). S has 305 bytes; groups 1, 3 and 4
-   stand at 244, 274 and 295. All lines here have their carriage return, so all rules give the same. */
+   stand at 244, 274 and 295. All lines here have their carriage return, and no record has a group 40, so all rules give the same. */
 #include "questions.h"
 #include "record_s.h"
 #include "texts.h"
@@ -330,8 +330,8 @@ void check_record_s(void)
         check_no_table();
         check_refusals();
         check_characteristics();
+        check_writing();
         check_listing();
         check_rewriting();
     }
-    check_writing();
 }

@@ -39,6 +39,13 @@ int word_is(const char *word)
     return 1;
 }
 
+uint32_t rules_told(uint32_t otherwise)
+{
+    if (word_is("elements"))
+        return otherwise & ~(uint32_t)SEAMBEACON_ENTRIES;
+    return word_is("entries") ? otherwise | SEAMBEACON_ENTRIES : otherwise;
+}
+
 int64_t number(void)
 {
     int minus = more() && expected.bytes[read_to] == '-';

@@ -11,6 +11,7 @@ int more(void);         /* the file is not at its end */
 int line_goes_on(void); /* the word that was read last did not end its line */
 void skip_line(void);
 int word_is(const char *word); /* it is the next one, and is then read */
+uint32_t rules_told(uint32_t otherwise); /* `elements` or `entries`, if it is the next word, says what a count of group 40 counts */
 int64_t number(void);
 size_t size(void);
 size_t hexadecimal(uint8_t *bytes, size_t most); /* `-` for none; how many there are */

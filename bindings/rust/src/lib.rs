@@ -5,7 +5,7 @@
 //! due. Nothing has to be checked before a call, and no call panics. The library keeps nothing between two calls, so they may come from several
 //! threads; what a [`Journal`] keeps, the memory lent to it and how many bytes of it are used, is its own. A text is its bytes, with line ends; a
 //! place is a number of bytes from the text's start, or from the journal's. Groups, cells of a group, lines, elements, positions, characteristics
-//! and savepoints count from 1. What reads a text takes [`Rules`] first. R with a number is a rule of the project's docs/FORMAT.md.
+//! and savepoints count from 1. Every question takes [`Rules`] first. R with a number is a rule of the project's docs/FORMAT.md.
 //!
 //! ```
 //! // Record S: four constants, a date and one characteristic, foF2.
@@ -28,25 +28,44 @@ use std::fmt;
 #[allow(unsafe_code)]
 mod raw;
 
-/// The rules by which a text is read. [`Rules::default`] gives the usual ones: a line ends with a line feed, and a carriage return that stands
-/// directly before it belongs to the line end too; lines of both kinds may stand in one text. Any other carriage return is a byte of the line
-/// like others.
+/// The rules (R12): how the lines of a text end, and what a count of group 40 counts. [`Rules::default`] gives the usual ones: a line ends with a
+/// line feed, and a carriage return that stands directly before it belongs to the line end too; lines of both kinds may stand in one text. Any
+/// other carriage return is a byte of the line like others. A count of group 40 is the number of its elements. [`Rules::strict`] and
+/// [`Rules::counting`] choose otherwise, also together: `Rules::strict().counting(Counting::Entries)`.
 #[derive(Clone, Copy, Debug, Default, PartialEq, Eq, Hash)]
 pub struct Rules {
     strict: bool,
+    counting: Counting,
+}
+
+/// What a count of group 40 counts. Counts of 0 and 1 mean the same under both.
+#[derive(Clone, Copy, Debug, Default, PartialEq, Eq, Hash)]
+pub enum Counting {
+    /// Its elements, as in every other group.
+    #[default]
+    Elements,
+    /// R13: entries, which are parabolic segments and one more. n above 0 are n lines, the last with one element and each other one with six: so
+    /// 6 (n - 1) + 1 elements of two cells each, up to 5,989 and 11,978 cells.
+    Entries,
 }
 
 impl Rules {
     /// The strict line end: the carriage return before the line feed has to be there. A line without it is refused, with
-    /// [`Refusal::Misformed`] in the index and with [`Refusal::BadLine`] in a group.
+    /// [`Refusal::Misformed`] in the index and with [`Refusal::BadLine`] in a group. All else is as in the usual rules.
     #[must_use]
     pub const fn strict() -> Rules {
-        Rules { strict: true }
+        Rules { strict: true, counting: Counting::Elements }
+    }
+
+    /// These rules, but for what a count of group 40 counts.
+    #[must_use]
+    pub const fn counting(self, counting: Counting) -> Rules {
+        Rules { counting, ..self }
     }
 
     /// R365: as the library takes them.
     fn flags(self) -> u32 {
-        u32::from(self.strict)
+        u32::from(self.strict) | (u32::from(self.counting == Counting::Entries) << 1)
     }
 }
 
@@ -107,7 +126,7 @@ pub enum Refusal {
         /// The element in the group.
         element: usize,
     },
-    /// 14: in writing and in a journal, there are more or fewer cells than the counts ask for.
+    /// 14: in writing and in a journal, there are more or fewer cells than the counts ask for under the rules.
     OtherLength,
     /// 15: the savepoint is not open or, in releasing, not the innermost.
     NotOpen,
@@ -273,7 +292,7 @@ pub fn place(rules: Rules, text: &[u8], at: usize) -> Result<Placing, Refusal> {
 /// stands behind them is kept.
 ///
 /// I fields are whole numbers, F fields thousandths, A fields a cell for each byte; an E field has two cells, its digits and its exponent. No
-/// group has more than 1,998 cells.
+/// group has more than 1,998 cells but, under [`Counting::Entries`], group 40, which has up to 11,978.
 ///
 /// # Errors
 ///
@@ -313,11 +332,14 @@ pub fn characteristic(rules: Rules, text: &[u8], at: usize, number: usize) -> Re
 /// The canonical text of a record of these counts, which are 80, and of all its cells in group order: how many bytes it has. They stand in the
 /// output from its first byte on, and what stands behind them is kept.
 ///
+/// Under [`Counting::Entries`] group 40 has 2 (6 (n - 1) + 1) cells for its count n above 0. Lines end with carriage return and line feed, whether
+/// the rules are strict or not.
+///
 /// # Errors
 ///
 /// 4, 5, 6, 7, 14, 13, 10 or 11, whichever is due first. The output is as it was.
-pub fn write_record(counts: &[u16], cells: &[i64], out: &mut [u8]) -> Result<usize, Refusal> {
-    Ok(raw::write_record(counts, cells, out).done(0)?.written)
+pub fn write_record(rules: Rules, counts: &[u16], cells: &[i64], out: &mut [u8]) -> Result<usize, Refusal> {
+    Ok(raw::write_record(rules.flags(), counts, cells, out).done(0)?.written)
 }
 
 /// The listing of a text, a line for each placed record and last a line that begins with `end`: how many bytes it has. They stand in the output
@@ -348,17 +370,18 @@ pub fn rewrite_record(rules: Rules, text: &[u8], at: usize, table: &mut [i64], o
 }
 
 /// A record's cells with the journal of their edits, over memory that the caller lends: the record's counts, which are 80, all its cells in
-/// group order, and a buffer of which so many bytes are used.
+/// group order, and a buffer of which so many bytes are used. The rules are those by which the cells were read. Those of another [`Counting`] are
+/// refused with [`Refusal::OtherLength`] where group 40 has a count above 1; the line end makes no difference here.
 ///
 /// Each accepted call adds one field to the used bytes, 22 for a set and 4 for the others. A caller who writes these to a file before going on
 /// loses nothing when the program is killed: [`Journal::replay`] makes the calls again. A refused call leaves cells, journal and used bytes as
 /// they were. Nothing else is kept, so a journal may be let go of and taken up again ([`Journal::resume`]).
 ///
 /// ```
-/// # let (mut counts, mut cells, mut began) = ([0; 80], [0; 24], [0; 24]);
+/// # let (rules, mut counts, mut cells, mut began) = (seambeacon::Rules::default(), [0; 80], [0; 24], [0; 24]);
 /// # (counts[0], counts[2], counts[3], counts[79]) = (4, 19, 1, 5);
 /// let mut buffer = [0; 4096];
-/// let mut journal = seambeacon::Journal::new(&counts, &mut cells, &mut buffer);
+/// let mut journal = seambeacon::Journal::new(rules, &counts, &mut cells, &mut buffer);
 /// journal.set(4, 1, 7300)?; // foF2, in thousandths
 /// let savepoint = journal.open()?;
 /// journal.set(4, 1, 7400)?;
@@ -366,7 +389,7 @@ pub fn rewrite_record(rules: Rules, text: &[u8], at: usize, table: &mut [i64], o
 /// assert_eq!((journal.cells()[23], journal.used()), (7300, 52));
 ///
 /// let mut file = journal.bytes().to_vec();
-/// let (replayed, savepoints) = seambeacon::Journal::replay(&counts, &mut began, &mut file, 52)?;
+/// let (replayed, savepoints) = seambeacon::Journal::replay(rules, &counts, &mut began, &mut file, 52)?;
 /// assert_eq!((replayed.cells()[23], savepoints), (7300, 1));
 /// # Ok::<(), seambeacon::Refusal>(())
 /// ```
@@ -378,14 +401,14 @@ pub struct Journal<'a> {
 
 impl<'a> Journal<'a> {
     /// A fresh journal, of which no byte is used, over the cells that edits begin with.
-    pub fn new(counts: &'a [u16], cells: &'a mut [i64], journal: &'a mut [u8]) -> Self {
-        Self::resume(counts, cells, journal, 0)
+    pub fn new(rules: Rules, counts: &'a [u16], cells: &'a mut [i64], journal: &'a mut [u8]) -> Self {
+        Self::resume(rules, counts, cells, journal, 0)
     }
 
     /// A journal that is taken up again: the cells are what its calls made of them. Its used bytes are looked at by the first call, field by
     /// field; old values are compared in replay alone.
-    pub fn resume(counts: &'a [u16], cells: &'a mut [i64], journal: &'a mut [u8], used: usize) -> Self {
-        Journal { lent: raw::Edited { counts, cells, journal, used } }
+    pub fn resume(rules: Rules, counts: &'a [u16], cells: &'a mut [i64], journal: &'a mut [u8], used: usize) -> Self {
+        Journal { lent: raw::Edited { rules: rules.flags(), counts, cells, journal, used } }
     }
 
     /// A journal whose calls are made again, over the cells that they began with: the journal, on which calls can go on, and how many
@@ -395,8 +418,8 @@ impl<'a> Journal<'a> {
     ///
     /// 4, 5, 6, 7, 14 or 17, whichever is due first. The cells are as they were. Where the last field was cut short, 17 has its place, and so
     /// many bytes of the journal can be replayed.
-    pub fn replay(counts: &'a [u16], cells: &'a mut [i64], journal: &'a mut [u8], used: usize) -> Result<(Self, usize), Refusal> {
-        let mut replayed = Self::resume(counts, cells, journal, used);
+    pub fn replay(rules: Rules, counts: &'a [u16], cells: &'a mut [i64], journal: &'a mut [u8], used: usize) -> Result<(Self, usize), Refusal> {
+        let mut replayed = Self::resume(rules, counts, cells, journal, used);
         let mut open = 0;
         raw::replay(&mut replayed.lent, &mut open).done(0)?;
         Ok((replayed, open))
@@ -460,7 +483,7 @@ impl<'a> Journal<'a> {
 #[cfg(test)]
 mod tests {
     use super::raw::{Beside, Reply};
-    use super::Refusal;
+    use super::{Counting, Refusal, Rules};
 
     /// Numbers that differ from each other, so that one in another's place is seen.
     const BESIDE: Beside = Beside { next: 101, written: 102, group: 103, line: 104, element: 105, position: 106, savepoint: 108, place: 109 };
@@ -502,6 +525,19 @@ mod tests {
             assert_eq!(refusal(number), Refusal::Unknown { number });
             assert_eq!(refusal(number).number(), number);
         }
+    }
+
+    /// R365.
+    #[test]
+    fn rules_are_a_sum_of_flags() {
+        for (ended, ends) in [(Rules::default(), 0), (Rules::strict(), 1)] {
+            for (counting, counts) in [(Counting::Elements, 0), (Counting::Entries, 2)] {
+                assert_eq!(ended.counting(counting).flags(), ends + counts);
+                assert_eq!(ended.counting(Counting::Entries).counting(counting).flags(), ends + counts);
+            }
+            assert_eq!(ended.counting(Counting::Elements), ended);
+        }
+        assert_eq!(Rules::default(), Rules { strict: false, counting: Counting::Elements });
     }
 
     #[test]

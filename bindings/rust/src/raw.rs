@@ -66,6 +66,7 @@ extern "C" {
         beside: *mut Beside,
     ) -> u32;
     fn seambeacon_write_record(
+        rules: u32,
         counts: *const u16,
         counts_length: usize,
         cells: *const i64,
@@ -88,6 +89,7 @@ extern "C" {
         beside: *mut Beside,
     ) -> u32;
     fn seambeacon_set_cell(
+        rules: u32,
         counts: *const u16,
         counts_length: usize,
         cells: *mut i64,
@@ -101,6 +103,7 @@ extern "C" {
         beside: *mut Beside,
     ) -> u32;
     fn seambeacon_open_savepoint(
+        rules: u32,
         counts: *const u16,
         counts_length: usize,
         cells: *const i64,
@@ -111,6 +114,7 @@ extern "C" {
         beside: *mut Beside,
     ) -> u32;
     fn seambeacon_release_savepoint(
+        rules: u32,
         counts: *const u16,
         counts_length: usize,
         cells: *const i64,
@@ -122,6 +126,7 @@ extern "C" {
         beside: *mut Beside,
     ) -> u32;
     fn seambeacon_undo_to_savepoint(
+        rules: u32,
         counts: *const u16,
         counts_length: usize,
         cells: *mut i64,
@@ -133,6 +138,7 @@ extern "C" {
         beside: *mut Beside,
     ) -> u32;
     fn seambeacon_replay(
+        rules: u32,
         counts: *const u16,
         counts_length: usize,
         cells: *mut i64,
@@ -172,10 +178,10 @@ pub fn characteristic(rules: u32, text: &[u8], at: usize, number: usize, kind: &
     reply(|beside| unsafe { seambeacon_characteristic(rules, text.as_ptr(), text.len(), at, number, kind, value, beside) })
 }
 
-pub fn write_record(counts: &[u16], cells: &[i64], out: &mut [u8]) -> Reply {
+pub fn write_record(rules: u32, counts: &[u16], cells: &[i64], out: &mut [u8]) -> Reply {
     // SAFETY: as the head of this file says.
     reply(|beside| unsafe {
-        seambeacon_write_record(counts.as_ptr(), counts.len(), cells.as_ptr(), cells.len(), out.as_mut_ptr(), out.len(), beside)
+        seambeacon_write_record(rules, counts.as_ptr(), counts.len(), cells.as_ptr(), cells.len(), out.as_mut_ptr(), out.len(), beside)
     })
 }
 
@@ -205,6 +211,7 @@ pub fn rewrite_record(rules: u32, text: &[u8], at: usize, table: &mut [i64], out
 /// What the calls of a journal are lent.
 #[derive(Debug)]
 pub struct Edited<'a> {
+    pub rules: u32,
     pub counts: &'a [u16],
     pub cells: &'a mut [i64],
     pub journal: &'a mut [u8],
@@ -212,10 +219,11 @@ pub struct Edited<'a> {
 }
 
 pub fn set_cell(lent: &mut Edited<'_>, group: usize, cell: usize, value: i64) -> Reply {
-    let Edited { counts, cells, journal, used } = lent;
+    let Edited { rules, counts, cells, journal, used } = lent;
     // SAFETY: as the head of this file says.
     reply(|beside| unsafe {
         seambeacon_set_cell(
+            *rules,
             counts.as_ptr(),
             counts.len(),
             cells.as_mut_ptr(),
@@ -232,18 +240,29 @@ pub fn set_cell(lent: &mut Edited<'_>, group: usize, cell: usize, value: i64) ->
 }
 
 pub fn open_savepoint(lent: &mut Edited<'_>) -> Reply {
-    let Edited { counts, cells, journal, used } = lent;
+    let Edited { rules, counts, cells, journal, used } = lent;
     // SAFETY: as the head of this file says.
     reply(|beside| unsafe {
-        seambeacon_open_savepoint(counts.as_ptr(), counts.len(), cells.as_ptr(), cells.len(), journal.as_mut_ptr(), journal.len(), used, beside)
+        seambeacon_open_savepoint(
+            *rules,
+            counts.as_ptr(),
+            counts.len(),
+            cells.as_ptr(),
+            cells.len(),
+            journal.as_mut_ptr(),
+            journal.len(),
+            used,
+            beside,
+        )
     })
 }
 
 pub fn release_savepoint(lent: &mut Edited<'_>, savepoint: usize) -> Reply {
-    let Edited { counts, cells, journal, used } = lent;
+    let Edited { rules, counts, cells, journal, used } = lent;
     // SAFETY: as the head of this file says.
     reply(|beside| unsafe {
         seambeacon_release_savepoint(
+            *rules,
             counts.as_ptr(),
             counts.len(),
             cells.as_ptr(),
@@ -258,10 +277,11 @@ pub fn release_savepoint(lent: &mut Edited<'_>, savepoint: usize) -> Reply {
 }
 
 pub fn undo_to_savepoint(lent: &mut Edited<'_>, savepoint: usize) -> Reply {
-    let Edited { counts, cells, journal, used } = lent;
+    let Edited { rules, counts, cells, journal, used } = lent;
     // SAFETY: as the head of this file says.
     reply(|beside| unsafe {
         seambeacon_undo_to_savepoint(
+            *rules,
             counts.as_ptr(),
             counts.len(),
             cells.as_mut_ptr(),
@@ -276,9 +296,20 @@ pub fn undo_to_savepoint(lent: &mut Edited<'_>, savepoint: usize) -> Reply {
 }
 
 pub fn replay(lent: &mut Edited<'_>, open: &mut usize) -> Reply {
-    let Edited { counts, cells, journal, used } = lent;
+    let Edited { rules, counts, cells, journal, used } = lent;
     // SAFETY: as the head of this file says.
     reply(|beside| unsafe {
-        seambeacon_replay(counts.as_ptr(), counts.len(), cells.as_mut_ptr(), cells.len(), journal.as_ptr(), journal.len(), *used, open, beside)
+        seambeacon_replay(
+            *rules,
+            counts.as_ptr(),
+            counts.len(),
+            cells.as_mut_ptr(),
+            cells.len(),
+            journal.as_ptr(),
+            journal.len(),
+            *used,
+            open,
+            beside,
+        )
     })
 }

@@ -1,10 +1,10 @@
-//! The edit journal on record S, and on the scripts of tests/vectors/W5 with the answers of an independent implementation. Fields are put
-//! together here byte by byte: a tag, a length of two bytes that counts what follows it, and what the call has, high byte first.
+//! The edit journal on record S, and on the scripts of tests/vectors/W5 and tests/vectors/W10 with the answers of an independent implementation.
+//! Fields are put together here byte by byte: a tag, a length of two bytes that counts what follows it, and what the call has, high byte first.
 
 mod common;
 
 use common::{bytes, cells_of_s, counts_of_s};
-use seambeacon::{Journal, Refusal};
+use seambeacon::{Counting, Journal, Refusal, Rules};
 
 /// A byte that is in no field, to see what is kept.
 const BYTE: u8 = 0xa5;
@@ -27,7 +27,7 @@ fn with_fof2(value: i64) -> Vec<i64> {
 #[test]
 fn sets_savepoints_and_their_fields() {
     let (counts, mut cells, mut buffer) = (counts_of_s(), cells_of_s(), [BYTE; 200]);
-    let mut journal = Journal::new(&counts, &mut cells, &mut buffer);
+    let mut journal = Journal::new(Rules::default(), &counts, &mut cells, &mut buffer);
     assert_eq!((journal.used(), journal.bytes().len()), (0, 0));
     assert_eq!(journal.set(4, 1, 7300), Ok(()));
     assert_eq!(journal.open(), Ok(1));
@@ -67,7 +67,7 @@ fn sets_savepoints_and_their_fields() {
 /// The four calls on a journal, each refused with this; neither cells nor journal nor used bytes are altered.
 fn refused_all(counts: &[u16], cells: &[i64], journal: &[u8], used: usize, want: [Refusal; 4]) {
     let (mut cells_now, mut buffer) = (cells.to_vec(), journal.to_vec());
-    let mut edited = Journal::resume(counts, &mut cells_now, &mut buffer, used);
+    let mut edited = Journal::resume(Rules::default(), counts, &mut cells_now, &mut buffer, used);
     assert_eq!(edited.set(4, 1, 1), Err(want[0]));
     assert_eq!(edited.open(), Err(want[1]));
     assert_eq!(edited.release(1), Err(want[2]));
@@ -80,7 +80,7 @@ fn refused_all(counts: &[u16], cells: &[i64], journal: &[u8], used: usize, want:
 fn refused_with_replay(counts: &[u16], cells: &[i64], journal: &[u8], used: usize, want: Refusal) {
     refused_all(counts, cells, journal, used, [want; 4]);
     let (mut cells_now, mut buffer) = (cells.to_vec(), journal.to_vec());
-    assert_eq!(Journal::replay(counts, &mut cells_now, &mut buffer, used).err(), Some(want));
+    assert_eq!(Journal::replay(Rules::default(), counts, &mut cells_now, &mut buffer, used).err(), Some(want));
     assert_eq!((&cells_now[..], &buffer[..]), (cells, journal));
 }
 
@@ -125,7 +125,7 @@ fn replies_about_the_journal() {
 #[test]
 fn cells_that_are_not_there() {
     let (counts, mut cells, mut buffer) = (counts_of_s(), cells_of_s(), [BYTE; 100]);
-    let mut journal = Journal::new(&counts, &mut cells, &mut buffer);
+    let mut journal = Journal::new(Rules::default(), &counts, &mut cells, &mut buffer);
     for (group, cell) in [(0, 1), (61, 1), (2, 1), (4, 0), (4, 2), (1, 5), (3, 20), (4, 65537), (260, 1), (usize::MAX, 1), (4, usize::MAX)] {
         assert_eq!(journal.set(group, cell, 1), Err(Refusal::NoSuchNumber), "{group} {cell}");
     }
@@ -136,7 +136,7 @@ fn cells_that_are_not_there() {
 #[test]
 fn sixteen_savepoints() {
     let (counts, mut cells, mut buffer) = (counts_of_s(), cells_of_s(), [BYTE; 100]);
-    let mut journal = Journal::new(&counts, &mut cells, &mut buffer);
+    let mut journal = Journal::new(Rules::default(), &counts, &mut cells, &mut buffer);
     for savepoint in 1..=16 {
         assert_eq!(journal.open(), Ok(savepoint));
     }
@@ -162,7 +162,7 @@ struct After {
 fn session() -> (Vec<u8>, Vec<After>) {
     let (counts, mut cells, mut buffer) = (counts_of_s(), cells_of_s(), [0; 200]);
     let mut after = vec![After { used: 0, cells: cells.clone(), open: 0 }];
-    let mut journal = Journal::new(&counts, &mut cells, &mut buffer);
+    let mut journal = Journal::new(Rules::default(), &counts, &mut cells, &mut buffer);
     for (step, open) in [0, 1, 1, 2, 2, 1, 0].into_iter().enumerate() {
         match step {
             0 => journal.set(4, 1, 7300),
@@ -188,10 +188,14 @@ fn a_torn_journal() {
         let (mut cells, mut buffer) = (cells_of_s(), [BYTE; 200]);
         buffer[..length].copy_from_slice(&whole[..length]);
         if *used < length {
-            assert_eq!(Journal::replay(&counts, &mut cells, &mut buffer, length).err(), Some(Refusal::BadEntry { place: *used }));
+            assert_eq!(
+                Journal::replay(Rules::default(), &counts, &mut cells, &mut buffer, length).err(),
+                Some(Refusal::BadEntry { place: *used })
+            );
             assert_eq!(cells, cells_of_s());
         }
-        let (mut journal, found) = Journal::replay(&counts, &mut cells, &mut buffer, *used).expect("the fields before the cut");
+        let (mut journal, found) =
+            Journal::replay(Rules::default(), &counts, &mut cells, &mut buffer, *used).expect("the fields before the cut");
         assert_eq!((found, journal.used(), journal.cells()), (*open, *used, &want[..]));
         assert_eq!(journal.open(), Ok(open + 1));
         assert_eq!(journal.set(4, 1, 5), Ok(()));
@@ -205,7 +209,7 @@ fn a_torn_journal() {
 fn an_old_value_that_differs() {
     let (counts, (whole, _)) = (counts_of_s(), session());
     let (mut cells, mut buffer) = (with_fof2(7251), whole.clone());
-    assert_eq!(Journal::replay(&counts, &mut cells, &mut buffer, whole.len()).err(), Some(Refusal::BadEntry { place: 0 }));
+    assert_eq!(Journal::replay(Rules::default(), &counts, &mut cells, &mut buffer, whole.len()).err(), Some(Refusal::BadEntry { place: 0 }));
     assert_eq!((cells, buffer), (with_fof2(7251), whole));
 }
 
@@ -268,16 +272,28 @@ fn call(words: &mut Words, verb: &str, mut journal: Journal) -> usize {
     journal.used()
 }
 
-#[test]
-fn scripts() {
-    let file = String::from_utf8(bytes("tests/vectors/W5/journal.txt")).expect("ASCII");
-    let (mut counts, mut cells, mut buffer, mut used, mut replayed) = (Vec::new(), Vec::new(), Vec::new(), 0, None);
-    let (mut calls, mut replays) = (0, 0);
+/// The word before a script or a replay, if there is one, says what a count of group 40 counts; else it counts elements.
+fn counted(line: &str) -> (Rules, &str) {
+    let entries = Rules::default().counting(Counting::Entries);
+    match (line.strip_prefix("entries "), line.strip_prefix("elements ")) {
+        (Some(rest), _) => (entries, rest),
+        (_, Some(rest)) => (Rules::default(), rest),
+        _ => (Rules::default(), line),
+    }
+}
+
+/// Every line of a file of scripts: how many calls and replays there were.
+fn scripts(name: &str) -> (usize, usize) {
+    let file = String::from_utf8(bytes(name)).expect("ASCII");
+    let (mut rules, mut counts, mut cells, mut buffer, mut used) = (Rules::default(), Vec::new(), Vec::new(), Vec::new(), 0);
+    let (mut replayed, mut calls, mut replays) = (None, 0, 0);
     for line in file.lines() {
-        let mut words = Words(line.split(' '));
+        let (told, rest) = counted(line);
+        let mut words = Words(rest.split(' '));
         match words.word() {
             "#" => (),
             start @ ("start" | "begin") => {
+                rules = told;
                 (counts, cells) = words.counts_and_cells();
                 let room = words.size();
                 (used, buffer) = if start == "begin" { (words.size(), words.hexadecimal()) } else { (0, Vec::new()) };
@@ -285,14 +301,14 @@ fn scripts() {
                 replayed = None;
             }
             verb @ ("set" | "open" | "release" | "undo") => {
-                used = call(&mut words, verb, Journal::resume(&counts, &mut cells, &mut buffer, used));
+                used = call(&mut words, verb, Journal::resume(rules, &counts, &mut cells, &mut buffer, used));
                 assert!(buffer.iter().skip(used).all(|&byte| byte == BYTE), "{line}");
                 calls += 1;
             }
             "replay" => {
                 let (counts, mut cells) = words.counts_and_cells();
                 let (used, mut journal) = (words.size(), words.hexadecimal());
-                let answer = Journal::replay(&counts, &mut cells, &mut journal, used);
+                let answer = Journal::replay(told, &counts, &mut cells, &mut journal, used);
                 let open = answer.as_ref().map_or(0, |(_, open)| *open);
                 assert_eq!(answered(answer.map(|_| 0), open), words.answer());
                 replayed = Some(cells);
@@ -303,5 +319,15 @@ fn scripts() {
             other => panic!("{other}"),
         }
     }
-    assert_eq!((calls, replays), (1717, 210));
+    (calls, replays)
+}
+
+#[test]
+fn scripts_by_elements() {
+    assert_eq!(scripts("tests/vectors/W5/journal.txt"), (1717, 210));
+}
+
+#[test]
+fn scripts_by_elements_and_by_entries() {
+    assert_eq!(scripts("tests/vectors/W10/journal.txt"), (208, 18));
 }

@@ -30,7 +30,7 @@ fn no_text_at_all() {
     assert_eq!(seambeacon::read_group(Rules::default(), &[], 0, 1, &mut []), Err(Refusal::End));
     assert_eq!(seambeacon::group_lines(Rules::default(), &[], 0, 1), Err(Refusal::End));
     assert_eq!(seambeacon::characteristic(Rules::default(), &[], 0, 1), Err(Refusal::End));
-    assert_eq!(seambeacon::write_record(&[], &[], &mut []), Err(Refusal::Misformed));
+    assert_eq!(seambeacon::write_record(Rules::default(), &[], &[], &mut []), Err(Refusal::Misformed));
     assert_eq!(seambeacon::list(Rules::default(), &[], &mut []), Err(Refusal::NoRoom));
     assert_eq!(seambeacon::rewrite_record(Rules::default(), &[], 0, &mut [], &mut []), Err(Refusal::End));
 }
@@ -132,13 +132,13 @@ fn writing_s_into_outputs_of_each_length() {
     let (text, counts, cells) = (s(), counts_of_s(), cells_of_s());
     for more in 0..3 {
         let mut out = vec![BYTE; text.len() + more];
-        assert_eq!(seambeacon::write_record(&counts, &cells, &mut out), Ok(305));
+        assert_eq!(seambeacon::write_record(Rules::default(), &counts, &cells, &mut out), Ok(305));
         assert_eq!(&out[..305], &text[..]);
         assert!(out[305..].iter().all(|&byte| byte == BYTE));
     }
     for length in [0, 1, 304] {
         let mut out = vec![BYTE; length];
-        assert_eq!(seambeacon::write_record(&counts, &cells, &mut out), Err(Refusal::NoRoom));
+        assert_eq!(seambeacon::write_record(Rules::default(), &counts, &cells, &mut out), Err(Refusal::NoRoom));
         assert!(out.iter().all(|&byte| byte == BYTE));
     }
 }

@@ -1,10 +1,10 @@
-//! The texts and write questions of tests/vectors, with the answers of an independent implementation, under the usual rules and under the
-//! strict line end: lists, rewritten records, every answer about every placed record, and everything that is written.
+//! The texts and write questions of tests/vectors, with the answers of an independent implementation, under the usual rules, the strict line end,
+//! counts of entries, and both: lists, rewritten records, every answer about every placed record, and everything that is written.
 
 mod common;
 
 use common::{bytes, project, rewritten};
-use seambeacon::{Characteristic, Placing, Refusal, Rules};
+use seambeacon::{Characteristic, Counting, Placing, Refusal, Rules};
 use std::cell::Cell;
 use std::fmt::Write;
 use std::fs;
@@ -20,22 +20,58 @@ fn texts() -> Vec<(String, Vec<u8>)> {
             all.push((format!("tests/vectors/{stem}"), text));
         }
     }
-    assert!(all.len() >= 190, "{} texts", all.len());
+    assert!(all.len() >= 231, "{} texts", all.len());
     all
 }
 
-/// Under each of the rules: what is asked of a text, and what it has to answer. Where strict has no answer of its own, it is the usual one.
+/// A file of the vectors, if it is there.
+fn there(name: String) -> Option<String> {
+    project(&name).exists().then_some(name)
+}
+
+/// Each line of a text ends with both bytes, so that the strict line end is the usual one (R9).
+fn with_returns(text: &[u8]) -> bool {
+    (0..text.len()).all(|at| text[at] != b'\n' || at > 0 && text[at - 1] == b'\r')
+}
+
+/// No record of a walk has a count of group 40 above 1, so that entries are elements (R13). Where the walk stops it does so by either rule: entries
+/// have never fewer lines, so 3 stays 3, and the other replies are given before lines are counted (R251).
+fn few(dump: &str) -> bool {
+    let rows = String::from_utf8(bytes(dump)).expect("ASCII");
+    let mut counts = rows.lines().filter(|row| row.starts_with("record ")).map(|row| row.split(' ').nth(44).expect("80 counts"));
+    counts.all(|count| matches!(count, "0" | "1"))
+}
+
+/// The file that has the answer of a text under rules with an own name; where there is none, that of other rules which are the same to this text.
+/// Texts without files for entries have one for strict wherever strict answers otherwise.
+fn answer(path: &str, text: &[u8], rules: &str, kind: &str) -> Option<String> {
+    let (usual, of) = (format!("{path}.{kind}"), |rules: &str| there(format!("{path}.{rules}.{kind}")));
+    of(rules).or_else(|| match (rules, of("entries"), of("strict")) {
+        ("strict", None, _) => Some(usual),
+        ("strict", ..) => with_returns(text).then_some(usual),
+        ("entries", ..) => few(&format!("{path}.dump")).then_some(usual),
+        (_, Some(entries), _) => with_returns(text).then_some(entries),
+        (_, None, strict) => strict.filter(|_| few(&there(format!("{path}.strict.dump")).unwrap_or(format!("{path}.dump")))),
+    })
+}
+
+/// Under each of the rules: what is asked of a text, and what it has to answer.
 fn compared(kind: &str, asked: impl Fn(Rules, &[u8]) -> Vec<u8>) {
-    let mut other = 0;
+    let entries = |rules: Rules| rules.counting(Counting::Entries);
+    let others = [("strict", Rules::strict()), ("entries", entries(Rules::default())), ("strict-entries", entries(Rules::strict()))];
+    let (mut many, mut own) = ([0; 3], [0; 3]);
     for (path, text) in texts() {
-        let (usual, strict) = (format!("{path}.{kind}"), format!("{path}.strict.{kind}"));
+        let usual = format!("{path}.{kind}");
         assert!(asked(Rules::default(), &text) == bytes(&usual), "{usual}");
-        let differs = project(&strict).exists();
-        let answer = if differs { &strict } else { &usual };
-        assert!(asked(Rules::strict(), &text) == bytes(answer), "{answer}, strict");
-        other += usize::from(differs);
+        for (i, (name, rules)) in others.into_iter().enumerate() {
+            let Some(answer) = answer(&path, &text, name, kind) else { continue };
+            assert!(asked(rules, &text) == bytes(&answer), "{answer}, {name}");
+            many[i] += 1;
+            own[i] += usize::from(answer != usual);
+        }
     }
-    assert!(other >= 40, "{other} answers of strict alone");
+    assert!(many[0] >= 223 && many[1] >= 194 && many[2] >= 72, "{many:?} answers");
+    assert!(own[0] >= 50 && own[1] >= 34 && own[2] >= 72, "{own:?} answers that are no usual ones");
 }
 
 #[test]
@@ -66,7 +102,7 @@ fn numbers(why: Refusal) -> [usize; 3] {
 
 /// A dump's `group` row: the group, the reply with its two numbers, where its lines start and end, its cells.
 fn group_row(rules: Rules, text: &[u8], at: usize, group: usize) -> String {
-    let mut table = [0; 2000];
+    let mut table = [0; 12000];
     let ([reply, a, b], cells) = match seambeacon::read_group(rules, text, at, group, &mut table) {
         Ok(cells) => ([0, cells, 0], cells),
         Err(why) => (numbers(why), 0),
@@ -131,12 +167,14 @@ fn every_answer_about_every_record() {
 }
 
 /// A line is a question to write: the output's room, the counts, the cells; and its answer: the reply, two numbers (bytes, group or position;
-/// element), the text in hexadecimal.
-#[test]
-fn write_questions() {
-    let file = String::from_utf8(bytes("tests/vectors/writes.txt")).expect("ASCII");
-    let (mut asked, mut written) = (0, 0);
-    for question in file.lines() {
+/// element), the text in hexadecimal. Told is how many questions there are, and how many are answered with 0. The word `entries` or `elements` may stand before it, and is `elements` where there is none; entries are asked too where
+/// they are elements.
+fn written(name: &str) -> [usize; 2] {
+    let entries = Rules::default().counting(Counting::Entries);
+    let file = String::from_utf8(bytes(name)).expect("ASCII");
+    let (mut asked, mut done) = (0, 0);
+    for line in file.lines() {
+        let question = line.strip_prefix("entries ").or(line.strip_prefix("elements ")).unwrap_or(line);
         let mut words = question.split(' ');
         let mut number = || words.next().expect("a number").parse::<i64>().expect("a number");
         let (room, many) = (number() as usize, number());
@@ -147,18 +185,34 @@ fn write_questions() {
         let hex = words.next().expect("hexadecimal").trim_end_matches('-');
         let mut output: Vec<u8> = (0..hex.len()).step_by(2).map(|i| u8::from_str_radix(&hex[i..i + 2], 16).expect("a byte")).collect();
         output.resize(room, 0xa5);
+        assert_eq!(words.next(), None);
 
-        let mut out = vec![0xa5; room];
-        let got = match seambeacon::write_record(&counts, &cells, &mut out) {
-            Ok(bytes) => [0, bytes, 0],
-            Err(Refusal::NoField { group, element }) => [13, group, element],
-            Err(why) => numbers(why),
-        };
         asked += 1;
-        written += usize::from(want[0] == 0);
-        assert_eq!((got, words.next()), (want, None), "question {asked}");
-        assert!(out == output, "question {asked}");
+        done += usize::from(want[0] == 0);
+        let told = if line.starts_with("entries ") { entries } else { Rules::default() };
+        let alike = counts.get(39).is_some_and(|&count| count <= 1);
+        for rules in [told, if alike { entries } else { told }] {
+            let mut out = vec![0xa5; room];
+            let got = match seambeacon::write_record(rules, &counts, &cells, &mut out) {
+                Ok(bytes) => [0, bytes, 0],
+                Err(Refusal::NoField { group, element }) => [13, group, element],
+                Err(why) => numbers(why),
+            };
+            assert_eq!(got, want, "{name}, question {asked}");
+            assert!(out == output, "{name}, question {asked}");
+        }
     }
-    assert_eq!(asked, 136);
-    assert!(written >= 20, "{written} written");
+    [asked, done]
+}
+
+#[test]
+fn write_questions() {
+    let [asked, done] = written("tests/vectors/writes.txt");
+    assert!(asked == 136 && done >= 20, "{asked} asked, {done} written");
+}
+
+#[test]
+fn write_questions_by_elements_and_by_entries() {
+    let [asked, done] = written("tests/vectors/W10/writes.txt");
+    assert!(asked == 133 && done >= 20, "{asked} asked, {done} written");
 }

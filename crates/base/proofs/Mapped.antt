@@ -34,3 +34,8 @@ pub getD-map-within : {A B : Type 0} (f : A → B) (xs : List A) (k : ℕ) (d : 
 getD-map-within f [] k d e h = absurd (not-suc-le-zero h)
 getD-map-within f (x ∷ xs) zero d e h = refl
 getD-map-within f (x ∷ xs) (suc k) d e h = getD-map-within f xs k d e (le-of-suc-le-suc h)
+
+-- and of functions that give the same
+pub map-same : {A B : Type 0} (f h : A → B) → ((a : A) → f a ≡ h a) → (xs : List A) → map f xs ≡ map h xs
+map-same f h e [] = refl
+map-same f h e (x ∷ xs) = rw (e x, map-same f h e xs)

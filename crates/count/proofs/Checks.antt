@@ -5,6 +5,7 @@ use mathlib.Core.Bool.{true, false}
 use mathlib.Core.List.{List}
 use Prim.Native.Nat.{ℕ}
 use borrow.Author.Tests.{eq-eqb, ne-eqb}
+use Rattle.rules.specs.declared.Rules.{Rules}
 use Rattle.count.specs.Tally.{cellsBefore, recordCells}
 use Rattle.count.specs.Rules.{releaseOf, rulingOf}
 use Rattle.count.specs.Check.{wellFormed, checkedOf}
@@ -14,30 +15,30 @@ use Rattle.reply.specs.declared.Refusal.the-variants.{Misformed, OtherRelease, 
 use Rattle.reply.specs.declared.Checked.the-variants.{Right, Refused}
 use Rattle.count.proofs.Tallied.{all-cells}
 
-module _ (ns : List ℕ) (cells : ℕ) where
-  pub checked-misformed : wellFormed ns ≡ false → checkedOf ns cells ≡ Refused Misformed
+module _ (ρ : Rules) (ns : List ℕ) (cells : ℕ) where
+  pub checked-misformed : wellFormed ns ≡ false → checkedOf ρ ns cells ≡ Refused Misformed
   unfolding checkedOf
   checked-misformed w = rw w
 
   module _ (w : wellFormed ns ≡ true) where
-    pub checked-release : releaseOf ns ≡ Other → checkedOf ns cells ≡ Refused OtherRelease
+    pub checked-release : releaseOf ns ≡ Other → checkedOf ρ ns cells ≡ Refused OtherRelease
     unfolding checkedOf
     checked-release r = rw (w, r)
 
-    pub checked-filled : {g : ℕ} → releaseOf ns ≡ Filled g → checkedOf ns cells ≡ Refused (FilledVacant g)
+    pub checked-filled : {g : ℕ} → releaseOf ns ≡ Filled g → checkedOf ρ ns cells ≡ Refused (FilledVacant g)
     unfolding checkedOf
     checked-filled r = rw (w, r)
 
     module _ (r : releaseOf ns ≡ Five) where
-      pub checked-broken : {g : ℕ} → rulingOf ns ≡ Broken g → checkedOf ns cells ≡ Refused (BrokenRule g)
+      pub checked-broken : {g : ℕ} → rulingOf ns ≡ Broken g → checkedOf ρ ns cells ≡ Refused (BrokenRule g)
       unfolding checkedOf
       checked-broken k = rw (w, r, k)
 
       module _ (k : rulingOf ns ≡ Kept) where
-        pub checked-right : cells ≡ cellsBefore ns 61 → checkedOf ns cells ≡ Right
+        pub checked-right : cells ≡ cellsBefore ρ ns 61 → checkedOf ρ ns cells ≡ Right
         unfolding checkedOf
-        checked-right e = rw (w, r, k, eq-eqb cells (recordCells ns) (e ∙ all-cells ns))
+        checked-right e = rw (w, r, k, eq-eqb cells (recordCells ρ ns) (e ∙ all-cells ρ ns))
 
-        pub checked-length : (cells ≡ cellsBefore ns 61 → ⊥) → checkedOf ns cells ≡ Refused OtherLength
+        pub checked-length : (cells ≡ cellsBefore ρ ns 61 → ⊥) → checkedOf ρ ns cells ≡ Refused OtherLength
         unfolding checkedOf
-        checked-length n = rw (w, r, k, ne-eqb cells (recordCells ns) (λ e. n (e ∙ sym (all-cells ns))))
+        checked-length n = rw (w, r, k, ne-eqb cells (recordCells ρ ns) (λ e. n (e ∙ sym (all-cells ρ ns))))

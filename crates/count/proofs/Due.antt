@@ -9,6 +9,7 @@ use native.Mathlib.Omega.{arith}
 use borrow.Author.Tests.{eqb-true, eqb-false, eq-eqb}
 use lib.Dec.{T, eqb, leb→le, le→leb}
 use lib.ListN.{length, getD}
+use Rattle.rules.specs.declared.Rules.{Rules}
 use Rattle.base.specs.Every.{every}
 use Rattle.base.proofs.Choice.{true-T, T-true, and-first, and-second, not-T-false}
 use Rattle.base.proofs.Every.{every-at, at-every}
@@ -56,50 +57,50 @@ module _ (ns : List ℕ) where
   pub released : (r : Release) → Released ns r → releaseOf ns ≡ r
   released r h = release-given ns r (h .release)
 
-  module _ (cells : ℕ) where
-    -- none of the refusals, told by the answers about release and rules
-    pub has-cells : HasCounts ns → releaseOf ns ≡ Five → rulingOf ns ≡ Kept → cells ≡ recordCells ns → HasCells ns cells
-    has-cells h r k n =
-        record { rules = record { released = record { counts = h; release = rw r at (release-due ns) }; kept = ruling-kept ns k }; needed = n }
+module _ (ρ : Rules) (ns : List ℕ) (cells : ℕ) where
+  -- none of the refusals, told by the answers about release and rules
+  pub has-cells : HasCounts ns → releaseOf ns ≡ Five → rulingOf ns ≡ Kept → cells ≡ recordCells ρ ns → HasCells ρ ns cells
+  has-cells h r k n =
+      record { rules = record { released = record { counts = h; release = rw r at (release-due ns) }; kept = ruling-kept ns k }; needed = n }
 
-    -- ---- what is due is given
+  -- ---- what is due is given
 
-    given-refusal : (r : Refusal) → RefusedFor ns cells r → checkedOf ns cells ≡ Refused r
-    given-refusal r (misformed d) = checked-misformed ns cells (not-formed d)
-    given-refusal r (other-release d) = checked-release ns cells (counts-formed (d .counts)) (released Other d)
-    given-refusal r (filled-vacant g d) = checked-filled ns cells (counts-formed (d .counts)) (released (Filled g) d)
-    given-refusal r (broken-rule g d) = checked-broken ns cells (counts-formed (d .released .counts)) (released Five (d .released)) (broken-ruling ns (d .broken))
-    given-refusal r (other-length d) =
-        checked-length ns cells (counts-formed (d .rules .released .counts)) (released Five (d .rules .released)) (kept-ruling ns (d .rules .kept)) (λ e. d .other (e ∙ all-cells ns))
+  given-refusal : (r : Refusal) → RefusedFor ρ ns cells r → checkedOf ρ ns cells ≡ Refused r
+  given-refusal r (misformed d) = checked-misformed ρ ns cells (not-formed ns d)
+  given-refusal r (other-release d) = checked-release ρ ns cells (counts-formed ns (d .counts)) (released ns Other d)
+  given-refusal r (filled-vacant g d) = checked-filled ρ ns cells (counts-formed ns (d .counts)) (released ns (Filled g) d)
+  given-refusal r (broken-rule g d) = checked-broken ρ ns cells (counts-formed ns (d .released .counts)) (released ns Five (d .released)) (broken-ruling ns (d .broken))
+  given-refusal r (other-length d) =
+      checked-length ρ ns cells (counts-formed ns (d .rules .released .counts)) (released ns Five (d .rules .released)) (kept-ruling ns (d .rules .kept)) (λ e. d .other (e ∙ all-cells ρ ns))
 
-    given : (c : Checked) → Due ns cells c → checkedOf ns cells ≡ c
-    given (Refused r) d = given-refusal r d
-    given Right d =
-        checked-right ns cells (counts-formed (d .rules .released .counts)) (released Five (d .rules .released)) (kept-ruling ns (d .rules .kept)) (d .needed ∙ sym (all-cells ns))
+  given : (c : Checked) → Due ρ ns cells c → checkedOf ρ ns cells ≡ c
+  given (Refused r) d = given-refusal r d
+  given Right d =
+      checked-right ρ ns cells (counts-formed ns (d .rules .released .counts)) (released ns Five (d .rules .released)) (kept-ruling ns (d .rules .kept)) (d .needed ∙ sym (all-cells ρ ns))
 
-    -- ---- what is given is due
+  -- ---- what is given is due
 
-    from-length : (t : Bool) → HasRules ns → eqb cells (recordCells ns) ≡ t → Due ns cells (cond t Right (Refused OtherLength))
-    from-length true h e = record { rules = h; needed = eqb-true cells (recordCells ns) e }
-    from-length false h e = other-length record { rules = h; other = eqb-false cells (recordCells ns) e }
+  from-length : (t : Bool) → HasRules ns → eqb cells (recordCells ρ ns) ≡ t → Due ρ ns cells (cond t Right (Refused OtherLength))
+  from-length true h e = record { rules = h; needed = eqb-true cells (recordCells ρ ns) e }
+  from-length false h e = other-length record { rules = h; other = eqb-false cells (recordCells ρ ns) e }
 
-    from-ruling : (k : Ruling) → Released ns Five → rulingOf ns ≡ k → Due ns cells (byRules ns cells k)
-    from-ruling Kept h e = from-length (eqb cells (recordCells ns)) record { released = h; kept = ruling-kept ns e } refl
-    from-ruling (Broken g) h e = broken-rule g record { released = h; broken = ruling-broken ns e }
+  from-ruling : (k : Ruling) → Released ns Five → rulingOf ns ≡ k → Due ρ ns cells (byRules ρ ns cells k)
+  from-ruling Kept h e = from-length (eqb cells (recordCells ρ ns)) record { released = h; kept = ruling-kept ns e } refl
+  from-ruling (Broken g) h e = broken-rule g record { released = h; broken = ruling-broken ns e }
 
-    from-release : (r : Release) → Released ns r → Due ns cells (byRelease ns cells r)
-    from-release Five h = from-ruling (rulingOf ns) h refl
-    from-release Other h = other-release h
-    from-release (Filled g) h = filled-vacant g h
+  from-release : (r : Release) → Released ns r → Due ρ ns cells (byRelease ρ ns cells r)
+  from-release Five h = from-ruling (rulingOf ns) h refl
+  from-release Other h = other-release h
+  from-release (Filled g) h = filled-vacant g h
 
-    from-formed : (t : Bool) → wellFormed ns ≡ t → Due ns cells (cond t (byRelease ns cells (releaseOf ns)) (Refused Misformed))
-    from-formed true e = from-release (releaseOf ns) record { counts = formed-counts e; release = release-due ns }
-    from-formed false e = misformed (λ h. let z = sym (counts-formed h) ∙ e in let y : _≡_ {A = ℕ} 0 1 = cc in omega arith)
+  from-formed : (t : Bool) → wellFormed ns ≡ t → Due ρ ns cells (cond t (byRelease ρ ns cells (releaseOf ns)) (Refused Misformed))
+  from-formed true e = from-release (releaseOf ns) record { counts = formed-counts ns e; release = release-due ns }
+  from-formed false e = misformed (λ h. let z = sym (counts-formed ns h) ∙ e in let y : _≡_ {A = ℕ} 0 1 = cc in omega arith)
 
-    is-due : Due ns cells (checkedOf ns cells)
-    unfolding checkedOf
-    is-due = from-formed (wellFormed ns) refl
+  is-due : Due ρ ns cells (checkedOf ρ ns cells)
+  unfolding checkedOf
+  is-due = from-formed (wellFormed ns) refl
 
-    -- the answer that is given is the one that is due, and no other is
-    pub first-due : (c : Checked) → checkedOf ns cells ≡ c ↔ Due ns cells c
-    first-due c = (λ e. subst (Due ns cells) e is-due, given c)
+  -- the answer that is given is the one that is due, and no other is
+  pub first-due : (c : Checked) → checkedOf ρ ns cells ≡ c ↔ Due ρ ns cells c
+  first-due c = (λ e. subst (Due ρ ns cells) e is-due, given c)

@@ -7,3 +7,4 @@ pub mod Checks
 pub mod Due
 pub mod Numbered
 pub mod Releases
+pub mod SameCounting

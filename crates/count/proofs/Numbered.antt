@@ -6,6 +6,7 @@ use mathlib.Core.Logic.{inl, inr}
 use Prim.Native.Nat.{ℕ}
 use native.Mathlib.Omega.{arith}
 use lib.Dec.{lit<}
+use Rattle.rules.specs.declared.Rules.{Rules}
 use Rattle.reply.specs.declared.Refusal.{Refusal}
 use Rattle.reply.specs.declared.Refusal.the-variants.{Misformed, OtherRelease, FilledVacant, BrokenRule, OtherLength}
 use Rattle.reply.specs.Table.{Numbered}
@@ -19,18 +20,18 @@ use Rattle.count.specs.Due.{RefusedFor, misformed, other-release, filled
 use Rattle.count.proofs.Due.{first-due}
 use Rattle.count.proofs.Rulings.{broken-group}
 
-pub check-refusal-numbered : (ns : List ℕ) (cells : ℕ) (r : Refusal) → RefusedFor ns cells r → Numbered (rows checkRefusals) (refusalReply r)
-check-refusal-numbered ns cells r (misformed d) = at-row 0 (rows checkRefusals) (refusalReply Misformed) (lit< tt) (refusal-fills Misformed tt)
-check-refusal-numbered ns cells r (other-release d) = at-row 1 (rows checkRefusals) (refusalReply OtherRelease) (lit< tt) (refusal-fills OtherRelease tt)
-check-refusal-numbered ns cells r (filled-vacant g d) =
+pub check-refusal-numbered : (ρ : Rules) (ns : List ℕ) (cells : ℕ) (r : Refusal) → RefusedFor ρ ns cells r → Numbered (rows checkRefusals) (refusalReply r)
+check-refusal-numbered ρ ns cells r (misformed d) = at-row 0 (rows checkRefusals) (refusalReply Misformed) (lit< tt) (refusal-fills Misformed tt)
+check-refusal-numbered ρ ns cells r (other-release d) = at-row 1 (rows checkRefusals) (refusalReply OtherRelease) (lit< tt) (refusal-fills OtherRelease tt)
+check-refusal-numbered ρ ns cells r (filled-vacant g d) =
     at-row 2 (rows checkRefusals) (refusalReply (FilledVacant g)) (lit< tt) (refusal-fills (FilledVacant g) (omega (arith, d .release .low), tt))
-check-refusal-numbered ns cells r (broken-rule g d) =
+check-refusal-numbered ρ ns cells r (broken-rule g d) =
     at-row 3 (rows checkRefusals) (refusalReply (BrokenRule g)) (lit< tt) (refusal-fills (BrokenRule g) (broken-group ns (d .broken) .0, tt))
-check-refusal-numbered ns cells r (other-length d) = at-row 4 (rows checkRefusals) (refusalReply OtherLength) (lit< tt) (refusal-fills OtherLength tt)
+check-refusal-numbered ρ ns cells r (other-length d) = at-row 4 (rows checkRefusals) (refusalReply OtherLength) (lit< tt) (refusal-fills OtherLength tt)
 
-pub check-numbered : (ns : List ℕ) (cells : ℕ) → Numbered checkRows (checkedReply (checkedOf ns cells))
-check-numbered ns cells = by (checkedOf ns cells) (first-due ns cells (checkedOf ns cells) .0 refl)
+pub check-numbered : (ρ : Rules) (ns : List ℕ) (cells : ℕ) → Numbered checkRows (checkedReply (checkedOf ρ ns cells))
+check-numbered ρ ns cells = by (checkedOf ρ ns cells) (first-due ρ ns cells (checkedOf ρ ns cells) .0 refl)
   where
-    by : (c : Checked) → Due ns cells c → Numbered checkRows (checkedReply c)
+    by : (c : Checked) → Due ρ ns cells c → Numbered checkRows (checkedReply c)
     by Right d = inl (fills 0 [] tt)
-    by (Refused r) d = inr (check-refusal-numbered ns cells r d)
+    by (Refused r) d = inr (check-refusal-numbered ρ ns cells r d)

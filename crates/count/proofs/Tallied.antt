@@ -8,6 +8,7 @@ use native.Mathlib.Numerals.{add-one}
 use native.Mathlib.Omega.{arith}
 use lib.ListN.{length, getD, take, length-map, List·getD-eq-default}
 use lib.Seq.{take-all}
+use Rattle.rules.specs.declared.Rules.{Rules}
 use Rattle.base.specs.Sum
 use Rattle.base.specs.Sum.{sum}
 use Rattle.base.specs.Every.{upFrom}
@@ -77,87 +78,87 @@ module _ (first : ℕ) (f : ℕ → ℕ) where
 
 -- ---- the lines and the cells before a group, a group more
 
-module _ (ns : List ℕ) where
-  pub before-none : Before ns 0 0 0
+module _ (ρ : Rules) (ns : List ℕ) where
+  pub before-none : Before ρ ns 0 0 0
   unfolding linesBefore cellsBefore lineTally cellTally
-  before-none = record { lines-are = sym (tally-none 2 (linesIn ns)); cells-are = sym (tally-none 0 (cellsIn ns)) }
+  before-none = record { lines-are = sym (tally-none 2 (linesIn ρ ns)); cells-are = sym (tally-none 0 (cellsIn ρ ns)) }
 
-  pub before-groups : Before ns 1 2 0
+  pub before-groups : Before ρ ns 1 2 0
   unfolding linesBefore cellsBefore lineTally cellTally
-  before-groups = record { lines-are = sym (tally-one 2 (linesIn ns)); cells-are = sym (tally-one 0 (cellsIn ns)) }
+  before-groups = record { lines-are = sym (tally-one 2 (linesIn ρ ns)); cells-are = sym (tally-one 0 (cellsIn ρ ns)) }
 
-  pub before-end : (g l c : ℕ) → Before ns (min g 61) l c → Before ns g l c
+  pub before-end : (g l c : ℕ) → Before ρ ns (min g 61) l c → Before ρ ns g l c
   unfolding linesBefore cellsBefore lineTally cellTally
   before-end g l c b =
-      record { lines-are = b .lines-are ∙ tally-end 2 (linesIn ns) g; cells-are = b .cells-are ∙ tally-end 0 (cellsIn ns) g }
+      record { lines-are = b .lines-are ∙ tally-end 2 (linesIn ρ ns) g; cells-are = b .cells-are ∙ tally-end 0 (cellsIn ρ ns) g }
 
-  module _ (g l c : ℕ) (some : 0 < g) (few : g < 61) (b : Before ns g l c) where
-    more : Before ns (g + 1) (l + linesIn ns g) (c + cellsIn ns g)
+  module _ (g l c : ℕ) (some : 0 < g) (few : g < 61) (b : Before ρ ns g l c) where
+    more : Before ρ ns (g + 1) (l + linesIn ρ ns g) (c + cellsIn ρ ns g)
     unfolding linesBefore cellsBefore lineTally cellTally
     more = record {
-      lines-are = rw (b .lines-are) (sym (tally-more 2 (linesIn ns) g some few));
-      cells-are = rw (b .cells-are) (sym (tally-more 0 (cellsIn ns) g some few));
+      lines-are = rw (b .lines-are) (sym (tally-more 2 (linesIn ρ ns) g some few));
+      cells-are = rw (b .cells-are) (sym (tally-more 0 (cellsIn ρ ns) g some few));
     }
 
-    pub before-more : (f : Form) → formOf g ≡ Has f → Before ns (g + 1) (l + linesOf f (countOf ns g)) (c + cellsOf f (countOf ns g))
+    pub before-more : (f : Form) → formOf g ≡ Has f → Before ρ ns (g + 1) (l + linesOf ρ f (countOf ns g)) (c + cellsOf ρ f (countOf ns g))
     unfolding linesIn cellsIn
     before-more f e =
-        let p : linesIn ns g ≡ linesOf f (countOf ns g) = lines-by f e in
-        let q : cellsIn ns g ≡ cellsOf f (countOf ns g) = cells-by f e in
+        let p : linesIn ρ ns g ≡ linesOf ρ f (countOf ns g) = lines-by f e in
+        let q : cellsIn ρ ns g ≡ cellsOf ρ f (countOf ns g) = cells-by f e in
         rw (← p, ← q) more
       where
-        lines-by : (f : Form) → formOf g ≡ Has f → linesIn ns g ≡ linesOf f (countOf ns g)
+        lines-by : (f : Form) → formOf g ≡ Has f → linesIn ρ ns g ≡ linesOf ρ f (countOf ns g)
         lines-by f e = rw e
 
-        cells-by : (f : Form) → formOf g ≡ Has f → cellsIn ns g ≡ cellsOf f (countOf ns g)
+        cells-by : (f : Form) → formOf g ≡ Has f → cellsIn ρ ns g ≡ cellsOf ρ f (countOf ns g)
         cells-by f e = rw e
 
 -- before 61 is the whole record
-pub all-lines : (ns : List ℕ) → linesBefore ns 61 ≡ recordLines ns
+pub all-lines : (ρ : Rules) (ns : List ℕ) → linesBefore ρ ns 61 ≡ recordLines ρ ns
 unfolding linesBefore lineTally
-all-lines ns = tally-all 2 (linesIn ns) 61 (omega arith)
+all-lines ρ ns = tally-all 2 (linesIn ρ ns) 61 (omega arith)
 
-pub all-cells : (ns : List ℕ) → cellsBefore ns 61 ≡ recordCells ns
+pub all-cells : (ρ : Rules) (ns : List ℕ) → cellsBefore ρ ns 61 ≡ recordCells ρ ns
 unfolding cellsBefore cellTally
-all-cells ns = tally-all 0 (cellsIn ns) 61 (omega arith)
+all-cells ρ ns = tally-all 0 (cellsIn ρ ns) 61 (omega arith)
 
 -- the index lines are among them
-pub record-two : (ns : List ℕ) → 2 ≤ recordLines ns
+pub record-two : (ρ : Rules) (ns : List ℕ) → 2 ≤ recordLines ρ ns
 unfolding Sum.sum lineTally
-record-two ns = omega arith
+record-two ρ ns = omega arith
 
 -- ---- the lines before a group, as the places of groups need them
 
-pub line-entry : (ns : List ℕ) (g : ℕ) → 0 < g → g < 61 → getD (lineTally ns) g 0 ≡ linesIn ns g
+pub line-entry : (ρ : Rules) (ns : List ℕ) (g : ℕ) → 0 < g → g < 61 → getD (lineTally ρ ns) g 0 ≡ linesIn ρ ns g
 unfolding lineTally
-line-entry ns g some few = tally-at 2 (linesIn ns) g some few
+line-entry ρ ns g some few = tally-at 2 (linesIn ρ ns) g some few
 
-pub lines-more : (ns : List ℕ) (g : ℕ) → g < 61 → linesBefore ns (suc g) ≡ linesBefore ns g + getD (lineTally ns) g 0
+pub lines-more : (ρ : Rules) (ns : List ℕ) (g : ℕ) → g < 61 → linesBefore ρ ns (suc g) ≡ linesBefore ρ ns g + getD (lineTally ρ ns) g 0
 unfolding linesBefore lineTally
-lines-more ns g h = sum-take-more (lineTally ns) g (omega (arith, tally-length 2 (linesIn ns)))
+lines-more ρ ns g h = sum-take-more (lineTally ρ ns) g (omega (arith, tally-length 2 (linesIn ρ ns)))
 
-pub lines-below : (ns : List ℕ) (g h : ℕ) → g ≤ h → linesBefore ns g ≤ linesBefore ns h
+pub lines-below : (ρ : Rules) (ns : List ℕ) (g h : ℕ) → g ≤ h → linesBefore ρ ns g ≤ linesBefore ρ ns h
 unfolding linesBefore
-lines-below ns g h l = sum-take-mono (lineTally ns) g h l
+lines-below ρ ns g h l = sum-take-mono (lineTally ρ ns) g h l
 
-pub lines-all : (ns : List ℕ) (g : ℕ) → 61 ≤ g → linesBefore ns g ≡ recordLines ns
+pub lines-all : (ρ : Rules) (ns : List ℕ) (g : ℕ) → 61 ≤ g → linesBefore ρ ns g ≡ recordLines ρ ns
 unfolding linesBefore lineTally
-lines-all ns g h = tally-all 2 (linesIn ns) g h
+lines-all ρ ns g h = tally-all 2 (linesIn ρ ns) g h
 
 -- ---- the cells before a group
 
-pub cells-has : (ns : List ℕ) (g : ℕ) (f : Form) → formOf g ≡ Has f → cellsIn ns g ≡ cellsOf f (countOf ns g)
+pub cells-has : (ρ : Rules) (ns : List ℕ) (g : ℕ) (f : Form) → formOf g ≡ Has f → cellsIn ρ ns g ≡ cellsOf ρ f (countOf ns g)
 unfolding cellsIn
-cells-has ns g f e = rw e
+cells-has ρ ns g f e = rw e
 
-pub cells-first : (ns : List ℕ) → cellsBefore ns 1 ≡ 0
+pub cells-first : (ρ : Rules) (ns : List ℕ) → cellsBefore ρ ns 1 ≡ 0
 unfolding cellsBefore cellTally
-cells-first ns = tally-one 0 (cellsIn ns)
+cells-first ρ ns = tally-one 0 (cellsIn ρ ns)
 
-pub cells-next : (ns : List ℕ) (g : ℕ) → 0 < g → g < 61 → cellsBefore ns (g + 1) ≡ cellsBefore ns g + cellsIn ns g
+pub cells-next : (ρ : Rules) (ns : List ℕ) (g : ℕ) → 0 < g → g < 61 → cellsBefore ρ ns (g + 1) ≡ cellsBefore ρ ns g + cellsIn ρ ns g
 unfolding cellsBefore cellTally
-cells-next ns g some few = tally-more 0 (cellsIn ns) g some few
+cells-next ρ ns g some few = tally-more 0 (cellsIn ρ ns) g some few
 
-pub cells-below : (ns : List ℕ) (g h : ℕ) → g ≤ h → cellsBefore ns g ≤ cellsBefore ns h
+pub cells-below : (ρ : Rules) (ns : List ℕ) (g h : ℕ) → g ≤ h → cellsBefore ρ ns g ≤ cellsBefore ρ ns h
 unfolding cellsBefore
-cells-below ns g h l = sum-take-mono (cellTally ns) g h l
+cells-below ρ ns g h l = sum-take-mono (cellTally ρ ns) g h l

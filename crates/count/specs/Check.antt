@@ -5,6 +5,7 @@ use mathlib.Core.List.{List}
 use Prim.Native.Nat.{ℕ}
 use lib.Dec.{eqb}
 use lib.ListN.{length}
+use Rattle.rules.specs.declared.Rules.{Rules}
 use Rattle.base.specs.Every.{every}
 use Rattle.form.specs.Count.{isCount}
 use Rattle.count.specs.Tally.{recordCells}
@@ -21,18 +22,19 @@ use Rattle.reply.specs.declared.Checked.the-variants.{Right, Refused}
 unfoldable pub wellFormed : List ℕ → Bool
 wellFormed ns = eqb (length ns) 80 && every isCount ns
 
--- R214: as many cells as the counts ask for, no more and no fewer; else 14
-abbrev pub byLength : List ℕ → ℕ → Checked
-byLength ns cells = cond (eqb cells (recordCells ns)) Right (Refused OtherLength)
+module _ (ρ : Rules) where
+  -- R214: as many cells as the counts ask for, no more and no fewer; else 14
+  abbrev pub byLength : List ℕ → ℕ → Checked
+  byLength ns cells = cond (eqb cells (recordCells ρ ns)) Right (Refused OtherLength)
 
-abbrev pub byRules : List ℕ → ℕ → Ruling → Checked
-byRules ns cells Kept = byLength ns cells
-byRules ns cells (Broken g) = Refused (BrokenRule g)
+  abbrev pub byRules : List ℕ → ℕ → Ruling → Checked
+  byRules ns cells Kept = byLength ns cells
+  byRules ns cells (Broken g) = Refused (BrokenRule g)
 
-abbrev pub byRelease : List ℕ → ℕ → Release → Checked
-byRelease ns cells Five = byRules ns cells (rulingOf ns)
-byRelease ns cells Other = Refused OtherRelease
-byRelease ns cells (Filled g) = Refused (FilledVacant g)
+  abbrev pub byRelease : List ℕ → ℕ → Release → Checked
+  byRelease ns cells Five = byRules ns cells (rulingOf ns)
+  byRelease ns cells Other = Refused OtherRelease
+  byRelease ns cells (Filled g) = Refused (FilledVacant g)
 
-unfoldable pub checkedOf : List ℕ → ℕ → Checked
-checkedOf ns cells = cond (wellFormed ns) (byRelease ns cells (releaseOf ns)) (Refused Misformed)
+  unfoldable pub checkedOf : List ℕ → ℕ → Checked
+  checkedOf ns cells = cond (wellFormed ns) (byRelease ns cells (releaseOf ns)) (Refused Misformed)

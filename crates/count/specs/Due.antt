@@ -3,6 +3,7 @@ use mathlib.Core.Path.{_≡_}
 use mathlib.Core.List.{List}
 use Prim.Native.Nat.{ℕ, _<_, _≤_}
 use lib.ListN.{length, getD}
+use Rattle.rules.specs.declared.Rules.{Rules}
 use Rattle.form.specs.Count.{mostCount}
 use Rattle.count.specs.Tally.{countOf, recordCells}
 use Rattle.count.specs.Blame.{KeepsRules, BreaksRules}
@@ -56,22 +57,23 @@ module _ (ns : List ℕ) where
     pub released : Released Five
     pub kept : KeepsRules ns
 
+module _ (ρ : Rules) (ns : List ℕ) where
   -- R214: none of these, but more or fewer cells than the counts ask for
   pub record Differs (cells : ℕ) : Type 0 where
-    pub rules : HasRules
-    pub other : cells ≡ recordCells ns → ⊥
+    pub rules : HasRules ns
+    pub other : cells ≡ recordCells ρ ns → ⊥
 
   -- none of them: the table is as long as the counts need
   pub record HasCells (cells : ℕ) : Type 0 where
-    pub rules : HasRules
-    pub needed : cells ≡ recordCells ns
+    pub rules : HasRules ns
+    pub needed : cells ≡ recordCells ρ ns
 
   -- what the check refuses with, and when
   pub data RefusedFor (cells : ℕ) : Refusal → Type 0 where
-    misformed : (HasCounts → ⊥) → RefusedFor cells Misformed
-    other-release : Released Other → RefusedFor cells OtherRelease
-    filled-vacant : (g : ℕ) → Released (Filled g) → RefusedFor cells (FilledVacant g)
-    broken-rule : (g : ℕ) → Breaks g → RefusedFor cells (BrokenRule g)
+    misformed : (HasCounts ns → ⊥) → RefusedFor cells Misformed
+    other-release : Released ns Other → RefusedFor cells OtherRelease
+    filled-vacant : (g : ℕ) → Released ns (Filled g) → RefusedFor cells (FilledVacant g)
+    broken-rule : (g : ℕ) → Breaks ns g → RefusedFor cells (BrokenRule g)
     other-length : Differs cells → RefusedFor cells OtherLength
 
   abbrev pub Due : ℕ → Checked → Type 0

@@ -3,6 +3,7 @@ use mathlib.Core.Path.{_≡_}
 use mathlib.Core.List.{List, _∷_, map}
 use Prim.Native.Nat.{ℕ}
 use lib.ListN.{getD, take}
+use Rattle.rules.specs.declared.Rules.{Rules}
 use Rattle.base.specs.Every.{upFrom}
 use Rattle.base.specs.Sum.{sum}
 use Rattle.form.specs.Table.{formOf}
@@ -14,42 +15,43 @@ use Rattle.form.specs.declared.GroupForm.the-variants.{Has, NoGroup}
 abbrev pub countOf : List ℕ → ℕ → ℕ
 countOf ns g = getD (0 ∷ ns) g 0
 
--- R43, R46: the lines and the cells of n elements in a group's form; what is no group has neither
-abbrev pub linesBy : GroupForm → ℕ → ℕ
-linesBy (Has f) n = linesOf f n
-linesBy NoGroup n = 0
+module _ (ρ : Rules) where
+  -- R43, R46: the lines and the cells of a count of n in a group's form; what is no group has neither
+  abbrev pub linesBy : GroupForm → ℕ → ℕ
+  linesBy (Has f) n = linesOf ρ f n
+  linesBy NoGroup n = 0
 
-abbrev pub cellsBy : GroupForm → ℕ → ℕ
-cellsBy (Has f) n = cellsOf f n
-cellsBy NoGroup n = 0
+  abbrev pub cellsBy : GroupForm → ℕ → ℕ
+  cellsBy (Has f) n = cellsOf ρ f n
+  cellsBy NoGroup n = 0
 
-unfoldable pub linesIn : List ℕ → ℕ → ℕ
-linesIn ns g = linesBy (formOf g) (countOf ns g)
+  unfoldable pub linesIn : List ℕ → ℕ → ℕ
+  linesIn ns g = linesBy (formOf g) (countOf ns g)
 
-unfoldable pub cellsIn : List ℕ → ℕ → ℕ
-cellsIn ns g = cellsBy (formOf g) (countOf ns g)
+  unfoldable pub cellsIn : List ℕ → ℕ → ℕ
+  cellsIn ns g = cellsBy (formOf g) (countOf ns g)
 
--- R20: the two lines of the index, and behind them those of each group by its number: entry 0 is the index, entry g is group g
-unfoldable pub lineTally : List ℕ → List ℕ
-lineTally ns = 2 ∷ map (linesIn ns) (upFrom 1 60)
+  -- R20: the two lines of the index, and behind them those of each group by its number: entry 0 is the index, entry g is group g
+  unfoldable pub lineTally : List ℕ → List ℕ
+  lineTally ns = 2 ∷ map (linesIn ns) (upFrom 1 60)
 
-unfoldable pub cellTally : List ℕ → List ℕ
-cellTally ns = 0 ∷ map (cellsIn ns) (upFrom 1 60)
+  unfoldable pub cellTally : List ℕ → List ℕ
+  cellTally ns = 0 ∷ map (cellsIn ns) (upFrom 1 60)
 
--- R27, R47: the lines and the cells before those of group g; before 61: of the whole record
-unfoldable pub linesBefore : List ℕ → ℕ → ℕ
-linesBefore ns g = sum (take g (lineTally ns))
+  -- R27, R47: the lines and the cells before those of group g; before 61: of the whole record
+  unfoldable pub linesBefore : List ℕ → ℕ → ℕ
+  linesBefore ns g = sum (take g (lineTally ns))
 
-unfoldable pub cellsBefore : List ℕ → ℕ → ℕ
-cellsBefore ns g = sum (take g (cellTally ns))
+  unfoldable pub cellsBefore : List ℕ → ℕ → ℕ
+  cellsBefore ns g = sum (take g (cellTally ns))
 
--- R28, R47: all lines and all cells of a record
-abbrev pub recordLines : List ℕ → ℕ
-recordLines ns = sum (lineTally ns)
+  -- R28, R47: all lines and all cells of a record
+  abbrev pub recordLines : List ℕ → ℕ
+  recordLines ns = sum (lineTally ns)
 
-abbrev pub recordCells : List ℕ → ℕ
-recordCells ns = sum (cellTally ns)
+  abbrev pub recordCells : List ℕ → ℕ
+  recordCells ns = sum (cellTally ns)
 
-pub record Before (ns : List ℕ) (g lines cells : ℕ) : Type 0 where
-  pub lines-are : lines ≡ linesBefore ns g
-  pub cells-are : cells ≡ cellsBefore ns g
+  pub record Before (ns : List ℕ) (g lines cells : ℕ) : Type 0 where
+    pub lines-are : lines ≡ linesBefore ns g
+    pub cells-are : cells ≡ cellsBefore ns g

@@ -108,22 +108,22 @@ pub fn count_of(counts: &[u16], group: usize) -> u16
 }
 
 // Totals with those of a group more.
-fn with_group(totals: Totals, form: form::Form, count: u16) -> Totals
+fn with_group(rules: rules::Rules, totals: Totals, form: form::Form, count: u16) -> Totals
     requires lines { ⌜ totals .lines < 2 ^ 32 ⌝ }
     requires cells { ⌜ totals .cells < 2 ^ 32 ⌝ }
-    ensures lines { λ r. ⌜ r .lines ≡ totals .lines + linesOf form count ⌝ }
-    ensures cells { λ r. ⌜ r .cells ≡ totals .cells + cellsOf form count ⌝ }
+    ensures lines { λ r. ⌜ r .lines ≡ totals .lines + linesOf rules form count ⌝ }
+    ensures cells { λ r. ⌜ r .cells ≡ totals .cells + cellsOf rules form count ⌝ }
 {
     Totals {
-        lines: totals.lines + form::lines(form, count),
-        cells: totals.cells + form::cells(form, count),
+        lines: totals.lines + form::lines(rules, form, count),
+        cells: totals.cells + form::cells(rules, form, count),
     }
 }
 
 // R27, R28, R47: the lines, the index among them, and the cells before those of a group; before 61: of the whole
 // record.
-pub fn add_up(counts: &[u16], group: usize) -> Totals
-    ensures { λ r. ⌜ Before (now (counts .entry)) group (r .lines) (r .cells) ⌝ }
+pub fn add_up(rules: rules::Rules, counts: &[u16], group: usize) -> Totals
+    ensures { λ r. ⌜ Before rules (now (counts .entry)) group (r .lines) (r .cells) ⌝ }
 {
     if group == 0 {
         return Totals { lines: 0, cells: 0 };
@@ -133,7 +133,7 @@ pub fn add_up(counts: &[u16], group: usize) -> Totals
     let mut g: usize = 1;
     while g < end {
         let f = form::form_in(g);
-        totals = with_group(totals, f, count_of(counts, g));
+        totals = with_group(rules, totals, f, count_of(counts, g));
         g += 1;
     }
     totals
@@ -305,8 +305,8 @@ fn well_formed(counts: &[u16]) -> bool
 
 // R302: the whole check of counts and the length of the table of all cells: right, or the first of 4, 5, 6, 7 and 14
 // that is due.
-pub fn check(counts: &[u16], cells: usize) -> Checked
-    ensures { λ r. ⌜ r ≡ checkedOf (now (counts .entry)) cells ⌝ }
+pub fn check(rules: rules::Rules, counts: &[u16], cells: usize) -> Checked
+    ensures { λ r. ⌜ r ≡ checkedOf rules (now (counts .entry)) cells ⌝ }
 {
     if !well_formed(counts) {
         return Checked::Refused(Refusal::Misformed);
@@ -317,7 +317,7 @@ pub fn check(counts: &[u16], cells: usize) -> Checked
         Release::Five => match ruling_of(counts) {
             Ruling::Broken(g) => Checked::Refused(Refusal::BrokenRule(g)),
             Ruling::Kept => {
-                let all = add_up(counts, 61);
+                let all = add_up(rules, counts, 61);
                 if cells == all.cells {
                     return Checked::Right;
                 }

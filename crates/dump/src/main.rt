@@ -7,7 +7,8 @@ use libc::STDIN_FILENO;
 use libc::STDOUT_FILENO;
 use reply::Reply;
 
-// ---- Rows. A page has room for the longest: 1,998 cells of at most 20 bytes each. What has no room is left out.
+// ---- Rows. A page has room for the longest: 5,989 elements of group 40 (R13), with at most 18 bytes for the cells of
+// each. What has no room is left out.
 
 fn put_byte(page: &mut [u8], at: usize, byte: u8) -> usize {
     if at < page.len() {
@@ -115,7 +116,7 @@ fn part_to(text: &[u8], from: usize, part: &[u8]) -> usize {
 }
 
 fn print_group(rules: rules::Rules, text: &[u8], at: usize, g: usize, page: &mut [u8]) {
-    let mut table = [0i64; 2048];
+    let mut table = [0i64; 11978];
     let r = reply::of_answer(sao::read_group(rules, text, at, g, &mut table));
     let from = sao::group_lines_at(rules, text, at, g).from;
     let part = sao::group_lines(rules, text, at, g);
@@ -203,10 +204,10 @@ fn main() {
     if !asked.known {
         return;
     }
-    let rules = rules::choose(asked.strict);
+    let rules = rules::choose(asked.strict, asked.entries);
     let mut space = [0u8; 65537];
     let n = io::read_full(STDIN_FILENO, &mut space);
-    let mut page = [0u8; 65536];
+    let mut page = [0u8; 131072];
     if 65536 < n {
         io::write_all(STDOUT_FILENO, b"stop 0 11 0 0\n");
         return;

@@ -3,26 +3,36 @@
 use mathlib.Core.Path.{_≡_}
 use mathlib.Core.Logic.{_↔_}
 use Prim.Native.Nat.{ℕ, _≤_}
-use native.Mathlib.Nat.{mul-le-mul, le-mul-of-pos-right}
+use native.Mathlib.Nat.{mul-le-mul, mul-le-mul-right, mul-assoc}
 use native.Mathlib.Omega.{arith}
+use Rattle.rules.specs.declared.Rules.{Rules}
 use Rattle.form.specs.declared.Form.{Form}
 use Rattle.form.specs.Table.{rowOf}
 use Rattle.form.specs.Count.{elementsOf, linesOf, cellsOf, Takes}
-use Rattle.form.proofs.Rows.{row-fits, elements-few}
+use Rattle.form.proofs.Rows.{row-fits}
+use Rattle.form.proofs.Segments.{elements-few}
 use Rattle.form.proofs.Rounding.{lines-are, lines-least}
 
 -- both directions: so many lines, and no other number, are what the elements need
-pub lines-needed : (f : Form) (n k : ℕ) → linesOf f n ≡ k ↔ Takes (elementsOf f n) (rowOf f .«per_line») k
+pub lines-needed : (ρ : Rules) (f : Form) (n k : ℕ) → linesOf ρ f n ≡ k ↔ Takes (elementsOf ρ f n) (rowOf f .«per_line») k
 unfolding linesOf
-lines-needed f n k = lines-are (elementsOf f n) (rowOf f .«per_line») (row-fits f .some) k
+lines-needed ρ f n k = lines-are (elementsOf ρ f n) (rowOf f .«per_line») (row-fits f .some) k
+
+-- a count of n has at most n lines
+pub lines-within : (ρ : Rules) (f : Form) (n : ℕ) → linesOf ρ f n ≤ n
+unfolding linesOf
+lines-within ρ f n = lines-least (elementsOf ρ f n) (rowOf f .«per_line») (row-fits f .some) n (elements-few ρ f n)
 
 -- bounds for callers that add them up
-pub lines-few : (f : Form) (n : ℕ) → n ≤ 65535 → linesOf f n ≤ 65535
-unfolding linesOf
-lines-few f n h =
-    let e = elements-few f n h in
-    omega (arith, lines-least (elementsOf f n) (rowOf f .«per_line») (row-fits f .some) (elementsOf f n) (le-mul-of-pos-right (elementsOf f n) (row-fits f .some)))
+pub lines-few : (ρ : Rules) (f : Form) (n : ℕ) → n ≤ 65535 → linesOf ρ f n ≤ 65535
+lines-few ρ f n h = omega (arith, lines-within ρ f n)
 
-pub cells-few : (f : Form) (n : ℕ) → n ≤ 65535 → cellsOf f n ≤ 7864200
+pub cells-few : (ρ : Rules) (f : Form) (n : ℕ) → n ≤ 65535 → cellsOf ρ f n ≤ 7864200
 unfolding cellsOf
-cells-few f n h = mul-le-mul (elements-few f n h) (row-fits f .few-cells)
+cells-few ρ f n h =
+    omega (
+      arith,
+      mul-le-mul-right (rowOf f .cells) (elements-few ρ f n),
+      mul-assoc n (rowOf f .«per_line») (rowOf f .cells),
+      mul-le-mul h (row-fits f .few-cells),
+    )

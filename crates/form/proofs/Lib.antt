@@ -4,3 +4,4 @@ pub mod Arms
 pub mod Rounding
 pub mod Counted
 pub mod Rows
+pub mod Segments

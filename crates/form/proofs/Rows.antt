@@ -1,20 +1,19 @@
--- R48, the rule of the table, by one test over the forms: a line's fields take at most 120 columns, and every number of a row is 1 to 120.
--- And the bound of a count's elements.
+-- R48, the rule of the table, by one test over the forms: a line's fields take at most 120 columns, and every number of a row is 1 to 120, and so
+-- are the cells of a full line.
 -- Assumes nothing.
 use mathlib.Core.Path.{_≡_}
 use mathlib.Core.Bool.{Bool, _&&_}
-use Prim.Native.Nat.{ℕ, _*_, _≤_}
+use Prim.Native.Nat.{_*_, _≤_}
 use lib.Dec.{T, leb, leb→le}
 use Rattle.base.specs.Every.{every}
 use Rattle.base.proofs.Choice.{and-left, and-right}
 use Rattle.form.specs.declared.Row.{Row}
 use Rattle.form.specs.declared.Form.{Form}
 use Rattle.form.specs.Table.{listedAs, rowOf, forms}
-use Rattle.form.specs.Count.{elementsOf}
 use Rattle.form.proofs.Table.{each-form}
 
 abbrev fits : Row → Bool
-fits r = leb (r .width * r .«per_line») 120 && (leb 1 (r .width) && (leb 1 (r .«per_line») && (leb (r .«per_line») 120 && (leb 1 (r .cells) && leb (r .cells) 120))))
+fits r = leb (r .width * r .«per_line») 120 && (leb 1 (r .width) && (leb 1 (r .«per_line») && (leb (r .«per_line») 120 && (leb 1 (r .cells) && leb (r .«per_line» * r .cells) 120))))
 
 pub record RowFits (r : Row) : Type 0 where
   pub columns : r .width * r .«per_line» ≤ 120
@@ -22,7 +21,7 @@ pub record RowFits (r : Row) : Type 0 where
   pub some : 1 ≤ r .«per_line»
   pub few : r .«per_line» ≤ 120
   pub one-cell : 1 ≤ r .cells
-  pub few-cells : r .cells ≤ 120
+  pub few-cells : r .«per_line» * r .cells ≤ 120
 
 passed : (r : Row) → T (fits r) → RowFits r
 passed r t =
@@ -31,7 +30,7 @@ passed r t =
     let c = leb 1 (r .«per_line») in
     let d = leb (r .«per_line») 120 in
     let e = leb 1 (r .cells) in
-    let f = leb (r .cells) 120 in
+    let f = leb (r .«per_line» * r .cells) 120 in
     let t1 = and-right a (b && (c && (d && (e && f)))) t in
     let t2 = and-right b (c && (d && (e && f))) t1 in
     let t3 = and-right c (d && (e && f)) t2 in
@@ -55,7 +54,3 @@ row-fits f = passed (rowOf f) (each-form (λ g. fits (rowOf g)) all-fit f)
 -- a row that is some form's
 pub fits-by : {r : Row} (f : Form) → r ≡ rowOf f → RowFits r
 fits-by f e = rw e (row-fits f)
-
-pub elements-few : (f : Form) (n : ℕ) → n ≤ 65535 → elementsOf f n ≤ 65535
-unfolding elementsOf
-elements-few f n h = h

@@ -2,7 +2,7 @@
 ghost use mathlib.Core.Path.{_≡_};
 ghost use Prim.Native.Nat.{_≤_};
 ghost use Rattle.form.specs.Table.{rowOf, formOf};
-ghost use Rattle.form.specs.Count.{elementsOf, roundedUp, linesOf, cellsOf};
+ghost use Rattle.form.specs.Count.{isSegments, segmentElements, elementsOf, roundedUp, linesOf, cellsOf};
 
 // A form is named by its letter and its width; the number of decimals follows from these.
 pub enum Form {
@@ -162,11 +162,47 @@ pub fn row_of(form: Form) -> Row
     }
 }
 
-// R42: the elements of a group of this form and count.
-pub fn elements(form: Form, count: u16) -> usize
-    ensures { λ r. ⌜ r ≡ elementsOf form count ⌝ }
+// R13: whether the form is group 40's.
+fn is_segments(form: Form) -> bool
+    ensures { λ r. ⌜ r ≡ isSegments form ⌝ }
 {
-    count as usize
+    match form {
+        Form::F7 => false,
+        Form::A120 => false,
+        Form::A1 => false,
+        Form::F8 => false,
+        Form::I2 => false,
+        Form::I3 => false,
+        Form::I1 => false,
+        Form::E11 => false,
+        Form::E20 => true,
+        Form::E8 => false,
+    }
+}
+
+// R13: the elements of a count of group 40.
+fn segment_elements(counting: rules::Counting, count: u16) -> usize
+    ensures { λ r. ⌜ r ≡ segmentElements count counting ⌝ }
+{
+    let n = count as usize;
+    if n == 0 {
+        return n;
+    }
+    match counting {
+        rules::Counting::Elements => n,
+        rules::Counting::Entries => 6 * (n - 1) + 1,
+    }
+}
+
+// R42: the elements of a group of this form and count.
+pub fn elements(rules: rules::Rules, form: Form, count: u16) -> usize
+    ensures { λ r. ⌜ r ≡ elementsOf rules form count ⌝ }
+{
+    if !is_segments(form) {
+        return count as usize;
+    }
+    let counting = rules.counting;
+    segment_elements(counting, count)
 }
 
 // n divided by p, rounded up; 0 where p is 0.
@@ -183,19 +219,19 @@ pub fn rounded_up(n: usize, p: usize) -> usize
 }
 
 // R43: its lines, rounded up; none for no elements.
-pub fn lines(form: Form, count: u16) -> usize
-    ensures { λ r. ⌜ r ≡ linesOf form count ⌝ }
+pub fn lines(rules: rules::Rules, form: Form, count: u16) -> usize
+    ensures { λ r. ⌜ r ≡ linesOf rules form count ⌝ }
 {
-    let n = elements(form, count);
+    let n = elements(rules, form, count);
     let row = row_of(form);
     rounded_up(n, row.per_line)
 }
 
 // R46: its cells.
-pub fn cells(form: Form, count: u16) -> usize
-    ensures { λ r. ⌜ r ≡ cellsOf form count ⌝ }
+pub fn cells(rules: rules::Rules, form: Form, count: u16) -> usize
+    ensures { λ r. ⌜ r ≡ cellsOf rules form count ⌝ }
 {
-    let n = elements(form, count);
+    let n = elements(rules, form, count);
     let row = row_of(form);
     n * row.cells
 }

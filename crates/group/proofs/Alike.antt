@@ -56,7 +56,7 @@ module _ (ρ : Rules) (s : List ℕ) (p : ℕ) (t : List ℕ) (q : ℕ) (h : Ali
       by : AlikeLocated ρ s p t q → readAt ρ s p g room ≡ readAt ρ t q g room
       by (both-located n m ns a b f) =
           read-located ρ s p g room n ns a
-          ∙ alike-group-read ρ ns g (groupPart s p ns g) (groupPart t q ns g) (alike-part ρ s p t q h ns g) room
+          ∙ alike-group-read ρ ns g (groupPart ρ s p ns g) (groupPart ρ t q ns g) (alike-part ρ s p t q h ns g) room
           ∙ sym (read-located ρ t q g room m ns b)
       by (neither r a b) = read-refused ρ s t p q g room a b
 

@@ -66,23 +66,23 @@ record-at ρ s at r = r .is ∙ ap (located (r .next)) (sym (counts-at ρ s at (
 
 module _ (ρ : Rules) (s t : List ℕ) (at : ℕ) (l : SameLines s t) (ns : List ℕ) (g : ℕ) where
   -- the second text's lines, by the places of the first
-  pub lines-there : part (start s at ns g) (start s at ns (suc g)) t ≡ groupPart t at ns g
+  pub lines-there : part (start ρ s at ns g) (start ρ s at ns (suc g)) t ≡ groupPart ρ t at ns g
   unfolding Parts.groupPart
   lines-there = rw (start-same ρ s t l at ns g, start-same ρ s t l at ns (suc g))
 
-  pub lines-same : {D : ℕ → Type 0} → Agree D s t → Misses D (start s at ns g) (start s at ns (suc g)) → groupPart s at ns g ≡ groupPart t at ns g
+  pub lines-same : {D : ℕ → Type 0} → Agree D s t → Misses D (start ρ s at ns g) (start ρ s at ns (suc g)) → groupPart ρ s at ns g ≡ groupPart ρ t at ns g
   unfolding Parts.groupPart
-  lines-same a clear = part-agree s t (start s at ns g) (start s at ns (suc g)) a clear ∙ lines-there
+  lines-same a clear = part-agree s t (start ρ s at ns g) (start ρ s at ns (suc g)) a clear ∙ lines-there
 
 -- D misses the lines of group g of the record at a place, if a record stands there
 abbrev pub Spares : Rules → (ℕ → Type 0) → List ℕ → ℕ → ℕ → Type 0
-Spares ρ D s at g = (n : ℕ) (ns : List ℕ) → locate ρ s at ≡ located n ns → Misses D (start s at ns g) (start s at ns (suc g))
+Spares ρ D s at g = (n : ℕ) (ns : List ℕ) → locate ρ s at ≡ located n ns → Misses D (start ρ s at ns g) (start ρ s at ns (suc g))
 
 -- ---- the same located at a place of two texts with their lines at the same places
 
 module _ (ρ : Rules) (s t : List ℕ) (at : ℕ) (l : SameLines s t) (e : locate ρ s at ≡ locate ρ t at) where
   pub starts-same : (g : ℕ) → linesStart ρ s at g ≡ linesStart ρ t at g
-  starts-same g = start-same ρ s t l at (countsAt ρ s at) g ∙ ap (λ ns. start t at ns g) (placing-same ρ s t at e .1)
+  starts-same g = start-same ρ s t l at (countsAt ρ s at) g ∙ ap (λ ns. start ρ t at ns g) (placing-same ρ s t at e .1)
 
   pub found-same : (g : ℕ) → foundAt ρ s at g ≡ foundAt ρ t at g
   unfolding foundAt
@@ -194,17 +194,17 @@ module _ (ρ : Rules) {D : ℕ → Type 0} (s t : List ℕ) (o : Replaced ρ D s
         ap (λ p. readAt ρ t p g room) (sym (spot-kept j))
         ∙ read-located ρ t at g room (r .next) (r .ns) (sym (located-kept j) ∙ r .is)
         ∙ ap (λ x. readGroup ρ (r .ns) g x room) (sym (lines-there ρ s t at (o .lines) (r .ns) g))
-        ∙ ap (λ ns. readGroup ρ ns g (part (start s at ns g) (start s at ns (suc g)) t) room) c
+        ∙ ap (λ ns. readGroup ρ ns g (part (start ρ s at ns g) (start ρ s at ns (suc g)) t) room) c
 
     -- a group whose lines are spared
     module _ (clear : Spares ρ D s (spot ρ s j) g) where
-      pub lines-kept : IsRecord ρ s (spot ρ s j) → groupPart s (spot ρ s j) (countsAt ρ s (spot ρ s j)) g ≡ groupPart t (spot ρ t j) (countsAt ρ t (spot ρ t j)) g
+      pub lines-kept : IsRecord ρ s (spot ρ s j) → groupPart ρ s (spot ρ s j) (countsAt ρ s (spot ρ s j)) g ≡ groupPart ρ t (spot ρ t j) (countsAt ρ t (spot ρ t j)) g
       lines-kept r =
           let at = spot ρ s j in
           let e : locate ρ s at ≡ located (r .next) (countsAt ρ s at) = record-at ρ s at r in
           lines-same ρ s t at (o .lines) (countsAt ρ s at) g (o .elsewhere) (clear (r .next) (countsAt ρ s at) e)
-          ∙ ap (λ ns. groupPart t at ns g) (counts-kept j)
-          ∙ ap (λ p. groupPart t p (countsAt ρ t (spot ρ t j)) g) (spot-kept j)
+          ∙ ap (λ ns. groupPart ρ t at ns g) (counts-kept j)
+          ∙ ap (λ p. groupPart ρ t p (countsAt ρ t (spot ρ t j)) g) (spot-kept j)
 
       pub part-kept : partAt ρ s (spot ρ s j) g ≡ partAt ρ t (spot ρ t j) g
       part-kept = there (λ p. partAt ρ t p g) j (part-same ρ s t (spot ρ s j) (o .lines) (located-kept j) (o .elsewhere) g clear)

@@ -54,7 +54,7 @@ unfolding RecordS.countsS Read.readGroup Every.upFrom Table.listedAs Table.formA
 four-by ρ x room = refl
 
 module _ (ρ : Rules) (room : ℕ) (h : 1 ≤ room) where
-  four-before : (at next : ℕ) → locate ρ twiceS at ≡ located next countsS → groupPart twiceS at countsS 4 ≡ quotedLine "   7.250" → readAt ρ twiceS at 4 room ≡ done (pos 7250 ∷ [])
+  four-before : (at next : ℕ) → locate ρ twiceS at ≡ located next countsS → groupPart ρ twiceS at countsS 4 ≡ quotedLine "   7.250" → readAt ρ twiceS at 4 room ≡ done (pos 7250 ∷ [])
   four-before at next e f =
       read-located ρ twiceS at 4 room next countsS e
       ∙ ap (λ x. readGroup ρ countsS 4 x room) f
@@ -69,7 +69,7 @@ module _ (ρ : Rules) (room : ℕ) (h : 1 ≤ room) where
 
 -- ---- the damage, and that it is confined
 
-first-starts : (ρ : Rules) (g n : ℕ) → start twiceS 0 countsS g ≡ n → linesStart ρ twiceS (spot ρ twiceS 0) g ≡ n
+first-starts : (ρ : Rules) (g n : ℕ) → start ρ twiceS 0 countsS g ≡ n → linesStart ρ twiceS (spot ρ twiceS 0) g ≡ n
 first-starts ρ g n e = rw (← spot-start ρ twiceS, counts-at ρ twiceS 0 305 countsS (twice ρ .first)) e
 
 pub comma-damages : (ρ : Rules) → Damaged ρ twiceS commaS 0 4

@@ -109,10 +109,10 @@ counts-are ρ s at n d =
 
 -- ---- its part
 
-placed-part : (ρ : Rules) (s : List ℕ) (at g n : ℕ) (d : PlacingDue ρ s at g (P.Placed n)) → IsPart s at (d .placing .ns) g (start s at (d .placing .ns) g) (groupPart s at (d .placing .ns) g)
+placed-part : (ρ : Rules) (s : List ℕ) (at g n : ℕ) (d : PlacingDue ρ s at g (P.Placed n)) → IsPart ρ s at (d .placing .ns) g (start ρ s at (d .placing .ns) g) (groupPart ρ s at (d .placing .ns) g)
 placed-part ρ s at g n d =
     let q = is-placed ρ s at n (Placing.first-due ρ s at (P.Placed n) .1 (d .placing)) in
-    subst (λ ns. IsPart s at ns g (start s at ns g) (groupPart s at ns g)) (counts-are ρ s at n (d .placing)) (part-is ρ s at n (countsAt ρ s at) (q .located-at) g (d .low) (d .high))
+    subst (λ ns. IsPart ρ s at ns g (start ρ s at ns g) (groupPart ρ s at ns g)) (counts-are ρ s at n (d .placing)) (part-is ρ s at n (countsAt ρ s at) (q .located-at) g (d .low) (d .high))
 
 module _ (ρ : Rules) (s : List ℕ) (at g : ℕ) where
   part-placed : foundAt ρ s at g ≡ C.Right → (d : FoundDue ρ s at g C.Right) → GivenPart ρ s at g (partStart ρ s at g) (partAt ρ s at g)
@@ -124,7 +124,7 @@ module _ (ρ : Rules) (s : List ℕ) (at g : ℕ) where
       record {
         placed = d;
         lines =
-            subst (λ ns. IsPart s at ns g (startBy ρ s at g (foundAt ρ s at g)) (partAt ρ s at g)) c
+            subst (λ ns. IsPart ρ s at ns g (startBy ρ s at g (foundAt ρ s at g)) (partAt ρ s at g)) c
             (rw (e, given-part ρ s at g e) (part-is ρ s at (d .next) (countsAt ρ s at) (q .located-at) g (d .placed .low) (d .placed .high)));
       }
 
@@ -141,7 +141,7 @@ module _ (ρ : Rules) (s : List ℕ) (at g : ℕ) where
       let d = h .placed .placed in
       let e = found-placing ρ s at g (P.Placed (h .placed .next)) d in
       let c = counts-are ρ s at (h .placed .next) (d .placing) in
-      let w = is-part s at (d .placing .ns) g from x (d .low) (d .high) (h .lines) in (
+      let w = is-part ρ s at (d .placing .ns) g from x (d .low) (d .high) (h .lines) in (
         rw (e, c) (sym (w .0)),
         given-part ρ s at g e ∙ rw c (sym (w .1)),
       )
@@ -160,7 +160,7 @@ module _ (ρ : Rules) (s : List ℕ) (at g : ℕ) where
 -- ---- reading it
 
 module _ (ρ : Rules) (s : List ℕ) (at g room : ℕ) where
-  to-reading : (n : ℕ) (d : PlacingDue ρ s at g (P.Placed n)) → readAt ρ s at g room ≡ readGroup ρ (d .placing .ns) g (groupPart s at (d .placing .ns) g) room
+  to-reading : (n : ℕ) (d : PlacingDue ρ s at g (P.Placed n)) → readAt ρ s at g room ≡ readGroup ρ (d .placing .ns) g (groupPart ρ s at (d .placing .ns) g) room
   to-reading n d =
       let e = found-placing ρ s at g (P.Placed n) d in
       read-given ρ s at g room e ∙ rw (given-part ρ s at g e, counts-are ρ s at n (d .placing)) refl
@@ -168,7 +168,7 @@ module _ (ρ : Rules) (s : List ℕ) (at g room : ℕ) where
   reading-given : (c : Cells) → ReadingDue ρ s at g room c → readAt ρ s at g room ≡ c
   reading-given c d =
       let ns = d .placed .placing .ns in
-      let these = is-part s at ns g (d .from) (d .x) (d .placed .low) (d .placed .high) (d .lines) .1 in
+      let these = is-part ρ s at ns g (d .from) (d .x) (d .placed .low) (d .placed .high) (d .lines) .1 in
       to-reading (d .next) (d .placed) ∙ ap (λ y. readGroup ρ ns g y room) (sym these) ∙ Reading.first-due ρ ns g (d .x) room c .1 (d .reading)
 
   missing-read : (r : Refusal) → RefusedFor ρ s at g r → readAt ρ s at g room ≡ bad r
@@ -189,10 +189,10 @@ module _ (ρ : Rules) (s : List ℕ) (at g room : ℕ) where
       from-reading (readAt ρ s at g room) record {
         next = d .next;
         placed = d .placed;
-        from = start s at ns g;
-        x = groupPart s at ns g;
+        from = start ρ s at ns g;
+        x = groupPart ρ s at ns g;
         lines = placed-part ρ s at g (d .next) (d .placed);
-        reading = Reading.first-due ρ ns g (groupPart s at ns g) room (readAt ρ s at g room) .0 (sym u);
+        reading = Reading.first-due ρ ns g (groupPart ρ s at ns g) room (readAt ρ s at g room) .0 (sym u);
       }
   from-found (C.Refused r) e d = subst (Due ρ s at g room) (sym (read-missing ρ s at g room e)) (inl d)
 
@@ -209,7 +209,7 @@ four-size ρ s at room cs d =
     let f = d .reading .cells .f in
     let h : Has f ≡ Has F8 = sym (d .reading .cells .roomy .ruled .form) ∙ form-four in
     let e : f ≡ F8 = cc in
-    d .reading .cells .values .size ∙ ap (λ y. cellsOf y (countOf ns 4)) e ∙ cells-four (countOf ns 4) ∙ ap (λ l. countOf l 4) (sym (counts-are ρ s at (d .next) (d .placed .placing)))
+    d .reading .cells .values .size ∙ ap (λ y. cellsOf ρ y (countOf ns 4)) e ∙ cells-four ρ (countOf ns 4) ∙ ap (λ l. countOf l 4) (sym (counts-are ρ s at (d .next) (d .placed .placing)))
 
 module _ (ρ : Rules) (s : List ℕ) (at k : ℕ) where
   -- group 4 read into a table of 49 cells is group 4 read into every table with room
@@ -279,4 +279,4 @@ four-has-room ρ s at n placed x d =
     let f = d .f in
     let h : Has f ≡ Has F8 = sym (d .ruled .form) ∙ form-four in
     let u : f ≡ F8 = cc in
-    omega (arith, d .few, ap (λ y. cellsOf y (countOf ns 4)) u, room-four ns (kept-ruling ns (d .ruled .kept)))
+    omega (arith, d .few, ap (λ y. cellsOf ρ y (countOf ns 4)) u, room-four ρ ns (kept-ruling ns (d .ruled .kept)))

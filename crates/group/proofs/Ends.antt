@@ -1,5 +1,5 @@
--- R9: rules under which the same is located at a place give the same lines of each group there. What the strict rule reads with 0, each rule
--- does: a group with its cells, and a characteristic that is not refused.
+-- R9: rules that count alike, and under which the same is located at a place, give the same lines of each group there. What the strict rule reads
+-- with 0, each that counts alike does: a group with its cells, and a characteristic that is not refused.
 -- Assumes nothing.
 use mathlib.Core.Path.{_≡_, refl, sym, _∙_, ap, ap₂}
 use mathlib.Core.Bool.{Bool, true, false, cond, _&&_}
@@ -21,7 +21,8 @@ use Rattle.place.specs.Placing
 use Rattle.place.specs.Placing.{locate, placingBy, countsBy, countsAt}
 use Rattle.place.proofs.Ends.{strict-located}
 use Rattle.place.proofs.Zero.{is-placed}
-use Rattle.reading.specs.Read.{Cells}
+use Rattle.reading.specs.Read.{Cells, readGroup}
+use Rattle.place.proofs.SameCounting.{start-counted, part-counted}
 use Rattle.reading.proofs.Ends.{strict-group-read}
 use Rattle.reply.specs.declared.Checked.{Checked}
 use Rattle.reply.specs.declared.Checked.the-variants as C
@@ -34,7 +35,7 @@ use Rattle.group.specs.Text.{readAt}
 use Rattle.group.proofs.Holding.{given-is}
 use Rattle.group.proofs.Texts.{read-missing, read-located}
 
-module _ (ρ σ : Rules) (s : List ℕ) (at : ℕ) (l : locate ρ s at ≡ locate σ s at) where
+module _ (ρ σ : Rules) (alike : ρ .counting ≡ σ .counting) (s : List ℕ) (at : ℕ) (l : locate ρ s at ≡ locate σ s at) where
   pub located-found : (g : ℕ) → foundAt ρ s at g ≡ foundAt σ s at g
   unfolding foundAt Placing.placingOf
   located-found g = by (formOf g)
@@ -45,7 +46,7 @@ module _ (ρ σ : Rules) (s : List ℕ) (at : ℕ) (l : locate ρ s at ≡ locat
 
   starts : (g : ℕ) (c : Checked) → startBy ρ s at g c ≡ startBy σ s at g c
   unfolding Placing.countsAt
-  starts g C.Right = ap (λ y. start s at (countsBy y) g) l
+  starts g C.Right = ap (λ y. start ρ s at (countsBy y) g) l ∙ start-counted ρ σ alike s at (countsBy (locate σ s at)) g
   starts g (C.Refused r) = refl
 
   pub located-begins : (g : ℕ) → partStart ρ s at g ≡ partStart σ s at g
@@ -56,7 +57,7 @@ module _ (ρ σ : Rules) (s : List ℕ) (at : ℕ) (l : locate ρ s at ≡ locat
   unfolding partAt partEnd
   located-lines g = ap₂ (λ a b. part a b s) (located-begins g) (ap (startBy ρ s at (suc g)) (located-found g) ∙ starts (suc g) (foundAt σ s at g))
 
-module _ (σ ρ : Rules) (only : σ .ends ≡ Strict) (s : List ℕ) (at : ℕ) where
+module _ (σ ρ : Rules) (only : σ .ends ≡ Strict) (alike : σ .counting ≡ ρ .counting) (s : List ℕ) (at : ℕ) where
   pub strict-read : (g room : ℕ) (cs : List ℤ) → readAt σ s at g room ≡ done cs → readAt ρ s at g room ≡ done cs
   strict-read g room cs e = by (foundAt σ s at g) refl
     where
@@ -65,8 +66,9 @@ module _ (σ ρ : Rules) (only : σ .ends ≡ Strict) (s : List ℕ) (at : ℕ) 
           let i = given-is σ s at g u in
           let ns = countsAt σ s at in
           let l = is-placed σ s at (i .next) (i .placed) .located-at in
-          read-located ρ s at g room (i .next) ns (strict-located σ ρ only s at (i .next) ns l)
-          ∙ strict-group-read σ ρ only ns g (groupPart s at ns g) room cs (sym (read-located σ s at g room (i .next) ns l) ∙ e)
+          read-located ρ s at g room (i .next) ns (strict-located σ ρ only alike s at (i .next) ns l)
+          ∙ ap (λ x. readGroup ρ ns g x room) (part-counted ρ σ (sym alike) s at ns g)
+          ∙ strict-group-read σ ρ only alike ns g (groupPart σ s at ns g) room cs (sym (read-located σ s at g room (i .next) ns l) ∙ e)
       by (C.Refused r) u = let f = sym (read-missing σ s at g room u) ∙ e in let z : _≡_ {A = ℕ} 0 1 = cc in absurd (omega arith)
 
   pub strict-characteristic : (k : ℕ) → ((r : Refusal) → characteristicAt σ s at k ≡ Refused r → ⊥) → characteristicAt ρ s at k ≡ characteristicAt σ s at k

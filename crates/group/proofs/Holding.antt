@@ -94,23 +94,23 @@ module _ (ρ : Rules) (s : List ℕ) (at g : ℕ) where
     pub held-kept : rulingOf ns ≡ Kept
     held-kept = ap rulingOf held-counts ∙ is-placed ρ s at (i .next) (i .placed) .kept
 
-    pub held-range : (from to : ℕ) → (from ≡ start s at ns g) × (to ≡ start s at ns (g + 1)) → (from ≤ to) × (to ≤ length s)
+    pub held-range : (from to : ℕ) → (from ≡ start ρ s at ns g) × (to ≡ start ρ s at ns (g + 1)) → (from ≤ to) × (to ≤ length s)
     held-range from to a =
         let n = countsAt ρ s at in
         let l = is-placed ρ s at (i .next) (i .placed) .located-at in
-        let x : from ≡ start s at n g = a .0 ∙ ap (λ y. start s at y g) held-counts in
-        let y : to ≡ start s at n (g + 1) = a .1 ∙ ap (λ y. start s at y (g + 1)) held-counts in
+        let x : from ≡ start ρ s at n g = a .0 ∙ ap (λ y. start ρ s at y g) held-counts in
+        let y : to ≡ start ρ s at n (g + 1) = a .1 ∙ ap (λ y. start ρ s at y (g + 1)) held-counts in
         let few = form-range g (i .form) (i .has) .1 in
-        (omega (arith, x, y, start-mono s at n g (g + 1) (omega arith)), omega (arith, y, start-within ρ s at (i .next) n l (g + 1) (omega (arith, few)), located-range ρ s at (i .next) n l))
+        (omega (arith, x, y, start-mono ρ s at n g (g + 1) (omega arith)), omega (arith, y, start-within ρ s at (i .next) n l (g + 1) (omega (arith, few)), located-range ρ s at (i .next) n l))
 
-    pub held-span : (from to : ℕ) → (from ≡ start s at ns g) × (to ≡ start s at ns (g + 1)) → (from ≡ partStart ρ s at g) × (to ≡ partEnd ρ s at g)
+    pub held-span : (from to : ℕ) → (from ≡ start ρ s at ns g) × (to ≡ start ρ s at ns (g + 1)) → (from ≡ partStart ρ s at g) × (to ≡ partEnd ρ s at g)
     unfolding partStart partEnd
     held-span from to a =
-        let x : from ≡ start s at (countsAt ρ s at) g = a .0 ∙ ap (λ y. start s at y g) held-counts in
-        let y : to ≡ start s at (countsAt ρ s at) (suc g) = a .1 ∙ ap (λ y. start s at y (g + 1)) held-counts ∙ ap (start s at (countsAt ρ s at)) (add-one g) in
+        let x : from ≡ start ρ s at (countsAt ρ s at) g = a .0 ∙ ap (λ y. start ρ s at y g) held-counts in
+        let y : to ≡ start ρ s at (countsAt ρ s at) (suc g) = a .1 ∙ ap (λ y. start ρ s at y (g + 1)) held-counts ∙ ap (start ρ s at (countsAt ρ s at)) (add-one g) in
         rw (e, x, y) (refl, refl)
 
-    pub held-part : (from to : ℕ) → (from ≡ start s at ns g) × (to ≡ start s at ns (g + 1)) → part from to s ≡ partAt ρ s at g
+    pub held-part : (from to : ℕ) → (from ≡ start ρ s at ns g) × (to ≡ start ρ s at ns (g + 1)) → part from to s ≡ partAt ρ s at g
     held-part from to a = let b = held-span from to a in span-part from to b
 
   pub missing-span : {r : Refusal} → foundAt ρ s at g ≡ C.Refused r → (0 ≡ partStart ρ s at g) × (0 ≡ partEnd ρ s at g)
@@ -127,8 +127,8 @@ module _ (ρ : Rules) (s : List ℕ) (at g : ℕ) where
       by : (r : Checked) → foundAt ρ s at g ≡ r → (partStart ρ s at g ≤ partEnd ρ s at g) × (partEnd ρ s at g ≤ length s)
       by C.Right e =
           let ns = countsHeld ρ s at g in
-          let a = held-range e ns refl (start s at ns g) (start s at ns (g + 1)) (refl, refl) in
-          let b = held-span e ns refl (start s at ns g) (start s at ns (g + 1)) (refl, refl) in
+          let a = held-range e ns refl (start ρ s at ns g) (start ρ s at ns (g + 1)) (refl, refl) in
+          let b = held-span e ns refl (start ρ s at ns g) (start ρ s at ns (g + 1)) (refl, refl) in
           (omega (arith, a .0, b .0, b .1), omega (arith, a .1, b .1))
       by (C.Refused r) e = let b = missing-span e in (omega (arith, b .0, b .1), omega (arith, b .1))
 
@@ -144,11 +144,11 @@ module _ (ρ : Rules) (s : List ℕ) (at g : ℕ) where
   span-end = omega (arith, span-length, span-range .0)
 
   -- the part is the group's part of the record, and holds exactly the group's lines
-  pub given-part : foundAt ρ s at g ≡ C.Right → partAt ρ s at g ≡ groupPart s at (countsAt ρ s at) g
+  pub given-part : foundAt ρ s at g ≡ C.Right → partAt ρ s at g ≡ groupPart ρ s at (countsAt ρ s at) g
   unfolding partAt partStart partEnd Parts.groupPart
   given-part e = rw e refl
 
-  pub given-lines : foundAt ρ s at g ≡ C.Right → Whole (getD (lineTally (countsAt ρ s at)) g 0) (partAt ρ s at g)
+  pub given-lines : foundAt ρ s at g ≡ C.Right → Whole (getD (lineTally ρ (countsAt ρ s at)) g 0) (partAt ρ s at g)
   given-lines e =
       let i = given-is e in
       rw (given-part e) (part-whole ρ s at (i .next) (countsAt ρ s at) (is-placed ρ s at (i .next) (i .placed) .located-at) g (omega (arith, form-range g (i .form) (i .has) .1)))

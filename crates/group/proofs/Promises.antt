@@ -13,7 +13,7 @@ use Rattle.group.proofs.Texts.{read-located}
 -- ---- reading is local
 
 -- located records with the same counts, in whatever texts at whatever places: where the group has the same lines, it reads the same
-pub read-local : (ρ : Rules) {s t : List ℕ} {at bt : ℕ} (p : IsRecord ρ s at) (q : IsRecord ρ t bt) (g room : ℕ) → p .ns ≡ q .ns → groupPart s at (p .ns) g ≡ groupPart t bt (q .ns) g
+pub read-local : (ρ : Rules) {s t : List ℕ} {at bt : ℕ} (p : IsRecord ρ s at) (q : IsRecord ρ t bt) (g room : ℕ) → p .ns ≡ q .ns → groupPart ρ s at (p .ns) g ≡ groupPart ρ t bt (q .ns) g
     → readAt ρ s at g room ≡ readAt ρ t bt g room
 read-local ρ {s = s} {t = t} {at = at} {bt = bt} p q g room c e =
     read-located ρ s at g room (p .next) (p .ns) (p .is) ∙ ap₂ (λ ns x. readGroup ρ ns g x room) c e ∙ sym (read-located ρ t bt g room (q .next) (q .ns) (q .is))

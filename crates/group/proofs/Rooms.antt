@@ -35,9 +35,9 @@ pub form-four : formOf 4 ≡ Has F8
 unfolding Table.formOf Table.formAmong Table.listedAs
 form-four = refl
 
-pub cells-four : (n : ℕ) → cellsOf F8 n ≡ n
-unfolding Count.cellsOf Count.elementsOf Table.rowOf Table.listedAs
-cells-four n = mul-one n
+pub cells-four : (ρ : Rules) (n : ℕ) → cellsOf ρ F8 n ≡ n
+unfolding Count.cellsOf Count.elementsOf Count.isSegments Count.segmentElements Table.rowOf Table.listedAs
+cells-four ρ n = mul-one n
 
 -- R124: group 4 has no more than 49
 pub kept-four : (ns : List ℕ) → rulingOf ns ≡ Kept → countOf ns 4 ≤ 49
@@ -48,8 +48,8 @@ kept-four ns e = by (leb 1 (countOf ns 4) && leb (countOf ns 4) 49) refl
     by true u = leb-true (countOf ns 4) 49 (and-second (leb 1 (countOf ns 4)) (leb (countOf ns 4) 49) u)
     by false u = absurd (ruling-kept ns e 4 (inr (inr (inr (inl (u, refl))))))
 
-pub room-four : (ns : List ℕ) → rulingOf ns ≡ Kept → cellsOf F8 (countOf ns 4) ≤ 49
-room-four ns e = omega (arith, cells-four (countOf ns 4), kept-four ns e)
+pub room-four : (ρ : Rules) (ns : List ℕ) → rulingOf ns ≡ Kept → cellsOf ρ F8 (countOf ns 4) ≤ 49
+room-four ρ ns e = omega (arith, cells-four ρ (countOf ns 4), kept-four ns e)
 
 pub same-room : (ρ : Rules) (s : List ℕ) (at room more : ℕ) → 49 ≤ room → 49 ≤ more → readAt ρ s at 4 room ≡ readAt ρ s at 4 more
 unfolding readAt
@@ -58,5 +58,5 @@ same-room ρ s at room more a b = by (foundAt ρ s at 4)
     by : (r : Checked) → readFound ρ s at 4 room r ≡ readFound ρ s at 4 more r
     by C.Right =
         let ns = countsAt ρ s at in
-        read-room ρ ns 4 (partAt ρ s at 4) room more F8 form-four (λ e. (omega (arith, room-four ns e), omega (arith, room-four ns e)))
+        read-room ρ ns 4 (partAt ρ s at 4) room more F8 form-four (λ e. (omega (arith, room-four ρ ns e), omega (arith, room-four ρ ns e)))
     by (C.Refused r) = refl

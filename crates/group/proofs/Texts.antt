@@ -44,11 +44,11 @@ module _ (ρ : Rules) (s : List ℕ) (at g room : ℕ) where
   read-given e = rw e
 
   -- where a record can be located, its counts and the group's own lines are all that is looked at of the text, and 7 comes from the counts
-  pub read-located : (n : ℕ) (ns : List ℕ) → locate ρ s at ≡ located n ns → readAt ρ s at g room ≡ readGroup ρ ns g (groupPart s at ns g) room
+  pub read-located : (n : ℕ) (ns : List ℕ) → locate ρ s at ≡ located n ns → readAt ρ s at g room ≡ readGroup ρ ns g (groupPart ρ s at ns g) room
   unfolding readAt foundAt Read.readGroup Placing.placingOf
   read-located n ns e = by (formOf g) refl
     where
-      ruled : (f : Form) (k : Ruling) → formOf g ≡ Has f → rulingOf ns ≡ k → readFound ρ s at g room (asChecked (ruledAt n k)) ≡ readRuled ρ f ns g (groupPart s at ns g) room k
+      ruled : (f : Form) (k : Ruling) → formOf g ≡ Has f → rulingOf ns ≡ k → readFound ρ s at g room (asChecked (ruledAt n k)) ≡ readRuled ρ f ns g (groupPart ρ s at ns g) room k
       ruled f Kept h u =
           let q : placingBy (locate ρ s at) ≡ P.Placed n = rw (e, u) in
           let given : foundIn ρ s at (formOf g) ≡ C.Right = rw (h, q) in
@@ -56,7 +56,7 @@ module _ (ρ : Rules) (s : List ℕ) (at g room : ℕ) where
           rw (given-part ρ s at g given, c, h, u)
       ruled f (Broken b) h u = refl
 
-      by : (h : GroupForm) → formOf g ≡ h → readFound ρ s at g room (foundIn ρ s at h) ≡ readBy ρ ns g (groupPart s at ns g) room h
+      by : (h : GroupForm) → formOf g ≡ h → readFound ρ s at g room (foundIn ρ s at h) ≡ readBy ρ ns g (groupPart ρ s at ns g) room h
       by (Has f) h = rw e (ruled f (rulingOf ns) h refl)
       by NoForm h = refl
 
@@ -65,7 +65,7 @@ module _ (ρ : Rules) (s : List ℕ) (at g : ℕ) (old : List ℤ) where
   pub text-missing : {r : Refusal} → C.Refused r ≡ foundAt ρ s at g → Answers (readAt ρ s at g (length old)) old (A.Refused r) old
   text-missing e = rw (read-missing ρ s at g (length old) (sym e)) (refl, refl)
 
-  pub text-given : C.Right ≡ foundAt ρ s at g → (ns : List ℕ) → ns ≡ countsHeld ρ s at g → (from to : ℕ) → (from ≡ start s at ns g) × (to ≡ start s at ns (g + 1))
+  pub text-given : C.Right ≡ foundAt ρ s at g → (ns : List ℕ) → ns ≡ countsHeld ρ s at g → (from to : ℕ) → (from ≡ start ρ s at ns g) × (to ≡ start ρ s at ns (g + 1))
       → {r : Answer} {new : List ℤ} → Answers (readGroup ρ ns g (part from to s) (length old)) old r new → Answers (readAt ρ s at g (length old)) old r new
   text-given e ns c from to a {r} {new} b =
       let same : readGroup ρ ns g (part from to s) (length old) ≡ readAt ρ s at g (length old) =

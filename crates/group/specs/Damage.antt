@@ -24,7 +24,7 @@ use Rattle.group.specs.Text.{readAt}
 module _ (ρ : Rules) where
   -- R27: where the lines of group g of the record at a place begin; they end where those of the next group begin
   abbrev pub linesStart : List ℕ → ℕ → ℕ → ℕ
-  linesStart s at g = start s at (countsAt ρ s at) g
+  linesStart s at g = start ρ s at (countsAt ρ s at) g
 
   -- the places of these lines
   abbrev pub LinesAt : List ℕ → ℕ → ℕ → ℕ → Type 0
@@ -69,7 +69,7 @@ module _ (ρ : Rules) (t u : List ℕ) (k g : ℕ) where
     pub part-starts : (j h : ℕ) → partStart ρ u (spot ρ u j) h ≡ partStart ρ t (spot ρ t j) h
     pub part-lengths : (j h : ℕ) → length (partAt ρ u (spot ρ u j) h) ≡ length (partAt ρ t (spot ρ t j) h)
     -- every other group's lines have the same bytes, whether the record's reply is 0 or 7
-    pub line-bytes : (j h : ℕ) → PlacedAt ρ t (spot ρ t j) → Other k g j h → groupPart u (spot ρ u j) (countsAt ρ u (spot ρ u j)) h ≡ groupPart t (spot ρ t j) (countsAt ρ t (spot ρ t j)) h
+    pub line-bytes : (j h : ℕ) → PlacedAt ρ t (spot ρ t j) → Other k g j h → groupPart ρ u (spot ρ u j) (countsAt ρ u (spot ρ u j)) h ≡ groupPart ρ t (spot ρ t j) (countsAt ρ t (spot ρ t j)) h
     -- and so has its part
     pub part-bytes : (j h : ℕ) → Other k g j h → partAt ρ u (spot ρ u j) h ≡ partAt ρ t (spot ρ t j) h
     -- D3.5: all groups but that one, in all records, give the reply that they gave and put the same cells into the same table; also where h

@@ -58,7 +58,7 @@ module _ (ρ : Rules) where
     -- at the text's start
     pub record GivenPart (from : ℕ) (x : List ℕ) : Type 0 where
       pub placed : IsPlaced
-      pub lines : IsPart s at (placed .placed .placing .ns) g from x
+      pub lines : IsPart ρ s at (placed .placed .placing .ns) g from x
 
     pub record NoPart (from : ℕ) (x : List ℕ) : Type 0 where
       pub why : Refusal
@@ -78,7 +78,7 @@ module _ (ρ : Rules) where
         pub placed : PlacingDue (P.Placed next)
         pub from : ℕ
         pub x : List ℕ
-        pub lines : IsPart s at (placed .placing .ns) g from x
+        pub lines : IsPart ρ s at (placed .placing .ns) g from x
         pub reading : Reading.Due ρ (placed .placing .ns) g x room c
 
       abbrev pub Due : Cells → Type 0

@@ -35,7 +35,7 @@ module _ (ρ : Rules) where
 
   -- R280, R283: where the lines of group g begin, or the text's start
   abbrev pub startBy : List ℕ → ℕ → ℕ → Checked → ℕ
-  startBy s at g C.Right = start s at (countsAt ρ s at) g
+  startBy s at g C.Right = start ρ s at (countsAt ρ s at) g
   startBy s at g (C.Refused r) = 0
 
   -- where the part begins and where it ends, and the part

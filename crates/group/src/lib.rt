@@ -74,7 +74,7 @@ pub fn lines_at(rules: rules::Rules, text: &[u8], at: usize, group: usize) -> Li
         };
     };
     let counts = held.counts;
-    let span = place::span_of(text, at, &counts, group);
+    let span = place::span_of(rules, text, at, &counts, group);
     Lines {
         found,
         from: span.from,
@@ -112,7 +112,7 @@ pub fn read_group(
         Checked::Refused(r) => Answer::Refused(r),
         Checked::Right => {
             let counts = held.counts;
-            let lines = place::span_of(text, at, &counts, group);
+            let lines = place::span_of(rules, text, at, &counts, group);
             let from = lines.from;
             let to = lines.to;
             reading::read_kept(rules, &counts, group, &text[from..to], table)

@@ -10,6 +10,7 @@ use lib.IntN.{ℤ}
 use lib.ListN.{length, take, length-take}
 use lib.Seq.{take-length}
 use borrow.Author.Tests.{eqb-true}
+use Rattle.rules.specs.declared.Rules.{Rules}
 use Rattle.base.specs.Part.{part, over}
 use Rattle.base.proofs.Taken.{part-zero, take-both}
 use Rattle.count.specs.Check.{checkedOf}
@@ -47,31 +48,31 @@ pub then-right : (a b : Checked) → andThen a b ≡ C.Right → (a ≡ C.Right)
 then-right C.Right b e = (refl, e)
 then-right (C.Refused r) b e = no-refused e
 
-module _ (ns j : List ℕ) (used cells : ℕ) where
-  pub answer-refused : {r : Refusal} (c : Call) → standingOf ns j used cells ≡ C.Refused r → Refused r ≡ answerOf ns j used cells c
+module _ (ρ : Rules) (ns j : List ℕ) (used cells : ℕ) where
+  pub answer-refused : {r : Refusal} (c : Call) → standingOf ρ ns j used cells ≡ C.Refused r → Refused r ≡ answerOf ρ ns j used cells c
   unfolding answerOf
   answer-refused c e = rw e
 
-  pub answer-right : (c : Call) → standingOf ns j used cells ≡ C.Right → answerOf ns j used cells c ≡ decided (startsOf ns) c (length (walkIn ns j used .marks)) (length j - used)
+  pub answer-right : (c : Call) → standingOf ρ ns j used cells ≡ C.Right → answerOf ρ ns j used cells c ≡ decided (startsOf ρ ns) c (length (walkIn ρ ns j used .marks)) (length j - used)
   unfolding answerOf
   answer-right c e = rw e
 
   -- ---- the walk in code
 
-  module _ (r : State) (w : WalksTo (startsOf ns) (take used j) r) where
-    pub marks-found : walkIn ns j used .marks ≡ down (r .depth) (r .marks)
+  module _ (r : State) (w : WalksTo (startsOf ρ ns) (take used j) r) where
+    pub marks-found : walkIn ρ ns j used .marks ≡ down (r .depth) (r .marks)
     marks-found = ap (λ x. x .marks) (sym (w .found))
 
-    pub depth-found : length (walkIn ns j used .marks) ≡ r .depth
+    pub depth-found : length (walkIn ρ ns j used .marks) ≡ r .depth
     depth-found = ap length marks-found ∙ down-length (r .depth) (r .marks)
 
-    pub count-found : walkIn ns j used .count ≡ r .count
+    pub count-found : walkIn ρ ns j used .count ≡ r .count
     count-found = ap (λ x. x .count) (sym (w .found))
 
-    place-found : walkIn ns j used .place ≡ r .place
+    place-found : walkIn ρ ns j used .place ≡ r .place
     place-found = ap (λ x. x .place) (sym (w .found))
 
-    pub standing-found : (a : Checked) → a ≡ checkedOf ns cells → andThen a (whole (r .place) used) ≡ standingOf ns j used cells
+    pub standing-found : (a : Checked) → a ≡ checkedOf ρ ns cells → andThen a (whole (r .place) used) ≡ standingOf ρ ns j used cells
     unfolding standingOf
     standing-found a e = rw (e, place-found) refl
 
@@ -83,45 +84,45 @@ module _ (ns j : List ℕ) (used cells : ℕ) where
 -- ---- a call, from what it finds
 
 -- the answer a of a call on what was kept, and what is kept then, are those that the contracts cite
-pub record Answered (ns : List ℕ) (c : Call) (k : Kept) (a : Answer) (k′ : Kept) : Type 0 where
-  pub answer : a ≡ answerTo ns c k
-  pub used : k′ .used ≡ leftBy ns c k a .used
-  pub cells : k′ .cells ≡ leftBy ns c k a .cells
-  pub journal : k′ .journal ≡ leftBy ns c k a .journal
+pub record Answered (ρ : Rules) (ns : List ℕ) (c : Call) (k : Kept) (a : Answer) (k′ : Kept) : Type 0 where
+  pub answer : a ≡ answerTo ρ ns c k
+  pub used : k′ .used ≡ leftBy ρ ns c k a .used
+  pub cells : k′ .cells ≡ leftBy ρ ns c k a .cells
+  pub journal : k′ .journal ≡ leftBy ρ ns c k a .journal
 
-module _ {ns : List ℕ} (c : Call) (k : Kept) {r : Found} (f : Finds ns (k .journal) (k .used) (length (k .cells)) r) where
+module _ (ρ : Rules) {ns : List ℕ} (c : Call) (k : Kept) {r : Found} (f : Finds ρ ns (k .journal) (k .used) (length (k .cells)) r) where
   -- one that is refused before it is looked at itself
-  pub call-refused : {a : Answer} {why : Refusal} (used : ℕ) → r .stands ≡ C.Refused why → a ≡ Refused why → used ≡ k .used → Answered ns c k a (kept (k .cells) (k .journal) used)
+  pub call-refused : {a : Answer} {why : Refusal} (used : ℕ) → r .stands ≡ C.Refused why → a ≡ Refused why → used ≡ k .used → Answered ρ ns c k a (kept (k .cells) (k .journal) used)
   call-refused used e q u =
       record {
-        answer = q ∙ answer-refused ns (k .journal) (k .used) (length (k .cells)) c (sym (f .stands) ∙ e);
-        used = u ∙ ap (λ x. leftBy ns c k x .used) (sym q);
-        cells = ap (λ x. leftBy ns c k x .cells) (sym q);
-        journal = ap (λ x. leftBy ns c k x .journal) (sym q);
+        answer = q ∙ answer-refused ρ ns (k .journal) (k .used) (length (k .cells)) c (sym (f .stands) ∙ e);
+        used = u ∙ ap (λ x. leftBy ρ ns c k x .used) (sym q);
+        cells = ap (λ x. leftBy ρ ns c k x .cells) (sym q);
+        journal = ap (λ x. leftBy ρ ns c k x .journal) (sym q);
       }
 
   -- what the code knows of the fields before it
   abbrev state : Walked
-  state = walked (walkIn ns (k .journal) (k .used) .place) (r .count) (down (r .depth) (r .marks))
+  state = walked (walkIn ρ ns (k .journal) (k .used) .place) (r .count) (down (r .depth) (r .marks))
 
-  state-is : walkIn ns (k .journal) (k .used) ≡ state
-  state-is = λ i. walked (walkIn ns (k .journal) (k .used) .place) (f .count i) (f .marks i)
+  state-is : walkIn ρ ns (k .journal) (k .used) ≡ state
+  state-is = λ i. walked (walkIn ρ ns (k .journal) (k .used) .place) (f .count i) (f .marks i)
 
-  found-depth : length (walkIn ns (k .journal) (k .used) .marks) ≡ r .depth
+  found-depth : length (walkIn ρ ns (k .journal) (k .used) .marks) ≡ r .depth
   found-depth = ap length (f .marks) ∙ down-length (r .depth) (r .marks)
 
   -- one that is decided by the savepoints open, and leaves cells and journal by these
-  pub call-decided : {a : Answer} (k′ : Kept) → r .stands ≡ C.Right → a ≡ decided (startsOf ns) c (r .depth) (length (k .journal) - k .used) → k′ .used ≡ usedBy (k .used) c a
-      → k′ .cells ≡ byAnswer a (cellsFor (startsOf ns) c (take (k .used) (k .journal)) state (k .cells)) (k .cells)
-      → k′ .journal ≡ byAnswer a (over (k .used) (entryText (entryFor (startsOf ns) c (r .depth) (k .cells))) (k .journal)) (k .journal)
-      → Answered ns c k a k′
+  pub call-decided : {a : Answer} (k′ : Kept) → r .stands ≡ C.Right → a ≡ decided (startsOf ρ ns) c (r .depth) (length (k .journal) - k .used) → k′ .used ≡ usedBy (k .used) c a
+      → k′ .cells ≡ byAnswer a (cellsFor (startsOf ρ ns) c (take (k .used) (k .journal)) state (k .cells)) (k .cells)
+      → k′ .journal ≡ byAnswer a (over (k .used) (entryText (entryFor (startsOf ρ ns) c (r .depth) (k .cells))) (k .journal)) (k .journal)
+      → Answered ρ ns c k a k′
   call-decided {a} k′ e q u t j =
       record {
-        answer = q ∙ ap (λ d. decided (startsOf ns) c d (length (k .journal) - k .used)) (sym found-depth)
-            ∙ sym (answer-right ns (k .journal) (k .used) (length (k .cells)) c (sym (f .stands) ∙ e));
+        answer = q ∙ ap (λ d. decided (startsOf ρ ns) c d (length (k .journal) - k .used)) (sym found-depth)
+            ∙ sym (answer-right ρ ns (k .journal) (k .used) (length (k .cells)) c (sym (f .stands) ∙ e));
         used = u;
-        cells = t ∙ ap (λ w. byAnswer a (cellsFor (startsOf ns) c (take (k .used) (k .journal)) w (k .cells)) (k .cells)) (sym state-is);
-        journal = j ∙ ap (λ d. byAnswer a (over (k .used) (entryText (entryFor (startsOf ns) c d (k .cells))) (k .journal)) (k .journal)) (sym found-depth);
+        cells = t ∙ ap (λ w. byAnswer a (cellsFor (startsOf ρ ns) c (take (k .used) (k .journal)) w (k .cells)) (k .cells)) (sym state-is);
+        journal = j ∙ ap (λ d. byAnswer a (over (k .used) (entryText (entryFor (startsOf ρ ns) c d (k .cells))) (k .journal)) (k .journal)) (sym found-depth);
       }
 
 -- a part that ends with the buffer is all of it that can be used
@@ -130,12 +131,12 @@ part-used used end j e = part-zero end j ∙ ap (λ n. take n j) e ∙ sym (take
 
 -- ---- replay
 
-module _ (ns j : List ℕ) (used : ℕ) (t : List ℤ) where
-  pub replay-refused : {r : Refusal} → checkedOf ns (length t) ≡ C.Refused r → C.Refused r ≡ replayOf ns j used t
+module _ (ρ : Rules) (ns j : List ℕ) (used : ℕ) (t : List ℤ) where
+  pub replay-refused : {r : Refusal} → checkedOf ρ ns (length t) ≡ C.Refused r → C.Refused r ≡ replayOf ρ ns j used t
   unfolding replayOf
   replay-refused e = rw e
 
-  pub replay-right : checkedOf ns (length t) ≡ C.Right → whole (playIn ns j used t .place) used ≡ replayOf ns j used t
+  pub replay-right : checkedOf ρ ns (length t) ≡ C.Right → whole (playIn ρ ns j used t .place) used ≡ replayOf ρ ns j used t
   unfolding replayOf
   replay-right e = rw e
 
@@ -153,9 +154,10 @@ module _ {ps s : List ℕ} {t : List ℤ} {r : State} {t′ : List ℤ} (w : Pla
   played-back = ap (λ x. restore ps (entriesAt s 0 (x .count)) (x .cells)) (w .found) ∙ replay-back ps s t
 
 -- R518: a refused call keeps every cell, every byte of the journal, and the bytes used
-pub refused-keeps : (ns j : List ℕ) (used : ℕ) (t : List ℤ) (c : Call) {r : Refusal} → answerOf ns j used (length t) c ≡ Refused r
-    → (cellsAfter ns j used c t (answerOf ns j used (length t) c) ≡ t) × (journalBy ns j used c t (answerOf ns j used (length t) c) ≡ j) × (usedBy used c (answerOf ns j used (length t) c) ≡ used)
-refused-keeps ns j used t c e = rw e (refl, refl, refl)
+pub refused-keeps : (ρ : Rules) (ns j : List ℕ) (used : ℕ) (t : List ℤ) (c : Call) {r : Refusal} → answerOf ρ ns j used (length t) c ≡ Refused r
+    → (cellsAfter ρ ns j used c t (answerOf ρ ns j used (length t) c) ≡ t) × (journalBy ρ ns j used c t (answerOf ρ ns j used (length t) c) ≡ j) ×
+    (usedBy used c (answerOf ρ ns j used (length t) c) ≡ used)
+refused-keeps ρ ns j used t c e = rw e (refl, refl, refl)
 
-pub refused-replay-keeps : (ns j : List ℕ) (used : ℕ) (t : List ℤ) {r : Refusal} → replayOf ns j used t ≡ C.Refused r → replayedCells ns j used t (replayOf ns j used t) ≡ t
-refused-replay-keeps ns j used t e = rw e refl
+pub refused-replay-keeps : (ρ : Rules) (ns j : List ℕ) (used : ℕ) (t : List ℤ) {r : Refusal} → replayOf ρ ns j used t ≡ C.Refused r → replayedCells ρ ns j used t (replayOf ρ ns j used t) ≡ t
+refused-replay-keeps ρ ns j used t e = rw e refl

@@ -15,3 +15,4 @@ pub mod Torn
 pub mod Reopened
 pub mod Numbered
 pub mod Due
+pub mod SameCounting

@@ -10,6 +10,7 @@ use native.Mathlib.Omega.{arith}
 use lib.Dec.{ltb, eqb}
 use lib.IntN.{ℤ, pos}
 use lib.ListN.{length, getD, set, drop, take, length-drop}
+use Rattle.rules.specs.declared.Rules.{Rules}
 use Rattle.base.proofs.Taken.{drop-none, take-none}
 use lib.Seq.{getD-set-same, getD-set-other, set-out, length-take-le}
 use borrow.Author.Tests.{eqb-true, eqb-false, ltb-true, ltb-false, eq-eqb}
@@ -82,9 +83,9 @@ fit-restore (suc m) (e ∷ es) t (fine-more h o r) f = fit-restore m es t r f
 
 -- ---- what stands
 
-module _ (ns : List ℕ) (t₀ : List ℤ) where
+module _ (ρ : Rules) (ns : List ℕ) (t₀ : List ℤ) where
   abbrev ps : List ℕ
-  ps = startsOf ns
+  ps = startsOf ρ ns
 
   -- the bytes used are those of entries that are in order, lead from t₀ to the cells, and give back the tables that were saved
   pub record Stands (k : Kept) (ts : List (List ℤ)) : Type 0 where
@@ -108,8 +109,8 @@ module _ (ns : List ℕ) (t₀ : List ℤ) where
   entry-size (Releases k) d t = refl
   entry-size (Undoes k) d t = refl
 
-  entry-sized : (c : Call) (d n : ℕ) (t : List ℤ) → checkedOf ns n ≡ C.Right → accepts ps c d ≡ true → d ≤ 16 → FitCall c × Fit t → Sized (entryFor ps c d t)
-  entry-sized (Sets g c v) d n t e h l f = let m = cell-small ns n e g c h in sized-set (m .0) (m .1) (fit-get (spotOf ps g c) t (f .1)) (f .0)
+  entry-sized : (c : Call) (d n : ℕ) (t : List ℤ) → checkedOf ρ ns n ≡ C.Right → accepts ps c d ≡ true → d ≤ 16 → FitCall c × Fit t → Sized (entryFor ps c d t)
+  entry-sized (Sets g c v) d n t e h l f = let m = cell-small ρ ns n e g c h in sized-set (m .0) (m .1) (fit-get (spotOf ps g c) t (f .1)) (f .0)
   entry-sized Opens d n t e h l f = sized-open {k = d + 1} (omega arith)
   entry-sized (Releases k) d n t e h l f = sized-release {k = k} (omega (arith, ok-release ps d k h))
   entry-sized (Undoes k) d n t e h l f = sized-undo {k = k} (omega (arith, ok-undo ps d k h))
@@ -167,14 +168,14 @@ module _ (ns : List ℕ) (t₀ : List ℤ) where
 
   -- the entry of a call, if its answer is this one
   abbrev told-by : Call → Kept → Answer → List Entry
-  told-by c k a = byAnswer a (entryTo ns c k ∷ []) []
+  told-by c k a = byAnswer a (entryTo ρ ns c k ∷ []) []
 
   -- a call on what stands: the stack's answer, and what stands behind it
   pub record Next (c : Call) (k : Kept) (ts : List (List ℤ)) (es : List Entry) : Type 0 where
-    pub answer : answerTo ns c k ≡ modelAnswer ns c (stackOf k ts)
+    pub answer : answerTo ρ ns c k ≡ modelAnswer ρ ns c (stackOf k ts)
     pub saved : List (List ℤ)
-    pub model : modelStep ns c (stackOf k ts) ≡ stackOf (leftBy ns c k (answerTo ns c k)) saved
-    pub left : With (leftBy ns c k (answerTo ns c k)) saved (es ++ told-by c k (answerTo ns c k))
+    pub model : modelStep ρ ns c (stackOf k ts) ≡ stackOf (leftBy ρ ns c k (answerTo ρ ns c k)) saved
+    pub left : With (leftBy ρ ns c k (answerTo ρ ns c k)) saved (es ++ told-by c k (answerTo ρ ns c k))
 
   module _ (c : Call) (k : Kept) (ts : List (List ℤ)) (s : Stands k ts) where
     abbrev es : List Entry
@@ -186,39 +187,39 @@ module _ (ns : List ℕ) (t₀ : List ℤ) where
     pub used-is : length (journalText es) ≡ k .used
     used-is = ap length (sym (s .bytes)) ∙ length-take-le (k .used) (k .journal) (s .inside)
 
-    pub walk-is : walkIn ns (k .journal) (k .used) ≡ walked (k .used) (length es) (marksOf es)
+    pub walk-is : walkIn ρ ns (k .journal) (k .used) ≡ walked (k .used) (length es) (marksOf es)
     walk-is = ap (walkOf ps) (s .bytes) ∙ walk-journal es (s .fine) ∙ ap (λ p. walked p (length es) (marksOf es)) used-is
 
     -- both answers are one
-    next-of : (a : Answer) → answerTo ns c k ≡ a → modelAnswer ns c (stackOf k ts) ≡ a → (saved : List (List ℤ))
-        → byAnswer a (onStack ps c (stackOf k ts)) (stackOf k ts) ≡ stackOf (leftBy ns c k a) saved → With (leftBy ns c k a) saved (es ++ told-by c k a) → Next c k ts es
+    next-of : (a : Answer) → answerTo ρ ns c k ≡ a → modelAnswer ρ ns c (stackOf k ts) ≡ a → (saved : List (List ℤ))
+        → byAnswer a (onStack ps c (stackOf k ts)) (stackOf k ts) ≡ stackOf (leftBy ρ ns c k a) saved → With (leftBy ρ ns c k a) saved (es ++ told-by c k a) → Next c k ts es
     next-of a e m saved q st =
         record {
           answer = e ∙ sym m;
           saved = saved;
-          model = ap (λ x. byAnswer x (onStack ps c (stackOf k ts)) (stackOf k ts)) m ∙ q ∙ ap (λ x. stackOf (leftBy ns c k x) saved) (sym e);
-          left = subst (λ x. With (leftBy ns c k x) saved (es ++ told-by c k x)) (sym e) st;
+          model = ap (λ x. byAnswer x (onStack ps c (stackOf k ts)) (stackOf k ts)) m ∙ q ∙ ap (λ x. stackOf (leftBy ρ ns c k x) saved) (sym e);
+          left = subst (λ x. With (leftBy ρ ns c k x) saved (es ++ told-by c k x)) (sym e) st;
         }
 
-    next-refused : (r : Refusal) → answerTo ns c k ≡ Refused r → modelAnswer ns c (stackOf k ts) ≡ Refused r → Next c k ts es
+    next-refused : (r : Refusal) → answerTo ρ ns c k ≡ Refused r → modelAnswer ρ ns c (stackOf k ts) ≡ Refused r → Next c k ts es
     next-refused r e m = next-of (Refused r) e m ts refl record { stands = s; told = sym (append-nil es) }
 
-    standing-is : checkedOf ns (length (k .cells)) ≡ C.Right → standingOf ns (k .journal) (k .used) (length (k .cells)) ≡ C.Right
+    standing-is : checkedOf ρ ns (length (k .cells)) ≡ C.Right → standingOf ρ ns (k .journal) (k .used) (length (k .cells)) ≡ C.Right
     unfolding standingOf
     standing-is e = rw (e, walk-is, eq-eqb (k .used) (k .used) refl) refl
 
-    refused-standing : (r : Refusal) → checkedOf ns (length (k .cells)) ≡ C.Refused r → standingOf ns (k .journal) (k .used) (length (k .cells)) ≡ C.Refused r
+    refused-standing : (r : Refusal) → checkedOf ρ ns (length (k .cells)) ≡ C.Refused r → standingOf ρ ns (k .journal) (k .used) (length (k .cells)) ≡ C.Refused r
     unfolding standingOf
     refused-standing r e = rw e refl
 
-    pub answer-is : checkedOf ns (length (k .cells)) ≡ C.Right → answerTo ns c k ≡ decided ps c d (length (k .journal) - k .used)
-    answer-is e = answer-right ns (k .journal) (k .used) (length (k .cells)) c (standing-is e) ∙ ap (λ w. decided ps c (length (w .marks)) (length (k .journal) - k .used)) walk-is
+    pub answer-is : checkedOf ρ ns (length (k .cells)) ≡ C.Right → answerTo ρ ns c k ≡ decided ps c d (length (k .journal) - k .used)
+    answer-is e = answer-right ρ ns (k .journal) (k .used) (length (k .cells)) c (standing-is e) ∙ ap (λ w. decided ps c (length (w .marks)) (length (k .journal) - k .used)) walk-is
 
-    model-is : checkedOf ns (length (k .cells)) ≡ C.Right → modelAnswer ns c (stackOf k ts) ≡ decided ps c d (length (k .journal) - k .used)
+    model-is : checkedOf ρ ns (length (k .cells)) ≡ C.Right → modelAnswer ρ ns c (stackOf k ts) ≡ decided ps c d (length (k .journal) - k .used)
     model-is e = rw (e, ← holds-length (s .held)) refl
 
     -- a call that is done
-    module _ (right : checkedOf ns (length (k .cells)) ≡ C.Right) (fits : FitCall c) (ok : accepts ps c d ≡ true) (room : bytesFor c ≤ length (k .journal) - k .used) where
+    module _ (right : checkedOf ρ ns (length (k .cells)) ≡ C.Right) (fits : FitCall c) (ok : accepts ps c d ≡ true) (room : bytesFor c ≤ length (k .journal) - k .used) where
       abbrev t : List ℤ
       t = k .cells
 
@@ -237,7 +238,7 @@ module _ (ns : List ℕ) (t₀ : List ℤ) where
       abbrev saved : List (List ℤ)
       saved = onStack ps c (stackOf k ts) .saved
 
-      pub left-is : (n : ℕ) → leftBy ns c k (Done n) ≡ kept (cellsOn ps c es t) (over (k .used) (entryText e) (k .journal)) (k .used + bytesFor c)
+      pub left-is : (n : ℕ) → leftBy ρ ns c k (Done n) ≡ kept (cellsOn ps c es t) (over (k .used) (entryText e) (k .journal)) (k .used + bytesFor c)
       left-is n =
           ap (λ w. kept (cellsFor ps c (take (k .used) (k .journal)) w t) (over (k .used) (entryText (entryFor ps c (length (w .marks)) t)) (k .journal)) (k .used + bytesFor c)) walk-is
           ∙ ap (λ x. kept (cellsFor ps c x (walked (k .used) (length es) (marksOf es)) t) (over (k .used) (entryText e) (k .journal)) (k .used + bytesFor c)) (s .bytes)
@@ -267,14 +268,14 @@ module _ (ns : List ℕ) (t₀ : List ℤ) where
           ∙ ap (λ x. stacked x saved (length (k .journal) - k .used - bytesFor c)) (sym (held-cells ps es t ts (length (k .journal) - k .used) (s .held) c ok))
           ∙ ap (stacked (cellsOn ps c es t) saved) z
 
-      next-done : (n : ℕ) → answerTo ns c k ≡ Done n → modelAnswer ns c (stackOf k ts) ≡ Done n → Next c k ts es
+      next-done : (n : ℕ) → answerTo ρ ns c k ≡ Done n → modelAnswer ρ ns c (stackOf k ts) ≡ Done n → Next c k ts es
       next-done n a m =
           next-of (Done n) a m saved (model-done ∙ ap (λ x. stackOf x saved) (sym (left-is n)))
-          (subst (λ x. With x saved (withEntry es (entryTo ns c k))) (sym (left-is n))
+          (subst (λ x. With x saved (withEntry es (entryTo ρ ns c k))) (sym (left-is n))
           record { stands = stands-done; told = entries-done ∙ ap (λ w. withEntry es (entryFor ps c (length (w .marks)) t)) (sym walk-is) })
 
     -- any call
-    next-right : checkedOf ns (length (k .cells)) ≡ C.Right → FitCall c → Next c k ts es
+    next-right : checkedOf ρ ns (length (k .cells)) ≡ C.Right → FitCall c → Next c k ts es
     next-right r f = by (accepts ps c d) (ltb (length (k .journal) - k .used) (bytesFor c)) refl refl
       where
         by : (b l : Bool) → accepts ps c d ≡ b → ltb (length (k .journal) - k .used) (bytesFor c) ≡ l → Next c k ts es
@@ -284,55 +285,55 @@ module _ (ns : List ℕ) (t₀ : List ℤ) where
             next-done r f o (ltb-false (length (k .journal) - k .used) (bytesFor c) q) (numberFor c d) (answer-is r ∙ rw (o, q) refl) (model-is r ∙ rw (o, q) refl)
 
     pub next : FitCall c → Next c k ts es
-    next f = by (checkedOf ns (length (k .cells))) refl
+    next f = by (checkedOf ρ ns (length (k .cells))) refl
       where
-        by : (r : Checked) → checkedOf ns (length (k .cells)) ≡ r → Next c k ts es
+        by : (r : Checked) → checkedOf ρ ns (length (k .cells)) ≡ r → Next c k ts es
         by C.Right e = next-right e f
         by (C.Refused r) e = next-refused r (refused-answer r e) (rw e refl)
           where
-            refused-answer : (r : Refusal) → checkedOf ns (length (k .cells)) ≡ C.Refused r → answerTo ns c k ≡ Refused r
-            refused-answer r e = sym (answer-refused ns (k .journal) (k .used) (length (k .cells)) c (refused-standing r e))
+            refused-answer : (r : Refusal) → checkedOf ρ ns (length (k .cells)) ≡ C.Refused r → answerTo ρ ns c k ≡ Refused r
+            refused-answer r e = sym (answer-refused ρ ns (k .journal) (k .used) (length (k .cells)) c (refused-standing r e))
 
   -- ---- any calls
 
-  run-answers : (cs : List Call) (k : Kept) (ts : List (List ℤ)) → FitCalls cs → Stands k ts → answersTo ns cs k ≡ modelAnswers ns cs (stackOf k ts)
+  run-answers : (cs : List Call) (k : Kept) (ts : List (List ℤ)) → FitCalls cs → Stands k ts → answersTo ρ ns cs k ≡ modelAnswers ρ ns cs (stackOf k ts)
   run-answers [] k ts f s = refl
   run-answers (c ∷ cs) k ts f s =
       let n = next c k ts s (f .0) in
-      ap₂ _∷_ (n .answer) (run-answers cs (leftBy ns c k (answerTo ns c k)) (n .saved) (f .1) (n .left .stands) ∙ ap (modelAnswers ns cs) (sym (n .model)))
+      ap₂ _∷_ (n .answer) (run-answers cs (leftBy ρ ns c k (answerTo ρ ns c k)) (n .saved) (f .1) (n .left .stands) ∙ ap (modelAnswers ρ ns cs) (sym (n .model)))
 
   -- what is left by calls, the stack's tables there, and the entries
   pub record After (cs : List Call) (k : Kept) (ts : List (List ℤ)) (es : List Entry) : Type 0 where
     pub saved : List (List ℤ)
-    pub model : modelRun ns cs (stackOf k ts) ≡ stackOf (leftTo ns cs k) saved
-    pub left : With (leftTo ns cs k) saved (es ++ entriesTo ns cs k)
+    pub model : modelRun ρ ns cs (stackOf k ts) ≡ stackOf (leftTo ρ ns cs k) saved
+    pub left : With (leftTo ρ ns cs k) saved (es ++ entriesTo ρ ns cs k)
 
   pub after-calls : (cs : List Call) (k : Kept) (ts : List (List ℤ)) → FitCalls cs → (s : Stands k ts) → After cs k ts (s .entries)
   after-calls [] k ts f s = record { saved = ts; model = refl; left = record { stands = s; told = sym (append-nil (s .entries)) } }
   after-calls (c ∷ cs) k ts f s =
       let n = next c k ts s (f .0) in
-      let k′ = leftBy ns c k (answerTo ns c k) in
+      let k′ = leftBy ρ ns c k (answerTo ρ ns c k) in
       let a = after-calls cs k′ (n .saved) (f .1) (n .left .stands) in
-      let told = a .left .told ∙ ap (λ l. l ++ entriesTo ns cs k′) (n .left .told) ∙ append-assoc (s .entries) (told-by c k (answerTo ns c k)) (entriesTo ns cs k′) in
-      record { saved = a .saved; model = ap (modelRun ns cs) (n .model) ∙ a .model; left = record { stands = a .left .stands; told = told } }
+      let told = a .left .told ∙ ap (λ l. l ++ entriesTo ρ ns cs k′) (n .left .told) ∙ append-assoc (s .entries) (told-by c k (answerTo ρ ns c k)) (entriesTo ρ ns cs k′) in
+      record { saved = a .saved; model = ap (modelRun ρ ns cs) (n .model) ∙ a .model; left = record { stands = a .left .stands; told = told } }
 
   unfoldable pub fresh : (j : List ℕ) → Fit t₀ → Stands (kept t₀ j 0) []
   unfolding journalText marksFrom
   fresh j f =
       record { entries = []; inside = omega arith; bytes = take-none j; fine = fine-none; held = none; leads = leads-none; few = omega arith; fit = f }
 
-  pub open-is : (k : Kept) (ts : List (List ℤ)) → Stands k ts → openIn ns k ≡ length ts
+  pub open-is : (k : Kept) (ts : List (List ℤ)) → Stands k ts → openIn ρ ns k ≡ length ts
   open-is k ts s = ap (λ w. length (w .marks)) (walk-is Opens k ts s) ∙ holds-length (s .held)
 
   -- a replay over t₀ of the bytes used, in whatever buffer they stand
   play-is : (k : Kept) (ts : List (List ℤ)) (j : List ℕ) (s : Stands k ts) → take (k .used) j ≡ take (k .used) (k .journal)
-      → playIn ns j (k .used) t₀ ≡ played (k .used) (length (s .entries)) (marksOf (s .entries)) (k .cells)
+      → playIn ρ ns j (k .used) t₀ ≡ played (k .used) (length (s .entries)) (marksOf (s .entries)) (k .cells)
   play-is k ts j s q =
       let used = used-is Opens k ts s in
       ap (λ x. playOf ps x t₀) (q ∙ s .bytes) ∙ play-journal (journalText (s .entries)) (s .entries) (s .leads) refl (text-length (s .fine))
       ∙ ap (λ p. played p (length (s .entries)) (marksOf (s .entries)) (k .cells)) used
 
-  pub replay-stands : (k : Kept) (ts : List (List ℤ)) (j : List ℕ) → Stands k ts → take (k .used) j ≡ take (k .used) (k .journal) → checkedOf ns (length t₀) ≡ C.Right → ReplaysTo ns t₀ j k
+  pub replay-stands : (k : Kept) (ts : List (List ℤ)) (j : List ℕ) → Stands k ts → take (k .used) j ≡ take (k .used) (k .journal) → checkedOf ρ ns (length t₀) ≡ C.Right → ReplaysTo ρ ns t₀ j k
   unfolding replayOf
   replay-stands k ts j s q r =
       let p = play-is k ts j s q in
@@ -344,54 +345,55 @@ module _ (ns : List ℕ) (t₀ : List ℤ) where
 
 -- ---- calls behind calls
 
-module _ (ns : List ℕ) where
-  pub left-append : (bs cs : List Call) (k : Kept) → leftTo ns (bs ++ cs) k ≡ leftTo ns cs (leftTo ns bs k)
+module _ (ρ : Rules) (ns : List ℕ) where
+  pub left-append : (bs cs : List Call) (k : Kept) → leftTo ρ ns (bs ++ cs) k ≡ leftTo ρ ns cs (leftTo ρ ns bs k)
   left-append [] cs k = refl
-  left-append (b ∷ bs) cs k = left-append bs cs (leftBy ns b k (answerTo ns b k))
+  left-append (b ∷ bs) cs k = left-append bs cs (leftBy ρ ns b k (answerTo ρ ns b k))
 
-  pub answers-append : (bs cs : List Call) (k : Kept) → answersTo ns (bs ++ cs) k ≡ answersTo ns bs k ++ answersTo ns cs (leftTo ns bs k)
+  pub answers-append : (bs cs : List Call) (k : Kept) → answersTo ρ ns (bs ++ cs) k ≡ answersTo ρ ns bs k ++ answersTo ρ ns cs (leftTo ρ ns bs k)
   answers-append [] cs k = refl
-  answers-append (b ∷ bs) cs k = ap (λ l. answerTo ns b k ∷ l) (answers-append bs cs (leftBy ns b k (answerTo ns b k)))
+  answers-append (b ∷ bs) cs k = ap (λ l. answerTo ρ ns b k ∷ l) (answers-append bs cs (leftBy ρ ns b k (answerTo ρ ns b k)))
 
   -- R518, R520: a call adds its field, or nothing
-  pub adds-field : (c : Call) (k : Kept) → AddsField ns c k
+  pub adds-field : (c : Call) (k : Kept) → AddsField ρ ns c k
   adds-field c k =
       record {
-        done = λ n q. record { journal = refl; used = ap (λ m. k .used + m) (sym (length-text (entryTo ns c k) ∙ entry-size ns (k .cells) c (openIn ns k) (k .cells))) };
+        done = λ n q. record { journal = refl; used = ap (λ m. k .used + m) (sym (length-text (entryTo ρ ns c k) ∙ entry-size ρ ns (k .cells) c (openIn ρ ns k) (k .cells))) };
         refused = λ r q. refl;
       }
 
-module _ (ns : List ℕ) (t : List ℤ) (j : List ℕ) (cs : List Call) (ft : Fit t) (fc : FitCalls cs) where
+module _ (ρ : Rules) (ns : List ℕ) (t : List ℤ) (j : List ℕ) (cs : List Call) (ft : Fit t) (fc : FitCalls cs) where
   -- R516: every reply, all cells and the open savepoints are those of the stack
-  pub journal-is-stack : JournalIsStack ns t j cs
+  pub journal-is-stack : JournalIsStack ρ ns t j cs
   journal-is-stack =
-      let s = fresh ns t j ft in
-      let a = after-calls ns t cs (kept t j 0) [] fc s in
+      let s = fresh ρ ns t j ft in
+      let a = after-calls ρ ns t cs (kept t j 0) [] fc s in
       let z : length j - 0 ≡ length j = sub-zero (length j) in
       record {
-        answers = run-answers ns t cs (kept t j 0) [] fc s ∙ ap (λ n. modelAnswers ns cs (stacked t [] n)) z;
-        cells = sym (ap (λ x. x .cells) (a .model)) ∙ ap (λ n. modelRun ns cs (stacked t [] n) .cells) z;
-        opened = open-is ns t (leftTo ns cs (kept t j 0)) (a .saved) (a .left .stands) ∙ sym (ap (λ x. length (x .saved)) (a .model)) ∙ ap (λ n. length (modelRun ns cs (stacked t [] n) .saved)) z;
+        answers = run-answers ρ ns t cs (kept t j 0) [] fc s ∙ ap (λ n. modelAnswers ρ ns cs (stacked t [] n)) z;
+        cells = sym (ap (λ x. x .cells) (a .model)) ∙ ap (λ n. modelRun ρ ns cs (stacked t [] n) .cells) z;
+        opened = open-is ρ ns t (leftTo ρ ns cs (kept t j 0)) (a .saved) (a .left .stands) ∙ sym (ap (λ x. length (x .saved)) (a .model)) ∙
+            ap (λ n. length (modelRun ρ ns cs (stacked t [] n) .saved)) z;
       }
 
   -- R543: a journal that calls made, replayed over the table that they began with
-  pub replay-same : HasCells ns (length t) → ReplaysTo ns t (leftTo ns cs (kept t j 0) .journal) (leftTo ns cs (kept t j 0))
+  pub replay-same : HasCells ρ ns (length t) → ReplaysTo ρ ns t (leftTo ρ ns cs (kept t j 0) .journal) (leftTo ρ ns cs (kept t j 0))
   replay-same h =
-      let a = after-calls ns t cs (kept t j 0) [] fc (fresh ns t j ft) in
-      let k = leftTo ns cs (kept t j 0) in
-      replay-stands ns t k (a .saved) (k .journal) (a .left .stands) refl (Counted.first-due ns (length t) C.Right .1 h)
+      let a = after-calls ρ ns t cs (kept t j 0) [] fc (fresh ρ ns t j ft) in
+      let k = leftTo ρ ns cs (kept t j 0) in
+      replay-stands ρ ns t k (a .saved) (k .journal) (a .left .stands) refl (Counted.first-due ρ ns (length t) C.Right .1 h)
 
   -- R520: the bytes used are the fields of the calls that were accepted, and read as these
-  pub reads-as : ReadsEntries (leftTo ns cs (kept t j 0)) (entriesTo ns cs (kept t j 0))
+  pub reads-as : ReadsEntries (leftTo ρ ns cs (kept t j 0)) (entriesTo ρ ns cs (kept t j 0))
   unfolding fresh
   reads-as =
-      let a = after-calls ns t cs (kept t j 0) [] fc (fresh ns t j ft) in
+      let a = after-calls ρ ns t cs (kept t j 0) [] fc (fresh ρ ns t j ft) in
       let s = a .left .stands in
-      let k = leftTo ns cs (kept t j 0) in
+      let k = leftTo ρ ns cs (kept t j 0) in
       let b = s .bytes in
       let q : take (k .used) (k .journal) ≡ [] ++ (journalText (s .entries) ++ []) = b ∙ sym (append-nil (journalText (s .entries))) in
       let u : length (take (k .used) (k .journal)) ≡ k .used = length-take-le (k .used) (k .journal) (s .inside) in
-      let e : s .entries ≡ entriesTo ns cs (kept t j 0) = a .left .told in
+      let e : s .entries ≡ entriesTo ρ ns cs (kept t j 0) = a .left .told in
       record {
         bytes = b ∙ ap journalText e;
         entries = subst (λ l. entriesAt (take (k .used) (k .journal)) 0 (length l) ≡ l) e (read-written (s .entries) [] [] (take (k .used) (k .journal)) (s .fine) q);
@@ -399,7 +401,7 @@ module _ (ns : List ℕ) (t : List ℤ) (j : List ℕ) (cs : List Call) (ft : Fi
       }
 
   -- R543: a replay leaves all as it was kept, so that whatever calls come are answered, and leave, what they would have without it
-  pub goes-on : HasCells ns (length t) → behindReplay ns t (leftTo ns cs (kept t j 0)) ≡ leftTo ns cs (kept t j 0)
+  pub goes-on : HasCells ρ ns (length t) → behindReplay ρ ns t (leftTo ρ ns cs (kept t j 0)) ≡ leftTo ρ ns cs (kept t j 0)
   goes-on h =
-      let k = leftTo ns cs (kept t j 0) in
+      let k = leftTo ρ ns cs (kept t j 0) in
       ap (λ x. kept x (k .journal) (k .used)) (replay-same h .cells)

@@ -9,6 +9,7 @@ use native.Mathlib.Omega.{arith}
 use lib.Dec.{eqb, ltb, lit<}
 use lib.IntN.{ℤ}
 use lib.ListN.{length}
+use Rattle.rules.specs.declared.Rules.{Rules}
 use Rattle.reply.specs.declared.Refusal.{Refusal}
 use Rattle.reply.specs.declared.Refusal.the-variants.{NoSuchNumber, NoRoom, NotOpen, AllOpen, BadEntry}
 use Rattle.reply.specs.declared.Checked.{Checked}
@@ -28,8 +29,8 @@ use Rattle.journal.specs.Plays.{playIn, replayOf}
 use Rattle.journal.specs.Numbered.{editReply, replayRefusals, replayRows, callRefusals, callRows}
 
 -- the check, and then the place where a walk stopped
-checks-numbered : (ns : List ℕ) (cells place used : ℕ) (r : Refusal) → andThen (checkedOf ns cells) (whole place used) ≡ C.Refused r → Numbered (rows replayRefusals) (refusalReply r)
-checks-numbered ns cells place used r e = by (checkedOf ns cells) refl e
+checks-numbered : (ρ : Rules) (ns : List ℕ) (cells place used : ℕ) (r : Refusal) → andThen (checkedOf ρ ns cells) (whole place used) ≡ C.Refused r → Numbered (rows replayRefusals) (refusalReply r)
+checks-numbered ρ ns cells place used r e = by (checkedOf ρ ns cells) refl e
   where
     stopped : (t : Bool) → cond t C.Right (C.Refused (BadEntry place)) ≡ C.Refused r → Numbered (rows replayRefusals) (refusalReply r)
     stopped true f = let z : _≡_ {A = ℕ} 0 1 = cc in absurd (omega arith)
@@ -38,28 +39,28 @@ checks-numbered ns cells place used r e = by (checkedOf ns cells) refl e
         subst (λ x. Numbered (rows replayRefusals) (refusalReply x)) q
         (at-row 5 (rows replayRefusals) (refusalReply (BadEntry place)) (lit< tt) (refusal-fills (BadEntry place) (omega arith, tt)))
 
-    by : (c : Checked) → checkedOf ns cells ≡ c → andThen c (whole place used) ≡ C.Refused r → Numbered (rows replayRefusals) (refusalReply r)
+    by : (c : Checked) → checkedOf ρ ns cells ≡ c → andThen c (whole place used) ≡ C.Refused r → Numbered (rows replayRefusals) (refusalReply r)
     by C.Right u f = stopped (eqb place used) f
     by (C.Refused q) u f =
         let p : q ≡ r = cc in
         subst (λ x. Numbered (rows replayRefusals) (refusalReply x)) p
-        (rows-left checkRefusals (BadEntry 0 ∷ []) (refusalReply q) (check-refusal-numbered ns cells q (first-due ns cells (C.Refused q) .0 u)))
+        (rows-left checkRefusals (BadEntry 0 ∷ []) (refusalReply q) (check-refusal-numbered ρ ns cells q (first-due ρ ns cells (C.Refused q) .0 u)))
 
-module _ (ns j : List ℕ) (used : ℕ) where
-  pub replay-numbered : (t : List ℤ) → Numbered replayRows (checkedReply (replayOf ns j used t))
+module _ (ρ : Rules) (ns j : List ℕ) (used : ℕ) where
+  pub replay-numbered : (t : List ℤ) → Numbered replayRows (checkedReply (replayOf ρ ns j used t))
   unfolding replayOf
-  replay-numbered t = by (replayOf ns j used t) refl
+  replay-numbered t = by (replayOf ρ ns j used t) refl
     where
-      refused : (r : Refusal) → replayOf ns j used t ≡ C.Refused r → Numbered (rows replayRefusals) (refusalReply r)
-      refused r e = checks-numbered ns (length t) (playIn ns j used t .place) used r e
+      refused : (r : Refusal) → replayOf ρ ns j used t ≡ C.Refused r → Numbered (rows replayRefusals) (refusalReply r)
+      refused r e = checks-numbered ρ ns (length t) (playIn ρ ns j used t .place) used r e
 
-      by : (c : Checked) → replayOf ns j used t ≡ c → Numbered replayRows (checkedReply c)
+      by : (c : Checked) → replayOf ρ ns j used t ≡ c → Numbered replayRows (checkedReply c)
       by C.Right e = inl (fills 0 [] tt)
       by (C.Refused r) e = inr (refused r e)
 
   -- what is refused of a call that stands: 12, 15 or 16; 11; else 0
-  decided-numbered : (c : Call) (d room : ℕ) → Numbered (callRows c) (editReply (decided (startsOf ns) c d room))
-  decided-numbered c d room = by (accepts (startsOf ns) c d) (ltb room (bytesFor c))
+  decided-numbered : (c : Call) (d room : ℕ) → Numbered (callRows c) (editReply (decided (startsOf ρ ns) c d room))
+  decided-numbered c d room = by (accepts (startsOf ρ ns) c d) (ltb room (bytesFor c))
     where
       done : (c : Call) → Numbered (callRows c) (editReply (Done (numberFor c d)))
       done (Sets g i v) = inl (fills 0 [] tt)
@@ -81,13 +82,13 @@ module _ (ns j : List ℕ) (used : ℕ) where
       by true false = done c
       by false b = unaccepted c
 
-  pub call-numbered : (cells : ℕ) (c : Call) → Numbered (callRows c) (editReply (answerOf ns j used cells c))
+  pub call-numbered : (cells : ℕ) (c : Call) → Numbered (callRows c) (editReply (answerOf ρ ns j used cells c))
   unfolding answerOf standingOf
-  call-numbered cells c = by (standingOf ns j used cells) refl
+  call-numbered cells c = by (standingOf ρ ns j used cells) refl
     where
-      refused : (r : Refusal) → standingOf ns j used cells ≡ C.Refused r → Numbered (rows replayRefusals) (refusalReply r)
-      refused r e = checks-numbered ns cells (walkIn ns j used .place) used r e
+      refused : (r : Refusal) → standingOf ρ ns j used cells ≡ C.Refused r → Numbered (rows replayRefusals) (refusalReply r)
+      refused r e = checks-numbered ρ ns cells (walkIn ρ ns j used .place) used r e
 
-      by : (s : Checked) → standingOf ns j used cells ≡ s → Numbered (callRows c) (editReply (whenRight s (decided (startsOf ns) c (length (walkIn ns j used .marks)) (length j - used))))
-      by C.Right e = decided-numbered c (length (walkIn ns j used .marks)) (length j - used)
+      by : (s : Checked) → standingOf ρ ns j used cells ≡ s → Numbered (callRows c) (editReply (whenRight s (decided (startsOf ρ ns) c (length (walkIn ρ ns j used .marks)) (length j - used))))
+      by C.Right e = decided-numbered c (length (walkIn ρ ns j used .marks)) (length j - used)
       by (C.Refused r) e = inr (rows-left replayRefusals (refusalOf c ∷ NoRoom ∷ []) (refusalReply r) (refused r e))

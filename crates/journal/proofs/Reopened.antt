@@ -11,6 +11,7 @@ use lib.IntN.{ℤ}
 use lib.ListN.{length, drop, take, length-append, length-take}
 use lib.Seq.{take-take, drop-drop}
 use borrow.Author.Tests.{ltb-true, lt-ltb, le-ltb}
+use Rattle.rules.specs.declared.Rules.{Rules}
 use Rattle.base.specs.Part.{part, over}
 use Rattle.base.proofs.Choice.{cond-elim}
 use Rattle.base.proofs.Part.{part-cut}
@@ -88,26 +89,26 @@ over-same j x at used h q =
     let p : part at (at + length x) j ≡ x = ap (λ n. take n (drop at j)) y ∙ sym (take-take (length x) (used - at) (drop at j) z) ∙ ap (take (length x)) (sym (drop-take at used j)) ∙ q in
     sym (part-cut j at (length x) ∙ ap (λ y. take at j ++ (y ++ drop (length x) (drop at j))) p ∙ ap (λ y. take at j ++ (x ++ y)) (drop-drop (length x) at j))
 
-module _ (ns : List ℕ) (t₀ : List ℤ) (j : List ℕ) (used : ℕ) where
+module _ (ρ : Rules) (ns : List ℕ) (t₀ : List ℤ) (j : List ℕ) (used : ℕ) where
   abbrev ps : List ℕ
-  ps = startsOf ns
+  ps = startsOf ρ ns
 
   abbrev s : List ℕ
   s = take used j
 
   -- calls that lead there
-  made-by : {k end : Kept} (calls : List Call) → FitCalls calls → leftTo ns calls k ≡ end → MadeBy ns k end
+  made-by : {k end : Kept} (calls : List Call) → FitCalls calls → leftTo ρ ns calls k ≡ end → MadeBy ρ ns k end
   made-by calls f q = record { calls = calls; fits = f; left = q }
 
-  module _ (right : checkedOf ns (length t₀) ≡ C.Right) (bytes : AllBytes s) where
+  module _ (right : checkedOf ρ ns (length t₀) ≡ C.Right) (bytes : AllBytes s) where
     -- the whole is made from here, if a replay from here comes to its end
     abbrev Comes : Kept → Played → Type 0
-    Comes k r = r .place ≡ used → MadeBy ns k (kept (r .cells) j used)
+    Comes k r = r .place ≡ used → MadeBy ρ ns k (kept (r .cells) j used)
 
     stops : (k : Kept) → k .journal ≡ j → (n : ℕ) (ms : List ℕ) → Comes k (played (k .used) n ms (k .cells))
     stops k q n ms p = made-by [] tt (ap (λ x. kept (k .cells) x (k .used)) q ∙ ap (kept (k .cells) j) p)
 
-    module _ (k : Kept) (ts : List (List ℤ)) (q : k .journal ≡ j) (st : Stands ns t₀ k ts) (same : length (k .cells) ≡ length t₀) where
+    module _ (k : Kept) (ts : List (List ℤ)) (q : k .journal ≡ j) (st : Stands ρ ns t₀ k ts) (same : length (k .cells) ≡ length t₀) where
       abbrev es : List Entry
       es = st .entries
 
@@ -131,35 +132,35 @@ module _ (ns : List ℕ) (t₀ : List ℤ) (j : List ℕ) (used : ℕ) where
         entry-is = call-entry ps d e t ok m
 
         size-is : entrySize e ≡ bytesFor c
-        size-is = ap entrySize (sym entry-is) ∙ entry-size ns t₀ c d t
+        size-is = ap entrySize (sym entry-is) ∙ entry-size ρ ns t₀ c d t
 
         within : k .used + entrySize e ≤ length s
         within = next-within s (k .used) (omega arith)
 
-        right-here : checkedOf ns (length t) ≡ C.Right
-        right-here = ap (checkedOf ns) same ∙ right
+        right-here : checkedOf ρ ns (length t) ≡ C.Right
+        right-here = ap (checkedOf ρ ns) same ∙ right
 
         room : bytesFor c ≤ length (k .journal) - k .used
         room = omega (arith, within, size-is, length-take used j, ap length q)
 
-        answers : answerTo ns c k ≡ Done (numberFor c d)
+        answers : answerTo ρ ns c k ≡ Done (numberFor c d)
         answers =
-            answer-is ns t₀ c k ts st right-here
+            answer-is ρ ns t₀ c k ts st right-here
             ∙ rw (call-ok ps d e ok, le-ltb (length (k .journal) - k .used) (bytesFor c) room) refl
 
         -- what the call leaves
         abbrev k′ : Kept
         k′ = kept (cellsOn ps c es t) (over (k .used) (entryText (entryFor ps c d t)) (k .journal)) (k .used + bytesFor c)
 
-        left-by : leftBy ns c k (answerTo ns c k) ≡ k′
-        left-by = ap (leftBy ns c k) answers ∙ left-is ns t₀ c k ts st right-here (call-fits e (reads .sized)) (call-ok ps d e ok) room (numberFor c d)
+        left-by : leftBy ρ ns c k (answerTo ρ ns c k) ≡ k′
+        left-by = ap (leftBy ρ ns c k) answers ∙ left-is ρ ns t₀ c k ts st right-here (call-fits e (reads .sized)) (call-ok ps d e ok) room (numberFor c d)
 
-        stands′ : Stands ns t₀ k′ (onStack ps c (stackOf ns t₀ k ts) .saved)
-        stands′ = stands-done ns t₀ c k ts st right-here (call-fits e (reads .sized)) (call-ok ps d e ok) room
+        stands′ : Stands ρ ns t₀ k′ (onStack ps c (stackOf ρ ns t₀ k ts) .saved)
+        stands′ = stands-done ρ ns t₀ c k ts st right-here (call-fits e (reads .sized)) (call-ok ps d e ok) room
 
         entries′ : withEntry es (entryFor ps c d t) ≡ stands′ .entries
         unfolding stands′
-        entries′ = sym (entries-done ns t₀ c k ts st right-here (call-fits e (reads .sized)) (call-ok ps d e ok) room)
+        entries′ = sym (entries-done ρ ns t₀ c k ts st right-here (call-fits e (reads .sized)) (call-ok ps d e ok) room)
 
         journal-same : over (k .used) (entryText (entryFor ps c d t)) (k .journal) ≡ j
         journal-same =
@@ -172,7 +173,7 @@ module _ (ns : List ℕ) (t₀ : List ℤ) (j : List ℕ) (used : ℕ) where
 
         cells-same : Tells s es (k .used) → playedBy ps e s (length es) (marksOf es) t ≡ cellsOn ps c es t
         cells-same tells =
-            played-on ps s es e t (tells .reads) ∙ ap (λ y. playedOn ps y es t) (sym entry-is) ∙ played-call ns t₀ es c d t
+            played-on ps s es e t (tells .reads) ∙ ap (λ y. playedOn ps y es t) (sym entry-is) ∙ played-call ρ ns t₀ es c d t
 
         tells′ : Tells s es (k .used) → Tells s (withEntry es (entryFor ps c d t)) (k .used + bytesFor c)
         tells′ tells =
@@ -191,10 +192,10 @@ module _ (ns : List ℕ) (t₀ : List ℤ) (j : List ℕ) (used : ℕ) where
             ∙ ap (λ x. playFrom f ps s (k′ .used) (length (withEntry es (entryFor ps c d t))) x (playedBy ps e s (length es) (marksOf es) t)) m
             ∙ ap (playFrom f ps s (k′ .used) (length (withEntry es (entryFor ps c d t))) (marksOf (withEntry es (entryFor ps c d t)))) (cells-same tells)
 
-        call-more : {end : Kept} → MadeBy ns k′ end → MadeBy ns k end
-        call-more b = made-by (c ∷ b .calls) (call-fits e (reads .sized), b .fits) (ap (leftTo ns (b .calls)) left-by ∙ b .left)
+        call-more : {end : Kept} → MadeBy ρ ns k′ end → MadeBy ρ ns k end
+        call-more b = made-by (c ∷ b .calls) (call-fits e (reads .sized), b .fits) (ap (leftTo ρ ns (b .calls)) left-by ∙ b .left)
 
-    comes : (f : ℕ) (k : Kept) (ts : List (List ℤ)) → k .journal ≡ j → (st : Stands ns t₀ k ts) → length (k .cells) ≡ length t₀ → Tells s (st .entries) (k .used)
+    comes : (f : ℕ) (k : Kept) (ts : List (List ℤ)) → k .journal ≡ j → (st : Stands ρ ns t₀ k ts) → length (k .cells) ≡ length t₀ → Tells s (st .entries) (k .used)
         → Comes k (playFrom f ps s (k .used) (length (st .entries)) (marksOf (st .entries)) (k .cells))
     unfolding playFrom
     comes zero k ts q st same tells = stops k q (length (st .entries)) (marksOf (st .entries))
@@ -206,18 +207,18 @@ module _ (ns : List ℕ) (t₀ : List ℤ) (j : List ℕ) (used : ℕ) where
         let low = ltb-true (k .used) (length s) lo in
         let c = callFor e in
         let z = cells-length ps es c (k .cells) ∙ same in
-        let ih = comes f (k′ k ts q st same low ok m) (onStack ps c (stackOf ns t₀ k ts) .saved) (journal-same k ts q st same low ok m) (stands′ k ts q st same low ok m) z
+        let ih = comes f (k′ k ts q st same low ok m) (onStack ps c (stackOf ρ ns t₀ k ts) .saved) (journal-same k ts q st same low ok m) (stands′ k ts q st same low ok m) z
         (subst (λ l. Tells s l (k .used + bytesFor c)) (entries′ k ts q st same low ok m) (tells′ k ts q st same low ok m tells)) in
         let run = run-same k ts q st same low ok m f tells ∙ ap (λ l. playFrom f ps s (k .used + bytesFor c) (length l) (marksOf l) (cellsOn ps c es (k .cells))) (entries′ k ts q st same low ok m) in
         subst (Comes k) (sym run) (λ p. call-more k ts q st same low ok m (ih p))) (λ _. stop)) (λ _. stop)) (λ _. stop)
 
-    comes-fresh : Fit t₀ → Comes (kept t₀ j 0) (playIn ns j used t₀)
+    comes-fresh : Fit t₀ → Comes (kept t₀ j 0) (playIn ρ ns j used t₀)
     unfolding playOf placeAt entriesAt marksFrom fresh
-    comes-fresh f = comes (length s) (kept t₀ j 0) [] refl (fresh ns t₀ j f) refl (record { ends = refl; reads = refl })
+    comes-fresh f = comes (length s) (kept t₀ j 0) [] refl (fresh ρ ns t₀ j f) refl (record { ends = refl; reads = refl })
 
   -- a replay that gives 0: the journal is one that calls made on the table, and the cells are theirs
-  pub reopened : Fit t₀ → AllBytes s → replayOf ns j used t₀ ≡ C.Right → MadeBy ns (kept t₀ j 0) (behindReplay ns t₀ (kept t₀ j used))
+  pub reopened : Fit t₀ → AllBytes s → replayOf ρ ns j used t₀ ≡ C.Right → MadeBy ρ ns (kept t₀ j 0) (behindReplay ρ ns t₀ (kept t₀ j used))
   unfolding replayOf
   reopened f b r =
-      let q = then-right (checkedOf ns (length t₀)) (whole (playIn ns j used t₀ .place) used) r in
-      comes-fresh (q .0) b f (whole-right (playIn ns j used t₀ .place) used (q .1))
+      let q = then-right (checkedOf ρ ns (length t₀)) (whole (playIn ρ ns j used t₀ .place) used) r in
+      comes-fresh (q .0) b f (whole-right (playIn ρ ns j used t₀ .place) used (q .1))

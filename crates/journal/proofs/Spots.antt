@@ -11,6 +11,7 @@ use lib.IntN.{ℤ, pos}
 use lib.ListN.{length, getD, set, length-set, length-map, List·getD-eq-default}
 use lib.Seq.{set-set, set-getD, ext-getD, getD-set-same, getD-set-other}
 use borrow.Author.Tests.{le-leb, lt-leb, eqb-true, eqb-false}
+use Rattle.rules.specs.declared.Rules.{Rules}
 use Rattle.base.specs.Every.{upFrom}
 use mathlib.Core.Logic.{_⊎_, inl, inr}
 use Rattle.base.proofs.Choice.{and-false}
@@ -38,42 +39,42 @@ put-get Nowhere t = refl
 
 -- ---- where groups begin
 
-pub starts-length : (ns : List ℕ) → length (startsOf ns) ≡ 62
+pub starts-length : (ρ : Rules) (ns : List ℕ) → length (startsOf ρ ns) ≡ 62
 unfolding startsOf
-starts-length ns = length-map (upFrom 0 62) (cellsBefore ns) ∙ length-up 0 62
+starts-length ρ ns = length-map (upFrom 0 62) (cellsBefore ρ ns) ∙ length-up 0 62
 
-pub starts-at : (ns : List ℕ) (g : ℕ) → g < 62 → getD (startsOf ns) g 0 ≡ cellsBefore ns g
+pub starts-at : (ρ : Rules) (ns : List ℕ) (g : ℕ) → g < 62 → getD (startsOf ρ ns) g 0 ≡ cellsBefore ρ ns g
 unfolding startsOf
-starts-at ns g h = getD-map-up (cellsBefore ns) 0 62 g 0 h ∙ ap (cellsBefore ns) (zero-add g)
+starts-at ρ ns g h = getD-map-up (cellsBefore ρ ns) 0 62 g 0 h ∙ ap (cellsBefore ρ ns) (zero-add g)
 
 -- ---- filled from the first on
 
-abbrev pub FilledTo : List ℕ → List ℕ → ℕ → Type 0
-FilledTo ns ps g = (i : ℕ) → i ≤ g → getD ps i 0 ≡ cellsBefore ns i
+abbrev pub FilledTo : Rules → List ℕ → List ℕ → ℕ → Type 0
+FilledTo ρ ns ps g = (i : ℕ) → i ≤ g → getD ps i 0 ≡ cellsBefore ρ ns i
 
-pub filled-more : (ns ps : List ℕ) (g v : ℕ) → g + 1 < length ps → v ≡ cellsBefore ns (g + 1) → FilledTo ns ps g → FilledTo ns (set ps (g + 1) v) (g + 1)
-filled-more ns ps g v l e f i h = by (eqb (g + 1) i) refl
+pub filled-more : (ρ : Rules) (ns ps : List ℕ) (g v : ℕ) → g + 1 < length ps → v ≡ cellsBefore ρ ns (g + 1) → FilledTo ρ ns ps g → FilledTo ρ ns (set ps (g + 1) v) (g + 1)
+filled-more ρ ns ps g v l e f i h = by (eqb (g + 1) i) refl
   where
-    by : (b : Bool) → eqb (g + 1) i ≡ b → getD (set ps (g + 1) v) i 0 ≡ cellsBefore ns i
+    by : (b : Bool) → eqb (g + 1) i ≡ b → getD (set ps (g + 1) v) i 0 ≡ cellsBefore ρ ns i
     by true q = let z : g + 1 ≡ i = eqb-true (g + 1) i q in rw (← z, getD-set-same ps (g + 1) v 0 l) e
     by false q =
         let z : i ≡ g + 1 → ⊥ = λ y. eqb-false (g + 1) i q (sym y) in
         getD-set-other ps (g + 1) i v 0 z ∙ f i (omega arith)
 
-pub filled-start : (ns ps : List ℕ) → length ps ≡ 62 → FilledTo ns (set (set ps 0 0) 1 0) 1
-filled-start ns ps l =
+pub filled-start : (ρ : Rules) (ns ps : List ℕ) → length ps ≡ 62 → FilledTo ρ ns (set (set ps 0 0) 1 0) 1
+filled-start ρ ns ps l =
     let k : length (set ps 0 0) ≡ 62 = length-set ps 0 0 ∙ l in
-    filled-more ns (set ps 0 0) 0 0 (omega arith) (sym (cells-first ns)) first
+    filled-more ρ ns (set ps 0 0) 0 0 (omega arith) (sym (cells-first ρ ns)) first
   where
-    first : FilledTo ns (set ps 0 0) 0
+    first : FilledTo ρ ns (set ps 0 0) 0
     first i h =
         let z : 0 ≡ i = omega arith in
-        let none : 0 ≡ cellsBefore ns 0 = omega (arith, cells-below ns 0 1 (omega arith), cells-first ns) in
+        let none : 0 ≡ cellsBefore ρ ns 0 = omega (arith, cells-below ρ ns 0 1 (omega arith), cells-first ρ ns) in
         rw (← z, getD-set-same ps 0 0 0 (omega arith)) none
 
-pub filled-all : (ns ps : List ℕ) (g : ℕ) → length ps ≡ 62 → 61 ≤ g → FilledTo ns ps g → ps ≡ startsOf ns
-filled-all ns ps g l h f =
-    ext-getD 0 ps (startsOf ns) (l ∙ sym (starts-length ns)) (λ i k. f i (omega arith) ∙ sym (starts-at ns i (omega arith)))
+pub filled-all : (ρ : Rules) (ns ps : List ℕ) (g : ℕ) → length ps ≡ 62 → 61 ≤ g → FilledTo ρ ns ps g → ps ≡ startsOf ρ ns
+filled-all ρ ns ps g l h f =
+    ext-getD 0 ps (startsOf ρ ns) (l ∙ sym (starts-length ρ ns)) (λ i k. f i (omega arith) ∙ sym (starts-at ρ ns i (omega arith)))
 
 -- ---- the code's tests
 

@@ -7,6 +7,7 @@ use Prim.Native.Nat.{ℕ, zero, suc, _+_, _-_, _<_, _≤_}
 use native.Mathlib.Omega.{arith}
 use lib.IntN.{ℤ}
 use lib.ListN.{length, drop, take, length-append, length-take, take-append-drop, drop-of-length-le}
+use Rattle.rules.specs.declared.Rules.{Rules}
 use Rattle.base.proofs.Taken.{drop-take}
 use lib.Seq.{take-take, take-at, drop-at, take-append-le, length-take-le}
 use Rattle.base.proofs.Order.{le-or-lt}
@@ -35,36 +36,36 @@ use Rattle.journal.proofs.Replays.{play-cut, no-field}
 shorter : (m n : ℕ) (a b : List ℕ) → m ≤ n → take n a ≡ take n b → take m a ≡ take m b
 shorter m n a b l q = sym (take-take m n a l) ∙ ap (take m) q ∙ take-take m n b l
 
-module _ (ns : List ℕ) (t₀ : List ℤ) (right : checkedOf ns (length t₀) ≡ C.Right) where
+module _ (ρ : Rules) (ns : List ℕ) (t₀ : List ℤ) (right : checkedOf ρ ns (length t₀) ≡ C.Right) where
   -- bytes that begin as those kept, and go on with what is no field
-  cut-here : (k : Kept) (ts : List (List ℤ)) (j : List ℕ) (n : ℕ) → Stands ns t₀ k ts → k .used ≤ n → take (k .used) j ≡ take (k .used) (k .journal)
-      → entryIn (drop (k .used) (take n j)) ≡ Misformed → replayOf ns j n t₀ ≡ whole (k .used) n
+  cut-here : (k : Kept) (ts : List (List ℤ)) (j : List ℕ) (n : ℕ) → Stands ρ ns t₀ k ts → k .used ≤ n → take (k .used) j ≡ take (k .used) (k .journal)
+      → entryIn (drop (k .used) (take n j)) ≡ Misformed → replayOf ρ ns j n t₀ ≡ whole (k .used) n
   unfolding replayOf
   cut-here k ts j n s l q x =
       let es = s .entries in
       let b : take n j ≡ journalText es ++ drop (k .used) (take n j) =
       sym (take-append-drop (k .used) (take n j)) ∙ ap (λ y. y ++ drop (k .used) (take n j)) (take-take (k .used) n j l ∙ q ∙ s .bytes) in
       let m : length es ≤ length (take n j) = omega (arith, ap length b, length-append (journalText es) (drop (k .used) (take n j)), text-length (s .fine)) in
-      let p = ap (λ r. r .place) (play-cut (take n j) (drop (k .used) (take n j)) x es (s .leads) b m) ∙ used-is ns t₀ Opens k ts s in
+      let p = ap (λ r. r .place) (play-cut (take n j) (drop (k .used) (take n j)) x es (s .leads) b m) ∙ used-is ρ ns t₀ Opens k ts s in
       rw (right, p) refl
 
   abbrev after : Call → Kept → Kept
-  after c k = leftBy ns c k (answerTo ns c k)
+  after c k = leftBy ρ ns c k (answerTo ρ ns c k)
 
   -- what a call leaves: all as it was, or a field behind the bytes used
-  adds : (c : Call) (k : Kept) → (after c k ≡ k) ⊎ Adds k (entryTo ns c k) (after c k)
-  adds c k = by (answerTo ns c k) refl
+  adds : (c : Call) (k : Kept) → (after c k ≡ k) ⊎ Adds k (entryTo ρ ns c k) (after c k)
+  adds c k = by (answerTo ρ ns c k) refl
     where
-      by : (a : Answer) → answerTo ns c k ≡ a → (after c k ≡ k) ⊎ Adds k (entryTo ns c k) (after c k)
-      by (Refused r) q = inl (ap (leftBy ns c k) q)
-      by (Done n) q = inr (subst (λ a. Adds k (entryTo ns c k) (leftBy ns c k a)) (sym q) (adds-field ns c k .done n q))
+      by : (a : Answer) → answerTo ρ ns c k ≡ a → (after c k ≡ k) ⊎ Adds k (entryTo ρ ns c k) (after c k)
+      by (Refused r) q = inl (ap (leftBy ρ ns c k) q)
+      by (Done n) q = inr (subst (λ a. Adds k (entryTo ρ ns c k) (leftBy ρ ns c k a)) (sym q) (adds-field ρ ns c k .done n q))
 
   -- the bytes used never become fewer
-  grows : (cs : List Call) (k : Kept) → k .used ≤ leftTo ns cs k .used
+  grows : (cs : List Call) (k : Kept) → k .used ≤ leftTo ρ ns cs k .used
   grows [] k = omega arith
   grows (c ∷ cs) k = by (adds c k) (grows cs (after c k))
     where
-      by : (after c k ≡ k) ⊎ Adds k (entryTo ns c k) (after c k) → after c k .used ≤ leftTo ns (c ∷ cs) k .used → k .used ≤ leftTo ns (c ∷ cs) k .used
+      by : (after c k ≡ k) ⊎ Adds k (entryTo ρ ns c k) (after c k) → after c k .used ≤ leftTo ρ ns (c ∷ cs) k .used → k .used ≤ leftTo ρ ns (c ∷ cs) k .used
       by (inl q) h = omega (arith, ap (λ x. x .used) q)
       by (inr a) h = omega (arith, a .used)
 
@@ -87,22 +88,22 @@ module _ (ns : List ℕ) (t₀ : List ℤ) (right : checkedOf ns (length t₀) �
   Begins k end = take (k .used) (end .journal) ≡ take (k .used) (k .journal)
 
   -- the bytes used stay
-  keeps : (cs : List Call) (k : Kept) (ts : List (List ℤ)) → FitCalls cs → Stands ns t₀ k ts → Begins k (leftTo ns cs k)
+  keeps : (cs : List Call) (k : Kept) (ts : List (List ℤ)) → FitCalls cs → Stands ρ ns t₀ k ts → Begins k (leftTo ρ ns cs k)
   keeps [] k ts f s = refl
   keeps (c ∷ cs) k ts f s =
-      let n = next ns t₀ c k ts s (f .0) in
+      let n = next ρ ns t₀ c k ts s (f .0) in
       one (adds c k) (keeps cs (after c k) (n .saved) (f .1) (n .left .stands))
     where
-      one : (after c k ≡ k) ⊎ Adds k (entryTo ns c k) (after c k) → Begins (after c k) (leftTo ns (c ∷ cs) k) → Begins k (leftTo ns (c ∷ cs) k)
-      one (inl q) r = subst (λ x. Begins x (leftTo ns (c ∷ cs) k)) q r
+      one : (after c k ≡ k) ⊎ Adds k (entryTo ρ ns c k) (after c k) → Begins (after c k) (leftTo ρ ns (c ∷ cs) k) → Begins k (leftTo ρ ns (c ∷ cs) k)
+      one (inl q) r = subst (λ x. Begins x (leftTo ρ ns (c ∷ cs) k)) q r
       one (inr a) r =
           let k′ = after c k in
           let l : k .used ≤ k′ .used = omega (arith, a .used) in
-          shorter (k .used) (k′ .used) (leftTo ns (c ∷ cs) k .journal) (k′ .journal) l r ∙ adds-keeps k k′ (s .inside) a
+          shorter (k .used) (k′ .used) (leftTo ρ ns (c ∷ cs) k .journal) (k′ .journal) l r ∙ adds-keeps k k′ (s .inside) a
 
   -- so many calls of a list are whole in n bytes, and no more
   abbrev Most : List Call → Kept → ℕ → ℕ → Type 0
-  Most cs k n calls = (m : ℕ) → m ≤ length cs → leftTo ns (take m cs) k .used ≤ n → m ≤ calls
+  Most cs k n calls = (m : ℕ) → m ≤ length cs → leftTo ρ ns (take m cs) k .used ≤ n → m ≤ calls
 
   most-more : (c : Call) (cs : List Call) (k : Kept) (n calls : ℕ) → Most cs (after c k) n calls → Most (c ∷ cs) k n (suc calls)
   most-more c cs k n calls f zero l h = omega arith
@@ -114,7 +115,7 @@ module _ (ns : List ℕ) (t₀ : List ℤ) (right : checkedOf ns (length t₀) �
 
   -- a buffer with the first n bytes
   module _ (n : ℕ) (j : List ℕ) where
-    torn : (cs : List Call) (k : Kept) (ts : List (List ℤ)) → FitCalls cs → Stands ns t₀ k ts → k .used ≤ n → FirstBytes (leftTo ns cs k) n j → Torn ns t₀ cs k n j
+    torn : (cs : List Call) (k : Kept) (ts : List (List ℤ)) → FitCalls cs → Stands ρ ns t₀ k ts → k .used ≤ n → FirstBytes (leftTo ρ ns cs k) n j → Torn ρ ns t₀ cs k n j
     torn [] k ts f s l b =
         let z : length (take n j) ≤ k .used = omega (arith, length-take n j, b .inside) in
         let q = shorter (k .used) n j (k .journal) l (b .same) in
@@ -125,15 +126,15 @@ module _ (ns : List ℕ) (t₀ : List ℤ) (right : checkedOf ns (length t₀) �
           most = λ m h _. h;
           answer = cut-here k ts j n s l q (ap entryIn (drop-of-length-le (take n j) {i = k .used} z) ∙ no-field);
           bytes = q;
-          rest = replay-stands ns t₀ k ts j s q right;
+          rest = replay-stands ρ ns t₀ k ts j s q right;
         }
     torn (c ∷ cs) k ts f s l b =
-        let x = next ns t₀ c k ts s (f .0) in
+        let x = next ρ ns t₀ c k ts s (f .0) in
         let k′ = after c k in
         by (le-or-lt (k′ .used) n) (λ m. torn cs k′ (x .saved) (f .1) (x .left .stands) m b) (keeps (c ∷ cs) k ts f s) (keeps cs k′ (x .saved) (f .1) (x .left .stands)) (adds c k)
       where
-        by : (after c k .used ≤ n) ⊎ (n < after c k .used) → (after c k .used ≤ n → Torn ns t₀ cs (after c k) n j) → Begins k (leftTo ns (c ∷ cs) k)
-            → Begins (after c k) (leftTo ns (c ∷ cs) k) → (after c k ≡ k) ⊎ Adds k (entryTo ns c k) (after c k) → Torn ns t₀ (c ∷ cs) k n j
+        by : (after c k .used ≤ n) ⊎ (n < after c k .used) → (after c k .used ≤ n → Torn ρ ns t₀ cs (after c k) n j) → Begins k (leftTo ρ ns (c ∷ cs) k)
+            → Begins (after c k) (leftTo ρ ns (c ∷ cs) k) → (after c k ≡ k) ⊎ Adds k (entryTo ρ ns c k) (after c k) → Torn ρ ns t₀ (c ∷ cs) k n j
         by (inl m) ih q r a =
             let b = ih m in
             record {
@@ -148,10 +149,10 @@ module _ (ns : List ℕ) (t₀ : List ℤ) (right : checkedOf ns (length t₀) �
         by (inr m) ih q r (inl e) = absurd (omega (arith, ap (λ y. y .used) e))
         by (inr m) ih q r (inr a) =
             let k′ = after c k in
-            let end = leftTo ns (c ∷ cs) k .journal in
+            let end = leftTo ρ ns (c ∷ cs) k .journal in
             let y : take n j ≡ take n (k′ .journal) = b .same ∙ shorter n (k′ .used) end (k′ .journal) (omega arith) r in
-            let v : drop (k .used) (take n j) ≡ take (n - k .used) (entryText (entryTo ns c k)) = ap (drop (k .used)) y ∙ adds-cut k k′ (s .inside) a n l m in
-            let u = field-cut (entryTo ns c k) (n - k .used) (omega (arith, a .used, length-text (entryTo ns c k))) in
+            let v : drop (k .used) (take n j) ≡ take (n - k .used) (entryText (entryTo ρ ns c k)) = ap (drop (k .used)) y ∙ adds-cut k k′ (s .inside) a n l m in
+            let u = field-cut (entryTo ρ ns c k) (n - k .used) (omega (arith, a .used, length-text (entryTo ρ ns c k))) in
             let p = shorter (k .used) n j end l (b .same) ∙ q in
             record {
               calls = 0;
@@ -160,10 +161,10 @@ module _ (ns : List ℕ) (t₀ : List ℤ) (right : checkedOf ns (length t₀) �
               most = most-none c cs k n m;
               answer = cut-here k ts j n s l p (ap entryIn v ∙ u);
               bytes = p;
-              rest = replay-stands ns t₀ k ts j s p right;
+              rest = replay-stands ρ ns t₀ k ts j s p right;
             }
 
-module _ (ns : List ℕ) (t : List ℤ) (j : List ℕ) (cs : List Call) (ft : Fit t) (fc : FitCalls cs) where
+module _ (ρ : Rules) (ns : List ℕ) (t : List ℤ) (j : List ℕ) (cs : List Call) (ft : Fit t) (fc : FitCalls cs) where
   -- R544: cut at any byte, and whatever stands behind
-  pub torn-calls : HasCells ns (length t) → {n : ℕ} {j′ : List ℕ} → FirstBytes (leftTo ns cs (kept t j 0)) n j′ → Torn ns t cs (kept t j 0) n j′
-  torn-calls h {n} {j′} b = torn ns t (Counted.first-due ns (length t) C.Right .1 h) n j′ cs (kept t j 0) [] fc (fresh ns t j ft) (omega arith) b
+  pub torn-calls : HasCells ρ ns (length t) → {n : ℕ} {j′ : List ℕ} → FirstBytes (leftTo ρ ns cs (kept t j 0)) n j′ → Torn ρ ns t cs (kept t j 0) n j′
+  torn-calls h {n} {j′} b = torn ρ ns t (Counted.first-due ρ ns (length t) C.Right .1 h) n j′ cs (kept t j 0) [] fc (fresh ρ ns t j ft) (omega arith) b

@@ -6,6 +6,7 @@ use Prim.Native.Nat.{ℕ, _+_, _-_, _≤_}
 use lib.Dec.{eqb}
 use lib.IntN.{ℤ}
 use lib.ListN.{length, take}
+use Rattle.rules.specs.declared.Rules.{Rules}
 use Rattle.base.specs.Part.{over}
 use Rattle.count.specs.Check.{checkedOf}
 use Rattle.reply.specs.declared.Refusal.the-variants.{BadEntry}
@@ -44,36 +45,37 @@ cellsFor starts Opens s w t = t
 cellsFor starts (Releases k) s w t = t
 cellsFor starts (Undoes k) s w t = backTo starts s (markOf (w .marks) k) (w .count) t
 
-module _ (ns j : List ℕ) (used : ℕ) where
+module _ (ρ : Rules) (ns j : List ℕ) (used : ℕ) where
   -- the walk over the bytes used, or over all of the buffer
   abbrev pub walkIn : Walked
-  walkIn = walkOf (startsOf ns) (take used j)
+  walkIn = walkOf (startsOf ρ ns) (take used j)
 
   -- R550: 4, 5, 6, 7, 14, and then 17
   unfoldable pub standingOf : ℕ → Checked
-  standingOf cells = andThen (checkedOf ns cells) (whole (walkIn .place) used)
+  standingOf cells = andThen (checkedOf ρ ns cells) (whole (walkIn .place) used)
 
   -- and then 12, 15, 16, 11
   unfoldable pub answerOf : ℕ → Call → Answer
-  answerOf cells c = whenRight (standingOf cells) (decided (startsOf ns) c (length (walkIn .marks)) (length j - used))
+  answerOf cells c = whenRight (standingOf cells) (decided (startsOf ρ ns) c (length (walkIn .marks)) (length j - used))
 
   -- R518: cells, journal and bytes used are left as they were by a refused call
   abbrev pub cellsAfter : Call → List ℤ → Answer → List ℤ
-  cellsAfter c t a = byAnswer a (cellsFor (startsOf ns) c (take used j) walkIn t) t
+  cellsAfter c t a = byAnswer a (cellsFor (startsOf ρ ns) c (take used j) walkIn t) t
 
   -- R520: the field behind the bytes used; what stands further on is kept
   abbrev pub journalBy : Call → List ℤ → Answer → List ℕ
-  journalBy c t a = byAnswer a (over used (entryText (entryFor (startsOf ns) c (length (walkIn .marks)) t)) j) j
+  journalBy c t a = byAnswer a (over used (entryText (entryFor (startsOf ρ ns) c (length (walkIn .marks)) t)) j) j
 
 abbrev pub usedBy : ℕ → Call → Answer → ℕ
 usedBy used c a = byAnswer a (used + bytesFor c) used
 
 -- ---- the same with the marks in an array
 
-pub record Finds (ns j : List ℕ) (used cells : ℕ) (r : Found) : Type 0 where
-  pub stands : r .stands ≡ standingOf ns j used cells
-  pub count : walkIn ns j used .count ≡ r .count
-  pub marks : walkIn ns j used .marks ≡ down (r .depth) (r .marks)
-  pub few : r .depth ≤ 16
-  pub below : MarksBelow (r .depth) (r .marks) (r .count)
-  pub inside : r .stands ≡ Right → used ≤ length j
+module _ (ρ : Rules) where
+  pub record Finds (ns j : List ℕ) (used cells : ℕ) (r : Found) : Type 0 where
+    pub stands : r .stands ≡ standingOf ρ ns j used cells
+    pub count : walkIn ρ ns j used .count ≡ r .count
+    pub marks : walkIn ρ ns j used .marks ≡ down (r .depth) (r .marks)
+    pub few : r .depth ≤ 16
+    pub below : MarksBelow (r .depth) (r .marks) (r .count)
+    pub inside : r .stands ≡ Right → used ≤ length j

@@ -5,6 +5,7 @@ use mathlib.Core.List.{List}
 use Prim.Native.Nat.{ℕ, _+_, _<_, _≤_}
 use lib.IntN.{ℤ, pos}
 use lib.ListN.{length, take, getD}
+use Rattle.rules.specs.declared.Rules.{Rules}
 use Rattle.reply.specs.declared.Refusal.{Refusal}
 use Rattle.reply.specs.declared.Refusal.the-variants.{NoRoom, BadEntry}
 use Rattle.reply.specs.declared.Checked.{Checked}
@@ -38,29 +39,29 @@ module _ (S : Type 0) (place : S → ℕ) (goes right : S → Type 0) (used : �
 
 -- ---- the answer of a call
 
-module _ (ns j : List ℕ) (used : ℕ) where
+module _ (ρ : Rules) (ns j : List ℕ) (used : ℕ) where
   abbrev pub AllInOrder : Walked → Type 0
-  AllInOrder = AllUsed Walked (λ w. w .place) (InOrder ns (take used j)) (RightAt ns (take used j)) used
+  AllInOrder = AllUsed Walked (λ w. w .place) (InOrder ρ ns (take used j)) (RightAt ρ ns (take used j)) used
 
   abbrev pub AtFault : ℕ → Type 0
-  AtFault = Faulty Walked (λ w. w .place) (InOrder ns (take used j)) (RightAt ns (take used j)) used
+  AtFault = Faulty Walked (λ w. w .place) (InOrder ρ ns (take used j)) (RightAt ρ ns (take used j)) used
 
-module _ (ns j : List ℕ) (used cells : ℕ) where
+module _ (ρ : Rules) (ns j : List ℕ) (used cells : ℕ) where
   -- none of 4, 5, 6, 7, 14 and 17, with w behind the last field
   pub record Standing (w : Walked) : Type 0 where
-    pub table : Counts.HasCells ns cells
-    pub fields : AllInOrder ns j used w
+    pub table : Counts.HasCells ρ ns cells
+    pub fields : AllInOrder ρ ns j used w
 
   pub data RefusedFor (c : Call) : Refusal → Type 0 where
-    wrong-counts : (r : Refusal) → Counts.RefusedFor ns cells r → RefusedFor c r
-    bad-entry : (p : ℕ) → Counts.HasCells ns cells → AtFault ns j used p → RefusedFor c (BadEntry p)
-    unaccepted : (w : Walked) → Standing w → (Accepted ns (length (w .marks)) c → ⊥) → RefusedFor c (refusalOf c)
-    no-room : (w : Walked) → Standing w → Accepted ns (length (w .marks)) c → length j < used + bytesFor c → RefusedFor c NoRoom
+    wrong-counts : (r : Refusal) → Counts.RefusedFor ρ ns cells r → RefusedFor c r
+    bad-entry : (p : ℕ) → Counts.HasCells ρ ns cells → AtFault ρ ns j used p → RefusedFor c (BadEntry p)
+    unaccepted : (w : Walked) → Standing w → (Accepted ρ ns (length (w .marks)) c → ⊥) → RefusedFor c (refusalOf c)
+    no-room : (w : Walked) → Standing w → Accepted ρ ns (length (w .marks)) c → length j < used + bytesFor c → RefusedFor c NoRoom
 
   pub record CallDue (c : Call) (k : ℕ) : Type 0 where
     pub last : Walked
     pub standing : Standing last
-    pub accepted : Accepted ns (length (last .marks)) c
+    pub accepted : Accepted ρ ns (length (last .marks)) c
     pub room : used + bytesFor c ≤ length j
     pub number : k ≡ numberFor c (length (last .marks))
 
@@ -70,40 +71,41 @@ module _ (ns j : List ℕ) (used cells : ℕ) where
 
 -- ---- what a call leaves
 
--- R520, R521, R522: what its field tells, with d savepoints open before it
-abbrev pub fieldFor : List ℕ → ℕ → List ℤ → Call → Entry
-fieldFor ns d t (Sets g c v) = Set g c (getD t (cellPlace ns g c) (pos 0)) v
-fieldFor ns d t Opens = Open (d + 1)
-fieldFor ns d t (Releases k) = Release k
-fieldFor ns d t (Undoes k) = Undo k
+module _ (ρ : Rules) where
+  -- R520, R521, R522: what its field tells, with d savepoints open before it
+  abbrev pub fieldFor : List ℕ → ℕ → List ℤ → Call → Entry
+  fieldFor ns d t (Sets g c v) = Set g c (getD t (cellPlace ρ ns g c) (pos 0)) v
+  fieldFor ns d t Opens = Open (d + 1)
+  fieldFor ns d t (Releases k) = Release k
+  fieldFor ns d t (Undoes k) = Undo k
 
--- R512 to R515, R520: its field behind the bytes used, and the cells behind such a field
-pub record CallLeaves (ns : List ℕ) (c : Call) (k k′ : Kept) : Type 0 where
-  pub last : Walked
-  pub fields : AllInOrder ns (k .journal) (k .used) last
-  pub adds : Adds k (fieldFor ns (length (last .marks)) (k .cells) c) k′
-  pub cells : k′ .cells ≡ cellsBehind ns (take (k .used) (k .journal)) (last .count) (last .marks) (fieldFor ns (length (last .marks)) (k .cells) c) (k .cells)
+  -- R512 to R515, R520: its field behind the bytes used, and the cells behind such a field
+  pub record CallLeaves (ns : List ℕ) (c : Call) (k k′ : Kept) : Type 0 where
+    pub last : Walked
+    pub fields : AllInOrder ρ ns (k .journal) (k .used) last
+    pub adds : Adds k (fieldFor ns (length (last .marks)) (k .cells) c) k′
+    pub cells : k′ .cells ≡ cellsBehind ρ ns (take (k .used) (k .journal)) (last .count) (last .marks) (fieldFor ns (length (last .marks)) (k .cells) c) (k .cells)
 
--- R518: a refused call leaves all as it was
-abbrev pub LeftDue : List ℕ → Call → Kept → Answer → Kept → Type 0
-LeftDue ns c k (Done n) k′ = CallLeaves ns c k k′
-LeftDue ns c k (Refused r) k′ = k′ ≡ k
+  -- R518: a refused call leaves all as it was
+  abbrev pub LeftDue : List ℕ → Call → Kept → Answer → Kept → Type 0
+  LeftDue ns c k (Done n) k′ = CallLeaves ns c k k′
+  LeftDue ns c k (Refused r) k′ = k′ ≡ k
 
 -- ---- R540 to R542: a replay, which compares old values too
 
-module _ (ns j : List ℕ) (used : ℕ) (t : List ℤ) where
+module _ (ρ : Rules) (ns j : List ℕ) (used : ℕ) (t : List ℤ) where
   abbrev pub AllReplayed : Played → Type 0
-  AllReplayed = AllUsed Played (λ x. x .place) (InReplay ns (take used j) t) (PlaysAt ns (take used j)) used
+  AllReplayed = AllUsed Played (λ x. x .place) (InReplay ρ ns (take used j) t) (PlaysAt ρ ns (take used j)) used
 
   abbrev pub ReplayFault : ℕ → Type 0
-  ReplayFault = Faulty Played (λ x. x .place) (InReplay ns (take used j) t) (PlaysAt ns (take used j)) used
+  ReplayFault = Faulty Played (λ x. x .place) (InReplay ρ ns (take used j) t) (PlaysAt ρ ns (take used j)) used
 
   pub data ReplayRefusedFor : Refusal → Type 0 where
-    replay-counts : (r : Refusal) → Counts.RefusedFor ns (length t) r → ReplayRefusedFor r
-    replay-entry : (p : ℕ) → Counts.HasCells ns (length t) → ReplayFault p → ReplayRefusedFor (BadEntry p)
+    replay-counts : (r : Refusal) → Counts.RefusedFor ρ ns (length t) r → ReplayRefusedFor r
+    replay-entry : (p : ℕ) → Counts.HasCells ρ ns (length t) → ReplayFault p → ReplayRefusedFor (BadEntry p)
 
   pub record ReplayDone : Type 0 where
-    pub table : Counts.HasCells ns (length t)
+    pub table : Counts.HasCells ρ ns (length t)
     pub last : Played
     pub fields : AllReplayed last
 

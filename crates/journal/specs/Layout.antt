@@ -5,14 +5,16 @@ use Prim.Native.Nat.{ℕ, _+_, _-_}
 use lib.Dec.{leb}
 use lib.IntN.{ℤ, pos}
 use lib.ListN.{getD, set}
+use Rattle.rules.specs.declared.Rules.{Rules}
 use Rattle.base.specs.Every.{upFrom}
 use Rattle.count.specs.Tally.{cellsBefore}
 use Rattle.journal.specs.declared.Spot.{Spot}
 use Rattle.journal.specs.declared.Spot.the-variants.{At, Nowhere}
 
--- R47: entry g is where the cells of group g begin, entry g + 1 where they end, for the groups 1 to 60
-unfoldable pub startsOf : List ℕ → List ℕ
-startsOf ns = map (cellsBefore ns) (upFrom 0 62)
+module _ (ρ : Rules) where
+  -- R47: entry g is where the cells of group g begin, entry g + 1 where they end, for the groups 1 to 60
+  unfoldable pub startsOf : List ℕ → List ℕ
+  startsOf ns = map (cellsBefore ρ ns) (upFrom 0 62)
 
 -- cell c, counted from 1, of those from `start` up to `end`, if they are so many
 abbrev pub spotIn : ℕ → ℕ → ℕ → Spot

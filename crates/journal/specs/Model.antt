@@ -6,6 +6,7 @@ use Prim.Native.Nat.{ℕ, _+_, _-_}
 use lib.Dec.{leb, ltb, eqb}
 use lib.IntN.{ℤ}
 use lib.ListN.{length, getD, drop}
+use Rattle.rules.specs.declared.Rules.{Rules}
 use Rattle.count.specs.Check.{checkedOf}
 use Rattle.reply.specs.declared.Refusal.{Refusal}
 use Rattle.reply.specs.declared.Refusal.the-variants.{NoRoom, NoSuchNumber, NotOpen, AllOpen}
@@ -93,12 +94,12 @@ onTables starts (Undoes k) s room = stacked (getD (s .saved) (length (s .saved) 
 abbrev pub onStack : List ℕ → Call → Stack → Stack
 onStack starts c s = onTables starts c s (s .room - bytesFor c)
 
-module _ (ns : List ℕ) where
+module _ (ρ : Rules) (ns : List ℕ) where
   abbrev pub modelAnswer : Call → Stack → Answer
-  modelAnswer c s = whenRight (checkedOf ns (length (s .cells))) (decided (startsOf ns) c (length (s .saved)) (s .room))
+  modelAnswer c s = whenRight (checkedOf ρ ns (length (s .cells))) (decided (startsOf ρ ns) c (length (s .saved)) (s .room))
 
   abbrev pub modelStep : Call → Stack → Stack
-  modelStep c s = byAnswer (modelAnswer c s) (onStack (startsOf ns) c s) s
+  modelStep c s = byAnswer (modelAnswer c s) (onStack (startsOf ρ ns) c s) s
 
   -- any calls, one after the other: what is answered, and what is left
   abbrev pub modelAnswers : List Call → Stack → List Answer

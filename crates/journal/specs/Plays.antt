@@ -6,6 +6,7 @@ use Prim.Native.Nat.{ℕ, zero, suc, _+_, _≤_}
 use lib.Dec.{ltb, eqb}
 use lib.IntN.{ℤ, pos, negsuc}
 use lib.ListN.{length, take}
+use Rattle.rules.specs.declared.Rules.{Rules}
 use Rattle.count.specs.Check.{checkedOf}
 use Rattle.reply.specs.declared.Checked.{Checked}
 use Rattle.reply.specs.declared.Checked.the-variants.{Right, Refused}
@@ -67,13 +68,13 @@ abbrev pub byChecked : {A : Type 0} → Checked → A → A → A
 byChecked Right new old = new
 byChecked (Refused r) new old = old
 
-module _ (ns j : List ℕ) (used : ℕ) where
+module _ (ρ : Rules) (ns j : List ℕ) (used : ℕ) where
   abbrev pub playIn : List ℤ → Played
-  playIn t = playOf (startsOf ns) (take used j) t
+  playIn t = playOf (startsOf ρ ns) (take used j) t
 
   -- R540: 4, 5, 6, 7, 14, and then 17
   unfoldable pub replayOf : List ℤ → Checked
-  replayOf t = andThen (checkedOf ns (length t)) (whole (playIn t .place) used)
+  replayOf t = andThen (checkedOf ρ ns (length t)) (whole (playIn t .place) used)
 
   -- R542: the cells and the open savepoints behind a replay; a refused one leaves the cells as they were
   abbrev pub replayedCells : List ℤ → Checked → List ℤ

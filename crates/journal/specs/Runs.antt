@@ -6,6 +6,7 @@ use lib.IntN.{ℤ, pos}
 use lib.ListN.{length, take, drop, getD}
 use mir.Syntax.{w64}
 use mir.Val.{SFits}
+use Rattle.rules.specs.declared.Rules.{Rules}
 use Rattle.reply.specs.declared.Refusal.{Refusal}
 use Rattle.reply.specs.declared.Answer.{Answer}
 use Rattle.reply.specs.declared.Answer.the-variants.{Done, Refused}
@@ -56,13 +57,13 @@ pub record FirstBytes (k : Kept) (n : ℕ) (j : List ℕ) : Type 0 where
   pub inside : n ≤ k .used
   pub same : take n j ≡ take n (k .journal)
 
-module _ (ns : List ℕ) where
+module _ (ρ : Rules) (ns : List ℕ) where
   -- what a call answers, and what it leaves, by the definitions that the contracts cite
   abbrev pub answerTo : Call → Kept → Answer
-  answerTo c k = answerOf ns (k .journal) (k .used) (length (k .cells)) c
+  answerTo c k = answerOf ρ ns (k .journal) (k .used) (length (k .cells)) c
 
   abbrev pub leftBy : Call → Kept → Answer → Kept
-  leftBy c k a = kept (cellsAfter ns (k .journal) (k .used) c (k .cells) a) (journalBy ns (k .journal) (k .used) c (k .cells) a) (usedBy (k .used) c a)
+  leftBy c k a = kept (cellsAfter ρ ns (k .journal) (k .used) c (k .cells) a) (journalBy ρ ns (k .journal) (k .used) c (k .cells) a) (usedBy (k .used) c a)
 
   abbrev pub answersTo : List Call → Kept → List Answer
   answersTo [] k = []
@@ -74,11 +75,11 @@ module _ (ns : List ℕ) where
 
   -- the savepoints that are open
   abbrev pub openIn : Kept → ℕ
-  openIn k = length (walkIn ns (k .journal) (k .used) .marks)
+  openIn k = length (walkIn ρ ns (k .journal) (k .used) .marks)
 
   -- R520, R518: the entry of a call, where it is accepted; what an accepted call adds, and that a refused one adds nothing
   abbrev pub entryTo : Call → Kept → Entry
-  entryTo c k = entryFor (startsOf ns) c (openIn k) (k .cells)
+  entryTo c k = entryFor (startsOf ρ ns) c (openIn k) (k .cells)
 
   pub record AddsField (c : Call) (k : Kept) : Type 0 where
     pub done : (n : ℕ) → answerTo c k ≡ Done n → Adds k (entryTo c k) (leftBy c k (Done n))
@@ -91,19 +92,19 @@ module _ (ns : List ℕ) where
 
   -- for any calls on a fresh journal, every reply, all cells and the open savepoints are the stack's
   pub record JournalIsStack (t : List ℤ) (j : List ℕ) (cs : List Call) : Type 0 where
-    pub answers : answersTo cs (kept t j 0) ≡ modelAnswers ns cs (stacked t [] (length j))
-    pub cells : leftTo cs (kept t j 0) .cells ≡ modelRun ns cs (stacked t [] (length j)) .cells
-    pub opened : openIn (leftTo cs (kept t j 0)) ≡ length (modelRun ns cs (stacked t [] (length j)) .saved)
+    pub answers : answersTo cs (kept t j 0) ≡ modelAnswers ρ ns cs (stacked t [] (length j))
+    pub cells : leftTo cs (kept t j 0) .cells ≡ modelRun ρ ns cs (stacked t [] (length j)) .cells
+    pub opened : openIn (leftTo cs (kept t j 0)) ≡ length (modelRun ρ ns cs (stacked t [] (length j)) .saved)
 
   -- R543: replayed over the table t, the bytes that k uses, where they stand in the buffer j, come to k's cells and open savepoints
   pub record ReplaysTo (t : List ℤ) (j : List ℕ) (k : Kept) : Type 0 where
-    pub answer : replayOf ns j (k .used) t ≡ Right
-    pub cells : replayedCells ns j (k .used) t Right ≡ k .cells
-    pub opened : replayedOpen ns j (k .used) t Right ≡ openIn k
+    pub answer : replayOf ρ ns j (k .used) t ≡ Right
+    pub cells : replayedCells ρ ns j (k .used) t Right ≡ k .cells
+    pub opened : replayedOpen ρ ns j (k .used) t Right ≡ openIn k
 
   -- what is kept behind a replay over t that gives 0
   abbrev pub behindReplay : List ℤ → Kept → Kept
-  behindReplay t k = kept (replayedCells ns (k .journal) (k .used) t Right) (k .journal) (k .used)
+  behindReplay t k = kept (replayedCells ρ ns (k .journal) (k .used) t Right) (k .journal) (k .used)
 
   -- R544: a buffer j that has the first n bytes of what calls made, and behind them anything. So many calls are whole in them, and no more; a
   -- replay gives 0 at the end of a field, and else 17 with the place of the field that was cut. The bytes before it are those that were used
@@ -113,7 +114,7 @@ module _ (ns : List ℕ) where
     pub among : calls ≤ length cs
     pub before : leftTo (take calls cs) k .used ≤ n
     pub most : (m : ℕ) → m ≤ length cs → leftTo (take m cs) k .used ≤ n → m ≤ calls
-    pub answer : replayOf ns j n t ≡ whole (leftTo (take calls cs) k .used) n
+    pub answer : replayOf ρ ns j n t ≡ whole (leftTo (take calls cs) k .used) n
     pub bytes : take (leftTo (take calls cs) k .used) j ≡ take (leftTo (take calls cs) k .used) (leftTo (take calls cs) k .journal)
     pub rest : ReplaysTo t j (leftTo (take calls cs) k)
 

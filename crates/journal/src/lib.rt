@@ -62,9 +62,9 @@ struct Found {
 // ---- The table.
 
 // R501: where the cells of each group begin.
-fn put_starts(counts: &[u16], starts: &mut [usize])
+fn put_starts(rules: rules::Rules, counts: &[u16], starts: &mut [usize])
     requires many { ⌜ length (now starts) ≡ 62 ⌝ }
-    ensures { λ _. ⌜ now (starts .exit) ≡ startsOf (now (counts .entry)) ⌝ }
+    ensures { λ _. ⌜ now (starts .exit) ≡ startsOf rules (now (counts .entry)) ⌝ }
 {
     starts[0] = 0;
     starts[1] = 0;
@@ -72,7 +72,7 @@ fn put_starts(counts: &[u16], starts: &mut [usize])
     let mut g: usize = 1;
     while g < 61 {
         let f = form::form_in(g);
-        sum += form::cells(f, count::count_of(counts, g));
+        sum += form::cells(rules, f, count::count_of(counts, g));
         g += 1;
         starts[g] = sum;
     }
@@ -406,16 +406,23 @@ fn standing(checked: Checked, place: usize, used: usize) -> Checked
 }
 
 // R550: what every call begins with: where the cells stand, and the replies 4, 5, 6, 7, 14 and 17.
-fn look(counts: &[u16], cells: usize, journal: &[u8], used: usize, starts: &mut [usize]) -> Found
+fn look(
+    rules: rules::Rules,
+    counts: &[u16],
+    cells: usize,
+    journal: &[u8],
+    used: usize,
+    starts: &mut [usize],
+) -> Found
     requires many { ⌜ length (now starts) ≡ 62 ⌝ }
-    ensures starts { λ _. ⌜ now (starts .exit) ≡ startsOf (now (counts .entry)) ⌝ }
-    ensures found { λ r. ⌜ Finds (now (counts .entry)) (now (journal .entry)) used cells r ⌝ }
+    ensures starts { λ _. ⌜ now (starts .exit) ≡ startsOf rules (now (counts .entry)) ⌝ }
+    ensures found { λ r. ⌜ Finds rules (now (counts .entry)) (now (journal .entry)) used cells r ⌝ }
 {
-    put_starts(counts, starts);
+    put_starts(rules, counts, starts);
     let state = walk_used(starts, journal, used);
     let marks = state.marks;
     Found {
-        stands: standing(count::check(counts, cells), state.place, used),
+        stands: standing(count::check(rules, counts, cells), state.place, used),
         count: state.count,
         depth: state.depth,
         marks,
@@ -568,6 +575,7 @@ fn undo_in(
 
 // R512: sets a cell of a group, counted from 1.
 pub fn set_cell(
+    rules: rules::Rules,
     counts: &[u16],
     cells: &mut [i64],
     journal: &mut [u8],
@@ -577,18 +585,18 @@ pub fn set_cell(
     value: i64,
 ) -> Edited
     ensures answer { λ r. ⌜ r .answer ≡
-        answerOf (now (counts .entry)) (now (journal .entry)) used (length (now (cells .entry))) (Sets group cell
+        answerOf rules (now (counts .entry)) (now (journal .entry)) used (length (now (cells .entry))) (Sets group cell
         value) ⌝ }
     ensures used { λ r. ⌜ r .used ≡ usedBy used (Sets group cell value) (r .answer) ⌝ }
     ensures cells { λ r. ⌜ now (cells .exit) ≡
-        cellsAfter (now (counts .entry)) (now (journal .entry)) used (Sets group cell value) (now (cells .entry)) (r
-        .answer) ⌝ }
+        cellsAfter rules (now (counts .entry)) (now (journal .entry)) used (Sets group cell value)
+        (now (cells .entry)) (r .answer) ⌝ }
     ensures journal { λ r. ⌜ now (journal .exit) ≡
-        journalBy (now (counts .entry)) (now (journal .entry)) used (Sets group cell value) (now (cells .entry)) (r
-        .answer) ⌝ }
+        journalBy rules (now (counts .entry)) (now (journal .entry)) used (Sets group cell value)
+        (now (cells .entry)) (r .answer) ⌝ }
 {
     let mut starts = [0usize; 62];
-    let found = look(counts, cells.len(), journal, used, &mut starts);
+    let found = look(rules, counts, cells.len(), journal, used, &mut starts);
     let stands = found.stands;
     match stands {
         Checked::Refused(why) => refused(why, used),
@@ -597,15 +605,21 @@ pub fn set_cell(
 }
 
 // R513: opens a savepoint inside those that are open; its number is told.
-pub fn open_savepoint(counts: &[u16], cells: &[i64], journal: &mut [u8], used: usize) -> Edited
+pub fn open_savepoint(
+    rules: rules::Rules,
+    counts: &[u16],
+    cells: &[i64],
+    journal: &mut [u8],
+    used: usize,
+) -> Edited
     ensures answer { λ r. ⌜ r .answer ≡
-        answerOf (now (counts .entry)) (now (journal .entry)) used (length (now (cells .entry))) Opens ⌝ }
+        answerOf rules (now (counts .entry)) (now (journal .entry)) used (length (now (cells .entry))) Opens ⌝ }
     ensures used { λ r. ⌜ r .used ≡ usedBy used Opens (r .answer) ⌝ }
     ensures journal { λ r. ⌜ now (journal .exit) ≡
-        journalBy (now (counts .entry)) (now (journal .entry)) used Opens (now (cells .entry)) (r .answer) ⌝ }
+        journalBy rules (now (counts .entry)) (now (journal .entry)) used Opens (now (cells .entry)) (r .answer) ⌝ }
 {
     let mut starts = [0usize; 62];
-    let found = look(counts, cells.len(), journal, used, &mut starts);
+    let found = look(rules, counts, cells.len(), journal, used, &mut starts);
     let stands = found.stands;
     match stands {
         Checked::Refused(why) => refused(why, used),
@@ -615,6 +629,7 @@ pub fn open_savepoint(counts: &[u16], cells: &[i64], journal: &mut [u8], used: u
 
 // R514: releases the innermost savepoint; what was set since it was opened stays, and belongs to the one outside.
 pub fn release_savepoint(
+    rules: rules::Rules,
     counts: &[u16],
     cells: &[i64],
     journal: &mut [u8],
@@ -622,15 +637,15 @@ pub fn release_savepoint(
     savepoint: usize,
 ) -> Edited
     ensures answer { λ r. ⌜ r .answer ≡
-        answerOf (now (counts .entry)) (now (journal .entry)) used (length (now (cells .entry))) (Releases
+        answerOf rules (now (counts .entry)) (now (journal .entry)) used (length (now (cells .entry))) (Releases
         savepoint) ⌝ }
     ensures used { λ r. ⌜ r .used ≡ usedBy used (Releases savepoint) (r .answer) ⌝ }
     ensures journal { λ r. ⌜ now (journal .exit) ≡
-        journalBy (now (counts .entry)) (now (journal .entry)) used (Releases savepoint) (now (cells .entry)) (r
+        journalBy rules (now (counts .entry)) (now (journal .entry)) used (Releases savepoint) (now (cells .entry)) (r
         .answer) ⌝ }
 {
     let mut starts = [0usize; 62];
-    let found = look(counts, cells.len(), journal, used, &mut starts);
+    let found = look(rules, counts, cells.len(), journal, used, &mut starts);
     let stands = found.stands;
     match stands {
         Checked::Refused(why) => refused(why, used),
@@ -640,6 +655,7 @@ pub fn release_savepoint(
 
 // R515: brings the cells to what they were when a savepoint was opened; it stays open, and those inside it are closed.
 pub fn undo_to_savepoint(
+    rules: rules::Rules,
     counts: &[u16],
     cells: &mut [i64],
     journal: &mut [u8],
@@ -647,18 +663,18 @@ pub fn undo_to_savepoint(
     savepoint: usize,
 ) -> Edited
     ensures answer { λ r. ⌜ r .answer ≡
-        answerOf (now (counts .entry)) (now (journal .entry)) used (length (now (cells .entry))) (Undoes savepoint)
-        ⌝ }
+        answerOf rules (now (counts .entry)) (now (journal .entry)) used (length (now (cells .entry)))
+        (Undoes savepoint) ⌝ }
     ensures used { λ r. ⌜ r .used ≡ usedBy used (Undoes savepoint) (r .answer) ⌝ }
     ensures cells { λ r. ⌜ now (cells .exit) ≡
-        cellsAfter (now (counts .entry)) (now (journal .entry)) used (Undoes savepoint) (now (cells .entry)) (r
+        cellsAfter rules (now (counts .entry)) (now (journal .entry)) used (Undoes savepoint) (now (cells .entry)) (r
         .answer) ⌝ }
     ensures journal { λ r. ⌜ now (journal .exit) ≡
-        journalBy (now (counts .entry)) (now (journal .entry)) used (Undoes savepoint) (now (cells .entry)) (r
+        journalBy rules (now (counts .entry)) (now (journal .entry)) used (Undoes savepoint) (now (cells .entry)) (r
         .answer) ⌝ }
 {
     let mut starts = [0usize; 62];
-    let found = look(counts, cells.len(), journal, used, &mut starts);
+    let found = look(rules, counts, cells.len(), journal, used, &mut starts);
     let stands = found.stands;
     let marks = found.marks;
     match stands {
@@ -677,22 +693,28 @@ pub fn undo_to_savepoint(
 }
 
 // R540: replays a journal over the table that it was begun on, and tells how many savepoints are open.
-pub fn replay(counts: &[u16], cells: &mut [i64], journal: &[u8], used: usize) -> Replayed
+pub fn replay(
+    rules: rules::Rules,
+    counts: &[u16],
+    cells: &mut [i64],
+    journal: &[u8],
+    used: usize,
+) -> Replayed
     ensures answer { λ r. ⌜ r .answer ≡
-        replayOf (now (counts .entry)) (now (journal .entry)) used (now (cells .entry)) ⌝ }
+        replayOf rules (now (counts .entry)) (now (journal .entry)) used (now (cells .entry)) ⌝ }
     ensures open { λ r. ⌜ r .open ≡
-        replayedOpen (now (counts .entry)) (now (journal .entry)) used (now (cells .entry)) (r .answer) ⌝ }
+        replayedOpen rules (now (counts .entry)) (now (journal .entry)) used (now (cells .entry)) (r .answer) ⌝ }
     ensures cells { λ r. ⌜ now (cells .exit) ≡
-        replayedCells (now (counts .entry)) (now (journal .entry)) used (now (cells .entry)) (r .answer) ⌝ }
+        replayedCells rules (now (counts .entry)) (now (journal .entry)) used (now (cells .entry)) (r .answer) ⌝ }
 {
-    match count::check(counts, cells.len()) {
+    match count::check(rules, counts, cells.len()) {
         Checked::Refused(why) => Replayed {
             answer: Checked::Refused(why),
             open: 0,
         },
         Checked::Right => {
             let mut starts = [0usize; 62];
-            put_starts(counts, &mut starts);
+            put_starts(rules, counts, &mut starts);
             let end = base::lesser(used, journal.len());
             replay_in(&starts, cells, &journal[0..end], used)
         }

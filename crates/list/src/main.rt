@@ -7,7 +7,7 @@ fn main() {
     if !asked.known {
         return;
     }
-    let rules = rules::choose(asked.strict);
+    let rules = rules::choose(asked.strict, asked.entries);
     let mut space = [0u8; 65537];
     let n = io::read_full(libc::STDIN_FILENO, &mut space);
     let mut page = [0u8; 8192];

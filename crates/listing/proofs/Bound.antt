@@ -94,9 +94,9 @@ counts-are ρ s at n ns e = rw e
 -- the next place and the lines of a record
 pub record Within (ρ : Rules) (s : List ℕ) (at : ℕ) : Type 0 where
   pub next : nextOf (placingOf ρ s at) ≤ length s
-  pub lines : recordLines (countsAt ρ s at) ≤ length s
+  pub lines : recordLines ρ (countsAt ρ s at) ≤ length s
 
-located-lines : (ρ : Rules) (s : List ℕ) (at n : ℕ) (ns : List ℕ) → locate ρ s at ≡ located n ns → recordLines ns ≤ length s
+located-lines : (ρ : Rules) (s : List ℕ) (at n : ℕ) (ns : List ℕ) → locate ρ s at ≡ located n ns → recordLines ρ ns ≤ length s
 located-lines ρ s at n ns e =
     let p = located-is ρ s at n ns e in
     omega (arith, p .many, feeds-le (drop at s), length-drop at s)
@@ -111,7 +111,7 @@ record-within ρ s at r = record { next = next (r .next) (r .ns) (r .is); lines 
     next : (n : ℕ) (ns : List ℕ) → locate ρ s at ≡ located n ns → nextOf (placingOf ρ s at) ≤ length s
     next n ns e = rw (placing-is ρ s at n ns e) (ruled n (rulingOf ns) (located-range ρ s at n ns e))
 
-    lines : (n : ℕ) (ns : List ℕ) → locate ρ s at ≡ located n ns → recordLines (countsAt ρ s at) ≤ length s
+    lines : (n : ℕ) (ns : List ℕ) → locate ρ s at ≡ located n ns → recordLines ρ (countsAt ρ s at) ≤ length s
     lines n ns e = rw (counts-are ρ s at n ns e) (located-lines ρ s at n ns e)
 
 -- ---- lines
@@ -125,7 +125,7 @@ module _ (ρ : Rules) (s : List ℕ) (short : length s ≤ 65536) where
       let ns = countsAt ρ s at in
       let a = answer-small ρ s at in
       let w = record-within ρ s at (records-stop ρ s .each k h) in
-      rw (row-size (recordRow (suc k) at p ns) (lit< tt))
+      rw (row-size (recordRow ρ (suc k) at p ns) (lit< tt))
       (omega (
         arith,
         length-within 2 (suc k) (omega (arith, records-bytes ρ s)),
@@ -134,7 +134,7 @@ module _ (ρ : Rules) (s : List ℕ) (short : length s ≤ 65536) where
         length-within 0 (replyOf p) (omega (arith, a .reply)),
         length-within 1 (groupOf p) (omega (arith, a .group)),
         length-within 1 (filledGroups ns) (omega (arith, filled-within ns)),
-        length-within 4 (recordLines ns) (omega (arith, w .lines)),
+        length-within 4 (recordLines ρ ns) (omega (arith, w .lines)),
       ))
 
   end-within : length (endAt ρ s (recordsIn ρ s)) ≤ 19

@@ -38,7 +38,7 @@ lines-all ρ s = let e : recordsIn ρ s - 0 ≡ recordsIn ρ s = omega arith in 
 
 module _ (ρ : Rules) (s : List ℕ) (k at : ℕ) (few : k ≤ recordsIn ρ s) (here : at ≡ spot ρ s k) where
   -- the line of what the code meets
-  pub row-here : rowText (recordRow (k + 1) at (placingOf ρ s at) (countsAt ρ s at)) ≡ rowAt ρ s k
+  pub row-here : rowText (recordRow ρ (k + 1) at (placingOf ρ s at) (countsAt ρ s at)) ≡ rowAt ρ s k
   unfolding rowAt
   row-here = rw (here, add-one k)
 

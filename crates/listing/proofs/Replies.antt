@@ -60,7 +60,7 @@ listed-numbered ρ s room = by (leb (length (listing ρ s)) room)
 
 -- the seven numbers of record k, and the four of the end
 abbrev row : Rules → List ℕ → ℕ → List ℕ
-row ρ s k = recordRow (suc k) (spot ρ s k) (placingOf ρ s (spot ρ s k)) (countsAt ρ s (spot ρ s k))
+row ρ s k = recordRow ρ (suc k) (spot ρ s k) (placingOf ρ s (spot ρ s k)) (countsAt ρ s (spot ρ s k))
 
 abbrev last : Rules → List ℕ → ℕ → List ℕ
 last ρ s many = endRow many (spot ρ s many) (placingOf ρ s (spot ρ s many))

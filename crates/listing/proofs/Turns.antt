@@ -48,7 +48,7 @@ module _ (ρ : Rules) {s : List ℕ} {k at : ℕ} {answer : Placing} {ns : List 
   next-at : next ≡ nextOf (placingOf ρ s at)
   next-at = m .next-is ∙ ap nextOf (m .placing)
 
-  pub met-more : {row : List ℕ} → placed ≡ true → row ≡ recordRow (k + 1) at answer ns → More ρ s k at row next
+  pub met-more : {row : List ℕ} → placed ≡ true → row ≡ recordRow ρ (k + 1) at answer ns → More ρ s k at row next
   met-more {row} e r =
       let f = m .few in
       let h = m .here in

@@ -25,16 +25,16 @@ use Rattle.listing.specs.Listing.{rowAt, rowsFrom, endAt, listingOf, lis
 use Rattle.listing.specs.Rows.{filledGroups, recordRow, endRow}
 use Rattle.listing.proofs.Lines.{listing-is}
 
-counted : (filledGroups countsS ≡ 3) × (recordLines countsS ≡ 5) × (rulingOf countsS ≡ Kept)
+counted : (ρ : Rules) → (filledGroups countsS ≡ 3) × (recordLines ρ countsS ≡ 5) × (rulingOf countsS ≡ Kept)
 unfolding filledGroups RecordS.countsS Tally.linesIn Tally.lineTally Sum.sum Every.upFrom Table.rowOf Table.listedAs Table.formAmong Table.formOf Count.linesOf
-    Count.roundedUp Count.elementsOf Rules.rulingOf Rules.lowest Rules.headRules Rules.sets Rules.keeps Rules.letterRules
-counted = (refl, refl, refl)
+    Count.roundedUp Count.elementsOf Count.isSegments Count.segmentElements Rules.rulingOf Rules.lowest Rules.headRules Rules.sets Rules.keeps Rules.letterRules
+counted ρ = (refl, refl, refl)
 
 rows : (ρ : Rules) → (rowAt ρ twiceS 0 ≡ bytes "1 0 305 0 0 3 5" ++ (10 ∷ [])) × (rowAt ρ twiceS 1 ≡ bytes "2 305 610 0 0 3 5" ++ (10 ∷ [])) × (endAt ρ twiceS 2 ≡ bytes "end 2 610 1 0" ++ (10 ∷ []))
 unfolding rowAt endAt recordRow endRow Rows.rowText Numerals.numeral Numerals.digitsOf Numerals.digitsIn Placing.placingOf Placing.countsAt
 rows ρ = (
-  rw (← spot-start ρ twiceS, twice ρ .first, counted .0, counted .1, counted .2) refl,
-  rw (spot-one ρ, twice ρ .second, counted .0, counted .1, counted .2) refl,
+  rw (← spot-start ρ twiceS, twice ρ .first, counted ρ .0, counted ρ .1, counted ρ .2) refl,
+  rw (spot-one ρ, twice ρ .second, counted ρ .0, counted ρ .1, counted ρ .2) refl,
   rw (spot-two ρ, twice ρ .last) refl,
 )
 

@@ -24,7 +24,7 @@ use Rattle.listing.specs.Records.{recordsIn}
 module _ (ρ : Rules) where
   -- the line of the record at the k-th spot, whose number is one more: spots count from 0
   unfoldable pub rowAt : List ℕ → ℕ → List ℕ
-  rowAt s k = rowText (recordRow (suc k) (spot ρ s k) (placingOf ρ s (spot ρ s k)) (countsAt ρ s (spot ρ s k)))
+  rowAt s k = rowText (recordRow ρ (suc k) (spot ρ s k) (placingOf ρ s (spot ρ s k)) (countsAt ρ s (spot ρ s k)))
 
   -- so many lines, from that of the k-th spot on
   unfoldable pub rowsFrom : List ℕ → ℕ → ℕ → List ℕ
@@ -60,7 +60,7 @@ module _ (ρ : Rules) where
     pub placed : Place.Due ρ s (spot ρ s k) placing
     pub counts : List ℕ
     pub counted : Place.CountsDue ρ s (spot ρ s k) counts
-    pub numbers : row ≡ suc k ∷ spot ρ s k ∷ nextOf placing ∷ replyOf placing ∷ groupOf placing ∷ filledGroups counts ∷ recordLines counts ∷ []
+    pub numbers : row ≡ suc k ∷ spot ρ s k ∷ nextOf placing ∷ replyOf placing ∷ groupOf placing ∷ filledGroups counts ∷ recordLines ρ counts ∷ []
 
   -- R343: those of the line `end`: how many records were listed, where the walk stopped, and the reply there with its group
   pub record IsEnd (s : List ℕ) (many : ℕ) (row : List ℕ) : Type 0 where

@@ -3,6 +3,7 @@ use mathlib.Core.Bool.{cond}
 use mathlib.Core.List.{List, [], _∷_, map}
 use Prim.Native.Nat.{ℕ}
 use lib.Dec.{eqb}
+use Rattle.rules.specs.declared.Rules.{Rules}
 use Rattle.base.specs.Every.{upFrom}
 use Rattle.base.specs.Sum.{sum}
 use Rattle.count.specs.Tally.{countOf, recordLines}
@@ -26,10 +27,11 @@ filled ns g = cond (eqb (countOf ns g) 0) 0 1
 unfoldable pub filledGroups : List ℕ → ℕ
 filledGroups ns = sum (map (filled ns) (upFrom 1 60))
 
--- R342: a record of this number at a place, where placing gave this answer and these counts
-unfoldable pub recordRow : ℕ → ℕ → Placing → List ℕ → List ℕ
-recordRow number at p ns =
-    number ∷ at ∷ nextOf p ∷ replyOf p ∷ groupOf p ∷ filledGroups ns ∷ recordLines ns ∷ []
+module _ (ρ : Rules) where
+  -- R342: a record of this number at a place, where placing gave this answer and these counts
+  unfoldable pub recordRow : ℕ → ℕ → Placing → List ℕ → List ℕ
+  recordRow number at p ns =
+      number ∷ at ∷ nextOf p ∷ replyOf p ∷ groupOf p ∷ filledGroups ns ∷ recordLines ρ ns ∷ []
 
 -- R343: so many records were listed, and the walk stopped at a place with this answer
 unfoldable pub endRow : ℕ → ℕ → Placing → List ℕ

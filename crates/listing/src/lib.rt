@@ -27,12 +27,18 @@ fn filled_groups(counts: &[u16]) -> u64
 }
 
 // The row of the record of this number at a place, from what placing answered there.
-fn record_row(number: usize, at: usize, answer: Placing, counts: &[u16]) -> [u64; 7]
-    ensures { λ r. ⌜ r ≡ recordRow number at answer (now (counts .entry)) ⌝ }
+fn record_row(
+    rules: rules::Rules,
+    number: usize,
+    at: usize,
+    answer: Placing,
+    counts: &[u16],
+) -> [u64; 7]
+    ensures { λ r. ⌜ r ≡ recordRow rules number at answer (now (counts .entry)) ⌝ }
 {
     let r = place::reply_of(answer);
     let groups = filled_groups(counts);
-    let lines = count::add_up(counts, 61).lines;
+    let lines = count::add_up(rules, counts, 61).lines;
     [
         number as u64,
         at as u64,
@@ -68,7 +74,7 @@ fn listing_end(rules: rules::Rules, text: &[u8], size: usize) -> Put
             return decimal::row_end(size, a, b"end ", &last);
         }
         let counts = here.counts;
-        let row = record_row(k + 1, at, answer, &counts);
+        let row = record_row(rules, k + 1, at, answer, &counts);
         let Put::Next(end) = decimal::row_end(size, a, b"", &row) else {
             return Put::NoRoom;
         };
@@ -96,7 +102,7 @@ fn put_listing(rules: rules::Rules, text: &[u8], out: &mut [u8])
             return;
         }
         let counts = found.counts;
-        let row = record_row(k + 1, at, answer, &counts);
+        let row = record_row(rules, k + 1, at, answer, &counts);
         // there is room, so this is never taken
         let Put::Next(end) = decimal::put_row(out, a, b"", &row) else {
             return;

@@ -66,19 +66,19 @@ module _ (ρ : Rules) where
     unfolding xs ys
     same-feeds = alike-feeds ρ xs ys (h .alike)
 
-    by-lines : (ns : List ℕ) (c : Bool) → locate ρ s p ≡ cond c (located (p + reach xs (recordLines ns)) ns) (refused TooFewLines)
-        → locate ρ t q ≡ cond c (located (q + reach ys (recordLines ns)) ns) (refused TooFewLines)
+    by-lines : (ns : List ℕ) (c : Bool) → locate ρ s p ≡ cond c (located (p + reach xs (recordLines ρ ns)) ns) (refused TooFewLines)
+        → locate ρ t q ≡ cond c (located (q + reach ys (recordLines ρ ns)) ns) (refused TooFewLines)
         → AlikeLocated ρ s p t q
     unfolding xs ys
-    by-lines ns true a b = both-located (p + reach xs (recordLines ns)) (q + reach ys (recordLines ns)) ns a b (alike-further ρ s p t q h (recordLines ns))
+    by-lines ns true a b = both-located (p + reach xs (recordLines ρ ns)) (q + reach ys (recordLines ρ ns)) ns a b (alike-further ρ s p t q h (recordLines ρ ns))
     by-lines ns false a b = neither TooFewLines a b
 
-    by-release : (ns : List ℕ) (r : Release) → locate ρ s p ≡ locateRelease xs p ns r → locate ρ t q ≡ locateRelease ys q ns r → AlikeLocated ρ s p t q
-    by-release ns Five a b = by-lines ns (leb (recordLines ns) (feeds xs)) a (rw (← same-feeds) at b)
+    by-release : (ns : List ℕ) (r : Release) → locate ρ s p ≡ locateRelease ρ xs p ns r → locate ρ t q ≡ locateRelease ρ ys q ns r → AlikeLocated ρ s p t q
+    by-release ns Five a b = by-lines ns (leb (recordLines ρ ns) (feeds xs)) a (rw (← same-feeds) at b)
     by-release ns Other a b = neither OtherRelease a b
     by-release ns (Filled g) a b = neither (FilledVacant g) a b
 
-    by-index : (i : Indexed) → locate ρ s p ≡ locateIndex xs p i → locate ρ t q ≡ locateIndex ys q i → AlikeLocated ρ s p t q
+    by-index : (i : Indexed) → locate ρ s p ≡ locateIndex ρ xs p i → locate ρ t q ≡ locateIndex ρ ys q i → AlikeLocated ρ s p t q
     by-index (counts ns) a b = by-release ns (releaseOf ns) a b
     by-index misformed a b = neither Misformed a b
 
@@ -104,7 +104,7 @@ module _ (ρ : Rules) where
         indexed : p < length s → 2 ≤ feeds xs → AlikeLocated ρ s p t q
         indexed l f =
             by-index (readIndex ρ xs) (locate-index ρ s p l f)
-            (locate-index ρ t q (inside l) (omega (arith, same-feeds)) ∙ ap (locateIndex ys q) (sym (alike-index xs ys (h .alike))))
+            (locate-index ρ t q (inside l) (omega (arith, same-feeds)) ∙ ap (locateIndex ρ ys q) (sym (alike-index xs ys (h .alike))))
 
     -- the answer and the counts
 
@@ -144,11 +144,11 @@ module _ (ρ : Rules) where
         by (neither w a b) = b ∙ sym a ∙ e
 
     -- the lines of a group
-    pub alike-part : (ns : List ℕ) (g : ℕ) → Alike ρ (groupPart s p ns g) (groupPart t q ns g)
+    pub alike-part : (ns : List ℕ) (g : ℕ) → Alike ρ (groupPart ρ s p ns g) (groupPart ρ t q ns g)
     alike-part ns g =
-        let j = linesBefore ns g in
-        rw (part-between s p ns g, part-between t q ns g)
-        (alike-lines ρ (behind j (drop p s)) (behind j (drop q t)) (alike-behind ρ (drop p s) (drop q t) (h .alike) j) (linesBefore ns (suc g) - j))
+        let j = linesBefore ρ ns g in
+        rw (part-between ρ s p ns g, part-between ρ t q ns g)
+        (alike-lines ρ (behind j (drop p s)) (behind j (drop q t)) (alike-behind ρ (drop p s) (drop q t) (h .alike) j) (linesBefore ρ ns (suc g) - j))
 
   -- ---- along the walk
 

@@ -48,43 +48,43 @@ module _ (ρ : Rules) (s : List ℕ) where
 
   -- the lines of an earlier record end before a later one begins
   module _ (j m : ℕ) (ms : List ℕ) (f : locate ρ s (spot ρ s j) ≡ located m ms) where
-    pub lines-before : (h k : ℕ) → h ≤ 61 → j < k → start s (spot ρ s j) ms h ≤ spot ρ s k
+    pub lines-before : (h k : ℕ) → h ≤ 61 → j < k → start ρ s (spot ρ s j) ms h ≤ spot ρ s k
     lines-before h k l b =
         omega (arith, start-within ρ s (spot ρ s j) m ms f h l, spot-more ρ s j m ms f, spot-mono (suc j) k b)
 
     -- behind group 60 there are no more lines
-    pub lines-none : (h : ℕ) → 60 < h → start s (spot ρ s j) ms h ≡ start s (spot ρ s j) ms (suc h)
+    pub lines-none : (h : ℕ) → 60 < h → start ρ s (spot ρ s j) ms h ≡ start ρ s (spot ρ s j) ms (suc h)
     unfolding start
-    lines-none h l = rw (lines-all ms h (omega arith), lines-all ms (suc h) (omega arith))
+    lines-none h l = rw (lines-all ρ ms h (omega arith), lines-all ρ ms (suc h) (omega arith))
 
   -- the places of the lines of group g of record k
   module _ (k n : ℕ) (ns : List ℕ) (e : locate ρ s (spot ρ s k) ≡ located n ns) (g : ℕ) (few : g ≤ 60) where
     abbrev Lines : ℕ → Type 0
-    Lines = Between (start s (spot ρ s k) ns g) (start s (spot ρ s k) ns (suc g))
+    Lines = Between (start ρ s (spot ρ s k) ns g) (start ρ s (spot ρ s k) ns (suc g))
 
     -- another group, of this record or of another; 0 is the index
-    pub lines-apart : (j m : ℕ) (ms : List ℕ) → locate ρ s (spot ρ s j) ≡ located m ms → (h : ℕ) → (j ≡ k → h ≡ g → ⊥) → Misses Lines (start s (spot ρ s j) ms h) (start s (spot ρ s j) ms (suc h))
+    pub lines-apart : (j m : ℕ) (ms : List ℕ) → locate ρ s (spot ρ s j) ≡ located m ms → (h : ℕ) → (j ≡ k → h ≡ g → ⊥) → Misses Lines (start ρ s (spot ρ s j) ms h) (start ρ s (spot ρ s j) ms (suc h))
     lines-apart j m ms f h other i l u d = ⊎-elim low high (le-or-lt h 60)
       where
         same : j ≡ k → ⊥
         same q =
             let r : ms ≡ ns = cc in
-            let b : start s (spot ρ s j) ms h ≡ start s (spot ρ s k) ns h = cc in
-            let c : start s (spot ρ s j) ms (suc h) ≡ start s (spot ρ s k) ns (suc h) = cc in
+            let b : start ρ s (spot ρ s j) ms h ≡ start ρ s (spot ρ s k) ns h = cc in
+            let c : start ρ s (spot ρ s j) ms (suc h) ≡ start ρ s (spot ρ s k) ns (suc h) = cc in
             ⊎-elim
             (λ (v : h ≤ g).
             ⊎-elim
             (λ (y : h ≡ g). other q y)
-            (λ (y : h < g). omega (arith, start-mono s (spot ρ s k) ns (suc h) g y, d .0))
+            (λ (y : h < g). omega (arith, start-mono ρ s (spot ρ s k) ns (suc h) g y, d .0))
             (eq-or-lt-of-le v))
-            (λ (v : g < h). omega (arith, start-mono s (spot ρ s k) ns (suc g) h v, d .1))
+            (λ (v : g < h). omega (arith, start-mono ρ s (spot ρ s k) ns (suc g) h v, d .1))
             (le-or-lt h g)
 
         earlier : h ≤ 60 → j < k → ⊥
-        earlier v b = omega (arith, lines-before j m ms f (suc h) k (omega arith) b, start-after s (spot ρ s k) ns g, d .0)
+        earlier v b = omega (arith, lines-before j m ms f (suc h) k (omega arith) b, start-after ρ s (spot ρ s k) ns g, d .0)
 
         later : k < j → ⊥
-        later b = omega (arith, lines-before k n ns e (suc g) j (omega arith) b, start-after s (spot ρ s j) ms h, d .1)
+        later b = omega (arith, lines-before k n ns e (suc g) j (omega arith) b, start-after ρ s (spot ρ s j) ms h, d .1)
 
         low : h ≤ 60 → ⊥
         low v = ⊎-elim (λ (y : j ≤ k). ⊎-elim same (earlier v) (eq-or-lt-of-le y)) later (le-or-lt j k)
@@ -98,7 +98,7 @@ module _ (ρ : Rules) (s : List ℕ) where
       where
         by : (x : Located) → locate ρ s (spot ρ s j) ≡ x → ⊥
         by (located m ms) f =
-            lines-apart j m ms f 0 (λ q z. omega arith) i (omega (arith, start-zero s (spot ρ s j) ms)) (omega (arith, start-one s (spot ρ s j) ms)) d
+            lines-apart j m ms f 0 (λ q z. omega arith) i (omega (arith, start-zero ρ s (spot ρ s j) ms)) (omega (arith, start-one ρ s (spot ρ s j) ms)) d
         by (refused p) f =
             ⊎-elim
             (λ (y : j ≤ k). no-record (sym f ∙ record-before j k y record { next = n; ns = ns; is = e } .is))

@@ -36,22 +36,22 @@ use Rattle.place.proofs.Steps.{locate-beyond, locate-end, locate-few, l
 module _ (ρ : Rules) (s : List ℕ) (at : ℕ) where
   -- ---- what is due is given
 
-  to-counts : (ns : List ℕ) → HasEntries ρ s at ns → locate ρ s at ≡ locateRelease (drop at s) at ns (releaseOf ns)
+  to-counts : (ns : List ℕ) → HasEntries ρ s at ns → locate ρ s at ≡ locateRelease ρ (drop at s) at ns (releaseOf ns)
   to-counts ns h = locate-index ρ s at (h .place .inside) (h .place .lines) ∙ rw (index-is ρ (drop at s) ns .1 (h .index))
 
-  to-lines : (ns : List ℕ) → HasRelease ρ s at ns → locate ρ s at ≡ locateLines (drop at s) at ns
+  to-lines : (ns : List ℕ) → HasRelease ρ s at ns → locate ρ s at ≡ locateLines ρ (drop at s) at ns
   to-lines ns h = to-counts ns (h .index) ∙ rw (release-given ns Five (h .release))
 
   to-located : (ns : List ℕ) (n : ℕ) → HasLines ρ s at ns n → locate ρ s at ≡ located n ns
   to-located ns n h =
       to-lines ns (h .head)
-      ∙ rw (le-leb (recordLines ns) (feeds (drop at s)) (h .enough)) (ap (λ m. located m ns) (sym (h .next)))
+      ∙ rw (le-leb (recordLines ρ ns) (feeds (drop at s)) (h .enough)) (ap (λ m. located m ns) (sym (h .next)))
 
   given-refusal : (r : Refusal) → RefusedFor ρ s at r → placingBy (locate ρ s at) ≡ Refused r
   given-refusal r (beyond d) = rw (locate-beyond ρ s at d)
   given-refusal r (text-end d) = rw (locate-end ρ s at d)
   given-refusal r (few-for-index d) = ap placingBy (locate-few ρ s at (d .inside) (d .few))
-  given-refusal r (few-for-data d) = ap placingBy (to-lines (d .ns) (d .head)) ∙ rw (lt-leb (recordLines (d .ns)) (feeds (drop at s)) (d .few))
+  given-refusal r (few-for-data d) = ap placingBy (to-lines (d .ns) (d .head)) ∙ rw (lt-leb (recordLines ρ (d .ns)) (feeds (drop at s)) (d .few))
   given-refusal r (bad-index d) = ap placingBy (locate-index ρ s at (d .place .inside) (d .place .lines)) ∙ rw (no-index ρ (drop at s) .1 (d .none))
   given-refusal r (bad-release d) = ap placingBy (to-counts (d .ns) (d .index)) ∙ rw (release-given (d .ns) Other (d .other))
   given-refusal r (fills-vacant g d) = ap placingBy (to-counts (d .ns) (d .index)) ∙ rw (release-given (d .ns) (Filled g) (d .filled))
@@ -67,19 +67,19 @@ module _ (ρ : Rules) (s : List ℕ) (at : ℕ) where
   from-ruling ns n Kept h e = record { ns = ns; lines = h; kept = ruling-kept ns e }
   from-ruling ns n (Broken g) h e = record { ns = ns; lines = h; broken = ruling-broken ns e }
 
-  from-lines : (ns : List ℕ) (t : Bool) → HasRelease ρ s at ns → leb (recordLines ns) (feeds (drop at s)) ≡ t
-      → Due ρ s at (placingBy (cond t (located (at + reach (drop at s) (recordLines ns)) ns) (refused TooFewLines)))
+  from-lines : (ns : List ℕ) (t : Bool) → HasRelease ρ s at ns → leb (recordLines ρ ns) (feeds (drop at s)) ≡ t
+      → Due ρ s at (placingBy (cond t (located (at + reach (drop at s) (recordLines ρ ns)) ns) (refused TooFewLines)))
   from-lines ns true h e =
-      from-ruling ns (at + reach (drop at s) (recordLines ns)) (rulingOf ns) record { head = h; enough = leb-true (recordLines ns) (feeds (drop at s)) e; next = refl } refl
-  from-lines ns false h e = few-for-data record { ns = ns; head = h; few = leb-false (recordLines ns) (feeds (drop at s)) e }
+      from-ruling ns (at + reach (drop at s) (recordLines ρ ns)) (rulingOf ns) record { head = h; enough = leb-true (recordLines ρ ns) (feeds (drop at s)) e; next = refl } refl
+  from-lines ns false h e = few-for-data record { ns = ns; head = h; few = leb-false (recordLines ρ ns) (feeds (drop at s)) e }
 
-  from-release : (ns : List ℕ) (r : Release) → HasEntries ρ s at ns → ReleaseDue ns r → Due ρ s at (placingBy (locateRelease (drop at s) at ns r))
+  from-release : (ns : List ℕ) (r : Release) → HasEntries ρ s at ns → ReleaseDue ns r → Due ρ s at (placingBy (locateRelease ρ (drop at s) at ns r))
   from-release ns Five h f =
-      from-lines ns (leb (recordLines ns) (feeds (drop at s))) record { index = h; release = f } refl
+      from-lines ns (leb (recordLines ρ ns) (feeds (drop at s))) record { index = h; release = f } refl
   from-release ns Other h f = bad-release record { ns = ns; index = h; other = f }
   from-release ns (Filled g) h f = fills-vacant g record { ns = ns; index = h; filled = f }
 
-  from-index : (q : Indexed) → HasIndex ρ s at → readIndex ρ (drop at s) ≡ q → Due ρ s at (placingBy (locateIndex (drop at s) at q))
+  from-index : (q : Indexed) → HasIndex ρ s at → readIndex ρ (drop at s) ≡ q → Due ρ s at (placingBy (locateIndex ρ (drop at s) at q))
   from-index (counts ns) h e = from-release ns (releaseOf ns) record { place = h; index = index-is ρ (drop at s) ns .0 e } (release-due ns)
   from-index misformed h e = bad-index record { place = h; none = no-index ρ (drop at s) .0 e }
 
@@ -91,7 +91,7 @@ module _ (ρ : Rules) (s : List ℕ) (at : ℕ) where
       inner u v = ⊎-elim (λ (e : at ≡ length s). absurd (eqb-false (length s) at v (sym e))) (λ l. l) (eq-or-lt-of-le (ltb-false (length s) at u))
 
       by : (a b c : Bool) → ltb (length s) at ≡ a → eqb (length s) at ≡ b → leb 2 (feeds (drop at s)) ≡ c
-          → Due ρ s at (placingBy (cond a (refused Beyond) (cond b (refused End) (cond c (locateIndex (drop at s) at (readIndex ρ (drop at s))) (refused TooFewLines)))))
+          → Due ρ s at (placingBy (cond a (refused Beyond) (cond b (refused End) (cond c (locateIndex ρ (drop at s) at (readIndex ρ (drop at s))) (refused TooFewLines)))))
       by true b c u v w = beyond (ltb-true (length s) at u)
       by false true c u v w = text-end (eqb-true (length s) at v)
       by false false false u v w = few-for-index record { inside = inner u v; few = leb-false 2 (feeds (drop at s)) w }

@@ -1,4 +1,4 @@
--- R9: an index line without its carriage return is misformed under the strict rule. What is located under it is located under each rule, with
+-- R9: an index line without its carriage return is misformed under the strict rule. What is located under it is located under each that counts alike, with
 -- the same next place and counts. So 0 and 7 stay with their numbers, and the walk stays on its way through placed records.
 -- Assumes nothing.
 use mathlib.Core.Path.{_≡_, refl, sym, _∙_, ap}
@@ -12,6 +12,7 @@ use Rattle.line.specs.Contents.{EndsInReturn, contentOf}
 use Rattle.line.specs.Lines.{lines, behind}
 use Rattle.line.specs.declared.Content.{Content}
 use Rattle.line.specs.declared.Content.the-variants.{Length, NoReturn}
+use Rattle.count.proofs.SameCounting.{record-lines-same}
 use Rattle.line.proofs.Ends.{strict-none, strict-content}
 use Rattle.place.specs.Index.{counts, misformed, readIndexContent, readIndexLine, readIndex}
 use Rattle.place.specs.Placing.{located, locate, placingBy, countsBy, placingOf, countsAt}
@@ -41,16 +42,17 @@ module _ (σ ρ : Rules) (only : σ .ends ≡ Strict) where
       let t = two-lines (readIndexLine σ a) (readIndexLine σ b) ns e in
       rw (strict-index-line a (t .first) (t .first-is), strict-index-line b (t .second) (t .second-is)) (ap counts (sym (t .all)))
 
+module _ (σ ρ : Rules) (only : σ .ends ≡ Strict) (alike : σ .counting ≡ ρ .counting) where
   pub strict-located : (s : List ℕ) (at n : ℕ) (ns : List ℕ) → locate σ s at ≡ located n ns → locate ρ s at ≡ located n ns
   strict-located s at n ns e =
       let p = located-is σ s at n ns e in
       is-located ρ s at n ns record {
         inside = p .inside;
         head = p .head;
-        index = strict-index (drop at s) ns (p .index);
+        index = strict-index σ ρ only (drop at s) ns (p .index);
         release = p .release;
-        many = p .many;
-        next = p .next;
+        many = rw (← record-lines-same σ ρ alike ns) (p .many);
+        next = rw (← record-lines-same σ ρ alike ns) (p .next);
       }
 
   pub strict-same : (s : List ℕ) (at : ℕ) → PlacedAt σ s at → locate ρ s at ≡ locate σ s at

@@ -17,3 +17,4 @@ pub mod TwiceS
 pub mod TwiceEnds
 pub mod Indexed
 pub mod Stopped
+pub mod SameCounting

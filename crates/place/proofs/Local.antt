@@ -87,14 +87,14 @@ module _ (ρ : Rules) (at : ℕ) (p : Refusal) (b : ByIndex p) where
   pub record FromIndex (s : List ℕ) : Type 0 where
     pub inner : at < length s
     pub two : 2 ≤ feeds (drop at s)
-    pub by : locateIndex (drop at s) at (readIndex ρ (drop at s)) ≡ refused p
+    pub by : locateIndex ρ (drop at s) at (readIndex ρ (drop at s)) ≡ refused p
 
   from-index : (s : List ℕ) → locate ρ s at ≡ refused p → FromIndex s
   unfolding locate
   from-index s e = by (ltb (length s) at) (eqb (length s) at) (leb 2 (feeds (drop at s))) refl e
     where
       by : (x y z : Bool) → leb 2 (feeds (drop at s)) ≡ z
-          → cond x (refused Beyond) (cond y (refused End) (cond z (locateIndex (drop at s) at (readIndex ρ (drop at s))) (refused TooFewLines))) ≡ refused p → FromIndex s
+          → cond x (refused Beyond) (cond y (refused End) (cond z (locateIndex ρ (drop at s) at (readIndex ρ (drop at s))) (refused TooFewLines))) ≡ refused p → FromIndex s
       by true y z u f = not-by f not-beyond b
       by false true z u f = not-by f not-end b
       by false false false u f = not-by f not-few b
@@ -102,16 +102,16 @@ module _ (ρ : Rules) (at : ℕ) (p : Refusal) (b : ByIndex p) where
           let h = leb-true 2 (feeds (drop at s)) u in
           record { inner = omega (arith, h, feeds-le (drop at s), length-drop at s); two = h; by = f }
 
-  by-lines : (xs ys ns : List ℕ) (t : Bool) → cond t (located (at + reach xs (recordLines ns)) ns) (refused TooFewLines) ≡ refused p → locateLines ys at ns ≡ refused p
+  by-lines : (xs ys ns : List ℕ) (t : Bool) → cond t (located (at + reach xs (recordLines ρ ns)) ns) (refused TooFewLines) ≡ refused p → locateLines ρ ys at ns ≡ refused p
   by-lines xs ys ns true e = no-record (sym e)
   by-lines xs ys ns false e = not-by e not-few b
 
-  by-release : (xs ys ns : List ℕ) (r : Release) → locateRelease xs at ns r ≡ refused p → locateRelease ys at ns r ≡ refused p
-  by-release xs ys ns Five e = by-lines xs ys ns (leb (recordLines ns) (feeds xs)) e
+  by-release : (xs ys ns : List ℕ) (r : Release) → locateRelease ρ xs at ns r ≡ refused p → locateRelease ρ ys at ns r ≡ refused p
+  by-release xs ys ns Five e = by-lines xs ys ns (leb (recordLines ρ ns) (feeds xs)) e
   by-release xs ys ns Other e = e
   by-release xs ys ns (Filled g) e = e
 
-  by-index : (xs ys : List ℕ) (q : Indexed) → locateIndex xs at q ≡ refused p → locateIndex ys at q ≡ refused p
+  by-index : (xs ys : List ℕ) (q : Indexed) → locateIndex ρ xs at q ≡ refused p → locateIndex ρ ys at q ≡ refused p
   by-index xs ys (counts ns) e = by-release xs ys ns (releaseOf ns) e
   by-index xs ys misformed e = e
 
@@ -120,7 +120,7 @@ module _ (ρ : Rules) (at : ℕ) (p : Refusal) (b : ByIndex p) where
       let x = from-index s f in
       let two = has-two (drop at s) (drop at t) (x .two) e in
       locate-index ρ t at (omega (arith, two, feeds-le (drop at t), length-drop at t)) two
-      ∙ by-index (drop at s) (drop at t) (readIndex ρ (drop at t)) (ap (locateIndex (drop at s) at) (sym (index-local ρ (drop at s) (drop at t) (x .two) e)) ∙ x .by)
+      ∙ by-index (drop at s) (drop at t) (readIndex ρ (drop at t)) (ap (locateIndex ρ (drop at s) at) (sym (index-local ρ (drop at s) (drop at t) (x .two) e)) ∙ x .by)
 
 -- ---- replies 0 and 7: these two lines, and the line feeds of the whole record
 
@@ -130,8 +130,8 @@ module _ (ρ : Rules) where
   located-local s t at n ns e m f =
       let p = located-is ρ s at n ns f in
       let two = has-two (drop at s) (drop at t) (p .head) e in
-      let a = behindAt-local s t at (recordLines ns) n m (is-at s at (recordLines ns) n record { many = p .many; place = p .next }) in
-      let q = at-is t at (recordLines ns) n a in
+      let a = behindAt-local s t at (recordLines ρ ns) n m (is-at s at (recordLines ρ ns) n record { many = p .many; place = p .next }) in
+      let q = at-is t at (recordLines ρ ns) n a in
       is-located ρ t at n ns record {
         inside = omega (arith, two, feeds-le (drop at t), length-drop at t);
         head = two;

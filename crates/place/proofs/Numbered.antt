@@ -27,7 +27,7 @@ use Rattle.place.proofs.Due.{first-due}
 module _ (ρ : Rules) (s : List ℕ) (at : ℕ) where
   -- the next place is behind two lines at least
   next-behind : (ns : List ℕ) (n : ℕ) → HasLines ρ s at ns n → 1 ≤ n
-  next-behind ns n h = omega (arith, h .next, h .enough, record-two ns, reach-least (drop at s) (recordLines ns) (h .enough))
+  next-behind ns n h = omega (arith, h .next, h .enough, record-two ρ ns, reach-least (drop at s) (recordLines ρ ns) (h .enough))
 
   pub refused-numbered : (r : Refusal) → RefusedFor ρ s at r → Numbered (rows unplacedRefusals) (refusalReply r)
   refused-numbered r (text-end d) = at-row 0 (rows unplacedRefusals) (refusalReply End) (lit< tt) (refusal-fills End tt)

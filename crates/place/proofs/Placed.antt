@@ -33,13 +33,13 @@ pub record IsLocated (ρ : Rules) (s : List ℕ) (at n : ℕ) (ns : List ℕ) : 
   pub head : 2 ≤ feeds (drop at s)
   pub index : readIndex ρ (drop at s) ≡ counts ns
   pub release : releaseOf ns ≡ Five
-  pub many : recordLines ns ≤ feeds (drop at s)
-  pub next : n ≡ at + reach (drop at s) (recordLines ns)
+  pub many : recordLines ρ ns ≤ feeds (drop at s)
+  pub next : n ≡ at + reach (drop at s) (recordLines ρ ns)
 
 pub is-located : (ρ : Rules) (s : List ℕ) (at n : ℕ) (ns : List ℕ) → IsLocated ρ s at n ns → locate ρ s at ≡ located n ns
 is-located ρ s at n ns p =
     locate-index ρ s at (p .inside) (p .head)
-    ∙ rw (p .index, p .release, le-leb (recordLines ns) (feeds (drop at s)) (p .many))
+    ∙ rw (p .index, p .release, le-leb (recordLines ρ ns) (feeds (drop at s)) (p .many))
     (ap (λ m. located m ns) (sym (p .next)))
 
 -- no answer is two
@@ -51,22 +51,22 @@ module _ (ρ : Rules) (s : List ℕ) (at n : ℕ) (ns : List ℕ) where
   xs : List ℕ
   xs = drop at s
 
-  by-lines : (ms : List ℕ) (t : Bool) → at < length s → 2 ≤ feeds xs → readIndex ρ xs ≡ counts ms → releaseOf ms ≡ Five → leb (recordLines ms) (feeds xs) ≡ t
-      → cond t (located (at + reach xs (recordLines ms)) ms) (refused TooFewLines) ≡ located n ns → IsLocated ρ s at n ns
+  by-lines : (ms : List ℕ) (t : Bool) → at < length s → 2 ≤ feeds xs → readIndex ρ xs ≡ counts ms → releaseOf ms ≡ Five → leb (recordLines ρ ms) (feeds xs) ≡ t
+      → cond t (located (at + reach xs (recordLines ρ ms)) ms) (refused TooFewLines) ≡ located n ns → IsLocated ρ s at n ns
   unfolding xs
   by-lines ms true i h r f u e =
       let p : ms ≡ ns = cc in
-      let m = leb-true (recordLines ms) (feeds xs) u in
+      let m = leb-true (recordLines ρ ms) (feeds xs) u in
       record { inside = i; head = h; index = r ∙ ap counts p; release = rw p at f; many = rw p at m; next = cc }
   by-lines ms false i h r f u e = no-record e
 
-  by-release : (ms : List ℕ) (r : Release) → at < length s → 2 ≤ feeds xs → readIndex ρ xs ≡ counts ms → releaseOf ms ≡ r → locateRelease xs at ms r ≡ located n ns → IsLocated ρ s at n ns
+  by-release : (ms : List ℕ) (r : Release) → at < length s → 2 ≤ feeds xs → readIndex ρ xs ≡ counts ms → releaseOf ms ≡ r → locateRelease ρ xs at ms r ≡ located n ns → IsLocated ρ s at n ns
   unfolding xs
-  by-release ms Five i h x f e = by-lines ms (leb (recordLines ms) (feeds xs)) i h x f refl e
+  by-release ms Five i h x f e = by-lines ms (leb (recordLines ρ ms) (feeds xs)) i h x f refl e
   by-release ms Other i h x f e = no-record e
   by-release ms (Filled g) i h x f e = no-record e
 
-  by-index : (q : Indexed) → at < length s → 2 ≤ feeds xs → readIndex ρ xs ≡ q → locateIndex xs at q ≡ located n ns → IsLocated ρ s at n ns
+  by-index : (q : Indexed) → at < length s → 2 ≤ feeds xs → readIndex ρ xs ≡ q → locateIndex ρ xs at q ≡ located n ns → IsLocated ρ s at n ns
   by-index (counts ms) i h x e = by-release ms (releaseOf ms) i h x refl e
   by-index misformed i h x e = no-record e
 
@@ -75,7 +75,7 @@ module _ (ρ : Rules) (s : List ℕ) (at n : ℕ) (ns : List ℕ) where
   located-is e = by (ltb (length s) at) (eqb (length s) at) (leb 2 (feeds xs)) refl refl refl e
     where
       by : (a b c : Bool) → ltb (length s) at ≡ a → eqb (length s) at ≡ b → leb 2 (feeds xs) ≡ c
-          → cond a (refused Beyond) (cond b (refused End) (cond c (locateIndex xs at (readIndex ρ xs)) (refused TooFewLines))) ≡ located n ns → IsLocated ρ s at n ns
+          → cond a (refused Beyond) (cond b (refused End) (cond c (locateIndex ρ xs at (readIndex ρ xs)) (refused TooFewLines))) ≡ located n ns → IsLocated ρ s at n ns
       by true b c u v w e = no-record e
       by false true c u v w e = no-record e
       by false false false u v w e = no-record e
@@ -88,7 +88,7 @@ module _ (ρ : Rules) (s : List ℕ) (at n : ℕ) (ns : List ℕ) where
 pub located-range : (ρ : Rules) (s : List ℕ) (at n : ℕ) (ns : List ℕ) → locate ρ s at ≡ located n ns → n ≤ length s
 located-range ρ s at n ns e =
     let p = located-is ρ s at n ns e in
-    omega (arith, p .next, p .inside, reach-le (drop at s) (recordLines ns), length-drop at s)
+    omega (arith, p .next, p .inside, reach-le (drop at s) (recordLines ρ ns), length-drop at s)
 
 -- ---- the index is two lines of 121 bytes at least
 
@@ -128,7 +128,7 @@ index-bytes ρ xs ns e =
 pub located-long : (ρ : Rules) (s : List ℕ) (at n : ℕ) (ns : List ℕ) → locate ρ s at ≡ located n ns → at + 242 ≤ n
 located-long ρ s at n ns e =
     let p = located-is ρ s at n ns e in
-    omega (arith, p .next, index-bytes ρ (drop at s) ns (p .index), reach-mono (drop at s) 2 (recordLines ns) (record-two ns))
+    omega (arith, p .next, index-bytes ρ (drop at s) ns (p .index), reach-mono (drop at s) 2 (recordLines ρ ns) (record-two ρ ns))
 
 -- the counts beside the answer are those of the located record
 pub counts-at : (ρ : Rules) (s : List ℕ) (at n : ℕ) (ns : List ℕ) → locate ρ s at ≡ located n ns → countsAt ρ s at ≡ ns

@@ -31,12 +31,12 @@ use Rattle.place.proofs.Local.{index-local}
 -- ---- at one place
 
 module _ (ρ : Rules) (s t : List ℕ) (h : SameLines s t) where
-  same-release : (at : ℕ) (ns : List ℕ) (r : Release) → locateRelease (drop at s) at ns r ≡ locateRelease (drop at t) at ns r
-  same-release at ns Five = rw (feeds-from s t at h, reach-from s t at (recordLines ns) h)
+  same-release : (at : ℕ) (ns : List ℕ) (r : Release) → locateRelease ρ (drop at s) at ns r ≡ locateRelease ρ (drop at t) at ns r
+  same-release at ns Five = rw (feeds-from s t at h, reach-from s t at (recordLines ρ ns) h)
   same-release at ns Other = refl
   same-release at ns (Filled g) = refl
 
-  same-index : (at : ℕ) (q : Indexed) → locateIndex (drop at s) at q ≡ locateIndex (drop at t) at q
+  same-index : (at : ℕ) (q : Indexed) → locateIndex ρ (drop at s) at q ≡ locateIndex ρ (drop at t) at q
   same-index at (counts ns) = same-release at ns (releaseOf ns)
   same-index at misformed = refl
 
@@ -46,12 +46,12 @@ module _ (ρ : Rules) (s t : List ℕ) (h : SameLines s t) where
       rw (← h .long, ← feeds-from s t at h) (by (ltb (length s) at) (eqb (length s) at) (leb 2 (feeds (drop at s))) refl)
     where
       by : (a b c : Bool) → leb 2 (feeds (drop at s)) ≡ c
-          → cond a (refused Beyond) (cond b (refused End) (cond c (locateIndex (drop at s) at (readIndex ρ (drop at s))) (refused TooFewLines))) ≡ cond a (refused Beyond)
-          (cond b (refused End) (cond c (locateIndex (drop at t) at (readIndex ρ (drop at t))) (refused TooFewLines)))
+          → cond a (refused Beyond) (cond b (refused End) (cond c (locateIndex ρ (drop at s) at (readIndex ρ (drop at s))) (refused TooFewLines))) ≡ cond a (refused Beyond)
+          (cond b (refused End) (cond c (locateIndex ρ (drop at t) at (readIndex ρ (drop at t))) (refused TooFewLines)))
       by true b c u = refl
       by false true c u = refl
       by false false true u =
-          ap (locateIndex (drop at s) at) (index-local ρ (drop at s) (drop at t) (leb-true 2 (feeds (drop at s)) u) e)
+          ap (locateIndex ρ (drop at s) at) (index-local ρ (drop at s) (drop at t) (leb-true 2 (feeds (drop at s)) u) e)
           ∙ same-index at (readIndex ρ (drop at t))
       by false false false u = refl
 
@@ -64,7 +64,7 @@ module _ (ρ : Rules) (s t : List ℕ) (h : SameLines s t) where
       (rw d at e) ∙ rw (reach-from s t at 2 h)
 
   -- places of groups depend on line feeds alone
-  pub start-same : (at : ℕ) (ns : List ℕ) (g : ℕ) → start s at ns g ≡ start t at ns g
+  pub start-same : (at : ℕ) (ns : List ℕ) (g : ℕ) → start ρ s at ns g ≡ start ρ t at ns g
   unfolding start
   start-same at ns g = rw (reach-from s t at _ h)
 

@@ -62,18 +62,18 @@ module _ (ρ : Rules) (s : List ℕ) (at : ℕ) where
     unfolding locate
     locate-few h = rw (le-ltb (length s) at (omega arith), ne-eqb (length s) at (λ e. omega arith), lt-leb 2 (feeds (drop at s)) h)
 
-    pub locate-index : 2 ≤ feeds (drop at s) → locate ρ s at ≡ locateIndex (drop at s) at (readIndex ρ (drop at s))
+    pub locate-index : 2 ≤ feeds (drop at s) → locate ρ s at ≡ locateIndex ρ (drop at s) at (readIndex ρ (drop at s))
     unfolding locate
     locate-index h = rw (le-ltb (length s) at (omega arith), ne-eqb (length s) at (λ e. omega arith), le-leb 2 (feeds (drop at s)) h)
 
 -- ---- from the data lines on
 
-module _ (s : List ℕ) (from : ℕ) (ns : List ℕ) where
-  pub from-lines : {l : ℕ} {b : Behind} → l ≡ recordLines ns → behindAt s from (l - 2) ≡ b → locateLinesFrom s from ns ≡ locatedBehind ns b
+module _ (ρ : Rules) (s : List ℕ) (from : ℕ) (ns : List ℕ) where
+  pub from-lines : {l : ℕ} {b : Behind} → l ≡ recordLines ρ ns → behindAt s from (l - 2) ≡ b → locateLinesFrom ρ s from ns ≡ locatedBehind ns b
   unfolding locateLinesFrom
   from-lines e f = rw (← e, f)
 
-  pub from-release : {r : Release} → releaseOf ns ≡ r → locateFrom s from ns ≡ locateFive s from ns r
+  pub from-release : {r : Release} → releaseOf ns ≡ r → locateFrom ρ s from ns ≡ locateFive ρ s from ns r
   unfolding locateFrom
   from-release e = rw e
 
@@ -84,12 +84,12 @@ refuses e a = rw e record { placing = a .0; beside = a .1 }
 -- ---- the two index lines, one after the other
 
 -- located lines, by the place behind them
-lines-behind : (s : List ℕ) (at : ℕ) (ns : List ℕ) → locateLines (drop at s) at ns ≡ locatedBehind ns (behindAt s at (recordLines ns))
+lines-behind : (ρ : Rules) (s : List ℕ) (at : ℕ) (ns : List ℕ) → locateLines ρ (drop at s) at ns ≡ locatedBehind ns (behindAt s at (recordLines ρ ns))
 unfolding Places.behindAt
-lines-behind s at ns = by (leb (recordLines ns) (feeds (drop at s)))
+lines-behind ρ s at ns = by (leb (recordLines ρ ns) (feeds (drop at s)))
   where
     n : ℕ
-    n = at + reach (drop at s) (recordLines ns)
+    n = at + reach (drop at s) (recordLines ρ ns)
 
     by : (t : Bool) → cond t (located n ns) (refused TooFewLines) ≡ locatedBehind ns (cond t (At n) TooFew)
     by true = refl
@@ -114,8 +114,8 @@ module _ (ρ : Rules) (s : List ℕ) (at : ℕ) (inside : at < length s) where
       unfolding readIndex
       index-lines = rw (lines-at s at 1 second f, second-from, lines-at s second 1 end g)
 
-      here : locate ρ s at ≡ locateIndex (drop at s) at (bothLines (readIndexLine ρ (part at second s)) (readIndexLine ρ (part second end s)))
-      here = locate-index ρ s at inside (at-is s at 2 end both .many) ∙ ap (locateIndex (drop at s) at) index-lines
+      here : locate ρ s at ≡ locateIndex ρ (drop at s) at (bothLines (readIndexLine ρ (part at second s)) (readIndexLine ρ (part second end s)))
+      here = locate-index ρ s at inside (at-is s at 2 end both .many) ∙ ap (locateIndex ρ (drop at s) at) index-lines
 
       pub first-misformed : readIndexLine ρ (part at second s) ≡ misformed → locate ρ s at ≡ refused Misformed
       first-misformed e = here ∙ rw e
@@ -123,16 +123,16 @@ module _ (ρ : Rules) (s : List ℕ) (at : ℕ) (inside : at < length s) where
       pub second-misformed : (a : List ℕ) → readIndexLine ρ (part at second s) ≡ counts a → readIndexLine ρ (part second end s) ≡ misformed → locate ρ s at ≡ refused Misformed
       second-misformed a e k = here ∙ rw (e, k)
 
-      by-release : (ns : List ℕ) (r : Release) → locateRelease (drop at s) at ns r ≡ locateFive s end ns r
+      by-release : (ns : List ℕ) (r : Release) → locateRelease ρ (drop at s) at ns r ≡ locateFive ρ s end ns r
       unfolding locateLinesFrom
-      by-release ns Five = lines-behind s at ns ∙ ap (locatedBehind ns) (ap (behindAt s at) (two ns) ∙ behindAt-then s at 2 (recordLines ns - 2) end both)
+      by-release ns Five = lines-behind ρ s at ns ∙ ap (locatedBehind ns) (ap (behindAt s at) (two ns) ∙ behindAt-then s at 2 (recordLines ρ ns - 2) end both)
         where
-          two : (ns : List ℕ) → recordLines ns ≡ 2 + (recordLines ns - 2)
-          two ns = omega (arith, record-two ns)
+          two : (ns : List ℕ) → recordLines ρ ns ≡ 2 + (recordLines ρ ns - 2)
+          two ns = omega (arith, record-two ρ ns)
       by-release ns Other = refl
       by-release ns (Filled g) = refl
 
-      pub with-index : (a b : List ℕ) → readIndexLine ρ (part at second s) ≡ counts a → readIndexLine ρ (part second end s) ≡ counts b → locate ρ s at ≡ locateFrom s end (a ++ b)
+      pub with-index : (a b : List ℕ) → readIndexLine ρ (part at second s) ≡ counts a → readIndexLine ρ (part second end s) ≡ counts b → locate ρ s at ≡ locateFrom ρ s end (a ++ b)
       unfolding locateFrom
       with-index a b e k = here ∙ rw (e, k) (by-release (a ++ b) (releaseOf (a ++ b)))
 

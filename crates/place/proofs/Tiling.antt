@@ -22,52 +22,52 @@ use Rattle.place.proofs.Placed.{IsLocated, located-is}
 
 -- ---- places, whatever the text: only the lines before a group count
 
-module _ (s : List ℕ) (at : ℕ) (ns : List ℕ) where
-  pub start-zero : start s at ns 0 ≡ at
+module _ (ρ : Rules) (s : List ℕ) (at : ℕ) (ns : List ℕ) where
+  pub start-zero : start ρ s at ns 0 ≡ at
   unfolding start
-  start-zero = rw (← before-none ns .lines-are, reach-zero (drop at s), add-zero at)
+  start-zero = rw (← before-none ρ ns .lines-are, reach-zero (drop at s), add-zero at)
 
   -- the groups begin where the two index lines end
-  pub start-one : start s at ns 1 ≡ at + reach (drop at s) 2
+  pub start-one : start ρ s at ns 1 ≡ at + reach (drop at s) 2
   unfolding start
-  start-one = rw (← before-groups ns .lines-are)
+  start-one = rw (← before-groups ρ ns .lines-are)
 
-  pub start-mono : (g h : ℕ) → g ≤ h → start s at ns g ≤ start s at ns h
+  pub start-mono : (g h : ℕ) → g ≤ h → start ρ s at ns g ≤ start ρ s at ns h
   unfolding start
-  start-mono g h l = omega (arith, reach-mono (drop at s) (linesBefore ns g) (linesBefore ns h) (lines-below ns g h l))
+  start-mono g h l = omega (arith, reach-mono (drop at s) (linesBefore ρ ns g) (linesBefore ρ ns h) (lines-below ρ ns g h l))
 
-  pub start-after : (g : ℕ) → at ≤ start s at ns g
+  pub start-after : (g : ℕ) → at ≤ start ρ s at ns g
   unfolding start
   start-after g = omega arith
 
   -- the part of group g is the lines between those before it and those before the next
-  pub part-between : (g : ℕ) → groupPart s at ns g ≡ lines (linesBefore ns (suc g) - linesBefore ns g) (behind (linesBefore ns g) (drop at s))
+  pub part-between : (g : ℕ) → groupPart ρ s at ns g ≡ lines (linesBefore ρ ns (suc g) - linesBefore ρ ns g) (behind (linesBefore ρ ns g) (drop at s))
   unfolding groupPart start
   part-between g =
-      let j = linesBefore ns g in
-      let k = linesBefore ns (suc g) - j in
+      let j = linesBefore ρ ns g in
+      let k = linesBefore ρ ns (suc g) - j in
       let xs = drop at s in
-      let e : linesBefore ns (suc g) ≡ j + k = omega (arith, lines-below ns g (suc g) (omega arith)) in
-      let r : reach xs (linesBefore ns (suc g)) ≡ reach xs j + reach (behind j xs) k = ap (reach xs) e ∙ reach-add xs j k in
-      let w : at + reach xs (linesBefore ns (suc g)) - (at + reach xs j) ≡ reach (behind j xs) k = omega arith in
+      let e : linesBefore ρ ns (suc g) ≡ j + k = omega (arith, lines-below ρ ns g (suc g) (omega arith)) in
+      let r : reach xs (linesBefore ρ ns (suc g)) ≡ reach xs j + reach (behind j xs) k = ap (reach xs) e ∙ reach-add xs j k in
+      let w : at + reach xs (linesBefore ρ ns (suc g)) - (at + reach xs j) ≡ reach (behind j xs) k = omega arith in
       rw (w, ← drop-drop (reach xs j) at s)
 
   -- which are its own
-  pub part-lines : (g : ℕ) → g < 61 → groupPart s at ns g ≡ lines (getD (lineTally ns) g 0) (behind (linesBefore ns g) (drop at s))
+  pub part-lines : (g : ℕ) → g < 61 → groupPart ρ s at ns g ≡ lines (getD (lineTally ρ ns) g 0) (behind (linesBefore ρ ns g) (drop at s))
   part-lines g h =
-      let e : linesBefore ns (suc g) - linesBefore ns g ≡ getD (lineTally ns) g 0 = omega (arith, lines-more ns g h) in
-      part-between g ∙ ap (λ k. lines k (behind (linesBefore ns g) (drop at s))) e
+      let e : linesBefore ρ ns (suc g) - linesBefore ρ ns g ≡ getD (lineTally ρ ns) g 0 = omega (arith, lines-more ρ ns g h) in
+      part-between g ∙ ap (λ k. lines k (behind (linesBefore ρ ns g) (drop at s))) e
 
   -- ---- and is the only part that follows them
 
-  pub is-part : (g from : ℕ) (x : List ℕ) → 1 ≤ g → g ≤ 60 → IsPart s at ns g from x → (from ≡ start s at ns g) × (x ≡ groupPart s at ns g)
+  pub is-part : (g from : ℕ) (x : List ℕ) → 1 ≤ g → g ≤ 60 → IsPart ρ s at ns g from x → (from ≡ start ρ s at ns g) × (x ≡ groupPart ρ s at ns g)
   unfolding start
   is-part g from x low high h =
       let b = h .before in
-      let k = linesIn ns g in
+      let k = linesIn ρ ns g in
       let here : drop at s ≡ b ++ (x ++ h .rest) = ap (drop at) (h .text) ∙ drop-at (h .ahead) (b ++ (x ++ h .rest)) at (h .place) in
-      let lined : getD (lineTally ns) g 0 ≡ k = line-entry ns g low (omega arith) in (
-        h .begins ∙ ap (λ n. at + n) (sym (reach-whole (x ++ h .rest) (h .lines-before)) ∙ ap (λ l. reach l (linesBefore ns g)) (sym here)),
+      let lined : getD (lineTally ρ ns) g 0 ≡ k = line-entry ρ ns g low (omega arith) in (
+        h .begins ∙ ap (λ n. at + n) (sym (reach-whole (x ++ h .rest) (h .lines-before)) ∙ ap (λ l. reach l (linesBefore ρ ns g)) (sym here)),
         sym (part-lines g (omega arith) ∙ rw (here, lined, behind-whole (x ++ h .rest) (h .lines-before)) (lines-whole (h .rest) (h .lines))),
       )
 
@@ -77,41 +77,41 @@ module _ (ρ : Rules) (s : List ℕ) (at n : ℕ) (ns : List ℕ) (e : locate ρ
   p : IsLocated ρ s at n ns
   p = located-is ρ s at n ns e
 
-  pub start-end : start s at ns 61 ≡ n
+  pub start-end : start ρ s at ns 61 ≡ n
   unfolding start
-  start-end = rw (all-lines ns) (sym (p .next))
+  start-end = rw (all-lines ρ ns) (sym (p .next))
 
-  pub start-within : (g : ℕ) → g ≤ 61 → start s at ns g ≤ n
-  start-within g l = omega (arith, start-mono s at ns g 61 l, start-end)
+  pub start-within : (g : ℕ) → g ≤ 61 → start ρ s at ns g ≤ n
+  start-within g l = omega (arith, start-mono ρ s at ns g 61 l, start-end)
 
   -- R28: from the place to the next it is exactly its lines (R7), and a line feed is its last byte
-  pub record-whole : Whole (recordLines ns) (part at n s)
+  pub record-whole : Whole (recordLines ρ ns) (part at n s)
   record-whole =
-      let w : n - at ≡ reach (drop at s) (recordLines ns) = omega (arith, p .next) in
-      rw w (whole-lines (drop at s) (recordLines ns) (p .many))
+      let w : n - at ≡ reach (drop at s) (recordLines ρ ns) = omega (arith, p .next) in
+      rw w (whole-lines (drop at s) (recordLines ρ ns) (p .many))
 
   pub record-last : getD (part at n s) (length (part at n s) - 1) 0 ≡ 10
-  record-last = whole-last (part at n s) (omega (arith, record-two ns)) record-whole
+  record-last = whole-last (part at n s) (omega (arith, record-two ρ ns)) record-whole
 
   -- each part holds exactly its lines; part 0 is the index
-  pub part-whole : (g : ℕ) → g < 61 → Whole (getD (lineTally ns) g 0) (groupPart s at ns g)
+  pub part-whole : (g : ℕ) → g < 61 → Whole (getD (lineTally ρ ns) g 0) (groupPart ρ s at ns g)
   part-whole g h =
-      let j = linesBefore ns g in
-      let k = getD (lineTally ns) g 0 in
+      let j = linesBefore ρ ns g in
+      let k = getD (lineTally ρ ns) g 0 in
       let xs = drop at s in
-      let m : j + k ≤ feeds xs = omega (arith, p .many, lines-more ns g h, lines-below ns (suc g) 61 (omega arith), all-lines ns) in
-      subst (Whole k) (sym (part-lines s at ns g h)) (whole-lines (behind j xs) k (omega (arith, feeds-behind xs j (omega arith))))
+      let m : j + k ≤ feeds xs = omega (arith, p .many, lines-more ρ ns g h, lines-below ρ ns (suc g) 61 (omega arith), all-lines ρ ns) in
+      subst (Whole k) (sym (part-lines ρ s at ns g h)) (whole-lines (behind j xs) k (omega (arith, feeds-behind xs j (omega arith))))
 
   -- the lines of a group, as a statement on the text
-  pub part-is : (g : ℕ) → 1 ≤ g → g ≤ 60 → IsPart s at ns g (start s at ns g) (groupPart s at ns g)
+  pub part-is : (g : ℕ) → 1 ≤ g → g ≤ 60 → IsPart ρ s at ns g (start ρ s at ns g) (groupPart ρ s at ns g)
   unfolding start
   part-is g low high =
-      let j = linesBefore ns g in
-      let k = linesIn ns g in
+      let j = linesBefore ρ ns g in
+      let k = linesIn ρ ns g in
       let xs = drop at s in
-      let lined : getD (lineTally ns) g 0 ≡ k = line-entry ns g low (omega arith) in
-      let these : groupPart s at ns g ≡ lines k (behind j xs) = part-lines s at ns g (omega arith) ∙ ap (λ n. lines n (behind j xs)) lined in
-      let few : j ≤ feeds xs = omega (arith, p .many, lines-below ns g 61 (omega arith), all-lines ns) in
+      let lined : getD (lineTally ρ ns) g 0 ≡ k = line-entry ρ ns g low (omega arith) in
+      let these : groupPart ρ s at ns g ≡ lines k (behind j xs) = part-lines ρ s at ns g (omega arith) ∙ ap (λ n. lines n (behind j xs)) lined in
+      let few : j ≤ feeds xs = omega (arith, p .many, lines-below ρ ns g 61 (omega arith), all-lines ρ ns) in
       record {
         ahead = take at s;
         before = lines j xs;
@@ -122,6 +122,6 @@ module _ (ρ : Rules) (s : List ℕ) (at n : ℕ) (ns : List ℕ) (e : locate ρ
             (sym (take-append-drop (reach xs j) xs) ∙ ap (λ l. lines j xs ++ l) (sym (take-append-drop (reach (behind j xs) k) (behind j xs)) ∙ ap (λ l. l ++ behind k (behind j xs)) (sym these)));
         place = length-take-le at s (omega (arith, p .inside));
         lines-before = whole-lines xs j few;
-        lines = subst (λ n. Whole n (groupPart s at ns g)) lined (part-whole g (omega arith));
+        lines = subst (λ n. Whole n (groupPart ρ s at ns g)) lined (part-whole g (omega arith));
         begins = ap (λ n. at + n) (sym (length-lines xs j));
       }

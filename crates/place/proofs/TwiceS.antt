@@ -31,17 +31,17 @@ pub record Twice (ρ : Rules) : Type 0 where
   pub second : locate ρ twiceS 305 ≡ located 610 countsS
   pub last : locate ρ twiceS 610 ≡ refused End
   -- the lines of group 4: where they are in the first record, and what they are in both
-  pub from : start twiceS 0 countsS 4 ≡ 295
-  pub to : start twiceS 0 countsS 5 ≡ 305
-  pub first-four : groupPart twiceS 0 countsS 4 ≡ quotedLine "   7.250"
-  pub second-four : groupPart twiceS 305 countsS 4 ≡ quotedLine "   7.250"
+  pub from : start ρ twiceS 0 countsS 4 ≡ 295
+  pub to : start ρ twiceS 0 countsS 5 ≡ 305
+  pub first-four : groupPart ρ twiceS 0 countsS 4 ≡ quotedLine "   7.250"
+  pub second-four : groupPart ρ twiceS 305 countsS 4 ≡ quotedLine "   7.250"
   -- its point
   pub point : getD twiceS 299 0 ≡ 46
 
 pub twice : (ρ : Rules) → Twice ρ
 unfolding recordS twiceS countsS Alike.endedBy locate readIndex readIndexLine readEntries Entry.entryOf start groupPart Lines.feeds Lines.reach Contents.contentOf
     Tally.linesIn Tally.lineTally Tally.linesBefore Sum.sum Every.upFrom Table.rowOf Table.listedAs Table.formAmong Table.formOf Count.linesOf Count.roundedUp
-    Count.elementsOf Rules.releaseOf Rules.filledAmong
+    Count.elementsOf Count.isSegments Count.segmentElements Rules.releaseOf Rules.filledAmong
 twice ρ = record {
   long = refl;
   first = refl;

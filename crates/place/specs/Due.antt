@@ -34,8 +34,8 @@ module _ (ρ : Rules) (s : List ℕ) (at : ℕ) where
   -- nor 3 for the data lines: so many line feeds are left, and n is the place behind them
   pub record HasLines (ns : List ℕ) (n : ℕ) : Type 0 where
     pub head : HasRelease ns
-    pub enough : recordLines ns ≤ feeds (drop at s)
-    pub next : n ≡ at + reach (drop at s) (recordLines ns)
+    pub enough : recordLines ρ ns ≤ feeds (drop at s)
+    pub next : n ≡ at + reach (drop at s) (recordLines ρ ns)
 
   -- R203: not as many line feeds are left as an index has lines, or not as many as the record has
   pub record FewForIndex : Type 0 where
@@ -45,7 +45,7 @@ module _ (ρ : Rules) (s : List ℕ) (at : ℕ) where
   pub record FewForData : Type 0 where
     pub ns : List ℕ
     pub head : HasRelease ns
-    pub few : feeds (drop at s) < recordLines ns
+    pub few : feeds (drop at s) < recordLines ρ ns
 
   -- R204: they are the index of no counts
   pub record BadIndex : Type 0 where

@@ -28,24 +28,24 @@ pub data Located : Type 0 where
   located : ℕ → List ℕ → Located
   refused : Refusal → Located
 
--- xs is the text from the place `at` on
-
--- R203: from the place on there are fewer line feeds than the record has lines
-abbrev pub locateLines : List ℕ → ℕ → List ℕ → Located
-locateLines xs at ns = cond (leb (recordLines ns) (feeds xs)) (located (at + reach xs (recordLines ns)) ns) (refused TooFewLines)
-
--- R205, R206: another release, or one of 61 to 79 has a count
-abbrev pub locateRelease : List ℕ → ℕ → List ℕ → Release → Located
-locateRelease xs at ns Five = locateLines xs at ns
-locateRelease xs at ns Other = refused OtherRelease
-locateRelease xs at ns (Filled g) = refused (FilledVacant g)
-
--- R204: one of the two is no index line, or an entry is misformed; all 80 are looked at before the release is (R252)
-abbrev pub locateIndex : List ℕ → ℕ → Indexed → Located
-locateIndex xs at (counts ns) = locateRelease xs at ns (releaseOf ns)
-locateIndex xs at misformed = refused Misformed
-
 module _ (ρ : Rules) where
+  -- xs is the text from the place `at` on
+
+  -- R203: from the place on there are fewer line feeds than the record has lines
+  abbrev pub locateLines : List ℕ → ℕ → List ℕ → Located
+  locateLines xs at ns = cond (leb (recordLines ρ ns) (feeds xs)) (located (at + reach xs (recordLines ρ ns)) ns) (refused TooFewLines)
+
+  -- R205, R206: another release, or one of 61 to 79 has a count
+  abbrev pub locateRelease : List ℕ → ℕ → List ℕ → Release → Located
+  locateRelease xs at ns Five = locateLines xs at ns
+  locateRelease xs at ns Other = refused OtherRelease
+  locateRelease xs at ns (Filled g) = refused (FilledVacant g)
+
+  -- R204: one of the two is no index line, or an entry is misformed; all 80 are looked at before the release is (R252)
+  abbrev pub locateIndex : List ℕ → ℕ → Indexed → Located
+  locateIndex xs at (counts ns) = locateRelease xs at ns (releaseOf ns)
+  locateIndex xs at misformed = refused Misformed
+
   -- R203: from the place on there are fewer than two line feeds
   abbrev pub locateHere : List ℕ → ℕ → Located
   locateHere xs at = cond (leb 2 (feeds xs)) (locateIndex xs at (readIndex ρ xs)) (refused TooFewLines)
@@ -87,13 +87,14 @@ abbrev pub locatedBehind : List ℕ → Behind → Located
 locatedBehind ns (At n) = located n ns
 locatedBehind ns TooFew = refused TooFewLines
 
-unfoldable pub locateLinesFrom : List ℕ → ℕ → List ℕ → Located
-locateLinesFrom s from ns = locatedBehind ns (behindAt s from (recordLines ns - 2))
+module _ (ρ : Rules) where
+  unfoldable pub locateLinesFrom : List ℕ → ℕ → List ℕ → Located
+  locateLinesFrom s from ns = locatedBehind ns (behindAt s from (recordLines ρ ns - 2))
 
-abbrev pub locateFive : List ℕ → ℕ → List ℕ → Release → Located
-locateFive s from ns Five = locateLinesFrom s from ns
-locateFive s from ns Other = refused OtherRelease
-locateFive s from ns (Filled g) = refused (FilledVacant g)
+  abbrev pub locateFive : List ℕ → ℕ → List ℕ → Release → Located
+  locateFive s from ns Five = locateLinesFrom s from ns
+  locateFive s from ns Other = refused OtherRelease
+  locateFive s from ns (Filled g) = refused (FilledVacant g)
 
-unfoldable pub locateFrom : List ℕ → ℕ → List ℕ → Located
-locateFrom s from ns = locateFive s from ns (releaseOf ns)
+  unfoldable pub locateFrom : List ℕ → ℕ → List ℕ → Located
+  locateFrom s from ns = locateFive s from ns (releaseOf ns)

@@ -72,10 +72,10 @@ fn nothing(why: Refusal) -> Record
 }
 
 // R203, R207: a record of release 5 whose data lines begin at a place: data lines, then rules.
-fn with_lines(text: &[u8], from: usize, counts: [u16; 80]) -> Record
-    ensures { λ r. ⌜ Answers (locateLinesFrom (now (text .entry)) from counts) (r .answer) (r .counts) ⌝ }
+fn with_lines(rules: rules::Rules, text: &[u8], from: usize, counts: [u16; 80]) -> Record
+    ensures { λ r. ⌜ Answers (locateLinesFrom rules (now (text .entry)) from counts) (r .answer) (r .counts) ⌝ }
 {
-    let all = count::add_up(&counts, 61);
+    let all = count::add_up(rules, &counts, 61);
     let line::Behind::At(next) = line::place_behind(text, from, all.lines - 2) else {
         return nothing(Refusal::TooFewLines);
     };
@@ -86,13 +86,13 @@ fn with_lines(text: &[u8], from: usize, counts: [u16; 80]) -> Record
 }
 
 // R205, R206: a record whose data lines begin at a place: the release and the vacant groups first.
-fn with_counts(text: &[u8], from: usize, counts: [u16; 80]) -> Record
-    ensures { λ r. ⌜ Answers (locateFrom (now (text .entry)) from counts) (r .answer) (r .counts) ⌝ }
+fn with_counts(rules: rules::Rules, text: &[u8], from: usize, counts: [u16; 80]) -> Record
+    ensures { λ r. ⌜ Answers (locateFrom rules (now (text .entry)) from counts) (r .answer) (r .counts) ⌝ }
 {
     match count::release_of(&counts) {
         count::Release::Other => nothing(Refusal::OtherRelease),
         count::Release::Filled(g) => nothing(Refusal::FilledVacant(g)),
-        count::Release::Five => with_lines(text, from, counts),
+        count::Release::Five => with_lines(rules, text, from, counts),
     }
 }
 
@@ -129,7 +129,7 @@ pub fn place(rules: rules::Rules, text: &[u8], at: usize) -> Record
     if !store_line(rules, &text[second..end], &mut counts, 40) {
         return nothing(Refusal::Misformed);
     }
-    with_counts(text, end, counts)
+    with_counts(rules, text, end, counts)
 }
 
 // R200 to R207: the answer's number, with the next place and the group beside it.
@@ -169,16 +169,16 @@ pub struct Span {
 
 // R27: the lines of a group in a record at a place with these counts; group 0 is the index, and behind group 60 there
 // are none. Where the text has too few lines, they end where it does.
-pub fn span_of(text: &[u8], at: usize, counts: &[u16], group: usize) -> Span
-    ensures from { λ r. ⌜ r .from ≡ start (now (text .entry)) at (now (counts .entry)) group ⌝ }
-    ensures to { λ r. ⌜ r .to ≡ start (now (text .entry)) at (now (counts .entry)) (group + 1) ⌝ }
+pub fn span_of(rules: rules::Rules, text: &[u8], at: usize, counts: &[u16], group: usize) -> Span
+    ensures from { λ r. ⌜ r .from ≡ start rules (now (text .entry)) at (now (counts .entry)) group ⌝ }
+    ensures to { λ r. ⌜ r .to ≡ start rules (now (text .entry)) at (now (counts .entry)) (group + 1) ⌝ }
 {
-    let before = count::add_up(counts, group);
+    let before = count::add_up(rules, counts, group);
     let from = line::behind_or_end(text, at, before.lines);
     if 60 < group {
         return Span { from, to: from };
     }
-    let with = count::add_up(counts, group + 1);
+    let with = count::add_up(rules, counts, group + 1);
     Span {
         from,
         to: line::behind_or_end(text, from, with.lines - before.lines),

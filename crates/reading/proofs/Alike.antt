@@ -35,4 +35,4 @@ module _ (ρ : Rules) where
   -- a group of a record with these counts
   pub alike-group-read : (ns : List ℕ) (g : ℕ) (x y : List ℕ) → Alike ρ x y → (room : ℕ) → readGroup ρ ns g x room ≡ readGroup ρ ns g y room
   unfolding readLines
-  alike-group-read ns g x y r room = group-by-lines ρ ρ ns g x y (λ f u. alike-lines-read f (mayBeShort g) (planOf f (countOf ns g)) x y r) room
+  alike-group-read ns g x y r room = group-by-lines ρ ρ ns g x y refl (λ f u. alike-lines-read f (mayBeShort g) (planOf ρ f (countOf ns g)) x y r) room

@@ -18,6 +18,7 @@ use Rattle.base.specs.Pieces.{done, bad, both, gather}
 use Rattle.base.proofs.Taken.{drop-none}
 use Rattle.form.specs.declared.Form.{Form}
 use Rattle.form.specs.Table.{rowOf}
+use Rattle.form.specs.Count
 use Rattle.form.specs.Count.{elementsOf, linesOf}
 use Rattle.form.proofs.Rows.{row-fits}
 use Rattle.form.proofs.Counted.{lines-few}
@@ -66,41 +67,41 @@ module _ (ρ : Rules) (f : Form) (short : Bool) (s : List ℕ) (p n : ℕ) where
 pub width-few : (f : Form) → rowOf f .width ≤ 120
 width-few f = omega (arith, row-fits f .columns, row-fits f .some, le-mul-of-pos-right (rowOf f .width) (row-fits f .some))
 
-module _ (f : Form) (count : ℕ) where
+module _ (ρ : Rules) (f : Form) (count : ℕ) where
   abbrev p : ℕ
   p = rowOf f .«per_line»
 
   abbrev n : ℕ
-  n = elementsOf f count
+  n = elementsOf ρ f count
 
 -- what the code's variables are, with j lines behind it and `at` where the next begins
-pub record Walking (f : Form) (count : ℕ) (s : List ℕ) (width perLine many left at j : ℕ) : Type 0 where
+pub record Walking (ρ : Rules) (f : Form) (count : ℕ) (s : List ℕ) (width perLine many left at j : ℕ) : Type 0 where
   pub wide : width ≡ rowOf f .width
   pub per : perLine ≡ rowOf f .«per_line»
-  pub lines : many ≡ linesOf f count
+  pub lines : many ≡ linesOf ρ f count
   pub small : count ≤ 65535
   pub few : j ≤ many
-  pub rest : left ≡ n f count - j * p f count
+  pub rest : left ≡ n ρ f count - j * p ρ f count
   pub inside : at ≤ length s
 
-pub walking-start : {f : Form} {count : ℕ} {s : List ℕ} {width perLine many left : ℕ} → width ≡ rowOf f .width → perLine ≡ rowOf f .«per_line» → many ≡ linesOf f count
-    → left ≡ elementsOf f count → count ≤ 65535 → Walking f count s width perLine many left 0 0
-walking-start {f = f} a b c d e =
+pub walking-start : (ρ : Rules) {f : Form} {count : ℕ} {s : List ℕ} {width perLine many left : ℕ} → width ≡ rowOf f .width → perLine ≡ rowOf f .«per_line» → many ≡ linesOf ρ f count
+    → left ≡ elementsOf ρ f count → count ≤ 65535 → Walking ρ f count s width perLine many left 0 0
+walking-start ρ {f = f} a b c d e =
     record { wide = a; per = b; lines = c; small = e; few = omega arith; rest = omega (arith, zero-mul (rowOf f .«per_line»)); inside = omega arith }
 
-module _ (ρ : Rules) (f : Form) (count : ℕ) (s : List ℕ) {width perLine many left at j : ℕ} (b : Walking f count s width perLine many left at j) where
+module _ (ρ : Rules) (f : Form) (count : ℕ) (s : List ℕ) {width perLine many left at j : ℕ} (b : Walking ρ f count s width perLine many left at j) where
   -- the line that the state comes to
   abbrev pub lineHere : Line
-  lineHere = lineAt (p f count) (n f count) j
+  lineHere = lineAt (p ρ f count) (n ρ f count) j
 
-  pub element-small : (j + 1) * p f count ≤ 65536 * 120
+  pub element-small : (j + 1) * p ρ f count ≤ 65536 * 120
   element-small = mul-le-mul few-lines (row-fits f .few)
     where
       few-lines : j + 1 ≤ 65536
-      few-lines = omega (arith, b .few, b .lines, lines-few f count (b .small))
+      few-lines = omega (arith, b .few, b .lines, lines-few ρ f count (b .small))
 
-  pub next-first : (j + 1) * p f count ≡ j * p f count + p f count
-  next-first = omega (arith, add-mul j 1 (p f count), one-mul (p f count))
+  pub next-first : (j + 1) * p ρ f count ≡ j * p ρ f count + p ρ f count
+  next-first = omega (arith, add-mul j 1 (p ρ f count), one-mul (p ρ f count))
 
   module _ (k end : ℕ) (q : k ≡ min perLine left) (w : end ≡ at + reach (drop at s) 1) where
     pub many-here : k ≡ lineHere .many
@@ -127,7 +128,7 @@ module _ (ρ : Rules) (f : Form) (count : ℕ) (s : List ℕ) {width perLine man
     pub end-range : (at ≤ end) × (end ≤ length s)
     end-range = (omega arith, omega (arith, reach-le (drop at s) 1, length-drop at s, b .inside))
 
-    pub walking-next : j < many → Walking f count s width perLine many (left - k) end (j + 1)
+    pub walking-next : j < many → Walking ρ f count s width perLine many (left - k) end (j + 1)
     walking-next h =
         record {
           wide = b .wide;
@@ -141,20 +142,20 @@ module _ (ρ : Rules) (f : Form) (count : ℕ) (s : List ℕ) {width perLine man
 
     module _ (short : Bool) (h : j < many) where
       others : Cells
-      others = readLinesOf ρ f short (planFrom (p f count) (n f count) (j + 1) (many - (j + 1))) (drop end s)
+      others = readLinesOf ρ f short (planFrom (p ρ f count) (n ρ f count) (j + 1) (many - (j + 1))) (drop end s)
 
-      pub line-more : readLinesOf ρ f short (planFrom (p f count) (n f count) j (many - j)) (drop at s) ≡ both (readLine ρ f short lineHere (part at end s))
-          (readLinesOf ρ f short (planFrom (p f count) (n f count) (j + 1) (many - (j + 1))) (drop end s))
+      pub line-more : readLinesOf ρ f short (planFrom (p ρ f count) (n ρ f count) j (many - j)) (drop at s) ≡ both (readLine ρ f short lineHere (part at end s))
+          (readLinesOf ρ f short (planFrom (p ρ f count) (n ρ f count) (j + 1) (many - (j + 1))) (drop end s))
       line-more =
           let m : many - j ≡ suc (many - (j + 1)) = omega arith in
-          rw m (lines-more ρ f short s (p f count) (n f count) j (many - (j + 1)) at end w)
+          rw m (lines-more ρ f short s (p ρ f count) (n ρ f count) j (many - (j + 1)) at end w)
 
 -- ---- checking: the verdict on what is left is the verdict on all
 
 pub record Checking (ρ : Rules) (f : Form) (short : Bool) (count : ℕ) (s : List ℕ) (width perLine many left at element j : ℕ) : Type 0 where
-  pub walk : Walking f count s width perLine many left at j
+  pub walk : Walking ρ f count s width perLine many left at j
   pub first : element ≡ j * rowOf f .«per_line» + 1
-  pub same : verdictOf (readLinesOf ρ f short (planFrom (rowOf f .«per_line») (elementsOf f count) j (many - j)) (drop at s)) ≡ verdictOf (readLines ρ f short count s)
+  pub same : verdictOf (readLinesOf ρ f short (planFrom (rowOf f .«per_line») (elementsOf ρ f count) j (many - j)) (drop at s)) ≡ verdictOf (readLines ρ f short count s)
 
 -- the fields of a line from field i on
 pub record Fielding (f : Form) (l : Line) (text : List ℕ) (at i from : ℕ) : Type 0 where
@@ -162,9 +163,9 @@ pub record Fielding (f : Form) (l : Line) (text : List ℕ) (at i from : ℕ) : 
   pub within : i ≤ l .many
   pub same : verdictOf (readFields f (restOf l i) (drop (i * rowOf f .width) text)) ≡ verdictOf (readFields f l text)
 
-pub checking-start : (ρ : Rules) {f : Form} {short : Bool} {count : ℕ} {s : List ℕ} {width perLine many left : ℕ} → Walking f count s width perLine many left 0 0
+pub checking-start : (ρ : Rules) {f : Form} {short : Bool} {count : ℕ} {s : List ℕ} {width perLine many left : ℕ} → Walking ρ f count s width perLine many left 0 0
     → Checking ρ f short count s width perLine many left 0 1 0
-unfolding readLines planOf
+unfolding readLines planOf Count.linesOf
 checking-start ρ {f} {short} {count} {s} {width} {perLine} {many} {left} b =
     record { walk = b; first = omega (arith, zero-mul (rowOf f .«per_line»)); same = rw (sub-zero many, b .lines, drop-none s) refl }
 
@@ -173,20 +174,20 @@ pub checking-end : (ρ : Rules) (f : Form) (short : Bool) (count : ℕ) (s : Lis
     → C.Right ≡ verdictOf (readLines ρ f short count s)
 checking-end ρ f short count s {many = many} {at = at} {j = j} b h =
     let z : many - j ≡ 0 = omega arith in
-    sym (ap verdictOf (lines-none ρ f short s (rowOf f .«per_line») (elementsOf f count) j at)) ∙ (rw z at (b .same))
+    sym (ap verdictOf (lines-none ρ f short s (rowOf f .«per_line») (elementsOf ρ f count) j at)) ∙ (rw z at (b .same))
 
 module _ (ρ : Rules) (f : Form) (short : Bool) (count : ℕ) (s : List ℕ) {width perLine many left at element j : ℕ} (b : Checking ρ f short count s width perLine many left at element j) (h : j < many)
     (k end : ℕ)
     (q : k ≡ min perLine left) (w : end ≡ at + reach (drop at s) 1) where
   abbrev l : Line
-  l = lineAt (rowOf f .«per_line») (elementsOf f count) j
+  l = lineAt (rowOf f .«per_line») (elementsOf ρ f count) j
 
-  more : verdictOf (both (readLine ρ f short l (part at end s)) (readLinesOf ρ f short (planFrom (rowOf f .«per_line») (elementsOf f count) (j + 1) (many - (j + 1))) (drop end s)))
+  more : verdictOf (both (readLine ρ f short l (part at end s)) (readLinesOf ρ f short (planFrom (rowOf f .«per_line») (elementsOf ρ f count) (j + 1) (many - (j + 1))) (drop end s)))
       ≡ verdictOf (readLines ρ f short count s)
   more = sym (ap verdictOf (line-more ρ f count s (b .walk) k end q w short h)) ∙ b .same
 
   bad-line : (r : Refusal) → verdictOf (readLine ρ f short l (part at end s)) ≡ C.Refused r → C.Refused r ≡ verdictOf (readLines ρ f short count s)
-  bad-line r e = sym (stuck (readLine ρ f short l (part at end s)) (readLinesOf ρ f short (planFrom (rowOf f .«per_line») (elementsOf f count) (j + 1) (many - (j + 1))) (drop end s)) r e) ∙ more
+  bad-line r e = sym (stuck (readLine ρ f short l (part at end s)) (readLinesOf ρ f short (planFrom (rowOf f .«per_line») (elementsOf ρ f count) (j + 1) (many - (j + 1))) (drop end s)) r e) ∙ more
 
   pub wrong-line : rightContent ρ short (k * width) (part at end s) ≡ NoReturn → C.Refused (BadLine (j + 1)) ≡ verdictOf (readLines ρ f short count s)
   wrong-line e = bad-line (BadLine (j + 1)) (ap verdictOf (line-wrong ρ f short l (part at end s) (rw (columns-here ρ f count s (b .walk) k end q w) at e)))
@@ -211,7 +212,7 @@ module _ (ρ : Rules) (f : Form) (short : Bool) (count : ℕ) (s : List ℕ) {wi
           record {
             walk = walking-next ρ f count s (b .walk) k end q w h;
             first = omega (arith, b .first, b .walk .per, next-first ρ f count s (b .walk));
-            same = sym (past (readLine ρ f short l (part at end s)) (readLinesOf ρ f short (planFrom (rowOf f .«per_line») (elementsOf f count) (j + 1) (many - (j + 1))) (drop end s)) clean) ∙ more;
+            same = sym (past (readLine ρ f short l (part at end s)) (readLinesOf ρ f short (planFrom (rowOf f .«per_line») (elementsOf ρ f count) (j + 1) (many - (j + 1))) (drop end s)) clean) ∙ more;
           }
         where
           clean : verdictOf (readLine ρ f short l (part at end s)) ≡ C.Right

@@ -27,6 +27,7 @@ use Rattle.form.specs.Table.{rowOf, formOf}
 use Rattle.form.specs.Count
 use Rattle.form.specs.Count.{elementsOf, linesOf, roundedUp}
 use Rattle.form.proofs.Rounding.{quotient}
+use Rattle.form.proofs.Segments.{letters-elements}
 use Rattle.field.specs.Read
 use Rattle.field.proofs.Letters.{bytes-back}
 use Rattle.line.specs.Lines.{reach}
@@ -97,14 +98,10 @@ map-append : {A B : Type 0} (f : A → B) (a b : List A) → map f (a ++ b) ≡ 
 map-append f [] b = refl
 map-append f (x ∷ a) b = ap (λ l. f x ∷ l) (map-append f a b)
 
--- A1 has 120 elements of one column to a line, and each count is of elements
+-- A1 has 120 elements of one column to a line
 letters-row : (rowOf A1 .«per_line» ≡ 120) × (rowOf A1 .width ≡ 1)
 unfolding Table.rowOf Table.listedAs
 letters-row = (refl, refl)
-
-letters-count : (count : ℕ) → elementsOf A1 count ≡ count
-unfolding Count.elementsOf
-letters-count count = refl
 
 -- the first k letters are the first k bytes
 pub record FirstLetters (k : ℕ) (x letters : List ℕ) : Type 0 where
@@ -112,12 +109,13 @@ pub record FirstLetters (k : ℕ) (x letters : List ℕ) : Type 0 where
   pub many : k ≤ length letters
   pub same : take k letters ≡ take k x
 
-module _ (ρ : Rules) (count : ℕ) (x : List ℕ) (cs : List ℤ) (h : readLines ρ A1 false count x ≡ done cs) (enough : 19 ≤ count) (k : ℕ) (q : k ≡ min (rowOf A1 .«per_line») (elementsOf A1 count)) where
+module _ (ρ : Rules) (count : ℕ) (x : List ℕ) (cs : List ℤ) (h : readLines ρ A1 false count x ≡ done cs) (enough : 19 ≤ count) (k : ℕ)
+    (q : k ≡ min (rowOf A1 .«per_line») (elementsOf ρ A1 count)) where
   p : ℕ
   p = rowOf A1 .«per_line»
 
   n : ℕ
-  n = elementsOf A1 count
+  n = elementsOf ρ A1 count
 
   line-one : Line
   line-one = lineAt p n 0
@@ -151,7 +149,7 @@ module _ (ρ : Rules) (count : ℕ) (x : List ℕ) (cs : List ℤ) (h : readLine
       end = 0 + reach (drop 0 x) 1
 
       lines-some : roundedUp n p ≡ suc (roundedUp n p - 1)
-      lines-some = omega (arith, quotient n p (omega (arith, letters-row .0)) (omega (arith, letters-count count)))
+      lines-some = omega (arith, quotient n p (omega (arith, letters-row .0)) (omega (arith, letters-elements ρ count)))
 
       some : readLinesOf ρ A1 false (planFrom p n 0 (suc (roundedUp n p - 1))) (drop 0 x) ≡ done cs
       some = ap (λ i. readLinesOf ρ A1 false (planFrom p n 0 i) (drop 0 x)) (sym lines-some) ∙ ap (λ y. readLinesOf ρ A1 false (planFrom p n 0 (roundedUp n p)) y) (drop-none x) ∙ h
@@ -173,7 +171,7 @@ module _ (ρ : Rules) (count : ℕ) (x : List ℕ) (cs : List ℤ) (h : readLine
 
 -- ---- the date
 
-module _ (ρ : Rules) (count : ℕ) (x : List ℕ) (v : verdictOf (readLines ρ A1 false count x) ≡ C.Right) (enough : 19 ≤ count) (k : ℕ) (q : k ≡ min (rowOf A1 .«per_line») (elementsOf A1 count)) where
+module _ (ρ : Rules) (count : ℕ) (x : List ℕ) (v : verdictOf (readLines ρ A1 false count x) ≡ C.Right) (enough : 19 ≤ count) (k : ℕ) (q : k ≡ min (rowOf A1 .«per_line») (elementsOf ρ A1 count)) where
   letters-first : FirstLetters k x (map sizeOf (clean-read (readLines ρ A1 false count x) v .cells))
   letters-first = let r = clean-read (readLines ρ A1 false count x) v in first-letters ρ count x (r .cells) (r .is) enough k q
 
@@ -184,7 +182,7 @@ module _ (ρ : Rules) (count : ℕ) (x : List ℕ) (v : verdictOf (readLines ρ 
   date-verdict {d = d} e =
       let r = clean-read (readLines ρ A1 false count x) v in
       let b = letters-first in
-      let long : 19 ≤ k = omega (arith, letters-row .0, letters-count count) in
+      let long : 19 ≤ k = omega (arith, letters-row .0, letters-elements ρ count) in
       let same : datedOf (map sizeOf (r .cells)) ≡ d =
       sym (dated-take (map sizeOf (r .cells)) k (omega (arith, b .many)) long) ∙ ap datedOf (b .same ∙ ap (take k) (sym (drop-none x)) ∙ ap (λ i. take i (drop 0 x)) (sym (sub-zero k))) ∙ e in
       sym (ap (λ g. verdictOf (dated 3 g)) (r .is) ∙ verdict (r .cells) (datedOf (map sizeOf (r .cells))) ∙ ap dateVerdict same)

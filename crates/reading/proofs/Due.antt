@@ -83,17 +83,17 @@ module _ (ρ : Rules) (f : Form) (g : ℕ) (count : ℕ) (x : List ℕ) where
 
   module _ (j : ℕ) where
     abbrev l : Line
-    l = planned f count j
+    l = planned ρ f count j
 
     -- the line is right, and its fields decide
     record LineRight : Type 0 where
       content : List ℕ
       line : RightLine ρ f g count x j content
-      reads : lineRead ρ f short count x j ≡ readFields f (planned f count j) (filledTo (columnsOf f (planned f count j)) content)
+      reads : lineRead ρ f short count x j ≡ readFields f (planned ρ f count j) (filledTo (columnsOf f (planned ρ f count j)) content)
 
     record LineWrong : Type 0 where
       none : (s : List ℕ) → RightLine ρ f g count x j s → ⊥
-      told : lineRead ρ f short count x j ≡ bad (BadLine (planned f count j .number))
+      told : lineRead ρ f short count x j ≡ bad (BadLine (planned ρ f count j .number))
 
     right-content : (s : List ℕ) → RightLine ρ f g count x j s → (rightContent ρ short (columnsOf f l) (lineOf x j) ≡ Length (length s)) × (part 0 (length s) (lineOf x j) ≡ s)
     right-content s r =
@@ -102,7 +102,7 @@ module _ (ρ : Rules) (f : Form) (g : ℕ) (count : ℕ) (x : List ℕ) where
         let t : part 0 (length s) y ≡ s = part-zero (length s) y ∙ content-taken ρ y s (length s) (r .content) e in
         (right-yes ρ short (columnsOf f l) y (length s) e (ap (isRight short (columnsOf f l)) t ∙ right-plain g (columnsOf f l) s .1 (r .right)), t)
 
-    right-reads : (s : List ℕ) → RightLine ρ f g count x j s → lineRead ρ f short count x j ≡ readFields f (planned f count j) (filledTo (columnsOf f (planned f count j)) s)
+    right-reads : (s : List ℕ) → RightLine ρ f g count x j s → lineRead ρ f short count x j ≡ readFields f (planned ρ f count j) (filledTo (columnsOf f (planned ρ f count j)) s)
     right-reads s r =
         let c = right-content s r in
         line-right ρ f short l (lineOf x j) (length s) (c .0) ∙ ap (λ z. readFields f l (filledTo (columnsOf f l) z)) (c .1)
@@ -126,7 +126,7 @@ module _ (ρ : Rules) (f : Form) (g : ℕ) (count : ℕ) (x : List ℕ) where
               told = line-wrong ρ f short l (lineOf x j) e;
             }
 
-    wrong-told : ((s : List ℕ) → RightLine ρ f g count x j s → ⊥) → lineRead ρ f short count x j ≡ bad (BadLine (planned f count j .number))
+    wrong-told : ((s : List ℕ) → RightLine ρ f g count x j s → ⊥) → lineRead ρ f short count x j ≡ bad (BadLine (planned ρ f count j .number))
     wrong-told n = ⊎-elim (λ (r : LineRight). absurd (n (r .content) (r .line))) (λ (w : LineWrong). w .told) line-either
 
     -- ---- clean exactly if it was read
@@ -134,13 +134,13 @@ module _ (ρ : Rules) (f : Form) (g : ℕ) (count : ℕ) (x : List ℕ) where
     clean-done : CleanLine ρ f g count x j → IsDone (lineRead ρ f short count x j)
     clean-done c =
         let text = filledTo (columnsOf f l) (c .content) in
-        let d = all-done (fields-pieces f l text) (λ k h. field-reads f (l .number) (l .first + k) (fieldIn f count j (c .content) k) (c .fields k h)) in
+        let d = all-done (fields-pieces f l text) (λ k h. field-reads f (l .number) (l .first + k) (fieldIn ρ f count j (c .content) k) (c .fields k h)) in
         record { cells = d .cells; is = right-reads (c .content) (c .line) ∙ sym (fields-start f l text) ∙ d .is }
 
     done-clean : IsDone (lineRead ρ f short count x j) → CleanLine ρ f g count x j
     done-clean d =
         let r = line-read ρ f g count x j (d .cells) (d .is) in
-        record { content = r .content; line = r .line; fields = λ k h. some-field f (fieldIn f count j (r .content) k) .0 (r .each k h .good) }
+        record { content = r .content; line = r .line; fields = λ k h. some-field f (fieldIn ρ f count j (r .content) k) .0 (r .each k h .good) }
 
   -- ---- the lines
 
@@ -165,15 +165,15 @@ module _ (ρ : Rules) (f : Form) (g : ℕ) (count : ℕ) (x : List ℕ) where
       ∙ bad-told (fields-pieces f (l (w .j)) t) (BadField n e) record {
         at = w .k;
         inside = w .inside;
-        earlier = λ i h. field-reads f (l (w .j) .number) (l (w .j) .first + i) (fieldIn f count (w .j) (w .content) i) (w .earlier i h);
-        told = field-told f (l (w .j) .number) (l (w .j) .first + w .k) (fieldIn f count (w .j) (w .content) (w .k)) (w .misformed) ∙ rw (w .number, w .element) refl;
+        earlier = λ i h. field-reads f (l (w .j) .number) (l (w .j) .first + i) (fieldIn ρ f count (w .j) (w .content) i) (w .earlier i h);
+        told = field-told f (l (w .j) .number) (l (w .j) .first + w .k) (fieldIn ρ f count (w .j) (w .content) (w .k)) (w .misformed) ∙ rw (w .number, w .element) refl;
       })
 
   -- what is told of the lines
   lines-due : (r : Refusal) → readLines ρ f short count x ≡ bad r → LinesDue r
   lines-due r e = ⊎-elim inside wrong (line-either (b .at))
     where
-      b : FirstBad (linesOf f count) (lineRead ρ f short count x) r
+      b : FirstBad (linesOf ρ f count) (lineRead ρ f short count x) r
       b = first-bad (lines-pieces ρ f short count x) r .0 (lines-start ρ f short count x ∙ e)
 
       comes : ComesTo ρ f g count x (b .at)
@@ -189,7 +189,7 @@ module _ (ρ : Rules) (f : Form) (g : ℕ) (count : ℕ) (x : List ℕ) where
       inside w =
           let t = filledTo (columnsOf f (l (b .at))) (w .content) in
           let c = first-bad (fields-pieces f (l (b .at)) t) r .0 (fields-start f (l (b .at)) t ∙ sym (w .reads) ∙ b .told) in
-          let q = field-bad f (l (b .at) .number) (l (b .at) .first + c .at) (fieldIn f count (b .at) (w .content) (c .at)) r (c .told) in
+          let q = field-bad f (l (b .at) .number) (l (b .at) .first + c .at) (fieldIn ρ f count (b .at) (w .content) (c .at)) r (c .told) in
           subst LinesDue (sym (q .is)) (wrong-field (l (b .at) .number) (l (b .at) .first + c .at) record {
             j = b .at;
             k = c .at;
@@ -198,8 +198,8 @@ module _ (ρ : Rules) (f : Form) (g : ℕ) (count : ℕ) (x : List ℕ) where
             line = w .line;
             inside = c .inside;
             earlier =
-                λ i h. some-field f (fieldIn f count (b .at) (w .content) i) .0
-                (field-done f (l (b .at) .number) (l (b .at) .first + i) (fieldIn f count (b .at) (w .content) i) (c .earlier i h .cells) (c .earlier i h .is) .good);
+                λ i h. some-field f (fieldIn ρ f count (b .at) (w .content) i) .0
+                (field-done f (l (b .at) .number) (l (b .at) .first + i) (fieldIn ρ f count (b .at) (w .content) i) (c .earlier i h .cells) (c .earlier i h .is) .good);
             misformed = q .none;
             number = refl;
             element = refl;
@@ -233,7 +233,7 @@ module _ (ρ : Rules) (ns : List ℕ) (g : ℕ) (x : List ℕ) (room : ℕ) wher
 
   to-lines : (f : Form) → Roomy ρ ns g x room f → readGroup ρ ns g x room ≡ dated g (readLines ρ f (mayBeShort g) (countOf ns g) x)
   unfolding readGroup readForm
-  to-lines f r = rw (r .ruled .form, kept-ruling ns (r .ruled .kept), le-leb (cellsOf f (countOf ns g)) room (r .enough)) refl
+  to-lines f r = rw (r .ruled .form, kept-ruling ns (r .ruled .kept), le-leb (cellsOf ρ f (countOf ns g)) room (r .enough)) refl
 
   to-cells : (cs : List ℤ) → CellsRead ρ ns g x room cs → readGroup ρ ns g x room ≡ dated g (done cs)
   to-cells cs h = to-lines (h .f) (h .roomy) ∙ ap (dated g) (lines-read ρ (h .f) g (countOf ns g) x cs (h .clean) (h .values))
@@ -242,7 +242,7 @@ module _ (ρ : Rules) (ns : List ℕ) (g : ℕ) (x : List ℕ) (room : ℕ) wher
   unfolding readGroup readForm
   refusal-given r (no-group d) = rw (none-has g .1 (λ i. d (i .low, i .high))) refl
   refusal-given r (broken-rule h d) = rw (group-form g (d .low) (d .high) .1, broken-ruling ns (d .broken)) refl
-  refusal-given r (no-room d) = rw (d .ruled .form, kept-ruling ns (d .ruled .kept), lt-leb (cellsOf (d .f) (countOf ns g)) room (d .few)) refl
+  refusal-given r (no-room d) = rw (d .ruled .form, kept-ruling ns (d .ruled .kept), lt-leb (cellsOf ρ (d .f) (countOf ns g)) room (d .few)) refl
   refusal-given r (bad-line n d) = to-lines (d .f) (d .roomy) ∙ ap (dated g) (line-given ρ (d .f) g (countOf ns g) x n (d .line))
   refusal-given r (bad-field n e d) = to-lines (d .f) (d .roomy) ∙ ap (dated g) (field-given ρ (d .f) g (countOf ns g) x n e (d .field))
   refusal-given r (bad-date p d) =
@@ -276,14 +276,14 @@ module _ (ρ : Rules) (ns : List ℕ) (g : ℕ) (x : List ℕ) (room : ℕ) wher
       from-date cs (eqb g 3) (datedOf (map sizeOf cs)) record { f = f; roomy = h; clean = lines-clean ρ f g (countOf ns g) x cs e; values = read-values ρ f g (countOf ns g) x cs e } refl refl
   from-lines f (bad r) h e = from-bad f r h (lines-due ρ f g (countOf ns g) x r e)
 
-  from-room : (f : Form) (t : Bool) → Ruled ρ ns g x room f → leb (cellsOf f (countOf ns g)) room ≡ t
+  from-room : (f : Form) (t : Bool) → Ruled ρ ns g x room f → leb (cellsOf ρ f (countOf ns g)) room ≡ t
       → Due ρ ns g x room (cond t (dated g (readLines ρ f (mayBeShort g) (countOf ns g) x)) (bad NoRoom))
-  from-room f true h e = from-lines f (readLines ρ f (mayBeShort g) (countOf ns g) x) record { ruled = h; enough = leb-true (cellsOf f (countOf ns g)) room e } refl
-  from-room f false h e = no-room record { f = f; ruled = h; few = leb-false (cellsOf f (countOf ns g)) room e }
+  from-room f true h e = from-lines f (readLines ρ f (mayBeShort g) (countOf ns g) x) record { ruled = h; enough = leb-true (cellsOf ρ f (countOf ns g)) room e } refl
+  from-room f false h e = no-room record { f = f; ruled = h; few = leb-false (cellsOf ρ f (countOf ns g)) room e }
 
   from-ruling : (f : Form) (k : Ruling) → formOf g ≡ Has f → rulingOf ns ≡ k → Due ρ ns g x room (readRuled ρ f ns g x room k)
   unfolding readForm
-  from-ruling f Kept h e = from-room f (leb (cellsOf f (countOf ns g)) room) record { form = h; kept = ruling-kept ns e } refl
+  from-ruling f Kept h e = from-room f (leb (cellsOf ρ f (countOf ns g)) room) record { form = h; kept = ruling-kept ns e } refl
   from-ruling f (Broken k) h e = let r = form-range g f h in broken-rule k record { low = r .0; high = r .1; broken = ruling-broken ns e }
 
   is-due : Due ρ ns g x room (readGroup ρ ns g x room)

@@ -1,5 +1,5 @@
--- R9: a data line without its carriage return is wrong under the strict rule. What reads with 0 under it reads so under each: a line, the lines
--- of a group, the group.
+-- R9: a data line without its carriage return is wrong under the strict rule. What reads with 0 under it reads so under each: a line, the
+-- lines of a group, and under each that counts alike the group.
 -- Assumes nothing.
 use mathlib.Core.Path.{_≡_, refl, sym, _∙_, ap}
 use mathlib.Core.Bool.{Bool}
@@ -25,7 +25,7 @@ use Rattle.reply.specs.declared.Refusal.the-variants.{BadLine}
 use Rattle.reading.specs.Blanks.{mayBeShort}
 use Rattle.reading.specs.Plan.{Line, planOf}
 use Rattle.reading.specs.Read.{readContent, readLine, readLinesOf, readLines, readGroup}
-use Rattle.reading.proofs.ByLines.{group-by-lines}
+use Rattle.reading.proofs.ByLines.{plan-same, group-by-lines}
 use Rattle.reading.proofs.GroupRead.{group-reads}
 
 pub strict-bad-line : (σ : Rules) → σ .ends ≡ Strict → (f : Form) (short : Bool) (l : Line) (a : List ℕ) → (EndsInReturn a → ⊥)
@@ -50,9 +50,9 @@ module _ (σ ρ : Rules) (only : σ .ends ≡ Strict) where
       rw (strict-line-read f short l (lines 1 x) (d .first) (d .first-is), strict-lines-read f short ls (behind 1 x) (d .second) (d .second-is)) (ap done (sym (d .all)))
 
   -- a group of a record with these counts
-  pub strict-group-read : (ns : List ℕ) (g : ℕ) (x : List ℕ) (room : ℕ) (c : List ℤ) → readGroup σ ns g x room ≡ done c → readGroup ρ ns g x room ≡ done c
+  pub strict-group-read : σ .counting ≡ ρ .counting → (ns : List ℕ) (g : ℕ) (x : List ℕ) (room : ℕ) (c : List ℤ) → readGroup σ ns g x room ≡ done c → readGroup ρ ns g x room ≡ done c
   unfolding readLines
-  strict-group-read ns g x room c e = group-by-lines ρ σ ns g x x same room ∙ e
+  strict-group-read alike ns g x room c e = group-by-lines ρ σ ns g x x (sym alike) same room ∙ e
     where
       same : (f : Form) → formOf g ≡ Has f → readLines ρ f (mayBeShort g) (countOf ns g) x ≡ readLines σ f (mayBeShort g) (countOf ns g) x
       same f u =
@@ -60,4 +60,6 @@ module _ (σ ρ : Rules) (only : σ .ends ≡ Strict) where
           let w : Has (r .form) ≡ Has f = sym (r .has) ∙ u in
           let k : r .form ≡ f = cc in
           let v : readLines σ f (mayBeShort g) (countOf ns g) x ≡ done c = rw k at (r .lines) in
-          strict-lines-read f (mayBeShort g) (planOf f (countOf ns g)) x c v ∙ sym v
+          ap (λ ls. readLinesOf ρ f (mayBeShort g) ls x) (plan-same ρ σ (sym alike) f (countOf ns g))
+          ∙ strict-lines-read f (mayBeShort g) (planOf σ f (countOf ns g)) x c v
+          ∙ sym v

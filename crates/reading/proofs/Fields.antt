@@ -44,17 +44,17 @@ next-column : (i w : ℕ) → i * w + w ≡ (i + 1) * w
 next-column i w = omega (arith, add-mul i 1 w, one-mul w)
 
 -- R65: an element that is missing is blanks: the content ends where its columns begin, or before
-module _ (f : Form) (count j : ℕ) (s : List ℕ) (k : ℕ) (h : k < planned f count j .many) where
+module _ (ρ : Rules) (f : Form) (count j : ℕ) (s : List ℕ) (k : ℕ) (h : k < planned ρ f count j .many) where
   abbrev wide : ℕ
   wide = rowOf f .width
 
   abbrev behind : ℕ
-  behind = columnsOf f (planned f count j) - k * rowOf f .width
+  behind = columnsOf f (planned ρ f count j) - k * rowOf f .width
 
-  pub missing-blanks : length s ≤ k * rowOf f .width → fieldIn f count j s k ≡ replicate (rowOf f .width) 32
+  pub missing-blanks : length s ≤ k * rowOf f .width → fieldIn ρ f count j s k ≡ replicate (rowOf f .width) 32
   missing-blanks e =
-      ap (take wide) (filled-drop (columnsOf f (planned f count j)) (k * wide) s ∙ ap (filledTo behind) (drop-of-length-le s e) ∙ filled-nil behind)
-      ∙ take-blanks wide behind (omega (arith, next-column k wide, mul-le-mul-right {m = k + 1} {n = planned f count j .many} wide (omega arith)))
+      ap (take wide) (filled-drop (columnsOf f (planned ρ f count j)) (k * wide) s ∙ ap (filledTo behind) (drop-of-length-le s e) ∙ filled-nil behind)
+      ∙ take-blanks wide behind (omega (arith, next-column k wide, mul-le-mul-right {m = k + 1} {n = planned ρ f count j .many} wide (omega arith)))
 
 -- ---- one field more
 

@@ -17,6 +17,7 @@ use Rattle.base.proofs.Pieces.{BothDone, both-done}
 use Rattle.base.proofs.Taken.{drop-none}
 use Rattle.form.specs.declared.Form.{Form}
 use Rattle.form.specs.Table.{rowOf}
+use Rattle.form.specs.Count
 use Rattle.form.specs.Count.{elementsOf, cellsOf}
 use Rattle.form.proofs.Rows.{row-fits}
 use Rattle.field.specs.Read.{fieldOf, formed, valueCells, ReadsAs}
@@ -85,10 +86,10 @@ pub record Reached : Type 0 where
   pub table : List ℤ
 
 pub record Filling (ρ : Rules) (f : Form) (short : Bool) (count : ℕ) (s : List ℕ) (old : List ℤ) (r : Reached) : Type 0 where
-  pub walk : Walking f count s (r .width) (r .perLine) (r .many) (r .left) (r .at) (r .j)
+  pub walk : Walking ρ f count s (r .width) (r .perLine) (r .many) (r .left) (r .at) (r .j)
   pub sized : r .cells ≡ rowOf f .cells
   pub more : List ℤ
-  pub rest : readLinesOf ρ f short (planFrom (rowOf f .«per_line») (elementsOf f count) (r .j) (r .many - r .j)) (drop (r .at) s) ≡ done more
+  pub rest : readLinesOf ρ f short (planFrom (rowOf f .«per_line») (elementsOf ρ f count) (r .j) (r .many - r .j)) (drop (r .at) s) ≡ done more
   pub store : Stored (cellsGot (readLines ρ f short count s)) old 0 (r .cell) (r .table) more
 
 -- it has come to a line, of k elements, that ends at `end`
@@ -109,16 +110,16 @@ pub record FillingFields (f : Form) (l : Line) (text : List ℕ) (old : List ℤ
   pub rest : readFields f (restOf l i) (drop (i * rowOf f .width) text) ≡ done more
   pub store : Stored (cellsGot (readFields f l text)) old base cell table more
 
-pub enough-room : (ρ : Rules) (f : Form) (short : Bool) (count : ℕ) (s : List ℕ) (old : List ℤ) → verdictOf (readLines ρ f short count s) ≡ C.Right → cellsOf f count ≤ length old
+pub enough-room : (ρ : Rules) (f : Form) (short : Bool) (count : ℕ) (s : List ℕ) (old : List ℤ) → verdictOf (readLines ρ f short count s) ≡ C.Right → cellsOf ρ f count ≤ length old
     → length (cellsGot (readLines ρ f short count s)) ≤ length old
 enough-room ρ f short count s old v room =
     let r = clean-read (readLines ρ f short count s) v in
     omega (arith, ap (λ g. length (cellsGot g)) (r .is), group-size ρ f short count s (r .cells) (r .is))
 
-pub filling-start : (ρ : Rules) {f : Form} {short : Bool} {count : ℕ} {s : List ℕ} {r : Reached} → Walking f count s (r .width) (r .perLine) (r .many) (r .left) (r .at) (r .j)
+pub filling-start : (ρ : Rules) {f : Form} {short : Bool} {count : ℕ} {s : List ℕ} {r : Reached} → Walking ρ f count s (r .width) (r .perLine) (r .many) (r .left) (r .at) (r .j)
     → r .cells ≡ rowOf f .cells
     → verdictOf (readLines ρ f short count s) ≡ C.Right → (r .at ≡ 0) × (r .cell ≡ 0) × (r .j ≡ 0) → Filling ρ f short count s (r .table) r
-unfolding readLines planOf
+unfolding readLines planOf Count.linesOf
 filling-start ρ {f} {short} {count} {s} {r} b z v none =
     let g = clean-read (readLines ρ f short count s) v in
     record {
@@ -133,7 +134,7 @@ pub filling-end : (ρ : Rules) {f : Form} {short : Bool} {count : ℕ} {s : List
     → r .table ≡ over 0 (cellsGot (readLines ρ f short count s)) old
 filling-end ρ {f} {short} {count} {s} {old} {r} b h =
     let z : r .many - r .j ≡ 0 = omega arith in
-    let e : [] ≡ b .more = done-same (sym (lines-none ρ f short s (rowOf f .«per_line») (elementsOf f count) (r .j) (r .at)) ∙ (rw z at (b .rest))) in
+    let e : [] ≡ b .more = done-same (sym (lines-none ρ f short s (rowOf f .«per_line») (elementsOf ρ f count) (r .j) (r .at)) ∙ (rw z at (b .rest))) in
     stored-all (cellsGot (readLines ρ f short count s)) old (r .table) 0 (r .cell) (subst (λ x. Stored (cellsGot (readLines ρ f short count s)) old 0 (r .cell) (r .table) x) (sym e) (b .store)) .here
 
 pub filling-length : (ρ : Rules) {f : Form} {short : Bool} {count : ℕ} {s : List ℕ} {old : List ℤ} {r : Reached} → length (cellsGot (readLines ρ f short count s)) ≤ length old
@@ -142,11 +143,11 @@ filling-length ρ room b = stored-length (omega arith) (b .more) (b .store)
 
 module _ (ρ : Rules) {f : Form} {short : Bool} {count : ℕ} {s : List ℕ} {old : List ℤ} {r : Reached} (o : OnLine ρ f short count s old r) where
   abbrev pub l : Line
-  l = lineAt (rowOf f .«per_line») (elementsOf f count) (r .j)
+  l = lineAt (rowOf f .«per_line») (elementsOf ρ f count) (r .j)
 
   -- the cells behind this line
   abbrev pub others : Cells
-  others = readLinesOf ρ f short (planFrom (rowOf f .«per_line») (elementsOf f count) (r .j + 1) (r .many - (r .j + 1))) (drop (o .end) s)
+  others = readLinesOf ρ f short (planFrom (rowOf f .«per_line») (elementsOf ρ f count) (r .j + 1) (r .many - (r .j + 1))) (drop (o .end) s)
 
   split : BothDone (readLine ρ f short l (part (r .at) (o .end) s)) others (o .state .more)
   split = both-done (readLine ρ f short l (part (r .at) (o .end) s)) others (o .state .more)

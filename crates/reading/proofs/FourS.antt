@@ -25,5 +25,5 @@ use Rattle.reading.specs.Read.{readFields, readLine, readLinesOf, readLi
 pub four-reads : (ρ : Rules) (room : ℕ) → 1 ≤ room
     → (readForm ρ F8 4 1 (bytes "   7.250" ++ (13 ∷ 10 ∷ [])) room ≡ done (pos 7250 ∷ [])) × (readForm ρ F8 4 1 (bytes "   7,250" ++ (13 ∷ 10 ∷ [])) room ≡ bad (BadField 1 1))
 unfolding readForm readLines readLinesOf readLine readFields Pieces.gather planOf planFrom isRight filledTo Field.fieldOf Lines.reach Contents.contentOf
-    Every.upFrom Table.rowOf Table.listedAs Count.linesOf Count.cellsOf Count.roundedUp Count.elementsOf
+    Every.upFrom Table.rowOf Table.listedAs Count.linesOf Count.cellsOf Count.roundedUp Count.elementsOf Count.isSegments Count.segmentElements
 four-reads ρ room h = rw (le-leb 1 room h) (refl, refl)

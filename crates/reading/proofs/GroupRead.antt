@@ -33,7 +33,7 @@ pub record TellsDate (letters : List ℕ) : Type 0 where
 pub record GroupReads (ρ : Rules) (ns : List ℕ) (g : ℕ) (y : List ℕ) (room : ℕ) (c : List ℤ) : Type 0 where
   pub form : Form
   pub has : formOf g ≡ Has form
-  pub enough : cellsOf form (countOf ns g) ≤ room
+  pub enough : cellsOf ρ form (countOf ns g) ≤ room
   pub lines : readLines ρ form (mayBeShort g) (countOf ns g) y ≡ done c
   pub date : g ≡ 3 → TellsDate (map sizeOf c)
 

@@ -22,8 +22,9 @@ use Rattle.form.specs.declared.Form.{Form}
 use Rattle.form.specs.declared.GroupForm.the-variants.{Has}
 use Rattle.form.specs.Table.{rowOf, formOf}
 use Rattle.form.specs.Count
-use Rattle.form.specs.Count.{elementsOf, linesOf, cellsOf}
+use Rattle.form.specs.Count.{linesOf, cellsOf}
 use Rattle.form.proofs.Rounding.{rounded-none}
+use Rattle.form.proofs.Segments.{elements-none}
 use Rattle.reply.specs.Table.{Numbered, cells}
 use Rattle.reply.specs.Refusals.{refusalReply, answerReply, rows}
 use Rattle.reply.proofs.Replies.{fills, refusal-fills, at-row}
@@ -90,31 +91,31 @@ module _ (ρ : Rules) where
 module _ (ρ : Rules) where
   -- R264: a group reads the same into every table with room for what its counts, if they keep the rules on counts, let it fill
   pub read-room : (ns : List ℕ) (g : ℕ) (x : List ℕ) (room more : ℕ) (f : Form) → formOf g ≡ Has f
-      → (rulingOf ns ≡ Kept → (cellsOf f (countOf ns g) ≤ room) × (cellsOf f (countOf ns g) ≤ more)) → readGroup ρ ns g x room ≡ readGroup ρ ns g x more
+      → (rulingOf ns ≡ Kept → (cellsOf ρ f (countOf ns g) ≤ room) × (cellsOf ρ f (countOf ns g) ≤ more)) → readGroup ρ ns g x room ≡ readGroup ρ ns g x more
   unfolding readGroup readForm
   read-room ns g x room more f e h = rw e (by (rulingOf ns) refl)
     where
       by : (k : Ruling) → rulingOf ns ≡ k → readRuled ρ f ns g x room k ≡ readRuled ρ f ns g x more k
       by Kept u =
           let m = h u in
-          rw (le-leb (cellsOf f (countOf ns g)) room (m .0), le-leb (cellsOf f (countOf ns g)) more (m .1)) refl
+          rw (le-leb (cellsOf ρ f (countOf ns g)) room (m .0), le-leb (cellsOf ρ f (countOf ns g)) more (m .1)) refl
       by (Broken b) u = refl
 
 -- ---- R268: a group without elements reads with 0 and no cells, into an empty table too
 
-no-elements : (f : Form) → (linesOf f 0 ≡ 0) × (cellsOf f 0 ≡ 0)
-unfolding Count.linesOf Count.cellsOf Count.elementsOf
-no-elements f = (rounded-none (rowOf f .«per_line»), zero-mul (rowOf f .cells))
+no-elements : (ρ : Rules) (f : Form) → (linesOf ρ f 0 ≡ 0) × (cellsOf ρ f 0 ≡ 0)
+unfolding Count.linesOf Count.cellsOf
+no-elements ρ f = rw (elements-none ρ f) (rounded-none (rowOf f .«per_line»), zero-mul (rowOf f .cells))
 
 no-lines : (ρ : Rules) (f : Form) (short : Bool) (x : List ℕ) → readLines ρ f short 0 x ≡ done []
-unfolding readLines readLinesOf planOf planFrom Pieces.gather Every.upFrom
-no-lines ρ f short x = rw (no-elements f .0)
+unfolding readLines readLinesOf planOf Count.linesOf planFrom Pieces.gather Every.upFrom
+no-lines ρ f short x = rw (no-elements ρ f .0)
 
 module _ (ρ : Rules) where
   pub read-none : (ns : List ℕ) (g : ℕ) (x : List ℕ) (room : ℕ) (f : Form) → formOf g ≡ Has f → rulingOf ns ≡ Kept → countOf ns g ≡ 0 → readGroup ρ ns g x room ≡ done []
   unfolding readGroup readForm
   read-none ns g x room f e r c =
-      rw (e, r, c, no-elements f .1, le-leb 0 room (omega arith), no-lines ρ f (mayBeShort g) x, ne-eqb g 3 other)
+      rw (e, r, c, no-elements ρ f .1, le-leb 0 room (omega arith), no-lines ρ f (mayBeShort g) x, ne-eqb g 3 other)
     where
       other : g ≡ 3 → ⊥
       other t =

@@ -127,10 +127,10 @@ module _ (ρ : Rules) (f : Form) (short : Bool) (s : List ℕ) (p n : ℕ) where
           let e : j + suc k ≡ j + 1 + k = omega arith in
           rw e (omega (arith, add-mul j 1 p, one-mul p, add-mul (j + 1) k p))
 
-pub group-size : (ρ : Rules) (f : Form) (short : Bool) (count : ℕ) (s : List ℕ) (cs : List ℤ) → readLines ρ f short count s ≡ done cs → length cs ≡ cellsOf f count
+pub group-size : (ρ : Rules) (f : Form) (short : Bool) (count : ℕ) (s : List ℕ) (cs : List ℤ) → readLines ρ f short count s ≡ done cs → length cs ≡ cellsOf ρ f count
 unfolding readLines planOf Count.cellsOf Count.linesOf
 group-size ρ f short count s cs h =
     let p = rowOf f .«per_line» in
-    let n = elementsOf f count in
+    let n = elementsOf ρ f count in
     let m : min n ((0 + roundedUp n p) * p) - 0 * p ≡ n = rw (zero-add (roundedUp n p), zero-mul p) (omega (arith, lines-enough n p (row-fits f .some))) in
     lines-size ρ f short s p n 0 (roundedUp n p) 0 cs (rw (drop-none s) h) ∙ rw m

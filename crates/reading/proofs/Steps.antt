@@ -58,16 +58,16 @@ clean-cells g (done cs) e = by (eqb g 3) (datedOf (map sizeOf cs)) e
 clean-cells g (bad r) e = refl
 
 module _ (ρ : Rules) (f : Form) (g count : ℕ) (x : List ℕ) (old : List ℤ) where
-  pub form-none : length old < cellsOf f count → Answers (readForm ρ f g count x (length old)) old (Refused NoRoom) old
+  pub form-none : length old < cellsOf ρ f count → Answers (readForm ρ f g count x (length old)) old (Refused NoRoom) old
   unfolding readForm
   form-none h =
-      let e : readForm ρ f g count x (length old) ≡ bad NoRoom = rw (lt-leb (cellsOf f count) (length old) h) in
+      let e : readForm ρ f g count x (length old) ≡ bad NoRoom = rw (lt-leb (cellsOf ρ f count) (length old) h) in
       refuses old e
 
-  module _ (room : cellsOf f count ≤ length old) where
+  module _ (room : cellsOf ρ f count ≤ length old) where
     roomy : readForm ρ f g count x (length old) ≡ dated g (readLines ρ f (mayBeShort g) count x)
     unfolding readForm
-    roomy = rw (le-leb (cellsOf f count) (length old) room)
+    roomy = rw (le-leb (cellsOf ρ f count) (length old) room)
 
     pub form-bad : (r : Refusal) → verdictOf (dated g (readLines ρ f (mayBeShort g) count x)) ≡ C.Refused r → Answers (readForm ρ f g count x (length old)) old (Refused r) old
     form-bad r e = refuses old (roomy ∙ bad-is (dated g (readLines ρ f (mayBeShort g) count x)) r e)
@@ -76,11 +76,11 @@ module _ (ρ : Rules) (f : Form) (g count : ℕ) (x : List ℕ) (old : List ℤ)
       pub lines-clean : verdictOf (readLines ρ f (mayBeShort g) count x) ≡ C.Right
       lines-clean = ap verdictOf (sym (clean-cells g (readLines ρ f (mayBeShort g) count x) e)) ∙ e
 
-      pub form-done : {new : List ℤ} → new ≡ over 0 (cellsGot (readLines ρ f (mayBeShort g) count x)) old → Answers (readForm ρ f g count x (length old)) old (Done (cellsOf f count)) new
+      pub form-done : {new : List ℤ} → new ≡ over 0 (cellsGot (readLines ρ f (mayBeShort g) count x)) old → Answers (readForm ρ f g count x (length old)) old (Done (cellsOf ρ f count)) new
       form-done {new = new} n =
           let r = clean-read (readLines ρ f (mayBeShort g) count x) lines-clean in
           let all : readForm ρ f g count x (length old) ≡ done (r .cells) = roomy ∙ clean-cells g (readLines ρ f (mayBeShort g) count x) e ∙ r .is in
-          subst (λ y. Answers y old (Done (cellsOf f count)) new) (sym all) (ap Done (sym (group-size ρ f (mayBeShort g) count x (r .cells) (r .is))), n ∙ ap (λ y. over 0 (cellsGot y) old) (r .is))
+          subst (λ y. Answers y old (Done (cellsOf ρ f count)) new) (sym all) (ap Done (sym (group-size ρ f (mayBeShort g) count x (r .cells) (r .is))), n ∙ ap (λ y. over 0 (cellsGot y) old) (r .is))
 
 -- R123: group 3 has room for a date
 pub kept-letters : (ns : List ℕ) → rulingOf ns ≡ Kept → 19 ≤ countOf ns 3

@@ -138,7 +138,7 @@ pub record OnLine (ρ : Rules) (f : Form) (short : Bool) (count : ℕ) (s : List
 
 module _ (ρ : Rules) {f : Form} {short : Bool} {count : ℕ} {s : List ℕ} (o : OnLine ρ f short count s) where
   abbrev pub l : Line
-  l = lineAt (rowOf f .«per_line») (elementsOf f count) (o .j)
+  l = lineAt (rowOf f .«per_line») (elementsOf ρ f count) (o .j)
 
   columns : o .k * o .width ≡ columnsOf f l
   columns = columns-here ρ f count s (o .state .walk) (o .k) (o .at + reach (drop (o .at) s) 1) (o .elements) refl

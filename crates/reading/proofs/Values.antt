@@ -65,37 +65,37 @@ module _ (f : Form) (l : Line) (text : List ℕ) where
 -- the lines of a group
 module _ (ρ : Rules) (f : Form) (short : Bool) (count : ℕ) (x : List ℕ) where
   abbrev pub lineRead : ℕ → Cells
-  lineRead j = readLine ρ f short (planned f count j) (lineOf x j)
+  lineRead j = readLine ρ f short (planned ρ f count j) (lineOf x j)
 
   abbrev pub linesFrom : ℕ → Cells
-  linesFrom j = readLinesOf ρ f short (planFrom (rowOf f .«per_line») (elementsOf f count) j (linesOf f count - j)) (behind j x)
+  linesFrom j = readLinesOf ρ f short (planFrom (rowOf f .«per_line») (elementsOf ρ f count) j (linesOf ρ f count - j)) (behind j x)
 
-  pub lines-pieces : InPieces (linesOf f count) lineRead linesFrom
+  pub lines-pieces : InPieces (linesOf ρ f count) lineRead linesFrom
   lines-pieces = record { more = more; none = none }
     where
       p : ℕ
       p = rowOf f .«per_line»
 
       n : ℕ
-      n = elementsOf f count
+      n = elementsOf ρ f count
 
-      more : (j : ℕ) → j < linesOf f count → linesFrom j ≡ both (lineRead j) (linesFrom (suc j))
+      more : (j : ℕ) → j < linesOf ρ f count → linesFrom j ≡ both (lineRead j) (linesFrom (suc j))
       more j h =
           let at = reach x j in
           let end = at + reach (drop at x) 1 in
-          let m : linesOf f count - j ≡ suc (linesOf f count - suc j) = omega arith in
+          let m : linesOf ρ f count - j ≡ suc (linesOf ρ f count - suc j) = omega arith in
           let c : end - at ≡ reach (drop at x) 1 = omega arith in
           let e : end ≡ reach x (suc j) = sym (reach-add x j 1) ∙ ap (reach x) (add-one j) in
-          rw m (lines-more ρ f short x p n j (linesOf f count - suc j) at end refl ∙ rw (c, e, add-one j) refl)
+          rw m (lines-more ρ f short x p n j (linesOf ρ f count - suc j) at end refl ∙ rw (c, e, add-one j) refl)
 
-      none : linesFrom (linesOf f count) ≡ done []
+      none : linesFrom (linesOf ρ f count) ≡ done []
       none =
-          let m : linesOf f count - linesOf f count ≡ 0 = omega arith in
-          rw m (lines-none ρ f short x p n (linesOf f count) (reach x (linesOf f count)))
+          let m : linesOf ρ f count - linesOf ρ f count ≡ 0 = omega arith in
+          rw m (lines-none ρ f short x p n (linesOf ρ f count) (reach x (linesOf ρ f count)))
 
   pub lines-start : linesFrom 0 ≡ readLines ρ f short count x
-  unfolding readLines planOf
-  lines-start = rw (reach-zero x, drop-none x, sub-zero (linesOf f count)) refl
+  unfolding readLines planOf Count.linesOf
+  lines-start = rw (reach-zero x, drop-none x, sub-zero (linesOf ρ f count)) refl
 
 -- ---- a line that was read
 
@@ -107,11 +107,11 @@ module _ (ρ : Rules) (f : Form) (g : ℕ) (count : ℕ) (x : List ℕ) where
   pub record ReadLine (j : ℕ) (cs : List ℤ) : Type 0 where
     pub content : List ℕ
     pub line : RightLine ρ f g count x j content
-    pub each : (k : ℕ) → k < planned f count j .many → ReadsAs f (fieldIn f count j content k) (part (k * rowOf f .cells) (suc k * rowOf f .cells) cs)
+    pub each : (k : ℕ) → k < planned ρ f count j .many → ReadsAs f (fieldIn ρ f count j content k) (part (k * rowOf f .cells) (suc k * rowOf f .cells) cs)
 
   pub line-read : (j : ℕ) (cs : List ℤ) → lineRead ρ f short count x j ≡ done cs → ReadLine j cs
   line-read j cs e =
-      let l = planned f count j in
+      let l = planned ρ f count j in
       let y = lineOf x j in
       let d = line-done ρ f short l y cs e in
       let t = part-zero (d .bytes) y in
@@ -121,7 +121,7 @@ module _ (ρ : Rules) (f : Form) (g : ℕ) (count : ℕ) (x : List ℕ) where
       record {
         content = s;
         line = record { content = is-content ρ y (d .bytes) (d .content) .0; right = right-plain g (columnsOf f l) s .0 (ap (isRight short (columnsOf f l)) (sym t) ∙ d .right) };
-        each = λ k h. field-done f (l .number) (l .first + k) (fieldIn f count j s k) (part (k * rowOf f .cells) (suc k * rowOf f .cells) cs)
+        each = λ k h. field-done f (l .number) (l .first + k) (fieldIn ρ f count j s k) (part (k * rowOf f .cells) (suc k * rowOf f .cells) cs)
             (piece-done (fields-pieces f l text) (fields-sized f l text) cs fields k h);
       }
 
@@ -131,22 +131,22 @@ module _ (ρ : Rules) (f : Form) (g : ℕ) (count : ℕ) (x : List ℕ) where
   p = rowOf f .«per_line»
 
   abbrev n : ℕ
-  n = elementsOf f count
+  n = elementsOf ρ f count
 
   -- where the cells of line j begin
   abbrev begins : ℕ → ℕ
   begins j = min n (j * p) * rowOf f .cells
 
-  line-inside : (j : ℕ) → j * p < n → j < linesOf f count
+  line-inside : (j : ℕ) → j * p < n → j < linesOf ρ f count
   unfolding Count.linesOf
   line-inside j h =
       ⊎-elim
-      (λ (l : linesOf f count ≤ j). absurd (omega (arith, mul-le-mul-right p l, lines-enough n p (row-fits f .some))))
+      (λ (l : linesOf ρ f count ≤ j). absurd (omega (arith, mul-le-mul-right p l, lines-enough n p (row-fits f .some))))
       (λ l. l)
-      (le-or-lt (linesOf f count) j)
+      (le-or-lt (linesOf ρ f count) j)
 
   module _ (cs : List ℤ) (e : readLines ρ f short count x ≡ done cs) where
-    pub line-cells : (j : ℕ) → j < linesOf f count → lineRead ρ f short count x j ≡ done (part (begins j) (begins (suc j)) cs)
+    pub line-cells : (j : ℕ) → j < linesOf ρ f count → lineRead ρ f short count x j ≡ done (part (begins j) (begins (suc j)) cs)
     line-cells j h =
         piece-done (lines-pieces ρ f short count x) record { begin = first; size = size } cs (lines-start ρ f short count x ∙ e) j h
       where
@@ -155,10 +155,10 @@ module _ (ρ : Rules) (f : Form) (g : ℕ) (count : ℕ) (x : List ℕ) where
             let z : min n (0 * p) ≡ 0 = rw (zero-mul p) (omega arith) in
             rw z (zero-mul (rowOf f .cells))
 
-        size : (i : ℕ) → i < linesOf f count → (ds : List ℤ) → lineRead ρ f short count x i ≡ done ds → begins i + length ds ≡ begins (suc i)
+        size : (i : ℕ) → i < linesOf ρ f count → (ds : List ℤ) → lineRead ρ f short count x i ≡ done ds → begins i + length ds ≡ begins (suc i)
         size i l ds u =
             let m : min n (i * p) + min p (n - i * p) ≡ min n (suc i * p) = omega (arith, suc-mul i p) in
-            omega (arith, line-size ρ f short (planned f count i) (lineOf x i) ds u, add-mul (min n (i * p)) (min p (n - i * p)) (rowOf f .cells), ap (λ k. k * rowOf f .cells) m)
+            omega (arith, line-size ρ f short (planned ρ f count i) (lineOf x i) ds u, add-mul (min n (i * p)) (min p (n - i * p)) (rowOf f .cells), ap (λ k. k * rowOf f .cells) m)
 
     stands : (j k : ℕ) → k < p → j * p + k < n → Stands ρ f g count x cs (j * p + k) j k
     stands j k h l =
@@ -173,8 +173,8 @@ module _ (ρ : Rules) (f : Form) (g : ℕ) (count : ℕ) (x : List ℕ) where
         record {
           content = r .content;
           line = r .line;
-          reads = lawful f .reads-is (fieldIn f count j (r .content) k) (part ((j * p + k) * c) ((j * p + k) * c + c) cs)
-              (subst (ReadsAs f (fieldIn f count j (r .content) k)) (part-part (begins j) (begins (suc j)) (k * c) (suc k * c) cs within ∙ rw (from, to) refl) (r .each k (omega arith)));
+          reads = lawful f .reads-is (fieldIn ρ f count j (r .content) k) (part ((j * p + k) * c) ((j * p + k) * c + c) cs)
+              (subst (ReadsAs f (fieldIn ρ f count j (r .content) k)) (part-part (begins j) (begins (suc j)) (k * c) (suc k * c) cs within ∙ rw (from, to) refl) (r .each k (omega arith)));
         }
 
     -- what was read is the group's values
@@ -197,6 +197,6 @@ module _ (ρ : Rules) (f : Form) (g : ℕ) (count : ℕ) (x : List ℕ) where
           let a = values-divided cs u i h in
           let b = values-divided ds v i h in
           let c : a .content ≡ b .content = content-one ρ (lineOf x (i / p)) (a .content) (b .content) (a .line .content) (b .line .content) in
-          let d = lawful f .is-reads (fieldIn f count (i / p) (a .content) (i % p)) (part (i * rowOf f .cells) (i * rowOf f .cells + rowOf f .cells) cs) (a .reads) in
-          let o = lawful f .is-reads (fieldIn f count (i / p) (b .content) (i % p)) (part (i * rowOf f .cells) (i * rowOf f .cells + rowOf f .cells) ds) (b .reads) in
-          sym (d .cells) ∙ ap (λ s. valueCells (fieldIn f count (i / p) s (i % p)) (fieldOf f (fieldIn f count (i / p) s (i % p)))) c ∙ o .cells
+          let d = lawful f .is-reads (fieldIn ρ f count (i / p) (a .content) (i % p)) (part (i * rowOf f .cells) (i * rowOf f .cells + rowOf f .cells) cs) (a .reads) in
+          let o = lawful f .is-reads (fieldIn ρ f count (i / p) (b .content) (i % p)) (part (i * rowOf f .cells) (i * rowOf f .cells + rowOf f .cells) ds) (b .reads) in
+          sym (d .cells) ∙ ap (λ s. valueCells (fieldIn ρ f count (i / p) s (i % p)) (fieldOf f (fieldIn ρ f count (i / p) s (i % p)))) c ∙ o .cells

@@ -22,11 +22,11 @@ use Rattle.reply.specs.declared.Refusal.the-variants.{NoSuchNumber, BrokenRule,
 use Rattle.reading.specs.Read.{Cells}
 use Rattle.reading.specs.Values.{planned, fieldIn, RightLine, Values}
 
--- the field with k fields before it, in line j of content s, is one of the form
-abbrev pub FieldReads : Form → ℕ → ℕ → List ℕ → ℕ → Type 0
-FieldReads f count j s k = SomeField f (fieldIn f count j s k)
-
 module _ (ρ : Rules) where
+  -- the field with k fields before it, in line j of content s, is one of the form
+  abbrev pub FieldReads : Form → ℕ → ℕ → List ℕ → ℕ → Type 0
+  FieldReads f count j s k = SomeField f (fieldIn ρ f count j s k)
+
   -- ---- R262: the lines, 8 and 9. R231: numbers are from 1: the line with j before it is number j + 1, and Plan gives its first element
 
   module _ (f : Form) (g : ℕ) (count : ℕ) (x : List ℕ) where
@@ -34,14 +34,14 @@ module _ (ρ : Rules) where
     pub record CleanLine (j : ℕ) : Type 0 where
       pub content : List ℕ
       pub line : RightLine ρ f g count x j content
-      pub fields : (k : ℕ) → k < planned f count j .many → FieldReads f count j content k
+      pub fields : (k : ℕ) → k < planned ρ f count j .many → FieldReads f count j content k
 
     abbrev pub AllClean : Type 0
-    AllClean = (j : ℕ) → j < linesOf f count → CleanLine j
+    AllClean = (j : ℕ) → j < linesOf ρ f count → CleanLine j
 
     -- R263: the reading comes to line j: no line before it is bad
     pub record ComesTo (j : ℕ) : Type 0 where
-      pub inside : j < linesOf f count
+      pub inside : j < linesOf ρ f count
       pub earlier : (i : ℕ) → i < j → CleanLine i
 
     -- R208: the line is wrong: no content makes it right (R66)
@@ -49,7 +49,7 @@ module _ (ρ : Rules) where
       pub j : ℕ
       pub comes : ComesTo j
       pub wrong : (s : List ℕ) → RightLine ρ f g count x j s → ⊥
-      pub number : l ≡ planned f count j .number
+      pub number : l ≡ planned ρ f count j .number
 
     -- R209: the first field of its line that is none of the form, in a line that is right
     pub record WrongField (l e : ℕ) : Type 0 where
@@ -58,11 +58,11 @@ module _ (ρ : Rules) where
       pub comes : ComesTo j
       pub content : List ℕ
       pub line : RightLine ρ f g count x j content
-      pub inside : k < planned f count j .many
+      pub inside : k < planned ρ f count j .many
       pub earlier : (i : ℕ) → i < k → FieldReads f count j content i
       pub misformed : FieldReads f count j content k → ⊥
-      pub number : l ≡ planned f count j .number
-      pub element : e ≡ planned f count j .first + k
+      pub number : l ≡ planned ρ f count j .number
+      pub element : e ≡ planned ρ f count j .first + k
 
   -- ---- the group
 
@@ -82,12 +82,12 @@ module _ (ρ : Rules) where
     pub record TableShort : Type 0 where
       pub f : Form
       pub ruled : Ruled f
-      pub few : room < cellsOf f (countOf ns g)
+      pub few : room < cellsOf ρ f (countOf ns g)
 
     -- nor 11
     pub record Roomy (f : Form) : Type 0 where
       pub ruled : Ruled f
-      pub enough : cellsOf f (countOf ns g) ≤ room
+      pub enough : cellsOf ρ f (countOf ns g) ≤ room
 
     -- R208 and R209
     pub record LineDue (l : ℕ) : Type 0 where

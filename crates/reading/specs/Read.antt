@@ -77,7 +77,7 @@ module _ (ρ : Rules) where
   readLinesOf f short ls x = gather (λ (l : Line) s. reach s 1) (readLine f short) ls x
 
   unfoldable pub readLines : Form → Bool → ℕ → List ℕ → Cells
-  readLines f short count x = readLinesOf f short (planOf f count) x
+  readLines f short count x = readLinesOf f short (planOf ρ f count) x
 
 -- R210, R265: the date, of group 3 alone, once its lines and fields are right
 abbrev pub byDate : List ℤ → Dated → Cells
@@ -91,7 +91,7 @@ dated g (bad r) = bad r
 module _ (ρ : Rules) where
   -- R211, R264: 11 before any line is looked at; then the lines, then the date
   unfoldable pub readForm : Form → ℕ → ℕ → List ℕ → ℕ → Cells
-  readForm f g count x room = cond (leb (cellsOf f count) room) (dated g (readLines ρ f (mayBeShort g) count x)) (bad NoRoom)
+  readForm f g count x room = cond (leb (cellsOf ρ f count) room) (dated g (readLines ρ f (mayBeShort g) count x)) (bad NoRoom)
 
   -- R207, R261: counts that break a rule are 7 for every group
   abbrev pub readRuled : Form → List ℕ → ℕ → List ℕ → ℕ → Ruling → Cells

@@ -22,13 +22,14 @@ use Rattle.reading.specs.Read.{columnsOf}
 abbrev pub lineOf : List ℕ → ℕ → List ℕ
 lineOf x j = lines 1 (behind j x)
 
--- R60: the elements that stand in it
-abbrev pub planned : Form → ℕ → ℕ → Line
-planned f count j = lineAt (rowOf f .«per_line») (elementsOf f count) j
+module _ (ρ : Rules) where
+  -- R60: the elements that stand in it
+  abbrev pub planned : Form → ℕ → ℕ → Line
+  planned f count j = lineAt (rowOf f .«per_line») (elementsOf ρ f count) j
 
--- R61, R65: the field with k fields before it, in line j of content s: its columns of the content filled with blanks
-abbrev pub fieldIn : Form → ℕ → ℕ → List ℕ → ℕ → List ℕ
-fieldIn f count j s k = take (rowOf f .width) (drop (k * rowOf f .width) (filledTo (columnsOf f (planned f count j)) s))
+  -- R61, R65: the field with k fields before it, in line j of content s: its columns of the content filled with blanks
+  abbrev pub fieldIn : Form → ℕ → ℕ → List ℕ → ℕ → List ℕ
+  fieldIn f count j s k = take (rowOf f .width) (drop (k * rowOf f .width) (filledTo (columnsOf f (planned f count j)) s))
 
 -- R62 to R64: the content has the columns of its fields, unless lines of the group may be short; it has no more than 120 bytes, and blanks
 -- alone behind the fields: what isRight tests (proofs/Blanks.antt)
@@ -42,15 +43,15 @@ module _ (ρ : Rules) (f : Form) (g : ℕ) (count : ℕ) (x : List ℕ) where
   -- R66: line j is right, so not 8: it is the content s and a line end (R9), and s is right for its fields
   pub record RightLine (j : ℕ) (s : List ℕ) : Type 0 where
     pub content : HasContent ρ (lineOf x j) s
-    pub right : RightContent g (columnsOf f (planned f count j)) s
+    pub right : RightContent g (columnsOf f (planned ρ f count j)) s
 
   -- R45, R46: element i stands in line j behind k fields; its field has (field's Grammar) the cells from i times the form's cells on
   pub record Stands (cs : List ℤ) (i j k : ℕ) : Type 0 where
     pub content : List ℕ
     pub line : RightLine j content
-    pub reads : IsField f (fieldIn f count j content k) (part (i * rowOf f .cells) (i * rowOf f .cells + rowOf f .cells) cs)
+    pub reads : IsField f (fieldIn ρ f count j content k) (part (i * rowOf f .cells) (i * rowOf f .cells + rowOf f .cells) cs)
 
   -- the cells of the group: of each element, and no others
   pub record Values (cs : List ℤ) : Type 0 where
-    pub size : length cs ≡ cellsOf f count
-    pub each : (j k : ℕ) → k < rowOf f .«per_line» → j * rowOf f .«per_line» + k < elementsOf f count → Stands cs (j * rowOf f .«per_line» + k) j k
+    pub size : length cs ≡ cellsOf ρ f count
+    pub each : (j k : ℕ) → k < rowOf f .«per_line» → j * rowOf f .«per_line» + k < elementsOf ρ f count → Stands cs (j * rowOf f .«per_line» + k) j k

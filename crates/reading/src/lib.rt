@@ -175,8 +175,8 @@ fn check_lines(rules: rules::Rules, form: Form, short: bool, count: u16, lines: 
     let row = form::row_of(form);
     let width = row.width;
     let per_line = row.per_line;
-    let many = form::lines(form, count);
-    let mut left = form::elements(form, count);
+    let many = form::lines(rules, form, count);
+    let mut left = form::elements(rules, form, count);
     let mut verdict = Checked::Right;
     let mut at: usize = 0;
     let mut element: usize = 1;
@@ -223,7 +223,7 @@ fn check_date(rules: rules::Rules, count: u16, lines: &[u8]) -> Checked
     requires clean { ⌜ verdictOf (readLines rules Form.A1 Bool.false count (now lines)) ≡ Checked.Right ⌝ }
     ensures { λ r. ⌜ r ≡ verdictOf (dated 3 (readLines rules Form.A1 Bool.false count (now (lines .entry)))) ⌝ }
 {
-    let n = form::elements(Form::A1, count);
+    let n = form::elements(rules, Form::A1, count);
     let row = form::row_of(Form::A1);
     let k = base::lesser(row.per_line, n);
     match date::Date::new(&lines[0..k]) {
@@ -343,7 +343,7 @@ fn fill_lines(
 )
     requires letters { ⌜ HoldsLetters form short ⌝ }
     requires clean { ⌜ verdictOf (readLines rules form short count (now lines)) ≡ Checked.Right ⌝ }
-    requires room { ⌜ cellsOf form count ≤ length (now table) ⌝ }
+    requires room { ⌜ cellsOf rules form count ≤ length (now table) ⌝ }
     ensures { λ _. ⌜ now (table .exit) ≡
         over 0 (cellsGot (readLines rules form short count (now (lines .entry)))) (now (table .entry)) ⌝ }
 {
@@ -351,8 +351,8 @@ fn fill_lines(
     let width = row.width;
     let per_line = row.per_line;
     let cells = row.cells;
-    let many = form::lines(form, count);
-    let mut left = form::elements(form, count);
+    let many = form::lines(rules, form, count);
+    let mut left = form::elements(rules, form, count);
     let mut at: usize = 0;
     let mut cell: usize = 0;
     let mut j: usize = 0;
@@ -399,7 +399,7 @@ fn read_form(
         tableBy (readForm rules form group count (now (lines .entry)) (length (now (table .entry))))
         (now (table .entry)) ⌝ }
 {
-    let cells = form::cells(form, count);
+    let cells = form::cells(rules, form, count);
     if table.len() < cells {
         return Answer::Refused(Refusal::NoRoom);
     }

@@ -34,7 +34,7 @@ fn main() {
     if !asked.known {
         return;
     }
-    let rules = rules::choose(asked.strict);
+    let rules = rules::choose(asked.strict, asked.entries);
     let mut space = [0u8; 65537];
     let n = io::read_full(libc::STDIN_FILENO, &mut space);
     let mut table = [0i64; 8192];

@@ -36,16 +36,16 @@ module _ (ρ : Rules) (s : List ℕ) (p : ℕ) (t : List ℕ) (q : ℕ) (h : Ali
   same-counts = alike-counts ρ s p t q h
 
   same-reads : groupRead ρ s p ≡ groupRead ρ t q
-  same-reads = fun-ext (λ g. alike-read ρ s p t q h g (cellsIn (countsAt ρ s p) g) ∙ ap (λ ns. readAt ρ t q g (cellsIn ns g)) same-counts)
+  same-reads = fun-ext (λ g. alike-read ρ s p t q h g (cellsIn ρ (countsAt ρ s p) g) ∙ ap (λ ns. readAt ρ t q g (cellsIn ρ ns g)) same-counts)
 
   -- the canonical text
   pub alike-text : textAt ρ s p ≡ textAt ρ t q
-  alike-text = ap₂ (λ ns (read : ℕ → Cells). recordText ns (cellsInTurn read (upFrom 1 60))) same-counts same-reads
+  alike-text = ap₂ (λ ns (read : ℕ → Cells). recordText ρ ns (cellsInTurn read (upFrom 1 60))) same-counts same-reads
 
   module _ (cells room : ℕ) where
     turned : (ns : List ℕ) (n m : ℕ) (c : Bool) (u : Turn) → AlikeFrom ρ s n t m
-        → SameRewriting ρ s t (cond c (rewrittenAs ns n u) (Refused NoRoom)) (cond c (rewrittenAs ns m u) (Refused NoRoom))
-    turned ns n m true (done cs) f = both-rewritten (recordBytes ns) n m f
+        → SameRewriting ρ s t (cond c (rewrittenAs ρ ns n u) (Refused NoRoom)) (cond c (rewrittenAs ρ ns m u) (Refused NoRoom))
+    turned ns n m true (done cs) f = both-rewritten (recordBytes ρ ns) n m f
     turned ns n m true (bad u) f = both-unread (u .0) (u .1)
     turned ns n m false u f = both-stopped NoRoom
 
@@ -57,7 +57,7 @@ module _ (ρ : Rules) (s : List ℕ) (p : ℕ) (t : List ℕ) (q : ℕ) (h : Ali
     alike-rewriting = by (placingOf ρ s p) (placingOf ρ t q) (alike-placing ρ s p t q h)
       where
         by : (a b : Placing) → SamePlacing ρ s t a b → SameRewriting ρ s t (placedSo s p a) (placedSo t q b)
-        by a b (both-placed n m f) = rw (same-counts, same-reads) (turned (countsAt ρ t q) n m (hasRoom (countsAt ρ t q) cells room) (allInTurn ρ t q) f)
+        by a b (both-placed n m f) = rw (same-counts, same-reads) (turned (countsAt ρ t q) n m (hasRoom ρ (countsAt ρ t q) cells room) (allInTurn ρ t q) f)
         by a b (both-broken g n m f) = both-stopped (BrokenRule g)
         by a b (both-refused r) = both-stopped r
 

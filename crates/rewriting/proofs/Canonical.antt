@@ -41,42 +41,42 @@ use Rattle.rewriting.proofs.Whole.{cellsOfGroup, whole-read, whole-join
 
 -- ---- a right record, wherever it stands, is rewritten as itself
 
-module _ (ρ : Rules) {x : List ℕ} (r : RightRecord x) (a b : List ℕ) where
+module _ (ρ : Rules) {x : List ℕ} (r : RightRecord ρ x) (a b : List ℕ) where
   abbrev here : List ℕ
   here = a ++ (x ++ b)
 
   -- it reads back
   pub right-back : ReadsBack ρ (r .ns) (r .cs) (length x) here (length a)
   right-back = canonical-back ρ (r .canonical) (release-given (r .ns) Five (r .release))
-      (kept-ruling (r .ns) (r .rules)) record { date = r .date; right = Letters.first-due (dateLetters (r .ns) (r .cs)) (Right (r .date)) .1 (r .dated) } a b
+      (kept-ruling (r .ns) (r .rules)) record { date = r .date; right = Letters.first-due (dateLetters ρ (r .ns) (r .cs)) (Right (r .date)) .1 (r .dated) } a b
 
-  reads : (g : ℕ) → 1 ≤ g → g ≤ 60 → groupRead ρ here (length a) g ≡ done (groupCells (r .ns) (r .cs) g)
-  reads g low high = right-back .groups g (cellsIn (countsAt ρ here (length a)) g) low high (rw (right-back .counts) (omega arith))
+  reads : (g : ℕ) → 1 ≤ g → g ≤ 60 → groupRead ρ here (length a) g ≡ done (groupCells ρ (r .ns) (r .cs) g)
+  reads g low high = right-back .groups g (cellsIn ρ (countsAt ρ here (length a)) g) low high (rw (right-back .counts) (omega arith))
 
   all : All ≡ groupsOf (allInTurn ρ here (length a))
-  all = sym (ap groupsOf (turn-all (groupRead ρ here (length a)) (λ g low high. record { cells = groupCells (r .ns) (r .cs) g; is = reads g low high }) .is))
+  all = sym (ap groupsOf (turn-all (groupRead ρ here (length a)) (λ g low high. record { cells = groupCells ρ (r .ns) (r .cs) g; is = reads g low high }) .is))
 
-  stands : CanonicalRecord (countsAt ρ here (length a)) (part (length a) (length a + length x) here) (r .cs)
+  stands : CanonicalRecord ρ (countsAt ρ here (length a)) (part (length a) (length a + length x) here) (r .cs)
   stands = rw (right-back .counts, part-middle a x b) (r .canonical)
 
   read : ReadWhole ρ here (length a) (length a + length x) (cellsOfGroup (groupRead ρ here (length a)))
   read = whole-read ρ here (length a) (length a + length x) (right-back .placed) all
 
   pub right-text : textAt ρ here (length a) ≡ x
-  right-text = ap (recordText (countsAt ρ here (length a))) (whole-joined ρ here (length a) (length a + length x) (right-back .placed) all) ∙ written-again ρ read stands ∙ part-middle a x b
+  right-text = ap (recordText ρ (countsAt ρ here (length a))) (whole-joined ρ here (length a) (length a + length x) (right-back .placed) all) ∙ written-again ρ read stands ∙ part-middle a x b
 
   pub right-rewritten : length x ≤ 8192 → programRewriting ρ here (length a) ≡ Done (length x) (length a + length x)
   right-rewritten l =
-      let n : recordBytes (countsAt ρ here (length a)) ≡ length x = again-bytes ρ read stands ∙ omega arith in
+      let n : recordBytes ρ (countsAt ρ here (length a)) ≡ length x = again-bytes ρ read stands ∙ omega arith in
       first-due ρ here (length a) 8192 8192 (Done (length x) (length a + length x)) .1 record {
-        roomy = record { placed = right-back .placed; text-fits = omega (arith, n); cells-fit = omega (arith, n, record-cells (countsAt ρ here (length a))) };
-        groups = λ g low high. record { cells = groupCells (r .ns) (r .cs) g; reads = reads g low high };
+        roomy = record { placed = right-back .placed; text-fits = omega (arith, n); cells-fit = omega (arith, n, record-cells ρ (countsAt ρ here (length a))) };
+        groups = λ g low high. record { cells = groupCells ρ (r .ns) (r .cs) g; reads = reads g low high };
         written = n;
       }
 
 -- ---- a text of them
 
-rewritten-same : (ρ : Rules) (a : List ℕ) {y : List ℕ} → CanonicalRecords y → (k : ℕ) → length y ≤ k → rewrittenFrom ρ k (a ++ y) (length a) ≡ y
+rewritten-same : (ρ : Rules) (a : List ℕ) {y : List ℕ} → CanonicalRecords ρ y → (k : ℕ) → length y ≤ k → rewrittenFrom ρ k (a ++ y) (length a) ≡ y
 rewritten-same ρ a none k h = rewritten-stop ρ (a ++ []) k (length a) (end-never ρ (a ++ []) (length a) (omega (arith, ap length (append-nil a))))
 rewritten-same ρ a (more x {y} r l ys) k h =
     let e = right-rewritten ρ r a y l in
@@ -89,16 +89,16 @@ rewritten-same ρ a (more x {y} r l ys) k h =
     ∙ ap₂ _++_ (right-text ρ r a y) rest
 
 -- R348: such a text is printed as it stands
-pub canonical-printed : (ρ : Rules) (s : List ℕ) → CanonicalRecords s → length s ≤ 65536 → printed ρ s ≡ s
+pub canonical-printed : (ρ : Rules) (s : List ℕ) → CanonicalRecords ρ s → length s ≤ 65536 → printed ρ s ≡ s
 unfolding printed rewritten
 canonical-printed ρ s c l = rw (le-leb (length s) 65536 l) (rewritten-same ρ [] c (length s) (omega arith))
 
 -- ---- what is printed is canonical records
 
-text-right : (ρ : Rules) (s : List ℕ) (at cells room bytes next : ℕ) → rewritingOf ρ s at cells room ≡ Done bytes next → RightRecord (textAt ρ s at)
+text-right : (ρ : Rules) (s : List ℕ) (at cells room bytes next : ℕ) → rewritingOf ρ s at cells room ≡ Done bytes next → RightRecord ρ (textAt ρ s at)
 text-right ρ s at cells room bytes next e =
     let w = done-writes ρ s at cells room bytes next e in
-    let d = done-is (countsAt ρ s at) (cellsAt ρ s at) room bytes w in
+    let d = done-is ρ (countsAt ρ s at) (cellsAt ρ s at) room bytes w in
     record {
       ns = countsAt ρ s at;
       cs = cellsAt ρ s at;
@@ -106,25 +106,25 @@ text-right ρ s at cells room bytes next e =
       release = d .checked .rules .released .release;
       rules = d .checked .rules .kept;
       date = d .date;
-      dated = Letters.first-due (dateLetters (countsAt ρ s at) (cellsAt ρ s at)) (Right (d .date)) .0 (d .right);
+      dated = Letters.first-due (dateLetters ρ (countsAt ρ s at) (cellsAt ρ s at)) (Right (d .date)) .0 (d .right);
     }
 
-rewritten-canonical : (ρ : Rules) (k : ℕ) (s : List ℕ) (at : ℕ) → CanonicalRecords (rewrittenFrom ρ k s at)
+rewritten-canonical : (ρ : Rules) (k : ℕ) (s : List ℕ) (at : ℕ) → CanonicalRecords ρ (rewrittenFrom ρ k s at)
 unfolding rewrittenFrom
 rewritten-canonical ρ zero s at = none
 rewritten-canonical ρ (suc k) s at = by (programRewriting ρ s at) refl (rewritten-canonical ρ k s)
   where
-    by : (r : Rewriting) → programRewriting ρ s at ≡ r → ((p : ℕ) → CanonicalRecords (rewrittenFrom ρ k s p)) → CanonicalRecords (textThen (textAt ρ s at) (rewrittenFrom ρ k s) r)
+    by : (r : Rewriting) → programRewriting ρ s at ≡ r → ((p : ℕ) → CanonicalRecords ρ (rewrittenFrom ρ k s p)) → CanonicalRecords ρ (textThen (textAt ρ s at) (rewrittenFrom ρ k s) r)
     by (Done bytes next) e rest =
         more (textAt ρ s at) (text-right ρ s at 8192 8192 bytes next e) (omega (arith, done-text ρ s at 8192 8192 bytes next e, done-within ρ s at 8192 8192 bytes next e)) (rest next)
     by (Refused r) e rest = none
     by (GroupRefused g r) e rest = none
 
-pub printed-canonical : (ρ : Rules) (s : List ℕ) → CanonicalRecords (printed ρ s)
+pub printed-canonical : (ρ : Rules) (s : List ℕ) → CanonicalRecords ρ (printed ρ s)
 unfolding printed rewritten
 printed-canonical ρ s = by (leb (length s) 65536)
   where
-    by : (t : Bool) → CanonicalRecords (cond t (rewrittenFrom ρ (length s) s 0) [])
+    by : (t : Bool) → CanonicalRecords ρ (cond t (rewrittenFrom ρ (length s) s 0) [])
     by true = rewritten-canonical ρ (length s) s 0
     by false = none
 

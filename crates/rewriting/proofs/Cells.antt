@@ -6,6 +6,7 @@ use Prim.Native.Nat.{ℕ, _≤_}
 use native.Mathlib.Nat.{mul-le-mul-left}
 use native.Mathlib.Omega.{arith}
 use lib.Dec.{T, leb, leb→le}
+use Rattle.rules.specs.declared.Rules.{Rules}
 use Rattle.base.specs.Every.{every, upFrom}
 use Rattle.base.specs.Sum
 use Rattle.base.specs.Sum.{sum}
@@ -31,14 +32,14 @@ all-narrow = tt
 field-cells : (f : Form) → rowOf f .cells ≤ rowOf f .width
 field-cells f = leb→le (rowOf f .cells) (rowOf f .width) (each-form (λ g. leb (rowOf g .cells) (rowOf g .width)) all-narrow f)
 
-group-cells : (ns : List ℕ) (g : ℕ) → cellsIn ns g ≤ bytesIn ns g
+group-cells : (ρ : Rules) (ns : List ℕ) (g : ℕ) → cellsIn ρ ns g ≤ bytesIn ρ ns g
 unfolding Tally.cellsIn Text.bytesIn Count.cellsOf
-group-cells ns g = by (formOf g)
+group-cells ρ ns g = by (formOf g)
   where
-    by : (h : GroupForm) → cellsBy h (countOf ns g) ≤ bytesBy h (countOf ns g)
-    by (Has f) = omega (arith, mul-le-mul-left (elementsOf f (countOf ns g)) (field-cells f))
+    by : (h : GroupForm) → cellsBy ρ h (countOf ns g) ≤ bytesBy ρ h (countOf ns g)
+    by (Has f) = omega (arith, mul-le-mul-left (elementsOf ρ f (countOf ns g)) (field-cells f))
     by NoGroup = omega arith
 
-pub record-cells : (ns : List ℕ) → recordCells ns ≤ recordBytes ns
+pub record-cells : (ρ : Rules) (ns : List ℕ) → recordCells ρ ns ≤ recordBytes ρ ns
 unfolding Tally.cellTally Text.recordBytes Sum.sum
-record-cells ns = omega (arith, sum-map-le (cellsIn ns) (bytesIn ns) (group-cells ns) (upFrom 1 60))
+record-cells ρ ns = omega (arith, sum-map-le (cellsIn ρ ns) (bytesIn ρ ns) (group-cells ρ ns) (upFrom 1 60))

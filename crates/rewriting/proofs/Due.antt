@@ -89,17 +89,17 @@ module _ (ρ : Rules) (s : List ℕ) (at cells room : ℕ) where
   unfolding rewritingOf
   missing-is r e = rw e
 
-  pub roomy-is : {next : ℕ} → RoomForBoth ρ s at cells room next → rewritingOf ρ s at cells room ≡ rewrittenAs (countsAt ρ s at) next (allInTurn ρ s at)
+  pub roomy-is : {next : ℕ} → RoomForBoth ρ s at cells room next → rewritingOf ρ s at cells room ≡ rewrittenAs ρ (countsAt ρ s at) next (allInTurn ρ s at)
   unfolding rewritingOf
-  roomy-is h = rw (h .placed, le-leb (recordBytes (countsAt ρ s at)) room (h .text-fits), le-leb (recordCells (countsAt ρ s at)) cells (h .cells-fit)) refl
+  roomy-is h = rw (h .placed, le-leb (recordBytes ρ (countsAt ρ s at)) room (h .text-fits), le-leb (recordCells ρ (countsAt ρ s at)) cells (h .cells-fit)) refl
 
   pub short-is : NoRoomDue ρ s at cells room → rewritingOf ρ s at cells room ≡ Refused NoRoom
   unfolding rewritingOf
   short-is h =
       let ns = countsAt ρ s at in
-      let e : hasRoom ns cells room ≡ false =
-      ⊎-elim (λ (l : room < recordBytes ns). rw (lt-leb (recordBytes ns) room l) refl)
-      (λ (l : cells < recordCells ns). rw (lt-leb (recordCells ns) cells l) (and-false (leb (recordBytes ns) room))) (h .short) in
+      let e : hasRoom ρ ns cells room ≡ false =
+      ⊎-elim (λ (l : room < recordBytes ρ ns). rw (lt-leb (recordBytes ρ ns) room l) refl)
+      (λ (l : cells < recordCells ρ ns). rw (lt-leb (recordCells ρ ns) cells l) (and-false (leb (recordBytes ρ ns) room))) (h .short) in
       rw (h .placed, e) refl
 
   -- what is due is given
@@ -111,11 +111,11 @@ module _ (ρ : Rules) (s : List ℕ) (at cells room : ℕ) where
   due-given : (r : Rewriting) → Due ρ s at cells room r → rewritingOf ρ s at cells room ≡ r
   due-given (Done bytes next) d =
       let i = turn-all (groupRead ρ s at) (λ g low high. let x = d .groups g low high in record { cells = x .cells; is = x .reads }) in
-      roomy-is (d .roomy) ∙ ap (rewrittenAs (countsAt ρ s at) next) (i .is) ∙ ap (λ n. Done n next) (d .written)
+      roomy-is (d .roomy) ∙ ap (rewrittenAs ρ (countsAt ρ s at) next) (i .is) ∙ ap (λ n. Done n next) (d .written)
   due-given (Refused r) d = refusal-given r d
   due-given (GroupRefused g r) d =
       roomy-is (d .roomy)
-      ∙ ap (rewrittenAs (countsAt ρ s at) (d .next))
+      ∙ ap (rewrittenAs ρ (countsAt ρ s at) (d .next))
       (first-turn (groupRead ρ s at) g r record {
         low = d .low;
         high = d .high;
@@ -130,7 +130,7 @@ module _ (ρ : Rules) (s : List ℕ) (at cells room : ℕ) where
       D : Rewriting → Type 0
       D = Due ρ s at cells room
 
-      turn : (n : ℕ) → RoomForBoth ρ s at cells room n → (t : Turn) → allInTurn ρ s at ≡ t → D (rewrittenAs (countsAt ρ s at) n t)
+      turn : (n : ℕ) → RoomForBoth ρ s at cells room n → (t : Turn) → allInTurn ρ s at ≡ t → D (rewrittenAs ρ (countsAt ρ s at) n t)
       turn n h (done cs) e = record {
         roomy = h;
         groups = λ g low high. record { cells = _; reads = all-read (groupRead ρ s at) 1 60 cs e .each g low (omega arith) };
@@ -147,20 +147,21 @@ module _ (ρ : Rules) (s : List ℕ) (at cells room : ℕ) where
             told = f .told;
           }
 
-      room-by : (n : ℕ) → placingOf ρ s at ≡ P.Placed n → (a b : Bool) → leb (recordBytes (countsAt ρ s at)) room ≡ a → leb (recordCells (countsAt ρ s at)) cells ≡ b
+      room-by : (n : ℕ) → placingOf ρ s at ≡ P.Placed n → (a b : Bool) → leb (recordBytes ρ (countsAt ρ s at)) room ≡ a → leb (recordCells ρ (countsAt ρ s at)) cells ≡ b
           → D (rewritingOf ρ s at cells room)
       room-by n u true true a b =
-          let h : RoomForBoth ρ s at cells room n = record { placed = u; text-fits = leb-true (recordBytes (countsAt ρ s at)) room a; cells-fit = leb-true (recordCells (countsAt ρ s at)) cells b } in
+          let h : RoomForBoth ρ s at cells room n =
+          record { placed = u; text-fits = leb-true (recordBytes ρ (countsAt ρ s at)) room a; cells-fit = leb-true (recordCells ρ (countsAt ρ s at)) cells b } in
           subst D (sym (roomy-is h)) (turn n h (allInTurn ρ s at) refl)
       room-by n u true false a b =
-          let d : NoRoomDue ρ s at cells room = record { next = n; placed = u; short = inr (leb-false (recordCells (countsAt ρ s at)) cells b) } in
+          let d : NoRoomDue ρ s at cells room = record { next = n; placed = u; short = inr (leb-false (recordCells ρ (countsAt ρ s at)) cells b) } in
           subst D (sym (short-is d)) (no-room d)
       room-by n u false t a b =
-          let d : NoRoomDue ρ s at cells room = record { next = n; placed = u; short = inl (leb-false (recordBytes (countsAt ρ s at)) room a) } in
+          let d : NoRoomDue ρ s at cells room = record { next = n; placed = u; short = inl (leb-false (recordBytes ρ (countsAt ρ s at)) room a) } in
           subst D (sym (short-is d)) (no-room d)
 
       by : (p : Placing) → placingOf ρ s at ≡ p → D (rewritingOf ρ s at cells room)
-      by (P.Placed n) u = room-by n u (leb (recordBytes (countsAt ρ s at)) room) (leb (recordCells (countsAt ρ s at)) cells) refl refl
+      by (P.Placed n) u = room-by n u (leb (recordBytes ρ (countsAt ρ s at)) room) (leb (recordCells ρ (countsAt ρ s at)) cells) refl refl
       by (P.BrokenRule g n) u =
           subst D (sym (missing-is (BrokenRule g) (ap asChecked u))) (broken-rule g n (Placing.first-due ρ s at (P.BrokenRule g n) .0 u))
       by (P.Refused r) u = subst D (sym (missing-is r (ap asChecked u))) (unplaced r (Placing.first-due ρ s at (P.Refused r) .0 u))

@@ -1,6 +1,7 @@
--- R9: a record that the strict rule rewrites with 0 is rewritten so under each rule: as many bytes, the same next place, the same text.
+-- R9: a record that the strict rule rewrites with 0 is rewritten so under each that counts alike: as many bytes, the same next place, the same
+-- text. What is canonical for one of two such rules is so for the other.
 -- Assumes nothing.
-use mathlib.Core.Path.{_≡_, refl, sym, _∙_, ap, ap₂}
+use mathlib.Core.Path.{_≡_, refl, sym, _∙_, ap, ap₂, subst}
 use mathlib.Core.List.{List}
 use mathlib.Core.Logic.{inl}
 use Prim.Native.Nat.{ℕ, zero, suc, _+_, _<_, _≤_}
@@ -19,6 +20,11 @@ use Rattle.group.specs.Text.{readAt}
 use Rattle.group.proofs.Ends.{strict-read}
 use Rattle.writing.specs.Text.{recordText, recordBytes}
 use Rattle.count.specs.Tally.{recordCells}
+use Rattle.count.proofs.SameCounting as Counted
+use Rattle.date.specs.Due.{IsDate}
+use Rattle.writing.proofs.Ends.{canonical-record}
+use Rattle.writing.proofs.SameCounting.{record-text-same, record-bytes-same, date-letters-same}
+use Rattle.rewriting.specs.Canonical.{RightRecord, CanonicalRecords, none, more}
 use Rattle.rewriting.specs.declared.Rewriting.the-variants.{Done}
 use Rattle.rewriting.specs.Due.{RewrittenDue}
 use Rattle.rewriting.specs.Record.{groupRead, firstThen, cellsInTurn, rewritingOf, textAt}
@@ -30,7 +36,7 @@ unfolding cellsInTurn Every.upFrom
 cells-same f h a zero e = refl
 cells-same f h a (suc k) e = ap₂ firstThen (e a (omega arith) (omega arith)) (cells-same f h (suc a) k (λ g l m. e g (omega arith) (omega arith)))
 
-module _ (σ ρ : Rules) (only : σ .ends ≡ Strict) (s : List ℕ) (at cells room bytes next : ℕ) (done : rewritingOf σ s at cells room ≡ Done bytes next) where
+module _ (σ ρ : Rules) (only : σ .ends ≡ Strict) (alike : σ .counting ≡ ρ .counting) (s : List ℕ) (at cells room bytes next : ℕ) (done : rewritingOf σ s at cells room ≡ Done bytes next) where
   due : RewrittenDue σ s at cells room bytes next
   due = first-due σ s at cells room (Done bytes next) .0 done
 
@@ -38,25 +44,55 @@ module _ (σ ρ : Rules) (only : σ .ends ≡ Strict) (s : List ℕ) (at cells r
   placed = inl (ap (λ p. placingReply p .number) (due .roomy .placed))
 
   counts : countsAt ρ s at ≡ countsAt σ s at
-  counts = strict-placing σ ρ only s at placed .1
+  counts = strict-placing σ ρ only alike s at placed .1
+
+  bytes-there : recordBytes ρ (countsAt ρ s at) ≡ recordBytes σ (countsAt σ s at)
+  bytes-there = ap (recordBytes ρ) counts ∙ record-bytes-same ρ σ (sym alike) (countsAt σ s at)
+
+  cells-there : recordCells ρ (countsAt ρ s at) ≡ recordCells σ (countsAt σ s at)
+  cells-there = ap (recordCells ρ) counts ∙ Counted.record-cells-same ρ σ (sym alike) (countsAt σ s at)
 
   same : (g : ℕ) → 1 ≤ g → g ≤ 60 → groupRead ρ s at g ≡ groupRead σ s at g
   same g low high =
       let d = due .groups g low high in
-      ap (λ ns. readAt ρ s at g (cellsIn ns g)) counts ∙ strict-read σ ρ only s at g (cellsIn (countsAt σ s at) g) (d .cells) (d .reads) ∙ sym (d .reads)
+      let ns = countsAt σ s at in
+      ap (λ ms. readAt ρ s at g (cellsIn ρ ms g)) counts
+      ∙ ap (readAt ρ s at g) (Counted.cells-same ρ σ (sym alike) ns g)
+      ∙ strict-read σ ρ only alike s at g (cellsIn σ ns g) (d .cells) (d .reads)
+      ∙ sym (d .reads)
 
   pub strict-rewriting : rewritingOf ρ s at cells room ≡ Done bytes next
   strict-rewriting =
       first-due ρ s at cells room (Done bytes next) .1 record {
         roomy =
             record {
-              placed = strict-placing σ ρ only s at placed .0 ∙ due .roomy .placed;
-              text-fits = omega (arith, ap recordBytes counts, due .roomy .text-fits);
-              cells-fit = omega (arith, ap recordCells counts, due .roomy .cells-fit);
+              placed = strict-placing σ ρ only alike s at placed .0 ∙ due .roomy .placed;
+              text-fits = omega (arith, bytes-there, due .roomy .text-fits);
+              cells-fit = omega (arith, cells-there, due .roomy .cells-fit);
             };
         groups = λ g low high. let d = due .groups g low high in record { cells = d .cells; reads = same g low high ∙ d .reads };
-        written = ap recordBytes counts ∙ due .written;
+        written = bytes-there ∙ due .written;
       }
 
   pub strict-text : textAt ρ s at ≡ textAt σ s at
-  strict-text = ap₂ recordText counts (cells-same (groupRead ρ s at) (groupRead σ s at) 1 60 (λ g low high. same g low (omega arith)))
+  strict-text =
+      ap₂ (recordText ρ) counts (cells-same (groupRead ρ s at) (groupRead σ s at) 1 60 (λ g low high. same g low (omega arith)))
+      ∙ record-text-same ρ σ (sym alike) (countsAt σ s at) _
+
+-- what is canonical for one of two rules that count alike is so for the other: it has no line end that one of them refuses
+module _ (ρ σ : Rules) (alike : ρ .counting ≡ σ .counting) where
+  abbrev pub right-record-same : {x : List ℕ} → RightRecord ρ x → RightRecord σ x
+  right-record-same {x} r =
+      record {
+        ns = r .ns;
+        cs = r .cs;
+        canonical = canonical-record ρ σ alike (r .ns) x (r .cs) (r .canonical);
+        release = r .release;
+        rules = r .rules;
+        date = r .date;
+        dated = subst (λ l. IsDate l (r .date)) (date-letters-same ρ σ alike (r .ns) (r .cs)) (r .dated);
+      }
+
+  pub canonical-records-same : (s : List ℕ) → CanonicalRecords ρ s → CanonicalRecords σ s
+  canonical-records-same s none = none
+  canonical-records-same s (more x {y} r few rest) = more x (right-record-same r) few (canonical-records-same y rest)

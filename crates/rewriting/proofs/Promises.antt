@@ -63,11 +63,11 @@ refused-rewriting-keeps ρ s at (Refused r) old n = refl
 refused-rewriting-keeps ρ s at (GroupRefused g r) old n = refl
 
 -- a table with a cell for each byte of the output always serves: 11 is then given only for the text
-pub table-serves : (ρ : Rules) (s : List ℕ) (at cells room : ℕ) → room ≤ cells → NoRoomDue ρ s at cells room → room < recordBytes (countsAt ρ s at)
+pub table-serves : (ρ : Rules) (s : List ℕ) (at cells room : ℕ) → room ≤ cells → NoRoomDue ρ s at cells room → room < recordBytes ρ (countsAt ρ s at)
 table-serves ρ s at cells room l d =
     ⊎-elim
-    (λ (h : room < recordBytes (countsAt ρ s at)). h)
-    (λ (h : cells < recordCells (countsAt ρ s at)). omega (arith, record-cells (countsAt ρ s at)))
+    (λ (h : room < recordBytes ρ (countsAt ρ s at)). h)
+    (λ (h : cells < recordCells ρ (countsAt ρ s at)). omega (arith, record-cells ρ (countsAt ρ s at)))
     (d .short)
 
 -- ---- 0
@@ -82,7 +82,7 @@ module _ (ρ : Rules) (s : List ℕ) (at cells room bytes next : ℕ) (e : rewri
       sym (ap groupsOf (i .is))
 
   -- what is written is what writing gives for the counts and the cells that were read
-  pub done-writes : writingOf (countsAt ρ s at) (cellsAt ρ s at) room ≡ W.Done bytes
+  pub done-writes : writingOf ρ (countsAt ρ s at) (cellsAt ρ s at) room ≡ W.Done bytes
   done-writes = whole-written ρ s at next (d .roomy .placed) done-all room (d .roomy .text-fits) ∙ ap W.Done (d .written)
 
   -- as many bytes as the reply says, and no more than the output has
@@ -159,21 +159,21 @@ module _ (ρ : Rules) (s : List ℕ) (at cells room : ℕ) where
   -- a group of a placed record, read with room, is refused by its lines or its date alone
   unread-numbered : (next g : ℕ) (r : Refusal) → placingOf ρ s at ≡ Placed next → 1 ≤ g → g ≤ 60 → groupRead ρ s at g ≡ bad r → Numbered (rows rewritingRefusals) (refusalReply r)
   unread-numbered next g r placed low high told =
-      by r (Reading.first-due ρ ns g x (cellsIn ns g) (bad r) .0 (sym (read-located ρ s at g (cellsIn ns g) next ns (p .located-at)) ∙ told))
+      by r (Reading.first-due ρ ns g x (cellsIn ρ ns g) (bad r) .0 (sym (read-located ρ s at g (cellsIn ρ ns g) next ns (p .located-at)) ∙ told))
     where
       ns : List ℕ
       ns = countsAt ρ s at
 
       x : List ℕ
-      x = groupPart s at ns g
+      x = groupPart ρ s at ns g
 
       p : IsPlaced ρ s at next
       p = is-placed ρ s at next placed
 
-      by : (r : Refusal) → RefusedFor ρ ns g x (cellsIn ns g) r → Numbered (rows rewritingRefusals) (refusalReply r)
+      by : (r : Refusal) → RefusedFor ρ ns g x (cellsIn ρ ns g) r → Numbered (rows rewritingRefusals) (refusalReply r)
       by r (ReadingIs.no-group d) = absurd (d (low, high))
       by r (ReadingIs.broken-rule h d) = let e = sym (p .kept) ∙ broken-ruling ns (d .broken) in let z : _≡_ {A = ℕ} 0 1 = cc in absurd (omega arith)
-      by r (ReadingIs.no-room d) = absurd (omega (arith, d .few, cells-has ns g (d .f) (d .ruled .form)))
+      by r (ReadingIs.no-room d) = absurd (omega (arith, d .few, cells-has ρ ns g (d .f) (d .ruled .form)))
       by r (ReadingIs.bad-line l d) = at-row 8 (rows rewritingRefusals) (refusalReply (BadLine l)) (lit< tt) (refusal-fills (BadLine l) (omega (arith, d .line .number), tt))
       by r (ReadingIs.bad-field l e d) =
           at-row 9 (rows rewritingRefusals) (refusalReply (BadField l e)) (lit< tt) (refusal-fills (BadField l e) (omega (arith, d .field .number), (omega (arith, d .field .element), tt)))
@@ -189,7 +189,7 @@ module _ (ρ : Rules) (s : List ℕ) (at cells room : ℕ) where
 
   due-numbered : (r : Rewriting) → Due ρ s at cells room r → rewritingOf ρ s at cells room ≡ r → Numbered rewritingRows (rewritingReply r)
   due-numbered (Done n next) d e =
-      inl (fills 0 ((nextPlace, next) ∷ (textBytes, n) ∷ []) (omega (arith, done-further ρ s at cells room n next e), (omega (arith, d .written, record-some (countsAt ρ s at)), tt)))
+      inl (fills 0 ((nextPlace, next) ∷ (textBytes, n) ∷ []) (omega (arith, done-further ρ s at cells room n next e), (omega (arith, d .written, record-some ρ (countsAt ρ s at)), tt)))
   due-numbered (Refused r) d e = inr (refusal-numbered r d)
   due-numbered (GroupRefused g r) d e = inr (unread-numbered (d .next) g r (d .roomy .placed) (d .low) (d .high) (d .told))
 

@@ -44,13 +44,13 @@ module _ (ρ : Rules) (s : List ℕ) (at : ℕ) (table : List ℤ) (out : List �
   step-refused {r = r} e = (sym (missing-is ρ s at (length table) (length out) r e), refl, refl)
 
   module _ (next : ℕ) (placed : placingOf ρ s at ≡ Placed next) (ms : List ℕ) (counts : ms ≡ countsAt ρ s at) where
-    pub step-no-text : length out < recordBytes ms → Outcome ρ s at table out (Refused NoRoom) table out
+    pub step-no-text : length out < recordBytes ρ ms → Outcome ρ s at table out (Refused NoRoom) table out
     step-no-text l = (sym (short-is ρ s at (length table) (length out) record { next = next; placed = placed; short = inl (rw counts at l) }), refl, refl)
 
-    pub step-no-cells : length table < recordCells ms → Outcome ρ s at table out (Refused NoRoom) table out
+    pub step-no-cells : length table < recordCells ρ ms → Outcome ρ s at table out (Refused NoRoom) table out
     step-no-cells l = (sym (short-is ρ s at (length table) (length out) record { next = next; placed = placed; short = inr (rw counts at l) }), refl, refl)
 
-    module _ (text-fits : recordBytes ms ≤ length out) (cells-fit : recordCells ms ≤ length table) where
+    module _ (text-fits : recordBytes ρ ms ≤ length out) (cells-fit : recordCells ρ ms ≤ length table) where
       roomy : RoomForBoth ρ s at (length table) (length out) next
       roomy = record { placed = placed; text-fits = rw counts at text-fits; cells-fit = rw counts at cells-fit }
 
@@ -62,31 +62,31 @@ module _ (ρ : Rules) (s : List ℕ) (at : ℕ) (table : List ℤ) (out : List �
           → Outcome ρ s at table out (GroupRefused g r) new out
       step-unread {g} {r} a = (sym (roomy-is ρ s at (length table) (length out) roomy ∙ by (allInTurn ρ s at) (a .0)), a .1, refl)
         where
-          by : (t : Turn) → G.GroupRefused g r ≡ groupsOf t → rewrittenAs (countsAt ρ s at) next t ≡ GroupRefused g r
+          by : (t : Turn) → G.GroupRefused g r ≡ groupsOf t → rewrittenAs ρ (countsAt ρ s at) next t ≡ GroupRefused g r
           by (done cs) e = let z : _≡_ {A = ℕ} 0 1 = cc in absurd (omega arith)
           by (bad u) e = cc
 
-      module _ {new : List ℤ} (a : (G.All ≡ groupsOf (allInTurn ρ s at)) × (new ≡ over 0 (cellsAt ρ s at) table)) {cells : ℕ} (many : cells ≡ recordCells ms) where
+      module _ {new : List ℤ} (a : (G.All ≡ groupsOf (allInTurn ρ s at)) × (new ≡ over 0 (cellsAt ρ s at) table)) {cells : ℕ} (many : cells ≡ recordCells ρ ms) where
         long : length (cellsAt ρ s at) ≡ cells
-        long = whole-length ρ s at next placed (a .0) ∙ ap recordCells (sym counts) ∙ sym many
+        long = whole-length ρ s at next placed (a .0) ∙ ap (recordCells ρ) (sym counts) ∙ sym many
 
         read : part 0 cells new ≡ cellsAt ρ s at
         read = ap (part 0 cells) (a .1) ∙ front table (cellsAt ρ s at) cells long
 
         -- what writing asks for
-        pub step-writes : (cells ≤ length new) × (writingOf ms (part 0 cells new) (length out) ≡ W.Done (recordBytes ms))
+        pub step-writes : (cells ≤ length new) × (writingOf ρ ms (part 0 cells new) (length out) ≡ W.Done (recordBytes ρ ms))
         step-writes = (
           omega (arith, ap length (a .1) ∙ over-length table (cellsAt ρ s at) 0 (omega (arith, long, many)), many),
           rw (counts, read) (whole-written ρ s at next placed (a .0) (length out) (rw counts at text-fits)),
         )
 
-        pub step-done : {bytes : ℕ} {text : List ℕ} → bytes ≡ recordBytes ms → text ≡ over 0 (recordText ms (part 0 cells new)) out → Outcome ρ s at table out (Done bytes next) new text
+        pub step-done : {bytes : ℕ} {text : List ℕ} → bytes ≡ recordBytes ρ ms → text ≡ over 0 (recordText ρ ms (part 0 cells new)) out → Outcome ρ s at table out (Done bytes next) new text
         step-done {bytes} {text} b t = (
-          sym (roomy-is ρ s at (length table) (length out) roomy ∙ by (allInTurn ρ s at) (a .0) ∙ ap (λ n. Done n next) (ap recordBytes (sym counts) ∙ sym b)),
+          sym (roomy-is ρ s at (length table) (length out) roomy ∙ by (allInTurn ρ s at) (a .0) ∙ ap (λ n. Done n next) (ap (recordBytes ρ) (sym counts) ∙ sym b)),
           a .1,
-          t ∙ ap (λ x. over 0 x out) (ap (λ c. recordText ms c) read ∙ ap (λ n. recordText n (cellsAt ρ s at)) counts),
+          t ∙ ap (λ x. over 0 x out) (ap (λ c. recordText ρ ms c) read ∙ ap (λ n. recordText ρ n (cellsAt ρ s at)) counts),
         )
           where
-            by : (t : Turn) → G.All ≡ groupsOf t → rewrittenAs (countsAt ρ s at) next t ≡ Done (recordBytes (countsAt ρ s at)) next
+            by : (t : Turn) → G.All ≡ groupsOf t → rewrittenAs ρ (countsAt ρ s at) next t ≡ Done (recordBytes ρ (countsAt ρ s at)) next
             by (done cs) e = refl
             by (bad u) e = let z : _≡_ {A = ℕ} 0 1 = cc in absurd (omega arith)

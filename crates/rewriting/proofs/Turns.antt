@@ -80,17 +80,17 @@ module _ (read : ℕ → Cells) (table new : List ℤ) (a e : ℕ) (l : a ≤ e)
       (p .0 ∙ ap (λ k. readingOf (read k)) n, over-lent table new a (e - a) (same ∙ n) ∙ ap (λ xs. over a xs table) (p .1 ∙ ap (λ k. tableBy (read k) (part a e table)) n))
 
 -- no group has cells behind those of the record
-cells-below : (ns : List ℕ) (g : ℕ) → cellsBefore ns g ≤ recordCells ns
+cells-below : (ρ : Rules) (ns : List ℕ) (g : ℕ) → cellsBefore ρ ns g ≤ recordCells ρ ns
 unfolding Tally.cellsBefore
-cells-below ns g = sum-take-all (cellTally ns) g
+cells-below ρ ns g = sum-take-all (cellTally ρ ns) g
 
 -- ---- before group g: its lines begin at `from`, its cells at `cell`, and what remains to be read is what was asked
 
 pub record Turning (ρ : Rules) (s : List ℕ) (at : ℕ) (old table : List ℤ) (g from cell : ℕ) : Type 0 where
   pub low : 1 ≤ g
   pub high : g ≤ 61
-  pub begins : from ≡ start s at (countsAt ρ s at) g
-  pub before : cell ≡ cellsBefore (countsAt ρ s at) g
+  pub begins : from ≡ start ρ s at (countsAt ρ s at) g
+  pub before : cell ≡ cellsBefore ρ (countsAt ρ s at) g
   pub same : length table ≡ length old
   pub answer : groupsOf (inTurn (groupRead ρ s at) (upFrom g (61 - g))) ≡ groupsOf (allInTurn ρ s at)
   pub cells : over cell (cellsInTurn (groupRead ρ s at) (upFrom g (61 - g))) table ≡ over 0 (cellsAt ρ s at) old
@@ -100,8 +100,8 @@ module _ (ρ : Rules) (s : List ℕ) (at : ℕ) (old : List ℤ) where
   turning-first e = record {
     low = omega arith;
     high = omega arith;
-    begins = e ∙ sym (start-one s at (countsAt ρ s at));
-    before = before-groups (countsAt ρ s at) .cells-are;
+    begins = e ∙ sym (start-one ρ s at (countsAt ρ s at));
+    before = before-groups ρ (countsAt ρ s at) .cells-are;
     same = refl;
     answer = refl;
     cells = refl;
@@ -116,29 +116,29 @@ module _ (ρ : Rules) (s : List ℕ) (at : ℕ) (old : List ℤ) where
   -- ---- group g, with the form that it has, from `from` to `to`, into the cells from `cell` to `end`
 
   module _ (ms : List ℕ) (counts : ms ≡ countsAt ρ s at) (ready : Ready ρ s at (length old)) {table : List ℤ} {g from cell : ℕ} (t : Turning ρ s at old table g from cell) (few : g < 61)
-      (f : Form) (has : formOf g ≡ Has f) {to end : ℕ} (to-told : to ≡ from + reach (drop from s) (linesOf f (countOf ms g))) (end-told : end ≡ cell + cellsOf f (countOf ms g)) where
-    to-is : to ≡ from + reach (drop from s) (linesOf f (countOf (countsAt ρ s at) g))
+      (f : Form) (has : formOf g ≡ Has f) {to end : ℕ} (to-told : to ≡ from + reach (drop from s) (linesOf ρ f (countOf ms g))) (end-told : end ≡ cell + cellsOf ρ f (countOf ms g)) where
+    to-is : to ≡ from + reach (drop from s) (linesOf ρ f (countOf (countsAt ρ s at) g))
     to-is = rw counts at to-told
 
-    end-is : end ≡ cell + cellsOf f (countOf (countsAt ρ s at) g)
+    end-is : end ≡ cell + cellsOf ρ f (countOf (countsAt ρ s at) g)
     end-is = rw counts at end-told
 
     placed : IsPlaced ρ s at (ready .next)
     placed = is-placed ρ s at (ready .next) (ready .placed)
 
-    more : Tally.Before (countsAt ρ s at) (g + 1) (linesBefore (countsAt ρ s at) g + linesOf f (countOf (countsAt ρ s at) g))
-        (cellsBefore (countsAt ρ s at) g + cellsOf f (countOf (countsAt ρ s at) g))
-    more = before-more (countsAt ρ s at) g (linesBefore (countsAt ρ s at) g) (cellsBefore (countsAt ρ s at) g) (t .low) few record { lines-are = refl; cells-are = refl } f has
+    more : Tally.Before ρ (countsAt ρ s at) (g + 1) (linesBefore ρ (countsAt ρ s at) g + linesOf ρ f (countOf (countsAt ρ s at) g))
+        (cellsBefore ρ (countsAt ρ s at) g + cellsOf ρ f (countOf (countsAt ρ s at) g))
+    more = before-more ρ (countsAt ρ s at) g (linesBefore ρ (countsAt ρ s at) g) (cellsBefore ρ (countsAt ρ s at) g) (t .low) few record { lines-are = refl; cells-are = refl } f has
 
-    ends : to ≡ start s at (countsAt ρ s at) (g + 1)
+    ends : to ≡ start ρ s at (countsAt ρ s at) (g + 1)
     ends =
-        let e : linesBefore (countsAt ρ s at) g + linesOf f (countOf (countsAt ρ s at) g) - linesBefore (countsAt ρ s at) g ≡ linesOf f (countOf (countsAt ρ s at) g) = omega arith in
-        to-is ∙ ap (λ k. from + reach (drop from s) k) (sym e) ∙ start-next s at (countsAt ρ s at) g (t .begins) refl (more .lines-are)
+        let e : linesBefore ρ (countsAt ρ s at) g + linesOf ρ f (countOf (countsAt ρ s at) g) - linesBefore ρ (countsAt ρ s at) g ≡ linesOf ρ f (countOf (countsAt ρ s at) g) = omega arith in
+        to-is ∙ ap (λ k. from + reach (drop from s) k) (sym e) ∙ start-next ρ s at (countsAt ρ s at) g (t .begins) refl (more .lines-are)
 
-    behind : end ≡ cellsBefore (countsAt ρ s at) (g + 1)
-    behind = end-is ∙ ap (λ k. k + cellsOf f (countOf (countsAt ρ s at) g)) (t .before) ∙ more .cells-are
+    behind : end ≡ cellsBefore ρ (countsAt ρ s at) (g + 1)
+    behind = end-is ∙ ap (λ k. k + cellsOf ρ f (countOf (countsAt ρ s at) g)) (t .before) ∙ more .cells-are
 
-    cells-have : cellsIn (countsAt ρ s at) g ≡ cellsOf f (countOf (countsAt ρ s at) g)
+    cells-have : cellsIn ρ (countsAt ρ s at) g ≡ cellsOf ρ f (countOf (countsAt ρ s at) g)
     unfolding Tally.cellsIn
     cells-have = rw has
 
@@ -146,13 +146,13 @@ module _ (ρ : Rules) (s : List ℕ) (at : ℕ) (old : List ℤ) where
     turning-range : (from ≤ to) × (to ≤ length s) × (cell ≤ end) × (end ≤ length table)
     turning-range =
         let n = countsAt ρ s at in
-        let up = start-mono s at n g (g + 1) (omega arith) in
+        let up = start-mono ρ s at n g (g + 1) (omega arith) in
         let within = start-within ρ s at (ready .next) n (placed .located-at) (g + 1) (omega arith) in (
           omega (arith, t .begins, ends, up),
           omega (arith, ends, within, located-range ρ s at (ready .next) n (placed .located-at)),
           omega (arith, end-is),
           omega
-              (arith, behind, cells-below n (g + 1), ready .enough, t .same),
+              (arith, behind, cells-below ρ n (g + 1), ready .enough, t .same),
         )
 
     -- and the counts keep the rules on counts
@@ -164,9 +164,9 @@ module _ (ρ : Rules) (s : List ℕ) (at : ℕ) (old : List ℤ) where
     unfolding Parts.groupPart
     turning-read =
         let n = countsAt ρ s at in
-        let e : end - cell ≡ cellsIn n g = omega (arith, end-is, cells-have) in
-        let p : part from to s ≡ groupPart s at n g = rw (t .begins, ends ∙ ap (start s at n) (add-one g)) refl in
-        rw (counts, e, p) (sym (read-located ρ s at g (cellsIn n g) (ready .next) n (placed .located-at)))
+        let e : end - cell ≡ cellsIn ρ n g = omega (arith, end-is, cells-have) in
+        let p : part from to s ≡ groupPart ρ s at n g = rw (t .begins, ends ∙ ap (start ρ s at n) (add-one g)) refl in
+        rw (counts, e, p) (sym (read-located ρ s at g (cellsIn ρ n g) (ready .next) n (placed .located-at)))
 
     rest : upFrom g (61 - g) ≡ g ∷ upFrom (g + 1) (61 - (g + 1))
     rest = up-more g 60 (omega arith)
@@ -196,10 +196,10 @@ module _ (ρ : Rules) (s : List ℕ) (at : ℕ) (old : List ℤ) where
           let n = countsAt ρ s at in
           let u = turn-done (groupRead ρ s at) g (upFrom (g + 1) (61 - (g + 1))) (q .is) in
           let range = turning-range in
-          let long : length cs ≡ cellsIn n g =
-          reads-cells ρ (group-reads ρ n g (groupPart s at n g) (cellsIn n g) cs (sym (read-located ρ s at g (cellsIn n g) (ready .next) n (placed .located-at)) ∙ q .is)) in
+          let long : length cs ≡ cellsIn ρ n g =
+          reads-cells ρ (group-reads ρ n g (groupPart ρ s at n g) (cellsIn ρ n g) cs (sym (read-located ρ s at g (cellsIn ρ n g) (ready .next) n (placed .located-at)) ∙ q .is)) in
           let wide : length (part cell end table) ≡ length cs =
-          ap (λ k. length (part cell k table)) end-is ∙ part-length table cell (cellsOf f (countOf n g)) (omega (arith, range .3, end-is)) ∙ sym cells-have ∙ sym long in
+          ap (λ k. length (part cell k table)) end-is ∙ part-length table cell (cellsOf ρ f (countOf n g)) (omega (arith, range .3, end-is)) ∙ sym cells-have ∙ sym long in
           let new-is : new ≡ over cell cs table =
           b ∙ ap (λ c. over cell (tableBy c (part cell end table)) table) (turning-read ∙ q .is) ∙ ap (λ xs. over cell xs table) (over-all (part cell end table) cs (sym wide)) in
           let at-end : end ≡ cell + length cs = end-is ∙ ap (λ k. cell + k) (sym cells-have ∙ sym long) in

@@ -85,13 +85,13 @@ module _ (ρ : Rules) (s : List ℕ) (at next : ℕ) (placed : placingOf ρ s at
   whole-each g low high = whole-cells .each g low (omega arith)
 
   pub whole-read : ReadWhole ρ s at next cells
-  whole-read = record { placed = placed; room = cellsIn (countsAt ρ s at); groups = whole-each }
+  whole-read = record { placed = placed; room = cellsIn ρ (countsAt ρ s at); groups = whole-each }
 
   pub whole-joined : cellsAt ρ s at ≡ joined cells
   whole-joined = whole-cells .is
 
-  pub whole-length : length (cellsAt ρ s at) ≡ recordCells (countsAt ρ s at)
+  pub whole-length : length (cellsAt ρ s at) ≡ recordCells ρ (countsAt ρ s at)
   whole-length = ap length whole-joined ∙ joined-cells ρ whole-read
 
-  pub whole-written : (room : ℕ) → recordBytes (countsAt ρ s at) ≤ room → writingOf (countsAt ρ s at) (cellsAt ρ s at) room ≡ Done (recordBytes (countsAt ρ s at))
-  whole-written room enough = ap (λ cs. writingOf (countsAt ρ s at) cs room) whole-joined ∙ read-writes ρ whole-read room enough
+  pub whole-written : (room : ℕ) → recordBytes ρ (countsAt ρ s at) ≤ room → writingOf ρ (countsAt ρ s at) (cellsAt ρ s at) room ≡ Done (recordBytes ρ (countsAt ρ s at))
+  whole-written room enough = ap (λ cs. writingOf ρ (countsAt ρ s at) cs room) whole-joined ∙ read-writes ρ whole-read room enough

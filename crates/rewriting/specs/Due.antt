@@ -31,13 +31,13 @@ module _ (ρ : Rules) where
     pub record NoRoomDue : Type 0 where
       pub next : ℕ
       pub placed : placingOf ρ s at ≡ Placed next
-      pub short : (room < recordBytes (countsAt ρ s at)) ⊎ (cells < recordCells (countsAt ρ s at))
+      pub short : (room < recordBytes ρ (countsAt ρ s at)) ⊎ (cells < recordCells ρ (countsAt ρ s at))
 
     -- placed with 0, and both are long enough
     pub record RoomForBoth (next : ℕ) : Type 0 where
       pub placed : placingOf ρ s at ≡ Placed next
-      pub text-fits : recordBytes (countsAt ρ s at) ≤ room
-      pub cells-fit : recordCells (countsAt ρ s at) ≤ cells
+      pub text-fits : recordBytes ρ (countsAt ρ s at) ≤ room
+      pub cells-fit : recordCells ρ (countsAt ρ s at) ≤ cells
 
     -- R321, R323: this group is refused, and all below it read with 0
     pub record UnreadDue (g : ℕ) (r : Refusal) : Type 0 where
@@ -52,7 +52,7 @@ module _ (ρ : Rules) where
     pub record RewrittenDue (bytes next : ℕ) : Type 0 where
       pub roomy : RoomForBoth next
       pub groups : (g : ℕ) → 1 ≤ g → g ≤ 60 → GroupDone s at g
-      pub written : recordBytes (countsAt ρ s at) ≡ bytes
+      pub written : recordBytes ρ (countsAt ρ s at) ≡ bytes
 
     -- what it refuses with before a group is read, and when: as placing does, 7 without its next place (R235); 11
     pub data RefusedFor : Refusal → Type 0 where

@@ -28,9 +28,10 @@ use Rattle.rewriting.specs.declared.Rewriting.the-variants.{Done, Refuse
 
 -- ---- the groups in turn
 
--- each group is read into a part of the table that has as many cells as it needs
-abbrev pub groupRead : Rules → List ℕ → ℕ → ℕ → Cells
-groupRead ρ s at g = readAt ρ s at g (cellsIn (countsAt ρ s at) g)
+module _ (ρ : Rules) where
+  -- each group is read into a part of the table that has as many cells as it needs
+  abbrev pub groupRead : List ℕ → ℕ → ℕ → Cells
+  groupRead s at g = readAt ρ s at g (cellsIn ρ (countsAt ρ s at) g)
 
 -- R323: the cells of all groups, joined, or the first refusal with its group
 abbrev pub Turn : Type 0
@@ -65,26 +66,27 @@ abbrev pub groupsOf : Turn → Groups
 groupsOf (done cs) = G.All
 groupsOf (bad u) = G.GroupRefused (u .0) (u .1)
 
--- what is asked before: the record is placed with 0, and its cells have room in a table of so many
-pub record Ready (ρ : Rules) (s : List ℕ) (at cells : ℕ) : Type 0 where
-  pub next : ℕ
-  pub placed : placingOf ρ s at ≡ P.Placed next
-  pub enough : recordCells (countsAt ρ s at) ≤ cells
+module _ (ρ : Rules) where
+  -- what is asked before: the record is placed with 0, and its cells have room in a table of so many
+  pub record Ready (s : List ℕ) (at cells : ℕ) : Type 0 where
+    pub next : ℕ
+    pub placed : placingOf ρ s at ≡ P.Placed next
+    pub enough : recordCells ρ (countsAt ρ s at) ≤ cells
 
--- ---- the answer
+  -- ---- the answer
 
--- R322: room for the canonical text and for all cells
-abbrev pub hasRoom : List ℕ → ℕ → ℕ → Bool
-hasRoom ns cells room = leb (recordBytes ns) room && leb (recordCells ns) cells
+  -- R322: room for the canonical text and for all cells
+  abbrev pub hasRoom : List ℕ → ℕ → ℕ → Bool
+  hasRoom ns cells room = leb (recordBytes ρ ns) room && leb (recordCells ρ ns) cells
 
-abbrev pub rewrittenAs : List ℕ → ℕ → Turn → Rewriting
-rewrittenAs ns next (done cs) = Done (recordBytes ns) next
-rewrittenAs ns next (bad u) = GroupRefused (u .0) (u .1)
+  abbrev pub rewrittenAs : List ℕ → ℕ → Turn → Rewriting
+  rewrittenAs ns next (done cs) = Done (recordBytes ρ ns) next
+  rewrittenAs ns next (bad u) = GroupRefused (u .0) (u .1)
 
--- R322: a record that is placed with 0
-abbrev pub rewritingPlaced : Rules → List ℕ → ℕ → ℕ → ℕ → ℕ → Rewriting
-rewritingPlaced ρ s at cells room next =
-    cond (hasRoom (countsAt ρ s at) cells room) (rewrittenAs (countsAt ρ s at) next (allInTurn ρ s at)) (Refused NoRoom)
+  -- R322: a record that is placed with 0
+  abbrev pub rewritingPlaced : List ℕ → ℕ → ℕ → ℕ → ℕ → Rewriting
+  rewritingPlaced s at cells room next =
+      cond (hasRoom (countsAt ρ s at) cells room) (rewrittenAs (countsAt ρ s at) next (allInTurn ρ s at)) (Refused NoRoom)
 
 -- R321: what placing refuses with, 7 without its next place (R235)
 abbrev pub unlessRefused : Checked → Rewriting → Rewriting
@@ -101,7 +103,7 @@ module _ (ρ : Rules) where
 
   -- the canonical text of the record at a place
   abbrev pub textAt : List ℕ → ℕ → List ℕ
-  textAt s at = recordText (countsAt ρ s at) (cellsAt ρ s at)
+  textAt s at = recordText ρ (countsAt ρ s at) (cellsAt ρ s at)
 
   -- R325: a refusal leaves the whole output; R324: under 0 the text stands there from the first byte on
   abbrev pub bufferBy : List ℕ → ℕ → Rewriting → List ℕ → List ℕ

@@ -81,8 +81,8 @@ fn read_groups(
     while g < 61 {
         let f = form::form_in(g);
         let n = count::count_of(counts, g);
-        let to = line::behind_or_end(text, from, form::lines(f, n));
-        let end = cell + form::cells(f, n);
+        let to = line::behind_or_end(text, from, form::lines(rules, f, n));
+        let end = cell + form::cells(rules, f, n);
         let answer = read_part(rules, counts, g, text, from, to, table, cell, end);
         match answer {
             Answer::Refused(r) => {
@@ -100,14 +100,14 @@ fn read_groups(
 // ---- Rewriting a record.
 
 // The canonical text of counts and of the first cells of a table, which is written with 0.
-fn write_cells(counts: &[u16], table: &[i64], cells: usize, out: &mut [u8])
+fn write_cells(rules: rules::Rules, counts: &[u16], table: &[i64], cells: usize, out: &mut [u8])
     requires room { ⌜ cells ≤ length (now table) ⌝ }
-    requires written { ⌜ writingOf (now counts) (part 0 cells (now table)) (length (now out)) ≡
-        Answer.Done (recordBytes (now counts)) ⌝ }
+    requires written { ⌜ writingOf rules (now counts) (part 0 cells (now table)) (length (now out)) ≡
+        Answer.Done (recordBytes rules (now counts)) ⌝ }
     ensures { λ _. ⌜ now (out .exit) ≡
-        over 0 (recordText (now (counts .entry)) (part 0 cells (now (table .entry)))) (now (out .entry)) ⌝ }
+        over 0 (recordText rules (now (counts .entry)) (part 0 cells (now (table .entry)))) (now (out .entry)) ⌝ }
 {
-    writing::put_record(counts, &table[0..cells], out);
+    writing::put_record(rules, counts, &table[0..cells], out);
 }
 
 // R321 to R324, for a record that is placed with 0.
@@ -127,18 +127,18 @@ fn rewrite_placed(
     ensures table { λ r. ⌜ now (table .exit) ≡ tableAfter rules (now (text .entry)) at r (now (table .entry)) ⌝ }
     ensures output { λ r. ⌜ now (out .exit) ≡ bufferBy rules (now (text .entry)) at r (now (out .entry)) ⌝ }
 {
-    let bytes = writing::canonical_length(counts);
+    let bytes = writing::canonical_length(rules, counts);
     if out.len() < bytes {
         return Rewriting::Refused(Refusal::NoRoom);
     }
-    let all = count::add_up(counts, 61);
+    let all = count::add_up(rules, counts, 61);
     if table.len() < all.cells {
         return Rewriting::Refused(Refusal::NoRoom);
     }
     match read_groups(rules, text, at, counts, table) {
         Groups::GroupRefused(g, r) => Rewriting::GroupRefused(g, r),
         Groups::All => {
-            write_cells(counts, table, all.cells, out);
+            write_cells(rules, counts, table, all.cells, out);
             Rewriting::Done(bytes, next)
         }
     }

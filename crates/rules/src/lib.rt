@@ -1,6 +1,6 @@
-// The rules by which a text is read. A caller chooses them; who chooses nothing has the usual ones.
+// The rules under which questions are asked. A caller chooses them; who chooses nothing has the usual ones.
 ghost use mathlib.Core.Path.{_≡_};
-ghost use Rattle.rules.specs.Choice.{chosen};
+ghost use Rattle.rules.specs.Choice.{chosen, endsBy, countingBy};
 
 // R9: what a line may end with.
 pub enum LineEnds {
@@ -10,27 +10,54 @@ pub enum LineEnds {
     Either,
 }
 
+// R13: what a count of group 40 counts.
+pub enum Counting {
+    // elements, as a count of every other group
+    Elements,
+    // entries, a line each: of six elements, and the last one of one
+    Entries,
+}
+
 // R12: one rule of each kind.
 pub struct Rules {
     pub ends: LineEnds,
+    pub counting: Counting,
 }
 
 // R12: the rules of a caller that chooses nothing.
 pub const USUAL: Rules = Rules {
     ends: LineEnds::Either,
+    counting: Counting::Elements,
 };
 
-// R12: the strict line end, said by name.
-pub const STRICT: Rules = Rules {
-    ends: LineEnds::Strict,
-};
-
-// R12: the rules that a caller chooses, by a word of a program or a bit of C.
-pub fn choose(strict: bool) -> Rules
-    ensures { λ r. ⌜ r ≡ chosen strict ⌝ }
+// R9: the line end that was asked for, or the usual one.
+fn ends_by(strict: bool) -> LineEnds
+    ensures { λ r. ⌜ r ≡ endsBy strict ⌝ }
 {
     if strict {
-        return STRICT;
+        return LineEnds::Strict;
     }
-    USUAL
+    USUAL.ends
+}
+
+// R13: the count rule that was asked for, or the usual one.
+fn counting_by(entries: bool) -> Counting
+    ensures { λ r. ⌜ r ≡ countingBy entries ⌝ }
+{
+    if entries {
+        return Counting::Entries;
+    }
+    USUAL.counting
+}
+
+// R12: the rules that a caller chooses, by words of a program or bits of C.
+pub fn choose(strict: bool, entries: bool) -> Rules
+    ensures { λ r. ⌜ r ≡ chosen strict entries ⌝ }
+{
+    let ends = ends_by(strict);
+    let counting = counting_by(entries);
+    Rules {
+        ends: ends,
+        counting: counting,
+    }
 }

@@ -7,6 +7,7 @@ use Prim.Native.Nat.{ℕ, _+_}
 use denote.Ref.{now}
 use lib.IntN.{ℤ}
 use lib.ListN.{length}
+use Rattle.rules.specs.declared.Rules.{Rules}
 use Rattle.decimal.specs.Writing.{putBytes}
 use Rattle.place.specs.Due as PlacingIs
 use Rattle.group.specs.Due as GroupIs
@@ -18,7 +19,6 @@ use Rattle.writing.specs.Writing.{outputBy}
 use Rattle.rewriting.specs.Due as RewritingIs
 use Rattle.rewriting.specs.Record.{tableAfter, bufferBy}
 use Rattle.listing.specs.Listing.{listing, IsListing, ListingDue}
-use Rattle.rules.specs.Choice.{usual}
 use Rattle.sao.specs.Outcome.{Gives}
 use Rattle.sao.proofs.Demand2.{as-due}
 use Rattle.reply.specs.declared.Answer.{Answer}
@@ -72,8 +72,9 @@ pub characteristic-due : Gives characteristic.ended characteristic.Reads.Learnt 
 characteristic-due κs (ρ, (text, (at, (k, _)))) r v l = as-due ρ .characteristic (now text) at k r .0 (sym l)
 
 pub write-record-due : Gives write_record.ended write_record.Reads.Learnt
-    (λ κs a r v. WritingIs.Due (now (a .0)) (now (a .1 .0)) (length (now (a .1 .1 .0))) r × (v .1 .1 .0 ≡ outputBy (now (a .0)) (now (a .1 .0)) r (now (a .1 .1 .0))))
-write-record-due κs (counts, (cells, (out, _))) r v l = (as-due usual .writing (now counts) (now cells) (length (now out)) r .0 (sym (l .0)), l .1)
+    (λ κs a r v. WritingIs.Due (a .0) (now (a .1 .0)) (now (a .1 .1 .0)) (length (now (a .1 .1 .1 .0))) r ×
+    (v .1 .1 .1 .0 ≡ outputBy (a .0) (now (a .1 .0)) (now (a .1 .1 .0)) r (now (a .1 .1 .1 .0))))
+write-record-due κs (ρ, (counts, (cells, (out, _)))) r v l = (as-due ρ .writing (now counts) (now cells) (length (now out)) r .0 (sym (l .0)), l .1)
 
 pub list-due : Gives list.ended list.Reads.Learnt
     (λ κs a r v. (x : List ℕ) × IsListing (a .0) (now (a .1 .0)) x × ListingDue x (length (now (a .1 .1 .0))) r × (v .1 .1 .0 ≡ putBytes 0 x (now (a .1 .1 .0))))
@@ -88,11 +89,11 @@ rewrite-record-due κs (ρ, (text, (at, (table, (out, _))))) r v l = (as-due ρ 
 
 -- ---- the edit journal: the reply that is due, and what is due to be left: bytes used, cells and journal
 
-abbrev CallDue : List ℕ → Call → Kept → Answer → Kept → Type 0
-CallDue ns c k a k′ = JournalIs.Due ns (k .journal) (k .used) (length (k .cells)) c a × JournalIs.LeftDue ns c k a k′
+abbrev CallDue : Rules → List ℕ → Call → Kept → Answer → Kept → Type 0
+CallDue ρ ns c k a k′ = JournalIs.Due ρ ns (k .journal) (k .used) (length (k .cells)) c a × JournalIs.LeftDue ρ ns c k a k′
 
-call-due : (ns : List ℕ) (c : Call) (k : Kept) (a : Answer) (k′ : Kept) → a ≡ answerTo ns c k → k′ ≡ leftBy ns c k a → CallDue ns c k a k′
-call-due ns c k a k′ e q = (as-due usual .call ns (k .journal) (k .used) (length (k .cells)) c a .0 (sym e), as-due usual .call-left ns c k a k′ (sym e) .0 (sym q))
+call-due : (ρ : Rules) (ns : List ℕ) (c : Call) (k : Kept) (a : Answer) (k′ : Kept) → a ≡ answerTo ρ ns c k → k′ ≡ leftBy ρ ns c k a → CallDue ρ ns c k a k′
+call-due ρ ns c k a k′ e q = (as-due ρ .call ns (k .journal) (k .used) (length (k .cells)) c a .0 (sym e), as-due ρ .call-left ns c k a k′ (sym e) .0 (sym q))
 
 -- cells that are not lent to be altered
 same-cells : (t : List ℤ) (a : Answer) → t ≡ byAnswer a t t
@@ -101,37 +102,37 @@ same-cells t (Refused r) = refl
 
 pub set-cell-due : Gives set_cell.ended set_cell.Reads.Learnt
     (λ κs a r v.
-    CallDue (now (a .0)) (Sets (a .1 .1 .1 .1 .0) (a .1 .1 .1 .1 .1 .0) (a .1 .1 .1 .1 .1 .1 .0)) (kept (now (a .1 .0)) (now (a .1 .1 .0)) (a .1 .1 .1 .0)) (r .answer)
-    (kept (v .1 .0) (v .1 .1 .0) (r .used)))
-set-cell-due κs (counts, (cells, (journal, (used, (g, (i, (z, _))))))) r v l =
-    call-due (now counts) (Sets g i z) (kept (now cells) (now journal) used) (r .answer) (kept (v .1 .0) (v .1 .1 .0) (r .used)) (l .0)
+    CallDue (a .0) (now (a .1 .0)) (Sets (a .1 .1 .1 .1 .1 .0) (a .1 .1 .1 .1 .1 .1 .0) (a .1 .1 .1 .1 .1 .1 .1 .0)) (kept (now (a .1 .1 .0)) (now (a .1 .1 .1 .0)) (a .1 .1 .1 .1 .0)) (r .answer)
+    (kept (v .1 .1 .0) (v .1 .1 .1 .0) (r .used)))
+set-cell-due κs (ρ, (counts, (cells, (journal, (used, (g, (i, (z, _)))))))) r v l =
+    call-due ρ (now counts) (Sets g i z) (kept (now cells) (now journal) used) (r .answer) (kept (v .1 .1 .0) (v .1 .1 .1 .0) (r .used)) (l .0)
     (λ x. kept (l .1 .1 .0 x) (l .1 .1 .1 x) (l .1 .0 x))
 
 pub open-savepoint-due : Gives open_savepoint.ended open_savepoint.Reads.Learnt
     (λ κs a r v.
-    CallDue (now (a .0)) Opens (kept (now (a .1 .0)) (now (a .1 .1 .0)) (a .1 .1 .1 .0)) (r .answer) (kept (now (a .1 .0)) (v .1 .1 .0) (r .used)))
-open-savepoint-due κs (counts, (cells, (journal, (used, _)))) r v l =
-    call-due (now counts) Opens (kept (now cells) (now journal) used) (r .answer) (kept (now cells) (v .1 .1 .0) (r .used)) (l .0)
+    CallDue (a .0) (now (a .1 .0)) Opens (kept (now (a .1 .1 .0)) (now (a .1 .1 .1 .0)) (a .1 .1 .1 .1 .0)) (r .answer) (kept (now (a .1 .1 .0)) (v .1 .1 .1 .0) (r .used)))
+open-savepoint-due κs (ρ, (counts, (cells, (journal, (used, _))))) r v l =
+    call-due ρ (now counts) Opens (kept (now cells) (now journal) used) (r .answer) (kept (now cells) (v .1 .1 .1 .0) (r .used)) (l .0)
     (λ x. kept (same-cells (now cells) (r .answer) x) (l .1 .1 x) (l .1 .0 x))
 
 pub release-savepoint-due : Gives release_savepoint.ended release_savepoint.Reads.Learnt
     (λ κs a r v.
-    CallDue (now (a .0)) (Releases (a .1 .1 .1 .1 .0)) (kept (now (a .1 .0)) (now (a .1 .1 .0)) (a .1 .1 .1 .0)) (r .answer) (kept (now (a .1 .0)) (v .1 .1 .0) (r .used)))
-release-savepoint-due κs (counts, (cells, (journal, (used, (n, _))))) r v l =
-    call-due (now counts) (Releases n) (kept (now cells) (now journal) used) (r .answer) (kept (now cells) (v .1 .1 .0) (r .used)) (l .0)
+    CallDue (a .0) (now (a .1 .0)) (Releases (a .1 .1 .1 .1 .1 .0)) (kept (now (a .1 .1 .0)) (now (a .1 .1 .1 .0)) (a .1 .1 .1 .1 .0)) (r .answer) (kept (now (a .1 .1 .0)) (v .1 .1 .1 .0) (r .used)))
+release-savepoint-due κs (ρ, (counts, (cells, (journal, (used, (n, _)))))) r v l =
+    call-due ρ (now counts) (Releases n) (kept (now cells) (now journal) used) (r .answer) (kept (now cells) (v .1 .1 .1 .0) (r .used)) (l .0)
     (λ x. kept (same-cells (now cells) (r .answer) x) (l .1 .1 x) (l .1 .0 x))
 
 pub undo-to-savepoint-due : Gives undo_to_savepoint.ended undo_to_savepoint.Reads.Learnt
     (λ κs a r v.
-    CallDue (now (a .0)) (Undoes (a .1 .1 .1 .1 .0)) (kept (now (a .1 .0)) (now (a .1 .1 .0)) (a .1 .1 .1 .0)) (r .answer) (kept (v .1 .0) (v .1 .1 .0) (r .used)))
-undo-to-savepoint-due κs (counts, (cells, (journal, (used, (n, _))))) r v l =
-    call-due (now counts) (Undoes n) (kept (now cells) (now journal) used) (r .answer) (kept (v .1 .0) (v .1 .1 .0) (r .used)) (l .0)
+    CallDue (a .0) (now (a .1 .0)) (Undoes (a .1 .1 .1 .1 .1 .0)) (kept (now (a .1 .1 .0)) (now (a .1 .1 .1 .0)) (a .1 .1 .1 .1 .0)) (r .answer) (kept (v .1 .1 .0) (v .1 .1 .1 .0) (r .used)))
+undo-to-savepoint-due κs (ρ, (counts, (cells, (journal, (used, (n, _)))))) r v l =
+    call-due ρ (now counts) (Undoes n) (kept (now cells) (now journal) used) (r .answer) (kept (v .1 .1 .0) (v .1 .1 .1 .0) (r .used)) (l .0)
     (λ x. kept (l .1 .1 .0 x) (l .1 .1 .1 x) (l .1 .0 x))
 
 pub replay-due : Gives replay.ended replay.Reads.Learnt
-    (λ κs a r v. JournalIs.ReplayDue (now (a .0)) (now (a .1 .1 .0)) (a .1 .1 .1 .0) (now (a .1 .0)) (r .answer) ×
-    JournalIs.ReplayLeftDue (now (a .0)) (now (a .1 .1 .0)) (a .1 .1 .1 .0) (now (a .1 .0)) (r .answer) (v .1 .0) (r .«open»))
-replay-due κs (counts, (cells, (journal, (used, _)))) r v l = (
-  as-due usual .replay (now counts) (now journal) used (now cells) (r .answer) .0 (sym (l .0)),
-  as-due usual .replay-left (now counts) (now journal) used (now cells) (r .answer) (v .1 .0) (r .«open») (sym (l .0)) .0 (sym (l .1 .1), sym (l .1 .0)),
+    (λ κs a r v. JournalIs.ReplayDue (a .0) (now (a .1 .0)) (now (a .1 .1 .1 .0)) (a .1 .1 .1 .1 .0) (now (a .1 .1 .0)) (r .answer) ×
+    JournalIs.ReplayLeftDue (a .0) (now (a .1 .0)) (now (a .1 .1 .1 .0)) (a .1 .1 .1 .1 .0) (now (a .1 .1 .0)) (r .answer) (v .1 .1 .0) (r .«open»))
+replay-due κs (ρ, (counts, (cells, (journal, (used, _))))) r v l = (
+  as-due ρ .replay (now counts) (now journal) used (now cells) (r .answer) .0 (sym (l .0)),
+  as-due ρ .replay-left (now counts) (now journal) used (now cells) (r .answer) (v .1 .1 .0) (r .«open») (sym (l .0)) .0 (sym (l .1 .1), sym (l .1 .0)),
 )

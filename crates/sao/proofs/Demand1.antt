@@ -43,11 +43,11 @@ ends-numbered ρ =
       reading = reading-numbered ρ;
       lines = found-numbered ρ;
       characteristic = characteristic-numbered ρ;
-      writing = writing-numbered;
+      writing = writing-numbered ρ;
       listed = listed-numbered ρ;
       rewriting = rewriting-numbered ρ;
-      call = call-numbered;
-      replay = replay-numbered;
+      call = call-numbered ρ;
+      replay = replay-numbered ρ;
       unread = unread-group ρ;
     }
 
@@ -61,25 +61,25 @@ listing-keeps ρ s out refused = by (listedIn (listing ρ s) (length out)) refl 
 write-keeps : (ρ : Rules) → RefusedWriteKeeps ρ
 write-keeps ρ =
     record {
-      writing = λ ns cs out. refused-write-keeps ns cs (writingOf ns cs (length out)) out;
+      writing = λ ns cs out. refused-write-keeps ρ ns cs (writingOf ρ ns cs (length out)) out;
       listed = listing-keeps ρ;
       rewriting = λ s at cells out. refused-rewriting-keeps ρ s at (rewritingOf ρ s at cells (length out)) out;
     }
 
-edit-keeps : RefusedEditKeeps
-edit-keeps =
+edit-keeps : (ρ : Rules) → RefusedEditKeeps ρ
+edit-keeps ρ =
     record {
-      cells = λ ns j used c cs n. cells-kept ns j used c cs (answerOf ns j used (length cs) c) n;
-      journal = λ ns j used c cs n. journal-kept ns j used c cs (answerOf ns j used (length cs) c) n;
-      used = λ ns j used c cs n. used-kept used c (answerOf ns j used (length cs) c) n;
-      replay = λ ns j used cs n. replay-kept ns j used cs (replayOf ns j used cs) n;
+      cells = λ ns j used c cs n. cells-kept ns j used c cs (answerOf ρ ns j used (length cs) c) n;
+      journal = λ ns j used c cs n. journal-kept ns j used c cs (answerOf ρ ns j used (length cs) c) n;
+      used = λ ns j used c cs n. used-kept used c (answerOf ρ ns j used (length cs) c) n;
+      replay = λ ns j used cs n. replay-kept ns j used cs (replayOf ρ ns j used cs) n;
     }
   where
-    cells-kept : (ns j : List ℕ) (used : ℕ) (c : Call) (cs : List ℤ) (a : Answer) → NotDone (editReply a) → cellsAfter ns j used c cs a ≡ cs
+    cells-kept : (ns j : List ℕ) (used : ℕ) (c : Call) (cs : List ℤ) (a : Answer) → NotDone (editReply a) → cellsAfter ρ ns j used c cs a ≡ cs
     cells-kept ns j used c cs (A.Done k) n = absurd (n refl)
     cells-kept ns j used c cs (A.Refused r) n = refl
 
-    journal-kept : (ns j : List ℕ) (used : ℕ) (c : Call) (cs : List ℤ) (a : Answer) → NotDone (editReply a) → journalBy ns j used c cs a ≡ j
+    journal-kept : (ns j : List ℕ) (used : ℕ) (c : Call) (cs : List ℤ) (a : Answer) → NotDone (editReply a) → journalBy ρ ns j used c cs a ≡ j
     journal-kept ns j used c cs (A.Done k) n = absurd (n refl)
     journal-kept ns j used c cs (A.Refused r) n = refl
 
@@ -87,7 +87,7 @@ edit-keeps =
     used-kept used c (A.Done k) n = absurd (n refl)
     used-kept used c (A.Refused r) n = refl
 
-    replay-kept : (ns j : List ℕ) (used : ℕ) (cs : List ℤ) (a : Checked) → NotDone (checkedReply a) → (replayedCells ns j used cs a ≡ cs) × (replayedOpen ns j used cs a ≡ 0)
+    replay-kept : (ns j : List ℕ) (used : ℕ) (cs : List ℤ) (a : Checked) → NotDone (checkedReply a) → (replayedCells ρ ns j used cs a ≡ cs) × (replayedOpen ρ ns j used cs a ≡ 0)
     replay-kept ns j used cs C.Right n = absurd (n refl)
     replay-kept ns j used cs (C.Refused r) n = (refl, refl)
 
@@ -95,9 +95,10 @@ read-rest : (c : Cells) (table : List ℤ) → drop (answerReply (readingOf c) .
 read-rest (done cs) table = done-read-keeps-rest (done cs) table (length cs) refl
 read-rest (bad r) table = refl
 
-write-rest : (ns : List ℕ) (cs : List ℤ) (out : List ℕ) (w : Answer) → writingOf ns cs (length out) ≡ w → drop (answerReply w .written) (outputBy ns cs w out) ≡ drop (answerReply w .written) out
-write-rest ns cs out (A.Done n) e = done-write-keeps-rest ns cs out n e
-write-rest ns cs out (A.Refused r) e = refl
+write-rest : (ρ : Rules) (ns : List ℕ) (cs : List ℤ) (out : List ℕ) (w : Answer) → writingOf ρ ns cs (length out) ≡ w
+    → drop (answerReply w .written) (outputBy ρ ns cs w out) ≡ drop (answerReply w .written) out
+write-rest ρ ns cs out (A.Done n) e = done-write-keeps-rest ρ ns cs out n e
+write-rest ρ ns cs out (A.Refused r) e = refl
 
 list-rest : (ρ : Rules) (s out : List ℕ) (r : Answer) → listedIn (listing ρ s) (length out) ≡ r → drop (answerReply r .written) (putBytes 0 (listing ρ s) out) ≡ drop (answerReply r .written) out
 list-rest ρ s out (A.Done n) e = listed-rest (listing ρ s) out n e
@@ -113,7 +114,7 @@ keeps-rest : (ρ : Rules) → KeepsRest ρ
 keeps-rest ρ =
     record {
       reading = λ s at g table. read-rest (readAt ρ s at g (length table)) table;
-      writing = λ ns cs out. write-rest ns cs out (writingOf ns cs (length out)) refl;
+      writing = λ ns cs out. write-rest ρ ns cs out (writingOf ρ ns cs (length out)) refl;
       listed = λ s out. list-rest ρ s out (listedIn (listing ρ s) (length out)) refl;
       rewriting = λ s at cells out. rewrite-rest ρ s at cells out (rewritingOf ρ s at cells (length out)) refl;
     }
@@ -124,6 +125,6 @@ demand-1 ρ =
       numbered = ends-numbered ρ;
       refused-read = λ s at g table. refused-read-keeps (readAt ρ s at g (length table)) table;
       refused-write = write-keeps ρ;
-      refused-edit = edit-keeps;
+      refused-edit = edit-keeps ρ;
       rest = keeps-rest ρ;
     }

@@ -1,11 +1,12 @@
 -- D2, the second demand (specs/Demand2.antt).
 -- Assumes nothing.
-use mathlib.Core.Path.{_≡_, refl, sym, subst}
-use mathlib.Core.List.{List}
+use mathlib.Core.Path.{_≡_, refl, sym, _∙_, subst}
+use mathlib.Core.List.{List, _++_}
 use Prim.Native.Nat.{ℕ}
 use lib.IntN.{ℤ}
 use lib.ListN.{length}
 use Rattle.rules.specs.declared.Rules.{Rules}
+use Rattle.rules.specs.Choice.{ended}
 use Rattle.place.specs.Placing.{countsAt}
 use Rattle.place.proofs.Due as PlacingDue
 use Rattle.place.proofs.Stopped.{walks}
@@ -14,12 +15,14 @@ use Rattle.group.proofs.Due as GroupDue
 use Rattle.group.proofs.Holding.{span-end}
 use Rattle.reply.specs.declared.Answer.the-variants.{Done}
 use Rattle.writing.specs.Canonical.{CanonicalRecord}
+use Rattle.writing.specs.RoundTrip.{ReadsBack}
 use Rattle.writing.specs.Writing.{writingOf}
 use Rattle.writing.proofs.Canonical.{canonical-text}
 use Rattle.writing.proofs.Due as WritingDue
 use Rattle.writing.proofs.ReadsBack.{done-canonical, done-bytes, reads-back}
 use Rattle.writing.proofs.Promises.{done-write-begins}
 use Rattle.writing.proofs.ReadWrites.{returns-same}
+use Rattle.writing.proofs.SameCounting.{record-text-same, writing-same}
 use Rattle.listing.specs.Listing.{listing, IsListing}
 use Rattle.listing.proofs.Replies as Listed
 use Rattle.rewriting.specs.declared.Rewriting.the-variants.{Done as Rewritten}
@@ -33,7 +36,8 @@ use Rattle.journal.proofs.Reopened.{reopened}
 use Rattle.rewriting.proofs.Promises.{done-all, done-writes, done-text, done-front, table-has}
 use Rattle.rewriting.proofs.Whole.{whole-read, whole-joined}
 use Rattle.rewriting.proofs.Canonical.{canonical-printed, printed-canonical, printed-again}
-use Rattle.sao.specs.Demand2.{GivenAsDue, Rewrites, LentHolds, OneCanonical, Edits, Demand2}
+use Rattle.rewriting.proofs.Ends.{canonical-records-same}
+use Rattle.sao.specs.Demand2.{GivenAsDue, Rewrites, LentHolds, OneCanonical, WrittenReadsBack, Edits, Demand2}
 
 pub as-due : (ρ : Rules) → GivenAsDue ρ
 as-due ρ =
@@ -46,13 +50,13 @@ as-due ρ =
       part = λ s at g. GroupDue.part-first-due ρ s at g;
       part-end = span-end ρ;
       characteristic = λ s at k. GroupDue.characteristic-first-due ρ s at k;
-      writing = λ ns cs room. WritingDue.first-due ns cs room;
+      writing = λ ns cs room. WritingDue.first-due ρ ns cs room;
       rewriting = λ s at cells room. RewritingDue.first-due ρ s at cells room;
       listed = λ s room. Listed.first-due (listing ρ s) room;
-      call = λ ns j used cells c. JournalDue.first-due ns j used cells c;
-      call-left = λ ns c k a k′ e. JournalDue.left-due ns c k a k′ e;
-      replay = λ ns j used cs. JournalDue.replay-first-due ns j used cs;
-      replay-left = λ ns j used cs a cs′ d e. JournalDue.replay-left-due ns j used cs a cs′ d e;
+      call = λ ns j used cells c. JournalDue.first-due ρ ns j used cells c;
+      call-left = λ ns c k a k′ e. JournalDue.left-due ρ ns c k a k′ e;
+      replay = λ ns j used cs. JournalDue.replay-first-due ρ ns j used cs;
+      replay-left = λ ns j used cs a cs′ d e. JournalDue.replay-left-due ρ ns j used cs a cs′ d e;
       listing-is = λ s x. (λ e. subst (IsListing ρ s) e (Listed.listing-is ρ s), λ h. sym (Listed.is-listing ρ s x h));
     }
 
@@ -66,7 +70,7 @@ rewrites ρ s at cells out bytes next e =
       cells = _;
       read = whole-read ρ s at next placed all;
       text = textAt ρ s at;
-      canonical = subst (CanonicalRecord (countsAt ρ s at) (textAt ρ s at)) (whole-joined ρ s at next placed all) (done-canonical ρ (countsAt ρ s at) (cellsAt ρ s at) (length out) bytes written);
+      canonical = subst (CanonicalRecord ρ (countsAt ρ s at) (textAt ρ s at)) (whole-joined ρ s at next placed all) (done-canonical ρ (countsAt ρ s at) (cellsAt ρ s at) (length out) bytes written);
       long = done-text ρ s at cells (length out) bytes next e;
       front = done-front ρ s at cells (length out) bytes next e out;
     }
@@ -75,13 +79,13 @@ lent-holds : (ρ : Rules) → LentHolds ρ
 lent-holds ρ =
     record {
       reading = λ s at g table cs e. rw e (done-read-holds cs table);
-      writing = λ ns cs out n e. rw e (done-write-begins ns cs out n e);
+      writing = λ ns cs out n e. rw e (done-write-begins ρ ns cs out n e);
       listed = λ s out n e. Listed.listed-begins (listing ρ s) out n e;
       rewriting = λ s at cells out bytes next e. rw e (rewrites ρ s at cells out bytes next e);
       rewriting-table = λ s at room table. table-has ρ s at table (length table) room (rewritingOf ρ s at (length table) room) refl;
     }
 
-one-canonical : (ρ : Rules) (ns : List ℕ) (cs : List ℤ) (room n : ℕ) → writingOf ns cs room ≡ Done n → OneCanonical ns cs n
+one-canonical : (ρ : Rules) (ns : List ℕ) (cs : List ℤ) (room n : ℕ) → writingOf ρ ns cs room ≡ Done n → OneCanonical ρ ns cs n
 one-canonical ρ ns cs room n e =
     record {
       long = done-bytes ρ ns cs room n e;
@@ -89,18 +93,24 @@ one-canonical ρ ns cs room n e =
       one = λ x h. canonical-text ρ h;
     }
 
-edits : Edits
-edits =
+edits : (ρ : Rules) → Edits ρ
+edits ρ =
     record {
-      stack = journal-is-stack;
-      adds = adds-field;
+      stack = journal-is-stack ρ;
+      adds = adds-field ρ;
       codec = both-ways;
-      reads-as = reads-as;
-      replayed = replay-same;
-      goes-on = goes-on;
-      torn = torn-calls;
-      made = λ ns t k f b r. reopened ns t (k .journal) (k .used) f b r;
+      reads-as = reads-as ρ;
+      replayed = replay-same ρ;
+      goes-on = goes-on ρ;
+      torn = torn-calls ρ;
+      made = λ ns t k f b r. reopened ρ ns t (k .journal) (k .used) f b r;
     }
+
+-- R12: rules that differ in line ends alone write the same, so what one of them wrote the other reads
+reads-back-ended : (ρ : Rules) → WrittenReadsBack ρ
+reads-back-ended ρ ns cs room n w e a b =
+    let σ = ended e ρ in
+    subst (λ t. ReadsBack σ ns cs n (a ++ (t ++ b)) (length a)) (record-text-same σ ρ refl ns cs) (reads-back σ ns cs room n (writing-same σ ρ refl ns cs room ∙ w) a b)
 
 pub demand-2 : (ρ : Rules) → Demand2 ρ
 demand-2 ρ =
@@ -108,11 +118,11 @@ demand-2 ρ =
       due = as-due ρ;
       lent = lent-holds ρ;
       canonical = one-canonical ρ;
-      reads-back = λ ns cs room n e a b. reads-back ρ ns cs room n e a b;
-      edits = edits;
+      reads-back = reads-back-ended ρ;
+      edits = edits ρ;
       read-writes = record {
         record-returns = λ {ds} s at next cells r h out enough. returns-same ρ r h out enough;
-        text-returns = canonical-printed ρ;
+        text-returns = λ s c few e. canonical-printed (ended e ρ) s (canonical-records-same ρ (ended e ρ) refl s c) few;
         printed-returns = λ s few. (printed-canonical ρ s, printed-again ρ s few);
       };
     }

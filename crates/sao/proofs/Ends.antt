@@ -1,6 +1,6 @@
 -- R9, R12: what the rules for line ends promise of one another (specs/Ends.antt).
 -- Assumes nothing.
-use mathlib.Core.Path.{refl}
+use mathlib.Core.Path.{_≡_, refl}
 use Rattle.rules.specs.Choice.{ended}
 use Rattle.rules.specs.declared.LineEnds.the-variants.{Strict}
 use Rattle.rules.specs.declared.Rules.{Rules}
@@ -17,25 +17,37 @@ use Rattle.group.proofs.Ends.{located-found, located-begins, located-lines, str
 use Rattle.writing.proofs.Ends.{canonical-same}
 use Rattle.rewriting.proofs.Alike.{alike-rewriting, alike-text, alike-printed}
 use Rattle.rewriting.proofs.Canonical.{right-back}
-use Rattle.rewriting.proofs.Ends.{strict-rewriting, strict-text}
-use Rattle.sao.specs.Ends.{StrictStays, LineEndsKept}
+use Rattle.journal.proofs.SameCounting.{answer-same, left-same, replay-answer-same, replay-left-same}
+use Rattle.writing.proofs.SameCounting.{writing-same, output-same}
+use Rattle.rewriting.proofs.Ends.{strict-rewriting, strict-text, right-record-same}
+use Rattle.sao.specs.Ends.{StrictStays, UnreadSame, LineEndsKept}
 
 strict-stays-so : (ρ : Rules) → StrictStays (ended Strict ρ) ρ
 strict-stays-so ρ =
     let σ = ended Strict ρ in
     record {
       content = strict-content σ ρ refl;
-      placing = λ s at p. strict-placing σ ρ refl s at p .0;
-      counts = λ s at p. strict-placing σ ρ refl s at p .1;
-      found = λ s at p. located-found ρ σ s at (strict-same σ ρ refl s at p);
-      begins = λ s at p. located-begins ρ σ s at (strict-same σ ρ refl s at p);
-      lines = λ s at p. located-lines ρ σ s at (strict-same σ ρ refl s at p);
-      spots = strict-spot σ ρ refl;
-      reading = λ s at. strict-read σ ρ refl s at;
-      characteristic = λ s at. strict-characteristic σ ρ refl s at;
-      rewriting = strict-rewriting σ ρ refl;
-      text = strict-text σ ρ refl;
+      placing = λ s at p. strict-placing σ ρ refl refl s at p .0;
+      counts = λ s at p. strict-placing σ ρ refl refl s at p .1;
+      found = λ s at p. located-found ρ σ refl s at (strict-same σ ρ refl refl s at p);
+      begins = λ s at p. located-begins ρ σ refl s at (strict-same σ ρ refl refl s at p);
+      lines = λ s at p. located-lines ρ σ refl s at (strict-same σ ρ refl refl s at p);
+      spots = strict-spot σ ρ refl refl;
+      reading = λ s at. strict-read σ ρ refl refl s at;
+      characteristic = λ s at. strict-characteristic σ ρ refl refl s at;
+      rewriting = strict-rewriting σ ρ refl refl;
+      text = strict-text σ ρ refl refl;
     }
+
+unread-same : (σ ρ : Rules) → σ .counting ≡ ρ .counting → UnreadSame σ ρ
+unread-same σ ρ alike = record {
+  writing = writing-same σ ρ alike;
+  output = output-same σ ρ alike;
+  call = answer-same σ ρ alike;
+  call-left = left-same σ ρ alike;
+  replay = replay-answer-same σ ρ alike;
+  replay-left = replay-left-same σ ρ alike;
+}
 
 pub line-ends : (ρ : Rules) → LineEndsKept ρ
 line-ends ρ = record {
@@ -57,7 +69,8 @@ line-ends ρ = record {
   walk = λ s t h. record { spots = alike-spot ρ s t h; stops = alike-stops ρ s t h; prints = alike-printed ρ s t h };
   canonical =
       record {
-        reads-back = λ x r a b. right-back ρ r a b;
-        same = λ e x r a b. canonical-same ρ (ended e ρ) (r .canonical) (release-given (r .ns) Five (r .release)) a b;
+        reads-back = λ e x r a b. right-back (ended e ρ) (right-record-same ρ (ended e ρ) refl r) a b;
+        same = λ e x r a b. canonical-same ρ (ended e ρ) refl (r .canonical) (release-given (r .ns) Five (r .release)) a b;
       };
+  unread = λ e. unread-same (ended e ρ) ρ refl;
 }

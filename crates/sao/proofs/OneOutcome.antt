@@ -49,10 +49,10 @@ pub characteristic-one : OneOutcome characteristic.ended characteristic.Reads.Le
 characteristic-one κs a r q v w l k = (l ∙ sym k, λ i. (tt, (tt, (tt, (tt, tt)))))
 
 pub write-record-one : OneOutcome write_record.ended write_record.Reads.Learnt
-write-record-one κs (counts, (cells, (out, _))) r q v w l k =
+write-record-one κs (ρ, (counts, (cells, (out, _)))) r q v w l k =
     let answer = l .0 ∙ sym (k .0) in
-    let bytes = l .1 ∙ ap (λ p. outputBy (now counts) (now cells) p (now out)) answer ∙ sym (k .1) in
-    (answer, λ i. (tt, (tt, (bytes i, tt))))
+    let bytes = l .1 ∙ ap (λ p. outputBy ρ (now counts) (now cells) p (now out)) answer ∙ sym (k .1) in
+    (answer, λ i. (tt, (tt, (tt, (bytes i, tt)))))
 
 pub list-one : OneOutcome list.ended list.Reads.Learnt
 list-one κs a r q v w l k =
@@ -69,38 +69,38 @@ rewrite-record-one κs (ρ, (text, (at, (table, (out, _))))) r q v w l k =
 -- ---- the edit journal
 
 pub set-cell-one : OneOutcome set_cell.ended set_cell.Reads.Learnt
-set-cell-one κs (counts, (cells, (journal, (used, (g, (i, (z, _))))))) r q v w l k =
+set-cell-one κs (ρ, (counts, (cells, (journal, (used, (g, (i, (z, _)))))))) r q v w l k =
     let answer = l .0 ∙ sym (k .0) in
     let bytes = l .1 .0 ∙ ap (usedBy used (Sets g i z)) answer ∙ sym (k .1 .0) in
-    let table = l .1 .1 .0 ∙ ap (cellsAfter (now counts) (now journal) used (Sets g i z) (now cells)) answer ∙ sym (k .1 .1 .0) in
-    let text = l .1 .1 .1 ∙ ap (journalBy (now counts) (now journal) used (Sets g i z) (now cells)) answer ∙ sym (k .1 .1 .1) in
-    (λ i. record { answer = answer i; used = bytes i }, λ i. (tt, (table i, (text i, (tt, (tt, (tt, (tt, tt))))))))
+    let table = l .1 .1 .0 ∙ ap (cellsAfter ρ (now counts) (now journal) used (Sets g i z) (now cells)) answer ∙ sym (k .1 .1 .0) in
+    let text = l .1 .1 .1 ∙ ap (journalBy ρ (now counts) (now journal) used (Sets g i z) (now cells)) answer ∙ sym (k .1 .1 .1) in
+    (λ i. record { answer = answer i; used = bytes i }, λ i. (tt, (tt, (table i, (text i, (tt, (tt, (tt, (tt, tt)))))))))
 
 pub open-savepoint-one : OneOutcome open_savepoint.ended open_savepoint.Reads.Learnt
-open-savepoint-one κs (counts, (cells, (journal, (used, _)))) r q v w l k =
+open-savepoint-one κs (ρ, (counts, (cells, (journal, (used, _))))) r q v w l k =
     let answer = l .0 ∙ sym (k .0) in
     let bytes = l .1 .0 ∙ ap (usedBy used Opens) answer ∙ sym (k .1 .0) in
-    let text = l .1 .1 ∙ ap (journalBy (now counts) (now journal) used Opens (now cells)) answer ∙ sym (k .1 .1) in
-    (λ i. record { answer = answer i; used = bytes i }, λ i. (tt, (tt, (text i, (tt, tt)))))
+    let text = l .1 .1 ∙ ap (journalBy ρ (now counts) (now journal) used Opens (now cells)) answer ∙ sym (k .1 .1) in
+    (λ i. record { answer = answer i; used = bytes i }, λ i. (tt, (tt, (tt, (text i, (tt, tt))))))
 
 pub release-savepoint-one : OneOutcome release_savepoint.ended release_savepoint.Reads.Learnt
-release-savepoint-one κs (counts, (cells, (journal, (used, (n, _))))) r q v w l k =
+release-savepoint-one κs (ρ, (counts, (cells, (journal, (used, (n, _)))))) r q v w l k =
     let answer = l .0 ∙ sym (k .0) in
     let bytes = l .1 .0 ∙ ap (usedBy used (Releases n)) answer ∙ sym (k .1 .0) in
-    let text = l .1 .1 ∙ ap (journalBy (now counts) (now journal) used (Releases n) (now cells)) answer ∙ sym (k .1 .1) in
-    (λ i. record { answer = answer i; used = bytes i }, λ i. (tt, (tt, (text i, (tt, (tt, tt))))))
+    let text = l .1 .1 ∙ ap (journalBy ρ (now counts) (now journal) used (Releases n) (now cells)) answer ∙ sym (k .1 .1) in
+    (λ i. record { answer = answer i; used = bytes i }, λ i. (tt, (tt, (tt, (text i, (tt, (tt, tt)))))))
 
 pub undo-to-savepoint-one : OneOutcome undo_to_savepoint.ended undo_to_savepoint.Reads.Learnt
-undo-to-savepoint-one κs (counts, (cells, (journal, (used, (n, _))))) r q v w l k =
+undo-to-savepoint-one κs (ρ, (counts, (cells, (journal, (used, (n, _)))))) r q v w l k =
     let answer = l .0 ∙ sym (k .0) in
     let bytes = l .1 .0 ∙ ap (usedBy used (Undoes n)) answer ∙ sym (k .1 .0) in
-    let table = l .1 .1 .0 ∙ ap (cellsAfter (now counts) (now journal) used (Undoes n) (now cells)) answer ∙ sym (k .1 .1 .0) in
-    let text = l .1 .1 .1 ∙ ap (journalBy (now counts) (now journal) used (Undoes n) (now cells)) answer ∙ sym (k .1 .1 .1) in
-    (λ i. record { answer = answer i; used = bytes i }, λ i. (tt, (table i, (text i, (tt, (tt, tt))))))
+    let table = l .1 .1 .0 ∙ ap (cellsAfter ρ (now counts) (now journal) used (Undoes n) (now cells)) answer ∙ sym (k .1 .1 .0) in
+    let text = l .1 .1 .1 ∙ ap (journalBy ρ (now counts) (now journal) used (Undoes n) (now cells)) answer ∙ sym (k .1 .1 .1) in
+    (λ i. record { answer = answer i; used = bytes i }, λ i. (tt, (tt, (table i, (text i, (tt, (tt, tt)))))))
 
 pub replay-one : OneOutcome replay.ended replay.Reads.Learnt
-replay-one κs (counts, (cells, (journal, (used, _)))) r q v w l k =
+replay-one κs (ρ, (counts, (cells, (journal, (used, _))))) r q v w l k =
     let answer = l .0 ∙ sym (k .0) in
-    let opened = l .1 .0 ∙ ap (replayedOpen (now counts) (now journal) used (now cells)) answer ∙ sym (k .1 .0) in
-    let table = l .1 .1 ∙ ap (replayedCells (now counts) (now journal) used (now cells)) answer ∙ sym (k .1 .1) in
-    (λ i. record { answer = answer i; «open» = opened i }, λ i. (tt, (table i, (tt, (tt, tt)))))
+    let opened = l .1 .0 ∙ ap (replayedOpen ρ (now counts) (now journal) used (now cells)) answer ∙ sym (k .1 .0) in
+    let table = l .1 .1 ∙ ap (replayedCells ρ (now counts) (now journal) used (now cells)) answer ∙ sym (k .1 .1) in
+    (λ i. record { answer = answer i; «open» = opened i }, λ i. (tt, (tt, (table i, (tt, (tt, tt))))))

@@ -50,12 +50,12 @@ module _ (ρ : Rules) where
     pub reading : (s : List ℕ) (at g room : ℕ) → Numbered readingRows (answerReply (readingOf (readAt ρ s at g room)))
     pub lines : (s : List ℕ) (at g : ℕ) → Numbered foundRows (checkedReply (foundAt ρ s at g))
     pub characteristic : (s : List ℕ) (at k : ℕ) → Numbered characteristicRows (characteristicReply (characteristicAt ρ s at k))
-    pub writing : (ns : List ℕ) (cs : List ℤ) (room : ℕ) → Numbered writingRows (answerReply (writingOf ns cs room))
+    pub writing : (ns : List ℕ) (cs : List ℤ) (room : ℕ) → Numbered writingRows (answerReply (writingOf ρ ns cs room))
     pub listed : (s : List ℕ) (room : ℕ) → Numbered listingRows (answerReply (listedIn (listing ρ s) room))
     pub rewriting : (s : List ℕ) (at cells room : ℕ) → Numbered rewritingRows (rewritingReply (rewritingOf ρ s at cells room))
     -- R550, R540: the calls of the edit journal, and a replay
-    pub call : (ns j : List ℕ) (used cells : ℕ) (c : Call) → Numbered (callRows c) (editReply (answerOf ns j used cells c))
-    pub replay : (ns j : List ℕ) (used : ℕ) (cs : List ℤ) → Numbered replayRows (checkedReply (replayOf ns j used cs))
+    pub call : (ns j : List ℕ) (used cells : ℕ) (c : Call) → Numbered (callRows c) (editReply (answerOf ρ ns j used cells c))
+    pub replay : (ns j : List ℕ) (used : ℕ) (cs : List ℤ) → Numbered replayRows (checkedReply (replayOf ρ ns j used cs))
     -- R323: the group that rewriting tells apart from the reply is one of 1 to 60
     pub unread : (s : List ℕ) (at cells room g : ℕ) (r : Refusal) → rewritingOf ρ s at cells room ≡ GroupRefused g r → (1 ≤ g) × (g ≤ 60)
 
@@ -66,35 +66,34 @@ module _ (ρ : Rules) where
 
   -- D1.5: after a refused write the output is what it was: writing a record (R307), listing a text (R311), rewriting a record (R325)
   pub record RefusedWriteKeeps : Type 0 where
-    pub writing : (ns : List ℕ) (cs : List ℤ) (out : List ℕ) → NotDone (answerReply (writingOf ns cs (length out))) → outputBy ns cs (writingOf ns cs (length out)) out ≡ out
+    pub writing : (ns : List ℕ) (cs : List ℤ) (out : List ℕ) → NotDone (answerReply (writingOf ρ ns cs (length out))) → outputBy ρ ns cs (writingOf ρ ns cs (length out)) out ≡ out
     pub listed : (s out : List ℕ) → NotDone (answerReply (listedIn (listing ρ s) (length out))) → putBytes 0 (listing ρ s) out ≡ out
     pub rewriting : (s : List ℕ) (at cells : ℕ) (out : List ℕ) → NotDone (rewritingReply (rewritingOf ρ s at cells (length out))) → bufferBy ρ s at (rewritingOf ρ s at cells (length out)) out ≡ out
 
--- D1.4, D1.5: after a refused call, cells, journal and bytes used are what they were (R518); after a refused replay the cells are, and no
--- savepoint is told (R542)
-pub record RefusedEditKeeps : Type 0 where
-  pub cells : (ns j : List ℕ) (used : ℕ) (c : Call) (cs : List ℤ)
-      → NotDone (editReply (answerOf ns j used (length cs) c))
-      → cellsAfter ns j used c cs (answerOf ns j used (length cs) c) ≡ cs
-  pub journal : (ns j : List ℕ) (used : ℕ) (c : Call) (cs : List ℤ)
-      → NotDone (editReply (answerOf ns j used (length cs) c))
-      → journalBy ns j used c cs (answerOf ns j used (length cs) c) ≡ j
-  pub used : (ns j : List ℕ) (n : ℕ) (c : Call) (cs : List ℤ)
-      → NotDone (editReply (answerOf ns j n (length cs) c))
-      → usedBy n c (answerOf ns j n (length cs) c) ≡ n
-  pub replay : (ns j : List ℕ) (used : ℕ) (cs : List ℤ)
-      → NotDone (checkedReply (replayOf ns j used cs))
-      → (replayedCells ns j used cs (replayOf ns j used cs) ≡ cs) × (replayedOpen ns j used cs (replayOf ns j used cs) ≡ 0)
+  -- D1.4, D1.5: after a refused call, cells, journal and bytes used are what they were (R518); after a refused replay the cells are, and no
+  -- savepoint is told (R542)
+  pub record RefusedEditKeeps : Type 0 where
+    pub cells : (ns j : List ℕ) (used : ℕ) (c : Call) (cs : List ℤ)
+        → NotDone (editReply (answerOf ρ ns j used (length cs) c))
+        → cellsAfter ρ ns j used c cs (answerOf ρ ns j used (length cs) c) ≡ cs
+    pub journal : (ns j : List ℕ) (used : ℕ) (c : Call) (cs : List ℤ)
+        → NotDone (editReply (answerOf ρ ns j used (length cs) c))
+        → journalBy ρ ns j used c cs (answerOf ρ ns j used (length cs) c) ≡ j
+    pub used : (ns j : List ℕ) (n : ℕ) (c : Call) (cs : List ℤ)
+        → NotDone (editReply (answerOf ρ ns j n (length cs) c))
+        → usedBy n c (answerOf ρ ns j n (length cs) c) ≡ n
+    pub replay : (ns j : List ℕ) (used : ℕ) (cs : List ℤ)
+        → NotDone (checkedReply (replayOf ρ ns j used cs))
+        → (replayedCells ρ ns j used cs (replayOf ρ ns j used cs) ≡ cs) × (replayedOpen ρ ns j used cs (replayOf ρ ns j used cs) ≡ 0)
 
-module _ (ρ : Rules) where
   -- R266, R306, R311, R324: what stands behind the cells or bytes that were written stays as it was
   pub record KeepsRest : Type 0 where
     pub reading : (s : List ℕ) (at g : ℕ) (table : List ℤ)
         → drop (answerReply (readingOf (readAt ρ s at g (length table))) .written) (tableBy (readAt ρ s at g (length table)) table)
         ≡ drop (answerReply (readingOf (readAt ρ s at g (length table))) .written) table
     pub writing : (ns : List ℕ) (cs : List ℤ) (out : List ℕ)
-        → drop (answerReply (writingOf ns cs (length out)) .written) (outputBy ns cs (writingOf ns cs (length out)) out)
-        ≡ drop (answerReply (writingOf ns cs (length out)) .written) out
+        → drop (answerReply (writingOf ρ ns cs (length out)) .written) (outputBy ρ ns cs (writingOf ρ ns cs (length out)) out)
+        ≡ drop (answerReply (writingOf ρ ns cs (length out)) .written) out
     pub listed : (s out : List ℕ)
         → drop (answerReply (listedIn (listing ρ s) (length out)) .written) (putBytes 0 (listing ρ s) out)
         ≡ drop (answerReply (listedIn (listing ρ s) (length out)) .written) out
@@ -103,8 +102,8 @@ module _ (ρ : Rules) where
         ≡ drop (rewritingReply (rewritingOf ρ s at cells (length out)) .written) out
 
   pub record Demand1 : Type 0 where
-    pub numbered : EndsNumbered ρ
-    pub refused-read : RefusedReadKeeps ρ
-    pub refused-write : RefusedWriteKeeps ρ
+    pub numbered : EndsNumbered
+    pub refused-read : RefusedReadKeeps
+    pub refused-write : RefusedWriteKeeps
     pub refused-edit : RefusedEditKeeps
     pub rest : KeepsRest

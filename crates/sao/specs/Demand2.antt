@@ -10,7 +10,9 @@ use mathlib.Core.Logic.{_↔_}
 use Prim.Native.Nat.{ℕ, _+_, _-_, _≤_}
 use lib.IntN.{ℤ}
 use lib.ListN.{length, take}
+use Rattle.rules.specs.declared.LineEnds.{LineEnds}
 use Rattle.rules.specs.declared.Rules.{Rules}
+use Rattle.rules.specs.Choice.{ended}
 use Rattle.base.specs.Part.{part, over}
 use Rattle.base.specs.Pieces.{done}
 use Rattle.decimal.specs.Writing.{putBytes}
@@ -69,24 +71,24 @@ module _ (ρ : Rules) where
     pub part : (s : List ℕ) (at g from : ℕ) (x : List ℕ) → ((partStart ρ s at g ≡ from) × (partAt ρ s at g ≡ x)) ↔ GroupIs.PartDue ρ s at g from x
     pub part-end : (s : List ℕ) (at g : ℕ) → partEnd ρ s at g ≡ partStart ρ s at g + length (partAt ρ s at g)
     pub characteristic : (s : List ℕ) (at k : ℕ) (c : Characteristic) → characteristicAt ρ s at k ≡ c ↔ GroupIs.CharacteristicDue ρ s at k c
-    pub writing : (ns : List ℕ) (cs : List ℤ) (room : ℕ) (r : Answer) → writingOf ns cs room ≡ r ↔ WritingIs.Due ns cs room r
+    pub writing : (ns : List ℕ) (cs : List ℤ) (room : ℕ) (r : Answer) → writingOf ρ ns cs room ≡ r ↔ WritingIs.Due ρ ns cs room r
     pub rewriting : (s : List ℕ) (at cells room : ℕ) (r : Rewriting) → rewritingOf ρ s at cells room ≡ r ↔ RewritingIs.Due ρ s at cells room r
     pub listed : (s : List ℕ) (room : ℕ) (r : Answer) → listedIn (listing ρ s) room ≡ r ↔ ListingDue (listing ρ s) room r
     pub listing-is : (s x : List ℕ) → listing ρ s ≡ x ↔ IsListing ρ s x
     -- the edit journal: a call, and what it leaves: bytes used, journal and cells (R512 to R520); a replay, and what it leaves: cells and open
     -- savepoints (R540 to R542). Fields in order, and a field at fault, are said of one field after the other (R530, R531; journal's Order)
-    pub call : (ns j : List ℕ) (used cells : ℕ) (c : Call) (a : Answer) → answerOf ns j used cells c ≡ a ↔ JournalIs.Due ns j used cells c a
-    pub call-left : (ns : List ℕ) (c : Call) (k : Kept) (a : Answer) (k′ : Kept) → answerTo ns c k ≡ a → leftBy ns c k a ≡ k′ ↔ JournalIs.LeftDue ns c k a k′
-    pub replay : (ns j : List ℕ) (used : ℕ) (cs : List ℤ) (a : Checked) → replayOf ns j used cs ≡ a ↔ JournalIs.ReplayDue ns j used cs a
-    pub replay-left : (ns j : List ℕ) (used : ℕ) (cs : List ℤ) (a : Checked) (cs′ : List ℤ) (d : ℕ) → replayOf ns j used cs ≡ a
-        → ((replayedCells ns j used cs a ≡ cs′) × (replayedOpen ns j used cs a ≡ d)) ↔ JournalIs.ReplayLeftDue ns j used cs a cs′ d
+    pub call : (ns j : List ℕ) (used cells : ℕ) (c : Call) (a : Answer) → answerOf ρ ns j used cells c ≡ a ↔ JournalIs.Due ρ ns j used cells c a
+    pub call-left : (ns : List ℕ) (c : Call) (k : Kept) (a : Answer) (k′ : Kept) → answerTo ρ ns c k ≡ a → leftBy ρ ns c k a ≡ k′ ↔ JournalIs.LeftDue ρ ns c k a k′
+    pub replay : (ns j : List ℕ) (used : ℕ) (cs : List ℤ) (a : Checked) → replayOf ρ ns j used cs ≡ a ↔ JournalIs.ReplayDue ρ ns j used cs a
+    pub replay-left : (ns j : List ℕ) (used : ℕ) (cs : List ℤ) (a : Checked) (cs′ : List ℤ) (d : ℕ) → replayOf ρ ns j used cs ≡ a
+        → ((replayedCells ρ ns j used cs a ≡ cs′) × (replayedOpen ρ ns j used cs a ≡ d)) ↔ JournalIs.ReplayLeftDue ρ ns j used cs a cs′ d
 
   -- what rewriting's output holds under 0: the canonical text of the counts and of what every group read as
   pub record Rewrites (s : List ℕ) (at bytes next : ℕ) (buffer : List ℕ) : Type 0 where
     pub cells : ℕ → List ℤ
     pub read : ReadWhole ρ s at next cells
     pub text : List ℕ
-    pub canonical : CanonicalRecord (countsAt ρ s at) text (joined cells)
+    pub canonical : CanonicalRecord ρ (countsAt ρ s at) text (joined cells)
     pub long : length text ≡ bytes
     pub front : take bytes buffer ≡ text
 
@@ -94,7 +96,7 @@ module _ (ρ : Rules) where
   -- bytes the text
   pub record LentHolds : Type 0 where
     pub reading : (s : List ℕ) (at g : ℕ) (table cs : List ℤ) → readAt ρ s at g (length table) ≡ done cs → take (length cs) (tableBy (readAt ρ s at g (length table)) table) ≡ cs
-    pub writing : (ns : List ℕ) (cs : List ℤ) (out : List ℕ) (n : ℕ) → writingOf ns cs (length out) ≡ Done n → take n (outputBy ns cs (writingOf ns cs (length out)) out) ≡ recordText ns cs
+    pub writing : (ns : List ℕ) (cs : List ℤ) (out : List ℕ) (n : ℕ) → writingOf ρ ns cs (length out) ≡ Done n → take n (outputBy ρ ns cs (writingOf ρ ns cs (length out)) out) ≡ recordText ρ ns cs
     pub listed : (s out : List ℕ) (n : ℕ) → listedIn (listing ρ s) (length out) ≡ Done n → take n (putBytes 0 (listing ρ s) out) ≡ listing ρ s
     pub rewriting : (s : List ℕ) (at cells : ℕ) (out : List ℕ) (bytes next : ℕ) → rewritingOf ρ s at cells (length out) ≡ Rewritten bytes next
         → Rewrites s at bytes next (bufferBy ρ s at (rewritingOf ρ s at cells (length out)) out)
@@ -102,64 +104,64 @@ module _ (ρ : Rules) where
     pub rewriting-table : (s : List ℕ) (at room : ℕ) (table : List ℤ)
         → TableHas ρ s at (groupsRead (rewritingOf ρ s at (length table) room)) table (tableAfter ρ s at (rewritingOf ρ s at (length table) room) table)
 
--- D2.3: n bytes, canonical with these counts and cells, and no other text is (R100)
-pub record OneCanonical (ns : List ℕ) (cs : List ℤ) (n : ℕ) : Type 0 where
-  pub long : length (recordText ns cs) ≡ n
-  pub canonical : CanonicalRecord ns (recordText ns cs) cs
-  pub one : (x : List ℕ) → CanonicalRecord ns x cs → x ≡ recordText ns cs
+  -- D2.3: n bytes, canonical with these counts and cells, and no other text is (R100)
+  pub record OneCanonical (ns : List ℕ) (cs : List ℤ) (n : ℕ) : Type 0 where
+    pub long : length (recordText ρ ns cs) ≡ n
+    pub canonical : CanonicalRecord ρ ns (recordText ρ ns cs) cs
+    pub one : (x : List ℕ) → CanonicalRecord ρ ns x cs → x ≡ recordText ρ ns cs
 
-abbrev pub WritesCanonical : Type 0
-WritesCanonical = (ns : List ℕ) (cs : List ℤ) (room n : ℕ) → writingOf ns cs room ≡ Done n → OneCanonical ns cs n
+  abbrev pub WritesCanonical : Type 0
+  WritesCanonical = (ns : List ℕ) (cs : List ℤ) (room n : ℕ) → writingOf ρ ns cs room ≡ Done n → OneCanonical ns cs n
 
-module _ (ρ : Rules) where
-  -- D2.4: what was written reads as its counts and cells, wherever it stands in whatever text
+  -- D2.4: what was written reads as its counts and cells, wherever it stands in whatever text, by each rule for line ends (R12)
   abbrev pub WrittenReadsBack : Type 0
   WrittenReadsBack =
-      (ns : List ℕ) (cs : List ℤ) (room n : ℕ) → writingOf ns cs room ≡ Done n → (a b : List ℕ) → ReadsBack ρ ns cs n (a ++ (recordText ns cs ++ b)) (length a)
+      (ns : List ℕ) (cs : List ℤ) (room n : ℕ) → writingOf ρ ns cs room ≡ Done n
+      → (e : LineEnds) (a b : List ℕ) → ReadsBack (ended e ρ) ns cs n (a ++ (recordText ρ ns cs ++ b)) (length a)
 
   -- D2.5: what was read from canonical text is written as that text
   pub record ReadWrites : Type 0 where
     -- a record of any text whose groups all read with 0 and whose bytes are canonical
-    pub record-returns : {ds : List ℤ} (s : List ℕ) (at next : ℕ) (cells : ℕ → List ℤ) → ReadWhole ρ s at next cells → CanonicalRecord (countsAt ρ s at) (part at next s) ds
+    pub record-returns : {ds : List ℤ} (s : List ℕ) (at next : ℕ) (cells : ℕ → List ℤ) → ReadWhole ρ s at next cells → CanonicalRecord ρ (countsAt ρ s at) (part at next s) ds
         → (out : List ℕ) → next - at ≤ length out
-        → (writingOf (countsAt ρ s at) (joined cells) (length out) ≡ Done (next - at))
-        × (outputBy (countsAt ρ s at) (joined cells) (writingOf (countsAt ρ s at) (joined cells) (length out)) out ≡ over 0 (part at next s) out)
-    -- R348: what the program prints for a text of canonical records, each of at most 8,192 bytes
-    pub text-returns : (s : List ℕ) → CanonicalRecords s → length s ≤ 65536 → printed ρ s ≡ s
+        → (writingOf ρ (countsAt ρ s at) (joined cells) (length out) ≡ Done (next - at))
+        × (outputBy ρ (countsAt ρ s at) (joined cells) (writingOf ρ (countsAt ρ s at) (joined cells) (length out)) out ≡ over 0 (part at next s) out)
+    -- R348: what the program prints for a text of canonical records, each of at most 8,192 bytes, by each rule for line ends
+    pub text-returns : (s : List ℕ) → CanonicalRecords ρ s → length s ≤ 65536 → (e : LineEnds) → printed (ended e ρ) s ≡ s
     -- and for what it printed itself
-    pub printed-returns : (s : List ℕ) → length (printed ρ s) ≤ 65536 → CanonicalRecords (printed ρ s) × (printed ρ (printed ρ s) ≡ printed ρ s)
+    pub printed-returns : (s : List ℕ) → length (printed ρ s) ≤ 65536 → CanonicalRecords ρ (printed ρ s) × (printed ρ (printed ρ s) ≡ printed ρ s)
 
--- R516, R520, R543, R544: what the calls of the edit journal leave, over any counts, table t and buffer j: on a fresh journal all that they
--- answer and leave is that of a plain stack of whole tables.
-pub record Edits : Type 0 where
-  pub stack : (ns : List ℕ) (t : List ℤ) (j : List ℕ) (cs : List Call) → Fit t → FitCalls cs → JournalIsStack ns t j cs
-  -- a call that is accepted adds its field and nothing else, on whatever journal; a refused one adds nothing
-  pub adds : (ns : List ℕ) (c : Call) (k : Kept) → AddsField ns c k
-  -- an entry and its bytes, both ways; and the bytes used read as the accepted calls, one after the other
-  pub codec : BothWays
-  pub reads-as : (ns : List ℕ) (t : List ℤ) (j : List ℕ) (cs : List Call) → Fit t → FitCalls cs → ReadsEntries (leftTo ns cs (kept t j 0)) (entriesTo ns cs (kept t j 0))
-  -- replayed over t, the journal comes to the same cells and open savepoints
-  pub replayed : (ns : List ℕ) (t : List ℤ) (j : List ℕ) (cs : List Call) → Fit t → FitCalls cs
-      → HasCells ns (length t)
-      → ReplaysTo ns t (leftTo ns cs (kept t j 0) .journal) (leftTo ns cs (kept t j 0))
-  -- and behind the replay all is as it was kept, so that further calls are answered, and leave, what they would have without it
-  pub goes-on : (ns : List ℕ) (t : List ℤ) (j : List ℕ) (cs : List Call) → Fit t → FitCalls cs
-      → HasCells ns (length t)
-      → behindReplay ns t (leftTo ns cs (kept t j 0)) ≡ leftTo ns cs (kept t j 0)
-  -- cut behind its first n bytes, and with whatever else in the buffer j′, it comes to what the calls left that are whole in them
-  pub torn : (ns : List ℕ) (t : List ℤ) (j : List ℕ) (cs : List Call) → Fit t → FitCalls cs
-      → HasCells ns (length t)
-      → {n : ℕ} {j′ : List ℕ} → FirstBytes (leftTo ns cs (kept t j 0)) n j′
-      → Torn ns t cs (kept t j 0) n j′
-  -- what replays with 0, whoever wrote it, is a journal that calls have made
-  pub made : (ns : List ℕ) (t : List ℤ) (k : Kept) → Fit t → AllBytes (take (k .used) (k .journal))
-      → replayOf ns (k .journal) (k .used) t ≡ Right
-      → MadeBy ns (kept t (k .journal) 0) (behindReplay ns t k)
+  -- R516, R520, R543, R544: what the calls of the edit journal leave, over any counts, table t and buffer j: on a fresh journal all that they
+  -- answer and leave is that of a plain stack of whole tables.
+  pub record Edits : Type 0 where
+    pub stack : (ns : List ℕ) (t : List ℤ) (j : List ℕ) (cs : List Call) → Fit t → FitCalls cs → JournalIsStack ρ ns t j cs
+    -- a call that is accepted adds its field and nothing else, on whatever journal; a refused one adds nothing
+    pub adds : (ns : List ℕ) (c : Call) (k : Kept) → AddsField ρ ns c k
+    -- an entry and its bytes, both ways; and the bytes used read as the accepted calls, one after the other
+    pub codec : BothWays
+    pub reads-as : (ns : List ℕ) (t : List ℤ) (j : List ℕ) (cs : List Call) → Fit t → FitCalls cs → ReadsEntries (leftTo ρ ns cs (kept t j 0)) (entriesTo ρ ns cs (kept t j 0))
+    -- replayed over t, the journal comes to the same cells and open savepoints
+    pub replayed : (ns : List ℕ) (t : List ℤ) (j : List ℕ) (cs : List Call) → Fit t → FitCalls cs
+        → HasCells ρ ns (length t)
+        → ReplaysTo ρ ns t (leftTo ρ ns cs (kept t j 0) .journal) (leftTo ρ ns cs (kept t j 0))
+    -- and behind the replay all is as it was kept, so that further calls are answered, and leave, what they would have without it
+    pub goes-on : (ns : List ℕ) (t : List ℤ) (j : List ℕ) (cs : List Call) → Fit t → FitCalls cs
+        → HasCells ρ ns (length t)
+        → behindReplay ρ ns t (leftTo ρ ns cs (kept t j 0)) ≡ leftTo ρ ns cs (kept t j 0)
+    -- cut behind its first n bytes, and with whatever else in the buffer j′, it comes to what the calls left that are whole in them
+    pub torn : (ns : List ℕ) (t : List ℤ) (j : List ℕ) (cs : List Call) → Fit t → FitCalls cs
+        → HasCells ρ ns (length t)
+        → {n : ℕ} {j′ : List ℕ} → FirstBytes (leftTo ρ ns cs (kept t j 0)) n j′
+        → Torn ρ ns t cs (kept t j 0) n j′
+    -- what replays with 0, whoever wrote it, is a journal that calls have made
+    pub made : (ns : List ℕ) (t : List ℤ) (k : Kept) → Fit t → AllBytes (take (k .used) (k .journal))
+        → replayOf ρ ns (k .journal) (k .used) t ≡ Right
+        → MadeBy ρ ns (kept t (k .journal) 0) (behindReplay ρ ns t k)
 
-pub record Demand2 (ρ : Rules) : Type 0 where
-  pub due : GivenAsDue ρ
-  pub lent : LentHolds ρ
-  pub canonical : WritesCanonical
-  pub reads-back : WrittenReadsBack ρ
-  pub read-writes : ReadWrites ρ
-  pub edits : Edits
+  pub record Demand2 : Type 0 where
+    pub due : GivenAsDue
+    pub lent : LentHolds
+    pub canonical : WritesCanonical
+    pub reads-back : WrittenReadsBack
+    pub read-writes : ReadWrites
+    pub edits : Edits

@@ -1,7 +1,7 @@
 -- R9, R12: what the rules for line ends promise of one another. Strict: a line ends in a carriage return and a line feed. Either: in these, or in a
 -- line feed alone. The demands hold under each rule; here is what moves between them, and what does not.
 --
--- s and t are texts, p and q places of them; ρ is the rule that is asked with, whatever it is.
+-- s and t are texts, p and q places of them; ρ are the rules that are asked with, whatever they are.
 use mathlib.Core.Path.{_≡_}
 use mathlib.Core.Bool.{Bool}
 use mathlib.Core.List.{List, [], _∷_, _++_}
@@ -25,6 +25,8 @@ use Rattle.place.specs.Placing.{placingOf, countsAt}
 use Rattle.place.specs.Walk.{PlacedAt, spot, Stops}
 use Rattle.reading.specs.Plan.{Line}
 use Rattle.reading.specs.Read.{readLine}
+use Rattle.reply.specs.declared.Answer.{Answer}
+use Rattle.reply.specs.declared.Checked.{Checked}
 use Rattle.reply.specs.declared.Refusal.{Refusal}
 use Rattle.reply.specs.declared.Refusal.the-variants.{BadLine}
 use Rattle.group.specs.declared.Characteristic.the-variants.{Refused}
@@ -32,7 +34,11 @@ use Rattle.group.specs.Characteristics.{characteristicAt}
 use Rattle.group.specs.Ends.{SameAnswers}
 use Rattle.group.specs.Held.{foundAt, partStart, partAt}
 use Rattle.group.specs.Text.{readAt}
+use Rattle.journal.specs.Model.{Call}
+use Rattle.journal.specs.Plays.{replayOf, replayedCells, replayedOpen}
+use Rattle.journal.specs.Runs.{Kept, answerTo, leftBy}
 use Rattle.writing.specs.RoundTrip.{ReadsBack}
+use Rattle.writing.specs.Writing.{writingOf, outputBy}
 use Rattle.rewriting.specs.declared.Rewriting.the-variants.{Done}
 use Rattle.rewriting.specs.Alike.{SameRewriting}
 use Rattle.rewriting.specs.Canonical.{RightRecord}
@@ -106,10 +112,23 @@ pub record WalkedAlike (ρ : Rules) (s t : List ℕ) : Type 0 where
 
 -- R9, R101: canonical text ends its lines with a carriage return and a line feed: each rule reads it as what it is
 pub record CanonicalStays (ρ : Rules) : Type 0 where
-  -- 0 with the place behind it, its counts and each group's cells, wherever it stands
-  pub reads-back : (x : List ℕ) (r : RightRecord x) (a b : List ℕ) → ReadsBack ρ (r .ns) (r .cs) (length x) (a ++ (x ++ b)) (length a)
+  -- 0 with the place behind it, its counts and each group's cells, wherever it stands, by each rule for line ends
+  pub reads-back : (e : LineEnds) (x : List ℕ) (r : RightRecord ρ x) (a b : List ℕ) → ReadsBack (ended e ρ) (r .ns) (r .cs) (length x) (a ++ (x ++ b)) (length a)
   -- so any other rule for line ends answers the same
-  pub same : (e : LineEnds) (x : List ℕ) → RightRecord x → (a b : List ℕ) → SameAnswers ρ (ended e ρ) (a ++ (x ++ b)) (length a)
+  pub same : (e : LineEnds) (x : List ℕ) → RightRecord ρ x → (a b : List ℕ) → SameAnswers ρ (ended e ρ) (a ++ (x ++ b)) (length a)
+
+-- R12: what reads no text has no use for line ends: σ has another rule for them, and is as ρ in all else
+pub record UnreadSame (σ ρ : Rules) : Type 0 where
+  -- writing: the answer, and what the output holds behind it
+  pub writing : (ns : List ℕ) (cs : List ℤ) (room : ℕ) → writingOf σ ns cs room ≡ writingOf ρ ns cs room
+  pub output : (ns : List ℕ) (cs : List ℤ) (a : Answer) (old : List ℕ) → outputBy σ ns cs a old ≡ outputBy ρ ns cs a old
+  -- a call of the journal: the answer, and what is left of cells, journal and bytes used
+  pub call : (ns : List ℕ) (c : Call) (k : Kept) → answerTo σ ns c k ≡ answerTo ρ ns c k
+  pub call-left : (ns : List ℕ) (c : Call) (k : Kept) (a : Answer) → leftBy σ ns c k a ≡ leftBy ρ ns c k a
+  -- a replay: the answer, the cells and the open savepoints
+  pub replay : (ns j : List ℕ) (used : ℕ) (cs : List ℤ) → replayOf σ ns j used cs ≡ replayOf ρ ns j used cs
+  pub replay-left : (ns j : List ℕ) (used : ℕ) (cs : List ℤ) (a : Checked)
+      → (replayedCells σ ns j used cs a ≡ replayedCells ρ ns j used cs a) × (replayedOpen σ ns j used cs a ≡ replayedOpen ρ ns j used cs a)
 
 pub record LineEndsKept (ρ : Rules) : Type 0 where
   -- R5: whatever a is, exactly one carriage return is dropped with the line feed
@@ -120,3 +139,4 @@ pub record LineEndsKept (ρ : Rules) : Type 0 where
   pub alike : (s : List ℕ) (p : ℕ) (t : List ℕ) (q : ℕ) → AlikeFrom ρ s p t q → AnsweredAlike ρ s p t q
   pub walk : (s t : List ℕ) → Alike ρ s t → WalkedAlike ρ s t
   pub canonical : CanonicalStays ρ
+  pub unread : (e : LineEnds) → UnreadSame (ended e ρ) ρ

@@ -83,12 +83,13 @@ pub fn characteristic(rules: rules::Rules, text: &[u8], at: usize, number: usize
 // R300 to R307. Asked: to write a record of these counts and of the cells of all groups, group 1's first.
 // Answered: 0 with the number of bytes, which stand in the output from its first byte on; what stands behind them is
 // kept. A refusal leaves the whole output as it was.
-pub fn write_record(counts: &[u16], cells: &[i64], out: &mut [u8]) -> Answer
-    ensures answer { λ r. ⌜ r ≡ writingOf (now (counts .entry)) (now (cells .entry)) (length (now (out .entry))) ⌝ }
+pub fn write_record(rules: rules::Rules, counts: &[u16], cells: &[i64], out: &mut [u8]) -> Answer
+    ensures answer { λ r. ⌜ r ≡
+        writingOf rules (now (counts .entry)) (now (cells .entry)) (length (now (out .entry))) ⌝ }
     ensures output { λ r. ⌜ now (out .exit) ≡
-        outputBy (now (counts .entry)) (now (cells .entry)) r (now (out .entry)) ⌝ }
+        outputBy rules (now (counts .entry)) (now (cells .entry)) r (now (out .entry)) ⌝ }
 {
-    writing::write_record(counts, cells, out)
+    writing::write_record(rules, counts, cells, out)
 }
 
 // R310, R311. Asked: the listing of a text, a line for each record of its walk and the line `end`.
@@ -127,6 +128,7 @@ pub fn rewrite_record(
 // Answered: 0; the cell has the value, and the journal a field more, which has the old value too.
 // A refusal leaves cells, journal and bytes used as they were; so do those of the next three.
 pub fn set_cell(
+    rules: rules::Rules,
     counts: &[u16],
     cells: &mut [i64],
     journal: &mut [u8],
@@ -136,34 +138,41 @@ pub fn set_cell(
     value: i64,
 ) -> Edited
     ensures answer { λ r. ⌜ r .answer ≡
-        answerOf (now (counts .entry)) (now (journal .entry)) used (length (now (cells .entry)))
+        answerOf rules (now (counts .entry)) (now (journal .entry)) used (length (now (cells .entry)))
         (Sets group cell value) ⌝ }
     ensures used { λ r. ⌜ r .used ≡ usedBy used (Sets group cell value) (r .answer) ⌝ }
     ensures cells { λ r. ⌜ now (cells .exit) ≡
-        cellsAfter (now (counts .entry)) (now (journal .entry)) used (Sets group cell value)
+        cellsAfter rules (now (counts .entry)) (now (journal .entry)) used (Sets group cell value)
         (now (cells .entry)) (r .answer) ⌝ }
     ensures journal { λ r. ⌜ now (journal .exit) ≡
-        journalBy (now (counts .entry)) (now (journal .entry)) used (Sets group cell value)
+        journalBy rules (now (counts .entry)) (now (journal .entry)) used (Sets group cell value)
         (now (cells .entry)) (r .answer) ⌝ }
 {
-    journal::set_cell(counts, cells, journal, used, group, cell, value)
+    journal::set_cell(rules, counts, cells, journal, used, group, cell, value)
 }
 
 // R513. Asked: to open a savepoint inside those that are open, at most 16.
 // Answered: 0 with its number.
-pub fn open_savepoint(counts: &[u16], cells: &[i64], journal: &mut [u8], used: usize) -> Edited
+pub fn open_savepoint(
+    rules: rules::Rules,
+    counts: &[u16],
+    cells: &[i64],
+    journal: &mut [u8],
+    used: usize,
+) -> Edited
     ensures answer { λ r. ⌜ r .answer ≡
-        answerOf (now (counts .entry)) (now (journal .entry)) used (length (now (cells .entry))) Opens ⌝ }
+        answerOf rules (now (counts .entry)) (now (journal .entry)) used (length (now (cells .entry))) Opens ⌝ }
     ensures used { λ r. ⌜ r .used ≡ usedBy used Opens (r .answer) ⌝ }
     ensures journal { λ r. ⌜ now (journal .exit) ≡
-        journalBy (now (counts .entry)) (now (journal .entry)) used Opens (now (cells .entry)) (r .answer) ⌝ }
+        journalBy rules (now (counts .entry)) (now (journal .entry)) used Opens (now (cells .entry)) (r .answer) ⌝ }
 {
-    journal::open_savepoint(counts, cells, journal, used)
+    journal::open_savepoint(rules, counts, cells, journal, used)
 }
 
 // R514. Asked: to release the innermost savepoint.
 // Answered: 0; what was set since it was opened stays, and belongs to the one outside.
 pub fn release_savepoint(
+    rules: rules::Rules,
     counts: &[u16],
     cells: &[i64],
     journal: &mut [u8],
@@ -171,19 +180,20 @@ pub fn release_savepoint(
     savepoint: usize,
 ) -> Edited
     ensures answer { λ r. ⌜ r .answer ≡
-        answerOf (now (counts .entry)) (now (journal .entry)) used (length (now (cells .entry)))
+        answerOf rules (now (counts .entry)) (now (journal .entry)) used (length (now (cells .entry)))
         (Releases savepoint) ⌝ }
     ensures used { λ r. ⌜ r .used ≡ usedBy used (Releases savepoint) (r .answer) ⌝ }
     ensures journal { λ r. ⌜ now (journal .exit) ≡
-        journalBy (now (counts .entry)) (now (journal .entry)) used (Releases savepoint)
+        journalBy rules (now (counts .entry)) (now (journal .entry)) used (Releases savepoint)
         (now (cells .entry)) (r .answer) ⌝ }
 {
-    journal::release_savepoint(counts, cells, journal, used, savepoint)
+    journal::release_savepoint(rules, counts, cells, journal, used, savepoint)
 }
 
 // R515. Asked: to undo to an open savepoint.
 // Answered: 0; each cell is what it was when that one was opened, which stays open; those inside it are closed.
 pub fn undo_to_savepoint(
+    rules: rules::Rules,
     counts: &[u16],
     cells: &mut [i64],
     journal: &mut [u8],
@@ -191,28 +201,35 @@ pub fn undo_to_savepoint(
     savepoint: usize,
 ) -> Edited
     ensures answer { λ r. ⌜ r .answer ≡
-        answerOf (now (counts .entry)) (now (journal .entry)) used (length (now (cells .entry))) (Undoes savepoint) ⌝ }
+        answerOf rules (now (counts .entry)) (now (journal .entry)) used (length (now (cells .entry)))
+        (Undoes savepoint) ⌝ }
     ensures used { λ r. ⌜ r .used ≡ usedBy used (Undoes savepoint) (r .answer) ⌝ }
     ensures cells { λ r. ⌜ now (cells .exit) ≡
-        cellsAfter (now (counts .entry)) (now (journal .entry)) used (Undoes savepoint)
+        cellsAfter rules (now (counts .entry)) (now (journal .entry)) used (Undoes savepoint)
         (now (cells .entry)) (r .answer) ⌝ }
     ensures journal { λ r. ⌜ now (journal .exit) ≡
-        journalBy (now (counts .entry)) (now (journal .entry)) used (Undoes savepoint)
+        journalBy rules (now (counts .entry)) (now (journal .entry)) used (Undoes savepoint)
         (now (cells .entry)) (r .answer) ⌝ }
 {
-    journal::undo_to_savepoint(counts, cells, journal, used, savepoint)
+    journal::undo_to_savepoint(rules, counts, cells, journal, used, savepoint)
 }
 
 // R540 to R543. Asked: to replay a journal over the table that it began with.
 // Answered: 0 with the savepoints that are open behind it; the cells are those that its calls left.
 // A refusal leaves the cells as they were.
-pub fn replay(counts: &[u16], cells: &mut [i64], journal: &[u8], used: usize) -> Replayed
+pub fn replay(
+    rules: rules::Rules,
+    counts: &[u16],
+    cells: &mut [i64],
+    journal: &[u8],
+    used: usize,
+) -> Replayed
     ensures answer { λ r. ⌜ r .answer ≡
-        replayOf (now (counts .entry)) (now (journal .entry)) used (now (cells .entry)) ⌝ }
+        replayOf rules (now (counts .entry)) (now (journal .entry)) used (now (cells .entry)) ⌝ }
     ensures open { λ r. ⌜ r .open ≡
-        replayedOpen (now (counts .entry)) (now (journal .entry)) used (now (cells .entry)) (r .answer) ⌝ }
+        replayedOpen rules (now (counts .entry)) (now (journal .entry)) used (now (cells .entry)) (r .answer) ⌝ }
     ensures cells { λ r. ⌜ now (cells .exit) ≡
-        replayedCells (now (counts .entry)) (now (journal .entry)) used (now (cells .entry)) (r .answer) ⌝ }
+        replayedCells rules (now (counts .entry)) (now (journal .entry)) used (now (cells .entry)) (r .answer) ⌝ }
 {
-    journal::replay(counts, cells, journal, used)
+    journal::replay(rules, counts, cells, journal, used)
 }

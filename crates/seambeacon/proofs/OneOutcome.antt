@@ -45,7 +45,7 @@ pub write-record-one : OneOutcome write-record.ended write-record.Reads.Learnt
 write-record-one κs a n m v w l k =
     let beside = l .0 .besides ∙ sym (k .0 .besides) in
     let out = l .1 ∙ sym (k .1) in
-    (l .0 .number ∙ sym (k .0 .number), λ i. (tt, (tt, (out i, (beside i, tt)))))
+    (l .0 .number ∙ sym (k .0 .number), λ i. (tt, (tt, (tt, (out i, (beside i, tt))))))
 
 pub list-one : OneOutcome list.ended list.Reads.Learnt
 list-one κs a n m v w l k =
@@ -69,21 +69,21 @@ set-cell-one κs a n m v w l k =
     let used = l .1 .0 ∙ sym (k .1 .0) in
     let cells = l .1 .1 .0 ∙ sym (k .1 .1 .0) in
     let journal = l .1 .1 .1 ∙ sym (k .1 .1 .1) in
-    (l .0 .number ∙ sym (k .0 .number), λ i. (tt, (cells i, (journal i, (used i, (tt, (tt, (tt, (beside i, tt)))))))))
+    (l .0 .number ∙ sym (k .0 .number), λ i. (tt, (tt, (cells i, (journal i, (used i, (tt, (tt, (tt, (beside i, tt))))))))))
 
 pub open-savepoint-one : OneOutcome open-savepoint.ended open-savepoint.Reads.Learnt
 open-savepoint-one κs a n m v w l k =
     let beside = l .0 .besides ∙ sym (k .0 .besides) in
     let used = l .1 .0 ∙ sym (k .1 .0) in
     let journal = l .1 .1 ∙ sym (k .1 .1) in
-    (l .0 .number ∙ sym (k .0 .number), λ i. (tt, (tt, (journal i, (used i, (beside i, tt))))))
+    (l .0 .number ∙ sym (k .0 .number), λ i. (tt, (tt, (tt, (journal i, (used i, (beside i, tt)))))))
 
 pub release-savepoint-one : OneOutcome release-savepoint.ended release-savepoint.Reads.Learnt
 release-savepoint-one κs a n m v w l k =
     let beside = l .0 .besides ∙ sym (k .0 .besides) in
     let used = l .1 .0 ∙ sym (k .1 .0) in
     let journal = l .1 .1 ∙ sym (k .1 .1) in
-    (l .0 .number ∙ sym (k .0 .number), λ i. (tt, (tt, (journal i, (used i, (tt, (beside i, tt)))))))
+    (l .0 .number ∙ sym (k .0 .number), λ i. (tt, (tt, (tt, (journal i, (used i, (tt, (beside i, tt))))))))
 
 pub undo-to-savepoint-one : OneOutcome undo-to-savepoint.ended undo-to-savepoint.Reads.Learnt
 undo-to-savepoint-one κs a n m v w l k =
@@ -91,11 +91,11 @@ undo-to-savepoint-one κs a n m v w l k =
     let used = l .1 .0 ∙ sym (k .1 .0) in
     let cells = l .1 .1 .0 ∙ sym (k .1 .1 .0) in
     let journal = l .1 .1 .1 ∙ sym (k .1 .1 .1) in
-    (l .0 .number ∙ sym (k .0 .number), λ i. (tt, (cells i, (journal i, (used i, (tt, (beside i, tt)))))))
+    (l .0 .number ∙ sym (k .0 .number), λ i. (tt, (tt, (cells i, (journal i, (used i, (tt, (beside i, tt))))))))
 
 pub replay-one : OneOutcome replay.ended replay.Reads.Learnt
 replay-one κs a n m v w l k =
     let beside = l .0 .besides ∙ sym (k .0 .besides) in
     let opened = l .1 .0 ∙ sym (k .1 .0) in
     let cells = l .1 .1 ∙ sym (k .1 .1) in
-    (l .0 .number ∙ sym (k .0 .number), λ i. (tt, (cells i, (tt, (tt, (opened i, (beside i, tt)))))))
+    (l .0 .number ∙ sym (k .0 .number), λ i. (tt, (tt, (cells i, (tt, (tt, (opened i, (beside i, tt))))))))

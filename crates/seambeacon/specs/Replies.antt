@@ -1,4 +1,4 @@
--- R200 to R214: each question's reply, from what is asked and, where a text is read, the rules (R12): the layers' answers as replies.
+-- R200 to R214: each question's reply, from the rules (R12) and what is asked: the layers' answers as replies.
 use mathlib.Core.List.{List}
 use Prim.Native.Nat.{ℕ}
 use lib.IntN.{ℤ}
@@ -35,8 +35,8 @@ abbrev pub characteristicReplyAt : Rules → List ℕ → ℕ → ℕ → Reply
 characteristicReplyAt ρ s at k = characteristicReply (characteristicAt ρ s at k)
 
 -- into an output of so many bytes
-abbrev pub writeReply : List ℕ → List ℤ → ℕ → Reply
-writeReply ns cs room = answerReply (writingOf ns cs room)
+abbrev pub writeReply : Rules → List ℕ → List ℤ → ℕ → Reply
+writeReply ρ ns cs room = answerReply (writingOf ρ ns cs room)
 
 abbrev pub listReply : Rules → List ℕ → ℕ → Reply
 listReply ρ s room = answerReply (listedIn (listing ρ s) room)
@@ -46,5 +46,5 @@ abbrev pub rewriteReply : Rules → List ℕ → ℕ → ℕ → ℕ → Reply
 rewriteReply ρ s at cells room = rewritingReply (rewritingOf ρ s at cells room)
 
 -- what a call of the edit journal answers, on these cells
-abbrev pub callAnswer : List ℕ → List ℕ → ℕ → List ℤ → Call → Answer
-callAnswer ns j used cs c = answerOf ns j used (length cs) c
+abbrev pub callAnswer : Rules → List ℕ → List ℕ → ℕ → List ℤ → Call → Answer
+callAnswer ρ ns j used cs c = answerOf ρ ns j used (length cs) c

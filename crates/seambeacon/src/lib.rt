@@ -1,7 +1,7 @@
 // For C: each question of `sao` under a name of its own, in numbers and slices alone. R360: a function answers with the
 // reply's number and writes the eight numbers beside it, in the order of `eightBeside`, into lent memory; those that
-// the reply's row doesn't name are 0. What else is lent is altered as the question of the same name says. R365: what
-// reads a text takes the rules first, as a number of flags. include/seambeacon.h tells a caller in C.
+// the reply's row doesn't name are 0. What else is lent is altered as the question of the same name says. R365: each
+// takes the rules first, as a number of flags. include/seambeacon.h tells a caller in C.
 use group::Characteristic;
 use reply::Reply;
 use rules::Rules;
@@ -75,7 +75,7 @@ fn value_of(c: Characteristic) -> i64
 fn rules_of(flags: u32) -> Rules
     ensures { λ r. ⌜ r ≡ flagged flags ⌝ }
 {
-    rules::choose(flags % 2 == 1)
+    rules::choose(flags % 2 == 1, flags / 2 % 2 == 1)
 }
 
 // ---- The questions.
@@ -178,18 +178,21 @@ pub extern "C" fn seambeacon_characteristic(
 // kept. A refusal leaves the whole output as it was.
 #[no_mangle]
 pub extern "C" fn seambeacon_write_record(
+    rules: u32,
     counts: &[u16],
     cells: &[i64],
     out: &mut [u8],
     beside: &mut [usize; 8],
 ) -> u32
-    ensures reply { λ n. ⌜ Told (writeReply (now (counts .entry)) (now (cells .entry)) (length (now (out .entry)))) n
+    ensures reply { λ n. ⌜ Told (writeReply (flagged rules) (now (counts .entry)) (now (cells .entry)) (length
+        (now (out .entry)))) n
         (now (beside .exit)) ⌝ }
     ensures output { λ _. ⌜ now (out .exit) ≡
-        outputBy (now (counts .entry)) (now (cells .entry))
-        (writingOf (now (counts .entry)) (now (cells .entry)) (length (now (out .entry)))) (now (out .entry)) ⌝ }
+        outputBy (flagged rules) (now (counts .entry)) (now (cells .entry))
+        (writingOf (flagged rules) (now (counts .entry)) (now (cells .entry)) (length (now (out .entry))))
+        (now (out .entry)) ⌝ }
 {
-    let answer = sao::write_record(counts, cells, out);
+    let answer = sao::write_record(rules_of(rules), counts, cells, out);
     tell(reply::of_answer(answer), beside)
 }
 
@@ -255,6 +258,7 @@ pub extern "C" fn seambeacon_rewrite_record(
 // A refusal leaves cells, journal and `used` as they were; so do those of the next three.
 #[no_mangle]
 pub extern "C" fn seambeacon_set_cell(
+    rules: u32,
     counts: &[u16],
     cells: &mut [i64],
     journal: &mut [u8],
@@ -265,24 +269,39 @@ pub extern "C" fn seambeacon_set_cell(
     beside: &mut [usize; 8],
 ) -> u32
     ensures reply { λ n. ⌜ Told (editReply
-        (callAnswer (now (counts .entry)) (now (journal .entry)) (now (used .entry)) (now (cells .entry))
+        (callAnswer (flagged rules) (now (counts .entry)) (now (journal .entry)) (now (used .entry))
+        (now (cells .entry))
         (Sets group cell value))) n
         (now (beside .exit)) ⌝ }
     ensures used { λ _. ⌜ now (used .exit) ≡ usedBy (now (used .entry)) (Sets group cell value)
-        (callAnswer (now (counts .entry)) (now (journal .entry)) (now (used .entry)) (now (cells .entry))
+        (callAnswer (flagged rules) (now (counts .entry)) (now (journal .entry)) (now (used .entry))
+        (now (cells .entry))
         (Sets group cell value)) ⌝ }
     ensures cells { λ _. ⌜ now (cells .exit) ≡
-        cellsAfter (now (counts .entry)) (now (journal .entry)) (now (used .entry)) (Sets group cell value)
+        cellsAfter (flagged rules) (now (counts .entry)) (now (journal .entry))
+        (now (used .entry)) (Sets group cell value)
         (now (cells .entry))
-        (callAnswer (now (counts .entry)) (now (journal .entry)) (now (used .entry)) (now (cells .entry))
+        (callAnswer (flagged rules) (now (counts .entry)) (now (journal .entry)) (now (used .entry))
+        (now (cells .entry))
         (Sets group cell value)) ⌝ }
     ensures journal { λ _. ⌜ now (journal .exit) ≡
-        journalBy (now (counts .entry)) (now (journal .entry)) (now (used .entry)) (Sets group cell value)
+        journalBy (flagged rules) (now (counts .entry)) (now (journal .entry))
+        (now (used .entry)) (Sets group cell value)
         (now (cells .entry))
-        (callAnswer (now (counts .entry)) (now (journal .entry)) (now (used .entry)) (now (cells .entry))
+        (callAnswer (flagged rules) (now (counts .entry)) (now (journal .entry)) (now (used .entry))
+        (now (cells .entry))
         (Sets group cell value)) ⌝ }
 {
-    let edited = sao::set_cell(counts, cells, journal, *used, group, cell, value);
+    let edited = sao::set_cell(
+        rules_of(rules),
+        counts,
+        cells,
+        journal,
+        *used,
+        group,
+        cell,
+        value,
+    );
     let answer = edited.answer;
     *used = edited.used;
     tell(journal::reply_of(answer), beside)
@@ -292,6 +311,7 @@ pub extern "C" fn seambeacon_set_cell(
 // Answered: 0 with its number.
 #[no_mangle]
 pub extern "C" fn seambeacon_open_savepoint(
+    rules: u32,
     counts: &[u16],
     cells: &[i64],
     journal: &mut [u8],
@@ -299,18 +319,22 @@ pub extern "C" fn seambeacon_open_savepoint(
     beside: &mut [usize; 8],
 ) -> u32
     ensures reply { λ n. ⌜ Told (editReply
-        (callAnswer (now (counts .entry)) (now (journal .entry)) (now (used .entry)) (now (cells .entry))
+        (callAnswer (flagged rules) (now (counts .entry)) (now (journal .entry)) (now (used .entry))
+        (now (cells .entry))
         Opens)) n
         (now (beside .exit)) ⌝ }
     ensures used { λ _. ⌜ now (used .exit) ≡ usedBy (now (used .entry)) Opens
-        (callAnswer (now (counts .entry)) (now (journal .entry)) (now (used .entry)) (now (cells .entry))
+        (callAnswer (flagged rules) (now (counts .entry)) (now (journal .entry)) (now (used .entry))
+        (now (cells .entry))
         Opens) ⌝ }
     ensures journal { λ _. ⌜ now (journal .exit) ≡
-        journalBy (now (counts .entry)) (now (journal .entry)) (now (used .entry)) Opens (now (cells .entry))
-        (callAnswer (now (counts .entry)) (now (journal .entry)) (now (used .entry)) (now (cells .entry))
+        journalBy (flagged rules) (now (counts .entry)) (now (journal .entry)) (now (used .entry)) Opens
+        (now (cells .entry))
+        (callAnswer (flagged rules) (now (counts .entry)) (now (journal .entry)) (now (used .entry))
+        (now (cells .entry))
         Opens) ⌝ }
 {
-    let edited = sao::open_savepoint(counts, cells, journal, *used);
+    let edited = sao::open_savepoint(rules_of(rules), counts, cells, journal, *used);
     let answer = edited.answer;
     *used = edited.used;
     tell(journal::reply_of(answer), beside)
@@ -320,6 +344,7 @@ pub extern "C" fn seambeacon_open_savepoint(
 // Answered: 0; what was set since it was opened stays, and belongs to the one outside.
 #[no_mangle]
 pub extern "C" fn seambeacon_release_savepoint(
+    rules: u32,
     counts: &[u16],
     cells: &[i64],
     journal: &mut [u8],
@@ -328,19 +353,22 @@ pub extern "C" fn seambeacon_release_savepoint(
     beside: &mut [usize; 8],
 ) -> u32
     ensures reply { λ n. ⌜ Told (editReply
-        (callAnswer (now (counts .entry)) (now (journal .entry)) (now (used .entry)) (now (cells .entry))
+        (callAnswer (flagged rules) (now (counts .entry)) (now (journal .entry)) (now (used .entry))
+        (now (cells .entry))
         (Releases savepoint))) n
         (now (beside .exit)) ⌝ }
     ensures used { λ _. ⌜ now (used .exit) ≡ usedBy (now (used .entry)) (Releases savepoint)
-        (callAnswer (now (counts .entry)) (now (journal .entry)) (now (used .entry)) (now (cells .entry))
+        (callAnswer (flagged rules) (now (counts .entry)) (now (journal .entry)) (now (used .entry))
+        (now (cells .entry))
         (Releases savepoint)) ⌝ }
     ensures journal { λ _. ⌜ now (journal .exit) ≡
-        journalBy (now (counts .entry)) (now (journal .entry)) (now (used .entry)) (Releases savepoint)
+        journalBy (flagged rules) (now (counts .entry)) (now (journal .entry)) (now (used .entry)) (Releases savepoint)
         (now (cells .entry))
-        (callAnswer (now (counts .entry)) (now (journal .entry)) (now (used .entry)) (now (cells .entry))
+        (callAnswer (flagged rules) (now (counts .entry)) (now (journal .entry)) (now (used .entry))
+        (now (cells .entry))
         (Releases savepoint)) ⌝ }
 {
-    let edited = sao::release_savepoint(counts, cells, journal, *used, savepoint);
+    let edited = sao::release_savepoint(rules_of(rules), counts, cells, journal, *used, savepoint);
     let answer = edited.answer;
     *used = edited.used;
     tell(journal::reply_of(answer), beside)
@@ -350,6 +378,7 @@ pub extern "C" fn seambeacon_release_savepoint(
 // Answered: 0; each cell is what it was when that one was opened, which stays open; those inside it are closed.
 #[no_mangle]
 pub extern "C" fn seambeacon_undo_to_savepoint(
+    rules: u32,
     counts: &[u16],
     cells: &mut [i64],
     journal: &mut [u8],
@@ -358,24 +387,28 @@ pub extern "C" fn seambeacon_undo_to_savepoint(
     beside: &mut [usize; 8],
 ) -> u32
     ensures reply { λ n. ⌜ Told (editReply
-        (callAnswer (now (counts .entry)) (now (journal .entry)) (now (used .entry)) (now (cells .entry))
+        (callAnswer (flagged rules) (now (counts .entry)) (now (journal .entry)) (now (used .entry))
+        (now (cells .entry))
         (Undoes savepoint))) n
         (now (beside .exit)) ⌝ }
     ensures used { λ _. ⌜ now (used .exit) ≡ usedBy (now (used .entry)) (Undoes savepoint)
-        (callAnswer (now (counts .entry)) (now (journal .entry)) (now (used .entry)) (now (cells .entry))
+        (callAnswer (flagged rules) (now (counts .entry)) (now (journal .entry)) (now (used .entry))
+        (now (cells .entry))
         (Undoes savepoint)) ⌝ }
     ensures cells { λ _. ⌜ now (cells .exit) ≡
-        cellsAfter (now (counts .entry)) (now (journal .entry)) (now (used .entry)) (Undoes savepoint)
+        cellsAfter (flagged rules) (now (counts .entry)) (now (journal .entry)) (now (used .entry)) (Undoes savepoint)
         (now (cells .entry))
-        (callAnswer (now (counts .entry)) (now (journal .entry)) (now (used .entry)) (now (cells .entry))
+        (callAnswer (flagged rules) (now (counts .entry)) (now (journal .entry)) (now (used .entry))
+        (now (cells .entry))
         (Undoes savepoint)) ⌝ }
     ensures journal { λ _. ⌜ now (journal .exit) ≡
-        journalBy (now (counts .entry)) (now (journal .entry)) (now (used .entry)) (Undoes savepoint)
+        journalBy (flagged rules) (now (counts .entry)) (now (journal .entry)) (now (used .entry)) (Undoes savepoint)
         (now (cells .entry))
-        (callAnswer (now (counts .entry)) (now (journal .entry)) (now (used .entry)) (now (cells .entry))
+        (callAnswer (flagged rules) (now (counts .entry)) (now (journal .entry)) (now (used .entry))
+        (now (cells .entry))
         (Undoes savepoint)) ⌝ }
 {
-    let edited = sao::undo_to_savepoint(counts, cells, journal, *used, savepoint);
+    let edited = sao::undo_to_savepoint(rules_of(rules), counts, cells, journal, *used, savepoint);
     let answer = edited.answer;
     *used = edited.used;
     tell(journal::reply_of(answer), beside)
@@ -386,6 +419,7 @@ pub extern "C" fn seambeacon_undo_to_savepoint(
 // A refusal leaves the cells as they were, and no savepoint is open.
 #[no_mangle]
 pub extern "C" fn seambeacon_replay(
+    rules: u32,
     counts: &[u16],
     cells: &mut [i64],
     journal: &[u8],
@@ -394,16 +428,16 @@ pub extern "C" fn seambeacon_replay(
     beside: &mut [usize; 8],
 ) -> u32
     ensures reply { λ n. ⌜ Told (checkedReply
-        (replayOf (now (counts .entry)) (now (journal .entry)) used (now (cells .entry)))) n
+        (replayOf (flagged rules) (now (counts .entry)) (now (journal .entry)) used (now (cells .entry)))) n
         (now (beside .exit)) ⌝ }
     ensures opened { λ _. ⌜ now (opened .exit) ≡
-        replayedOpen (now (counts .entry)) (now (journal .entry)) used (now (cells .entry))
-        (replayOf (now (counts .entry)) (now (journal .entry)) used (now (cells .entry))) ⌝ }
+        replayedOpen (flagged rules) (now (counts .entry)) (now (journal .entry)) used (now (cells .entry))
+        (replayOf (flagged rules) (now (counts .entry)) (now (journal .entry)) used (now (cells .entry))) ⌝ }
     ensures cells { λ _. ⌜ now (cells .exit) ≡
-        replayedCells (now (counts .entry)) (now (journal .entry)) used (now (cells .entry))
-        (replayOf (now (counts .entry)) (now (journal .entry)) used (now (cells .entry))) ⌝ }
+        replayedCells (flagged rules) (now (counts .entry)) (now (journal .entry)) used (now (cells .entry))
+        (replayOf (flagged rules) (now (counts .entry)) (now (journal .entry)) used (now (cells .entry))) ⌝ }
 {
-    let replayed = sao::replay(counts, cells, journal, used);
+    let replayed = sao::replay(rules_of(rules), counts, cells, journal, used);
     let answer = replayed.answer;
     *opened = replayed.open;
     tell(reply::of_checked(answer), beside)

@@ -6,12 +6,14 @@ ghost use Rattle.words.specs.Words.{sameBytes, withWord};
 pub struct Words {
     pub known: bool,
     pub strict: bool,
+    pub entries: bool,
 }
 
 // R349: no word yet.
 pub const NONE: Words = Words {
     known: true,
     strict: false,
+    entries: false,
 };
 
 // Whether two words are the same.
@@ -39,11 +41,20 @@ pub fn with_word(words: Words, word: &[u8]) -> Words
         return Words {
             known: words.known,
             strict: true,
+            entries: words.entries,
+        };
+    }
+    if is_word(word, b"--entries") {
+        return Words {
+            known: words.known,
+            strict: words.strict,
+            entries: true,
         };
     }
     Words {
         known: false,
         strict: words.strict,
+        entries: words.entries,
     }
 }
 
@@ -69,5 +80,5 @@ pub fn given(program: &[u8]) -> Words {
 fn usage(program: &[u8]) {
     io::write_all(libc::STDERR_FILENO, b"usage: ");
     io::write_all(libc::STDERR_FILENO, program);
-    io::write_all(libc::STDERR_FILENO, b" [--strict] < TEXT\n");
+    io::write_all(libc::STDERR_FILENO, b" [--strict] [--entries] < TEXT\n");
 }

@@ -23,6 +23,7 @@ use Rattle.base.proofs.Taken.{drop-none}
 use Rattle.base.proofs.UpFrom.{sum-up-same}
 use Rattle.form.specs.declared.Form.{Form}
 use Rattle.form.specs.Table.{rowOf}
+use Rattle.form.specs.Count
 use Rattle.form.specs.Count.{elementsOf, linesOf, cellsOf}
 use Rattle.form.proofs.Rows.{row-fits}
 use Rattle.field.specs.Read.{fieldOf, formed}
@@ -40,7 +41,7 @@ use Rattle.reading.specs.Plan.{Line, planFrom, planOf, elementsIn}
 use Rattle.reading.specs.Read
 use Rattle.reading.specs.Read.{readField, readFields, columnsOf, readLine, readLines}
 use Rattle.reading.proofs.Sizes.{group-size}
-use Rattle.writing.specs.Text.{lineEnd, lineCells, fieldsText, lineText, linesText}
+use Rattle.writing.specs.Text.{lineEnd, lineCells, fieldsText, lineText, manyText, linesText}
 use Rattle.writing.specs.Canonical.{CanonicalLine, CanonicalLines}
 use Rattle.writing.proofs.Lengths.{plan-length}
 
@@ -118,28 +119,28 @@ module _ (ρ : Rules) (f : Form) where
   plan-few p n j (suc k) =
       and-both (leb (min p (n - j * p)) p) (every (λ l. leb (l .many) p) (planFrom p n (suc j) k)) (le→leb (min p (n - j * p)) p (omega arith)) (plan-few p n (suc j) k)
 
-  module _ (count : ℕ) (x : List ℕ) (cs : List ℤ) (h : CanonicalLines f count x cs) where
-    pub lines-text : x ≡ linesText f count cs
-    unfolding linesText
-    lines-text = each-emit (lineCells f) (lineText f) (λ l x c p. (line-text l x c p, line-cells l x c p)) (planOf f count) x cs h
+  module _ (count : ℕ) (x : List ℕ) (cs : List ℤ) (h : CanonicalLines ρ f count x cs) where
+    pub lines-text : x ≡ linesText ρ f count cs
+    unfolding linesText manyText Plan.planOf
+    lines-text = each-emit (lineCells f) (lineText f) (λ l x c p. (line-text l x c p, line-cells l x c p)) (planOf ρ f count) x cs h
 
-    pub lines-whole : Whole (linesOf f count) x
-    unfolding Plan.planOf
+    pub lines-whole : Whole (linesOf ρ f count) x
+    unfolding Plan.planOf Count.linesOf
     lines-whole =
-        subst (λ k. Whole k x) (sum-ones (planOf f count) ∙ plan-length f count)
-        (each-whole (λ (l : Line). 1) line-whole (planOf f count) x cs h)
+        subst (λ k. Whole k x) (sum-ones (planOf ρ f count) ∙ plan-length ρ f count)
+        (each-whole (λ (l : Line). 1) line-whole (planOf ρ f count) x cs h)
 
     pub lines-read : (short : Bool) → readLines ρ f short count x ≡ done cs
-    unfolding Read.readLines Read.readLinesOf Plan.planOf
+    unfolding Read.readLines Read.readLinesOf Plan.planOf Count.linesOf
     lines-read short =
         let p = rowOf f .«per_line» in
-        let few = each-passed (λ l. leb (l .many) p) (planOf f count) x cs (plan-few p (elementsOf f count) 0 (linesOf f count)) h in
+        let few = each-passed (λ l. leb (l .many) p) (planOf ρ f count) x cs (plan-few p (elementsOf ρ f count) 0 (linesOf ρ f count)) h in
         ap (readLines ρ f short count) (sym (append-nil x))
         ∙ each-gather {wide = λ (l : Line) s. reach s 1} {read = readLine ρ f short} record {
           back = λ l y c q. line-read l y c (q .1) short
               (leb→le (l .many) p (q .0));
           exact = λ l y c b q. reach-whole b (line-whole l y c (q .1));
-        } (planOf f count) x cs [] few
+        } (planOf ρ f count) x cs [] few
 
-    pub lines-cells : length cs ≡ cellsOf f count
+    pub lines-cells : length cs ≡ cellsOf ρ f count
     lines-cells = group-size ρ f false count x cs (lines-read false)

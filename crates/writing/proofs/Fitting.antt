@@ -12,6 +12,7 @@ use lib.Dec.{T}
 use lib.IntN.{ℤ}
 use lib.ListN.{take, drop}
 use lib.Seq.{take-take, drop-drop}
+use Rattle.rules.specs.declared.Rules.{Rules}
 use Rattle.base.specs.Every
 use Rattle.base.specs.Every.{upFrom}
 use Rattle.base.specs.Pieces
@@ -25,13 +26,13 @@ use Rattle.form.specs.declared.Form.{Form}
 use Rattle.form.specs.declared.GroupForm.the-variants.{Has}
 use Rattle.form.specs.Table.{rowOf, formOf}
 use Rattle.form.specs.Count
-use Rattle.form.specs.Count.{elementsOf, linesOf, cellsOf}
+use Rattle.form.specs.Count.{elementsOf, roundedUp, cellsOf}
 use Rattle.field.specs.Write.{fitsOf}
 use Rattle.count.specs.Tally
 use Rattle.count.specs.Tally.{countOf, cellsIn, cellsBefore}
 use Rattle.count.proofs.Tallied.{cells-first, cells-next}
 use Rattle.reading.specs.Plan
-use Rattle.reading.specs.Plan.{planFrom, planOf}
+use Rattle.reading.specs.Plan.{planFrom, planOf, manyPlan}
 use Rattle.writing.specs.declared.Fit.{Fit}
 use Rattle.writing.specs.declared.Fit.the-variants.{All, Not}
 use Rattle.writing.specs.Fitting.{Fitted, firstOf, firstMisfit, elementFit, elementsFit, groupFit, fitOf}
@@ -83,33 +84,13 @@ element-fits f g e c h = by (fitsOf f c) h
 fits-element : (f : Form) (g e : ℕ) (c : List ℤ) → T (fitsOf f c) → elementFit f g e c ≡ All
 fits-element f g e c t = rw (T-true (fitsOf f c) t)
 
+-- those with j lines before them have min n (j * p) elements before them
+pub line-behind : (p n j : ℕ) → min n (j * p) + min p (n - j * p) ≡ min n ((j + 1) * p)
+line-behind p n j = omega (arith, add-mul j 1 p, one-mul p)
+
 module _ (f : Form) where
   abbrev size : ℕ → ℕ
   size e = rowOf f .cells
-
-  pub elements-fitted : (g count : ℕ) (cs : List ℤ) → elementsFit f g count cs ≡ All → Fitted f (elementsOf f count) cs
-  unfolding elementsFit
-  elements-fitted g count cs h i l =
-      let o = own-up size (λ e c. elementFit f g e c ≡ All) 1 (elementsOf f count) cs (misfit-own size (elementFit f g) (upFrom 1 (elementsOf f count)) cs h) i l in
-      element-fits f g (1 + i) (take (rowOf f .cells) (drop (i * rowOf f .cells) cs))
-      (subst (λ m. elementFit f g (1 + i) (take (rowOf f .cells) (drop m cs)) ≡ All) (sum-up-same (rowOf f .cells) 1 i) o)
-
-  pub fitted-elements : (g count : ℕ) (cs : List ℤ) → Fitted f (elementsOf f count) cs → elementsFit f g count cs ≡ All
-  unfolding elementsFit
-  fitted-elements g count cs h =
-      own-misfit size (elementFit f g) (upFrom 1 (elementsOf f count)) cs
-      (up-own size (λ e c. elementFit f g e c ≡ All) 1 (elementsOf f count) cs each)
-    where
-      each : (i : ℕ) → i < elementsOf f count → elementFit f g (1 + i) (take (rowOf f .cells) (drop (sum (map size (upFrom 1 i))) cs)) ≡ All
-      each i l =
-          subst (λ m. elementFit f g (1 + i) (take (rowOf f .cells) (drop m cs)) ≡ All) (sym (sum-up-same (rowOf f .cells) 1 i))
-          (fits-element f g (1 + i) (take (rowOf f .cells) (drop (i * rowOf f .cells) cs)) (h i l))
-
-  -- only the group's own cells matter
-  pub elements-take : (g count : ℕ) (cs : List ℤ) → elementsFit f g count (take (cellsOf f count) cs) ≡ elementsFit f g count cs
-  unfolding elementsFit Count.cellsOf
-  elements-take g count cs =
-      misfit-take size (elementFit f g) (upFrom 1 (elementsOf f count)) cs (elementsOf f count * rowOf f .cells) (omega (arith, sum-up-same (rowOf f .cells) 1 (elementsOf f count)))
 
   -- the elements behind the first j, and those of a line's cells alone
   pub fitted-drop : (k j : ℕ) (cs : List ℤ) → Fitted f k cs → Fitted f (k - j) (drop (j * rowOf f .cells) cs)
@@ -136,10 +117,7 @@ module _ (f : Form) where
       each : (i : ℕ) → i < k → T (fitsOf f (take (rowOf f .cells) (drop (sum (map size (upFrom a i))) cs)))
       each i l = subst (λ m. T (fitsOf f (take (rowOf f .cells) (drop m cs)))) (sym (sum-up-same (rowOf f .cells) a i)) (h i l)
 
-  -- ---- the lines: those with j lines before them have min n (j * p) elements before them
-
-  pub line-behind : (p n j : ℕ) → min n (j * p) + min p (n - j * p) ≡ min n ((j + 1) * p)
-  line-behind p n j = omega (arith, add-mul j 1 p, one-mul p)
+  -- ---- the lines
 
   pub fitted-lines : (p n j k : ℕ) (cs : List ℤ) → Fitted f n cs → Own (lineCells f) (λ l c. Fitted f (l .many) c) (planFrom p n j k) (drop (min n (j * p) * rowOf f .cells) cs)
   unfolding Plan.planFrom Pieces.Own Every.upFrom
@@ -152,14 +130,41 @@ module _ (f : Form) where
       drop-drop (many * c) (m * c) cs ∙ ap (λ x. drop x cs) (sym (add-mul m many c) ∙ ap (λ x. x * c) (line-behind p n j ∙ ap (λ i. min n (i * p)) (add-one j))) in
       (fitted-take (n - m) many (drop (m * c) cs) (omega arith) (fitted-drop n m cs h), rw e (fitted-lines p n (suc j) k cs h))
 
-  -- each line of a group has its own cells, and they fit
-  pub lines-own : (count : ℕ) (cs : List ℤ) → Fitted f (elementsOf f count) cs → Own (lineCells f) (λ l c. Fitted f (l .many) c) (planOf f count) cs
-  unfolding Plan.planOf
-  lines-own count cs h =
+  -- each line has its own cells, and they fit
+  pub many-own : (n : ℕ) (cs : List ℤ) → Fitted f n cs → Own (lineCells f) (λ l c. Fitted f (l .many) c) (manyPlan f n) cs
+  many-own n cs h =
       let p = rowOf f .«per_line» in
-      let n = elementsOf f count in
       let z : min n (0 * p) ≡ 0 = omega (arith, zero-mul p) in
-      rw (z, zero-mul (rowOf f .cells), drop-none cs) at (fitted-lines p n 0 (linesOf f count) cs h)
+      rw (z, zero-mul (rowOf f .cells), drop-none cs) at (fitted-lines p n 0 (roundedUp n p) cs h)
+
+module _ (ρ : Rules) (f : Form) where
+  pub elements-fitted : (g count : ℕ) (cs : List ℤ) → elementsFit ρ f g count cs ≡ All → Fitted f (elementsOf ρ f count) cs
+  unfolding elementsFit
+  elements-fitted g count cs h i l =
+      let o = own-up (size f) (λ e c. elementFit f g e c ≡ All) 1 (elementsOf ρ f count) cs (misfit-own (size f) (elementFit f g) (upFrom 1 (elementsOf ρ f count)) cs h) i l in
+      element-fits f g (1 + i) (take (rowOf f .cells) (drop (i * rowOf f .cells) cs))
+      (subst (λ m. elementFit f g (1 + i) (take (rowOf f .cells) (drop m cs)) ≡ All) (sum-up-same (rowOf f .cells) 1 i) o)
+
+  pub fitted-elements : (g count : ℕ) (cs : List ℤ) → Fitted f (elementsOf ρ f count) cs → elementsFit ρ f g count cs ≡ All
+  unfolding elementsFit
+  fitted-elements g count cs h =
+      own-misfit (size f) (elementFit f g) (upFrom 1 (elementsOf ρ f count)) cs
+      (up-own (size f) (λ e c. elementFit f g e c ≡ All) 1 (elementsOf ρ f count) cs each)
+    where
+      each : (i : ℕ) → i < elementsOf ρ f count → elementFit f g (1 + i) (take (rowOf f .cells) (drop (sum (map (size f) (upFrom 1 i))) cs)) ≡ All
+      each i l =
+          subst (λ m. elementFit f g (1 + i) (take (rowOf f .cells) (drop m cs)) ≡ All) (sym (sum-up-same (rowOf f .cells) 1 i))
+          (fits-element f g (1 + i) (take (rowOf f .cells) (drop (i * rowOf f .cells) cs)) (h i l))
+
+  -- only the group's own cells matter
+  pub elements-take : (g count : ℕ) (cs : List ℤ) → elementsFit ρ f g count (take (cellsOf ρ f count) cs) ≡ elementsFit ρ f g count cs
+  unfolding elementsFit Count.cellsOf
+  elements-take g count cs =
+      misfit-take (size f) (elementFit f g) (upFrom 1 (elementsOf ρ f count)) cs (elementsOf ρ f count * rowOf f .cells) (omega (arith, sum-up-same (rowOf f .cells) 1 (elementsOf ρ f count)))
+
+  pub lines-own : (count : ℕ) (cs : List ℤ) → Fitted f (elementsOf ρ f count) cs → Own (lineCells f) (λ l c. Fitted f (l .many) c) (planOf ρ f count) cs
+  unfolding Plan.planOf
+  lines-own count cs h = many-own f (elementsOf ρ f count) cs h
 
 -- ---- the groups of a record
 
@@ -167,38 +172,39 @@ sum-up-none : (f : ℕ → ℕ) (a : ℕ) → sum (map f (upFrom a 0)) ≡ 0
 unfolding Every.upFrom Sum.sum
 sum-up-none f a = refl
 
-pub groups-own : (ns : List ℕ) (cs : List ℤ) → fitOf ns cs ≡ All → Own (cellsIn ns) (λ g c. groupFit ns g c ≡ All) (upFrom 1 60) cs
+pub groups-own : (ρ : Rules) (ns : List ℕ) (cs : List ℤ) → fitOf ρ ns cs ≡ All → Own (cellsIn ρ ns) (λ g c. groupFit ρ ns g c ≡ All) (upFrom 1 60) cs
 unfolding fitOf
-groups-own ns cs e = misfit-own (cellsIn ns) (groupFit ns) (upFrom 1 60) cs e
+groups-own ρ ns cs e = misfit-own (cellsIn ρ ns) (groupFit ρ ns) (upFrom 1 60) cs e
 
-pub own-groups : (ns : List ℕ) (cs : List ℤ) → Own (cellsIn ns) (λ g c. groupFit ns g c ≡ All) (upFrom 1 60) cs → fitOf ns cs ≡ All
+pub own-groups : (ρ : Rules) (ns : List ℕ) (cs : List ℤ) → Own (cellsIn ρ ns) (λ g c. groupFit ρ ns g c ≡ All) (upFrom 1 60) cs → fitOf ρ ns cs ≡ All
 unfolding fitOf
-own-groups ns cs o = own-misfit (cellsIn ns) (groupFit ns) (upFrom 1 60) cs o
+own-groups ρ ns cs o = own-misfit (cellsIn ρ ns) (groupFit ρ ns) (upFrom 1 60) cs o
 
 -- the cells before group i + 1 are those of the groups 1 to i
-pub cells-before : (ns : List ℕ) (i : ℕ) → i < 61 → sum (map (cellsIn ns) (upFrom 1 i)) ≡ cellsBefore ns (suc i)
-cells-before ns zero h = sum-up-none (cellsIn ns) 1 ∙ sym (cells-first ns)
-cells-before ns (suc i) h =
-    sum-up-more (cellsIn ns) 1 i
-    ∙ ap (λ m. m + cellsIn ns (1 + i)) (cells-before ns i (omega arith))
-    ∙ ap (λ g. cellsBefore ns (suc i) + cellsIn ns g) (next i)
-    ∙ sym (rw (add-one (suc i)) at (cells-next ns (suc i) (omega arith) (omega arith)))
+pub cells-before : (ρ : Rules) (ns : List ℕ) (i : ℕ) → i < 61 → sum (map (cellsIn ρ ns) (upFrom 1 i)) ≡ cellsBefore ρ ns (suc i)
+cells-before ρ ns zero h = sum-up-none (cellsIn ρ ns) 1 ∙ sym (cells-first ρ ns)
+cells-before ρ ns (suc i) h =
+    sum-up-more (cellsIn ρ ns) 1 i
+    ∙ ap (λ m. m + cellsIn ρ ns (1 + i)) (cells-before ρ ns i (omega arith))
+    ∙ ap (λ g. cellsBefore ρ ns (suc i) + cellsIn ρ ns g) (next i)
+    ∙ sym (rw (add-one (suc i)) at (cells-next ρ ns (suc i) (omega arith) (omega arith)))
   where
     next : (i : ℕ) → 1 + i ≡ suc i
     next i = omega arith
 
 -- the cells of group g fit its form
-pub group-fits : (ns : List ℕ) (cs : List ℤ) → fitOf ns cs ≡ All → (g : ℕ) → 0 < g → g < 61 → groupFit ns g (take (cellsIn ns g) (drop (cellsBefore ns g) cs)) ≡ All
-group-fits ns cs e zero a b = absurd (omega arith)
-group-fits ns cs e (suc i) a b =
-    let o = own-up (cellsIn ns) (λ g c. groupFit ns g c ≡ All) 1 60 cs (groups-own ns cs e) i (omega arith) in
+pub group-fits : (ρ : Rules) (ns : List ℕ) (cs : List ℤ) → fitOf ρ ns cs ≡ All → (g : ℕ) → 0 < g → g < 61 → groupFit ρ ns g (take (cellsIn ρ ns g) (drop (cellsBefore ρ ns g) cs)) ≡ All
+group-fits ρ ns cs e zero a b = absurd (omega arith)
+group-fits ρ ns cs e (suc i) a b =
+    let o = own-up (cellsIn ρ ns) (λ g c. groupFit ρ ns g c ≡ All) 1 60 cs (groups-own ρ ns cs e) i (omega arith) in
     let k : 1 + i ≡ suc i = omega arith in
-    subst (λ g. groupFit ns g (take (cellsIn ns g) (drop (cellsBefore ns (suc i)) cs)) ≡ All) k
-    (subst (λ m. groupFit ns (1 + i) (take (cellsIn ns (1 + i)) (drop m cs)) ≡ All) (cells-before ns i (omega arith)) o)
+    subst (λ g. groupFit ρ ns g (take (cellsIn ρ ns g) (drop (cellsBefore ρ ns (suc i)) cs)) ≡ All) k
+    (subst (λ m. groupFit ρ ns (1 + i) (take (cellsIn ρ ns (1 + i)) (drop m cs)) ≡ All) (cells-before ρ ns i (omega arith)) o)
 
-pub group-fitted : (ns : List ℕ) (cs : List ℤ) → fitOf ns cs ≡ All → (g : ℕ) (f : Form) → 0 < g → g < 61 → formOf g ≡ Has f → Fitted f (elementsOf f (countOf ns g)) (drop (cellsBefore ns g) cs)
+pub group-fitted : (ρ : Rules) (ns : List ℕ) (cs : List ℤ) → fitOf ρ ns cs ≡ All → (g : ℕ) (f : Form) → 0 < g → g < 61 → formOf g ≡ Has f
+    → Fitted f (elementsOf ρ f (countOf ns g)) (drop (cellsBefore ρ ns g) cs)
 unfolding Tally.cellsIn
-group-fitted ns cs e g f a b h =
-    let u : groupFit ns g (take (cellsIn ns g) (drop (cellsBefore ns g) cs)) ≡ All = group-fits ns cs e g a b in
-    let v : elementsFit f g (countOf ns g) (take (cellsOf f (countOf ns g)) (drop (cellsBefore ns g) cs)) ≡ All = rw h at u in
-    elements-fitted f g (countOf ns g) (drop (cellsBefore ns g) cs) (sym (elements-take f g (countOf ns g) (drop (cellsBefore ns g) cs)) ∙ v)
+group-fitted ρ ns cs e g f a b h =
+    let u : groupFit ρ ns g (take (cellsIn ρ ns g) (drop (cellsBefore ρ ns g) cs)) ≡ All = group-fits ρ ns cs e g a b in
+    let v : elementsFit ρ f g (countOf ns g) (take (cellsOf ρ f (countOf ns g)) (drop (cellsBefore ρ ns g) cs)) ≡ All = rw h at u in
+    elements-fitted ρ f g (countOf ns g) (drop (cellsBefore ρ ns g) cs) (sym (elements-take ρ f g (countOf ns g) (drop (cellsBefore ρ ns g) cs)) ∙ v)

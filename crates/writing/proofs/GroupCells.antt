@@ -9,6 +9,7 @@ use native.Mathlib.Omega.{arith}
 use lib.IntN.{ℤ}
 use lib.ListN.{length, take, getD}
 use lib.Seq.{take-all}
+use Rattle.rules.specs.declared.Rules.{Rules}
 use Rattle.base.specs.Every.{upFrom}
 use Rattle.base.specs.Part.{part}
 use Rattle.base.specs.Pieces.{Each}
@@ -24,16 +25,16 @@ use Rattle.count.proofs.Tallied.{before-groups, all-cells, cells-next, cells-be
 use Rattle.writing.specs.RoundTrip.{groupCells, joined}
 
 -- group g, with what stands before it and behind it
-pub record GroupAmong (ns : List ℕ) (P : ℕ → List ℕ → List ℤ → Type 0) (s : List ℕ) (cs : List ℤ) (g : ℕ) : Type 0 where
+pub record GroupAmong (ρ : Rules) (ns : List ℕ) (P : ℕ → List ℕ → List ℤ → Type 0) (s : List ℕ) (cs : List ℤ) (g : ℕ) : Type 0 where
   pub first : List ℕ
   pub itself : List ℕ
   pub rest : List ℕ
   pub first-cells : List ℤ
   pub before : Each P (take (g - 1) (upFrom 1 60)) first first-cells
-  pub holds : P g itself (groupCells ns cs g)
+  pub holds : P g itself (groupCells ρ ns cs g)
   pub text : s ≡ first ++ (itself ++ rest)
 
-module _ (ns : List ℕ) {P : ℕ → List ℕ → List ℤ → Type 0} (sized : (g : ℕ) (x : List ℕ) (c : List ℤ) → P g x c → length c ≡ cellsIn ns g) (s : List ℕ) (cs : List ℤ)
+module _ (ρ : Rules) (ns : List ℕ) {P : ℕ → List ℕ → List ℤ → Type 0} (sized : (g : ℕ) (x : List ℕ) (c : List ℤ) → P g x c → length c ≡ cellsIn ρ ns g) (s : List ℕ) (cs : List ℤ)
     (h : Each P (upFrom 1 60) s cs) where
   module _ (k : ℕ) (few : k < 60) where
     m : Among P (upFrom 1 60) k (getD (upFrom 1 60) k 0) s cs
@@ -44,20 +45,20 @@ module _ (ns : List ℕ) {P : ℕ → List ℕ → List ℤ → Type 0} (sized :
         let e : getD (upFrom 1 60) k 0 ≡ suc k = getD-up 1 60 k 0 few ∙ omega arith in
         subst (λ g. P g (m .itself) (m .cells)) e (m .holds)
 
-    before-cells : length (m .first-cells) ≡ cellsBefore ns (suc k)
+    before-cells : length (m .first-cells) ≡ cellsBefore ρ ns (suc k)
     unfolding Tally.cellsBefore Tally.cellTally Sum.sum
     before-cells =
-        each-cells (cellsIn ns) sized (take k (upFrom 1 60)) (m .first) (m .first-cells) (m .before)
-        ∙ rw (← map-take (cellsIn ns) k (upFrom 1 60)) (omega arith)
+        each-cells (cellsIn ρ ns) sized (take k (upFrom 1 60)) (m .first) (m .first-cells) (m .before)
+        ∙ rw (← map-take (cellsIn ρ ns) k (upFrom 1 60)) (omega arith)
 
-    its-cells : groupCells ns cs (suc k) ≡ m .cells
+    its-cells : groupCells ρ ns cs (suc k) ≡ m .cells
     its-cells =
-        let e : cellsBefore ns (suc (suc k)) ≡ length (m .first-cells) + length (m .cells) =
-        rw (add-one (suc k)) at (cells-next ns (suc k) (omega arith) (omega arith)) ∙ omega (arith, before-cells, sized (suc k) (m .itself) (m .cells) it) in
-        ap (part (cellsBefore ns (suc k)) (cellsBefore ns (suc (suc k)))) (m .all)
+        let e : cellsBefore ρ ns (suc (suc k)) ≡ length (m .first-cells) + length (m .cells) =
+        rw (add-one (suc k)) at (cells-next ρ ns (suc k) (omega arith) (omega arith)) ∙ omega (arith, before-cells, sized (suc k) (m .itself) (m .cells) it) in
+        ap (part (cellsBefore ρ ns (suc k)) (cellsBefore ρ ns (suc (suc k)))) (m .all)
         ∙ rw (e, ← before-cells) (part-middle (m .first-cells) (m .cells) (m .rest-cells))
 
-  pub group-among : (g : ℕ) → 1 ≤ g → g ≤ 60 → GroupAmong ns P s cs g
+  pub group-among : (g : ℕ) → 1 ≤ g → g ≤ 60 → GroupAmong ρ ns P s cs g
   group-among zero low high = absurd (omega arith)
   group-among (suc k) low high =
       let few : k < 60 = omega arith in
@@ -74,12 +75,12 @@ module _ (ns : List ℕ) {P : ℕ → List ℕ → List ℤ → Type 0} (sized :
       }
 
 -- cells are those of all groups, joined
-pub cells-joined : (ns : List ℕ) (cs : List ℤ) (cells : ℕ → List ℤ) → length cs ≡ recordCells ns → ((g : ℕ) → 1 ≤ g → g ≤ 60 → groupCells ns cs g ≡ cells g) → cs ≡ joined cells
-cells-joined ns cs cells n e =
+pub cells-joined : (ρ : Rules) (ns : List ℕ) (cs : List ℤ) (cells : ℕ → List ℤ) → length cs ≡ recordCells ρ ns → ((g : ℕ) → 1 ≤ g → g ≤ 60 → groupCells ρ ns cs g ≡ cells g) → cs ≡ joined cells
+cells-joined ρ ns cs cells n e =
     sym
-    (flat-same cells (groupCells ns cs) 1 60 (λ g low high. sym (e g low (omega arith)))
-    ∙ parts-flat (cellsBefore ns) cs (λ g. cells-below ns g (suc g) (omega arith)) 1 60
+    (flat-same cells (groupCells ρ ns cs) 1 60 (λ g low high. sym (e g low (omega arith)))
+    ∙ parts-flat (cellsBefore ρ ns) cs (λ g. cells-below ρ ns g (suc g) (omega arith)) 1 60
     ∙ whole)
   where
-    whole : part (cellsBefore ns 1) (cellsBefore ns 61) cs ≡ cs
-    whole = rw (← before-groups ns .cells-are, all-cells ns, sub-zero (recordCells ns), drop-none cs) (take-all (recordCells ns) cs (omega arith))
+    whole : part (cellsBefore ρ ns 1) (cellsBefore ρ ns 61) cs ≡ cs
+    whole = rw (← before-groups ρ ns .cells-are, all-cells ρ ns, sub-zero (recordCells ρ ns), drop-none cs) (take-all (recordCells ρ ns) cs (omega arith))

@@ -25,7 +25,7 @@ use Rattle.reply.specs.declared.Answer.the-variants.{Done}
 use Rattle.writing.specs.Canonical.{CanonicalRecord}
 use Rattle.writing.specs.Fitting.{firstMisfit, elementsFit, fitOf}
 use Rattle.writing.specs.RoundTrip.{ReadsBack}
-use Rattle.writing.specs.Text.{lineEnd, entriesText, indexText, fieldsText, lineText, linesText, groupText, groupsText, recordText, bytesIn, recordBytes}
+use Rattle.writing.specs.Text.{lineEnd, entriesText, indexText, fieldsText, lineText, manyText, linesText, groupText, groupsText, recordText, bytesIn, recordBytes}
 use Rattle.writing.specs.Writing.{writingOf}
 use Rattle.writing.proofs.ReadsBack.{done-canonical, reads-back}
 
@@ -49,25 +49,25 @@ text =
     ++ (line "AA20062650922142530"
     ++ line "   7.250")))
 
-pub written : recordText counts cells ≡ text
-unfolding recordText indexText entriesText groupsText groupText linesText lineText fieldsText Pieces.emit Every.upFrom Tally.cellsIn Table.formOf
-    Table.formAmong Table.rowOf Table.listedAs Count.elementsOf Count.linesOf Count.roundedUp Count.cellsOf Plan.planOf Plan.planFrom Write.fieldText
-written = refl
+pub written : (ρ : Rules) → recordText ρ counts cells ≡ text
+unfolding recordText indexText entriesText groupsText groupText linesText manyText lineText fieldsText Pieces.emit Every.upFrom Tally.cellsIn Table.formOf
+    Table.formAmong Table.rowOf Table.listedAs Count.elementsOf Count.isSegments Count.segmentElements Count.linesOf Count.roundedUp Count.cellsOf Plan.planOf Plan.planFrom Write.fieldText
+written ρ = refl
 
 -- R381: how long it is
 pub size : length text ≡ 305
 size = refl
 
 -- writing gives 0 with 305 bytes
-pub done : writingOf counts cells 305 ≡ Done 305
+pub done : (ρ : Rules) → writingOf ρ counts cells 305 ≡ Done 305
 unfolding writingOf recordBytes bytesIn fitOf elementsFit firstMisfit Check.checkedOf Check.wellFormed Rules.releaseOf Rules.filledAmong Rules.rulingOf
     Rules.lowest Rules.headRules Rules.sets Rules.keeps Rules.letterRules Every.upFrom Sum.sum Tally.cellsIn Tally.cellTally Tally.cellsBefore Table.formOf
-    Table.formAmong Table.rowOf Table.listedAs Count.elementsOf Count.linesOf Count.roundedUp Count.cellsOf Write.fitsOf Date.datedOf Date.firstBlamed
+    Table.formAmong Table.rowOf Table.listedAs Count.elementsOf Count.isSegments Count.segmentElements Count.linesOf Count.roundedUp Count.cellsOf Write.fitsOf Date.datedOf Date.firstBlamed
     Digits.fieldDigits Calendar.nameDay Calendar.daysTo Calendar.monthLength Calendar.isLeap
-done = refl
+done ρ = refl
 
-pub is-canonical : Rules → CanonicalRecord counts text cells
-is-canonical ρ = subst (λ x. CanonicalRecord counts x cells) written (done-canonical ρ counts cells 305 305 done)
+pub is-canonical : (ρ : Rules) → CanonicalRecord ρ counts text cells
+is-canonical ρ = subst (λ x. CanonicalRecord ρ counts x cells) (written ρ) (done-canonical ρ counts cells 305 305 (done ρ))
 
 pub back : (ρ : Rules) (a b : List ℕ) → ReadsBack ρ counts cells 305 (a ++ (text ++ b)) (length a)
-back ρ a b = subst (λ x. ReadsBack ρ counts cells 305 (a ++ (x ++ b)) (length a)) written (reads-back ρ counts cells 305 305 done a b)
+back ρ a b = subst (λ x. ReadsBack ρ counts cells 305 (a ++ (x ++ b)) (length a)) (written ρ) (reads-back ρ counts cells 305 305 (done ρ) a b)

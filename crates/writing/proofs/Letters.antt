@@ -9,6 +9,7 @@ use native.Mathlib.Omega.{arith}
 use lib.Dec.{T, eqb}
 use lib.IntN.{ℤ}
 use lib.ListN.{length, take, drop, length-map, length-take, length-drop}
+use Rattle.rules.specs.declared.Rules.{Rules}
 use Rattle.base.specs.Every.{every}
 use Rattle.base.specs.Part.{part, over}
 use Rattle.base.specs.Sign.{sizeOf}
@@ -21,7 +22,8 @@ use Rattle.form.specs.declared.GroupForm.the-variants.{Has}
 use Rattle.form.specs.Table
 use Rattle.form.specs.Table.{rowOf, formOf}
 use Rattle.form.specs.Count
-use Rattle.form.specs.Count.{elementsOf, cellsOf}
+use Rattle.form.specs.Count.{cellsOf}
+use Rattle.form.proofs.Segments.{letters-elements}
 use Rattle.field.specs.Write
 use Rattle.field.specs.Write.{isLetter, fitsOf}
 use Rattle.count.specs.Tally.{countOf, cellsBefore}
@@ -75,42 +77,38 @@ three : formOf 3 ≡ Has A1
 unfolding Table.formOf Table.formAmong Table.listedAs
 three = refl
 
-letters-many : (count : ℕ) → cellsOf A1 count ≡ count
-unfolding Count.cellsOf Count.elementsOf
-letters-many count = ap (λ c. count * c) letter-row ∙ mul-one count
+letters-many : (ρ : Rules) (count : ℕ) → cellsOf ρ A1 count ≡ count
+unfolding Count.cellsOf
+letters-many ρ count = rw (letters-elements ρ count) (ap (λ c. count * c) letter-row ∙ mul-one count)
 
-elements-many : (count : ℕ) → elementsOf A1 count ≡ count
-unfolding Count.elementsOf
-elements-many count = refl
-
-module _ (ns : List ℕ) (cs : List ℤ) (c : checkedOf ns (length cs) ≡ C.Right) (fit : fitOf ns cs ≡ All) where
+module _ (ρ : Rules) (ns : List ℕ) (cs : List ℤ) (c : checkedOf ρ ns (length cs) ≡ C.Right) (fit : fitOf ρ ns cs ≡ All) where
   enough : 19 ≤ countOf ns 3
-  enough = kept-letters ns (kept-ruling ns (Counts.first-due ns (length cs) C.Right .0 c .rules .kept))
+  enough = kept-letters ns (kept-ruling ns (Counts.first-due ρ ns (length cs) C.Right .0 c .rules .kept))
 
-  behind : cellsBefore ns 4 ≡ cellsBefore ns 3 + countOf ns 3
-  behind = cells-next ns 3 (omega arith) (omega arith) ∙ ap (λ n. cellsBefore ns 3 + n) (cells-has ns 3 A1 three ∙ letters-many (countOf ns 3))
+  behind : cellsBefore ρ ns 4 ≡ cellsBefore ρ ns 3 + countOf ns 3
+  behind = cells-next ρ ns 3 (omega arith) (omega arith) ∙ ap (λ n. cellsBefore ρ ns 3 + n) (cells-has ρ ns 3 A1 three ∙ letters-many ρ (countOf ns 3))
 
-  inside : cellsBefore ns 4 ≤ length cs
-  inside = omega (arith, cells-below ns 4 61 (omega arith), all-cells ns, Counts.first-due ns (length cs) C.Right .0 c .needed)
+  inside : cellsBefore ρ ns 4 ≤ length cs
+  inside = omega (arith, cells-below ρ ns 4 61 (omega arith), all-cells ρ ns, Counts.first-due ρ ns (length cs) C.Right .0 c .needed)
 
-  pub date-inside : cellsBefore ns 3 + 19 ≤ length cs
+  pub date-inside : cellsBefore ρ ns 3 + 19 ≤ length cs
   date-inside = omega (arith, enough, behind, inside)
 
-  nineteen : cellsBefore ns 3 + 19 - cellsBefore ns 3 ≡ 19
+  nineteen : cellsBefore ρ ns 3 + 19 - cellsBefore ρ ns 3 ≡ 19
   nineteen = omega arith
 
-  pub date-letters : T (every isLetter (part (cellsBefore ns 3) (cellsBefore ns 3 + 19) cs))
+  pub date-letters : T (every isLetter (part (cellsBefore ρ ns 3) (cellsBefore ρ ns 3 + 19) cs))
   date-letters =
-      let h = group-fitted ns cs fit 3 A1 (omega arith) (omega arith) three in
-      rw nineteen (letters-fit 19 (drop (cellsBefore ns 3) cs) (λ i l. h i (omega (arith, enough, elements-many (countOf ns 3)))))
+      let h = group-fitted ρ ns cs fit 3 A1 (omega arith) (omega arith) three in
+      rw nineteen (letters-fit 19 (drop (cellsBefore ρ ns 3) cs) (λ i l. h i (omega (arith, enough, letters-elements ρ (countOf ns 3)))))
 
-  pub date-same : datedOf (map sizeOf (part (cellsBefore ns 3) (cellsBefore ns 3 + 19) cs)) ≡ datedOf (dateLetters ns cs)
+  pub date-same : datedOf (map sizeOf (part (cellsBefore ρ ns 3) (cellsBefore ρ ns 3 + 19) cs)) ≡ datedOf (dateLetters ρ ns cs)
   date-same =
-      let b = cellsBefore ns 3 in
-      let w : cellsBefore ns 4 - b ≡ countOf ns 3 = omega (arith, behind) in
-      let l : length (dateLetters ns cs) ≡ countOf ns 3 =
-      length-map (part b (cellsBefore ns 4) cs) sizeOf ∙ length-take (cellsBefore ns 4 - b) (drop b cs) ∙ omega (arith, w, length-drop b cs, inside, behind) in
-      let m : min 19 (cellsBefore ns 4 - b) ≡ b + 19 - b = omega (arith, w, enough) in
-      let t : take 19 (dateLetters ns cs) ≡ map sizeOf (part b (b + 19) cs) =
-      sym (map-take sizeOf 19 (part b (cellsBefore ns 4) cs)) ∙ ap (map sizeOf) (take-both 19 (cellsBefore ns 4 - b) (drop b cs) ∙ ap (λ n. take n (drop b cs)) m) in
-      ap datedOf (sym t) ∙ dated-take (dateLetters ns cs) 19 (omega (arith, l, enough)) (omega arith)
+      let b = cellsBefore ρ ns 3 in
+      let w : cellsBefore ρ ns 4 - b ≡ countOf ns 3 = omega (arith, behind) in
+      let l : length (dateLetters ρ ns cs) ≡ countOf ns 3 =
+      length-map (part b (cellsBefore ρ ns 4) cs) sizeOf ∙ length-take (cellsBefore ρ ns 4 - b) (drop b cs) ∙ omega (arith, w, length-drop b cs, inside, behind) in
+      let m : min 19 (cellsBefore ρ ns 4 - b) ≡ b + 19 - b = omega (arith, w, enough) in
+      let t : take 19 (dateLetters ρ ns cs) ≡ map sizeOf (part b (b + 19) cs) =
+      sym (map-take sizeOf 19 (part b (cellsBefore ρ ns 4) cs)) ∙ ap (map sizeOf) (take-both 19 (cellsBefore ρ ns 4 - b) (drop b cs) ∙ ap (λ n. take n (drop b cs)) m) in
+      ap datedOf (sym t) ∙ dated-take (dateLetters ρ ns cs) 19 (omega (arith, l, enough)) (omega arith)

@@ -26,3 +26,4 @@ pub mod ReadWrites
 pub mod Ends
 pub mod Instance
 pub mod Cases
+pub mod SameCounting

@@ -11,6 +11,7 @@ use lib.Dec.{T}
 use lib.IntN.{ℤ}
 use lib.ListN.{take, drop}
 use lib.Seq.{drop-drop}
+use Rattle.rules.specs.declared.Rules.{Rules}
 use Rattle.base.specs.Every
 use Rattle.base.specs.Every.{upFrom}
 use Rattle.base.specs.Sum
@@ -109,49 +110,49 @@ module _ (f : Form) (c : List ℤ) where
 
 -- ---- the elements of a group
 
-module _ (ns : List ℕ) (cs : List ℤ) where
+module _ (ρ : Rules) (ns : List ℕ) (cs : List ℤ) where
   -- what is found of a group
   abbrev pub groupFound : ℕ → Fit
-  groupFound g = groupFit ns g (take (cellsIn ns g) (drop (cellsBefore ns g) cs))
+  groupFound g = groupFit ρ ns g (take (cellsIn ρ ns g) (drop (cellsBefore ρ ns g) cs))
 
   module _ (g : ℕ) (f : Form) (h : formOf g ≡ Has f) where
-    found-is : groupFound g ≡ elementsFit f g (countOf ns g) (drop (cellsBefore ns g) cs)
-    found-is = ap (λ n. groupFit ns g (take n (drop (cellsBefore ns g) cs))) (cells-has ns g f h) ∙ rw h (elements-take f g (countOf ns g) (drop (cellsBefore ns g) cs))
+    found-is : groupFound g ≡ elementsFit ρ f g (countOf ns g) (drop (cellsBefore ρ ns g) cs)
+    found-is = ap (λ n. groupFit ρ ns g (take n (drop (cellsBefore ρ ns g) cs))) (cells-has ρ ns g f h) ∙ rw h (elements-take ρ f g (countOf ns g) (drop (cellsBefore ρ ns g) cs))
 
-    cells-is : (i : ℕ) → take (rowOf f .cells) (drop (i * rowOf f .cells) (drop (cellsBefore ns g) cs)) ≡ elementCells ns cs g (suc i) f
+    cells-is : (i : ℕ) → take (rowOf f .cells) (drop (i * rowOf f .cells) (drop (cellsBefore ρ ns g) cs)) ≡ elementCells ρ ns cs g (suc i) f
     cells-is i =
         let e : suc i - 1 ≡ i = omega arith in
-        rw e (ap (take (rowOf f .cells)) (drop-drop (i * rowOf f .cells) (cellsBefore ns g) cs))
+        rw e (ap (take (rowOf f .cells)) (drop-drop (i * rowOf f .cells) (cellsBefore ρ ns g) cs))
 
-    cells-of : (e : ℕ) → take (rowOf f .cells) (drop ((e - 1) * rowOf f .cells) (drop (cellsBefore ns g) cs)) ≡ elementCells ns cs g e f
-    cells-of e = ap (take (rowOf f .cells)) (drop-drop ((e - 1) * rowOf f .cells) (cellsBefore ns g) cs)
+    cells-of : (e : ℕ) → take (rowOf f .cells) (drop ((e - 1) * rowOf f .cells) (drop (cellsBefore ρ ns g) cs)) ≡ elementCells ρ ns cs g e f
+    cells-of e = ap (take (rowOf f .cells)) (drop-drop ((e - 1) * rowOf f .cells) (cellsBefore ρ ns g) cs)
 
-    pub all-fields : groupFound g ≡ All → (e : ℕ) → Element ns cs g e f → HasField f (elementCells ns cs g e f)
+    pub all-fields : groupFound g ≡ All → (e : ℕ) → Element ρ ns cs g e f → HasField f (elementCells ρ ns cs g e f)
     all-fields a e x =
-        let t = elements-fitted f g (countOf ns g) (drop (cellsBefore ns g) cs) (sym found-is ∙ a) (e - 1) (omega (arith, x .low, x .high)) in
-        has-field f (elementCells ns cs g e f) (subst (λ c. T (fitsOf f c)) (cells-of e) t)
+        let t = elements-fitted ρ f g (countOf ns g) (drop (cellsBefore ρ ns g) cs) (sym found-is ∙ a) (e - 1) (omega (arith, x .low, x .high)) in
+        has-field f (elementCells ρ ns cs g e f) (subst (λ c. T (fitsOf f c)) (cells-of e) t)
 
-    pub fields-all : ((e : ℕ) → Element ns cs g e f → HasField f (elementCells ns cs g e f)) → groupFound g ≡ All
+    pub fields-all : ((e : ℕ) → Element ρ ns cs g e f → HasField f (elementCells ρ ns cs g e f)) → groupFound g ≡ All
     fields-all k =
         found-is
-        ∙ fitted-elements f g (countOf ns g) (drop (cellsBefore ns g) cs)
-        (λ i l. subst (λ c. T (fitsOf f c)) (sym (cells-is i)) (field-fits f (elementCells ns cs g (suc i) f) (k (suc i) record { form = h; low = omega arith; high = omega arith })))
+        ∙ fitted-elements ρ f g (countOf ns g) (drop (cellsBefore ρ ns g) cs)
+        (λ i l. subst (λ c. T (fitsOf f c)) (sym (cells-is i)) (field-fits f (elementCells ρ ns cs g (suc i) f) (k (suc i) record { form = h; low = omega arith; high = omega arith })))
 
     -- the first element without a field
     pub record Lowest (e : ℕ) : Type 0 where
-      pub element : Element ns cs g e f
-      pub none : HasNone f (elementCells ns cs g e f)
-      pub before : (d : ℕ) → Element ns cs g d f → d < e → HasField f (elementCells ns cs g d f)
+      pub element : Element ρ ns cs g e f
+      pub none : HasNone f (elementCells ρ ns cs g e f)
+      pub before : (d : ℕ) → Element ρ ns cs g d f → d < e → HasField f (elementCells ρ ns cs g d f)
 
     piece-is : (i : ℕ)
-        → elementFit f g (1 + i) (take (rowOf f .cells) (drop (sum (map (λ (e : ℕ). rowOf f .cells) (upFrom 1 i))) (drop (cellsBefore ns g) cs))) ≡ elementFit f g (1 + i)
-        (elementCells ns cs g (suc i) f)
-    piece-is i = ap (λ n. elementFit f g (1 + i) (take (rowOf f .cells) (drop n (drop (cellsBefore ns g) cs)))) (sum-up-same (rowOf f .cells) 1 i) ∙ ap (elementFit f g (1 + i)) (cells-is i)
+        → elementFit f g (1 + i) (take (rowOf f .cells) (drop (sum (map (λ (e : ℕ). rowOf f .cells) (upFrom 1 i))) (drop (cellsBefore ρ ns g) cs))) ≡ elementFit f g (1 + i)
+        (elementCells ρ ns cs g (suc i) f)
+    piece-is i = ap (λ n. elementFit f g (1 + i) (take (rowOf f .cells) (drop n (drop (cellsBefore ρ ns g) cs)))) (sum-up-same (rowOf f .cells) 1 i) ∙ ap (elementFit f g (1 + i)) (cells-is i)
 
     pub found-none : (b e : ℕ) → groupFound g ≡ Not b e → (b ≡ g) × Lowest e
     unfolding elementsFit
     found-none b e a =
-        let r = first-found (λ (n : ℕ). rowOf f .cells) (elementFit f g) 1 (elementsOf f (countOf ns g)) (drop (cellsBefore ns g) cs) b e (sym found-is ∙ a) in
+        let r = first-found (λ (n : ℕ). rowOf f .cells) (elementFit f g) 1 (elementsOf ρ f (countOf ns g)) (drop (cellsBefore ρ ns g) cs) b e (sym found-is ∙ a) in
         by (r .at) (r .inside) (r .earlier) (sym (piece-is (r .at)) ∙ r .told)
       where
         fitted-one : (i : ℕ) (t : Bool) → cond t All (Not g (1 + i)) ≡ All → T t
@@ -162,48 +163,48 @@ module _ (ns : List ℕ) (cs : List ℤ) where
         misfit i true u = no-not u
         misfit i false u = let p : g ≡ b = cc in let q : 1 + i ≡ e = cc in (refl, sym p, sym q)
 
-        by : (k : ℕ) → k < elementsOf f (countOf ns g)
-            → ((i : ℕ) → i < k → elementFit f g (1 + i) (take (rowOf f .cells) (drop (sum (map (λ (e : ℕ). rowOf f .cells) (upFrom 1 i))) (drop (cellsBefore ns g) cs))) ≡ All)
-            → elementFit f g (1 + k) (elementCells ns cs g (suc k) f) ≡ Not b e → (b ≡ g) × Lowest e
+        by : (k : ℕ) → k < elementsOf ρ f (countOf ns g)
+            → ((i : ℕ) → i < k → elementFit f g (1 + i) (take (rowOf f .cells) (drop (sum (map (λ (e : ℕ). rowOf f .cells) (upFrom 1 i))) (drop (cellsBefore ρ ns g) cs))) ≡ All)
+            → elementFit f g (1 + k) (elementCells ρ ns cs g (suc k) f) ≡ Not b e → (b ≡ g) × Lowest e
         by k l earlier told =
-            let m = misfit k (fitsOf f (elementCells ns cs g (suc k) f)) told in
+            let m = misfit k (fitsOf f (elementCells ρ ns cs g (suc k) f)) told in
             let q : e ≡ suc k = omega (arith, m .2) in (
               m .1,
               record {
                 element = record { form = h; low = omega arith; high = omega arith };
-                none = subst (λ d. HasNone f (elementCells ns cs g d f)) (sym q) (fits-none f (elementCells ns cs g (suc k) f) (m .0));
+                none = subst (λ d. HasNone f (elementCells ρ ns cs g d f)) (sym q) (fits-none f (elementCells ρ ns cs g (suc k) f) (m .0));
                 before = λ d x j. lower d x (omega arith);
               },
             )
           where
-            lower : (d : ℕ) → Element ns cs g d f → d < suc k → HasField f (elementCells ns cs g d f)
+            lower : (d : ℕ) → Element ρ ns cs g d f → d < suc k → HasField f (elementCells ρ ns cs g d f)
             lower zero x j = absurd (omega (arith, x .low))
-            lower (suc i) x j = has-field f (elementCells ns cs g (suc i) f) (fitted-one i (fitsOf f (elementCells ns cs g (suc i) f)) (sym (piece-is i) ∙ earlier i (omega arith)))
+            lower (suc i) x j = has-field f (elementCells ρ ns cs g (suc i) f) (fitted-one i (fitsOf f (elementCells ρ ns cs g (suc i) f)) (sym (piece-is i) ∙ earlier i (omega arith)))
 
     pub none-found : (e : ℕ) → Lowest e → groupFound g ≡ Not g e
     unfolding elementsFit
     none-found zero x = absurd (omega (arith, x .element .low))
     none-found (suc k) x =
         found-is
-        ∙ found-first (λ (n : ℕ). rowOf f .cells) (elementFit f g) 1 (elementsOf f (countOf ns g)) (drop (cellsBefore ns g) cs) g (suc k) record {
+        ∙ found-first (λ (n : ℕ). rowOf f .cells) (elementFit f g) 1 (elementsOf ρ f (countOf ns g)) (drop (cellsBefore ρ ns g) cs) g (suc k) record {
           at = k;
           inside = x .element .high;
           earlier = λ i l. piece-is i ∙ fits i (x .before (suc i) record { form = h; low = omega arith; high = omega (arith, x .element .high) } (omega arith));
           told = piece-is k ∙ misfit;
         }
       where
-        fits : (i : ℕ) → HasField f (elementCells ns cs g (suc i) f) → elementFit f g (1 + i) (elementCells ns cs g (suc i) f) ≡ All
-        fits i y = rw (T-true (fitsOf f (elementCells ns cs g (suc i) f)) (field-fits f (elementCells ns cs g (suc i) f) y))
+        fits : (i : ℕ) → HasField f (elementCells ρ ns cs g (suc i) f) → elementFit f g (1 + i) (elementCells ρ ns cs g (suc i) f) ≡ All
+        fits i y = rw (T-true (fitsOf f (elementCells ρ ns cs g (suc i) f)) (field-fits f (elementCells ρ ns cs g (suc i) f) y))
 
-        misfit : elementFit f g (1 + k) (elementCells ns cs g (suc k) f) ≡ Not g (suc k)
-        misfit = let q : 1 + k ≡ suc k = omega arith in rw (none-fits f (elementCells ns cs g (suc k) f) (x .none), q)
+        misfit : elementFit f g (1 + k) (elementCells ρ ns cs g (suc k) f) ≡ Not g (suc k)
+        misfit = let q : 1 + k ≡ suc k = omega arith in rw (none-fits f (elementCells ρ ns cs g (suc k) f) (x .none), q)
 
   -- ---- the groups of a record
 
-  pub groups-all : ((g : ℕ) → 0 < g → g < 61 → groupFound g ≡ All) → fitOf ns cs ≡ All
-  groups-all h = own-groups ns cs (up-own (cellsIn ns) (λ g c. groupFit ns g c ≡ All) 1 60 cs each)
+  pub groups-all : ((g : ℕ) → 0 < g → g < 61 → groupFound g ≡ All) → fitOf ρ ns cs ≡ All
+  groups-all h = own-groups ρ ns cs (up-own (cellsIn ρ ns) (λ g c. groupFit ρ ns g c ≡ All) 1 60 cs each)
     where
-      each : (i : ℕ) → i < 60 → groupFit ns (1 + i) (take (cellsIn ns (1 + i)) (drop (sum (map (cellsIn ns) (upFrom 1 i))) cs)) ≡ All
+      each : (i : ℕ) → i < 60 → groupFit ρ ns (1 + i) (take (cellsIn ρ ns (1 + i)) (drop (sum (map (cellsIn ρ ns) (upFrom 1 i))) cs)) ≡ All
       each i l =
           let e : 1 + i ≡ suc i = omega arith in
-          rw (e, cells-before ns i (omega arith)) (h (suc i) (omega arith) (omega arith))
+          rw (e, cells-before ρ ns i (omega arith)) (h (suc i) (omega arith) (omega arith))

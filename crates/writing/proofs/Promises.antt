@@ -11,6 +11,7 @@ use lib.Dec.{lit<}
 use lib.IntN.{ℤ}
 use lib.ListN.{length, take, drop}
 use lib.Seq.{drop-at, take-at}
+use Rattle.rules.specs.declared.Rules.{Rules}
 use Rattle.reply.specs.Table.{Numbered, bytes}
 use Rattle.reply.specs.Refusals.{refusalReply, answerReply, rows}
 use Rattle.reply.proofs.Replies.{fills, refusal-fills, at-row, rows-left}
@@ -32,42 +33,42 @@ use Rattle.writing.proofs.Lengths.{record-length}
 
 -- ---- numbered
 
-pub record-some : (ns : List ℕ) → 244 ≤ recordBytes ns
+pub record-some : (ρ : Rules) (ns : List ℕ) → 244 ≤ recordBytes ρ ns
 unfolding recordBytes
-record-some ns = omega arith
+record-some ρ ns = omega arith
 
-module _ (ns : List ℕ) (cs : List ℤ) (room : ℕ) where
-  refusal-numbered : (r : Refusal) → RefusedFor ns cs room r → Numbered (rows writingRefusals) (refusalReply r)
-  refusal-numbered r (wrong-counts q d) = rows-left checkRefusals (NoField 0 0 ∷ BadDate 0 ∷ NoRoom ∷ []) (refusalReply q) (check-refusal-numbered ns (length cs) q d)
+module _ (ρ : Rules) (ns : List ℕ) (cs : List ℤ) (room : ℕ) where
+  refusal-numbered : (r : Refusal) → RefusedFor ρ ns cs room r → Numbered (rows writingRefusals) (refusalReply r)
+  refusal-numbered r (wrong-counts q d) = rows-left checkRefusals (NoField 0 0 ∷ BadDate 0 ∷ NoRoom ∷ []) (refusalReply q) (check-refusal-numbered ρ ns (length cs) q d)
   refusal-numbered r (no-field g e d) =
       at-row 5 (rows writingRefusals) (refusalReply (NoField g e)) (lit< tt) (refusal-fills (NoField g e) (form-range g (d .form) (d .element .form) .0, (d .element .low, tt)))
   refusal-numbered r (bad-date p d) =
-      at-row 6 (rows writingRefusals) (refusalReply (BadDate p)) (lit< tt) (refusal-fills (BadDate p) (blamed-position (dateLetters ns cs) p (d .wrong), tt))
+      at-row 6 (rows writingRefusals) (refusalReply (BadDate p)) (lit< tt) (refusal-fills (BadDate p) (blamed-position (dateLetters ρ ns cs) p (d .wrong), tt))
   refusal-numbered r (no-room d) = at-row 7 (rows writingRefusals) (refusalReply NoRoom) (lit< tt) (refusal-fills NoRoom tt)
 
-  due-numbered : (w : Answer) → Due ns cs room w → Numbered writingRows (answerReply w)
-  due-numbered (Done n) d = inl (fills 0 ((bytes, n) ∷ []) (omega (arith, d .bytes, record-some ns), tt))
+  due-numbered : (w : Answer) → Due ρ ns cs room w → Numbered writingRows (answerReply w)
+  due-numbered (Done n) d = inl (fills 0 ((bytes, n) ∷ []) (omega (arith, d .bytes, record-some ρ ns), tt))
   due-numbered (Refused r) d = inr (refusal-numbered r d)
 
-  pub writing-numbered : Numbered writingRows (answerReply (writingOf ns cs room))
-  writing-numbered = due-numbered (writingOf ns cs room) (first-due ns cs room (writingOf ns cs room) .0 refl)
+  pub writing-numbered : Numbered writingRows (answerReply (writingOf ρ ns cs room))
+  writing-numbered = due-numbered (writingOf ρ ns cs room) (first-due ρ ns cs room (writingOf ρ ns cs room) .0 refl)
 
 -- ---- the output
 
 -- refused write keeps (R307): the whole output is what it was
-pub refused-write-keeps : (ns : List ℕ) (cs : List ℤ) (w : Answer) (old : List ℕ) → (answerReply w .number ≡ 0 → ⊥) → outputBy ns cs w old ≡ old
-refused-write-keeps ns cs (Done n) old h = absurd (h refl)
-refused-write-keeps ns cs (Refused r) old h = refl
+pub refused-write-keeps : (ρ : Rules) (ns : List ℕ) (cs : List ℤ) (w : Answer) (old : List ℕ) → (answerReply w .number ≡ 0 → ⊥) → outputBy ρ ns cs w old ≡ old
+refused-write-keeps ρ ns cs (Done n) old h = absurd (h refl)
+refused-write-keeps ρ ns cs (Refused r) old h = refl
 
 -- done write keeps the rest (R306): the output begins with the text, n bytes long, and is as it was behind it
-module _ (ns : List ℕ) (cs : List ℤ) (old : List ℕ) (n : ℕ) (d : writingOf ns cs (length old) ≡ Done n) where
-  long : length (recordText ns cs) ≡ n
+module _ (ρ : Rules) (ns : List ℕ) (cs : List ℤ) (old : List ℕ) (n : ℕ) (d : writingOf ρ ns cs (length old) ≡ Done n) where
+  long : length (recordText ρ ns cs) ≡ n
   long =
-      let i = done-is ns cs (length old) n d in
-      record-length ns cs (i .checked .rules .released .counts .many) (i .fit) ∙ sym (i .bytes)
+      let i = done-is ρ ns cs (length old) n d in
+      record-length ρ ns cs (i .checked .rules .released .counts .many) (i .fit) ∙ sym (i .bytes)
 
-  pub done-write-begins : take n (outputBy ns cs (Done n) old) ≡ recordText ns cs
-  done-write-begins = rw (zero-add (length (recordText ns cs))) (take-at (recordText ns cs) (drop (length (recordText ns cs)) old) n long)
+  pub done-write-begins : take n (outputBy ρ ns cs (Done n) old) ≡ recordText ρ ns cs
+  done-write-begins = rw (zero-add (length (recordText ρ ns cs))) (take-at (recordText ρ ns cs) (drop (length (recordText ρ ns cs)) old) n long)
 
-  pub done-write-keeps-rest : drop n (outputBy ns cs (Done n) old) ≡ drop n old
-  done-write-keeps-rest = rw (zero-add (length (recordText ns cs))) (drop-at (recordText ns cs) (drop (length (recordText ns cs)) old) n long ∙ ap (λ k. drop k old) long)
+  pub done-write-keeps-rest : drop n (outputBy ρ ns cs (Done n) old) ≡ drop n old
+  done-write-keeps-rest = rw (zero-add (length (recordText ρ ns cs))) (drop-at (recordText ρ ns cs) (drop (length (recordText ρ ns cs)) old) n long ∙ ap (λ k. drop k old) long)

@@ -11,6 +11,7 @@ use lib.Dec.{T}
 use lib.IntN.{ℤ}
 use lib.ListN.{length, take, drop, getD, set, length-append, length-set, length-take, length-drop, drop-of-length-le}
 use lib.Seq.{drop-cons, drop-drop, take-all}
+use Rattle.rules.specs.declared.Rules.{Rules}
 use Rattle.base.specs.Every
 use Rattle.base.specs.Every.{upFrom}
 use Rattle.base.specs.Part.{part, over}
@@ -26,7 +27,7 @@ use Rattle.form.specs.declared.Row.{Row}
 use Rattle.form.specs.declared.GroupForm.the-variants.{Has}
 use Rattle.form.specs.Table.{rowOf, formOf}
 use Rattle.form.specs.Count
-use Rattle.form.specs.Count.{elementsOf, linesOf, cellsOf, roundedUp}
+use Rattle.form.specs.Count.{elementsOf, cellsOf, roundedUp}
 use Rattle.field.specs.Entry.{indexEntryText}
 use Rattle.field.specs.Write.{fitsOf, fieldText}
 use Rattle.field.proofs.Entries.{entry-wide}
@@ -34,12 +35,12 @@ use Rattle.field.proofs.Laws.{lawful}
 use Rattle.count.specs.Tally.{countOf, cellsIn, cellsBefore}
 use Rattle.count.proofs.Tallied.{cells-has, cells-first, cells-next, cells-below}
 use Rattle.reading.specs.Plan
-use Rattle.reading.specs.Plan.{Line, lineAt, planFrom, planOf}
+use Rattle.reading.specs.Plan.{Line, lineAt, planFrom}
 use Rattle.writing.specs.declared.Fit.the-variants.{All}
 use Rattle.writing.specs.Fitting.{Fitted, fitOf}
-use Rattle.writing.specs.Text.{lineEnd, entriesText, indexText, lineCells, fieldsText, lineText, lineOfMany, linesText, groupText, groupsText, bytesOf}
+use Rattle.writing.specs.Text.{lineEnd, entriesText, indexText, lineCells, fieldsText, lineText, lineOfMany, manyText, linesText, groupText, groupsText, manyBytes}
 use Rattle.writing.proofs.Fitting.{fitted-drop, fitted-fewer, line-behind, group-fitted}
-use Rattle.writing.proofs.Lengths.{entries-length, fields-length, line-length, lines-length, lines-take}
+use Rattle.writing.proofs.Lengths.{entries-length, fields-length, line-length, many-length, lines-take}
 
 -- ---- the end of a line
 
@@ -199,32 +200,29 @@ module _ (f : Form) (many : ℕ) (cs : List ℤ) (from at : ℕ) (old : List ℕ
 
 -- ---- the lines of a group
 
--- k lines of a group, the first with j before it, from these cells on
+-- of n elements k lines, the first with j before it, from these cells on
 abbrev linesFrom : Form → ℕ → ℕ → ℕ → List ℤ → List ℕ
-linesFrom f count j k cs = emit (lineCells f) (lineText f) (planFrom (rowOf f .«per_line») (elementsOf f count) j k) cs
+linesFrom f n j k cs = emit (lineCells f) (lineText f) (planFrom (rowOf f .«per_line») n j k) cs
 
 -- j lines stand there, the next has its cells from `cell` on and goes to a
-pub record Lines (f : Form) (count : ℕ) (cs : List ℤ) (from at : ℕ) (old : List ℕ) (perLine size many left cell a j : ℕ) (out : List ℕ) : Type 0 where
+pub record Lines (f : Form) (n : ℕ) (cs : List ℤ) (from at : ℕ) (old : List ℕ) (perLine size many left cell a j : ℕ) (out : List ℕ) : Type 0 where
   pub per : perLine ≡ rowOf f .«per_line»
   pub sized : size ≡ rowOf f .cells
-  pub all : many ≡ linesOf f count
+  pub all : many ≡ roundedUp n (rowOf f .«per_line»)
   pub few : j ≤ many
-  pub rest : left ≡ elementsOf f count - j * rowOf f .«per_line»
-  pub cells : cell ≡ from + min (elementsOf f count) (j * rowOf f .«per_line») * rowOf f .cells
-  pub put : Putting at (linesText f count (drop from cs)) old a (linesFrom f count j (many - j) (drop cell cs)) out
+  pub rest : left ≡ n - j * rowOf f .«per_line»
+  pub cells : cell ≡ from + min (n) (j * rowOf f .«per_line») * rowOf f .cells
+  pub put : Putting at (manyText f n (drop from cs)) old a (linesFrom f n j (many - j) (drop cell cs)) out
 
-module _ (f : Form) (count : ℕ) (cs : List ℤ) (from at : ℕ) (old : List ℕ) (fit : Fitted f (elementsOf f count) (drop from cs)) where
-  abbrev n : ℕ
-  n = elementsOf f count
-
+module _ (f : Form) (n : ℕ) (cs : List ℤ) (from at : ℕ) (old : List ℕ) (fit : Fitted f n (drop from cs)) where
   abbrev p : ℕ
   p = rowOf f .«per_line»
 
-  pub lines-start : (row : Row) (left many : ℕ) → row ≡ rowOf f → left ≡ elementsOf f count → many ≡ roundedUp left (row .«per_line») → at + bytesOf f count ≤ length old
-      → Lines f count cs from at old (row .«per_line») (row .cells) many left from at 0 old
-  unfolding linesText Plan.planOf Count.linesOf
-  lines-start row left many r l m h =
-      let e : many ≡ linesOf f count = m ∙ rw (l, ap (λ x. x .«per_line») r) in
+  pub lines-start : (row : Row) (many : ℕ) → row ≡ rowOf f → many ≡ roundedUp n (row .«per_line») → at + manyBytes f n ≤ length old
+      → Lines f n cs from at old (row .«per_line») (row .cells) many n from at 0 old
+  unfolding manyText
+  lines-start row many r m h =
+      let e : many ≡ roundedUp n (rowOf f .«per_line») = m ∙ rw (ap (λ x. x .«per_line») r) in
       let z : min n (0 * p) * rowOf f .cells ≡ 0 = ap (λ x. min n x * rowOf f .cells) (zero-mul p) ∙ ap (λ x. x * rowOf f .cells) (none n) ∙ zero-mul (rowOf f .cells) in
       record {
         per = ap (λ x. x .«per_line») r;
@@ -233,19 +231,19 @@ module _ (f : Form) (count : ℕ) (cs : List ℤ) (from at : ℕ) (old : List �
         few = omega arith;
         rest = omega (arith, zero-mul p);
         cells = omega arith;
-        put = rw (sub-zero many, e) (putting-start at (linesText f count (drop from cs)) old (omega (arith, lines-length f count (drop from cs) fit)));
+        put = rw (sub-zero many, e) (putting-start at (manyText f n (drop from cs)) old (omega (arith, many-length f n (drop from cs) fit)));
       }
     where
       none : (n : ℕ) → min n 0 ≡ 0
       none n = omega arith
 
-  module _ {perLine size many left cell a j : ℕ} {out : List ℕ} (b : Lines f count cs from at old perLine size many left cell a j out) where
-    pub lines-end : many ≤ j → (a ≡ at + bytesOf f count) × (out ≡ over at (linesText f count (drop from cs)) old)
+  module _ {perLine size many left cell a j : ℕ} {out : List ℕ} (b : Lines f n cs from at old perLine size many left cell a j out) where
+    pub lines-end : many ≤ j → (a ≡ at + manyBytes f n) × (out ≡ over at (manyText f n (drop from cs)) old)
     unfolding Plan.planFrom Pieces.emit Every.upFrom
     lines-end h =
         let z : many - j ≡ 0 = omega arith in
-        let e : linesFrom f count j (many - j) (drop cell cs) ≡ [] = rw z in
-        (omega (arith, b .put .place, ap length e, lines-length f count (drop from cs) fit), putting-end (b .put) e)
+        let e : linesFrom f n j (many - j) (drop cell cs) ≡ [] = rw z in
+        (omega (arith, b .put .place, ap length e, many-length f n (drop from cs) fit), putting-end (b .put) e)
 
     module _ (h : j < many) (k : ℕ) (q : k ≡ min perLine left) where
       many-here : lineAt p n j .many ≡ k
@@ -254,17 +252,17 @@ module _ (f : Form) (count : ℕ) (cs : List ℤ) (from at : ℕ) (old : List �
       next-cell : drop (k * rowOf f .cells) (drop cell cs) ≡ drop (cell + k * size) cs
       next-cell = drop-drop (k * rowOf f .cells) cell cs ∙ ap (λ c. drop (cell + k * c) cs) (sym (b .sized))
 
-      step-lines : linesFrom f count j (many - j) (drop cell cs) ≡ lineText f (lineOfMany k) (drop cell cs) ++ linesFrom f count (j + 1) (many - (j + 1)) (drop (cell + k * size) cs)
+      step-lines : linesFrom f n j (many - j) (drop cell cs) ≡ lineText f (lineOfMany k) (drop cell cs) ++ linesFrom f n (j + 1) (many - (j + 1)) (drop (cell + k * size) cs)
       unfolding Plan.planFrom Pieces.emit Every.upFrom
       step-lines =
           let m : many - j ≡ suc (many - (j + 1)) = omega arith in
           let d : drop (lineAt p n j .many * rowOf f .cells) (drop cell cs) ≡ drop (cell + k * size) cs = ap (λ x. drop (x * rowOf f .cells) (drop cell cs)) many-here ∙ next-cell in
           let t : lineText f (lineAt p n j) (take (lineCells f (lineAt p n j)) (drop cell cs)) ≡ lineText f (lineOfMany k) (drop cell cs) =
           line-any f (lineAt p n j) (drop cell cs) ∙ ap (λ x. lineText f (lineOfMany x) (drop cell cs)) many-here in
-          ap (λ x. linesFrom f count j x (drop cell cs)) m ∙ rw (t, d, add-one j)
+          ap (λ x. linesFrom f n j x (drop cell cs)) m ∙ rw (t, d, add-one j)
 
       behind : min n (j * p) + k ≡ min n ((j + 1) * p)
-      behind = ap (λ x. min n (j * p) + x) (sym many-here) ∙ line-behind f p n j
+      behind = ap (λ x. min n (j * p) + x) (sym many-here) ∙ line-behind p n j
 
       fits-here : Fitted f k (drop cell cs)
       fits-here =
@@ -277,20 +275,19 @@ module _ (f : Form) (count : ℕ) (cs : List ℤ) (from at : ℕ) (old : List �
       cells-here : cell + k * rowOf f .cells ≡ from + min n ((j + 1) * p) * rowOf f .cells
       cells-here = omega (arith, b .cells, add-mul (min n (j * p)) k (rowOf f .cells), ap (λ x. x * rowOf f .cells) behind)
 
-      pub line-requires : from + cellsOf f count ≤ length cs → (cell + k * rowOf f .cells ≤ length cs) × Fitted f k (drop cell cs) × (a + k * rowOf f .width + 2 ≤ length out)
-      unfolding Count.cellsOf
+      pub line-requires : from + n * rowOf f .cells ≤ length cs → (cell + k * rowOf f .cells ≤ length cs) × Fitted f k (drop cell cs) × (a + k * rowOf f .width + 2 ≤ length out)
       line-requires room = (
         omega (arith, cells-here, mul-le-mul-right {m = min n ((j + 1) * p)} {n = n} (rowOf f .cells) (omega arith)),
         fits-here,
-        omega (arith, putting-room (b .put) (lineText f (lineOfMany k) (drop cell cs)) (linesFrom f count (j + 1) (many - (j + 1)) (drop (cell + k * size) cs)) step-lines, long-here),
+        omega (arith, putting-room (b .put) (lineText f (lineOfMany k) (drop cell cs)) (linesFrom f n (j + 1) (many - (j + 1)) (drop (cell + k * size) cs)) step-lines, long-here),
       )
 
       pub lines-next : (mid new : List ℕ) (end : ℕ) → end ≡ a + k * rowOf f .width → mid ≡ over a (fieldsText f (lineOfMany k) (drop cell cs)) out → new ≡ over end lineEnd mid
-          → Lines f count cs from at old perLine size many (left - k) (cell + k * size) (end + 2) (j + 1) new
+          → Lines f n cs from at old perLine size many (left - k) (cell + k * size) (end + 2) (j + 1) new
       unfolding lineText
       lines-next mid new end e x y =
           let l : length (fieldsText f (lineOfMany k) (drop cell cs)) ≡ k * rowOf f .width = fields-length f (lineOfMany k) (drop cell cs) fits-here in
-          let r = putting-room (b .put) (lineText f (lineOfMany k) (drop cell cs)) (linesFrom f count (j + 1) (many - (j + 1)) (drop (cell + k * size) cs)) step-lines in
+          let r = putting-room (b .put) (lineText f (lineOfMany k) (drop cell cs)) (linesFrom f n (j + 1) (many - (j + 1)) (drop (cell + k * size) cs)) step-lines in
           let o : new ≡ over a (lineText f (lineOfMany k) (drop cell cs)) out =
           over-then out (fieldsText f (lineOfMany k) (drop cell cs)) lineEnd a end (omega arith, omega (arith, r, long-here)) x y in
           record {
@@ -300,61 +297,74 @@ module _ (f : Form) (count : ℕ) (cs : List ℤ) (from at : ℕ) (old : List �
             few = omega arith;
             rest = omega (arith, b .rest, many-here, add-mul j 1 p, one-mul p);
             cells = ap (λ c. cell + k * c) (b .sized) ∙ cells-here;
-            put = putting-more (b .put) (lineText f (lineOfMany k) (drop cell cs)) (linesFrom f count (j + 1) (many - (j + 1)) (drop (cell + k * size) cs)) new (end + 2) step-lines
+            put = putting-more (b .put) (lineText f (lineOfMany k) (drop cell cs)) (linesFrom f n (j + 1) (many - (j + 1)) (drop (cell + k * size) cs)) new (end + 2) step-lines
                 (omega (arith, long-here)) o;
           }
 
 -- ---- the groups of a record
 
-abbrev groupsFrom : List ℕ → ℕ → List ℤ → List ℕ
-groupsFrom ns g cs = emit (cellsIn ns) (groupText ns) (upFrom g (61 - g)) cs
+abbrev groupsFrom : Rules → List ℕ → ℕ → List ℤ → List ℕ
+groupsFrom ρ ns g cs = emit (cellsIn ρ ns) (groupText ρ ns) (upFrom g (61 - g)) cs
 
 -- groups 1 to g - 1 stand there, the next has its cells from `from` on and goes to a
-pub record GroupsPut (ns : List ℕ) (cs : List ℤ) (at : ℕ) (old : List ℕ) (from a g : ℕ) (out : List ℕ) : Type 0 where
+pub record GroupsPut (ρ : Rules) (ns : List ℕ) (cs : List ℤ) (at : ℕ) (old : List ℕ) (from a g : ℕ) (out : List ℕ) : Type 0 where
   pub low : 1 ≤ g
   pub high : g ≤ 61
-  pub cells : from ≡ cellsBefore ns g
-  pub put : Putting at (groupsText ns cs) old a (groupsFrom ns g (drop from cs)) out
+  pub cells : from ≡ cellsBefore ρ ns g
+  pub put : Putting at (groupsText ρ ns cs) old a (groupsFrom ρ ns g (drop from cs)) out
 
-module _ (ns : List ℕ) (cs : List ℤ) (at : ℕ) (old : List ℕ) where
-  pub groups-put-start : at + length (groupsText ns cs) ≤ length old → GroupsPut ns cs at old 0 at 1 old
+module _ (ρ : Rules) (ns : List ℕ) (cs : List ℤ) (at : ℕ) (old : List ℕ) where
+  pub groups-put-start : at + length (groupsText ρ ns cs) ≤ length old → GroupsPut ρ ns cs at old 0 at 1 old
   unfolding groupsText
-  groups-put-start h = record { low = omega arith; high = omega arith; cells = sym (cells-first ns); put = rw (drop-none cs) (putting-start at (groupsText ns cs) old h) }
+  groups-put-start h = record { low = omega arith; high = omega arith; cells = sym (cells-first ρ ns); put = rw (drop-none cs) (putting-start at (groupsText ρ ns cs) old h) }
 
-  module _ {from a g : ℕ} {out : List ℕ} (b : GroupsPut ns cs at old from a g out) where
-    pub groups-put-end : 61 ≤ g → out ≡ over at (groupsText ns cs) old
+  module _ {from a g : ℕ} {out : List ℕ} (b : GroupsPut ρ ns cs at old from a g out) where
+    pub groups-put-end : 61 ≤ g → out ≡ over at (groupsText ρ ns cs) old
     unfolding Pieces.emit Every.upFrom
     groups-put-end h = let z : 61 - g ≡ 0 = omega arith in putting-end (b .put) (rw z)
 
-    module _ (h : g < 61) (fit : fitOf ns cs ≡ All) (many : length cs ≡ cellsBefore ns 61) (f : Form) (e : formOf g ≡ Has f) (count : ℕ) (c : count ≡ countOf ns g) where
-      next-group : cellsBefore ns (g + 1) ≡ from + cellsOf f count
-      next-group = cells-next ns g (omega (arith, b .low)) h ∙ rw (b .cells, c, cells-has ns g f e)
+    module _ (h : g < 61) (fit : fitOf ρ ns cs ≡ All) (many : length cs ≡ cellsBefore ρ ns 61) (f : Form) (e : formOf g ≡ Has f) (count : ℕ) (c : count ≡ countOf ns g) where
+      next-group : cellsBefore ρ ns (g + 1) ≡ from + cellsOf ρ f count
+      next-group = cells-next ρ ns g (omega (arith, b .low)) h ∙ rw (b .cells, c, cells-has ρ ns g f e)
 
-      step-groups : groupsFrom ns g (drop from cs) ≡ linesText f count (drop from cs) ++ groupsFrom ns (g + 1) (drop (from + cellsOf f count) cs)
+      step-groups : groupsFrom ρ ns g (drop from cs) ≡ linesText ρ f count (drop from cs) ++ groupsFrom ρ ns (g + 1) (drop (from + cellsOf ρ f count) cs)
       unfolding Pieces.emit groupText
       step-groups =
-          let z : cellsIn ns g ≡ cellsOf f count = cells-has ns g f e ∙ ap (cellsOf f) (sym c) in
-          let t : groupText ns g (take (cellsOf f count) (drop from cs)) ≡ linesText f count (drop from cs) = rw (e, ← c) (lines-take f count (drop from cs)) in
-          ap (λ l. emit (cellsIn ns) (groupText ns) l (drop from cs)) (up-more g 60 (omega arith)) ∙ rw (z, drop-drop (cellsOf f count) from cs, t)
+          let z : cellsIn ρ ns g ≡ cellsOf ρ f count = cells-has ρ ns g f e ∙ ap (cellsOf ρ f) (sym c) in
+          let t : groupText ρ ns g (take (cellsOf ρ f count) (drop from cs)) ≡ linesText ρ f count (drop from cs) = rw (e, ← c) (lines-take ρ f count (drop from cs)) in
+          ap (λ l. emit (cellsIn ρ ns) (groupText ρ ns) l (drop from cs)) (up-more g 60 (omega arith)) ∙ rw (z, drop-drop (cellsOf ρ f count) from cs, t)
 
-      fits-group : Fitted f (elementsOf f count) (drop from cs)
-      fits-group = rw (c, b .cells) (group-fitted ns cs fit g f (omega (arith, b .low)) h e)
+      fits-group : Fitted f (elementsOf ρ f count) (drop from cs)
+      fits-group = rw (c, b .cells) (group-fitted ρ ns cs fit g f (omega (arith, b .low)) h e)
 
-      long-group : length (linesText f count (drop from cs)) ≡ bytesOf f count
-      long-group = lines-length f count (drop from cs) fits-group
+      abbrev n : ℕ
+      n = elementsOf ρ f count
 
-      pub group-requires : (from + cellsOf f count ≤ length cs) × Fitted f (elementsOf f count) (drop from cs) × (a + bytesOf f count ≤ length out)
+      long-group : length (linesText ρ f count (drop from cs)) ≡ manyBytes f n
+      unfolding linesText
+      long-group = many-length f n (drop from cs) fits-group
+
+      pub group-cells : from + cellsOf ρ f count ≤ length cs
+      group-cells = omega (arith, next-group, cells-below ρ ns (g + 1) 61 (omega arith))
+
+      pub group-requires : (from + n * rowOf f .cells ≤ length cs) × Fitted f n (drop from cs) × (a + manyBytes f n ≤ length out)
+      unfolding Count.cellsOf
       group-requires = (
-        omega (arith, next-group, cells-below ns (g + 1) 61 (omega arith)),
+        group-cells,
         fits-group,
-        omega (arith, putting-room (b .put) (linesText f count (drop from cs)) (groupsFrom ns (g + 1) (drop (from + cellsOf f count) cs)) step-groups, long-group),
+        omega (arith, putting-room (b .put) (linesText ρ f count (drop from cs)) (groupsFrom ρ ns (g + 1) (drop (from + cellsOf ρ f count) cs)) step-groups, long-group),
       )
 
-      pub groups-put-next : (new : List ℕ) (end : ℕ) → end ≡ a + bytesOf f count → new ≡ over a (linesText f count (drop from cs)) out → GroupsPut ns cs at old (from + cellsOf f count) end (g + 1) new
+      in-lines : {new : List ℕ} → new ≡ over a (manyText f n (drop from cs)) out → new ≡ over a (linesText ρ f count (drop from cs)) out
+      unfolding linesText
+      in-lines y = y
+
+      pub groups-put-next : (new : List ℕ) (end : ℕ) → end ≡ a + manyBytes f n → new ≡ over a (manyText f n (drop from cs)) out → GroupsPut ρ ns cs at old (from + cellsOf ρ f count) end (g + 1) new
       groups-put-next new end x y =
           record {
             low = omega arith;
             high = omega arith;
             cells = sym next-group;
-            put = putting-more (b .put) (linesText f count (drop from cs)) (groupsFrom ns (g + 1) (drop (from + cellsOf f count) cs)) new end step-groups (omega (arith, long-group)) y;
+            put = putting-more (b .put) (linesText ρ f count (drop from cs)) (groupsFrom ρ ns (g + 1) (drop (from + cellsOf ρ f count) cs)) new end step-groups
+                (omega (arith, long-group)) (in-lines y);
           }

@@ -77,23 +77,23 @@ module _ (ρ : Rules) (f : Form) where
       let d = line-done ρ f short l x c e in
       fields-fit l (filledTo (columnsOf f l) (part 0 (d .bytes) x)) c (d .fields)
 
-  lines-fit : (short : Bool) (count : ℕ) (x : List ℕ) (c : List ℤ) → readLines ρ f short count x ≡ done c → Pieced Fits (upFrom 1 (elementsOf f count)) c
+  lines-fit : (short : Bool) (count : ℕ) (x : List ℕ) (c : List ℤ) → readLines ρ f short count x ≡ done c → Pieced Fits (upFrom 1 (elementsOf ρ f count)) c
   unfolding Read.readLines Read.readLinesOf Plan.planOf Count.linesOf
   lines-fit short count x c e =
-      let g = gather-each (λ (l : Line) s. reach s 1) (readLine ρ f short) (planOf f count) x c e in
+      let g = gather-each (λ (l : Line) s. reach s 1) (readLine ρ f short) (planOf ρ f count) x c e in
       let p = rowOf f .«per_line» in
-      let n = elementsOf f count in
+      let n = elementsOf ρ f count in
       let k = roundedUp n p in
       let m : min n ((0 + k) * p) - 0 * p ≡ n = rw (zero-add k, zero-mul p) (omega (arith, lines-enough n p (row-fits f .some))) in
       let a : 0 * p + 1 ≡ 1 = rw (zero-mul p) (omega arith) in
       subst (λ es. Pieced Fits es c) (plan-elements p n 0 k ∙ rw (m, a))
-      (each-flat elementsIn (planOf f count) (g .text) c (each-imply (λ l y d r. line-fits short l y d r) (planOf f count) (g .text) c (g .each)))
+      (each-flat elementsIn (planOf ρ f count) (g .text) c (each-imply (λ l y d r. line-fits short l y d r) (planOf ρ f count) (g .text) c (g .each)))
 
-  pub group-fit : (short : Bool) (g count : ℕ) (x : List ℕ) (c : List ℤ) → readLines ρ f short count x ≡ done c → elementsFit f g count c ≡ All
+  pub group-fit : (short : Bool) (g count : ℕ) (x : List ℕ) (c : List ℤ) → readLines ρ f short count x ≡ done c → elementsFit ρ f g count c ≡ All
   unfolding elementsFit
   group-fit short g count x c e =
       let p = lines-fit short count x c e in
-      let es = upFrom 1 (elementsOf f count) in
+      let es = upFrom 1 (elementsOf ρ f count) in
       own-misfit (λ (e : ℕ). rowOf f .cells) (elementFit f g) es c
       (each-own (λ (e : ℕ). rowOf f .cells) (λ e c. elementFit f g e c ≡ All) (λ e x c t. (lawful f .sized c t, element g e c t)) es (p .text) c (p .each))
     where

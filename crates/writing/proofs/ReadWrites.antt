@@ -54,11 +54,11 @@ use Rattle.writing.proofs.Written.{all-groups}
 -- ---- what a group that was read says
 
 module _ (ρ : Rules) {ns : List ℕ} {g : ℕ} {y : List ℕ} {room : ℕ} {c : List ℤ} (r : GroupReads ρ ns g y room c) where
-  pub reads-cells : length c ≡ cellsIn ns g
+  pub reads-cells : length c ≡ cellsIn ρ ns g
   unfolding Tally.cellsIn
   reads-cells = rw (r .has) (group-size ρ (r .form) (mayBeShort g) (countOf ns g) y c (r .lines))
 
-  reads-fit : groupFit ns g c ≡ All
+  reads-fit : groupFit ρ ns g c ≡ All
   reads-fit = rw (r .has) (group-fit ρ (r .form) (mayBeShort g) g (countOf ns g) y c (r .lines))
 
 module _ (ρ : Rules) {s : List ℕ} {at n : ℕ} {cells : ℕ → List ℤ} (r : ReadWhole ρ s at n cells) where
@@ -71,48 +71,48 @@ module _ (ρ : Rules) {s : List ℕ} {at n : ℕ} {cells : ℕ → List ℤ} (r 
   here : IsLocated ρ s at n ns
   here = located-is ρ s at n ns (placed .located-at)
 
-  reads : (g : ℕ) → 1 ≤ g → g ≤ 60 → GroupReads ρ ns g (groupPart s at ns g) (r .room g) (cells g)
+  reads : (g : ℕ) → 1 ≤ g → g ≤ 60 → GroupReads ρ ns g (groupPart ρ s at ns g) (r .room g) (cells g)
   reads g low high =
-      group-reads ρ ns g (groupPart s at ns g) (r .room g) (cells g)
+      group-reads ρ ns g (groupPart ρ s at ns g) (r .room g) (cells g)
       (sym (read-located ρ s at g (r .room g) n ns (placed .located-at)) ∙ r .groups g low high)
 
   -- the groups with their cells, as pieces
   abbrev Known : ℕ → List ℕ → List ℤ → Type 0
-  Known g x c = (length c ≡ cellsIn ns g) × (groupFit ns g c ≡ All) × (c ≡ cells g)
+  Known g x c = (length c ≡ cellsIn ρ ns g) × (groupFit ρ ns g c ≡ All) × (c ≡ cells g)
 
   abbrev texts : List ℕ
-  texts = flatMap (groupPart s at ns) (upFrom 1 60)
+  texts = flatMap (groupPart ρ s at ns) (upFrom 1 60)
 
   known : Each Known (upFrom 1 60) texts (joined cells)
   known =
       each-imply (λ g x c p. one g x c (p .0) (p .1 .1)) (upFrom 1 60) texts (joined cells)
-      (each-passed (λ g. leb 1 g && leb g 60) (upFrom 1 60) texts (joined cells) all-groups (flat-each (groupPart s at ns) cells (upFrom 1 60)))
+      (each-passed (λ g. leb 1 g && leb g 60) (upFrom 1 60) texts (joined cells) all-groups (flat-each (groupPart ρ s at ns) cells (upFrom 1 60)))
     where
       one : (g : ℕ) (x : List ℕ) (c : List ℤ) → T (leb 1 g && leb g 60) → c ≡ cells g → Known g x c
       one g x c t e =
           let q = reads g (leb→le 1 g (and-left (leb 1 g) (leb g 60) t)) (leb→le g 60 (and-right (leb 1 g) (leb g 60) t)) in
           rw e (reads-cells ρ q, reads-fit ρ q, refl)
 
-  sizes : (g : ℕ) (x : List ℕ) (c : List ℤ) → Known g x c → length c ≡ cellsIn ns g
+  sizes : (g : ℕ) (x : List ℕ) (c : List ℤ) → Known g x c → length c ≡ cellsIn ρ ns g
   sizes g x c k = k .0
 
   -- each group has its own cells among them
-  pub joined-group : (g : ℕ) → 1 ≤ g → g ≤ 60 → groupCells ns (joined cells) g ≡ cells g
-  joined-group g low high = group-among ns sizes texts (joined cells) known g low high .holds .2
+  pub joined-group : (g : ℕ) → 1 ≤ g → g ≤ 60 → groupCells ρ ns (joined cells) g ≡ cells g
+  joined-group g low high = group-among ρ ns sizes texts (joined cells) known g low high .holds .2
 
-  pub joined-cells : length (joined cells) ≡ recordCells ns
+  pub joined-cells : length (joined cells) ≡ recordCells ρ ns
   unfolding Tally.cellTally Sum.sum
-  joined-cells = each-cells (cellsIn ns) sizes (upFrom 1 60) texts (joined cells) known ∙ sym (zero-add (sum (map (cellsIn ns) (upFrom 1 60))))
+  joined-cells = each-cells (cellsIn ρ ns) sizes (upFrom 1 60) texts (joined cells) known ∙ sym (zero-add (sum (map (cellsIn ρ ns) (upFrom 1 60))))
 
-  joined-fit : fitOf ns (joined cells) ≡ All
-  joined-fit = own-groups ns (joined cells) (each-own (cellsIn ns) (λ g c. groupFit ns g c ≡ All) (λ g x c k. (k .0, k .1)) (upFrom 1 60) texts (joined cells) known)
+  joined-fit : fitOf ρ ns (joined cells) ≡ All
+  joined-fit = own-groups ρ ns (joined cells) (each-own (cellsIn ρ ns) (λ g c. groupFit ρ ns g c ≡ All) (λ g x c k. (k .0, k .1)) (upFrom 1 60) texts (joined cells) known)
 
   -- writing what was read gives 0
-  pub read-writes : (room : ℕ) → recordBytes ns ≤ room → writingOf ns (joined cells) room ≡ Done (recordBytes ns)
+  pub read-writes : (room : ℕ) → recordBytes ρ ns ≤ room → writingOf ρ ns (joined cells) room ≡ Done (recordBytes ρ ns)
   read-writes room enough =
       let told = reads 3 (omega arith) (omega arith) .date refl in
-      is-done ns (joined cells) room (recordBytes ns) record {
-        checked = has-cells ns (length (joined cells)) (index-counts ρ (drop at s) ns (index-is ρ (drop at s) ns .0 (here .index))) (here .release) (placed .kept) joined-cells;
+      is-done ρ ns (joined cells) room (recordBytes ρ ns) record {
+        checked = has-cells ρ ns (length (joined cells)) (index-counts ρ (drop at s) ns (index-is ρ (drop at s) ns .0 (here .index))) (here .release) (placed .kept) joined-cells;
         fit = joined-fit;
         date = told .date;
         right = ap (λ c. datedOf (map sizeOf c)) (joined-group 3 (omega arith) (omega arith)) ∙ told .right;
@@ -122,7 +122,7 @@ module _ (ρ : Rules) {s : List ℕ} {at n : ℕ} {cells : ℕ → List ℤ} (r 
 
   -- ---- a record whose bytes were canonical
 
-  module _ {ds : List ℤ} (h : CanonicalRecord ns (part at n s) ds) where
+  module _ {ds : List ℤ} (h : CanonicalRecord ρ ns (part at n s) ds) where
     inside : (at + 242 ≤ n) × (n ≤ length s)
     inside = (located-long ρ s at n ns (placed .located-at), located-range ρ s at n ns (placed .located-at))
 
@@ -131,41 +131,41 @@ module _ (ρ : Rules) {s : List ℕ} {at n : ℕ} {cells : ℕ → List ℤ} (r 
         let e : at + (n - at) ≡ n = omega (arith, inside .0) in
         sym (part-cut s at (n - at) ∙ rw (e, drop-drop (n - at) at s, e))
 
-    group-again : (g : ℕ) → 1 ≤ g → g ≤ 60 → CanonicalGroup ns g (groupPart s at ns g) (groupCells ns ds g)
+    group-again : (g : ℕ) → 1 ≤ g → g ≤ 60 → CanonicalGroup ρ ns g (groupPart ρ s at ns g) (groupCells ρ ns ds g)
     group-again g low high =
         let e : length (take at s) ≡ at = length-take-le at s (omega (arith, inside .0, inside .1)) in
-        subst (λ m. CanonicalGroup ns g (groupPart s m ns g) (groupCells ns ds g)) e
-        (subst (λ t. CanonicalGroup ns g (groupPart t (length (take at s)) ns g) (groupCells ns ds g)) whole (standing-group ρ h (take at s) (drop n s) g low high))
+        subst (λ m. CanonicalGroup ρ ns g (groupPart ρ s m ns g) (groupCells ρ ns ds g)) e
+        (subst (λ t. CanonicalGroup ρ ns g (groupPart ρ t (length (take at s)) ns g) (groupCells ρ ns ds g)) whole (standing-group ρ h (take at s) (drop n s) g low high))
 
     -- its cells are those that are read
     pub canonical-joined : ds ≡ joined cells
-    canonical-joined = cells-joined ns ds cells (canonical-cells ρ h) each
+    canonical-joined = cells-joined ρ ns ds cells (canonical-cells ρ h) each
       where
         same : {a b : List ℤ} → _≡_ {A = Cells} (done a) (done b) → a ≡ b
         same e = cc
 
-        each : (g : ℕ) → 1 ≤ g → g ≤ 60 → groupCells ns ds g ≡ cells g
+        each : (g : ℕ) → 1 ≤ g → g ≤ 60 → groupCells ρ ns ds g ≡ cells g
         each g low high =
             let q = reads g low high in
-            same (sym (group-read ρ ns g (q .form) (groupPart s at ns g) (groupCells ns ds g) (q .has) (group-again g low high)) ∙ q .lines)
+            same (sym (group-read ρ ns g (q .form) (groupPart ρ s at ns g) (groupCells ρ ns ds g) (q .has) (group-again g low high)) ∙ q .lines)
 
     -- and what is written for them is these bytes
-    pub written-again : recordText ns (joined cells) ≡ part at n s
-    written-again = ap (recordText ns) (sym canonical-joined) ∙ sym (canonical-text ρ h)
+    pub written-again : recordText ρ ns (joined cells) ≡ part at n s
+    written-again = ap (recordText ρ ns) (sym canonical-joined) ∙ sym (canonical-text ρ h)
 
-    pub again-bytes : recordBytes ns ≡ n - at
+    pub again-bytes : recordBytes ρ ns ≡ n - at
     again-bytes =
         let e : at + (n - at) ≡ n = omega (arith, inside .0) in
-        sym (record-length ns (joined cells) (index-is ρ (drop at s) ns .0 (here .index) .many) joined-fit)
+        sym (record-length ρ ns (joined cells) (index-is ρ (drop at s) ns .0 (here .index) .many) joined-fit)
         ∙ ap length written-again
         ∙ ap (λ m. length (part at m s)) (sym e)
         ∙ part-length s at (n - at) (omega (arith, inside .0, inside .1))
 
     -- D2.5: every byte of the record is there again
     pub returns-same : (old : List ℕ) → n - at ≤ length old
-        → (writingOf ns (joined cells) (length old) ≡ Done (n - at)) × (outputBy ns (joined cells) (writingOf ns (joined cells) (length old)) old ≡ over 0 (part at n s) old)
+        → (writingOf ρ ns (joined cells) (length old) ≡ Done (n - at)) × (outputBy ρ ns (joined cells) (writingOf ρ ns (joined cells) (length old)) old ≡ over 0 (part at n s) old)
     returns-same old enough =
-        let w : writingOf ns (joined cells) (length old) ≡ Done (n - at) = read-writes (length old) (omega (arith, again-bytes)) ∙ ap Done again-bytes in
+        let w : writingOf ρ ns (joined cells) (length old) ≡ Done (n - at) = read-writes (length old) (omega (arith, again-bytes)) ∙ ap Done again-bytes in
         (w, rw (w, written-again))
 
   pub writes-again : WritesAgain ρ s at n cells

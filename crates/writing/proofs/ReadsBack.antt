@@ -43,13 +43,13 @@ use Rattle.writing.proofs.Written.{written-canonical}
 
 -- ---- a canonical record reads back
 
-module _ (ρ : Rules) {ns x : List ℕ} {cs : List ℤ} (h : CanonicalRecord ns x cs) (five : releaseOf ns ≡ Five) (kept : rulingOf ns ≡ Kept) (told : TellsDate (dateLetters ns cs)) where
-  group-back : (g room : ℕ) (y : List ℕ) → 1 ≤ g → g ≤ 60 → cellsIn ns g ≤ room → CanonicalGroup ns g y (groupCells ns cs g) → GroupReads ρ ns g y room (groupCells ns cs g)
+module _ (ρ : Rules) {ns x : List ℕ} {cs : List ℤ} (h : CanonicalRecord ρ ns x cs) (five : releaseOf ns ≡ Five) (kept : rulingOf ns ≡ Kept) (told : TellsDate (dateLetters ρ ns cs)) where
+  group-back : (g room : ℕ) (y : List ℕ) → 1 ≤ g → g ≤ 60 → cellsIn ρ ns g ≤ room → CanonicalGroup ρ ns g y (groupCells ρ ns cs g) → GroupReads ρ ns g y room (groupCells ρ ns cs g)
   unfolding Tally.cellsIn
   group-back g room y low high enough p = by (formOf g) refl enough
     where
-      by : (h : GroupForm) → formOf g ≡ h → cellsBy h (countOf ns g) ≤ room → GroupReads ρ ns g y room (groupCells ns cs g)
-      by (Has f) u l = record { form = f; has = u; enough = l; lines = group-read ρ ns g f y (groupCells ns cs g) u p; date = λ e. rw e told }
+      by : (h : GroupForm) → formOf g ≡ h → cellsBy ρ h (countOf ns g) ≤ room → GroupReads ρ ns g y room (groupCells ρ ns cs g)
+      by (Has f) u l = record { form = f; has = u; enough = l; lines = group-read ρ ns g f y (groupCells ρ ns cs g) u p; date = λ e. rw e told }
       by NoGroup u l = absurd (has-form g low (omega arith) u)
 
   pub canonical-back : (a b : List ℕ) → ReadsBack ρ ns cs (length x) (a ++ (x ++ b)) (length a)
@@ -63,42 +63,42 @@ module _ (ρ : Rules) {ns x : List ℕ} {cs : List ℤ} (h : CanonicalRecord ns 
         counts = ap countsBy l;
         groups = λ g room low high enough.
             read-located ρ s at g room (at + length x) ns l
-            ∙ reads-group ρ ns g (groupPart s at ns g) room (groupCells ns cs g) kept (group-back g room (groupPart s at ns g) low high enough (standing-group ρ h a b g low high));
+            ∙ reads-group ρ ns g (groupPart ρ s at ns g) room (groupCells ρ ns cs g) kept (group-back g room (groupPart ρ s at ns g) low high enough (standing-group ρ h a b g low high));
       }
 
 -- ---- what was written reads back
 
-module _ (ρ : Rules) (ns : List ℕ) (cs : List ℤ) (room n : ℕ) (e : writingOf ns cs room ≡ Done n) where
-  d : IsDone ns cs room n
-  d = done-is ns cs room n e
+module _ (ρ : Rules) (ns : List ℕ) (cs : List ℤ) (room n : ℕ) (e : writingOf ρ ns cs room ≡ Done n) where
+  d : IsDone ρ ns cs room n
+  d = done-is ρ ns cs room n e
 
   has : Released ns Five
   has = d .checked .rules .released
 
-  pub done-canonical : CanonicalRecord ns (recordText ns cs) cs
-  done-canonical = written-canonical ns cs (has .counts .many) (counts-small ns (has .counts)) (d .checked .needed) (d .fit)
+  pub done-canonical : CanonicalRecord ρ ns (recordText ρ ns cs) cs
+  done-canonical = written-canonical ρ ns cs (has .counts .many) (counts-small ns (has .counts)) (d .checked .needed) (d .fit)
 
-  pub done-bytes : length (recordText ns cs) ≡ n
-  done-bytes = record-length ns cs (has .counts .many) (d .fit) ∙ sym (d .bytes)
+  pub done-bytes : length (recordText ρ ns cs) ≡ n
+  done-bytes = record-length ρ ns cs (has .counts .many) (d .fit) ∙ sym (d .bytes)
 
-  pub reads-back : (a b : List ℕ) → ReadsBack ρ ns cs n (a ++ (recordText ns cs ++ b)) (length a)
+  pub reads-back : (a b : List ℕ) → ReadsBack ρ ns cs n (a ++ (recordText ρ ns cs ++ b)) (length a)
   reads-back a b =
-      subst (λ m. ReadsBack ρ ns cs m (a ++ (recordText ns cs ++ b)) (length a)) done-bytes
+      subst (λ m. ReadsBack ρ ns cs m (a ++ (recordText ρ ns cs ++ b)) (length a)) done-bytes
       (canonical-back ρ done-canonical (released ns Five has) (kept-ruling ns (d .checked .rules .kept)) record { date = d .date; right = d .right } a b)
 
   -- the same of the output: wherever its first n bytes stand
-  pub output-bytes : (old : List ℕ) → take n (outputBy ns cs (Done n) old) ≡ recordText ns cs
+  pub output-bytes : (old : List ℕ) → take n (outputBy ρ ns cs (Done n) old) ≡ recordText ρ ns cs
   output-bytes old =
-      ap (λ t. take n (t ++ (recordText ns cs ++ drop (0 + length (recordText ns cs)) old))) (take-none old)
-      ∙ take-at (recordText ns cs) (drop (0 + length (recordText ns cs)) old) n done-bytes
+      ap (λ t. take n (t ++ (recordText ρ ns cs ++ drop (0 + length (recordText ρ ns cs)) old))) (take-none old)
+      ∙ take-at (recordText ρ ns cs) (drop (0 + length (recordText ρ ns cs)) old) n done-bytes
 
-  pub output-reads-back : (old s : List ℕ) (at : ℕ) → part at (at + n) s ≡ take n (outputBy ns cs (Done n) old) → ReadsBack ρ ns cs n s at
+  pub output-reads-back : (old s : List ℕ) (at : ℕ) → part at (at + n) s ≡ take n (outputBy ρ ns cs (Done n) old) → ReadsBack ρ ns cs n s at
   unfolding recordBytes
   output-reads-back old s at p =
       let m : at + n - at ≡ n = omega arith in
-      let t : part at (at + n) s ≡ recordText ns cs = p ∙ output-bytes old in
+      let t : part at (at + n) s ≡ recordText ρ ns cs = p ∙ output-bytes old in
       let l : length (part at (at + n) s) ≡ n = ap length t ∙ done-bytes in
       let k : length (part at (at + n) s) ≡ min (at + n - at) (length s - at) = length-take (at + n - at) (drop at s) ∙ ap (min (at + n - at)) (length-drop at s) in
       let e : length (take at s) ≡ at = length-take-le at s (omega (arith, d .bytes)) in
-      let w : take at s ++ (recordText ns cs ++ drop n (drop at s)) ≡ s = ap (λ y. take at s ++ (y ++ drop n (drop at s))) (sym t) ∙ sym (part-cut s at n) in
+      let w : take at s ++ (recordText ρ ns cs ++ drop n (drop at s)) ≡ s = ap (λ y. take at s ++ (y ++ drop n (drop at s))) (sym t) ∙ sym (part-cut s at n) in
       subst (λ i. ReadsBack ρ ns cs n s i) e (subst (λ y. ReadsBack ρ ns cs n y (length (take at s))) w (reads-back (take at s) (drop n (drop at s))))

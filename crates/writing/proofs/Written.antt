@@ -9,6 +9,7 @@ use native.Mathlib.Omega.{arith}
 use lib.Dec.{T, leb, leb→le}
 use lib.IntN.{ℤ}
 use lib.ListN.{length, take, drop}
+use Rattle.rules.specs.declared.Rules.{Rules}
 use Rattle.base.specs.Every
 use Rattle.base.specs.Every.{every, upFrom}
 use Rattle.base.specs.Pieces.{Each, none, more}
@@ -31,9 +32,10 @@ use Rattle.field.proofs.Laws.{lawful}
 use Rattle.count.specs.Tally
 use Rattle.count.specs.Tally.{countOf, cellsBy, cellsIn, recordCells}
 use Rattle.form.proofs.Table.{has-form}
+use Rattle.reading.specs.Plan
 use Rattle.reading.specs.Plan.{Line, planOf, elementsIn}
 use Rattle.writing.specs.declared.Fit.the-variants.{All}
-use Rattle.writing.specs.Text.{lineEnd, entriesText, indexText, lineCells, fieldsText, lineText, linesText, groupTextBy, groupText, groupsText, recordText}
+use Rattle.writing.specs.Text.{lineEnd, entriesText, indexText, lineCells, fieldsText, lineText, manyText, linesText, groupTextBy, groupText, groupsText, recordText}
 use Rattle.writing.specs.Fitting.{Fitted, groupFitBy, groupFit, fitOf}
 use Rattle.writing.specs.Canonical.{EntryOf, CanonicalIndexLine, CanonicalLine, CanonicalLines, CanonicalGroupBy, CanonicalGroup, CanonicalRecord}
 use Rattle.writing.proofs.Fitting.{elements-fitted, fitted-own, lines-own, groups-own}
@@ -52,7 +54,7 @@ index-line-canonical ns t = record { content = entriesText ns; good = entries-ca
 
 -- ---- a line
 
-module _ (f : Form) where
+module _ (ρ : Rules) (f : Form) where
   line-canonical : (l : Line) (c : List ℤ) → length c ≡ lineCells f l → Fitted f (l .many) c → CanonicalLine f l (lineText f l c) c
   unfolding lineText fieldsText
   line-canonical l c n h =
@@ -66,14 +68,15 @@ module _ (f : Form) where
 
   -- ---- a group
 
-  lines-canonical : (count : ℕ) (cs : List ℤ) → length cs ≡ cellsOf f count → Fitted f (elementsOf f count) cs → CanonicalLines f count (linesText f count cs) cs
-  unfolding linesText Count.cellsOf
+  lines-canonical : (count : ℕ) (cs : List ℤ) → length cs ≡ cellsOf ρ f count → Fitted f (elementsOf ρ f count) cs → CanonicalLines ρ f count (linesText ρ f count cs) cs
+  unfolding linesText manyText Plan.planOf Count.cellsOf
   lines-canonical count cs n h =
-      own-each (lineCells f) (lineText f) (λ l c. Fitted f (l .many) c) line-canonical (planOf f count) cs (n ∙ sym (plan-cells f count (rowOf f .cells))) (lines-own f count cs h)
+      own-each (lineCells f) (lineText f) (λ l c. Fitted f (l .many) c) line-canonical (planOf ρ f count) cs (n ∙ sym (plan-cells ρ f count (rowOf f .cells))) (lines-own ρ f count cs h)
 
-by-canonical : (h : GroupForm) (g count : ℕ) (c : List ℤ) → (h ≡ NoGroup → ⊥) → length c ≡ cellsBy h count → groupFitBy h g count c ≡ All → CanonicalGroupBy h count (groupTextBy h count c) c
-by-canonical (Has f) g count c some n e = lines-canonical f count c n (elements-fitted f g count c e)
-by-canonical NoGroup g count c some n e = some refl
+by-canonical : (ρ : Rules) (h : GroupForm) (g count : ℕ) (c : List ℤ) → (h ≡ NoGroup → ⊥) → length c ≡ cellsBy ρ h count → groupFitBy ρ h g count c ≡ All
+    → CanonicalGroupBy ρ h count (groupTextBy ρ h count c) c
+by-canonical ρ (Has f) g count c some n e = lines-canonical ρ f count c n (elements-fitted ρ f g count c e)
+by-canonical ρ NoGroup g count c some n e = some refl
 
 -- ---- a record
 
@@ -81,31 +84,31 @@ pub all-groups : T (every (λ g. leb 1 g && leb g 60) (upFrom 1 60))
 unfolding Every.upFrom
 all-groups = tt
 
-module _ (ns : List ℕ) where
-  group-canonical : (g : ℕ) (c : List ℤ) → length c ≡ cellsIn ns g → groupFit ns g c ≡ All → T (leb 1 g && leb g 60) → CanonicalGroup ns g (groupText ns g c) c
+module _ (ρ : Rules) (ns : List ℕ) where
+  group-canonical : (g : ℕ) (c : List ℤ) → length c ≡ cellsIn ρ ns g → groupFit ρ ns g c ≡ All → T (leb 1 g && leb g 60) → CanonicalGroup ρ ns g (groupText ρ ns g c) c
   unfolding groupText Tally.cellsIn
   group-canonical g c n e t =
       let low = leb→le 1 g (and-left (leb 1 g) (leb g 60) t) in
       let high = leb→le g 60 (and-right (leb 1 g) (leb g 60) t) in
-      by-canonical (formOf g) g (countOf ns g) c (has-form g low (omega arith)) n e
+      by-canonical ρ (formOf g) g (countOf ns g) c (has-form g low (omega arith)) n e
 
-  groups-canonical : (cs : List ℤ) → length cs ≡ recordCells ns → fitOf ns cs ≡ All → Each (CanonicalGroup ns) (upFrom 1 60) (groupsText ns cs) cs
+  groups-canonical : (cs : List ℤ) → length cs ≡ recordCells ρ ns → fitOf ρ ns cs ≡ All → Each (CanonicalGroup ρ ns) (upFrom 1 60) (groupsText ρ ns cs) cs
   unfolding groupsText Tally.cellTally Sum.sum
   groups-canonical cs n e =
-      let size : length cs ≡ sum (map (cellsIn ns) (upFrom 1 60)) = n ∙ zero-add (sum (map (cellsIn ns) (upFrom 1 60))) in
-      each-imply (λ g x c p. p .1 (p .0)) (upFrom 1 60) (groupsText ns cs) cs
-      (each-passed (λ g. leb 1 g && leb g 60) (upFrom 1 60) (groupsText ns cs) cs all-groups
-      (own-each {P = λ g x c. T (leb 1 g && leb g 60) → CanonicalGroup ns g x c} (cellsIn ns) (groupText ns) (λ g c. groupFit ns g c ≡ All) group-canonical
-      (upFrom 1 60) cs size (groups-own ns cs e)))
+      let size : length cs ≡ sum (map (cellsIn ρ ns) (upFrom 1 60)) = n ∙ zero-add (sum (map (cellsIn ρ ns) (upFrom 1 60))) in
+      each-imply (λ g x c p. p .1 (p .0)) (upFrom 1 60) (groupsText ρ ns cs) cs
+      (each-passed (λ g. leb 1 g && leb g 60) (upFrom 1 60) (groupsText ρ ns cs) cs all-groups
+      (own-each {P = λ g x c. T (leb 1 g && leb g 60) → CanonicalGroup ρ ns g x c} (cellsIn ρ ns) (groupText ρ ns) (λ g c. groupFit ρ ns g c ≡ All) group-canonical
+      (upFrom 1 60) cs size (groups-own ρ ns cs e)))
 
-  pub written-canonical : (cs : List ℤ) → length ns ≡ 80 → T (every isCount ns) → length cs ≡ recordCells ns → fitOf ns cs ≡ All → CanonicalRecord ns (recordText ns cs) cs
+  pub written-canonical : (cs : List ℤ) → length ns ≡ 80 → T (every isCount ns) → length cs ≡ recordCells ρ ns → fitOf ρ ns cs ≡ All → CanonicalRecord ρ ns (recordText ρ ns cs) cs
   unfolding recordText indexText
   written-canonical cs many small n e =
       record {
         many = many;
         first = entriesText (take 40 ns) ++ lineEnd;
         second = entriesText (drop 40 ns) ++ lineEnd;
-        groups = groupsText ns cs;
+        groups = groupsText ρ ns cs;
         first-line = index-line-canonical (take 40 ns) (every-take isCount 40 ns small);
         second-line = index-line-canonical (drop 40 ns) (every-drop isCount 40 ns small);
         each = groups-canonical cs n e;

@@ -5,6 +5,7 @@ use mathlib.Core.List.{List, [], _∷_, _++_}
 use Prim.Native.Nat.{ℕ}
 use lib.IntN.{ℤ}
 use lib.ListN.{length, take, drop}
+use Rattle.rules.specs.declared.Rules.{Rules}
 use Rattle.base.specs.Every.{upFrom}
 use Rattle.base.specs.Pieces.{Each}
 use Rattle.form.specs.declared.Form.{Form}
@@ -34,23 +35,24 @@ CanonicalIndexLine ns x = Ended (λ s. Each EntryOf ns s ns) x
 abbrev pub CanonicalLine : Form → Line → List ℕ → List ℤ → Type 0
 CanonicalLine f l x cs = Ended (λ s. Each (λ (e : ℕ). IsCanonical f) (elementsIn l) s cs) x
 
-abbrev pub CanonicalLines : Form → ℕ → List ℕ → List ℤ → Type 0
-CanonicalLines f count x cs = Each (CanonicalLine f) (planOf f count) x cs
+module _ (ρ : Rules) where
+  abbrev pub CanonicalLines : Form → ℕ → List ℕ → List ℤ → Type 0
+  CanonicalLines f count x cs = Each (CanonicalLine f) (planOf ρ f count) x cs
 
-abbrev pub CanonicalGroupBy : GroupForm → ℕ → List ℕ → List ℤ → Type 0
-CanonicalGroupBy (Has f) count x cs = CanonicalLines f count x cs
-CanonicalGroupBy NoGroup count x cs = ⊥
+  abbrev pub CanonicalGroupBy : GroupForm → ℕ → List ℕ → List ℤ → Type 0
+  CanonicalGroupBy (Has f) count x cs = CanonicalLines f count x cs
+  CanonicalGroupBy NoGroup count x cs = ⊥
 
-abbrev pub CanonicalGroup : List ℕ → ℕ → List ℕ → List ℤ → Type 0
-CanonicalGroup ns g x cs = CanonicalGroupBy (formOf g) (countOf ns g) x cs
+  abbrev pub CanonicalGroup : List ℕ → ℕ → List ℕ → List ℤ → Type 0
+  CanonicalGroup ns g x cs = CanonicalGroupBy (formOf g) (countOf ns g) x cs
 
--- R20: x is a canonical record with these counts and cells
-pub record CanonicalRecord (ns : List ℕ) (x : List ℕ) (cs : List ℤ) : Type 0 where
-  pub many : length ns ≡ 80
-  pub first : List ℕ
-  pub second : List ℕ
-  pub groups : List ℕ
-  pub first-line : CanonicalIndexLine (take 40 ns) first
-  pub second-line : CanonicalIndexLine (drop 40 ns) second
-  pub each : Each (CanonicalGroup ns) (upFrom 1 60) groups cs
-  pub is : x ≡ (first ++ second) ++ groups
+  -- R20: x is a canonical record with these counts and cells
+  pub record CanonicalRecord (ns : List ℕ) (x : List ℕ) (cs : List ℤ) : Type 0 where
+    pub many : length ns ≡ 80
+    pub first : List ℕ
+    pub second : List ℕ
+    pub groups : List ℕ
+    pub first-line : CanonicalIndexLine (take 40 ns) first
+    pub second-line : CanonicalIndexLine (drop 40 ns) second
+    pub each : Each (CanonicalGroup ns) (upFrom 1 60) groups cs
+    pub is : x ≡ (first ++ second) ++ groups

@@ -43,7 +43,7 @@ pub data Case : Type 0 where
   refuses : Form → List ℤ → ℕ → Case
   -- an index entry
   entry : String → IndexEntry → Case
-  -- so many elements have so many lines
+  -- such a count has so many lines
   takes : Form → ℕ → ℕ → Case
   -- the letters of group 3 are read with 0 and tell this date
   dates : String → Date → Case
@@ -65,10 +65,10 @@ module _ (ρ : Rules) where
 
   abbrev pub Holding : Case → Type 0
   Holding (reads f t n cs) = (caseReply (readLines ρ f false 1 (line t)) .number ≡ n) × (cellsGot (readLines ρ f false 1 (line t)) ≡ cs)
-  Holding (writes f cs t) = (g : ℕ) → (fitNumber (elementsFit f g 1 cs) ≡ 0) × (linesText f 1 cs ≡ line t)
-  Holding (refuses f cs n) = (g : ℕ) → fitNumber (elementsFit f g 1 cs) ≡ n
+  Holding (writes f cs t) = (g : ℕ) → (fitNumber (elementsFit ρ f g 1 cs) ≡ 0) × (linesText ρ f 1 cs ≡ line t)
+  Holding (refuses f cs n) = (g : ℕ) → fitNumber (elementsFit ρ f g 1 cs) ≡ n
   Holding (entry t e) = entryOf (bytes t) ≡ e
-  Holding (takes f count n) = linesOf f count ≡ n
+  Holding (takes f count n) = linesOf ρ f count ≡ n
   Holding (dates t d) = (caseReply (lettersRead t) .number ≡ 0) × (datedOf (bytes t) ≡ Right d)
   Holding (blames t n p) = (caseReply (lettersRead t) .number ≡ n) × (caseReply (lettersRead t) .position ≡ p)
 

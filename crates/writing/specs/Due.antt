@@ -5,6 +5,7 @@ use mathlib.Core.List.{List}
 use Prim.Native.Nat.{ℕ, _+_, _-_, _*_, _<_, _≤_}
 use lib.IntN.{ℤ}
 use lib.ListN.{length, take, drop}
+use Rattle.rules.specs.declared.Rules.{Rules}
 use Rattle.form.specs.declared.Form.{Form}
 use Rattle.form.specs.declared.GroupForm.the-variants.{Has}
 use Rattle.form.specs.Table.{rowOf, formOf}
@@ -32,31 +33,31 @@ pub record HasField (f : Form) (c : List ℤ) : Type 0 where
 abbrev pub HasNone : Form → List ℤ → Type 0
 HasNone f c = (s : List ℕ) → IsField f s c → ⊥
 
-module _ (ns : List ℕ) (cs : List ℤ) where
+module _ (ρ : Rules) (ns : List ℕ) (cs : List ℤ) where
   -- R231: element e of group g, which has this form; elements are counted from 1
   pub record Element (g e : ℕ) (f : Form) : Type 0 where
     pub form : formOf g ≡ Has f
     pub low : 1 ≤ e
-    pub high : e ≤ elementsOf f (countOf ns g)
+    pub high : e ≤ elementsOf ρ f (countOf ns g)
 
   -- R46, R47: its cells, behind those of the groups below and of the elements before it
   abbrev pub elementCells : ℕ → ℕ → Form → List ℤ
-  elementCells g e f = take (rowOf f .cells) (drop (cellsBefore ns g + (e - 1) * rowOf f .cells) cs)
+  elementCells g e f = take (rowOf f .cells) (drop (cellsBefore ρ ns g + (e - 1) * rowOf f .cells) cs)
 
   -- R302: none of 4, 5, 6, 7 and 14, by count's Due; R303: nor 13: each element's cells have a field
   pub record HasFields : Type 0 where
-    pub table : HasCells ns (length cs)
+    pub table : HasCells ρ ns (length cs)
     pub each : (g e : ℕ) (f : Form) → Element g e f → HasField f (elementCells g e f)
 
   -- R304: nor 10: group 3 tells a date
   pub record HasDate : Type 0 where
     pub fields : HasFields
     pub date : Date
-    pub right : Letters.Due (dateLetters ns cs) (Right date)
+    pub right : Letters.Due (dateLetters ρ ns cs) (Right date)
 
   -- R303: 13, this element's cells have no field; those of each in a lower group, and of each lower one in this group, have
   pub record LowestNone (g e : ℕ) : Type 0 where
-    pub table : HasCells ns (length cs)
+    pub table : HasCells ρ ns (length cs)
     pub form : Form
     pub element : Element g e form
     pub none : HasNone form (elementCells g e form)
@@ -66,21 +67,21 @@ module _ (ns : List ℕ) (cs : List ℤ) where
   -- R304: 10, it tells none
   pub record WrongDate (p : ℕ) : Type 0 where
     pub fields : HasFields
-    pub wrong : Letters.Due (dateLetters ns cs) (Wrong p)
+    pub wrong : Letters.Due (dateLetters ρ ns cs) (Wrong p)
 
   -- R305: 11, the canonical text is longer than the output; R306: 0, it is not
   pub record OutputShort (room : ℕ) : Type 0 where
     pub date : HasDate
-    pub short : room < recordBytes ns
+    pub short : room < recordBytes ρ ns
 
   pub record TextFits (room n : ℕ) : Type 0 where
     pub date : HasDate
-    pub enough : recordBytes ns ≤ room
-    pub bytes : n ≡ recordBytes ns
+    pub enough : recordBytes ρ ns ≤ room
+    pub bytes : n ≡ recordBytes ρ ns
 
   -- what writing refuses with, and when
   pub data RefusedFor (room : ℕ) : Refusal → Type 0 where
-    wrong-counts : (r : Refusal) → Counts.RefusedFor ns (length cs) r → RefusedFor room r
+    wrong-counts : (r : Refusal) → Counts.RefusedFor ρ ns (length cs) r → RefusedFor room r
     no-field : (g e : ℕ) → LowestNone g e → RefusedFor room (NoField g e)
     bad-date : (p : ℕ) → WrongDate p → RefusedFor room (BadDate p)
     no-room : OutputShort room → RefusedFor room NoRoom

@@ -5,6 +5,7 @@ use Prim.Native.Nat.{ℕ, _*_, _<_}
 use lib.Dec.{T}
 use lib.IntN.{ℤ}
 use lib.ListN.{take, drop}
+use Rattle.rules.specs.declared.Rules.{Rules}
 use Rattle.base.specs.Every.{upFrom}
 use Rattle.form.specs.declared.Form.{Form}
 use Rattle.form.specs.declared.GroupForm.{GroupForm}
@@ -28,21 +29,24 @@ firstMisfit size fit (a ∷ bs) cs = firstOf (fit a (take (size a) cs)) (firstMi
 abbrev pub elementFit : Form → ℕ → ℕ → List ℤ → Fit
 elementFit f g e c = cond (fitsOf f c) All (Not g e)
 
--- R231: the elements of group g, counted from 1
-unfoldable pub elementsFit : Form → ℕ → ℕ → List ℤ → Fit
-elementsFit f g count cs =
-    firstMisfit (λ (e : ℕ). rowOf f .cells) (elementFit f g) (upFrom 1 (elementsOf f count)) cs
+-- R231: so many elements of group g, counted from 1
+abbrev pub manyFit : Form → ℕ → ℕ → List ℤ → Fit
+manyFit f g many cs = firstMisfit (λ (e : ℕ). rowOf f .cells) (elementFit f g) (upFrom 1 many) cs
 
-abbrev pub groupFitBy : GroupForm → ℕ → ℕ → List ℤ → Fit
-groupFitBy (Has f) g count cs = elementsFit f g count cs
-groupFitBy NoGroup g count cs = All
+module _ (ρ : Rules) where
+  unfoldable pub elementsFit : Form → ℕ → ℕ → List ℤ → Fit
+  elementsFit f g count cs = manyFit f g (elementsOf ρ f count) cs
 
-abbrev pub groupFit : List ℕ → ℕ → List ℤ → Fit
-groupFit ns g cs = groupFitBy (formOf g) g (countOf ns g) cs
+  abbrev pub groupFitBy : GroupForm → ℕ → ℕ → List ℤ → Fit
+  groupFitBy (Has f) g count cs = elementsFit f g count cs
+  groupFitBy NoGroup g count cs = All
 
--- the groups of a record
-unfoldable pub fitOf : List ℕ → List ℤ → Fit
-fitOf ns cs = firstMisfit (cellsIn ns) (groupFit ns) (upFrom 1 60) cs
+  abbrev pub groupFit : List ℕ → ℕ → List ℤ → Fit
+  groupFit ns g cs = groupFitBy (formOf g) g (countOf ns g) cs
+
+  -- the groups of a record
+  unfoldable pub fitOf : List ℕ → List ℤ → Fit
+  fitOf ns cs = firstMisfit (cellsIn ρ ns) (groupFit ns) (upFrom 1 60) cs
 
 -- ---- all of them
 

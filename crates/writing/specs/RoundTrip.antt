@@ -16,18 +16,18 @@ use Rattle.writing.specs.Canonical.{CanonicalRecord}
 use Rattle.writing.specs.Text.{recordText, recordBytes}
 use Rattle.writing.specs.Writing.{writingOf}
 
--- the cells of group g: those behind the cells of the groups before it
-abbrev pub groupCells : List ℕ → List ℤ → ℕ → List ℤ
-groupCells ns cs g = part (cellsBefore ns g) (cellsBefore ns (suc g)) cs
-
 module _ (ρ : Rules) where
+  -- the cells of group g: those behind the cells of the groups before it
+  abbrev pub groupCells : List ℕ → List ℤ → ℕ → List ℤ
+  groupCells ns cs g = part (cellsBefore ρ ns g) (cellsBefore ρ ns (suc g)) cs
+
   -- D2.4: n bytes that stand at a place of a text read back as these counts and cells
   pub record ReadsBack (ns : List ℕ) (cs : List ℤ) (n : ℕ) (s : List ℕ) (at : ℕ) : Type 0 where
     -- placing gives 0, with the place behind the n bytes and the same counts
     pub placed : placingOf ρ s at ≡ Placed (at + n)
     pub counts : countsAt ρ s at ≡ ns
     -- a group is read with 0 as the cells that are its own, if the table has room for them
-    pub groups : (g room : ℕ) → 1 ≤ g → g ≤ 60 → cellsIn ns g ≤ room → readAt ρ s at g room ≡ done (groupCells ns cs g)
+    pub groups : (g room : ℕ) → 1 ≤ g → g ≤ 60 → cellsIn ρ ns g ≤ room → readAt ρ s at g room ≡ done (groupCells ns cs g)
 
   -- a record is placed with 0 at a place of a text, with its next place, and each of its groups is read with 0, as these cells
   pub record ReadWhole (s : List ℕ) (at next : ℕ) (cells : ℕ → List ℤ) : Type 0 where
@@ -39,10 +39,11 @@ module _ (ρ : Rules) where
 abbrev pub joined : (ℕ → List ℤ) → List ℤ
 joined cells = flatMap cells (upFrom 1 60)
 
--- what writing the counts and cells that were read comes to
-pub record WritesAgain (ρ : Rules) (s : List ℕ) (at next : ℕ) (cells : ℕ → List ℤ) : Type 0 where
-  -- R112: 0, where there is room
-  pub written : (room : ℕ) → recordBytes (countsAt ρ s at) ≤ room → writingOf (countsAt ρ s at) (joined cells) room ≡ Done (recordBytes (countsAt ρ s at))
-  -- D2.5: and where the record's bytes are canonical, of whatever cells, these are the cells that were read, and its bytes are what is written
-  pub cells-same : (ds : List ℤ) → CanonicalRecord (countsAt ρ s at) (part at next s) ds → ds ≡ joined cells
-  pub bytes-same : (ds : List ℤ) → CanonicalRecord (countsAt ρ s at) (part at next s) ds → recordText (countsAt ρ s at) (joined cells) ≡ part at next s
+module _ (ρ : Rules) where
+  -- what writing the counts and cells that were read comes to
+  pub record WritesAgain (s : List ℕ) (at next : ℕ) (cells : ℕ → List ℤ) : Type 0 where
+    -- R112: 0, where there is room
+    pub written : (room : ℕ) → recordBytes ρ (countsAt ρ s at) ≤ room → writingOf ρ (countsAt ρ s at) (joined cells) room ≡ Done (recordBytes ρ (countsAt ρ s at))
+    -- D2.5: and where the record's bytes are canonical, of whatever cells, these are the cells that were read, and its bytes are what is written
+    pub cells-same : (ds : List ℤ) → CanonicalRecord ρ (countsAt ρ s at) (part at next s) ds → ds ≡ joined cells
+    pub bytes-same : (ds : List ℤ) → CanonicalRecord ρ (countsAt ρ s at) (part at next s) ds → recordText ρ (countsAt ρ s at) (joined cells) ≡ part at next s

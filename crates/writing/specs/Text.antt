@@ -4,6 +4,7 @@ use mathlib.Core.List.{List, [], _∷_, _++_, map}
 use Prim.Native.Nat.{ℕ, _+_, _*_}
 use lib.IntN.{ℤ}
 use lib.ListN.{take, drop}
+use Rattle.rules.specs.declared.Rules.{Rules}
 use Rattle.base.specs.Every.{upFrom}
 use Rattle.base.specs.Pieces.{emit}
 use Rattle.base.specs.Sum.{sum}
@@ -11,12 +12,12 @@ use Rattle.form.specs.declared.Form.{Form}
 use Rattle.form.specs.declared.GroupForm.{GroupForm}
 use Rattle.form.specs.declared.GroupForm.the-variants.{Has, NoGroup}
 use Rattle.form.specs.Table.{rowOf, formOf}
-use Rattle.form.specs.Count.{elementsOf, linesOf}
+use Rattle.form.specs.Count.{elementsOf, roundedUp}
 use Rattle.field.specs.Write.{fieldText}
 use Rattle.field.specs.Entry.{indexEntryText}
 use Rattle.line.specs.Alike.{lineEndBy}
 use Rattle.count.specs.Tally.{countOf, cellsIn}
-use Rattle.reading.specs.Plan.{Line, planOf, elementsIn}
+use Rattle.reading.specs.Plan.{Line, manyPlan, elementsIn}
 
 -- R101: every line ends so
 abbrev pub lineEnd : List ℕ
@@ -49,37 +50,47 @@ lineText f l cs = fieldsText f l cs ++ lineEnd
 abbrev pub lineOfMany : ℕ → Line
 lineOfMany k = record { number = 1; first = 1; many = k }
 
-unfoldable pub linesText : Form → ℕ → List ℤ → List ℕ
-linesText f count cs = emit (lineCells f) (lineText f) (planOf f count) cs
+-- the lines of so many elements, one behind the other
+unfoldable pub manyText : Form → ℕ → List ℤ → List ℕ
+manyText f n cs = emit (lineCells f) (lineText f) (manyPlan f n) cs
 
-abbrev pub groupTextBy : GroupForm → ℕ → List ℤ → List ℕ
-groupTextBy (Has f) count cs = linesText f count cs
-groupTextBy NoGroup count cs = []
+module _ (ρ : Rules) where
+  -- those of a group of this form and count
+  unfoldable pub linesText : Form → ℕ → List ℤ → List ℕ
+  linesText f count cs = manyText f (elementsOf ρ f count) cs
 
-unfoldable pub groupText : List ℕ → ℕ → List ℤ → List ℕ
-groupText ns g cs = groupTextBy (formOf g) (countOf ns g) cs
+  abbrev pub groupTextBy : GroupForm → ℕ → List ℤ → List ℕ
+  groupTextBy (Has f) count cs = linesText f count cs
+  groupTextBy NoGroup count cs = []
 
--- ---- a record
+  unfoldable pub groupText : List ℕ → ℕ → List ℤ → List ℕ
+  groupText ns g cs = groupTextBy (formOf g) (countOf ns g) cs
 
--- R47: the groups' lines, each from its own cells
-unfoldable pub groupsText : List ℕ → List ℤ → List ℕ
-groupsText ns cs = emit (cellsIn ns) (groupText ns) (upFrom 1 60) cs
+  -- ---- a record
 
-unfoldable pub recordText : List ℕ → List ℤ → List ℕ
-recordText ns cs = indexText ns ++ groupsText ns cs
+  -- R47: the groups' lines, each from its own cells
+  unfoldable pub groupsText : List ℕ → List ℤ → List ℕ
+  groupsText ns cs = emit (cellsIn ρ ns) (groupText ns) (upFrom 1 60) cs
+
+  unfoldable pub recordText : List ℕ → List ℤ → List ℕ
+  recordText ns cs = indexText ns ++ groupsText ns cs
 
 -- ---- R110: how long it is, by the counts alone
 
-abbrev pub bytesOf : Form → ℕ → ℕ
-bytesOf f count = elementsOf f count * rowOf f .width + linesOf f count * 2
+abbrev pub manyBytes : Form → ℕ → ℕ
+manyBytes f n = n * rowOf f .width + roundedUp n (rowOf f .«per_line») * 2
 
-abbrev pub bytesBy : GroupForm → ℕ → ℕ
-bytesBy (Has f) count = bytesOf f count
-bytesBy NoGroup count = 0
+module _ (ρ : Rules) where
+  abbrev pub bytesOf : Form → ℕ → ℕ
+  bytesOf f count = manyBytes f (elementsOf ρ f count)
 
-unfoldable pub bytesIn : List ℕ → ℕ → ℕ
-bytesIn ns g = bytesBy (formOf g) (countOf ns g)
+  abbrev pub bytesBy : GroupForm → ℕ → ℕ
+  bytesBy (Has f) count = bytesOf f count
+  bytesBy NoGroup count = 0
 
--- two index lines of 122 bytes, and the groups' lines
-unfoldable pub recordBytes : List ℕ → ℕ
-recordBytes ns = 244 + sum (map (bytesIn ns) (upFrom 1 60))
+  unfoldable pub bytesIn : List ℕ → ℕ → ℕ
+  bytesIn ns g = bytesBy (formOf g) (countOf ns g)
+
+  -- two index lines of 122 bytes, and the groups' lines
+  unfoldable pub recordBytes : List ℕ → ℕ
+  recordBytes ns = 244 + sum (map (bytesIn ns) (upFrom 1 60))

@@ -13,14 +13,13 @@ ghost use Rattle.base.specs.Every.{every};
 ghost use Rattle.base.specs.Part.{part, over};
 ghost use Rattle.base.specs.Sign.{sizeOf};
 ghost use Rattle.form.specs.Table.{rowOf};
-ghost use Rattle.form.specs.Count.{elementsOf, cellsOf};
 ghost use Rattle.field.specs.Write.{isLetter, fitsOf, fieldText};
 ghost use Rattle.count.specs.Check.{checkedOf};
 ghost use Rattle.count.specs.Tally.{cellsBefore};
 ghost use Rattle.date.specs.Date.{datedOf};
-ghost use Rattle.writing.specs.Fitting.{elementsFit, fitOf, Fitted};
-ghost use Rattle.writing.specs.Text.{lineEnd, entriesText, indexText, lineOfMany, fieldsText, linesText};
-ghost use Rattle.writing.specs.Text.{groupsText, recordText, bytesOf, recordBytes};
+ghost use Rattle.writing.specs.Fitting.{manyFit, fitOf, Fitted};
+ghost use Rattle.writing.specs.Text.{lineEnd, entriesText, indexText, lineOfMany, fieldsText, manyText};
+ghost use Rattle.writing.specs.Text.{groupsText, recordText, manyBytes, bytesOf, recordBytes};
 ghost use Rattle.writing.specs.Writing.{dateLetters, writeFit, writeRoom, writingOf, outputBy};
 
 // R303: each element's cells have a field of their form, or the group and the element of the first that have none.
@@ -31,17 +30,16 @@ enum Fit {
 
 // ---- Checking.
 
-// The first element of a group whose cells fit no field; the group's cells begin at a place of the table.
-fn elements_fit(form: Form, group: usize, count: u16, cells: &[i64], from: usize) -> Fit
-    requires { ⌜ from + cellsOf form count ≤ length (now cells) ⌝ }
-    ensures { λ r. ⌜ r ≡ elementsFit form group count (drop from (now (cells .entry))) ⌝ }
+// The first of so many elements of a group whose cells fit no field; they begin at a place of the table.
+fn elements_fit(form: Form, group: usize, elements: usize, cells: &[i64], from: usize) -> Fit
+    requires { ⌜ from + elements * rowOf form .cells ≤ length (now cells) ⌝ }
+    ensures { λ r. ⌜ r ≡ manyFit form group elements (drop from (now (cells .entry))) ⌝ }
 {
     let row = form::row_of(form);
     let size = row.cells;
-    let many = form::elements(form, count);
     let mut at = from;
     let mut e: usize = 0;
-    while e < many {
+    while e < elements {
         let to = at + size;
         if field::fits(form, &cells[at..to]) {
             at = to;
@@ -54,23 +52,24 @@ fn elements_fit(form: Form, group: usize, count: u16, cells: &[i64], from: usize
 }
 
 // R303: the first pass, over the cells of all groups in their order.
-fn cells_fit(counts: &[u16], cells: &[i64]) -> Fit
-    requires { ⌜ length (now cells) ≡ cellsBefore (now counts) 61 ⌝ }
-    ensures { λ r. ⌜ r ≡ fitOf (now (counts .entry)) (now (cells .entry)) ⌝ }
+fn cells_fit(rules: rules::Rules, counts: &[u16], cells: &[i64]) -> Fit
+    requires { ⌜ length (now cells) ≡ cellsBefore rules (now counts) 61 ⌝ }
+    ensures { λ r. ⌜ r ≡ fitOf rules (now (counts .entry)) (now (cells .entry)) ⌝ }
 {
     let mut from: usize = 0;
     let mut g: usize = 1;
     while g < 61 {
         let f = form::form_in(g);
         let n = count::count_of(counts, g);
-        let fit = elements_fit(f, g, n, cells, from);
+        let elements = form::elements(rules, f, n);
+        let fit = elements_fit(f, g, elements, cells, from);
         match fit {
             Fit::Not(h, e) => {
                 return Fit::Not(h, e);
             }
             Fit::All => {}
         }
-        from += form::cells(f, n);
+        from += form::cells(rules, f, n);
         g += 1;
     }
     Fit::All
@@ -89,36 +88,36 @@ fn date_at(cells: &[i64], from: usize) -> date::Dated
 }
 
 // R304: the date of group 3, to which R123 gives 19 letters at least.
-fn date_of(counts: &[u16], cells: &[i64]) -> date::Dated
-    requires checked { ⌜ checkedOf (now counts) (length (now cells)) ≡ Checked.Right ⌝ }
-    requires fits { ⌜ fitOf (now counts) (now cells) ≡ Fit.All ⌝ }
-    ensures { λ r. ⌜ r ≡ datedOf (dateLetters (now (counts .entry)) (now (cells .entry))) ⌝ }
+fn date_of(rules: rules::Rules, counts: &[u16], cells: &[i64]) -> date::Dated
+    requires checked { ⌜ checkedOf rules (now counts) (length (now cells)) ≡ Checked.Right ⌝ }
+    requires fits { ⌜ fitOf rules (now counts) (now cells) ≡ Fit.All ⌝ }
+    ensures { λ r. ⌜ r ≡ datedOf (dateLetters rules (now (counts .entry)) (now (cells .entry))) ⌝ }
 {
-    let before = count::add_up(counts, 3);
+    let before = count::add_up(rules, counts, 3);
     date_at(cells, before.cells)
 }
 
 // ---- How long the text is.
 
 // R110: elements times width, and two bytes for each line.
-fn group_bytes(form: Form, count: u16) -> usize
-    ensures { λ r. ⌜ r ≡ bytesOf form count ⌝ }
+fn group_bytes(rules: rules::Rules, form: Form, count: u16) -> usize
+    ensures { λ r. ⌜ r ≡ bytesOf rules form count ⌝ }
 {
     let row = form::row_of(form);
-    let n = form::elements(form, count);
+    let n = form::elements(rules, form, count);
     n * row.width + form::rounded_up(n, row.per_line) * 2
 }
 
 // R110: the bytes of a record's canonical text, by its counts alone: two index lines of 122 bytes, and the lines of the
 // groups.
-pub fn canonical_length(counts: &[u16]) -> usize
-    ensures { λ r. ⌜ r ≡ recordBytes (now (counts .entry)) ⌝ }
+pub fn canonical_length(rules: rules::Rules, counts: &[u16]) -> usize
+    ensures { λ r. ⌜ r ≡ recordBytes rules (now (counts .entry)) ⌝ }
 {
     let mut total: usize = 244;
     let mut g: usize = 1;
     while g < 61 {
         let f = form::form_in(g);
-        total += group_bytes(f, count::count_of(counts, g));
+        total += group_bytes(rules, f, count::count_of(counts, g));
         g += 1;
     }
     total
@@ -201,19 +200,26 @@ fn put_fields(
     a
 }
 
-// R44, R102: the lines of a group, whose cells begin at a place of the table; the place behind them.
-fn put_lines(form: Form, count: u16, cells: &[i64], from: usize, out: &mut [u8], at: usize) -> usize
-    requires cells { ⌜ from + cellsOf form count ≤ length (now cells) ⌝ }
-    requires fitted { ⌜ Fitted form (elementsOf form count) (drop from (now cells)) ⌝ }
-    requires room { ⌜ at + bytesOf form count ≤ length (now out) ⌝ }
-    ensures answer { λ r. ⌜ r ≡ at + bytesOf form count ⌝ }
+// R44, R102: the lines of so many elements, whose cells begin at a place of the table; the place behind them.
+fn put_lines(
+    form: Form,
+    elements: usize,
+    cells: &[i64],
+    from: usize,
+    out: &mut [u8],
+    at: usize,
+) -> usize
+    requires cells { ⌜ from + elements * rowOf form .cells ≤ length (now cells) ⌝ }
+    requires fitted { ⌜ Fitted form elements (drop from (now cells)) ⌝ }
+    requires room { ⌜ at + manyBytes form elements ≤ length (now out) ⌝ }
+    ensures answer { λ r. ⌜ r ≡ at + manyBytes form elements ⌝ }
     ensures output { λ _. ⌜ now (out .exit) ≡
-        over at (linesText form count (drop from (now (cells .entry)))) (now (out .entry)) ⌝ }
+        over at (manyText form elements (drop from (now (cells .entry)))) (now (out .entry)) ⌝ }
 {
     let row = form::row_of(form);
     let per_line = row.per_line;
     let size = row.cells;
-    let mut left = form::elements(form, count);
+    let mut left = elements;
     let many = form::rounded_up(left, per_line);
     let mut cell = from;
     let mut a = at;
@@ -231,12 +237,12 @@ fn put_lines(form: Form, count: u16, cells: &[i64], from: usize, out: &mut [u8],
 }
 
 // The second pass: the lines of all groups (R20).
-fn put_groups(counts: &[u16], cells: &[i64], out: &mut [u8], at: usize)
-    requires cells { ⌜ length (now cells) ≡ cellsBefore (now counts) 61 ⌝ }
-    requires fits { ⌜ fitOf (now counts) (now cells) ≡ Fit.All ⌝ }
-    requires room { ⌜ at + length (groupsText (now counts) (now cells)) ≤ length (now out) ⌝ }
+fn put_groups(rules: rules::Rules, counts: &[u16], cells: &[i64], out: &mut [u8], at: usize)
+    requires cells { ⌜ length (now cells) ≡ cellsBefore rules (now counts) 61 ⌝ }
+    requires fits { ⌜ fitOf rules (now counts) (now cells) ≡ Fit.All ⌝ }
+    requires room { ⌜ at + length (groupsText rules (now counts) (now cells)) ≤ length (now out) ⌝ }
     ensures { λ _. ⌜ now (out .exit) ≡
-        over at (groupsText (now (counts .entry)) (now (cells .entry))) (now (out .entry)) ⌝ }
+        over at (groupsText rules (now (counts .entry)) (now (cells .entry))) (now (out .entry)) ⌝ }
 {
     let mut from: usize = 0;
     let mut a = at;
@@ -244,8 +250,9 @@ fn put_groups(counts: &[u16], cells: &[i64], out: &mut [u8], at: usize)
     while g < 61 {
         let f = form::form_in(g);
         let n = count::count_of(counts, g);
-        a = put_lines(f, n, cells, from, out, a);
-        from += form::cells(f, n);
+        let elements = form::elements(rules, f, n);
+        a = put_lines(f, elements, cells, from, out, a);
+        from += form::cells(rules, f, n);
         g += 1;
     }
 }
@@ -254,47 +261,47 @@ fn put_groups(counts: &[u16], cells: &[i64], out: &mut [u8], at: usize)
 
 // The canonical text of counts and cells to the front of an output that has room for it. Nothing is checked: this is
 // for cells that are known to fit, as those that were read are.
-pub fn put_record(counts: &[u16], cells: &[i64], out: &mut [u8])
-    requires checked { ⌜ checkedOf (now counts) (length (now cells)) ≡ Checked.Right ⌝ }
-    requires fits { ⌜ fitOf (now counts) (now cells) ≡ Fit.All ⌝ }
-    requires room { ⌜ recordBytes (now counts) ≤ length (now out) ⌝ }
+pub fn put_record(rules: rules::Rules, counts: &[u16], cells: &[i64], out: &mut [u8])
+    requires checked { ⌜ checkedOf rules (now counts) (length (now cells)) ≡ Checked.Right ⌝ }
+    requires fits { ⌜ fitOf rules (now counts) (now cells) ≡ Fit.All ⌝ }
+    requires room { ⌜ recordBytes rules (now counts) ≤ length (now out) ⌝ }
     ensures { λ _. ⌜ now (out .exit) ≡
-        over 0 (recordText (now (counts .entry)) (now (cells .entry))) (now (out .entry)) ⌝ }
+        over 0 (recordText rules (now (counts .entry)) (now (cells .entry))) (now (out .entry)) ⌝ }
 {
     put_index(counts, out);
-    put_groups(counts, cells, out, 244);
+    put_groups(rules, counts, cells, out, 244);
 }
 
 // R305, R306: counts and cells that are right in all but the room for their text: 11, and only then the output.
-fn write_right(counts: &[u16], cells: &[i64], out: &mut [u8]) -> Answer
-    requires checked { ⌜ checkedOf (now counts) (length (now cells)) ≡ Checked.Right ⌝ }
-    requires fits { ⌜ fitOf (now counts) (now cells) ≡ Fit.All ⌝ }
-    ensures answer { λ r. ⌜ r ≡ writeRoom (now (counts .entry)) (length (now (out .entry))) ⌝ }
+fn write_right(rules: rules::Rules, counts: &[u16], cells: &[i64], out: &mut [u8]) -> Answer
+    requires checked { ⌜ checkedOf rules (now counts) (length (now cells)) ≡ Checked.Right ⌝ }
+    requires fits { ⌜ fitOf rules (now counts) (now cells) ≡ Fit.All ⌝ }
+    ensures answer { λ r. ⌜ r ≡ writeRoom rules (now (counts .entry)) (length (now (out .entry))) ⌝ }
     ensures output { λ r. ⌜ now (out .exit) ≡
-        outputBy (now (counts .entry)) (now (cells .entry)) r (now (out .entry)) ⌝ }
+        outputBy rules (now (counts .entry)) (now (cells .entry)) r (now (out .entry)) ⌝ }
 {
-    let n = canonical_length(counts);
+    let n = canonical_length(rules, counts);
     if out.len() < n {
         return Answer::Refused(Refusal::NoRoom);
     }
-    put_record(counts, cells, out);
+    put_record(rules, counts, cells, out);
     Answer::Done(n)
 }
 
 // R303 to R305: counts and a table's length that are right: 13, 10, 11.
-fn write_checked(counts: &[u16], cells: &[i64], out: &mut [u8]) -> Answer
-    requires { ⌜ checkedOf (now counts) (length (now cells)) ≡ Checked.Right ⌝ }
+fn write_checked(rules: rules::Rules, counts: &[u16], cells: &[i64], out: &mut [u8]) -> Answer
+    requires { ⌜ checkedOf rules (now counts) (length (now cells)) ≡ Checked.Right ⌝ }
     ensures answer { λ r. ⌜ r ≡
-        writeFit (now (counts .entry)) (now (cells .entry)) (length (now (out .entry)))
-        (fitOf (now (counts .entry)) (now (cells .entry))) ⌝ }
+        writeFit rules (now (counts .entry)) (now (cells .entry)) (length (now (out .entry)))
+        (fitOf rules (now (counts .entry)) (now (cells .entry))) ⌝ }
     ensures output { λ r. ⌜ now (out .exit) ≡
-        outputBy (now (counts .entry)) (now (cells .entry)) r (now (out .entry)) ⌝ }
+        outputBy rules (now (counts .entry)) (now (cells .entry)) r (now (out .entry)) ⌝ }
 {
-    match cells_fit(counts, cells) {
+    match cells_fit(rules, counts, cells) {
         Fit::Not(g, e) => Answer::Refused(Refusal::NoField(g, e)),
-        Fit::All => match date_of(counts, cells) {
+        Fit::All => match date_of(rules, counts, cells) {
             date::Dated::Wrong(position) => Answer::Refused(Refusal::BadDate(position)),
-            date::Dated::Right(_) => write_right(counts, cells, out),
+            date::Dated::Right(_) => write_right(rules, counts, cells, out),
         },
     }
 }
@@ -302,13 +309,14 @@ fn write_checked(counts: &[u16], cells: &[i64], out: &mut [u8]) -> Answer
 // R300 to R307: writes the canonical text of counts and of the cells of all groups to the front of the output, and
 // answers 0 with its length; or answers the first of 4, 5, 6, 7, 14, 13, 10 and 11 that is due, and alters no byte.
 // What stands behind the text stays.
-pub fn write_record(counts: &[u16], cells: &[i64], out: &mut [u8]) -> Answer
-    ensures answer { λ r. ⌜ r ≡ writingOf (now (counts .entry)) (now (cells .entry)) (length (now (out .entry))) ⌝ }
+pub fn write_record(rules: rules::Rules, counts: &[u16], cells: &[i64], out: &mut [u8]) -> Answer
+    ensures answer { λ r. ⌜ r ≡
+        writingOf rules (now (counts .entry)) (now (cells .entry)) (length (now (out .entry))) ⌝ }
     ensures output { λ r. ⌜ now (out .exit) ≡
-        outputBy (now (counts .entry)) (now (cells .entry)) r (now (out .entry)) ⌝ }
+        outputBy rules (now (counts .entry)) (now (cells .entry)) r (now (out .entry)) ⌝ }
 {
-    match count::check(counts, cells.len()) {
-        Checked::Right => write_checked(counts, cells, out),
+    match count::check(rules, counts, cells.len()) {
+        Checked::Right => write_checked(rules, counts, cells, out),
         Checked::Refused(why) => Answer::Refused(why),
     }
 }

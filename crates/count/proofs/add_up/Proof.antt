@@ -11,16 +11,16 @@ use Rattle.count.proofs.add_up.Statement.{statement}
 use Rattle.count.proofs.add_up.Tie as tie
 
 abbrev Inv-loop : tie.InvT-loop
-Inv-loop counts group end totals₀ g₀ totals g = (1 ≤ g) × (g ≤ end) × (totals .lines ≤ 65537 * g) × (totals .cells ≤ 7864200 * g) × Before counts g (totals .lines) (totals .cells)
+Inv-loop rules counts group end totals₀ g₀ totals g = (1 ≤ g) × (g ≤ end) × (totals .lines ≤ 65537 * g) × (totals .cells ≤ 7864200 * g) × Before rules counts g (totals .lines) (totals .cells)
 
 abbrev μ-loop : tie.MeasureT-loop
-μ-loop counts group end totals₀ g₀ totals g = end - g
+μ-loop rules counts group end totals₀ g₀ totals g = end - g
 
 returns : tie.Need-returns Inv-loop μ-loop
-returns c = rw (c .if1 .taken) (before-none _)
+returns c = rw (c .if1 .taken) (before-none _ _)
 
 loop-holds : tie.Need-loop-holds Inv-loop μ-loop
-loop-holds c = (omega arith, omega arith, omega arith, omega arith, before-groups _)
+loop-holds c = (omega arith, omega arith, omega arith, omega arith, before-groups _ _)
 
 form-in-requires : tie.Need-form-in-requires Inv-loop μ-loop
 form-in-requires c κs = (omega arith, omega arith)
@@ -32,16 +32,17 @@ loop-again : tie.Need-loop-again Inv-loop μ-loop
 loop-again c =
     let l = c .before .before .before .before .loop in
     let f = c .before .before .form-in .result in
-    let ns = c .before .before .before .before .before .before .before .before .args .counts .now in
+    let o = c .before .before .before .before .before .before .before .before .args in
+    let ns = o .counts .now in
     let n : countOf ns (l .g) ≤ 65535 = omega (arith, c .before .count-of .ensures) in
-    let more = before-more ns (l .g) (l .totals .lines) (l .totals .cells) (omega arith) (omega arith) (l .inv .4) f (c .before .before .form-in .ensures) in
+    let more = before-more _ ns (l .g) (l .totals .lines) (l .totals .cells) (omega arith) (omega arith) (l .inv .4) f (c .before .before .form-in .ensures) in
     rw (c .with-group .ensures .0, c .with-group .ensures .1, c .before .count-of .ensures)
-    (omega arith, omega arith, omega (arith, lines-few f (countOf ns (l .g)) n), omega (arith, cells-few f (countOf ns (l .g)) n), more)
+    (omega arith, omega arith, omega (arith, lines-few (o .rules) f (countOf ns (l .g)) n), omega (arith, cells-few (o .rules) f (countOf ns (l .g)) n), more)
 
 returns-2 : tie.Need-returns-2 Inv-loop μ-loop
 returns-2 c =
     let e : c .before .loop .g ≡ min (c .before .before .before .before .before .args .group) 61 = omega (arith, c .before .before .lesser .ensures) in
-    before-end _ _ _ _ (rw e at (c .before .loop .inv .4))
+    before-end _ _ _ _ _ (rw e at (c .before .loop .inv .4))
 
 pub add-up-spec : {M : Type 1} → statement M
 add-up-spec =

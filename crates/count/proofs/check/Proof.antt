@@ -10,12 +10,12 @@ use Rattle.count.proofs.check.Tie as tie
 returns : tie.Need-returns
 returns c =
     let o = c .before .before .before in
-    sym (checked-misformed (o .args .counts .now) (o .args .cells) (sym (c .before .well-formed .ensures) ∙ not-true _ (c .if1 .taken)))
+    sym (checked-misformed (o .args .rules) (o .args .counts .now) (o .args .cells) (sym (c .before .well-formed .ensures) ∙ not-true _ (c .if1 .taken)))
 
 returns-2 : tie.Need-returns-2
 returns-2 c =
     let o = c .before .before .before .before .before .before .before .before .before .before .before .before in
-    sym (checked-right (o .args .counts .now) (o .args .cells)
+    sym (checked-right (o .args .rules) (o .args .counts .now) (o .args .cells)
     (sym (c .before .before .before .before .before .before .before .before .before .before .well-formed .ensures)
     ∙ not-false _ (c .before .before .before .before .before .before .before .before .before .if1 .left))
     (sym (c .before .before .before .before .before .before .before .before .release-of .ensures)
@@ -26,20 +26,20 @@ returns-2 c =
 returns-3 : tie.Need-returns-3
 returns-3 c =
     let o = c .before .before .before .before .before .before in
-    sym (checked-release (o .args .counts .now) (o .args .cells)
+    sym (checked-release (o .args .rules) (o .args .counts .now) (o .args .cells)
     (sym (c .before .before .before .before .well-formed .ensures) ∙ not-false _ (c .before .before .before .if1 .left)) (sym (c .before .before .release-of .ensures) ∙ c .enum-told .given .1))
 
 returns-4 : tie.Need-returns-4
 returns-4 c =
     let o = c .before .before .before .before .before .before .before in
-    sym (checked-filled (o .args .counts .now) (o .args .cells)
+    sym (checked-filled (o .args .rules) (o .args .counts .now) (o .args .cells)
     (sym (c .before .before .before .before .before .well-formed .ensures) ∙ not-false _ (c .before .before .before .before .if1 .left))
     (sym (c .before .before .before .release-of .ensures) ∙ c .before .g .given .1))
 
 returns-5 : tie.Need-returns-5
 returns-5 c =
     let o = c .before .before .before .before .before .before .before .before .before .before in
-    sym (checked-broken (o .args .counts .now) (o .args .cells)
+    sym (checked-broken (o .args .rules) (o .args .counts .now) (o .args .cells)
     (sym (c .before .before .before .before .before .before .before .before .well-formed .ensures)
     ∙ not-false _ (c .before .before .before .before .before .before .before .if1 .left))
     (sym (c .before .before .before .before .before .before .release-of .ensures) ∙ c .before .before .before .before .enum-told2 .given .1)
@@ -48,7 +48,7 @@ returns-5 c =
 returns-6 : tie.Need-returns-6
 returns-6 c =
     let o = c .before .before .before .before .before .before .before .before .before .before .before .before in
-    sym (checked-length (o .args .counts .now) (o .args .cells)
+    sym (checked-length (o .args .rules) (o .args .counts .now) (o .args .cells)
     (sym (c .before .before .before .before .before .before .before .before .before .before .well-formed .ensures)
     ∙ not-false _ (c .before .before .before .before .before .before .before .before .before .if1 .left))
     (sym (c .before .before .before .before .before .before .before .before .release-of .ensures)

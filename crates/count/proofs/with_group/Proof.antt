@@ -7,16 +7,16 @@ use Rattle.form.proofs.Counted.{lines-few, cells-few}
 use Rattle.count.proofs.with_group.Statement.{statement}
 use Rattle.count.proofs.with_group.Tie as tie
 
-add-t5 : tie.Need-add-t5
-add-t5 c = record { fits = omega (arith, c .before .lines .ensures, lines-few (c .before .before .args .form) (c .before .before .args .count) (omega arith)) }
+add-t6 : tie.Need-add-t6
+add-t6 c = record { fits = omega (arith, c .before .lines .ensures, lines-few (c .before .before .args .rules) (c .before .before .args .form) (c .before .before .args .count) (omega arith)) }
 
-add-t7 : tie.Need-add-t7
-add-t7 c =
+add-t8 : tie.Need-add-t8
+add-t8 c =
     let o = c .before .before .before .before in
-    record { fits = omega (arith, c .before .cells .ensures, cells-few (o .args .form) (o .args .count) (omega arith)) }
+    record { fits = omega (arith, c .before .cells .ensures, cells-few (o .args .rules) (o .args .form) (o .args .count) (omega arith)) }
 
 returns : tie.Need-returns
 returns c = rw (c .before .before .before .lines .ensures, c .before .cells .ensures) (refl, refl)
 
 pub with-group-spec : {M : Type 1} → statement M
-with-group-spec = tie.close (tie.spec (λ c κs. search needs) add-t5 (λ c κs. search needs) add-t7 returns)
+with-group-spec = tie.close (tie.spec (λ c κs. search needs) add-t6 (λ c κs. search needs) add-t8 returns)

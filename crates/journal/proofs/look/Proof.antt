@@ -16,16 +16,17 @@ returns c =
     let j = a .journal .now in
     let r = c .before .before .before .walk-used .result in
     let checked = c .before .check .result in
-    let starts : c .before .before .before .before .before .before .before .put-starts .last .1 .0 ≡ startsOf ns = c .before .before .before .before .before .before .before .put-starts .ensures in
+    let starts : c .before .before .before .before .before .before .before .put-starts .last .1 .1 .0 ≡ startsOf (a .rules) ns =
+    c .before .before .before .before .before .before .before .put-starts .ensures in
     let w = subst (λ q. WalksTo q (take (a .used) j) r) starts (c .before .before .before .walk-used .ensures) in (
       starts,
       record {
-        stands = c .standing .ensures ∙ standing-found ns j (a .used) (a .cells) r w checked (c .before .check .ensures);
-        count = count-found ns j (a .used) (a .cells) r w;
-        marks = marks-found ns j (a .used) (a .cells) r w;
+        stands = c .standing .ensures ∙ standing-found (a .rules) ns j (a .used) (a .cells) r w checked (c .before .check .ensures);
+        count = count-found (a .rules) ns j (a .used) (a .cells) r w;
+        marks = marks-found (a .rules) ns j (a .used) (a .cells) r w;
         few = w .small;
         below = w .below;
-        inside = λ e. used-inside ns j (a .used) (a .cells) r w checked (sym (c .standing .ensures) ∙ e);
+        inside = λ e. used-inside (a .rules) ns j (a .used) (a .cells) r w checked (sym (c .standing .ensures) ∙ e);
       },
     )
 

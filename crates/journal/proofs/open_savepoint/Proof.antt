@@ -19,7 +19,7 @@ returns c =
     let a = c .before .before .before .before .before .before .before .before .before .before .args in
     let k = kept (a .cells .now) (a .journal .now) (a .used) in
     let found = c .before .before .before .before .before .look .ensures in
-    let x = call-refused Opens k (found .1) (c .refused .result .used) (c .before .before .stands .given .1) (c .refused .ensures .0) (c .refused .ensures .1) in
+    let x = call-refused _ Opens k (found .1) (c .refused .result .used) (c .before .before .stands .given .1) (c .refused .ensures .0) (c .refused .ensures .1) in
     (x .answer, (x .used, x .journal))
 
 returns-2 : tie.Need-returns-2
@@ -29,7 +29,7 @@ returns-2 c =
     let found = c .before .before .before .before .before .before .before .look .ensures in
     let told = c .before .before .before .before .enum-told .given .1 in
     let done = c .before .before .open-in .ensures in
-    let x = call-decided Opens k (found .1) (kept _ _ _) told (done .0) (done .1 .0) refl (done .1 .1) in
+    let x = call-decided _ Opens k (found .1) (kept _ _ _) told (done .0) (done .1 .0) refl (done .1 .1) in
     (x .answer, (x .used, x .journal))
 
 pub open-savepoint-spec : {M : Type 1} → statement M

@@ -14,18 +14,18 @@ use Rattle.journal.proofs.put_starts.Statement.{statement}
 use Rattle.journal.proofs.put_starts.Tie as tie
 
 abbrev Inv-loop : tie.InvT-loop
-Inv-loop counts starts₀ sum₀ g₀ starts sum g =
-    (1 ≤ g) × (g ≤ 61) × (length starts ≡ 62) × (sum ≤ 7864200 * g) × (sum ≡ cellsBefore counts g) × FilledTo counts starts g
+Inv-loop rules counts starts₀ sum₀ g₀ starts sum g =
+    (1 ≤ g) × (g ≤ 61) × (length starts ≡ 62) × (sum ≤ 7864200 * g) × (sum ≡ cellsBefore rules counts g) × FilledTo rules counts starts g
 
 abbrev μ-loop : tie.MeasureT-loop
-μ-loop counts starts₀ sum₀ g₀ starts sum g = 61 - g
+μ-loop rules counts starts₀ sum₀ g₀ starts sum g = 61 - g
 
 loop-holds : tie.Need-loop-holds Inv-loop μ-loop
 loop-holds c =
     let a = c .before .before .args in
     let ps = a .starts .now in
     let l = c .before .before .pre in
-    (omega arith, omega arith, length-set (set ps 0 0) 1 0 ∙ length-set ps 0 0 ∙ l, omega arith, sym (cells-first (a .counts .now)), filled-start (a .counts .now) ps l)
+    (omega arith, omega arith, length-set (set ps 0 0) 1 0 ∙ length-set ps 0 0 ∙ l, omega arith, sym (cells-first (a .rules) (a .counts .now)), filled-start (a .rules) (a .counts .now) ps l)
 
 form-in-requires : tie.Need-form-in-requires Inv-loop μ-loop
 form-in-requires c κs = (omega arith, omega arith)
@@ -34,30 +34,33 @@ add-sum : tie.Need-add-sum Inv-loop μ-loop
 add-sum c =
     let l = c .before .before .before .before .loop in
     let n : c .before .count-of .result ≤ 65535 = omega arith in
-    record { fits = omega (arith, c .cells .ensures, cells-few (c .before .before .form-in .result) (c .before .count-of .result) n) }
+    let asked = c .before .before .before .before .before .before .before .args in
+    record { fits = omega (arith, c .cells .ensures, cells-few (asked .rules) (c .before .before .form-in .result) (c .before .count-of .result) n) }
 
 loop-again : tie.Need-loop-again Inv-loop μ-loop
 loop-again c =
     let l = c .before .before .before .before .loop in
-    let ns = c .before .before .before .before .before .before .before .args .counts .now in
+    let asked = c .before .before .before .before .before .before .before .args in
+    let ρ = asked .rules in
+    let ns = asked .counts .now in
     let f = c .before .before .form-in .result in
     let n : c .before .count-of .result ≤ 65535 = omega arith in
-    let m : c .cells .result ≡ cellsIn ns (l .g) = c .cells .ensures ∙ ap (cellsOf f) (c .before .count-of .ensures) ∙ sym (cells-has ns (l .g) f (c .before .before .form-in .ensures)) in
-    let k = cells-few f (c .before .count-of .result) n in
-    let e : l .sum + c .cells .result ≡ cellsBefore ns (l .g + 1) = rw (l .inv .4, m) (sym (cells-next ns (l .g) (omega arith) (omega arith))) in (
+    let m : c .cells .result ≡ cellsIn ρ ns (l .g) = c .cells .ensures ∙ ap (cellsOf ρ f) (c .before .count-of .ensures) ∙ sym (cells-has ρ ns (l .g) f (c .before .before .form-in .ensures)) in
+    let k = cells-few ρ f (c .before .count-of .result) n in
+    let e : l .sum + c .cells .result ≡ cellsBefore ρ ns (l .g + 1) = rw (l .inv .4, m) (sym (cells-next ρ ns (l .g) (omega arith) (omega arith))) in (
       omega arith,
       omega arith,
       length-set (l .starts) (l .g + 1) (l .sum + c .cells .result)
           ∙ l .inv .2,
       omega (arith, c .cells .ensures),
       e,
-      filled-more ns (l .starts) (l .g) (l .sum + c .cells .result) (omega arith) e (l .inv .5),
+      filled-more ρ ns (l .starts) (l .g) (l .sum + c .cells .result) (omega arith) e (l .inv .5),
     )
 
 returns : tie.Need-returns Inv-loop μ-loop
 returns c =
     let l = c .before .loop in
-    filled-all (c .before .before .before .before .args .counts .now) (l .starts) (l .g) (l .inv .2) (c .loop-test .left) (l .inv .5)
+    filled-all (c .before .before .before .before .args .rules) (c .before .before .before .before .args .counts .now) (l .starts) (l .g) (l .inv .2) (c .loop-test .left) (l .inv .5)
 
 pub put-starts-spec : {M : Type 1} → statement M
 put-starts-spec =

@@ -12,14 +12,14 @@ undo-in-requires : tie.Need-undo-in-requires
 undo-in-requires c κs =
     let found = c .before .before .before .before .before .before .before .before .look .ensures in
     let inside = found .1 .inside (c .before .before .before .before .enum-told .given .1) in
-    (rw (found .0) (starts-length _), (inside, (found .1 .few, found .1 .below)))
+    (rw (found .0) (starts-length _ _), (inside, (found .1 .few, found .1 .below)))
 
 returns : tie.Need-returns
 returns c =
     let a = c .before .before .before .before .before .before .before .before .before .before .before .args in
     let k = kept (a .cells .now) (a .journal .now) (a .used) in
     let found = c .before .before .before .before .before .before .look .ensures in
-    let x = call-refused (Undoes (a .savepoint)) k (found .1) (c .refused .result .used) (c .before .before .stands .given .1) (c .refused .ensures .0) (c .refused .ensures .1) in
+    let x = call-refused (a .rules) (Undoes (a .savepoint)) k (found .1) (c .refused .result .used) (c .before .before .stands .given .1) (c .refused .ensures .0) (c .refused .ensures .1) in
     (x .answer, (x .used, (x .cells, x .journal)))
 
 returns-2 : tie.Need-returns-2
@@ -30,7 +30,7 @@ returns-2 c =
     let told = c .before .before .before .before .before .before .before .before .enum-told .given .1 in
     let done = c .before .before .before .undo-in .ensures in
     let starts = found .0 in
-    let x = call-decided (Undoes (a .savepoint)) k (found .1) (kept _ _ _) told (done .0) (done .1 .0) (rw starts at (done .1 .1 .0)) (done .1 .1 .1) in
+    let x = call-decided (a .rules) (Undoes (a .savepoint)) k (found .1) (kept _ _ _) told (done .0) (done .1 .0) (rw starts at (done .1 .1 .0)) (done .1 .1 .1) in
     (x .answer, (x .used, (x .cells, x .journal)))
 
 pub undo-to-savepoint-spec : {M : Type 1} → statement M

@@ -9,7 +9,7 @@ use Rattle.listing.proofs.record_row.Tie as tie
 
 returns : tie.Need-returns
 unfolding recordRow
-returns c = rw (c .before .before .before .reply-of .ensures, c .before .before .filled-groups .ensures, c .before .add-up .ensures .lines-are ∙ all-lines _)
+returns c = rw (c .before .before .before .reply-of .ensures, c .before .before .filled-groups .ensures, c .before .add-up .ensures .lines-are ∙ all-lines _ _)
 
 pub record-row-spec : {M : Type 1} → statement M
 record-row-spec =

@@ -13,7 +13,7 @@ use Rattle.place.proofs.span_of.Statement.{statement}
 use Rattle.place.proofs.span_of.Tie as tie
 
 begins : (c : tie.After-behind-or-end)
-    → c .behind-or-end .result ≡ start (c .before .before .before .before .args .text .now) (c .before .before .before .before .args .at)
+    → c .behind-or-end .result ≡ start (c .before .before .before .before .args .rules) (c .before .before .before .before .args .text .now) (c .before .before .before .before .args .at)
     (c .before .before .before .before .args .counts .now) (c .before .before .before .before .args .group)
 unfolding start
 begins c =
@@ -23,7 +23,7 @@ begins c =
 returns : tie.Need-returns
 returns c =
     let o = c .before .before .before .before .before in
-    (begins (c .before), begins (c .before) ∙ sym (start-done (o .args .text .now) (o .args .at) (o .args .counts .now) (o .args .group) (c .if1 .taken)))
+    (begins (c .before), begins (c .before) ∙ sym (start-done (o .args .rules) (o .args .text .now) (o .args .at) (o .args .counts .now) (o .args .group) (c .if1 .taken)))
 
 sub-behind-or-end : tie.Need-sub-behind-or-end
 sub-behind-or-end c =
@@ -32,7 +32,7 @@ sub-behind-or-end c =
       arith,
       c .before .before .before .before .before .add-up .ensures .lines-are,
       c .before .before .add-up2 .ensures .lines-are,
-      lines-below (o .args .counts .now)
+      lines-below (o .args .rules) (o .args .counts .now)
           (o .args .group) (o .args .group + 1) (omega arith),
     )
 
@@ -41,7 +41,7 @@ returns-2 c =
     let o = c .before .before .before .before .before .before .before .before .before in (
       begins (c .before .before .before .before .before),
       c .behind-or-end2 .ensures
-          ∙ start-next (o .args .text .now) (o .args .at) (o .args .counts .now) (o .args .group) (begins (c .before .before .before .before .before))
+          ∙ start-next (o .args .rules) (o .args .text .now) (o .args .at) (o .args .counts .now) (o .args .group) (begins (c .before .before .before .before .before))
           (c .before .before .before .before .before .before .add-up .ensures .lines-are) (c .before .before .before .add-up2 .ensures .lines-are),
     )
 

@@ -9,17 +9,20 @@ use Rattle.place.proofs.with_counts.Tie as tie
 returns : tie.Need-returns
 returns c =
     let o = c .before .before .before .before .before .before in
-    refuses (from-release (o .args .text .now) (o .args .from) (o .args .t3) (sym (c .before .before .before .release-of .ensures) ∙ c .before .enum-told .given .1)) (c .nothing .ensures)
+    refuses (from-release (o .args .rules) (o .args .text .now) (o .args .from) (o .args .t4)
+    (sym (c .before .before .before .release-of .ensures) ∙ c .before .enum-told .given .1)) (c .nothing .ensures)
 
 returns-2 : tie.Need-returns-2
 returns-2 c =
     let o = c .before .before .before .before .before .before .before in
-    refuses (from-release (o .args .text .now) (o .args .from) (o .args .t3) (sym (c .before .before .before .before .release-of .ensures) ∙ c .before .before .g .given .1)) (c .nothing2 .ensures)
+    refuses (from-release (o .args .rules) (o .args .text .now) (o .args .from) (o .args .t4)
+    (sym (c .before .before .before .before .release-of .ensures) ∙ c .before .before .g .given .1)) (c .nothing2 .ensures)
 
 returns-3 : tie.Need-returns-3
 returns-3 c =
     let o = c .before .before .before .before .before .before in
-    rw (from-release (o .args .text .now) (o .args .from) (o .args .t3) (sym (c .before .before .before .release-of .ensures) ∙ c .before .enum-told2 .given .1)) (c .with-lines .ensures)
+    rw (from-release (o .args .rules) (o .args .text .now) (o .args .from) (o .args .t4)
+    (sym (c .before .before .before .release-of .ensures) ∙ c .before .enum-told2 .given .1)) (c .with-lines .ensures)
 
 pub with-counts-spec : {M : Type 1} → statement M
 with-counts-spec =

@@ -12,7 +12,7 @@ use Rattle.reading.proofs.check_date.Statement.{statement}
 use Rattle.reading.proofs.check_date.Tie as tie
 
 -- as many letters as the first line has
-first-many : (c : tie.After-lesser) → c .lesser .result ≡ min (rowOf A1 .«per_line») (elementsOf A1 (c .before .before .before .before .args .count))
+first-many : (c : tie.After-lesser) → c .lesser .result ≡ min (rowOf A1 .«per_line») (elementsOf (c .before .before .before .before .args .rules) A1 (c .before .before .before .before .args .count))
 first-many c = c .lesser .ensures ∙ rw (c .before .row-of .ensures, c .before .before .elements .ensures)
 
 part-new-end : tie.Need-part-new-end

@@ -17,7 +17,7 @@ use Rattle.reading.proofs.check_lines.Tie as tie
 
 abbrev Inv-loop : tie.InvT-loop
 Inv-loop rules form short count lines width per-line many left verdict₀ at element j k stop from₀ i₀ verdict from i =
-    (verdict ≡ C.Right) × Trying rules form short (lineAt (rowOf form .«per_line») (elementsOf form count) j) lines at stop i from
+    (verdict ≡ C.Right) × Trying rules form short (lineAt (rowOf form .«per_line») (elementsOf rules form count) j) lines at stop i from
 
 abbrev μ-loop : tie.MeasureT-loop
 μ-loop rules form short count lines width per-line many left verdict₀ at element j k stop from₀ i₀ verdict from i = k - i
@@ -32,7 +32,7 @@ abbrev μ-lines : tie.MeasureT-lines
 lines-holds : tie.Need-lines-holds Inv-loop μ-loop Inv-lines μ-lines
 lines-holds c =
     let row = c .before .before .row-of .ensures in
-    let walk = walking-start (ap (λ r. r .width) row) (ap (λ r. r .«per_line») row) (c .before .lines2 .ensures) (c .elements .ensures) (omega arith) in
+    let walk = walking-start _ (ap (λ r. r .width) row) (ap (λ r. r .«per_line») row) (c .before .lines2 .ensures) (c .elements .ensures) (omega arith) in
     (refl, checking-start _ walk)
 
 mul-fields-stop : tie.Need-mul-fields-stop Inv-loop μ-loop Inv-lines μ-lines

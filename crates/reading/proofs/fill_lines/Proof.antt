@@ -24,7 +24,7 @@ use Rattle.reading.proofs.fill_lines.Tie as tie
 
 abbrev Inv-loop2 : tie.InvT-loop2
 Inv-loop2 rules form short count lines table₀ width per-line cells many left at cell₀ j k end n stop from₀ i₀ table cell from i =
-    let l = lineAt (rowOf form .«per_line») (elementsOf form count) j in
+    let l = lineAt (rowOf form .«per_line») (elementsOf rules form count) j in
     FillingFields form l (lineText form l lines at end n) table₀ cell₀ at i from cell table
 
 abbrev μ-loop2 : tie.MeasureT-loop2
@@ -50,7 +50,7 @@ abbrev μ-loop : tie.MeasureT-loop
 loop-holds : tie.Need-loop-holds Inv-loop2 μ-loop2 Inv-loop μ-loop
 loop-holds c =
     let row = c .before .before .row-of .ensures in
-    let walk = walking-start (ap (λ r. r .width) row) (ap (λ r. r .«per_line») row) (c .before .lines .ensures) (c .elements .ensures) (omega arith) in
+    let walk = walking-start _ (ap (λ r. r .width) row) (ap (λ r. r .«per_line») row) (c .before .lines .ensures) (c .elements .ensures) (omega arith) in
     filling-start _ walk (ap (λ r. r .cells) row) (c .before .before .before .before .pre .1 .0) (refl, refl, refl)
 
 mul-least : tie.Need-mul-least Inv-loop2 μ-loop2 Inv-loop μ-loop

@@ -27,16 +27,13 @@ form-in-requires : tie.Need-form-in-requires Inv-loop μ-loop
 form-in-requires c κs = (c .before .loop .inv .low, omega arith)
 
 to-is : (c : tie.After-cells Inv-loop μ-loop)
-    → c .before .behind-or-end2 .result ≡ c .before .before .before .before .before .before .loop .from + reach
-    (drop (c .before .before .before .before .before .before .loop .from) (c .before .before .before .before .before .before .before .before .before .before .args .text .now))
-    (linesOf (c .before .before .before .before .form-in .result)
-    (countOf (c .before .before .before .before .before .before .before .before .before .before .args .counts .now) (c .before .before .before .before .before .before .loop .g)))
+    → (let at-form = c .before .before .before .before in let l = at-form .before .before .loop in let o = at-form .before .before .before .before .before .before .args in
+    c .before .behind-or-end2 .result ≡ l .from + reach (drop (l .from) (o .text .now)) (linesOf (o .rules) (at-form .form-in .result) (countOf (o .counts .now) (l .g))))
 to-is c = rw (c .before .before .lines .ensures, c .before .before .before .count-of .ensures) at (c .before .behind-or-end2 .ensures)
 
 end-is : (c : tie.After-cells Inv-loop μ-loop)
-    → c .before .before .before .before .before .before .loop .cell + c .cells .result ≡ c .before .before .before .before .before .before .loop .cell + cellsOf
-    (c .before .before .before .before .form-in .result)
-    (countOf (c .before .before .before .before .before .before .before .before .before .before .args .counts .now) (c .before .before .before .before .before .before .loop .g))
+    → (let at-form = c .before .before .before .before in let l = at-form .before .before .loop in let o = at-form .before .before .before .before .before .before .args in
+    l .cell + c .cells .result ≡ l .cell + cellsOf (o .rules) (at-form .form-in .result) (countOf (o .counts .now) (l .g)))
 end-is c = rw (c .before .before .before .count-of .ensures) at (ap (λ n. c .before .before .before .before .before .before .loop .cell + n) (c .cells .ensures))
 
 add-end : tie.Need-add-end Inv-loop μ-loop

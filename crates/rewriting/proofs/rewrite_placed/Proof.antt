@@ -19,7 +19,7 @@ returns-2 : tie.Need-returns-2
 returns-2 c =
     let o = c .before .before .before .before .before .before .before .before in
     let all = step-no-cells (o .args .rules) (o .args .text .now) (o .args .at) (o .args .table .now) (o .args .out .now) _ (o .pre .0) _ (o .pre .1)
-    (omega (arith, c .before .before .add-up .ensures .cells-are, all-cells (o .args .counts .now))) in
+    (omega (arith, c .before .before .add-up .ensures .cells-are, all-cells (o .args .rules) (o .args .counts .now))) in
     (all .0, (all .1, all .2))
 
 read-groups-requires : tie.Need-read-groups-requires
@@ -27,7 +27,7 @@ read-groups-requires c κs =
     let at-add-up = c .before .before .before in
     let at-canonical-length = at-add-up .before .before in
     let o = at-canonical-length .before .before .before .before in
-    let many = at-add-up .add-up .ensures .cells-are ∙ all-cells (o .args .counts .now) in (
+    let many = at-add-up .add-up .ensures .cells-are ∙ all-cells (o .args .rules) (o .args .counts .now) in (
       o .pre .1,
       step-ready (o .args .rules) (o .args .text .now) (o .args .at) (o .args .table .now) (o .args .out .now) _ (o .pre .0) _ (o .pre .1)
           (omega (arith, at-canonical-length .canonical-length .ensures)) (omega (arith, many)),
@@ -39,7 +39,7 @@ write-cells-requires c κs =
     let at-add-up = at-read-groups .before .before .before .before in
     let at-canonical-length = at-add-up .before .before in
     let o = at-canonical-length .before .before .before .before in
-    let many = at-add-up .add-up .ensures .cells-are ∙ all-cells (o .args .counts .now) in
+    let many = at-add-up .add-up .ensures .cells-are ∙ all-cells (o .args .rules) (o .args .counts .now) in
     step-writes (o .args .rules) (o .args .text .now) (o .args .at) (o .args .table .now) (o .args .out .now) _ (o .pre .0) _ (o .pre .1)
     (omega (arith, at-canonical-length .canonical-length .ensures)) (omega (arith, many)) (
       sym (c .before .before .enum-told .given .1) ∙ at-read-groups .read-groups .ensures .0,
@@ -53,7 +53,7 @@ returns-3 c =
     let at-add-up = at-read-groups .before .before .before .before in
     let at-canonical-length = at-add-up .before .before in
     let o = at-canonical-length .before .before .before .before in
-    let many = at-add-up .add-up .ensures .cells-are ∙ all-cells (o .args .counts .now) in
+    let many = at-add-up .add-up .ensures .cells-are ∙ all-cells (o .args .rules) (o .args .counts .now) in
     let all = step-unread (o .args .rules) (o .args .text .now) (o .args .at) (o .args .table .now) (o .args .out .now) _ (o .pre .0) _ (o .pre .1)
     (omega (arith, at-canonical-length .canonical-length .ensures)) (omega (arith, many))
     (sym (c .before .g .given .1) ∙ at-read-groups .read-groups .ensures .0, at-read-groups .read-groups .ensures .1) in
@@ -66,7 +66,7 @@ returns-4 c =
     let at-add-up = at-read-groups .before .before .before .before in
     let at-canonical-length = at-add-up .before .before in
     let o = at-canonical-length .before .before .before .before in
-    let many = at-add-up .add-up .ensures .cells-are ∙ all-cells (o .args .counts .now) in
+    let many = at-add-up .add-up .ensures .cells-are ∙ all-cells (o .args .rules) (o .args .counts .now) in
     let all = step-done (o .args .rules) (o .args .text .now) (o .args .at) (o .args .table .now) (o .args .out .now) _ (o .pre .0) _ (o .pre .1)
     (omega (arith, at-canonical-length .canonical-length .ensures)) (omega (arith, many)) (
       sym (at-enum-told .enum-told .given .1) ∙ at-read-groups .read-groups .ensures .0,

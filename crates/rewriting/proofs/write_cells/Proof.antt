@@ -15,8 +15,8 @@ put-record-requires c κs =
     let o = c .before .before .before .before in
     let ns = o .args .counts .now in
     let cs = part 0 (o .args .cells) (o .args .table .now) in
-    let d = done-is ns cs (length (o .args .out .now)) (recordBytes ns) (o .pre .1) in
-    (first-due ns (length cs) Right .1 (d .checked), (d .fit, d .enough))
+    let d = done-is (o .args .rules) ns cs (length (o .args .out .now)) (recordBytes _ ns) (o .pre .1) in
+    (first-due _ ns (length cs) Right .1 (d .checked), (d .fit, d .enough))
 
 pub write-cells-spec : {M : Type 1} → statement M
 write-cells-spec =

@@ -1,15 +1,11 @@
--- `rules::choose` meets its contract.
+-- `rules::choose` meets its contract: each rule is the one that was asked for.
 -- Assumes nothing.
-use mathlib.Core.Path.{sym, ap}
-use Rattle.rules.specs.Choice.{chosen}
+use borrow.Author.Needs.{needs}
 use Rattle.rules.proofs.choose.Statement.{statement}
 use Rattle.rules.proofs.choose.Tie as tie
 
 returns : tie.Need-returns
-returns c = ap chosen (sym (c .if1 .taken))
-
-returns-2 : tie.Need-returns-2
-returns-2 c = ap chosen (sym (c .if1 .left))
+returns c = rw (c .before .ends-by .ensures, c .counting-by .ensures)
 
 pub choose-spec : {M : Type 1} → statement M
-choose-spec = tie.close (tie.spec returns returns-2)
+choose-spec = tie.close (tie.spec (λ c κs. search needs) (λ c κs. search needs) returns)

@@ -5,6 +5,7 @@ use mathlib.Core.Path.{_∙_, ap}
 use Rattle.journal.specs.Model.{Opens}
 use Rattle.journal.specs.Calls.{usedBy, journalBy}
 use Rattle.journal.specs.Numbered.{editReply}
+use Rattle.seambeacon.specs.Flags.{flagged}
 use Rattle.seambeacon.proofs.Telling.{told-as}
 use Rattle.seambeacon.proofs.seambeacon_open_savepoint.Statement.{statement}
 use Rattle.seambeacon.proofs.seambeacon_open_savepoint.Tie as tie
@@ -12,12 +13,14 @@ use Rattle.seambeacon.proofs.seambeacon_open_savepoint.Tie as tie
 returns : tie.Need-returns
 returns c =
     let at-call = c .before .before .before .before .before in
-    let a = at-call .before .before .before .before .before .args in
-    let e = at-call .open-savepoint .ensures in
-    let journal = e .1 .1 ∙ ap (journalBy (a .counts .now) (a .journal .now) (a .used .now) Opens (a .cells .now)) (e .0) in
+    let at-rules = at-call .before .before .before in
+    let a = at-rules .before .before .before .args in
+    let ρ = flagged (a .rules) in
+    let e = rw (at-rules .rules-of .ensures) at (at-call .open-savepoint .ensures) in
+    let journal = e .1 .1 ∙ ap (journalBy ρ (a .counts .now) (a .journal .now) (a .used .now) Opens (a .cells .now)) (e .0) in
     let used = e .1 .0 ∙ ap (usedBy (a .used .now) Opens) (e .0) in
     (told-as (c .before .before .reply-of .ensures ∙ ap editReply (e .0)) (c .tell .ensures), (used, journal))
 
 pub seambeacon-open-savepoint-spec : {M : Type 1} → statement M
 seambeacon-open-savepoint-spec =
-    tie.close (tie.spec (λ c κs. search needs) (λ c κs. search needs) (λ c κs. search needs) (λ c. search needs) returns)
+    tie.close (tie.spec (λ c κs. search needs) (λ c κs. search needs) (λ c κs. search needs) (λ c κs. search needs) (λ c. search needs) returns)

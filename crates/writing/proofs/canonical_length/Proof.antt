@@ -8,33 +8,39 @@ use Rattle.writing.proofs.canonical_length.Statement.{statement}
 use Rattle.writing.proofs.canonical_length.Tie as tie
 
 abbrev Inv-loop : tie.InvT-loop
-Inv-loop counts total₀ g₀ total g = Adding counts total g
+Inv-loop rules counts total₀ g₀ total g = Adding rules counts total g
 
 abbrev μ-loop : tie.MeasureT-loop
-μ-loop counts total₀ g₀ total g = 61 - g
+μ-loop rules counts total₀ g₀ total g = 61 - g
 
 loop-holds : tie.Need-loop-holds Inv-loop μ-loop
-loop-holds c = adding-start (c .before .args .counts .now)
+loop-holds c = adding-start (c .before .args .rules) (c .before .args .counts .now)
 
 form-in-requires : tie.Need-form-in-requires Inv-loop μ-loop
 form-in-requires c κs = (c .before .loop .inv .low, omega arith)
 
 add-total : tie.Need-add-total Inv-loop μ-loop
 add-total c =
-    let b = adding-more (c .before .before .before .before .before .before .args .counts .now) (c .before .before .before .before .loop .inv)
-    (c .before .before .before .loop-test .taken) (c .before .before .form-in .result) (c .before .before .form-in .ensures) (c .before .count-of .result)
-    (c .before .count-of .ensures) (omega arith) in
+    let at-count = c .before in
+    let at-form = at-count .before in
+    let in-loop = at-form .before in
+    let o = in-loop .before .before .before .args in
+    let b = adding-more (o .rules) (o .counts .now) (in-loop .before .loop .inv) (in-loop .loop-test .taken) (at-form .form-in .result) (at-form .form-in .ensures)
+    (at-count .count-of .result) (at-count .count-of .ensures) (omega arith) in
     record { fits = omega (arith, b .small, c .group-bytes .ensures) }
 
 loop-again : tie.Need-loop-again Inv-loop μ-loop
 loop-again c =
+    let at-count = c .before in
+    let at-form = at-count .before in
+    let in-loop = at-form .before in
+    let o = in-loop .before .before .before .args in
     rw (c .group-bytes .ensures)
-    (adding-more (c .before .before .before .before .before .before .args .counts .now) (c .before .before .before .before .loop .inv)
-    (c .before .before .before .loop-test .taken) (c .before .before .form-in .result) (c .before .before .form-in .ensures) (c .before .count-of .result)
-    (c .before .count-of .ensures) (omega arith))
+    (adding-more (o .rules) (o .counts .now) (in-loop .before .loop .inv) (in-loop .loop-test .taken) (at-form .form-in .result) (at-form .form-in .ensures)
+    (at-count .count-of .result) (at-count .count-of .ensures) (omega arith))
 
 returns : tie.Need-returns Inv-loop μ-loop
-returns c = adding-end (c .before .before .before .args .counts .now) (c .before .loop .inv) (c .loop-test .left)
+returns c = adding-end (c .before .before .before .args .rules) (c .before .before .before .args .counts .now) (c .before .loop .inv) (c .loop-test .left)
 
 pub canonical-length-spec : {M : Type 1} → statement M
 canonical-length-spec =

@@ -10,22 +10,22 @@ use Rattle.writing.proofs.elements_fit.Statement.{statement}
 use Rattle.writing.proofs.elements_fit.Tie as tie
 
 abbrev Inv-loop : tie.InvT-loop
-Inv-loop form group count cells from size many at₀ e₀ at e = Elements form group count cells from size many at e
+Inv-loop form group elements cells from size at₀ e₀ at e = Elements form group cells from size elements at e
 
 abbrev μ-loop : tie.MeasureT-loop
-μ-loop form group count cells from size many at₀ e₀ at e = many - e
+μ-loop form group elements cells from size at₀ e₀ at e = elements - e
 
 loop-holds : tie.Need-loop-holds Inv-loop μ-loop
 loop-holds c =
-    let o = c .before .before in
-    elements-start (o .args .form) (o .args .group) (o .args .count) (o .args .cells .now) (o .args .from) _ _ (ap (λ r. r .cells) (c .before .row-of .ensures)) (c .elements .ensures)
+    let o = c .before in
+    elements-start (o .args .form) (o .args .group) (o .args .cells .now) (o .args .from) _ _ (ap (λ r. r .cells) (c .row-of .ensures))
 
 -- the cells of the next element
-range : (c : tie.In-loop Inv-loop μ-loop) → (c .before .loop .at ≤ c .before .loop .at + c .before .before .before .row-of .result .cells) ×
-    (c .before .loop .at + c .before .before .before .row-of .result .cells ≤ length (c .before .before .before .before .args .cells .now))
+range : (c : tie.In-loop Inv-loop μ-loop) → (c .before .loop .at ≤ c .before .loop .at + c .before .before .row-of .result .cells) ×
+    (c .before .loop .at + c .before .before .row-of .result .cells ≤ length (c .before .before .before .args .cells .now))
 range c =
-    let o = c .before .before .before .before in
-    element-range (o .args .form) (o .args .group) (o .args .count) (o .args .cells .now) (o .args .from) (c .before .loop .inv) (c .loop-test .taken) (o .pre)
+    let o = c .before .before .before in
+    element-range (o .args .form) (o .args .group) (o .args .cells .now) (o .args .from) (c .before .loop .inv) (c .loop-test .taken) (o .pre)
 
 add-to : tie.Need-add-to Inv-loop μ-loop
 add-to c = let r = range c in search needs
@@ -45,21 +45,20 @@ part-fits-end c = let r = range c in search needs
 loop-again : tie.Need-loop-again Inv-loop μ-loop
 loop-again c =
     let t = c .before .before .before in
-    let o = t .before .before .before .before in
-    elements-more (o .args .form) (o .args .group) (o .args .count) (o .args .cells .now) (o .args .from) (t .before .loop .inv) (t .loop-test .taken)
+    let o = t .before .before .before in
+    elements-more (o .args .form) (o .args .group) (o .args .cells .now) (o .args .from) (t .before .loop .inv) (t .loop-test .taken)
     (sym (c .before .fits2 .ensures) ∙ c .if1 .taken)
 
 returns : tie.Need-returns Inv-loop μ-loop
 returns c =
     let t = c .before .before .before in
-    let o = t .before .before .before .before in
-    elements-bad (o .args .form) (o .args .group) (o .args .count) (o .args .cells .now) (o .args .from) (t .before .loop .inv) (t .loop-test .taken)
-    (sym (c .before .fits2 .ensures) ∙ c .if1 .left)
+    let o = t .before .before .before in
+    elements-bad (o .args .form) (o .args .group) (o .args .cells .now) (o .args .from) (t .before .loop .inv) (t .loop-test .taken) (sym (c .before .fits2 .ensures) ∙ c .if1 .left)
 
 returns-2 : tie.Need-returns-2 Inv-loop μ-loop
 returns-2 c =
-    let o = c .before .before .before .before in
-    elements-end (o .args .form) (o .args .group) (o .args .count) (o .args .cells .now) (o .args .from) (c .before .loop .inv) (c .loop-test .left)
+    let o = c .before .before .before in
+    elements-end (o .args .form) (o .args .group) (o .args .cells .now) (o .args .from) (c .before .loop .inv) (c .loop-test .left)
 
 pub elements-fit-spec : {M : Type 1} → statement M
 elements-fit-spec =
@@ -67,7 +66,6 @@ elements-fit-spec =
     (tie.spec
     Inv-loop
     μ-loop
-    (λ c κs. search needs)
     (λ c κs. search needs)
     loop-holds
     add-to

@@ -8,27 +8,25 @@ use Rattle.writing.proofs.put_lines.Statement.{statement}
 use Rattle.writing.proofs.put_lines.Tie as tie
 
 abbrev Inv-loop : tie.InvT-loop
-Inv-loop form count cells from out₀ at row per-line size left₀ many cell₀ a₀ j₀ out left cell a j =
-    Lines form count cells from at out₀ per-line size many left cell a j out
+Inv-loop form elements cells from out₀ at row per-line size left₀ many cell₀ a₀ j₀ out left cell a j =
+    Lines form elements cells from at out₀ per-line size many left cell a j out
 
 abbrev μ-loop : tie.MeasureT-loop
-μ-loop form count cells from out₀ at row per-line size left₀ many cell₀ a₀ j₀ out left cell a j = many - j
+μ-loop form elements cells from out₀ at row per-line size left₀ many cell₀ a₀ j₀ out left cell a j = many - j
 
 loop-holds : tie.Need-loop-holds Inv-loop μ-loop
 loop-holds c =
-    let at-elements = c .before in
-    let at-row-of = at-elements .before in
+    let at-row-of = c .before in
     let o = at-row-of .before .before in
-    lines-start (o .args .form) (o .args .count) (o .args .cells .now) (o .args .from) (o .args .at) (o .args .out .now)
-    (o .pre .1 .0) (at-row-of .row-of .result) (at-elements .elements .result) (c .rounded-up .result)
-    (at-row-of .row-of .ensures) (at-elements .elements .ensures) (c .rounded-up .ensures) (o .pre .1 .1)
+    lines-start (o .args .form) (o .args .elements) (o .args .cells .now) (o .args .from) (o .args .at) (o .args .out .now)
+    (o .pre .1 .0) (at-row-of .row-of .result) (c .rounded-up .result) (at-row-of .row-of .ensures) (c .rounded-up .ensures) (o .pre .1 .1)
 
 put-fields-requires : tie.Need-put-fields-requires Inv-loop μ-loop
 put-fields-requires c κs =
     let at-lesser = c .before in
-    let at-row-of = at-lesser .before .before .before .before .before in
+    let at-row-of = at-lesser .before .before .before .before in
     let start = at-row-of .before .before in
-    let r = line-requires (start .args .form) (start .args .count) (start .args .cells .now) (start .args .from)
+    let r = line-requires (start .args .form) (start .args .elements) (start .args .cells .now) (start .args .from)
     (start .args .at) (start .args .out .now) (start .pre .1 .0) (c .before .before .before .loop .inv)
     (c .before .before .loop-test .taken) (at-lesser .lesser .result) (at-lesser .lesser .ensures) (start .pre .0) in
     (at-row-of .row-of .ensures, (r .0, (r .1, omega (arith, r .2))))
@@ -38,8 +36,8 @@ put-line-end-requires c κs =
     let at-lesser = c .before .before .before .before .before in
     let in-loop = at-lesser .before in
     let at-loop = in-loop .before in
-    let start = at-loop .before .before .before .before .before in
-    let r = line-requires (start .args .form) (start .args .count) (start .args .cells .now) (start .args .from)
+    let start = at-loop .before .before .before .before in
+    let r = line-requires (start .args .form) (start .args .elements) (start .args .cells .now) (start .args .from)
     (start .args .at) (start .args .out .now) (start .pre .1 .0) (at-loop .loop .inv) (in-loop .loop-test .taken)
     (at-lesser .lesser .result) (at-lesser .lesser .ensures) (start .pre .0) in
     omega (arith, r .2, c .before .before .before .put-fields .ensures .0)
@@ -50,8 +48,8 @@ add-a c =
     let at-lesser = at-put-fields .before .before in
     let in-loop = at-lesser .before in
     let at-loop = in-loop .before in
-    let start = at-loop .before .before .before .before .before in
-    let r = line-requires (start .args .form) (start .args .count) (start .args .cells .now) (start .args .from)
+    let start = at-loop .before .before .before .before in
+    let r = line-requires (start .args .form) (start .args .elements) (start .args .cells .now) (start .args .from)
     (start .args .at) (start .args .out .now) (start .pre .1 .0) (at-loop .loop .inv) (in-loop .loop-test .taken)
     (at-lesser .lesser .result) (at-lesser .lesser .ensures) (start .pre .0) in
     record { fits = omega (arith, r .2, at-put-fields .put-fields .ensures .0, start .good) }
@@ -61,8 +59,8 @@ mul-cell c =
     let at-lesser = c .before .before .before .before .before .before .before .before in
     let in-loop = at-lesser .before in
     let at-loop = in-loop .before in
-    let start = at-loop .before .before .before .before .before in
-    let r = line-requires (start .args .form) (start .args .count) (start .args .cells .now) (start .args .from)
+    let start = at-loop .before .before .before .before in
+    let r = line-requires (start .args .form) (start .args .elements) (start .args .cells .now) (start .args .from)
     (start .args .at) (start .args .out .now) (start .pre .1 .0) (at-loop .loop .inv) (in-loop .loop-test .taken)
     (at-lesser .lesser .result) (at-lesser .lesser .ensures) (start .pre .0) in
     record { fits = rw (at-loop .loop .inv .sized) (omega (arith, r .0)) }
@@ -72,8 +70,8 @@ add-cell c =
     let at-lesser = c .before .before .before .before .before .before .before .before in
     let in-loop = at-lesser .before in
     let at-loop = in-loop .before in
-    let start = at-loop .before .before .before .before .before in
-    let r = line-requires (start .args .form) (start .args .count) (start .args .cells .now) (start .args .from)
+    let start = at-loop .before .before .before .before in
+    let r = line-requires (start .args .form) (start .args .elements) (start .args .cells .now) (start .args .from)
     (start .args .at) (start .args .out .now) (start .pre .1 .0) (at-loop .loop .inv) (in-loop .loop-test .taken)
     (at-lesser .lesser .result) (at-lesser .lesser .ensures) (start .pre .0) in
     record { fits = rw (at-loop .loop .inv .sized) (omega (arith, r .0)) }
@@ -87,8 +85,8 @@ loop-again c =
     let at-lesser = at-put-fields .before .before in
     let in-loop = at-lesser .before in
     let at-loop = in-loop .before in
-    let o = at-loop .before .before .before .before .before in
-    lines-next (o .args .form) (o .args .count) (o .args .cells .now) (o .args .from) (o .args .at) (o .args .out .now)
+    let o = at-loop .before .before .before .before in
+    lines-next (o .args .form) (o .args .elements) (o .args .cells .now) (o .args .from) (o .args .at) (o .args .out .now)
     (o .pre .1 .0) (at-loop .loop .inv) (in-loop .loop-test .taken) (at-lesser .lesser .result)
     (at-lesser .lesser .ensures) _ _ _ (at-put-fields .put-fields .ensures .0) (at-put-fields .put-fields .ensures .1)
     (c .before .before .put-line-end .ensures)
@@ -98,8 +96,8 @@ same-length c = c .before .loop .inv .put .long
 
 returns : tie.Need-returns Inv-loop μ-loop
 returns c =
-    let o = c .before .before .before .before .before .before in
-    lines-end (o .args .form) (o .args .count) (o .args .cells .now) (o .args .from) (o .args .at) (o .args .out .now)
+    let o = c .before .before .before .before .before in
+    lines-end (o .args .form) (o .args .elements) (o .args .cells .now) (o .args .from) (o .args .at) (o .args .out .now)
     (o .pre .1 .0) (c .before .loop .inv) (c .loop-test .left)
 
 pub put-lines-spec : {M : Type 1} → statement M
@@ -108,7 +106,6 @@ put-lines-spec =
     (tie.spec
     Inv-loop
     μ-loop
-    (λ c κs. search needs)
     (λ c κs. search needs)
     (λ c κs. search needs)
     loop-holds

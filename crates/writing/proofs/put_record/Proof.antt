@@ -9,23 +9,23 @@ use Rattle.writing.proofs.put_record.Tie as tie
 put-index-requires : tie.Need-put-index-requires
 put-index-requires c κs =
     let o = c .before .before .before in (
-      all-there (o .args .counts .now) (o .args .cells .now) (o .args .out .now) (o .pre .0),
-      index-room (o .args .counts .now) (o .args .cells .now) (o .args .out .now) (o .pre .0)
+      all-there (o .args .rules) (o .args .counts .now) (o .args .cells .now) (o .args .out .now) (o .pre .0),
+      index-room (o .args .rules) (o .args .counts .now) (o .args .cells .now) (o .args .out .now) (o .pre .0)
           (o .pre .1 .0) (o .pre .1 .1),
     )
 
 put-groups-requires : tie.Need-put-groups-requires
 put-groups-requires c κs =
     let o = c .before .before .before .before .before .before .before in (
-      all-needed (o .args .counts .now) (o .args .cells .now) (o .args .out .now)
+      all-needed (o .args .rules) (o .args .counts .now) (o .args .cells .now) (o .args .out .now)
           (o .pre .0),
-      (o .pre .1 .0, omega (arith, groups-room (o .args .counts .now) (o .args .cells .now) (o .args .out .now) (o .pre .0) (o .pre .1 .0) (o .pre .1 .1))),
+      (o .pre .1 .0, omega (arith, groups-room (o .args .rules) (o .args .counts .now) (o .args .cells .now) (o .args .out .now) (o .pre .0) (o .pre .1 .0) (o .pre .1 .1))),
     )
 
 returns : tie.Need-returns
 returns c =
     let o = c .before .before .before .before .before .before .before .before .before .before in
-    index-groups (o .args .counts .now) (o .args .cells .now) (o .args .out .now) (o .pre .0) (o .pre .1 .0) (o .pre .1 .1) _ _
+    index-groups (o .args .rules) (o .args .counts .now) (o .args .cells .now) (o .args .out .now) (o .pre .0) (o .pre .1 .0) (o .pre .1 .1) _ _
     (c .before .before .before .before .before .before .put-index .ensures) (c .before .before .put-groups .ensures)
 
 pub put-record-spec : {M : Type 1} → statement M

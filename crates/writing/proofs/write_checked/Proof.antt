@@ -9,7 +9,7 @@ use Rattle.writing.proofs.write_checked.Tie as tie
 cells-fit-requires : tie.Need-cells-fit-requires
 cells-fit-requires c κs =
     let o = c .before .before in
-    all-needed (o .args .counts .now) (o .args .cells .now) (o .args .out .now) (o .pre)
+    all-needed (o .args .rules) (o .args .counts .now) (o .args .cells .now) (o .args .out .now) (o .pre)
 
 date-of-requires : tie.Need-date-of-requires
 date-of-requires c κs = (c .before .before .before .before .before .pre, sym (c .before .before .cells-fit .ensures) ∙ c .enum-told .given .1)
@@ -24,19 +24,19 @@ write-right-requires c κs = (
 returns : tie.Need-returns
 returns c =
     let o = c .before .before .before .before .before .before in
-    fit-bad (o .args .counts .now) (o .args .cells .now) (o .args .out .now) (sym (c .before .before .before .cells-fit .ensures) ∙ c .before .g .given .1)
+    fit-bad (o .args .rules) (o .args .counts .now) (o .args .cells .now) (o .args .out .now) (sym (c .before .before .before .cells-fit .ensures) ∙ c .before .g .given .1)
 
 returns-2 : tie.Need-returns-2
 returns-2 c =
     let o = c .before .before .before .before .before .before .before .before .before in
-    date-bad (o .args .counts .now) (o .args .cells .now) (o .args .out .now)
+    date-bad (o .args .rules) (o .args .counts .now) (o .args .cells .now) (o .args .out .now)
     (sym (c .before .before .before .before .before .before .cells-fit .ensures) ∙ c .before .before .before .before .enum-told .given .1)
     (sym (c .before .before .before .date-of .ensures) ∙ c .before .position .given .1)
 
 returns-3 : tie.Need-returns-3
 returns-3 c =
     let o = c .before .before .before .before .before .before .before .before .before .before .before .before in
-    date-right (o .args .counts .now) (o .args .cells .now) (o .args .out .now)
+    date-right (o .args .rules) (o .args .counts .now) (o .args .cells .now) (o .args .out .now)
     (sym (c .before .before .before .before .before .before .before .before .before .cells-fit .ensures)
     ∙ c .before .before .before .before .before .before .before .enum-told .given .1)
     (sym (c .before .before .before .before .before .before .date-of .ensures) ∙ c .before .before .before .before .enum-told2 .given .1) (c .before .before .write-right .ensures)

@@ -12,13 +12,13 @@ write-checked-requires c κs = sym (c .before .before .before .check .ensures) �
 returns : tie.Need-returns
 returns c =
     let o = c .before .before .before .before .before .before .before .before .before in
-    checked-by (o .args .counts .now) (o .args .cells .now) (o .args .out .now)
+    checked-by (o .args .rules) (o .args .counts .now) (o .args .cells .now) (o .args .out .now)
     (sym (c .before .before .before .before .before .before .check .ensures) ∙ c .before .before .before .before .enum-told .given .1) (c .before .before .write-checked .ensures)
 
 returns-2 : tie.Need-returns-2
 returns-2 c =
     let o = c .before .before .before .before .before .before in
-    checked-by (o .args .counts .now) (o .args .cells .now) (o .args .out .now) (sym (c .before .before .before .check .ensures) ∙ c .before .why .given .1) (refl, refl)
+    checked-by (o .args .rules) (o .args .counts .now) (o .args .cells .now) (o .args .out .now) (sym (c .before .before .before .check .ensures) ∙ c .before .why .given .1) (refl, refl)
 
 pub write-record-spec : {M : Type 1} → statement M
 write-record-spec =

@@ -1,0 +1,20 @@
+-- R12: under rules that count alike the lines of each group stand at the same places.
+-- Assumes nothing.
+use mathlib.Core.Path.{_≡_, ap, ap₂}
+use mathlib.Core.List.{List}
+use Prim.Native.Nat.{ℕ, suc, _+_}
+use lib.ListN.{drop}
+use Rattle.rules.specs.declared.Rules.{Rules}
+use Rattle.base.specs.Part.{part}
+use Rattle.line.specs.Lines.{reach}
+use Rattle.count.proofs.SameCounting.{lines-before-same}
+use Rattle.place.specs.Parts.{start, groupPart}
+
+module _ (σ ρ : Rules) (alike : σ .counting ≡ ρ .counting) (s : List ℕ) (at : ℕ) (ns : List ℕ) where
+  pub start-counted : (g : ℕ) → start σ s at ns g ≡ start ρ s at ns g
+  unfolding start
+  start-counted g = ap (λ k. at + reach (drop at s) k) (lines-before-same σ ρ alike ns g)
+
+  pub part-counted : (g : ℕ) → groupPart σ s at ns g ≡ groupPart ρ s at ns g
+  unfolding groupPart
+  part-counted g = ap₂ (λ a b. part a b s) (start-counted g) (start-counted (suc g))
