@@ -128,7 +128,8 @@ struct seambeacon_part {
 /* Asked: which record stands at a place of a text.
    Answered: 0 or 7 with the next place, from which a walk goes on; counts has the record's 80
    counts, group g's as counts[g - 1].
-   Another refusal (1 to 6) leaves 80 zeros in counts. */
+   Another refusal (1 to 6) leaves 80 zeros in counts. When bytes are added at the text's end, 1,
+   2 and 3 may become other replies; no other answer about this place does (R256, R258). */
 enum seambeacon_reply seambeacon_place(uint32_t rules, const uint8_t *text, size_t text_length,
                                        size_t at, uint16_t counts[80],
                                        struct seambeacon_beside *beside);

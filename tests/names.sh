@@ -20,7 +20,7 @@ name=names
 
 documents='docs/PROMISES.md docs/TRACE.md'
 # the records whose fields PROMISES.md names, each of them
-demands='crates/sao/specs/Demand*.antt crates/sao/specs/Ends.antt crates/sao/specs/Entries.antt crates/sao/specs/Numbers.antt crates/group/specs/Damage.antt crates/rewriting/specs/Due.antt'
+demands='crates/sao/specs/Demand*.antt crates/sao/specs/Ends.antt crates/sao/specs/Entries.antt crates/sao/specs/Growth.antt crates/sao/specs/Numbers.antt crates/group/specs/Damage.antt crates/group/specs/Answers.antt crates/group/specs/Growth.antt crates/place/specs/Growth.antt crates/rewriting/specs/Due.antt'
 
 # A line for each thing that can be named, in a folder laid out as the project: `path P`, `crate C`, `edit C/LABEL`, and `law C FILE OWNER NAME`
 # or `code C FILE OWNER NAME OPEN` for what is declared, OWNER the record, data type, enum, struct or impl that it belongs to, else -.

@@ -2,8 +2,8 @@
 # What README.md shows. Its rows of the example day, and those about the rules, are what list, dump and rewrite print. The C program is cut out
 # of it, compiled, linked and run, and so is the Rust program where cargo is at hand; both must print foF2 of each hour of examples/day.sao, as
 # it stands in the text's columns, but for the one hour where it was not scaled (R291). The scene of edit is played, and its lines about the
-# journal in Rust are those that the wrapper's documentation runs. On every machine the kit's own compiler, linker and loader are used; on x86-64
-# the commands of README.md too. Another file than README.md may be named.
+# journal in Rust are those that the wrapper's documentation runs. What it shows of follow stands in that program, and is printed. On every
+# machine the kit's own compiler, linker and loader are used; on x86-64 the commands of README.md too. Another file than README.md may be named.
 set -u
 home=$(cd "$(dirname "$0")/.." && pwd -P) || exit 2
 case ${1-} in
@@ -126,6 +126,35 @@ else
     echo "tests/readme.sh: skipped: the command for edit, which needs x86-64 and cc (this is $machine)"
 fi
 
+# what is shown of follow: lines of the program that stand there one behind the other, and lines that it prints of the day
+within() { # PART WHOLE
+    case $(cat "$2") in
+    *"$(cat "$1")"*) [ -s "$1" ] ;;
+    *) return 1 ;;
+    esac
+}
+
+block c 2 >"$work/walk.c"
+counted 'the walk of follow is that of examples' within "$work/walk.c" examples/follow.c
+counted 'with the library in it' grep -q 'seambeacon_place' "$work/walk.c"
+grep -E '^record [0-9]+: |^waiting at ' "$readme" >"$work/rows"
+counted 'lines of follow are shown' [ "$(wc -l <"$work/rows")" -ge 4 ]
+counted 'follow is compiled by the kit' compiled examples/follow.c "$work/follow.o" -std=c99
+counted 'and linked' linked "$work/follow" "$work/follow.o"
+followed() { # CASE: the lines that are shown are in "$work/got"
+    counted "$1: what is shown is told" none "$(grep -Fxv -f "$work/got" "$work/rows")"
+    counted "$1: with a last line behind 24" [ "$(wc -l <"$work/got")" -eq 25 ]
+}
+started "$work/follow" 1000 <examples/day.sao >"$work/got"
+followed 'the day, followed'
+counted 'one command for follow' [ "$(commands 'cc .*follow' | grep -c .)" -eq 1 ]
+if [ "$machine" = x86_64 ] && command -v cc >/dev/null; then
+    (cd "$work/project" && sh -c "$(commands 'cc .*follow')") >"$work/got"
+    followed 'the day, followed by the command'
+else
+    echo "tests/readme.sh: skipped: the command for follow, which needs x86-64 and cc (this is $machine)"
+fi
+
 block rust 1 >"$work/fof2.rs"
 counted 'the Rust program is that of the wrapper' cmp -s "$work/fof2.rs" bindings/rust/examples/fof2.rs
 counted 'with the library in it' grep -q 'seambeacon::' "$work/fof2.rs"
@@ -143,4 +172,4 @@ if [ "$machine" = x86_64 ] && command -v cargo >/dev/null; then
 else
     echo "tests/readme.sh: skipped: the command for Rust, which needs x86-64 and cargo (this is $machine)"
 fi
-finished 30
+finished 38

@@ -278,6 +278,7 @@ impl raw::Reply {
 /// # Errors
 ///
 /// 1 to 6: no record, and a walk stops here. 7 is an answer, [`Placing::Broken`], since a walk goes on behind such a record.
+/// When bytes are added at the text's end, 1, 2 and 3 may become other replies; no other answer about this place does.
 pub fn place(rules: Rules, text: &[u8], at: usize) -> Result<Placing, Refusal> {
     let mut counts = [0; 80];
     let reply = raw::place(rules.flags(), text, at, &mut counts);

@@ -1,5 +1,6 @@
--- Parts and overwritten places: a part is what stands in the middle, and two that meet are one; two writes that meet are one; a part that was lent comes back as `over`;
--- places overwritten from the last to the first, and by a loop that stores one element behind the other.
+-- Parts and overwritten places: a part is what stands in the middle, whatever stands behind the list, and two that meet are one; two writes that
+-- meet are one; a part that was lent comes back as `over`; places overwritten from the last to the first, and by a loop that stores one element
+-- behind the other.
 -- Assumes nothing.
 use mathlib.Core.Path.{_≡_, refl, sym, ap, _∙_}
 use mathlib.Core.List.{List, [], _∷_, _++_, append-assoc, append-nil}
@@ -8,7 +9,7 @@ use native.Mathlib.Nat.{add-assoc, zero-add, add-zero}
 use native.Mathlib.Numerals.{add-one}
 use native.Mathlib.Omega.{arith}
 use lib.ListN.{length, take, drop, set, take-append-drop, length-append, length-take, length-drop, drop-of-length-le, getD}
-use lib.Seq.{take-at, drop-at, drop-drop, length-take-le, set-split, take-append-le, take-take, take-suc, take-add}
+use lib.Seq.{take-at, drop-at, drop-drop, length-take-le, set-split, take-append-le, drop-append-le, take-take, take-suc, take-add}
 use Rattle.base.specs.Part.{part, over}
 
 pub part-length : {A : Type 0} (xs : List A) (at w : ℕ) → at + w ≤ length xs → length (part at (at + w) xs) ≡ w
@@ -68,6 +69,11 @@ part-append s a b c h k =
     let n : b - a + (c - b) ≡ c - a = omega arith in
     let e : drop b s ≡ drop (b - a) r = ap (λ k. drop k s) (sym m) ∙ sym (drop-drop (b - a) a s) in
     rw e (sym (take-add (b - a) (c - b) r) ∙ ap (λ k. take k r) n)
+
+-- a part of a list, whatever stands behind that
+pub part-within : {A : Type 0} (s b : List A) (a e : ℕ) → a ≤ e → e ≤ length s → part a e (s ++ b) ≡ part a e s
+part-within s b a e h l =
+    rw (drop-append-le a s b (omega arith)) (take-append-le (e - a) (drop a s) b (omega (arith, length-drop a s)))
 
 -- ys is xs with t from a place of it on
 pub record Put {A : Type 0} (xs : List A) (at : ℕ) (t ys : List A) : Type 0 where

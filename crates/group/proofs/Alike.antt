@@ -22,8 +22,8 @@ use Rattle.reply.specs.declared.Checked.the-variants as C
 use Rattle.group.specs.Characteristics.{characteristicAt}
 use Rattle.group.specs.Held.{foundIn, foundAt, partAt}
 use Rattle.group.specs.Text.{readAt}
-use Rattle.group.proofs.Confined.{read-refused, characteristic-same}
 use Rattle.group.proofs.Holding.{given-part, missing-part}
+use Rattle.group.proofs.SamePlace.{read-refused, characteristic-same}
 use Rattle.group.proofs.Texts.{read-located}
 
 module _ (ρ : Rules) (s : List ℕ) (p : ℕ) (t : List ℕ) (q : ℕ) (h : AlikeFrom ρ s p t q) where

@@ -4,9 +4,13 @@ pub mod Texts
 pub mod Promises
 pub mod Rooms
 pub mod Reported
+pub mod SamePlace
 pub mod Confined
 pub mod Damage
 pub mod DamageInstance
+pub mod StruckS
+pub mod Growth
+pub mod GrownS
 pub mod Due
 pub mod Numbered
 pub mod Alike

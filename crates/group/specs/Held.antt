@@ -33,9 +33,13 @@ module _ (ρ : Rules) where
   unfoldable pub countsHeld : List ℕ → ℕ → ℕ → List ℕ
   countsHeld s at g = countsFound (foundAt s at g) (countsAt ρ s at)
 
-  -- R280, R283: where the lines of group g begin, or the text's start
+  -- R27: where the lines of group g of the record at a place begin; they end where those of the next group begin
+  abbrev pub linesStart : List ℕ → ℕ → ℕ → ℕ
+  linesStart s at g = start ρ s at (countsAt ρ s at) g
+
+  -- R280, R283: the same where they can be given, or the text's start
   abbrev pub startBy : List ℕ → ℕ → ℕ → Checked → ℕ
-  startBy s at g C.Right = start ρ s at (countsAt ρ s at) g
+  startBy s at g C.Right = linesStart s at g
   startBy s at g (C.Refused r) = 0
 
   -- where the part begins and where it ends, and the part

@@ -11,9 +11,10 @@ use native.Mathlib.Nat.{add-suc, suc-add, add-zero}
 use native.Mathlib.Numerals.{add-one}
 use lib.Dec.{leb}
 use lib.ListN.{length, take, drop, getD, length-drop, take-append-drop, drop-of-length-le}
-use lib.Seq.{drop-drop, drop-append-add, drop-append-le, drop-append-seam, take-append-le}
+use lib.Seq.{drop-drop, drop-append-add, drop-append-le, drop-append-seam}
 use borrow.Author.Tests.{le-leb, lt-leb, leb-true, leb-false}
 use Rattle.base.specs.Part.{part}
+use Rattle.base.proofs.Part.{part-within}
 use Rattle.base.proofs.Mapped.{map-length}
 use Rattle.base.proofs.Order.{le-or-lt}
 use Rattle.line.specs.Lines.{isFeed, feeds, reach, lines, behind, Whole}
@@ -171,8 +172,7 @@ pub behindAt-within : (s b : List ℕ) (at k n : ℕ) → n ≤ length s → beh
 behindAt-within s b at k n h e =
     let p = at-is (s ++ b) at k n e in
     let l : at ≤ n = omega (arith, p .place) in
-    let c : part at n (s ++ b) ≡ part at n s = rw (drop-append-le at s b (omega arith)) (take-append-le (n - at) (drop at s) b (omega (arith, length-drop at s))) in
-    behindAt-local (s ++ b) s at k n (ap (map isFeed) c) e
+    behindAt-local (s ++ b) s at k n (ap (map isFeed) (part-within s b at n l h)) e
 
 -- ---- only the places of line feeds matter
 

@@ -18,3 +18,5 @@ pub mod TwiceEnds
 pub mod Indexed
 pub mod Stopped
 pub mod SameCounting
+pub mod Growth
+pub mod GrownS

@@ -89,7 +89,7 @@ module _ (ρ : Rules) (at : ℕ) (p : Refusal) (b : ByIndex p) where
     pub two : 2 ≤ feeds (drop at s)
     pub by : locateIndex ρ (drop at s) at (readIndex ρ (drop at s)) ≡ refused p
 
-  from-index : (s : List ℕ) → locate ρ s at ≡ refused p → FromIndex s
+  pub from-index : (s : List ℕ) → locate ρ s at ≡ refused p → FromIndex s
   unfolding locate
   from-index s e = by (ltb (length s) at) (eqb (length s) at) (leb 2 (feeds (drop at s))) refl e
     where

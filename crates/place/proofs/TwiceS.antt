@@ -1,5 +1,5 @@
--- R382: S twice, by computation: where its records are, where the lines of group 4 are and what they hold; and its walk, which is two
--- records.
+-- R382: S twice, by computation: where its records are, where the lines of groups 1 and 4 are and what those of 4 hold; and its walk, which is
+-- two records.
 -- Assumes nothing.
 use mathlib.Core.Path.{_≡_, refl}
 use Prim.Native.Nat.{ℕ, zero, suc, _<_}
@@ -37,6 +37,12 @@ pub record Twice (ρ : Rules) : Type 0 where
   pub second-four : groupPart ρ twiceS 305 countsS 4 ≡ quotedLine "   7.250"
   -- its point
   pub point : getD twiceS 299 0 ≡ 46
+  -- where the second record has it
+  pub second-from : start ρ twiceS 305 countsS 4 ≡ 600
+  pub second-to : start ρ twiceS 305 countsS 5 ≡ 610
+  -- and the first one the lines of group 1
+  pub one-from : start ρ twiceS 0 countsS 1 ≡ 244
+  pub one-to : start ρ twiceS 0 countsS 2 ≡ 274
 
 pub twice : (ρ : Rules) → Twice ρ
 unfolding recordS twiceS countsS Alike.endedBy locate readIndex readIndexLine readEntries Entry.entryOf start groupPart Lines.feeds Lines.reach Contents.contentOf
@@ -52,6 +58,10 @@ twice ρ = record {
   first-four = refl;
   second-four = refl;
   point = refl;
+  second-from = refl;
+  second-to = refl;
+  one-from = refl;
+  one-to = refl;
 }
 
 -- ---- its walk

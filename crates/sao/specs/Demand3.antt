@@ -3,13 +3,18 @@
 -- record, and line feeds are where they were. D3.3, D3.4: the walk has the same number of records, each where it was and with its counts. D3.5:
 -- all other groups, in all records, give the reply that they gave, and put the same cells into the same table. D3.6: that group is read or
 -- refused as D2 says, and nothing but its lines, the counts of its record and the table's length decides this (R269). D3.7: what else follows.
+-- R270: the same holds of any set of groups in any set of records at once, of which the single group is one.
 --
 -- group's specs/Damage.antt has it sentence by sentence: Damaged is D3.1 and D3.2, Confined is D3.3 to D3.7.
 use mathlib.Core.List.{List}
 use Prim.Native.Nat.{ℕ}
 use Rattle.rules.specs.declared.Rules.{Rules}
-use Rattle.group.specs.Damage.{Damaged, Confined}
+use Rattle.group.specs.Damage.{OneGroup, Damaged, Confined}
 
--- t is a text, u the same with bytes of group g of its record k replaced
+-- R270: t is a text, u the same with bytes of these groups exchanged; `among k g` says that group g of record k is one of them
+abbrev pub AnyDamage : Rules → Type 1
+AnyDamage ρ = (t u : List ℕ) (among : ℕ → ℕ → Type 0) → Damaged ρ t u among → Confined ρ t u among
+
+-- D3: group g of record k alone
 abbrev pub Demand3 : Rules → Type 0
-Demand3 ρ = (t u : List ℕ) (k g : ℕ) → Damaged ρ t u k g → Confined ρ t u k g
+Demand3 ρ = (t u : List ℕ) (k g : ℕ) → Damaged ρ t u (OneGroup k g) → Confined ρ t u (OneGroup k g)

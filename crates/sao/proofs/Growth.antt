@@ -1,0 +1,9 @@
+-- R256 to R258: what growth keeps (specs/Growth.antt).
+-- Assumes nothing.
+use Rattle.rules.specs.declared.Rules.{Rules}
+use Rattle.place.proofs.Growth.{growth-keeps}
+use Rattle.group.proofs.Growth.{answers-stay}
+use Rattle.sao.specs.Growth.{Growth}
+
+pub growth : (ρ : Rules) → Growth ρ
+growth ρ = record { placing = growth-keeps ρ; groups = answers-stay ρ }
