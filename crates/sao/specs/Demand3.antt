@@ -3,7 +3,7 @@
 -- record, and line feeds are where they were. D3.3, D3.4: the walk has the same number of records, each where it was and with its counts. D3.5:
 -- all other groups, in all records, give the reply that they gave, and put the same cells into the same table. D3.6: that group is read or
 -- refused as D2 says, and nothing but its lines, the counts of its record and the table's length decides this (R269). D3.7: what else follows.
--- R270: the same holds of any set of groups in any set of records at once, of which the single group is one.
+-- R270: the same holds where the lines of several groups, of one record or of more, are touched together; the single group is one such set.
 --
 -- group's specs/Damage.antt has it sentence by sentence: Damaged is D3.1 and D3.2, Confined is D3.3 to D3.7.
 use mathlib.Core.List.{List}
