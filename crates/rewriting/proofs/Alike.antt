@@ -1,7 +1,7 @@
 -- R9: rewriting in texts whose lines have the same contents: the same canonical text, whatever line ends were read, and the same answer but for
 -- the next place. So the program prints the same for whole texts that are alike.
 -- Assumes nothing.
-use mathlib.Core.Path.{_≡_, refl, _∙_, ap, ap₂, fun-ext}
+use mathlib.Core.Path.{_≡_, refl, _∙_, ap₂}
 use mathlib.Core.Bool.{Bool, true, false, cond}
 use mathlib.Core.List.{List, _++_}
 use Prim.Native.Nat.{ℕ, zero, suc, _+_, _≤_}
@@ -9,38 +9,35 @@ use native.Mathlib.Omega.{arith}
 use borrow.Author.Tests.{le-leb}
 use lib.ListN.{length}
 use Rattle.rules.specs.declared.Rules.{Rules}
-use Rattle.base.specs.Every.{upFrom}
 use Rattle.base.specs.Pieces.{done, bad}
 use Rattle.line.specs.Alike.{Alike, AlikeFrom}
 use Rattle.line.proofs.Alike.{alike-start}
-use Rattle.count.specs.Tally.{cellsIn}
 use Rattle.place.specs.declared.Placing.{Placing}
 use Rattle.place.specs.Alike.{SamePlacing, both-placed, both-broken, both-refused}
 use Rattle.place.specs.Numbered.{asChecked, placingReply}
 use Rattle.place.specs.Placing.{placingOf, countsAt}
 use Rattle.place.proofs.Alike.{alike-placing, alike-counts}
 use Rattle.reply.specs.declared.Refusal.the-variants.{NoRoom, BrokenRule}
-use Rattle.group.specs.Text.{readAt}
 use Rattle.group.proofs.Alike.{alike-read}
-use Rattle.reading.specs.Read.{Cells}
-use Rattle.writing.specs.Text.{recordText, recordBytes}
+use Rattle.writing.specs.Text.{recordBytes}
 use Rattle.rewriting.specs.declared.Rewriting.{Rewriting}
 use Rattle.rewriting.specs.declared.Rewriting.the-variants.{Refused}
 use Rattle.rewriting.specs.Alike.{SameRewriting, both-rewritten, both-stopped, both-unread}
 use Rattle.rewriting.specs.Printed.{programRewriting, textThen, rewrittenFrom, rewritten, printed}
-use Rattle.rewriting.specs.Record.{Turn, groupRead, cellsInTurn, allInTurn, hasRoom, rewrittenAs, rewritingPlaced, unlessRefused, rewritingOf, textAt}
+use Rattle.rewriting.specs.Record.{Turn, groupRead, allInTurn, hasRoom, rewrittenAs, rewritingPlaced, unlessRefused, rewritingOf, textAt}
 use Rattle.rewriting.proofs.Printing.{rewritten-enough}
+use Rattle.rewriting.proofs.Rests.{same-reads, same-text}
 
 module _ (ρ : Rules) (s : List ℕ) (p : ℕ) (t : List ℕ) (q : ℕ) (h : AlikeFrom ρ s p t q) where
   same-counts : countsAt ρ s p ≡ countsAt ρ t q
   same-counts = alike-counts ρ s p t q h
 
-  same-reads : groupRead ρ s p ≡ groupRead ρ t q
-  same-reads = fun-ext (λ g. alike-read ρ s p t q h g (cellsIn ρ (countsAt ρ s p) g) ∙ ap (λ ns. readAt ρ t q g (cellsIn ρ ns g)) same-counts)
+  alike-reads : groupRead ρ s p ≡ groupRead ρ t q
+  alike-reads = same-reads ρ s p t q same-counts (alike-read ρ s p t q h)
 
   -- the canonical text
   pub alike-text : textAt ρ s p ≡ textAt ρ t q
-  alike-text = ap₂ (λ ns (read : ℕ → Cells). recordText ρ ns (cellsInTurn read (upFrom 1 60))) same-counts same-reads
+  alike-text = same-text ρ s p t q same-counts (alike-read ρ s p t q h)
 
   module _ (cells room : ℕ) where
     turned : (ns : List ℕ) (n m : ℕ) (c : Bool) (u : Turn) → AlikeFrom ρ s n t m
@@ -57,7 +54,7 @@ module _ (ρ : Rules) (s : List ℕ) (p : ℕ) (t : List ℕ) (q : ℕ) (h : Ali
     alike-rewriting = by (placingOf ρ s p) (placingOf ρ t q) (alike-placing ρ s p t q h)
       where
         by : (a b : Placing) → SamePlacing ρ s t a b → SameRewriting ρ s t (placedSo s p a) (placedSo t q b)
-        by a b (both-placed n m f) = rw (same-counts, same-reads) (turned (countsAt ρ t q) n m (hasRoom ρ (countsAt ρ t q) cells room) (allInTurn ρ t q) f)
+        by a b (both-placed n m f) = rw (same-counts, alike-reads) (turned (countsAt ρ t q) n m (hasRoom ρ (countsAt ρ t q) cells room) (allInTurn ρ t q) f)
         by a b (both-broken g n m f) = both-stopped (BrokenRule g)
         by a b (both-refused r) = both-stopped r
 

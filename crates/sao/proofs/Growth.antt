@@ -3,7 +3,8 @@
 use Rattle.rules.specs.declared.Rules.{Rules}
 use Rattle.place.proofs.Growth.{growth-keeps}
 use Rattle.group.proofs.Growth.{answers-stay}
+use Rattle.rewriting.proofs.Growth.{rewriting-stays}
 use Rattle.sao.specs.Growth.{Growth}
 
 pub growth : (ρ : Rules) → Growth ρ
-growth ρ = record { placing = growth-keeps ρ; groups = answers-stay ρ }
+growth ρ = record { placing = growth-keeps ρ; groups = answers-stay ρ; rewriting = rewriting-stays ρ }

@@ -6,9 +6,12 @@ use Prim.Native.Nat.{ℕ}
 use Rattle.rules.specs.declared.Rules.{Rules}
 use Rattle.place.specs.Growth.{GrowthKeeps}
 use Rattle.group.specs.Growth.{GroupsStay}
+use Rattle.rewriting.specs.Growth.{RewritingStays}
 
 pub record Growth (ρ : Rules) : Type 0 where
   -- at each place, and along the walk
   pub placing : (s b : List ℕ) → GrowthKeeps ρ s b
   -- groups, their parts and characteristics, wherever placing's answer stays
   pub groups : (s b : List ℕ) → GroupsStay ρ s b
+  -- and rewriting, there: its answer, and what it leaves in the output and in the table
+  pub rewriting : (s b : List ℕ) → RewritingStays ρ s b
