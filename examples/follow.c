@@ -5,8 +5,8 @@
    and the library is asked about one place only, where the walk stands: what was told before can't become anything else (R256, R257).
 
    The last line says where the walk stands: waiting there, if the input ended before the next record was whole, or stopped for good, if the next
-   record's index can't be one whatever comes behind it. It ends with 0 where it waits, with 1 where it has stopped for good or the input can't be
-   read or kept, with 2 if it was started wrongly. */
+   record's index can't be one whatever comes behind it. It ends with 0 where it waits, with 1 where it has stopped for good; without such a line
+   with 1 where the input can't be read or kept, or the output can't be written, and with 2 if it was started wrongly. */
 #define _XOPEN_SOURCE 700
 #include <stdio.h>
 #include <stdlib.h>
@@ -66,6 +66,13 @@ static size_t read_most(const char *word)
     return *word == '\0' && number <= 1000000 ? number : 0;
 }
 
+/* What the system refused, on standard error. */
+static int failed(void)
+{
+    perror("follow");
+    return 1;
+}
+
 int main(int count, char **words)
 {
     size_t most = count == 2 ? read_most(words[1]) : 0;
@@ -77,11 +84,12 @@ int main(int count, char **words)
     }
     while (may_change(reply) && (taken = take_piece(most)) > 0) {
         reply = walk_on();
-        fflush(stdout);
+        if (fflush(stdout) != 0)
+            return failed();
     }
     if (taken < 0)
-        perror("follow");
+        return failed();
     printf("%s at %zu, reply %d, after %zu bytes\n", may_change(reply) ? "waiting" : "stopped for good", at, (int)reply, length);
     free(text);
-    return taken < 0 || !may_change(reply);
+    return fflush(stdout) != 0 ? failed() : !may_change(reply);
 }

@@ -57,7 +57,8 @@ counted 'the day has 24 records' [ "$(grep -vc '^end' "$work/day.list")" -eq 24 
 told 'the day' "$day" "$work/day.list" 1 7 1000 65536
 told 'the damaged day' examples/damaged.sao "$work/day.list" 1 7 1000
 
-# cut one byte before and one behind each record's end, and in the next record's index: told is what is whole
+# cut one byte before the end of the first record and of the last two, one byte behind that of the last but one, and in the last one's index: told
+# is what is whole
 for cut in 56139 54063 54065 54300 2019; do
     head -c "$cut" "$day" >"$work/cut"
     ./run list <"$work/cut" >"$work/cut.list"
@@ -74,7 +75,7 @@ told 'cut between two records' "$work/cut" "$work/cut.list" 1 7 1000
 echo 'end 0 0 1 0' >"$work/none.list"
 told 'nothing at all' "$work/none" "$work/none.list" 1 1000
 
-# ---- while it is still open: the record is told though nothing comes behind it, and the rest when it comes
+# ---- while it is still open: a record is told though nothing more comes, behind a part of the next and at its own end
 
 lines() { # NUMBER: so many lines have been told, within a minute
     waited=0
@@ -86,12 +87,13 @@ lines() { # NUMBER: so many lines have been told, within a minute
 }
 
 mkfifo "$work/pipe"
+: >"$work/told"
 (becomes "$work/follow" 4096 <"$work/pipe" >"$work/told" 2>&1) &
 exec 3>"$work/pipe"
-head -c 2020 "$day" >&3
-counted 'the first record, as soon as it is whole' lines 1
-tail -c +2021 "$day" | head -c 1992 >&3
-counted 'the second' lines 2
+head -c 3000 "$day" >&3
+counted 'the first record, while the second is not whole' lines 1
+tail -c +3001 "$day" | head -c 1012 >&3
+counted 'the second, as soon as it is' lines 2
 exec 3>&-
 wait
 cut -d , -f 1,2 "$work/told" >"$work/got"
@@ -100,7 +102,7 @@ compared 'and nothing twice' "$work/want"
 
 # ---- 7 is a record; 4, 5 and 6 end the walk for good, once two line feeds have come behind the place where it stands
 
-swapped() { # PATTERN REPLACEMENT: the first line of S that has the pattern, with the replacement
+swapped() { # PATTERN REPLACEMENT: S, with the replacement in each line that has the pattern
     sed "s/$1/$2/" examples/s.sao
 }
 
@@ -133,6 +135,23 @@ stopped 'a count for group 79' 6 1 7 100
 { swapped '^  4' '  3'; cat examples/s.sao; } >"$work/text"
 printf '%s\n' '1 0 305 7 1 3 5' '2 305 610 0 0 3 5' 'end 2 610 1 0' >"$work/text.list"
 told 'a broken rule on counts' "$work/text" "$work/text.list" 1 7 1000
+
+# ---- what the system refuses
+
+follow . 7
+counted 'a folder: exit status 1' [ $? -eq 1 ]
+counted 'a folder: nothing is told' [ ! -s "$work/got" ]
+counted 'a folder: why' grep -q '^follow: ' "$work/said"
+if [ -c /dev/full ]; then
+    for cut in 0 2019 56140; do
+        head -c "$cut" "$day" >"$work/cut"
+        started "$work/follow" 1000 <"$work/cut" >/dev/full 2>"$work/said"
+        counted "$cut bytes, and no room for what is told: exit status 1" [ $? -eq 1 ]
+        counted "$cut bytes, and no room for what is told: why" grep -q '^follow: ' "$work/said"
+    done
+else
+    echo 'tests/grow.sh: skipped: an output that is full, for want of /dev/full'
+fi
 
 # ---- words
 

@@ -137,6 +137,9 @@ within() { # PART WHOLE
 block c 2 >"$work/walk.c"
 counted 'the walk of follow is that of examples' within "$work/walk.c" examples/follow.c
 counted 'with the library in it' grep -q 'seambeacon_place' "$work/walk.c"
+block c 3 >"$work/loop.c"
+counted 'and so is its loop' within "$work/loop.c" examples/follow.c
+counted 'which walks on' grep -q 'walk_on()' "$work/loop.c"
 grep -E '^record [0-9]+: |^waiting at ' "$readme" >"$work/rows"
 counted 'lines of follow are shown' [ "$(wc -l <"$work/rows")" -ge 4 ]
 counted 'follow is compiled by the kit' compiled examples/follow.c "$work/follow.o" -std=c99

@@ -16,7 +16,7 @@ pub record SameReading (a b : Cells) (table : List ℤ) : Type 0 where
   pub reply : readingOf a ≡ readingOf b
   pub cells : tableBy a table ≡ tableBy b table
 
--- all that is asked about a place: of s under ρ and of t under σ
+-- all that reading is asked about a place: of s under ρ and of t under σ
 pub record AnswersAgree (ρ : Rules) (s : List ℕ) (σ : Rules) (t : List ℕ) (at : ℕ) : Type 0 where
   pub placing : placingOf ρ s at ≡ placingOf σ t at
   pub counts : countsAt ρ s at ≡ countsAt σ t at

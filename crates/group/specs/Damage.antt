@@ -89,15 +89,15 @@ module _ (ρ : Rules) (t u : List ℕ) (among : ℕ → ℕ → Type 0) where
     -- D3.7: a characteristic is a cell of group 4: where that is none of these, every one is what it was
     pub characteristics : (j : ℕ) → Outside among j 4 → (number : ℕ) → characteristicAt ρ u (spot ρ u j) number ≡ characteristicAt ρ t (spot ρ t j) number
 
--- ---- the same over places: D is any set of places, wherever they are (`replaced-stays`)
+-- ---- the same over places: D is any set of places outside the index lines of the walk (`replaced-stays`)
 
-module _ (ρ : Rules) (D : ℕ → Type 0) (s : List ℕ) where
+module _ (ρ : Rules) (D : ℕ → Type 0) (t : List ℕ) where
   -- D misses the lines of group g of the record at a place, if a record stands there
   abbrev pub Spares : ℕ → ℕ → Type 0
-  Spares at g = (n : ℕ) (ns : List ℕ) → locate ρ s at ≡ located n ns → Misses D (start ρ s at ns g) (start ρ s at ns (suc g))
+  Spares at g = (n : ℕ) (ns : List ℕ) → locate ρ t at ≡ located n ns → Misses D (start ρ t at ns g) (start ρ t at ns (suc g))
 
-  -- bytes of s are exchanged for others at places among D, line feeds stay where they are, and no index line along the walk is touched
-  pub record Replaced (t : List ℕ) : Type 0 where
-    pub lines : SameLines s t
-    pub elsewhere : Agree D s t
-    pub heads : (j : ℕ) → Misses D (spot ρ s j) (spot ρ s j + reach (drop (spot ρ s j) s) 2)
+  -- bytes of t are exchanged for others at places among D, line feeds stay where they are, and no index line along the walk is touched
+  pub record Replaced (u : List ℕ) : Type 0 where
+    pub lines : SameLines t u
+    pub elsewhere : Agree D t u
+    pub heads : (j : ℕ) → Misses D (spot ρ t j) (spot ρ t j + reach (drop (spot ρ t j) t) 2)

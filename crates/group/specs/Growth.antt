@@ -1,5 +1,5 @@
 -- R258: what is asked about a place of a text that still grows. s is the text, b are bytes that were added at its end. Where placing has its last
--- word, every other question has (`answers-stay` in proofs/Growth.antt); which replies these are says place's specs/Growth.antt.
+-- word, every question of reading has (`answers-stay` in proofs/Growth.antt); which replies these are says place's specs/Growth.antt.
 use mathlib.Core.Path.{_≡_}
 use mathlib.Core.List.{List, _++_}
 use Prim.Native.Nat.{ℕ}
