@@ -26,18 +26,21 @@ use Rattle.rewriting.specs.Alike.{SameRewriting, both-rewritten, both-st
 use Rattle.rewriting.specs.Printed.{programRewriting, textThen, rewrittenFrom, rewritten, printed}
 use Rattle.rewriting.specs.Record.{Turn, groupRead, allInTurn, hasRoom, rewrittenAs, rewritingPlaced, unlessRefused, rewritingOf, textAt}
 use Rattle.rewriting.proofs.Printing.{rewritten-enough}
-use Rattle.rewriting.proofs.Rests.{same-reads, same-text}
+use Rattle.rewriting.proofs.Rests.{SameBasis, same-reads, same-text}
 
 module _ (ρ : Rules) (s : List ℕ) (p : ℕ) (t : List ℕ) (q : ℕ) (h : AlikeFrom ρ s p t q) where
   same-counts : countsAt ρ s p ≡ countsAt ρ t q
   same-counts = alike-counts ρ s p t q h
 
+  alike-basis : SameBasis ρ s p t q
+  alike-basis = record { counts = same-counts; groups = alike-read ρ s p t q h }
+
   alike-reads : groupRead ρ s p ≡ groupRead ρ t q
-  alike-reads = same-reads ρ s p t q same-counts (alike-read ρ s p t q h)
+  alike-reads = same-reads ρ s p t q alike-basis
 
   -- the canonical text
   pub alike-text : textAt ρ s p ≡ textAt ρ t q
-  alike-text = same-text ρ s p t q same-counts (alike-read ρ s p t q h)
+  alike-text = same-text ρ s p t q alike-basis
 
   module _ (cells room : ℕ) where
     turned : (ns : List ℕ) (n m : ℕ) (c : Bool) (u : Turn) → AlikeFrom ρ s n t m

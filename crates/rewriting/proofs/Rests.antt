@@ -16,16 +16,20 @@ use Rattle.rewriting.specs.declared.Rewriting.{Rewriting}
 use Rattle.rewriting.specs.declared.Rewriting.the-variants.{Done, Refused, GroupRefused}
 use Rattle.rewriting.specs.Record.{groupRead, cellsInTurn, cellsAt, rewritingOf, textAt, bufferBy, tableAfter}
 
-module _ (ρ : Rules) (s : List ℕ) (p : ℕ) (t : List ℕ) (q : ℕ)
-    (counts : countsAt ρ s p ≡ countsAt ρ t q) (groups : (g room : ℕ) → readAt ρ s p g room ≡ readAt ρ t q g room) where
+-- s at p and t at q have it in common
+pub record SameBasis (ρ : Rules) (s : List ℕ) (p : ℕ) (t : List ℕ) (q : ℕ) : Type 0 where
+  pub counts : countsAt ρ s p ≡ countsAt ρ t q
+  pub groups : (g room : ℕ) → readAt ρ s p g room ≡ readAt ρ t q g room
+
+module _ (ρ : Rules) (s : List ℕ) (p : ℕ) (t : List ℕ) (q : ℕ) (h : SameBasis ρ s p t q) where
   pub same-reads : groupRead ρ s p ≡ groupRead ρ t q
-  same-reads = fun-ext (λ g. groups g (cellsIn ρ (countsAt ρ s p) g) ∙ ap (λ ns. readAt ρ t q g (cellsIn ρ ns g)) counts)
+  same-reads = fun-ext (λ g. h .groups g (cellsIn ρ (countsAt ρ s p) g) ∙ ap (λ ns. readAt ρ t q g (cellsIn ρ ns g)) (h .counts))
 
   same-cells : cellsAt ρ s p ≡ cellsAt ρ t q
   same-cells = ap (λ read. cellsInTurn read (upFrom 1 60)) same-reads
 
   pub same-text : textAt ρ s p ≡ textAt ρ t q
-  same-text = ap₂ (recordText ρ) counts same-cells
+  same-text = ap₂ (recordText ρ) (h .counts) same-cells
 
   pub same-output : (a : Rewriting) (old : List ℕ) → bufferBy ρ s p a old ≡ bufferBy ρ t q a old
   same-output (Done n next) old = ap (λ x. over 0 x old) same-text
@@ -37,6 +41,7 @@ module _ (ρ : Rules) (s : List ℕ) (p : ℕ) (t : List ℕ) (q : ℕ)
   same-table (Refused r) old = refl
   same-table (GroupRefused g r) old = ap (λ cs. over 0 cs old) same-cells
 
-  pub same-answer : placingOf ρ s p ≡ placingOf ρ t q → (cells room : ℕ) → rewritingOf ρ s p cells room ≡ rewritingOf ρ t q cells room
+  -- over every table and output
+  pub same-rewriting : placingOf ρ s p ≡ placingOf ρ t q → rewritingOf ρ s p ≡ rewritingOf ρ t q
   unfolding rewritingOf
-  same-answer placing cells room = rw (placing, counts, same-reads) refl
+  same-rewriting placing = fun-ext (λ cells. fun-ext (λ room. rw (placing, h .counts, same-reads) refl))
