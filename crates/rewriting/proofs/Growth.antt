@@ -19,5 +19,5 @@ module _ (ρ : Rules) (s b : List ℕ) where
           record {
             answer = λ cells room. ap (λ rewriting. rewriting cells room) (same-rewriting ρ (s ++ b) at s at basis (h .placing));
             output = same-output ρ (s ++ b) at s at basis;
-            table = same-table ρ (s ++ b) at s at basis
+            table = same-table ρ (s ++ b) at s at basis;
           }
