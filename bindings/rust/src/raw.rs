@@ -218,98 +218,42 @@ pub struct Edited<'a> {
     pub used: usize,
 }
 
+/// Asks a function of the journal, with what all of them are lent and, behind that, what is its own.
+macro_rules! call {
+    ($function:ident, $lent:ident, $($own:expr),+) => {
+        // SAFETY: as the head of this file says.
+        reply(|beside| unsafe {
+            $function(
+                $lent.rules,
+                $lent.counts.as_ptr(),
+                $lent.counts.len(),
+                $lent.cells.as_mut_ptr(),
+                $lent.cells.len(),
+                $lent.journal.as_mut_ptr(),
+                $lent.journal.len(),
+                $($own,)+
+                beside,
+            )
+        })
+    };
+}
+
 pub fn set_cell(lent: &mut Edited<'_>, group: usize, cell: usize, value: i64) -> Reply {
-    let Edited { rules, counts, cells, journal, used } = lent;
-    // SAFETY: as the head of this file says.
-    reply(|beside| unsafe {
-        seambeacon_set_cell(
-            *rules,
-            counts.as_ptr(),
-            counts.len(),
-            cells.as_mut_ptr(),
-            cells.len(),
-            journal.as_mut_ptr(),
-            journal.len(),
-            used,
-            group,
-            cell,
-            value,
-            beside,
-        )
-    })
+    call!(seambeacon_set_cell, lent, &mut lent.used, group, cell, value)
 }
 
 pub fn open_savepoint(lent: &mut Edited<'_>) -> Reply {
-    let Edited { rules, counts, cells, journal, used } = lent;
-    // SAFETY: as the head of this file says.
-    reply(|beside| unsafe {
-        seambeacon_open_savepoint(
-            *rules,
-            counts.as_ptr(),
-            counts.len(),
-            cells.as_ptr(),
-            cells.len(),
-            journal.as_mut_ptr(),
-            journal.len(),
-            used,
-            beside,
-        )
-    })
+    call!(seambeacon_open_savepoint, lent, &mut lent.used)
 }
 
 pub fn release_savepoint(lent: &mut Edited<'_>, savepoint: usize) -> Reply {
-    let Edited { rules, counts, cells, journal, used } = lent;
-    // SAFETY: as the head of this file says.
-    reply(|beside| unsafe {
-        seambeacon_release_savepoint(
-            *rules,
-            counts.as_ptr(),
-            counts.len(),
-            cells.as_ptr(),
-            cells.len(),
-            journal.as_mut_ptr(),
-            journal.len(),
-            used,
-            savepoint,
-            beside,
-        )
-    })
+    call!(seambeacon_release_savepoint, lent, &mut lent.used, savepoint)
 }
 
 pub fn undo_to_savepoint(lent: &mut Edited<'_>, savepoint: usize) -> Reply {
-    let Edited { rules, counts, cells, journal, used } = lent;
-    // SAFETY: as the head of this file says.
-    reply(|beside| unsafe {
-        seambeacon_undo_to_savepoint(
-            *rules,
-            counts.as_ptr(),
-            counts.len(),
-            cells.as_mut_ptr(),
-            cells.len(),
-            journal.as_mut_ptr(),
-            journal.len(),
-            used,
-            savepoint,
-            beside,
-        )
-    })
+    call!(seambeacon_undo_to_savepoint, lent, &mut lent.used, savepoint)
 }
 
 pub fn replay(lent: &mut Edited<'_>, open: &mut usize) -> Reply {
-    let Edited { rules, counts, cells, journal, used } = lent;
-    // SAFETY: as the head of this file says.
-    reply(|beside| unsafe {
-        seambeacon_replay(
-            *rules,
-            counts.as_ptr(),
-            counts.len(),
-            cells.as_mut_ptr(),
-            cells.len(),
-            journal.as_ptr(),
-            journal.len(),
-            *used,
-            open,
-            beside,
-        )
-    })
+    call!(seambeacon_replay, lent, lent.used, open)
 }

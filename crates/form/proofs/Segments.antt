@@ -1,12 +1,13 @@
 -- R13, R42: the elements of a count under each rule. Whatever it counts, a count of n has at most n full lines.
 -- Assumes nothing.
 use mathlib.Core.Path.{_≡_, refl, ap, subst}
-use mathlib.Core.Bool.{Bool, true, false, cond, not, _||_}
+use mathlib.Core.Bool.{Bool, true, false, cond, not, _&&_, _||_}
 use Prim.Native.Nat.{ℕ, zero, suc, _+_, _-_, _*_, _<_, _≤_}
 use native.Mathlib.Nat.{le-mul-of-pos-right, suc-mul}
 use native.Mathlib.Omega.{arith}
 use lib.Dec.{T, eqb, eqb→eq}
 use Rattle.base.specs.Every.{every, has}
+use Rattle.base.proofs.Choice.{and-left, and-right}
 use Rattle.base.proofs.Every.{every-has}
 use Rattle.rules.specs.declared.Rules.{Rules}
 use Rattle.rules.specs.declared.Counting.{Counting}
@@ -20,27 +21,26 @@ use Rattle.form.proofs.Table.{each-form, form-listed}
 use Rattle.form.proofs.Rows.{row-fits}
 use Rattle.form.proofs.Rounding.{rounded-none, lines-are}
 
--- ---- the form of group 40 has six elements to a line
+-- ---- the form of group 40 has six elements to a line, and its list of groups is 40 alone
 
-all-six : T (every (λ f. not (isSegments f) || eqb (rowOf f .«per_line») 6) forms)
+abbrev six : Form → Bool
+six f = eqb (rowOf f .«per_line») 6
+
+abbrev forty : Form → Bool
+forty f = every (λ g. eqb g 40) (listedAs f .groups)
+
+all-forty : T (every (λ f. not (isSegments f) || (six f && forty f)) forms)
 unfolding isSegments rowOf listedAs
-all-six = tt
-
--- its list of groups is 40 alone
-all-forty : T (every (λ f. not (isSegments f) || every (λ g. eqb g 40) (listedAs f .groups)) forms)
-unfolding isSegments listedAs
 all-forty = tt
 
+as-forty : (f : Form) → isSegments f ≡ true → T (six f && forty f)
+as-forty f e = subst (λ (t : Bool). T (not t || (six f && forty f))) e (each-form (λ k. not (isSegments k) || (six k && forty k)) all-forty f)
+
 forty-only : (f : Form) → isSegments f ≡ true → (g : ℕ) → T (has (listedAs f .groups) g) → g ≡ 40
-forty-only f e g h =
-    let t = subst (λ (t : Bool). T (not t || every (λ k. eqb k 40) (listedAs f .groups))) e
-    (each-form (λ k. not (isSegments k) || every (λ j. eqb j 40) (listedAs k .groups)) all-forty f) in
-    eqb→eq g 40 (every-has (λ k. eqb k 40) (listedAs f .groups) t g h)
+forty-only f e g h = eqb→eq g 40 (every-has (λ k. eqb k 40) (listedAs f .groups) (and-right (six f) (forty f) (as-forty f e)) g h)
 
 segments-six : (f : Form) → isSegments f ≡ true → rowOf f .«per_line» ≡ 6
-segments-six f e =
-    eqb→eq (rowOf f .«per_line») 6
-    (subst (λ (t : Bool). T (not t || eqb (rowOf f .«per_line») 6)) e (each-form (λ g. not (isSegments g) || eqb (rowOf g .«per_line») 6) all-six f))
+segments-six f e = eqb→eq (rowOf f .«per_line») 6 (and-left (six f) (forty f) (as-forty f e))
 
 -- and no other group has it
 pub segments-forty : (g : ℕ) (f : Form) → formOf g ≡ Has f → (g ≡ 40 → ⊥) → isSegments f ≡ false
@@ -71,7 +71,7 @@ module _ (ρ : Rules) where
       by true e = rw (segments-six f e) (segments-few n (ρ .counting))
       by false e = le-mul-of-pos-right n (row-fits f .some)
 
--- ---- no elements and one, whatever is counted
+-- ---- a count of 0 and of 1, whatever is counted
 
 pub segments-none : (k : Counting) → segmentElements 0 k ≡ 0
 unfolding segmentElements
@@ -89,14 +89,6 @@ module _ (ρ : Rules) where
     where
       by : (t : Bool) → cond t (segmentElements 0 (ρ .counting)) 0 ≡ 0
       by true = segments-none (ρ .counting)
-      by false = refl
-
-  pub elements-one : (f : Form) → elementsOf ρ f 1 ≡ 1
-  unfolding elementsOf
-  elements-one f = by (isSegments f)
-    where
-      by : (t : Bool) → cond t (segmentElements 1 (ρ .counting)) 1 ≡ 1
-      by true = segments-one (ρ .counting)
       by false = refl
 
 -- ---- R42: every other group, and all groups where elements are counted
