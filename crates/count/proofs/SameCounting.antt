@@ -14,15 +14,10 @@ use Rattle.form.specs.declared.GroupForm.{GroupForm}
 use Rattle.form.specs.declared.GroupForm.the-variants.{Has, NoGroup}
 use Rattle.form.specs.Table.{formOf}
 use Rattle.form.proofs.Segments as Segments
-use Rattle.reply.specs.declared.Refusal.the-variants.{Misformed, OtherLength}
+use Rattle.reply.specs.declared.Refusal.the-variants.{OtherLength}
 use Rattle.reply.specs.declared.Checked.the-variants.{Right, Refused}
-use Rattle.count.specs.declared.Release.{Release}
-use Rattle.count.specs.declared.Release.the-variants.{Five, Other, Filled}
-use Rattle.count.specs.declared.Ruling.{Ruling}
-use Rattle.count.specs.declared.Ruling.the-variants.{Kept, Broken}
 use Rattle.count.specs.Tally.{countOf, linesBy, cellsBy, linesIn, cellsIn, lineTally, cellTally, linesBefore, cellsBefore, recordLines, recordCells}
-use Rattle.count.specs.Rules.{releaseOf, rulingOf}
-use Rattle.count.specs.Check.{wellFormed, byRules, byRelease, checkedOf}
+use Rattle.count.specs.Check.{acceptedOf, andThen, checkedOf}
 
 module _ (σ ρ : Rules) (alike : σ .counting ≡ ρ .counting) (ns : List ℕ) where
   pub lines-same : (g : ℕ) → linesIn σ ns g ≡ linesIn ρ ns g
@@ -66,13 +61,4 @@ module _ (σ ρ : Rules) (alike : σ .counting ≡ ρ .counting) (ns : List ℕ)
   -- R302: so a table is as long as they ask for under each of them or under none
   pub check-same : (cells : ℕ) → checkedOf σ ns cells ≡ checkedOf ρ ns cells
   unfolding checkedOf
-  check-same cells = ap (λ c. cond (wellFormed ns) c (Refused Misformed)) (released (releaseOf ns))
-    where
-      ruled : (r : Ruling) → byRules σ ns cells r ≡ byRules ρ ns cells r
-      ruled Kept = ap (λ n. cond (eqb cells n) Right (Refused OtherLength)) record-cells-same
-      ruled (Broken g) = refl
-
-      released : (r : Release) → byRelease σ ns cells r ≡ byRelease ρ ns cells r
-      released Five = ruled (rulingOf ns)
-      released Other = refl
-      released (Filled g) = refl
+  check-same cells = ap (λ n. andThen (acceptedOf ns) (cond (eqb cells n) Right (Refused OtherLength))) record-cells-same

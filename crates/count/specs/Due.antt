@@ -1,4 +1,5 @@
--- R233, R302: when each answer about counts is due: its own condition holds, and none earlier in the order 4, 5, 6, 7, 14.
+-- R233, R302: when each answer about counts is due, and about counts and a table's length: its own condition holds, and none earlier in the
+-- order 4, 5, 6, 7, 14.
 use mathlib.Core.Path.{_≡_}
 use mathlib.Core.List.{List}
 use Prim.Native.Nat.{ℕ, _<_, _≤_}
@@ -35,7 +36,7 @@ module _ (ns : List ℕ) where
   ReleaseDue Other = countOf ns 80 ≡ 5 → ⊥
   ReleaseDue (Filled g) = LowestFilled g
 
-  -- ---- the whole check
+  -- ---- the check of counts
 
   -- R129, so not 4: 80 counts, each 0 to 999
   pub record HasCounts : Type 0 where
@@ -57,7 +58,20 @@ module _ (ns : List ℕ) where
     pub released : Released Five
     pub kept : KeepsRules ns
 
+  -- what counts are refused with, and when
+  pub data CountsRefusedFor : Refusal → Type 0 where
+    misformed : (HasCounts → ⊥) → CountsRefusedFor Misformed
+    other-release : Released Other → CountsRefusedFor OtherRelease
+    filled-vacant : (g : ℕ) → Released (Filled g) → CountsRefusedFor (FilledVacant g)
+    broken-rule : (g : ℕ) → Breaks g → CountsRefusedFor (BrokenRule g)
+
+  abbrev pub AcceptedDue : Checked → Type 0
+  AcceptedDue Right = HasRules
+  AcceptedDue (Refused r) = CountsRefusedFor r
+
 module _ (ρ : Rules) (ns : List ℕ) where
+  -- ---- the whole check
+
   -- R214: none of these, but more or fewer cells than the counts ask for
   pub record Differs (cells : ℕ) : Type 0 where
     pub rules : HasRules ns
@@ -68,12 +82,9 @@ module _ (ρ : Rules) (ns : List ℕ) where
     pub rules : HasRules ns
     pub needed : cells ≡ recordCells ρ ns
 
-  -- what the check refuses with, and when
+  -- what it refuses with, and when
   pub data RefusedFor (cells : ℕ) : Refusal → Type 0 where
-    misformed : (HasCounts ns → ⊥) → RefusedFor cells Misformed
-    other-release : Released ns Other → RefusedFor cells OtherRelease
-    filled-vacant : (g : ℕ) → Released ns (Filled g) → RefusedFor cells (FilledVacant g)
-    broken-rule : (g : ℕ) → Breaks ns g → RefusedFor cells (BrokenRule g)
+    refused-counts : (r : Refusal) → CountsRefusedFor ns r → RefusedFor cells r
     other-length : Differs cells → RefusedFor cells OtherLength
 
   abbrev pub Due : ℕ → Checked → Type 0

@@ -11,7 +11,7 @@ ghost use Rattle.form.specs.Count.{linesOf, cellsOf};
 ghost use Rattle.count.specs.Tally.{countOf, Before};
 ghost use Rattle.count.specs.Rules.{releaseOf, lower, one, rule, differ, settle, keeps, lowest, headRules};
 ghost use Rattle.count.specs.Rules.{letterRules, setRule, sets, zeroOr, rulingOf};
-ghost use Rattle.count.specs.Check.{wellFormed, checkedOf};
+ghost use Rattle.count.specs.Check.{wellFormed, acceptedOf, checkedOf};
 
 // R24, R25: what stands under the number 80 and under the vacant ones: release 5 and nothing, another release, or the
 // lowest vacant number with a count.
@@ -303,10 +303,10 @@ fn well_formed(counts: &[u16]) -> bool
     true
 }
 
-// R302: the whole check of counts and the length of the table of all cells: right, or the first of 4, 5, 6, 7 and 14
-// that is due.
-pub fn check(rules: rules::Rules, counts: &[u16], cells: usize) -> Checked
-    ensures { λ r. ⌜ r ≡ checkedOf rules (now (counts .entry)) cells ⌝ }
+// R204 to R207: the check of counts alone: right, or the first of 4, 5, 6 and 7 that is due. None of these depends on
+// what a count counts, so no rules are given.
+pub fn check_counts(counts: &[u16]) -> Checked
+    ensures { λ r. ⌜ r ≡ acceptedOf (now (counts .entry)) ⌝ }
 {
     if !well_formed(counts) {
         return Checked::Refused(Refusal::Misformed);
@@ -316,13 +316,24 @@ pub fn check(rules: rules::Rules, counts: &[u16], cells: usize) -> Checked
         Release::Filled(g) => Checked::Refused(Refusal::FilledVacant(g)),
         Release::Five => match ruling_of(counts) {
             Ruling::Broken(g) => Checked::Refused(Refusal::BrokenRule(g)),
-            Ruling::Kept => {
-                let all = add_up(rules, counts, 61);
-                if cells == all.cells {
-                    return Checked::Right;
-                }
-                Checked::Refused(Refusal::OtherLength)
-            }
+            Ruling::Kept => Checked::Right,
         },
+    }
+}
+
+// R302: the whole check of counts and the length of the table of all cells: right, or the first of 4, 5, 6, 7 and 14
+// that is due.
+pub fn check(rules: rules::Rules, counts: &[u16], cells: usize) -> Checked
+    ensures { λ r. ⌜ r ≡ checkedOf rules (now (counts .entry)) cells ⌝ }
+{
+    match check_counts(counts) {
+        Checked::Refused(why) => Checked::Refused(why),
+        Checked::Right => {
+            let all = add_up(rules, counts, 61);
+            if cells == all.cells {
+                return Checked::Right;
+            }
+            Checked::Refused(Refusal::OtherLength)
+        }
     }
 }

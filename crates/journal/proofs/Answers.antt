@@ -13,7 +13,7 @@ use borrow.Author.Tests.{eqb-true}
 use Rattle.rules.specs.declared.Rules.{Rules}
 use Rattle.base.specs.Part.{part, over}
 use Rattle.base.proofs.Taken.{part-zero, take-both}
-use Rattle.count.specs.Check.{checkedOf}
+use Rattle.count.specs.Check.{checkedOf, andThen}
 use Rattle.reply.specs.declared.Refusal.{Refusal}
 use Rattle.reply.specs.declared.Refusal.the-variants.{BadEntry}
 use Rattle.reply.specs.declared.Checked.{Checked}
@@ -26,7 +26,7 @@ use Rattle.journal.specs.declared.State.{State}
 use Rattle.journal.specs.Layout.{startsOf}
 use Rattle.journal.specs.Model.{Call, decided, byAnswer}
 use Rattle.journal.specs.Walks.{Walked, walked, down, WalksTo}
-use Rattle.journal.specs.Calls.{andThen, whole, walkIn, standingOf, answerOf, entryFor, cellsFor, cellsAfter, journalBy, usedBy, Finds}
+use Rattle.journal.specs.Calls.{whole, walkIn, standingOf, answerOf, entryFor, cellsFor, cellsAfter, journalBy, usedBy, Finds}
 use Rattle.journal.specs.Runs.{Kept, kept, answerTo, leftBy}
 use Rattle.journal.specs.Entries.{restore, entriesAt}
 use Rattle.journal.specs.Plays.{playOf, playIn, replayOf, replayedCells, Plays}

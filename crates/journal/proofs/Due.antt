@@ -18,7 +18,7 @@ use Rattle.reply.specs.declared.Checked.{Checked}
 use Rattle.reply.specs.declared.Checked.the-variants as C
 use Rattle.reply.specs.declared.Answer.{Answer}
 use Rattle.reply.specs.declared.Answer.the-variants.{Done, Refused}
-use Rattle.count.specs.Check.{checkedOf}
+use Rattle.count.specs.Check.{checkedOf, andThen}
 use Rattle.count.specs.Due as Counts
 use Rattle.count.proofs.Due as Counted
 use Rattle.entry.specs.declared.Entry.{Entry}
@@ -28,7 +28,7 @@ use Rattle.entry.proofs.Codec.{length-text}
 use Rattle.journal.specs.Layout.{startsOf, getAt}
 use Rattle.journal.specs.Model.{Call, Sets, Opens, Releases, Undoes, accepts, refusalOf, bytesFor, numberFor, decided}
 use Rattle.journal.specs.Walks.{Walked}
-use Rattle.journal.specs.Calls.{andThen, whole, entryFor, cellsFor, walkIn, standingOf, answerOf}
+use Rattle.journal.specs.Calls.{whole, entryFor, cellsFor, walkIn, standingOf, answerOf}
 use Rattle.journal.specs.Plays.{playedBy, Played, playIn, replayOf, replayedCells, replayedOpen}
 use Rattle.journal.specs.Order.{Accepted, RightEntry, cellsBehind, Goes}
 use Rattle.journal.specs.Runs.{Kept, kept, answerTo, leftBy}

@@ -18,13 +18,13 @@ use Rattle.reply.specs.declared.Answer.the-variants.{Done, Refused}
 use Rattle.reply.specs.Table.{Numbered, savepoint}
 use Rattle.reply.specs.Refusals.{refusalReply, checkedReply, rows}
 use Rattle.reply.proofs.Replies.{fills, refusal-fills, at-row, rows-left}
-use Rattle.count.specs.Check.{checkedOf}
+use Rattle.count.specs.Check.{checkedOf, andThen}
 use Rattle.count.specs.Numbered.{checkRefusals}
 use Rattle.count.proofs.Due.{first-due}
 use Rattle.count.proofs.Numbered.{check-refusal-numbered}
 use Rattle.journal.specs.Layout.{startsOf}
 use Rattle.journal.specs.Model.{Call, Sets, Opens, Releases, Undoes, accepts, refusalOf, bytesFor, numberFor, decided, whenRight}
-use Rattle.journal.specs.Calls.{andThen, whole, walkIn, standingOf, answerOf}
+use Rattle.journal.specs.Calls.{whole, walkIn, standingOf, answerOf}
 use Rattle.journal.specs.Plays.{playIn, replayOf}
 use Rattle.journal.specs.Numbered.{editReply, replayRefusals, replayRows, callRefusals, callRows}
 

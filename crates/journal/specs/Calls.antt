@@ -8,7 +8,7 @@ use lib.IntN.{ℤ}
 use lib.ListN.{length, take}
 use Rattle.rules.specs.declared.Rules.{Rules}
 use Rattle.base.specs.Part.{over}
-use Rattle.count.specs.Check.{checkedOf}
+use Rattle.count.specs.Check.{checkedOf, andThen}
 use Rattle.reply.specs.declared.Refusal.the-variants.{BadEntry}
 use Rattle.reply.specs.declared.Checked.{Checked}
 use Rattle.reply.specs.declared.Checked.the-variants.{Right, Refused}
@@ -21,11 +21,6 @@ use Rattle.journal.specs.Layout.{startsOf, spotOf, getAt, putAt}
 use Rattle.journal.specs.Model.{Call, Sets, Opens, Releases, Undoes, decided, whenRight, byAnswer, bytesFor}
 use Rattle.journal.specs.Entries.{markOf, backTo}
 use Rattle.journal.specs.Walks.{Walked, walkOf, down, MarksBelow}
-
--- one check after another
-abbrev pub andThen : Checked → Checked → Checked
-andThen Right b = b
-andThen (Refused r) b = Refused r
 
 -- R530: 17 with the place where a walk stopped, unless that is the end of the bytes used; R532: a walk never comes to an end beyond the buffer
 abbrev pub whole : ℕ → ℕ → Checked

@@ -7,7 +7,7 @@ use lib.Dec.{ltb, eqb}
 use lib.IntN.{ℤ, pos, negsuc}
 use lib.ListN.{length, take}
 use Rattle.rules.specs.declared.Rules.{Rules}
-use Rattle.count.specs.Check.{checkedOf}
+use Rattle.count.specs.Check.{checkedOf, andThen}
 use Rattle.reply.specs.declared.Checked.{Checked}
 use Rattle.reply.specs.declared.Checked.the-variants.{Right, Refused}
 use Rattle.entry.specs.declared.Entry.{Entry}
@@ -17,7 +17,7 @@ use Rattle.journal.specs.declared.State.{State}
 use Rattle.journal.specs.Layout.{startsOf, spotOf, getAt, putAt}
 use Rattle.journal.specs.Entries.{markStep, markOf, nextAt, backTo}
 use Rattle.journal.specs.Walks.{okEntry, down}
-use Rattle.journal.specs.Calls.{andThen, whole}
+use Rattle.journal.specs.Calls.{whole}
 
 abbrev pub sameCell : ℤ → ℤ → Bool
 sameCell (pos m) (pos n) = eqb m n

@@ -60,7 +60,7 @@ size = refl
 
 -- writing gives 0 with 305 bytes
 pub done : (ρ : Rules) → writingOf ρ counts cells 305 ≡ Done 305
-unfolding writingOf recordBytes bytesIn fitOf elementsFit firstMisfit Check.checkedOf Check.wellFormed Rules.releaseOf Rules.filledAmong Rules.rulingOf
+unfolding writingOf recordBytes bytesIn fitOf elementsFit firstMisfit Check.checkedOf Check.acceptedOf Check.wellFormed Rules.releaseOf Rules.filledAmong Rules.rulingOf
     Rules.lowest Rules.headRules Rules.sets Rules.keeps Rules.letterRules Every.upFrom Sum.sum Tally.cellsIn Tally.cellTally Tally.cellsBefore Table.formOf
     Table.formAmong Table.rowOf Table.listedAs Count.elementsOf Count.isSegments Count.segmentElements Count.linesOf Count.roundedUp Count.cellsOf Write.fitsOf Date.datedOf Date.firstBlamed
     Digits.fieldDigits Calendar.nameDay Calendar.daysTo Calendar.monthLength Calendar.isLeap
