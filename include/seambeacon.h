@@ -90,7 +90,10 @@ enum seambeacon_reply {
     SEAMBEACON_ALL_OPEN = 16,
     /* a field of the journal is misformed, its call would not be accepted there, an open does not
        have the next number or, in replay, an old value differs: the place of the field */
-    SEAMBEACON_BAD_ENTRY = 17
+    SEAMBEACON_BAD_ENTRY = 17,
+    /* the part of the text that is named for a group does not lie within the text, does not begin
+       where a line does, or does not hold exactly the group's lines */
+    SEAMBEACON_BAD_PART = 22
 };
 
 /* What is known of a characteristic. */

@@ -69,7 +69,7 @@ impl Rules {
     }
 }
 
-/// Why a question was refused: the replies 1 to 17 (R201 to R217), with the numbers that are given beside them.
+/// Why a question was refused: the replies 1 to 17 and 22 (R201 to R217, R222), with the numbers that are given beside them.
 #[derive(Clone, Copy, Debug, PartialEq, Eq, Hash)]
 pub enum Refusal {
     /// 1: the place is the text's end.
@@ -138,6 +138,9 @@ pub enum Refusal {
         /// The place of the field, in bytes from the journal's start.
         place: usize,
     },
+    /// 22: the part of the text that is named for a group does not lie within the text, does not begin where a line does, or does not hold
+    /// exactly the group's lines.
+    BadPart,
     /// Something that the library is proved never to answer, so another archive than its own has been linked. It is a refusal and no panic,
     /// since an editor that holds unsaved work must survive it.
     Unknown {
@@ -168,6 +171,7 @@ impl Refusal {
             Refusal::NotOpen => 15,
             Refusal::AllOpen => 16,
             Refusal::BadEntry { .. } => 17,
+            Refusal::BadPart => 22,
             Refusal::Unknown { number } => number,
         }
     }
@@ -193,6 +197,7 @@ impl fmt::Display for Refusal {
             Refusal::NotOpen => write!(to, "the savepoint is not open or, to be released, not the innermost"),
             Refusal::AllOpen => write!(to, "16 savepoints are open already"),
             Refusal::BadEntry { place } => write!(to, "the journal's field at place {place} is wrong"),
+            Refusal::BadPart => write!(to, "the group's part does not hold"),
             Refusal::Unknown { number } => write!(to, "an answer that the library does not give ({number})"),
         }
     }
@@ -268,6 +273,7 @@ impl raw::Reply {
             15 => Refusal::NotOpen,
             16 => Refusal::AllOpen,
             17 => Refusal::BadEntry { place },
+            22 => Refusal::BadPart,
             number => Refusal::Unknown { number },
         })
     }
@@ -513,7 +519,7 @@ mod tests {
 
     #[test]
     fn each_number_is_its_own_refusal() {
-        for number in 1..=17 {
+        for number in (1..=17).chain([22]) {
             assert_eq!(refusal(number).number(), number);
             assert!(!matches!(refusal(number), Refusal::Unknown { .. }), "{number}");
             assert!(!refusal(number).to_string().is_empty());
@@ -522,7 +528,7 @@ mod tests {
 
     #[test]
     fn a_number_outside_the_table_is_kept() {
-        for number in [18, u32::MAX] {
+        for number in [18, 21, 23, u32::MAX] {
             assert_eq!(refusal(number), Refusal::Unknown { number });
             assert_eq!(refusal(number).number(), number);
         }

@@ -1,7 +1,7 @@
 -- The first demand, D1: a question always has an answer.
--- D1.1: each question takes whatever text, place, number and table there is. D1.2: it ends, and gives one of the replies R200 to R217. D1.3: so
--- nothing needs to be tested before asking. D1.4: a refused read leaves each cell of the lent table as it was. D1.5: a refused write leaves each
--- byte of the output as it was.
+-- D1.1: each question takes whatever text, place, number and table there is. D1.2: it ends, and gives one of the replies R200 to R217 and R222.
+-- D1.3: so nothing needs to be tested before asking. D1.4: a refused read leaves each cell of the lent table as it was. D1.5: a refused write
+-- leaves each byte of the output as it was.
 --
 -- D1.1, D1.3 and that a question ends are what the gate proves of each function, none of which has a `requires`. s is a text, out an output; a
 -- reply is refused where its number is not 0.

@@ -1,6 +1,6 @@
 // The questions, R240. Each may be asked of every text, place, number, table and output; nothing has to hold beforehand
 // (R241). The layers answer them; here each has its name, its contract and nothing else. `reply`, and the layers'
-// `reply_of` for answers of their own, give an answer's number, with the numbers beside it (R200 to R214).
+// `reply_of` for answers of their own, give an answer's number, with the numbers beside it (R200 to R217 and R222).
 use group::Characteristic;
 use group::Lines;
 use journal::Edited;

@@ -1,4 +1,4 @@
--- R200 to R214: each question's reply, from the rules (R12) and what is asked: the layers' answers as replies.
+-- R200 to R217 and R222: each question's reply, from the rules (R12) and what is asked: the layers' answers as replies.
 use mathlib.Core.List.{List}
 use Prim.Native.Nat.{ℕ}
 use lib.IntN.{ℤ}
