@@ -11,7 +11,7 @@ use Rattle.rules.specs.declared.Rules.{Rules}
 use Rattle.base.specs.Every.{upFrom}
 use Rattle.base.specs.Part.{over}
 use Rattle.base.proofs.Part.{over-none, over-all, over-turn}
-use Rattle.base.proofs.UpFrom.{length-up, map-up-same}
+use Rattle.base.proofs.UpFrom.{length-up, getD-map-up, map-up-same}
 use Rattle.form.specs.declared.Form.{Form}
 use Rattle.form.specs.declared.GroupForm.the-variants.{Has}
 use Rattle.form.specs.Table.{formOf}
@@ -26,7 +26,7 @@ use Rattle.count.specs.Tally.{linesBefore, recordLines}
 use Rattle.count.proofs.Tallied.{tally-at, before-groups, line-entry, lines-more, lines-has, lines-below, all-lines}
 use Rattle.reply.specs.declared.Refusal.the-variants.{TooFewLines}
 use Rattle.place.specs.Parts.{start}
-use Rattle.place.specs.Placing.{Located, located, refused, placesBy, locatedBehind, locateLinesFrom, startFrom}
+use Rattle.place.specs.Placing.{Located, located, refused, locate, placesBy, startsAt, endsAt, locatedBehind, locateLinesFrom, startFrom}
 
 -- a number for each of groups 1 to 60
 abbrev pub eachGroup : (ℕ → ℕ) → List ℕ
@@ -136,3 +136,17 @@ places-from ρ s at from (located n ns) e =
       map-up-same (λ g. startFrom ρ s (at + reach (drop at s) 2) ns (suc g)) (λ g. start ρ s at ns (suc g)) 1 60 (λ g low high. start-from ρ s at ns (suc g) (omega arith)),
     )
 places-from ρ s at from (refused r) e = (refl, refl)
+
+-- ---- the places of a record that is located, by a group's number
+
+module _ (ρ : Rules) (s : List ℕ) (at n : ℕ) (ns : List ℕ) (e : locate ρ s at ≡ located n ns) (g : ℕ) (low : 1 ≤ g) (high : g ≤ 60) where
+  numbered : (f : ℕ → ℕ) → getD (eachGroup f) (g - 1) 0 ≡ f g
+  numbered f = getD-map-up f 1 60 (g - 1) 0 (omega arith) ∙ ap f (omega arith)
+
+  pub start-at : getD (startsAt ρ s at) (g - 1) 0 ≡ start ρ s at ns g
+  unfolding startsAt
+  start-at = rw e (numbered (start ρ s at ns))
+
+  pub end-at : getD (endsAt ρ s at) (g - 1) 0 ≡ start ρ s at ns (suc g)
+  unfolding endsAt
+  end-at = rw e (numbered (λ h. start ρ s at ns (suc h)))
