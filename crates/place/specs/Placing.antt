@@ -92,6 +92,19 @@ module _ (ρ : Rules) where
   unfoldable pub endsAt : List ℕ → ℕ → List ℕ
   endsAt s at = placesBy (λ ns g. start ρ s at ns (suc g)) (locate ρ s at)
 
+-- R259: what a record carries beside its answer, whether it was placed or made up
+pub record Carried : Type 0 where
+  pub counts-of : List ℕ
+  pub starts-of : List ℕ
+  pub ends-of : List ℕ
+
+abbrev pub carried : (ns starts ends : List ℕ) → Carried
+carried ns starts ends = record { counts-of = ns; starts-of = starts; ends-of = ends }
+
+-- what the record that is placed there carries; zeros where nothing is placed
+abbrev pub carriedAt : Rules → List ℕ → ℕ → Carried
+carriedAt ρ s at = carried (countsAt ρ s at) (startsAt ρ s at) (endsAt ρ s at)
+
 -- ---- the same from the data lines on, as the code goes (proofs/Steps.antt)
 
 abbrev pub locatedBehind : List ℕ → Behind → Located
