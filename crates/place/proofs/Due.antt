@@ -18,7 +18,9 @@ use Rattle.count.specs.declared.Release.{Release}
 use Rattle.count.specs.declared.Release.the-variants.{Five, Other, Filled}
 use Rattle.count.specs.declared.Ruling.{Ruling}
 use Rattle.count.specs.declared.Ruling.the-variants.{Kept, Broken}
-use Rattle.count.specs.Due.{ReleaseDue}
+use Rattle.count.specs.Check.{acceptedOf}
+use Rattle.count.specs.Due.{ReleaseDue, Released, broken-rule, AcceptedDue}
+use Rattle.count.proofs.Due.{accepted-first-due}
 use Rattle.count.proofs.Rulings.{kept-ruling, ruling-kept, broken-ruling, ruling-broken}
 use Rattle.count.proofs.Releases.{release-given, release-due}
 use Rattle.place.specs.declared.Placing.{Placing}
@@ -29,7 +31,8 @@ use Rattle.place.specs.Index.{Indexed, counts, misformed, readIndex}
 use Rattle.place.specs.Placing.{Located, located, refused, locate, locateIndex, locateRelease, locateLines, placingBy, countsBy, ruledAt, placingOf, countsAt}
 use Rattle.place.specs.Due.{HasIndex, HasEntries, HasRelease, HasLines, CountsDue, RefusedFor, beyond, text-end, few-for-index}
 use Rattle.place.specs.Due.{few-for-data, bad-index, bad-release, fills-vacant, Due}
-use Rattle.place.proofs.Indexed.{index-is, no-index}
+use Rattle.place.specs.Numbered.{asChecked}
+use Rattle.place.proofs.Indexed.{index-is, no-index, index-counts}
 use Rattle.place.proofs.Placed.{located-is}
 use Rattle.place.proofs.Steps.{locate-beyond, locate-end, locate-few, locate-index}
 
@@ -138,3 +141,14 @@ module _ (ρ : Rules) (s : List ℕ) (at : ℕ) where
   pub counts-first-due : (ns : List ℕ) → countsAt ρ s at ≡ ns ↔ CountsDue ρ s at ns
   unfolding countsAt
   counts-first-due ns = (λ e. subst (CountsDue ρ s at) e counts-due, counts-given ns)
+
+  -- R302: the check of counts finds in those of a record what placing does: of its refusals only 7 is left
+  pub located-accepted : (n : ℕ) (ns : List ℕ) → locate ρ s at ≡ located n ns → acceptedOf ns ≡ asChecked (ruledAt n (rulingOf ns))
+  located-accepted n ns e = accepted-first-due ns (asChecked (ruledAt n (rulingOf ns))) .1 (by (rulingOf ns) refl)
+    where
+      released : Released ns Five
+      released = let h = located-lines n ns e .head in record { counts = index-counts ρ (drop at s) ns (h .index .index); release = h .release }
+
+      by : (k : Ruling) → rulingOf ns ≡ k → AcceptedDue ns (asChecked (ruledAt n k))
+      by Kept u = record { released = released; kept = ruling-kept ns u }
+      by (Broken g) u = broken-rule g record { released = released; broken = ruling-broken ns u }

@@ -11,9 +11,11 @@ use lib.Seq.{drop-drop, drop-at, length-take-le}
 use Rattle.rules.specs.declared.Rules.{Rules}
 use Rattle.base.specs.Part.{part}
 use Rattle.line.specs.Lines.{feeds, reach, lines, behind, Whole}
+use Rattle.line.specs.Parts.{AreLines}
 use Rattle.line.proofs.Reach.{reach-zero, reach-add, reach-mono, feeds-behind, length-lines}
 use Rattle.line.proofs.Whole.{whole-lines, reach-whole, behind-whole, lines-whole}
 use Rattle.line.proofs.Last.{whole-last}
+use Rattle.line.proofs.Parts.{lines-there}
 use Rattle.count.specs.Tally.{lineTally, linesIn, linesBefore, recordLines}
 use Rattle.count.proofs.Tallied.{all-lines, record-two, before-none, before-groups, line-entry, lines-more, lines-below}
 use Rattle.place.specs.Placing.{located, locate}
@@ -125,3 +127,14 @@ module _ (ρ : Rules) (s : List ℕ) (at n : ℕ) (ns : List ℕ) (e : locate ρ
         lines = subst (λ n. Whole n (groupPart ρ s at ns g)) lined (part-whole g (omega arith));
         begins = ap (λ n. at + n) (sym (length-lines xs j));
       }
+
+  -- R2: a group's part is lines of the text, which begin where a line does, wherever the record's place is
+  pub group-lines : (g : ℕ) → 1 ≤ g → g ≤ 60 → AreLines s (start ρ s at ns g) (start ρ s at ns (suc g)) (linesIn ρ ns g)
+  unfolding start
+  group-lines g low high =
+      let j = linesBefore ρ ns g in
+      let k = linesIn ρ ns g in
+      let all : linesBefore ρ ns (suc g) ≡ j + k = omega (arith, lines-more ρ ns g (omega arith), line-entry ρ ns g low (omega arith)) in
+      let some : 1 ≤ j = omega (arith, before-groups ρ ns .lines-are, lines-below ρ ns 1 g low) in
+      let there : j + k ≤ feeds (drop at s) = omega (arith, p .many, lines-below ρ ns (suc g) 61 (omega arith), all-lines ρ ns) in
+      rw all (lines-there s at j k some there)
