@@ -6,7 +6,7 @@ use Prim.Native.Nat.{ℕ, suc, _+_, _-_, _<_, _≤_}
 use native.Mathlib.Nat.{zero-add}
 use native.Mathlib.Omega.{arith}
 use lib.ListN.{length, take, drop, getD, set, replicate, length-map, length-replicate}
-use lib.Seq.{drop-drop, take-all}
+use lib.Seq.{drop-drop, ext-getD, take-all}
 use Rattle.rules.specs.declared.Rules.{Rules}
 use Rattle.base.specs.Every.{upFrom}
 use Rattle.base.specs.Part.{over}
@@ -34,6 +34,19 @@ eachGroup f = map f (upFrom 1 60)
 
 pub each-length : (f : ℕ → ℕ) → length (eachGroup f) ≡ 60
 each-length f = length-map (upFrom 1 60) f ∙ length-up 1 60
+
+pub each-at : (f : ℕ → ℕ) (g : ℕ) → 1 ≤ g → g ≤ 60 → getD (eachGroup f) (g - 1) 0 ≡ f g
+each-at f g low high = getD-map-up f 1 60 (g - 1) 0 (omega arith) ∙ ap f (omega arith)
+
+-- these lengths and entries are those of no other list
+pub is-each : (f : ℕ → ℕ) (places : List ℕ) → length places ≡ 60 → ((g : ℕ) → 1 ≤ g → g ≤ 60 → getD places (g - 1) 0 ≡ f g) → eachGroup f ≡ places
+is-each f places long same = ext-getD 0 (eachGroup f) places (each-length f ∙ sym long) by
+  where
+    by : (i : ℕ) → i < length (eachGroup f) → getD (eachGroup f) i 0 ≡ getD places i 0
+    by i h =
+        let less : suc i ≤ 60 = omega (arith, h, each-length f) in
+        let e : i ≡ suc i - 1 = omega arith in
+        rw e (each-at f (suc i) (omega arith) less ∙ sym (same (suc i) (omega arith) less))
 
 no-places-length : length {A = ℕ} (replicate 60 0) ≡ 60
 no-places-length = length-replicate {A = ℕ} 60 0
@@ -91,7 +104,7 @@ module _ (ρ : Rules) (s : List ℕ) (from : ℕ) (ns : List ℕ) where
       shared-few t =
           let rest = recordLines ρ ns - linesBefore ρ ns (suc (suc k)) in
           let all : recordLines ρ ns - 2 ≡ linesBefore ρ ns (suc (suc k)) - 2 + rest =
-              omega (arith, two-before (suc k), lines-below ρ ns (suc (suc k)) 61 (omega arith), all-lines ρ ns) in
+          omega (arith, two-before (suc k), lines-below ρ ns (suc (suc k)) 61 (omega arith), all-lines ρ ns) in
           ap (locatedBehind ns) (ap (behindAt s from) all ∙ few-then s from _ rest (behind-these TooFew t))
 
       pub shared-more : (next : ℕ) → behindAt s at many ≡ At next → Shared (k + 1) next (set starts k at) (set ends k next)
@@ -140,13 +153,10 @@ places-from ρ s at from (refused r) e = (refl, refl)
 -- ---- the places of a record that is located, by a group's number
 
 module _ (ρ : Rules) (s : List ℕ) (at n : ℕ) (ns : List ℕ) (e : locate ρ s at ≡ located n ns) (g : ℕ) (low : 1 ≤ g) (high : g ≤ 60) where
-  numbered : (f : ℕ → ℕ) → getD (eachGroup f) (g - 1) 0 ≡ f g
-  numbered f = getD-map-up f 1 60 (g - 1) 0 (omega arith) ∙ ap f (omega arith)
-
   pub start-at : getD (startsAt ρ s at) (g - 1) 0 ≡ start ρ s at ns g
   unfolding startsAt
-  start-at = rw e (numbered (start ρ s at ns))
+  start-at = rw e (each-at (start ρ s at ns) g low high)
 
   pub end-at : getD (endsAt ρ s at) (g - 1) 0 ≡ start ρ s at ns (suc g)
   unfolding endsAt
-  end-at = rw e (numbered (λ h. start ρ s at ns (suc h)))
+  end-at = rw e (each-at (λ h. start ρ s at ns (suc h)) g low high)

@@ -54,6 +54,15 @@ module _ (ρ : Rules) (s : List ℕ) (at : ℕ) (ns : List ℕ) where
       let w : at + reach xs (linesBefore ρ ns (suc g)) - (at + reach xs j) ≡ reach (behind j xs) k = omega arith in
       rw (w, ← drop-drop (reach xs j) at s)
 
+  pub part-end : (g : ℕ) → start ρ s at ns (suc g) ≡ start ρ s at ns g + length (groupPart ρ s at ns g)
+  unfolding start
+  part-end g =
+      let j = linesBefore ρ ns g in
+      let k = linesBefore ρ ns (suc g) - j in
+      let xs = drop at s in
+      let e : linesBefore ρ ns (suc g) ≡ j + k = omega (arith, lines-below ρ ns g (suc g) (omega arith)) in
+      omega (arith, ap (reach xs) e, reach-add xs j k, ap length (part-between g), length-lines (behind j xs) k)
+
   -- which are its own
   pub part-lines : (g : ℕ) → g < 61 → groupPart ρ s at ns g ≡ lines (getD (lineTally ρ ns) g 0) (behind (linesBefore ρ ns g) (drop at s))
   part-lines g h =
