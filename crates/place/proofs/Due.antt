@@ -155,17 +155,17 @@ module _ (ρ : Rules) (s : List ℕ) (at : ℕ) where
 
   -- ---- the places
 
-  group-there : (ns : List ℕ) (g from to : ℕ) → 1 ≤ g → g ≤ 60 → GroupStands ρ s at ns g from to → (from ≡ start ρ s at ns g) × (to ≡ start ρ s at ns (suc g))
-  group-there ns g from to low high h =
-      let p = is-part ρ s at ns g from (h .lines) low high (h .part) in
+  group-there : (ns : List ℕ) (g : ℕ) {from to : ℕ} → 1 ≤ g → g ≤ 60 → GroupStands ρ s at ns g from to → (from ≡ start ρ s at ns g) × (to ≡ start ρ s at ns (suc g))
+  group-there ns g low high h =
+      let p = is-part ρ s at ns g _ (h .lines) low high (h .part) in
       (p .0, h .ends ∙ ap₂ (λ n x. n + length x) (p .0) (p .1) ∙ sym (part-end ρ s at ns g))
 
   places-given : (a b : List ℕ) → PlacesDue ρ s at a b → (startsAt ρ s at ≡ a) × (endsAt ρ s at ≡ b)
   unfolding startsAt endsAt
   places-given a b (inl h) =
       rw (to-located (h .ns) (h .stands .next) (h .stands .lines)) (
-        is-each (start ρ s at (h .ns)) a (h .many-starts) (λ g low high. group-there (h .ns) g _ _ low high (h .each g low high) .0),
-        is-each (λ g. start ρ s at (h .ns) (suc g)) b (h .many-ends) (λ g low high. group-there (h .ns) g _ _ low high (h .each g low high) .1),
+        is-each (start ρ s at (h .ns)) a (h .many-starts) (λ g low high. group-there (h .ns) g low high (h .each g low high) .0),
+        is-each (λ g. start ρ s at (h .ns) (suc g)) b (h .many-ends) (λ g low high. group-there (h .ns) g low high (h .each g low high) .1),
       )
   places-given a b (inr n) = by (locate ρ s at) refl
     where

@@ -152,11 +152,11 @@ places-from ρ s at from (refused r) e = (refl, refl)
 
 -- ---- the places of a record that is located, by a group's number
 
-module _ (ρ : Rules) (s : List ℕ) (at n : ℕ) (ns : List ℕ) (e : locate ρ s at ≡ located n ns) (g : ℕ) (low : 1 ≤ g) (high : g ≤ 60) where
-  pub start-at : getD (startsAt ρ s at) (g - 1) 0 ≡ start ρ s at ns g
+module _ (ρ : Rules) (s : List ℕ) (at n : ℕ) (ns : List ℕ) (e : locate ρ s at ≡ located n ns) where
+  pub start-at : (g : ℕ) → 1 ≤ g → g ≤ 60 → getD (startsAt ρ s at) (g - 1) 0 ≡ start ρ s at ns g
   unfolding startsAt
-  start-at = rw e (each-at (start ρ s at ns) g low high)
+  start-at g low high = rw e (each-at (start ρ s at ns) g low high)
 
-  pub end-at : getD (endsAt ρ s at) (g - 1) 0 ≡ start ρ s at ns (suc g)
+  pub end-at : (g : ℕ) → 1 ≤ g → g ≤ 60 → getD (endsAt ρ s at) (g - 1) 0 ≡ start ρ s at ns (suc g)
   unfolding endsAt
-  end-at = rw e (each-at (λ h. start ρ s at ns (suc h)) g low high)
+  end-at g low high = rw e (each-at (λ h. start ρ s at ns (suc h)) g low high)
