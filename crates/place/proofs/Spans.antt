@@ -1,6 +1,6 @@
 -- R259: where the lines of each group begin and end, one group after the other, as the code finds them from the data lines on.
 -- Assumes nothing.
-use mathlib.Core.Path.{_≡_, refl, sym, _∙_, ap}
+use mathlib.Core.Path.{_≡_, refl, sym, _∙_, ap, ap₂}
 use mathlib.Core.List.{List, map}
 use Prim.Native.Nat.{ℕ, suc, _+_, _-_, _<_, _≤_}
 use native.Mathlib.Nat.{zero-add}
@@ -26,7 +26,7 @@ use Rattle.count.specs.Tally.{linesBefore, recordLines}
 use Rattle.count.proofs.Tallied.{tally-at, before-groups, line-entry, lines-more, lines-has, lines-below, all-lines}
 use Rattle.reply.specs.declared.Refusal.the-variants.{TooFewLines}
 use Rattle.place.specs.Parts.{start}
-use Rattle.place.specs.Placing.{Located, located, refused, locate, placesBy, startsAt, endsAt, locatedBehind, locateLinesFrom, startFrom}
+use Rattle.place.specs.Placing.{Located, located, refused, locate, placesBy, countsAt, startsAt, endsAt, carried, carriedAt, locatedBehind, locateLinesFrom, startFrom}
 
 -- a number for each of groups 1 to 60
 abbrev pub eachGroup : (ℕ → ℕ) → List ℕ
@@ -160,3 +160,17 @@ module _ (ρ : Rules) (s : List ℕ) (at n : ℕ) (ns : List ℕ) (e : locate ρ
   pub end-at : (g : ℕ) → 1 ≤ g → g ≤ 60 → getD (endsAt ρ s at) (g - 1) 0 ≡ start ρ s at ns (suc g)
   unfolding endsAt
   end-at g low high = rw e (each-at (λ h. start ρ s at ns (suc h)) g low high)
+
+-- where the same is located, and the lines of its groups begin at the same places, the records carry the same
+pub carried-same : (ρ : Rules) (s : List ℕ) (σ : Rules) (t : List ℕ) (at : ℕ) → locate ρ s at ≡ locate σ t at
+    → ((n : ℕ) (ns : List ℕ) → locate ρ s at ≡ located n ns → (g : ℕ) → start ρ s at ns g ≡ start σ t at ns g) → carriedAt ρ s at ≡ carriedAt σ t at
+unfolding countsAt startsAt endsAt
+carried-same ρ s σ t at e starts = by (locate ρ s at) refl
+  where
+    by : (l : Located) → locate ρ s at ≡ l → carriedAt ρ s at ≡ carriedAt σ t at
+    by (located n ns) u =
+        rw (← e, u)
+        (ap₂ (carried ns)
+        (map-up-same (start ρ s at ns) (start σ t at ns) 1 60 (λ g low high. starts n ns u g))
+        (map-up-same (λ g. start ρ s at ns (suc g)) (λ g. start σ t at ns (suc g)) 1 60 (λ g low high. starts n ns u (suc g))))
+    by (refused r) u = rw (← e, u) refl
