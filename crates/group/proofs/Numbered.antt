@@ -79,7 +79,7 @@ module _ (ρ : Rules) (s : List ℕ) (at k : ℕ) where
   told-numbered NoReading d = inl (fills 0 [] tt)
   told-numbered NotReported d = inl (fills 0 [] tt)
   told-numbered (Refused r) (inl n) = rw (n .twelve) (inr (inl (refusal-fills NoSuchNumber tt)))
-  told-numbered (Refused r) (inr h) = four-numbered r (h .four 49 (omega arith))
+  told-numbered (Refused r) (inr h) = four-numbered r (h .reads-as 49 (omega arith))
 
   pub characteristic-numbered : Numbered characteristicRows (characteristicReply (characteristicAt ρ s at k))
   characteristic-numbered = told-numbered (characteristicAt ρ s at k) (characteristic-first-due ρ s at k (characteristicAt ρ s at k) .0 refl)

@@ -5,10 +5,11 @@ use reply::Checked;
 use reply::Refusal;
 ghost use mathlib.Core.Path.{_≡_};
 ghost use mathlib.Core.Bool.{_&&_};
+ghost use Prim.Native.Nat.{_≤_};
 ghost use lib.Dec.{leb};
 ghost use lib.ListN.{length, replicate};
 ghost use Rattle.reading.specs.Read.{readingOf, tableBy};
-ghost use Rattle.group.specs.Characteristics.{toldBy, characteristicAt};
+ghost use Rattle.group.specs.Characteristics.{toldBy, toldOf, characteristicAt};
 ghost use Rattle.group.specs.Numbered.{characteristicReply};
 ghost use Rattle.group.specs.Held.{foundAt, countsHeld, partStart, partEnd, partAt, moved};
 ghost use Rattle.group.specs.Text.{readAt};
@@ -145,10 +146,27 @@ fn told_by(number: usize, cell: i64) -> Characteristic
 }
 
 // R212: whether a characteristic has this number.
-fn is_characteristic(number: usize) -> bool
+pub fn is_characteristic(number: usize) -> bool
     ensures { λ r. ⌜ r ≡ leb 1 number && leb number 49 ⌝ }
 {
     1 <= number && number <= 49
+}
+
+// R292: what is told of a characteristic, by the answer of reading group 4 and the cells behind it.
+pub fn told_of(number: usize, answer: Answer, cells: &[i64]) -> Characteristic
+    requires low { ⌜ 1 ≤ number ⌝ }
+    requires high { ⌜ number ≤ length (now cells) ⌝ }
+    ensures { λ r. ⌜ r ≡ toldOf number answer (now (cells .entry)) ⌝ }
+{
+    match answer {
+        Answer::Refused(r) => Characteristic::Refused(r),
+        Answer::Done(n) => {
+            if n < number {
+                return Characteristic::NotReported;
+            }
+            told_by(number, cells[number - 1])
+        }
+    }
 }
 
 // R294: asks for a characteristic, 1 to 49, of the record at a place of a text.
@@ -164,15 +182,8 @@ pub fn characteristic_at(
         return Characteristic::Refused(Refusal::NoSuchNumber);
     }
     let mut table = [0i64; 49];
-    match read_group(rules, text, at, 4, &mut table) {
-        Answer::Refused(r) => Characteristic::Refused(r),
-        Answer::Done(n) => {
-            if n < number {
-                return Characteristic::NotReported;
-            }
-            told_by(number, table[number - 1])
-        }
-    }
+    let answer = read_group(rules, text, at, 4, &mut table);
+    told_of(number, answer, &table)
 }
 
 // ---- Replies.
