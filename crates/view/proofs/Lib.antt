@@ -1,0 +1,2 @@
+-- The laws of view's definitions.
+pub mod Found
