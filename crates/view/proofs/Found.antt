@@ -43,7 +43,7 @@ module _ (ρ : Rules) (s : List ℕ) (r : Carried) (g : ℕ) where
   unfolding startWith endWith
   gives-none e = rw e (refl, (refl, refl))
 
-  found-none : formOf g ≡ NoForm → foundWith ρ s r g ≡ C.Refused NoSuchNumber
+  pub found-none : formOf g ≡ NoForm → foundWith ρ s r g ≡ C.Refused NoSuchNumber
   unfolding foundWith
   found-none e = rw e
 
@@ -59,7 +59,7 @@ module _ (ρ : Rules) (s : List ℕ) (r : Carried) (g : ℕ) where
     gives-counts a = gives-none (found-counts a)
 
     module _ (a : acceptedOf (r .counts-of) ≡ C.Right) where
-      found-held : {t : Bool} → holdsPart ρ s r g f ≡ t → foundWith ρ s r g ≡ cond t C.Right (C.Refused BadPart)
+      pub found-held : {t : Bool} → holdsPart ρ s r g f ≡ t → foundWith ρ s r g ≡ cond t C.Right (C.Refused BadPart)
       unfolding foundWith
       found-held h = rw (e, a, h)
 

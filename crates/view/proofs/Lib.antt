@@ -1,2 +1,3 @@
 -- The laws of view's definitions.
 pub mod Found
+pub mod Due
