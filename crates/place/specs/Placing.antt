@@ -101,6 +101,9 @@ pub record Carried : Type 0 where
 abbrev pub carried : (ns starts ends : List ℕ) → Carried
 carried ns starts ends = record { counts-of = ns; starts-of = starts; ends-of = ends }
 
+abbrev pub carriedBy : Record → Carried
+carriedBy r = carried (r .counts) (r .starts) (r .ends)
+
 -- what the record that is placed there carries; zeros where nothing is placed
 abbrev pub carriedAt : Rules → List ℕ → ℕ → Carried
 carriedAt ρ s at = carried (countsAt ρ s at) (startsAt ρ s at) (endsAt ρ s at)

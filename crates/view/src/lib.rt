@@ -10,7 +10,7 @@ use reply::Refusal;
 ghost use mathlib.Core.Path.{_≡_};
 ghost use lib.ListN.{length};
 ghost use Rattle.reading.specs.Read.{readingOf, tableBy};
-ghost use Rattle.place.specs.Placing.{carried};
+ghost use Rattle.place.specs.Placing.{carried, carriedBy};
 ghost use Rattle.group.specs.Held.{moved};
 ghost use Rattle.view.specs.With.{placeOf, foundWith, startWith, endWith, partWith, readWith, characteristicWith};
 
@@ -81,28 +81,6 @@ pub fn lines_with(
     }
 }
 
-// R285, R446: the lines, as a part of the text that was lent; no copy is made.
-pub fn part_with<'a>(
-    rules: rules::Rules,
-    text: &'a [u8],
-    counts: &[u16],
-    starts: &[usize],
-    ends: &[usize],
-    group: usize,
-) -> &'a [u8]
-    ensures bytes { λ r. ⌜ now r ≡
-        partWith rules (now (text .entry)) (carried (now (counts .entry)) (now (starts .entry)) (now (ends .entry)))
-        group ⌝ }
-    ensures address { λ r. ⌜ r .ptr ≡
-        moved (text .entry .ptr) (startWith rules (now (text .entry))
-        (carried (now (counts .entry)) (now (starts .entry)) (now (ends .entry))) group) ⌝ }
-{
-    let lines = lines_with(rules, text, counts, starts, ends, group);
-    let from = lines.from;
-    let to = lines.to;
-    &text[from..to]
-}
-
 // R285, R287: reads a group into a table: first as `lines_with` says, then by the counts and these lines alone. A
 // refusal alters nothing (R267).
 pub fn read_with(
@@ -152,4 +130,65 @@ pub fn characteristic_with(
     let mut table = [0i64; 49];
     let answer = read_with(rules, text, counts, starts, ends, 4, &mut table);
     group::told_of(number, answer, &table)
+}
+
+// ---- The same with a record as placing gives it.
+
+// R285: asks where the lines of a group stand.
+pub fn lines_by(rules: rules::Rules, text: &[u8], lent: Record, group: usize) -> Lines
+    ensures found { λ r. ⌜ r .found ≡ foundWith rules (now (text .entry)) (carriedBy lent) group ⌝ }
+    ensures from { λ r. ⌜ r .from ≡ startWith rules (now (text .entry)) (carriedBy lent) group ⌝ }
+    ensures to { λ r. ⌜ r .to ≡ endWith rules (now (text .entry)) (carriedBy lent) group ⌝ }
+{
+    let counts = lent.counts;
+    let starts = lent.starts;
+    let ends = lent.ends;
+    lines_with(rules, text, &counts, &starts, &ends, group)
+}
+
+// R285, R446: the lines, as a part of the text that was lent; no copy is made.
+pub fn part_by<'a>(rules: rules::Rules, text: &'a [u8], lent: Record, group: usize) -> &'a [u8]
+    ensures bytes { λ r. ⌜ now r ≡ partWith rules (now (text .entry)) (carriedBy lent) group ⌝ }
+    ensures address { λ r. ⌜ r .ptr ≡
+        moved (text .entry .ptr) (startWith rules (now (text .entry)) (carriedBy lent) group) ⌝ }
+{
+    let lines = lines_by(rules, text, lent, group);
+    let from = lines.from;
+    let to = lines.to;
+    &text[from..to]
+}
+
+// R285: reads a group into a table.
+pub fn read_by(
+    rules: rules::Rules,
+    text: &[u8],
+    lent: Record,
+    group: usize,
+    table: &mut [i64],
+) -> Answer
+    ensures answer { λ r. ⌜ r ≡
+        readingOf (readWith rules (now (text .entry)) (carriedBy lent) group (length (now (table .entry)))) ⌝ }
+    ensures table { λ _. ⌜ now (table .exit) ≡
+        tableBy (readWith rules (now (text .entry)) (carriedBy lent) group (length (now (table .entry))))
+        (now (table .entry)) ⌝ }
+{
+    let counts = lent.counts;
+    let starts = lent.starts;
+    let ends = lent.ends;
+    read_with(rules, text, &counts, &starts, &ends, group, table)
+}
+
+// R297: asks for a characteristic, 1 to 49.
+pub fn characteristic_by(
+    rules: rules::Rules,
+    text: &[u8],
+    lent: Record,
+    number: usize,
+) -> Characteristic
+    ensures { λ r. ⌜ r ≡ characteristicWith rules (now (text .entry)) (carriedBy lent) number ⌝ }
+{
+    let counts = lent.counts;
+    let starts = lent.starts;
+    let ends = lent.ends;
+    characteristic_with(rules, text, &counts, &starts, &ends, number)
 }
