@@ -28,9 +28,11 @@ use Rattle.count.proofs.Due.{accepted-first-due}
 use Rattle.count.proofs.Tallied.{lines-has}
 use Rattle.place.specs.Placing.{Carried}
 use Rattle.reading.specs.Read.{Cells, readGroup}
+use Rattle.reading.specs.Due as Lines
 use Rattle.reading.proofs.Due as Reading
 use Rattle.reading.proofs.Promises.{read-room}
 use Rattle.group.specs.declared.Characteristic.{Characteristic}
+use Rattle.group.specs.declared.Characteristic.the-variants.{Refused}
 use Rattle.group.proofs.Due.{told-first-due}
 use Rattle.group.proofs.Rooms.{form-four, cells-four, room-four}
 use Rattle.reply.specs.declared.Refusal.{Refusal}
@@ -38,7 +40,8 @@ use Rattle.reply.specs.declared.Refusal.the-variants.{NoSuchNumber, BadPart}
 use Rattle.reply.specs.declared.Checked.{Checked}
 use Rattle.reply.specs.declared.Checked.the-variants as C
 use Rattle.view.specs.With.{placeOf, readIf, holdsPart, partHeld, heldWith, foundWith, startWith, endWith, partWith, readWith, characteristicWith}
-use Rattle.view.specs.Due.{namedPart, PartHolds, Ruled, Held, RefusedFor, no-group, bad-counts, bad-part, FoundDue, PartDue, ReadingDue, Due, CharacteristicDue}
+use Rattle.view.specs.Due.{namedPart, PartHolds, Ruled, Held, LacksPart, RefusedFor, no-group, bad-counts, bad-part, FoundDue, PartDue, ReadingDue, Due, CharacteristicDue}
+use Rattle.view.specs.Placed.{BadPartExactly}
 use Rattle.view.proofs.Found.{found-none, found-counts, found-held, with-range, with-missing, with-given}
 
 -- ---- the lines of a group
@@ -68,9 +71,9 @@ module _ (ρ : Rules) (s : List ℕ) (r : Carried) (g : ℕ) where
   missing-given q (bad-counts p low high d) =
       let f = group-form g low high in
       found-counts ρ s r g (f .0) (f .1) (accepted-first-due (r .counts-of) (C.Refused p) .1 d)
-  missing-given q (bad-part d n) =
-      let f = group-form g (d .low) (d .high) in
-      found-held ρ s r g (f .0) (f .1) (ruled-accepted d) (not-T-false (holdsPart ρ s r g (f .0)) (λ t. n (lines-held (f .0) (f .1) .1 (T-true (holdsPart ρ s r g (f .0)) t))))
+  missing-given q (bad-part d) =
+      let f = group-form g (d .ruled .low) (d .ruled .high) in
+      found-held ρ s r g (f .0) (f .1) (ruled-accepted (d .ruled)) (not-T-false (holdsPart ρ s r g (f .0)) (λ t. d .fails (lines-held (f .0) (f .1) .1 (T-true (holdsPart ρ s r g (f .0)) t))))
 
   found-given : (a : Checked) → FoundDue ρ s r g a → foundWith ρ s r g ≡ a
   found-given C.Right d = held-given d
@@ -84,7 +87,7 @@ module _ (ρ : Rules) (s : List ℕ) (r : Carried) (g : ℕ) where
     where
       part : (f : Form) (t : Bool) → formOf g ≡ Has f → Ruled ρ s r g → holdsPart ρ s r g f ≡ t → FoundDue ρ s r g (cond t C.Right (C.Refused BadPart))
       part f true e d h = record { ruled = d; lines = lines-held f e .1 h }
-      part f false e d h = bad-part d (λ l. false≢true (sym h ∙ lines-held f e .0 l))
+      part f false e d h = bad-part record { ruled = d; fails = λ l. false≢true (sym h ∙ lines-held f e .0 l) }
 
       counts : (f : Form) (a : Checked) → formOf g ≡ Has f → (1 ≤ g) × (g ≤ 60) → AcceptedDue (r .counts-of) a → FoundDue ρ s r g (andThen a (partHeld ρ s r g f))
       counts f C.Right e i d = part f (holdsPart ρ s r g f) e record { low = i .0; high = i .1; rules = d } refl
@@ -99,16 +102,16 @@ module _ (ρ : Rules) (s : List ℕ) (r : Carried) (g : ℕ) where
   found-first-due a = (λ e. subst (FoundDue ρ s r g) e found-is-due, found-given a)
 
   -- R286: 22 exactly if neither 12 nor 4 to 7 is due and the part does not hold
-  pub bad-part-exactly : foundWith ρ s r g ≡ C.Refused BadPart ↔ (Ruled ρ s r g × (PartHolds ρ s r g → ⊥))
-  bad-part-exactly = (λ e. by BadPart refl (found-first-due (C.Refused BadPart) .0 e), λ d. missing-given BadPart (bad-part (d .0) (d .1)))
-    where
-      by : (q : Refusal) → q ≡ BadPart → RefusedFor ρ s r g q → Ruled ρ s r g × (PartHolds ρ s r g → ⊥)
-      by q e (no-group d) = let z : _≡_ {A = ℕ} 0 1 = cc in absurd (omega arith)
-      by q e (bad-counts p low high (misformed d)) = let z : _≡_ {A = ℕ} 0 1 = cc in absurd (omega arith)
-      by q e (bad-counts p low high (other-release d)) = let z : _≡_ {A = ℕ} 0 1 = cc in absurd (omega arith)
-      by q e (bad-counts p low high (filled-vacant h d)) = let z : _≡_ {A = ℕ} 0 1 = cc in absurd (omega arith)
-      by q e (bad-counts p low high (broken-rule h d)) = let z : _≡_ {A = ℕ} 0 1 = cc in absurd (omega arith)
-      by q e (bad-part d n) = (d, n)
+  lacks-part : (q : Refusal) → q ≡ BadPart → RefusedFor ρ s r g q → LacksPart ρ s r g
+  lacks-part q e (no-group d) = let z : _≡_ {A = ℕ} 0 1 = cc in absurd (omega arith)
+  lacks-part q e (bad-counts p low high (misformed d)) = let z : _≡_ {A = ℕ} 0 1 = cc in absurd (omega arith)
+  lacks-part q e (bad-counts p low high (other-release d)) = let z : _≡_ {A = ℕ} 0 1 = cc in absurd (omega arith)
+  lacks-part q e (bad-counts p low high (filled-vacant h d)) = let z : _≡_ {A = ℕ} 0 1 = cc in absurd (omega arith)
+  lacks-part q e (bad-counts p low high (broken-rule h d)) = let z : _≡_ {A = ℕ} 0 1 = cc in absurd (omega arith)
+  lacks-part q e (bad-part d) = d
+
+  found-exactly : foundWith ρ s r g ≡ C.Refused BadPart ↔ LacksPart ρ s r g
+  found-exactly = (λ e. lacks-part BadPart refl (found-first-due (C.Refused BadPart) .0 e), λ d. missing-given BadPart (bad-part d))
 
   -- ---- the part
 
@@ -165,8 +168,26 @@ module _ (ρ : Rules) (s : List ℕ) (r : Carried) (g : ℕ) where
         }
     read-is-due (C.Refused q) e = subst (Due ρ s r g room) (sym (with-missing ρ s r g room e)) (inl (found-first-due (C.Refused q) .0 e))
 
+    -- the lines and their fields never give 22
+    reads-lines : (q : Refusal) → q ≡ BadPart → Lines.RefusedFor ρ (r .counts-of) g (namedPart ρ s r g) room q → ⊥
+    reads-lines q e (Lines.no-group d) = let z : _≡_ {A = ℕ} 0 1 = cc in omega arith
+    reads-lines q e (Lines.broken-rule h d) = let z : _≡_ {A = ℕ} 0 1 = cc in omega arith
+    reads-lines q e (Lines.no-room d) = let z : _≡_ {A = ℕ} 0 1 = cc in omega arith
+    reads-lines q e (Lines.bad-line l d) = let z : _≡_ {A = ℕ} 0 1 = cc in omega arith
+    reads-lines q e (Lines.bad-field l k d) = let z : _≡_ {A = ℕ} 0 1 = cc in omega arith
+    reads-lines q e (Lines.bad-date p d) = let z : _≡_ {A = ℕ} 0 1 = cc in omega arith
+
     pub first-due : (c : Cells) → readWith ρ s r g room ≡ c ↔ Due ρ s r g room c
     first-due c = (λ e. subst (Due ρ s r g room) e (read-is-due (foundWith ρ s r g) refl), read-given c)
+
+    reading-exactly : readWith ρ s r g room ≡ bad BadPart ↔ LacksPart ρ s r g
+    reading-exactly = (
+      λ e. ⊎-elim (lacks-part BadPart refl) (λ (d : ReadingDue ρ s r g room (bad BadPart)). absurd (reads-lines BadPart refl (d .reading))) (first-due (bad BadPart) .0 e),
+      λ d. read-given (bad BadPart) (inl (bad-part d)),
+    )
+
+    pub lines-decide : Held ρ s r g → readWith ρ s r g room ≡ readGroup ρ (r .counts-of) g (namedPart ρ s r g) room
+    lines-decide d = held-reads (held-given d)
 
 -- ---- a characteristic
 
@@ -197,3 +218,18 @@ module _ (ρ : Rules) (s : List ℕ) (r : Carried) where
   pub characteristic-first-due : (k : ℕ) (c : Characteristic) → characteristicWith ρ s r k ≡ c ↔ CharacteristicDue ρ s r k c
   unfolding characteristicWith
   characteristic-first-due = told-first-due (Due ρ s r 4) (countOf (r .counts-of) 4) (readWith ρ s r 4 49) four-is four-size
+
+  characteristic-exactly : (k : ℕ) → characteristicWith ρ s r k ≡ Refused BadPart ↔ (((1 ≤ k) × (k ≤ 49)) × LacksPart ρ s r 4)
+  characteristic-exactly k = (λ e. there (characteristic-first-due k (Refused BadPart) .0 e), back)
+    where
+      there : CharacteristicDue ρ s r k (Refused BadPart) → ((1 ≤ k) × (k ≤ 49)) × LacksPart ρ s r 4
+      there (inl n) = let e = n .twelve in let z : _≡_ {A = ℕ} 0 1 = cc in absurd (omega arith)
+      there (inr h) = ((h .low, h .high), reading-exactly ρ s r 4 49 .0 (four-is (bad BadPart) .1 (h .reads-as)))
+
+      back : ((1 ≤ k) × (k ≤ 49)) × LacksPart ρ s r 4 → characteristicWith ρ s r k ≡ Refused BadPart
+      back d =
+          characteristic-first-due k (Refused BadPart) .1
+          (inr record { low = d .0 .0; high = d .0 .1; reads-as = four-is (bad BadPart) .0 (reading-exactly ρ s r 4 49 .1 (d .1)) })
+
+  pub bad-part-exactly : BadPartExactly ρ s r
+  bad-part-exactly = record { lines = found-exactly ρ s r; reading = reading-exactly ρ s r; characteristic = characteristic-exactly }

@@ -44,12 +44,17 @@ module _ (ρ : Rules) (s : List ℕ) (r : Carried) where
       pub ruled : Ruled
       pub lines : PartHolds
 
+    -- R222
+    pub record LacksPart : Type 0 where
+      pub ruled : Ruled
+      pub fails : PartHolds → ⊥
+
     -- ---- the lines of a group
 
     pub data RefusedFor : Refusal → Type 0 where
       no-group : NoSuchGroup g → RefusedFor NoSuchNumber
       bad-counts : (q : Refusal) → 1 ≤ g → g ≤ 60 → CountsRefusedFor (r .counts-of) q → RefusedFor q
-      bad-part : Ruled → (PartHolds → ⊥) → RefusedFor BadPart
+      bad-part : LacksPart → RefusedFor BadPart
 
     abbrev pub FoundDue : Checked → Type 0
     FoundDue C.Right = Held
