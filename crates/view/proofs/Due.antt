@@ -66,6 +66,14 @@ module _ (ρ : Rules) (s : List ℕ) (r : Carried) (g : ℕ) where
       let f = group-form g (d .ruled .low) (d .ruled .high) in
       found-held ρ s r g (f .0) (f .1) (ruled-accepted (d .ruled)) (lines-held (f .0) (f .1) .0 (d .lines))
 
+  -- a part that holds leaves the answer to the counts
+  pub holds-accepted : (f : Form) → formOf g ≡ Has f → PartHolds ρ s r g → foundWith ρ s r g ≡ acceptedOf (r .counts-of)
+  holds-accepted f e h = by (acceptedOf (r .counts-of)) refl
+    where
+      by : (a : Checked) → acceptedOf (r .counts-of) ≡ a → foundWith ρ s r g ≡ acceptedOf (r .counts-of)
+      by C.Right u = found-held ρ s r g f e u (lines-held f e .0 h) ∙ sym u
+      by (C.Refused q) u = found-counts ρ s r g f e u ∙ sym u
+
   missing-given : (q : Refusal) → RefusedFor ρ s r g q → foundWith ρ s r g ≡ C.Refused q
   missing-given q (no-group d) = found-none ρ s r g (none-has g .1 (λ i. d (i .low, i .high)))
   missing-given q (bad-counts p low high d) =

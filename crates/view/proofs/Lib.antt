@@ -1,3 +1,4 @@
 -- The laws of view's definitions.
 pub mod Found
 pub mod Due
+pub mod Placed
