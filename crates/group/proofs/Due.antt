@@ -280,10 +280,8 @@ module _ (ρ : Rules) (s : List ℕ) (at k : ℕ) where
       told-first-due (Due ρ s at 4) (countOf (countsAt ρ s at) 4) (readAt ρ s at 4 49) four-is (λ cs e. four-size ρ s at 49 cs (first-due ρ s at 4 49 (done cs) .0 e)) k
 
 -- 49 cells always have room for group 4
-pub four-has-room : (ρ : Rules) (s : List ℕ) (at n : ℕ) (placed : PlacingDue ρ s at 4 (P.Placed n)) (x : List ℕ) → TableShort ρ (placed .placing .ns) 4 x 49 → ⊥
-four-has-room ρ s at n placed x d =
-    let ns = placed .placing .ns in
-    let f = d .f in
-    let h : Has f ≡ Has F8 = sym (d .ruled .form) ∙ form-four in
-    let u : f ≡ F8 = cc in
+pub four-has-room : (ρ : Rules) (ns x : List ℕ) → TableShort ρ ns 4 x 49 → ⊥
+four-has-room ρ ns x d =
+    let h : Has (d .f) ≡ Has F8 = sym (d .ruled .form) ∙ form-four in
+    let u : d .f ≡ F8 = cc in
     omega (arith, d .few, ap (λ y. cellsOf ρ y (countOf ns 4)) u, room-four ρ ns (kept-ruling ns (d .ruled .kept)))
