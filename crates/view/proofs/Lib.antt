@@ -1,4 +1,5 @@
 -- The laws of view's definitions.
 pub mod Found
 pub mod Due
+pub mod Numbered
 pub mod Placed
