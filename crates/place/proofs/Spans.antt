@@ -91,7 +91,7 @@ module _ (ρ : Rules) (s : List ℕ) (from : ℕ) (ns : List ℕ) where
       shared-few t =
           let rest = recordLines ρ ns - linesBefore ρ ns (suc (suc k)) in
           let all : recordLines ρ ns - 2 ≡ linesBefore ρ ns (suc (suc k)) - 2 + rest =
-              omega (arith, two-before (suc k), lines-below ρ ns (suc (suc k)) 61 (omega arith), all-lines ρ ns) in
+          omega (arith, two-before (suc k), lines-below ρ ns (suc (suc k)) 61 (omega arith), all-lines ρ ns) in
           ap (locatedBehind ns) (ap (behindAt s from) all ∙ few-then s from _ rest (behind-these TooFew t))
 
       pub shared-more : (next : ℕ) → behindAt s at many ≡ At next → Shared (k + 1) next (set starts k at) (set ends k next)
@@ -136,6 +136,20 @@ places-from ρ s at from (located n ns) e =
       map-up-same (λ g. startFrom ρ s (at + reach (drop at s) 2) ns (suc g)) (λ g. start ρ s at ns (suc g)) 1 60 (λ g low high. start-from ρ s at ns (suc g) (omega arith)),
     )
 places-from ρ s at from (refused r) e = (refl, refl)
+
+-- ---- each of the 60 groups has its places, in zeros too
+
+places-length : (begins : List ℕ → ℕ → ℕ) (l : Located) → length (placesBy begins l) ≡ 60
+places-length begins (located n ns) = each-length (begins ns)
+places-length begins (refused r) = no-places-length
+
+pub starts-length : (ρ : Rules) (s : List ℕ) (at : ℕ) → length (startsAt ρ s at) ≡ 60
+unfolding startsAt
+starts-length ρ s at = places-length (start ρ s at) (locate ρ s at)
+
+pub ends-length : (ρ : Rules) (s : List ℕ) (at : ℕ) → length (endsAt ρ s at) ≡ 60
+unfolding endsAt
+ends-length ρ s at = places-length (λ ns g. start ρ s at ns (suc g)) (locate ρ s at)
 
 -- ---- the places of a record that is located, by a group's number
 
