@@ -29,7 +29,8 @@ use Rattle.reply.specs.declared.Refusal.{Refusal}
 use Rattle.reply.specs.declared.Refusal.the-variants.{End, Beyond, TooFewLines, Misformed}
 use Rattle.place.specs.declared.Placing.the-variants.{Refused}
 use Rattle.place.specs.Index.{counts, misformed, readEntries, readIndexLine, bothLines, readIndex}
-use Rattle.place.specs.Placing.{Located, located, refused, locate, locateIndex, locateRelease, locateLines, locateLinesFrom, locateFrom, locateFive, locatedBehind, Answers, placingOf, countsAt, startsAt, endsAt}
+use Rattle.place.specs.Placing.{Located, located, refused, locate, locateIndex, locateRelease, locateLines, locateLinesFrom, locateFrom, locateFive, locatedBehind, Answers}
+use Rattle.place.specs.Placing.{placingOf, countsAt, startsAt, endsAt}
 use Rattle.place.proofs.Spans.{places-from}
 
 -- ---- an index line
