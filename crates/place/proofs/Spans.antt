@@ -150,6 +150,20 @@ places-from ρ s at from (located n ns) e =
     )
 places-from ρ s at from (refused r) e = (refl, refl)
 
+-- ---- each of the 60 groups has its places, in zeros too
+
+places-length : (begins : List ℕ → ℕ → ℕ) (l : Located) → length (placesBy begins l) ≡ 60
+places-length begins (located n ns) = each-length (begins ns)
+places-length begins (refused r) = no-places-length
+
+pub starts-length : (ρ : Rules) (s : List ℕ) (at : ℕ) → length (startsAt ρ s at) ≡ 60
+unfolding startsAt
+starts-length ρ s at = places-length (start ρ s at) (locate ρ s at)
+
+pub ends-length : (ρ : Rules) (s : List ℕ) (at : ℕ) → length (endsAt ρ s at) ≡ 60
+unfolding endsAt
+ends-length ρ s at = places-length (λ ns g. start ρ s at ns (suc g)) (locate ρ s at)
+
 -- ---- the places of a record that is located, by a group's number
 
 module _ (ρ : Rules) (s : List ℕ) (at n : ℕ) (ns : List ℕ) (e : locate ρ s at ≡ located n ns) where
