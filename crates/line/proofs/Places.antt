@@ -18,9 +18,8 @@ use Rattle.base.proofs.Part.{part-within}
 use Rattle.base.proofs.Mapped.{map-length}
 use Rattle.base.proofs.Order.{le-or-lt}
 use Rattle.line.specs.Lines.{isFeed, feeds, reach, lines, behind, Whole}
-use Rattle.line.specs.Places.{behindAt, more}
+use Rattle.line.specs.Places.{behindAt}
 use Rattle.line.specs.Texts.{SameLines}
-use Rattle.line.specs.declared.Behind.{Behind}
 use Rattle.line.specs.declared.Behind.the-variants.{At, TooFew}
 use Rattle.line.proofs.Feeds.{feeds-append, feeds-nil, feeds-drop-feed, feeds-drop-other}
 use Rattle.line.proofs.Reach.{reach-zero, reach-le, reach-add, reach-all, reach-nil, reach-append, reach-drop-feed, reach-drop-other, feeds-behind, length-lines}
@@ -117,14 +116,6 @@ behindAt-then s at j k n e =
 
 pub few-then : (s : List ℕ) (at j k : ℕ) → behindAt s at j ≡ TooFew → behindAt s at (j + k) ≡ TooFew
 few-then s at j k e = is-few s at (j + k) (omega (arith, few-is s at j e))
-
--- whichever the first answer is
-pub behind-more : (s : List ℕ) (at j k : ℕ) → behindAt s at (j + k) ≡ more s (behindAt s at j) k
-behind-more s at j k = by (behindAt s at j) refl
-  where
-    by : (b : Behind) → behindAt s at j ≡ b → behindAt s at (j + k) ≡ more s b k
-    by (At n) e = behindAt-then s at j k n e
-    by TooFew e = few-then s at j k e
 
 -- ---- nothing before the place matters
 

@@ -10,8 +10,3 @@ use Rattle.line.specs.declared.Behind.the-variants.{At, TooFew}
 
 unfoldable pub behindAt : List ℕ → ℕ → ℕ → Behind
 behindAt s at k = cond (leb k (feeds (drop at s))) (At (at + reach (drop at s) k)) TooFew
-
--- R6: so many lines more, behind what was answered; where lines were too few already, more of them are too
-abbrev pub more : List ℕ → Behind → ℕ → Behind
-more s (At n) k = behindAt s n k
-more s TooFew k = TooFew

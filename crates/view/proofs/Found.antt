@@ -76,9 +76,6 @@ module _ (ρ : Rules) (s : List ℕ) (r : Carried) (g : ℕ) where
     pub accepted : acceptedOf (r .counts-of) ≡ C.Right
     pub lines : AreLines s (placeOf (r .starts-of) g) (placeOf (r .ends-of) g) (linesOf ρ f (countOf (r .counts-of) g))
 
-  pub holds-found : (f : Form) → Holds f → foundWith ρ s r g ≡ C.Right
-  holds-found f h = found-held f (h .has) (h .accepted) (are-lines s _ _ _ .1 (h .lines))
-
   no-right : {X : Type 0} {q : Refusal} → C.Refused q ≡ C.Right → X
   no-right e = let z : _≡_ {A = ℕ} 0 1 = cc in absurd (omega arith)
 
