@@ -192,3 +192,41 @@ pub fn characteristic_by(
     let ends = lent.ends;
     characteristic_with(rules, text, &counts, &starts, &ends, number)
 }
+
+// ---- The same with a text and a record kept together.
+
+// R289, R447: a text, and a record that was placed in it, or any other.
+pub struct View<'a> {
+    pub text: &'a [u8],
+    pub record: Record,
+}
+
+// R289, R446: the lines of a group, as a part of the text that was lent.
+pub fn lines_of<'a>(rules: rules::Rules, view: View<'a>, group: usize) -> &'a [u8]
+    ensures bytes { λ r. ⌜ now r ≡
+        partWith rules (now (view .entry .text)) (carriedBy (view .entry .record)) group ⌝ }
+    ensures address { λ r. ⌜ r .ptr ≡ moved (view .entry .text .ptr)
+        (startWith rules (now (view .entry .text)) (carriedBy (view .entry .record)) group) ⌝ }
+{
+    part_by(rules, view.text, view.record, group)
+}
+
+// R289: where the lines of a group stand.
+pub fn lines_at_of<'a>(rules: rules::Rules, view: View<'a>, group: usize) -> Lines
+    ensures found { λ r. ⌜ r .found ≡
+        foundWith rules (now (view .entry .text)) (carriedBy (view .entry .record)) group ⌝ }
+    ensures from { λ r. ⌜ r .from ≡
+        startWith rules (now (view .entry .text)) (carriedBy (view .entry .record)) group ⌝ }
+    ensures to { λ r. ⌜ r .to ≡
+        endWith rules (now (view .entry .text)) (carriedBy (view .entry .record)) group ⌝ }
+{
+    lines_by(rules, view.text, view.record, group)
+}
+
+// R289, R297: a characteristic, 1 to 49.
+pub fn characteristic_of<'a>(rules: rules::Rules, view: View<'a>, number: usize) -> Characteristic
+    ensures { λ r. ⌜ r ≡
+        characteristicWith rules (now (view .entry .text)) (carriedBy (view .entry .record)) number ⌝ }
+{
+    characteristic_by(rules, view.text, view.record, number)
+}
