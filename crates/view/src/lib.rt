@@ -230,3 +230,17 @@ pub fn characteristic_of<'a>(rules: rules::Rules, view: View<'a>, number: usize)
 {
     characteristic_by(rules, view.text, view.record, number)
 }
+
+// R289, R447: the two together; nothing is asked of the record.
+pub fn view_of<'a>(text: &'a [u8], lent: Record) -> View<'a>
+    ensures { λ r. ⌜ (r .text ≡ text .entry) × (r .record ≡ lent) ⌝ }
+{
+    View { text, record: lent }
+}
+
+// R289: the record's counts, as they stand.
+pub fn counts_of<'a>(view: View<'a>) -> [u16; 80]
+    ensures { λ r. ⌜ r ≡ view .entry .record .counts ⌝ }
+{
+    view.record.counts
+}
