@@ -204,7 +204,8 @@ pub extern "C" fn seambeacon_record_group_apart(
     ensures reply { λ n. ⌜ Told (recordGroupReply (flagged rules) (now (text .entry))
         (carried (now (counts .entry)) (now (starts .entry)) (now (ends .entry))) group
         (length (now (table .entry)))) n (now (beside .exit)) ⌝ }
-    ensures table { λ _. ⌜ now (table .exit) ≡ tableBy (readWith (flagged rules) (now (text .entry))
+    ensures table { λ _. ⌜ now (table .exit) ≡
+        tableBy (readWith (flagged rules) (now (text .entry))
         (carried (now (counts .entry)) (now (starts .entry)) (now (ends .entry))) group
         (length (now (table .entry)))) (now (table .entry)) ⌝ }
 {
@@ -236,8 +237,8 @@ pub extern "C" fn seambeacon_record_lines_apart(
 {
     let lines = view::lines_with(rules_of(rules), text, counts, starts, ends, group);
     let found = lines.found;
-    let length = lines.to - lines.from;
-    *part = [lines.from, length];
+    let bytes = lines.to - lines.from;
+    *part = [lines.from, bytes];
     tell(reply::of_checked(found), beside)
 }
 

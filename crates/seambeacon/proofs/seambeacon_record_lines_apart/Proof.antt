@@ -15,8 +15,8 @@ use Rattle.seambeacon.proofs.Telling.{told-as}
 use Rattle.seambeacon.proofs.seambeacon_record_lines_apart.Statement.{statement}
 use Rattle.seambeacon.proofs.seambeacon_record_lines_apart.Tie as tie
 
-sub-length : tie.Need-sub-length
-sub-length c =
+sub-bytes : tie.Need-sub-bytes
+sub-bytes c =
     let at-call = c .before in
     let a = at-call .before .before .before .before .before .before .args in
     let e = rw (at-call .before .before .before .before .rules-of .ensures) at (at-call .lines-with .ensures) in
@@ -34,4 +34,4 @@ returns c =
 
 pub seambeacon-record-lines-apart-spec : {M : Type 1} → statement M
 seambeacon-record-lines-apart-spec =
-    tie.close (tie.spec (λ c κs. search needs) (λ c κs. search needs) sub-length (λ c κs. search needs) (λ c κs. search needs) returns)
+    tie.close (tie.spec (λ c κs. search needs) (λ c κs. search needs) sub-bytes (λ c κs. search needs) (λ c κs. search needs) returns)
