@@ -184,7 +184,7 @@ pub extern "C" fn seambeacon_characteristic(
     tell(group::reply_of(known), beside)
 }
 
-// ---- With a record, whose members are lent apart (R364). They are those of `sao` of the like name, over `view`, which
+// ---- With a record, whose members are lent apart (R366). They are those of `sao` of the like name, over `view`, which
 // takes the members as they are lent.
 
 // R285 to R287. Asked: the cells of a group, 1 to 60, of a record.
