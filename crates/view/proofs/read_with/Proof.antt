@@ -12,16 +12,20 @@ use Rattle.view.proofs.Found.{found-kept, with-range, table-missing, ta
 use Rattle.view.proofs.read_with.Statement.{statement}
 use Rattle.view.proofs.read_with.Tie as tie
 
+-- what was asked, before the lines were
+abbrev asked : tie.After-lines-with → tie.Start
+asked c = c .before .before .before .before .before
+
 abbrev these : tie.After-lines-with → Carried
-these c = let o = c .before .before .before .before .before .args in carried (o .counts .now) (o .starts .now) (o .ends .now)
+these c = let o = asked c .args in carried (o .counts .now) (o .starts .now) (o .ends .now)
 
 given : (c : tie.After-enum-told)
-    → (let at-lines = c .before .before in let o = at-lines .before .before .before .before .before .args in foundWith (o .rules) (o .text .now) (these at-lines) (o .group) ≡ C.Right)
+    → (let at-lines = c .before .before in let o = asked at-lines .args in foundWith (o .rules) (o .text .now) (these at-lines) (o .group) ≡ C.Right)
 given c = sym (c .before .before .lines-with .ensures .0) ∙ c .enum-told .given .1
 
-range : (c : tie.After-lines-with) → (let r = c .lines-with .result in (r .from ≤ r .to) × (r .to ≤ length (c .before .before .before .before .before .args .text .now)))
+range : (c : tie.After-lines-with) → (let r = c .lines-with .result in (r .from ≤ r .to) × (r .to ≤ length (asked c .args .text .now)))
 range c =
-    let o = c .before .before .before .before .before .args in
+    let o = asked c .args in
     let e = c .lines-with .ensures .1 in
     let r = with-range (o .rules) (o .text .now) (these c) (o .group) in
     (omega (arith, r .0, e .0, e .1), omega (arith, r .1, e .1))
@@ -39,20 +43,20 @@ read-kept-requires : tie.Need-read-kept-requires
 read-kept-requires c κs =
     let at-given = c .before .before in
     let at-lines = at-given .before .before in
-    let o = at-lines .before .before .before .before .before .args in
+    let o = asked at-lines .args in
     found-kept (o .rules) (o .text .now) (these at-lines) (o .group) (given at-given)
 
 returns : tie.Need-returns
 returns c =
     let at-lines = c .before .before .before in
-    let o = at-lines .before .before .before .before .before .args in
+    let o = asked at-lines .args in
     table-missing (o .rules) (o .text .now) (these at-lines) (o .group) (o .table .now) (sym (c .before .found .given .1) ∙ at-lines .lines-with .ensures .0)
 
 returns-2 : tie.Need-returns-2
 returns-2 c =
     let at-given = c .before .before .before .before in
     let at-lines = at-given .before .before in
-    let o = at-lines .before .before .before .before .before .args in
+    let o = asked at-lines .args in
     table-given (o .rules) (o .text .now) (these at-lines) (o .group) (o .table .now) (sym (given at-given)) _ _ (at-lines .lines-with .ensures .1) (c .before .read-kept .ensures)
 
 pub read-with-spec : {M : Type 1} → statement M
