@@ -95,8 +95,8 @@ record-group-due κs (ρ, (text, (lent, (g, (table, _))))) r v l =
     (c, as-due ρ .record-reading (now text) (carriedBy lent) g (length (now table)) c .0 refl, l .0, l .1)
 
 pub record-lines-at-due : Gives record_lines_at.ended record_lines_at.Reads.Learnt
-    (λ κs a r v. RecordIs.FoundDue (a .0) (now (a .1 .0)) (carriedBy (a .1 .1 .0)) (a .1 .1 .1 .0) (r .found) ×
-    ((x : List ℕ) × RecordIs.PartDue (a .0) (now (a .1 .0)) (carriedBy (a .1 .1 .0)) (a .1 .1 .1 .0) (r .from) x × (r .to ≡ r .from + length x)))
+    (λ κs a r v. RecordIs.LinesDue (a .0) (now (a .1 .0)) (carriedBy (a .1 .1 .0)) (a .1 .1 .1 .0) (r .found) ×
+    ((x : List ℕ) × RecordIs.PartWithDue (a .0) (now (a .1 .0)) (carriedBy (a .1 .1 .0)) (a .1 .1 .1 .0) (r .from) x × (r .to ≡ r .from + length x)))
 record-lines-at-due κs (ρ, (text, (lent, (g, _)))) r v l =
     let s = now text in
     let c = carriedBy lent in
@@ -106,13 +106,13 @@ record-lines-at-due κs (ρ, (text, (lent, (g, _)))) r v l =
     )
 
 pub record-lines-due : Gives record_lines.ended record_lines.Reads.Learnt
-    (λ κs a r v. (from : ℕ) × RecordIs.PartDue (a .0) (now (a .1 .0)) (carriedBy (a .1 .1 .0)) (a .1 .1 .1 .0) from (now r) × (r .ptr ≡ moved (a .1 .0 .ptr) from))
+    (λ κs a r v. (from : ℕ) × RecordIs.PartWithDue (a .0) (now (a .1 .0)) (carriedBy (a .1 .1 .0)) (a .1 .1 .1 .0) from (now r) × (r .ptr ≡ moved (a .1 .0 .ptr) from))
 record-lines-due κs (ρ, (text, (lent, (g, _)))) r v l =
     let s = now text in
     (startWith ρ s (carriedBy lent) g, as-due ρ .record-part s (carriedBy lent) g (startWith ρ s (carriedBy lent) g) (now r) .0 (refl, sym (l .0)), l .1)
 
 pub record-characteristic-due : Gives record_characteristic.ended record_characteristic.Reads.Learnt
-    (λ κs a r v. RecordIs.CharacteristicDue (a .0) (now (a .1 .0)) (carriedBy (a .1 .1 .0)) (a .1 .1 .1 .0) r)
+    (λ κs a r v. RecordIs.ToldWithDue (a .0) (now (a .1 .0)) (carriedBy (a .1 .1 .0)) (a .1 .1 .1 .0) r)
 record-characteristic-due κs (ρ, (text, (lent, (k, _)))) r v l = as-due ρ .record-characteristic (now text) (carriedBy lent) k r .0 (sym l)
 
 -- ---- writing, listing, rewriting

@@ -77,10 +77,10 @@ module _ (ρ : Rules) where
     pub characteristic : (s : List ℕ) (at k : ℕ) (c : Characteristic) → characteristicAt ρ s at k ≡ c ↔ GroupIs.CharacteristicDue ρ s at k c
     -- R285, R297: with a record r, whichever it is
     pub record-reading : (s : List ℕ) (r : Carried) (g room : ℕ) (c : Cells) → readWith ρ s r g room ≡ c ↔ RecordIs.Due ρ s r g room c
-    pub record-lines : (s : List ℕ) (r : Carried) (g : ℕ) (a : Checked) → foundWith ρ s r g ≡ a ↔ RecordIs.FoundDue ρ s r g a
-    pub record-part : (s : List ℕ) (r : Carried) (g from : ℕ) (x : List ℕ) → ((startWith ρ s r g ≡ from) × (partWith ρ s r g ≡ x)) ↔ RecordIs.PartDue ρ s r g from x
+    pub record-lines : (s : List ℕ) (r : Carried) (g : ℕ) (a : Checked) → foundWith ρ s r g ≡ a ↔ RecordIs.LinesDue ρ s r g a
+    pub record-part : (s : List ℕ) (r : Carried) (g from : ℕ) (x : List ℕ) → ((startWith ρ s r g ≡ from) × (partWith ρ s r g ≡ x)) ↔ RecordIs.PartWithDue ρ s r g from x
     pub record-part-end : (s : List ℕ) (r : Carried) (g : ℕ) → endWith ρ s r g ≡ startWith ρ s r g + length (partWith ρ s r g)
-    pub record-characteristic : (s : List ℕ) (r : Carried) (k : ℕ) (c : Characteristic) → characteristicWith ρ s r k ≡ c ↔ RecordIs.CharacteristicDue ρ s r k c
+    pub record-characteristic : (s : List ℕ) (r : Carried) (k : ℕ) (c : Characteristic) → characteristicWith ρ s r k ≡ c ↔ RecordIs.ToldWithDue ρ s r k c
     pub writing : (ns : List ℕ) (cs : List ℤ) (room : ℕ) (r : Answer) → writingOf ρ ns cs room ≡ r ↔ WritingIs.Due ρ ns cs room r
     pub rewriting : (s : List ℕ) (at cells room : ℕ) (r : Rewriting) → rewritingOf ρ s at cells room ≡ r ↔ RewritingIs.Due ρ s at cells room r
     pub listed : (s : List ℕ) (room : ℕ) (r : Answer) → listedIn (listing ρ s) room ≡ r ↔ ListingDue (listing ρ s) room r

@@ -40,7 +40,7 @@ use Rattle.reply.specs.declared.Refusal.the-variants.{NoSuchNumber, BadPart}
 use Rattle.reply.specs.declared.Checked.{Checked}
 use Rattle.reply.specs.declared.Checked.the-variants as C
 use Rattle.view.specs.With.{placeOf, readIf, holdsPart, partHeld, heldWith, foundWith, startWith, endWith, partWith, readWith, characteristicWith}
-use Rattle.view.specs.Due.{namedPart, PartHolds, Ruled, Held, LacksPart, RefusedFor, no-group, bad-counts, bad-part, FoundDue, PartDue, ReadingDue, Due, CharacteristicDue}
+use Rattle.view.specs.Due.{namedPart, PartHolds, CountsHold, Held, LacksPart, RefusedFor, no-group, bad-counts, bad-part, LinesDue, PartWithDue, ReadsPart, Due, ToldWithDue}
 use Rattle.view.specs.Placed.{BadPartExactly}
 use Rattle.view.proofs.Found.{found-none, found-counts, found-held, with-range, with-missing, with-given}
 
@@ -58,7 +58,7 @@ module _ (ρ : Rules) (s : List ℕ) (r : Carried) (g : ℕ) where
 
   -- ---- what is due is given
 
-  ruled-accepted : Ruled ρ s r g → acceptedOf (r .counts-of) ≡ C.Right
+  ruled-accepted : CountsHold ρ s r g → acceptedOf (r .counts-of) ≡ C.Right
   ruled-accepted d = accepted-first-due (r .counts-of) C.Right .1 (d .rules)
 
   held-given : Held ρ s r g → foundWith ρ s r g ≡ C.Right
@@ -83,31 +83,31 @@ module _ (ρ : Rules) (s : List ℕ) (r : Carried) (g : ℕ) where
       let f = group-form g (d .ruled .low) (d .ruled .high) in
       found-held ρ s r g (f .0) (f .1) (ruled-accepted (d .ruled)) (not-T-false (holdsPart ρ s r g (f .0)) (λ t. d .fails (lines-held (f .0) (f .1) .1 (T-true (holdsPart ρ s r g (f .0)) t))))
 
-  found-given : (a : Checked) → FoundDue ρ s r g a → foundWith ρ s r g ≡ a
+  found-given : (a : Checked) → LinesDue ρ s r g a → foundWith ρ s r g ≡ a
   found-given C.Right d = held-given d
   found-given (C.Refused q) d = missing-given q d
 
   -- ---- and what is given is due
 
-  found-is-due : FoundDue ρ s r g (foundWith ρ s r g)
+  found-is-due : LinesDue ρ s r g (foundWith ρ s r g)
   unfolding foundWith
   found-is-due = by (formOf g) refl
     where
-      part : (f : Form) (t : Bool) → formOf g ≡ Has f → Ruled ρ s r g → holdsPart ρ s r g f ≡ t → FoundDue ρ s r g (cond t C.Right (C.Refused BadPart))
+      part : (f : Form) (t : Bool) → formOf g ≡ Has f → CountsHold ρ s r g → holdsPart ρ s r g f ≡ t → LinesDue ρ s r g (cond t C.Right (C.Refused BadPart))
       part f true e d h = record { ruled = d; lines = lines-held f e .1 h }
       part f false e d h = bad-part record { ruled = d; fails = λ l. false≢true (sym h ∙ lines-held f e .0 l) }
 
-      counts : (f : Form) (a : Checked) → formOf g ≡ Has f → (1 ≤ g) × (g ≤ 60) → AcceptedDue (r .counts-of) a → FoundDue ρ s r g (andThen a (partHeld ρ s r g f))
+      counts : (f : Form) (a : Checked) → formOf g ≡ Has f → (1 ≤ g) × (g ≤ 60) → AcceptedDue (r .counts-of) a → LinesDue ρ s r g (andThen a (partHeld ρ s r g f))
       counts f C.Right e i d = part f (holdsPart ρ s r g f) e record { low = i .0; high = i .1; rules = d } refl
       counts f (C.Refused q) e i d = bad-counts q (i .0) (i .1) d
 
-      by : (h : GroupForm) → formOf g ≡ h → FoundDue ρ s r g (heldWith ρ s r g h)
+      by : (h : GroupForm) → formOf g ≡ h → LinesDue ρ s r g (heldWith ρ s r g h)
       by (Has f) e =
           counts f (acceptedOf (r .counts-of)) e (form-range g f e) (accepted-first-due (r .counts-of) (acceptedOf (r .counts-of)) .0 refl)
       by NoForm e = no-group (λ i. none-has g .0 e record { low = i .0; high = i .1 })
 
-  pub found-first-due : (a : Checked) → foundWith ρ s r g ≡ a ↔ FoundDue ρ s r g a
-  found-first-due a = (λ e. subst (FoundDue ρ s r g) e found-is-due, found-given a)
+  pub found-first-due : (a : Checked) → foundWith ρ s r g ≡ a ↔ LinesDue ρ s r g a
+  found-first-due a = (λ e. subst (LinesDue ρ s r g) e found-is-due, found-given a)
 
   -- R286: 22 exactly if neither 12 nor 4 to 7 is due and the part does not hold
   lacks-part : (q : Refusal) → q ≡ BadPart → RefusedFor ρ s r g q → LacksPart ρ s r g
@@ -131,17 +131,17 @@ module _ (ρ : Rules) (s : List ℕ) (r : Carried) (g : ℕ) where
   unfolding startWith endWith partWith
   none-given e = rw e (refl, take-none s)
 
-  part-due : (a : Checked) → foundWith ρ s r g ≡ a → PartDue ρ s r g (startWith ρ s r g) (partWith ρ s r g)
+  part-due : (a : Checked) → foundWith ρ s r g ≡ a → PartWithDue ρ s r g (startWith ρ s r g) (partWith ρ s r g)
   part-due C.Right e = let p = named-given e in inl record { held = found-first-due C.Right .0 e; begins = p .0; lines = p .1 }
   part-due (C.Refused q) e = let p = none-given e in inr record { why = q; missing = found-first-due (C.Refused q) .0 e; text-start = p .0; empty = p .1 }
 
-  due-part : (from : ℕ) (x : List ℕ) → PartDue ρ s r g from x → (startWith ρ s r g ≡ from) × (partWith ρ s r g ≡ x)
+  due-part : (from : ℕ) (x : List ℕ) → PartWithDue ρ s r g from x → (startWith ρ s r g ≡ from) × (partWith ρ s r g ≡ x)
   due-part from x (inl d) = let p = named-given (held-given (d .held)) in (p .0 ∙ sym (d .begins), p .1 ∙ sym (d .lines))
   due-part from x (inr d) = let p = none-given (missing-given (d .why) (d .missing)) in (p .0 ∙ sym (d .text-start), p .1 ∙ sym (d .empty))
 
-  pub part-first-due : (from : ℕ) (x : List ℕ) → ((startWith ρ s r g ≡ from) × (partWith ρ s r g ≡ x)) ↔ PartDue ρ s r g from x
+  pub part-first-due : (from : ℕ) (x : List ℕ) → ((startWith ρ s r g ≡ from) × (partWith ρ s r g ≡ x)) ↔ PartWithDue ρ s r g from x
   part-first-due from x = (
-    λ e. subst (λ n. PartDue ρ s r g n x) (e .0) (subst (PartDue ρ s r g (startWith ρ s r g)) (e .1) (part-due (foundWith ρ s r g) refl)),
+    λ e. subst (λ n. PartWithDue ρ s r g n x) (e .0) (subst (PartWithDue ρ s r g (startWith ρ s r g)) (e .1) (part-due (foundWith ρ s r g) refl)),
     due-part from x,
   )
 
@@ -157,14 +157,14 @@ module _ (ρ : Rules) (s : List ℕ) (r : Carried) (g : ℕ) where
     held-reads : foundWith ρ s r g ≡ C.Right → readWith ρ s r g room ≡ readGroup ρ (r .counts-of) g (namedPart ρ s r g) room
     held-reads e = with-given ρ s r g room e ∙ ap (λ x. readGroup ρ (r .counts-of) g x room) (named-given e .1)
 
-    reading-given : (c : Cells) → ReadingDue ρ s r g room c → readWith ρ s r g room ≡ c
+    reading-given : (c : Cells) → ReadsPart ρ s r g room c → readWith ρ s r g room ≡ c
     reading-given c d = held-reads (held-given (d .held)) ∙ Reading.first-due ρ (r .counts-of) g (namedPart ρ s r g) room c .1 (d .reading)
 
     read-given : (c : Cells) → Due ρ s r g room c → readWith ρ s r g room ≡ c
     read-given (done cs) d = reading-given (done cs) d
     read-given (bad q) d = ⊎-elim (λ (m : RefusedFor ρ s r g q). with-missing ρ s r g room (missing-given q m)) (reading-given (bad q)) d
 
-    from-reading : (c : Cells) → ReadingDue ρ s r g room c → Due ρ s r g room c
+    from-reading : (c : Cells) → ReadsPart ρ s r g room c → Due ρ s r g room c
     from-reading (done cs) d = d
     from-reading (bad q) d = inr d
 
@@ -190,7 +190,7 @@ module _ (ρ : Rules) (s : List ℕ) (r : Carried) (g : ℕ) where
 
     reading-exactly : readWith ρ s r g room ≡ bad BadPart ↔ LacksPart ρ s r g
     reading-exactly = (
-      λ e. ⊎-elim (lacks-part BadPart refl) (λ (d : ReadingDue ρ s r g room (bad BadPart)). absurd (reads-lines BadPart refl (d .reading))) (first-due (bad BadPart) .0 e),
+      λ e. ⊎-elim (lacks-part BadPart refl) (λ (d : ReadsPart ρ s r g room (bad BadPart)). absurd (reads-lines BadPart refl (d .reading))) (first-due (bad BadPart) .0 e),
       λ d. read-given (bad BadPart) (inl (bad-part d)),
     )
 
@@ -223,14 +223,14 @@ module _ (ρ : Rules) (s : List ℕ) (r : Carried) where
       let f : d .f ≡ F8 = cc in
       d .values .size ∙ ap (λ y. cellsOf ρ y (countOf (r .counts-of) 4)) f ∙ cells-four ρ (countOf (r .counts-of) 4)
 
-  pub characteristic-first-due : (k : ℕ) (c : Characteristic) → characteristicWith ρ s r k ≡ c ↔ CharacteristicDue ρ s r k c
+  pub characteristic-first-due : (k : ℕ) (c : Characteristic) → characteristicWith ρ s r k ≡ c ↔ ToldWithDue ρ s r k c
   unfolding characteristicWith
   characteristic-first-due = told-first-due (Due ρ s r 4) (countOf (r .counts-of) 4) (readWith ρ s r 4 49) four-is four-size
 
   characteristic-exactly : (k : ℕ) → characteristicWith ρ s r k ≡ Refused BadPart ↔ (((1 ≤ k) × (k ≤ 49)) × LacksPart ρ s r 4)
   characteristic-exactly k = (λ e. there (characteristic-first-due k (Refused BadPart) .0 e), back)
     where
-      there : CharacteristicDue ρ s r k (Refused BadPart) → ((1 ≤ k) × (k ≤ 49)) × LacksPart ρ s r 4
+      there : ToldWithDue ρ s r k (Refused BadPart) → ((1 ≤ k) × (k ≤ 49)) × LacksPart ρ s r 4
       there (inl n) = let e = n .twelve in let z : _≡_ {A = ℕ} 0 1 = cc in absurd (omega arith)
       there (inr h) = ((h .low, h .high), reading-exactly ρ s r 4 49 .0 (four-is (bad BadPart) .1 (h .reads-as)))
 

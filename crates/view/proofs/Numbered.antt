@@ -25,7 +25,7 @@ use Rattle.reply.specs.declared.Refusal.{Refusal}
 use Rattle.reply.specs.declared.Refusal.the-variants.{NoSuchNumber, BrokenRule, BadPart}
 use Rattle.reply.specs.declared.Checked.{Checked}
 use Rattle.reply.specs.declared.Checked.the-variants as C
-use Rattle.view.specs.Due.{RefusedFor, no-group, bad-counts, bad-part, FoundDue, Due}
+use Rattle.view.specs.Due.{RefusedFor, no-group, bad-counts, bad-part, LinesDue, Due}
 use Rattle.view.specs.Numbered.{withRefusals, linesRows, groupRows, toldRows}
 use Rattle.view.specs.With.{foundWith, readWith, characteristicWith}
 use Rattle.view.proofs.Due.{found-first-due, first-due, characteristic-first-due}
@@ -46,7 +46,7 @@ module _ (ρ : Rules) (s : List ℕ) (r : Carried) where
     pub lines-numbered : Numbered linesRows (checkedReply (foundWith ρ s r g))
     lines-numbered = by (foundWith ρ s r g) (found-first-due ρ s r g (foundWith ρ s r g) .0 refl)
       where
-        by : (a : Checked) → FoundDue ρ s r g a → Numbered linesRows (checkedReply a)
+        by : (a : Checked) → LinesDue ρ s r g a → Numbered linesRows (checkedReply a)
         by C.Right d = inl (fills 0 [] tt)
         by (C.Refused q) d = inr (missing-numbered q d)
 

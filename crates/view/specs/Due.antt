@@ -34,19 +34,19 @@ module _ (ρ : Rules) (s : List ℕ) (r : Carried) where
     PartHolds = AreLines s (placeOf (r .starts-of) g) (placeOf (r .ends-of) g) (linesIn ρ (r .counts-of) g)
 
     -- neither 12 nor 4, 5, 6 or 7
-    pub record Ruled : Type 0 where
+    pub record CountsHold : Type 0 where
       pub low : 1 ≤ g
       pub high : g ≤ 60
       pub rules : HasRules (r .counts-of)
 
     -- nor 22
     pub record Held : Type 0 where
-      pub ruled : Ruled
+      pub ruled : CountsHold
       pub lines : PartHolds
 
     -- R222
     pub record LacksPart : Type 0 where
-      pub ruled : Ruled
+      pub ruled : CountsHold
       pub fails : PartHolds → ⊥
 
     -- ---- the lines of a group
@@ -56,36 +56,36 @@ module _ (ρ : Rules) (s : List ℕ) (r : Carried) where
       bad-counts : (q : Refusal) → 1 ≤ g → g ≤ 60 → CountsRefusedFor (r .counts-of) q → RefusedFor q
       bad-part : LacksPart → RefusedFor BadPart
 
-    abbrev pub FoundDue : Checked → Type 0
-    FoundDue C.Right = Held
-    FoundDue (C.Refused q) = RefusedFor q
+    abbrev pub LinesDue : Checked → Type 0
+    LinesDue C.Right = Held
+    LinesDue (C.Refused q) = RefusedFor q
 
     -- R280, R283: the part: with 0 these lines; else the empty part at the text's start
-    pub record GivenPart (from : ℕ) (x : List ℕ) : Type 0 where
+    pub record PartGiven (from : ℕ) (x : List ℕ) : Type 0 where
       pub held : Held
       pub begins : from ≡ placeOf (r .starts-of) g
       pub lines : x ≡ namedPart
 
-    pub record NoPart (from : ℕ) (x : List ℕ) : Type 0 where
+    pub record PartRefused (from : ℕ) (x : List ℕ) : Type 0 where
       pub why : Refusal
       pub missing : RefusedFor why
       pub text-start : from ≡ 0
       pub empty : x ≡ []
 
-    abbrev pub PartDue : ℕ → List ℕ → Type 0
-    PartDue from x = GivenPart from x ⊎ NoPart from x
+    abbrev pub PartWithDue : ℕ → List ℕ → Type 0
+    PartWithDue from x = PartGiven from x ⊎ PartRefused from x
 
     -- ---- reading a group: the same, and behind it 11, 8 and 9, 10, by the counts and these lines
 
-    pub record ReadingDue (room : ℕ) (c : Cells) : Type 0 where
+    pub record ReadsPart (room : ℕ) (c : Cells) : Type 0 where
       pub held : Held
       pub reading : Reading.Due ρ (r .counts-of) g namedPart room c
 
     abbrev pub Due : ℕ → Cells → Type 0
-    Due room (done cs) = ReadingDue room (done cs)
-    Due room (bad q) = RefusedFor q ⊎ ReadingDue room (bad q)
+    Due room (done cs) = ReadsPart room (done cs)
+    Due room (bad q) = RefusedFor q ⊎ ReadsPart room (bad q)
 
   -- ---- a characteristic
 
-  abbrev pub CharacteristicDue : ℕ → Characteristic → Type 0
-  CharacteristicDue k = ToldDue (Due 4) (countOf (r .counts-of) 4) k
+  abbrev pub ToldWithDue : ℕ → Characteristic → Type 0
+  ToldWithDue k = ToldDue (Due 4) (countOf (r .counts-of) 4) k
