@@ -59,7 +59,7 @@ done <"$work/ruled"
 block c 1 >"$work/fof2.c"
 counted 'the C program is that of examples' cmp -s "$work/fof2.c" examples/fof2.c
 counted 'in at most ten lines' [ "$(wc -l <"$work/fof2.c")" -le 10 ]
-counted 'with the library in it' grep -q 'seambeacon_characteristic' "$work/fof2.c"
+counted 'with the library in it' grep -q 'seambeacon_record_characteristic' "$work/fof2.c"
 
 counted 'the C program is compiled by the kit' compiled "$work/fof2.c" "$work/fof2.o" -std=c99
 counted 'and linked' linked "$work/fof2" "$work/fof2.o"
