@@ -1,9 +1,9 @@
 /* Seambeacon: places, reads and writes SAO 4.3 records, and keeps a journal of edits.
    Link target/staticlib/libseambeacon.a (`rt staticlib seambeacon`), x86-64.
 
-   Whatever rules, text, place, number, table, output and journal a function is given, it ends and
-   returns one of the replies below; nothing has to be checked before a call. R with a number is a
-   rule of docs/FORMAT.md.
+   Whatever rules, text, place, record, number, table, output and journal a function is given, it
+   ends and returns one of the replies below; nothing has to be checked before a call. R with a
+   number is a rule of docs/FORMAT.md.
 
    What a caller answers for:
    - A pointer with a length behind it is valid for that many of what it points to; with length 0
@@ -92,8 +92,7 @@ enum seambeacon_reply {
     /* a field of the journal is misformed, its call would not be accepted there, an open does not
        have the next number or, in replay, an old value differs: the place of the field */
     SEAMBEACON_BAD_ENTRY = 17,
-    /* the part of the text that is named for a group does not lie within the text, does not begin
-       where a line does, or does not hold exactly the group's lines */
+    /* the part of the text that a record names for a group is not exactly the group's lines */
     SEAMBEACON_BAD_PART = 22
 };
 
@@ -129,11 +128,10 @@ struct seambeacon_part {
     size_t length;
 };
 
-/* A record, as placing gives it. Placing's answer is reply, with beside; the questions with a
-   record look at the other members alone. A record may come from any text and any rules, or be
+/* A record (R366), as placing gives it. Placing's answer is reply, with beside; the questions with
+   a record look at the other members alone. A record may come from any text and any rules, or be
    made up. Beside a text it is a view of that text: counts has its counts, and the questions with
-   a record give a group's cells, a group's lines and a characteristic, without a look at the lines
-   before them. */
+   a record give a group's cells, a group's lines and a characteristic, without placing it anew. */
 struct seambeacon_record {
     uint16_t counts[80]; /* group g's count is counts[g - 1] */
     size_t starts[60];   /* the place where group g's lines begin is starts[g - 1] */
@@ -215,13 +213,13 @@ enum seambeacon_reply seambeacon_characteristic(uint32_t rules, const uint8_t *t
 
 /* The questions with a record, which are asked beside a text. Counts are those of the record, and
    nothing else of it is looked at but the start and the end of the group that is asked for, or of
-   group 4 for a characteristic; so nothing is known of the record's own place. For a record that
-   was placed in the same text under the same rules, by 0 or 7, the answers are those of the
-   questions by place, and 22 never comes (R288). For any other a part is taken only if it is
-   exactly a group's lines: it lies within the text, begins at its start or just behind a line
-   feed, holds the line feeds that the count needs and ends with the last of them; for count 0 it
-   is empty, at such a place. Else it is refused with 22. A placing that was refused by 1 to 6
-   leaves a record whose counts are zeros, and so it is answered 5. */
+   group 4 for a characteristic. For a record that was placed (0 or 7) in the same text under the
+   same rules the answers are those of the questions by place, and 22 never comes (R288). For any
+   other a part is taken only if it is exactly a group's lines (R286): it lies within the text,
+   begins at its start or just behind a line feed, holds the line feeds that the count needs and
+   ends with the last of them; for count 0 it is empty, at such a place. Else it is refused with
+   22. A placing that was refused by 1 to 6 leaves a record whose counts are zeros, and so it is
+   answered 5. */
 
 /* Asked: the cells of a group, 1 to 60, of a record.
    Answered: as by seambeacon_read_group: 0 with the number of cells, which stand in the table from
