@@ -12,7 +12,7 @@ use Rattle.decimal.specs.Writing.{putBytes}
 use Rattle.place.specs.Due as PlacingIs
 use Rattle.group.specs.Due as GroupIs
 use Rattle.group.specs.Held.{moved, partStart, partAt}
-use Rattle.place.specs.Placing.{carriedBy}
+use Rattle.place.specs.Placing.{carried, carriedBy, carriedAt}
 use Rattle.view.specs.Due as RecordIs
 use Rattle.view.specs.With.{startWith, partWith, readWith}
 use Rattle.group.specs.Text.{readAt}
@@ -56,6 +56,10 @@ place-due κs (ρ, (text, (at, _))) r v l =
       as-due ρ .counts s at (r .counts) .0 (sym (l .1 .0)),
       as-due ρ .places s at (r .starts) (r .ends) .0 (sym (l .1 .1 .0), sym (l .1 .1 .1)),
     )
+
+-- R288: so the record that a caller has of it carries what is said of records that were placed
+pub place-carries : Gives place.ended place.Reads.Learnt (λ κs a r v. carriedBy r ≡ carriedAt (a .0) (now (a .1 .0)) (a .1 .1 .0))
+place-carries κs a r v l = λ i. carried (l .1 .0 i) (l .1 .1 .0 i) (l .1 .1 .1 i)
 
 -- the cells that are due, told and in the table
 pub read-group-due : Gives read_group.ended read_group.Reads.Learnt

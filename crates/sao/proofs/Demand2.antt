@@ -126,7 +126,7 @@ demand-2 ρ =
     record {
       due = as-due ρ;
       lent = lent-holds ρ;
-      records = record { exactly = RecordDue.bad-part-exactly ρ; decide = λ s r g d room. RecordDue.lines-decide ρ s r g room d; placed = placed-answers ρ };
+      records = record { exactly = RecordDue.bad-part-exactly ρ; decide = λ s r g f e d room. RecordDue.lines-decide ρ s r g room f e d; placed = placed-answers ρ };
       canonical = one-canonical ρ;
       reads-back = reads-back-ended ρ;
       edits = edits ρ;

@@ -25,9 +25,13 @@ use Rattle.count.specs.Check.{acceptedOf, andThen}
 use Rattle.count.specs.Due.{AcceptedDue, misformed, other-release, filled-vacant, broken-rule}
 use Rattle.count.specs.Tally.{countOf}
 use Rattle.count.proofs.Due.{accepted-first-due}
+use Rattle.count.specs.Rules.{rulingOf}
+use Rattle.count.specs.declared.Ruling.the-variants.{Kept}
+use Rattle.count.proofs.Rulings.{kept-ruling}
 use Rattle.count.proofs.Tallied.{lines-has}
 use Rattle.place.specs.Placing.{Carried}
-use Rattle.reading.specs.Read.{Cells, readGroup}
+use Rattle.reading.specs.Read
+use Rattle.reading.specs.Read.{Cells, readForm, readGroup}
 use Rattle.reading.specs.Due as Lines
 use Rattle.reading.proofs.Due as Reading
 use Rattle.reading.proofs.Promises.{read-room}
@@ -36,13 +40,13 @@ use Rattle.group.specs.declared.Characteristic.the-variants.{Refused}
 use Rattle.group.proofs.Due.{told-first-due}
 use Rattle.group.proofs.Rooms.{form-four, cells-four, room-four}
 use Rattle.reply.specs.declared.Refusal.{Refusal}
-use Rattle.reply.specs.declared.Refusal.the-variants.{NoSuchNumber, BadPart}
+use Rattle.reply.specs.declared.Refusal.the-variants.{BadPart}
 use Rattle.reply.specs.declared.Checked.{Checked}
 use Rattle.reply.specs.declared.Checked.the-variants as C
-use Rattle.view.specs.With.{placeOf, readIf, holdsPart, partHeld, heldWith, foundWith, startWith, endWith, partWith, readWith, characteristicWith}
+use Rattle.view.specs.With.{placeOf, placeIf, readIf, holdsPart, partHeld, heldWith, foundWith, startWith, endWith, partWith, readWith, characteristicWith}
 use Rattle.view.specs.Due.{namedPart, PartHolds, CountsHold, Held, LacksPart, RefusedFor, no-group, bad-counts, bad-part, LinesDue, PartWithDue, ReadsPart, Due, ToldWithDue}
 use Rattle.view.specs.Placed.{BadPartExactly}
-use Rattle.view.proofs.Found.{found-none, found-counts, found-held, with-range, with-missing, with-given}
+use Rattle.view.proofs.Found.{found-none, found-counts, found-held, with-missing, with-given}
 
 -- ---- the lines of a group
 
@@ -145,10 +149,23 @@ module _ (ρ : Rules) (s : List ℕ) (r : Carried) (g : ℕ) where
     due-part from x,
   )
 
+  pub found-kept : foundWith ρ s r g ≡ C.Right → rulingOf (r .counts-of) ≡ Kept
+  found-kept e = kept-ruling (r .counts-of) (found-first-due C.Right .0 e .ruled .rules .kept)
+
+  -- the part lies in the text, whether it is given or not
+  pub with-range : (startWith ρ s r g ≤ endWith ρ s r g) × (endWith ρ s r g ≤ length s)
+  unfolding startWith endWith
+  with-range = by (foundWith ρ s r g) refl
+    where
+      by : (c : Checked) → foundWith ρ s r g ≡ c
+          → (placeIf c (placeOf (r .starts-of) g) ≤ placeIf c (placeOf (r .ends-of) g)) × (placeIf c (placeOf (r .ends-of) g) ≤ length s)
+      by C.Right e = let l = found-first-due C.Right .0 e .lines in (l .order, l .within)
+      by (C.Refused q) e = (omega arith, omega arith)
+
   pub part-length : endWith ρ s r g ≡ startWith ρ s r g + length (partWith ρ s r g)
   unfolding partWith
   part-length =
-      let w = with-range ρ s r g in
+      let w = with-range in
       omega (arith, w .0, w .1, length-take (endWith ρ s r g - startWith ρ s r g) (drop (startWith ρ s r g) s), length-drop (startWith ρ s r g) s)
 
   -- ---- reading
@@ -194,8 +211,9 @@ module _ (ρ : Rules) (s : List ℕ) (r : Carried) (g : ℕ) where
       λ d. read-given (bad BadPart) (inl (bad-part d)),
     )
 
-    pub lines-decide : Held ρ s r g → readWith ρ s r g room ≡ readGroup ρ (r .counts-of) g (namedPart ρ s r g) room
-    lines-decide d = held-reads (held-given d)
+    pub lines-decide : (f : Form) → formOf g ≡ Has f → Held ρ s r g → readWith ρ s r g room ≡ readForm ρ f g (countOf (r .counts-of) g) (namedPart ρ s r g) room
+    unfolding Read.readGroup
+    lines-decide f e d = held-reads (held-given d) ∙ rw (e, kept-ruling (r .counts-of) (d .ruled .rules .kept))
 
 -- ---- a characteristic
 
@@ -240,4 +258,4 @@ module _ (ρ : Rules) (s : List ℕ) (r : Carried) where
           (inr record { low = d .0 .0; high = d .0 .1; reads-as = four-is (bad BadPart) .0 (reading-exactly ρ s r 4 49 .1 (d .1)) })
 
   pub bad-part-exactly : BadPartExactly ρ s r
-  bad-part-exactly = record { lines = found-exactly ρ s r; reading = reading-exactly ρ s r; characteristic = characteristic-exactly }
+  bad-part-exactly = record { found = found-exactly ρ s r; reading = reading-exactly ρ s r; characteristic = characteristic-exactly }

@@ -1,28 +1,18 @@
 -- Whether a record gives a group's lines in a text, where they stand, and what is read from them.
 -- Assumes nothing.
-use mathlib.Core.Path.{_≡_, refl, sym, _∙_, ap, subst}
+use mathlib.Core.Path.{_≡_, refl, sym, subst}
 use mathlib.Core.Bool.{Bool, true, false, cond}
 use mathlib.Core.List.{List}
-use Prim.Native.Nat.{ℕ, _≤_}
-use native.Mathlib.Omega.{arith}
+use Prim.Native.Nat.{ℕ}
 use lib.IntN.{ℤ}
 use lib.ListN.{length}
 use Rattle.rules.specs.declared.Rules.{Rules}
 use Rattle.base.specs.Part.{part}
 use Rattle.base.specs.Pieces.{bad}
 use Rattle.form.specs.declared.Form.{Form}
-use Rattle.form.specs.declared.GroupForm.{GroupForm}
 use Rattle.form.specs.declared.GroupForm.the-variants.{Has, NoGroup as NoForm}
 use Rattle.form.specs.Table.{formOf}
-use Rattle.form.specs.Count.{linesOf}
-use Rattle.line.specs.Parts.{AreLines}
-use Rattle.line.proofs.Parts.{are-lines}
-use Rattle.count.specs.Check.{acceptedOf, andThen}
-use Rattle.count.specs.Rules.{rulingOf}
-use Rattle.count.specs.Tally.{countOf}
-use Rattle.count.specs.declared.Ruling.the-variants.{Kept}
-use Rattle.count.proofs.Due.{accepted-first-due}
-use Rattle.count.proofs.Rulings.{kept-ruling}
+use Rattle.count.specs.Check.{acceptedOf}
 use Rattle.place.specs.Placing.{Carried}
 use Rattle.reading.specs.Read.{readGroup}
 use Rattle.reading.proofs.Steps.{Answers}
@@ -32,7 +22,7 @@ use Rattle.reply.specs.declared.Refusal.{Refusal}
 use Rattle.reply.specs.declared.Refusal.the-variants.{NoSuchNumber, BadPart}
 use Rattle.reply.specs.declared.Checked.{Checked}
 use Rattle.reply.specs.declared.Checked.the-variants as C
-use Rattle.view.specs.With.{placeOf, placeIf, holdsPart, partHeld, heldWith, foundWith, startWith, endWith, partWith, readWith}
+use Rattle.view.specs.With.{placeOf, holdsPart, foundWith, startWith, endWith, partWith, readWith}
 
 -- what the code gives of a group: the answer, and from where to where its lines stand
 abbrev pub Gives : (ρ : Rules) (s : List ℕ) (r : Carried) (g : ℕ) → Checked → ℕ → ℕ → Type 0
@@ -69,44 +59,6 @@ module _ (ρ : Rules) (s : List ℕ) (r : Carried) (g : ℕ) where
       pub gives-part : holdsPart ρ s r g f ≡ true → Gives ρ s r g C.Right (placeOf (r .starts-of) g) (placeOf (r .ends-of) g)
       unfolding startWith endWith
       gives-part h = rw (found-held h) (refl, (refl, refl))
-
-  -- R286: the part holds
-  pub record Holds (f : Form) : Type 0 where
-    pub has : formOf g ≡ Has f
-    pub accepted : acceptedOf (r .counts-of) ≡ C.Right
-    pub lines : AreLines s (placeOf (r .starts-of) g) (placeOf (r .ends-of) g) (linesOf ρ f (countOf (r .counts-of) g))
-
-  no-right : {X : Type 0} {q : Refusal} → C.Refused q ≡ C.Right → X
-  no-right e = let z : _≡_ {A = ℕ} 0 1 = cc in absurd (omega arith)
-
-  pub found-holds : foundWith ρ s r g ≡ C.Right → (f : Form) × Holds f
-  unfolding foundWith
-  found-holds e = by (formOf g) refl e
-    where
-      part : (f : Form) (t : Bool) → formOf g ≡ Has f → acceptedOf (r .counts-of) ≡ C.Right → holdsPart ρ s r g f ≡ t → cond t C.Right (C.Refused BadPart) ≡ C.Right → (f : Form) × Holds f
-      part f true h a p v = (f, record { has = h; accepted = a; lines = are-lines s _ _ _ .0 p })
-      part f false h a p v = no-right v
-
-      counts : (f : Form) (c : Checked) → formOf g ≡ Has f → acceptedOf (r .counts-of) ≡ c → andThen c (partHeld ρ s r g f) ≡ C.Right → (f : Form) × Holds f
-      counts f C.Right h a v = part f (holdsPart ρ s r g f) h a refl v
-      counts f (C.Refused q) h a v = no-right v
-
-      by : (h : GroupForm) → formOf g ≡ h → heldWith ρ s r g h ≡ C.Right → (f : Form) × Holds f
-      by (Has f) h v = counts f (acceptedOf (r .counts-of)) h refl v
-      by NoForm h v = no-right v
-
-  pub found-kept : foundWith ρ s r g ≡ C.Right → rulingOf (r .counts-of) ≡ Kept
-  found-kept e = kept-ruling (r .counts-of) (accepted-first-due (r .counts-of) C.Right .0 (found-holds e .1 .accepted) .kept)
-
-  -- the part lies in the text, whether it is given or not
-  pub with-range : (startWith ρ s r g ≤ endWith ρ s r g) × (endWith ρ s r g ≤ length s)
-  unfolding startWith endWith
-  with-range = by (foundWith ρ s r g) refl
-    where
-      by : (c : Checked) → foundWith ρ s r g ≡ c
-          → (placeIf c (placeOf (r .starts-of) g) ≤ placeIf c (placeOf (r .ends-of) g)) × (placeIf c (placeOf (r .ends-of) g) ≤ length s)
-      by C.Right e = let l = found-holds e .1 .lines in (l .order, l .within)
-      by (C.Refused q) e = (omega arith, omega arith)
 
   pub with-part : (from to : ℕ) → (from ≡ startWith ρ s r g) × (to ≡ endWith ρ s r g) → part from to s ≡ partWith ρ s r g
   unfolding partWith

@@ -8,8 +8,7 @@ use lib.ListN.{length}
 use Rattle.place.specs.Placing.{carried}
 use Rattle.reply.specs.Refusals.{checkedReply}
 use Rattle.view.specs.With.{startWith, endWith, partWith}
-use Rattle.view.proofs.Due.{part-length}
-use Rattle.view.proofs.Found.{with-range}
+use Rattle.view.proofs.Due.{with-range, part-length}
 use Rattle.seambeacon.specs.Flags.{flagged}
 use Rattle.seambeacon.proofs.Telling.{told-as}
 use Rattle.seambeacon.proofs.seambeacon_record_lines_apart.Statement.{statement}

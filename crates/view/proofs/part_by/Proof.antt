@@ -6,7 +6,8 @@ use Prim.Native.Nat.{_≤_}
 use lib.ListN.{length}
 use Rattle.place.specs.Placing.{carriedBy}
 use Rattle.group.proofs.Holding.{moved-by}
-use Rattle.view.proofs.Found.{with-range, with-part}
+use Rattle.view.proofs.Due.{with-range}
+use Rattle.view.proofs.Found.{with-part}
 use Rattle.view.proofs.part_by.Statement.{statement}
 use Rattle.view.proofs.part_by.Tie as tie
 

@@ -8,7 +8,8 @@ use lib.ListN.{length}
 use Rattle.place.specs.Placing.{Carried, carried}
 use Rattle.reply.specs.declared.Checked.the-variants as C
 use Rattle.view.specs.With.{foundWith}
-use Rattle.view.proofs.Found.{found-kept, with-range, table-missing, table-given}
+use Rattle.view.proofs.Due.{found-kept, with-range}
+use Rattle.view.proofs.Found.{table-missing, table-given}
 use Rattle.view.proofs.read_with.Statement.{statement}
 use Rattle.view.proofs.read_with.Tie as tie
 
