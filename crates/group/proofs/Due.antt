@@ -214,10 +214,10 @@ four-size ρ s at room cs d =
 -- `is` says what group 4 reads as, and `size` that it has a cell for each element
 module _ (four : ℕ → Cells → Type 0) (count : ℕ) (read : Cells) (is : (c : Cells) → (read ≡ c) ↔ ((room : ℕ) → 49 ≤ room → four room c)) (size : (cs : List ℤ) → read ≡ done cs → length cs ≡ count)
     (k : ℕ) where
-  to-reported : (c : Cells) → FourReads four count k c → characteristicBy k read ≡ reported k c
+  to-reported : (c : Cells) → FourReads k four c → characteristicBy k read ≡ reported k c
   to-reported c d = number-inside k read (d .low) (d .high) ∙ ap (reported k) (is c .1 (d .reads-as))
 
-  read-size : (cs : List ℤ) → FourReads four count k (done cs) → length cs ≡ count
+  read-size : (cs : List ℤ) → FourReads k four (done cs) → length cs ≡ count
   read-size cs d = size cs (is (done cs) .1 (d .reads-as))
 
   to-cell : (z : ℤ) → HasCell four count k z → characteristicBy k read ≡ toldBy k z
@@ -228,8 +228,8 @@ module _ (four : ℕ → Cells → Type 0) (count : ℕ) (read : Cells) (is : (c
   told-given : (c : Characteristic) → ToldDue four count k c → characteristicBy k read ≡ c
   told-given (Refused r) d =
       ⊎-elim
-      (λ (n : NoNumber four count k r). number-none k read (λ low high. n .none (low, high)) ∙ ap Refused (sym (n .twelve)))
-      (λ (h : FourReads four count k (bad r)). to-reported (bad r) h)
+      (λ (n : NoNumber k r). number-none k read (λ low high. n .none (low, high)) ∙ ap Refused (sym (n .twelve)))
+      (λ (h : FourReads k four (bad r)). to-reported (bad r) h)
       d
   told-given NotReported d =
       let t : leb k (length (d .cs)) ≡ false = lt-leb k (length (d .cs)) (omega (arith, read-size (d .cs) (d .reads), d .above)) in
@@ -242,12 +242,12 @@ module _ (four : ℕ → Cells → Type 0) (count : ℕ) (read : Cells) (is : (c
   from-cell z false h e =
       record { cell = h; reading = λ u. false≢true (sym e ∙ T-true (isNoReading k z) (no-reading-exactly k z .1 u)) }
 
-  from-count : (cs : List ℤ) (t : Bool) → FourReads four count k (done cs) → leb k (length cs) ≡ t → ToldDue four count k (cond t (toldBy k (getD cs (k - 1) (pos 0))) NotReported)
+  from-count : (cs : List ℤ) (t : Bool) → FourReads k four (done cs) → leb k (length cs) ≡ t → ToldDue four count k (cond t (toldBy k (getD cs (k - 1) (pos 0))) NotReported)
   from-count cs true h e =
       from-cell (getD cs (k - 1) (pos 0)) (isNoReading k (getD cs (k - 1) (pos 0))) record { cs = cs; reads = h; within = omega (arith, leb-true k (length cs) e, read-size cs h); cell = refl } refl
   from-count cs false h e = record { cs = cs; reads = h; above = omega (arith, leb-false k (length cs) e, read-size cs h) }
 
-  from-four : (c : Cells) → FourReads four count k c → ToldDue four count k (reported k c)
+  from-four : (c : Cells) → FourReads k four c → ToldDue four count k (reported k c)
   from-four (done cs) h = from-count cs (leb k (length cs)) h refl
   from-four (bad r) h = inr h
 

@@ -36,12 +36,12 @@ use Rattle.reply.specs.declared.Checked.the-variants as C
 use Rattle.group.specs.Held.{foundIn, foundAt, countsHeld, startBy, partStart, partEnd, partAt, moved}
 
 -- what the code holds of a group: the answer, the counts, and from where to where its lines stand
-abbrev pub Holds : (ρ : Rules) (s : List ℕ) (at g : ℕ) → Checked → List ℕ → ℕ → ℕ → Type 0
-Holds ρ s at g found ns from to = (found ≡ foundAt ρ s at g) × ((ns ≡ countsHeld ρ s at g) × ((from ≡ partStart ρ s at g) × (to ≡ partEnd ρ s at g)))
+abbrev pub HeldAs : (ρ : Rules) (s : List ℕ) (at g : ℕ) → Checked → List ℕ → ℕ → ℕ → Type 0
+HeldAs ρ s at g found ns from to = (found ≡ foundAt ρ s at g) × ((ns ≡ countsHeld ρ s at g) × ((from ≡ partStart ρ s at g) × (to ≡ partEnd ρ s at g)))
 
 module _ (ρ : Rules) (s : List ℕ) (at g : ℕ) where
   -- a refusal
-  held-missing : {r : Refusal} → foundAt ρ s at g ≡ C.Refused r → Holds ρ s at g (C.Refused r) (replicate 80 0) 0 0
+  held-missing : {r : Refusal} → foundAt ρ s at g ≡ C.Refused r → HeldAs ρ s at g (C.Refused r) (replicate 80 0) 0 0
   unfolding countsHeld partStart partEnd
   held-missing e = rw e (refl, (refl, (refl, refl)))
 
@@ -49,7 +49,7 @@ module _ (ρ : Rules) (s : List ℕ) (at g : ℕ) where
   unfolding foundAt
   found-none e = rw e
 
-  pub held-none : formOf g ≡ NoForm → Holds ρ s at g (C.Refused NoSuchNumber) (replicate 80 0) 0 0
+  pub held-none : formOf g ≡ NoForm → HeldAs ρ s at g (C.Refused NoSuchNumber) (replicate 80 0) 0 0
   held-none e = held-missing (found-none e)
 
   module _ (f : Form) (e : formOf g ≡ Has f) where
@@ -57,7 +57,7 @@ module _ (ρ : Rules) (s : List ℕ) (at g : ℕ) where
     unfolding foundAt
     found-by p u = rw (e, u)
 
-    pub held-placed : (n : ℕ) → placingOf ρ s at ≡ Placed n → Holds ρ s at g C.Right (countsAt ρ s at) (getD (startsAt ρ s at) (g - 1) 0) (getD (endsAt ρ s at) (g - 1) 0)
+    pub held-placed : (n : ℕ) → placingOf ρ s at ≡ Placed n → HeldAs ρ s at g C.Right (countsAt ρ s at) (getD (startsAt ρ s at) (g - 1) 0) (getD (endsAt ρ s at) (g - 1) 0)
     unfolding countsHeld partStart partEnd
     held-placed n u =
         let range = form-range g f e in
@@ -65,7 +65,7 @@ module _ (ρ : Rules) (s : List ℕ) (at g : ℕ) where
         rw (found-by (Placed n) u, start-at ρ s at n (countsAt ρ s at) l g (range .0) (range .1), end-at ρ s at n (countsAt ρ s at) l g (range .0) (range .1)) (refl, (refl, (refl, refl)))
 
     -- any placing reply but 0
-    pub held-refused : (p : Placing) → placingOf ρ s at ≡ p → ((n : ℕ) → p ≡ Placed n → ⊥) → Holds ρ s at g (asChecked p) (replicate 80 0) 0 0
+    pub held-refused : (p : Placing) → placingOf ρ s at ≡ p → ((n : ℕ) → p ≡ Placed n → ⊥) → HeldAs ρ s at g (asChecked p) (replicate 80 0) 0 0
     held-refused (Placed n) u never = absurd (never n refl)
     held-refused (BrokenRule h n) u never = held-missing (found-by (BrokenRule h n) u)
     held-refused (Refused r) u never = held-missing (found-by (Refused r) u)

@@ -15,7 +15,7 @@ use Rattle.base.specs.Part.{part}
 use Rattle.base.proofs.Choice.{and-first, and-second, and-false, test-same}
 use Rattle.base.proofs.Order.{le-or-lt}
 use Rattle.line.specs.Lines.{isFeed, feeds, reach, behind, Whole}
-use Rattle.line.specs.Parts.{LineStart, text-start, behind-feed, AreLines, isPart, beginsLine, isWhole, areLines}
+use Rattle.line.specs.Parts.{LineStart, text-start, behind-feed, AreLines, liesWithin, beginsLine, isWhole, areLines}
 use Rattle.line.specs.Places.{behindAt}
 use Rattle.line.specs.declared.Behind.the-variants.{At, TooFew}
 use Rattle.line.proofs.Feeds.{feeds-le}
@@ -38,13 +38,6 @@ reach-starts s at k p h =
     let e : suc n ≡ at + reach (drop at s) k = omega arith in
     let f : getD s n 0 ≡ 10 = sym (getD-drop at s (reach (drop at s) k - 1) 0) ∙ reach-last (drop at s) k p h in
     subst (LineStart s) e (behind-feed n (omega (arith, reach-le (drop at s) k, length-drop at s)) f)
-
--- and from a line start also behind none
-pub reach-line-start : (s : List ℕ) (at k : ℕ) → LineStart s at → k ≤ feeds (drop at s) → LineStart s (at + reach (drop at s) k)
-reach-line-start s at zero b h =
-    let e : at ≡ at + reach (drop at s) 0 = omega (arith, reach-zero (drop at s)) in
-    subst (LineStart s) e b
-reach-line-start s at (suc k) b h = reach-starts s at (suc k) (omega arith) h
 
 -- ---- R7 of the part
 
@@ -104,9 +97,9 @@ is-whole k a = (told, tested)
     tested : Whole k a → isWhole k a ≡ true
     tested w = rw (eq-eqb (feeds a) k (w .many), eq-eqb (reach a k) (length a) (w .ends))
 
-pub is-part : (s : List ℕ) (from to : ℕ) → isPart s from to ≡ true → (from ≤ to) × (to ≤ length s)
-unfolding isPart
-is-part s from to e =
+pub lies-within : (s : List ℕ) (from to : ℕ) → liesWithin s from to ≡ true → (from ≤ to) × (to ≤ length s)
+unfolding liesWithin
+lies-within s from to e =
     (leb-true from to (and-first (leb from to) (leb to (length s)) e), leb-true to (length s) (and-second (leb from to) (leb to (length s)) e))
 
 -- behind a byte
@@ -132,18 +125,18 @@ begins-line s at = (told at, tested at)
     tested j (behind-feed i h e) = begins-behind s i ∙ rw (le-leb (suc i) (length s) h, eq-eqb (getD s i 0) 10 e)
 
 pub are-lines : (s : List ℕ) (from to lines : ℕ) → areLines s from to lines ≡ true ↔ AreLines s from to lines
-unfolding areLines isPart
+unfolding areLines liesWithin
 are-lines s from to lines = (told, tested)
   where
     inside : Bool
-    inside = isPart s from to
+    inside = liesWithin s from to
 
     behind-start : Bool
     behind-start = beginsLine s from && isWhole lines (part from to s)
 
     told : areLines s from to lines ≡ true → AreLines s from to lines
     told e =
-        let p = is-part s from to (and-first inside behind-start e) in
+        let p = lies-within s from to (and-first inside behind-start e) in
         let q = and-second inside behind-start e in
         whole-are s from to lines (p .0) (p .1)
         (begins-line s from .0 (and-first (beginsLine s from) (isWhole lines (part from to s)) q))
@@ -203,11 +196,11 @@ whole-few : (a : List ℕ) (k : ℕ) → behindAt a 0 k ≡ TooFew → isWhole k
 whole-few a k e = rw (ne-eqb (feeds a) k (λ f. omega (arith, few-is a 0 k e)))
 
 module _ (s : List ℕ) (from to lines : ℕ) where
-  pub lines-no-part : isPart s from to ≡ false → areLines s from to lines ≡ false
+  pub lines-no-part : liesWithin s from to ≡ false → areLines s from to lines ≡ false
   unfolding areLines
   lines-no-part p = rw p
 
-  module _ (p : isPart s from to ≡ true) where
+  module _ (p : liesWithin s from to ≡ true) where
     pub lines-no-start : beginsLine s from ≡ false → areLines s from to lines ≡ false
     unfolding areLines
     lines-no-start b = rw (p, b)
@@ -219,5 +212,5 @@ module _ (s : List ℕ) (from to lines : ℕ) where
     pub lines-told : (n : ℕ) → beginsLine s from ≡ true → behindAt (part from to s) 0 lines ≡ At n → areLines s from to lines ≡ eqb n (to - from)
     unfolding areLines
     lines-told n b e =
-        let h = is-part s from to p in
+        let h = lies-within s from to p in
         rw (p, b, ← whole-told (part from to s) lines n e, part-long s from to (h .0) (h .1))

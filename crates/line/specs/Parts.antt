@@ -25,8 +25,8 @@ pub record AreLines (s : List ℕ) (from to lines : ℕ) : Type 0 where
 
 -- ---- the same as an answer (`are-lines` in proofs/Parts.antt)
 
-unfoldable pub isPart : List ℕ → ℕ → ℕ → Bool
-isPart s from to = leb from to && leb to (length s)
+unfoldable pub liesWithin : List ℕ → ℕ → ℕ → Bool
+liesWithin s from to = leb from to && leb to (length s)
 
 unfoldable pub beginsLine : List ℕ → ℕ → Bool
 beginsLine s at = eqb at 0 || (leb at (length s) && isFeed (getD s (at - 1) 0))
@@ -36,4 +36,4 @@ abbrev pub isWhole : ℕ → List ℕ → Bool
 isWhole k a = eqb (feeds a) k && eqb (reach a k) (length a)
 
 unfoldable pub areLines : List ℕ → ℕ → ℕ → ℕ → Bool
-areLines s from to lines = isPart s from to && (beginsLine s from && isWhole lines (part from to s))
+areLines s from to lines = liesWithin s from to && (beginsLine s from && isWhole lines (part from to s))

@@ -4,7 +4,7 @@ ghost use Prim.Native.Nat.{_+_};
 ghost use lib.ListN.{drop};
 ghost use Rattle.line.specs.Lines.{reach};
 ghost use Rattle.line.specs.Places.{behindAt};
-ghost use Rattle.line.specs.Parts.{areLines, beginsLine, isPart};
+ghost use Rattle.line.specs.Parts.{areLines, beginsLine, liesWithin};
 ghost use Rattle.line.specs.Contents.{contentOf};
 
 // The place behind so many lines, or that fewer line feeds are left.
@@ -49,8 +49,8 @@ pub fn behind_or_end(text: &[u8], at: usize, lines: usize) -> usize
 }
 
 // Whether the bytes from one place to another lie within the text.
-fn is_part(text: &[u8], from: usize, to: usize) -> bool
-    ensures { λ r. ⌜ r ≡ isPart (now (text .entry)) from to ⌝ }
+fn lies_within(text: &[u8], from: usize, to: usize) -> bool
+    ensures { λ r. ⌜ r ≡ liesWithin (now (text .entry)) from to ⌝ }
 {
     from <= to && to <= text.len()
 }
@@ -67,7 +67,7 @@ fn begins_line(text: &[u8], at: usize) -> bool
 pub fn are_lines(text: &[u8], from: usize, to: usize, lines: usize) -> bool
     ensures { λ r. ⌜ r ≡ areLines (now (text .entry)) from to lines ⌝ }
 {
-    if !is_part(text, from, to) {
+    if !lies_within(text, from, to) {
         return false;
     }
     if !begins_line(text, from) {

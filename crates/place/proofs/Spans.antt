@@ -52,21 +52,21 @@ no-places-length : length {A = ℕ} (replicate 60 0) ≡ 60
 no-places-length = length-replicate {A = ℕ} 60 0
 
 -- so many of them are stored
-abbrev pub Stored : (ℕ → ℕ) → ℕ → List ℕ → Type 0
-Stored f k places = places ≡ over 0 (take k (eachGroup f)) (replicate 60 0)
+abbrev pub PlacesStored : (ℕ → ℕ) → ℕ → List ℕ → Type 0
+PlacesStored f k places = places ≡ over 0 (take k (eachGroup f)) (replicate 60 0)
 
-stored-none : (f : ℕ → ℕ) → Stored f 0 (replicate 60 0)
-stored-none f = over-none (replicate 60 0) 0
+places-none : (f : ℕ → ℕ) → PlacesStored f 0 (replicate 60 0)
+places-none f = over-none (replicate 60 0) 0
 
-stored-more : (f : ℕ → ℕ) (k n : ℕ) (places : List ℕ) → k < 60 → n ≡ f (suc k) → Stored f k places → Stored f (k + 1) (set places k n)
-stored-more f k n places h e p =
+places-more : (f : ℕ → ℕ) (k n : ℕ) (places : List ℕ) → k < 60 → n ≡ f (suc k) → PlacesStored f k places → PlacesStored f (k + 1) (set places k n)
+places-more f k n places h e p =
     let there : n ≡ getD (eachGroup f) k 0 = e ∙ sym (tally-at 0 f (suc k) (omega arith) (omega arith)) in
     let long = each-length f in
     let zeros = no-places-length in
     ap (set places k) there ∙ ap (λ i. set places i (getD (eachGroup f) k 0)) (sym (zero-add k)) ∙ over-turn (replicate 60 0) (eachGroup f) 0 k 0 (omega arith) (omega arith) p
 
-stored-all : (f : ℕ → ℕ) (places : List ℕ) → Stored f 60 places → places ≡ eachGroup f
-stored-all f places p =
+places-all : (f : ℕ → ℕ) (places : List ℕ) → PlacesStored f 60 places → places ≡ eachGroup f
+places-all f places p =
     let long = each-length f in
     p ∙ ap (λ xs. over 0 xs (replicate 60 0)) (take-all 60 (eachGroup f) (omega arith)) ∙ over-all (replicate 60 0) (eachGroup f) (long ∙ sym no-places-length)
 
@@ -75,8 +75,8 @@ module _ (ρ : Rules) (s : List ℕ) (from : ℕ) (ns : List ℕ) where
   pub record Shared (k at : ℕ) (starts ends : List ℕ) : Type 0 where
     pub few : k ≤ 60
     pub place : behindAt s from (linesBefore ρ ns (suc k) - 2) ≡ At at
-    pub begin : Stored (startFrom ρ s from ns) k starts
-    pub end : Stored (λ g. startFrom ρ s from ns (suc g)) k ends
+    pub begin : PlacesStored (startFrom ρ s from ns) k starts
+    pub end : PlacesStored (λ g. startFrom ρ s from ns (suc g)) k ends
 
   two-before : (k : ℕ) → 2 ≤ linesBefore ρ ns (suc k)
   two-before k = omega (arith, before-groups ρ ns .lines-are, lines-below ρ ns 1 (suc k) (omega arith))
@@ -84,7 +84,7 @@ module _ (ρ : Rules) (s : List ℕ) (from : ℕ) (ns : List ℕ) where
   pub shared-none : Shared 0 from (replicate 60 0) (replicate 60 0)
   shared-none =
       let none : linesBefore ρ ns 1 - 2 ≡ 0 = omega (arith, before-groups ρ ns .lines-are) in
-      record { few = omega arith; place = ap (behindAt s from) none ∙ behindAt-none s from; begin = stored-none (startFrom ρ s from ns); end = stored-none (λ g. startFrom ρ s from ns (suc g)) }
+      record { few = omega arith; place = ap (behindAt s from) none ∙ behindAt-none s from; begin = places-none (startFrom ρ s from ns); end = places-none (λ g. startFrom ρ s from ns (suc g)) }
 
   module _ (k at : ℕ) (starts ends : List ℕ) (p : Shared k at starts ends) where
     -- the next group has so many lines
@@ -113,8 +113,8 @@ module _ (ρ : Rules) (s : List ℕ) (from : ℕ) (ns : List ℕ) where
           record {
             few = omega arith;
             place = ap (λ g. behindAt s from (linesBefore ρ ns (suc g) - 2)) one ∙ here;
-            begin = stored-more (startFrom ρ s from ns) k at starts h (at-is s from _ at (p .place) .place) (p .begin);
-            end = stored-more (λ g. startFrom ρ s from ns (suc g)) k next ends h (at-is s from _ next here .place) (p .end);
+            begin = places-more (startFrom ρ s from ns) k at starts h (at-is s from _ at (p .place) .place) (p .begin);
+            end = places-more (λ g. startFrom ρ s from ns (suc g)) k next ends h (at-is s from _ next here .place) (p .end);
           }
 
     pub shared-all : k ≡ 60 → locateLinesFrom ρ s from ns ≡ located at ns
@@ -124,10 +124,10 @@ module _ (ρ : Rules) (s : List ℕ) (from : ℕ) (ns : List ℕ) where
         ap (locatedBehind ns) (ap (behindAt s from) all ∙ p .place)
 
     pub all-begun : k ≡ 60 → starts ≡ eachGroup (startFrom ρ s from ns)
-    all-begun e = stored-all _ starts (rw e at (p .begin))
+    all-begun e = places-all _ starts (rw e at (p .begin))
 
     pub all-ended : k ≡ 60 → ends ≡ eachGroup (λ g. startFrom ρ s from ns (suc g))
-    all-ended e = stored-all _ ends (rw e at (p .end))
+    all-ended e = places-all _ ends (rw e at (p .end))
 
 -- the data lines begin behind the two lines of the index
 pub start-from : (ρ : Rules) (s : List ℕ) (at : ℕ) (ns : List ℕ) (g : ℕ) → 1 ≤ g → startFrom ρ s (at + reach (drop at s) 2) ns g ≡ start ρ s at ns g

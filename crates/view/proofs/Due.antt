@@ -44,9 +44,9 @@ use Rattle.reply.specs.declared.Refusal.the-variants.{BadPart}
 use Rattle.reply.specs.declared.Checked.{Checked}
 use Rattle.reply.specs.declared.Checked.the-variants as C
 use Rattle.view.specs.With.{placeOf, placeIf, readIf, holdsPart, partHeld, heldWith, foundWith, startWith, endWith, partWith, readWith, characteristicWith}
-use Rattle.view.specs.Due.{namedPart, PartHolds, CountsHold, Held, LacksPart, RefusedFor, no-group, bad-counts, bad-part, LinesDue, PartWithDue, ReadsPart, Due, ToldWithDue}
+use Rattle.view.specs.Due.{namedPart, PartHolds, Answerable, Held, LacksPart, RefusedFor, no-group, bad-counts, bad-part, LinesDue, PartWithDue, ReadsPart, Due, ToldWithDue}
 use Rattle.view.specs.Placed.{BadPartExactly}
-use Rattle.view.proofs.Found.{found-none, found-counts, found-held, with-missing, with-given}
+use Rattle.view.proofs.Found.{found-none, found-counts, found-part, with-missing, with-given}
 
 -- ---- the lines of a group
 
@@ -62,20 +62,20 @@ module _ (ρ : Rules) (s : List ℕ) (r : Carried) (g : ℕ) where
 
   -- ---- what is due is given
 
-  ruled-accepted : CountsHold ρ s r g → acceptedOf (r .counts-of) ≡ C.Right
-  ruled-accepted d = accepted-first-due (r .counts-of) C.Right .1 (d .rules)
+  answerable-accepted : Answerable ρ s r g → acceptedOf (r .counts-of) ≡ C.Right
+  answerable-accepted d = accepted-first-due (r .counts-of) C.Right .1 (d .rules)
 
   held-given : Held ρ s r g → foundWith ρ s r g ≡ C.Right
   held-given d =
-      let f = group-form g (d .ruled .low) (d .ruled .high) in
-      found-held ρ s r g (f .0) (f .1) (ruled-accepted (d .ruled)) (lines-held (f .0) (f .1) .0 (d .lines))
+      let f = group-form g (d .answerable .low) (d .answerable .high) in
+      found-part ρ s r g (f .0) (f .1) (answerable-accepted (d .answerable)) (lines-held (f .0) (f .1) .0 (d .lines))
 
   -- a part that holds leaves the answer to the counts
   pub holds-accepted : (f : Form) → formOf g ≡ Has f → PartHolds ρ s r g → foundWith ρ s r g ≡ acceptedOf (r .counts-of)
   holds-accepted f e h = by (acceptedOf (r .counts-of)) refl
     where
       by : (a : Checked) → acceptedOf (r .counts-of) ≡ a → foundWith ρ s r g ≡ acceptedOf (r .counts-of)
-      by C.Right u = found-held ρ s r g f e u (lines-held f e .0 h) ∙ sym u
+      by C.Right u = found-part ρ s r g f e u (lines-held f e .0 h) ∙ sym u
       by (C.Refused q) u = found-counts ρ s r g f e u ∙ sym u
 
   missing-given : (q : Refusal) → RefusedFor ρ s r g q → foundWith ρ s r g ≡ C.Refused q
@@ -84,8 +84,8 @@ module _ (ρ : Rules) (s : List ℕ) (r : Carried) (g : ℕ) where
       let f = group-form g low high in
       found-counts ρ s r g (f .0) (f .1) (accepted-first-due (r .counts-of) (C.Refused p) .1 d)
   missing-given q (bad-part d) =
-      let f = group-form g (d .ruled .low) (d .ruled .high) in
-      found-held ρ s r g (f .0) (f .1) (ruled-accepted (d .ruled)) (not-T-false (holdsPart ρ s r g (f .0)) (λ t. d .fails (lines-held (f .0) (f .1) .1 (T-true (holdsPart ρ s r g (f .0)) t))))
+      let f = group-form g (d .answerable .low) (d .answerable .high) in
+      found-part ρ s r g (f .0) (f .1) (answerable-accepted (d .answerable)) (not-T-false (holdsPart ρ s r g (f .0)) (λ t. d .fails (lines-held (f .0) (f .1) .1 (T-true (holdsPart ρ s r g (f .0)) t))))
 
   found-given : (a : Checked) → LinesDue ρ s r g a → foundWith ρ s r g ≡ a
   found-given C.Right d = held-given d
@@ -97,9 +97,9 @@ module _ (ρ : Rules) (s : List ℕ) (r : Carried) (g : ℕ) where
   unfolding foundWith
   found-is-due = by (formOf g) refl
     where
-      part : (f : Form) (t : Bool) → formOf g ≡ Has f → CountsHold ρ s r g → holdsPart ρ s r g f ≡ t → LinesDue ρ s r g (cond t C.Right (C.Refused BadPart))
-      part f true e d h = record { ruled = d; lines = lines-held f e .1 h }
-      part f false e d h = bad-part record { ruled = d; fails = λ l. false≢true (sym h ∙ lines-held f e .0 l) }
+      part : (f : Form) (t : Bool) → formOf g ≡ Has f → Answerable ρ s r g → holdsPart ρ s r g f ≡ t → LinesDue ρ s r g (cond t C.Right (C.Refused BadPart))
+      part f true e d h = record { answerable = d; lines = lines-held f e .1 h }
+      part f false e d h = bad-part record { answerable = d; fails = λ l. false≢true (sym h ∙ lines-held f e .0 l) }
 
       counts : (f : Form) (a : Checked) → formOf g ≡ Has f → (1 ≤ g) × (g ≤ 60) → AcceptedDue (r .counts-of) a → LinesDue ρ s r g (andThen a (partHeld ρ s r g f))
       counts f C.Right e i d = part f (holdsPart ρ s r g f) e record { low = i .0; high = i .1; rules = d } refl
@@ -150,7 +150,7 @@ module _ (ρ : Rules) (s : List ℕ) (r : Carried) (g : ℕ) where
   )
 
   pub found-kept : foundWith ρ s r g ≡ C.Right → rulingOf (r .counts-of) ≡ Kept
-  found-kept e = kept-ruling (r .counts-of) (found-first-due C.Right .0 e .ruled .rules .kept)
+  found-kept e = kept-ruling (r .counts-of) (found-first-due C.Right .0 e .answerable .rules .kept)
 
   -- the part lies in the text, whether it is given or not
   pub with-range : (startWith ρ s r g ≤ endWith ρ s r g) × (endWith ρ s r g ≤ length s)
@@ -213,7 +213,7 @@ module _ (ρ : Rules) (s : List ℕ) (r : Carried) (g : ℕ) where
 
     pub lines-decide : (f : Form) → formOf g ≡ Has f → Held ρ s r g → readWith ρ s r g room ≡ readForm ρ f g (countOf (r .counts-of) g) (namedPart ρ s r g) room
     unfolding Read.readGroup
-    lines-decide f e d = held-reads (held-given d) ∙ rw (e, kept-ruling (r .counts-of) (d .ruled .rules .kept))
+    lines-decide f e d = held-reads (held-given d) ∙ rw (e, kept-ruling (r .counts-of) (d .answerable .rules .kept))
 
 -- ---- a characteristic
 

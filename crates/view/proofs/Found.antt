@@ -25,11 +25,11 @@ use Rattle.reply.specs.declared.Checked.the-variants as C
 use Rattle.view.specs.With.{placeOf, holdsPart, foundWith, startWith, endWith, partWith, readWith}
 
 -- what the code gives of a group: the answer, and from where to where its lines stand
-abbrev pub Gives : (ρ : Rules) (s : List ℕ) (r : Carried) (g : ℕ) → Checked → ℕ → ℕ → Type 0
-Gives ρ s r g found from to = (found ≡ foundWith ρ s r g) × ((from ≡ startWith ρ s r g) × (to ≡ endWith ρ s r g))
+abbrev pub GivenAs : (ρ : Rules) (s : List ℕ) (r : Carried) (g : ℕ) → Checked → ℕ → ℕ → Type 0
+GivenAs ρ s r g found from to = (found ≡ foundWith ρ s r g) × ((from ≡ startWith ρ s r g) × (to ≡ endWith ρ s r g))
 
 module _ (ρ : Rules) (s : List ℕ) (r : Carried) (g : ℕ) where
-  gives-none : {q : Refusal} → foundWith ρ s r g ≡ C.Refused q → Gives ρ s r g (C.Refused q) 0 0
+  gives-none : {q : Refusal} → foundWith ρ s r g ≡ C.Refused q → GivenAs ρ s r g (C.Refused q) 0 0
   unfolding startWith endWith
   gives-none e = rw e (refl, (refl, refl))
 
@@ -37,7 +37,7 @@ module _ (ρ : Rules) (s : List ℕ) (r : Carried) (g : ℕ) where
   unfolding foundWith
   found-none e = rw e
 
-  pub gives-no-group : formOf g ≡ NoForm → Gives ρ s r g (C.Refused NoSuchNumber) 0 0
+  pub gives-no-group : formOf g ≡ NoForm → GivenAs ρ s r g (C.Refused NoSuchNumber) 0 0
   gives-no-group e = gives-none (found-none e)
 
   module _ (f : Form) (e : formOf g ≡ Has f) where
@@ -45,20 +45,20 @@ module _ (ρ : Rules) (s : List ℕ) (r : Carried) (g : ℕ) where
     unfolding foundWith
     found-counts a = rw (e, a)
 
-    pub gives-counts : {q : Refusal} → acceptedOf (r .counts-of) ≡ C.Refused q → Gives ρ s r g (C.Refused q) 0 0
+    pub gives-counts : {q : Refusal} → acceptedOf (r .counts-of) ≡ C.Refused q → GivenAs ρ s r g (C.Refused q) 0 0
     gives-counts a = gives-none (found-counts a)
 
     module _ (a : acceptedOf (r .counts-of) ≡ C.Right) where
-      pub found-held : {t : Bool} → holdsPart ρ s r g f ≡ t → foundWith ρ s r g ≡ cond t C.Right (C.Refused BadPart)
+      pub found-part : {t : Bool} → holdsPart ρ s r g f ≡ t → foundWith ρ s r g ≡ cond t C.Right (C.Refused BadPart)
       unfolding foundWith
-      found-held h = rw (e, a, h)
+      found-part h = rw (e, a, h)
 
-      pub gives-bad-part : holdsPart ρ s r g f ≡ false → Gives ρ s r g (C.Refused BadPart) 0 0
-      gives-bad-part h = gives-none (found-held h)
+      pub gives-bad-part : holdsPart ρ s r g f ≡ false → GivenAs ρ s r g (C.Refused BadPart) 0 0
+      gives-bad-part h = gives-none (found-part h)
 
-      pub gives-part : holdsPart ρ s r g f ≡ true → Gives ρ s r g C.Right (placeOf (r .starts-of) g) (placeOf (r .ends-of) g)
+      pub gives-part : holdsPart ρ s r g f ≡ true → GivenAs ρ s r g C.Right (placeOf (r .starts-of) g) (placeOf (r .ends-of) g)
       unfolding startWith endWith
-      gives-part h = rw (found-held h) (refl, (refl, refl))
+      gives-part h = rw (found-part h) (refl, (refl, refl))
 
   pub with-part : (from to : ℕ) → (from ≡ startWith ρ s r g) × (to ≡ endWith ρ s r g) → part from to s ≡ partWith ρ s r g
   unfolding partWith

@@ -129,7 +129,7 @@ module _ (ρ : Rules) (s : List ℕ) (at n : ℕ) (ns : List ℕ) (e : locate ρ
         lines = placed-lines;
         groups = placed-groups;
         characteristics = placed-characteristics;
-        never = λ g d. d .fails (part-holds g (d .ruled .low) (d .ruled .high));
+        never = λ g d. d .fails (part-holds g (d .answerable .low) (d .answerable .high));
       }
 
 pub as-placed : (ρ : Rules) (s : List ℕ) (at : ℕ) → PlacedAt ρ s at → AsPlaced ρ s at

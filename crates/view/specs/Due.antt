@@ -34,19 +34,19 @@ module _ (ρ : Rules) (s : List ℕ) (r : Carried) where
     PartHolds = AreLines s (placeOf (r .starts-of) g) (placeOf (r .ends-of) g) (linesIn ρ (r .counts-of) g)
 
     -- neither 12 nor 4, 5, 6 or 7
-    pub record CountsHold : Type 0 where
+    pub record Answerable : Type 0 where
       pub low : 1 ≤ g
       pub high : g ≤ 60
       pub rules : HasRules (r .counts-of)
 
     -- nor 22
     pub record Held : Type 0 where
-      pub ruled : CountsHold
+      pub answerable : Answerable
       pub lines : PartHolds
 
     -- R222
     pub record LacksPart : Type 0 where
-      pub ruled : CountsHold
+      pub answerable : Answerable
       pub fails : PartHolds → ⊥
 
     -- ---- the lines of a group

@@ -4,19 +4,19 @@ use mathlib.Core.Path.{_≡_, sym, _∙_}
 use mathlib.Core.Bool.{true}
 use borrow.Author.Needs.{needs}
 use borrow.Author.Tests.{not-true, not-false}
-use Rattle.line.specs.Parts.{isPart, beginsLine}
-use Rattle.line.proofs.Parts.{is-part, lines-no-part, lines-no-start, lines-few, lines-told}
+use Rattle.line.specs.Parts.{liesWithin, beginsLine}
+use Rattle.line.proofs.Parts.{lies-within, lines-no-part, lines-no-start, lines-few, lines-told}
 use Rattle.line.proofs.are_lines.Statement.{statement}
 use Rattle.line.proofs.are_lines.Tie as tie
 
-inside : (c : tie.Else1) → let a = c .before .before .before .args in isPart (a .text .now) (a .from) (a .to) ≡ true
-inside c = sym (c .before .is-part .ensures) ∙ not-false _ (c .if1 .left)
+inside : (c : tie.Else1) → let a = c .before .before .before .args in liesWithin (a .text .now) (a .from) (a .to) ≡ true
+inside c = sym (c .before .lies-within .ensures) ∙ not-false _ (c .if1 .left)
 
 begun : (c : tie.Else2) → let a = c .before .before .before .before .before .args in beginsLine (a .text .now) (a .from) ≡ true
 begun c = sym (c .before .begins-line .ensures) ∙ not-false _ (c .if2 .left)
 
 returns : tie.Need-returns
-returns c = sym (lines-no-part _ _ _ _ (sym (c .before .is-part .ensures) ∙ not-true _ (c .if1 .taken)))
+returns c = sym (lines-no-part _ _ _ _ (sym (c .before .lies-within .ensures) ∙ not-true _ (c .if1 .taken)))
 
 returns-2 : tie.Need-returns-2
 returns-2 c = sym (lines-no-start _ _ _ _ (inside (c .before .before)) (sym (c .before .begins-line .ensures) ∙ not-true _ (c .if2 .taken)))
@@ -41,12 +41,12 @@ are-lines-spec =
     returns
     (λ c κs. search needs)
     returns-2
-    (λ c. is-part _ _ _ (inside (c .before .before)) .0)
-    (λ c. is-part _ _ _ (inside (c .before .before)) .0)
-    (λ c. is-part _ _ _ (inside (c .before .before)) .1)
+    (λ c. lies-within _ _ _ (inside (c .before .before)) .0)
+    (λ c. lies-within _ _ _ (inside (c .before .before)) .0)
+    (λ c. lies-within _ _ _ (inside (c .before .before)) .1)
     (λ c κs. search needs)
     (λ c. search needs)
     (λ c. search needs)
     returns-3
-    (λ c. is-part _ _ _ (inside (c .before .before .before .before .before .before .before)) .0)
+    (λ c. lies-within _ _ _ (inside (c .before .before .before .before .before .before .before)) .0)
     returns-4)
