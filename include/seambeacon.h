@@ -92,7 +92,8 @@ enum seambeacon_reply {
     /* a field of the journal is misformed, its call would not be accepted there, an open does not
        have the next number or, in replay, an old value differs: the place of the field */
     SEAMBEACON_BAD_ENTRY = 17,
-    /* the part of the text that a record names for a group is not exactly the group's lines */
+    /* the part of the text that a record names for a group is not exactly as many whole lines as
+       the group's count needs */
     SEAMBEACON_BAD_PART = 22
 };
 
@@ -215,7 +216,7 @@ enum seambeacon_reply seambeacon_characteristic(uint32_t rules, const uint8_t *t
    nothing else of it is looked at but the start and the end of the group that is asked for, or of
    group 4 for a characteristic. For a record that was placed (0 or 7) in the same text under the
    same rules the answers are those of the questions by place, and 22 never comes (R288). For any
-   other a part is taken only if it is exactly a group's lines (R286): it lies within the text,
+   other a part is taken only if it is as many whole lines (R286): it lies within the text,
    begins at its start or just behind a line feed, holds the line feeds that the count needs and
    ends with the last of them; for count 0 it is empty, at such a place. Else it is refused with
    22. A placing that was refused by 1 to 6 leaves a record whose counts are zeros, and so it is

@@ -139,7 +139,7 @@ pub enum Refusal {
         /// The place of the field, in bytes from the journal's start.
         place: usize,
     },
-    /// 22: the part of the text that a [`Record`] names for a group is not exactly the group's lines.
+    /// 22: the part of the text that a [`Record`] names for a group is not exactly as many whole lines as the group's count needs.
     BadPart,
     /// Something that the library is proved never to answer, so another archive than its own has been linked. It is a refusal and no panic,
     /// since an editor that holds unsaved work must survive it.
@@ -197,7 +197,7 @@ impl fmt::Display for Refusal {
             Refusal::NotOpen => write!(to, "the savepoint is not open or, to be released, not the innermost"),
             Refusal::AllOpen => write!(to, "16 savepoints are open already"),
             Refusal::BadEntry { place } => write!(to, "the journal's field at place {place} is wrong"),
-            Refusal::BadPart => write!(to, "the part that is named for the group is not exactly its lines"),
+            Refusal::BadPart => write!(to, "the part that is named for the group is not as many whole lines as its count needs"),
             Refusal::Unknown { number } => write!(to, "an answer that the library does not give ({number})"),
         }
     }
@@ -239,7 +239,7 @@ pub enum Placing {
 /// ```
 ///
 /// The record doesn't hold the text; [`View`] does. It may be asked in any text and under any rules, and may be made up: so each question looks
-/// first whether the part that the record names for the group is exactly the group's lines. It has to lie within the text, to begin at its start
+/// first whether the part that the record names for the group is as many whole lines as its count needs. It has to lie within the text, to begin at its start
 /// or just behind a line feed, to hold the line feeds that the count needs and to end with the last of them; for count 0 to be empty, at such a
 /// place. Else the refusal is [`Refusal::BadPart`] (R286). Of a record that was placed in the same text under the same rules the answers are those of
 /// [`read_group`], [`group_lines`] and [`characteristic`] at its place, and that refusal never comes (R288).

@@ -16,7 +16,6 @@ use Rattle.line.specs.Places
 use Rattle.line.specs.Places.{behindAt}
 use Rattle.line.specs.Contents.{contentOf}
 use Rattle.line.specs.declared.Content.the-variants.{Length, NoReturn}
-use Rattle.line.specs.declared.Behind.{Behind}
 use Rattle.line.specs.declared.Behind.the-variants.{At, TooFew}
 use Rattle.line.proofs.Places.{at-is, few-is, behindAt-then, lines-at}
 use Rattle.count.specs.Tally.{recordLines}

@@ -81,7 +81,8 @@ fn nothing(why: Refusal) -> Record
 // R203, R207, R259: a record of release 5 whose data lines begin at a place: the lines of one group after the other,
 // then the rules on counts.
 fn with_lines(rules: rules::Rules, text: &[u8], from: usize, counts: [u16; 80]) -> Record
-    ensures { λ r. ⌜ Answers rules (now (text .entry)) from (locateLinesFrom rules (now (text .entry)) from counts) r ⌝ }
+    ensures { λ r. ⌜ Answers rules (now (text .entry)) from
+        (locateLinesFrom rules (now (text .entry)) from counts) r ⌝ }
 {
     let mut starts = [0usize; 60];
     let mut ends = [0usize; 60];

@@ -69,7 +69,11 @@ refusal-behind asked h ρ ns g x room r (bad-date p d) =
 
 -- 12 and placing's replies
 pub has-asked : HasAsked askedRefusals
-has-asked = record { no-group-row = inl (refusal-fills NoSuchNumber tt); broken-row = λ h l. at-row 7 (rows askedRefusals) (refusalReply (BrokenRule h)) (lit< tt) (refusal-fills (BrokenRule h) (l, tt)) }
+has-asked =
+    record {
+      no-group-row = inl (refusal-fills NoSuchNumber tt);
+      broken-row = λ h l. at-row 7 (rows askedRefusals) (refusalReply (BrokenRule h)) (lit< tt) (refusal-fills (BrokenRule h) (l, tt));
+    }
 
 pub cells-numbered : (ρ : Rules) (ns : List ℕ) (g : ℕ) (x : List ℕ) (room : ℕ) (c : Cells) → Due ρ ns g x room c → Numbered readingRows (answerReply (readingOf c))
 cells-numbered ρ ns g x room (done cs) d = inl (fills 0 ((cells, length cs) ∷ []) (omega arith, tt))

@@ -83,9 +83,9 @@ pub fn characteristic(rules: rules::Rules, text: &[u8], at: usize, number: usize
     group::characteristic_at(rules, text, at, number)
 }
 
-// ---- The same with a record (R285 to R288): one that `place` gave, of this text or another, or one that is made up. It
-// is placed once and asked with as often as there are questions; the part that it names for the group is looked at
-// first, and is 22 if it is not exactly the group's lines.
+// ---- The same with a record (R285 to R288): one that `place` gave, of this text or another, or one that is made up.
+// It is placed once and asked with as often as there are questions; the part that it names for the group is looked at
+// first, and is 22 if it is not exactly as many whole lines of the text as the group's count needs.
 
 // R285 to R287. Asked: the cells of a group, 1 to 60, of a record.
 // Answered: 0 with the number of cells, which stand in the table from its first cell on; what stands behind them is

@@ -85,7 +85,8 @@ module _ (ρ : Rules) (s : List ℕ) (r : Carried) (g : ℕ) where
       found-counts ρ s r g (f .0) (f .1) (accepted-first-due (r .counts-of) (C.Refused p) .1 d)
   missing-given q (bad-part d) =
       let f = group-form g (d .answerable .low) (d .answerable .high) in
-      found-part ρ s r g (f .0) (f .1) (answerable-accepted (d .answerable)) (not-T-false (holdsPart ρ s r g (f .0)) (λ t. d .fails (lines-held (f .0) (f .1) .1 (T-true (holdsPart ρ s r g (f .0)) t))))
+      found-part ρ s r g (f .0) (f .1) (answerable-accepted (d .answerable))
+      (not-T-false (holdsPart ρ s r g (f .0)) (λ t. d .fails (lines-held (f .0) (f .1) .1 (T-true (holdsPart ρ s r g (f .0)) t))))
 
   found-given : (a : Checked) → LinesDue ρ s r g a → foundWith ρ s r g ≡ a
   found-given C.Right d = held-given d

@@ -28,7 +28,8 @@ returns c =
     let ρ = flagged (a .rules) in
     let r = carried (a .counts .now) (a .starts .now) (a .ends .now) in
     let e = rw (at-call .before .before .before .before .rules-of .ensures) at (at-call .lines-with .ensures) in
-    let long : endWith ρ (a .text .now) r (a .group) - startWith ρ (a .text .now) r (a .group) ≡ length (partWith ρ (a .text .now) r (a .group)) = omega (arith, part-length ρ (a .text .now) r (a .group)) in
+    let long : endWith ρ (a .text .now) r (a .group) - startWith ρ (a .text .now) r (a .group) ≡ length (partWith ρ (a .text .now) r (a .group)) =
+    omega (arith, part-length ρ (a .text .now) r (a .group)) in
     (told-as (c .before .before .of-checked .ensures ∙ ap checkedReply (e .0)) (c .tell .ensures), rw (e .1 .0, e .1 .1, long) refl)
 
 pub seambeacon-record-lines-apart-spec : {M : Type 1} → statement M

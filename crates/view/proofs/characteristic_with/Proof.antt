@@ -32,7 +32,8 @@ returns-2 : tie.Need-returns-2
 unfolding characteristicWith
 returns-2 c =
     let at-if1 = c .before .before .before .before .before in
-    c .told-of .ensures ∙ four-told (at-if1 .before .before .before .before .before .before .args .number) (four (at-if1 .before)) _ _ (replicate 49 (pos 0)) (within at-if1) (c .before .before .before .read-with .ensures)
+    c .told-of .ensures ∙ four-told (at-if1 .before .before .before .before .before .before .args .number) (four (at-if1 .before)) _ _ (replicate 49 (pos 0)) (within at-if1)
+    (c .before .before .before .read-with .ensures)
 
 pub characteristic-with-spec : {M : Type 1} → statement M
 characteristic-with-spec =

@@ -43,9 +43,11 @@ these c = let o = formed c .before .before .before .before .before .before .befo
 accepted : (c : tie.After-are-lines) → acceptedOf (these c .counts-of) ≡ C.Right
 accepted c = sym (c .before .before .before .before .before .before .before .check-counts .ensures) ∙ c .before .before .before .before .before .enum-told2 .given .1
 
-held : (c : tie.After-are-lines) → (let o = formed c .before .before .before .before .before .before .before .args in holdsPart (o .rules) (o .text .now) (these c) (o .group) (formed c .form .given .0 .0) ≡ c .are-lines .result)
+held : (c : tie.After-are-lines)
+    → (let o = formed c .before .before .before .before .before .before .before .args in holdsPart (o .rules) (o .text .now) (these c) (o .group) (formed c .form .given .0 .0) ≡ c .are-lines .result)
 held c =
-    sym (rw (c .before .before .before .before .place-of .ensures, c .before .before .before .place-of2 .ensures, c .before .lines .ensures, c .before .before .count-of .ensures) at (c .are-lines .ensures))
+    sym
+    (rw (c .before .before .before .before .place-of .ensures, c .before .before .before .place-of2 .ensures, c .before .lines .ensures, c .before .before .count-of .ensures) at (c .are-lines .ensures))
 
 returns-2 : tie.Need-returns-2
 returns-2 c =
