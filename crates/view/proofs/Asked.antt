@@ -1,7 +1,7 @@
 -- R289: a question asked with a view is the same question asked with the view's text and its record. The borrow checker covers no function over a
 -- struct that holds a reference, so such a function is walked by hand, here once for all of them: it takes the view apart and calls a function that is
--- covered (`asks`), and answers what that one answers (`walk`). What the view owns is what its text and its record own (`apart`). So whatever is
--- promised of the text and the record is promised of the view (`asked`). Of the function that is called, only its contract is known.
+-- covered (`asks`), and answers what that one answers (`walk`). What the view owns is what its text and its record own (`apart`). So what is promised
+-- of the text and the record is what is promised of the view, no more and no less (`asked`). Of the function that is called, only its contract is known.
 -- Assumes nothing.
 use mathlib.Core.Path.{_≡_, refl, subst}
 use mathlib.Core.Bool.{true}
@@ -135,11 +135,9 @@ module _ (t : Question) where
   abbrev pub of-parts : Signature
   of-parts = record { lifetimes = 1; outlives = []; params = with-parts; result = t .slot }
 
-  -- what is promised of an answer, by what was passed
+  -- what is promised of an answer, by the parts; by a view it is that of its parts, so that no view's contract can say less
   pub record Promise {M : Type 1} (𝓤 : URA M) : Type 2 where
     pub by-parts : (κs : Lfts 1) → Parts κs → t .slot .row κs .Denot → SProp 𝓤
-    pub by-view : (κs : Lfts 1) → Asked κs → t .slot .row κs .Denot → SProp 𝓤
-    pub same : (κs : Lfts 1) (a : Asked κs) (r : t .slot .row κs .Denot) → ent 𝓤 (by-parts κs (parts κs a) r) (by-view κs a r)
 
 module _ {M : Type 1} {𝓤 : URA M} (H : Heap 𝓤) (A : Atoms 𝓤) (t : Question) (p : Promise t 𝓤) where
   abbrev pub spec-of-parts : Spec 𝓤 (of-parts t)
@@ -153,7 +151,7 @@ module _ {M : Type 1} {𝓤 : URA M} (H : Heap 𝓤) (A : Atoms 𝓤) (t : Quest
   spec-of-view κs a = record {
     ghost = Unit {0};
     requires = λ _. emp 𝓤;
-    ensures = λ _ r. exits 𝓤 H A (of-view t) (yes, (yes, (yes, tt))) κs a (λ _. p .by-view κs a r);
+    ensures = λ _ r. exits 𝓤 H A (of-view t) (yes, (yes, (yes, tt))) κs a (λ _. p .by-parts κs (parts κs a) r);
   }
 
 module _ {M : Type 1} {𝓤 : URA M} {H : Heap 𝓤} (𝓜 : Model 𝓤 H) (𝓖 : GhostRules 𝓤 H) (𝓡 : Running 𝓤 H 𝓜) (t : Question) where
@@ -247,8 +245,8 @@ module _ {M : Type 1} {𝓤 : URA M} {H : Heap 𝓤} (𝓜 : Model 𝓤 H) (𝓖
             peeks ! (t .slot .row κs) (Is (t .slot .row κs)) (shows 𝓤 H (𝓖 .A) (t .slot .row κs)) r (u ∷ []) (λ is.
             at-once ! $ check ! (fits r u is) $ updating ! $ at-once ! $
             show ! (λ r′. sep 𝓤 (Back 𝓤 H (𝓖 .A) (of-view t) (with-it .0) u r′) (spec-of-view H (𝓖 .A) t p κs a .ensures tt r′)) r $
-            move ! (1 ∷ 0 ∷ []) $ join ! $ frame ! $ pick ! (λ ws. split ! $ fsplit ! $ drop ! $ move ! (1 ∷ []) $ use1 W (raw (p .by-view κs a r)) (p .same κs a r) $ move ! (1 ∷ 0 ∷ []) $
-            show ! (λ ws′. sep 𝓤 (sem 𝓤 H (𝓖 .A) (silent-view ws′)) (p .by-view κs a r)) (tt, (tt, (tt, tt))) $ done !)))
+            move ! (1 ∷ 0 ∷ []) $ join ! $ frame ! $ pick ! (λ ws. split ! $ fsplit ! $ drop ! $
+            show ! (λ ws′. sep 𝓤 (sem 𝓤 H (𝓖 .A) (silent-view ws′)) (p .by-parts κs (parts κs a) r)) (tt, (tt, (tt, tt))) $ done !)))
 
         through : Triple 𝓤 (C (t .called)) of-the-parts → Are (typesAt with-view κs) (Ises (typesAt with-view κs)) a (as-view κs a)
             → ent 𝓤 (onEntry 𝓤 H (𝓖 .A) (of-view t) κs qs a (as-view κs a))

@@ -5,3 +5,4 @@ pub mod Numbered
 pub mod Placed
 pub mod Walk
 pub mod Asked
+pub mod OneOutcome

@@ -202,7 +202,7 @@ pub struct View<'a> {
 }
 
 // R289, R446: the lines of a group, as a part of the text that was lent.
-pub fn lines_of<'a>(rules: rules::Rules, view: View<'a>, group: usize) -> &'a [u8]
+pub fn part_of<'a>(rules: rules::Rules, view: View<'a>, group: usize) -> &'a [u8]
     ensures bytes { λ r. ⌜ now r ≡
         partWith rules (now (view .entry .text)) (carriedBy (view .entry .record)) group ⌝ }
     ensures address { λ r. ⌜ r .ptr ≡ moved (view .entry .text .ptr)
@@ -212,7 +212,7 @@ pub fn lines_of<'a>(rules: rules::Rules, view: View<'a>, group: usize) -> &'a [u
 }
 
 // R289: where the lines of a group stand.
-pub fn lines_at_of<'a>(rules: rules::Rules, view: View<'a>, group: usize) -> Lines
+pub fn lines_of<'a>(rules: rules::Rules, view: View<'a>, group: usize) -> Lines
     ensures found { λ r. ⌜ r .found ≡
         foundWith rules (now (view .entry .text)) (carriedBy (view .entry .record)) group ⌝ }
     ensures from { λ r. ⌜ r .from ≡

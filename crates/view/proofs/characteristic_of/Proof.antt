@@ -1,7 +1,6 @@
 -- `view::characteristic_of` meets its contract: what `characteristic_by` answers of the view's text and its record.
 -- Assumes nothing.
 use mathlib.Core.Path.{refl}
-use base.Logic.{id⊢}
 use denote.Enum.Laws as EL
 use denote.Signature.{plain}
 use Rattle.group.proofs.Characteristic as Characteristic
@@ -10,7 +9,6 @@ use Rattle.view.proofs.Asked.{Question, asked}
 use Rattle.view.proofs.characteristic_by as characteristic
 use Rattle.view.proofs.characteristic_by.Symbol as characteristic-symbol
 use Rattle.view.proofs.characteristic_by.Met as characteristic-met
-use Rattle.view.proofs.characteristic_of as asking
 use Rattle.view.proofs.characteristic_of.Key as key
 use Rattle.view.proofs.characteristic_of.Statement as stated
 use Rattle.view.proofs.characteristic_of.Code as code
@@ -32,6 +30,4 @@ unfolding code.routine
 characteristic-of-spec 𝓤 H 𝓜 𝓖 𝓡 =
     asked 𝓜 𝓖 𝓡 question record {
       by-parts = λ κs a r. characteristic.clauses 𝓤 H (𝓖 .A) (𝓜 .mem) (𝓡 .run) κs a .ensures tt r a;
-      by-view = λ κs a r. asking.clauses 𝓤 H (𝓖 .A) (𝓜 .mem) (𝓡 .run) κs a .ensures tt r a;
-      same = λ κs a r. id⊢ 𝓤 _;
     } (characteristic-met.met 𝓤 H 𝓜 𝓖 𝓡)
