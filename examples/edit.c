@@ -49,7 +49,7 @@ static struct {
 
 static struct {
     size_t number;
-    uint16_t counts[COUNTS];
+    struct seambeacon_record placed; /* in the day as it was loaded */
     int64_t cells[MOST_CELLS];
     size_t starts[GROUPS + 1]; /* group g has the cells from starts[g - 1] to starts[g] */
     char date[20];             /* as it stands in the day */
@@ -162,20 +162,20 @@ static int is_as_loaded(FILE *file)
 
 static int find_record(size_t number)
 {
-    struct seambeacon_beside beside;
+    const struct seambeacon_beside *beside = &record.placed.beside;
     enum seambeacon_reply reply;
     for (size_t i = 1;; i++) {
-        reply = seambeacon_place(SEAMBEACON_USUAL, day.text, day.length, day.at, record.counts, &beside);
+        reply = seambeacon_place(SEAMBEACON_USUAL, day.text, day.length, day.at, &record.placed);
         if (i == number || (reply != SEAMBEACON_DONE && reply != SEAMBEACON_BROKEN_RULE))
             break;
-        day.at = beside.next;
+        day.at = beside->next;
     }
     record.number = number;
-    day.next = beside.next;
+    day.next = beside->next;
     if (reply == SEAMBEACON_DONE)
         return 1;
     fprintf(stderr, reply == SEAMBEACON_BROKEN_RULE ? "edit: record %zu cannot be read: " : "edit: there is no record %zu: ", number);
-    tell(stderr, reply, &beside);
+    tell(stderr, reply, beside);
     fprintf(stderr, "\n");
     return 0;
 }
@@ -195,8 +195,8 @@ static int load_cells(void)
     for (size_t group = 1; group <= GROUPS; group++) {
         struct seambeacon_beside beside;
         enum seambeacon_reply reply =
-            seambeacon_read_group(SEAMBEACON_USUAL, day.text, day.length, day.at, group, record.cells + many, MOST_CELLS - many,
-                                  &beside);
+            seambeacon_record_group(SEAMBEACON_USUAL, day.text, day.length, &record.placed, group, record.cells + many, MOST_CELLS - many,
+                                    &beside);
         if (reply != SEAMBEACON_DONE) {
             fprintf(stderr, "edit: group %zu of record %zu cannot be read: ", group, record.number);
             tell(stderr, reply, &beside);
@@ -316,8 +316,8 @@ static int kept(size_t from)
 
 static enum seambeacon_reply replay_over(int64_t *cells, size_t *savepoints, struct seambeacon_beside *beside)
 {
-    return seambeacon_replay(SEAMBEACON_USUAL, record.counts, COUNTS, cells, record.starts[GROUPS], journal.bytes, MOST_JOURNAL, journal.used,
-                             savepoints, beside);
+    return seambeacon_replay(SEAMBEACON_USUAL, record.placed.counts, COUNTS, cells, record.starts[GROUPS], journal.bytes, MOST_JOURNAL,
+                             journal.used, savepoints, beside);
 }
 
 /* The bytes of the field at a place, by its tag and length as far as they are there; 0 if none begins so. */
@@ -436,7 +436,7 @@ static int set(size_t group, size_t cell, int64_t value)
 {
     struct seambeacon_beside beside;
     size_t from = journal.used;
-    if (refused(seambeacon_set_cell(SEAMBEACON_USUAL, record.counts, COUNTS, record.cells, record.starts[GROUPS], journal.bytes,
+    if (refused(seambeacon_set_cell(SEAMBEACON_USUAL, record.placed.counts, COUNTS, record.cells, record.starts[GROUPS], journal.bytes,
                                     room(journal.save_refused ? MOST_JOURNAL : MOST_EDITS), &journal.used, group, cell, value, &beside),
                 &beside))
         return 1;
@@ -450,7 +450,7 @@ static int open_savepoint(void)
 {
     struct seambeacon_beside beside;
     size_t from = journal.used;
-    if (refused(seambeacon_open_savepoint(SEAMBEACON_USUAL, record.counts, COUNTS, record.cells, record.starts[GROUPS], journal.bytes,
+    if (refused(seambeacon_open_savepoint(SEAMBEACON_USUAL, record.placed.counts, COUNTS, record.cells, record.starts[GROUPS], journal.bytes,
                                           room(MOST_EDITS), &journal.used, &beside),
                 &beside))
         return 1;
@@ -464,7 +464,7 @@ static int release_savepoint(size_t savepoint)
 {
     struct seambeacon_beside beside;
     size_t from = journal.used;
-    if (refused(seambeacon_release_savepoint(SEAMBEACON_USUAL, record.counts, COUNTS, record.cells, record.starts[GROUPS], journal.bytes,
+    if (refused(seambeacon_release_savepoint(SEAMBEACON_USUAL, record.placed.counts, COUNTS, record.cells, record.starts[GROUPS], journal.bytes,
                                              MOST_JOURNAL, &journal.used, savepoint, &beside),
                 &beside))
         return 1;
@@ -478,7 +478,7 @@ static int undo(size_t savepoint)
 {
     struct seambeacon_beside beside;
     size_t from = journal.used;
-    if (refused(seambeacon_undo_to_savepoint(SEAMBEACON_USUAL, record.counts, COUNTS, record.cells, record.starts[GROUPS], journal.bytes,
+    if (refused(seambeacon_undo_to_savepoint(SEAMBEACON_USUAL, record.placed.counts, COUNTS, record.cells, record.starts[GROUPS], journal.bytes,
                                              MOST_JOURNAL, &journal.used, savepoint, &beside),
                 &beside))
         return 1;
@@ -532,7 +532,8 @@ static size_t new_day(uint8_t **text, size_t *written)
     static uint8_t out[MOST_TEXT];
     struct seambeacon_beside beside;
     size_t behind = day.length - day.next;
-    if (refused(seambeacon_write_record(SEAMBEACON_USUAL, record.counts, COUNTS, record.cells, record.starts[GROUPS], out, sizeof out, &beside),
+    if (refused(seambeacon_write_record(SEAMBEACON_USUAL, record.placed.counts, COUNTS, record.cells, record.starts[GROUPS], out, sizeof out,
+                                        &beside),
                 &beside))
         return 0;
     *written = beside.written;

@@ -28,14 +28,13 @@ static int may_change(enum seambeacon_reply reply)
 /* Goes on from where the walk stands, over every record that is whole; answers with the reply at which it stands then. */
 static enum seambeacon_reply walk_on(void)
 {
-    struct seambeacon_beside beside;
-    uint16_t counts[80];
+    struct seambeacon_record record;
     for (;;) {
-        enum seambeacon_reply reply = seambeacon_place(SEAMBEACON_USUAL, text, length, at, counts, &beside);
+        enum seambeacon_reply reply = seambeacon_place(SEAMBEACON_USUAL, text, length, at, &record);
         if (reply != SEAMBEACON_DONE && reply != SEAMBEACON_BROKEN_RULE)
             return reply;
-        printf("record %zu: %zu to %zu, reply %d, after %zu bytes\n", ++records, at, beside.next, (int)reply, length);
-        at = beside.next;
+        printf("record %zu: %zu to %zu, reply %d, after %zu bytes\n", ++records, at, record.beside.next, (int)reply, length);
+        at = record.beside.next;
     }
 }
 

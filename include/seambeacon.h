@@ -1,9 +1,9 @@
 /* Seambeacon: places, reads and writes SAO 4.3 records, and keeps a journal of edits.
    Link target/staticlib/libseambeacon.a (`rt staticlib seambeacon`), x86-64.
 
-   Whatever rules, text, place, number, table, output and journal a function is given, it ends and
-   returns one of the replies below; nothing has to be checked before a call. R with a number is a
-   rule of docs/FORMAT.md.
+   Whatever rules, text, place, record, number, table, output and journal a function is given, it
+   ends and returns one of the replies below; nothing has to be checked before a call. R with a
+   number is a rule of docs/FORMAT.md.
 
    What a caller answers for:
    - A pointer with a length behind it is valid for that many of what it points to; with length 0
@@ -14,8 +14,9 @@
      rest during the call.
 
    Several threads may ask at the same time, without a lock: the library has no memory of its own
-   and keeps nothing between two calls. They may lend the same text, counts and cells to be read;
-   each call has a table, an output, a journal and numbers of its own to be altered.
+   and keeps nothing between two calls. They may lend the same text, record, counts and cells to be
+   read; each call has a table, an output, a journal and numbers of its own to be altered, and
+   placing a record of its own.
 
    A text is its bytes, with line ends; no byte marks its end. A place is a number of bytes from
    the text's start, or from the journal's. Groups, cells of a group, lines, elements, positions,
@@ -90,7 +91,10 @@ enum seambeacon_reply {
     SEAMBEACON_ALL_OPEN = 16,
     /* a field of the journal is misformed, its call would not be accepted there, an open does not
        have the next number or, in replay, an old value differs: the place of the field */
-    SEAMBEACON_BAD_ENTRY = 17
+    SEAMBEACON_BAD_ENTRY = 17,
+    /* the part of the text that a record names for a group is not exactly as many whole lines as
+       the group's count needs */
+    SEAMBEACON_BAD_PART = 22
 };
 
 /* What is known of a characteristic. */
@@ -125,14 +129,57 @@ struct seambeacon_part {
     size_t length;
 };
 
+/* A record (R366), as placing gives it. Placing's answer is reply, with beside; the questions with
+   a record look at the other members alone. A record may come from any text and any rules, or be
+   made up. Beside a text it is a view of that text: counts has its counts, and the questions with
+   a record give a group's cells, a group's lines and a characteristic, without placing it anew. */
+struct seambeacon_record {
+    uint16_t counts[80]; /* group g's count is counts[g - 1] */
+    size_t starts[60];   /* the place where group g's lines begin is starts[g - 1] */
+    size_t ends[60];     /* and the place behind them ends[g - 1] */
+    enum seambeacon_reply reply;
+    struct seambeacon_beside beside;
+};
+
+/* The library's own functions behind the four that take a record: for callers who can't use the
+   struct, with its members lent one by one. What they are asked and answer is said below, at the
+   functions without _apart. */
+enum seambeacon_reply seambeacon_place_apart(uint32_t rules, const uint8_t *text,
+                                             size_t text_length, size_t at, uint16_t counts[80],
+                                             size_t starts[60], size_t ends[60],
+                                             struct seambeacon_beside *beside);
+enum seambeacon_reply seambeacon_record_group_apart(uint32_t rules, const uint8_t *text,
+                                                    size_t text_length, const uint16_t counts[80],
+                                                    const size_t starts[60], const size_t ends[60],
+                                                    size_t group, int64_t *table,
+                                                    size_t table_length,
+                                                    struct seambeacon_beside *beside);
+enum seambeacon_reply seambeacon_record_lines_apart(uint32_t rules, const uint8_t *text,
+                                                    size_t text_length, const uint16_t counts[80],
+                                                    const size_t starts[60], const size_t ends[60],
+                                                    size_t group, struct seambeacon_part *part,
+                                                    struct seambeacon_beside *beside);
+enum seambeacon_reply seambeacon_record_characteristic_apart(
+    uint32_t rules, const uint8_t *text, size_t text_length, const uint16_t counts[80],
+    const size_t starts[60], const size_t ends[60], size_t number, enum seambeacon_kind *kind,
+    int64_t *value, struct seambeacon_beside *beside);
+
 /* Asked: which record stands at a place of a text.
-   Answered: 0 or 7 with the next place, from which a walk goes on; counts has the record's 80
-   counts, group g's as counts[g - 1].
-   Another refusal (1 to 6) leaves 80 zeros in counts. When bytes are added at the text's end, 1,
-   2 and 3 may become other replies; no other answer about this place does (R256, R258). */
-enum seambeacon_reply seambeacon_place(uint32_t rules, const uint8_t *text, size_t text_length,
-                                       size_t at, uint16_t counts[80],
-                                       struct seambeacon_beside *beside);
+   Answered: 0 or 7 with the next place, from which a walk goes on; the record has its 80 counts,
+   and where the lines of each of its 60 groups begin and end, as places in the text. With count 0
+   both are the place where the lines would be. The reply and the numbers beside it stand in the
+   record too.
+   Another refusal (1 to 6) leaves zeros in counts, starts and ends. When bytes are added at the
+   text's end, 1, 2 and 3 may become other replies; no other answer about this place does (R256,
+   R258). */
+static inline enum seambeacon_reply seambeacon_place(uint32_t rules, const uint8_t *text,
+                                                     size_t text_length, size_t at,
+                                                     struct seambeacon_record *record)
+{
+    record->reply = seambeacon_place_apart(rules, text, text_length, at, record->counts,
+                                           record->starts, record->ends, &record->beside);
+    return record->reply;
+}
 
 /* Asked: the cells of a group, 1 to 60, of the record at a place.
    Answered: 0 with the number of cells, which stand in the table from its first cell on; what
@@ -164,6 +211,63 @@ enum seambeacon_reply seambeacon_characteristic(uint32_t rules, const uint8_t *t
                                                 size_t text_length, size_t at, size_t number,
                                                 enum seambeacon_kind *kind, int64_t *value,
                                                 struct seambeacon_beside *beside);
+
+/* The questions with a record, which are asked beside a text. Counts are those of the record, and
+   nothing else of it is looked at but the start and the end of the group that is asked for, or of
+   group 4 for a characteristic. For a record that was placed (0 or 7) in the same text under the
+   same rules the answers are those of the questions by place, and 22 never comes (R288). For any
+   other a part is taken only if it is as many whole lines (R286): it lies within the text,
+   begins at its start or just behind a line feed, holds the line feeds that the count needs and
+   ends with the last of them; for count 0 it is empty, at such a place. Else it is refused with
+   22. A placing that was refused by 1 to 6 leaves a record whose counts are zeros, and so it is
+   answered 5. */
+
+/* Asked: the cells of a group, 1 to 60, of a record.
+   Answered: as by seambeacon_read_group: 0 with the number of cells, which stand in the table from
+   its first cell on; what stands behind them is kept.
+   A refusal (12; 4, 5, 6 and 7 by the record's counts; 22, 11, 8, 9, 10, in this order) leaves the
+   whole table as it was. */
+static inline enum seambeacon_reply seambeacon_record_group(uint32_t rules, const uint8_t *text,
+                                                            size_t text_length,
+                                                            const struct seambeacon_record *record,
+                                                            size_t group, int64_t *table,
+                                                            size_t table_length,
+                                                            struct seambeacon_beside *beside)
+{
+    return seambeacon_record_group_apart(rules, text, text_length, record->counts, record->starts,
+                                         record->ends, group, table, table_length, beside);
+}
+
+/* Asked: the lines of a group, 1 to 60, of a record, with their line ends.
+   Answered: 0, and which part of the text holds them, as the record has it: part->length bytes
+   from text + part->start on.
+   A refusal (12; 4, 5, 6 and 7 by the record's counts; 22, in this order) gives the empty part at
+   place 0. */
+static inline enum seambeacon_reply seambeacon_record_lines(uint32_t rules, const uint8_t *text,
+                                                            size_t text_length,
+                                                            const struct seambeacon_record *record,
+                                                            size_t group,
+                                                            struct seambeacon_part *part,
+                                                            struct seambeacon_beside *beside)
+{
+    return seambeacon_record_lines_apart(rules, text, text_length, record->counts, record->starts,
+                                         record->ends, group, part, beside);
+}
+
+/* Asked: a characteristic, 1 to 49, of a record.
+   Answered: as by seambeacon_characteristic: under reply 0 its kind, and in *value its value in
+   thousandths, 0 for the other kinds.
+   A refusal (12, or the reply of seambeacon_record_group for group 4, 22 among them) has the kind
+   SEAMBEACON_REFUSED. */
+static inline enum seambeacon_reply seambeacon_record_characteristic(
+    uint32_t rules, const uint8_t *text, size_t text_length,
+    const struct seambeacon_record *record, size_t number, enum seambeacon_kind *kind,
+    int64_t *value, struct seambeacon_beside *beside)
+{
+    return seambeacon_record_characteristic_apart(rules, text, text_length, record->counts,
+                                                  record->starts, record->ends, number, kind,
+                                                  value, beside);
+}
 
 /* Asked: to write a record of these counts, which are 80, and of all its cells in group order:
    under SEAMBEACON_ENTRIES those of group 40 are 2 (6 (n - 1) + 1) for its count n above 0.

@@ -1,9 +1,10 @@
 #!/bin/sh
 # What README.md shows. Its rows of the example day, and those about the rules, are what list, dump and rewrite print. The C program is cut out
 # of it, compiled, linked and run, and so is the Rust program where cargo is at hand; both must print foF2 of each hour of examples/day.sao, as
-# it stands in the text's columns, but for the one hour where it was not scaled (R291). The scene of edit is played, and its lines about the
-# journal in Rust are those that the wrapper's documentation runs. What it shows of follow stands in that program, and is printed. On every
-# machine the kit's own compiler, linker and loader are used; on x86-64 the commands of README.md too. Another file than README.md may be named.
+# it stands in the text's columns, but for the one hour where it was not scaled (R291). The scene of edit is played, and its lines about a
+# record and the journal in Rust are those that the wrapper's documentation runs. What it shows of profile and follow stands in these programs, and
+# is printed. On every machine the kit's own compiler, linker and loader are used; on x86-64 the commands of README.md too. Another file than
+# README.md may be named.
 set -u
 home=$(cd "$(dirname "$0")/.." && pwd -P) || exit 2
 case ${1-} in
@@ -59,7 +60,7 @@ done <"$work/ruled"
 block c 1 >"$work/fof2.c"
 counted 'the C program is that of examples' cmp -s "$work/fof2.c" examples/fof2.c
 counted 'in at most ten lines' [ "$(wc -l <"$work/fof2.c")" -le 10 ]
-counted 'with the library in it' grep -q 'seambeacon_characteristic' "$work/fof2.c"
+counted 'with the library in it' grep -q 'seambeacon_record_characteristic' "$work/fof2.c"
 
 counted 'the C program is compiled by the kit' compiled "$work/fof2.c" "$work/fof2.o" -std=c99
 counted 'and linked' linked "$work/fof2" "$work/fof2.o"
@@ -126,7 +127,6 @@ else
     echo "tests/readme.sh: skipped: the command for edit, which needs x86-64 and cc (this is $machine)"
 fi
 
-# what is shown of follow: lines of the program that stand there one behind the other, and lines that it prints of the day
 within() { # PART WHOLE
     case $(cat "$2") in
     *"$(cat "$1")"*) [ -s "$1" ] ;;
@@ -134,10 +134,35 @@ within() { # PART WHOLE
     esac
 }
 
-block c 2 >"$work/walk.c"
+# the panel: a function of the program, which prints the cells of groups 51 to 53 as dump has them
+block c 2 >"$work/panel.c"
+counted 'the panel is that of examples' within "$work/panel.c" examples/profile.c
+counted 'with the library in it' grep -q 'seambeacon_record_group' "$work/panel.c"
+counted 'profile is compiled by the kit' compiled examples/profile.c "$work/profile.o" -std=c99
+counted 'and linked' linked "$work/profile" "$work/profile.o"
+if command -v cc >/dev/null; then
+    counted 'profile, cc with its own headers' cc -std=c99 -Wall -Wextra -pedantic -Werror -Iinclude -fsyntax-only examples/profile.c
+fi
+./run dump <examples/day.sao | awk '
+    $1 == "record" { place = $2 }
+    $1 == "group" { cells[$2] = $4; for (i = 8; i <= NF; i++) cell[$2, i - 8] = $i }
+    $1 == "group" && $2 == 53 {
+        print "record at " place ": " cells[51] " points"
+        for (i = 0; i < cells[51]; i++)
+            printf "%.3f %.3f %.3fE%+d\n", cell[51, i] / 1000, cell[52, i] / 1000, cell[53, 2 * i] / 1000, cell[53, 2 * i + 1]
+    }' >"$work/points"
+counted 'points of 24 records' [ "$(grep -c '^record at ' "$work/points")" -eq 24 ]
+started "$work/profile" <examples/day.sao >"$work/got"
+compared 'the profile of each hour' "$work/points"
+grep -o '`[0-9.]* [0-9.]* [0-9.]*E+[0-9]`' "$readme" | tr -d '`' >"$work/rows"
+counted 'two points are shown' [ "$(wc -l <"$work/rows")" -eq 2 ]
+counted 'and are printed' none "$(grep -Fxv -f "$work/got" "$work/rows")"
+
+# what is shown of follow: lines of the program that stand there one behind the other, and lines that it prints of the day
+block c 3 >"$work/walk.c"
 counted 'the walk of follow is that of examples' within "$work/walk.c" examples/follow.c
 counted 'with the library in it' grep -q 'seambeacon_place' "$work/walk.c"
-block c 3 >"$work/loop.c"
+block c 4 >"$work/loop.c"
 counted 'and so is its loop' within "$work/loop.c" examples/follow.c
 counted 'which walks on' grep -q 'walk_on()' "$work/loop.c"
 grep -E '^record [0-9]+: |^waiting at ' "$readme" >"$work/rows"
@@ -161,10 +186,19 @@ fi
 block rust 1 >"$work/fof2.rs"
 counted 'the Rust program is that of the wrapper' cmp -s "$work/fof2.rs" bindings/rust/examples/fof2.rs
 counted 'with the library in it' grep -q 'seambeacon::' "$work/fof2.rs"
-# what is shown of the journal in Rust is the example that its documentation runs, but for the lines that are hidden there
+# what is shown of a record and of the journal in Rust is the example that its documentation runs, but for the lines that are hidden there
+documented() { # STRUCT: the last example before it
+    awk -v struct="pub struct $1" '
+        index($0, struct " ") == 1 || index($0, struct "<") == 1 { printf "%s", shown; exit }
+        /^\/\/\/ ```/ { open = !open; if (open) shown = ""; next }
+        open && !/^\/\/\/ # / { sub(/^\/\/\/ ?/, ""); shown = shown $0 "\n" }' bindings/rust/src/lib.rs
+}
 block rust 2 >"$work/got"
-awk '/^pub struct Journal/ { exit } /^\/\/\/ ```/ { open = !open; next } open && !/^\/\/\/ # / { sub(/^\/\/\/ ?/, ""); print }' \
-    bindings/rust/src/lib.rs >"$work/want.rs"
+documented Record >"$work/want.rs"
+counted 'a record in Rust is shown' grep -q 'record\.group(' "$work/got"
+compared 'as its documentation runs it' "$work/want.rs"
+block rust 3 >"$work/got"
+documented Journal >"$work/want.rs"
 counted 'the journal in Rust is shown' grep -q 'Journal::replay' "$work/got"
 compared 'as its documentation runs it' "$work/want.rs"
 if [ "$machine" = x86_64 ] && command -v cargo >/dev/null; then
@@ -175,4 +209,4 @@ if [ "$machine" = x86_64 ] && command -v cargo >/dev/null; then
 else
     echo "tests/readme.sh: skipped: the command for Rust, which needs x86-64 and cargo (this is $machine)"
 fi
-finished 38
+finished 50

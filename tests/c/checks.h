@@ -45,8 +45,8 @@ struct lent {
     size_t used;
     size_t before_open;
     size_t open;
-    size_t before_counts;
-    uint16_t counts[80];
+    size_t before_record;
+    struct seambeacon_record record;
     size_t behind;
 };
 

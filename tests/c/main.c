@@ -1,6 +1,8 @@
 /* main answers RULES WRITES ..: checks the library in C on record S, on line ends, on group 40, on dates, and on files of write questions.
    main texts RULES TEXT LIST REWRITE DUMP ..: on texts, each read by its rules, and the files of their answers, `-` for one that there isn't.
    main journal RULES SCRIPTS ..: checks the journal's functions on files of scripts.
+   main parts FOLDER QUESTIONS: prints the answers to questions with a record, in texts of that folder, a line each.
+   main records TEXT ..: checks by all rules that the records of texts answer as their places do.
    RULES is `usual`, `strict`, `entries` or `strict-entries`; a write question or a script may say itself what a count of group 40 counts.
    Ends with the number of checks, and with exit 1 where one failed. */
 #include "checks.h"
@@ -8,6 +10,7 @@
 #include "entries.h"
 #include "journal.h"
 #include "line_ends.h"
+#include "parts.h"
 #include "record_s.h"
 #include "vectors.h"
 
@@ -54,6 +57,14 @@ static void check_journals(uint32_t told, char **files, int count)
         check_journal(files[i], told);
 }
 
+static void check_records(char **texts, int count)
+{
+    size_t records = 0;
+    for (int i = 0; i < count; i++)
+        records += check_placed(texts[i]);
+    printf("%lu records\n", (unsigned long)records);
+}
+
 int main(int count, char **words)
 {
     of_case("main", 0);
@@ -63,6 +74,10 @@ int main(int count, char **words)
         check_texts(words + 2, count - 2);
     else if (count > 3 && strcmp(words[1], "journal") == 0)
         check_journals(named(words[2]), words + 3, count - 3);
+    else if (count == 4 && strcmp(words[1], "parts") == 0)
+        answer_questions(words[2], words[3]);
+    else if (count > 2 && strcmp(words[1], "records") == 0)
+        check_records(words + 2, count - 2);
     else
         need("words that say what to check", 0);
     return checks_ended();

@@ -23,12 +23,66 @@ uint32_t alike(uint32_t asked, const uint16_t counts[80], size_t i)
     }
 }
 
+size_t *first_beside(struct seambeacon_beside *beside, size_t reply)
+{
+    switch (reply) {
+    case 0:
+        return &beside->written;
+    case 6:
+    case 7:
+    case 13:
+        return &beside->group;
+    case 8:
+    case 9:
+        return &beside->line;
+    case 10:
+        return &beside->position;
+    default:
+        return NULL;
+    }
+}
+
+/* R13, R41, R43: how many lines a group's count needs. */
+static size_t lines_of(size_t group, size_t count)
+{
+    static const uint8_t full[60] = {
+        16,  1,  120, 15,  60,  16,  15, 15, 40,  120, /* groups 1 to 10 */
+        15,  15, 15,  40,  120, 15,  15, 15, 40,  120, /* 11 to 20 */
+        15,  15, 40,  120, 15,  15,  40, 120, 15, 15,  /* 21 to 30 */
+        40,  120, 15, 40,  40,  40,  10, 10, 10,  6,   /* 31 to 40 */
+        120, 10, 15,  40,  120, 15,  15, 40, 120, 15,  /* 41 to 50 */
+        15,  15, 15,  120, 120, 120, 10, 15, 15,  15,  /* 51 to 60 */
+    };
+    if (group == 40 && (rules & SEAMBEACON_ENTRIES) != 0)
+        return count;
+    return (count + full[group - 1] - 1) / full[group - 1];
+}
+
+/* R259: where the lines of each group of the record at a place begin and end: behind two index lines, one group after the other. */
+static void places_due(const uint8_t *text, size_t length, size_t at, const uint16_t *counts)
+{
+    for (size_t group = 0; group <= 60; group++) {
+        size_t lines = group == 0 ? 2 : lines_of(group, counts[group - 1]);
+        if (group > 0)
+            due.record.starts[group - 1] = at;
+        for (; lines > 0 && at < length; at++)
+            lines -= text[at] == '\n';
+        if (group > 0)
+            due.record.ends[group - 1] = at;
+    }
+}
+
 void ask_place(const uint8_t *text, size_t length, size_t at, size_t reply, struct seambeacon_beside beside, const uint16_t *counts)
 {
     fresh();
-    due.beside = beside;
-    memcpy(due.counts, counts, sizeof due.counts);
-    answered("place", seambeacon_place(rules, text, length, at, lent.counts, &lent.beside), reply);
+    memcpy(due.record.counts, counts, sizeof due.record.counts);
+    memset(due.record.starts, 0, sizeof due.record.starts);
+    memset(due.record.ends, 0, sizeof due.record.ends);
+    if (reply == 0 || reply == 7)
+        places_due(text, length, at, counts);
+    due.record.reply = (enum seambeacon_reply)reply;
+    due.record.beside = beside;
+    answered("place", seambeacon_place(rules, text, length, at, &lent.record), reply);
 }
 
 void ask_read(const uint8_t *text, size_t length, size_t at, size_t group, size_t room, size_t reply, struct seambeacon_beside beside,

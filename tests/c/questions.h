@@ -12,6 +12,9 @@ extern const uint32_t flags[RULES][FLAGS];
 enum { ALIKE = 4 };
 uint32_t alike(uint32_t asked, const uint16_t counts[80], size_t i);
 
+/* Of the numbers beside a reply (R200 to R214) the one that is no element: what was written, a group, a line or a position; NULL if it has none. */
+size_t *first_beside(struct seambeacon_beside *beside, size_t reply);
+
 /* Asks the question and checks the reply, the numbers beside it and every byte of what is lent. */
 void ask_place(const uint8_t *text, size_t length, size_t at, size_t reply, struct seambeacon_beside beside, const uint16_t *counts);
 void ask_read(const uint8_t *text, size_t length, size_t at, size_t group, size_t room, size_t reply, struct seambeacon_beside beside,

@@ -10,30 +10,15 @@ static int64_t cells[MOST];
 static uint16_t counts[MOST_COUNTS];
 static uint8_t bytes[MOST];
 
-/* The two numbers beside a reply (R200 to R214): the first is what was written, a group, a line or a position, and the second an element. */
+/* The two numbers beside a reply, of which the second is an element. */
 static struct seambeacon_beside beside_of(size_t reply)
 {
     struct seambeacon_beside beside = none;
-    size_t first = size();
-    switch (reply) {
-    case 0:
-        beside.written = first;
-        break;
-    case 6:
-    case 7:
-    case 13:
-        beside.group = first;
-        break;
-    case 8:
-    case 9:
-        beside.line = first;
-        break;
-    case 10:
-        beside.position = first;
-        break;
-    default:
+    size_t *named = first_beside(&beside, reply), first = size();
+    if (named != NULL)
+        *named = first;
+    else
         need("no number beside this reply", first == 0);
-    }
     beside.element = size();
     return beside;
 }

@@ -1,7 +1,7 @@
 //! Seambeacon: places, reads and writes SAO 4.3 ionogram records, and keeps a journal of edits. The questions are answered by a library in
 //! which every function is proved to meet its contract; this crate gives each of them a safe function, and the journal a [`Journal`].
 //!
-//! Whatever rules, text, place, number, table, output and journal it is given, a question is answered: with `Ok`, or with the one [`Refusal`]
+//! Whatever rules, text, place, record, number, table, output and journal it is given, a question is answered: with `Ok`, or with the one [`Refusal`]
 //! due. Nothing has to be checked before a call, and no call panics. The library keeps nothing between two calls, so they may come from several
 //! threads; what a [`Journal`] keeps, the memory lent to it and how many bytes of it are used, is its own. A text is its bytes, with line ends; a
 //! place is a number of bytes from the text's start, or from the journal's. Groups, cells of a group, lines, elements, positions, characteristics
@@ -14,10 +14,11 @@
 //! let text = text.as_bytes();
 //!
 //! let rules = seambeacon::Rules::default();
-//! let seambeacon::Placing::Placed { next, counts } = seambeacon::place(rules, text, 0)? else { panic!("broken") };
-//! assert_eq!((next, counts[0], counts[2], counts[3]), (305, 4, 19, 1));
-//! assert_eq!(seambeacon::characteristic(rules, text, 0, 1)?, seambeacon::Characteristic::Value(7250));
-//! assert_eq!(seambeacon::place(rules, text, next), Err(seambeacon::Refusal::End));
+//! let record = seambeacon::place(rules, text, 0)?;
+//! assert_eq!(record.placing, seambeacon::Placing::Placed { next: 305 });
+//! assert_eq!((record.counts[0], record.counts[2], record.counts[3]), (4, 19, 1));
+//! assert_eq!(record.characteristic(rules, text, 1)?, seambeacon::Characteristic::Value(7250));
+//! assert_eq!(seambeacon::place(rules, text, 305), Err(seambeacon::Refusal::End));
 //! # Ok::<(), seambeacon::Refusal>(())
 //! ```
 #![deny(missing_docs, unsafe_code, unsafe_op_in_unsafe_fn)]
@@ -69,7 +70,7 @@ impl Rules {
     }
 }
 
-/// Why a question was refused: the replies 1 to 17 (R201 to R217), with the numbers that are given beside them.
+/// Why a question was refused: the replies 1 to 17 and 22 (R201 to R217, R222), with the numbers that are given beside them.
 #[derive(Clone, Copy, Debug, PartialEq, Eq, Hash)]
 pub enum Refusal {
     /// 1: the place is the text's end.
@@ -138,6 +139,8 @@ pub enum Refusal {
         /// The place of the field, in bytes from the journal's start.
         place: usize,
     },
+    /// 22: the part of the text that a [`Record`] names for a group is not exactly as many whole lines as the group's count needs.
+    BadPart,
     /// Something that the library is proved never to answer, so another archive than its own has been linked. It is a refusal and no panic,
     /// since an editor that holds unsaved work must survive it.
     Unknown {
@@ -168,6 +171,7 @@ impl Refusal {
             Refusal::NotOpen => 15,
             Refusal::AllOpen => 16,
             Refusal::BadEntry { .. } => 17,
+            Refusal::BadPart => 22,
             Refusal::Unknown { number } => number,
         }
     }
@@ -193,6 +197,7 @@ impl fmt::Display for Refusal {
             Refusal::NotOpen => write!(to, "the savepoint is not open or, to be released, not the innermost"),
             Refusal::AllOpen => write!(to, "16 savepoints are open already"),
             Refusal::BadEntry { place } => write!(to, "the journal's field at place {place} is wrong"),
+            Refusal::BadPart => write!(to, "the part that is named for the group is not as many whole lines as its count needs"),
             Refusal::Unknown { number } => write!(to, "an answer that the library does not give ({number})"),
         }
     }
@@ -200,26 +205,74 @@ impl fmt::Display for Refusal {
 
 impl Error for Refusal {}
 
-/// The record that stands at a place of a text.
-#[derive(Clone, Copy, Debug, PartialEq, Eq)]
+/// How a record stands at its place of a text.
+#[derive(Clone, Copy, Debug, PartialEq, Eq, Hash)]
 #[must_use]
 pub enum Placing {
-    /// 0: a record whose groups can be read.
+    /// 0: its groups can be read.
     Placed {
         /// The place behind it, from which a walk goes on.
         next: usize,
-        /// Its counts, group g's as `counts[g - 1]`.
-        counts: [u16; 80],
     },
-    /// 7: a record whose counts break a rule. No group of it can be read, but a walk goes on behind it.
+    /// 7: its counts break a rule. No group of it can be read, but a walk goes on behind it.
     Broken {
         /// The place behind it.
         next: usize,
-        /// Its counts.
-        counts: [u16; 80],
         /// The blamed group.
         group: usize,
     },
+}
+
+/// A record as [`place`] gives it: its counts, and where in the text the lines of each of its groups are. It is placed once, and asked as often as
+/// one likes.
+///
+/// ```
+/// # let (rules, day) = (seambeacon::Rules::default(), concat!(env!("CARGO_MANIFEST_DIR"), "/../../examples/day.sao"));
+/// # let text = std::fs::read(day).expect("the example day");
+/// let record = seambeacon::place(rules, &text, 0)?;
+/// let (mut heights, mut frequencies, mut densities) = ([0; 999], [0; 999], [0; 1998]);
+/// let many = record.group(rules, &text, 51, &mut heights)?;
+/// record.group(rules, &text, 52, &mut frequencies)?;
+/// record.group(rules, &text, 53, &mut densities)?; // digits and exponent of each
+/// assert_eq!((many, heights[many - 1], frequencies[many - 1]), (19, 325_000, 3650)); // up to 325 km and foF2
+/// # Ok::<(), seambeacon::Refusal>(())
+/// ```
+///
+/// The record doesn't hold the text; [`View`] does. It may be asked in any text and under any rules, and may be made up: so each question looks
+/// first whether the part that the record names for the group is as many whole lines as its count needs. It has to lie within the text, to begin at its start
+/// or just behind a line feed, to hold the line feeds that the count needs and to end with the last of them; for count 0 to be empty, at such a
+/// place. Else the refusal is [`Refusal::BadPart`] (R286). Of a record that was placed in the same text under the same rules the answers are those of
+/// [`read_group`], [`group_lines`] and [`characteristic`] at its place, and that refusal never comes (R288).
+#[derive(Clone, Copy, Debug, PartialEq, Eq, Hash)]
+#[must_use]
+pub struct Record {
+    /// Group g's count is `counts[g - 1]`.
+    pub counts: [u16; 80],
+    /// The place where the lines of group g begin is `starts[g - 1]`. Of all places a question looks at those of its group alone.
+    pub starts: [usize; 60],
+    /// The place behind them is `ends[g - 1]`.
+    pub ends: [usize; 60],
+    /// How it stands at its place. No question looks at it, so a made-up record may have any.
+    pub placing: Placing,
+}
+
+/// A text and a record, lent and asked together.
+///
+/// ```
+/// # let (rules, day) = (seambeacon::Rules::default(), concat!(env!("CARGO_MANIFEST_DIR"), "/../../examples/day.sao"));
+/// # let text = std::fs::read(day).expect("the example day");
+/// let view = seambeacon::View { text: &text, record: seambeacon::place(rules, &text, 0)? };
+/// assert_eq!((view.counts()[2], view.lines(rules, 3)?), (19, &b"AA20040600229000000\r\n"[..]));
+/// assert_eq!(view.characteristic(rules, 1)?, seambeacon::Characteristic::Value(3650));
+/// # Ok::<(), seambeacon::Refusal>(())
+/// ```
+#[derive(Clone, Copy, Debug, PartialEq, Eq, Hash)]
+#[must_use]
+pub struct View<'a> {
+    /// The text.
+    pub text: &'a [u8],
+    /// The record, placed in this text or elsewhere, or made up.
+    pub record: Record,
 }
 
 /// What is known of a characteristic.
@@ -268,8 +321,28 @@ impl raw::Reply {
             15 => Refusal::NotOpen,
             16 => Refusal::AllOpen,
             17 => Refusal::BadEntry { place },
+            22 => Refusal::BadPart,
             number => Refusal::Unknown { number },
         })
+    }
+}
+
+impl raw::Part {
+    /// That part of the text.
+    fn of(self, text: &[u8]) -> Result<&[u8], Refusal> {
+        text.get(self.start..).and_then(|rest| rest.get(..self.length)).ok_or(Refusal::Unknown { number: 0 })
+    }
+}
+
+impl Characteristic {
+    /// R361: what a kind and a value under reply 0 stand for.
+    fn of(kind: u32, value: i64) -> Result<Characteristic, Refusal> {
+        match kind {
+            0 => Ok(Characteristic::Value(value)),
+            1 => Ok(Characteristic::NoReading),
+            2 => Ok(Characteristic::NotReported),
+            _ => Err(Refusal::Unknown { number: 0 }),
+        }
     }
 }
 
@@ -279,13 +352,77 @@ impl raw::Reply {
 ///
 /// 1 to 6: no record, and a walk stops here. 7 is an answer, [`Placing::Broken`], since a walk goes on behind such a record.
 /// When bytes are added at the text's end, 1, 2 and 3 may become other replies; no other answer about this place does.
-pub fn place(rules: Rules, text: &[u8], at: usize) -> Result<Placing, Refusal> {
-    let mut counts = [0; 80];
-    let reply = raw::place(rules.flags(), text, at, &mut counts);
+pub fn place(rules: Rules, text: &[u8], at: usize) -> Result<Record, Refusal> {
+    let (mut counts, mut starts, mut ends) = ([0; 80], [0; 60], [0; 60]);
+    let reply = raw::place(rules.flags(), text, at, &mut counts, &mut starts, &mut ends);
     let raw::Beside { next, group, .. } = reply.beside;
-    match reply.number {
-        7 => Ok(Placing::Broken { next, counts, group }),
-        _ => reply.done(0).map(|_| Placing::Placed { next, counts }),
+    let placing = match reply.number {
+        7 => Placing::Broken { next, group },
+        _ => reply.done(0).map(|_| Placing::Placed { next })?,
+    };
+    Ok(Record { counts, starts, ends, placing })
+}
+
+impl Record {
+    /// The cells of a group, 1 to 60, of the record in this text: how many there are. They stand in the table as by [`read_group`].
+    ///
+    /// # Errors
+    ///
+    /// 12, 4, 5, 6 or 7 by the record's counts, 22, 11, 8, 9 or 10, whichever is due first. The table is as it was.
+    pub fn group(&self, rules: Rules, text: &[u8], group: usize, table: &mut [i64]) -> Result<usize, Refusal> {
+        Ok(raw::record_group(rules.flags(), text, self.members(), group, table).done(group)?.written)
+    }
+
+    /// The lines of a group, 1 to 60, of the record in this text: the part of the lent text in which they stand, with their line ends.
+    ///
+    /// # Errors
+    ///
+    /// 12, 4, 5, 6 or 7 by the record's counts, or 22, whichever is due first.
+    pub fn lines<'t>(&self, rules: Rules, text: &'t [u8], group: usize) -> Result<&'t [u8], Refusal> {
+        let mut part = raw::Part::default();
+        raw::record_lines(rules.flags(), text, self.members(), group, &mut part).done(group)?;
+        part.of(text)
+    }
+
+    /// A characteristic, 1 to 49, of the record in this text.
+    ///
+    /// # Errors
+    ///
+    /// 12, or the refusal of [`Record::group`] for group 4 and a table with room.
+    pub fn characteristic(&self, rules: Rules, text: &[u8], number: usize) -> Result<Characteristic, Refusal> {
+        let (mut kind, mut value) = (0, 0);
+        raw::record_characteristic(rules.flags(), text, self.members(), number, &mut kind, &mut value).done(4)?;
+        Characteristic::of(kind, value)
+    }
+
+    fn members(&self) -> raw::Members<'_> {
+        raw::Members { counts: &self.counts, starts: &self.starts, ends: &self.ends }
+    }
+}
+
+impl<'a> View<'a> {
+    /// The record's counts, as they stand.
+    #[must_use]
+    pub fn counts(&self) -> &[u16; 80] {
+        &self.record.counts
+    }
+
+    /// The lines of a group of the record, as by [`Record::lines`].
+    ///
+    /// # Errors
+    ///
+    /// Those of [`Record::lines`].
+    pub fn lines(&self, rules: Rules, group: usize) -> Result<&'a [u8], Refusal> {
+        self.record.lines(rules, self.text, group)
+    }
+
+    /// A characteristic of the record, as by [`Record::characteristic`].
+    ///
+    /// # Errors
+    ///
+    /// Those of [`Record::characteristic`].
+    pub fn characteristic(&self, rules: Rules, number: usize) -> Result<Characteristic, Refusal> {
+        self.record.characteristic(rules, self.text, number)
     }
 }
 
@@ -311,7 +448,7 @@ pub fn read_group(rules: Rules, text: &[u8], at: usize, group: usize, table: &mu
 pub fn group_lines(rules: Rules, text: &[u8], at: usize, group: usize) -> Result<&[u8], Refusal> {
     let mut part = raw::Part::default();
     raw::group_lines(rules.flags(), text, at, group, &mut part).done(group)?;
-    text.get(part.start..).and_then(|rest| rest.get(..part.length)).ok_or(Refusal::Unknown { number: 0 })
+    part.of(text)
 }
 
 /// A characteristic, 1 to 49, of the record at a place. Characteristic 1 is foF2.
@@ -322,12 +459,7 @@ pub fn group_lines(rules: Rules, text: &[u8], at: usize, group: usize) -> Result
 pub fn characteristic(rules: Rules, text: &[u8], at: usize, number: usize) -> Result<Characteristic, Refusal> {
     let (mut kind, mut value) = (0, 0);
     raw::characteristic(rules.flags(), text, at, number, &mut kind, &mut value).done(4)?;
-    match kind {
-        0 => Ok(Characteristic::Value(value)),
-        1 => Ok(Characteristic::NoReading),
-        2 => Ok(Characteristic::NotReported),
-        _ => Err(Refusal::Unknown { number: 0 }),
-    }
+    Characteristic::of(kind, value)
 }
 
 /// The canonical text of a record of these counts, which are 80, and of all its cells in group order: how many bytes it has. They stand in the
@@ -513,7 +645,7 @@ mod tests {
 
     #[test]
     fn each_number_is_its_own_refusal() {
-        for number in 1..=17 {
+        for number in (1..=17).chain([22]) {
             assert_eq!(refusal(number).number(), number);
             assert!(!matches!(refusal(number), Refusal::Unknown { .. }), "{number}");
             assert!(!refusal(number).to_string().is_empty());
@@ -522,7 +654,7 @@ mod tests {
 
     #[test]
     fn a_number_outside_the_table_is_kept() {
-        for number in [18, u32::MAX] {
+        for number in [18, 21, 23, u32::MAX] {
             assert_eq!(refusal(number), Refusal::Unknown { number });
             assert_eq!(refusal(number).number(), number);
         }

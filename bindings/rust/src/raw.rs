@@ -1,4 +1,5 @@
-//! The functions of `include/seambeacon.h`, and a safe call of each. All unsafe code is here.
+//! The functions of `include/seambeacon.h`, and a safe call of each; of those that take a record's members apart, since these are the library's
+//! own. All unsafe code is here.
 //!
 //! What the header asks of a caller holds of every call below, whatever is given. A pointer comes from a slice, with that slice's length, or
 //! from a reference to a value of the type that the header names; its enums, of which a reply is one, are 32 bits and never negative. What is
@@ -35,7 +36,51 @@ pub struct Reply {
 }
 
 extern "C" {
-    fn seambeacon_place(rules: u32, text: *const u8, text_length: usize, at: usize, counts: *mut u16, beside: *mut Beside) -> u32;
+    fn seambeacon_place_apart(
+        rules: u32,
+        text: *const u8,
+        text_length: usize,
+        at: usize,
+        counts: *mut [u16; 80],
+        starts: *mut [usize; 60],
+        ends: *mut [usize; 60],
+        beside: *mut Beside,
+    ) -> u32;
+    fn seambeacon_record_group_apart(
+        rules: u32,
+        text: *const u8,
+        text_length: usize,
+        counts: *const [u16; 80],
+        starts: *const [usize; 60],
+        ends: *const [usize; 60],
+        group: usize,
+        table: *mut i64,
+        table_length: usize,
+        beside: *mut Beside,
+    ) -> u32;
+    fn seambeacon_record_lines_apart(
+        rules: u32,
+        text: *const u8,
+        text_length: usize,
+        counts: *const [u16; 80],
+        starts: *const [usize; 60],
+        ends: *const [usize; 60],
+        group: usize,
+        part: *mut Part,
+        beside: *mut Beside,
+    ) -> u32;
+    fn seambeacon_record_characteristic_apart(
+        rules: u32,
+        text: *const u8,
+        text_length: usize,
+        counts: *const [u16; 80],
+        starts: *const [usize; 60],
+        ends: *const [usize; 60],
+        number: usize,
+        kind: *mut u32,
+        value: *mut i64,
+        beside: *mut Beside,
+    ) -> u32;
     fn seambeacon_read_group(
         rules: u32,
         text: *const u8,
@@ -158,9 +203,39 @@ fn reply(call: impl FnOnce(&mut Beside) -> u32) -> Reply {
     Reply { number, beside }
 }
 
-pub fn place(rules: u32, text: &[u8], at: usize, counts: &mut [u16; 80]) -> Reply {
+/// What is looked at of a record.
+#[derive(Clone, Copy)]
+pub struct Members<'a> {
+    pub counts: &'a [u16; 80],
+    pub starts: &'a [usize; 60],
+    pub ends: &'a [usize; 60],
+}
+
+pub fn place(rules: u32, text: &[u8], at: usize, counts: &mut [u16; 80], starts: &mut [usize; 60], ends: &mut [usize; 60]) -> Reply {
     // SAFETY: as the head of this file says.
-    reply(|beside| unsafe { seambeacon_place(rules, text.as_ptr(), text.len(), at, counts.as_mut_ptr(), beside) })
+    reply(|beside| unsafe { seambeacon_place_apart(rules, text.as_ptr(), text.len(), at, counts, starts, ends, beside) })
+}
+
+pub fn record_group(rules: u32, text: &[u8], of: Members<'_>, group: usize, table: &mut [i64]) -> Reply {
+    let Members { counts, starts, ends } = of;
+    // SAFETY: as the head of this file says.
+    reply(|beside| unsafe {
+        seambeacon_record_group_apart(rules, text.as_ptr(), text.len(), counts, starts, ends, group, table.as_mut_ptr(), table.len(), beside)
+    })
+}
+
+pub fn record_lines(rules: u32, text: &[u8], of: Members<'_>, group: usize, part: &mut Part) -> Reply {
+    let Members { counts, starts, ends } = of;
+    // SAFETY: as the head of this file says.
+    reply(|beside| unsafe { seambeacon_record_lines_apart(rules, text.as_ptr(), text.len(), counts, starts, ends, group, part, beside) })
+}
+
+pub fn record_characteristic(rules: u32, text: &[u8], of: Members<'_>, number: usize, kind: &mut u32, value: &mut i64) -> Reply {
+    let Members { counts, starts, ends } = of;
+    // SAFETY: as the head of this file says.
+    reply(|beside| unsafe {
+        seambeacon_record_characteristic_apart(rules, text.as_ptr(), text.len(), counts, starts, ends, number, kind, value, beside)
+    })
 }
 
 pub fn read_group(rules: u32, text: &[u8], at: usize, group: usize, table: &mut [i64]) -> Reply {

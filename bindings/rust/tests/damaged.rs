@@ -2,7 +2,7 @@
 
 mod common;
 
-use common::{cells_of_s, counts_of_s, replaced, s};
+use common::{cells_of_s, counts_of_s, placed, replaced, s};
 use seambeacon::{Characteristic, Placing, Refusal, Rules};
 
 const CELL: i64 = -987_654_321;
@@ -64,9 +64,8 @@ fn a_broken_rule_on_counts() {
     broken.extend(s());
     let mut counts = counts_of_s();
     counts[10] = 3;
-    let answer = seambeacon::place(Rules::default(), &broken, 0);
-    assert_eq!(answer, Ok(Placing::Broken { next, counts, group: 7 }));
-    assert_eq!(seambeacon::place(Rules::default(), &broken, next), Ok(Placing::Placed { next: next + 305, counts: counts_of_s() }));
+    assert_eq!(placed(Rules::default(), &broken, 0), Ok((Placing::Broken { next, group: 7 }, counts)));
+    assert_eq!(placed(Rules::default(), &broken, next), Ok((Placing::Placed { next: next + 305 }, counts_of_s())));
     let why = Refusal::BrokenRule { group: 7 };
     for group in [1, 7, 11, 60] {
         assert_eq!(read(&broken, group), (Err(why), vec![CELL; 30]));
@@ -93,8 +92,8 @@ fn damage_in_group_4() {
     for (rules, text, want) in cases {
         let next = text.len();
         let text = [text, s()].concat();
-        assert_eq!(seambeacon::place(rules, &text, 0), Ok(Placing::Placed { next, counts: counts_of_s() }));
-        assert_eq!(seambeacon::place(rules, &text, next), Ok(Placing::Placed { next: next + 305, counts: counts_of_s() }));
+        assert_eq!(placed(rules, &text, 0), Ok((Placing::Placed { next }, counts_of_s())));
+        assert_eq!(placed(rules, &text, next), Ok((Placing::Placed { next: next + 305 }, counts_of_s())));
         let (answer, table) = read_under(rules, &text, 4);
         assert_eq!(answer, want);
         let fof2 = seambeacon::characteristic(rules, &text, 0, 1);

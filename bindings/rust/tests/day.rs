@@ -2,13 +2,13 @@
 
 mod common;
 
-use common::{bytes, rewritten};
+use common::{bytes, placed, rewritten};
 use seambeacon::{Characteristic, Placing, Refusal, Rules};
 
 /// The places of the records, and the place where the walk stopped.
 fn places(text: &[u8]) -> Vec<usize> {
     let mut all = vec![0];
-    while let Ok(Placing::Placed { next, .. }) = seambeacon::place(Rules::default(), text, all[all.len() - 1]) {
+    while let Ok((Placing::Placed { next }, _)) = placed(Rules::default(), text, all[all.len() - 1]) {
         assert!(next > all[all.len() - 1], "a walk goes forward");
         all.push(next);
     }

@@ -3,7 +3,7 @@
 
 mod common;
 
-use common::{cells_of_s, counts_of_s, s};
+use common::{cells_of_s, counts_of_s, placed, s};
 use seambeacon::{Counting, Journal, Placing, Refusal, Rewritten, Rules};
 
 const FIELD: &str = "  0.100000000000E+01";
@@ -35,7 +35,7 @@ fn made(count: u16, elements: usize) -> Made {
 fn answered(rules: Rules, made: &Made, lines: usize) {
     let Made { counts, cells, text } = made;
     let (next, of_40) = (text.len(), &cells[24..]);
-    assert_eq!(seambeacon::place(rules, text, 0), Ok(Placing::Placed { next, counts: *counts }));
+    assert_eq!(placed(rules, text, 0), Ok((Placing::Placed { next }, *counts)));
     let mut table = vec![-1; of_40.len()];
     assert_eq!(seambeacon::read_group(rules, text, 0, 40, &mut table), Ok(of_40.len()));
     assert_eq!(table, of_40);
@@ -99,8 +99,7 @@ fn the_other_rule() {
     let (elements, by_entries, mut table) = (made(2, 2), made(2, 7), [-1; 20]);
     assert_eq!(seambeacon::place(entries(), &elements.text, 0), Err(Refusal::TooFewLines));
     assert_eq!(seambeacon::read_group(entries(), &elements.text, 0, 1, &mut table), Err(Refusal::TooFewLines));
-    let answer = seambeacon::place(Rules::default(), &by_entries.text, 0);
-    assert_eq!(answer, Ok(Placing::Placed { next: 305 + 122, counts: by_entries.counts }));
+    assert_eq!(placed(Rules::default(), &by_entries.text, 0), Ok((Placing::Placed { next: 305 + 122 }, by_entries.counts)));
     let answer = seambeacon::read_group(Rules::default(), &by_entries.text, 0, 40, &mut table);
     assert_eq!((answer, table), (Err(Refusal::BadLine { group: 40, line: 1 }), [-1; 20]));
 }

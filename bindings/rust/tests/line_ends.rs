@@ -2,7 +2,7 @@
 
 mod common;
 
-use common::{cells_of_s, counts_of_s, replaced, s};
+use common::{cells_of_s, counts_of_s, placed, replaced, s};
 use seambeacon::{Characteristic, Placing, Refusal, Rewritten, Rules};
 
 const CELL: i64 = -987_654_321;
@@ -21,7 +21,7 @@ fn doubled(text: &[u8], at: usize) -> Vec<u8> {
 /// Every question about the record that a text begins with is answered as about S, but for the place behind it.
 fn answered_as_s(rules: Rules, text: &[u8]) {
     let (next, cells) = (text.len(), cells_of_s());
-    assert_eq!(seambeacon::place(rules, text, 0), Ok(Placing::Placed { next, counts: counts_of_s() }));
+    assert_eq!(placed(rules, text, 0), Ok((Placing::Placed { next }, counts_of_s())));
     for (group, want) in [(1, &cells[..4]), (2, &[]), (3, &cells[4..23]), (4, &cells[23..]), (60, &[])] {
         let mut table = vec![CELL; want.len() + 1];
         assert_eq!(seambeacon::read_group(rules, text, 0, group, &mut table), Ok(want.len()));
@@ -56,7 +56,7 @@ fn not_placed(rules: Rules, text: &[u8], why: Refusal) {
 fn refused_in_group_4(rules: Rules, text: &[u8]) {
     let why = Refusal::BadLine { group: 4, line: 1 };
     let mut table = [CELL; 30];
-    assert_eq!(seambeacon::place(rules, text, 0), Ok(Placing::Placed { next: text.len(), counts: counts_of_s() }));
+    assert_eq!(placed(rules, text, 0), Ok((Placing::Placed { next: text.len() }, counts_of_s())));
     assert_eq!(seambeacon::read_group(rules, text, 0, 4, &mut table), Err(why));
     assert_eq!(table, [CELL; 30]);
     assert_eq!(seambeacon::characteristic(rules, text, 0, 1), Err(why));
@@ -85,7 +85,7 @@ fn with_the_carriage_returns_of_the_index_alone() {
     let text = without_returns(&s(), 244);
     assert_eq!(text.len(), 302);
     answered_as_s(Rules::default(), &text);
-    assert_eq!(seambeacon::place(Rules::strict(), &text, 0), Ok(Placing::Placed { next: 302, counts: counts_of_s() }));
+    assert_eq!(placed(Rules::strict(), &text, 0), Ok((Placing::Placed { next: 302 }, counts_of_s())));
     for group in [1, 3, 4] {
         let mut table = [CELL; 30];
         assert_eq!(seambeacon::read_group(Rules::strict(), &text, 0, group, &mut table), Err(Refusal::BadLine { group, line: 1 }));

@@ -2,7 +2,7 @@
 
 mod common;
 
-use common::{cells_of_s, counts_of_s, replaced, s};
+use common::{cells_of_s, counts_of_s, placed, replaced, s};
 use seambeacon::{Characteristic, Placing, Refusal, Rewritten, Rules};
 
 /// A cell and a byte that are in none of the answers, to see what is kept.
@@ -15,8 +15,8 @@ const NO_NUMBERS: [usize; 4] = [0, 61, 62, usize::MAX];
 fn a_walk_over_s_twice() {
     let text = s().repeat(2);
     let counts = counts_of_s();
-    assert_eq!(seambeacon::place(Rules::default(), &text, 0), Ok(Placing::Placed { next: 305, counts }));
-    assert_eq!(seambeacon::place(Rules::default(), &text, 305), Ok(Placing::Placed { next: 610, counts }));
+    assert_eq!(placed(Rules::default(), &text, 0), Ok((Placing::Placed { next: 305 }, counts)));
+    assert_eq!(placed(Rules::default(), &text, 305), Ok((Placing::Placed { next: 610 }, counts)));
     assert_eq!(seambeacon::place(Rules::default(), &text, 610), Err(Refusal::End));
     for beyond in [611, 612, usize::MAX] {
         assert_eq!(seambeacon::place(Rules::default(), &text, beyond), Err(Refusal::Beyond));

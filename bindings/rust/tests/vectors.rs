@@ -3,7 +3,7 @@
 
 mod common;
 
-use common::{bytes, project, rewritten};
+use common::{bytes, numbers, placed, project, rewritten};
 use seambeacon::{Characteristic, Counting, Placing, Refusal, Rules};
 use std::cell::Cell;
 use std::fmt::Write;
@@ -88,18 +88,6 @@ fn rewritten_records() {
     compared("rewrite", |rules, text| rewritten(rules, text).0);
 }
 
-/// A refusal's number, and the two numbers beside it in a dump: group, line or position, and element.
-fn numbers(why: Refusal) -> [usize; 3] {
-    let (first, second) = match why {
-        Refusal::FilledVacant { group } | Refusal::BrokenRule { group } => (group, 0),
-        Refusal::BadLine { line, .. } => (line, 0),
-        Refusal::BadField { line, element, .. } => (line, element),
-        Refusal::BadDate { position } => (position, 0),
-        _ => (0, 0),
-    };
-    [why.number() as usize, first, second]
-}
-
 /// A dump's `group` row: the group, the reply with its two numbers, where its lines start and end, its cells.
 fn group_row(rules: Rules, text: &[u8], at: usize, group: usize) -> String {
     let mut table = [0; 12000];
@@ -137,9 +125,9 @@ fn dumped(rules: Rules, text: &[u8]) -> String {
     let (mut at, mut rows) = (0, String::new());
     let mut push = |row: String| rows.push_str(&(row + "\n"));
     loop {
-        let (reply, next, group, counts) = match seambeacon::place(rules, text, at) {
-            Ok(Placing::Placed { next, counts }) => (0, next, 0, counts),
-            Ok(Placing::Broken { next, counts, group }) => (7, next, group, counts),
+        let (reply, next, group, counts) = match placed(rules, text, at) {
+            Ok((Placing::Placed { next }, counts)) => (0, next, 0, counts),
+            Ok((Placing::Broken { next, group }, counts)) => (7, next, group, counts),
             Err(why) => {
                 let [reply, group, _] = numbers(why);
                 push(format!("stop {at} {reply} 0 {group}"));

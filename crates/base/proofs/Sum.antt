@@ -24,7 +24,7 @@ sum-take-more (n ∷ ns) zero h = omega (arith, sum-none ns)
     sum-none (n ∷ ns) = refl
 sum-take-more (n ∷ ns) (suc g) h = omega (arith, sum-take-more ns g (omega arith))
 
--- fewer entries sum to no more, and neither do any to more than all
+-- fewer entries sum to no more
 pub sum-take-mono : (ns : List ℕ) (g h : ℕ) → g ≤ h → sum (take g ns) ≤ sum (take h ns)
 unfolding sum
 sum-take-mono [] zero zero l = omega arith
@@ -34,13 +34,6 @@ sum-take-mono [] (suc g) (suc h) l = omega arith
 sum-take-mono (n ∷ ns) zero h l = omega arith
 sum-take-mono (n ∷ ns) (suc g) zero l = absurd (omega arith)
 sum-take-mono (n ∷ ns) (suc g) (suc h) l = omega (arith, sum-take-mono ns g h (omega arith))
-
-pub sum-take-all : (ns : List ℕ) (g : ℕ) → sum (take g ns) ≤ sum ns
-unfolding sum
-sum-take-all [] zero = omega arith
-sum-take-all [] (suc g) = omega arith
-sum-take-all (n ∷ ns) zero = omega arith
-sum-take-all (n ∷ ns) (suc g) = omega (arith, sum-take-all ns g)
 
 -- a one for each element
 pub sum-ones : {A : Type 0} (xs : List A) → sum (map (λ (x : A). 1) xs) ≡ length xs

@@ -93,6 +93,12 @@ up-append a (suc m) n =
     let f : suc a + m ≡ a + suc m = omega arith in
     rw e (ap (λ l. a ∷ l) (up-append (suc a) m n ∙ ap (λ b. upFrom (suc a) m ++ upFrom b n) f))
 
+-- functions that agree on them
+pub map-up-same : {B : Type 0} (f h : ℕ → B) (a n : ℕ) → ((g : ℕ) → a ≤ g → g < a + n → f g ≡ h g) → map f (upFrom a n) ≡ map h (upFrom a n)
+unfolding upFrom
+map-up-same f h a zero e = refl
+map-up-same f h a (suc n) e = ap₂ _∷_ (e a (omega arith) (omega arith)) (map-up-same f h (suc a) n (λ g l m. e g (omega arith) (omega arith)))
+
 pub flat-same : {A : Type 0} (f h : ℕ → List A) (a n : ℕ) → ((g : ℕ) → a ≤ g → g < a + n → f g ≡ h g) → flatMap f (upFrom a n) ≡ flatMap h (upFrom a n)
 unfolding upFrom flatMap
 flat-same f h a zero e = refl

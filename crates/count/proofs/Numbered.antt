@@ -21,7 +21,7 @@ use Rattle.count.specs.Due.{RefusedFor, refused-counts, other-length, Du
 use Rattle.count.proofs.Due.{accepted-first-due, first-due}
 use Rattle.count.proofs.Rulings.{broken-group}
 
-counts-refusal-numbered : (ns : List ℕ) (r : Refusal) → CountsRefusedFor ns r → Numbered (rows countsRefusals) (refusalReply r)
+pub counts-refusal-numbered : (ns : List ℕ) (r : Refusal) → CountsRefusedFor ns r → Numbered (rows countsRefusals) (refusalReply r)
 counts-refusal-numbered ns r (misformed d) = at-row 0 (rows countsRefusals) (refusalReply Misformed) (lit< tt) (refusal-fills Misformed tt)
 counts-refusal-numbered ns r (other-release d) = at-row 1 (rows countsRefusals) (refusalReply OtherRelease) (lit< tt) (refusal-fills OtherRelease tt)
 counts-refusal-numbered ns r (filled-vacant g d) =

@@ -137,6 +137,10 @@ pub lines-more : (ρ : Rules) (ns : List ℕ) (g : ℕ) → g < 61 → linesBefo
 unfolding linesBefore lineTally
 lines-more ρ ns g h = sum-take-more (lineTally ρ ns) g (omega (arith, tally-length 2 (linesIn ρ ns)))
 
+pub lines-has : (ρ : Rules) (ns : List ℕ) (g : ℕ) (f : Form) → formOf g ≡ Has f → linesIn ρ ns g ≡ linesOf ρ f (countOf ns g)
+unfolding linesIn
+lines-has ρ ns g f e = rw e
+
 pub lines-below : (ρ : Rules) (ns : List ℕ) (g h : ℕ) → g ≤ h → linesBefore ρ ns g ≤ linesBefore ρ ns h
 unfolding linesBefore
 lines-below ρ ns g h l = sum-take-mono (lineTally ρ ns) g h l

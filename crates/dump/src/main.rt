@@ -5,6 +5,7 @@ use decimal::Put;
 use group::Characteristic;
 use libc::STDIN_FILENO;
 use libc::STDOUT_FILENO;
+use place::Record;
 use reply::Reply;
 
 // ---- Rows. A page has room for the longest: 5,989 elements of group 40 (R13), with at most 18 bytes for the cells of
@@ -115,11 +116,11 @@ fn part_to(text: &[u8], from: usize, part: &[u8]) -> usize {
     from + part.len()
 }
 
-fn print_group(rules: rules::Rules, text: &[u8], at: usize, g: usize, page: &mut [u8]) {
+fn print_group(rules: rules::Rules, text: &[u8], placed: Record, g: usize, page: &mut [u8]) {
     let mut table = [0i64; 11978];
-    let r = reply::of_answer(sao::read_group(rules, text, at, g, &mut table));
-    let from = sao::group_lines_at(rules, text, at, g).from;
-    let part = sao::group_lines(rules, text, at, g);
+    let r = reply::of_answer(sao::record_group(rules, text, placed, g, &mut table));
+    let from = sao::record_lines_at(rules, text, placed, g).from;
+    let part = sao::record_lines(rules, text, placed, g);
     let number = put(page, 0, g);
     let told = put_reply(page, number, r);
     let start = put(page, told, from);
@@ -148,11 +149,11 @@ fn told(c: Characteristic) -> Shown {
 fn print_characteristic(
     rules: rules::Rules,
     text: &[u8],
-    at: usize,
+    placed: Record,
     number: usize,
     page: &mut [u8],
 ) {
-    let answer = sao::characteristic(rules, text, at, number);
+    let answer = sao::record_characteristic(rules, text, placed, number);
     let t = told(answer);
     let r = group::reply_of(answer);
     let first = put(page, 0, number);
@@ -162,18 +163,18 @@ fn print_characteristic(
     print_row(b"char", page, end);
 }
 
-fn print_groups(rules: rules::Rules, text: &[u8], at: usize, page: &mut [u8]) {
+fn print_groups(rules: rules::Rules, text: &[u8], placed: Record, page: &mut [u8]) {
     let mut g: usize = 1;
     while g <= 60 {
-        print_group(rules, text, at, g, page);
+        print_group(rules, text, placed, g, page);
         g += 1;
     }
 }
 
-fn print_characteristics(rules: rules::Rules, text: &[u8], at: usize, page: &mut [u8]) {
+fn print_characteristics(rules: rules::Rules, text: &[u8], placed: Record, page: &mut [u8]) {
     let mut number: usize = 1;
     while number <= 49 {
-        print_characteristic(rules, text, at, number, page);
+        print_characteristic(rules, text, placed, number, page);
         number += 1;
     }
 }
@@ -183,17 +184,17 @@ fn print_records(rules: rules::Rules, text: &[u8], page: &mut [u8]) {
     let mut at: usize = 0;
     let mut k: usize = 0;
     while k < 300 {
-        let record = sao::place(rules, text, at);
-        let answer = record.answer;
-        let counts = record.counts;
+        let placed = sao::place(rules, text, at);
+        let answer = placed.answer;
+        let counts = placed.counts;
         let r = place::reply_of(answer);
         if r.next == 0 {
             print_stop(at, r, page);
             return;
         }
         print_record(at, r, &counts, page);
-        print_groups(rules, text, at, page);
-        print_characteristics(rules, text, at, page);
+        print_groups(rules, text, placed, page);
+        print_characteristics(rules, text, placed, page);
         at = r.next;
         k += 1;
     }

@@ -17,11 +17,12 @@ use Rattle.line.specs.Texts.{SameLines}
 use Rattle.reply.specs.declared.Refusal.{Refusal}
 use Rattle.place.specs.Parts
 use Rattle.place.specs.Parts.{start, groupPart}
-use Rattle.place.specs.Placing.{located, locate, placingOf, countsAt}
+use Rattle.place.specs.Placing.{located, locate, placingOf, countsAt, carriedAt}
 use Rattle.place.specs.Walk.{spot, IsRecord, Stops}
 use Rattle.place.proofs.Local.{placing-same}
 use Rattle.place.proofs.Placed.{counts-at}
 use Rattle.place.proofs.Zero.{is-placed}
+use Rattle.place.proofs.Spans.{carried-same}
 use Rattle.place.proofs.SameWalk.{start-same, same-located, same-spot, same-answer, same-stops}
 use Rattle.reading.specs.Read.{readGroup}
 use Rattle.reply.specs.declared.Checked.{Checked}
@@ -101,8 +102,11 @@ module _ (ρ : Rules) {D : ℕ → Type 0} (s t : List ℕ) (o : Replaced ρ D s
   pub placing-kept : (j : ℕ) → placingOf ρ s (spot ρ s j) ≡ placingOf ρ t (spot ρ t j)
   placing-kept j = there (placingOf ρ t) j (placing-same ρ s t (spot ρ s j) (located-kept j) .0)
 
-  pub counts-kept : (j : ℕ) → countsAt ρ s (spot ρ s j) ≡ countsAt ρ t (spot ρ t j)
-  counts-kept j = there (countsAt ρ t) j (placing-same ρ s t (spot ρ s j) (located-kept j) .1)
+  pub carries-kept : (j : ℕ) → carriedAt ρ s (spot ρ s j) ≡ carriedAt ρ t (spot ρ t j)
+  carries-kept j = there (carriedAt ρ t) j (carried-same ρ s ρ t (spot ρ s j) (located-kept j) (λ n ns u. start-same ρ s t (o .lines) (spot ρ s j) ns))
+
+  counts-kept : (j : ℕ) → countsAt ρ s (spot ρ s j) ≡ countsAt ρ t (spot ρ t j)
+  counts-kept j = ap (λ c. c .counts-of) (carries-kept j)
 
   module _ (j g : ℕ) where
     starts-here : (h : ℕ) → linesStart ρ s (spot ρ s j) h ≡ linesStart ρ t (spot ρ s j) h

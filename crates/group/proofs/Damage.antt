@@ -22,7 +22,7 @@ use Rattle.place.proofs.Apart.{lines-apart, heads-apart}
 use Rattle.place.proofs.Stopped.{placed-record}
 use Rattle.group.specs.Text.{readAt}
 use Rattle.group.specs.Damage.{OneGroup, Outside, LinesAt, InLines, Damaged, Confined, Spares, Replaced}
-use Rattle.group.proofs.Confined.{record-at, spot-kept, stops-kept, placing-kept, counts-kept, starts-kept}
+use Rattle.group.proofs.Confined.{record-at, spot-kept, stops-kept, placing-kept, carries-kept, starts-kept}
 use Rattle.group.proofs.Confined.{found-kept, part-start-kept, part-length-kept, lines-kept, part-kept, read-kept, read-by-lines}
 use Rattle.group.proofs.SamePlace.{characteristic-same, same-reading}
 
@@ -40,7 +40,7 @@ module _ (ρ : Rules) (t u : List ℕ) (among : ℕ → ℕ → Type 0) {D : ℕ
     as-many = stops-kept ρ t u o;
     places = λ j. sym (spot-kept ρ t u o j);
     answers = λ j. sym (placing-kept ρ t u o j);
-    counts = λ j. sym (counts-kept ρ t u o j);
+    carries = λ j. sym (carries-kept ρ t u o j);
     starts = λ j h. sym (starts-kept ρ t u o j h);
     part-answers = λ j h. sym (found-kept ρ t u o j h);
     part-starts = λ j h. sym (part-start-kept ρ t u o j h);

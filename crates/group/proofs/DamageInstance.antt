@@ -159,9 +159,10 @@ module _ (ρ : Rules) (table : List ℤ) (room : 1 ≤ length table) where
 
 -- so the first record's first characteristic is refused, and the second's is what it was, 7.250
 pub first-characteristic : (ρ : Rules) → characteristicAt ρ commaS 0 1 ≡ Refused (BadField 1 1)
+unfolding characteristicAt
 first-characteristic ρ =
     let table = replicate 49 (pos 0) in
-    sym (four-refused ρ commaS 0 1 (omega arith) (omega arith) (sym (first-refused ρ table (omega arith) .reply)))
+    four-refused 1 (readAt ρ commaS 0 4 49) (omega arith) (omega arith) (first-refused ρ table (omega arith) .reply)
 
 pub second-characteristic : (ρ : Rules) → characteristicAt ρ commaS 305 1 ≡ Value (pos 7250)
 unfolding characteristicAt NoReading.isNoReading

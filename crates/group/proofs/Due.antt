@@ -47,13 +47,13 @@ use Rattle.group.specs.Text.{readAt}
 use Rattle.characteristic.specs.NoReading.{isNoReading}
 use Rattle.characteristic.proofs.NoReading.{no-reading-exactly}
 use Rattle.base.proofs.Choice.{true-T, T-true}
-use Rattle.group.specs.Characteristics.{toldBy, reported, characteristicAt}
+use Rattle.group.specs.Characteristics.{toldBy, reported, characteristicBy, characteristicAt}
 use Rattle.form.specs.Table.{NoSuchGroup}
 use Rattle.place.specs.Parts.{IsPart}
 use Rattle.place.proofs.Indexed.{index-is}
 use Rattle.place.proofs.Tiling.{is-part, part-is}
 use Rattle.base.proofs.Taken.{take-none}
-use Rattle.group.specs.Due.{PlacingDue, RefusedFor, no-group, broken-rule, unplaced, FoundDue, GivenPart, PartDue, ReadingDue, Due, NoNumber, FourReads, HasCell, CharacteristicDue}
+use Rattle.group.specs.Due.{PlacingDue, RefusedFor, no-group, broken-rule, unplaced, FoundDue, GivenPart, PartDue, ReadingDue, Due, NoNumber, FourReads, HasCell, ToldDue, CharacteristicDue}
 use Rattle.group.proofs.Holding.{given-part, missing-span}
 use Rattle.group.proofs.Texts.{read-missing, read-given}
 use Rattle.group.proofs.Reported.{is-no-reading, is-reading, number-none, number-inside}
@@ -211,28 +211,25 @@ four-size ρ s at room cs d =
     let e : f ≡ F8 = cc in
     d .reading .cells .values .size ∙ ap (λ y. cellsOf ρ y (countOf ns 4)) e ∙ cells-four ρ (countOf ns 4) ∙ ap (λ l. countOf l 4) (sym (counts-are ρ s at (d .next) (d .placed .placing)))
 
-module _ (ρ : Rules) (s : List ℕ) (at k : ℕ) where
-  -- group 4 read into a table of 49 cells is group 4 read into every table with room
-  pub four-is : (c : Cells) → (readAt ρ s at 4 49 ≡ c) ↔ ((room : ℕ) → 49 ≤ room → Due ρ s at 4 room c)
-  four-is c =
-      (λ e room h. first-due ρ s at 4 room c .0 (same-room ρ s at room 49 h (omega arith) ∙ e), λ d. first-due ρ s at 4 49 c .1 (d 49 (omega arith)))
+-- `is` says what group 4 reads as, and `size` that it has a cell for each element
+module _ (four : ℕ → Cells → Type 0) (count : ℕ) (read : Cells) (is : (c : Cells) → (read ≡ c) ↔ ((room : ℕ) → 49 ≤ room → four room c)) (size : (cs : List ℤ) → read ≡ done cs → length cs ≡ count)
+    (k : ℕ) where
+  to-reported : (c : Cells) → FourReads k four c → characteristicBy k read ≡ reported k c
+  to-reported c d = number-inside k read (d .low) (d .high) ∙ ap (reported k) (is c .1 (d .reads-as))
 
-  to-reported : (c : Cells) → FourReads ρ s at k c → characteristicAt ρ s at k ≡ reported k c
-  to-reported c d = number-inside ρ s at k (d .low) (d .high) (four-is c .1 (d .four))
+  read-size : (cs : List ℤ) → FourReads k four (done cs) → length cs ≡ count
+  read-size cs d = size cs (is (done cs) .1 (d .reads-as))
 
-  read-size : (cs : List ℤ) → FourReads ρ s at k (done cs) → length cs ≡ countOf (countsAt ρ s at) 4
-  read-size cs d = four-size ρ s at 49 cs (d .four 49 (omega arith))
-
-  to-cell : (z : ℤ) → HasCell ρ s at k z → characteristicAt ρ s at k ≡ toldBy k z
+  to-cell : (z : ℤ) → HasCell four count k z → characteristicBy k read ≡ toldBy k z
   to-cell z d =
       let t : leb k (length (d .cs)) ≡ true = le-leb k (length (d .cs)) (omega (arith, read-size (d .cs) (d .reads), d .within)) in
       to-reported (done (d .cs)) (d .reads) ∙ rw (t, d .cell) refl
 
-  told-given : (c : Characteristic) → CharacteristicDue ρ s at k c → characteristicAt ρ s at k ≡ c
+  told-given : (c : Characteristic) → ToldDue four count k c → characteristicBy k read ≡ c
   told-given (Refused r) d =
       ⊎-elim
-      (λ (n : NoNumber ρ s at k r). number-none ρ s at k (λ low high. n .none (low, high)) ∙ ap Refused (sym (n .twelve)))
-      (λ (h : FourReads ρ s at k (bad r)). to-reported (bad r) h)
+      (λ (n : NoNumber k r). number-none k read (λ low high. n .none (low, high)) ∙ ap Refused (sym (n .twelve)))
+      (λ (h : FourReads k four (bad r)). to-reported (bad r) h)
       d
   told-given NotReported d =
       let t : leb k (length (d .cs)) ≡ false = lt-leb k (length (d .cs)) (omega (arith, read-size (d .cs) (d .reads), d .above)) in
@@ -240,43 +237,51 @@ module _ (ρ : Rules) (s : List ℕ) (at k : ℕ) where
   told-given NoReading d = to-cell (d .z) (d .cell) ∙ is-no-reading k (d .z) (d .none)
   told-given (Value z) d = to-cell z (d .cell) ∙ is-reading k z (d .reading)
 
-  from-cell : (z : ℤ) (t : Bool) → HasCell ρ s at k z → isNoReading k z ≡ t → CharacteristicDue ρ s at k (cond t NoReading (Value z))
+  from-cell : (z : ℤ) (t : Bool) → HasCell four count k z → isNoReading k z ≡ t → ToldDue four count k (cond t NoReading (Value z))
   from-cell z true h e = record { z = z; cell = h; none = no-reading-exactly k z .0 (true-T (isNoReading k z) e) }
   from-cell z false h e =
       record { cell = h; reading = λ u. false≢true (sym e ∙ T-true (isNoReading k z) (no-reading-exactly k z .1 u)) }
 
-  from-count : (cs : List ℤ) (t : Bool) → FourReads ρ s at k (done cs) → leb k (length cs) ≡ t → CharacteristicDue ρ s at k (cond t (toldBy k (getD cs (k - 1) (pos 0))) NotReported)
+  from-count : (cs : List ℤ) (t : Bool) → FourReads k four (done cs) → leb k (length cs) ≡ t → ToldDue four count k (cond t (toldBy k (getD cs (k - 1) (pos 0))) NotReported)
   from-count cs true h e =
       from-cell (getD cs (k - 1) (pos 0)) (isNoReading k (getD cs (k - 1) (pos 0))) record { cs = cs; reads = h; within = omega (arith, leb-true k (length cs) e, read-size cs h); cell = refl } refl
   from-count cs false h e = record { cs = cs; reads = h; above = omega (arith, leb-false k (length cs) e, read-size cs h) }
 
-  from-four : (c : Cells) → FourReads ρ s at k c → CharacteristicDue ρ s at k (reported k c)
+  from-four : (c : Cells) → FourReads k four c → ToldDue four count k (reported k c)
   from-four (done cs) h = from-count cs (leb k (length cs)) h refl
   from-four (bad r) h = inr h
 
-  told-is-due : CharacteristicDue ρ s at k (characteristicAt ρ s at k)
+  told-is-due : ToldDue four count k (characteristicBy k read)
   told-is-due =
       ⊎-elim
       (λ (low : 1 ≤ k).
       ⊎-elim
-      (λ (high : k ≤ 49). subst (CharacteristicDue ρ s at k) (sym (number-inside ρ s at k low high refl))
-      (from-four (readAt ρ s at 4 49) record { low = low; high = high; four = four-is (readAt ρ s at 4 49) .0 refl }))
+      (λ (high : k ≤ 49). subst (ToldDue four count k) (sym (number-inside k read low high)) (from-four read record { low = low; high = high; reads-as = is read .0 refl }))
       (λ (h : 49 < k). none (λ low high. omega arith))
       (le-or-lt k 49))
       (λ (h : k < 1). none (λ low high. omega arith))
       (le-or-lt 1 k)
     where
-      none : (1 ≤ k → k ≤ 49 → ⊥) → CharacteristicDue ρ s at k (characteristicAt ρ s at k)
-      none n = subst (CharacteristicDue ρ s at k) (sym (number-none ρ s at k n)) (inl record { none = λ r. n (r .0) (r .1); twelve = refl })
+      none : (1 ≤ k → k ≤ 49 → ⊥) → ToldDue four count k (characteristicBy k read)
+      none n = subst (ToldDue four count k) (sym (number-none k read n)) (inl record { none = λ r. n (r .0) (r .1); twelve = refl })
+
+  pub told-first-due : (c : Characteristic) → characteristicBy k read ≡ c ↔ ToldDue four count k c
+  told-first-due c = (λ e. subst (ToldDue four count k) e told-is-due, told-given c)
+
+module _ (ρ : Rules) (s : List ℕ) (at k : ℕ) where
+  -- group 4 read into a table of 49 cells is group 4 read into every table with room
+  four-is : (c : Cells) → (readAt ρ s at 4 49 ≡ c) ↔ ((room : ℕ) → 49 ≤ room → Due ρ s at 4 room c)
+  four-is c =
+      (λ e room h. first-due ρ s at 4 room c .0 (same-room ρ s at room 49 h (omega arith) ∙ e), λ d. first-due ρ s at 4 49 c .1 (d 49 (omega arith)))
 
   pub characteristic-first-due : (c : Characteristic) → characteristicAt ρ s at k ≡ c ↔ CharacteristicDue ρ s at k c
-  characteristic-first-due c = (λ e. subst (CharacteristicDue ρ s at k) e told-is-due, told-given c)
+  unfolding characteristicAt
+  characteristic-first-due =
+      told-first-due (Due ρ s at 4) (countOf (countsAt ρ s at) 4) (readAt ρ s at 4 49) four-is (λ cs e. four-size ρ s at 49 cs (first-due ρ s at 4 49 (done cs) .0 e)) k
 
 -- 49 cells always have room for group 4
-pub four-has-room : (ρ : Rules) (s : List ℕ) (at n : ℕ) (placed : PlacingDue ρ s at 4 (P.Placed n)) (x : List ℕ) → TableShort ρ (placed .placing .ns) 4 x 49 → ⊥
-four-has-room ρ s at n placed x d =
-    let ns = placed .placing .ns in
-    let f = d .f in
-    let h : Has f ≡ Has F8 = sym (d .ruled .form) ∙ form-four in
-    let u : f ≡ F8 = cc in
+pub four-has-room : (ρ : Rules) (ns x : List ℕ) → TableShort ρ ns 4 x 49 → ⊥
+four-has-room ρ ns x d =
+    let h : Has (d .f) ≡ Has F8 = sym (d .ruled .form) ∙ form-four in
+    let u : d .f ≡ F8 = cc in
     omega (arith, d .few, ap (λ y. cellsOf ρ y (countOf ns 4)) u, room-four ρ ns (kept-ruling ns (d .ruled .kept)))

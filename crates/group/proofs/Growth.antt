@@ -13,7 +13,7 @@ use Rattle.place.specs.Growth.{Settled, numberAt}
 use Rattle.place.specs.Parts
 use Rattle.place.specs.Parts.{start, groupPart}
 use Rattle.place.specs.Placing.{located, locate, countsAt}
-use Rattle.place.proofs.Growth.{locate-grown, start-inside, start-grown}
+use Rattle.place.proofs.Growth.{growth-keeps, locate-grown, start-inside, start-grown}
 use Rattle.place.proofs.Local.{placing-same}
 use Rattle.place.proofs.Placed.{counts-at}
 use Rattle.place.proofs.Tiling.{start-mono}
@@ -54,21 +54,23 @@ module _ (ρ : Rules) (s b : List ℕ) (at : ℕ) (h : Settled (numberAt ρ s at
   part-stays g = let r = span-range ρ s at g in sym (part-there ρ s (s ++ b) at (sym here) g (λ k. sym (starts k))) ∙ part-within s b _ _ (r .0) (r .1)
 
   stay : AnswersStay ρ s b at
-  stay = record {
-    answers = record {
-      placing = placing-same ρ (s ++ b) s at here .0;
-      counts = placing-same ρ (s ++ b) s at here .1;
-      groups = read-stays;
-      found = found-same ρ (s ++ b) s at here;
-      begins = λ g. part-start-same ρ (s ++ b) s at here g starts;
-      lines = part-stays;
-      characteristics = λ k. characteristic-same ρ (s ++ b) s at at k (read-stays 4 49);
-    };
-    tables = λ g table. same-reading _ _ table (read-stays g (length table));
-    part-ends = λ g. part-end-same ρ (s ++ b) s at here g starts;
-    starts = starts;
-    line-bytes = line-bytes;
-  }
+  stay =
+      let kept = growth-keeps ρ s b .placing at h in
+      record {
+        answers = record {
+          placing = kept .answer;
+          carried = kept .carried;
+          groups = read-stays;
+          found = found-same ρ (s ++ b) s at here;
+          begins = λ g. part-start-same ρ (s ++ b) s at here g starts;
+          lines = part-stays;
+          characteristics = λ k. characteristic-same ρ (s ++ b) s at at k (read-stays 4 49);
+        };
+        tables = λ g table. same-reading _ _ table (read-stays g (length table));
+        part-ends = λ g. part-end-same ρ (s ++ b) s at here g starts;
+        starts = starts;
+        line-bytes = line-bytes;
+      }
 
 pub answers-stay : (ρ : Rules) (s b : List ℕ) → GroupsStay ρ s b
 answers-stay ρ s b at h = stay ρ s b at h

@@ -5,7 +5,6 @@ use mathlib.Core.Path.{_≡_, refl, sym, _∙_, ap}
 use mathlib.Core.List.{List, []}
 use Prim.Native.Nat.{ℕ, suc, _+_, _-_, _≤_}
 use native.Mathlib.Nat.{add-comm}
-use native.Mathlib.Numerals.{add-one}
 use native.Mathlib.Omega.{arith}
 use lib.ListN.{length, getD, replicate, drop, length-take, length-drop}
 use Rattle.rules.specs.declared.Rules.{Rules}
@@ -22,10 +21,11 @@ use Rattle.count.specs.declared.Ruling.the-variants.{Kept}
 use Rattle.place.specs.declared.Placing.{Placing}
 use Rattle.place.specs.declared.Placing.the-variants.{Placed, BrokenRule, Refused}
 use Rattle.place.specs.Numbered.{asChecked}
-use Rattle.place.specs.Placing.{placingOf, countsAt}
+use Rattle.place.specs.Placing.{placingOf, countsAt, startsAt, endsAt}
 use Rattle.place.specs.Parts
-use Rattle.place.specs.Parts.{start, groupPart}
+use Rattle.place.specs.Parts.{groupPart}
 use Rattle.place.proofs.Placed.{located-range}
+use Rattle.place.proofs.Spans.{start-at, end-at}
 use Rattle.place.proofs.Tiling.{part-whole, start-mono, start-within}
 use Rattle.place.proofs.Zero.{is-placed}
 use Rattle.reply.specs.declared.Refusal.{Refusal}
@@ -33,27 +33,42 @@ use Rattle.reply.specs.declared.Refusal.the-variants.{NoSuchNumber}
 use Rattle.form.proofs.Table.{form-range}
 use Rattle.reply.specs.declared.Checked.{Checked}
 use Rattle.reply.specs.declared.Checked.the-variants as C
-use Rattle.group.specs.Held.{countsFound, foundIn, foundAt, countsHeld, partStart, partEnd, partAt, moved}
+use Rattle.group.specs.Held.{foundIn, foundAt, countsHeld, startBy, partStart, partEnd, partAt, moved}
+
+-- what the code holds of a group: the answer, the counts, and from where to where its lines stand
+abbrev pub HeldAs : (ρ : Rules) (s : List ℕ) (at g : ℕ) → Checked → List ℕ → ℕ → ℕ → Type 0
+HeldAs ρ s at g found ns from to = (found ≡ foundAt ρ s at g) × ((ns ≡ countsHeld ρ s at g) × ((from ≡ partStart ρ s at g) × (to ≡ partEnd ρ s at g)))
 
 module _ (ρ : Rules) (s : List ℕ) (at g : ℕ) where
-  pub held-none : formOf g ≡ NoForm → (foundAt ρ s at g ≡ C.Refused NoSuchNumber) × (countsHeld ρ s at g ≡ replicate 80 0)
-  unfolding foundAt countsHeld
-  held-none e = rw e (refl, refl)
+  -- a refusal
+  held-missing : {r : Refusal} → foundAt ρ s at g ≡ C.Refused r → HeldAs ρ s at g (C.Refused r) (replicate 80 0) 0 0
+  unfolding countsHeld partStart partEnd
+  held-missing e = rw e (refl, (refl, (refl, refl)))
+
+  found-none : formOf g ≡ NoForm → foundAt ρ s at g ≡ C.Refused NoSuchNumber
+  unfolding foundAt
+  found-none e = rw e
+
+  pub held-none : formOf g ≡ NoForm → HeldAs ρ s at g (C.Refused NoSuchNumber) (replicate 80 0) 0 0
+  held-none e = held-missing (found-none e)
 
   module _ (f : Form) (e : formOf g ≡ Has f) where
-    pub held-placed : {n : ℕ} → placingOf ρ s at ≡ Placed n → (foundAt ρ s at g ≡ C.Right) × (countsHeld ρ s at g ≡ countsAt ρ s at)
-    unfolding foundAt countsHeld
-    held-placed u = rw (e, u) (refl, refl)
+    found-by : (p : Placing) → placingOf ρ s at ≡ p → foundAt ρ s at g ≡ asChecked p
+    unfolding foundAt
+    found-by p u = rw (e, u)
+
+    pub held-placed : (n : ℕ) → placingOf ρ s at ≡ Placed n → HeldAs ρ s at g C.Right (countsAt ρ s at) (getD (startsAt ρ s at) (g - 1) 0) (getD (endsAt ρ s at) (g - 1) 0)
+    unfolding countsHeld partStart partEnd
+    held-placed n u =
+        let range = form-range g f e in
+        let l = is-placed ρ s at n u .located-at in
+        rw (found-by (Placed n) u, start-at ρ s at n (countsAt ρ s at) l g (range .0) (range .1), end-at ρ s at n (countsAt ρ s at) l g (range .0) (range .1)) (refl, (refl, (refl, refl)))
 
     -- any placing reply but 0
-    pub held-refused : (p : Placing) → placingOf ρ s at ≡ p → ((n : ℕ) → p ≡ Placed n → ⊥) → (foundAt ρ s at g ≡ asChecked p) × (countsHeld ρ s at g ≡ replicate 80 0)
-    unfolding foundAt countsHeld
-    held-refused p u never = rw (e, u) (refl, by p never)
-      where
-        by : (p : Placing) → ((n : ℕ) → p ≡ Placed n → ⊥) → countsFound (asChecked p) (countsAt ρ s at) ≡ replicate 80 0
-        by (Placed n) never = absurd (never n refl)
-        by (BrokenRule h n) never = refl
-        by (Refused r) never = refl
+    pub held-refused : (p : Placing) → placingOf ρ s at ≡ p → ((n : ℕ) → p ≡ Placed n → ⊥) → HeldAs ρ s at g (asChecked p) (replicate 80 0) 0 0
+    held-refused (Placed n) u never = absurd (never n refl)
+    held-refused (BrokenRule h n) u never = held-missing (found-by (BrokenRule h n) u)
+    held-refused (Refused r) u never = held-missing (found-by (Refused r) u)
 
   -- what it says that the lines can be given
   pub record IsGiven : Type 0 where
@@ -71,7 +86,7 @@ module _ (ρ : Rules) (s : List ℕ) (at g : ℕ) where
       no-given e = let z : _≡_ {A = ℕ} 0 1 = cc in absurd (omega arith)
 
       place : (f : Form) (p : Placing) → formOf g ≡ Has f → placingOf ρ s at ≡ p → asChecked p ≡ C.Right → IsGiven
-      place f (Placed n) h u v = record { form = f; has = h; next = n; placed = u; counts = held-placed f h u .1 }
+      place f (Placed n) h u v = record { form = f; has = h; next = n; placed = u; counts = sym (held-placed f h n u .1 .0) }
       place f (BrokenRule k n) h u v = no-given v
       place f (Refused r) h u v = no-given v
 
@@ -83,7 +98,6 @@ module _ (ρ : Rules) (s : List ℕ) (at g : ℕ) where
   unfolding partAt
   span-part from to a = rw (a .0, a .1) refl
 
-  -- the lines, from where to where they stand in the record that was placed
   module _ (e : foundAt ρ s at g ≡ C.Right) (ns : List ℕ) (c : ns ≡ countsHeld ρ s at g) where
     i : IsGiven
     i = given-is e
@@ -94,25 +108,6 @@ module _ (ρ : Rules) (s : List ℕ) (at g : ℕ) where
     pub held-kept : rulingOf ns ≡ Kept
     held-kept = ap rulingOf held-counts ∙ is-placed ρ s at (i .next) (i .placed) .kept
 
-    pub held-range : (from to : ℕ) → (from ≡ start ρ s at ns g) × (to ≡ start ρ s at ns (g + 1)) → (from ≤ to) × (to ≤ length s)
-    held-range from to a =
-        let n = countsAt ρ s at in
-        let l = is-placed ρ s at (i .next) (i .placed) .located-at in
-        let x : from ≡ start ρ s at n g = a .0 ∙ ap (λ y. start ρ s at y g) held-counts in
-        let y : to ≡ start ρ s at n (g + 1) = a .1 ∙ ap (λ y. start ρ s at y (g + 1)) held-counts in
-        let few = form-range g (i .form) (i .has) .1 in
-        (omega (arith, x, y, start-mono ρ s at n g (g + 1) (omega arith)), omega (arith, y, start-within ρ s at (i .next) n l (g + 1) (omega (arith, few)), located-range ρ s at (i .next) n l))
-
-    pub held-span : (from to : ℕ) → (from ≡ start ρ s at ns g) × (to ≡ start ρ s at ns (g + 1)) → (from ≡ partStart ρ s at g) × (to ≡ partEnd ρ s at g)
-    unfolding partStart partEnd
-    held-span from to a =
-        let x : from ≡ start ρ s at (countsAt ρ s at) g = a .0 ∙ ap (λ y. start ρ s at y g) held-counts in
-        let y : to ≡ start ρ s at (countsAt ρ s at) (suc g) = a .1 ∙ ap (λ y. start ρ s at y (g + 1)) held-counts ∙ ap (start ρ s at (countsAt ρ s at)) (add-one g) in
-        rw (e, x, y) (refl, refl)
-
-    pub held-part : (from to : ℕ) → (from ≡ start ρ s at ns g) × (to ≡ start ρ s at ns (g + 1)) → part from to s ≡ partAt ρ s at g
-    held-part from to a = let b = held-span from to a in span-part from to b
-
   pub missing-span : {r : Refusal} → foundAt ρ s at g ≡ C.Refused r → (0 ≡ partStart ρ s at g) × (0 ≡ partEnd ρ s at g)
   unfolding partStart partEnd
   missing-span e = rw e (refl, refl)
@@ -122,15 +117,17 @@ module _ (ρ : Rules) (s : List ℕ) (at g : ℕ) where
 
   -- the part lies in the text, whether there are lines or not
   pub span-range : (partStart ρ s at g ≤ partEnd ρ s at g) × (partEnd ρ s at g ≤ length s)
+  unfolding partStart partEnd
   span-range = by (foundAt ρ s at g) refl
     where
-      by : (r : Checked) → foundAt ρ s at g ≡ r → (partStart ρ s at g ≤ partEnd ρ s at g) × (partEnd ρ s at g ≤ length s)
+      by : (r : Checked) → foundAt ρ s at g ≡ r → (startBy ρ s at g r ≤ startBy ρ s at (suc g) r) × (startBy ρ s at (suc g) r ≤ length s)
       by C.Right e =
-          let ns = countsHeld ρ s at g in
-          let a = held-range e ns refl (start ρ s at ns g) (start ρ s at ns (g + 1)) (refl, refl) in
-          let b = held-span e ns refl (start ρ s at ns g) (start ρ s at ns (g + 1)) (refl, refl) in
-          (omega (arith, a .0, b .0, b .1), omega (arith, a .1, b .1))
-      by (C.Refused r) e = let b = missing-span e in (omega (arith, b .0, b .1), omega (arith, b .1))
+          let i = given-is e in
+          let ns = countsAt ρ s at in
+          let l = is-placed ρ s at (i .next) (i .placed) .located-at in
+          let few = form-range g (i .form) (i .has) .1 in
+          (start-mono ρ s at ns g (suc g) (omega arith), omega (arith, start-within ρ s at (i .next) ns l (suc g) (omega (arith, few)), located-range ρ s at (i .next) ns l))
+      by (C.Refused r) e = (omega arith, omega arith)
 
   pub span-length : partEnd ρ s at g - partStart ρ s at g ≡ length (partAt ρ s at g)
   unfolding partAt

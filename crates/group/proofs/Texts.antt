@@ -2,7 +2,7 @@
 -- Assumes nothing.
 use mathlib.Core.Path.{_≡_, refl, sym, subst}
 use mathlib.Core.List.{List}
-use Prim.Native.Nat.{ℕ, _+_}
+use Prim.Native.Nat.{ℕ}
 use lib.IntN.{ℤ}
 use lib.ListN.{length}
 use Rattle.rules.specs.declared.Rules.{Rules}
@@ -19,7 +19,7 @@ use Rattle.place.specs.declared.Placing.the-variants as P
 use Rattle.place.specs.Numbered.{asChecked}
 use Rattle.place.specs.Placing
 use Rattle.place.specs.Placing.{located, locate, placingBy, countsAt, ruledAt}
-use Rattle.place.specs.Parts.{start, groupPart}
+use Rattle.place.specs.Parts.{groupPart}
 use Rattle.place.proofs.Placed.{counts-at}
 use Rattle.reply.specs.declared.Refusal.{Refusal}
 use Rattle.reply.specs.declared.Answer.{Answer}
@@ -28,9 +28,9 @@ use Rattle.reading.specs.Read
 use Rattle.reading.specs.Read.{readRuled, readBy, readGroup}
 use Rattle.reading.proofs.Steps.{Answers}
 use Rattle.reply.specs.declared.Checked.the-variants as C
-use Rattle.group.specs.Held.{foundIn, foundAt, countsHeld, partAt}
+use Rattle.group.specs.Held.{foundIn, foundAt, countsHeld, partStart, partEnd, partAt}
 use Rattle.group.specs.Text.{readFound, readAt}
-use Rattle.group.proofs.Holding.{given-part, held-counts, held-part}
+use Rattle.group.proofs.Holding.{given-part, held-counts, span-part}
 
 module _ (ρ : Rules) (s : List ℕ) (at g room : ℕ) where
   -- 12, or any placing reply but 0
@@ -65,9 +65,9 @@ module _ (ρ : Rules) (s : List ℕ) (at g : ℕ) (old : List ℤ) where
   pub text-missing : {r : Refusal} → C.Refused r ≡ foundAt ρ s at g → Answers (readAt ρ s at g (length old)) old (A.Refused r) old
   text-missing e = rw (read-missing ρ s at g (length old) (sym e)) (refl, refl)
 
-  pub text-given : C.Right ≡ foundAt ρ s at g → (ns : List ℕ) → ns ≡ countsHeld ρ s at g → (from to : ℕ) → (from ≡ start ρ s at ns g) × (to ≡ start ρ s at ns (g + 1))
+  pub text-given : C.Right ≡ foundAt ρ s at g → (ns : List ℕ) → ns ≡ countsHeld ρ s at g → (from to : ℕ) → (from ≡ partStart ρ s at g) × (to ≡ partEnd ρ s at g)
       → {r : Answer} {new : List ℤ} → Answers (readGroup ρ ns g (part from to s) (length old)) old r new → Answers (readAt ρ s at g (length old)) old r new
   text-given e ns c from to a {r} {new} b =
       let same : readGroup ρ ns g (part from to s) (length old) ≡ readAt ρ s at g (length old) =
-      rw (held-part ρ s at g (sym e) ns c from to a, held-counts ρ s at g (sym e) ns c) (sym (read-given ρ s at g (length old) (sym e))) in
+      rw (span-part ρ s at g from to a, held-counts ρ s at g (sym e) ns c) (sym (read-given ρ s at g (length old) (sym e))) in
       subst (λ y. Answers y old r new) same b

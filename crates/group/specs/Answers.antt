@@ -5,7 +5,7 @@ use mathlib.Core.List.{List}
 use Prim.Native.Nat.{ℕ}
 use lib.IntN.{ℤ}
 use Rattle.rules.specs.declared.Rules.{Rules}
-use Rattle.place.specs.Placing.{placingOf, countsAt}
+use Rattle.place.specs.Placing.{placingOf, carriedAt}
 use Rattle.reading.specs.Read.{Cells, readingOf, tableBy}
 use Rattle.group.specs.Characteristics.{characteristicAt}
 use Rattle.group.specs.Held.{foundAt, partStart, partAt}
@@ -19,7 +19,7 @@ pub record SameReading (a b : Cells) (table : List ℤ) : Type 0 where
 -- all that reading is asked about a place: of s under ρ and of t under σ
 pub record AnswersAgree (ρ : Rules) (s : List ℕ) (σ : Rules) (t : List ℕ) (at : ℕ) : Type 0 where
   pub placing : placingOf ρ s at ≡ placingOf σ t at
-  pub counts : countsAt ρ s at ≡ countsAt σ t at
+  pub carried : carriedAt ρ s at ≡ carriedAt σ t at
   -- the cells or the refusal of each group, into a table of each length
   pub groups : (g room : ℕ) → readAt ρ s at g room ≡ readAt σ t at g room
   -- whether a group's lines can be given, where they begin, and they themselves

@@ -16,7 +16,7 @@ use Rattle.line.specs.Lines.{reach}
 use Rattle.line.specs.Texts.{SameLines}
 use Rattle.reply.specs.declared.Refusal.{Refusal}
 use Rattle.place.specs.Parts.{start, groupPart}
-use Rattle.place.specs.Placing.{located, locate, placingOf, countsAt}
+use Rattle.place.specs.Placing.{located, locate, placingOf, countsAt, carriedAt}
 use Rattle.place.specs.Walk.{PlacedAt, spot, Stops}
 use Rattle.reading.specs.Read.{readGroup}
 use Rattle.group.specs.Answers.{SameReading}
@@ -64,8 +64,8 @@ module _ (ρ : Rules) (t u : List ℕ) (among : ℕ → ℕ → Type 0) where
     pub places : (j : ℕ) → spot ρ u j ≡ spot ρ t j
     -- D3.4, D3.7: so each has the reply, blamed group and next place that it had
     pub answers : (j : ℕ) → placingOf ρ u (spot ρ u j) ≡ placingOf ρ t (spot ρ t j)
-    -- D3.4: each record has the counts that it had
-    pub counts : (j : ℕ) → countsAt ρ u (spot ρ u j) ≡ countsAt ρ t (spot ρ t j)
+    -- D3.4: each record has the counts that it had; D3.7, R259: and carries them with the places that it carried
+    pub carries : (j : ℕ) → carriedAt ρ u (spot ρ u j) ≡ carriedAt ρ t (spot ρ t j)
     -- D3.7: the lines of every group, an altered one too, begin and end where they did
     pub starts : (j h : ℕ) → linesStart ρ u (spot ρ u j) h ≡ linesStart ρ t (spot ρ t j) h
     -- so the question for a group's part has the same answer, and the part lies at the same offsets: it begins there and is as long

@@ -85,45 +85,51 @@ module _ (ρ : Rules) where
       Due (done cs) = ReadingDue (done cs)
       Due (bad r) = RefusedFor r ⊎ ReadingDue (bad r)
 
-  -- ---- R294: a characteristic: 12, or what group 4 is refused with where there is room; then by its number and its cell
+-- ---- R294: a characteristic: 12, or what group 4 is refused with where there is room; then by its number and its cell. `four room c` is when
+-- group 4, of this count, is due to read as c into a table of this length
 
-  module _ (s : List ℕ) (at k : ℕ) where
-    -- R212: the number is none of 1 to 49
-    pub record NoNumber (r : Refusal) : Type 0 where
-      pub none : (1 ≤ k) × (k ≤ 49) → ⊥
-      pub twelve : r ≡ NoSuchNumber
+module _ (k : ℕ) where
+  -- R212: the number is none of 1 to 49
+  pub record NoNumber (r : Refusal) : Type 0 where
+    pub none : (1 ≤ k) × (k ≤ 49) → ⊥
+    pub twelve : r ≡ NoSuchNumber
 
-    -- not 12, and group 4 reads as c into every table with room (49 cells have room: proofs/Rooms.antt)
-    pub record FourReads (c : Cells) : Type 0 where
-      pub low : 1 ≤ k
-      pub high : k ≤ 49
-      pub four : (room : ℕ) → 49 ≤ room → Due s at 4 room c
+  -- not 12, and group 4 reads as c into every table with room (49 cells have room: proofs/Rooms.antt)
+  pub record FourReads (four : ℕ → Cells → Type 0) (c : Cells) : Type 0 where
+    pub low : 1 ≤ k
+    pub high : k ≤ 49
+    pub reads-as : (room : ℕ) → 49 ≤ room → four room c
 
-    -- R292: not reported, since group 4's count is smaller than the number
-    pub record Above : Type 0 where
-      pub cs : List ℤ
-      pub reads : FourReads (done cs)
-      pub above : countOf (countsAt ρ s at) 4 < k
+module _ (four : ℕ → Cells → Type 0) (count k : ℕ) where
+  -- R292: not reported, since group 4's count is smaller than the number
+  pub record Above : Type 0 where
+    pub cs : List ℤ
+    pub reads : FourReads k four (done cs)
+    pub above : count < k
 
-    -- the number is one of group 4's, and z its cell
-    pub record HasCell (z : ℤ) : Type 0 where
-      pub cs : List ℤ
-      pub reads : FourReads (done cs)
-      pub within : k ≤ countOf (countsAt ρ s at) 4
-      pub cell : getD cs (k - 1) (pos 0) ≡ z
+  -- the number is one of group 4's, and z its cell
+  pub record HasCell (z : ℤ) : Type 0 where
+    pub cs : List ℤ
+    pub reads : FourReads k four (done cs)
+    pub within : k ≤ count
+    pub cell : getD cs (k - 1) (pos 0) ≡ z
 
-    -- R293: the value is the cell; R291: unless the cell is no reading of this number
-    pub record HasValue (z : ℤ) : Type 0 where
-      pub cell : HasCell z
-      pub reading : IsNoReading k z → ⊥
+  -- R293: the value is the cell; R291: unless the cell is no reading of this number
+  pub record HasValue (z : ℤ) : Type 0 where
+    pub cell : HasCell z
+    pub reading : IsNoReading k z → ⊥
 
-    pub record HasNoReading : Type 0 where
-      pub z : ℤ
-      pub cell : HasCell z
-      pub none : IsNoReading k z
+  pub record HasNoReading : Type 0 where
+    pub z : ℤ
+    pub cell : HasCell z
+    pub none : IsNoReading k z
 
-    abbrev pub CharacteristicDue : Characteristic → Type 0
-    CharacteristicDue (Refused r) = NoNumber r ⊎ FourReads (bad r)
-    CharacteristicDue NotReported = Above
-    CharacteristicDue NoReading = HasNoReading
-    CharacteristicDue (Value z) = HasValue z
+  abbrev pub ToldDue : Characteristic → Type 0
+  ToldDue (Refused r) = NoNumber k r ⊎ FourReads k four (bad r)
+  ToldDue NotReported = Above
+  ToldDue NoReading = HasNoReading
+  ToldDue (Value z) = HasValue z
+
+-- of the record at a place
+abbrev pub CharacteristicDue : Rules → List ℕ → (at k : ℕ) → Characteristic → Type 0
+CharacteristicDue ρ s at k = ToldDue (Due ρ s at 4) (countOf (countsAt ρ s at) 4) k

@@ -5,35 +5,45 @@ use reply::Checked;
 use reply::Refusal;
 ghost use mathlib.Core.Path.{_≡_};
 ghost use mathlib.Core.Bool.{_&&_};
+ghost use Prim.Native.Nat.{_≤_};
 ghost use lib.Dec.{leb};
 ghost use lib.ListN.{length, replicate};
 ghost use Rattle.reading.specs.Read.{readingOf, tableBy};
-ghost use Rattle.group.specs.Characteristics.{toldBy, characteristicAt};
+ghost use Rattle.group.specs.Characteristics.{toldBy, toldOf, characteristicAt};
 ghost use Rattle.group.specs.Numbered.{characteristicReply};
 ghost use Rattle.group.specs.Held.{foundAt, countsHeld, partStart, partEnd, partAt, moved};
 ghost use Rattle.group.specs.Text.{readAt};
 
-// The answer, and the counts of the record.
+// The answer, the counts of the record, and from where to where the group's lines stand in the text.
 struct Held {
     found: Checked,
     counts: [u16; 80],
+    from: usize,
+    to: usize,
 }
 
 // What is answered where no group is held.
 fn missing(found: Checked) -> Held
     ensures found { λ h. ⌜ h .found ≡ found ⌝ }
     ensures counts { λ h. ⌜ h .counts ≡ replicate 80 0 ⌝ }
+    ensures from { λ h. ⌜ h .from ≡ 0 ⌝ }
+    ensures to { λ h. ⌜ h .to ≡ 0 ⌝ }
 {
     Held {
         found,
         counts: [0u16; 80],
+        from: 0,
+        to: 0,
     }
 }
 
-// R260, R281: what every question about a group asks first: 12, and the reply of placing, if it is not 0.
+// R260, R281: what every question about a group asks first: 12, and the reply of placing, if it is not 0. The group's
+// lines stand where the placed record says (R259).
 fn held_at(rules: rules::Rules, text: &[u8], at: usize, group: usize) -> Held
     ensures found { λ r. ⌜ r .found ≡ foundAt rules (now (text .entry)) at group ⌝ }
     ensures counts { λ r. ⌜ r .counts ≡ countsHeld rules (now (text .entry)) at group ⌝ }
+    ensures from { λ r. ⌜ r .from ≡ partStart rules (now (text .entry)) at group ⌝ }
+    ensures to { λ r. ⌜ r .to ≡ partEnd rules (now (text .entry)) at group ⌝ }
 {
     let form::GroupForm::Has(_) = form::form_of(group) else {
         return missing(Checked::Refused(Refusal::NoSuchNumber));
@@ -44,9 +54,14 @@ fn held_at(rules: rules::Rules, text: &[u8], at: usize, group: usize) -> Held
         return missing(place::as_checked(answer));
     };
     let counts = record.counts;
+    let starts = record.starts;
+    let ends = record.ends;
+    let k = group - 1;
     Held {
         found: Checked::Right,
         counts,
+        from: starts[k],
+        to: ends[k],
     }
 }
 
@@ -66,19 +81,10 @@ pub fn lines_at(rules: rules::Rules, text: &[u8], at: usize, group: usize) -> Li
 {
     let held = held_at(rules, text, at, group);
     let found = held.found;
-    let Checked::Right = found else {
-        return Lines {
-            found,
-            from: 0,
-            to: 0,
-        };
-    };
-    let counts = held.counts;
-    let span = place::span_of(rules, text, at, &counts, group);
     Lines {
         found,
-        from: span.from,
-        to: span.to,
+        from: held.from,
+        to: held.to,
     }
 }
 
@@ -112,9 +118,8 @@ pub fn read_group(
         Checked::Refused(r) => Answer::Refused(r),
         Checked::Right => {
             let counts = held.counts;
-            let lines = place::span_of(rules, text, at, &counts, group);
-            let from = lines.from;
-            let to = lines.to;
+            let from = held.from;
+            let to = held.to;
             reading::read_kept(rules, &counts, group, &text[from..to], table)
         }
     }
@@ -141,10 +146,27 @@ fn told_by(number: usize, cell: i64) -> Characteristic
 }
 
 // R212: whether a characteristic has this number.
-fn is_characteristic(number: usize) -> bool
+pub fn is_characteristic(number: usize) -> bool
     ensures { λ r. ⌜ r ≡ leb 1 number && leb number 49 ⌝ }
 {
     1 <= number && number <= 49
+}
+
+// R292: what is told of a characteristic, by the answer of reading group 4 and the cells behind it.
+pub fn told_of(number: usize, answer: Answer, cells: &[i64]) -> Characteristic
+    requires low { ⌜ 1 ≤ number ⌝ }
+    requires high { ⌜ number ≤ length (now cells) ⌝ }
+    ensures { λ r. ⌜ r ≡ toldOf number answer (now (cells .entry)) ⌝ }
+{
+    match answer {
+        Answer::Refused(r) => Characteristic::Refused(r),
+        Answer::Done(n) => {
+            if n < number {
+                return Characteristic::NotReported;
+            }
+            told_by(number, cells[number - 1])
+        }
+    }
 }
 
 // R294: asks for a characteristic, 1 to 49, of the record at a place of a text.
@@ -160,15 +182,8 @@ pub fn characteristic_at(
         return Characteristic::Refused(Refusal::NoSuchNumber);
     }
     let mut table = [0i64; 49];
-    match read_group(rules, text, at, 4, &mut table) {
-        Answer::Refused(r) => Characteristic::Refused(r),
-        Answer::Done(n) => {
-            if n < number {
-                return Characteristic::NotReported;
-            }
-            told_by(number, table[number - 1])
-        }
-    }
+    let answer = read_group(rules, text, at, 4, &mut table);
+    told_of(number, answer, &table)
 }
 
 // ---- Replies.

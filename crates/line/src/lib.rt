@@ -1,9 +1,10 @@
-// Lines of a text: where so many of them end, and what the content of one is.
+// Lines of a text: where so many of them end, whether a part is so many, and what the content of one is.
 ghost use mathlib.Core.Path.{_≡_};
 ghost use Prim.Native.Nat.{_+_};
 ghost use lib.ListN.{drop};
 ghost use Rattle.line.specs.Lines.{reach};
 ghost use Rattle.line.specs.Places.{behindAt};
+ghost use Rattle.line.specs.Parts.{areLines, beginsLine, liesWithin};
 ghost use Rattle.line.specs.Contents.{contentOf};
 
 // The place behind so many lines, or that fewer line feeds are left.
@@ -45,6 +46,37 @@ pub fn behind_or_end(text: &[u8], at: usize, lines: usize) -> usize
         return text.len();
     };
     n
+}
+
+// Whether the bytes from one place to another lie within the text.
+fn lies_within(text: &[u8], from: usize, to: usize) -> bool
+    ensures { λ r. ⌜ r ≡ liesWithin (now (text .entry)) from to ⌝ }
+{
+    from <= to && to <= text.len()
+}
+
+// R2: whether a line may begin at a place: the text's start, or just after a line feed.
+fn begins_line(text: &[u8], at: usize) -> bool
+    ensures { λ r. ⌜ r ≡ beginsLine (now (text .entry)) at ⌝ }
+{
+    at == 0 || (at <= text.len() && text[at - 1] == 10)
+}
+
+// R2, R7: asks whether the bytes from one place to another are exactly so many lines of the text. Any places and any
+// number may be asked about; what lies beyond the text's end, or begins inside a line, is no lines, not even none.
+pub fn are_lines(text: &[u8], from: usize, to: usize, lines: usize) -> bool
+    ensures { λ r. ⌜ r ≡ areLines (now (text .entry)) from to lines ⌝ }
+{
+    if !lies_within(text, from, to) {
+        return false;
+    }
+    if !begins_line(text, from) {
+        return false;
+    }
+    let Behind::At(n) = place_behind(&text[from..to], 0, lines) else {
+        return false;
+    };
+    n == to - from
 }
 
 // How many bytes of a line are its content, or that it has none: its line end is not one that the rules allow.

@@ -1,12 +1,11 @@
 -- First due: placing gives a reply exactly if that reply is due (specs/Due.antt).
 -- Assumes nothing.
-use mathlib.Core.Path.{_≡_, refl, sym, _∙_, ap, subst}
+use mathlib.Core.Path.{_≡_, refl, sym, _∙_, ap, ap₂, subst}
 use mathlib.Core.Bool.{Bool, true, false, cond}
 use mathlib.Core.List.{List}
 use mathlib.Core.Logic.{_↔_, _⊎_, inl, inr, ⊎-elim}
-use Prim.Native.Nat.{ℕ, _+_, _<_}
+use Prim.Native.Nat.{ℕ, suc, _+_, _<_, _≤_}
 use native.Mathlib.Nat.{eq-or-lt-of-le}
-use native.Mathlib.Omega.{arith}
 use borrow.Author.Tests.{ltb-true, ltb-false, eqb-true, eqb-false, leb-true, leb-false, le-leb, lt-leb}
 use lib.Dec.{leb, ltb, eqb}
 use lib.ListN.{length, drop}
@@ -18,7 +17,9 @@ use Rattle.count.specs.declared.Release.{Release}
 use Rattle.count.specs.declared.Release.the-variants.{Five, Other, Filled}
 use Rattle.count.specs.declared.Ruling.{Ruling}
 use Rattle.count.specs.declared.Ruling.the-variants.{Kept, Broken}
-use Rattle.count.specs.Due.{ReleaseDue}
+use Rattle.count.specs.Check.{acceptedOf}
+use Rattle.count.specs.Due.{ReleaseDue, Released, broken-rule, AcceptedDue}
+use Rattle.count.proofs.Due.{accepted-first-due}
 use Rattle.count.proofs.Rulings.{kept-ruling, ruling-kept, broken-ruling, ruling-broken}
 use Rattle.count.proofs.Releases.{release-given, release-due}
 use Rattle.place.specs.declared.Placing.{Placing}
@@ -26,12 +27,17 @@ use Rattle.reply.specs.declared.Refusal.{Refusal}
 use Rattle.reply.specs.declared.Refusal.the-variants.{End, Beyond, TooFewLines}
 use Rattle.place.specs.declared.Placing.the-variants.{Placed, BrokenRule, Refused}
 use Rattle.place.specs.Index.{Indexed, counts, misformed, readIndex}
-use Rattle.place.specs.Placing.{Located, located, refused, locate, locateIndex, locateRelease, locateLines, placingBy, countsBy, ruledAt, placingOf, countsAt}
-use Rattle.place.specs.Due.{HasIndex, HasEntries, HasRelease, HasLines, CountsDue, RefusedFor, beyond, text-end, few-for-index}
-use Rattle.place.specs.Due.{few-for-data, bad-index, bad-release, fills-vacant, Due}
-use Rattle.place.proofs.Indexed.{index-is, no-index}
-use Rattle.place.proofs.Placed.{located-is}
+use Rattle.place.specs.Parts.{start, groupPart}
+use Rattle.place.specs.Placing.{Located, located, refused, locate, locateIndex, locateRelease, locateLines}
+use Rattle.place.specs.Placing.{placingBy, countsBy, placesBy, ruledAt, placingOf, countsAt, startsAt, endsAt}
+use Rattle.place.specs.Due.{HasIndex, HasEntries, HasRelease, HasLines, NoneStands, CountsDue, GroupStands, PlacesDue}
+use Rattle.place.specs.Due.{RefusedFor, beyond, text-end, few-for-index, few-for-data, bad-index, bad-release, fills-vacant, Due}
+use Rattle.place.specs.Numbered.{asChecked}
+use Rattle.place.proofs.Indexed.{index-is, no-index, index-counts}
+use Rattle.place.proofs.Placed.{no-record, located-is}
+use Rattle.place.proofs.Spans.{each-length, each-at, is-each}
 use Rattle.place.proofs.Steps.{locate-beyond, locate-end, locate-few, locate-index}
+use Rattle.place.proofs.Tiling.{is-part, part-end, part-is}
 
 module _ (ρ : Rules) (s : List ℕ) (at : ℕ) where
   -- ---- what is due is given
@@ -120,21 +126,77 @@ module _ (ρ : Rules) (s : List ℕ) (at : ℕ) where
         next = p .next;
       }
 
+  -- where none stands none is located, and where none is located none stands
+  none-located : {A : Type 0} → NoneStands ρ s at → (n : ℕ) (ns : List ℕ) → locate ρ s at ≡ located n ns → A
+  none-located none n ns e = absurd (none ns record { next = n; lines = located-lines n ns e })
+
+  refused-none : (r : Refusal) → locate ρ s at ≡ refused r → NoneStands ρ s at
+  refused-none r e ns h = no-record (sym e ∙ to-located ns (h .next) (h .lines))
+
   counts-given : (ns : List ℕ) → CountsDue ρ s at ns → countsBy (locate ρ s at) ≡ ns
   counts-given ns (inl r) = ap countsBy (to-located ns (r .next) (r .lines))
   counts-given ns (inr n) = by (locate ρ s at) refl
     where
       by : (l : Located) → locate ρ s at ≡ l → countsBy l ≡ ns
-      by (located m ms) e = absurd (n .none ms record { next = m; lines = located-lines m ms e })
-      by (refused p) e = sym (n .zeros)
+      by (located m ms) e = none-located (n .none) m ms e
+      by (refused r) e = sym (n .zeros)
 
   counts-due : CountsDue ρ s at (countsBy (locate ρ s at))
   counts-due = by (locate ρ s at) refl
     where
       by : (l : Located) → locate ρ s at ≡ l → CountsDue ρ s at (countsBy l)
       by (located n ns) e = inl record { next = n; lines = located-lines n ns e }
-      by (refused p) e = inr record { none = λ ms r. let f = sym e ∙ to-located ms (r .next) (r .lines) in let z : _≡_ {A = ℕ} 0 1 = cc in omega arith; zeros = refl }
+      by (refused r) e = inr record { none = refused-none r e; zeros = refl }
 
   pub counts-first-due : (ns : List ℕ) → countsAt ρ s at ≡ ns ↔ CountsDue ρ s at ns
   unfolding countsAt
   counts-first-due ns = (λ e. subst (CountsDue ρ s at) e counts-due, counts-given ns)
+
+  -- ---- the places
+
+  group-there : (ns : List ℕ) (g : ℕ) {from to : ℕ} → 1 ≤ g → g ≤ 60 → GroupStands ρ s at ns g from to → (from ≡ start ρ s at ns g) × (to ≡ start ρ s at ns (suc g))
+  group-there ns g low high h =
+      let p = is-part ρ s at ns g _ (h .lines) low high (h .part) in
+      (p .0, h .ends ∙ ap₂ (λ n x. n + length x) (p .0) (p .1) ∙ sym (part-end ρ s at ns g))
+
+  places-given : (a b : List ℕ) → PlacesDue ρ s at a b → (startsAt ρ s at ≡ a) × (endsAt ρ s at ≡ b)
+  unfolding startsAt endsAt
+  places-given a b (inl h) =
+      rw (to-located (h .ns) (h .stands .next) (h .stands .lines)) (
+        is-each (start ρ s at (h .ns)) a (h .many-starts) (λ g low high. group-there (h .ns) g low high (h .each g low high) .0),
+        is-each (λ g. start ρ s at (h .ns) (suc g)) b (h .many-ends) (λ g low high. group-there (h .ns) g low high (h .each g low high) .1),
+      )
+  places-given a b (inr n) = by (locate ρ s at) refl
+    where
+      by : (l : Located) → locate ρ s at ≡ l → (placesBy (start ρ s at) l ≡ a) × (placesBy (λ ns g. start ρ s at ns (suc g)) l ≡ b)
+      by (located m ms) e = none-located (n .none) m ms e
+      by (refused r) e = (sym (n .zero-starts), sym (n .zero-ends))
+
+  places-due : PlacesDue ρ s at (startsAt ρ s at) (endsAt ρ s at)
+  unfolding startsAt endsAt
+  places-due = by (locate ρ s at) refl
+    where
+      by : (l : Located) → locate ρ s at ≡ l → PlacesDue ρ s at (placesBy (start ρ s at) l) (placesBy (λ ns g. start ρ s at ns (suc g)) l)
+      by (located n ns) e = inl record {
+        ns = ns;
+        stands = record { next = n; lines = located-lines n ns e };
+        many-starts = each-length (start ρ s at ns);
+        many-ends = each-length (λ g. start ρ s at ns (suc g));
+        each = λ g low high. rw (each-at (start ρ s at ns) g low high, each-at (λ h. start ρ s at ns (suc h)) g low high)
+            record { lines = groupPart ρ s at ns g; part = part-is ρ s at n ns e g low high; ends = part-end ρ s at ns g };
+      }
+      by (refused r) e = inr record { none = refused-none r e; zero-starts = refl; zero-ends = refl }
+
+  pub places-first-due : (starts ends : List ℕ) → ((startsAt ρ s at ≡ starts) × (endsAt ρ s at ≡ ends)) ↔ PlacesDue ρ s at starts ends
+  places-first-due starts ends = (λ e. subst (λ b. PlacesDue ρ s at starts b) (e .1) (subst (λ a. PlacesDue ρ s at a (endsAt ρ s at)) (e .0) places-due), places-given starts ends)
+
+  -- R302: the check of counts finds in those of a record what placing does: of its refusals only 7 is left
+  pub located-accepted : (n : ℕ) (ns : List ℕ) → locate ρ s at ≡ located n ns → acceptedOf ns ≡ asChecked (ruledAt n (rulingOf ns))
+  located-accepted n ns e = accepted-first-due ns (asChecked (ruledAt n (rulingOf ns))) .1 (by (rulingOf ns) refl)
+    where
+      released : Released ns Five
+      released = let h = located-lines n ns e .head in record { counts = index-counts ρ (drop at s) ns (h .index .index); release = h .release }
+
+      by : (k : Ruling) → rulingOf ns ≡ k → AcceptedDue ns (asChecked (ruledAt n k))
+      by Kept u = record { released = released; kept = ruling-kept ns u }
+      by (Broken g) u = broken-rule g record { released = released; broken = ruling-broken ns u }

@@ -15,9 +15,10 @@ use Rattle.line.specs.declared.Content.the-variants.{Length, NoReturn}
 use Rattle.count.proofs.SameCounting.{record-lines-same}
 use Rattle.line.proofs.Ends.{strict-none, strict-content}
 use Rattle.place.specs.Index.{counts, misformed, readIndexContent, readIndexLine, readIndex}
-use Rattle.place.specs.Placing.{located, locate, placingBy, countsBy, placingOf, countsAt}
+use Rattle.place.specs.Placing.{located, locate, placingBy, placingOf, carriedAt}
 use Rattle.place.specs.Walk.{PlacedAt, spot}
 use Rattle.place.proofs.Placed.{two-lines, is-located, located-is}
+use Rattle.place.proofs.SameCounting.{carried-counted}
 use Rattle.place.proofs.Stopped.{placed-record}
 use Rattle.place.proofs.Walked.{spot-start, spot-more}
 
@@ -60,10 +61,10 @@ module _ (σ ρ : Rules) (only : σ .ends ≡ Strict) (alike : σ .counting ≡ 
       let r = placed-record σ s at .0 p in
       strict-located s at (r .next) (r .ns) (r .is) ∙ sym (r .is)
 
-  -- 0 and 7, with their numbers and counts
-  pub strict-placing : (s : List ℕ) (at : ℕ) → PlacedAt σ s at → (placingOf ρ s at ≡ placingOf σ s at) × (countsAt ρ s at ≡ countsAt σ s at)
-  unfolding placingOf countsAt
-  strict-placing s at p = let e = strict-same s at p in (ap placingBy e, ap countsBy e)
+  -- 0 and 7 with their numbers, and what the record carries
+  pub strict-placing : (s : List ℕ) (at : ℕ) → PlacedAt σ s at → (placingOf ρ s at ≡ placingOf σ s at) × (carriedAt ρ s at ≡ carriedAt σ s at)
+  unfolding placingOf
+  strict-placing s at p = let e = strict-same s at p in (ap placingBy e, carried-counted ρ σ (sym alike) s at e)
 
   -- record k stands at the same place, where all before it are placed
   pub strict-spot : (s : List ℕ) (k : ℕ) → ((j : ℕ) → j < k → PlacedAt σ s (spot σ s j)) → spot ρ s k ≡ spot σ s k

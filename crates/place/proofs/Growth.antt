@@ -29,11 +29,12 @@ use Rattle.place.specs.Due.{RefusedFor, beyond, text-end, few-for-index,
 use Rattle.place.specs.Growth.{Settled, Unsettled, numberAt, PlacingStays, WalkStays, GrowthKeeps}
 use Rattle.place.specs.Numbered.{placingReply}
 use Rattle.place.specs.Parts.{start}
-use Rattle.place.specs.Placing.{Located, located, refused, locate, ruledAt, placingBy, placingOf, countsAt}
+use Rattle.place.specs.Placing.{Located, located, refused, locate, ruledAt, placingBy, countsBy, placingOf, countsAt}
 use Rattle.place.specs.Walk.{spot, IsRecord, Stops}
 use Rattle.place.proofs.Due.{refused-due}
 use Rattle.place.proofs.Local.{ByIndex, four, five, six, from-index, refused-local, located-local, placing-same}
 use Rattle.place.proofs.Placed.{no-record, located-is, located-range, located-long}
+use Rattle.place.proofs.Spans.{carried-same}
 use Rattle.place.proofs.Walked.{spot-start, spot-more}
 
 -- ---- 0, 4, 5, 6 and 7; 1, 2 and 3
@@ -92,6 +93,58 @@ module _ (ρ : Rules) (s : List ℕ) (at : ℕ) where
   settled-index r (bad-release d) h = five
   settled-index r (fills-vacant g d) h = six g
 
+-- ---- where the lines of the groups stand
+
+module _ (ρ : Rules) (s : List ℕ) (at : ℕ) (ns : List ℕ) where
+  -- all lines of a record with these counts are there
+  record AllThere : Type 0 where
+    within : at ≤ length s
+    many : recordLines ρ ns ≤ feeds (drop at s)
+
+  module _ (h : AllThere) where
+    before-there : (g : ℕ) → linesBefore ρ ns g ≤ feeds (drop at s)
+    before-there g =
+        let a = h .many in
+        ⊎-elim
+        (λ (l : g ≤ 61). omega (arith, lines-below ρ ns g 61 l, all-lines ρ ns))
+        (λ (l : 61 < g). omega (arith, lines-all ρ ns g (omega arith)))
+        (le-or-lt g 61)
+
+    inside-there : (g : ℕ) → start ρ s at ns g ≤ length s
+    unfolding start
+    inside-there g = omega (arith, h .within, reach-le (drop at s) (linesBefore ρ ns g), length-drop at s)
+
+    grown-there : (b : List ℕ) (g : ℕ) → start ρ (s ++ b) at ns g ≡ start ρ s at ns g
+    unfolding start
+    grown-there b g = rw (drop-append-le at s b (h .within), reach-append (drop at s) b (linesBefore ρ ns g) (before-there g))
+
+located-there : (ρ : Rules) (s : List ℕ) (at n : ℕ) (ns : List ℕ) → locate ρ s at ≡ located n ns → AllThere ρ s at ns
+located-there ρ s at n ns e = let p = located-is ρ s at n ns e in record { within = omega (arith, p .inside); many = p .many }
+
+-- what has no counts has no lines but the index
+zeros-two : (ρ : Rules) → recordLines ρ (replicate 80 0) ≡ 2
+unfolding Tally.lineTally Tally.linesIn Sum.sum Every.upFrom Table.formOf Table.formAmong Table.listedAs Table.rowOf Count.linesOf Count.roundedUp
+    Count.elementsOf Count.isSegments Count.segmentElements
+zeros-two ρ = refl
+
+module _ (ρ : Rules) (s : List ℕ) (at : ℕ) (h : Settled (numberAt ρ s at)) where
+  -- under 4, 5 and 6 the lines of the index are there
+  all-there : AllThere ρ s at (countsAt ρ s at)
+  unfolding placingOf countsAt
+  all-there = by (locate ρ s at) refl h
+    where
+      by : (l : Located) → locate ρ s at ≡ l → Settled (placingReply (placingBy l) .number) → AllThere ρ s at (countsBy l)
+      by (located n ns) e h = located-there ρ s at n ns e
+      by (refused r) e h =
+          let x = from-index ρ at r (settled-index ρ s at r (refused-due ρ s at r e) h) s e in
+          record { within = omega (arith, x .inner); many = rw (zeros-two ρ) (x .two) }
+
+  pub start-inside : (g : ℕ) → start ρ s at (countsAt ρ s at) g ≤ length s
+  start-inside = inside-there ρ s at (countsAt ρ s at) all-there
+
+  pub start-grown : (b : List ℕ) (g : ℕ) → start ρ (s ++ b) at (countsAt ρ s at) g ≡ start ρ s at (countsAt ρ s at) g
+  start-grown = grown-there ρ s at (countsAt ρ s at) all-there
+
 -- ---- at one place
 
 module _ (ρ : Rules) (s b : List ℕ) (at : ℕ) where
@@ -120,50 +173,10 @@ module _ (ρ : Rules) (s b : List ℕ) (at : ℕ) where
       by (refused r) e h = settled-refused r h e ∙ sym e
 
   as-located : locate ρ (s ++ b) at ≡ locate ρ s at → PlacingStays ρ s b at
-  as-located e = let p = placing-same ρ (s ++ b) s at e in record { answer = p .0; counts = p .1 }
-
--- ---- where the lines of the groups stand
-
--- what has no counts has no lines but the index
-zeros-two : (ρ : Rules) → recordLines ρ (replicate 80 0) ≡ 2
-unfolding Tally.lineTally Tally.linesIn Sum.sum Every.upFrom Table.formOf Table.formAmong Table.listedAs Table.rowOf Count.linesOf Count.roundedUp
-    Count.elementsOf Count.isSegments Count.segmentElements
-zeros-two ρ = refl
-
-module _ (ρ : Rules) (s : List ℕ) (at : ℕ) (h : Settled (numberAt ρ s at)) where
-  ns : List ℕ
-  ns = countsAt ρ s at
-
-  -- all lines of the record are there; under 4, 5 and 6 those of the index are
-  record AllThere : Type 0 where
-    within : at ≤ length s
-    many : recordLines ρ ns ≤ feeds (drop at s)
-
-  all-there : AllThere
-  unfolding ns placingOf countsAt
-  all-there = by (locate ρ s at) refl h
-    where
-      by : (l : Located) → locate ρ s at ≡ l → Settled (placingReply (placingBy l) .number) → AllThere
-      by (located n ms) e h = let p = located-is ρ s at n ms e in record { within = omega (arith, p .inside); many = rw e (p .many) }
-      by (refused r) e h =
-          let x = from-index ρ at r (settled-index ρ s at r (refused-due ρ s at r e) h) s e in
-          record { within = omega (arith, x .inner); many = rw e (rw (zeros-two ρ) (x .two)) }
-
-  before-there : (g : ℕ) → linesBefore ρ ns g ≤ feeds (drop at s)
-  before-there g =
-      let a = all-there .many in
-      ⊎-elim
-      (λ (l : g ≤ 61). omega (arith, lines-below ρ ns g 61 l, all-lines ρ ns))
-      (λ (l : 61 < g). omega (arith, lines-all ρ ns g (omega arith)))
-      (le-or-lt g 61)
-
-  pub start-inside : (g : ℕ) → start ρ s at (countsAt ρ s at) g ≤ length s
-  unfolding ns start
-  start-inside g = omega (arith, all-there .within, reach-le (drop at s) (linesBefore ρ ns g), length-drop at s)
-
-  pub start-grown : (b : List ℕ) (g : ℕ) → start ρ (s ++ b) at (countsAt ρ s at) g ≡ start ρ s at (countsAt ρ s at) g
-  unfolding ns start
-  start-grown b g = rw (drop-append-le at s b (all-there .within), reach-append (drop at s) b (linesBefore ρ ns g) (before-there g))
+  as-located e = record {
+    answer = placing-same ρ (s ++ b) s at e .0;
+    carried = carried-same ρ (s ++ b) ρ s at e (λ n ns u. grown-there ρ s at ns (located-there ρ s at n ns (sym e ∙ u)) b);
+  }
 
 -- ---- the walk
 

@@ -16,7 +16,6 @@ use Rattle.line.specs.Places
 use Rattle.line.specs.Places.{behindAt}
 use Rattle.line.specs.Contents.{contentOf}
 use Rattle.line.specs.declared.Content.the-variants.{Length, NoReturn}
-use Rattle.line.specs.declared.Behind.{Behind}
 use Rattle.line.specs.declared.Behind.the-variants.{At, TooFew}
 use Rattle.line.proofs.Places.{at-is, few-is, behindAt-then, lines-at}
 use Rattle.count.specs.Tally.{recordLines}
@@ -24,12 +23,14 @@ use Rattle.count.proofs.Tallied.{record-two}
 use Rattle.count.specs.Rules.{releaseOf}
 use Rattle.count.specs.declared.Release.{Release}
 use Rattle.count.specs.declared.Release.the-variants.{Five, Other, Filled}
-use Rattle.place.specs.declared.Placing.{Placing}
+use Rattle.place.specs.declared.Record.{Record}
 use Rattle.reply.specs.declared.Refusal.{Refusal}
 use Rattle.reply.specs.declared.Refusal.the-variants.{End, Beyond, TooFewLines, Misformed}
 use Rattle.place.specs.declared.Placing.the-variants.{Refused}
 use Rattle.place.specs.Index.{counts, misformed, readEntries, readIndexLine, bothLines, readIndex}
-use Rattle.place.specs.Placing.{Located, located, refused, locate, locateIndex, locateRelease, locateLines, locateLinesFrom, locateFrom, locateFive, locatedBehind, Answers, placingOf, countsAt}
+use Rattle.place.specs.Placing.{Located, located, refused, locate, locateIndex, locateRelease, locateLines, placingOf, countsAt, startsAt, endsAt}
+use Rattle.place.specs.Placing.{locatedBehind, locateLinesFrom, locateFive, locateFrom, Answers}
+use Rattle.place.proofs.Spans.{places-from}
 
 -- ---- an index line
 
@@ -69,17 +70,16 @@ module _ (ρ : Rules) (s : List ℕ) (at : ℕ) where
 -- ---- from the data lines on
 
 module _ (ρ : Rules) (s : List ℕ) (from : ℕ) (ns : List ℕ) where
-  pub from-lines : {l : ℕ} {b : Behind} → l ≡ recordLines ρ ns → behindAt s from (l - 2) ≡ b → locateLinesFrom ρ s from ns ≡ locatedBehind ns b
-  unfolding locateLinesFrom
-  from-lines e f = rw (← e, f)
-
   pub from-release : {r : Release} → releaseOf ns ≡ r → locateFrom ρ s from ns ≡ locateFive ρ s from ns r
   unfolding locateFrom
   from-release e = rw e
 
 -- an answer that refuses, with its zeros
-pub refuses : {l : Located} {r : Refusal} {answer : Placing} {ns : List ℕ} → l ≡ refused r → (answer ≡ Refused r) × (ns ≡ replicate 80 0) → Answers l answer ns
-refuses e a = rw e record { placing = a .0; beside = a .1 }
+abbrev pub RefusesWith : Refusal → Record → Type 0
+RefusesWith why r = (r .answer ≡ Refused why) × ((r .counts ≡ replicate 80 0) × ((r .starts ≡ replicate 60 0) × (r .ends ≡ replicate 60 0)))
+
+pub refuses : (ρ : Rules) (s : List ℕ) (from : ℕ) {l : Located} {why : Refusal} {r : Record} → l ≡ refused why → RefusesWith why r → Answers ρ s from l r
+refuses ρ s from e a = rw e record { placing = a .0; beside = a .1 .0; begin = a .1 .1 .0; end = a .1 .1 .1 }
 
 -- ---- the two index lines, one after the other
 
@@ -138,6 +138,14 @@ module _ (ρ : Rules) (s : List ℕ) (at : ℕ) (inside : at < length s) where
 
 -- ---- the answer
 
-pub answers-at : (ρ : Rules) (s : List ℕ) (at : ℕ) {l : Located} {answer : Placing} {ns : List ℕ} → locate ρ s at ≡ l → Answers l answer ns → (answer ≡ placingOf ρ s at) × (ns ≡ countsAt ρ s at)
-unfolding placingOf countsAt
-answers-at ρ s at e a = rw e (a .placing, a .beside)
+-- the answer and all that is beside it
+abbrev pub IsRecordAt : Rules → List ℕ → ℕ → Record → Type 0
+IsRecordAt ρ s at r = (r .answer ≡ placingOf ρ s at) × ((r .counts ≡ countsAt ρ s at) × ((r .starts ≡ startsAt ρ s at) × (r .ends ≡ endsAt ρ s at)))
+
+module _ (ρ : Rules) (s : List ℕ) (at : ℕ) {l : Located} {r : Record} (e : locate ρ s at ≡ l) where
+  pub answers-at : (from : ℕ) → from ≡ at + reach (drop at s) 2 → Answers ρ s from l r → IsRecordAt ρ s at r
+  unfolding placingOf countsAt startsAt endsAt
+  answers-at from f a = let p = places-from ρ s at from l f in rw e (a .placing, (a .beside, (a .begin ∙ p .0, a .end ∙ p .1)))
+
+pub refused-at : (ρ : Rules) (s : List ℕ) (at : ℕ) {why : Refusal} {r : Record} → locate ρ s at ≡ refused why → RefusesWith why r → IsRecordAt ρ s at r
+refused-at ρ s at e a = answers-at ρ s at e (at + reach (drop at s) 2) refl (refuses ρ s _ refl a)

@@ -11,9 +11,11 @@ use lib.Seq.{drop-drop, drop-at, length-take-le}
 use Rattle.rules.specs.declared.Rules.{Rules}
 use Rattle.base.specs.Part.{part}
 use Rattle.line.specs.Lines.{feeds, reach, lines, behind, Whole}
+use Rattle.line.specs.Parts.{AreLines}
 use Rattle.line.proofs.Reach.{reach-zero, reach-add, reach-mono, feeds-behind, length-lines}
 use Rattle.line.proofs.Whole.{whole-lines, reach-whole, behind-whole, lines-whole}
 use Rattle.line.proofs.Last.{whole-last}
+use Rattle.line.proofs.Parts.{lines-there}
 use Rattle.count.specs.Tally.{lineTally, linesIn, linesBefore, recordLines}
 use Rattle.count.proofs.Tallied.{all-lines, record-two, before-none, before-groups, line-entry, lines-more, lines-below}
 use Rattle.place.specs.Placing.{located, locate}
@@ -51,6 +53,15 @@ module _ (ρ : Rules) (s : List ℕ) (at : ℕ) (ns : List ℕ) where
       let r : reach xs (linesBefore ρ ns (suc g)) ≡ reach xs j + reach (behind j xs) k = ap (reach xs) e ∙ reach-add xs j k in
       let w : at + reach xs (linesBefore ρ ns (suc g)) - (at + reach xs j) ≡ reach (behind j xs) k = omega arith in
       rw (w, ← drop-drop (reach xs j) at s)
+
+  pub part-end : (g : ℕ) → start ρ s at ns (suc g) ≡ start ρ s at ns g + length (groupPart ρ s at ns g)
+  unfolding start
+  part-end g =
+      let j = linesBefore ρ ns g in
+      let k = linesBefore ρ ns (suc g) - j in
+      let xs = drop at s in
+      let e : linesBefore ρ ns (suc g) ≡ j + k = omega (arith, lines-below ρ ns g (suc g) (omega arith)) in
+      omega (arith, ap (reach xs) e, reach-add xs j k, ap length (part-between g), length-lines (behind j xs) k)
 
   -- which are its own
   pub part-lines : (g : ℕ) → g < 61 → groupPart ρ s at ns g ≡ lines (getD (lineTally ρ ns) g 0) (behind (linesBefore ρ ns g) (drop at s))
@@ -125,3 +136,14 @@ module _ (ρ : Rules) (s : List ℕ) (at n : ℕ) (ns : List ℕ) (e : locate ρ
         lines = subst (λ n. Whole n (groupPart ρ s at ns g)) lined (part-whole g (omega arith));
         begins = ap (λ n. at + n) (sym (length-lines xs j));
       }
+
+  -- R2: a group's part is lines of the text, which begin where a line does, wherever the record's place is
+  pub group-lines : (g : ℕ) → 1 ≤ g → g ≤ 60 → AreLines s (start ρ s at ns g) (start ρ s at ns (suc g)) (linesIn ρ ns g)
+  unfolding start
+  group-lines g low high =
+      let j = linesBefore ρ ns g in
+      let k = linesIn ρ ns g in
+      let all : linesBefore ρ ns (suc g) ≡ j + k = omega (arith, lines-more ρ ns g (omega arith), line-entry ρ ns g low (omega arith)) in
+      let some : 1 ≤ j = omega (arith, before-groups ρ ns .lines-are, lines-below ρ ns 1 g low) in
+      let there : j + k ≤ feeds (drop at s) = omega (arith, p .many, lines-below ρ ns (suc g) 61 (omega arith), all-lines ρ ns) in
+      rw all (lines-there s at j k some there)

@@ -2,8 +2,8 @@
 use mathlib.Core.Path.{_≡_}
 use mathlib.Core.List.{List}
 use mathlib.Core.Logic.{_⊎_}
-use Prim.Native.Nat.{ℕ, _+_, _<_, _≤_}
-use lib.ListN.{length, drop, replicate}
+use Prim.Native.Nat.{ℕ, _+_, _-_, _<_, _≤_}
+use lib.ListN.{length, drop, getD, replicate}
 use Rattle.rules.specs.declared.Rules.{Rules}
 use Rattle.line.specs.Lines.{feeds, reach}
 use Rattle.count.specs.Tally.{countOf, recordLines}
@@ -14,6 +14,7 @@ use Rattle.reply.specs.declared.Refusal.{Refusal}
 use Rattle.reply.specs.declared.Refusal.the-variants.{End, Beyond, TooFewLines, Misformed, OtherRelease, FilledVacant}
 use Rattle.place.specs.declared.Placing.the-variants.{Placed, BrokenRule, Refused}
 use Rattle.place.specs.Index.{IsIndex}
+use Rattle.place.specs.Parts.{IsPart}
 
 module _ (ρ : Rules) (s : List ℕ) (at : ℕ) where
   -- neither 2, 1 nor 3 for the index lines: the place is inside, and two line feeds are left
@@ -80,12 +81,37 @@ module _ (ρ : Rules) (s : List ℕ) (at : ℕ) where
     pub next : ℕ
     pub lines : HasLines ns next
 
+  abbrev pub NoneStands : Type 0
+  NoneStands = (ns : List ℕ) → HasRecord ns → ⊥
+
   pub record NoRecord (ns : List ℕ) : Type 0 where
-    pub none : (ms : List ℕ) → HasRecord ms → ⊥
+    pub none : NoneStands
     pub zeros : ns ≡ replicate 80 0
 
   abbrev pub CountsDue : List ℕ → Type 0
   CountsDue ns = HasRecord ns ⊎ NoRecord ns
+
+  -- R27: the lines of group g follow those of the index and of the groups before it, and begin and end here
+  pub record GroupStands (ns : List ℕ) (g from to : ℕ) : Type 0 where
+    pub lines : List ℕ
+    pub part : IsPart ρ s at ns g from lines
+    pub ends : to ≡ from + length lines
+
+  -- R259: the places beside the answer: those of the record's groups 1 to 60, or 60 zeros each where none stands
+  pub record HasPlaces (starts ends : List ℕ) : Type 0 where
+    pub ns : List ℕ
+    pub stands : HasRecord ns
+    pub many-starts : length starts ≡ 60
+    pub many-ends : length ends ≡ 60
+    pub each : (g : ℕ) → 1 ≤ g → g ≤ 60 → GroupStands ns g (getD starts (g - 1) 0) (getD ends (g - 1) 0)
+
+  pub record NoPlaces (starts ends : List ℕ) : Type 0 where
+    pub none : NoneStands
+    pub zero-starts : starts ≡ replicate 60 0
+    pub zero-ends : ends ≡ replicate 60 0
+
+  abbrev pub PlacesDue : (starts ends : List ℕ) → Type 0
+  PlacesDue starts ends = HasPlaces starts ends ⊎ NoPlaces starts ends
 
   -- what placing refuses with, and when
   pub data RefusedFor : Refusal → Type 0 where

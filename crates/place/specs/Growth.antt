@@ -8,7 +8,7 @@ use Rattle.rules.specs.declared.Rules.{Rules}
 use Rattle.reply.specs.Refusals.{refusalNumber}
 use Rattle.reply.specs.declared.Refusal.{Refusal}
 use Rattle.place.specs.Numbered.{placingReply}
-use Rattle.place.specs.Placing.{placingOf, countsAt}
+use Rattle.place.specs.Placing.{placingOf, carriedAt}
 use Rattle.place.specs.Walk.{spot, Stops}
 
 -- R256: the replies that stay: 0, 4, 5, 6 and 7
@@ -25,16 +25,16 @@ module _ (ρ : Rules) where
   numberAt s at = placingReply (placingOf ρ s at) .number
 
   module _ (s b : List ℕ) where
-    -- R256: at a place the answer is what it was, with its numbers, and so are the counts
+    -- R256: at a place the answer is what it was, with its numbers, and so is what the record carries
     pub record PlacingStays (at : ℕ) : Type 0 where
       pub answer : placingOf ρ (s ++ b) at ≡ placingOf ρ s at
-      pub counts : countsAt ρ (s ++ b) at ≡ countsAt ρ s at
+      pub carried : carriedAt ρ (s ++ b) at ≡ carriedAt ρ s at
 
     -- R257: the walk of s has so many records, and stops behind them with r
     pub record WalkStays (many : ℕ) (r : Refusal) : Type 0 where
       -- each of them is where it was, and so is the place where the walk stopped, from which it may go on now
       pub places : (k : ℕ) → k ≤ many → spot ρ (s ++ b) k ≡ spot ρ s k
-      -- each has the reply, the next place and the counts that it had
+      -- each has the reply and the next place that it had, and carries what it did
       pub records : (k : ℕ) → k < many → PlacingStays (spot ρ s k)
       -- so there are as many at least
       pub as-many : (n : ℕ) (q : Refusal) → Stops ρ (s ++ b) n q → many ≤ n

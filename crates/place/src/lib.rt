@@ -4,10 +4,10 @@ use reply::Refusal;
 ghost use mathlib.Core.Path.{_≡_};
 ghost use Prim.Native.Nat.{_+_, _≤_};
 ghost use lib.ListN.{length, replicate};
-ghost use Rattle.place.specs.Parts.{start};
 ghost use Rattle.place.specs.Index.{readEntries, readIndexLine, Stored};
 ghost use Rattle.place.specs.Numbered.{placingReply, asChecked, isPlaced};
-ghost use Rattle.place.specs.Placing.{Answers, placingOf, countsAt, ruledAt, locateLinesFrom, locateFrom};
+ghost use Rattle.place.specs.Placing.{placingOf, countsAt, startsAt, endsAt, ruledAt};
+ghost use Rattle.place.specs.Placing.{Answers, locateLinesFrom, locateFrom};
 
 // R200 to R207: what placing answers. A record whose counts break a rule is placed all the same (R253).
 pub enum Placing {
@@ -19,10 +19,13 @@ pub enum Placing {
     Refused(Refusal),
 }
 
-// R253: the answer, with the 80 counts of a record that is placed (0 or 7), else zeros.
+// R253, R259: the answer, with the 80 counts of a record that is placed (0 or 7), and from where to where the lines of
+// each of its 60 groups stand in the text; else zeros.
 pub struct Record {
     pub answer: Placing,
     pub counts: [u16; 80],
+    pub starts: [usize; 60],
+    pub ends: [usize; 60],
 }
 
 // R21, R23: the 40 entries of an index line's content, stored from an index on; whether all are well formed.
@@ -64,30 +67,48 @@ fn store_line(rules: rules::Rules, line: &[u8], counts: &mut [u16], from: usize)
 fn nothing(why: Refusal) -> Record
     ensures answer { λ r. ⌜ r .answer ≡ Placing.Refused why ⌝ }
     ensures counts { λ r. ⌜ r .counts ≡ replicate 80 0 ⌝ }
+    ensures starts { λ r. ⌜ r .starts ≡ replicate 60 0 ⌝ }
+    ensures ends { λ r. ⌜ r .ends ≡ replicate 60 0 ⌝ }
 {
     Record {
         answer: Placing::Refused(why),
         counts: [0u16; 80],
+        starts: [0usize; 60],
+        ends: [0usize; 60],
     }
 }
 
-// R203, R207: a record of release 5 whose data lines begin at a place: data lines, then rules.
+// R203, R207, R259: a record of release 5 whose data lines begin at a place: the lines of one group after the other,
+// then the rules on counts.
 fn with_lines(rules: rules::Rules, text: &[u8], from: usize, counts: [u16; 80]) -> Record
-    ensures { λ r. ⌜ Answers (locateLinesFrom rules (now (text .entry)) from counts) (r .answer) (r .counts) ⌝ }
+    ensures { λ r. ⌜ Answers rules (now (text .entry)) from
+        (locateLinesFrom rules (now (text .entry)) from counts) r ⌝ }
 {
-    let all = count::add_up(rules, &counts, 61);
-    let line::Behind::At(next) = line::place_behind(text, from, all.lines - 2) else {
-        return nothing(Refusal::TooFewLines);
-    };
+    let mut starts = [0usize; 60];
+    let mut ends = [0usize; 60];
+    let mut at = from;
+    let mut k: usize = 0;
+    while k < 60 {
+        let lines = form::lines(rules, form::form_in(k + 1), counts[k]);
+        let line::Behind::At(next) = line::place_behind(text, at, lines) else {
+            return nothing(Refusal::TooFewLines);
+        };
+        starts[k] = at;
+        ends[k] = next;
+        at = next;
+        k += 1;
+    }
     Record {
-        answer: ruled_at(next, count::ruling_of(&counts)),
+        answer: ruled_at(at, count::ruling_of(&counts)),
         counts,
+        starts,
+        ends,
     }
 }
 
 // R205, R206: a record whose data lines begin at a place: the release and the vacant groups first.
 fn with_counts(rules: rules::Rules, text: &[u8], from: usize, counts: [u16; 80]) -> Record
-    ensures { λ r. ⌜ Answers (locateFrom rules (now (text .entry)) from counts) (r .answer) (r .counts) ⌝ }
+    ensures { λ r. ⌜ Answers rules (now (text .entry)) from (locateFrom rules (now (text .entry)) from counts) r ⌝ }
 {
     match count::release_of(&counts) {
         count::Release::Other => nothing(Refusal::OtherRelease),
@@ -109,6 +130,8 @@ fn ruled_at(next: usize, ruling: count::Ruling) -> Placing
 pub fn place(rules: rules::Rules, text: &[u8], at: usize) -> Record
     ensures answer { λ r. ⌜ r .answer ≡ placingOf rules (now (text .entry)) at ⌝ }
     ensures counts { λ r. ⌜ r .counts ≡ countsAt rules (now (text .entry)) at ⌝ }
+    ensures starts { λ r. ⌜ r .starts ≡ startsAt rules (now (text .entry)) at ⌝ }
+    ensures ends { λ r. ⌜ r .ends ≡ endsAt rules (now (text .entry)) at ⌝ }
 {
     if text.len() < at {
         return nothing(Refusal::Beyond);
@@ -159,28 +182,4 @@ pub fn is_placed(number: u32) -> bool
     ensures { λ r. ⌜ r ≡ isPlaced number ⌝ }
 {
     number == 0 || number == 7
-}
-
-// From where to where the lines of a group stand.
-pub struct Span {
-    pub from: usize,
-    pub to: usize,
-}
-
-// R27: the lines of a group in a record at a place with these counts; group 0 is the index, and behind group 60 there
-// are none. Where the text has too few lines, they end where it does.
-pub fn span_of(rules: rules::Rules, text: &[u8], at: usize, counts: &[u16], group: usize) -> Span
-    ensures from { λ r. ⌜ r .from ≡ start rules (now (text .entry)) at (now (counts .entry)) group ⌝ }
-    ensures to { λ r. ⌜ r .to ≡ start rules (now (text .entry)) at (now (counts .entry)) (group + 1) ⌝ }
-{
-    let before = count::add_up(rules, counts, group);
-    let from = line::behind_or_end(text, at, before.lines);
-    if 60 < group {
-        return Span { from, to: from };
-    }
-    let with = count::add_up(rules, counts, group + 1);
-    Span {
-        from,
-        to: line::behind_or_end(text, from, with.lines - before.lines),
-    }
 }

@@ -4,9 +4,9 @@
 -- Assumes nothing.
 use mathlib.Core.Path.{_≡_, refl, sym, _∙_, ap}
 use mathlib.Core.Bool.{Bool}
-use mathlib.Core.List.{List, [], _∷_, map}
+use mathlib.Core.List.{List, [], _∷_, map, _++_}
 use mathlib.Core.Logic.{inl, inr}
-use Prim.Native.Nat.{ℕ, _+_, _≤_}
+use Prim.Native.Nat.{ℕ, _+_, _≤_, _<_}
 use native.Mathlib.Nat.{zero-add, zero-mul}
 use native.Mathlib.Omega.{arith}
 use borrow.Author.Tests.{le-leb, ne-eqb}
@@ -26,8 +26,8 @@ use Rattle.form.specs.Count.{linesOf, cellsOf}
 use Rattle.form.proofs.Rounding.{rounded-none}
 use Rattle.form.proofs.Segments.{elements-none}
 use Rattle.reply.specs.Table.{Numbered, cells}
-use Rattle.reply.specs.Refusals.{refusalReply, answerReply, rows}
-use Rattle.reply.proofs.Replies.{fills, refusal-fills, at-row}
+use Rattle.reply.specs.Refusals.{refusalReply, answerReply, rows, askedRefusals}
+use Rattle.reply.proofs.Replies.{fills, refusal-fills, at-row, rows-left, rows-right}
 use Rattle.base.specs.Sign.{sizeOf}
 use Rattle.count.proofs.Rulings.{broken-group}
 use Rattle.date.proofs.Due.{blamed-position}
@@ -38,7 +38,7 @@ use Rattle.count.specs.declared.Ruling.the-variants.{Kept, Broken}
 use Rattle.reply.specs.declared.Refusal.{Refusal}
 use Rattle.reply.specs.declared.Refusal.the-variants.{NoSuchNumber, BrokenRule, NoRoom, BadLine, BadField, BadDate}
 use Rattle.reply.specs.declared.Answer.the-variants.{Done}
-use Rattle.reading.specs.Numbered.{readingRefusals, readingRows}
+use Rattle.reading.specs.Numbered.{givenRefusals, readingRows}
 use Rattle.reading.specs.Due.{RefusedFor, no-group, broken-rule, no-room, bad-line, bad-field, bad-date, Due}
 use Rattle.reading.specs.Blanks.{mayBeShort}
 use Rattle.reading.specs.Plan.{planFrom, planOf}
@@ -47,22 +47,37 @@ use Rattle.reading.proofs.Steps.{kept-letters}
 
 -- ---- numbered
 
--- what is refused by the counts and the lines; 12 and placing's replies are told where they are asked
-pub refusal-numbered : (ρ : Rules) (ns : List ℕ) (g : ℕ) (x : List ℕ) (room : ℕ) (r : Refusal) → RefusedFor ρ ns g x room r → Numbered (rows readingRefusals) (refusalReply r)
-refusal-numbered ρ ns g x room r (no-group d) = at-row 0 (rows readingRefusals) (refusalReply NoSuchNumber) (lit< tt) (refusal-fills NoSuchNumber tt)
-refusal-numbered ρ ns g x room r (broken-rule h d) =
-    at-row 7 (rows readingRefusals) (refusalReply (BrokenRule h)) (lit< tt) (refusal-fills (BrokenRule h) (broken-group ns (d .broken) .0, tt))
-refusal-numbered ρ ns g x room r (no-room d) = at-row 8 (rows readingRefusals) (refusalReply NoRoom) (lit< tt) (refusal-fills NoRoom tt)
-refusal-numbered ρ ns g x room r (bad-line l d) =
-    at-row 9 (rows readingRefusals) (refusalReply (BadLine l)) (lit< tt) (refusal-fills (BadLine l) (omega (arith, d .line .number), tt))
-refusal-numbered ρ ns g x room r (bad-field l e d) =
-    at-row 10 (rows readingRefusals) (refusalReply (BadField l e)) (lit< tt) (refusal-fills (BadField l e) (omega (arith, d .field .number), (omega (arith, d .field .element), tt)))
-refusal-numbered ρ ns g x room r (bad-date p d) =
-    at-row 11 (rows readingRefusals) (refusalReply (BadDate p)) (lit< tt) (refusal-fills (BadDate p) (blamed-position (map sizeOf (d .cs)) p (d .wrong), tt))
+-- refusals among which 12 and 7 are, as whoever asks for a group has them before its lines are looked at
+pub record HasAsked (asked : List Refusal) : Type 0 where
+  pub no-group-row : Numbered (rows asked) (refusalReply NoSuchNumber)
+  pub broken-row : (h : ℕ) → 0 < h → Numbered (rows asked) (refusalReply (BrokenRule h))
+
+-- what is refused by the counts and the lines, behind these
+pub refusal-behind : (asked : List Refusal) → HasAsked asked → (ρ : Rules) (ns : List ℕ) (g : ℕ) (x : List ℕ) (room : ℕ) (r : Refusal) → RefusedFor ρ ns g x room r
+    → Numbered (rows (asked ++ givenRefusals)) (refusalReply r)
+refusal-behind asked h ρ ns g x room r (no-group d) = rows-left asked givenRefusals _ (h .no-group-row)
+refusal-behind asked h ρ ns g x room r (broken-rule b d) = rows-left asked givenRefusals _ (h .broken-row b (broken-group ns (d .broken) .0))
+refusal-behind asked h ρ ns g x room r (no-room d) = rows-right asked givenRefusals _ (inl (refusal-fills NoRoom tt))
+refusal-behind asked h ρ ns g x room r (bad-line l d) =
+    rows-right asked givenRefusals _ (at-row 1 (rows givenRefusals) (refusalReply (BadLine l)) (lit< tt) (refusal-fills (BadLine l) (omega (arith, d .line .number), tt)))
+refusal-behind asked h ρ ns g x room r (bad-field l e d) =
+    rows-right asked givenRefusals _
+    (at-row 2 (rows givenRefusals) (refusalReply (BadField l e)) (lit< tt) (refusal-fills (BadField l e) (omega (arith, d .field .number), (omega (arith, d .field .element), tt))))
+refusal-behind asked h ρ ns g x room r (bad-date p d) =
+    rows-right asked givenRefusals _
+    (at-row 3 (rows givenRefusals) (refusalReply (BadDate p)) (lit< tt) (refusal-fills (BadDate p) (blamed-position (map sizeOf (d .cs)) p (d .wrong), tt)))
+
+-- 12 and placing's replies
+pub has-asked : HasAsked askedRefusals
+has-asked =
+    record {
+      no-group-row = inl (refusal-fills NoSuchNumber tt);
+      broken-row = λ h l. at-row 7 (rows askedRefusals) (refusalReply (BrokenRule h)) (lit< tt) (refusal-fills (BrokenRule h) (l, tt));
+    }
 
 pub cells-numbered : (ρ : Rules) (ns : List ℕ) (g : ℕ) (x : List ℕ) (room : ℕ) (c : Cells) → Due ρ ns g x room c → Numbered readingRows (answerReply (readingOf c))
 cells-numbered ρ ns g x room (done cs) d = inl (fills 0 ((cells, length cs) ∷ []) (omega arith, tt))
-cells-numbered ρ ns g x room (bad r) d = inr (refusal-numbered ρ ns g x room r d)
+cells-numbered ρ ns g x room (bad r) d = inr (refusal-behind askedRefusals has-asked ρ ns g x room r d)
 
 -- ---- the table
 

@@ -5,9 +5,13 @@ use Rattle.reply.specs.declared.Refusal.the-variants.{NoRoom, BadDate}
 use Rattle.reply.specs.Table.{Row, row, cells}
 use Rattle.reply.specs.Refusals.{rows, askedRefusals, lineRefusals}
 
--- 12 and the refusals of placing; 11; 8 and 9; 10
+-- what comes once the lines are given: 11; 8 and 9; 10
+abbrev pub givenRefusals : List Refusal
+givenRefusals = NoRoom ∷ (lineRefusals ++ (BadDate 0 ∷ []))
+
+-- 12 and the refusals of placing, and then these
 abbrev pub readingRefusals : List Refusal
-readingRefusals = askedRefusals ++ (NoRoom ∷ (lineRefusals ++ (BadDate 0 ∷ [])))
+readingRefusals = askedRefusals ++ givenRefusals
 
 abbrev pub readingRows : List Row
 readingRows = row 0 (cells ∷ []) ∷ rows readingRefusals

@@ -82,6 +82,10 @@ rows-left [] b r n = absurd n
 rows-left (x ∷ a) b r (inl f) = inl f
 rows-left (x ∷ a) b r (inr n) = inr (rows-left a b r n)
 
+pub rows-right : (a b : List Refusal) (r : Reply) → Numbered (rows b) r → Numbered (rows (a ++ b)) r
+rows-right [] b r n = n
+rows-right (x ∷ a) b r n = inr (rows-right a b r n)
+
 -- the number is one of the table's
 pub numbered-known : (ws : List Row) (r : Reply) → Numbered ws r → T (has (map (λ w. w .number) ws) (r .number))
 numbered-known [] r n = n

@@ -1,18 +1,18 @@
--- R200 to R217: each refusal's number, with the numbers beside it; which refusals several questions share.
+-- R200 to R217 and R222: each refusal's number, with the numbers beside it; which refusals several questions share.
 use mathlib.Core.List.{List, [], _∷_, _++_, map}
 use Prim.Native.Nat.{ℕ}
 use Rattle.reply.specs.declared.Reply.{Reply}
 use Rattle.reply.specs.declared.Refusal.{Refusal}
 use Rattle.reply.specs.declared.Refusal.the-variants.{End, Beyond, TooFewLines, Misformed, OtherRelease, FilledVacant, BrokenRule, BadLine, BadField}
 use Rattle.reply.specs.declared.Refusal.the-variants.{BadDate, NoRoom, NoSuchNumber, NoField, OtherLength}
-use Rattle.reply.specs.declared.Refusal.the-variants.{NotOpen, AllOpen, BadEntry}
+use Rattle.reply.specs.declared.Refusal.the-variants.{NotOpen, AllOpen, BadEntry, BadPart}
 use Rattle.reply.specs.declared.Checked.{Checked}
 use Rattle.reply.specs.declared.Checked.the-variants as C
 use Rattle.reply.specs.declared.Answer.{Answer}
 use Rattle.reply.specs.declared.Answer.the-variants as A
 use Rattle.reply.specs.Table.{Given, told, kindsOf, Row, row, bytes, group, line, element, position, place}
 
--- R201 to R217
+-- R201 to R217 and R222
 abbrev pub refusalNumber : Refusal → ℕ
 refusalNumber End = 1
 refusalNumber Beyond = 2
@@ -31,6 +31,7 @@ refusalNumber OtherLength = 14
 refusalNumber NotOpen = 15
 refusalNumber AllOpen = 16
 refusalNumber (BadEntry p) = 17
+refusalNumber BadPart = 22
 
 -- R206, R207, R208, R209, R210, R213, R217; beside the others nothing stands
 abbrev pub besideOf : Refusal → Given
@@ -51,6 +52,7 @@ besideOf OtherLength = []
 besideOf NotOpen = []
 besideOf AllOpen = []
 besideOf (BadEntry p) = (place, p) ∷ []
+besideOf BadPart = []
 
 abbrev pub refusalReply : Refusal → Reply
 refusalReply r = told (refusalNumber r) (besideOf r)

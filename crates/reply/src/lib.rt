@@ -1,11 +1,12 @@
-// R200 to R217: the replies. What a question refuses with is a `Refusal`, whichever question it is; a reply is told as
-// its number, with the numbers beside it. What a reply's row doesn't name is 0 (R230).
+// R200 to R217 and R222: the replies. What a question refuses with is a `Refusal`, whichever question it is; a reply is
+// told as its number, with the numbers beside it. What a reply's row doesn't name is 0 (R230).
 ghost use mathlib.Core.Path.{_≡_};
 ghost use mathlib.Core.List.{[], _∷_};
 ghost use Rattle.reply.specs.Table.{told, next, bytes, group, line, element, position, savepoint, place};
 ghost use Rattle.reply.specs.Refusals.{refusalReply, checkedReply, answerReply};
 
-// Why a question is refused; each variant is a reply of R201 to R217. Which of them a question can give, its Due says.
+// Why a question is refused; each variant is a reply of R201 to R217 and R222. Which of them a question can give, its
+// Due says.
 pub enum Refusal {
     // 1
     End,
@@ -41,6 +42,8 @@ pub enum Refusal {
     AllOpen,
     // 17, with the place of the journal's field
     BadEntry(usize),
+    // 22
+    BadPart,
 }
 
 // 0 with nothing beside it, or a refusal.
@@ -200,7 +203,7 @@ pub fn opened(k: usize) -> Reply
     }
 }
 
-// R201 to R217: a refusal's number, with the numbers beside it.
+// R201 to R217 and R222: a refusal's number, with the numbers beside it.
 pub fn of_refusal(refusal: Refusal) -> Reply
     ensures { λ r. ⌜ r ≡ refusalReply refusal ⌝ }
 {
@@ -222,6 +225,7 @@ pub fn of_refusal(refusal: Refusal) -> Reply
         Refusal::NotOpen => plain(15),
         Refusal::AllOpen => plain(16),
         Refusal::BadEntry(p) => bad_entry(p),
+        Refusal::BadPart => plain(22),
     }
 }
 

@@ -44,7 +44,7 @@ module _ (σ ρ : Rules) (only : σ .ends ≡ Strict) (alike : σ .counting ≡ 
   placed = inl (ap (λ p. placingReply p .number) (due .roomy .placed))
 
   counts : countsAt ρ s at ≡ countsAt σ s at
-  counts = strict-placing σ ρ only alike s at placed .1
+  counts = ap (λ c. c .counts-of) (strict-placing σ ρ only alike s at placed .1)
 
   bytes-there : recordBytes ρ (countsAt ρ s at) ≡ recordBytes σ (countsAt σ s at)
   bytes-there = ap (recordBytes ρ) counts ∙ record-bytes-same ρ σ (sym alike) (countsAt σ s at)

@@ -15,7 +15,7 @@ module _ (ρ : Rules) (s b : List ℕ) where
     where
       by : AnswersAgree ρ (s ++ b) ρ s at → RewrittenAsBefore ρ s b at
       by h =
-          let basis : SameBasis ρ (s ++ b) at s at = record { counts = h .counts; groups = h .groups } in
+          let basis : SameBasis ρ (s ++ b) at s at = record { counts = ap (λ c. c .counts-of) (h .carried); groups = h .groups } in
           record {
             answer = λ cells room. ap (λ rewriting. rewriting cells room) (same-rewriting ρ (s ++ b) at s at basis (h .placing));
             output = same-output ρ (s ++ b) at s at basis;

@@ -9,7 +9,7 @@ ghost use Prim.Native.Nat.{_-_, _≤_};
 ghost use lib.ListN.{length};
 ghost use Rattle.base.specs.Part.{part, over};
 ghost use Rattle.count.specs.Rules.{rulingOf};
-ghost use Rattle.place.specs.Placing.{placingOf, countsAt};
+ghost use Rattle.place.specs.Placing.{carried, carriedAt};
 ghost use Rattle.reading.specs.Read.{readGroup, readingOf, tableBy};
 ghost use Rattle.writing.specs.Text.{recordText, recordBytes};
 ghost use Rattle.writing.specs.Writing.{writingOf};
@@ -35,62 +35,58 @@ enum Groups {
 
 // ---- Reading all groups.
 
-// A group whose lines are a part of the text, read into a part of the table.
+// A group whose lines these are, read into a part of the table.
 fn read_part(
     rules: rules::Rules,
     counts: &[u16],
     group: usize,
-    text: &[u8],
-    from: usize,
-    to: usize,
+    lines: &[u8],
     table: &mut [i64],
     cell: usize,
     end: usize,
 ) -> Answer
     requires kept { ⌜ rulingOf (now counts) ≡ Ruling.Kept ⌝ }
-    requires order { ⌜ from ≤ to ⌝ }
-    requires text { ⌜ to ≤ length (now text) ⌝ }
     requires cells { ⌜ cell ≤ end ⌝ }
     requires room { ⌜ end ≤ length (now table) ⌝ }
     ensures answer { λ r. ⌜ r ≡
-        readingOf (readGroup rules (now (counts .entry)) group (part from to (now (text .entry))) (end - cell)) ⌝ }
+        readingOf (readGroup rules (now (counts .entry)) group (now (lines .entry)) (end - cell)) ⌝ }
     ensures table { λ _. ⌜ now (table .exit) ≡
         over cell
-        (tableBy (readGroup rules (now (counts .entry)) group (part from to (now (text .entry))) (end - cell))
+        (tableBy (readGroup rules (now (counts .entry)) group (now (lines .entry)) (end - cell))
         (part cell end (now (table .entry)))) (now (table .entry)) ⌝ }
 {
-    reading::read_kept(rules, counts, group, &text[from..to], &mut table[cell..end])
+    reading::read_kept(rules, counts, group, lines, &mut table[cell..end])
 }
 
-// R326: groups 1 to 60 in turn, into consecutive parts of the table, up to the first that is refused.
+// R326: groups 1 to 60 in turn, into consecutive parts of the table, up to the first that is refused. Where each stands
+// the placed record says (R259); the place is for the contract alone.
 fn read_groups(
     rules: rules::Rules,
     text: &[u8],
     at: usize,
     counts: &[u16],
+    starts: &[usize],
+    ends: &[usize],
     table: &mut [i64],
 ) -> Groups
-    requires counts { ⌜ now counts ≡ countsAt rules (now text) at ⌝ }
+    requires carried { ⌜ carried (now counts) (now starts) (now ends) ≡ carriedAt rules (now text) at ⌝ }
     requires ready { ⌜ Ready rules (now text) at (length (now table)) ⌝ }
     ensures answer { λ r. ⌜ r ≡ groupsOf (allInTurn rules (now (text .entry)) at) ⌝ }
     ensures table { λ _. ⌜ now (table .exit) ≡ over 0 (cellsAt rules (now (text .entry)) at) (now (table .entry)) ⌝ }
 {
-    let mut from = line::behind_or_end(text, at, 2);
     let mut cell: usize = 0;
     let mut g: usize = 1;
     while g < 61 {
-        let f = form::form_in(g);
-        let n = count::count_of(counts, g);
-        let to = line::behind_or_end(text, from, form::lines(rules, f, n));
-        let end = cell + form::cells(rules, f, n);
-        let answer = read_part(rules, counts, g, text, from, to, table, cell, end);
+        let from = starts[g - 1];
+        let to = ends[g - 1];
+        let end = cell + form::cells(rules, form::form_in(g), count::count_of(counts, g));
+        let answer = read_part(rules, counts, g, &text[from..to], table, cell, end);
         match answer {
             Answer::Refused(r) => {
                 return Groups::GroupRefused(g, r);
             }
             Answer::Done(_) => {}
         }
-        from = to;
         cell = end;
         g += 1;
     }
@@ -110,40 +106,6 @@ fn write_cells(rules: rules::Rules, counts: &[u16], table: &[i64], cells: usize,
     writing::put_record(rules, counts, &table[0..cells], out);
 }
 
-// R321 to R324, for a record that is placed with 0.
-fn rewrite_placed(
-    rules: rules::Rules,
-    text: &[u8],
-    at: usize,
-    next: usize,
-    counts: &[u16],
-    table: &mut [i64],
-    out: &mut [u8],
-) -> Rewriting
-    requires placed { ⌜ placingOf rules (now text) at ≡ Placing.Placed next ⌝ }
-    requires counts { ⌜ now counts ≡ countsAt rules (now text) at ⌝ }
-    ensures answer { λ r. ⌜ r ≡
-        rewritingOf rules (now (text .entry)) at (length (now (table .entry))) (length (now (out .entry))) ⌝ }
-    ensures table { λ r. ⌜ now (table .exit) ≡ tableAfter rules (now (text .entry)) at r (now (table .entry)) ⌝ }
-    ensures output { λ r. ⌜ now (out .exit) ≡ bufferBy rules (now (text .entry)) at r (now (out .entry)) ⌝ }
-{
-    let bytes = writing::canonical_length(rules, counts);
-    if out.len() < bytes {
-        return Rewriting::Refused(Refusal::NoRoom);
-    }
-    let all = count::add_up(rules, counts, 61);
-    if table.len() < all.cells {
-        return Rewriting::Refused(Refusal::NoRoom);
-    }
-    match read_groups(rules, text, at, counts, table) {
-        Groups::GroupRefused(g, r) => Rewriting::GroupRefused(g, r),
-        Groups::All => {
-            write_cells(rules, counts, table, all.cells, out);
-            Rewriting::Done(bytes, next)
-        }
-    }
-}
-
 // Rewrites the record at a place of a text into an output, over a table. R321: what placing refuses with; 11 if output
 // or table is too short (R322); what the first group that is refused is refused with, and which group that is (R323);
 // else 0 with the bytes that were written and the next place. A refusal leaves the whole output as it was (R325).
@@ -161,12 +123,27 @@ pub fn rewrite_record(
 {
     let placed = place::place(rules, text, at);
     let answer = placed.answer;
-    match answer {
-        Placing::BrokenRule(g, _) => Rewriting::Refused(Refusal::BrokenRule(g)),
-        Placing::Refused(why) => Rewriting::Refused(why),
-        Placing::Placed(next) => {
-            let counts = placed.counts;
-            rewrite_placed(rules, text, at, next, &counts, table, out)
+    let next = match answer {
+        Placing::BrokenRule(g, _) => return Rewriting::Refused(Refusal::BrokenRule(g)),
+        Placing::Refused(why) => return Rewriting::Refused(why),
+        Placing::Placed(next) => next,
+    };
+    let counts = placed.counts;
+    let bytes = writing::canonical_length(rules, &counts);
+    if out.len() < bytes {
+        return Rewriting::Refused(Refusal::NoRoom);
+    }
+    let all = count::add_up(rules, &counts, 61);
+    if table.len() < all.cells {
+        return Rewriting::Refused(Refusal::NoRoom);
+    }
+    let starts = placed.starts;
+    let ends = placed.ends;
+    match read_groups(rules, text, at, &counts, &starts, &ends, table) {
+        Groups::GroupRefused(g, r) => Rewriting::GroupRefused(g, r),
+        Groups::All => {
+            write_cells(rules, &counts, table, all.cells, out);
+            Rewriting::Done(bytes, next)
         }
     }
 }

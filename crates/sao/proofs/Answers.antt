@@ -12,6 +12,9 @@ use Rattle.decimal.specs.Writing.{putBytes}
 use Rattle.place.specs.Due as PlacingIs
 use Rattle.group.specs.Due as GroupIs
 use Rattle.group.specs.Held.{moved, partStart, partAt}
+use Rattle.place.specs.Placing.{carried, carriedBy, carriedAt}
+use Rattle.view.specs.Due as RecordIs
+use Rattle.view.specs.With.{startWith, partWith, readWith}
 use Rattle.group.specs.Text.{readAt}
 use Rattle.reading.specs.Read.{Cells, readingOf, tableBy}
 use Rattle.writing.specs.Due as WritingIs
@@ -36,12 +39,27 @@ use Rattle.sao.proofs.read_group
 use Rattle.sao.proofs.group_lines_at
 use Rattle.sao.proofs.group_lines
 use Rattle.sao.proofs.characteristic
+use Rattle.sao.proofs.record_group
+use Rattle.sao.proofs.record_lines_at
+use Rattle.sao.proofs.record_lines
+use Rattle.sao.proofs.record_characteristic
 use Rattle.sao.proofs.write_record
 use Rattle.sao.proofs.list
 use Rattle.sao.proofs.rewrite_record
 
-pub place-due : Gives place.ended place.Reads.Learnt (λ κs a r v. PlacingIs.Due (a .0) (now (a .1 .0)) (a .1 .1 .0) (r .answer) × PlacingIs.CountsDue (a .0) (now (a .1 .0)) (a .1 .1 .0) (r .counts))
-place-due κs (ρ, (text, (at, _))) r v l = (as-due ρ .placing (now text) at (r .answer) .0 (sym (l .0)), as-due ρ .counts (now text) at (r .counts) .0 (sym (l .1)))
+pub place-due : Gives place.ended place.Reads.Learnt
+    (λ κs a r v. PlacingIs.Due (a .0) (now (a .1 .0)) (a .1 .1 .0) (r .answer) × PlacingIs.CountsDue (a .0) (now (a .1 .0)) (a .1 .1 .0) (r .counts) ×
+    PlacingIs.PlacesDue (a .0) (now (a .1 .0)) (a .1 .1 .0) (r .starts) (r .ends))
+place-due κs (ρ, (text, (at, _))) r v l =
+    let s = now text in (
+      as-due ρ .placing s at (r .answer) .0 (sym (l .0)),
+      as-due ρ .counts s at (r .counts) .0 (sym (l .1 .0)),
+      as-due ρ .places s at (r .starts) (r .ends) .0 (sym (l .1 .1 .0), sym (l .1 .1 .1)),
+    )
+
+-- R288: so the record that a caller has of it carries what is said of records that were placed
+pub place-carries : Gives place.ended place.Reads.Learnt (λ κs a r v. carriedBy r ≡ carriedAt (a .0) (now (a .1 .0)) (a .1 .1 .0))
+place-carries κs a r v l = λ i. carried (l .1 .0 i) (l .1 .1 .0 i) (l .1 .1 .1 i)
 
 -- the cells that are due, told and in the table
 pub read-group-due : Gives read_group.ended read_group.Reads.Learnt
@@ -70,6 +88,38 @@ group-lines-due κs (ρ, (text, (at, (g, _)))) r v l =
 
 pub characteristic-due : Gives characteristic.ended characteristic.Reads.Learnt (λ κs a r v. GroupIs.CharacteristicDue (a .0) (now (a .1 .0)) (a .1 .1 .0) (a .1 .1 .1 .0) r)
 characteristic-due κs (ρ, (text, (at, (k, _)))) r v l = as-due ρ .characteristic (now text) at k r .0 (sym l)
+
+-- ---- with a record
+
+pub record-group-due : Gives record_group.ended record_group.Reads.Learnt
+    (λ κs a r v. (c : Cells) × RecordIs.Due (a .0) (now (a .1 .0)) (carriedBy (a .1 .1 .0)) (a .1 .1 .1 .0) (length (now (a .1 .1 .1 .1 .0))) c × (r ≡ readingOf c) ×
+    (v .1 .1 .1 .1 .0 ≡ tableBy c (now (a .1 .1 .1 .1 .0))))
+record-group-due κs (ρ, (text, (lent, (g, (table, _))))) r v l =
+    let c = readWith ρ (now text) (carriedBy lent) g (length (now table)) in
+    (c, as-due ρ .record-reading (now text) (carriedBy lent) g (length (now table)) c .0 refl, l .0, l .1)
+
+pub record-lines-at-due : Gives record_lines_at.ended record_lines_at.Reads.Learnt
+    (λ κs a r v. RecordIs.LinesDue (a .0) (now (a .1 .0)) (carriedBy (a .1 .1 .0)) (a .1 .1 .1 .0) (r .found) ×
+    ((x : List ℕ) × RecordIs.PartWithDue (a .0) (now (a .1 .0)) (carriedBy (a .1 .1 .0)) (a .1 .1 .1 .0) (r .from) x × (r .to ≡ r .from + length x)))
+record-lines-at-due κs (ρ, (text, (lent, (g, _)))) r v l =
+    let s = now text in
+    let c = carriedBy lent in
+    let x = partWith ρ s c g in (
+      as-due ρ .record-lines s c g (r .found) .0 (sym (l .0)),
+      (x, as-due ρ .record-part s c g (r .from) x .0 (sym (l .1 .0), refl), l .1 .1 ∙ as-due ρ .record-part-end s c g ∙ ap (λ n. n + length x) (sym (l .1 .0))),
+    )
+
+pub record-lines-due : Gives record_lines.ended record_lines.Reads.Learnt
+    (λ κs a r v. (from : ℕ) × RecordIs.PartWithDue (a .0) (now (a .1 .0)) (carriedBy (a .1 .1 .0)) (a .1 .1 .1 .0) from (now r) × (r .ptr ≡ moved (a .1 .0 .ptr) from))
+record-lines-due κs (ρ, (text, (lent, (g, _)))) r v l =
+    let s = now text in
+    (startWith ρ s (carriedBy lent) g, as-due ρ .record-part s (carriedBy lent) g (startWith ρ s (carriedBy lent) g) (now r) .0 (refl, sym (l .0)), l .1)
+
+pub record-characteristic-due : Gives record_characteristic.ended record_characteristic.Reads.Learnt
+    (λ κs a r v. RecordIs.ToldWithDue (a .0) (now (a .1 .0)) (carriedBy (a .1 .1 .0)) (a .1 .1 .1 .0) r)
+record-characteristic-due κs (ρ, (text, (lent, (k, _)))) r v l = as-due ρ .record-characteristic (now text) (carriedBy lent) k r .0 (sym l)
+
+-- ---- writing, listing, rewriting
 
 pub write-record-due : Gives write_record.ended write_record.Reads.Learnt
     (λ κs a r v. WritingIs.Due (a .0) (now (a .1 .0)) (now (a .1 .1 .0)) (length (now (a .1 .1 .1 .0))) r ×

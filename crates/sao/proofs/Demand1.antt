@@ -18,6 +18,9 @@ use Rattle.reading.specs.Read.{Cells, readingOf, tableBy}
 use Rattle.reading.proofs.Promises.{refused-read-keeps, done-read-keeps-rest}
 use Rattle.group.specs.Text.{readAt}
 use Rattle.group.proofs.Numbered.{reading-numbered, found-numbered, characteristic-numbered}
+use Rattle.view.specs.With.{readWith}
+use Rattle.view.proofs.Numbered as WithRecord
+use Rattle.view.proofs.Numbered.{group-numbered, lines-numbered}
 use Rattle.listing.specs.Listing.{listing, listedIn}
 use Rattle.listing.proofs.Replies.{listed-numbered, listed-keeps, listed-rest}
 use Rattle.writing.specs.Writing.{writingOf, outputBy}
@@ -43,6 +46,9 @@ ends-numbered ρ =
       reading = reading-numbered ρ;
       lines = found-numbered ρ;
       characteristic = characteristic-numbered ρ;
+      record-reading = λ s r g room. group-numbered ρ s r g room;
+      record-lines = λ s r g. lines-numbered ρ s r g;
+      record-characteristic = λ s r k. WithRecord.characteristic-numbered ρ s r k;
       writing = writing-numbered ρ;
       listed = listed-numbered ρ;
       rewriting = rewriting-numbered ρ;
@@ -114,6 +120,7 @@ keeps-rest : (ρ : Rules) → KeepsRest ρ
 keeps-rest ρ =
     record {
       reading = λ s at g table. read-rest (readAt ρ s at g (length table)) table;
+      record-reading = λ s r g table. read-rest (readWith ρ s r g (length table)) table;
       writing = λ ns cs out. write-rest ρ ns cs out (writingOf ρ ns cs (length out)) refl;
       listed = λ s out. list-rest ρ s out (listedIn (listing ρ s) (length out)) refl;
       rewriting = λ s at cells out. rewrite-rest ρ s at cells out (rewritingOf ρ s at cells (length out)) refl;
@@ -123,7 +130,10 @@ pub demand-1 : (ρ : Rules) → Demand1 ρ
 demand-1 ρ =
     record {
       numbered = ends-numbered ρ;
-      refused-read = λ s at g table. refused-read-keeps (readAt ρ s at g (length table)) table;
+      refused-read = record {
+        reading = λ s at g table. refused-read-keeps (readAt ρ s at g (length table)) table;
+        record-reading = λ s r g table. refused-read-keeps (readWith ρ s r g (length table)) table;
+      };
       refused-write = write-keeps ρ;
       refused-edit = edit-keeps ρ;
       rest = keeps-rest ρ;

@@ -13,6 +13,8 @@ use Rattle.place.proofs.Stopped.{walks}
 use Rattle.reading.proofs.Promises.{done-read-holds}
 use Rattle.group.proofs.Due as GroupDue
 use Rattle.group.proofs.Holding.{span-end}
+use Rattle.view.proofs.Due as RecordDue
+use Rattle.view.proofs.Placed.{placed-answers}
 use Rattle.reply.specs.declared.Answer.the-variants.{Done}
 use Rattle.writing.specs.Canonical.{CanonicalRecord}
 use Rattle.writing.specs.RoundTrip.{ReadsBack}
@@ -44,12 +46,18 @@ as-due ρ =
     record {
       placing = λ s at. PlacingDue.first-due ρ s at;
       counts = λ s at. PlacingDue.counts-first-due ρ s at;
+      places = λ s at. PlacingDue.places-first-due ρ s at;
       walk = walks ρ;
       reading = λ s at g room. GroupDue.first-due ρ s at g room;
       lines = λ s at g. GroupDue.found-first-due ρ s at g;
       part = λ s at g. GroupDue.part-first-due ρ s at g;
       part-end = span-end ρ;
       characteristic = λ s at k. GroupDue.characteristic-first-due ρ s at k;
+      record-reading = λ s r g room. RecordDue.first-due ρ s r g room;
+      record-lines = λ s r g. RecordDue.found-first-due ρ s r g;
+      record-part = λ s r g. RecordDue.part-first-due ρ s r g;
+      record-part-end = RecordDue.part-length ρ;
+      record-characteristic = λ s r k. RecordDue.characteristic-first-due ρ s r k;
       writing = λ ns cs room. WritingDue.first-due ρ ns cs room;
       rewriting = λ s at cells room. RewritingDue.first-due ρ s at cells room;
       listed = λ s room. Listed.first-due (listing ρ s) room;
@@ -79,6 +87,7 @@ lent-holds : (ρ : Rules) → LentHolds ρ
 lent-holds ρ =
     record {
       reading = λ s at g table cs e. rw e (done-read-holds cs table);
+      record-reading = λ s r g table cs e. rw e (done-read-holds cs table);
       writing = λ ns cs out n e. rw e (done-write-begins ρ ns cs out n e);
       listed = λ s out n e. Listed.listed-begins (listing ρ s) out n e;
       rewriting = λ s at cells out bytes next e. rw e (rewrites ρ s at cells out bytes next e);
@@ -117,6 +126,7 @@ demand-2 ρ =
     record {
       due = as-due ρ;
       lent = lent-holds ρ;
+      records = record { exactly = RecordDue.bad-part-exactly ρ; decide = λ s r g f e d room. RecordDue.lines-decide ρ s r g room f e d; placed = placed-answers ρ };
       canonical = one-canonical ρ;
       reads-back = reads-back-ended ρ;
       edits = edits ρ;

@@ -28,7 +28,7 @@ strict-stays-so ρ =
     record {
       content = strict-content σ ρ refl;
       placing = λ s at p. strict-placing σ ρ refl refl s at p .0;
-      counts = λ s at p. strict-placing σ ρ refl refl s at p .1;
+      carried = λ s at p. strict-placing σ ρ refl refl s at p .1;
       found = λ s at p. located-found ρ σ refl s at (strict-same σ ρ refl refl s at p);
       begins = λ s at p. located-begins ρ σ refl s at (strict-same σ ρ refl refl s at p);
       lines = λ s at p. located-lines ρ σ refl s at (strict-same σ ρ refl refl s at p);

@@ -1,4 +1,4 @@
--- R200 to R217 in figures (specs/Numbers.antt), by computation.
+-- R200 to R217 and R222 in figures (specs/Numbers.antt), by computation.
 -- Assumes nothing.
 use mathlib.Core.Path.{refl}
 use Rattle.sao.specs.Numbers.{AnswersTold}
@@ -24,6 +24,7 @@ answers-told =
         not-open = refl;
         all-open = refl;
         bad-entry = λ p. refl;
+        bad-part = refl;
       };
       placing = record { placed = λ n. refl; broken-rule = λ g n. refl; refused = λ r. refl };
       group = record {

@@ -19,6 +19,10 @@ use Rattle.sao.proofs.read_group
 use Rattle.sao.proofs.group_lines_at
 use Rattle.sao.proofs.group_lines
 use Rattle.sao.proofs.characteristic
+use Rattle.sao.proofs.record_group
+use Rattle.sao.proofs.record_lines_at
+use Rattle.sao.proofs.record_lines
+use Rattle.sao.proofs.record_characteristic
 use Rattle.sao.proofs.write_record
 use Rattle.sao.proofs.list
 use Rattle.sao.proofs.rewrite_record
@@ -26,8 +30,10 @@ use Rattle.sao.proofs.rewrite_record
 pub place-one : OneOutcome place.ended place.Reads.Learnt
 place-one κs a r q v w l k =
     let answer = l .0 ∙ sym (k .0) in
-    let counts = l .1 ∙ sym (k .1) in
-    (λ i. record { answer = answer i; counts = counts i }, λ i. (tt, (tt, (tt, tt))))
+    let counts = l .1 .0 ∙ sym (k .1 .0) in
+    let starts = l .1 .1 .0 ∙ sym (k .1 .1 .0) in
+    let ends = l .1 .1 .1 ∙ sym (k .1 .1 .1) in
+    (λ i. record { answer = answer i; counts = counts i; starts = starts i; ends = ends i }, λ i. (tt, (tt, (tt, tt))))
 
 pub read-group-one : OneOutcome read_group.ended read_group.Reads.Learnt
 read-group-one κs a r q v w l k =
@@ -47,6 +53,28 @@ group-lines-one κs a r q v w l k = ((l .0 ∙ sym (k .0), l .1 ∙ sym (k .1)),
 
 pub characteristic-one : OneOutcome characteristic.ended characteristic.Reads.Learnt
 characteristic-one κs a r q v w l k = (l ∙ sym k, λ i. (tt, (tt, (tt, (tt, tt)))))
+
+-- ---- with a record
+
+pub record-group-one : OneOutcome record_group.ended record_group.Reads.Learnt
+record-group-one κs a r q v w l k =
+    let table = l .1 ∙ sym (k .1) in
+    (l .0 ∙ sym (k .0), λ i. (tt, (tt, (tt, (tt, (table i, tt))))))
+
+pub record-lines-at-one : OneOutcome record_lines_at.ended record_lines_at.Reads.Learnt
+record-lines-at-one κs a r q v w l k =
+    let found = l .0 ∙ sym (k .0) in
+    let from = l .1 .0 ∙ sym (k .1 .0) in
+    let to = l .1 .1 ∙ sym (k .1 .1) in
+    (λ i. record { found = found i; from = from i; to = to i }, λ i. (tt, (tt, (tt, (tt, tt)))))
+
+pub record-lines-one : OneUpTo record_lines.ended (λ κs r q. (now r ≡ now q) × (r .ptr ≡ q .ptr)) record_lines.Reads.Learnt
+record-lines-one κs a r q v w l k = ((l .0 ∙ sym (k .0), l .1 ∙ sym (k .1)), λ i. (tt, (tt, (tt, (tt, tt)))))
+
+pub record-characteristic-one : OneOutcome record_characteristic.ended record_characteristic.Reads.Learnt
+record-characteristic-one κs a r q v w l k = (l ∙ sym k, λ i. (tt, (tt, (tt, (tt, tt)))))
+
+-- ---- writing, listing, rewriting
 
 pub write-record-one : OneOutcome write_record.ended write_record.Reads.Learnt
 write-record-one κs (ρ, (counts, (cells, (out, _)))) r q v w l k =

@@ -1,7 +1,7 @@
 -- The first demand, D1: a question always has an answer.
--- D1.1: each question takes whatever text, place, number and table there is. D1.2: it ends, and gives one of the replies R200 to R217. D1.3: so
--- nothing needs to be tested before asking. D1.4: a refused read leaves each cell of the lent table as it was. D1.5: a refused write leaves each
--- byte of the output as it was.
+-- D1.1: each question takes whatever text, place, number and table there is. D1.2: it ends, and gives one of the replies R200 to R217 and R222.
+-- D1.3: so nothing needs to be tested before asking. D1.4: a refused read leaves each cell of the lent table as it was. D1.5: a refused write
+-- leaves each byte of the output as it was.
 --
 -- D1.1, D1.3 and that a question ends are what the gate proves of each function, none of which has a `requires`. s is a text, out an output; a
 -- reply is refused where its number is not 0.
@@ -14,7 +14,7 @@ use Rattle.rules.specs.declared.Rules.{Rules}
 use Rattle.reply.specs.declared.Reply.{Reply}
 use Rattle.reply.specs.Table.{Numbered}
 use Rattle.decimal.specs.Writing.{putBytes}
-use Rattle.place.specs.Placing.{placingOf}
+use Rattle.place.specs.Placing.{placingOf, Carried}
 use Rattle.place.specs.Numbered.{placingReply, placingRows}
 use Rattle.reading.specs.Read.{readingOf, tableBy}
 use Rattle.reading.specs.Numbered.{readingRows}
@@ -24,6 +24,8 @@ use Rattle.group.specs.Text.{readAt}
 use Rattle.group.specs.Held.{foundAt}
 use Rattle.group.specs.Numbered.{foundRows, characteristicReply, characteristicRows}
 use Rattle.group.specs.Characteristics.{characteristicAt}
+use Rattle.view.specs.Numbered.{linesRows, groupRows, toldRows}
+use Rattle.view.specs.With.{foundWith, readWith, characteristicWith}
 use Rattle.listing.specs.Listing.{listing, listedIn}
 use Rattle.listing.specs.Numbered.{listingRows}
 use Rattle.writing.specs.Writing.{writingOf, outputBy}
@@ -50,6 +52,10 @@ module _ (ρ : Rules) where
     pub reading : (s : List ℕ) (at g room : ℕ) → Numbered readingRows (answerReply (readingOf (readAt ρ s at g room)))
     pub lines : (s : List ℕ) (at g : ℕ) → Numbered foundRows (checkedReply (foundAt ρ s at g))
     pub characteristic : (s : List ℕ) (at k : ℕ) → Numbered characteristicRows (characteristicReply (characteristicAt ρ s at k))
+    -- R285, R297: the same questions with a record r, whichever it is
+    pub record-reading : (s : List ℕ) (r : Carried) (g room : ℕ) → Numbered groupRows (answerReply (readingOf (readWith ρ s r g room)))
+    pub record-lines : (s : List ℕ) (r : Carried) (g : ℕ) → Numbered linesRows (checkedReply (foundWith ρ s r g))
+    pub record-characteristic : (s : List ℕ) (r : Carried) (k : ℕ) → Numbered toldRows (characteristicReply (characteristicWith ρ s r k))
     pub writing : (ns : List ℕ) (cs : List ℤ) (room : ℕ) → Numbered writingRows (answerReply (writingOf ρ ns cs room))
     pub listed : (s : List ℕ) (room : ℕ) → Numbered listingRows (answerReply (listedIn (listing ρ s) room))
     pub rewriting : (s : List ℕ) (at cells room : ℕ) → Numbered rewritingRows (rewritingReply (rewritingOf ρ s at cells room))
@@ -59,10 +65,11 @@ module _ (ρ : Rules) where
     -- R323: the group that rewriting tells apart from the reply is one of 1 to 60
     pub unread : (s : List ℕ) (at cells room g : ℕ) (r : Refusal) → rewritingOf ρ s at cells room ≡ GroupRefused g r → (1 ≤ g) × (g ≤ 60)
 
-  -- D1.4: after a refused read the table is what it was (R267)
-  abbrev pub RefusedReadKeeps : Type 0
-  RefusedReadKeeps =
-      (s : List ℕ) (at g : ℕ) (table : List ℤ) → NotDone (answerReply (readingOf (readAt ρ s at g (length table)))) → tableBy (readAt ρ s at g (length table)) table ≡ table
+  -- D1.4: after a refused read the table is what it was (R267), by place or with a record
+  pub record RefusedReadKeeps : Type 0 where
+    pub reading : (s : List ℕ) (at g : ℕ) (table : List ℤ) → NotDone (answerReply (readingOf (readAt ρ s at g (length table)))) → tableBy (readAt ρ s at g (length table)) table ≡ table
+    pub record-reading : (s : List ℕ) (r : Carried) (g : ℕ) (table : List ℤ) → NotDone (answerReply (readingOf (readWith ρ s r g (length table))))
+        → tableBy (readWith ρ s r g (length table)) table ≡ table
 
   -- D1.5: after a refused write the output is what it was: writing a record (R307), listing a text (R311), rewriting a record (R325)
   pub record RefusedWriteKeeps : Type 0 where
@@ -91,6 +98,9 @@ module _ (ρ : Rules) where
     pub reading : (s : List ℕ) (at g : ℕ) (table : List ℤ)
         → drop (answerReply (readingOf (readAt ρ s at g (length table))) .written) (tableBy (readAt ρ s at g (length table)) table)
         ≡ drop (answerReply (readingOf (readAt ρ s at g (length table))) .written) table
+    pub record-reading : (s : List ℕ) (r : Carried) (g : ℕ) (table : List ℤ)
+        → drop (answerReply (readingOf (readWith ρ s r g (length table))) .written) (tableBy (readWith ρ s r g (length table)) table)
+        ≡ drop (answerReply (readingOf (readWith ρ s r g (length table))) .written) table
     pub writing : (ns : List ℕ) (cs : List ℤ) (out : List ℕ)
         → drop (answerReply (writingOf ρ ns cs (length out)) .written) (outputBy ρ ns cs (writingOf ρ ns cs (length out)) out)
         ≡ drop (answerReply (writingOf ρ ns cs (length out)) .written) out

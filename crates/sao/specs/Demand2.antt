@@ -20,7 +20,7 @@ use Rattle.reply.specs.declared.Checked.{Checked}
 use Rattle.reply.specs.declared.Answer.{Answer}
 use Rattle.reply.specs.declared.Answer.the-variants.{Done}
 use Rattle.place.specs.declared.Placing.{Placing}
-use Rattle.place.specs.Placing.{placingOf, countsAt}
+use Rattle.place.specs.Placing.{placingOf, countsAt, startsAt, endsAt, Carried}
 use Rattle.place.specs.Walk.{Walks}
 use Rattle.place.specs.Due as PlacingIs
 use Rattle.reading.specs.Read.{Cells, tableBy}
@@ -29,6 +29,9 @@ use Rattle.group.specs.Text.{readAt}
 use Rattle.group.specs.Held.{foundAt, partStart, partEnd, partAt}
 use Rattle.group.specs.Characteristics.{characteristicAt}
 use Rattle.group.specs.Due as GroupIs
+use Rattle.view.specs.With.{foundWith, startWith, endWith, partWith, readWith, characteristicWith}
+use Rattle.view.specs.Due as RecordIs
+use Rattle.view.specs.Placed.{BadPartExactly, LinesDecide, PlacedAnswers}
 use Rattle.writing.specs.Canonical.{CanonicalRecord}
 use Rattle.writing.specs.RoundTrip.{ReadsBack, ReadWhole, joined}
 use Rattle.writing.specs.Text.{recordText}
@@ -63,6 +66,7 @@ module _ (ρ : Rules) where
   pub record GivenAsDue : Type 0 where
     pub placing : (s : List ℕ) (at : ℕ) (p : Placing) → placingOf ρ s at ≡ p ↔ PlacingIs.Due ρ s at p
     pub counts : (s : List ℕ) (at : ℕ) (ns : List ℕ) → countsAt ρ s at ≡ ns ↔ PlacingIs.CountsDue ρ s at ns
+    pub places : (s : List ℕ) (at : ℕ) (starts ends : List ℕ) → ((startsAt ρ s at ≡ starts) × (endsAt ρ s at ≡ ends)) ↔ PlacingIs.PlacesDue ρ s at starts ends
     -- the records one after another, by what placing gives
     pub walk : (s : List ℕ) → Walks ρ s
     pub reading : (s : List ℕ) (at g room : ℕ) (c : Cells) → readAt ρ s at g room ≡ c ↔ GroupIs.Due ρ s at g room c
@@ -71,6 +75,12 @@ module _ (ρ : Rules) where
     pub part : (s : List ℕ) (at g from : ℕ) (x : List ℕ) → ((partStart ρ s at g ≡ from) × (partAt ρ s at g ≡ x)) ↔ GroupIs.PartDue ρ s at g from x
     pub part-end : (s : List ℕ) (at g : ℕ) → partEnd ρ s at g ≡ partStart ρ s at g + length (partAt ρ s at g)
     pub characteristic : (s : List ℕ) (at k : ℕ) (c : Characteristic) → characteristicAt ρ s at k ≡ c ↔ GroupIs.CharacteristicDue ρ s at k c
+    -- R285, R297: with a record r, whichever it is
+    pub record-reading : (s : List ℕ) (r : Carried) (g room : ℕ) (c : Cells) → readWith ρ s r g room ≡ c ↔ RecordIs.Due ρ s r g room c
+    pub record-lines : (s : List ℕ) (r : Carried) (g : ℕ) (a : Checked) → foundWith ρ s r g ≡ a ↔ RecordIs.LinesDue ρ s r g a
+    pub record-part : (s : List ℕ) (r : Carried) (g from : ℕ) (x : List ℕ) → ((startWith ρ s r g ≡ from) × (partWith ρ s r g ≡ x)) ↔ RecordIs.PartWithDue ρ s r g from x
+    pub record-part-end : (s : List ℕ) (r : Carried) (g : ℕ) → endWith ρ s r g ≡ startWith ρ s r g + length (partWith ρ s r g)
+    pub record-characteristic : (s : List ℕ) (r : Carried) (k : ℕ) (c : Characteristic) → characteristicWith ρ s r k ≡ c ↔ RecordIs.ToldWithDue ρ s r k c
     pub writing : (ns : List ℕ) (cs : List ℤ) (room : ℕ) (r : Answer) → writingOf ρ ns cs room ≡ r ↔ WritingIs.Due ρ ns cs room r
     pub rewriting : (s : List ℕ) (at cells room : ℕ) (r : Rewriting) → rewritingOf ρ s at cells room ≡ r ↔ RewritingIs.Due ρ s at cells room r
     pub listed : (s : List ℕ) (room : ℕ) (r : Answer) → listedIn (listing ρ s) room ≡ r ↔ ListingDue (listing ρ s) room r
@@ -96,6 +106,7 @@ module _ (ρ : Rules) where
   -- bytes the text
   pub record LentHolds : Type 0 where
     pub reading : (s : List ℕ) (at g : ℕ) (table cs : List ℤ) → readAt ρ s at g (length table) ≡ done cs → take (length cs) (tableBy (readAt ρ s at g (length table)) table) ≡ cs
+    pub record-reading : (s : List ℕ) (r : Carried) (g : ℕ) (table cs : List ℤ) → readWith ρ s r g (length table) ≡ done cs → take (length cs) (tableBy (readWith ρ s r g (length table)) table) ≡ cs
     pub writing : (ns : List ℕ) (cs : List ℤ) (out : List ℕ) (n : ℕ) → writingOf ρ ns cs (length out) ≡ Done n → take n (outputBy ρ ns cs (writingOf ρ ns cs (length out)) out) ≡ recordText ρ ns cs
     pub listed : (s out : List ℕ) (n : ℕ) → listedIn (listing ρ s) (length out) ≡ Done n → take n (putBytes 0 (listing ρ s) out) ≡ listing ρ s
     pub rewriting : (s : List ℕ) (at cells : ℕ) (out : List ℕ) (bytes next : ℕ) → rewritingOf ρ s at cells (length out) ≡ Rewritten bytes next
@@ -103,6 +114,15 @@ module _ (ρ : Rules) where
     -- R326: rewriting's table begins with the cells of the groups that were read, also where a later group was refused, and is as it was behind them
     pub rewriting-table : (s : List ℕ) (at room : ℕ) (table : List ℤ)
         → TableHas ρ s at (groupsRead (rewritingOf ρ s at (length table) room)) table (tableAfter ρ s at (rewritingOf ρ s at (length table) room) table)
+
+  -- R286 to R288: what a record's part decides
+  pub record RecordAnswers : Type 0 where
+    -- 22 exactly if the part does not hold
+    pub exactly : (s : List ℕ) (r : Carried) → BadPartExactly ρ s r
+    -- D2.1: if it holds, its lines and the counts decide
+    pub decide : (s : List ℕ) (r : Carried) → LinesDecide ρ s r
+    -- a record that was placed in the text at hand, under the same rules: as asking by its place, and 22 never comes
+    pub placed : PlacedAnswers ρ
 
   -- D2.3: n bytes, canonical with these counts and cells, and no other text is (R100)
   pub record OneCanonical (ns : List ℕ) (cs : List ℤ) (n : ℕ) : Type 0 where
@@ -161,6 +181,7 @@ module _ (ρ : Rules) where
   pub record Demand2 : Type 0 where
     pub due : GivenAsDue
     pub lent : LentHolds
+    pub records : RecordAnswers
     pub canonical : WritesCanonical
     pub reads-back : WrittenReadsBack
     pub read-writes : ReadWrites

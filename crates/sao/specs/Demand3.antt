@@ -5,16 +5,23 @@
 -- refused as D2 says, and nothing but its lines, the counts of its record and the table's length decides this (R269). D3.7: what else follows.
 -- R270: the same holds where the lines of several groups, of one record or of more, are touched together; the single group is one such set.
 --
--- group's specs/Damage.antt has it sentence by sentence: Damaged is D3.1 and D3.2, Confined is D3.3 to D3.7.
+-- group's specs/Damage.antt has it sentence by sentence: Damaged is D3.1 and D3.2, Confined is D3.3 to D3.7; view's specs/Placed.antt says it of
+-- questions with a record (R288).
 use mathlib.Core.List.{List}
 use Prim.Native.Nat.{ℕ}
 use Rattle.rules.specs.declared.Rules.{Rules}
 use Rattle.group.specs.Damage.{OneGroup, Damaged, Confined}
+use Rattle.view.specs.Placed.{DamageKept}
+
+-- what is asked by place in u, and what is asked in u with a record that was placed in t
+pub record DamageLeaves (ρ : Rules) (t u : List ℕ) (among : ℕ → ℕ → Type 0) : Type 0 where
+  pub confined : Confined ρ t u among
+  pub records : DamageKept ρ t u among
 
 -- R270: t is a text, u the same with bytes of these groups exchanged; `among k g` says that group g of record k is one of them
 abbrev pub AnyDamage : Rules → Type 1
-AnyDamage ρ = (t u : List ℕ) (among : ℕ → ℕ → Type 0) → Damaged ρ t u among → Confined ρ t u among
+AnyDamage ρ = (t u : List ℕ) (among : ℕ → ℕ → Type 0) → Damaged ρ t u among → DamageLeaves ρ t u among
 
 -- D3: group g of record k alone
 abbrev pub Demand3 : Rules → Type 0
-Demand3 ρ = (t u : List ℕ) (k g : ℕ) → Damaged ρ t u (OneGroup k g) → Confined ρ t u (OneGroup k g)
+Demand3 ρ = (t u : List ℕ) (k g : ℕ) → Damaged ρ t u (OneGroup k g) → DamageLeaves ρ t u (OneGroup k g)

@@ -21,7 +21,7 @@ use Rattle.line.specs.Lines.{Whole, Plain}
 use Rattle.line.specs.declared.Content.the-variants.{Length, NoReturn}
 use Rattle.place.specs.Alike.{SamePlacing}
 use Rattle.place.specs.Index.{misformed, readIndexLine}
-use Rattle.place.specs.Placing.{placingOf, countsAt}
+use Rattle.place.specs.Placing.{placingOf, countsAt, carriedAt}
 use Rattle.place.specs.Walk.{PlacedAt, spot, Stops}
 use Rattle.reading.specs.Plan.{Line}
 use Rattle.reading.specs.Read.{readLine}
@@ -69,9 +69,9 @@ pub record UnderEither (ρ : Rules) : Type 0 where
 -- R9, R12: σ is strict, and as ρ in all else: what is right under σ is the same under ρ; so only refusals of σ can move
 pub record StrictStays (σ ρ : Rules) : Type 0 where
   pub content : (x : List ℕ) (n : ℕ) → contentOf σ x ≡ Length n → contentOf ρ x ≡ Length n
-  -- replies 0 and 7 with their numbers, and the counts beside them
+  -- replies 0 and 7 with their numbers, and what the record carries
   pub placing : (s : List ℕ) (at : ℕ) → PlacedAt σ s at → placingOf ρ s at ≡ placingOf σ s at
-  pub counts : (s : List ℕ) (at : ℕ) → PlacedAt σ s at → countsAt ρ s at ≡ countsAt σ s at
+  pub carried : (s : List ℕ) (at : ℕ) → PlacedAt σ s at → carriedAt ρ s at ≡ carriedAt σ s at
   -- there, whether a group's lines can be given, where they begin, and they themselves
   pub found : (s : List ℕ) (at : ℕ) → PlacedAt σ s at → (g : ℕ) → foundAt ρ s at g ≡ foundAt σ s at g
   pub begins : (s : List ℕ) (at : ℕ) → PlacedAt σ s at → (g : ℕ) → partStart ρ s at g ≡ partStart σ s at g

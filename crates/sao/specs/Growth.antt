@@ -5,7 +5,9 @@ use mathlib.Core.List.{List}
 use Prim.Native.Nat.{ℕ}
 use Rattle.rules.specs.declared.Rules.{Rules}
 use Rattle.place.specs.Growth.{GrowthKeeps}
+use Rattle.place.specs.Walk.{PlacedAt}
 use Rattle.group.specs.Growth.{GroupsStay}
+use Rattle.view.specs.Placed.{GrowthKept}
 use Rattle.rewriting.specs.Growth.{RewritingStays}
 
 pub record Growth (ρ : Rules) : Type 0 where
@@ -13,5 +15,7 @@ pub record Growth (ρ : Rules) : Type 0 where
   pub placing : (s b : List ℕ) → GrowthKeeps ρ s b
   -- groups, their parts and characteristics, wherever placing's answer stays
   pub groups : (s b : List ℕ) → GroupsStay ρ s b
+  -- a record that was placed serves as before
+  pub records : (s b : List ℕ) (at : ℕ) → PlacedAt ρ s at → GrowthKept ρ s b at
   -- and rewriting, there: its answer, and what it leaves in the output and in the table
   pub rewriting : (s b : List ℕ) → RewritingStays ρ s b

@@ -1,5 +1,5 @@
--- R200 to R217 in figures: what number each answer has, and which numbers stand beside it. The Dues of the second demand say when an answer is
--- given; here stands what is told.
+-- R200 to R217 and R222 in figures: what number each answer has, and which numbers stand beside it. The Dues of the second demand say when an
+-- answer is given; here stands what is told.
 use mathlib.Core.Path.{_≡_}
 use mathlib.Core.List.{List}
 use Prim.Native.Nat.{ℕ}
@@ -8,7 +8,7 @@ use lib.ListN.{length}
 use Rattle.base.specs.Pieces.{done, bad}
 use Rattle.reply.specs.declared.Refusal.{Refusal}
 use Rattle.reply.specs.declared.Refusal.the-variants.{End, Beyond, TooFewLines, Misformed, OtherRelease, FilledVacant, BrokenRule, BadLine, BadField, BadDate}
-use Rattle.reply.specs.declared.Refusal.the-variants.{NoRoom, NoSuchNumber, NoField, OtherLength, NotOpen, AllOpen, BadEntry}
+use Rattle.reply.specs.declared.Refusal.the-variants.{NoRoom, NoSuchNumber, NoField, OtherLength, NotOpen, AllOpen, BadEntry, BadPart}
 use Rattle.reply.specs.declared.Checked.the-variants as C
 use Rattle.reply.specs.declared.Answer.the-variants as A
 use Rattle.reply.specs.declared.Reply.{Reply}
@@ -56,6 +56,7 @@ pub record RefusalTold : Type 0 where
   pub not-open : refusalReply NotOpen ≡ figures 15 0 0 0 0 0 0 0 0
   pub all-open : refusalReply AllOpen ≡ figures 16 0 0 0 0 0 0 0 0
   pub bad-entry : (p : ℕ) → refusalReply (BadEntry p) ≡ figures 17 0 0 0 0 0 0 0 p
+  pub bad-part : refusalReply BadPart ≡ figures 22 0 0 0 0 0 0 0 0
 
 -- R235: placing's 7 has a next place
 pub record PlacingTold : Type 0 where

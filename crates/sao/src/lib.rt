@@ -1,6 +1,6 @@
 // The questions, R240. Each may be asked of every text, place, number, table and output; nothing has to hold beforehand
 // (R241). The layers answer them; here each has its name, its contract and nothing else. `reply`, and the layers'
-// `reply_of` for answers of their own, give an answer's number, with the numbers beside it (R200 to R214).
+// `reply_of` for answers of their own, give an answer's number, with the numbers beside it (R200 to R217 and R222).
 use group::Characteristic;
 use group::Lines;
 use journal::Edited;
@@ -11,11 +11,12 @@ use rewriting::Rewriting;
 ghost use mathlib.Core.Path.{_≡_};
 ghost use lib.ListN.{length};
 ghost use Rattle.decimal.specs.Writing.{putBytes};
-ghost use Rattle.place.specs.Placing.{placingOf, countsAt};
+ghost use Rattle.place.specs.Placing.{placingOf, countsAt, startsAt, endsAt, carriedBy};
 ghost use Rattle.reading.specs.Read.{readingOf, tableBy};
 ghost use Rattle.group.specs.Text.{readAt};
 ghost use Rattle.group.specs.Held.{foundAt, partStart, partEnd, partAt, moved};
 ghost use Rattle.group.specs.Characteristics.{characteristicAt};
+ghost use Rattle.view.specs.With.{foundWith, startWith, endWith, partWith, readWith, characteristicWith};
 ghost use Rattle.writing.specs.Writing.{writingOf, outputBy};
 ghost use Rattle.rewriting.specs.Record.{rewritingOf, tableAfter, bufferBy};
 ghost use Rattle.journal.specs.Model.{Sets, Opens, Releases, Undoes};
@@ -23,12 +24,14 @@ ghost use Rattle.journal.specs.Calls.{answerOf, usedBy, cellsAfter, journalBy};
 ghost use Rattle.journal.specs.Plays.{replayOf, replayedOpen, replayedCells};
 ghost use Rattle.listing.specs.Listing.{listing, listedIn};
 
-// R250 to R253. Asked: which record stands at a place of a text.
-// Answered: the placing, with the next place under 0 and 7, and the record's 80 counts.
-// A refusal but 7 has next place 0 and 80 zero counts.
+// R250 to R253, R259. Asked: which record stands at a place of a text.
+// Answered: the placing, with the next place under 0 and 7, the record's 80 counts, and where the lines of each of its
+// 60 groups begin and end. A refusal but 7 has next place 0, 80 zero counts and 60 zeros for either place.
 pub fn place(rules: rules::Rules, text: &[u8], at: usize) -> Record
     ensures answer { λ r. ⌜ r .answer ≡ placingOf rules (now (text .entry)) at ⌝ }
     ensures counts { λ r. ⌜ r .counts ≡ countsAt rules (now (text .entry)) at ⌝ }
+    ensures starts { λ r. ⌜ r .starts ≡ startsAt rules (now (text .entry)) at ⌝ }
+    ensures ends { λ r. ⌜ r .ends ≡ endsAt rules (now (text .entry)) at ⌝ }
 {
     place::place(rules, text, at)
 }
@@ -78,6 +81,64 @@ pub fn characteristic(rules: rules::Rules, text: &[u8], at: usize, number: usize
     ensures { λ r. ⌜ r ≡ characteristicAt rules (now (text .entry)) at number ⌝ }
 {
     group::characteristic_at(rules, text, at, number)
+}
+
+// ---- The same with a record (R285 to R288): one that `place` gave, of this text or another, or one that is made up.
+// It is placed once and asked with as often as there are questions; the part that it names for the group is looked at
+// first, and is 22 if it is not exactly as many whole lines of the text as the group's count needs.
+
+// R285 to R287. Asked: the cells of a group, 1 to 60, of a record.
+// Answered: 0 with the number of cells, which stand in the table from its first cell on; what stands behind them is
+// kept. A refusal (12; 4, 5, 6, 7 by the counts; 22; 11, 8, 9, 10) leaves the whole table as it was.
+pub fn record_group(
+    rules: rules::Rules,
+    text: &[u8],
+    lent: Record,
+    group: usize,
+    table: &mut [i64],
+) -> Answer
+    ensures answer { λ r. ⌜ r ≡
+        readingOf (readWith rules (now (text .entry)) (carriedBy lent) group (length (now (table .entry)))) ⌝ }
+    ensures table { λ _. ⌜ now (table .exit) ≡
+        tableBy (readWith rules (now (text .entry)) (carriedBy lent) group (length (now (table .entry))))
+        (now (table .entry)) ⌝ }
+{
+    view::read_by(rules, text, lent, group, table)
+}
+
+// R285, R286. Asked: where the lines of a group of a record stand in the text.
+// Answered: that they can be given, and from where to where they stand; with count 0 both places are where they would
+// be. A refusal has its reply, 12, 4, 5, 6, 7 or 22, and both places are 0.
+pub fn record_lines_at(rules: rules::Rules, text: &[u8], lent: Record, group: usize) -> Lines
+    ensures found { λ r. ⌜ r .found ≡ foundWith rules (now (text .entry)) (carriedBy lent) group ⌝ }
+    ensures from { λ r. ⌜ r .from ≡ startWith rules (now (text .entry)) (carriedBy lent) group ⌝ }
+    ensures to { λ r. ⌜ r .to ≡ endWith rules (now (text .entry)) (carriedBy lent) group ⌝ }
+{
+    view::lines_by(rules, text, lent, group)
+}
+
+// R285, R286. Asked: the lines of a group of a record, with their line ends.
+// Answered: that part of the lent text, not a copy. A refusal gives the empty part at place 0.
+pub fn record_lines<'a>(rules: rules::Rules, text: &'a [u8], lent: Record, group: usize) -> &'a [u8]
+    ensures bytes { λ r. ⌜ now r ≡ partWith rules (now (text .entry)) (carriedBy lent) group ⌝ }
+    ensures address { λ r. ⌜ r .ptr ≡
+        moved (text .entry .ptr) (startWith rules (now (text .entry)) (carriedBy lent) group) ⌝ }
+{
+    view::part_by(rules, text, lent, group)
+}
+
+// R297. Asked: a characteristic, 1 to 49, of a record.
+// Answered: its value in thousandths, or that there is no reading, or that it is not reported.
+// A refusal has its reply: 12, or that of reading group 4, 22 among them.
+pub fn record_characteristic(
+    rules: rules::Rules,
+    text: &[u8],
+    lent: Record,
+    number: usize,
+) -> Characteristic
+    ensures { λ r. ⌜ r ≡ characteristicWith rules (now (text .entry)) (carriedBy lent) number ⌝ }
+{
+    view::characteristic_by(rules, text, lent, number)
 }
 
 // R300 to R307. Asked: to write a record of these counts and of the cells of all groups, group 1's first.

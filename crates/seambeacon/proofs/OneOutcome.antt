@@ -3,10 +3,13 @@
 -- Assumes nothing.
 use mathlib.Core.Path.{sym, _∙_}
 use Rattle.sao.specs.Outcome.{OneOutcome}
-use Rattle.seambeacon.proofs.seambeacon_place as place
+use Rattle.seambeacon.proofs.seambeacon_place_apart as place
 use Rattle.seambeacon.proofs.seambeacon_read_group as read-group
 use Rattle.seambeacon.proofs.seambeacon_group_lines as group-lines
 use Rattle.seambeacon.proofs.seambeacon_characteristic as characteristic
+use Rattle.seambeacon.proofs.seambeacon_record_group_apart as record-group
+use Rattle.seambeacon.proofs.seambeacon_record_lines_apart as record-lines
+use Rattle.seambeacon.proofs.seambeacon_record_characteristic_apart as record-characteristic
 use Rattle.seambeacon.proofs.seambeacon_write_record as write-record
 use Rattle.seambeacon.proofs.seambeacon_list as list
 use Rattle.seambeacon.proofs.seambeacon_rewrite_record as rewrite-record
@@ -19,8 +22,10 @@ use Rattle.seambeacon.proofs.seambeacon_replay as replay
 pub place-one : OneOutcome place.ended place.Reads.Learnt
 place-one κs a n m v w l k =
     let beside = l .0 .besides ∙ sym (k .0 .besides) in
-    let counts = l .1 ∙ sym (k .1) in
-    (l .0 .number ∙ sym (k .0 .number), λ i. (tt, (tt, (tt, (counts i, (beside i, tt))))))
+    let counts = l .1 .0 ∙ sym (k .1 .0) in
+    let starts = l .1 .1 .0 ∙ sym (k .1 .1 .0) in
+    let ends = l .1 .1 .1 ∙ sym (k .1 .1 .1) in
+    (l .0 .number ∙ sym (k .0 .number), λ i. (tt, (tt, (tt, (counts i, (starts i, (ends i, (beside i, tt))))))))
 
 pub read-group-one : OneOutcome read-group.ended read-group.Reads.Learnt
 read-group-one κs a n m v w l k =
@@ -40,6 +45,29 @@ characteristic-one κs a n m v w l k =
     let kind = l .1 .0 ∙ sym (k .1 .0) in
     let value = l .1 .1 ∙ sym (k .1 .1) in
     (l .0 .number ∙ sym (k .0 .number), λ i. (tt, (tt, (tt, (tt, (kind i, (value i, (beside i, tt))))))))
+
+-- ---- with a record
+
+pub record-group-one : OneOutcome record-group.ended record-group.Reads.Learnt
+record-group-one κs a n m v w l k =
+    let beside = l .0 .besides ∙ sym (k .0 .besides) in
+    let table = l .1 ∙ sym (k .1) in
+    (l .0 .number ∙ sym (k .0 .number), λ i. (tt, (tt, (tt, (tt, (tt, (tt, (table i, (beside i, tt)))))))))
+
+pub record-lines-one : OneOutcome record-lines.ended record-lines.Reads.Learnt
+record-lines-one κs a n m v w l k =
+    let beside = l .0 .besides ∙ sym (k .0 .besides) in
+    let part = l .1 ∙ sym (k .1) in
+    (l .0 .number ∙ sym (k .0 .number), λ i. (tt, (tt, (tt, (tt, (tt, (tt, (part i, (beside i, tt)))))))))
+
+pub record-characteristic-one : OneOutcome record-characteristic.ended record-characteristic.Reads.Learnt
+record-characteristic-one κs a n m v w l k =
+    let beside = l .0 .besides ∙ sym (k .0 .besides) in
+    let kind = l .1 .0 ∙ sym (k .1 .0) in
+    let value = l .1 .1 ∙ sym (k .1 .1) in
+    (l .0 .number ∙ sym (k .0 .number), λ i. (tt, (tt, (tt, (tt, (tt, (tt, (kind i, (value i, (beside i, tt))))))))))
+
+-- ---- writing, listing, rewriting
 
 pub write-record-one : OneOutcome write-record.ended write-record.Reads.Learnt
 write-record-one κs a n m v w l k =

@@ -1,4 +1,4 @@
--- R200 to R214: each question's reply, from the rules (R12) and what is asked: the layers' answers as replies.
+-- R200 to R217 and R222: each question's reply, from the rules (R12) and what is asked: the layers' answers as replies.
 use mathlib.Core.List.{List}
 use Prim.Native.Nat.{ℕ}
 use lib.IntN.{ℤ}
@@ -6,13 +6,14 @@ use lib.ListN.{length}
 use Rattle.rules.specs.declared.Rules.{Rules}
 use Rattle.reply.specs.declared.Reply.{Reply}
 use Rattle.reply.specs.Refusals.{checkedReply, answerReply}
-use Rattle.place.specs.Placing.{placingOf}
+use Rattle.place.specs.Placing.{placingOf, Carried}
 use Rattle.place.specs.Numbered.{placingReply}
 use Rattle.reading.specs.Read.{readingOf}
 use Rattle.group.specs.Text.{readAt}
 use Rattle.group.specs.Held.{foundAt}
 use Rattle.group.specs.Characteristics.{characteristicAt}
 use Rattle.group.specs.Numbered.{characteristicReply}
+use Rattle.view.specs.With.{foundWith, readWith, characteristicWith}
 use Rattle.writing.specs.Writing.{writingOf}
 use Rattle.rewriting.specs.Record.{rewritingOf}
 use Rattle.rewriting.specs.Numbered.{rewritingReply}
@@ -33,6 +34,16 @@ linesReply ρ s at g = checkedReply (foundAt ρ s at g)
 
 abbrev pub characteristicReplyAt : Rules → List ℕ → ℕ → ℕ → Reply
 characteristicReplyAt ρ s at k = characteristicReply (characteristicAt ρ s at k)
+
+-- the same with a record
+abbrev pub recordGroupReply : Rules → List ℕ → Carried → ℕ → ℕ → Reply
+recordGroupReply ρ s r g cells = answerReply (readingOf (readWith ρ s r g cells))
+
+abbrev pub recordLinesReply : Rules → List ℕ → Carried → ℕ → Reply
+recordLinesReply ρ s r g = checkedReply (foundWith ρ s r g)
+
+abbrev pub recordCharacteristicReply : Rules → List ℕ → Carried → ℕ → Reply
+recordCharacteristicReply ρ s r k = characteristicReply (characteristicWith ρ s r k)
 
 -- into an output of so many bytes
 abbrev pub writeReply : Rules → List ℕ → List ℤ → ℕ → Reply

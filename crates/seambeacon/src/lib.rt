@@ -11,13 +11,15 @@ ghost use lib.ListN.{length};
 ghost use Rattle.seambeacon.specs.Flags.{flagged};
 ghost use Rattle.seambeacon.specs.Numbers.{Told, answerKind, answerValue};
 ghost use Rattle.seambeacon.specs.Replies.{placeReply, readReply, linesReply, characteristicReplyAt, writeReply};
+ghost use Rattle.seambeacon.specs.Replies.{recordGroupReply, recordLinesReply, recordCharacteristicReply};
 ghost use Rattle.seambeacon.specs.Replies.{listReply, rewriteReply, callAnswer};
 ghost use Rattle.decimal.specs.Writing.{putBytes};
-ghost use Rattle.place.specs.Placing.{countsAt};
+ghost use Rattle.place.specs.Placing.{countsAt, startsAt, endsAt, carried};
 ghost use Rattle.reading.specs.Read.{tableBy};
 ghost use Rattle.group.specs.Text.{readAt};
 ghost use Rattle.group.specs.Held.{partStart, partAt};
 ghost use Rattle.group.specs.Characteristics.{characteristicAt};
+ghost use Rattle.view.specs.With.{startWith, partWith, readWith, characteristicWith};
 ghost use Rattle.writing.specs.Writing.{writingOf, outputBy};
 ghost use Rattle.rewriting.specs.Record.{rewritingOf, tableAfter, bufferBy};
 ghost use Rattle.rewriting.specs.Numbered.{rewritingGroup};
@@ -80,24 +82,33 @@ fn rules_of(flags: u32) -> Rules
 
 // ---- The questions.
 
-// R250 to R253. Asked: which record stands at a place of a text.
-// Answered: the placing reply, with the next place under 0 and 7; the record's 80 counts.
-// A refusal but 7 leaves 80 zero counts.
+// R250 to R253, R259. Asked: which record stands at a place of a text.
+// Answered: the placing reply, with the next place under 0 and 7; the record's 80 counts, and where the lines of each
+// of its 60 groups begin and end.
+// A refusal but 7 leaves 80 zero counts and 60 zeros for either place.
 #[no_mangle]
-pub extern "C" fn seambeacon_place(
+pub extern "C" fn seambeacon_place_apart(
     rules: u32,
     text: &[u8],
     at: usize,
     counts: &mut [u16; 80],
+    starts: &mut [usize; 60],
+    ends: &mut [usize; 60],
     beside: &mut [usize; 8],
 ) -> u32
     ensures reply { λ n. ⌜ Told (placeReply (flagged rules) (now (text .entry)) at) n (now (beside .exit)) ⌝ }
     ensures counts { λ _. ⌜ now (counts .exit) ≡ countsAt (flagged rules) (now (text .entry)) at ⌝ }
+    ensures starts { λ _. ⌜ now (starts .exit) ≡ startsAt (flagged rules) (now (text .entry)) at ⌝ }
+    ensures ends { λ _. ⌜ now (ends .exit) ≡ endsAt (flagged rules) (now (text .entry)) at ⌝ }
 {
-    let record = sao::place(rules_of(rules), text, at);
-    let answer = record.answer;
-    let found = record.counts;
+    let placed = sao::place(rules_of(rules), text, at);
+    let answer = placed.answer;
+    let found = placed.counts;
+    let begin = placed.starts;
+    let end = placed.ends;
     *counts = found;
+    *starts = begin;
+    *ends = end;
     tell(place::reply_of(answer), beside)
 }
 
@@ -168,6 +179,94 @@ pub extern "C" fn seambeacon_characteristic(
         answerValue (characteristicAt (flagged rules) (now (text .entry)) at number) ⌝ }
 {
     let known = sao::characteristic(rules_of(rules), text, at, number);
+    *kind = kind_of(known);
+    *value = value_of(known);
+    tell(group::reply_of(known), beside)
+}
+
+// ---- With a record, whose members are lent apart (R366): the questions of `sao` that have a record, over `view`, which
+// takes the members where they lie.
+
+// R285 to R287. Asked: the cells of a group, 1 to 60, of a record.
+// Answered: 0 with the number of cells, which stand in the table from its first cell on; what stands behind them is
+// kept. A refusal leaves the whole table as it was.
+#[no_mangle]
+pub extern "C" fn seambeacon_record_group_apart(
+    rules: u32,
+    text: &[u8],
+    counts: &[u16; 80],
+    starts: &[usize; 60],
+    ends: &[usize; 60],
+    group: usize,
+    table: &mut [i64],
+    beside: &mut [usize; 8],
+) -> u32
+    ensures reply { λ n. ⌜ Told (recordGroupReply (flagged rules) (now (text .entry))
+        (carried (now (counts .entry)) (now (starts .entry)) (now (ends .entry))) group
+        (length (now (table .entry)))) n (now (beside .exit)) ⌝ }
+    ensures table { λ _. ⌜ now (table .exit) ≡
+        tableBy (readWith (flagged rules) (now (text .entry))
+        (carried (now (counts .entry)) (now (starts .entry)) (now (ends .entry))) group
+        (length (now (table .entry)))) (now (table .entry)) ⌝ }
+{
+    let answer = view::read_with(rules_of(rules), text, counts, starts, ends, group, table);
+    tell(reply::of_answer(answer), beside)
+}
+
+// R285, R286, R362. Asked: the lines of a group of a record, with their line ends.
+// Answered: 0, and which part of the text holds them: the place where it starts, and its length.
+// A refusal gives the empty part at place 0.
+#[no_mangle]
+pub extern "C" fn seambeacon_record_lines_apart(
+    rules: u32,
+    text: &[u8],
+    counts: &[u16; 80],
+    starts: &[usize; 60],
+    ends: &[usize; 60],
+    group: usize,
+    part: &mut [usize; 2],
+    beside: &mut [usize; 8],
+) -> u32
+    ensures reply { λ n. ⌜ Told (recordLinesReply (flagged rules) (now (text .entry))
+        (carried (now (counts .entry)) (now (starts .entry)) (now (ends .entry))) group) n (now (beside .exit)) ⌝ }
+    ensures part { λ _. ⌜ now (part .exit) ≡
+        startWith (flagged rules) (now (text .entry))
+        (carried (now (counts .entry)) (now (starts .entry)) (now (ends .entry))) group ∷
+        length (partWith (flagged rules) (now (text .entry))
+        (carried (now (counts .entry)) (now (starts .entry)) (now (ends .entry))) group) ∷ [] ⌝ }
+{
+    let lines = view::lines_with(rules_of(rules), text, counts, starts, ends, group);
+    let found = lines.found;
+    let bytes = lines.to - lines.from;
+    *part = [lines.from, bytes];
+    tell(reply::of_checked(found), beside)
+}
+
+// R297, R361. Asked: a characteristic, 1 to 49, of a record.
+// Answered: its kind, and its value in thousandths or 0.
+// A refusal is a kind too, and has its reply: 12, or that of reading group 4, 22 among them.
+#[no_mangle]
+pub extern "C" fn seambeacon_record_characteristic_apart(
+    rules: u32,
+    text: &[u8],
+    counts: &[u16; 80],
+    starts: &[usize; 60],
+    ends: &[usize; 60],
+    number: usize,
+    kind: &mut u32,
+    value: &mut i64,
+    beside: &mut [usize; 8],
+) -> u32
+    ensures reply { λ n. ⌜ Told (recordCharacteristicReply (flagged rules) (now (text .entry))
+        (carried (now (counts .entry)) (now (starts .entry)) (now (ends .entry))) number) n (now (beside .exit)) ⌝ }
+    ensures kind { λ _. ⌜ now (kind .exit) ≡
+        answerKind (characteristicWith (flagged rules) (now (text .entry))
+        (carried (now (counts .entry)) (now (starts .entry)) (now (ends .entry))) number) ⌝ }
+    ensures value { λ _. ⌜ now (value .exit) ≡
+        answerValue (characteristicWith (flagged rules) (now (text .entry))
+        (carried (now (counts .entry)) (now (starts .entry)) (now (ends .entry))) number) ⌝ }
+{
+    let known = view::characteristic_with(rules_of(rules), text, counts, starts, ends, number);
     *kind = kind_of(known);
     *value = value_of(known);
     tell(group::reply_of(known), beside)

@@ -20,9 +20,9 @@ use Rattle.count.specs.Tally.{countOf}
 use Rattle.count.specs.Rules.{releaseOf}
 use Rattle.count.specs.declared.Release.the-variants.{Five}
 use Rattle.place.specs.Placing
-use Rattle.place.specs.Placing.{located, locate, placingBy, countsBy}
+use Rattle.place.specs.Placing.{located, locate, placingBy}
 use Rattle.place.specs.Parts.{groupPart}
-use Rattle.place.proofs.SameCounting.{part-counted}
+use Rattle.place.proofs.SameCounting.{part-counted, carried-counted}
 use Rattle.reading.specs.Read.{readGroup}
 use Rattle.reading.proofs.ByLines.{plan-same, LinesReadSame, group-by-lines}
 use Rattle.reply.specs.declared.Refusal.the-variants.{NoSuchNumber}
@@ -86,12 +86,12 @@ module _ (ρ σ : Rules) (alike : ρ .counting ≡ σ .counting) {ns x : List �
       ∙ sym (read-located σ text place g room n ns located-there)
 
   pub canonical-same : SameAnswers ρ σ (a ++ (x ++ b)) (length a)
-  unfolding Placing.placingOf Placing.countsAt Characteristics.characteristicAt
+  unfolding Placing.placingOf Characteristics.characteristicAt
   canonical-same =
       let l = standing-located ρ h a b five ∙ sym located-there in
       record {
         placing = ap placingBy l;
-        counts = ap countsBy l;
+        carried = carried-counted ρ σ alike text place l;
         groups = read-same;
         found = located-found ρ σ alike text place l;
         begins = located-begins ρ σ alike text place l;

@@ -1,7 +1,7 @@
 //! What the tests share: the project's example texts, and record S with its numbers as the rules state them.
 #![allow(dead_code)]
 
-use seambeacon::{Rewritten, Rules};
+use seambeacon::{Placing, Refusal, Rewritten, Rules};
 use std::fs;
 use std::path::PathBuf;
 
@@ -42,6 +42,23 @@ pub fn replaced(text: &[u8], old: &str, new: &str) -> Vec<u8> {
     let places: Vec<usize> = (0..text.len()).filter(|&at| text[at..].starts_with(old.as_bytes())).collect();
     assert_eq!(places.len(), 1, "`{old}` stands in the text once");
     [&text[..places[0]], new.as_bytes(), &text[places[0] + old.len()..]].concat()
+}
+
+/// How a record stands at a place, with its counts.
+pub fn placed(rules: Rules, text: &[u8], at: usize) -> Result<(Placing, [u16; 80]), Refusal> {
+    seambeacon::place(rules, text, at).map(|record| (record.placing, record.counts))
+}
+
+/// A refusal's number, and the two numbers beside it in the vectors: group, line or position, and element.
+pub fn numbers(why: Refusal) -> [usize; 3] {
+    let (first, second) = match why {
+        Refusal::FilledVacant { group } | Refusal::BrokenRule { group } => (group, 0),
+        Refusal::BadLine { line, .. } => (line, 0),
+        Refusal::BadField { line, element, .. } => (line, element),
+        Refusal::BadDate { position } => (position, 0),
+        _ => (0, 0),
+    };
+    [why.number() as usize, first, second]
 }
 
 /// R346: what the rewriting program prints of a text, up to the first record that is refused or has more than 8,192 canonical bytes.

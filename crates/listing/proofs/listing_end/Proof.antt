@@ -40,7 +40,7 @@ met c =
       few = l .inv .0;
       here = l .inv .1;
       placing = p .ensures .0;
-      beside = p .ensures .1;
+      beside = p .ensures .1 .0;
       next-is = ap (λ (a : Reply). a .next) (r .ensures);
       told = c .is-placed .ensures ∙ ap (λ (a : Reply). isPlaced (a .number)) (r .ensures);
     }

@@ -11,43 +11,43 @@ use Rattle.base.specs.Part.{part}
 use Rattle.rules.specs.declared.Rules.{Rules}
 use Rattle.line.specs.Places.{behindAt}
 use Rattle.line.specs.declared.Behind.the-variants.{At}
-use Rattle.line.proofs.Places.{at-range}
+use Rattle.line.proofs.Places.{at-range, reach-at, behindAt-then}
 use Rattle.place.specs.Index.{readIndexLine}
 use Rattle.place.proofs.Entries.{stored-none, StoredCounts, stored-counts, line-length, both-stored}
-use Rattle.place.proofs.Steps.{locate-beyond, locate-end, refuses, first-few, second-few, first-misformed, second-misformed, with-index, answers-at}
+use Rattle.place.proofs.Steps.{locate-beyond, locate-end, refused-at, first-few, second-few, first-misformed, second-misformed, with-index, answers-at}
 use Rattle.place.proofs.place.Statement.{statement}
 use Rattle.place.proofs.place.Tie as tie
 
 returns : tie.Need-returns
 returns c =
     let o = c .before .before .before in
-    answers-at (o .args .rules) (o .args .text .now) (o .args .at)
-    (locate-beyond (o .args .rules) (o .args .text .now) (o .args .at) (c .before .if1 .taken)) (refuses refl (c .nothing .ensures))
+    refused-at (o .args .rules) (o .args .text .now) (o .args .at)
+    (locate-beyond (o .args .rules) (o .args .text .now) (o .args .at) (c .before .if1 .taken)) (c .nothing .ensures)
 
 returns-2 : tie.Need-returns-2
 returns-2 c =
     let o = c .before .before .before .before in
-    answers-at (o .args .rules) (o .args .text .now) (o .args .at)
-    (locate-end (o .args .rules) (o .args .text .now) (o .args .at) (c .before .if2 .taken)) (refuses refl (c .nothing2 .ensures))
+    refused-at (o .args .rules) (o .args .text .now) (o .args .at)
+    (locate-end (o .args .rules) (o .args .text .now) (o .args .at) (c .before .if2 .taken)) (c .nothing2 .ensures)
 
 returns-3 : tie.Need-returns-3
 returns-3 c =
     let o = c .before .before .before .before .before .before .before in
-    answers-at (o .args .rules) (o .args .text .now) (o .args .at)
+    refused-at (o .args .rules) (o .args .text .now) (o .args .at)
     (first-few (o .args .rules) (o .args .text .now) (o .args .at) (omega arith)
     (sym (c .before .before .before .place-behind .ensures) ∙ c .before .enum-told .given .1))
-    (refuses refl (c .nothing3 .ensures))
+    (c .nothing3 .ensures)
 
 returns-4 : tie.Need-returns-4
 returns-4 c =
     let at-second = c .before .before .before .before .before in
     let at-place-behind = at-second .before .before in
     let o = at-place-behind .before .before .before .before in
-    answers-at (o .args .rules) (o .args .text .now) (o .args .at)
+    refused-at (o .args .rules) (o .args .text .now) (o .args .at)
     (second-few (o .args .rules) (o .args .text .now) (o .args .at) (omega arith) (at-second .second .given .0 .0)
     (sym (at-place-behind .place-behind .ensures) ∙ at-second .second .given .1)
     (sym (c .before .before .before .place-behind2 .ensures) ∙ c .before .enum-told2 .given .1))
-    (refuses refl (c .nothing4 .ensures))
+    (c .nothing4 .ensures)
 
 -- ---- the two index lines have ends: the rules, the text and the place, where the second line begins and where it ends
 
@@ -99,11 +99,11 @@ returns-5 c =
     let at-end = at-first .before in
     let at-second = at-end .before .before .before .before in
     let o = at-second .before .before .before .before .before .before in
-    answers-at (o .args .rules) (o .args .text .now) (o .args .at)
+    refused-at (o .args .rules) (o .args .text .now) (o .args .at)
     (first-misformed (o .args .rules) (o .args .text .now) (o .args .at) (omega arith) (at-second .second .given .0 .0) (first at-first)
     (at-end .end .given .0 .0) (then at-first)
     (stored-none _ 0 _ _ (not-true _ (c .before .if3 .taken)) (c .before .before .before .store-line .ensures)))
-    (refuses refl (c .nothing5 .ensures))
+    (c .nothing5 .ensures)
 
 abbrev index : tie.Else3 → tie.After-known-told2
 index c = c .before .before .before .before .before
@@ -130,11 +130,11 @@ returns-6 c =
     let at-second = at-end .before .before .before .before in
     let start = at-second .before .before .before .before .before .before in
     let line = first-counts at-first-counts in
-    answers-at _ (start .args .text .now) (start .args .at)
+    refused-at _ (start .args .text .now) (start .args .at)
     (second-misformed _ (start .args .text .now) (start .args .at) (omega arith) (at-second .second .given .0 .0)
     (first at-first) (at-end .end .given .0 .0) (then at-first) (line .these) (line .read)
     (stored-none _ 40 _ _ (not-true _ (c .before .if4 .taken)) (c .before .before .before .store-line2 .ensures)))
-    (refuses refl (c .nothing6 .ensures))
+    (c .nothing6 .ensures)
 
 returns-7 : tie.Need-returns-7
 returns-7 c =
@@ -151,6 +151,7 @@ returns-7 c =
     answers-at _ (start .args .text .now) (start .args .at)
     (with-index _ (start .args .text .now) (start .args .at) (omega arith) (at-second .second .given .0 .0)
     (first at-first) (at-end .end .given .0 .0) (then at-first) (line .these) (next .these) (line .read) (next .read))
+    _ (reach-at (start .args .text .now) (start .args .at) 2 _ (behindAt-then (start .args .text .now) (start .args .at) 1 1 _ (first at-first) ∙ then at-first))
     (rw all at (c .with-counts .ensures))
 
 pub place-spec : {M : Type 1} → statement M

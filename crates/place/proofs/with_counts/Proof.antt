@@ -9,13 +9,15 @@ use Rattle.place.proofs.with_counts.Tie as tie
 returns : tie.Need-returns
 returns c =
     let o = c .before .before .before .before .before .before in
-    refuses (from-release (o .args .rules) (o .args .text .now) (o .args .from) (o .args .t4)
+    refuses (o .args .rules) (o .args .text .now) (o .args .from)
+    (from-release (o .args .rules) (o .args .text .now) (o .args .from) (o .args .t4)
     (sym (c .before .before .before .release-of .ensures) ∙ c .before .enum-told .given .1)) (c .nothing .ensures)
 
 returns-2 : tie.Need-returns-2
 returns-2 c =
     let o = c .before .before .before .before .before .before .before in
-    refuses (from-release (o .args .rules) (o .args .text .now) (o .args .from) (o .args .t4)
+    refuses (o .args .rules) (o .args .text .now) (o .args .from)
+    (from-release (o .args .rules) (o .args .text .now) (o .args .from) (o .args .t4)
     (sym (c .before .before .before .before .release-of .ensures) ∙ c .before .before .g .given .1)) (c .nothing2 .ensures)
 
 returns-3 : tie.Need-returns-3

@@ -1,47 +1,87 @@
--- `place::with_lines` meets its contract: the lines behind the index are those of the record but two.
+-- `place::with_lines` meets its contract: one group's lines after the other's. The invariant: the first k groups have their places.
 -- Assumes nothing.
 use borrow.Author.Needs.{needs}
 use native.Mathlib.Omega.{arith}
-use mathlib.Core.Path.{refl, sym, _∙_}
-use Rattle.count.proofs.Tallied.{all-lines, record-two}
-use Rattle.place.proofs.Steps.{from-lines, refuses}
+use mathlib.Core.Path.{_≡_, refl, sym, _∙_}
+use Prim.Native.Nat.{_-_}
+use Rattle.place.proofs.Spans.{Shared, shared-none, shared-few, shared-more, shared-all, all-begun, all-ended}
+use Rattle.place.proofs.Steps.{refuses}
 use Rattle.place.proofs.with_lines.Statement.{statement}
 use Rattle.place.proofs.with_lines.Tie as tie
 
-sub-place-behind : tie.Need-sub-place-behind
-sub-place-behind c =
-    let o = c .before .before .before .before in
-    omega (arith, (c .before .add-up .ensures .lines-are ∙ all-lines (o .args .rules) (o .args .t4)), record-two (o .args .rules) (o .args .t4))
+abbrev Inv-loop : tie.InvT-loop
+Inv-loop rules text from counts starts₀ ends₀ at₀ k₀ starts ends at k = Shared rules text from counts k at starts ends
 
-returns : tie.Need-returns
+abbrev μ-loop : tie.MeasureT-loop
+μ-loop rules text from counts starts₀ ends₀ at₀ k₀ starts ends at k = 60 - k
+
+loop-holds : tie.Need-loop-holds Inv-loop μ-loop
+loop-holds c = shared-none _ _ _ _
+
+lines-requires : tie.Need-lines-requires Inv-loop μ-loop
+lines-requires c κs = search needs
+
+returns : tie.Need-returns Inv-loop μ-loop
 returns c =
-    let o = c .before .before .before .before .before .before .before .before .args in
-    let all = c .before .before .before .before .before .add-up .ensures .lines-are ∙ all-lines (o .rules) (o .t4) in
-    let behind = sym (c .before .before .before .place-behind .ensures) ∙ c .before .enum-told .given .1 in
-    refuses (from-lines (o .rules) (o .text .now) (o .from) (o .t4) all behind) (c .nothing .ensures)
+    let at-behind = c .before .before .before in
+    let at-loop = at-behind .before .before .before .before in
+    let l = at-loop .loop in
+    let o = at-loop .before .before .args in
+    refuses (o .rules) (o .text .now) (o .from)
+    (shared-few (o .rules) (o .text .now) (o .from) (o .t4) (l .k) (l .at) (l .starts) (l .ends) (l .inv) _ _ (at-behind .before .before .before .loop-test .taken)
+    (at-behind .before .before .form-in .ensures) (at-behind .before .lines .ensures) (sym (at-behind .place-behind .ensures) ∙ c .before .enum-told .given .1))
+    (c .nothing .ensures)
 
-returns-2 : tie.Need-returns-2
+mul-starts : tie.Need-mul-starts Inv-loop μ-loop
+mul-starts c = search needs
+
+loop-again : tie.Need-loop-again Inv-loop μ-loop
+loop-again c =
+    let at-behind = c .before .before .before in
+    let at-loop = at-behind .before .before .before .before in
+    let l = at-loop .loop in
+    let o = at-loop .before .before .args in
+    shared-more (o .rules) (o .text .now) (o .from) (o .t4) (l .k) (l .at) (l .starts) (l .ends) (l .inv) _ _ (at-behind .before .before .before .loop-test .taken)
+    (at-behind .before .before .form-in .ensures) (at-behind .before .lines .ensures) _ (sym (at-behind .place-behind .ensures) ∙ c .before .next .given .1)
+
+returns-2 : tie.Need-returns-2 Inv-loop μ-loop
 returns-2 c =
-    let at-behind = c .before .before .before .before .before .before in
-    let at-add-up = at-behind .before .before in
-    let o = at-add-up .before .before .before .args in
-    let all = at-add-up .add-up .ensures .lines-are ∙ all-lines (o .rules) (o .t4) in
-    let behind = sym (at-behind .place-behind .ensures) ∙ c .before .before .before .before .next .given .1 in
-    rw (from-lines (o .rules) (o .text .now) (o .from) (o .t4) all behind)
-    record { placing = rw (← c .before .ruling-of .ensures) (c .ruled-at .ensures); beside = refl }
+    let at-loop = c .before .before .before .before in
+    let l = at-loop .loop in
+    let o = at-loop .before .before .args in
+    let all : l .k ≡ 60 = omega (arith, l .inv .few) in
+    rw (shared-all (o .rules) (o .text .now) (o .from) (o .t4) (l .k) (l .at) (l .starts) (l .ends) (l .inv) all)
+    record {
+      placing = rw (← c .before .ruling-of .ensures) (c .ruled-at .ensures);
+      beside = refl;
+      begin = all-begun (o .rules) (o .text .now) (o .from) (o .t4) (l .k) (l .at) (l .starts) (l .ends) (l .inv) all;
+      end = all-ended (o .rules) (o .text .now) (o .from) (o .t4) (l .k) (l .at) (l .starts) (l .ends) (l .inv) all;
+    }
 
 pub with-lines-spec : {M : Type 1} → statement M
 with-lines-spec =
     tie.close
     (tie.spec
+    Inv-loop
+    μ-loop
+    loop-holds
     (λ c. search needs)
     (λ c κs. search needs)
-    sub-place-behind
+    (λ c. search needs)
+    (λ c. search needs)
+    lines-requires
     (λ c κs. search needs)
     (λ c. search needs)
     (λ c. search needs)
     (λ c κs. search needs)
     returns
+    mul-starts
+    (λ c. search needs)
+    (λ c. search needs)
+    (λ c. search needs)
+    (λ c. search needs)
+    (λ c. search needs)
+    loop-again
     (λ c. search needs)
     (λ c κs. search needs)
     (λ c κs. search needs)

@@ -57,10 +57,15 @@ returns-16 c = c .plain10 .ensures ∙ ap refusalReply (sym (c .before .enum-tol
 returns-17 : tie.Need-returns-17
 returns-17 c = c .bad-entry .ensures ∙ ap refusalReply (sym (c .before .before .refusal7 .given .1))
 
+returns-18 : tie.Need-returns-18
+returns-18 c = c .plain11 .ensures ∙ ap refusalReply (sym (c .before .enum-told11 .given .1))
+
 pub of-refusal-spec : {M : Type 1} → statement M
 of-refusal-spec =
     tie.close
     (tie.spec
+    (λ c. search needs)
+    (λ c κs. search needs)
     (λ c. search needs)
     (λ c κs. search needs)
     (λ c. search needs)
@@ -111,4 +116,5 @@ of-refusal-spec =
     returns-14
     returns-15
     returns-16
-    returns-17)
+    returns-17
+    returns-18)
