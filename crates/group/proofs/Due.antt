@@ -57,7 +57,7 @@ use Rattle.group.specs.Due.{PlacingDue, RefusedFor, no-group, broken-rul
 use Rattle.group.proofs.Holding.{given-part, missing-span}
 use Rattle.group.proofs.Texts.{read-missing, read-given}
 use Rattle.group.proofs.Reported.{is-no-reading, is-reading, number-none, number-inside}
-use Rattle.group.proofs.Rooms.{form-four, cells-four, room-four, same-room}
+use Rattle.group.proofs.Rooms.{form-four, room-four, same-room, four-size}
 
 -- ---- the lines of a group
 
@@ -202,14 +202,10 @@ module _ (ρ : Rules) (s : List ℕ) (at g room : ℕ) where
 
 -- ---- a characteristic
 
--- group 4 has a cell for each element
-four-size : (ρ : Rules) (s : List ℕ) (at room : ℕ) (cs : List ℤ) → Due ρ s at 4 room (done cs) → length cs ≡ countOf (countsAt ρ s at) 4
-four-size ρ s at room cs d =
-    let ns = d .placed .placing .ns in
-    let f = d .reading .cells .f in
-    let h : Has f ≡ Has F8 = sym (d .reading .cells .roomy .ruled .form) ∙ form-four in
-    let e : f ≡ F8 = cc in
-    d .reading .cells .values .size ∙ ap (λ y. cellsOf ρ y (countOf ns 4)) e ∙ cells-four ρ (countOf ns 4) ∙ ap (λ l. countOf l 4) (sym (counts-are ρ s at (d .next) (d .placed .placing)))
+-- group 4 read into a table of 49 cells is group 4 read into every table with room
+pub four-is : (four : ℕ → Cells → Type 0) (read : ℕ → Cells) → ((room : ℕ) (c : Cells) → read room ≡ c ↔ four room c) → ((room : ℕ) → 49 ≤ room → read room ≡ read 49) → (c : Cells)
+    → (read 49 ≡ c) ↔ ((room : ℕ) → 49 ≤ room → four room c)
+four-is four read due same c = (λ e room h. due room c .0 (same room h ∙ e), λ d. due 49 c .1 (d 49 (omega arith)))
 
 -- `is` says what group 4 reads as, and `size` that it has a cell for each element
 module _ (four : ℕ → Cells → Type 0) (count : ℕ) (read : Cells) (is : (c : Cells) → (read ≡ c) ↔ ((room : ℕ) → 49 ≤ room → four room c)) (size : (cs : List ℤ) → read ≡ done cs → length cs ≡ count)
@@ -269,15 +265,19 @@ module _ (four : ℕ → Cells → Type 0) (count : ℕ) (read : Cells) (is : (c
   told-first-due c = (λ e. subst (ToldDue four count k) e told-is-due, told-given c)
 
 module _ (ρ : Rules) (s : List ℕ) (at k : ℕ) where
-  -- group 4 read into a table of 49 cells is group 4 read into every table with room
-  four-is : (c : Cells) → (readAt ρ s at 4 49 ≡ c) ↔ ((room : ℕ) → 49 ≤ room → Due ρ s at 4 room c)
-  four-is c =
-      (λ e room h. first-due ρ s at 4 room c .0 (same-room ρ s at room 49 h (omega arith) ∙ e), λ d. first-due ρ s at 4 49 c .1 (d 49 (omega arith)))
+  four-room : (room : ℕ) → 49 ≤ room → readAt ρ s at 4 room ≡ readAt ρ s at 4 49
+  unfolding readAt
+  four-room room h = same-room ρ (countsAt ρ s at) (partAt ρ s at 4) (foundAt ρ s at 4) room 49 h (omega arith)
+
+  four-cells : (cs : List ℤ) → readAt ρ s at 4 49 ≡ done cs → length cs ≡ countOf (countsAt ρ s at) 4
+  four-cells cs e =
+      let d = first-due ρ s at 4 49 (done cs) .0 e in
+      four-size ρ (d .placed .placing .ns) (d .x) 49 cs (d .reading) ∙ ap (λ l. countOf l 4) (sym (counts-are ρ s at (d .next) (d .placed .placing)))
 
   pub characteristic-first-due : (c : Characteristic) → characteristicAt ρ s at k ≡ c ↔ CharacteristicDue ρ s at k c
   unfolding characteristicAt
   characteristic-first-due =
-      told-first-due (Due ρ s at 4) (countOf (countsAt ρ s at) 4) (readAt ρ s at 4 49) four-is (λ cs e. four-size ρ s at 49 cs (first-due ρ s at 4 49 (done cs) .0 e)) k
+      told-first-due (Due ρ s at 4) (countOf (countsAt ρ s at) 4) (readAt ρ s at 4 49) (four-is (Due ρ s at 4) (readAt ρ s at 4) (first-due ρ s at 4) four-room) four-cells k
 
 -- 49 cells always have room for group 4
 pub four-has-room : (ρ : Rules) (ns x : List ℕ) → TableShort ρ ns 4 x 49 → ⊥

@@ -20,6 +20,11 @@ abbrev pub countsFound : Checked → List ℕ → List ℕ
 countsFound C.Right ns = ns
 countsFound (C.Refused r) ns = replicate 80 0
 
+-- R283: the place of a part that can be given, or the text's start
+abbrev pub placeIf : Checked → ℕ → ℕ
+placeIf C.Right n = n
+placeIf (C.Refused r) n = 0
+
 module _ (ρ : Rules) where
   abbrev pub foundIn : List ℕ → ℕ → GroupForm → Checked
   foundIn s at (Has f) = asChecked (placingOf ρ s at)
@@ -39,8 +44,7 @@ module _ (ρ : Rules) where
 
   -- R280, R283: the same where they can be given, or the text's start
   abbrev pub startBy : List ℕ → ℕ → ℕ → Checked → ℕ
-  startBy s at g C.Right = linesStart s at g
-  startBy s at g (C.Refused r) = 0
+  startBy s at g c = placeIf c (linesStart s at g)
 
   -- where the part begins and where it ends, and the part
   unfoldable pub partStart : List ℕ → ℕ → ℕ → ℕ

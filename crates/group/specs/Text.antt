@@ -10,11 +10,15 @@ use Rattle.reply.specs.declared.Checked.{Checked}
 use Rattle.reply.specs.declared.Checked.the-variants as C
 use Rattle.group.specs.Held.{foundAt, partAt}
 
+-- what is read where a group's lines can be given, or the refusal
+abbrev pub readIf : Checked → Cells → Cells
+readIf C.Right c = c
+readIf (C.Refused r) c = bad r
+
 module _ (ρ : Rules) where
   -- R269: the record's counts and the group's own lines decide
   abbrev pub readFound : List ℕ → ℕ → ℕ → ℕ → Checked → Cells
-  readFound s at g room C.Right = readGroup ρ (countsAt ρ s at) g (partAt ρ s at g) room
-  readFound s at g room (C.Refused r) = bad r
+  readFound s at g room c = readIf c (readGroup ρ (countsAt ρ s at) g (partAt ρ s at g) room)
 
   -- group g of the record at a place, read into a table of this length
   unfoldable pub readAt : List ℕ → ℕ → ℕ → ℕ → Cells

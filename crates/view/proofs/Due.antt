@@ -6,18 +6,16 @@ use mathlib.Core.List.{List, []}
 use mathlib.Core.Logic.{_↔_, inl, inr, ⊎-elim}
 use Prim.Native.Nat.{ℕ, _+_, _-_, _≤_}
 use native.Mathlib.Omega.{arith}
-use lib.IntN.{ℤ}
 use lib.ListN.{length, drop, length-take, length-drop}
 use Rattle.rules.specs.declared.Rules.{Rules}
 use Rattle.base.specs.Pieces.{done, bad}
 use Rattle.base.proofs.Choice.{not-T-false, T-true}
 use Rattle.base.proofs.Taken.{take-none}
 use Rattle.form.specs.declared.Form.{Form}
-use Rattle.form.specs.declared.Form.the-variants.{F8}
 use Rattle.form.specs.declared.GroupForm.{GroupForm}
 use Rattle.form.specs.declared.GroupForm.the-variants.{Has, NoGroup as NoForm}
 use Rattle.form.specs.Table.{formOf}
-use Rattle.form.specs.Count.{linesOf, cellsOf}
+use Rattle.form.specs.Count.{linesOf}
 use Rattle.form.proofs.Table.{no-group as none-has, group-form, form-range}
 use Rattle.line.specs.Parts.{AreLines}
 use Rattle.line.proofs.Parts.{are-lines}
@@ -34,16 +32,16 @@ use Rattle.reading.specs.Read
 use Rattle.reading.specs.Read.{Cells, readForm, readGroup}
 use Rattle.reading.specs.Due as Lines
 use Rattle.reading.proofs.Due as Reading
-use Rattle.reading.proofs.Promises.{read-room}
+use Rattle.group.specs.Held.{placeIf}
 use Rattle.group.specs.declared.Characteristic.{Characteristic}
 use Rattle.group.specs.declared.Characteristic.the-variants.{Refused}
-use Rattle.group.proofs.Due.{told-first-due}
-use Rattle.group.proofs.Rooms.{form-four, cells-four, room-four}
+use Rattle.group.proofs.Due.{four-is, told-first-due}
+use Rattle.group.proofs.Rooms.{same-room, four-size}
 use Rattle.reply.specs.declared.Refusal.{Refusal}
 use Rattle.reply.specs.declared.Refusal.the-variants.{BadPart}
 use Rattle.reply.specs.declared.Checked.{Checked}
 use Rattle.reply.specs.declared.Checked.the-variants as C
-use Rattle.view.specs.With.{placeOf, placeIf, readIf, holdsPart, partHeld, heldWith, foundWith, startWith, endWith, partWith, readWith, characteristicWith}
+use Rattle.view.specs.With.{placeOf, holdsPart, partHeld, heldWith, foundWith, startWith, endWith, partWith, readWith, characteristicWith}
 use Rattle.view.specs.Due.{namedPart, PartHolds, Answerable, Held, LacksPart, RefusedFor, no-group, bad-counts, bad-part, LinesDue, PartWithDue, ReadsPart, Due, ToldWithDue}
 use Rattle.view.specs.Placed.{BadPartExactly}
 use Rattle.view.proofs.Found.{found-none, found-counts, found-part, with-missing, with-given}
@@ -219,44 +217,30 @@ module _ (ρ : Rules) (s : List ℕ) (r : Carried) (g : ℕ) where
 -- ---- a characteristic
 
 module _ (ρ : Rules) (s : List ℕ) (r : Carried) where
-  -- group 4 reads the same into every table with room
-  same-room : (room more : ℕ) → 49 ≤ room → 49 ≤ more → readWith ρ s r 4 room ≡ readWith ρ s r 4 more
+  four-room : (room : ℕ) → 49 ≤ room → readWith ρ s r 4 room ≡ readWith ρ s r 4 49
   unfolding readWith
-  same-room room more a b = by (foundWith ρ s r 4)
-    where
-      by : (c : Checked) → readIf c (readGroup ρ (r .counts-of) 4 (partWith ρ s r 4) room) ≡ readIf c (readGroup ρ (r .counts-of) 4 (partWith ρ s r 4) more)
-      by C.Right =
-          read-room ρ (r .counts-of) 4 (partWith ρ s r 4) room more F8 form-four
-          (λ e. (omega (arith, room-four ρ (r .counts-of) e), omega (arith, room-four ρ (r .counts-of) e)))
-      by (C.Refused q) = refl
+  four-room room h = same-room ρ (r .counts-of) (partWith ρ s r 4) (foundWith ρ s r 4) room 49 h (omega arith)
 
-  four-is : (c : Cells) → (readWith ρ s r 4 49 ≡ c) ↔ ((room : ℕ) → 49 ≤ room → Due ρ s r 4 room c)
-  four-is c =
-      (λ e room h. first-due ρ s r 4 room c .0 (same-room room 49 h (omega arith) ∙ e), λ d. first-due ρ s r 4 49 c .1 (d 49 (omega arith)))
-
-  -- it has a cell for each element
-  four-size : (cs : List ℤ) → readWith ρ s r 4 49 ≡ done cs → length cs ≡ countOf (r .counts-of) 4
-  four-size cs e =
-      let d = first-due ρ s r 4 49 (done cs) .0 e .reading .cells in
-      let h : Has (d .f) ≡ Has F8 = sym (d .roomy .ruled .form) ∙ form-four in
-      let f : d .f ≡ F8 = cc in
-      d .values .size ∙ ap (λ y. cellsOf ρ y (countOf (r .counts-of) 4)) f ∙ cells-four ρ (countOf (r .counts-of) 4)
+  four-reads : (c : Cells) → (readWith ρ s r 4 49 ≡ c) ↔ ((room : ℕ) → 49 ≤ room → Due ρ s r 4 room c)
+  four-reads = four-is (Due ρ s r 4) (readWith ρ s r 4) (first-due ρ s r 4) four-room
 
   pub characteristic-first-due : (k : ℕ) (c : Characteristic) → characteristicWith ρ s r k ≡ c ↔ ToldWithDue ρ s r k c
   unfolding characteristicWith
-  characteristic-first-due = told-first-due (Due ρ s r 4) (countOf (r .counts-of) 4) (readWith ρ s r 4 49) four-is four-size
+  characteristic-first-due =
+      told-first-due (Due ρ s r 4) (countOf (r .counts-of) 4) (readWith ρ s r 4 49) four-reads
+      (λ cs e. four-size ρ (r .counts-of) (namedPart ρ s r 4) 49 cs (first-due ρ s r 4 49 (done cs) .0 e .reading))
 
   characteristic-exactly : (k : ℕ) → characteristicWith ρ s r k ≡ Refused BadPart ↔ (((1 ≤ k) × (k ≤ 49)) × LacksPart ρ s r 4)
   characteristic-exactly k = (λ e. there (characteristic-first-due k (Refused BadPart) .0 e), back)
     where
       there : ToldWithDue ρ s r k (Refused BadPart) → ((1 ≤ k) × (k ≤ 49)) × LacksPart ρ s r 4
       there (inl n) = let e = n .twelve in let z : _≡_ {A = ℕ} 0 1 = cc in absurd (omega arith)
-      there (inr h) = ((h .low, h .high), reading-exactly ρ s r 4 49 .0 (four-is (bad BadPart) .1 (h .reads-as)))
+      there (inr h) = ((h .low, h .high), reading-exactly ρ s r 4 49 .0 (four-reads (bad BadPart) .1 (h .reads-as)))
 
       back : ((1 ≤ k) × (k ≤ 49)) × LacksPart ρ s r 4 → characteristicWith ρ s r k ≡ Refused BadPart
       back d =
           characteristic-first-due k (Refused BadPart) .1
-          (inr record { low = d .0 .0; high = d .0 .1; reads-as = four-is (bad BadPart) .0 (reading-exactly ρ s r 4 49 .1 (d .1)) })
+          (inr record { low = d .0 .0; high = d .0 .1; reads-as = four-reads (bad BadPart) .0 (reading-exactly ρ s r 4 49 .1 (d .1)) })
 
   pub bad-part-exactly : BadPartExactly ρ s r
   bad-part-exactly = record { found = found-exactly ρ s r; reading = reading-exactly ρ s r; characteristic = characteristic-exactly }

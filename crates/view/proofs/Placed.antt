@@ -30,7 +30,7 @@ use Rattle.place.proofs.Placed.{counts-at}
 use Rattle.place.proofs.Spans.{start-at, end-at}
 use Rattle.place.proofs.Stopped.{placed-record}
 use Rattle.place.proofs.Tiling.{group-lines}
-use Rattle.reading.specs.Read.{Cells, readGroup}
+use Rattle.reading.specs.Read.{Cells}
 use Rattle.group.specs.declared.Characteristic.the-variants.{Refused}
 use Rattle.group.specs.Answers.{SameReading}
 use Rattle.group.specs.Characteristics
@@ -38,9 +38,9 @@ use Rattle.group.specs.Characteristics.{characteristicBy, characteristicAt}
 use Rattle.group.specs.Damage.{Damaged, Confined}
 use Rattle.group.specs.Growth.{AnswersStay}
 use Rattle.group.specs.Held
-use Rattle.group.specs.Held.{foundAt, startBy, partStart, partEnd, partAt}
+use Rattle.group.specs.Held.{placeIf, foundAt, startBy, partStart, partEnd, partAt}
 use Rattle.group.specs.Text
-use Rattle.group.specs.Text.{readFound, readAt}
+use Rattle.group.specs.Text.{readAt}
 use Rattle.group.proofs.Holding.{given-is, span-end}
 use Rattle.group.proofs.Reported.{number-inside}
 use Rattle.group.proofs.Damage.{damage-stays}
@@ -50,7 +50,7 @@ use Rattle.reply.specs.declared.Checked.{Checked}
 use Rattle.reply.specs.declared.Checked.the-variants as C
 use Rattle.view.specs.Due.{PartHolds}
 use Rattle.view.specs.Placed.{AsPlaced, NonePlaced, PlacedAnswers, DamageKept, GrowthKept}
-use Rattle.view.specs.With.{placeOf, placeIf, readIf, foundWith, startWith, endWith, partWith, readWith, characteristicWith}
+use Rattle.view.specs.With.{placeOf, foundWith, startWith, endWith, partWith, readWith, characteristicWith}
 use Rattle.view.proofs.Due.{holds-accepted}
 use Rattle.view.proofs.Found.{found-none, found-counts, with-missing}
 
@@ -110,11 +110,7 @@ module _ (ρ : Rules) (s : List ℕ) (at n : ℕ) (ns : List ℕ) (e : locate ρ
 
     placed-groups : (room : ℕ) → readWith ρ s (carriedAt ρ s at) g room ≡ readAt ρ s at g room
     unfolding readWith Text.readAt
-    placed-groups room = rw (placed-found g, placed-lines) (by (foundAt ρ s at g))
-      where
-        by : (c : Checked) → readIf c (readGroup ρ (countsAt ρ s at) g (partAt ρ s at g) room) ≡ readFound ρ s at g room c
-        by C.Right = refl
-        by (C.Refused q) = refl
+    placed-groups room = rw (placed-found g, placed-lines) refl
 
   placed-characteristics : (k : ℕ) → characteristicWith ρ s (carriedAt ρ s at) k ≡ characteristicAt ρ s at k
   unfolding characteristicWith Characteristics.characteristicAt

@@ -5,7 +5,6 @@ use mathlib.Core.List.{List}
 use Prim.Native.Nat.{ℕ}
 use Rattle.rules.specs.declared.Rules.{Rules}
 use Rattle.base.specs.Part.{part}
-use Rattle.base.specs.Pieces.{bad}
 use Rattle.form.specs.declared.Form.{Form}
 use Rattle.form.specs.declared.GroupForm.{GroupForm}
 use Rattle.form.specs.declared.GroupForm.the-variants.{Has, NoGroup as NoForm}
@@ -18,6 +17,8 @@ use Rattle.place.specs.Placing.{Carried}
 use Rattle.reading.specs.Read.{Cells, readGroup}
 use Rattle.group.specs.declared.Characteristic.{Characteristic}
 use Rattle.group.specs.Characteristics.{characteristicBy}
+use Rattle.group.specs.Held.{placeIf}
+use Rattle.group.specs.Text.{readIf}
 use Rattle.reply.specs.declared.Refusal.the-variants.{NoSuchNumber, BadPart}
 use Rattle.reply.specs.declared.Checked.{Checked}
 use Rattle.reply.specs.declared.Checked.the-variants as C
@@ -25,15 +26,6 @@ use Rattle.reply.specs.declared.Checked.the-variants as C
 -- R243: the place that stands under a group's number, as a count does: 0 where there is no such number
 abbrev pub placeOf : List ℕ → ℕ → ℕ
 placeOf = countOf
-
--- R283: where a part is given, or the text's start
-abbrev pub placeIf : Checked → ℕ → ℕ
-placeIf C.Right n = n
-placeIf (C.Refused q) n = 0
-
-abbrev pub readIf : Checked → Cells → Cells
-readIf C.Right c = c
-readIf (C.Refused q) c = bad q
 
 module _ (ρ : Rules) (s : List ℕ) (r : Carried) where
   -- R286: the part that the record names for group g, of this form, is exactly as many lines of the text as its count needs
