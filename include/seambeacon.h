@@ -214,13 +214,12 @@ enum seambeacon_reply seambeacon_characteristic(uint32_t rules, const uint8_t *t
 
 /* The questions with a record, which are asked beside a text. Counts are those of the record, and
    nothing else of it is looked at but the start and the end of the group that is asked for, or of
-   group 4 for a characteristic. For a record that was placed (0 or 7) in the same text under the
-   same rules the answers are those of the questions by place, and 22 never comes (R288). For any
-   other a part is taken only if it is as many whole lines (R286): it lies within the text,
-   begins at its start or just behind a line feed, holds the line feeds that the count needs and
-   ends with the last of them; for count 0 it is empty, at such a place. Else it is refused with
-   22. A placing that was refused by 1 to 6 leaves a record whose counts are zeros, and so it is
-   answered 5. */
+   group 4 for a characteristic. A record that placing gave (0 or 7) in this very text, by these
+   rules, is answered as its place is, and never with 22 (R288). Of any other a part is taken only
+   if it is as many whole lines (R286): no byte of it is beyond the text, it begins at place 0 or
+   next behind a line feed, and it has the line feeds that the count needs, one of them as its last
+   byte; for count 0 it is empty, where a line may begin. Else it is refused with 22. A placing
+   that was refused by 1 to 6 leaves a record whose counts are zeros, and so it is answered 5. */
 
 /* Asked: the cells of a group, 1 to 60, of a record.
    Answered: as by seambeacon_read_group: 0 with the number of cells, which stand in the table from

@@ -239,10 +239,10 @@ pub enum Placing {
 /// ```
 ///
 /// The record doesn't hold the text; [`View`] does. It may be asked in any text and under any rules, and may be made up: so each question looks
-/// first whether the part that the record names for the group is as many whole lines as its count needs. It has to lie within the text, to begin at its start
-/// or just behind a line feed, to hold the line feeds that the count needs and to end with the last of them; for count 0 to be empty, at such a
-/// place. Else the refusal is [`Refusal::BadPart`] (R286). Of a record that was placed in the same text under the same rules the answers are those of
-/// [`read_group`], [`group_lines`] and [`characteristic`] at its place, and that refusal never comes (R288).
+/// first whether the part that the record names for the group is as many whole lines as its count needs. No byte of it may be beyond the text; it
+/// has to begin at place 0 or next behind a line feed, and to have the line feeds that the count needs, one of them as its last byte; for count 0
+/// it has to be empty, where a line may begin. Else the refusal is [`Refusal::BadPart`] (R286). A record that [`place`] gave in this very text, by
+/// these rules, is answered as [`read_group`], [`group_lines`] and [`characteristic`] answer at its place, and never with that refusal (R288).
 #[derive(Clone, Copy, Debug, PartialEq, Eq, Hash)]
 #[must_use]
 pub struct Record {

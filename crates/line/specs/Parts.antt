@@ -8,7 +8,7 @@ use lib.ListN.{length, getD}
 use Rattle.base.specs.Part.{part}
 use Rattle.line.specs.Lines.{isFeed, feeds, reach}
 
--- R2: the text's start, or just after a line feed. The text's end is such a place too if a line feed stands before it.
+-- R2: where a line may begin: at place 0, or next to a line feed and behind it. The text's end is such a place too if a line feed stands before it.
 pub data LineStart (s : List ℕ) : ℕ → Type 0 where
   text-start : LineStart s 0
   behind-feed : (i : ℕ) → i < length s → getD s i 0 ≡ 10 → LineStart s (suc i)

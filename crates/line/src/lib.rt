@@ -55,7 +55,7 @@ fn lies_within(text: &[u8], from: usize, to: usize) -> bool
     from <= to && to <= text.len()
 }
 
-// R2: whether a line may begin at a place: the text's start, or just after a line feed.
+// R2: whether a line may begin at a place: at 0, or next to a line feed and behind it.
 fn begins_line(text: &[u8], at: usize) -> bool
     ensures { λ r. ⌜ r ≡ beginsLine (now (text .entry)) at ⌝ }
 {

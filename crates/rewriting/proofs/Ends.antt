@@ -12,7 +12,7 @@ use Rattle.base.specs.Every
 use Rattle.base.specs.Every.{upFrom}
 use Rattle.count.specs.Tally.{cellsIn}
 use Rattle.place.specs.Numbered.{placingReply}
-use Rattle.place.specs.Placing.{placingOf, countsAt}
+use Rattle.place.specs.Placing.{countsAt}
 use Rattle.place.specs.Walk.{PlacedAt}
 use Rattle.place.proofs.Ends.{strict-placing}
 use Rattle.reading.specs.Read.{Cells}

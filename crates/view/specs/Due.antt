@@ -28,8 +28,8 @@ module _ (ρ : Rules) (s : List ℕ) (r : Carried) where
     abbrev pub namedPart : List ℕ
     namedPart = part (placeOf (r .starts-of) g) (placeOf (r .ends-of) g) s
 
-    -- R286: they lie within the text, begin at its start or just after a line feed, hold exactly the line feeds that the group's count needs, and
-    -- end with the last of them; for a count of 0 they are empty, at such a place
+    -- R286: nothing of them is beyond the text; a line may begin where they do; of line feeds they have as many as the group has lines by its count,
+    -- one of them as their last byte; a count of 0 has none, and then they are empty, where a line may begin
     abbrev pub PartHolds : Type 0
     PartHolds = AreLines s (placeOf (r .starts-of) g) (placeOf (r .ends-of) g) (linesIn ρ (r .counts-of) g)
 

@@ -1,5 +1,5 @@
--- R286 to R288: what a record's part decides. `BadPartExactly` is of every record; `AsPlaced` of one that was placed in the same text under the same
--- rules; `DamageKept` and `GrowthKept` of one that was placed before the text was damaged (D3) or grew (R258).
+-- R286 to R288: what a record's part decides. `BadPartExactly` is of every record; `AsPlaced` of one that was placed in this very text, by the rules that
+-- are asked with; `DamageKept` and `GrowthKept` of one that was placed before the text was damaged (D3) or grew (R258).
 use mathlib.Core.Path.{_≡_}
 use mathlib.Core.List.{List, _++_}
 use mathlib.Core.Logic.{_↔_}
@@ -34,7 +34,7 @@ module _ (ρ : Rules) (s : List ℕ) (r : Carried) where
     pub reading : (g room : ℕ) → readWith ρ s r g room ≡ bad BadPart ↔ LacksPart ρ s r g
     pub characteristic : (k : ℕ) → characteristicWith ρ s r k ≡ Refused BadPart ↔ (((1 ≤ k) × (k ≤ 49)) × LacksPart ρ s r 4)
 
-  -- R287: where the part holds, its lines and the group's count decide, by the definition in which the text does not occur
+  -- R287: where the part holds, its lines and the group's count decide: `readForm` knows of no text
   abbrev pub LinesDecide : Type 0
   LinesDecide = (g : ℕ) (f : Form) → formOf g ≡ Has f → Held ρ s r g → (room : ℕ) → readWith ρ s r g room ≡ readForm ρ f g (countOf (r .counts-of) g) (namedPart ρ s r g) room
 

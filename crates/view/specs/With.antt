@@ -54,7 +54,7 @@ module _ (ρ : Rules) (s : List ℕ) (r : Carried) where
   unfoldable pub partWith : ℕ → List ℕ
   partWith g = part (startWith g) (endWith g) s
 
-  -- R287: what the rules give to these lines and that count; the text does not occur in `readGroup`
+  -- R287: the counts and these lines by themselves: `readGroup` knows of no text
   unfoldable pub readWith : ℕ → ℕ → Cells
   readWith g room = readIf (foundWith g) (readGroup ρ (r .counts-of) g (partWith g) room)
 
