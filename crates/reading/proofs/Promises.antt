@@ -87,14 +87,17 @@ refused-read-keeps (done cs) old n = absurd (n refl)
 refused-read-keeps (bad r) old n = refl
 
 -- R266: under 0 the first cells of the table are those that were read
-pub done-read-holds : (cs old : List ℤ) → take (length cs) (tableBy (done cs) old) ≡ cs
-done-read-holds cs old = take-at cs (drop (0 + length cs) old) (length cs) refl
+pub done-read-holds : (B : Type 0) (cs old : List ℤ) → take (length cs) (tableBy {B = B} (done cs) old) ≡ cs
+done-read-holds B cs old = take-at cs (drop (0 + length cs) old) (length cs) refl
 
 -- R266: and those behind them are what they were
+pub cells-keep-rest : (B : Type 0) (cs old : List ℤ) → drop (length cs) (tableBy {B = B} (done cs) old) ≡ drop (length cs) old
+cells-keep-rest B cs old = rw (zero-add (length cs)) (drop-at cs (drop (length cs) old) (length cs) refl)
+
 pub done-read-keeps-rest : (g : Cells) (old : List ℤ) (n : ℕ) → readingOf g ≡ Done n → drop n (tableBy g old) ≡ drop n old
 done-read-keeps-rest (done cs) old n e =
     let m : length cs ≡ n = cc in
-    rw (← m, zero-add (length cs)) (drop-at cs (drop (length cs) old) (length cs) refl)
+    rw (← m) (cells-keep-rest Refusal cs old)
 done-read-keeps-rest (bad r) old n e = let z : _≡_ {A = ℕ} 0 1 = cc in absurd (omega arith)
 
 module _ (ρ : Rules) where
@@ -118,7 +121,7 @@ module _ (ρ : Rules) where
 
 -- ---- R268: a group without elements reads with 0 and no cells, into an empty table too
 
-no-elements : (ρ : Rules) (f : Form) → (linesOf ρ f 0 ≡ 0) × (cellsOf ρ f 0 ≡ 0)
+pub no-elements : (ρ : Rules) (f : Form) → (linesOf ρ f 0 ≡ 0) × (cellsOf ρ f 0 ≡ 0)
 unfolding Count.linesOf Count.cellsOf
 no-elements ρ f = rw (elements-none ρ f) (rounded-none (rowOf f .«per_line»), zero-mul (rowOf f .cells))
 
