@@ -2,7 +2,7 @@
 -- others are what they were; and each answer fills a row of its table, with the group's number or 0 beside it.
 -- Assumes nothing.
 use mathlib.Core.Path.{_≡_, refl, sym, _∙_}
-use mathlib.Core.List.{List, [], _∷_, map}
+use mathlib.Core.List.{List, [], _∷_}
 use mathlib.Core.Logic.{inl, inr}
 use Prim.Native.Nat.{ℕ, _≤_}
 use native.Mathlib.Omega.{arith}
@@ -11,29 +11,28 @@ use lib.IntN.{ℤ}
 use lib.ListN.{length, take, drop}
 use Rattle.rules.specs.declared.Rules.{Rules}
 use Rattle.base.specs.Pieces.{done, bad}
-use Rattle.base.specs.Sign.{sizeOf}
 use Rattle.count.specs.Tally.{cellsIn}
+use Rattle.count.specs.Rules.{rulingOf}
+use Rattle.count.specs.declared.Ruling.the-variants.{Broken}
 use Rattle.count.proofs.Rulings.{broken-ruling, broken-group}
 use Rattle.count.proofs.Tallied.{cells-has}
-use Rattle.date.proofs.Due.{blamed-position}
 use Rattle.place.specs.declared.Placing.the-variants.{Placed}
 use Rattle.place.specs.Placing.{placingOf, countsAt}
 use Rattle.place.specs.Parts.{groupPart}
 use Rattle.place.proofs.Numbered.{refused-numbered}
 use Rattle.place.proofs.Zero.{IsPlaced, is-placed}
 use Rattle.reply.specs.declared.Refusal.{Refusal}
-use Rattle.reply.specs.declared.Refusal.the-variants.{BrokenRule, NoRoom, BadLine, BadField, BadDate}
+use Rattle.reply.specs.declared.Refusal.the-variants.{BrokenRule, NoRoom}
 use Rattle.reply.specs.Refusals.{refusalReply, rows, unplacedRefusals}
 use Rattle.reply.specs.Table.{Numbered, Row, cells}
 use Rattle.reply.proofs.Replies.{fills, refusal-fills, at-row, rows-left}
-use Rattle.reading.specs.Due as ReadingIs
 use Rattle.reading.specs.Read.{tableBy}
 use Rattle.reading.proofs.Due as Reading
-use Rattle.reading.proofs.Promises.{done-read-holds, cells-keep-rest}
+use Rattle.reading.specs.Numbered.{groupRefusals}
+use Rattle.reading.proofs.Promises.{done-read-holds, cells-keep-rest, refusal-cases}
 use Rattle.group.proofs.Texts.{read-located}
-use Rattle.whole.specs.declared.RecordRead.{RecordRead}
 use Rattle.whole.specs.Due.{FirstRefused, RefusedFor, unplaced, broken-rule, no-room, unread, Due}
-use Rattle.whole.specs.Numbered.{recordReply, groupTold, beforeRefusals, groupRefusals, NumberedWith, wholeRow}
+use Rattle.whole.specs.Numbered.{recordReply, groupTold, beforeRefusals, NumberedWith, wholeRow}
 use Rattle.whole.specs.Turn.{Turn, groupRead}
 use Rattle.whole.specs.Whole.{wholeRead, recordReadOf}
 use Rattle.whole.proofs.Due.{first-due}
@@ -68,16 +67,18 @@ module _ (ρ : Rules) (s : List ℕ) (at next : ℕ) (placed : placingOf ρ s at
   here = is-placed ρ s at next placed
 
   pub group-numbered : Numbered (rows groupRefusals) (refusalReply r)
-  group-numbered = by r (Reading.first-due ρ ns g its-lines (cellsIn ρ ns g) (bad r) .0 (sym (read-located ρ s at g (cellsIn ρ ns g) next ns (here .located-at)) ∙ f .told))
+  group-numbered =
+      refusal-cases ρ ns g its-lines (cellsIn ρ ns g) (Numbered (rows groupRefusals)) record {
+        none = λ d. absurd (d (f .low, f .high));
+        broken = λ h d. kept (broken-ruling ns (d .broken));
+        short = λ d. absurd (omega (arith, d .few, cells-has ρ ns g (d .f) (d .ruled .form)));
+        own = λ q d. d;
+      }
+      r
+      (Reading.first-due ρ ns g its-lines (cellsIn ρ ns g) (bad r) .0 (sym (read-located ρ s at g (cellsIn ρ ns g) next ns (here .located-at)) ∙ f .told))
     where
-      by : (r : Refusal) → ReadingIs.RefusedFor ρ ns g its-lines (cellsIn ρ ns g) r → Numbered (rows groupRefusals) (refusalReply r)
-      by r (ReadingIs.no-group d) = absurd (d (f .low, f .high))
-      by r (ReadingIs.broken-rule h d) = let e = sym (here .kept) ∙ broken-ruling ns (d .broken) in let z : _≡_ {A = ℕ} 0 1 = cc in absurd (omega arith)
-      by r (ReadingIs.no-room d) = absurd (omega (arith, d .few, cells-has ρ ns g (d .f) (d .ruled .form)))
-      by r (ReadingIs.bad-line l d) = at-row 0 (rows groupRefusals) (refusalReply (BadLine l)) (lit< tt) (refusal-fills (BadLine l) (omega (arith, d .line .number), tt))
-      by r (ReadingIs.bad-field l e d) =
-          at-row 1 (rows groupRefusals) (refusalReply (BadField l e)) (lit< tt) (refusal-fills (BadField l e) (omega (arith, d .field .number), (omega (arith, d .field .element), tt)))
-      by r (ReadingIs.bad-date q d) = at-row 2 (rows groupRefusals) (refusalReply (BadDate q)) (lit< tt) (refusal-fills (BadDate q) (blamed-position (map sizeOf (d .cs)) q (d .wrong), tt))
+      kept : {h : ℕ} {X : Type 0} → rulingOf ns ≡ Broken h → X
+      kept u = let e = sym (here .kept) ∙ u in let z : _≡_ {A = ℕ} 0 1 = cc in absurd (omega arith)
 
 module _ (ρ : Rules) (s : List ℕ) (at room : ℕ) where
   -- by a table whose row of 0 is whatever the question has
