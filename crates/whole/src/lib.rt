@@ -79,12 +79,12 @@ fn fill_groups(
         (now (table .entry)) ⌝ }
 {
     let mut cell: usize = 0;
-    let mut g: usize = 1;
-    while g < 61 {
-        let from = starts[g - 1];
-        let to = ends[g - 1];
-        cell = reading::fill_kept(rules, counts, g, &text[from..to], table, cell);
-        g += 1;
+    let mut group: usize = 1;
+    while group < 61 {
+        let from = starts[group - 1];
+        let to = ends[group - 1];
+        cell = reading::fill_kept(rules, counts, group, &text[from..to], table, cell);
+        group += 1;
     }
 }
 

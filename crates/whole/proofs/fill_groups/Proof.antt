@@ -1,4 +1,4 @@
--- `whole::fill_groups` meets its contract. The invariant: before group g, the cells of the groups from g on are all that is still to be put.
+-- `whole::fill_groups` meets its contract. The invariant: before each group, the cells of the groups from it on are all that is still to be put.
 -- Assumes nothing.
 use borrow.Author.Needs.{needs}
 use native.Mathlib.Omega.{arith}
@@ -10,10 +10,10 @@ use Rattle.whole.proofs.fill_groups.Statement.{statement}
 use Rattle.whole.proofs.fill_groups.Tie as tie
 
 abbrev Inv-loop : tie.InvT-loop
-Inv-loop rules text counts starts ends table₀ cell₀ g₀ table cell g = Filling rules text (carried counts starts ends) table₀ table g cell
+Inv-loop rules text counts starts ends table₀ cell₀ group₀ table cell group = Filling rules text (carried counts starts ends) table₀ table group cell
 
 abbrev μ-loop : tie.MeasureT-loop
-μ-loop rules text counts starts ends table₀ cell₀ g₀ table cell g = 61 - g
+μ-loop rules text counts starts ends table₀ cell₀ group₀ table cell group = 61 - group
 
 abbrev start : tie.In-loop Inv-loop μ-loop → tie.Start Inv-loop μ-loop
 start c = c .before .before .before .before .before .before
@@ -24,10 +24,10 @@ its c = let a = start c .args in carried (a .counts .now) (a .starts .now) (a .e
 parted : (c : tie.In-loop Inv-loop μ-loop) → Parted (start c .args .text .now) (its c)
 parted c = start c .pre .0
 
-low : (c : tie.In-loop Inv-loop μ-loop) → 1 ≤ c .before .loop .g
+low : (c : tie.In-loop Inv-loop μ-loop) → 1 ≤ c .before .loop .group
 low c = c .before .loop .inv .low
 
-high : (c : tie.In-loop Inv-loop μ-loop) → c .before .loop .g ≤ 60
+high : (c : tie.In-loop Inv-loop μ-loop) → c .before .loop .group ≤ 60
 high c = omega arith
 
 loop-holds : tie.Need-loop-holds Inv-loop μ-loop
