@@ -7,5 +7,6 @@ pub mod Placed
 pub mod Steps
 pub mod Due
 pub mod InTurn
+pub mod Promises
 pub mod Rests
 pub mod Kept

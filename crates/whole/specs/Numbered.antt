@@ -5,9 +5,10 @@ use mathlib.Core.Logic.{_⊎_}
 use Prim.Native.Nat.{ℕ, _≤_}
 use Rattle.reply.specs.declared.Reply.{Reply}
 use Rattle.reply.specs.declared.Refusal.{Refusal}
-use Rattle.reply.specs.declared.Refusal.the-variants.{NoRoom, BadDate}
+use Rattle.reply.specs.declared.Refusal.the-variants.{NoRoom}
 use Rattle.reply.specs.Table.{Numbered, told, Row, row, cells}
-use Rattle.reply.specs.Refusals.{refusalReply, rows, placingRefusals, lineRefusals}
+use Rattle.reply.specs.Refusals.{refusalReply, rows, placingRefusals}
+use Rattle.reading.specs.Numbered.{groupRefusals}
 use Rattle.whole.specs.declared.RecordRead.{RecordRead}
 use Rattle.whole.specs.declared.RecordRead.the-variants.{Done, Refused}
 
@@ -23,10 +24,6 @@ groupTold (Refused g r) = g
 -- R272: before a group is read: 0, what placing refuses with, 11
 abbrev pub beforeRefusals : List Refusal
 beforeRefusals = placingRefusals ++ (NoRoom ∷ [])
-
--- what the lines and the date of a group are refused with
-abbrev pub groupRefusals : List Refusal
-groupRefusals = lineRefusals ++ (BadDate 0 ∷ [])
 
 -- each reply fills a row: the group number is 0 beside those before, and one of 1 to 60 beside 8, 9 and 10; the row of 0 is the question's own
 abbrev pub NumberedWith : Row → ℕ → Reply → Type 0
