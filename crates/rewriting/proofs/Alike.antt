@@ -44,10 +44,14 @@ module _ (ρ : Rules) (s : List ℕ) (p : ℕ) (t : List ℕ) (q : ℕ) (h : Ali
   pub alike-text : textAt ρ s p ≡ textAt ρ t q
   alike-text = same-text ρ s p t q alike-basis
 
+  -- what reading the whole record gives
   same-checked : (a b : Placing) → SamePlacing ρ s t a b → asChecked a ≡ asChecked b
   same-checked a b (both-placed n m f) = refl
   same-checked a b (both-broken g n m f) = refl
   same-checked a b (both-refused r) = refl
+
+  alike-whole : (room : ℕ) → wholeRead ρ s p room ≡ wholeRead ρ t q room
+  alike-whole = same-whole ρ s p t q alike-basis (same-checked (placingOf ρ s p) (placingOf ρ t q) (alike-placing ρ s p t q h))
 
   module _ (cells room : ℕ) where
     turned : (ns : List ℕ) (n m : ℕ) (c : Bool) (u : Turn) → AlikeFrom ρ s n t m
@@ -61,12 +65,13 @@ module _ (ρ : Rules) (s : List ℕ) (p : ℕ) (t : List ℕ) (q : ℕ) (h : Ali
 
     pub alike-rewriting : SameRewriting ρ s t (rewritingOf ρ s p cells room) (rewritingOf ρ t q cells room)
     unfolding rewritingOf
-    alike-rewriting = by (placingOf ρ s p) (placingOf ρ t q) (alike-placing ρ s p t q h) (same-whole ρ s p t q alike-basis (same-checked (placingOf ρ s p) (placingOf ρ t q) (alike-placing ρ s p t q h)) cells)
+    alike-rewriting = by (placingOf ρ s p) (placingOf ρ t q) (alike-placing ρ s p t q h)
       where
-        by : (a b : Placing) → SamePlacing ρ s t a b → wholeRead ρ s p cells ≡ wholeRead ρ t q cells → SameRewriting ρ s t (placedSo s p a) (placedSo t q b)
-        by a b (both-placed n m f) whole = rw (same-counts, whole) (turned (countsAt ρ t q) n m (leb (recordBytes ρ (countsAt ρ t q)) room) (wholeRead ρ t q cells) f)
-        by a b (both-broken g n m f) whole = Rewritten.both-refused 0 (BrokenRule g)
-        by a b (both-refused r) whole = Rewritten.both-refused 0 r
+        by : (a b : Placing) → SamePlacing ρ s t a b → SameRewriting ρ s t (placedSo s p a) (placedSo t q b)
+        by a b (both-placed n m f) =
+            rw (same-counts, alike-whole cells) (turned (countsAt ρ t q) n m (leb (recordBytes ρ (countsAt ρ t q)) room) (wholeRead ρ t q cells) f)
+        by a b (both-broken g n m f) = Rewritten.both-refused 0 (BrokenRule g)
+        by a b (both-refused r) = Rewritten.both-refused 0 r
 
 -- ---- what the program prints
 

@@ -25,7 +25,7 @@ use Rattle.whole.proofs.Due as Whole
 use Rattle.writing.specs.Text.{recordBytes}
 use Rattle.rewriting.specs.declared.Rewriting.{Rewriting}
 use Rattle.rewriting.specs.declared.Rewriting.the-variants.{Done, Refused}
-use Rattle.rewriting.specs.Due.{NoRoomDue, RoomForBoth, RefusedFor, unplaced, broken-rule, no-room, unread, Due}
+use Rattle.rewriting.specs.Due.{RoomForBoth, RefusedFor, unplaced, broken-rule, no-room, unread, Due}
 use Rattle.rewriting.specs.Record.{rewrittenAs, rewritingOf}
 use Rattle.rewriting.proofs.Whole.{groups-done}
 
@@ -63,7 +63,7 @@ module _ (ρ : Rules) (s : List ℕ) (at cells room : ℕ) where
       short next placed few =
           ⊎-elim
           (λ (fits : recordBytes ρ ns ≤ room).
-              rewriting-read placed fits ∙ ap (rewrittenAs ρ ns next) (Whole.whole-short ρ s at cells record { next = next; placed = placed; few = few }))
+          rewriting-read placed fits ∙ ap (rewrittenAs ρ ns next) (Whole.whole-short ρ s at cells record { next = next; placed = placed; few = few }))
           (rewriting-short placed)
           (le-or-lt (recordBytes ρ ns) room)
 

@@ -6,14 +6,11 @@ use mathlib.Core.Path.{_≡_, refl, _∙_, ap}
 use mathlib.Core.List.{List, [], _∷_}
 use mathlib.Core.Logic.{inl, inr, ⊎-elim}
 use Prim.Native.Nat.{ℕ, _+_, _<_, _≤_}
-use native.Mathlib.Nat.{zero-add}
 use native.Mathlib.Omega.{arith}
 use lib.Dec.{lit<}
 use lib.IntN.{ℤ}
 use lib.ListN.{length, take, drop}
-use lib.Seq.{take-at, drop-at}
 use Rattle.rules.specs.declared.Rules.{Rules}
-use Rattle.base.specs.Part.{over}
 use Rattle.count.specs.Tally.{recordCells}
 use Rattle.place.specs.Placing.{countsAt}
 use Rattle.place.proofs.Placed.{located-long, located-range}
@@ -32,7 +29,7 @@ use Rattle.whole.proofs.Promises.{refused-numbered-with}
 use Rattle.writing.specs.Text.{recordBytes}
 use Rattle.writing.specs.Writing.{writingOf}
 use Rattle.writing.proofs.Promises.{record-some}
-use Rattle.writing.proofs.ReadsBack.{done-bytes, output-bytes}
+use Rattle.writing.proofs.ReadsBack.{done-bytes}
 use Rattle.rewriting.specs.declared.Rewriting.{Rewriting}
 use Rattle.rewriting.specs.declared.Rewriting.the-variants.{Done, Refused}
 use Rattle.rewriting.specs.Due.{NoRoomDue, RewrittenDue, RefusedFor, unplaced, broken-rule, no-room, unread, Due}
@@ -40,6 +37,7 @@ use Rattle.rewriting.specs.Numbered.{rewritingReply, rewritingGroup, rew
 use Rattle.rewriting.specs.Record.{rewritingOf, textAt, bufferBy, tableAfter}
 use Rattle.rewriting.proofs.Cells.{record-cells}
 use Rattle.rewriting.proofs.Due.{first-due}
+use Rattle.rewriting.proofs.Steps.{over-front}
 use Rattle.rewriting.proofs.Whole.{groups-done, whole-length, whole-written}
 
 -- ---- a refusal
@@ -63,13 +61,6 @@ table-serves ρ s at cells room l d =
     (d .short)
 
 -- ---- 0
-
--- what is put from the first place on stands there, and what is behind it stays
-over-front : {A : Type 0} (xs ys : List A) (n : ℕ) → length ys ≡ n → (take n (over 0 ys xs) ≡ ys) × (drop n (over 0 ys xs) ≡ drop n xs)
-over-front xs ys n e = (
-  take-at ys (drop (0 + length ys) xs) n e,
-  drop-at ys (drop (0 + length ys) xs) n e ∙ ap (λ k. drop k xs) (zero-add (length ys) ∙ e),
-)
 
 module _ (ρ : Rules) (s : List ℕ) (at cells room bytes next : ℕ) (e : rewritingOf ρ s at cells room ≡ Done bytes next) where
   d : RewrittenDue ρ s at cells room bytes next

@@ -1,17 +1,18 @@
 -- Rewriting a record, reply by reply: each answer, with the table and the output that it leaves, by what led to it.
 -- Assumes nothing.
 use mathlib.Core.Path.{_≡_, refl, sym, _∙_, ap}
-use mathlib.Core.List.{List, _++_}
+use mathlib.Core.List.{List}
 use Prim.Native.Nat.{ℕ, _+_, _<_, _≤_}
+use native.Mathlib.Nat.{zero-add}
 use native.Mathlib.Omega.{arith}
 use lib.IntN.{ℤ}
 use lib.ListN.{length, take, drop}
-use lib.Seq.{take-at}
+use lib.Seq.{take-at, drop-at}
 use Rattle.rules.specs.declared.Rules.{Rules}
 use Rattle.base.specs.Part.{part, over}
 use Rattle.base.specs.Pieces.{done, bad}
 use Rattle.base.proofs.Part.{over-length}
-use Rattle.base.proofs.Taken.{part-zero, take-none}
+use Rattle.base.proofs.Taken.{part-zero}
 use Rattle.place.specs.Numbered.{asChecked}
 use Rattle.place.specs.declared.Placing.the-variants.{Placed}
 use Rattle.place.specs.Placing.{Carried, placingOf, countsAt, carriedAt}
@@ -33,15 +34,18 @@ use Rattle.rewriting.specs.declared.Rewriting.{Rewriting}
 use Rattle.rewriting.specs.declared.Rewriting.the-variants.{Done, Refused}
 use Rattle.rewriting.specs.Record.{rewrittenAs, rewritingOf, bufferBy, tableAfter}
 use Rattle.rewriting.proofs.Due.{rewriting-unplaced, rewriting-short, rewriting-read}
-use Rattle.rewriting.proofs.Whole.{groups-done, read-cells, whole-length, whole-written}
+use Rattle.rewriting.proofs.Whole.{read-cells, whole-length, whole-written}
 
 -- what an answer, a table and an output at exit owe
 abbrev pub Outcome : Rules → List ℕ → ℕ → List ℤ → List ℕ → Rewriting → List ℤ → List ℕ → Type 0
 Outcome ρ s at table out r new text = (r ≡ rewritingOf ρ s at (length table) (length out)) × (new ≡ tableAfter ρ s at r table) × (text ≡ bufferBy ρ s at r out)
 
--- the front of a list with places overwritten
-front : {A : Type 0} (xs ys : List A) (n : ℕ) → length ys ≡ n → part 0 n (over 0 ys xs) ≡ ys
-front xs ys n e = part-zero n (over 0 ys xs) ∙ ap (λ t. take n (t ++ (ys ++ drop (0 + length ys) xs))) (take-none xs) ∙ take-at ys (drop (0 + length ys) xs) n e
+-- what is put from the first place on stands there, and what is behind it stays
+pub over-front : {A : Type 0} (xs ys : List A) (n : ℕ) → length ys ≡ n → (take n (over 0 ys xs) ≡ ys) × (drop n (over 0 ys xs) ≡ drop n xs)
+over-front xs ys n e = (
+  take-at ys (drop (0 + length ys) xs) n e,
+  drop-at ys (drop (0 + length ys) xs) n e ∙ ap (λ k. drop k xs) (zero-add (length ys) ∙ e),
+)
 
 -- a record that is placed with 0, with its next place and what it carries
 pub record Stands (ρ : Rules) (s : List ℕ) (at next : ℕ) (r : Carried) : Type 0 where
@@ -97,7 +101,7 @@ module _ {ρ : Rules} {s : List ℕ} {at next : ℕ} {r : Carried} (here : Stand
           by (bad u) v e f = let z : _≡_ {A = ℕ} 0 1 = cc in absurd (omega arith)
 
       these : part 0 cells new ≡ cellsAt ρ s at
-      these = ap (part 0 cells) (all-read .filled) ∙ front table (cellsAt ρ s at) cells (all-read .many)
+      these = ap (part 0 cells) (all-read .filled) ∙ part-zero cells (over 0 (cellsAt ρ s at) table) ∙ over-front table (cellsAt ρ s at) cells (all-read .many) .0
 
       -- what writing asks for
       pub step-writes : (cells ≤ length new) × (writingOf ρ (r .counts-of) (part 0 cells new) (length out) ≡ W.Done (recordBytes ρ (r .counts-of)))

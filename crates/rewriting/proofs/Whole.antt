@@ -14,7 +14,6 @@ use Rattle.place.specs.Placing.{placingOf, countsAt}
 use Rattle.reply.specs.declared.Answer.the-variants.{Done}
 use Rattle.whole.specs.Due.{GroupDone, AllDone, ReadDue}
 use Rattle.whole.specs.Turn.{groupRead, cellsAt}
-use Rattle.whole.specs.Whole.{wholeRead}
 use Rattle.whole.proofs.Due as Whole
 use Rattle.whole.proofs.Turns.{read-all}
 use Rattle.writing.specs.RoundTrip.{ReadWhole}

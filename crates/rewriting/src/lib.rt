@@ -35,9 +35,9 @@ fn write_cells(rules: rules::Rules, counts: &[u16], table: &[i64], cells: usize,
 }
 
 // Rewrites the record at a place of a text into an output, over a table. R321: what placing refuses with, 7 without its
-// next place (R235); 11 if output or table is too short (R322); what the first group that is refused is refused with, and
-// which group that is (R323); else 0 with the bytes that were written and the next place. A refusal leaves the whole
-// output and the whole table as they were (R325, R326).
+// next place (R235); 11 if output or table is too short (R322); what the first group that is refused is refused with,
+// and which group that is (R323); else 0 with the bytes that were written and the next place. A refusal leaves the
+// whole output (R325) and the whole table (R326) as they were.
 pub fn rewrite_record(
     rules: rules::Rules,
     text: &[u8],
