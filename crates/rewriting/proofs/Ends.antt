@@ -1,23 +1,23 @@
 -- R9: a record that the strict rule rewrites with 0 is rewritten so under each that counts alike: as many bytes, the same next place, the same
 -- text. What is canonical for one of two such rules is so for the other.
 -- Assumes nothing.
-use mathlib.Core.Path.{_≡_, refl, sym, _∙_, ap, ap₂, subst}
+use mathlib.Core.Path.{_≡_, sym, _∙_, ap, ap₂, subst}
 use mathlib.Core.List.{List}
 use mathlib.Core.Logic.{inl}
-use Prim.Native.Nat.{ℕ, zero, suc, _+_, _<_, _≤_}
+use Prim.Native.Nat.{ℕ, _≤_}
 use native.Mathlib.Omega.{arith}
 use Rattle.rules.specs.declared.LineEnds.the-variants.{Strict}
 use Rattle.rules.specs.declared.Rules.{Rules}
-use Rattle.base.specs.Every
-use Rattle.base.specs.Every.{upFrom}
+use Rattle.base.specs.Pieces.{cellsGot}
 use Rattle.count.specs.Tally.{cellsIn}
 use Rattle.place.specs.Numbered.{placingReply}
 use Rattle.place.specs.Placing.{countsAt}
 use Rattle.place.specs.Walk.{PlacedAt}
 use Rattle.place.proofs.Ends.{strict-placing}
-use Rattle.reading.specs.Read.{Cells}
 use Rattle.group.specs.Text.{readAt}
 use Rattle.group.proofs.Ends.{strict-read}
+use Rattle.whole.specs.Turn.{groupRead}
+use Rattle.whole.proofs.Turns.{turn-same}
 use Rattle.writing.specs.Text.{recordText, recordBytes}
 use Rattle.count.specs.Tally.{recordCells}
 use Rattle.count.proofs.SameCounting as Counted
@@ -27,14 +27,8 @@ use Rattle.writing.proofs.SameCounting.{record-text-same, record-bytes-same, da
 use Rattle.rewriting.specs.Canonical.{RightRecord, CanonicalRecords, none, more}
 use Rattle.rewriting.specs.declared.Rewriting.the-variants.{Done}
 use Rattle.rewriting.specs.Due.{RewrittenDue}
-use Rattle.rewriting.specs.Record.{groupRead, firstThen, cellsInTurn, rewritingOf, textAt}
+use Rattle.rewriting.specs.Record.{rewritingOf, textAt}
 use Rattle.rewriting.proofs.Due.{first-due}
-
--- groups that read the same have the same cells, one behind the other
-cells-same : (f h : ℕ → Cells) (a k : ℕ) → ((g : ℕ) → a ≤ g → g < a + k → f g ≡ h g) → cellsInTurn f (upFrom a k) ≡ cellsInTurn h (upFrom a k)
-unfolding cellsInTurn Every.upFrom
-cells-same f h a zero e = refl
-cells-same f h a (suc k) e = ap₂ firstThen (e a (omega arith) (omega arith)) (cells-same f h (suc a) k (λ g l m. e g (omega arith) (omega arith)))
 
 module _ (σ ρ : Rules) (only : σ .ends ≡ Strict) (alike : σ .counting ≡ ρ .counting) (s : List ℕ) (at cells room bytes next : ℕ) (done : rewritingOf σ s at cells room ≡ Done bytes next) where
   due : RewrittenDue σ s at cells room bytes next
@@ -76,7 +70,7 @@ module _ (σ ρ : Rules) (only : σ .ends ≡ Strict) (alike : σ .counting ≡ 
 
   pub strict-text : textAt ρ s at ≡ textAt σ s at
   strict-text =
-      ap₂ (recordText ρ) counts (cells-same (groupRead ρ s at) (groupRead σ s at) 1 60 (λ g low high. same g low (omega arith)))
+      ap₂ (recordText ρ) counts (ap cellsGot (turn-same (groupRead ρ s at) (groupRead σ s at) 1 60 (λ g low high. same g low (omega arith))))
       ∙ record-text-same ρ σ (sym alike) (countsAt σ s at) _
 
 -- what is canonical for one of two rules that count alike is so for the other: it has no line end that one of them refuses
