@@ -19,10 +19,9 @@ use Rattle.place.specs.Numbered.{asChecked, placingReply}
 use Rattle.place.specs.Placing.{placingOf, countsAt}
 use Rattle.place.proofs.Alike.{alike-placing, alike-counts}
 use Rattle.reply.specs.declared.Refusal.the-variants.{NoRoom, BrokenRule}
-use Rattle.group.proofs.Alike.{alike-read}
 use Rattle.whole.specs.Turn.{Turn}
 use Rattle.whole.specs.Whole.{wholeRead}
-use Rattle.whole.proofs.Rests.{SameBasis, same-whole}
+use Rattle.whole.proofs.Alike.{alike-basis, alike-whole}
 use Rattle.writing.specs.Text.{recordBytes}
 use Rattle.rewriting.specs.declared.Rewriting.{Rewriting}
 use Rattle.rewriting.specs.declared.Rewriting.the-variants.{Refused}
@@ -37,21 +36,9 @@ module _ (ρ : Rules) (s : List ℕ) (p : ℕ) (t : List ℕ) (q : ℕ) (h : Ali
   same-counts : countsAt ρ s p ≡ countsAt ρ t q
   same-counts = alike-counts ρ s p t q h
 
-  alike-basis : SameBasis ρ s p t q
-  alike-basis = record { counts = same-counts; groups = alike-read ρ s p t q h }
-
   -- the canonical text
   pub alike-text : textAt ρ s p ≡ textAt ρ t q
-  alike-text = same-text ρ s p t q alike-basis
-
-  -- what reading the whole record gives
-  same-checked : (a b : Placing) → SamePlacing ρ s t a b → asChecked a ≡ asChecked b
-  same-checked a b (both-placed n m f) = refl
-  same-checked a b (both-broken g n m f) = refl
-  same-checked a b (both-refused r) = refl
-
-  alike-whole : (room : ℕ) → wholeRead ρ s p room ≡ wholeRead ρ t q room
-  alike-whole = same-whole ρ s p t q alike-basis (same-checked (placingOf ρ s p) (placingOf ρ t q) (alike-placing ρ s p t q h))
+  alike-text = same-text ρ s p t q (alike-basis ρ s p t q h)
 
   module _ (cells room : ℕ) where
     turned : (ns : List ℕ) (n m : ℕ) (c : Bool) (u : Turn) → AlikeFrom ρ s n t m
@@ -69,7 +56,7 @@ module _ (ρ : Rules) (s : List ℕ) (p : ℕ) (t : List ℕ) (q : ℕ) (h : Ali
       where
         by : (a b : Placing) → SamePlacing ρ s t a b → SameRewriting ρ s t (placedSo s p a) (placedSo t q b)
         by a b (both-placed n m f) =
-            rw (same-counts, alike-whole cells) (turned (countsAt ρ t q) n m (leb (recordBytes ρ (countsAt ρ t q)) room) (wholeRead ρ t q cells) f)
+            rw (same-counts, alike-whole ρ s p t q h cells) (turned (countsAt ρ t q) n m (leb (recordBytes ρ (countsAt ρ t q)) room) (wholeRead ρ t q cells) f)
         by a b (both-broken g n m f) = Rewritten.both-refused 0 (BrokenRule g)
         by a b (both-refused r) = Rewritten.both-refused 0 r
 
