@@ -18,8 +18,8 @@ many c = let a = c .before .before .before .before .before .args in c .add-up .e
 enough : (c : tie.Else1) → (let a = c .before .before .before .before .before .before .before .args in recordCells (a .rules) (a .counts .now) ≤ length (a .table .now))
 enough c = omega (arith, many (c .before .before))
 
-returns : tie.Need-returns
-returns c =
+no-room : tie.Need-returns
+no-room c =
     let at-add-up = c .before .before in
     let a = at-add-up .before .before .before .before .before .args in
     step-short (a .rules) (a .text .now) (carried (a .counts .now) (a .starts .now) (a .ends .now)) (a .table .now) (omega (arith, many at-add-up))
@@ -31,16 +31,16 @@ fill-groups-requires c κs =
     let o = at-fits .before .before .before .before .before .before .before in
     (o .pre, (sym (c .before .enum-told .given .1) ∙ at-check .check-groups .ensures, enough at-fits))
 
-returns-2 : tie.Need-returns-2
-returns-2 c =
+unread : tie.Need-returns-2
+unread c =
     let at-check = c .before .before .before in
     let at-fits = at-check .before in
     let a = at-fits .before .before .before .before .before .before .before .args in
     step-unread (a .rules) (a .text .now) (carried (a .counts .now) (a .starts .now) (a .ends .now)) (a .table .now) (enough at-fits)
     (sym (c .before .g .given .1) ∙ at-check .check-groups .ensures)
 
-returns-3 : tie.Need-returns-3
-returns-3 c =
+read : tie.Need-returns-3
+read c =
     let at-told = c .before .before .before in
     let at-check = at-told .before .before in
     let at-fits = at-check .before in
@@ -53,11 +53,11 @@ read-placed-spec =
     tie.close
     (tie.spec
     (λ c κs. search needs)
-    returns
+    no-room
     (λ c κs. search needs)
     (λ c. search needs)
     (λ c. search needs)
     fill-groups-requires
-    returns-2
+    unread
     (λ c. search needs)
-    returns-3)
+    read)
