@@ -20,7 +20,7 @@ use Rattle.place.specs.Placing.{placingOf, countsAt}
 use Rattle.place.proofs.Alike.{alike-placing, alike-counts}
 use Rattle.reply.specs.declared.Refusal.the-variants.{NoRoom, BrokenRule}
 use Rattle.whole.specs.Turn.{Turn}
-use Rattle.whole.specs.Whole.{wholeRead}
+use Rattle.whole.specs.Whole.{unlessRefused, wholeRead}
 use Rattle.whole.proofs.Alike.{alike-basis, alike-whole}
 use Rattle.writing.specs.Text.{recordBytes}
 use Rattle.rewriting.specs.declared.Rewriting.{Rewriting}
@@ -28,7 +28,7 @@ use Rattle.rewriting.specs.declared.Rewriting.the-variants.{Refused}
 use Rattle.rewriting.specs.Alike as Rewritten
 use Rattle.rewriting.specs.Alike.{SameRewriting, both-rewritten}
 use Rattle.rewriting.specs.Printed.{programRewriting, textThen, rewrittenFrom, rewritten, printed}
-use Rattle.rewriting.specs.Record.{unlessRefused, withOutput, rewrittenAs, rewritingOf, textAt}
+use Rattle.rewriting.specs.Record.{withOutput, rewrittenAs, rewritingOf, textAt}
 use Rattle.rewriting.proofs.Printing.{rewritten-enough}
 use Rattle.rewriting.proofs.Rests.{same-text}
 
@@ -48,7 +48,7 @@ module _ (ρ : Rules) (s : List ℕ) (p : ℕ) (t : List ℕ) (q : ℕ) (h : Ali
     turned ns n m false u f = Rewritten.both-refused 0 NoRoom
 
     abbrev placedSo : List ℕ → ℕ → Placing → Rewriting
-    placedSo x at a = unlessRefused (asChecked a) (withOutput ρ (countsAt ρ x at) room (rewrittenAs ρ (countsAt ρ x at) (placingReply a .next) (wholeRead ρ x at cells)))
+    placedSo x at a = unlessRefused (Refused 0) (asChecked a) (withOutput ρ (countsAt ρ x at) room (rewrittenAs ρ (countsAt ρ x at) (placingReply a .next) (wholeRead ρ x at cells)))
 
     pub alike-rewriting : SameRewriting ρ s t (rewritingOf ρ s p cells room) (rewritingOf ρ t q cells room)
     unfolding rewritingOf

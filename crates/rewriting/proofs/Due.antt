@@ -18,7 +18,7 @@ use Rattle.reply.specs.declared.Refusal.{Refusal}
 use Rattle.reply.specs.declared.Refusal.the-variants.{NoRoom, BrokenRule}
 use Rattle.reply.specs.declared.Checked.the-variants as C
 use Rattle.whole.specs.Due as WholeIs
-use Rattle.whole.specs.Due.{Roomy}
+use Rattle.whole.specs.Due.{RoomForAll}
 use Rattle.whole.specs.Turn.{Turn, cellsAt}
 use Rattle.whole.specs.Whole.{wholeRead}
 use Rattle.whole.proofs.Due as Whole
@@ -47,7 +47,7 @@ module _ (ρ : Rules) (s : List ℕ) (at cells room : ℕ) where
     unfolding rewritingOf
     rewriting-read fits = rw (placed, le-leb (recordBytes ρ ns) room fits) refl
 
-  table-roomy : {next : ℕ} → RoomForBoth ρ s at cells room next → Roomy ρ s at cells
+  table-roomy : {next : ℕ} → RoomForBoth ρ s at cells room next → RoomForAll ρ s at cells
   table-roomy {next} h = record { next = next; placed = h .placed; enough = h .cells-fit }
 
   -- what is due is given

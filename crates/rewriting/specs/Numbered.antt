@@ -1,4 +1,4 @@
--- R200 to R214: each answer's number, with the numbers beside it; R323: the number of the group that was being read, apart from them. Which
+-- R200 to R211: each answer's number, with the numbers beside it; R323: the number of the group that was being read, apart from them. Which
 -- replies there are, and beside which of them the group is 0, is said with reading a whole record (`NumberedWith` in whole); the row of 0 is here.
 use mathlib.Core.List.{[], _∷_}
 use Prim.Native.Nat.{ℕ}

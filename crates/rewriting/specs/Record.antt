@@ -8,36 +8,29 @@ use lib.IntN.{ℤ}
 use Rattle.rules.specs.declared.Rules.{Rules}
 use Rattle.base.specs.Part.{over}
 use Rattle.base.specs.Pieces.{done, bad}
-use Rattle.reply.specs.declared.Checked.{Checked}
-use Rattle.reply.specs.declared.Checked.the-variants as C
 use Rattle.reply.specs.declared.Refusal.the-variants.{NoRoom}
 use Rattle.place.specs.Numbered.{asChecked, placingReply}
 use Rattle.place.specs.Placing.{placingOf, countsAt}
 use Rattle.whole.specs.Turn.{Turn, cellsAt}
-use Rattle.whole.specs.Whole.{wholeRead}
+use Rattle.whole.specs.Whole.{unlessRefused, wholeRead}
 use Rattle.writing.specs.Text.{recordText, recordBytes}
 use Rattle.rewriting.specs.declared.Rewriting.{Rewriting}
 use Rattle.rewriting.specs.declared.Rewriting.the-variants.{Done, Refused}
-
--- R321: placing's replies come first, 7 without its next place (R235)
-abbrev pub unlessRefused : Checked → Rewriting → Rewriting
-unlessRefused C.Right r = r
-unlessRefused (C.Refused why) r = Refused 0 why
 
 module _ (ρ : Rules) where
   -- R322: 11 for want of bytes, by the counts and the output's length alone
   abbrev pub withOutput : List ℕ → ℕ → Rewriting → Rewriting
   withOutput ns room r = cond (leb (recordBytes ρ ns) room) r (Refused 0 NoRoom)
 
-  -- R200: 0 has the bytes of the canonical text and the next place; R323, R326: what reading is refused with, 11 for want of cells among it
+  -- R200: 0 has the bytes of the canonical text and the next place; R322, R323: what reading is refused with, 11 for want of cells among it
   abbrev pub rewrittenAs : List ℕ → ℕ → Turn → Rewriting
   rewrittenAs ns next (done cs) = Done (recordBytes ρ ns) next
   rewrittenAs ns next (bad u) = Refused (u .0) (u .1)
 
-  -- over a table of so many cells and an output of so many bytes
+  -- R321: over a table of so many cells and an output of so many bytes
   unfoldable pub rewritingOf : List ℕ → ℕ → ℕ → ℕ → Rewriting
   rewritingOf s at cells room =
-      unlessRefused (asChecked (placingOf ρ s at))
+      unlessRefused (Refused 0) (asChecked (placingOf ρ s at))
       (withOutput (countsAt ρ s at) room (rewrittenAs (countsAt ρ s at) (placingReply (placingOf ρ s at) .next) (wholeRead ρ s at cells)))
 
   -- ---- what is lent, afterwards

@@ -75,7 +75,7 @@ pub fn rewrite_record(
 
 // ---- Replies.
 
-// R200 to R214: the answer's number, with the numbers beside it.
+// R200 to R211: the answer's number, with the numbers beside it.
 pub fn reply_of(answer: Rewriting) -> reply::Reply
     ensures { λ r. ⌜ r ≡ rewritingReply answer ⌝ }
 {

@@ -12,13 +12,13 @@ use Prim.Native.Nat.{ℕ}
 use Rattle.rules.specs.declared.Rules.{Rules}
 use Rattle.group.specs.Damage.{OneGroup, Damaged, Confined}
 use Rattle.view.specs.Placed.{DamageKept}
-use Rattle.whole.specs.Kept as Whole
+use Rattle.whole.specs.Kept.{DamageKeepsWhole}
 
 -- what is asked by place in u, what is asked in u with a record that was placed in t, and whole records of u
 pub record DamageLeaves (ρ : Rules) (t u : List ℕ) (among : ℕ → ℕ → Type 0) : Type 0 where
   pub confined : Confined ρ t u among
   pub records : DamageKept ρ t u among
-  pub whole : Whole.DamageKept ρ t u among
+  pub whole : DamageKeepsWhole ρ t u among
 
 -- R270: t is a text, u the same with bytes of these groups exchanged; `among k g` says that group g of record k is one of them
 abbrev pub AnyDamage : Rules → Type 1

@@ -20,7 +20,7 @@ use Rattle.place.specs.Placing.{placingOf, countsAt}
 use Rattle.reply.specs.declared.Refusal.{Refusal}
 use Rattle.reply.specs.declared.Refusal.the-variants.{NoRoom, BrokenRule}
 use Rattle.reply.specs.declared.Checked.the-variants as C
-use Rattle.whole.specs.Due.{FirstRefused, AllDone, TableShort, Roomy, RefusedFor, unplaced, broken-rule, no-room, unread, Due}
+use Rattle.whole.specs.Due.{FirstRefused, AllDone, NoRoomForAll, RoomForAll, RefusedFor, unplaced, broken-rule, no-room, unread, Due}
 use Rattle.whole.specs.Turn.{Turn, groupRead, allInTurn}
 use Rattle.whole.specs.Whole.{wholeRead}
 use Rattle.whole.proofs.Turns.{all-read, read-all, turn-first, first-turn}
@@ -57,11 +57,11 @@ module _ (ρ : Rules) (s : List ℕ) (at room : ℕ) where
   unfolding wholeRead
   whole-unplaced e = rw e refl
 
-  pub whole-short : TableShort ρ s at room → wholeRead ρ s at room ≡ bad (0, NoRoom)
+  pub whole-short : NoRoomForAll ρ s at room → wholeRead ρ s at room ≡ bad (0, NoRoom)
   unfolding wholeRead
   whole-short h = rw (h .placed, lt-leb (recordCells ρ (countsAt ρ s at)) room (h .few)) refl
 
-  pub whole-roomy : Roomy ρ s at room → wholeRead ρ s at room ≡ allInTurn ρ s at
+  pub whole-roomy : RoomForAll ρ s at room → wholeRead ρ s at room ≡ allInTurn ρ s at
   unfolding wholeRead
   whole-roomy h = rw (h .placed, le-leb (recordCells ρ (countsAt ρ s at)) room (h .enough)) refl
 
@@ -83,16 +83,16 @@ module _ (ρ : Rules) (s : List ℕ) (at room : ℕ) where
       D : Turn → Type 0
       D = Due ρ s at room
 
-      turn : Roomy ρ s at room → (t : Turn) → allInTurn ρ s at ≡ t → D t
+      turn : RoomForAll ρ s at room → (t : Turn) → allInTurn ρ s at ≡ t → D t
       turn h (done cs) e = record { roomy = h; groups = turn-all-done ρ s at cs .0 e }
       turn h (bad u) e = unread (u .0) (u .1) record { roomy = h; first = turn-first-refused ρ s at (u .0) (u .1) .0 e }
 
       room-by : (n : ℕ) → placingOf ρ s at ≡ P.Placed n → (b : Bool) → leb (recordCells ρ (countsAt ρ s at)) room ≡ b → D (wholeRead ρ s at room)
       room-by n u true b =
-          let h : Roomy ρ s at room = record { next = n; placed = u; enough = leb-true (recordCells ρ (countsAt ρ s at)) room b } in
+          let h : RoomForAll ρ s at room = record { next = n; placed = u; enough = leb-true (recordCells ρ (countsAt ρ s at)) room b } in
           subst D (sym (whole-roomy h)) (turn h (allInTurn ρ s at) refl)
       room-by n u false b =
-          let h : TableShort ρ s at room = record { next = n; placed = u; few = leb-false (recordCells ρ (countsAt ρ s at)) room b } in
+          let h : NoRoomForAll ρ s at room = record { next = n; placed = u; few = leb-false (recordCells ρ (countsAt ρ s at)) room b } in
           subst D (sym (whole-short h)) (no-room h)
 
       by : (p : Placing) → placingOf ρ s at ≡ p → D (wholeRead ρ s at room)

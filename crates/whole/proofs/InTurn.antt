@@ -21,7 +21,7 @@ use Rattle.reading.proofs.GroupRead.{group-reads, reads-cells}
 use Rattle.reading.proofs.Promises.{read-room}
 use Rattle.group.specs.Text.{readAt}
 use Rattle.group.proofs.Texts.{read-located}
-use Rattle.whole.specs.Due.{Roomy}
+use Rattle.whole.specs.Due.{RoomForAll}
 use Rattle.whole.specs.InTurn.{RoomEnough, AsInTurn}
 use Rattle.whole.specs.Turn.{groupRead}
 use Rattle.whole.specs.Whole.{wholeRead}

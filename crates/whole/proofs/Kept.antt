@@ -25,16 +25,17 @@ use Rattle.group.specs.Text.{readAt}
 use Rattle.group.proofs.Damage.{damage-stays}
 use Rattle.group.proofs.Growth.{answers-stay}
 use Rattle.whole.specs.Due.{RefusedFor, unplaced, broken-rule, no-room, unread}
-use Rattle.whole.specs.Kept.{DamageKept, GrowthKept}
+use Rattle.whole.specs.Kept.{DamageKeepsWhole, GrowthKeepsWhole}
 use Rattle.whole.specs.Turn.{groupRead}
 use Rattle.whole.specs.Whole.{wholeRead}
 use Rattle.whole.proofs.Due.{first-due, whole-unplaced, whole-short, whole-roomy, turn-first-refused}
 use Rattle.whole.proofs.InTurn.{as-in-turn}
-use Rattle.whole.proofs.Rests.{SameBasis, same-whole}
+use Rattle.whole.proofs.Rests.{same-whole, whole-by-turn}
+use Rattle.whole.proofs.Turns.{turn-same}
 
 -- ---- grown
 
-pub growth-kept : (ρ : Rules) (s b : List ℕ) → GrowthKept ρ s b
+pub growth-kept : (ρ : Rules) (s b : List ℕ) → GrowthKeepsWhole ρ s b
 growth-kept ρ s b at settled room =
     let h = answers-stay ρ s b at settled .answers in
     same-whole ρ (s ++ b) at s at record { counts = ap (λ c. c .counts-of) (h .carried); groups = h .groups } (ap asChecked (h .placing)) room
@@ -79,7 +80,7 @@ module _ (ρ : Rules) (t u : List ℕ) (among : ℕ → ℕ → Type 0) (damaged
     unplaced-stays : {why : Refusal} → asChecked (placingOf ρ t was) ≡ C.Refused why → asChecked (placingOf ρ u now) ≡ C.Refused why
     unplaced-stays e = ap asChecked (stays .answers j) ∙ e
 
-    refused : (h room : ℕ) (r : Refusal) → ((i : ℕ) → i ≤ h → Outside among j i) → RefusedFor ρ t was room h r → wholeRead ρ u now room ≡ bad (h, r)
+    refused : (h room : ℕ) (r : Refusal) → ((i : ℕ) → 1 ≤ i → i ≤ h → Outside among j i) → RefusedFor ρ t was room h r → wholeRead ρ u now room ≡ bad (h, r)
     refused h room r out (unplaced q d) = whole-unplaced ρ u now room (unplaced-stays (ap asChecked (Placing.first-due ρ t was (P.Refused q) .1 d)))
     refused h room r out (broken-rule g n d) = whole-unplaced ρ u now room (unplaced-stays (ap asChecked (Placing.first-due ρ t was (P.BrokenRule g n) .1 d)))
     refused h room r out (no-room d) =
@@ -91,8 +92,8 @@ module _ (ρ : Rules) (t u : List ℕ) (among : ℕ → ℕ → Type 0) (damaged
         ∙ turn-first-refused ρ u now h r .1 record {
           low = f .low;
           high = f .high;
-          earlier = λ i low few. let e = f .earlier i low few in record { cells = e .cells; reads = group i (out i (omega arith)) ∙ e .reads };
-          told = group h (out h (omega arith)) ∙ f .told;
+          earlier = λ i low few. let e = f .earlier i low few in record { cells = e .cells; reads = group i (out i low (omega arith)) ∙ e .reads };
+          told = group h (out h (f .low) (omega arith)) ∙ f .told;
         }
 
     -- where its cells stand
@@ -107,9 +108,11 @@ module _ (ρ : Rules) (t u : List ℕ) (among : ℕ → ℕ → Type 0) (damaged
         ap (λ ns. part (cellsBefore ρ ns h) (cellsBefore ρ ns (suc h)) ds) (sym counts)
         ∙ ap cellsGot (sym (stood u now room ds b h low high) ∙ group h out ∙ stood t was room cs a h low high)
 
-  pub damage-kept : DamageKept ρ t u among
+  pub damage-kept : DamageKeepsWhole ρ t u among
   damage-kept = record {
-    untouched = λ j out room. same-whole ρ u (spot ρ u j) t (spot ρ t j) record { counts = counts j; groups = λ g k. reads j g (out g) k } (ap asChecked (stays .answers j)) room;
+    untouched = λ j out room.
+        whole-by-turn ρ u (spot ρ u j) t (spot ρ t j) (ap asChecked (stays .answers j)) (counts j)
+        (turn-same (groupRead ρ u (spot ρ u j)) (groupRead ρ t (spot ρ t j)) 1 60 (λ g low high. group j g (out g low (omega arith)))) room;
     refused = λ j h out room r e. refused j h room r out (first-due ρ t (spot ρ t j) room (bad (h, r)) .0 e);
     cells = λ j room cs ds a b h low high out. cells j room cs ds a b h low high out;
   }

@@ -24,7 +24,7 @@ use Rattle.reading.specs.Read.{Cells, verdictOf}
 use Rattle.reading.proofs.GroupRead.{group-reads, reads-cells}
 use Rattle.whole.specs.declared.Groups.the-variants.{All, GroupRefused}
 use Rattle.whole.specs.Turn.{Turn, inTurn}
-use Rattle.whole.specs.Whole.{groupsOf, Parted, linesBy, groupBy, allBy}
+use Rattle.whole.specs.Whole.{groupsOf, Parted, linesNamed, groupBy, allBy}
 use Rattle.whole.proofs.Turns.{FirstDone, turn-done, turn-bad, turn-split, turn-length}
 
 -- what the record names for a group: both places are among those that are lent, and what stands between them is a part of the text
@@ -46,7 +46,7 @@ module _ (ρ : Rules) (s : List ℕ) (r : Carried) where
   next {g} h = ap (inTurn (groupBy ρ s r)) (up-more g 60 h)
 
   group-size : (g : ℕ) (cs : List ℤ) → groupBy ρ s r g ≡ done cs → length cs ≡ cellsIn ρ (r .counts-of) g
-  group-size g cs e = reads-cells ρ (group-reads ρ (r .counts-of) g (linesBy ρ s r g) (cellsIn ρ (r .counts-of) g) cs e)
+  group-size g cs e = reads-cells ρ (group-reads ρ (r .counts-of) g (linesNamed ρ s r g) (cellsIn ρ (r .counts-of) g) cs e)
 
   -- all groups have as many cells as the counts say
   pub all-size : (cs : List ℤ) → allBy ρ s r ≡ done cs → length cs ≡ recordCells ρ (r .counts-of)

@@ -17,6 +17,12 @@ pub record SameBasis (ρ : Rules) (s : List ℕ) (p : ℕ) (t : List ℕ) (q : �
   pub counts : countsAt ρ s p ≡ countsAt ρ t q
   pub groups : (g room : ℕ) → readAt ρ s p g room ≡ readAt ρ t q g room
 
+-- the next place is of no use here
+pub whole-by-turn : (ρ : Rules) (s : List ℕ) (p : ℕ) (t : List ℕ) (q : ℕ) → asChecked (placingOf ρ s p) ≡ asChecked (placingOf ρ t q) → countsAt ρ s p ≡ countsAt ρ t q
+    → allInTurn ρ s p ≡ allInTurn ρ t q → (room : ℕ) → wholeRead ρ s p room ≡ wholeRead ρ t q room
+unfolding wholeRead
+whole-by-turn ρ s p t q placing counts turn room = rw (placing, counts, turn) refl
+
 module _ (ρ : Rules) (s : List ℕ) (p : ℕ) (t : List ℕ) (q : ℕ) (h : SameBasis ρ s p t q) where
   pub same-reads : groupRead ρ s p ≡ groupRead ρ t q
   same-reads = fun-ext (λ g. h .groups g (cellsIn ρ (countsAt ρ s p) g) ∙ ap (λ ns. readAt ρ t q g (cellsIn ρ ns g)) (h .counts))
@@ -24,7 +30,5 @@ module _ (ρ : Rules) (s : List ℕ) (p : ℕ) (t : List ℕ) (q : ℕ) (h : Sam
   pub same-turn : allInTurn ρ s p ≡ allInTurn ρ t q
   same-turn = ap (λ read. inTurn read (upFrom 1 60)) same-reads
 
-  -- the next place is of no use here
   pub same-whole : asChecked (placingOf ρ s p) ≡ asChecked (placingOf ρ t q) → (room : ℕ) → wholeRead ρ s p room ≡ wholeRead ρ t q room
-  unfolding wholeRead
-  same-whole placing room = rw (placing, h .counts, same-turn) refl
+  same-whole placing room = whole-by-turn ρ s p t q placing (h .counts) same-turn room

@@ -39,32 +39,33 @@ module _ (ρ : Rules) (s : List ℕ) (at : ℕ) where
   -- ---- the record
 
   -- R273: 11: placed with 0, and the table has fewer cells than all groups together; for no other reason
-  pub record TableShort (room : ℕ) : Type 0 where
+  pub record NoRoomForAll (room : ℕ) : Type 0 where
     pub next : ℕ
     pub placed : placingOf ρ s at ≡ Placed next
     pub few : room < recordCells ρ (countsAt ρ s at)
 
   -- neither 11 nor what placing refuses with
-  pub record Roomy (room : ℕ) : Type 0 where
+  pub record RoomForAll (room : ℕ) : Type 0 where
     pub next : ℕ
     pub placed : placingOf ρ s at ≡ Placed next
     pub enough : recordCells ρ (countsAt ρ s at) ≤ room
 
-  -- R274, R275: the first group that is refused
-  pub record UnreadDue (room g : ℕ) (r : Refusal) : Type 0 where
-    pub roomy : Roomy room
+  -- R272, R274: neither of these, and a group is refused
+  pub record GroupUnread (room g : ℕ) (r : Refusal) : Type 0 where
+    pub roomy : RoomForAll room
     pub first : FirstRefused g r
 
+  -- R274, R275: 0
   pub record ReadDue (room : ℕ) (cs : List ℤ) : Type 0 where
-    pub roomy : Roomy room
+    pub roomy : RoomForAll room
     pub groups : AllDone cs
 
   -- what it refuses with, the number of the group that was being read before it: as placing does, 7 without its next place (R235); 11; a group
   pub data RefusedFor (room : ℕ) : ℕ → Refusal → Type 0 where
     unplaced : (r : Refusal) → Place.RefusedFor ρ s at r → RefusedFor room 0 r
     broken-rule : (g next : ℕ) → Place.StandsBroken ρ s at g next → RefusedFor room 0 (BrokenRule g)
-    no-room : TableShort room → RefusedFor room 0 NoRoom
-    unread : (g : ℕ) (r : Refusal) → UnreadDue room g r → RefusedFor room g r
+    no-room : NoRoomForAll room → RefusedFor room 0 NoRoom
+    unread : (g : ℕ) (r : Refusal) → GroupUnread room g r → RefusedFor room g r
 
   abbrev pub Due : ℕ → Turn → Type 0
   Due room (done cs) = ReadDue room cs

@@ -21,11 +21,11 @@ abbrev pub groupTold : RecordRead → ℕ
 groupTold (Done n) = 0
 groupTold (Refused g r) = g
 
--- R272: before a group is read: 0, what placing refuses with, 11
+-- R272: what is refused with before a group is read: as placing does, and 11
 abbrev pub beforeRefusals : List Refusal
 beforeRefusals = placingRefusals ++ (NoRoom ∷ [])
 
--- each reply fills a row: the group number is 0 beside those before, and one of 1 to 60 beside 8, 9 and 10; the row of 0 is the question's own
+-- each reply fills a row: the group number is 0 beside 0 and beside those, and one of 1 to 60 beside 8, 9 and 10; the row of 0 is the question's own
 abbrev pub NumberedWith : Row → ℕ → Reply → Type 0
 NumberedWith zeroth g r = ((g ≡ 0) × Numbered (zeroth ∷ rows beforeRefusals) r) ⊎ (((1 ≤ g) × (g ≤ 60)) × Numbered (rows groupRefusals) r)
 

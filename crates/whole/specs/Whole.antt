@@ -18,6 +18,7 @@ use Rattle.place.specs.Placing.{Carried, placingOf, countsAt}
 use Rattle.reading.specs.Read.{Cells, readGroup}
 use Rattle.reply.specs.declared.Checked.{Checked}
 use Rattle.reply.specs.declared.Checked.the-variants as C
+use Rattle.reply.specs.declared.Refusal.{Refusal}
 use Rattle.reply.specs.declared.Refusal.the-variants.{NoRoom}
 use Rattle.whole.specs.declared.Groups.{Groups}
 use Rattle.whole.specs.declared.Groups.the-variants as G
@@ -25,10 +26,10 @@ use Rattle.whole.specs.declared.RecordRead.{RecordRead}
 use Rattle.whole.specs.declared.RecordRead.the-variants.{Done, Refused}
 use Rattle.whole.specs.Turn.{Turn, inTurn, allInTurn}
 
--- R272: placing's replies come first, 7 without its next place (R235)
-abbrev pub unlessRefused : Checked → Turn → Turn
-unlessRefused C.Right t = t
-unlessRefused (C.Refused why) t = bad (0, why)
+-- R272, R321: placing's replies come first, 7 without its next place (R235); A is an answer, and each kind has its own refusals
+abbrev pub unlessRefused : {A : Type 0} → (Refusal → A) → Checked → A → A
+unlessRefused refused C.Right a = a
+unlessRefused refused (C.Refused why) a = refused why
 
 module _ (ρ : Rules) where
   -- R273: 11 by the counts and the table's length alone
@@ -37,7 +38,7 @@ module _ (ρ : Rules) where
 
   -- into a table of so many cells
   unfoldable pub wholeRead : List ℕ → ℕ → ℕ → Turn
-  wholeRead s at room = unlessRefused (asChecked (placingOf ρ s at)) (withRoom (countsAt ρ s at) room (allInTurn ρ s at))
+  wholeRead s at room = unlessRefused (λ why. bad (0, why)) (asChecked (placingOf ρ s at)) (withRoom (countsAt ρ s at) room (allInTurn ρ s at))
 
 -- the answer; the table is as in reading a group (`tableBy`)
 abbrev pub recordReadOf : Turn → RecordRead
@@ -59,11 +60,11 @@ pub record Parted (s : List ℕ) (r : Carried) : Type 0 where
 
 module _ (ρ : Rules) (s : List ℕ) (r : Carried) where
   -- the lines that the record names for group g
-  abbrev pub linesBy : ℕ → List ℕ
-  linesBy g = part (getD (r .starts-of) (g - 1) 0) (getD (r .ends-of) (g - 1) 0) s
+  abbrev pub linesNamed : ℕ → List ℕ
+  linesNamed g = part (getD (r .starts-of) (g - 1) 0) (getD (r .ends-of) (g - 1) 0) s
 
   abbrev pub groupBy : ℕ → Cells
-  groupBy g = readGroup ρ (r .counts-of) g (linesBy g) (cellsIn ρ (r .counts-of) g)
+  groupBy g = readGroup ρ (r .counts-of) g (linesNamed g) (cellsIn ρ (r .counts-of) g)
 
   abbrev pub allBy : Turn
   allBy = inTurn groupBy (upFrom 1 60)
