@@ -1,5 +1,5 @@
-/* What is due of a whole record is known without asking for it: from placing, from the cells and bytes that its counts ask for, and from asking
-   for groups 1 to 60 in turn. Rewriting is refused for the same reasons, and for want of output (R322); so it is asked beside it, and its table
+/* What is due of a whole record is known without asking for it: from placing, from the cells and bytes that its counts ask for, and from its sixty
+   groups, read one after the other. Rewriting is refused for the same reasons, and for want of output (R322); so it is asked beside it, and its table
    is looked at too. */
 #include "forms.h"
 #include "questions.h"
