@@ -70,3 +70,6 @@ module _ (ρ : Rules) (ns : List ℕ) (g : ℕ) (y : List ℕ) (room : ℕ) (c :
 -- so it has as many cells as its count says
 pub reads-cells : (ρ : Rules) {ns : List ℕ} {g : ℕ} {y : List ℕ} {room : ℕ} {c : List ℤ} → GroupReads ρ ns g y room c → length c ≡ cellsIn ρ ns g
 reads-cells ρ {ns} {g} {y} {room} {c} r = group-size ρ (r .form) (mayBeShort g) (countOf ns g) y c (r .lines) ∙ sym (cells-has ρ ns g (r .form) (r .has))
+
+pub read-size : (ρ : Rules) (ns : List ℕ) (g : ℕ) (y : List ℕ) (room : ℕ) (c : List ℤ) → readGroup ρ ns g y room ≡ done c → length c ≡ cellsIn ρ ns g
+read-size ρ ns g y room c e = reads-cells ρ (group-reads ρ ns g y room c e)

@@ -455,8 +455,10 @@ pub fn check_kept(rules: rules::Rules, counts: &[u16], group: usize, lines: &[u8
     requires kept { ⌜ rulingOf (now counts) ≡ Ruling.Kept ⌝ }
     requires low { ⌜ 1 ≤ group ⌝ }
     requires high { ⌜ group ≤ 60 ⌝ }
-    ensures { λ r. ⌜ r ≡ verdictOf
-        (readGroup rules (now (counts .entry)) group (now (lines .entry)) (cellsIn rules (now (counts .entry)) group)) ⌝ }
+    ensures { λ r. ⌜ r ≡
+        verdictOf
+        (readGroup rules (now (counts .entry)) group (now (lines .entry))
+        (cellsIn rules (now (counts .entry)) group)) ⌝ }
 {
     let count = count::count_of(counts, group);
     if count == 0 {

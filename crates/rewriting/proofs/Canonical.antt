@@ -12,12 +12,12 @@ use lib.ListN.{length, length-append}
 use Rattle.rules.specs.declared.Rules.{Rules}
 use Rattle.base.specs.Part.{part}
 use Rattle.base.proofs.Part.{part-middle}
-use Rattle.count.specs.Tally.{cellsIn}
+use Rattle.count.specs.Tally.{cellsIn, groupCells}
 use Rattle.place.specs.Placing.{countsAt}
 use Rattle.whole.specs.Due.{GroupDone, AllDone}
 use Rattle.whole.specs.Turn.{cellsAt}
 use Rattle.writing.specs.Canonical.{CanonicalRecord}
-use Rattle.writing.specs.RoundTrip.{groupCells, ReadsBack, ReadWhole}
+use Rattle.writing.specs.RoundTrip.{ReadsBack, ReadWhole}
 use Rattle.writing.specs.Text.{recordText, recordBytes}
 use Rattle.count.specs.declared.Release.the-variants.{Five}
 use Rattle.count.proofs.Releases.{release-given}
@@ -66,7 +66,7 @@ module _ (ρ : Rules) {x : List ℕ} (r : RightRecord ρ x) (a b : List ℕ) whe
   read = whole-read ρ here (length a) (length a + length x) (right-back .placed) all
 
   pub right-text : textAt ρ here (length a) ≡ x
-  right-text = ap (recordText ρ (countsAt ρ here (length a))) (all .joined) ∙ written-again ρ read stands ∙ part-middle a x b
+  right-text = ap (recordText ρ (countsAt ρ here (length a))) (all .all) ∙ written-again ρ read stands ∙ part-middle a x b
 
   pub right-rewritten : length x ≤ 8192 → programRewriting ρ here (length a) ≡ Done (length x) (length a + length x)
   right-rewritten l =

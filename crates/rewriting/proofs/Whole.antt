@@ -15,11 +15,12 @@ use Rattle.reply.specs.declared.Answer.the-variants.{Done}
 use Rattle.whole.specs.Due.{GroupDone, AllDone, ReadDue}
 use Rattle.whole.specs.Turn.{groupRead, cellsAt}
 use Rattle.whole.proofs.Due as Whole
+use Rattle.whole.proofs.InTurn.{turn-size}
 use Rattle.whole.proofs.Turns.{read-all}
 use Rattle.writing.specs.RoundTrip.{ReadWhole}
 use Rattle.writing.specs.Text.{recordBytes}
 use Rattle.writing.specs.Writing.{writingOf}
-use Rattle.writing.proofs.ReadWrites.{read-writes, joined-cells}
+use Rattle.writing.proofs.ReadWrites.{read-writes}
 
 module _ (ρ : Rules) (s : List ℕ) (at : ℕ) where
   -- the cells at the place are those of the groups, if each of them reads with 0
@@ -27,7 +28,7 @@ module _ (ρ : Rules) (s : List ℕ) (at : ℕ) where
   groups-done d =
       let cells : ℕ → List ℤ = λ g. cellsGot (groupRead ρ s at g) in
       let each : (g : ℕ) → 1 ≤ g → g ≤ 60 → groupRead ρ s at g ≡ done (cells g) = λ g low high. let x = d g low high in x .reads ∙ ap done (sym (ap cellsGot (x .reads))) in
-      record { cells = cells; each = each; joined = ap cellsGot (read-all (groupRead ρ s at) cells 1 60 (λ g low high. each g low (omega arith))) }
+      record { cells = cells; each = each; all = ap cellsGot (read-all (groupRead ρ s at) cells 1 60 (λ g low high. each g low (omega arith))) }
 
   -- and they are what was read
   pub read-cells : (room : ℕ) (cs : List ℤ) → ReadDue ρ s at room cs → cs ≡ cellsAt ρ s at
@@ -38,7 +39,7 @@ module _ (ρ : Rules) (s : List ℕ) (at : ℕ) where
     whole-read = record { placed = placed; room = cellsIn ρ (countsAt ρ s at); groups = all .each }
 
     pub whole-length : length (cellsAt ρ s at) ≡ recordCells ρ (countsAt ρ s at)
-    whole-length = ap length (all .joined) ∙ joined-cells ρ whole-read
+    whole-length = turn-size ρ s at placed (cellsAt ρ s at) (Whole.turn-all-done ρ s at (cellsAt ρ s at) .1 all)
 
     pub whole-written : (room : ℕ) → recordBytes ρ (countsAt ρ s at) ≤ room → writingOf ρ (countsAt ρ s at) (cellsAt ρ s at) room ≡ Done (recordBytes ρ (countsAt ρ s at))
-    whole-written room enough = ap (λ cs. writingOf ρ (countsAt ρ s at) cs room) (all .joined) ∙ read-writes ρ whole-read room enough
+    whole-written room enough = ap (λ cs. writingOf ρ (countsAt ρ s at) cs room) (all .all) ∙ read-writes ρ whole-read room enough

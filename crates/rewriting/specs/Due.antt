@@ -41,7 +41,7 @@ module _ (ρ : Rules) (s : List ℕ) (at cells room : ℕ) where
     pub groups : (g : ℕ) → 1 ≤ g → g ≤ 60 → GroupDone ρ s at g
     pub written : recordBytes ρ (countsAt ρ s at) ≡ bytes
 
-  -- what it refuses with, the number of the group that was being read before it: as placing does, 7 without its next place (R235); 11; a group
+  -- what it refuses with, and first the number of the group that was being read: as placing does, 7 without its next place (R235); 11; a group
   pub data RefusedFor : ℕ → Refusal → Type 0 where
     unplaced : (r : Refusal) → Place.RefusedFor ρ s at r → RefusedFor 0 r
     broken-rule : (g next : ℕ) → Place.StandsBroken ρ s at g next → RefusedFor 0 (BrokenRule g)

@@ -85,10 +85,10 @@ rewrites ρ s at table out bytes next e =
       cells = all .cells;
       read = whole-read ρ s at next placed all;
       text = textAt ρ s at;
-      canonical = subst (CanonicalRecord ρ (countsAt ρ s at) (textAt ρ s at)) (all .joined) (done-canonical ρ (countsAt ρ s at) (cellsAt ρ s at) (length out) bytes written);
+      canonical = subst (CanonicalRecord ρ (countsAt ρ s at) (textAt ρ s at)) (all .all) (done-canonical ρ (countsAt ρ s at) (cellsAt ρ s at) (length out) bytes written);
       long = done-text ρ s at cells (length out) bytes next e;
       front = done-front ρ s at cells (length out) bytes next e out;
-      cells-first = done-table-holds ρ s at cells (length out) bytes next e table ∙ all .joined;
+      cells-first = done-table-holds ρ s at cells (length out) bytes next e table ∙ all .all;
     }
 
 lent-holds : (ρ : Rules) → LentHolds ρ

@@ -33,13 +33,13 @@ use Rattle.view.specs.With.{foundWith, startWith, endWith, partWith, readWith, 
 use Rattle.view.specs.Due as RecordIs
 use Rattle.view.specs.Placed.{BadPartExactly, LinesDecide, PlacedAnswers}
 use Rattle.writing.specs.Canonical.{CanonicalRecord}
-use Rattle.writing.specs.RoundTrip.{ReadsBack, ReadWhole, joined}
+use Rattle.writing.specs.RoundTrip.{ReadsBack, ReadWhole}
 use Rattle.writing.specs.Text.{recordText}
 use Rattle.writing.specs.Writing.{writingOf, outputBy}
 use Rattle.writing.specs.Due as WritingIs
 use Rattle.reply.specs.declared.Checked.the-variants.{Right}
 use Rattle.count.specs.Due.{HasCells}
-use Rattle.count.specs.Tally.{recordCells}
+use Rattle.count.specs.Tally.{recordCells, joined}
 use Rattle.entry.specs.Bytes.{AllBytes}
 use Rattle.entry.specs.Codec.{BothWays}
 use Rattle.journal.specs.Model.{Call}

@@ -181,8 +181,8 @@ pub fn list(rules: rules::Rules, text: &[u8], out: &mut [u8]) -> Answer
 // R320 to R326. Asked: to rewrite the record at a place as canonical text.
 // Answered: 0 with the number of bytes and the next place; the bytes stand in the output from its first byte on, the
 // record's cells in the table from its first cell on, and what stands behind them is kept.
-// A refusal has the number of the group that was being read, 0 where none was, and leaves the whole output and the whole
-// table as they were.
+// A refusal has the number of the group that was being read, 0 where none was, and leaves the whole output and the
+// whole table as they were.
 pub fn rewrite_record(
     rules: rules::Rules,
     text: &[u8],

@@ -290,9 +290,11 @@ pub extern "C" fn seambeacon_read_record(
     ensures reply { λ n. ⌜ Told (wholeReply (flagged rules) (now (text .entry)) at (length (now (table .entry)))) n
         (now (beside .exit)) ⌝ }
     ensures unread { λ _. ⌜ now (unread .exit) ≡
-        groupTold (recordReadOf (wholeRead (flagged rules) (now (text .entry)) at (length (now (table .entry))))) ∷ [] ⌝ }
+        groupTold (recordReadOf (wholeRead (flagged rules) (now (text .entry)) at (length (now (table .entry))))) ∷
+        [] ⌝ }
     ensures table { λ _. ⌜ now (table .exit) ≡
-        tableBy (wholeRead (flagged rules) (now (text .entry)) at (length (now (table .entry)))) (now (table .entry)) ⌝ }
+        tableBy (wholeRead (flagged rules) (now (text .entry)) at (length (now (table .entry))))
+        (now (table .entry)) ⌝ }
 {
     let answer = sao::read_record(rules_of(rules), text, at, table);
     *unread = [whole::group_of(answer)];

@@ -4,7 +4,7 @@ use mathlib.Core.Path.{_≡_, refl, sym, _∙_, ap, subst}
 use mathlib.Core.Bool.{Bool, true, false}
 use mathlib.Core.List.{List}
 use mathlib.Core.Logic.{_↔_}
-use Prim.Native.Nat.{ℕ, _<_, _≤_}
+use Prim.Native.Nat.{ℕ}
 use native.Mathlib.Omega.{arith}
 use borrow.Author.Tests.{le-leb, lt-leb, leb-true, leb-false}
 use lib.Dec.{leb}
@@ -31,8 +31,8 @@ module _ (ρ : Rules) (s : List ℕ) (at : ℕ) where
   -- all read with 0, and these are their cells
   pub turn-all-done : (cs : List ℤ) → allInTurn ρ s at ≡ done cs ↔ AllDone ρ s at cs
   turn-all-done cs = (
-    λ e. let a = all-read (groupRead ρ s at) 1 60 cs e in record { cells = _; each = λ g low high. a .each g low (omega arith); joined = a .joined },
-    λ d. read-all (groupRead ρ s at) (d .cells) 1 60 (λ g low high. d .each g low (omega arith)) ∙ ap done (sym (d .joined)),
+    λ e. let a = all-read (groupRead ρ s at) 1 60 cs e in record { cells = _; each = λ g low high. a .each g low (omega arith); all = a .joined },
+    λ d. read-all (groupRead ρ s at) (d .cells) 1 60 (λ g low high. d .each g low (omega arith)) ∙ ap done (sym (d .all)),
   )
 
   -- the first that is refused

@@ -1,30 +1,25 @@
 -- D3, R258: reading a whole record of a text that was damaged, or that still grows (specs/Kept.antt): all that it rests on stays.
 -- Assumes nothing.
-use mathlib.Core.Path.{_≡_, refl, sym, _∙_, ap, subst}
+use mathlib.Core.Path.{_≡_, sym, _∙_, ap, subst}
 use mathlib.Core.List.{List, _++_}
-use Prim.Native.Nat.{ℕ, suc, _<_, _≤_}
+use Prim.Native.Nat.{ℕ, _<_, _≤_}
 use native.Mathlib.Omega.{arith}
-use lib.IntN.{ℤ, pos}
-use lib.ListN.{length, take, replicate, length-replicate}
+use lib.IntN.{ℤ}
 use Rattle.rules.specs.declared.Rules.{Rules}
-use Rattle.base.specs.Part.{part}
 use Rattle.base.specs.Pieces.{done, bad, cellsGot}
-use Rattle.count.specs.Tally.{cellsIn, cellsBefore, recordCells}
+use Rattle.count.specs.Tally.{cellsIn, recordCells, groupCells}
 use Rattle.place.specs.declared.Placing.the-variants as P
 use Rattle.place.proofs.Due as Placing
 use Rattle.place.specs.Numbered.{asChecked}
 use Rattle.place.specs.Placing.{placingOf, countsAt}
 use Rattle.place.specs.Walk.{spot}
-use Rattle.reading.specs.Read.{Cells, tableBy}
-use Rattle.reading.proofs.Promises.{done-read-holds}
 use Rattle.reply.specs.declared.Refusal.{Refusal}
 use Rattle.reply.specs.declared.Checked.the-variants as C
-use Rattle.group.specs.Answers.{SameReading}
 use Rattle.group.specs.Damage.{Outside, Damaged, Confined}
 use Rattle.group.specs.Text.{readAt}
-use Rattle.group.proofs.Damage.{damage-stays}
+use Rattle.group.proofs.Damage.{others-read, damage-stays}
 use Rattle.group.proofs.Growth.{answers-stay}
-use Rattle.whole.specs.Due.{RefusedFor, unplaced, broken-rule, no-room, unread}
+use Rattle.whole.specs.Due.{RoomForAll, RefusedFor, unplaced, broken-rule, no-room, unread}
 use Rattle.whole.specs.Kept.{DamageKeepsWhole, GrowthKeepsWhole}
 use Rattle.whole.specs.Turn.{groupRead}
 use Rattle.whole.specs.Whole.{wholeRead}
@@ -42,17 +37,6 @@ growth-kept ρ s b at settled room =
 
 -- ---- damaged
 
--- the same reply and the same table are the same cells
-cells-same : (a b : Cells) (table : List ℤ) → SameReading a b table → a ≡ b
-cells-same (done cs) (done ds) table h =
-    let r = h .reply in
-    let n : length cs ≡ length ds = cc in
-    ap done
-    (sym (done-read-holds Refusal cs table) ∙ ap (take (length cs)) (h .cells) ∙ ap (λ k. take k (tableBy {B = Refusal} (done ds) table)) n ∙ done-read-holds Refusal ds table)
-cells-same (done cs) (bad q) table h = let r = h .reply in let z : _≡_ {A = ℕ} 0 1 = cc in absurd (omega arith)
-cells-same (bad p) (done ds) table h = let r = h .reply in let z : _≡_ {A = ℕ} 0 1 = cc in absurd (omega arith)
-cells-same (bad p) (bad q) table h = let r = h .reply in let e : p ≡ q = cc in ap bad e
-
 module _ (ρ : Rules) (t u : List ℕ) (among : ℕ → ℕ → Type 0) (damaged : Damaged ρ t u among) where
   stays : Confined ρ t u among
   stays = damage-stays ρ t u among damaged
@@ -68,14 +52,8 @@ module _ (ρ : Rules) (t u : List ℕ) (among : ℕ → ℕ → Type 0) (damaged
     counts : countsAt ρ u now ≡ countsAt ρ t was
     counts = ap (λ c. c .counts-of) (stays .carries j)
 
-    reads : (h : ℕ) → Outside among j h → (room : ℕ) → readAt ρ u now h room ≡ readAt ρ t was h room
-    reads h out room =
-        let table : List ℤ = replicate room (pos 0) in
-        let n : length table ≡ room = length-replicate {A = ℤ} room (pos 0) in
-        subst (λ k. readAt ρ u now h k ≡ readAt ρ t was h k) n (cells-same (readAt ρ u now h (length table)) (readAt ρ t was h (length table)) table (stays .others j h out table))
-
     group : (h : ℕ) → Outside among j h → groupRead ρ u now h ≡ groupRead ρ t was h
-    group h out = ap (λ ns. readAt ρ u now h (cellsIn ρ ns h)) counts ∙ reads h out (cellsIn ρ (countsAt ρ t was) h)
+    group h out = ap (λ ns. readAt ρ u now h (cellsIn ρ ns h)) counts ∙ others-read ρ t u among damaged j h (cellsIn ρ (countsAt ρ t was) h) out
 
     unplaced-stays : {why : Refusal} → asChecked (placingOf ρ t was) ≡ C.Refused why → asChecked (placingOf ρ u now) ≡ C.Refused why
     unplaced-stays e = ap asChecked (stays .answers j) ∙ e
@@ -98,15 +76,24 @@ module _ (ρ : Rules) (t u : List ℕ) (among : ℕ → ℕ → Type 0) (damaged
 
     -- where its cells stand
     stood : (s : List ℕ) (at room : ℕ) (cs : List ℤ) → wholeRead ρ s at room ≡ done cs → (h : ℕ) → 1 ≤ h → h ≤ 60
-        → groupRead ρ s at h ≡ done (part (cellsBefore ρ (countsAt ρ s at) h) (cellsBefore ρ (countsAt ρ s at) (suc h)) cs)
+        → groupRead ρ s at h ≡ done (groupCells ρ (countsAt ρ s at) cs h)
     stood s at room cs e h low high = as-in-turn ρ s at .stands room cs e (cellsIn ρ (countsAt ρ s at)) (λ g l m. omega arith) h low high
 
     cells : (room : ℕ) (cs ds : List ℤ) → wholeRead ρ t was room ≡ done cs → wholeRead ρ u now room ≡ done ds → (h : ℕ) → 1 ≤ h → h ≤ 60 → Outside among j h
-        → part (cellsBefore ρ (countsAt ρ t was) h) (cellsBefore ρ (countsAt ρ t was) (suc h)) ds
-        ≡ part (cellsBefore ρ (countsAt ρ t was) h) (cellsBefore ρ (countsAt ρ t was) (suc h)) cs
+        → groupCells ρ (countsAt ρ t was) ds h ≡ groupCells ρ (countsAt ρ t was) cs h
     cells room cs ds a b h low high out =
-        ap (λ ns. part (cellsBefore ρ ns h) (cellsBefore ρ ns (suc h)) ds) (sym counts)
+        ap (λ ns. groupCells ρ ns ds h) (sym counts)
         ∙ ap cellsGot (sym (stood u now room ds b h low high) ∙ group h out ∙ stood t was room cs a h low high)
+
+    blamed : (room : ℕ) (cs : List ℤ) (h : ℕ) (r : Refusal) → wholeRead ρ t was room ≡ done cs → wholeRead ρ u now room ≡ bad (h, r) → Outside among j h → ⊥
+    blamed room cs h r before after out =
+        let d = first-due ρ t was room (done cs) .0 before in
+        let there : RoomForAll ρ u now room =
+        record { next = d .roomy .next; placed = stays .answers j ∙ d .roomy .placed; enough = subst (λ ns. recordCells ρ ns ≤ room) (sym counts) (d .roomy .enough) } in
+        let f = turn-first-refused ρ u now h r .0 (sym (whole-roomy ρ u now room there) ∙ after) in
+        let e : done (d .groups .cells h) ≡ bad r = sym (d .groups .each h (f .low) (f .high)) ∙ sym (group h out) ∙ f .told in
+        let z : _≡_ {A = ℕ} 0 1 = cc in
+        absurd (omega arith)
 
   pub damage-kept : DamageKeepsWhole ρ t u among
   damage-kept = record {
@@ -114,5 +101,6 @@ module _ (ρ : Rules) (t u : List ℕ) (among : ℕ → ℕ → Type 0) (damaged
         whole-by-turn ρ u (spot ρ u j) t (spot ρ t j) (ap asChecked (stays .answers j)) (counts j)
         (turn-same (groupRead ρ u (spot ρ u j)) (groupRead ρ t (spot ρ t j)) 1 60 (λ g low high. group j g (out g low (omega arith)))) room;
     refused = λ j h out room r e. refused j h room r out (first-due ρ t (spot ρ t j) room (bad (h, r)) .0 e);
-    cells = λ j room cs ds a b h low high out. cells j room cs ds a b h low high out;
+    cells = λ j. cells j;
+    blamed = λ j. blamed j;
   }

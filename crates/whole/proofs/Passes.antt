@@ -1,7 +1,7 @@
 -- The two passes over the groups of a record, as their loops go: what holds before each group, and what a group more makes of it.
 -- Assumes nothing.
 use mathlib.Core.Path.{_≡_, refl, sym, _∙_, ap}
-use mathlib.Core.List.{List, [], _∷_, _++_}
+use mathlib.Core.List.{List, [], _∷_}
 use Prim.Native.Nat.{ℕ, _+_, _-_, _<_, _≤_}
 use native.Mathlib.Omega.{arith}
 use lib.IntN.{ℤ}
@@ -21,7 +21,7 @@ use Rattle.reply.specs.declared.Refusal.{Refusal}
 use Rattle.reply.specs.declared.Checked.{Checked}
 use Rattle.reply.specs.declared.Checked.the-variants as C
 use Rattle.reading.specs.Read.{Cells, verdictOf}
-use Rattle.reading.proofs.GroupRead.{group-reads, reads-cells}
+use Rattle.reading.proofs.GroupRead.{read-size}
 use Rattle.whole.specs.declared.Groups.the-variants.{All, GroupRefused}
 use Rattle.whole.specs.Turn.{Turn, inTurn}
 use Rattle.whole.specs.Whole.{groupsOf, Parted, linesNamed, groupBy, allBy}
@@ -46,7 +46,7 @@ module _ (ρ : Rules) (s : List ℕ) (r : Carried) where
   next {g} h = ap (inTurn (groupBy ρ s r)) (up-more g 60 h)
 
   group-size : (g : ℕ) (cs : List ℤ) → groupBy ρ s r g ≡ done cs → length cs ≡ cellsIn ρ (r .counts-of) g
-  group-size g cs e = reads-cells ρ (group-reads ρ (r .counts-of) g (linesNamed ρ s r g) (cellsIn ρ (r .counts-of) g) cs e)
+  group-size g cs e = read-size ρ (r .counts-of) g (linesNamed ρ s r g) (cellsIn ρ (r .counts-of) g) cs e
 
   -- all groups have as many cells as the counts say
   pub all-size : (cs : List ℤ) → allBy ρ s r ≡ done cs → length cs ≡ recordCells ρ (r .counts-of)

@@ -2,9 +2,9 @@
 -- Assumes nothing.
 use mathlib.Core.Path.{_≡_, refl, sym, _∙_, ap}
 use mathlib.Core.List.{List}
-use Prim.Native.Nat.{ℕ, suc, _-_, _<_, _≤_}
+use Prim.Native.Nat.{ℕ, suc, _-_, _≤_}
 use native.Mathlib.Omega.{arith}
-use lib.ListN.{length, getD}
+use lib.ListN.{getD}
 use Rattle.rules.specs.declared.Rules.{Rules}
 use Rattle.count.specs.Tally.{cellsIn}
 use Rattle.place.specs.Parts
@@ -17,7 +17,7 @@ use Rattle.place.proofs.Tiling.{start-mono, start-within}
 use Rattle.place.proofs.Zero.{IsPlaced, is-placed}
 use Rattle.group.proofs.Texts.{read-located}
 use Rattle.whole.specs.Turn.{groupRead, allInTurn}
-use Rattle.whole.specs.Whole.{withRoom, wholeRead, Parted, groupBy, allBy, wholeBy}
+use Rattle.whole.specs.Whole.{wholeRead, Parted, groupBy, allBy, wholeBy}
 use Rattle.whole.proofs.Turns.{turn-same}
 
 module _ (ρ : Rules) (s : List ℕ) (at next : ℕ) (placed : placingOf ρ s at ≡ Placed next) where
@@ -51,7 +51,7 @@ module _ (ρ : Rules) (s : List ℕ) (at next : ℕ) (placed : placingOf ρ s at
   unfolding Parts.groupPart
   group-by g low high = rw (begins g low high, stops g low high) (sym (read-located ρ s at g (cellsIn ρ ns g) next ns (here .located-at)))
 
-  all-by : allBy ρ s (carriedAt ρ s at) ≡ allInTurn ρ s at
+  pub all-by : allBy ρ s (carriedAt ρ s at) ≡ allInTurn ρ s at
   all-by = turn-same (groupBy ρ s (carriedAt ρ s at)) (groupRead ρ s at) 1 60 (λ g low high. group-by g low (omega arith))
 
   pub whole-by : (room : ℕ) → wholeBy ρ s (carriedAt ρ s at) room ≡ wholeRead ρ s at room

@@ -4,7 +4,7 @@
 use mathlib.Core.Path.{_≡_, refl, sym, _∙_}
 use mathlib.Core.List.{List, [], _∷_}
 use mathlib.Core.Logic.{inl, inr}
-use Prim.Native.Nat.{ℕ, _≤_}
+use Prim.Native.Nat.{ℕ}
 use native.Mathlib.Omega.{arith}
 use lib.Dec.{lit<}
 use lib.IntN.{ℤ}
@@ -33,7 +33,7 @@ use Rattle.reading.proofs.Promises.{done-read-holds, cells-keep-rest, refusal-c
 use Rattle.group.proofs.Texts.{read-located}
 use Rattle.whole.specs.Due.{FirstRefused, RefusedFor, unplaced, broken-rule, no-room, unread, Due}
 use Rattle.whole.specs.Numbered.{recordReply, groupTold, beforeRefusals, NumberedWith, wholeRow}
-use Rattle.whole.specs.Turn.{Turn, groupRead}
+use Rattle.whole.specs.Turn.{Turn}
 use Rattle.whole.specs.Whole.{wholeRead, recordReadOf}
 use Rattle.whole.proofs.Due.{first-due}
 

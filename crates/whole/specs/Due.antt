@@ -1,13 +1,12 @@
 -- R233, R272: when each answer of reading a whole record is due: its condition holds, and none that stands before it in the order is due. The
 -- order: what placing refuses with; 11; what the first group that is refused is refused with; 0.
 use mathlib.Core.Path.{_≡_}
-use mathlib.Core.List.{List, flatMap}
+use mathlib.Core.List.{List}
 use Prim.Native.Nat.{ℕ, _<_, _≤_}
 use lib.IntN.{ℤ}
 use Rattle.rules.specs.declared.Rules.{Rules}
-use Rattle.base.specs.Every.{upFrom}
 use Rattle.base.specs.Pieces.{done, bad}
-use Rattle.count.specs.Tally.{recordCells}
+use Rattle.count.specs.Tally.{recordCells, joined}
 use Rattle.place.specs.Due as Place
 use Rattle.place.specs.declared.Placing.the-variants.{Placed}
 use Rattle.place.specs.Placing.{placingOf, countsAt}
@@ -34,7 +33,7 @@ module _ (ρ : Rules) (s : List ℕ) (at : ℕ) where
   pub record AllDone (cs : List ℤ) : Type 0 where
     pub cells : ℕ → List ℤ
     pub each : (g : ℕ) → 1 ≤ g → g ≤ 60 → groupRead ρ s at g ≡ done (cells g)
-    pub joined : cs ≡ flatMap cells (upFrom 1 60)
+    pub all : cs ≡ joined cells
 
   -- ---- the record
 
@@ -60,7 +59,7 @@ module _ (ρ : Rules) (s : List ℕ) (at : ℕ) where
     pub roomy : RoomForAll room
     pub groups : AllDone cs
 
-  -- what it refuses with, the number of the group that was being read before it: as placing does, 7 without its next place (R235); 11; a group
+  -- what it refuses with, and first the number of the group that was being read: as placing does, 7 without its next place (R235); 11; a group
   pub data RefusedFor (room : ℕ) : ℕ → Refusal → Type 0 where
     unplaced : (r : Refusal) → Place.RefusedFor ρ s at r → RefusedFor room 0 r
     broken-rule : (g next : ℕ) → Place.StandsBroken ρ s at g next → RefusedFor room 0 (BrokenRule g)

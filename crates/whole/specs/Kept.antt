@@ -1,12 +1,11 @@
 -- D3, R258, R277: reading a whole record of a text that was damaged, or that still grows.
 use mathlib.Core.Path.{_≡_}
 use mathlib.Core.List.{List, _++_}
-use Prim.Native.Nat.{ℕ, suc, _≤_}
+use Prim.Native.Nat.{ℕ, _≤_}
 use lib.IntN.{ℤ}
 use Rattle.rules.specs.declared.Rules.{Rules}
-use Rattle.base.specs.Part.{part}
 use Rattle.base.specs.Pieces.{done, bad}
-use Rattle.count.specs.Tally.{cellsBefore}
+use Rattle.count.specs.Tally.{groupCells}
 use Rattle.place.specs.Growth.{Settled, numberAt}
 use Rattle.place.specs.Placing.{countsAt}
 use Rattle.place.specs.Walk.{spot}
@@ -24,8 +23,9 @@ pub record DamageKeepsWhole (ρ : Rules) (t u : List ℕ) (among : ℕ → ℕ �
   -- where the record reads with 0 before and after, each group that is not touched has the same cells at the same places of the table
   pub cells : (j room : ℕ) (cs ds : List ℤ) → wholeRead ρ t (spot ρ t j) room ≡ done cs → wholeRead ρ u (spot ρ u j) room ≡ done ds
       → (h : ℕ) → 1 ≤ h → h ≤ 60 → Outside among j h
-      → part (cellsBefore ρ (countsAt ρ t (spot ρ t j)) h) (cellsBefore ρ (countsAt ρ t (spot ρ t j)) (suc h)) ds
-      ≡ part (cellsBefore ρ (countsAt ρ t (spot ρ t j)) h) (cellsBefore ρ (countsAt ρ t (spot ρ t j)) (suc h)) cs
+      → groupCells ρ (countsAt ρ t (spot ρ t j)) ds h ≡ groupCells ρ (countsAt ρ t (spot ρ t j)) cs h
+  -- where it read with 0 before and is refused now, a touched group is the one that was being read
+  pub blamed : (j room : ℕ) (cs : List ℤ) (h : ℕ) (r : Refusal) → wholeRead ρ t (spot ρ t j) room ≡ done cs → wholeRead ρ u (spot ρ u j) room ≡ bad (h, r) → Outside among j h → ⊥
 
 -- R258: s is a text, b are bytes that were added at its end: wherever placing gave 0, 4, 5, 6 or 7, the cells or the refusal stay
 abbrev pub GrowthKeepsWhole : Rules → List ℕ → List ℕ → Type 0

@@ -1,6 +1,5 @@
-// R271, a whole record in one call: its groups are checked in their order, and then one table is filled for all of them.
-// Any text, place and table may be given (R241).
-use count::Ruling;
+// R271, a whole record in one call: its groups are checked in their order, and then one table is filled for all of
+// them. Any text, place and table may be given (R241).
 use place::Placing;
 use reply::Checked;
 use reply::Refusal;

@@ -22,7 +22,7 @@ use Rattle.base.proofs.Choice.{and-left, and-right}
 use Rattle.base.proofs.Each.{each-imply, each-passed, each-cells, each-own, flat-each}
 use Rattle.base.proofs.Part.{part-cut, part-length}
 use Rattle.count.specs.Tally
-use Rattle.count.specs.Tally.{countOf, cellsIn, recordCells}
+use Rattle.count.specs.Tally.{countOf, cellsIn, recordCells, groupCells, joined}
 use Rattle.date.specs.Date.{datedOf}
 use Rattle.place.specs.Placing.{countsAt}
 use Rattle.place.specs.Parts.{groupPart}
@@ -34,7 +34,7 @@ use Rattle.writing.specs.declared.Fit.the-variants.{All}
 use Rattle.reply.specs.declared.Answer.the-variants.{Done}
 use Rattle.writing.specs.Canonical.{CanonicalGroup, CanonicalRecord}
 use Rattle.writing.specs.Fitting.{groupFit, fitOf}
-use Rattle.writing.specs.RoundTrip.{groupCells, ReadWhole, joined, WritesAgain}
+use Rattle.writing.specs.RoundTrip.{ReadWhole, WritesAgain}
 use Rattle.count.proofs.Due.{has-cells}
 use Rattle.writing.specs.Text.{recordText, recordBytes}
 use Rattle.writing.specs.Writing.{writingOf, outputBy}

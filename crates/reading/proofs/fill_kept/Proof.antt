@@ -2,7 +2,7 @@
 -- Assumes nothing.
 use borrow.Author.Needs.{needs}
 use native.Mathlib.Omega.{arith}
-use mathlib.Core.Path.{_≡_, refl, sym, _∙_, ap}
+use mathlib.Core.Path.{_≡_, sym, _∙_, ap}
 use Prim.Native.Nat.{_+_, _≤_}
 use lib.ListN.{length}
 use Rattle.base.specs.Part.{over}
@@ -23,7 +23,8 @@ returns c =
 -- where the group's cells end
 cells-end : (c : tie.After-cells)
     → (let o = c .before .before .before .before .before .before in
-    (o .args .cell + c .cells .result ≡ o .args .cell + cellsOf (o .args .rules) (c .before .form-in .result) (c .before .before .before .count-of .result)) × (o .args .cell + c .cells .result ≤ length (o .args .table .now)))
+    (o .args .cell + c .cells .result ≡ o .args .cell + cellsOf (o .args .rules) (c .before .form-in .result) (c .before .before .before .count-of .result))
+    × (o .args .cell + c .cells .result ≤ length (o .args .table .now)))
 cells-end c =
     let at-count = c .before .before .before in
     let o = at-count .before .before .before in
