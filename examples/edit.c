@@ -192,9 +192,9 @@ static void load_date(void)
 /* Where the cells of each group begin follows from the counts (R46): an element of group 2 has 120 cells, an E field two, every other one. */
 static void load_starts(void)
 {
-    static const char pairs[] = {37, 38, 39, 40, 42, 53, 57, 60};
     for (size_t group = 1; group <= GROUPS; group++) {
-        size_t cells = group == 2 ? 120 : memchr(pairs, (int)group, sizeof pairs) != NULL ? 2 : 1;
+        int pairs = (group >= 37 && group <= 40) || group == 42 || group == 53 || group == 57 || group == 60;
+        size_t cells = group == 2 ? 120 : pairs ? 2 : 1;
         record.starts[group] = record.starts[group - 1] + cells * record.placed.counts[group - 1];
     }
 }
