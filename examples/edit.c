@@ -189,25 +189,32 @@ static void load_date(void)
         record.date[i] = form[i] < 'a' ? form[i] : (char)cells[form[i] - 'a'];
 }
 
+/* Where the cells of each group begin follows from the counts (R46): an element of group 2 has 120 cells, an E field two, every other one. */
+static void load_starts(void)
+{
+    for (size_t group = 1; group <= GROUPS; group++) {
+        int pairs = (group >= 37 && group <= 40) || group == 42 || group == 53 || group == 57 || group == 60;
+        size_t cells = group == 2 ? 120 : pairs ? 2 : 1;
+        record.starts[group] = record.starts[group - 1] + cells * record.placed.counts[group - 1];
+    }
+}
+
+/* The record was placed with 0 and the table holds any record, so a refusal is a group's. */
 static int load_cells(void)
 {
-    size_t many = 0;
-    for (size_t group = 1; group <= GROUPS; group++) {
-        struct seambeacon_beside beside;
-        enum seambeacon_reply reply =
-            seambeacon_record_group(SEAMBEACON_USUAL, day.text, day.length, &record.placed, group, record.cells + many, MOST_CELLS - many,
-                                    &beside);
-        if (reply != SEAMBEACON_DONE) {
-            fprintf(stderr, "edit: group %zu of record %zu cannot be read: ", group, record.number);
-            tell(stderr, reply, &beside);
-            fprintf(stderr, "\n");
-            return 0;
-        }
-        many += beside.written;
-        record.starts[group] = many;
+    struct seambeacon_beside beside;
+    size_t unread;
+    enum seambeacon_reply reply =
+        seambeacon_read_record(SEAMBEACON_USUAL, day.text, day.length, day.at, record.cells, MOST_CELLS, &unread, &beside);
+    if (reply != SEAMBEACON_DONE) {
+        fprintf(stderr, "edit: group %zu of record %zu cannot be read: ", unread, record.number);
+        tell(stderr, reply, &beside);
+        fprintf(stderr, "\n");
+        return 0;
     }
+    load_starts();
     load_date();
-    printf("record %zu has %zu cells\n", record.number, many);
+    printf("record %zu has %zu cells\n", record.number, beside.written);
     return 1;
 }
 

@@ -1,10 +1,12 @@
 -- R22: of the index's 80 numbers, the one at g is group g's count. What the counts say of lines (R28) and cells (R47).
 use mathlib.Core.Path.{_≡_}
-use mathlib.Core.List.{List, _∷_, map}
-use Prim.Native.Nat.{ℕ}
+use mathlib.Core.List.{List, _∷_, map, flatMap}
+use Prim.Native.Nat.{ℕ, suc}
+use lib.IntN.{ℤ}
 use lib.ListN.{getD, take}
 use Rattle.rules.specs.declared.Rules.{Rules}
 use Rattle.base.specs.Every.{upFrom}
+use Rattle.base.specs.Part.{part}
 use Rattle.base.specs.Sum.{sum}
 use Rattle.form.specs.Table.{formOf}
 use Rattle.form.specs.Count.{linesOf, cellsOf}
@@ -52,6 +54,14 @@ module _ (ρ : Rules) where
   abbrev pub recordCells : List ℕ → ℕ
   recordCells ns = sum (cellTally ns)
 
+  -- R47: of the cells of all groups, those of group g
+  abbrev pub groupCells : List ℕ → List ℤ → ℕ → List ℤ
+  groupCells ns cs g = part (cellsBefore ns g) (cellsBefore ns (suc g)) cs
+
   pub record Before (ns : List ℕ) (g lines cells : ℕ) : Type 0 where
     pub lines-are : lines ≡ linesBefore ns g
     pub cells-are : cells ≡ cellsBefore ns g
+
+-- R47: the cells of each group, group 1's first
+abbrev pub joined : (ℕ → List ℤ) → List ℤ
+joined cells = flatMap cells (upFrom 1 60)

@@ -73,6 +73,10 @@ module _ (ρ : Rules) (t u : List ℕ) (among : ℕ → ℕ → Type 0) (d : Dam
   clear j h out n ns e i from to p =
       lines-apart ρ t (p .k) (r p .next) (countsAt ρ t (spot ρ t (p .k))) (here p) (p .g) (p .high) j n ns e h (λ x y. out (rw (x, y) (p .chosen))) i from to (p .lies)
 
+  -- a group outside reads as it did, into whatever table
+  pub others-read : (j h room : ℕ) → Outside among j h → readAt ρ u (spot ρ u j) h room ≡ readAt ρ t (spot ρ t j) h room
+  others-read = read-other ρ t u among replaced clear
+
   pub damage-stays : Confined ρ t u among
   damage-stays = replaced-stays ρ t u among replaced clear
 

@@ -16,7 +16,7 @@ use Rattle.form.specs.declared.GroupForm.{GroupForm}
 use Rattle.form.specs.declared.GroupForm.the-variants.{Has, NoGroup}
 use Rattle.form.specs.Table.{formOf}
 use Rattle.form.proofs.Table.{form-range}
-use Rattle.count.specs.Tally.{countOf}
+use Rattle.count.specs.Tally.{countOf, groupCells}
 use Rattle.count.specs.Rules.{releaseOf}
 use Rattle.count.specs.declared.Release.the-variants.{Five}
 use Rattle.place.specs.Placing
@@ -34,7 +34,6 @@ use Rattle.group.specs.Text.{readAt}
 use Rattle.group.proofs.Ends.{located-found, located-begins, located-lines}
 use Rattle.group.proofs.Texts.{read-located}
 use Rattle.writing.specs.Canonical.{CanonicalLine, CanonicalGroupBy, CanonicalGroup, CanonicalRecord}
-use Rattle.writing.specs.RoundTrip.{groupCells}
 use Rattle.writing.proofs.Canonical.{group-read}
 use Rattle.writing.proofs.Standing.{standing-located, standing-group}
 

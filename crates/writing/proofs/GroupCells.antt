@@ -20,9 +20,8 @@ use Rattle.base.proofs.Part.{part-middle}
 use Rattle.base.proofs.Taken.{drop-none}
 use Rattle.base.proofs.UpFrom.{length-up, getD-up, flat-same, parts-flat}
 use Rattle.count.specs.Tally
-use Rattle.count.specs.Tally.{cellsIn, cellTally, cellsBefore, recordCells}
+use Rattle.count.specs.Tally.{cellsIn, cellTally, cellsBefore, recordCells, groupCells, joined}
 use Rattle.count.proofs.Tallied.{before-groups, all-cells, cells-next, cells-below}
-use Rattle.writing.specs.RoundTrip.{groupCells, joined}
 
 -- group g, with what stands before it and behind it
 pub record GroupAmong (ρ : Rules) (ns : List ℕ) (P : ℕ → List ℕ → List ℤ → Type 0) (s : List ℕ) (cs : List ℤ) (g : ℕ) : Type 0 where

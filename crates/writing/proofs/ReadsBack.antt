@@ -17,7 +17,7 @@ use Rattle.form.specs.declared.GroupForm.{GroupForm}
 use Rattle.form.specs.declared.GroupForm.the-variants.{Has, NoGroup}
 use Rattle.form.specs.Table.{formOf}
 use Rattle.count.specs.Tally
-use Rattle.count.specs.Tally.{countOf, cellsBy, cellsIn}
+use Rattle.count.specs.Tally.{countOf, cellsBy, cellsIn, groupCells}
 use Rattle.count.specs.Rules.{releaseOf, rulingOf}
 use Rattle.count.specs.declared.Release.the-variants.{Five}
 use Rattle.count.specs.declared.Ruling.the-variants.{Kept}
@@ -31,7 +31,7 @@ use Rattle.count.proofs.Rulings.{kept-ruling}
 use Rattle.group.proofs.Texts.{read-located}
 use Rattle.reply.specs.declared.Answer.the-variants.{Done}
 use Rattle.writing.specs.Canonical.{CanonicalGroup, CanonicalRecord}
-use Rattle.writing.specs.RoundTrip.{groupCells, ReadsBack}
+use Rattle.writing.specs.RoundTrip.{ReadsBack}
 use Rattle.writing.specs.Text.{recordText, recordBytes}
 use Rattle.writing.specs.Writing.{dateLetters, writingOf, outputBy}
 use Rattle.writing.proofs.Canonical.{group-read}

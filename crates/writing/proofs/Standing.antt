@@ -18,7 +18,7 @@ use Rattle.line.specs.Lines.{feeds, Whole}
 use Rattle.line.proofs.Feeds.{feeds-le}
 use Rattle.line.proofs.Whole.{whole-append, reach-whole, lines-whole, behind-whole, feeds-whole}
 use Rattle.count.specs.Tally
-use Rattle.count.specs.Tally.{linesIn, linesBefore, recordLines}
+use Rattle.count.specs.Tally.{linesIn, linesBefore, recordLines, groupCells}
 use Rattle.count.specs.Rules.{releaseOf}
 use Rattle.count.specs.declared.Release.the-variants.{Five}
 use Rattle.count.proofs.Tallied.{line-entry, record-two}
@@ -29,7 +29,6 @@ use Rattle.place.proofs.Placed.{is-located}
 use Rattle.place.proofs.Tiling.{part-lines}
 use Rattle.writing.specs.Canonical.{CanonicalGroup, CanonicalRecord}
 use Rattle.writing.proofs.CanonicalIndex.{index-whole, index-read}
-use Rattle.writing.specs.RoundTrip.{groupCells}
 use Rattle.writing.proofs.GroupCells.{GroupAmong, group-among}
 use Rattle.writing.proofs.Canonical.{group-whole, group-cells, canonical-whole}
 

@@ -1,13 +1,12 @@
 -- D2.4: reading what was written gives its counts and cells; D2.5: writing what was read from canonical text gives its bytes.
 use mathlib.Core.Path.{_≡_}
-use mathlib.Core.List.{List, flatMap}
-use Prim.Native.Nat.{ℕ, suc, _+_, _≤_}
+use mathlib.Core.List.{List}
+use Prim.Native.Nat.{ℕ, _+_, _≤_}
 use lib.IntN.{ℤ}
 use Rattle.rules.specs.declared.Rules.{Rules}
-use Rattle.base.specs.Every.{upFrom}
 use Rattle.base.specs.Part.{part}
 use Rattle.base.specs.Pieces.{done}
-use Rattle.count.specs.Tally.{cellsIn, cellsBefore}
+use Rattle.count.specs.Tally.{cellsIn, groupCells, joined}
 use Rattle.place.specs.declared.Placing.the-variants.{Placed}
 use Rattle.place.specs.Placing.{placingOf, countsAt}
 use Rattle.group.specs.Text.{readAt}
@@ -17,17 +16,13 @@ use Rattle.writing.specs.Text.{recordText, recordBytes}
 use Rattle.writing.specs.Writing.{writingOf}
 
 module _ (ρ : Rules) where
-  -- the cells of group g: those behind the cells of the groups before it
-  abbrev pub groupCells : List ℕ → List ℤ → ℕ → List ℤ
-  groupCells ns cs g = part (cellsBefore ρ ns g) (cellsBefore ρ ns (suc g)) cs
-
   -- D2.4: n bytes that stand at a place of a text read back as these counts and cells
   pub record ReadsBack (ns : List ℕ) (cs : List ℤ) (n : ℕ) (s : List ℕ) (at : ℕ) : Type 0 where
     -- placing gives 0, with the place behind the n bytes and the same counts
     pub placed : placingOf ρ s at ≡ Placed (at + n)
     pub counts : countsAt ρ s at ≡ ns
     -- a group is read with 0 as the cells that are its own, if the table has room for them
-    pub groups : (g room : ℕ) → 1 ≤ g → g ≤ 60 → cellsIn ρ ns g ≤ room → readAt ρ s at g room ≡ done (groupCells ns cs g)
+    pub groups : (g room : ℕ) → 1 ≤ g → g ≤ 60 → cellsIn ρ ns g ≤ room → readAt ρ s at g room ≡ done (groupCells ρ ns cs g)
 
   -- a record is placed with 0 at a place of a text, with its next place, and each of its groups is read with 0, as these cells
   pub record ReadWhole (s : List ℕ) (at next : ℕ) (cells : ℕ → List ℤ) : Type 0 where
@@ -35,11 +30,6 @@ module _ (ρ : Rules) where
     pub room : ℕ → ℕ
     pub groups : (g : ℕ) → 1 ≤ g → g ≤ 60 → readAt ρ s at g (room g) ≡ done (cells g)
 
--- R47: the cells of all groups, group 1's first
-abbrev pub joined : (ℕ → List ℤ) → List ℤ
-joined cells = flatMap cells (upFrom 1 60)
-
-module _ (ρ : Rules) where
   -- what writing the counts and cells that were read comes to
   pub record WritesAgain (s : List ℕ) (at next : ℕ) (cells : ℕ → List ℤ) : Type 0 where
     -- R112: 0, where there is room
