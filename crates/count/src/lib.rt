@@ -7,8 +7,8 @@ ghost use mathlib.Core.Bool.{_&&_};
 ghost use mathlib.Core.List.{map};
 ghost use lib.Dec.{leb};
 ghost use Prim.Native.Nat.{_+_, _^_, _<_, _≤_};
-ghost use Rattle.form.specs.Count.{linesOf, cellsOf};
-ghost use Rattle.count.specs.Tally.{countOf, Before};
+ghost use Rattle.form.specs.Table.{formOf};
+ghost use Rattle.count.specs.Tally.{countOf, linesBy, cellsBy, Before};
 ghost use Rattle.count.specs.Rules.{releaseOf, lower, one, rule, differ, settle, keeps, lowest, headRules};
 ghost use Rattle.count.specs.Rules.{letterRules, setRule, sets, zeroOr, rulingOf};
 ghost use Rattle.count.specs.Check.{wellFormed, acceptedOf, checkedOf};
@@ -107,13 +107,19 @@ pub fn count_of(counts: &[u16], group: usize) -> u16
     counts[group - 1]
 }
 
-// Totals with those of a group more.
-fn with_group(rules: rules::Rules, totals: Totals, form: form::Form, count: u16) -> Totals
+// Totals with those of a group more. Most groups of a record have the count 0, and nothing is looked up for them.
+fn with_group(rules: rules::Rules, totals: Totals, group: usize, count: u16) -> Totals
+    requires low { ⌜ 1 ≤ group ⌝ }
+    requires high { ⌜ group ≤ 60 ⌝ }
     requires lines { ⌜ totals .lines < 2 ^ 32 ⌝ }
     requires cells { ⌜ totals .cells < 2 ^ 32 ⌝ }
-    ensures lines { λ r. ⌜ r .lines ≡ totals .lines + linesOf rules form count ⌝ }
-    ensures cells { λ r. ⌜ r .cells ≡ totals .cells + cellsOf rules form count ⌝ }
+    ensures lines { λ r. ⌜ r .lines ≡ totals .lines + linesBy rules (formOf group) count ⌝ }
+    ensures cells { λ r. ⌜ r .cells ≡ totals .cells + cellsBy rules (formOf group) count ⌝ }
 {
+    if count == 0 {
+        return totals;
+    }
+    let form = form::form_in(group);
     Totals {
         lines: totals.lines + form::lines(rules, form, count),
         cells: totals.cells + form::cells(rules, form, count),
@@ -132,8 +138,7 @@ pub fn add_up(rules: rules::Rules, counts: &[u16], group: usize) -> Totals
     let mut totals = Totals { lines: 2, cells: 0 };
     let mut g: usize = 1;
     while g < end {
-        let f = form::form_in(g);
-        totals = with_group(rules, totals, f, count_of(counts, g));
+        totals = with_group(rules, totals, g, count_of(counts, g));
         g += 1;
     }
     totals
