@@ -3,14 +3,15 @@
 use reply::Checked;
 use reply::Refusal;
 ghost use mathlib.Core.Path.{_≡_};
-ghost use mathlib.Core.Bool.{_&&_};
+ghost use mathlib.Core.Bool.{false, _&&_};
 ghost use mathlib.Core.List.{map};
 ghost use lib.Dec.{leb};
+ghost use lib.ListN.{getD};
 ghost use Prim.Native.Nat.{_+_, _^_, _<_, _≤_};
 ghost use Rattle.form.specs.Table.{formOf};
 ghost use Rattle.count.specs.Tally.{countOf, linesBy, cellsBy, Before};
 ghost use Rattle.count.specs.Rules.{releaseOf, lower, one, rule, differ, settle, keeps, lowest, headRules};
-ghost use Rattle.count.specs.Rules.{letterRules, setRule, sets, zeroOr, rulingOf};
+ghost use Rattle.count.specs.Rules.{letterRules, setRule, set, sets, zeroOr, rulingOf};
 ghost use Rattle.count.specs.Check.{wellFormed, acceptedOf, checkedOf};
 
 // R24, R25: what stands under the number 80 and under the vacant ones: release 5 and nothing, another release, or the
@@ -250,15 +251,33 @@ fn kept_by(counts: &[u16], set: Set) -> bool
     count_of(counts, last) != 0
 }
 
+// R125: a set by its place in the table, which is built anew where a variable indexes it, but not at a constant index.
+fn set_at(k: usize) -> Set
+    requires { ⌜ k < 10 ⌝ }
+    ensures { λ r. ⌜ r ≡ getD sets k (set 0 0 false) ⌝ }
+{
+    match k {
+        0 => SETS[0],
+        1 => SETS[1],
+        2 => SETS[2],
+        3 => SETS[3],
+        4 => SETS[4],
+        5 => SETS[5],
+        6 => SETS[6],
+        7 => SETS[7],
+        8 => SETS[8],
+        _ => SETS[9],
+    }
+}
+
 // A set that breaks a rule has its first group blamed.
 fn set_ruling(counts: &[u16]) -> Ruling
     ensures { λ r. ⌜ r ≡ lowest (map (setRule (now (counts .entry))) sets) ⌝ }
 {
-    let table = SETS;
     let mut low = Ruling::Kept;
     let mut k: usize = 0;
     while k < 10 {
-        let set = table[k];
+        let set = set_at(k);
         low = lower_of(low, ruled(set.first, kept_by(counts, set)));
         k += 1;
     }
