@@ -145,6 +145,10 @@ pub lines-more : (ρ : Rules) (ns : List ℕ) (g : ℕ) → g < 61 → linesBefo
 unfolding linesBefore lineTally
 lines-more ρ ns g h = sum-take-more (lineTally ρ ns) g (omega (arith, tally-length 2 (linesIn ρ ns)))
 
+pub lines-in : (ρ : Rules) (ns : List ℕ) (g : ℕ) → linesIn ρ ns g ≡ linesBy ρ (formOf g) (countOf ns g)
+unfolding linesIn
+lines-in ρ ns g = refl
+
 pub lines-has : (ρ : Rules) (ns : List ℕ) (g : ℕ) (f : Form) → formOf g ≡ Has f → linesIn ρ ns g ≡ linesOf ρ f (countOf ns g)
 unfolding linesIn
 lines-has ρ ns g f e = rw e
