@@ -36,8 +36,8 @@ fn feeds_in(block: &[u8]) -> u8
     n
 }
 
-// Passes over blocks of a size, up to one that has as many line feeds as are sought, or up to the text's last bytes: what
-// is then sought from there on is what was sought.
+// Passes over blocks of a size, up to one that has as many line feeds as are sought, or up to the text's last bytes:
+// what is then sought from there on is what was sought.
 fn past_blocks(text: &[u8], from: Sought, size: usize) -> Sought
     requires place { ⌜ from .at ≤ length (now text) ⌝ }
     requires lines { ⌜ 0 < from .lines ⌝ }

@@ -82,8 +82,8 @@ fn nothing(why: Refusal) -> Record
     }
 }
 
-// R43: the place behind a group's lines. Most groups of a record have the count 0, and nothing is looked up or called for
-// them.
+// R43: the place behind a group's lines. Most groups of a record have the count 0, and nothing is looked up or called
+// for them.
 fn behind_group(rules: rules::Rules, text: &[u8], at: usize, group: usize, count: u16) -> Behind
     requires low { ⌜ 1 ≤ group ⌝ }
     requires high { ⌜ group ≤ 60 ⌝ }
