@@ -1,0 +1,2 @@
+-- What the proofs of `run` share.
+pub mod Loops
