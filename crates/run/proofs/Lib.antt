@@ -1,2 +1,3 @@
 -- What the proofs of `run` share.
 pub mod Loops
+pub mod Pieces

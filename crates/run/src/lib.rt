@@ -127,9 +127,9 @@ fn is_power(s: &[u8], c: usize, d: usize, x: usize) -> bool
 {
     let n = s.len();
     let f = c + 1;
-    let e = f + d;
-    let g = e + 1;
-    let h = g + 1;
+    let e = c + 1 + d;
+    let g = c + 2 + d;
+    let h = c + 3 + d;
     (s[c] == b'.')
         & ((s[e] == b'E')
             & (is_sign(s[g])
@@ -280,9 +280,9 @@ fn put_power(s: &[u8], c: usize, d: usize, x: usize, table: &mut [i64], at: usiz
 {
     let n = s.len();
     let f = c + 1;
-    let e = f + d;
-    let g = e + 1;
-    let h = g + 1;
+    let e = c + 1 + d;
+    let g = c + 2 + d;
+    let h = c + 3 + d;
     table[at] = number::cell(has_minus(&s[0..c]), number_in(&s[f..e]));
     table[at + 1] = number::cell(s[g] == b'-', number_in(&s[h..n]));
 }

@@ -1,28 +1,25 @@
+-- `run::whole_cell` meets its contract: what the calls answer.
+use borrow.Author.Needs.{needs, sfits-of}
 use native.Mathlib.Omega.{arith}
-use borrow.Author.Needs.{needs}
+use mathlib.Core.Path.{ap₂, _∙_}
+use mir.Syntax.{w64}
+use mir.Facts.{toZ-ofZ}
+use Rattle.base.specs.Sign.{ofSign}
 use Rattle.run.proofs.whole_cell.Statement.{statement}
 use Rattle.run.proofs.whole_cell.Tie as tie
-use Rattle.run.proofs.whole_cell.Reads as reads
-use Rattle.run.proofs.whole_cell.Lts as lts
-use Rattle.number.proofs.cell.Reads as cell-reads
-use Rattle.run.proofs.has_minus.Reads as has-minus-reads
-use Rattle.run.proofs.number_in.Reads as number-in-reads
 
--- src/lib.rt:258:18
-has-minus-requires : tie.Need-has-minus-requires
-has-minus-requires c κs = search needs
 
--- src/lib.rt:258:32
-number-in-requires : tie.Need-number-in-requires
-number-in-requires c κs = search needs
-
--- src/lib.rt:258:5
 cell-requires : tie.Need-cell-requires
-cell-requires c κs = search needs
+cell-requires c κs = omega (arith, c .number-in .ensures .1)
 
--- src/lib.rt:254:1
 returns : tie.Need-returns
-returns c = search needs
+returns c = toZ-ofZ (sfits-of {w = w64} (c .cell .ok)) ∙ c .cell .ensures ∙ ap₂ ofSign (c .before .before .has-minus .ensures) (c .before .number-in .ensures .0)
 
 pub whole-cell-spec : {M : Type 1} → statement M
-whole-cell-spec = tie.close (tie.spec has-minus-requires number-in-requires cell-requires returns)
+whole-cell-spec =
+    tie.close
+    (tie.spec
+    (λ c. search needs)
+    (λ c. search needs)
+    cell-requires
+    returns)
