@@ -42,21 +42,24 @@ part-put-power-end c =
 
 put-power-requires : tie.Need-put-power-requires Inv-loop μ-loop
 put-power-requires c κs =
-    let l = c .before .before .loop in
-    let a = c .before .before .before .before .args in
-    let pre = c .before .before .before .before .pre in (
-      piece-long (a .c + a .d + a .x + 3) (a .k) (l .i) (l .a) (a .fields .now) (pre .0) (l .inv .0 .place) (c .before .loop-test .taken),
-      pre .1 .1,
-      omega (arith, filled-room (l .inv .0) (c .before .loop-test .taken)),
+    let at-loop = c .before .before .before in
+    let l = at-loop .loop in
+    let a = at-loop .before .before .args in
+    let pre = at-loop .before .before .pre in (
+      piece-long (a .c + a .d + a .x + 3) (a .k) (l .i) (l .a) (a .fields .now) (pre .0) (l .inv .0 .place) (c .before .before .loop-test .taken),
+      (pre .1 .1, pre .1 .2),
+      omega (arith, filled-room (l .inv .0) (c .before .before .loop-test .taken)),
     )
 
 add-at : tie.Need-add-at Inv-loop μ-loop
-add-at c = let l = c .before .before .before .loop in omega (arith, filled-room (l .inv .0) (c .before .before .loop-test .taken))
+add-at c =
+    let l = c .before .before .before .before .before .loop in
+    omega (arith, filled-room (l .inv .0) (c .before .before .before .before .loop-test .taken))
 
 loop-again : tie.Need-loop-again Inv-loop μ-loop
 loop-again c =
-    let l = c .before .before .before .loop in
-    (filled-more (l .inv .0) (l .at) (l .inv .1) (c .before .before .loop-test .taken) (c .put-power .ensures), omega arith)
+    let l = c .before .before .before .before .before .loop in
+    (filled-more (l .inv .0) (l .at) (l .inv .1) (c .before .before .before .before .loop-test .taken) (c .before .put-power .ensures), omega arith)
 
 returns : tie.Need-returns Inv-loop μ-loop
 returns c = filled-all (c .before .loop .inv .0) (omega arith)
