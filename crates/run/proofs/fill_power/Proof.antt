@@ -47,8 +47,7 @@ put-power-requires c κs =
     let a = at-loop .before .before .args in
     let pre = at-loop .before .before .pre in (
       piece-long (a .c + a .d + a .x + 3) (a .k) (l .i) (l .a) (a .fields .now) (pre .0) (l .inv .0 .place) (c .before .before .loop-test .taken),
-      (pre .1 .1, pre .1 .2),
-      omega (arith, filled-room (l .inv .0) (c .before .before .loop-test .taken)),
+      ((pre .1 .0 .1, pre .1 .0 .2), omega (arith, filled-room (l .inv .0) (c .before .before .loop-test .taken))),
     )
 
 add-at : tie.Need-add-at Inv-loop μ-loop
