@@ -1,3 +1,4 @@
 -- What the proofs of `run` share.
 pub mod Loops
 pub mod Pieces
+pub mod Testing

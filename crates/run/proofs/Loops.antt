@@ -14,7 +14,7 @@ use Rattle.base.specs.Every.{every, has}
 use Rattle.base.specs.Digits.{numberFrom}
 use Rattle.run.specs.Columns.{goesOn, pairs}
 
-and-assoc : (a b c : Bool) → ((a && b) && c) ≡ (a && (b && c))
+pub and-assoc : (a b c : Bool) → ((a && b) && c) ≡ (a && (b && c))
 and-assoc true b c = refl
 and-assoc false b c = refl
 
