@@ -2,3 +2,4 @@
 pub mod Loops
 pub mod Pieces
 pub mod Testing
+pub mod Leading

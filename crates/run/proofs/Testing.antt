@@ -20,31 +20,31 @@ use Rattle.run.specs.Columns.{between, isDigit, goesOn, pairs, lastColum
 
 -- ---- what a byte does to a state, and its tests
 
-abbrev blankStep : Scan → Scan
+abbrev pub blankStep : Scan → Scan
 blankStep Blanks = Blanks
 blankStep Signed = Broken
 blankStep (Digits g n) = Broken
 blankStep Broken = Broken
 
-abbrev minusStep : Scan → Scan
+abbrev pub minusStep : Scan → Scan
 minusStep Blanks = Signed
 minusStep Signed = Broken
 minusStep (Digits g n) = Broken
 minusStep Broken = Broken
 
-abbrev digitStep : ℕ → Scan → Scan
+abbrev pub digitStep : ℕ → Scan → Scan
 digitStep d Blanks = Digits false d
 digitStep d Signed = Digits true d
 digitStep d (Digits g n) = Digits g (n * 10 + d)
 digitStep d Broken = Broken
 
-record Steps (b : ℕ) (next : Scan → Scan) (blank minus digit : Bool) : Type 0 where
-  step : (st : Scan) → stepOf (classOf b) st ≡ next st
-  blank-is : eqb b 32 ≡ blank
-  minus-is : eqb b 45 ≡ minus
-  digit-is : isDigit b ≡ digit
+pub record Steps (b : ℕ) (next : Scan → Scan) (blank minus digit : Bool) : Type 0 where
+  pub step : (st : Scan) → stepOf (classOf b) st ≡ next st
+  pub blank-is : eqb b 32 ≡ blank
+  pub minus-is : eqb b 45 ≡ minus
+  pub digit-is : isDigit b ≡ digit
 
-data Column (b : ℕ) : Type 0 where
+pub data Column (b : ℕ) : Type 0 where
   blank : Steps b blankStep true false false → Column b
   minus : Steps b minusStep false true false → Column b
   digit : (d : ℕ) → Steps b (digitStep d) false false true → Column b
@@ -68,7 +68,7 @@ minus-steps b e = subst (λ b. Steps b minusStep false true false) (sym e) recor
     step (Digits g n) = refl
     step Broken = refl
 
-column-of : (b : ℕ) → Column b
+pub column-of : (b : ℕ) → Column b
 column-of b = by-blank (eqb b 32) refl
   where
     digit-by : eqb b 32 ≡ false → eqb b 45 ≡ false → ltb b 48 ≡ false → ltb 57 b ≡ false → (st : Scan) → stepOf (classOf b) st ≡ digitStep (b - 48) st
@@ -97,12 +97,12 @@ column-of b = by-blank (eqb b 32) refl
 -- ---- digits behind digits
 
 -- what is asked of a state in the end: digits pass, broken columns don't
-record Asks (ask : Scan → Bool) : Type 0 where
-  digits : (g : Bool) (n : ℕ) → ask (Digits g n) ≡ true
-  broken : ask Broken ≡ false
+pub record Asks (ask : Scan → Bool) : Type 0 where
+  pub digits : (g : Bool) (n : ℕ) → ask (Digits g n) ≡ true
+  pub broken : ask Broken ≡ false
 
 module _ (ask : Scan → Bool) (q : Asks ask) where
-  broken-fails : (s : List ℕ) → ask (scanOf Broken s) ≡ false
+  pub broken-fails : (s : List ℕ) → ask (scanOf Broken s) ≡ false
   broken-fails s = ap ask (scan-broken s) ∙ q .broken
 
   -- a byte that breaks the columns, where a digit is due
@@ -131,13 +131,13 @@ goes-digit : (x y : ℕ) → eqb x 32 ≡ false → (eqb x 45 || isDigit x) ≡ 
 goes-digit x y e f = rw (e, f) (and-true (isDigit y))
 
 -- what is asked of one column, of which digits pass
-record Ends (ask : Scan → Bool) (end : ℕ → Bool) : Type 0 where
-  asks : Asks ask
-  one : (b : ℕ) → ask (stepOf (classOf b) Blanks) ≡ end b
-  digit-ends : (b : ℕ) → isDigit b ≡ true → end b ≡ true
+pub record Ends (ask : Scan → Bool) (end : ℕ → Bool) : Type 0 where
+  pub asks : Asks ask
+  pub one : (b : ℕ) → ask (stepOf (classOf b) Blanks) ≡ end b
+  pub digit-ends : (b : ℕ) → isDigit b ≡ true → end b ≡ true
 
 module _ (ask : Scan → Bool) (end : ℕ → Bool) (q : Ends ask end) where
-  abbrev row : List ℕ → Bool
+  abbrev pub row : List ℕ → Bool
   row s = pairs s && end (lastColumn s)
 
   -- behind a column that digits must follow
