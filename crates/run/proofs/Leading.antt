@@ -90,7 +90,7 @@ settled-lead st h (y ∷ s) b = settled-lead (stepOf (classOf y) st) (settled-st
 
 -- ---- the columns before E's point: r, and b in the last of them
 
-abbrev low : ℕ → Bool
+abbrev pub low : ℕ → Bool
 low = between 32 45
 
 low-blank : (x : ℕ) → eqb x 32 ≡ true → low x ≡ true
@@ -122,7 +122,7 @@ digit-lead b = by (eqb b 48) refl (column-of b)
     by false e (digit d t) = rw (e, t .digit-is, t .blank-is, t .minus-is)
     by false e (other t) = rw (e, t .digit-is)
 
-abbrev leads : List ℕ → ℕ → Bool
+abbrev pub leads : List ℕ → ℕ → Bool
 leads r b = pairs (r ++ (b ∷ [])) && (isLead b && every low r)
 
 pairs-first : (x : ℕ) (r : List ℕ) (b : ℕ) → pairs (x ∷ (r ++ (b ∷ []))) ≡ (goesOn x (getD (r ++ (b ∷ [])) 0 0) && pairs (r ++ (b ∷ [])))

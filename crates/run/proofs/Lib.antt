@@ -3,3 +3,5 @@ pub mod Loops
 pub mod Pieces
 pub mod Testing
 pub mod Leading
+pub mod ByColumns
+pub mod Cells
