@@ -5,3 +5,4 @@ pub mod Testing
 pub mod Leading
 pub mod ByColumns
 pub mod Cells
+pub mod ByForm

@@ -2,17 +2,23 @@
 -- Assumes nothing.
 use mathlib.Core.Path.{_≡_, refl, sym, ap, ap₂, _∙_}
 use mathlib.Core.Bool.{Bool, true, false, _&&_}
-use mathlib.Core.List.{List, [], _∷_, _++_, append-assoc, append-nil, flatMap}
+use mathlib.Core.List.{List, [], _∷_, _++_, append-assoc, append-nil, map, flatMap}
 use Prim.Native.Nat.{ℕ, zero, suc, _+_, _*_, _-_, _<_, _≤_}
 use native.Mathlib.Nat.{add-zero, zero-add, sub-zero, zero-mul, suc-mul, mul-le-mul-right}
 use native.Mathlib.Numerals.{add-one}
 use native.Mathlib.Omega.{arith}
+use lib.Dec.{T}
 use lib.IntN.{ℤ}
 use lib.ListN.{length, length-append}
+use lib.Seq.{take-all}
 use Rattle.base.specs.Every.{every, upFrom}
 use Rattle.base.specs.Part.{part, over}
 use Rattle.base.proofs.Part.{part-length, over-none, over-then, over-length}
+use Rattle.base.proofs.Every.{every-between}
+use Rattle.base.proofs.Taken.{part-zero}
+use Rattle.base.proofs.UpFrom.{flat-same, parts-flat}
 use Rattle.run.specs.Run.{columnsAt, eachPiece, allPieces}
+use Rattle.run.proofs.Loops.{and-assoc}
 
 -- the next of k numbers, and none behind the last
 up-next : (i k : ℕ) → i < k → upFrom i (k - i) ≡ i ∷ upFrom (i + 1) (k - (i + 1))
@@ -33,6 +39,66 @@ piece-within w k i a n l e h = let m = mul-le-mul-right w h in omega (arith, suc
 
 pub piece-long : (w k i a : ℕ) (s : List ℕ) → length s ≡ k * w → a ≡ i * w → i < k → length (part a (a + w) s) ≡ w
 piece-long w k i a s l e h = part-length s a w (piece-within w k i a (length s) l e h)
+
+columns-long : (w k i : ℕ) (s : List ℕ) → length s ≡ k * w → i < k → length (columnsAt w s i) ≡ w
+columns-long w k i s l h = ap length (sym (columns-lent w i (i * w) s refl)) ∙ piece-long w k i (i * w) s l refl h
+
+-- ---- by another test, by other cells
+
+every-same : (f g : ℕ → Bool) (b n : ℕ) → ((i : ℕ) → b ≤ i → i < b + n → f i ≡ g i) → every f (upFrom b n) ≡ every g (upFrom b n)
+unfolding upFrom
+every-same f g b zero e = refl
+every-same f g b (suc n) e = ap₂ _&&_ (e b (omega arith) (omega arith)) (every-same f g (suc b) n (λ i l h. e i (omega arith) (omega arith)))
+
+module _ (w k : ℕ) (s : List ℕ) (l : length s ≡ k * w) where
+  -- tests that agree on w columns
+  pub each-same : (f g : List ℕ → Bool) → ((x : List ℕ) → length x ≡ w → f x ≡ g x) → eachPiece f w k s ≡ eachPiece g w k s
+  unfolding eachPiece
+  each-same f g e = every-same (λ i. f (columnsAt w s i)) (λ i. g (columnsAt w s i)) 0 k (λ i h m. e (columnsAt w s i) (columns-long w k i s l (omega arith)))
+
+  -- the same cells of w columns that pass a test
+  pub all-same : (test : List ℕ → Bool) (f g : List ℕ → List ℤ) → ((x : List ℕ) → length x ≡ w → T (test x) → f x ≡ g x) → T (eachPiece test w k s) → allPieces f w k s ≡ allPieces g w k s
+  unfolding eachPiece allPieces
+  all-same test f g e t =
+      flat-same (λ i. f (columnsAt w s i)) (λ i. g (columnsAt w s i)) 0 k
+      (λ i h m. e (columnsAt w s i) (columns-long w k i s l (omega arith)) (every-between (λ i. test (columnsAt w s i)) 0 k t i h m))
+
+-- ---- pieces that are looked at byte by byte
+
+every-flat : (f : ℕ → Bool) (g : ℕ → List ℕ) (is : List ℕ) → every (λ i. every f (g i)) is ≡ every f (flatMap g is)
+unfolding flatMap
+every-flat f g [] = refl
+every-flat f g (i ∷ is) = ap (λ b. every f (g i) && b) (every-flat f g is) ∙ every-both (g i)
+  where
+    every-both : (xs : List ℕ) → (every f xs && every f (flatMap g is)) ≡ every f (xs ++ flatMap g is)
+    every-both [] = refl
+    every-both (x ∷ xs) = and-assoc (f x) (every f xs) (every f (flatMap g is)) ∙ ap (λ b. f x && b) (every-both xs)
+
+map-flat : (f : ℕ → ℤ) (g : ℕ → List ℕ) (is : List ℕ) → flatMap (λ i. map f (g i)) is ≡ map f (flatMap g is)
+unfolding flatMap
+map-flat f g [] = refl
+map-flat f g (i ∷ is) = ap (λ l. map f (g i) ++ l) (map-flat f g is) ∙ map-both (g i)
+  where
+    map-both : (xs : List ℕ) → map f xs ++ map f (flatMap g is) ≡ map f (xs ++ flatMap g is)
+    map-both [] = refl
+    map-both (x ∷ xs) = ap (λ l. f x ∷ l) (map-both xs)
+
+-- a run is its pieces
+pieces-run : (w k : ℕ) (s : List ℕ) → length s ≡ k * w → flatMap (columnsAt w s) (upFrom 0 k) ≡ s
+pieces-run w k s l =
+    parts-flat (λ i. i * w) s (λ i. omega (arith, suc-mul i w)) 0 k
+    ∙ ap₂ (λ a e. part a e s) (zero-mul w) (ap (λ i. i * w) (zero-add k))
+    ∙ part-zero (k * w) s
+    ∙ take-all (k * w) s (omega arith)
+
+module _ (w k : ℕ) (s : List ℕ) (l : length s ≡ k * w) where
+  pub each-byte : (f : ℕ → Bool) → eachPiece (every f) w k s ≡ every f s
+  unfolding eachPiece
+  each-byte f = every-flat f (columnsAt w s) (upFrom 0 k) ∙ ap (every f) (pieces-run w k s l)
+
+  pub all-bytes : (f : ℕ → ℤ) → allPieces (map f) w k s ≡ map f s
+  unfolding allPieces
+  all-bytes f = map-flat f (columnsAt w s) (upFrom 0 k) ∙ ap (map f) (pieces-run w k s l)
 
 -- ---- testing
 
