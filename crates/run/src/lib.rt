@@ -267,7 +267,10 @@ fn fixed_cell(s: &[u8]) -> i64
     let p = n - 4;
     let q = n - 3;
     let head = &s[0..p];
-    number::cell(has_minus(head), number_in(head) * 1000 + number_in(&s[q..n]))
+    number::cell(
+        has_minus(head),
+        number_in(head) * 1000 + number_in(&s[q..n]),
+    )
 }
 
 // R77: the two cells of an E field.

@@ -15,7 +15,6 @@ use Rattle.run.proofs.Pieces.{Filled, piece-within, piece-long, filled-
 use Rattle.run.proofs.fill_fixed.Statement.{statement}
 use Rattle.run.proofs.fill_fixed.Tie as tie
 
-
 abbrev Inv-loop : tie.InvT-loop
 Inv-loop fields k w table₀ cell a₀ i₀ table a i = Filled (λ s. fixedCell s ∷ []) 1 w k fields cell table₀ a i table
 

@@ -12,7 +12,6 @@ use Rattle.run.proofs.Pieces.{Filled, piece-within, piece-long, filled-
 use Rattle.run.proofs.fill_power.Statement.{statement}
 use Rattle.run.proofs.fill_power.Tie as tie
 
-
 abbrev Inv-loop : tie.InvT-loop
 Inv-loop fields k c d x table₀ cell w a₀ at₀ i₀ table a at i =
     Filled (λ s. powerFirst c d s ∷ powerSecond c d s ∷ []) 2 (c + d + x + 3) k fields cell table₀ a i table × (at ≡ cell + i * 2)

@@ -9,7 +9,6 @@ use Rattle.base.specs.Sign.{ofSign}
 use Rattle.run.proofs.fixed_cell.Statement.{statement}
 use Rattle.run.proofs.fixed_cell.Tie as tie
 
-
 returns : tie.Need-returns
 returns c =
     toZ-ofZ (sfits-of {w = w64} (c .cell .ok)) ∙ c .cell .ensures

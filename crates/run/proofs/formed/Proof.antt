@@ -12,7 +12,6 @@ use Rattle.run.proofs.ByForm.{formed-as}
 use Rattle.run.proofs.formed.Statement.{statement}
 use Rattle.run.proofs.formed.Tie as tie
 
-
 fixed-run-requires : tie.Need-fixed-run-requires
 unfolding Table.rowOf Table.listedAs
 fixed-run-requires c κs = let at = c .before .before .before in (at .pre ∙ ap (λ f. at .args .k * rowOf f .width) (c .enum-told .given .1), omega arith)

@@ -4,7 +4,6 @@ use native.Mathlib.Omega.{arith}
 use Rattle.run.proofs.is_fixed.Statement.{statement}
 use Rattle.run.proofs.is_fixed.Tie as tie
 
-
 returns : tie.Need-returns
 returns c = rw (c .before .before .is-head .ensures, c .all-between .ensures)
 

@@ -5,7 +5,6 @@ use mathlib.Core.Bool.{_&&_}
 use Rattle.run.proofs.is_head.Statement.{statement}
 use Rattle.run.proofs.is_head.Tie as tie
 
-
 returns : tie.Need-returns
 returns c = ap₂ _&&_ (c .before .before .pairs .ensures) (c .is-column .ensures)
 

@@ -5,7 +5,6 @@ use mathlib.Core.Bool.{_&&_}
 use Rattle.run.proofs.is_leading.Statement.{statement}
 use Rattle.run.proofs.is_leading.Tie as tie
 
-
 returns : tie.Need-returns
 returns c = ap₂ _&&_ (c .before .before .before .before .pairs .ensures) (ap₂ _&&_ (c .before .before .is-lead .ensures) (c .all-between .ensures))
 

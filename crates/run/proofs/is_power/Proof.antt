@@ -4,7 +4,6 @@ use native.Mathlib.Omega.{arith}
 use Rattle.run.proofs.is_power.Statement.{statement}
 use Rattle.run.proofs.is_power.Tie as tie
 
-
 returns : tie.Need-returns
 returns c =
     let front = c .before .before .before .before in

@@ -10,7 +10,6 @@ use Rattle.run.proofs.Pieces.{Tested, piece-within, piece-long, tested-
 use Rattle.run.proofs.power_run.Statement.{statement}
 use Rattle.run.proofs.power_run.Tie as tie
 
-
 abbrev Inv-loop : tie.InvT-loop
 Inv-loop fields k c d x w a₀ i₀ a i = Tested (isPower c d) (c + d + x + 3) k fields a i
 

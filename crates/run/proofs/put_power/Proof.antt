@@ -14,7 +14,6 @@ use Rattle.run.specs.Columns.{powerFirst, powerSecond}
 use Rattle.run.proofs.put_power.Statement.{statement}
 use Rattle.run.proofs.put_power.Tie as tie
 
-
 slice-set-from-table-2 : tie.Need-slice-set-from-table-2
 slice-set-from-table-2 c = simp length-set (omega arith)
 

@@ -8,7 +8,6 @@ use Rattle.base.specs.Sign.{ofSign}
 use Rattle.run.proofs.whole_cell.Statement.{statement}
 use Rattle.run.proofs.whole_cell.Tie as tie
 
-
 cell-requires : tie.Need-cell-requires
 cell-requires c κs = omega (arith, c .number-in .ensures .1)
 

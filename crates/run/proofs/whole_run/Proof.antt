@@ -10,7 +10,6 @@ use Rattle.run.proofs.Pieces.{Tested, piece-within, piece-long, tested-
 use Rattle.run.proofs.whole_run.Statement.{statement}
 use Rattle.run.proofs.whole_run.Tie as tie
 
-
 abbrev Inv-loop : tie.InvT-loop
 Inv-loop fields k w a₀ i₀ a i = Tested isWhole w k fields a i
 
