@@ -1,6 +1,6 @@
 -- Loops over bytes that gather one answer: a test at each, pairs of neighbours, a byte that is sought, a number's digits.
 -- Assumes nothing.
-use mathlib.Core.Path.{_≡_, refl}
+use mathlib.Core.Path.{_≡_, refl, sym, ap, _∙_}
 use mathlib.Core.Bool.{Bool, true, false, _&&_, _||_}
 use mathlib.Core.List.{List, [], _∷_, map}
 use Prim.Native.Nat.{ℕ, suc, _+_, _*_, _-_, _^_, _<_, _≤_}
@@ -30,6 +30,13 @@ pub or-false : (a : Bool) → (a || false) ≡ a
 or-false true = refl
 or-false false = refl
 
+-- one test and then another: q is what the first answered, r what is answered
+pub and-then : (a b : Bool) {q r : Bool} → q ≡ a → q ≡ true → r ≡ b → r ≡ (a && b)
+and-then a b e f g = g ∙ sym (ap (λ t. t && b) (sym e ∙ f))
+
+pub and-stop : (a b : Bool) {q : Bool} → q ≡ a → q ≡ false → q ≡ (a && b)
+and-stop a b e f = f ∙ sym (ap (λ t. t && b) (sym e ∙ f))
+
 -- ---- a test at each byte
 
 module _ (test : ℕ → Bool) (s : List ℕ) (i : ℕ) where
@@ -50,13 +57,18 @@ module _ (b : ℕ) (s : List ℕ) (i : ℕ) where
 
 -- ---- neighbours
 
--- from column i - 1 on
-pub pairs-more : (s : List ℕ) (i : ℕ) (ok : Bool) → 1 ≤ i → i < length s
-    → ((ok && goesOn (getD s (i - 1) 0) (getD s i 0)) && pairs (drop i s)) ≡ (ok && pairs (drop (i - 1) s))
+-- column i - 1 goes on to column i, or it doesn't
+pairs-from : (s : List ℕ) (i : ℕ) → 1 ≤ i → i < length s → pairs (drop (i - 1) s) ≡ (goesOn (getD s (i - 1) 0) (getD s i 0) && pairs (drop i s))
 unfolding pairs
-pairs-more s i ok l h =
+pairs-from s i l h =
     let e : i ≡ suc (i - 1) = omega arith in
-    rw (drop-cons s (i - 1) 0 (omega arith), ← e, drop-cons s i 0 h) (and-assoc ok (goesOn (getD s (i - 1) 0) (getD s i 0)) (pairs (getD s i 0 ∷ drop (suc i) s)))
+    rw (drop-cons s (i - 1) 0 (omega arith), ← e, drop-cons s i 0 h)
+
+pub pairs-passed : (s : List ℕ) (i : ℕ) → 1 ≤ i → i < length s → goesOn (getD s (i - 1) 0) (getD s i 0) ≡ true → pairs (drop i s) ≡ pairs (drop (i - 1) s)
+pairs-passed s i l h e = sym (pairs-from s i l h ∙ rw e)
+
+pub pairs-failed : (s : List ℕ) (i : ℕ) → 1 ≤ i → i < length s → goesOn (getD s (i - 1) 0) (getD s i 0) ≡ false → false ≡ pairs (drop (i - 1) s)
+pairs-failed s i l h e = sym (pairs-from s i l h ∙ rw e)
 
 few-pairs : (s : List ℕ) → length s ≤ 1 → pairs s ≡ true
 unfolding pairs
@@ -64,8 +76,8 @@ few-pairs [] h = refl
 few-pairs (x ∷ []) h = refl
 few-pairs (x ∷ y ∷ s) h = absurd (omega arith)
 
-pub pairs-done : (s : List ℕ) (i : ℕ) (ok : Bool) → length s ≤ i → (ok && pairs (drop (i - 1) s)) ≡ ok
-pairs-done s i ok h = rw (few-pairs (drop (i - 1) s) (omega (arith, length-drop (i - 1) s))) (and-true ok)
+pub pairs-done : (s : List ℕ) (i : ℕ) → length s ≤ i → true ≡ pairs (drop (i - 1) s)
+pairs-done s i h = sym (few-pairs (drop (i - 1) s) (omega (arith, length-drop (i - 1) s)))
 
 -- ---- a number's digits
 

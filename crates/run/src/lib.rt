@@ -48,19 +48,20 @@ fn is_digit(b: u8) -> bool
 fn goes_on(x: u8, y: u8) -> bool
     ensures { λ r. ⌜ r ≡ goesOn x y ⌝ }
 {
-    (x == b' ') | (is_digit(y) & ((x == b'-') | is_digit(x)))
+    x == b' ' || (is_digit(y) && (x == b'-' || is_digit(x)))
 }
 
 fn pairs(s: &[u8]) -> bool
     ensures { λ r. ⌜ r ≡ pairs (now (s .entry)) ⌝ }
 {
-    let mut ok = true;
     let mut i = 1;
     while i < s.len() {
-        ok = ok & goes_on(s[i - 1], s[i]);
+        if !goes_on(s[i - 1], s[i]) {
+            return false;
+        }
         i += 1;
     }
-    ok
+    true
 }
 
 // R70.
@@ -68,7 +69,7 @@ fn is_whole(s: &[u8]) -> bool
     requires { ⌜ 1 ≤ length (now s) ⌝ }
     ensures { λ r. ⌜ r ≡ isWhole (now (s .entry)) ⌝ }
 {
-    pairs(s) & is_digit(s[s.len() - 1])
+    pairs(s) && is_digit(s[s.len() - 1])
 }
 
 // R72: a blank, a minus or a digit may stand before the point.
@@ -82,7 +83,7 @@ fn is_head(s: &[u8]) -> bool
     requires { ⌜ 1 ≤ length (now s) ⌝ }
     ensures { λ r. ⌜ r ≡ isHead (now (s .entry)) ⌝ }
 {
-    pairs(s) & is_column(s[s.len() - 1])
+    pairs(s) && is_column(s[s.len() - 1])
 }
 
 // R72.
@@ -93,7 +94,7 @@ fn is_fixed(s: &[u8]) -> bool
     let n = s.len();
     let p = n - 4;
     let q = n - 3;
-    (s[p] == b'.') & (is_head(&s[0..p]) & all_between(&s[q..n], b'0', b'9'))
+    s[p] == b'.' && (is_head(&s[0..p]) && all_between(&s[q..n], b'0', b'9'))
 }
 
 // R75, R76: the last column before E's point.
@@ -109,7 +110,7 @@ fn is_leading(s: &[u8]) -> bool
     ensures { λ r. ⌜ r ≡ isLeading (now (s .entry)) ⌝ }
 {
     let l = s.len() - 1;
-    pairs(s) & (is_lead(s[l]) & all_between(&s[0..l], b' ', b'-'))
+    pairs(s) && (is_lead(s[l]) && all_between(&s[0..l], b' ', b'-'))
 }
 
 // R74: only the exponent has a plus.
@@ -130,11 +131,11 @@ fn is_power(s: &[u8], c: usize, d: usize, x: usize) -> bool
     let e = c + 1 + d;
     let g = c + 2 + d;
     let h = c + 3 + d;
-    (s[c] == b'.')
-        & ((s[e] == b'E')
-            & (is_sign(s[g])
-                & (is_leading(&s[0..c])
-                    & (all_between(&s[f..e], b'0', b'9') & all_between(&s[h..n], b'0', b'9')))))
+    s[c] == b'.'
+        && (s[e] == b'E'
+            && (is_sign(s[g])
+                && (is_leading(&s[0..c])
+                    && (all_between(&s[f..e], b'0', b'9') && all_between(&s[h..n], b'0', b'9')))))
 }
 
 fn whole_run(fields: &[u8], k: usize, w: usize) -> bool
@@ -206,8 +207,8 @@ pub fn formed(form: Form, fields: &[u8], k: usize) -> bool
         Form::I3 => whole_run(fields, k, 3),
         Form::I1 => all_between(fields, b'0', b'9'),
         Form::E11 => power_run(fields, k, 1, 6, 1),
-        Form::E20 => power_run(fields, k, 3, 12, 2),
         Form::E8 => power_run(fields, k, 1, 3, 1),
+        Form::E20 => power_run(fields, k, 3, 12, 2),
     }
 }
 
@@ -374,7 +375,7 @@ pub fn fill(form: Form, fields: &[u8], k: usize, table: &mut [i64], cell: usize)
         Form::I3 => fill_whole(fields, k, 3, table, cell),
         Form::I1 => fill_bytes(fields, b'0', table, cell),
         Form::E11 => fill_power(fields, k, 1, 6, 1, table, cell),
-        Form::E20 => fill_power(fields, k, 3, 12, 2, table, cell),
         Form::E8 => fill_power(fields, k, 1, 3, 1, table, cell),
+        Form::E20 => fill_power(fields, k, 3, 12, 2, table, cell),
     }
 }
