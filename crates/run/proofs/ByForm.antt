@@ -1,15 +1,15 @@
 -- The ten forms: the test that a form's field passes and the cells that it then has, and the same of a run of such fields.
 -- Assumes nothing.
-use mathlib.Core.Path.{_≡_, refl, sym, ap, ap₂, _∙_}
+use mathlib.Core.Path.{_≡_, refl, sym, ap, ap₂, _∙_, subst}
 use mathlib.Core.Bool.{Bool, true, false, cond}
 use mathlib.Core.List.{List, [], _∷_, map}
-use Prim.Native.Nat.{ℕ, _+_, _*_, _-_}
+use Prim.Native.Nat.{ℕ, _+_, _*_, _-_, _≤_}
 use native.Mathlib.Nat.{sub-zero}
 use native.Mathlib.Omega.{arith}
 use borrow.Author.Tests.{ne-eqb, leb-true}
-use lib.Dec.{T, eqb, leb}
+use lib.Dec.{T, leb}
 use lib.IntN.{ℤ, pos}
-use lib.ListN.{length, getD}
+use lib.ListN.{length}
 use Rattle.base.specs.Ascii.{printable}
 use Rattle.base.specs.Every.{every}
 use Rattle.base.specs.Part.{over}
@@ -28,7 +28,7 @@ use Rattle.field.proofs.Laws.{lawful, field-as, good-width}
 use Rattle.run.specs.Run.{eachPiece, allPieces, runFormed, runCells}
 use Rattle.run.specs.Columns.{isDigit, pairs, isWhole, isFixed, isPower, wholeCell, fixedCell, powerFirst, powerSecond}
 use Rattle.run.proofs.Loops.{and-true}
-use Rattle.run.proofs.Pieces.{each-same, all-same}
+use Rattle.run.proofs.Pieces.{each-same, all-same, each-byte, all-bytes}
 use Rattle.run.proofs.ByColumns.{whole-formed, fixed-formed, power-formed}
 use Rattle.run.proofs.Cells.{whole-is, fixed-is, power-is}
 
@@ -134,9 +134,27 @@ module _ (f : Form) (k : ℕ) (s : List ℕ) (l : length s ≡ k * rowOf f .widt
   run-cells t =
       all-same (rowOf f .width) k s l (λ x. formed (fieldOf f x)) (λ x. valueCells x (fieldOf f x)) (cellsBy f) (λ x e u. form-cells f x u) t
 
-  -- what is told of a form that is known to be this one
-  pub formed-as : {g : Form} {b : Bool} → f ≡ g → b ≡ eachPiece (testOf g) (rowOf g .width) k s → b ≡ runFormed f k s
-  formed-as e h = h ∙ ap (λ g. eachPiece (testOf g) (rowOf g .width) k s) (sym e) ∙ sym run-formed
+-- ---- where the form is known to be g
 
-  pub filled-as : {g : Form} (cell : ℕ) (old : List ℤ) → T (runFormed f k s) → f ≡ g → over cell (allPieces (cellsBy g) (rowOf g .width) k s) old ≡ over cell (runCells f k s) old
-  filled-as cell old t e = ap (λ cs. over cell cs old) (ap (λ g. allPieces (cellsBy g) (rowOf g .width) k s) (sym e) ∙ sym (run-cells t))
+-- what is required, for that form
+pub width-as : {f g : Form} (k : ℕ) (s : List ℕ) → f ≡ g → length s ≡ k * rowOf f .width → length s ≡ k * rowOf g .width
+width-as k s e l = l ∙ ap (λ f. k * rowOf f .width) e
+
+pub room-as : {f g : Form} (k cell : ℕ) (table : List ℤ) → f ≡ g → cell + k * rowOf f .cells ≤ length table → cell + k * rowOf g .cells ≤ length table
+room-as k cell table e r = subst (λ f. cell + k * rowOf f .cells ≤ length table) e r
+
+-- what is owed: by the form's test and cells, and where these go byte by byte
+module _ (f : Form) (k : ℕ) (s : List ℕ) (l : length s ≡ k * rowOf f .width) {g : Form} (e : f ≡ g) where
+  pub formed-as : {b : Bool} → b ≡ eachPiece (testOf g) (rowOf g .width) k s → b ≡ runFormed f k s
+  formed-as h = h ∙ ap (λ g. eachPiece (testOf g) (rowOf g .width) k s) (sym e) ∙ sym (run-formed f k s l)
+
+  pub formed-bytes : {b : Bool} (h : ℕ → Bool) → every h ≡ testOf g → b ≡ every h s → b ≡ runFormed f k s
+  formed-bytes h t r = formed-as (r ∙ sym (each-byte (rowOf g .width) k s (width-as k s e l) h) ∙ ap (λ u. eachPiece u (rowOf g .width) k s) t)
+
+  module _ (cell : ℕ) (old : List ℤ) (t : T (runFormed f k s)) where
+    pub filled-as : over cell (allPieces (cellsBy g) (rowOf g .width) k s) old ≡ over cell (runCells f k s) old
+    filled-as = ap (λ cs. over cell cs old) (ap (λ g. allPieces (cellsBy g) (rowOf g .width) k s) (sym e) ∙ sym (run-cells f k s l t))
+
+    pub filled-bytes : (h : ℕ → ℤ) → map h ≡ cellsBy g → over cell (map h s) old ≡ over cell (runCells f k s) old
+    filled-bytes h c =
+        ap (λ cs. over cell cs old) (sym (all-bytes (rowOf g .width) k s (width-as k s e l) h) ∙ ap (λ u. allPieces u (rowOf g .width) k s) c) ∙ filled-as

@@ -1,4 +1,5 @@
--- Columns as they are tested and summed, without a state: R70, R72 and R74 by pairs of columns.
+-- Columns as they are tested and summed, each by itself and beside the next one: no state goes from column to column. What passes is what
+-- `number` reads (proofs/ByColumns.antt), and of what passes the sums are its cells (proofs/Cells.antt), over every width.
 use mathlib.Core.Bool.{Bool, true, _&&_, _||_}
 use mathlib.Core.List.{List, [], _∷_, map}
 use Prim.Native.Nat.{ℕ, _+_, _*_, _-_}

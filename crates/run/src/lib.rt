@@ -1,11 +1,11 @@
-// A run of fields of one form, one behind the other: whether each is one of the form, and their cells. The form is
-// matched once for a run, and then one loop goes over its fields, with the form's widths as constants.
+// A run of fields of one form, one behind the other: whether each is one of the form (R70 to R86), and their cells. The
+// form is matched once for a run, and one loop goes over its fields. The loops are written over any width, and the form's
+// own is a constant where they are called: there the compiler takes the loops over a field's columns apart.
 use form::Form;
 ghost use mathlib.Core.Path.{_≡_};
-ghost use mathlib.Core.Bool.{_&&_};
 ghost use mathlib.Core.List.{_∷_, [], map};
 ghost use Prim.Native.Nat.{_+_, _*_, _-_, _^_, _<_, _≤_};
-ghost use lib.Dec.{T, eqb};
+ghost use lib.Dec.{T};
 ghost use lib.IntN.{pos};
 ghost use lib.ListN.{length};
 ghost use Rattle.base.specs.Every.{every, has};
@@ -16,8 +16,7 @@ ghost use Rattle.run.specs.Columns.{between, isDigit, goesOn, pairs, isC
 ghost use Rattle.run.specs.Columns.{isFixed, isLeading, isPower, numberIn, wholeCell, fixedCell};
 ghost use Rattle.run.specs.Columns.{powerFirst, powerSecond};
 
-// ---- Testing. No test leaves before its end: the ways that it would leave by cost more than the tests that it would
-// spare, and several bytes are looked at in one step.
+// ---- Testing, without making a value.
 
 fn is_between(b: u8, first: u8, last: u8) -> bool
     ensures { λ r. ⌜ r ≡ between first last b ⌝ }
@@ -25,6 +24,7 @@ fn is_between(b: u8, first: u8, last: u8) -> bool
     (first <= b) & (b <= last)
 }
 
+// R80, and runs of digits. The loop has no way out before its end, so that many bytes are looked at in one step.
 fn all_between(s: &[u8], first: u8, last: u8) -> bool
     ensures { λ r. ⌜ r ≡ every (between first last) (now (s .entry)) ⌝ }
 {
@@ -51,6 +51,7 @@ fn goes_on(x: u8, y: u8) -> bool
     x == b' ' || (is_digit(y) && (x == b'-' || is_digit(x)))
 }
 
+// Whether each column goes on to the next: then all of them are right, but for the last, which each form asks for.
 fn pairs(s: &[u8]) -> bool
     ensures { λ r. ⌜ r ≡ pairs (now (s .entry)) ⌝ }
 {
@@ -64,7 +65,7 @@ fn pairs(s: &[u8]) -> bool
     true
 }
 
-// R70.
+// R70: a digit stands last.
 fn is_whole(s: &[u8]) -> bool
     requires { ⌜ 1 ≤ length (now s) ⌝ }
     ensures { λ r. ⌜ r ≡ isWhole (now (s .entry)) ⌝ }
@@ -79,6 +80,7 @@ fn is_column(b: u8) -> bool
     (b == b' ') | ((b == b'-') | is_digit(b))
 }
 
+// R72: what stands before the point.
 fn is_head(s: &[u8]) -> bool
     requires { ⌜ 1 ≤ length (now s) ⌝ }
     ensures { λ r. ⌜ r ≡ isHead (now (s .entry)) ⌝ }
@@ -86,7 +88,7 @@ fn is_head(s: &[u8]) -> bool
     pairs(s) && is_column(s[s.len() - 1])
 }
 
-// R72.
+// R72: the point, and three digits behind it.
 fn is_fixed(s: &[u8]) -> bool
     requires { ⌜ 5 ≤ length (now s) ⌝ }
     ensures { λ r. ⌜ r ≡ isFixed (now (s .entry)) ⌝ }
@@ -138,6 +140,7 @@ fn is_power(s: &[u8], c: usize, d: usize, x: usize) -> bool
                     && (all_between(&s[f..e], b'0', b'9') && all_between(&s[h..n], b'0', b'9')))))
 }
 
+// I fields of w columns.
 fn whole_run(fields: &[u8], k: usize, w: usize) -> bool
     requires run { ⌜ length (now fields) ≡ k * w ⌝ }
     requires w { ⌜ 1 ≤ w ⌝ }
@@ -156,6 +159,7 @@ fn whole_run(fields: &[u8], k: usize, w: usize) -> bool
     true
 }
 
+// F fields of w columns.
 fn fixed_run(fields: &[u8], k: usize, w: usize) -> bool
     requires run { ⌜ length (now fields) ≡ k * w ⌝ }
     requires w { ⌜ 5 ≤ w ⌝ }
@@ -174,6 +178,7 @@ fn fixed_run(fields: &[u8], k: usize, w: usize) -> bool
     true
 }
 
+// E fields of so many columns, digits and exponent digits.
 fn power_run(fields: &[u8], k: usize, c: usize, d: usize, x: usize) -> bool
     requires run { ⌜ length (now fields) ≡ k * (c + d + x + 3) ⌝ }
     requires small { ⌜ (1 ≤ c) × (c ≤ 12) × (d ≤ 12) × (x ≤ 12) ⌝ }
@@ -193,7 +198,8 @@ fn power_run(fields: &[u8], k: usize, c: usize, d: usize, x: usize) -> bool
     true
 }
 
-// Whether each of the k fields of this form, one behind the other, is one of the form.
+// Whether each of the k fields of this form, one behind the other, is one of the form. Of E the longest stands last: the
+// compiler makes a copy of a loop for each form while that is short, and for the last one in any case.
 pub fn formed(form: Form, fields: &[u8], k: usize) -> bool
     requires { ⌜ length (now fields) ≡ k * rowOf form .width ⌝ }
     ensures { λ r. ⌜ r ≡ runFormed form k (now (fields .entry)) ⌝ }
@@ -212,7 +218,8 @@ pub fn formed(form: Form, fields: &[u8], k: usize) -> bool
     }
 }
 
-// ---- Filling, of fields that are known to be formed: no byte is tested again.
+// ---- Filling. The fields are known to be formed, so no byte is tested again. These say what they make of any bytes, and
+// proofs/Cells.antt that of formed fields these are the cells.
 
 // A byte's code less another, 0 where it is below that: so a blank and a minus count nothing among digits.
 fn above(b: u8, zero: u8) -> u8
@@ -224,7 +231,7 @@ fn above(b: u8, zero: u8) -> u8
     b - zero
 }
 
-// R71: the number that columns make.
+// R71: the number that columns make. No byte is above 255, so 12 columns have room whatever they hold.
 fn number_in(s: &[u8]) -> u64
     requires { ⌜ length (now s) ≤ 12 ⌝ }
     ensures number { λ r. ⌜ r ≡ numberIn (now (s .entry)) ⌝ }
@@ -239,6 +246,7 @@ fn number_in(s: &[u8]) -> u64
     n
 }
 
+// Whether a minus stands in the columns before a number's digits.
 fn has_minus(s: &[u8]) -> bool
     ensures { λ r. ⌜ r ≡ has (now (s .entry)) 45 ⌝ }
 {
@@ -251,7 +259,7 @@ fn has_minus(s: &[u8]) -> bool
     minus
 }
 
-// R71.
+// R71: the cell of an I field.
 fn whole_cell(s: &[u8]) -> i64
     requires { ⌜ length (now s) ≤ 12 ⌝ }
     ensures { λ r. ⌜ r ≡ wholeCell (now (s .entry)) ⌝ }
@@ -259,7 +267,7 @@ fn whole_cell(s: &[u8]) -> i64
     number::cell(has_minus(s), number_in(s))
 }
 
-// R73.
+// R73: the cell of an F field, in thousandths.
 fn fixed_cell(s: &[u8]) -> i64
     requires { ⌜ (5 ≤ length (now s)) × (length (now s) ≤ 12) ⌝ }
     ensures { λ r. ⌜ r ≡ fixedCell (now (s .entry)) ⌝ }
@@ -346,7 +354,7 @@ fn fill_power(fields: &[u8], k: usize, c: usize, d: usize, x: usize, table: &mut
     }
 }
 
-// A cell for each byte: its code less another.
+// R80, and digits of one column: a cell for each byte, its code less another.
 fn fill_bytes(fields: &[u8], zero: u8, table: &mut [i64], cell: usize)
     requires { ⌜ cell + length (now fields) ≤ length (now table) ⌝ }
     ensures { λ _. ⌜ now (table .exit) ≡

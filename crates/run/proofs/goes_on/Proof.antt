@@ -5,7 +5,6 @@ use mathlib.Core.Path.{sym, _∙_}
 use Rattle.run.proofs.goes_on.Statement.{statement}
 use Rattle.run.proofs.goes_on.Tie as tie
 
-
 returns : tie.Need-returns
 returns c = rw (eq-eqb _ _ (c .if1 .taken))
 

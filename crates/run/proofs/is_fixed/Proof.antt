@@ -6,7 +6,6 @@ use mathlib.Core.Path.{sym, _∙_}
 use Rattle.run.proofs.is_fixed.Statement.{statement}
 use Rattle.run.proofs.is_fixed.Tie as tie
 
-
 returns : tie.Need-returns
 returns c =
     let head = c .before .before .before in

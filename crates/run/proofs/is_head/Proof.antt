@@ -5,7 +5,6 @@ use Rattle.run.proofs.Loops.{and-then, and-stop}
 use Rattle.run.proofs.is_head.Statement.{statement}
 use Rattle.run.proofs.is_head.Tie as tie
 
-
 returns : tie.Need-returns
 returns c =
     let s = c .before .before .before .before .before .args .s .now in

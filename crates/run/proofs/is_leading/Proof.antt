@@ -10,7 +10,6 @@ use Rattle.run.proofs.Loops.{and-then, and-stop}
 use Rattle.run.proofs.is_leading.Statement.{statement}
 use Rattle.run.proofs.is_leading.Tie as tie
 
-
 returns : tie.Need-returns
 returns c =
     let front = c .before .before .before in

@@ -6,7 +6,6 @@ use mathlib.Core.Path.{sym, _∙_}
 use Rattle.run.proofs.is_power.Statement.{statement}
 use Rattle.run.proofs.is_power.Tie as tie
 
-
 returns : tie.Need-returns
 returns c =
     let digits = c .before .before .before in

@@ -10,7 +10,6 @@ use Rattle.run.proofs.Loops.{pairs-passed, pairs-failed, pairs-done}
 use Rattle.run.proofs.pairs.Statement.{statement}
 use Rattle.run.proofs.pairs.Tie as tie
 
-
 abbrev Inv-loop : tie.InvT-loop
 Inv-loop s i₀ i = (1 ≤ i) × (pairs (drop (i - 1) s) ≡ pairs s)
 
