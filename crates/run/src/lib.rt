@@ -1,6 +1,6 @@
 // A run of fields of one form, one behind the other: whether each is one of the form (R70 to R86), and their cells. The
-// form is matched once for a run, and one loop goes over its fields. The loops are written over any width, and the form's
-// own is a constant where they are called: there the compiler takes the loops over a field's columns apart.
+// form is matched once for a run, and one loop goes over its fields. The loops are written over any width, and the
+// form's own is a constant where they are called: there the compiler takes the loops over a field's columns apart.
 use form::Form;
 ghost use mathlib.Core.Path.{_≡_};
 ghost use mathlib.Core.List.{_∷_, [], map};
@@ -198,8 +198,8 @@ fn power_run(fields: &[u8], k: usize, c: usize, d: usize, x: usize) -> bool
     true
 }
 
-// Whether each of the k fields of this form, one behind the other, is one of the form. Of E the longest stands last: the
-// compiler makes a copy of a loop for each form while that is short, and for the last one in any case.
+// Whether each of the k fields of this form, one behind the other, is one of the form. Of E the longest stands last:
+// the compiler makes a copy of a loop for each form while that is short, and for the last one in any case.
 pub fn formed(form: Form, fields: &[u8], k: usize) -> bool
     requires { ⌜ length (now fields) ≡ k * rowOf form .width ⌝ }
     ensures { λ r. ⌜ r ≡ runFormed form k (now (fields .entry)) ⌝ }
@@ -218,8 +218,8 @@ pub fn formed(form: Form, fields: &[u8], k: usize) -> bool
     }
 }
 
-// ---- Filling. The fields are known to be formed, so no byte is tested again. These say what they make of any bytes, and
-// proofs/Cells.antt that of formed fields these are the cells.
+// ---- Filling. The fields are known to be formed, so no byte is tested again. These say what they make of any bytes,
+// and proofs/Cells.antt that of formed fields these are the cells.
 
 // A byte's code less another, 0 where it is below that: so a blank and a minus count nothing among digits.
 fn above(b: u8, zero: u8) -> u8

@@ -39,7 +39,8 @@ loop-again c =
       omega arith,
       simp length-set (l .inv .1),
       ap (λ x. set (l .table) (a .cell + l .i) x) v
-          ∙ over-turn (a .table .now) ys (a .cell) (l .i) (pos 0) (omega (arith, c .before .before .before .loop-test .taken)) (omega (arith, c .before .before .before .before .before .before .pre)) (l .inv .2),
+          ∙ over-turn (a .table .now) ys (a .cell) (l .i) (pos 0)
+          (omega (arith, c .before .before .before .loop-test .taken)) (omega (arith, c .before .before .before .before .before .before .pre)) (l .inv .2),
     )
 
 returns : tie.Need-returns Inv-loop μ-loop

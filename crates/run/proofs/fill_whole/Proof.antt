@@ -26,15 +26,22 @@ loop-holds c = let a = c .before .args in filled-none (λ s. wholeCell s ∷ [])
 
 add-e : tie.Need-add-e Inv-loop μ-loop
 add-e c =
-    let l = c .before .loop in let a = c .before .before .before .args in omega (arith, piece-within (a .w) (a .k) (l .i) (l .a) (length (a .fields .now)) (c .before .before .before .pre .0) (l .inv .place) (c .loop-test .taken))
+    let l = c .before .loop in
+    let a = c .before .before .before .args in
+    omega (arith, piece-within (a .w) (a .k) (l .i) (l .a) (length (a .fields .now)) (c .before .before .before .pre .0) (l .inv .place) (c .loop-test .taken))
 
 part-whole-cell-end : tie.Need-part-whole-cell-end Inv-loop μ-loop
 part-whole-cell-end c =
-    let l = c .before .loop in let a = c .before .before .before .args in omega (arith, piece-within (a .w) (a .k) (l .i) (l .a) (length (a .fields .now)) (c .before .before .before .pre .0) (l .inv .place) (c .loop-test .taken))
+    let l = c .before .loop in
+    let a = c .before .before .before .args in
+    omega (arith, piece-within (a .w) (a .k) (l .i) (l .a) (length (a .fields .now)) (c .before .before .before .pre .0) (l .inv .place) (c .loop-test .taken))
 
 whole-cell-requires : tie.Need-whole-cell-requires Inv-loop μ-loop
 whole-cell-requires c κs =
-    let l = c .before .before .loop in let a = c .before .before .before .before .args in let n = piece-long (a .w) (a .k) (l .i) (l .a) (a .fields .now) (c .before .before .before .before .pre .0) (l .inv .place) (c .before .loop-test .taken) in omega arith
+    let l = c .before .before .loop in
+    let a = c .before .before .before .before .args in
+    let n = piece-long (a .w) (a .k) (l .i) (l .a) (a .fields .now) (c .before .before .before .before .pre .0) (l .inv .place) (c .before .loop-test .taken) in
+    omega arith
 
 loop-again : tie.Need-loop-again Inv-loop μ-loop
 loop-again c =

@@ -21,15 +21,22 @@ loop-holds c = let a = c .before .args in tested-none isFixed (a .w) (a .k) (a .
 
 add-e : tie.Need-add-e Inv-loop μ-loop
 add-e c =
-    let l = c .before .loop in let a = c .before .before .before .args in omega (arith, piece-within (a .w) (a .k) (l .i) (l .a) (length (a .fields .now)) (c .before .before .before .pre .0) (l .inv .place) (c .loop-test .taken))
+    let l = c .before .loop in
+    let a = c .before .before .before .args in
+    omega (arith, piece-within (a .w) (a .k) (l .i) (l .a) (length (a .fields .now)) (c .before .before .before .pre .0) (l .inv .place) (c .loop-test .taken))
 
 part-is-fixed-end : tie.Need-part-is-fixed-end Inv-loop μ-loop
 part-is-fixed-end c =
-    let l = c .before .loop in let a = c .before .before .before .args in omega (arith, piece-within (a .w) (a .k) (l .i) (l .a) (length (a .fields .now)) (c .before .before .before .pre .0) (l .inv .place) (c .loop-test .taken))
+    let l = c .before .loop in
+    let a = c .before .before .before .args in
+    omega (arith, piece-within (a .w) (a .k) (l .i) (l .a) (length (a .fields .now)) (c .before .before .before .pre .0) (l .inv .place) (c .loop-test .taken))
 
 is-fixed-requires : tie.Need-is-fixed-requires Inv-loop μ-loop
 is-fixed-requires c κs =
-    let l = c .before .before .loop in let a = c .before .before .before .before .args in let n = piece-long (a .w) (a .k) (l .i) (l .a) (a .fields .now) (c .before .before .before .before .pre .0) (l .inv .place) (c .before .loop-test .taken) in omega arith
+    let l = c .before .before .loop in
+    let a = c .before .before .before .before .args in
+    let n = piece-long (a .w) (a .k) (l .i) (l .a) (a .fields .now) (c .before .before .before .before .pre .0) (l .inv .place) (c .before .loop-test .taken) in
+    omega arith
 
 returns : tie.Need-returns Inv-loop μ-loop
 returns c =

@@ -11,74 +11,119 @@ use Rattle.run.proofs.formed.Tie as tie
 
 fixed-run-requires : tie.Need-fixed-run-requires
 unfolding Table.rowOf Table.listedAs
-fixed-run-requires c κs = let at = c .before .before .before in (width-as (at .args .k) (at .args .fields .now) (c .enum-told .given .1) (at .pre), omega arith)
+fixed-run-requires c κs =
+    let at = c .before .before .before in
+    let a = at .args in
+    (width-as (a .k) (a .fields .now) (c .enum-told .given .1) (at .pre), omega arith)
 
 returns : tie.Need-returns
 unfolding Table.rowOf Table.listedAs
-returns c = let at = c .before .before .before .before in formed-as (at .args .form) (at .args .k) (at .args .fields .now) (at .pre) (c .before .enum-told .given .1) (c .fixed-run .ensures)
+returns c =
+    let at = c .before .before .before .before in
+    let a = at .args in
+    formed-as (a .form) (a .k) (a .fields .now) (at .pre) (c .before .enum-told .given .1) (c .fixed-run .ensures)
 
 returns-2 : tie.Need-returns-2
 returns-2 c =
     let at = c .before .before .before .before in
-    formed-bytes (at .args .form) (at .args .k) (at .args .fields .now) (at .pre) (c .before .enum-told2 .given .1) printable refl (c .all-between .ensures)
+    let a = at .args in
+    formed-bytes (a .form) (a .k) (a .fields .now) (at .pre) (c .before .enum-told2 .given .1) printable refl (c .all-between .ensures)
 
 returns-3 : tie.Need-returns-3
 returns-3 c =
     let at = c .before .before .before .before in
-    formed-bytes (at .args .form) (at .args .k) (at .args .fields .now) (at .pre) (c .before .enum-told3 .given .1) printable refl (c .all-between2 .ensures)
+    let a = at .args in
+    formed-bytes (a .form) (a .k) (a .fields .now) (at .pre) (c .before .enum-told3 .given .1) printable refl (c .all-between2 .ensures)
 
 fixed-run-requires-2 : tie.Need-fixed-run-requires-2
 unfolding Table.rowOf Table.listedAs
-fixed-run-requires-2 c κs = let at = c .before .before .before in (width-as (at .args .k) (at .args .fields .now) (c .enum-told4 .given .1) (at .pre), omega arith)
+fixed-run-requires-2 c κs =
+    let at = c .before .before .before in
+    let a = at .args in
+    (width-as (a .k) (a .fields .now) (c .enum-told4 .given .1) (at .pre), omega arith)
 
 returns-4 : tie.Need-returns-4
 unfolding Table.rowOf Table.listedAs
-returns-4 c = let at = c .before .before .before .before in formed-as (at .args .form) (at .args .k) (at .args .fields .now) (at .pre) (c .before .enum-told4 .given .1) (c .fixed-run2 .ensures)
+returns-4 c =
+    let at = c .before .before .before .before in
+    let a = at .args in
+    formed-as (a .form) (a .k) (a .fields .now) (at .pre) (c .before .enum-told4 .given .1) (c .fixed-run2 .ensures)
 
 whole-run-requires : tie.Need-whole-run-requires
 unfolding Table.rowOf Table.listedAs
-whole-run-requires c κs = let at = c .before .before .before in (width-as (at .args .k) (at .args .fields .now) (c .enum-told5 .given .1) (at .pre), omega arith)
+whole-run-requires c κs =
+    let at = c .before .before .before in
+    let a = at .args in
+    (width-as (a .k) (a .fields .now) (c .enum-told5 .given .1) (at .pre), omega arith)
 
 returns-5 : tie.Need-returns-5
 unfolding Table.rowOf Table.listedAs
-returns-5 c = let at = c .before .before .before .before in formed-as (at .args .form) (at .args .k) (at .args .fields .now) (at .pre) (c .before .enum-told5 .given .1) (c .whole-run .ensures)
+returns-5 c =
+    let at = c .before .before .before .before in
+    let a = at .args in
+    formed-as (a .form) (a .k) (a .fields .now) (at .pre) (c .before .enum-told5 .given .1) (c .whole-run .ensures)
 
 whole-run-requires-2 : tie.Need-whole-run-requires-2
 unfolding Table.rowOf Table.listedAs
-whole-run-requires-2 c κs = let at = c .before .before .before in (width-as (at .args .k) (at .args .fields .now) (c .enum-told6 .given .1) (at .pre), omega arith)
+whole-run-requires-2 c κs =
+    let at = c .before .before .before in
+    let a = at .args in
+    (width-as (a .k) (a .fields .now) (c .enum-told6 .given .1) (at .pre), omega arith)
 
 returns-6 : tie.Need-returns-6
 unfolding Table.rowOf Table.listedAs
-returns-6 c = let at = c .before .before .before .before in formed-as (at .args .form) (at .args .k) (at .args .fields .now) (at .pre) (c .before .enum-told6 .given .1) (c .whole-run2 .ensures)
+returns-6 c =
+    let at = c .before .before .before .before in
+    let a = at .args in
+    formed-as (a .form) (a .k) (a .fields .now) (at .pre) (c .before .enum-told6 .given .1) (c .whole-run2 .ensures)
 
 returns-7 : tie.Need-returns-7
 returns-7 c =
     let at = c .before .before .before .before in
-    formed-bytes (at .args .form) (at .args .k) (at .args .fields .now) (at .pre) (c .before .enum-told7 .given .1) isDigit refl (c .all-between3 .ensures)
+    let a = at .args in
+    formed-bytes (a .form) (a .k) (a .fields .now) (at .pre) (c .before .enum-told7 .given .1) isDigit refl (c .all-between3 .ensures)
 
 power-run-requires : tie.Need-power-run-requires
 unfolding Table.rowOf Table.listedAs
-power-run-requires c κs = let at = c .before .before .before in (width-as (at .args .k) (at .args .fields .now) (c .enum-told8 .given .1) (at .pre), (omega arith, omega arith, omega arith, omega arith))
+power-run-requires c κs =
+    let at = c .before .before .before in
+    let a = at .args in
+    (width-as (a .k) (a .fields .now) (c .enum-told8 .given .1) (at .pre), (omega arith, omega arith, omega arith, omega arith))
 
 returns-8 : tie.Need-returns-8
 unfolding Table.rowOf Table.listedAs
-returns-8 c = let at = c .before .before .before .before in formed-as (at .args .form) (at .args .k) (at .args .fields .now) (at .pre) (c .before .enum-told8 .given .1) (c .power-run .ensures)
+returns-8 c =
+    let at = c .before .before .before .before in
+    let a = at .args in
+    formed-as (a .form) (a .k) (a .fields .now) (at .pre) (c .before .enum-told8 .given .1) (c .power-run .ensures)
 
 power-run-requires-2 : tie.Need-power-run-requires-2
 unfolding Table.rowOf Table.listedAs
-power-run-requires-2 c κs = let at = c .before .before .before in (width-as (at .args .k) (at .args .fields .now) (c .enum-told9 .given .1) (at .pre), (omega arith, omega arith, omega arith, omega arith))
+power-run-requires-2 c κs =
+    let at = c .before .before .before in
+    let a = at .args in
+    (width-as (a .k) (a .fields .now) (c .enum-told9 .given .1) (at .pre), (omega arith, omega arith, omega arith, omega arith))
 
 returns-9 : tie.Need-returns-9
 unfolding Table.rowOf Table.listedAs
-returns-9 c = let at = c .before .before .before .before in formed-as (at .args .form) (at .args .k) (at .args .fields .now) (at .pre) (c .before .enum-told9 .given .1) (c .power-run2 .ensures)
+returns-9 c =
+    let at = c .before .before .before .before in
+    let a = at .args in
+    formed-as (a .form) (a .k) (a .fields .now) (at .pre) (c .before .enum-told9 .given .1) (c .power-run2 .ensures)
 
 power-run-requires-3 : tie.Need-power-run-requires-3
 unfolding Table.rowOf Table.listedAs
-power-run-requires-3 c κs = let at = c .before .before .before in (width-as (at .args .k) (at .args .fields .now) (c .enum-told10 .given .1) (at .pre), (omega arith, omega arith, omega arith, omega arith))
+power-run-requires-3 c κs =
+    let at = c .before .before .before in
+    let a = at .args in
+    (width-as (a .k) (a .fields .now) (c .enum-told10 .given .1) (at .pre), (omega arith, omega arith, omega arith, omega arith))
 
 returns-10 : tie.Need-returns-10
 unfolding Table.rowOf Table.listedAs
-returns-10 c = let at = c .before .before .before .before in formed-as (at .args .form) (at .args .k) (at .args .fields .now) (at .pre) (c .before .enum-told10 .given .1) (c .power-run3 .ensures)
+returns-10 c =
+    let at = c .before .before .before .before in
+    let a = at .args in
+    formed-as (a .form) (a .k) (a .fields .now) (at .pre) (c .before .enum-told10 .given .1) (c .power-run3 .ensures)
 
 pub formed-spec : {M : Type 1} → statement M
 formed-spec =

@@ -20,16 +20,18 @@ returns : tie.Need-returns Inv-loop μ-loop
 returns c =
     let at-loop = c .before .before .before .before .before in
     let l = at-loop .loop in
-    pairs-failed (at-loop .before .before .args .s .now) (l .i) (l .inv .0) (c .before .before .before .before .loop-test .taken) (sym (c .before .goes-on .ensures) ∙ not-true _ (c .if1 .taken))
+    let s = at-loop .before .before .args .s .now in
+    pairs-failed s (l .i) (l .inv .0) (c .before .before .before .before .loop-test .taken) (sym (c .before .goes-on .ensures) ∙ not-true _ (c .if1 .taken))
     ∙ l .inv .1
 
 loop-again : tie.Need-loop-again Inv-loop μ-loop
 loop-again c =
     let at-loop = c .before .before .before .before .before in
     let l = at-loop .loop in
+    let s = at-loop .before .before .args .s .now in
     let e : l .i + 1 - 1 ≡ l .i = omega arith in (
       omega arith,
-      rw e (pairs-passed (at-loop .before .before .args .s .now) (l .i) (l .inv .0) (c .before .before .before .before .loop-test .taken) (sym (c .before .goes-on .ensures) ∙ not-false _ (c .if1 .left))
+      rw e (pairs-passed s (l .i) (l .inv .0) (c .before .before .before .before .loop-test .taken) (sym (c .before .goes-on .ensures) ∙ not-false _ (c .if1 .left))
           ∙ l .inv .1),
     )
 

@@ -21,15 +21,22 @@ loop-holds c = let a = c .before .args in tested-none (isPower (a .c) (a .d)) (a
 
 add-e : tie.Need-add-e Inv-loop μ-loop
 add-e c =
-    let l = c .before .loop in let a = c .before .before .before .args in omega (arith, piece-within (a .c + a .d + a .x + 3) (a .k) (l .i) (l .a) (length (a .fields .now)) (c .before .before .before .pre .0) (l .inv .place) (c .loop-test .taken))
+    let l = c .before .loop in
+    let a = c .before .before .before .args in
+    omega (arith, piece-within (a .c + a .d + a .x + 3) (a .k) (l .i) (l .a) (length (a .fields .now)) (c .before .before .before .pre .0) (l .inv .place) (c .loop-test .taken))
 
 part-is-power-end : tie.Need-part-is-power-end Inv-loop μ-loop
 part-is-power-end c =
-    let l = c .before .loop in let a = c .before .before .before .args in omega (arith, piece-within (a .c + a .d + a .x + 3) (a .k) (l .i) (l .a) (length (a .fields .now)) (c .before .before .before .pre .0) (l .inv .place) (c .loop-test .taken))
+    let l = c .before .loop in
+    let a = c .before .before .before .args in
+    omega (arith, piece-within (a .c + a .d + a .x + 3) (a .k) (l .i) (l .a) (length (a .fields .now)) (c .before .before .before .pre .0) (l .inv .place) (c .loop-test .taken))
 
 is-power-requires : tie.Need-is-power-requires Inv-loop μ-loop
 is-power-requires c κs =
-    let l = c .before .before .loop in let a = c .before .before .before .before .args in let n = piece-long (a .c + a .d + a .x + 3) (a .k) (l .i) (l .a) (a .fields .now) (c .before .before .before .before .pre .0) (l .inv .place) (c .before .loop-test .taken) in (n, c .before .before .before .before .pre .1 .0)
+    let l = c .before .before .loop in
+    let a = c .before .before .before .before .args in
+    let n = piece-long (a .c + a .d + a .x + 3) (a .k) (l .i) (l .a) (a .fields .now) (c .before .before .before .before .pre .0) (l .inv .place) (c .before .loop-test .taken) in
+    (n, c .before .before .before .before .pre .1 .0)
 
 returns : tie.Need-returns Inv-loop μ-loop
 returns c =
