@@ -15,7 +15,7 @@ use Rattle.number.specs.declared.Scan.the-variants.{Blanks, Signed, Digits, Bro
 use Rattle.number.specs.Read.{oneOf, pointOf, leadOf, signOf}
 use Rattle.number.specs.Scan.{classOf, stepOf, scanOf}
 use Rattle.field.specs.Read.{valueOf, formed}
-use Rattle.run.specs.Columns.{between, isDigit, goesOn, pairs, isLead, isSign}
+use Rattle.run.specs.Columns.{between, isDigit, goesOn, pairs, isLead}
 use Rattle.run.proofs.Loops.{and-true}
 use Rattle.run.proofs.Testing.{Column, blank, minus, digit, other, column-of, digits-ask, broken-fails}
 

@@ -3,12 +3,12 @@
 -- Assumes nothing.
 use mathlib.Core.Path.{_≡_, refl, sym, ap, _∙_, subst}
 use mathlib.Core.Bool.{Bool, true, false, _&&_, _||_}
-use mathlib.Core.List.{List, [], _∷_, _++_}
-use Prim.Native.Nat.{ℕ, suc, _+_, _*_, _-_, _<_, _≤_}
+use mathlib.Core.List.{List, [], _∷_}
+use Prim.Native.Nat.{ℕ, suc, _+_, _*_, _-_}
 use native.Mathlib.Omega.{arith}
-use borrow.Author.Tests.{eqb-true, ltb-true, ltb-false, lt-leb, le-leb, ne-eqb}
+use borrow.Author.Tests.{eqb-true, ltb-true, ltb-false, lt-leb, le-leb}
 use lib.Dec.{eqb, ltb, leb}
-use lib.ListN.{length, getD}
+use lib.ListN.{length}
 use Rattle.base.specs.Every.{every}
 use Rattle.base.proofs.Choice.{and-false}
 use Rattle.number.specs.declared.Scan.{Scan}
@@ -16,7 +16,7 @@ use Rattle.number.specs.declared.Scan.the-variants.{Blanks, Signed, Digits, Bro
 use Rattle.number.specs.Scan.{classOf, stepOf, scanOf}
 use Rattle.number.proofs.Scanning.{scan-broken}
 use Rattle.run.proofs.Loops.{and-assoc, and-true}
-use Rattle.run.specs.Columns.{between, isDigit, goesOn, pairs, lastColumn, isColumn}
+use Rattle.run.specs.Columns.{isDigit, goesOn, pairs, lastColumn}
 
 -- ---- what a byte does to a state, and its tests
 

@@ -5,7 +5,7 @@ use mathlib.Core.Path.{_≡_, refl, sym, ap, _∙_}
 use mathlib.Core.List.{map}
 use Prim.Native.Nat.{_+_, _-_, _≤_}
 use lib.IntN.{pos}
-use lib.ListN.{length, take, set, getD, length-map, length-set}
+use lib.ListN.{length, take, set, length-map, length-set}
 use lib.Seq.{take-all}
 use mir.Syntax.{w64}
 use mir.Facts.{toZ-ofZ}

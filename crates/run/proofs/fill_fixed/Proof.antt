@@ -1,11 +1,11 @@
 -- `run::fill_fixed` meets its contract. The invariant: the cells of the fields before field i stand there.
 use borrow.Author.Needs.{needs, sfits-of}
 use native.Mathlib.Omega.{arith}
-use mathlib.Core.Path.{_≡_, refl, ap, _∙_}
+use mathlib.Core.Path.{refl, _∙_}
 use mathlib.Core.List.{_∷_, []}
-use Prim.Native.Nat.{_+_, _*_, _-_, _≤_}
+use Prim.Native.Nat.{_+_, _-_}
 use native.Mathlib.Nat.{mul-one}
-use lib.ListN.{length, set}
+use lib.ListN.{length}
 use mir.Syntax.{w64}
 use mir.Facts.{toZ-ofZ}
 use Rattle.base.specs.Part.{part}

@@ -4,8 +4,6 @@ use native.Mathlib.Omega.{arith}
 use mathlib.Core.Path.{_≡_, refl}
 use mathlib.Core.List.{_∷_, []}
 use Prim.Native.Nat.{_+_, _*_, _-_}
-use native.Mathlib.Nat.{suc-mul}
-use native.Mathlib.Numerals.{add-one}
 use lib.ListN.{length}
 use Rattle.run.specs.Columns.{powerFirst, powerSecond}
 use Rattle.run.proofs.Pieces.{Filled, piece-within, piece-long, filled-none, filled-room, filled-more, filled-all}

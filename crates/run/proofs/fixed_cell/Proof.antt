@@ -1,6 +1,5 @@
 -- `run::fixed_cell` meets its contract: what the calls answer.
 use borrow.Author.Needs.{needs, sfits-of}
-use native.Mathlib.Omega.{arith}
 use mathlib.Core.Path.{ap₂, _∙_}
 use Prim.Native.Nat.{_+_, _*_}
 use mir.Syntax.{w64}

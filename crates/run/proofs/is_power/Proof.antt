@@ -1,7 +1,6 @@
 -- `run::is_power` meets its contract: at each return the answers that led there choose the case.
 use borrow.Author.Needs.{needs}
 use borrow.Author.Tests.{eq-eqb, ne-eqb}
-use native.Mathlib.Omega.{arith}
 use mathlib.Core.Path.{sym, _∙_}
 use Rattle.run.proofs.is_power.Statement.{statement}
 use Rattle.run.proofs.is_power.Tie as tie
