@@ -25,8 +25,8 @@ use Rattle.field.specs.declared.Value.the-variants.{Misformed}
 use Rattle.field.specs.Grammar.{One, Two, IsA, IsField}
 use Rattle.field.specs.Read.{fieldOf, valueCells, formed}
 use Rattle.field.proofs.Laws.{lawful, field-as, good-width}
-use Rattle.run.specs.Run.{eachPiece, allPieces, runFormed, runCells}
-use Rattle.run.specs.Columns.{isDigit, pairs, isWhole, isFixed, isPower, wholeCell, fixedCell, powerFirst, powerSecond}
+use Rattle.run.specs.Run.{runFormed, runCells}
+use Rattle.run.specs.Columns.{eachPiece, allPieces, isDigit, pairs, isWhole, isFixed, isPower, wholeCell, fixedCell, powerFirst, powerSecond}
 use Rattle.run.proofs.Loops.{and-true}
 use Rattle.run.proofs.Pieces.{each-same, all-same, each-byte, all-bytes}
 use Rattle.run.proofs.ByColumns.{whole-formed, fixed-formed, power-formed}

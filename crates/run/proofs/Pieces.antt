@@ -17,7 +17,7 @@ use Rattle.base.proofs.Part.{part-length, over-none, over-then, over-length}
 use Rattle.base.proofs.Every.{every-between}
 use Rattle.base.proofs.Taken.{part-zero}
 use Rattle.base.proofs.UpFrom.{flat-same, parts-flat}
-use Rattle.run.specs.Run.{columnsAt, eachPiece, allPieces}
+use Rattle.run.specs.Columns.{columnsAt, eachPiece, allPieces}
 use Rattle.run.proofs.Loops.{and-assoc}
 
 -- the next of k numbers, and none behind the last

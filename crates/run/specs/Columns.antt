@@ -1,12 +1,12 @@
 -- Columns as they are tested and summed, each by itself and beside the next one: no state goes from column to column. What passes is what
 -- `number` reads (proofs/ByColumns.antt), and of what passes the sums are its cells (proofs/Cells.antt), over every width.
 use mathlib.Core.Bool.{Bool, true, _&&_, _||_}
-use mathlib.Core.List.{List, [], _∷_, map}
-use Prim.Native.Nat.{ℕ, _+_, _*_, _-_}
+use mathlib.Core.List.{List, [], _∷_, map, flatMap}
+use Prim.Native.Nat.{ℕ, suc, _+_, _*_, _-_}
 use lib.Dec.{leb, eqb}
 use lib.IntN.{ℤ}
 use lib.ListN.{length, getD}
-use Rattle.base.specs.Every.{every, has}
+use Rattle.base.specs.Every.{every, has, upFrom}
 use Rattle.base.specs.Part.{part}
 use Rattle.base.specs.Sign.{ofSign}
 use Rattle.base.specs.Digits.{numberOf}
@@ -91,3 +91,16 @@ powerFirst c d s = signedIn (part 0 c s) (numberIn (part (c + 1) (c + 1 + d) s))
 
 abbrev pub powerSecond : ℕ → ℕ → List ℕ → ℤ
 powerSecond c d s = ofSign (eqb (getD s (c + 2 + d) 0) 45) (numberIn (part (c + 3 + d) (length s) s))
+
+-- ---- pieces of w columns each, one behind the other
+
+abbrev pub columnsAt : ℕ → List ℕ → ℕ → List ℕ
+columnsAt w s i = part (i * w) (suc i * w) s
+
+-- a test at each of k pieces
+unfoldable pub eachPiece : (List ℕ → Bool) → (w k : ℕ) → List ℕ → Bool
+eachPiece test w k s = every (λ i. test (columnsAt w s i)) (upFrom 0 k)
+
+-- what each of k pieces gives, one behind the other
+unfoldable pub allPieces : (List ℕ → List ℤ) → (w k : ℕ) → List ℕ → List ℤ
+allPieces give w k s = flatMap (λ i. give (columnsAt w s i)) (upFrom 0 k)

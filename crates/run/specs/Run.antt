@@ -9,24 +9,14 @@ use Rattle.form.specs.declared.Form.{Form}
 use Rattle.form.specs.Table.{rowOf}
 use Rattle.field.specs.Read.{fieldOf, valueCells, formed}
 
--- the columns of piece i where each piece has w
-abbrev pub columnsAt : ℕ → List ℕ → ℕ → List ℕ
-columnsAt w s i = part (i * w) (suc i * w) s
-
--- a test at each of k pieces, and what each of them gives, one behind the other
-unfoldable pub eachPiece : (List ℕ → Bool) → (w k : ℕ) → List ℕ → Bool
-eachPiece test w k s = every (λ i. test (columnsAt w s i)) (upFrom 0 k)
-
-unfoldable pub allPieces : (List ℕ → List ℤ) → (w k : ℕ) → List ℕ → List ℤ
-allPieces give w k s = flatMap (λ i. give (columnsAt w s i)) (upFrom 0 k)
-
+-- field i, from 0 on: each takes as many columns as the form's row says
 abbrev pub fieldAt : Form → List ℕ → ℕ → List ℕ
-fieldAt f s i = columnsAt (rowOf f .width) s i
+fieldAt f s i = part (i * rowOf f .width) (suc i * rowOf f .width) s
 
 -- each of the k fields is one of the form
 unfoldable pub runFormed : Form → ℕ → List ℕ → Bool
 runFormed f k s = every (λ i. formed (fieldOf f (fieldAt f s i))) (upFrom 0 k)
 
--- their cells
+-- their cells, one field's behind the other's
 unfoldable pub runCells : Form → ℕ → List ℕ → List ℤ
 runCells f k s = flatMap (λ i. valueCells (fieldAt f s i) (fieldOf f (fieldAt f s i))) (upFrom 0 k)

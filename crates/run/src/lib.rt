@@ -11,10 +11,10 @@ ghost use lib.ListN.{length};
 ghost use Rattle.base.specs.Every.{every, has};
 ghost use Rattle.base.specs.Part.{over};
 ghost use Rattle.form.specs.Table.{rowOf};
-ghost use Rattle.run.specs.Run.{eachPiece, allPieces, runFormed, runCells};
+ghost use Rattle.run.specs.Run.{runFormed, runCells};
 ghost use Rattle.run.specs.Columns.{between, isDigit, goesOn, pairs, isColumn, isLead, isSign, isWhole, isHead};
 ghost use Rattle.run.specs.Columns.{isFixed, isLeading, isPower, numberIn, wholeCell, fixedCell};
-ghost use Rattle.run.specs.Columns.{powerFirst, powerSecond};
+ghost use Rattle.run.specs.Columns.{powerFirst, powerSecond, eachPiece, allPieces};
 
 // ---- Testing, without making a value.
 
