@@ -1,18 +1,8 @@
-//! Line feeds, found in three ways: what the walk, which looks at little else, is held against.
+//! Line feeds, found in two ways: what the walk, which looks at little else, is held against.
 
 use std::ffi::{c_int, c_void};
 
-/// From line to line, byte by byte.
-pub fn stepped(text: &[u8]) -> usize {
-    let (mut rest, mut feeds) = (text, 0);
-    while let Some(feed) = rest.iter().position(|&byte| byte == b'\n') {
-        rest = &rest[feed + 1..];
-        feeds += 1;
-    }
-    feeds
-}
-
-/// Counted, without knowing where they are; a compiler takes many bytes at once.
+/// Counted in a loop over the bytes.
 pub fn counted(text: &[u8]) -> usize {
     text.iter().filter(|&&byte| byte == b'\n').count()
 }

@@ -115,7 +115,7 @@ fn reading(table: &Table, copies: usize, text: &[u8]) -> f64 {
 
 /// The walk.
 fn placing(table: &Table, copies: usize, text: &[u8]) {
-    let [walk, stepped, counted, sought] = best([
+    let [walk, counted, sought] = best([
         &mut || {
             let mut at = 0;
             while let Ok(Record { placing: Placing::Placed { next }, .. }) = place(Rules::default(), black_box(text), at) {
@@ -123,13 +123,11 @@ fn placing(table: &Table, copies: usize, text: &[u8]) {
             }
             assert_eq!(at, text.len());
         },
-        &mut || assert!(black_box(feeds::stepped(black_box(text))) > 0),
         &mut || assert!(black_box(feeds::counted(black_box(text))) > 0),
         &mut || assert!(black_box(feeds::sought(black_box(text))) > 0),
     ]);
     let asked = "the walk";
-    table.row(asked, copies, text.len(), walk, "line feeds, byte by byte", stepped);
-    table.row(asked, copies, text.len(), walk, "line feeds, only counted", counted);
+    table.row(asked, copies, text.len(), walk, "line feeds, counted in a byte loop", counted);
     table.row(asked, copies, text.len(), walk, "line feeds, by memchr", sought);
 }
 
