@@ -1,6 +1,6 @@
 //! Times the library against a plain reader and other plain code, over the day and copies of it, and prints a table. `bench/run` builds and starts
-//! it; the words that it is started with are how the archive was made. The exit status is 1 if the library takes more than twice the plain
-//! reader's time for the records of the day.
+//! it, with two words that tell what was linked: one for each row of the table, and a longer one. The exit status is 1 if the library takes more
+//! than twice the plain reader's time for the records of the day.
 #![deny(unsafe_code)]
 
 mod edits;
@@ -38,22 +38,23 @@ fn best<const N: usize>(mut contestants: [&mut dyn FnMut(); N]) -> [f64; N] {
     best.map(|time| time.as_secs_f64() * 1e9)
 }
 
-/// The machine's kind: its architecture and the processor's model.
-fn machine() -> String {
-    let told = fs::read_to_string("/proc/cpuinfo").unwrap_or_default();
-    let model = told.lines().find_map(|line| line.strip_prefix("model name")?.split_once(": "));
-    format!("{}, {}", env::consts::ARCH, model.map_or("unknown model", |(_, name)| name.trim()))
-}
-
-/// Rows of the table.
+/// The table; each of its rows says what was linked, and the machine's kind.
 struct Table {
     machine: String,
 }
 
 impl Table {
-    fn head(&self) {
+    /// Its head, and a sentence before it.
+    fn begun() -> Table {
+        let mut words = env::args().skip(1);
+        let mut word = || words.next().unwrap_or_else(|| String::from("unknown"));
+        let (linked, made) = (word(), word());
+        let told = fs::read_to_string("/proc/cpuinfo").unwrap_or_default();
+        let model = told.lines().find_map(|line| line.strip_prefix("model name")?.split_once(": "));
+        println!("The library is {made}. A time is the best of many turns, taken in one run.\n");
         println!("| Asked | Copies | Bytes | Library, ns a byte | Against | Its ns a byte | Ratio | Machine |");
         println!("|---|---|---|---|---|---|---|---|");
+        Table { machine: format!("{}, {}, {linked}", env::consts::ARCH, model.map_or("unknown model", |(_, name)| name.trim())) }
     }
 
     /// A row; and its ratio.
@@ -190,10 +191,7 @@ fn editing(table: &Table, copies: usize) {
 }
 
 fn main() -> ExitCode {
-    let made: Vec<String> = env::args().skip(1).collect();
-    let (day, table) = (day::text(), Table { machine: machine() });
-    println!("The library is {}. Times are the best of many turns, in one run.\n", made.join(" "));
-    table.head();
+    let (day, table) = (day::text(), Table::begun());
     let texts = [1, 4, 16].map(|copies| (copies, day.repeat(copies)));
     let ratios = [0, 1, 2].map(|i| reading(&table, texts[i].0, &texts[i].1));
     texts.iter().for_each(|(copies, text)| placing(&table, *copies, text));
