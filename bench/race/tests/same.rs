@@ -190,6 +190,69 @@ fn altered_texts() {
     asked.enough(13_000, [0].into_iter().chain(3..=11));
 }
 
+/// R380: S's counts.
+fn counts_of_s() -> [u16; 80] {
+    let mut counts = [0; 80];
+    (counts[0], counts[2], counts[3], counts[79]) = (4, 19, 1, 5);
+    counts
+}
+
+/// An index of these counts, as it is written.
+fn index(counts: &[u16; 80]) -> String {
+    let entries: Vec<String> = counts.iter().map(|count| format!("{count:3}")).collect();
+    format!("{}\r\n{}\r\n", entries[..40].concat(), entries[40..].concat())
+}
+
+/// R121 to R128: S's counts with another in a single group, and with drawn ones in all groups of a set, before more empty lines than any of these
+/// has. Each group that can be blamed is.
+#[test]
+fn counts() {
+    const SETS: [(usize, usize); 10] = [(7, 11), (12, 16), (17, 21), (22, 25), (26, 29), (30, 33), (43, 46), (47, 50), (51, 53), (58, 60)];
+    let (mut asked, mut drawn, mut blamed) = (Asked::default(), Drawn(7), [0; 61]);
+    let mut all: Vec<[u16; 80]> = Vec::new();
+    let mut with = |changes: &[(usize, u16)]| {
+        let mut counts = counts_of_s();
+        changes.iter().for_each(|&(group, count)| counts[group - 1] = count);
+        all.push(counts);
+    };
+    for group in 1..=80 {
+        [0, 1, 2, 3, 4, 5, 18, 19, 49, 50].into_iter().for_each(|count| with(&[(group, count)]));
+    }
+    for (first, last) in SETS.repeat(100) {
+        with(&(first..=last).map(|group| (group, drawn.below(3) as u16)).collect::<Vec<_>>());
+    }
+    for counts in all {
+        let text = index(&counts) + &"\r\n".repeat(60);
+        for rules in all_rules() {
+            if let Err(Plain::BrokenRule { group }) = asked.same(rules, text.as_bytes(), 0, LONG, "counts") {
+                blamed[group] += 1;
+            }
+        }
+    }
+    asked.enough(7200, 5..=8);
+    let groups: Vec<usize> = (1..=60).filter(|&group| blamed[group] > 0).collect();
+    assert_eq!(groups, [1, 2, 3, 4, 7, 12, 17, 22, 26, 30, 43, 47, 51, 54, 55, 58]);
+}
+
+/// R140 to R148: S with every month and day of four years, each as the days of the year around the one that it might be.
+#[test]
+fn dates() {
+    let mut asked = Asked::default();
+    let index = index(&counts_of_s());
+    for year in [1900, 2000, 2004, 2006] {
+        for (month, day) in (0..=13).flat_map(|month| (0..=32).map(move |day| (month, day))) {
+            let near = 30 * (month - 1) + day;
+            for day_of_year in (near - 3..=near + 9).filter(|number| (0..=999).contains(number)) {
+                let date = format!("AA{year:04}{day_of_year:03}{month:02}{day:02}142530");
+                let text = format!("{index}  1.200 67.000-23.500143.000\r\n{date}\r\n   7.250\r\n");
+                asked.same(all_rules()[0], text.as_bytes(), 0, 24, &date).ok();
+            }
+        }
+    }
+    asked.enough(20_000, [0, 10]);
+    assert_eq!(asked.replies[0], 365 + 366 + 366 + 365);
+}
+
 /// The day has about 60,000 bytes, is canonical, and reads as the cells that it was made from.
 #[test]
 fn the_day() {
