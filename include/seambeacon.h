@@ -193,6 +193,21 @@ enum seambeacon_reply seambeacon_read_group(uint32_t rules, const uint8_t *text,
                                             int64_t *table, size_t table_length,
                                             struct seambeacon_beside *beside);
 
+/* Asked: the cells of all groups of the record at a place, in one call.
+   Answered: 0 with the number of cells. Those of group 1 stand in the table from its first cell
+   on, behind them those of group 2, and so on up to group 60, each as seambeacon_read_group gives
+   them: so they can be lent to seambeacon_write_record and to the journal. What stands behind them
+   is kept. *unread is 0. No record has more than 64,323 cells or, under SEAMBEACON_ENTRIES, 74,303.
+   A refusal (a placing reply but 0; 11, which the counts decide before any line is looked at; the
+   first reply but 0 of reading groups 1 to 60; in this order) leaves the whole table as it was
+   (R276). *unread is the group that could not be read, to which the numbers beside 8, 9 and 10
+   belong, or 0 where none was tried: 6 and 7 have a group of their own beside them, 7 without a
+   next place. */
+enum seambeacon_reply seambeacon_read_record(uint32_t rules, const uint8_t *text,
+                                             size_t text_length, size_t at, int64_t *table,
+                                             size_t table_length, size_t *unread,
+                                             struct seambeacon_beside *beside);
+
 /* Asked: the lines of a group of the record at a place, with their line ends.
    Answered: 0, and which part of the text holds them: part->length bytes from text + part->start
    on. With count 0 the part is empty, and lies where the lines would be (R282).
@@ -296,8 +311,8 @@ enum seambeacon_reply seambeacon_list(uint32_t rules, const uint8_t *text, size_
    byte on, the record's cells in group order in the table from its first cell on; what stands
    behind them is kept. *unread is 0.
    A refusal (a placing reply but 0, 11, or the first reply but 0 of reading groups 1 to 60)
-   leaves the whole output as it was. *unread is the group that could not be read, or 0 where
-   none was tried; the table has the cells of the groups before it, and is otherwise as it was. */
+   leaves the whole output and the whole table as they were. *unread is the group that could not
+   be read, or 0 where none was tried, as in seambeacon_read_record. */
 enum seambeacon_reply seambeacon_rewrite_record(uint32_t rules, const uint8_t *text,
                                                 size_t text_length, size_t at, int64_t *table,
                                                 size_t table_length, uint8_t *out,

@@ -3,8 +3,8 @@
 # damaged texts, texts with other line ends and records with a group 40 of up to 999 elements and 999 entries, by several numbers for the rules,
 # every month and day of seven years, every line of tests/vectors/writes.txt and tests/vectors/W10/writes.txt and, by both rules for line ends and
 # both for counts of group 40, every answer of the texts of tests/vectors, or of the folder that is named (`tests/c.sh FOLDER [--strict]
-# [--entries]`), and compares all lent memory. The program counts its checks; so many are demanded that none of its parts can be left out.
-# examples/fof2.c prints a value below zero too.
+# [--entries]`), also each record whole, as the answers about its groups say it together, and compares all lent memory. The program counts its checks;
+# so many are demanded that none of its parts can be left out. examples/fof2.c prints a value below zero too.
 set -u
 cd "$(dirname "$0")/.." || exit 2
 name=c
@@ -44,7 +44,7 @@ held() { # OF LEAST WORD..: the program's checks hold; over the project's own ve
 set -- "$vectors/writes.txt"
 ! own || set -- "$@" "$vectors/W10/writes.txt"
 own || [ -e "$1" ] || shift # a folder of texts alone
-held 'record S, line ends, group 40, dates and writing' 49344 answers "${rules%% *}" "$@"
+held 'record S, line ends, group 40, dates and writing' 53520 answers "${rules%% *}" "$@"
 
 counted 'there are texts' texts
 set --
@@ -56,11 +56,11 @@ for text in "$vectors"/*.sao; do
         [ -z "$list$rewrite$dump" ] || set -- "$@" "$ruled" "$text" "${list:--}" "${rewrite:--}" "${dump:--}"
     done
 done
-held 'texts' 326828 texts "$@"
+held 'texts' 332988 texts "$@"
 
 counted 'the example' compiled examples/fof2.c "$work/fof2.o" -std=c99 && linked "$work/fof2" "$work/fof2.o"
 below_zero >"$work/below"
 started "$work/fof2" <"$work/below" >"$work/got"
 below_zero_due >"$work/want"
 compared 'values below zero' "$work/want"
-finished 24
+finished 26

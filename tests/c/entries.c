@@ -91,6 +91,7 @@ static void check_made(size_t group, size_t lines)
     struct seambeacon_part part = {s.length, made.length - s.length}, behind = {made.length, 0};
     ask_place(made.bytes, made.length, 0, 0, (struct seambeacon_beside){.next = made.length}, made.counts);
     ask_read_all(made.bytes, made.length, 0, group, made.cells + CELLS_OF_S, made.cell_count - CELLS_OF_S);
+    ask_whole_all(made.bytes, made.length, 0, made.cells, made.cell_count);
     ask_lines(made.bytes, made.length, 0, group, 0, none, part);
     ask_lines(made.bytes, made.length, 0, group + 1, 0, none, behind);
     ask_write_all(made.counts, made.cells, made.cell_count, made.bytes, made.length);
@@ -109,6 +110,7 @@ static void check_too_few(void)
     static const char listed[] = "end 0 0 3 0\n";
     ask_place(made.bytes, made.length, 0, 3, none, no_counts);
     ask_read(made.bytes, made.length, 0, 40, 12000, 3, none, NULL);
+    ask_whole(made.bytes, made.length, 0, 13000, 3, none, 0, NULL);
     ask_list_all(made.bytes, made.length, (const uint8_t *)listed, strlen(listed));
     ask_write(made.counts, 80, made.cells, made.cell_count, made.length, 14, none, NULL);
 }
@@ -117,10 +119,14 @@ static void check_too_few(void)
 static void check_too_many(size_t elements, size_t lines)
 {
     ask_place(made.bytes, made.length, 0, 0, (struct seambeacon_beside){.next = s.length + lines * FULL_BYTES}, made.counts);
-    if (elements % FULL == 0)
+    if (elements % FULL == 0) {
         ask_read_all(made.bytes, made.length, 0, 40, made.cells + CELLS_OF_S, 2 * elements);
-    else
+        ask_whole_all(made.bytes, made.length, 0, made.cells, CELLS_OF_S + 2 * elements);
+    } else {
         ask_read(made.bytes, made.length, 0, 40, 2 * elements, 8, (struct seambeacon_beside){.line = lines}, NULL);
+        ask_whole(made.bytes, made.length, 0, CELLS_OF_S + 2 * elements, 8, (struct seambeacon_beside){.line = lines}, 40, NULL);
+        ask_whole(made.bytes, made.length, 0, CELLS_OF_S + 2 * elements - 1, 11, none, 0, NULL);
+    }
     ask_write(made.counts, 80, made.cells, made.cell_count, made.length, 14, none, NULL);
 }
 

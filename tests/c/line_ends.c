@@ -144,34 +144,37 @@ static void check_listings(size_t ends)
     }
 }
 
-/* ---- Rewriting. What is rewritten is S, with its carriage returns (R101). */
+/* ---- Rewriting, and reading the whole record, of which the refusals are the same. What is rewritten is S, with its carriage returns (R101). */
 
 static const struct {
     const struct text *text;
     struct {
-        size_t reply, next, unread, cells_due;
+        size_t reply, next, unread;
     } by[ENDS];
 } rewritings[] = {
-    {&no_returns, {{0, 300, 0, 24}, {4, 0, 0, 0}}},
-    {&no_index_return, {{0, 304, 0, 24}, {4, 0, 0, 0}}},
-    {&no_data_returns, {{0, 302, 0, 24}, {8, 0, 1, 0}}},
-    {&blank_for_return, {{0, 305, 0, 24}, {8, 0, 4, 23}}},
-    {&two_in_index, {{4, 0, 0, 0}, {4, 0, 0, 0}}},
-    {&two_in_data, {{8, 0, 4, 23}, {8, 0, 4, 23}}},
-    {&s_no_returns, {{0, 605, 0, 24}, {4, 0, 0, 0}}},
+    {&no_returns, {{0, 300, 0}, {4, 0, 0}}},
+    {&no_index_return, {{0, 304, 0}, {4, 0, 0}}},
+    {&no_data_returns, {{0, 302, 0}, {8, 0, 1}}},
+    {&blank_for_return, {{0, 305, 0}, {8, 0, 4}}},
+    {&two_in_index, {{4, 0, 0}, {4, 0, 0}}},
+    {&two_in_data, {{8, 0, 4}, {8, 0, 4}}},
+    {&s_no_returns, {{0, 605, 0}, {4, 0, 0}}},
 };
 
 static void check_rewritings(size_t ends)
 {
     for (size_t i = 0; i < LENGTH(rewritings); i++) {
         const struct text *text = rewritings[i].text;
-        size_t reply = rewritings[i].by[ends].reply;
+        size_t reply = rewritings[i].by[ends].reply, unread = rewritings[i].by[ends].unread;
         struct seambeacon_beside beside = reply == 8 ? first_line : none;
         of_case("rewriting with other line ends", i);
         beside.next = rewritings[i].by[ends].next;
         beside.written = reply == 0 ? s.length : 0;
-        ask_rewrite(text->bytes, text->length, place_in(text), 30, 320, reply, beside, rewritings[i].by[ends].unread, s.bytes, all_of_s,
-                    rewritings[i].by[ends].cells_due);
+        ask_rewrite(text->bytes, text->length, place_in(text), 30, 320, reply, beside, unread, s.bytes, all_of_s, LENGTH(all_of_s));
+        if (reply == 0)
+            ask_whole_all(text->bytes, text->length, place_in(text), all_of_s, LENGTH(all_of_s));
+        else
+            ask_whole(text->bytes, text->length, place_in(text), 30, reply, beside, unread, NULL);
     }
 }
 

@@ -3,6 +3,8 @@
    main journal RULES SCRIPTS ..: checks the journal's functions on files of scripts.
    main parts FOLDER QUESTIONS: prints the answers to questions with a record, in texts of that folder, a line each.
    main records TEXT ..: checks by all rules that the records of texts answer as their places do.
+   main wholes FOLDER QUESTIONS: checks the answers to questions for a whole record, in texts of that folder.
+   main turns TEXT ..: checks by all rules that one call for a record of texts answers as its sixty groups do in turn.
    RULES is `usual`, `strict`, `entries` or `strict-entries`; a write question or a script may say itself what a count of group 40 counts.
    Ends with the number of checks, and with exit 1 where one failed. */
 #include "checks.h"
@@ -13,6 +15,7 @@
 #include "parts.h"
 #include "record_s.h"
 #include "vectors.h"
+#include "whole.h"
 
 static uint32_t named(const char *name)
 {
@@ -65,6 +68,15 @@ static void check_records(char **texts, int count)
     printf("%lu records\n", (unsigned long)records);
 }
 
+static void check_turns(char **texts, int count)
+{
+    struct met met = {0};
+    for (int i = 0; i < count; i++)
+        check_in_turn(texts[i], &met);
+    printf("%lu records read, %lu with a group that is refused, %lu that break a rule on counts, %lu places without a record\n",
+           (unsigned long)met.read, (unsigned long)met.refused, (unsigned long)met.broken, (unsigned long)met.none);
+}
+
 int main(int count, char **words)
 {
     of_case("main", 0);
@@ -78,6 +90,10 @@ int main(int count, char **words)
         answer_questions(words[2], words[3]);
     else if (count > 2 && strcmp(words[1], "records") == 0)
         check_records(words + 2, count - 2);
+    else if (count == 4 && strcmp(words[1], "wholes") == 0)
+        printf("%lu questions\n", (unsigned long)check_wholes(words[2], words[3]));
+    else if (count > 2 && strcmp(words[1], "turns") == 0)
+        check_turns(words + 2, count - 2);
     else
         need("words that say what to check", 0);
     return checks_ended();

@@ -27,31 +27,10 @@ static struct {
     size_t start, end; /* of the group that is asked for */
 } named;
 
-static void read_text(struct file *file)
-{
-    static char name[4096];
-    need("the folder's name is not too long", strlen(texts_of) < sizeof name - 40);
-    if (strlen(texts_of) < sizeof name - 40)
-        sprintf(name, "%s/%05lu.sao", texts_of, (unsigned long)size());
-    read_file(file, name);
-}
-
-/* One of the numbers that stand for the rules. */
-static uint32_t rules_named(size_t i)
-{
-    static const char *const names[RULES] = {
-        [USUAL] = "either-elements", [STRICT] = "strict-elements", [ENTRIES] = "either-entries", [BOTH] = "strict-entries"};
-    for (size_t which = 0; which < RULES; which++)
-        if (word_is(names[which]))
-            return flags[which][i % FLAGS];
-    need("a name of rules", 0);
-    return SEAMBEACON_USUAL;
-}
-
 static void place_record(void)
 {
     size_t at;
-    read_text(&origin);
+    text_named(&origin, texts_of);
     at = size();
     seambeacon_place(rules_named(0), origin.bytes, origin.length, at, &record);
 }
@@ -179,7 +158,7 @@ static void answer_question(size_t line)
         which++;
     need("a question of the format", which < many);
     under(rules_named(line));
-    read_text(&text);
+    text_named(&text, texts_of);
     if (!record_told()) {
         printf("left out");
     } else if (which < many) {

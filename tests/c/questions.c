@@ -1,3 +1,4 @@
+#include "forms.h"
 #include "questions.h"
 
 static const struct seambeacon_beside none;
@@ -42,22 +43,6 @@ size_t *first_beside(struct seambeacon_beside *beside, size_t reply)
     }
 }
 
-/* R13, R41, R43: how many lines a group's count needs. */
-static size_t lines_of(size_t group, size_t count)
-{
-    static const uint8_t full[60] = {
-        16,  1,  120, 15,  60,  16,  15, 15, 40,  120, /* groups 1 to 10 */
-        15,  15, 15,  40,  120, 15,  15, 15, 40,  120, /* 11 to 20 */
-        15,  15, 40,  120, 15,  15,  40, 120, 15, 15,  /* 21 to 30 */
-        40,  120, 15, 40,  40,  40,  10, 10, 10,  6,   /* 31 to 40 */
-        120, 10, 15,  40,  120, 15,  15, 40, 120, 15,  /* 41 to 50 */
-        15,  15, 15,  120, 120, 120, 10, 15, 15,  15,  /* 51 to 60 */
-    };
-    if (group == 40 && (rules & SEAMBEACON_ENTRIES) != 0)
-        return count;
-    return (count + full[group - 1] - 1) / full[group - 1];
-}
-
 /* R259: where the lines of each group of the record at a place begin and end: behind two index lines, one group after the other. */
 static void places_due(const uint8_t *text, size_t length, size_t at, const uint16_t *counts)
 {
@@ -93,6 +78,17 @@ void ask_read(const uint8_t *text, size_t length, size_t at, size_t group, size_
     due.beside = beside;
     answered("read_group", seambeacon_read_group(rules, text, length, at, group, table, room, &lent.beside), reply);
     cells_due("read_group: the table", cells, beside.written);
+}
+
+void ask_whole(const uint8_t *text, size_t length, size_t at, size_t room, size_t reply, struct seambeacon_beside beside, size_t unread,
+               const int64_t *cells)
+{
+    int64_t *table = lend_cells(room);
+    fresh();
+    due.beside = beside;
+    due.unread = unread;
+    answered("read_record", seambeacon_read_record(rules, text, length, at, table, room, &lent.unread, &lent.beside), reply);
+    cells_due("read_record: the table", cells, beside.written);
 }
 
 void ask_lines(const uint8_t *text, size_t length, size_t at, size_t group, size_t reply, struct seambeacon_beside beside,
@@ -144,7 +140,7 @@ void ask_rewrite(const uint8_t *text, size_t length, size_t at, size_t cell_room
     answered("rewrite_record",
              seambeacon_rewrite_record(rules, text, length, at, table, cell_room, out, room, &lent.unread, &lent.beside), reply);
     bytes_due("rewrite_record: the output", bytes, beside.written);
-    cells_due("rewrite_record: the table", cells, count);
+    cells_due("rewrite_record: the table", cells, reply == 0 ? count : 0);
 }
 
 /* ---- One short, exact and longer. */
@@ -162,6 +158,14 @@ void ask_read_all(const uint8_t *text, size_t length, size_t at, size_t group, c
         ask_read(text, length, at, group, count - 1, 11, none, cells);
     ask_read(text, length, at, group, count, 0, of_written(count), cells);
     ask_read(text, length, at, group, count + 5, 0, of_written(count), cells);
+}
+
+void ask_whole_all(const uint8_t *text, size_t length, size_t at, const int64_t *cells, size_t count)
+{
+    ask_whole(text, length, at, 0, 11, none, 0, cells);
+    ask_whole(text, length, at, count - 1, 11, none, 0, cells);
+    ask_whole(text, length, at, count, 0, of_written(count), 0, cells);
+    ask_whole(text, length, at, count + 5, 0, of_written(count), 0, cells);
 }
 
 void ask_write_all(const uint16_t *counts, const int64_t *cells, size_t cell_count, const uint8_t *bytes, size_t count)

@@ -15,10 +15,13 @@ uint32_t alike(uint32_t asked, const uint16_t counts[80], size_t i);
 /* Of the numbers beside a reply (R200 to R214) the one that is no element: what was written, a group, a line or a position; NULL if it has none. */
 size_t *first_beside(struct seambeacon_beside *beside, size_t reply);
 
-/* Asks the question and checks the reply, the numbers beside it and every byte of what is lent. */
+/* Asks the question and checks the reply, the numbers beside it and every byte of what is lent. A refusal leaves all of it as it was; the bytes and
+   the cells are those that are due under 0. */
 void ask_place(const uint8_t *text, size_t length, size_t at, size_t reply, struct seambeacon_beside beside, const uint16_t *counts);
 void ask_read(const uint8_t *text, size_t length, size_t at, size_t group, size_t room, size_t reply, struct seambeacon_beside beside,
               const int64_t *cells);
+void ask_whole(const uint8_t *text, size_t length, size_t at, size_t room, size_t reply, struct seambeacon_beside beside, size_t unread,
+               const int64_t *cells);
 void ask_lines(const uint8_t *text, size_t length, size_t at, size_t group, size_t reply, struct seambeacon_beside beside,
                struct seambeacon_part part);
 void ask_characteristic(const uint8_t *text, size_t length, size_t at, size_t number, size_t reply, struct seambeacon_beside beside,
@@ -29,8 +32,9 @@ void ask_list(const uint8_t *text, size_t length, size_t room, size_t reply, str
 void ask_rewrite(const uint8_t *text, size_t length, size_t at, size_t cell_room, size_t room, size_t reply, struct seambeacon_beside beside,
                  size_t unread, const uint8_t *bytes, const int64_t *cells, size_t count);
 
-/* Into a table or an output one short (11), exact and longer. */
+/* Into a table or an output one short (11), exact and longer; a whole record into no cell too. */
 void ask_read_all(const uint8_t *text, size_t length, size_t at, size_t group, const int64_t *cells, size_t count);
+void ask_whole_all(const uint8_t *text, size_t length, size_t at, const int64_t *cells, size_t count);
 void ask_write_all(const uint16_t *counts, const int64_t *cells, size_t cell_count, const uint8_t *bytes, size_t count);
 void ask_list_all(const uint8_t *text, size_t length, const uint8_t *bytes, size_t count);
 

@@ -116,7 +116,7 @@ static void check_groups(void)
     ask_lines(two_lines.bytes, two_lines.length, 0, 4, 0, none, (struct seambeacon_part){295, 132});
 }
 
-/* An empty table of a group with count 0 is never followed. */
+/* An empty table is never followed. */
 static void check_no_table(void)
 {
     of_case("no table at all", 0);
@@ -129,6 +129,14 @@ static void check_no_table(void)
     fresh();
     due.beside = none;
     answered("a group with several", seambeacon_read_group(rules, s.bytes, s.length, 0, 1, NULL, 0, &lent.beside), 11);
+    fresh();
+    due.beside = none;
+    due.unread = 0;
+    answered("a whole record", seambeacon_read_record(rules, s.bytes, s.length, 0, NULL, 0, &lent.unread, &lent.beside), 11);
+    fresh();
+    due.beside = none;
+    due.unread = 0;
+    answered("no text either", seambeacon_read_record(rules, NULL, 0, 0, NULL, 0, &lent.unread, &lent.beside), 1);
 }
 
 /* Refusals; a part can be given where the lines are only misread. */
@@ -187,6 +195,69 @@ static void check_refusals(void)
     }
     of_case("a group that is refused, into a table of its length", 0);
     ask_read(comma.bytes, comma.length, 0, 4, 1, 9, (struct seambeacon_beside){.line = 1, .element = 1}, NULL);
+}
+
+/* ---- A whole record. */
+
+/* Refusals into a table with room, with the group that was not read; group 4 has sixteen cells in the texts of two lines. Where a group was read,
+   11 comes before it. */
+static const struct {
+    const struct text *text;
+    size_t at, cells, reply;
+    struct seambeacon_beside beside;
+    size_t unread;
+} unread[] = {
+    {&s, 1, 0, 4, {0}, 0},
+    {&s, 295, 0, 3, {0}, 0},
+    {&s, 305, 0, 1, {0}, 0},
+    {&s, 306, 0, 2, {0}, 0},
+    {&s, GREATEST, 0, 2, {0}, 0},
+    {&nothing, 0, 0, 1, {0}, 0},
+    {&cut, 0, 0, 3, {0}, 0},
+    {&minus_zero, 0, 0, 4, {0}, 0},
+    {&other_release, 0, 0, 5, {0}, 0},
+    {&vacant, 0, 0, 6, {.group = 63}, 0},
+    {&last_vacant, 0, 0, 6, {.group = 79}, 0},
+    {&broken, 0, 0, 7, {.group = 7}, 0},
+    {&too_few_first, 0, 0, 7, {.group = 1}, 0},
+    {&s_broken, 305, 0, 7, {.group = 7}, 0},
+    {&too_many_blanks, 0, 24, 8, {.line = 1}, 4},
+    {&second_line_long, 0, 39, 8, {.line = 2}, 4},
+    {&comma, 0, 24, 9, {.line = 1, .element = 1}, 4},
+    {&twice_comma, 0, 24, 9, {.line = 1, .element = 1}, 4},
+    {&second_bad, 0, 24, 9, {.line = 1, .element = 2}, 1},
+    {&last_of_two_bad, 0, 39, 9, {.line = 2, .element = 16}, 4},
+    {&wrong_day, 0, 24, 10, {.position = 7}, 3},
+    {&no_year, 0, 24, 10, {.position = 3}, 3},
+};
+
+static void check_unread(void)
+{
+    for (size_t i = 0; i < LENGTH(unread); i++) {
+        const uint8_t *text = unread[i].text->bytes;
+        size_t length = unread[i].text->length, at = unread[i].at, cells = unread[i].cells;
+        of_case("a whole record that is refused", i);
+        ask_whole(text, length, at, 40, unread[i].reply, unread[i].beside, unread[i].unread, NULL);
+        ask_whole(text, length, at, cells, unread[i].reply, unread[i].beside, unread[i].unread, NULL);
+        if (cells > 0) {
+            ask_whole(text, length, at, cells - 1, 11, none, 0, NULL);
+            ask_whole(text, length, at, 0, 11, none, 0, NULL);
+        }
+    }
+}
+
+static void check_whole(void)
+{
+    int64_t longer[39];
+    of_case("a whole record", 0);
+    ask_whole_all(s.bytes, s.length, 0, all_of_s, 24);
+    ask_whole_all(twice.bytes, twice.length, 305, all_of_s, 24);
+    ask_whole_all(twice_comma.bytes, twice_comma.length, 305, all_of_s, 24);
+    ask_whole_all(blanks.bytes, blanks.length, 0, all_of_s, 24);
+    memcpy(longer, all_of_s, 23 * sizeof *longer);
+    memcpy(longer + 23, sixteen, sizeof sixteen);
+    ask_whole_all(two_lines.bytes, two_lines.length, 0, longer, 39);
+    check_unread();
 }
 
 /* ---- Characteristics. */
@@ -282,31 +353,31 @@ static void check_listing(void)
     answered("no output at all", seambeacon_list(rules, s.bytes, s.length, NULL, 0, &lent.beside), 11);
 }
 
-/* ---- Rewriting. The bytes and the cells that are due afterwards, and the group that was not read. */
+/* ---- Rewriting, and the group that was not read. */
 
 static const struct {
     const struct text *text;
     size_t at, cells, room, reply;
     struct seambeacon_beside beside;
-    size_t unread, cells_due;
+    size_t unread;
 } rewritings[] = {
-    {&s, 0, 24, 305, 0, {.next = 305, .written = 305}, 0, 24},
-    {&s, 0, 30, 320, 0, {.next = 305, .written = 305}, 0, 24},
-    {&s, 0, 23, 305, 11, {0}, 0, 0},
-    {&s, 0, 24, 304, 11, {0}, 0, 0},
-    {&s, 0, 0, 0, 11, {0}, 0, 0},
-    {&s, 1, 30, 320, 4, {0}, 0, 0},
-    {&s, 305, 30, 320, 1, {0}, 0, 0},
-    {&s, 306, 30, 320, 2, {0}, 0, 0},
-    {&s, GREATEST, 30, 320, 2, {0}, 0, 0},
-    {&twice, 305, 24, 305, 0, {.next = 610, .written = 305}, 0, 24},
-    {&blanks, 0, 24, 305, 0, {.next = 417, .written = 305}, 0, 24},
-    {&cut, 0, 30, 320, 3, {0}, 0, 0},
-    {&broken, 0, 30, 400, 7, {.group = 7}, 0, 0},
-    {&vacant, 0, 30, 400, 6, {.group = 63}, 0, 0},
-    {&comma, 0, 30, 320, 9, {.line = 1, .element = 1}, 4, 23},
-    {&second_bad, 0, 30, 320, 9, {.line = 1, .element = 2}, 1, 0},
-    {&wrong_day, 0, 30, 320, 10, {.position = 7}, 3, 4},
+    {&s, 0, 24, 305, 0, {.next = 305, .written = 305}, 0},
+    {&s, 0, 30, 320, 0, {.next = 305, .written = 305}, 0},
+    {&s, 0, 23, 305, 11, {0}, 0},
+    {&s, 0, 24, 304, 11, {0}, 0},
+    {&s, 0, 0, 0, 11, {0}, 0},
+    {&s, 1, 30, 320, 4, {0}, 0},
+    {&s, 305, 30, 320, 1, {0}, 0},
+    {&s, 306, 30, 320, 2, {0}, 0},
+    {&s, GREATEST, 30, 320, 2, {0}, 0},
+    {&twice, 305, 24, 305, 0, {.next = 610, .written = 305}, 0},
+    {&blanks, 0, 24, 305, 0, {.next = 417, .written = 305}, 0},
+    {&cut, 0, 30, 320, 3, {0}, 0},
+    {&broken, 0, 30, 400, 7, {.group = 7}, 0},
+    {&vacant, 0, 30, 400, 6, {.group = 63}, 0},
+    {&comma, 0, 30, 320, 9, {.line = 1, .element = 1}, 4},
+    {&second_bad, 0, 30, 320, 9, {.line = 1, .element = 2}, 1},
+    {&wrong_day, 0, 30, 320, 10, {.position = 7}, 3},
 };
 
 static void check_rewriting(void)
@@ -314,7 +385,7 @@ static void check_rewriting(void)
     for (size_t i = 0; i < LENGTH(rewritings); i++) {
         of_case("rewriting", i);
         ask_rewrite(rewritings[i].text->bytes, rewritings[i].text->length, rewritings[i].at, rewritings[i].cells, rewritings[i].room,
-                    rewritings[i].reply, rewritings[i].beside, rewritings[i].unread, s.bytes, all_of_s, rewritings[i].cells_due);
+                    rewritings[i].reply, rewritings[i].beside, rewritings[i].unread, s.bytes, all_of_s, LENGTH(all_of_s));
     }
 }
 
@@ -329,6 +400,7 @@ void check_record_s(void)
         check_groups();
         check_no_table();
         check_refusals();
+        check_whole();
         check_characteristics();
         check_writing();
         check_listing();

@@ -1,3 +1,4 @@
+#include "forms.h"
 #include "questions.h"
 #include "vectors.h"
 #include "words.h"
@@ -10,25 +11,12 @@ static int64_t cells[MOST];
 static uint16_t counts[MOST_COUNTS];
 static uint8_t bytes[MOST];
 
-/* The two numbers beside a reply, of which the second is an element. */
-static struct seambeacon_beside beside_of(size_t reply)
-{
-    struct seambeacon_beside beside = none;
-    size_t *named = first_beside(&beside, reply), first = size();
-    if (named != NULL)
-        *named = first;
-    else
-        need("no number beside this reply", first == 0);
-    beside.element = size();
-    return beside;
-}
-
 /* ---- Write questions. */
 
 static void check_write(uint32_t asked)
 {
     size_t room = size(), many = counts_given(counts, MOST_COUNTS), cell_count = numbers(cells, MOST), reply = size(), written;
-    struct seambeacon_beside beside = beside_of(reply);
+    struct seambeacon_beside beside = beside_told(reply);
     written = hexadecimal(bytes, MOST);
     need("as many bytes as the reply says", written == beside.written);
     for (size_t i = 0; i < ALIKE; i++) {
@@ -61,11 +49,11 @@ static void check_list(const char *file)
 static void check_rewrite(const char *file)
 {
     enum { ROOM = 8192 };
-    static int64_t table[ROOM];
     size_t at = 0, behind = 0;
     read_file(&expected, file);
     for (;;) {
         uint8_t *out = lend_bytes(ROOM);
+        int64_t *table = lend_cells(ROOM);
         fresh();
         if (seambeacon_rewrite_record(rules, text.bytes, text.length, at, table, ROOM, out, ROOM, &lent.unread, &lent.beside) != 0)
             break;
@@ -78,15 +66,52 @@ static void check_rewrite(const char *file)
         at = lent.beside.next;
     }
     bytes_due("rewrite_record: the output of a refusal", NULL, 0);
+    cells_due("rewrite_record: the table of a refusal", NULL, 0);
     check("all is rewritten that is due", behind == expected.length);
 }
 
 /* ---- Every answer about every placed record. */
 
+/* R272, R274, R275: what the rows of a record's groups say of the whole record. */
+static struct {
+    size_t reply, group, count;
+    struct seambeacon_beside beside;
+    int64_t cells[MOST];
+} whole;
+
+static void join(size_t group, size_t reply, struct seambeacon_beside beside)
+{
+    if (group == 1)
+        whole.reply = whole.count = 0;
+    if (whole.reply != 0)
+        return;
+    need("so many cells", whole.count + beside.written <= MOST);
+    if (reply == 0 && whole.count + beside.written <= MOST)
+        memcpy(whole.cells + whole.count, cells, beside.written * sizeof *cells);
+    whole.count += beside.written;
+    whole.reply = reply;
+    whole.group = reply >= 8 ? group : 0;
+    whole.beside = beside;
+    whole.beside.written = reply == 0 ? whole.count : 0;
+}
+
+static void check_whole(size_t at)
+{
+    size_t room = 0;
+    for (size_t group = 1; group <= 60; group++)
+        room += cells_of(group, counts[group - 1]);
+    if (whole.reply == 0)
+        ask_whole_all(text.bytes, text.length, at, whole.cells, whole.count);
+    else
+        ask_whole(text.bytes, text.length, at, room, whole.reply, whole.beside, whole.group, NULL);
+    if (whole.reply >= 8)
+        ask_whole(text.bytes, text.length, at, room - 1, 11, none, 0, NULL);
+}
+
 static void check_group(size_t at)
 {
     size_t group = size(), reply = size(), given = 0, count = 0;
-    struct seambeacon_beside beside = beside_of(reply);
+    struct seambeacon_beside beside = beside_told(reply);
     struct seambeacon_part part;
     part.start = size();
     part.length = size() - part.start;
@@ -99,6 +124,9 @@ static void check_group(size_t at)
         ask_read_all(text.bytes, text.length, at, group, cells, count);
     else
         ask_read(text.bytes, text.length, at, group, group == 40 ? 12000 : 2000, reply, beside, NULL); /* room for its cells (R13) */
+    join(group, reply, beside);
+    if (group == 60)
+        check_whole(at);
 }
 
 static void check_characteristic(size_t at)
@@ -108,7 +136,7 @@ static void check_characteristic(size_t at)
     int64_t value = number();
     struct seambeacon_beside beside;
     reply = size();
-    beside = beside_of(reply);
+    beside = beside_told(reply);
     ask_characteristic(text.bytes, text.length, at, characteristic, reply, beside, kind, value);
 }
 

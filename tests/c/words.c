@@ -1,3 +1,4 @@
+#include "questions.h"
 #include "words.h"
 
 struct file expected;
@@ -103,4 +104,38 @@ size_t counts_given(uint16_t *counts, size_t most)
     for (size_t i = 0; i < many; i++)
         counts[i] = (uint16_t)number();
     return many;
+}
+
+/* ---- What several words say together. */
+
+uint32_t rules_named(size_t i)
+{
+    static const char *const names[RULES] = {
+        [USUAL] = "either-elements", [STRICT] = "strict-elements", [ENTRIES] = "either-entries", [BOTH] = "strict-entries"};
+    for (size_t which = 0; which < RULES; which++)
+        if (word_is(names[which]))
+            return flags[which][i % FLAGS];
+    need("a name of rules", 0);
+    return SEAMBEACON_USUAL;
+}
+
+void text_named(struct file *file, const char *folder)
+{
+    static char name[4096];
+    need("the folder's name is not too long", strlen(folder) < sizeof name - 40);
+    if (strlen(folder) < sizeof name - 40)
+        sprintf(name, "%s/%05lu.sao", folder, (unsigned long)size());
+    read_file(file, name);
+}
+
+struct seambeacon_beside beside_told(size_t reply)
+{
+    struct seambeacon_beside beside = {0};
+    size_t *named = first_beside(&beside, reply), first = size();
+    if (named != NULL)
+        *named = first;
+    else
+        need("no number beside this reply", first == 0);
+    beside.element = size();
+    return beside;
 }

@@ -439,6 +439,33 @@ pub fn read_group(rules: Rules, text: &[u8], at: usize, group: usize, table: &mu
     Ok(raw::read_group(rules.flags(), text, at, group, table).done(group)?.written)
 }
 
+/// The cells of all groups of the record at a place, in one call: how many there are. Those of group 1 stand in the table from its first cell on,
+/// behind them those of group 2, and so on up to group 60, each as by [`read_group`]; what stands behind them is kept. In this order
+/// [`write_record`] and a [`Journal`] take them.
+///
+/// No record has more than 64,323 cells or, under [`Counting::Entries`], 74,303.
+///
+/// ```
+/// # let (rules, day) = (seambeacon::Rules::default(), concat!(env!("CARGO_MANIFEST_DIR"), "/../../examples/day.sao"));
+/// # let text = std::fs::read(day).expect("the example day");
+/// let (mut table, mut out) = (vec![0; 64_323], [0; 2020]);
+/// let many = seambeacon::read_record(rules, &text, 0, &mut table)?;
+/// let counts = seambeacon::place(rules, &text, 0)?.counts;
+/// assert_eq!(seambeacon::write_record(rules, &counts, &table[..many], &mut out)?, 2020);
+/// assert_eq!(out, text[..2020]); // the first record of the day, as it stands there
+/// # Ok::<(), seambeacon::Refusal>(())
+/// ```
+///
+/// # Errors
+///
+/// A placing reply but 0; 11, which the counts decide before any line is looked at; or the first refusal of reading groups 1 to 60, which is 8, 9 or
+/// 10. The group beside 8 and 9 is the one that could not be read. The table is as it was.
+pub fn read_record(rules: Rules, text: &[u8], at: usize, table: &mut [i64]) -> Result<usize, Refusal> {
+    let mut unread = 0;
+    let reply = raw::read_record(rules.flags(), text, at, table, &mut unread);
+    Ok(reply.done(unread)?.written)
+}
+
 /// The lines of a group, 1 to 60, of the record at a place: the part of the lent text in which they stand, with their line ends (R280). With
 /// count 0 it is empty, where the lines would be (R282).
 ///
@@ -493,8 +520,7 @@ pub fn list(rules: Rules, text: &[u8], out: &mut [u8]) -> Result<usize, Refusal>
 ///
 /// # Errors
 ///
-/// A placing reply but 0, 11, or the first refusal of reading groups 1 to 60. The output is as it was, and the table has the cells of the
-/// groups before the one that could not be read.
+/// A placing reply but 0, 11, or the first refusal of reading groups 1 to 60. The output and the table are as they were.
 pub fn rewrite_record(rules: Rules, text: &[u8], at: usize, table: &mut [i64], out: &mut [u8]) -> Result<Rewritten, Refusal> {
     let mut unread = 0;
     let reply = raw::rewrite_record(rules.flags(), text, at, table, out, &mut unread);

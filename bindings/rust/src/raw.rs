@@ -91,6 +91,16 @@ extern "C" {
         table_length: usize,
         beside: *mut Beside,
     ) -> u32;
+    fn seambeacon_read_record(
+        rules: u32,
+        text: *const u8,
+        text_length: usize,
+        at: usize,
+        table: *mut i64,
+        table_length: usize,
+        unread: *mut usize,
+        beside: *mut Beside,
+    ) -> u32;
     fn seambeacon_group_lines(
         rules: u32,
         text: *const u8,
@@ -241,6 +251,11 @@ pub fn record_characteristic(rules: u32, text: &[u8], of: Members<'_>, number: u
 pub fn read_group(rules: u32, text: &[u8], at: usize, group: usize, table: &mut [i64]) -> Reply {
     // SAFETY: as the head of this file says.
     reply(|beside| unsafe { seambeacon_read_group(rules, text.as_ptr(), text.len(), at, group, table.as_mut_ptr(), table.len(), beside) })
+}
+
+pub fn read_record(rules: u32, text: &[u8], at: usize, table: &mut [i64], unread: &mut usize) -> Reply {
+    // SAFETY: as the head of this file says.
+    reply(|beside| unsafe { seambeacon_read_record(rules, text.as_ptr(), text.len(), at, table.as_mut_ptr(), table.len(), unread, beside) })
 }
 
 pub fn group_lines(rules: u32, text: &[u8], at: usize, group: usize, part: &mut Part) -> Reply {

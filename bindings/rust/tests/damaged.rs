@@ -39,6 +39,7 @@ fn records_that_are_not_placed() {
         assert_eq!(seambeacon::characteristic(Rules::default(), &text, 0, 1), Err(why), "{case}");
         let (mut table, mut out) = ([CELL; 30], [1; 400]);
         assert_eq!(seambeacon::rewrite_record(Rules::default(), &text, 0, &mut table, &mut out), Err(why), "{case}");
+        assert_eq!(seambeacon::read_record(Rules::default(), &text, 0, &mut table), Err(why), "{case}");
         assert_eq!((table, out), ([CELL; 30], [1; 400]), "{case}");
     }
 }
@@ -51,6 +52,7 @@ fn a_vacant_group_with_a_count() {
         text[122 + 3 * (group - 41) + 2] = b'1';
         assert_eq!(seambeacon::place(Rules::default(), &text, 0), Err(Refusal::FilledVacant { group }));
         assert_eq!(read(&text, 1).0, Err(Refusal::FilledVacant { group }));
+        assert_eq!(seambeacon::read_record(Rules::default(), &text, 0, &mut [CELL; 30]), Err(Refusal::FilledVacant { group }));
     }
 }
 
@@ -72,6 +74,9 @@ fn a_broken_rule_on_counts() {
         assert_eq!(seambeacon::group_lines(Rules::default(), &broken, 0, group), Err(why));
     }
     assert_eq!(seambeacon::characteristic(Rules::default(), &broken, 0, 1), Err(why));
+    let mut table = [CELL; 30];
+    assert_eq!(seambeacon::read_record(Rules::default(), &broken, 0, &mut table), Err(why));
+    assert_eq!(table, [CELL; 30]);
 }
 
 /// Damage in group 4's line: that group is refused, and the characteristics with it; the other groups and S behind it are as they were.
@@ -137,22 +142,24 @@ fn a_wrong_date() {
     }
 }
 
-/// A refused group: nothing is written, and the table has the cells of the groups before it.
+/// A refused group, also behind others that can be read: whole and to be rewritten the record is refused for it, and neither table nor output is
+/// altered (R276, R325, R326). A table that is too short comes first.
 #[test]
-fn rewriting_up_to_a_refused_group() {
+fn a_whole_record_with_a_refused_group() {
     let usual = Rules::default();
-    for (rules, old, new, refusal, before) in [
-        (usual, "   7.250", "   7.2:0", Refusal::BadField { group: 4, line: 1, element: 1 }, 23),
-        (Rules::strict(), "   7.250\r\n", "   7.250 \n", Refusal::BadLine { group: 4, line: 1 }, 23),
-        (usual, "0922", "0923", Refusal::BadDate { position: 7 }, 4),
-        (usual, "  1.200", "  1:200", Refusal::BadField { group: 1, line: 1, element: 1 }, 0),
+    for (rules, old, new, refusal) in [
+        (usual, "   7.250", "   7.2:0", Refusal::BadField { group: 4, line: 1, element: 1 }),
+        (Rules::strict(), "   7.250\r\n", "   7.250 \n", Refusal::BadLine { group: 4, line: 1 }),
+        (usual, "0922", "0923", Refusal::BadDate { position: 7 }),
+        (usual, "  1.200", "  1:200", Refusal::BadField { group: 1, line: 1, element: 1 }),
     ] {
         let text = replaced(&s(), old, new);
-        let (mut table, mut out) = ([CELL; 30], [1; 400]);
-        let answer = seambeacon::rewrite_record(rules, &text, 0, &mut table, &mut out);
-        assert_eq!(answer, Err(refusal));
-        assert_eq!(out, [1; 400]);
-        assert_eq!(&table[..before], &cells_of_s()[..before]);
-        assert!(table[before..].iter().all(|&cell| cell == CELL));
+        for (room, why) in [(24, refusal), (30, refusal), (23, Refusal::NoRoom), (0, Refusal::NoRoom)] {
+            let (mut table, mut out) = (vec![CELL; room], [1; 400]);
+            assert_eq!(seambeacon::read_record(rules, &text, 0, &mut table), Err(why));
+            assert_eq!(table, vec![CELL; room]);
+            assert_eq!(seambeacon::rewrite_record(rules, &text, 0, &mut table, &mut out), Err(why));
+            assert_eq!((table, out), (vec![CELL; room], [1; 400]));
+        }
     }
 }

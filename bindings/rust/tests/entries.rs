@@ -43,6 +43,9 @@ fn answered(rules: Rules, made: &Made, lines: usize) {
     let (mut table, mut out) = (vec![0; cells.len()], vec![0; next]);
     assert_eq!(seambeacon::rewrite_record(rules, text, 0, &mut table, &mut out), Ok(Rewritten { bytes: next, next }));
     assert!(&table == cells && &out == text);
+    let mut table = vec![0; cells.len()];
+    assert_eq!(seambeacon::read_record(rules, text, 0, &mut table), Ok(cells.len()));
+    assert!(&table == cells);
     let listed = format!("1 0 {next} 0 0 {} {}\nend 1 {next} 1 0\n", 3 + usize::from(lines > 0), 5 + lines);
     let mut out = [0; 100];
     assert_eq!(seambeacon::list(rules, text, &mut out), Ok(listed.len()));

@@ -36,6 +36,9 @@ fn answered_as_s(rules: Rules, text: &[u8]) {
     let (mut table, mut out) = ([0; 24], [0; 305]);
     assert_eq!(seambeacon::rewrite_record(rules, text, 0, &mut table, &mut out), Ok(Rewritten { bytes: 305, next }));
     assert_eq!((&table[..], &out[..]), (&cells[..], &s()[..]));
+    let mut table = [CELL; 25];
+    assert_eq!(seambeacon::read_record(rules, text, 0, &mut table), Ok(24));
+    assert_eq!((&table[..24], table[24]), (&cells[..], CELL));
 }
 
 /// No record is placed, for this reason; the listing tells it by its number.
@@ -46,6 +49,7 @@ fn not_placed(rules: Rules, text: &[u8], why: Refusal) {
     assert_eq!(seambeacon::group_lines(rules, text, 0, 4), Err(why));
     assert_eq!(seambeacon::characteristic(rules, text, 0, 1), Err(why));
     assert_eq!(seambeacon::rewrite_record(rules, text, 0, &mut table, &mut out), Err(why));
+    assert_eq!(seambeacon::read_record(rules, text, 0, &mut table), Err(why));
     assert_eq!((table, out), ([CELL; 30], [1; 400]));
     let listed = format!("end 0 0 {} 0\n", why.number());
     assert_eq!(seambeacon::list(rules, text, &mut out), Ok(listed.len()));
@@ -58,6 +62,7 @@ fn refused_in_group_4(rules: Rules, text: &[u8]) {
     let mut table = [CELL; 30];
     assert_eq!(placed(rules, text, 0), Ok((Placing::Placed { next: text.len() }, counts_of_s())));
     assert_eq!(seambeacon::read_group(rules, text, 0, 4, &mut table), Err(why));
+    assert_eq!(seambeacon::read_record(rules, text, 0, &mut table), Err(why));
     assert_eq!(table, [CELL; 30]);
     assert_eq!(seambeacon::characteristic(rules, text, 0, 1), Err(why));
     assert_eq!(seambeacon::group_lines(rules, text, 0, 4), Ok(&text[295..]));

@@ -3,25 +3,14 @@
 
 mod common;
 
-use common::{bytes, cells_of_s, counts_of_s, numbers, project, s};
-use seambeacon::{Characteristic, Counting, Placing, Record, Refusal, Rules, View};
+use common::{all_rules, all_texts, bytes, cells_of_s, counts_of_s, numbers, rules_named, s};
+use seambeacon::{Characteristic, Placing, Record, Refusal, Rules, View};
 use std::fmt::Write;
-use std::fs;
 
 /// A cell that is in none of the answers, to see what is kept.
 const CELL: i64 = -987_654_321;
 
-fn all_rules() -> [Rules; 4] {
-    let entries = |rules: Rules| rules.counting(Counting::Entries);
-    [Rules::default(), Rules::strict(), entries(Rules::default()), entries(Rules::strict())]
-}
-
 // ---- The questions of the vectors.
-
-fn rules_named(name: &str) -> Rules {
-    let names = ["either-elements", "strict-elements", "either-entries", "strict-entries"];
-    all_rules()[names.iter().position(|&known| known == name).expect("a name of rules")]
-}
 
 fn text_numbered(number: &str) -> Vec<u8> {
     bytes(&format!("tests/vectors/W7/{number}.sao"))
@@ -184,16 +173,6 @@ fn lines_outlive_the_view() {
 
 // ---- As by place.
 
-fn texts() -> Vec<Vec<u8>> {
-    let mut all = Vec::new();
-    for folder in ["tests/vectors", "tests/vectors/W7", "examples"] {
-        let files = fs::read_dir(project(folder)).expect("a folder").map(|file| file.expect("a file").path());
-        all.extend(files.filter(|path| path.extension().is_some_and(|kind| kind == "sao")).map(|path| fs::read(path).expect("a text")));
-    }
-    assert!(all.len() >= 263, "{} texts", all.len());
-    all
-}
-
 fn answers_as_its_place(rules: Rules, text: &[u8], at: usize, record: Record) {
     for group in 1..=60 {
         let room = if group == 40 { 12000 } else { 2000 };
@@ -214,7 +193,7 @@ fn answers_as_its_place(rules: Rules, text: &[u8], at: usize, record: Record) {
 #[test]
 fn placed_records_answer_as_their_places() {
     let mut records = 0;
-    for text in texts() {
+    for text in all_texts() {
         for rules in all_rules() {
             let mut at = 0;
             while let Ok(record) = seambeacon::place(rules, &text, at) {
@@ -226,5 +205,5 @@ fn placed_records_answer_as_their_places() {
             }
         }
     }
-    assert!(records >= 1420, "{records} records");
+    assert!(records >= 1523, "{records} records");
 }

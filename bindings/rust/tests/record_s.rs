@@ -28,6 +28,7 @@ fn no_text_at_all() {
     assert_eq!(seambeacon::place(Rules::default(), &[], 0), Err(Refusal::End));
     assert_eq!(seambeacon::place(Rules::default(), &[], 1), Err(Refusal::Beyond));
     assert_eq!(seambeacon::read_group(Rules::default(), &[], 0, 1, &mut []), Err(Refusal::End));
+    assert_eq!(seambeacon::read_record(Rules::default(), &[], 0, &mut []), Err(Refusal::End));
     assert_eq!(seambeacon::group_lines(Rules::default(), &[], 0, 1), Err(Refusal::End));
     assert_eq!(seambeacon::characteristic(Rules::default(), &[], 0, 1), Err(Refusal::End));
     assert_eq!(seambeacon::write_record(Rules::default(), &[], &[], &mut []), Err(Refusal::Misformed));
@@ -59,6 +60,32 @@ fn groups_into_tables_of_each_length() {
         }
     }
     assert_eq!(asked, 2 * (5 * 3 + 3));
+}
+
+/// All cells of S, into tables exact, longer, short and empty, in both records of S twice.
+#[test]
+fn the_whole_record_into_tables_of_each_length() {
+    let text = s().repeat(2);
+    let cells = cells_of_s();
+    for at in [0, 305] {
+        for more in 0..3 {
+            let mut table = vec![CELL; 24 + more];
+            assert_eq!(seambeacon::read_record(Rules::default(), &text, at, &mut table), Ok(24));
+            assert_eq!(&table[..24], &cells[..]);
+            assert!(table[24..].iter().all(|&cell| cell == CELL));
+        }
+        for length in [0, 1, 23] {
+            let mut short = vec![CELL; length];
+            assert_eq!(seambeacon::read_record(Rules::default(), &text, at, &mut short), Err(Refusal::NoRoom));
+            assert!(short.iter().all(|&cell| cell == CELL));
+        }
+    }
+    for (at, why) in [(610, Refusal::End), (611, Refusal::Beyond), (usize::MAX, Refusal::Beyond), (1, Refusal::Misformed)] {
+        let mut table = [CELL; 30];
+        assert_eq!(seambeacon::read_record(Rules::default(), &text, at, &mut table), Err(why));
+        assert_eq!(seambeacon::read_record(Rules::default(), &text, at, &mut []), Err(why));
+        assert_eq!(table, [CELL; 30]);
+    }
 }
 
 #[test]
@@ -177,7 +204,7 @@ fn rewriting_s() {
     let mut table = [CELL; 24];
     let mut out = [BYTE; 304];
     assert_eq!(seambeacon::rewrite_record(Rules::default(), &s(), 0, &mut table, &mut out), Err(Refusal::NoRoom));
-    assert_eq!(out, [BYTE; 304]);
+    assert_eq!((out, table), ([BYTE; 304], [CELL; 24]));
     let mut short = [CELL; 23];
     let mut out = [BYTE; 305];
     assert_eq!(seambeacon::rewrite_record(Rules::default(), &s(), 0, &mut short, &mut out), Err(Refusal::NoRoom));

@@ -60,7 +60,7 @@ told-cell k n cells h = rw (le-leb k n h) refl
 told-cells : (k : ℕ) (four : Cells) (old : List ℤ) → 1 ≤ k → toldOf k (readingOf four) (tableBy four old) ≡ reported k four
 told-cells k (done cs) old low = by (leb k (length cs)) refl
   where
-    by : (t : Bool) → leb k (length cs) ≡ t → cond t (toldBy k (getD (tableBy (done cs) old) (k - 1) (pos 0))) NotReported ≡ cond t (toldBy k (getD cs (k - 1) (pos 0))) NotReported
+    by : (t : Bool) → leb k (length cs) ≡ t → cond t (toldBy k (getD (tableBy {B = Refusal} (done cs) old) (k - 1) (pos 0))) NotReported ≡ cond t (toldBy k (getD cs (k - 1) (pos 0))) NotReported
     by true e = ap (toldBy k) (List·getD-append cs (drop (0 + length cs) old) (pos 0) (k - 1) (omega (arith, leb-true k (length cs) e)))
     by false e = refl
 told-cells k (bad r) old low = refl

@@ -11,6 +11,7 @@ pub mod Filling
 pub mod Dates
 pub mod Steps
 pub mod Promises
+pub mod Passes
 pub mod FourS
 pub mod Values
 pub mod Due

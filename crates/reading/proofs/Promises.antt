@@ -20,7 +20,7 @@ use Rattle.base.specs.Pieces
 use Rattle.base.specs.Pieces.{done, bad}
 use Rattle.form.specs.declared.Form.{Form}
 use Rattle.form.specs.declared.GroupForm.the-variants.{Has}
-use Rattle.form.specs.Table.{rowOf, formOf}
+use Rattle.form.specs.Table.{rowOf, formOf, NoSuchGroup}
 use Rattle.form.specs.Count
 use Rattle.form.specs.Count.{linesOf, cellsOf}
 use Rattle.form.proofs.Rounding.{rounded-none}
@@ -36,10 +36,11 @@ use Rattle.count.specs.Rules.{rulingOf}
 use Rattle.count.specs.declared.Ruling.{Ruling}
 use Rattle.count.specs.declared.Ruling.the-variants.{Kept, Broken}
 use Rattle.reply.specs.declared.Refusal.{Refusal}
+use Rattle.reply.specs.declared.Reply.{Reply}
 use Rattle.reply.specs.declared.Refusal.the-variants.{NoSuchNumber, BrokenRule, NoRoom, BadLine, BadField, BadDate}
 use Rattle.reply.specs.declared.Answer.the-variants.{Done}
-use Rattle.reading.specs.Numbered.{givenRefusals, readingRows}
-use Rattle.reading.specs.Due.{RefusedFor, no-group, broken-rule, no-room, bad-line, bad-field, bad-date, Due}
+use Rattle.reading.specs.Numbered.{groupRefusals, givenRefusals, readingRows}
+use Rattle.reading.specs.Due.{RuleDue, TableShort, RefusedFor, no-group, broken-rule, no-room, bad-line, bad-field, bad-date, Due}
 use Rattle.reading.specs.Blanks.{mayBeShort}
 use Rattle.reading.specs.Plan.{planFrom, planOf}
 use Rattle.reading.specs.Read.{Cells, readLinesOf, readLines, readForm, readRuled, readGroup, readingOf, tableBy}
@@ -52,20 +53,35 @@ pub record HasAsked (asked : List Refusal) : Type 0 where
   pub no-group-row : Numbered (rows asked) (refusalReply NoSuchNumber)
   pub broken-row : (h : ℕ) → 0 < h → Numbered (rows asked) (refusalReply (BrokenRule h))
 
+-- what is refused by a group's own lines has a row there, whatever the question makes of 12, 7 and 11
+module _ (ρ : Rules) (ns : List ℕ) (g : ℕ) (x : List ℕ) (room : ℕ) where
+  pub record Besides (P : Reply → Type 0) : Type 0 where
+    pub none : NoSuchGroup g → P (refusalReply NoSuchNumber)
+    pub broken : (h : ℕ) → RuleDue ρ ns g x room h → P (refusalReply (BrokenRule h))
+    pub short : TableShort ρ ns g x room → P (refusalReply NoRoom)
+    pub own : (r : Reply) → Numbered (rows groupRefusals) r → P r
+
+  pub refusal-cases : (P : Reply → Type 0) → Besides P → (r : Refusal) → RefusedFor ρ ns g x room r → P (refusalReply r)
+  refusal-cases P b r (no-group d) = b .none d
+  refusal-cases P b r (broken-rule h d) = b .broken h d
+  refusal-cases P b r (no-room d) = b .short d
+  refusal-cases P b r (bad-line l d) = b .own (refusalReply (BadLine l)) (inl (refusal-fills (BadLine l) (omega (arith, d .line .number), tt)))
+  refusal-cases P b r (bad-field l e d) =
+      b .own (refusalReply (BadField l e)) (inr (inl (refusal-fills (BadField l e) (omega (arith, d .field .number), (omega (arith, d .field .element), tt)))))
+  refusal-cases P b r (bad-date p d) = b .own (refusalReply (BadDate p)) (inr (inr (inl (refusal-fills (BadDate p) (blamed-position (map sizeOf (d .cs)) p (d .wrong), tt)))))
+
 -- what is refused by the counts and the lines, behind these
 pub refusal-behind : (asked : List Refusal) → HasAsked asked → (ρ : Rules) (ns : List ℕ) (g : ℕ) (x : List ℕ) (room : ℕ) (r : Refusal) → RefusedFor ρ ns g x room r
     → Numbered (rows (asked ++ givenRefusals)) (refusalReply r)
-refusal-behind asked h ρ ns g x room r (no-group d) = rows-left asked givenRefusals _ (h .no-group-row)
-refusal-behind asked h ρ ns g x room r (broken-rule b d) = rows-left asked givenRefusals _ (h .broken-row b (broken-group ns (d .broken) .0))
-refusal-behind asked h ρ ns g x room r (no-room d) = rows-right asked givenRefusals _ (inl (refusal-fills NoRoom tt))
-refusal-behind asked h ρ ns g x room r (bad-line l d) =
-    rows-right asked givenRefusals _ (at-row 1 (rows givenRefusals) (refusalReply (BadLine l)) (lit< tt) (refusal-fills (BadLine l) (omega (arith, d .line .number), tt)))
-refusal-behind asked h ρ ns g x room r (bad-field l e d) =
-    rows-right asked givenRefusals _
-    (at-row 2 (rows givenRefusals) (refusalReply (BadField l e)) (lit< tt) (refusal-fills (BadField l e) (omega (arith, d .field .number), (omega (arith, d .field .element), tt))))
-refusal-behind asked h ρ ns g x room r (bad-date p d) =
-    rows-right asked givenRefusals _
-    (at-row 3 (rows givenRefusals) (refusalReply (BadDate p)) (lit< tt) (refusal-fills (BadDate p) (blamed-position (map sizeOf (d .cs)) p (d .wrong), tt)))
+refusal-behind asked h ρ ns g x room r d =
+    refusal-cases ρ ns g x room (Numbered (rows (asked ++ givenRefusals))) record {
+      none = λ u. rows-left asked givenRefusals _ (h .no-group-row);
+      broken = λ b u. rows-left asked givenRefusals _ (h .broken-row b (broken-group ns (u .broken) .0));
+      short = λ u. rows-right asked givenRefusals _ (inl (refusal-fills NoRoom tt));
+      own = λ q u. rows-right asked givenRefusals q (inr u);
+    }
+    r
+    d
 
 -- 12 and placing's replies
 pub has-asked : HasAsked askedRefusals
@@ -87,14 +103,17 @@ refused-read-keeps (done cs) old n = absurd (n refl)
 refused-read-keeps (bad r) old n = refl
 
 -- R266: under 0 the first cells of the table are those that were read
-pub done-read-holds : (cs old : List ℤ) → take (length cs) (tableBy (done cs) old) ≡ cs
-done-read-holds cs old = take-at cs (drop (0 + length cs) old) (length cs) refl
+pub done-read-holds : (B : Type 0) (cs old : List ℤ) → take (length cs) (tableBy {B = B} (done cs) old) ≡ cs
+done-read-holds B cs old = take-at cs (drop (0 + length cs) old) (length cs) refl
 
 -- R266: and those behind them are what they were
+pub cells-keep-rest : (B : Type 0) (cs old : List ℤ) → drop (length cs) (tableBy {B = B} (done cs) old) ≡ drop (length cs) old
+cells-keep-rest B cs old = rw (zero-add (length cs)) (drop-at cs (drop (length cs) old) (length cs) refl)
+
 pub done-read-keeps-rest : (g : Cells) (old : List ℤ) (n : ℕ) → readingOf g ≡ Done n → drop n (tableBy g old) ≡ drop n old
 done-read-keeps-rest (done cs) old n e =
     let m : length cs ≡ n = cc in
-    rw (← m, zero-add (length cs)) (drop-at cs (drop (length cs) old) (length cs) refl)
+    rw (← m) (cells-keep-rest Refusal cs old)
 done-read-keeps-rest (bad r) old n e = let z : _≡_ {A = ℕ} 0 1 = cc in absurd (omega arith)
 
 module _ (ρ : Rules) where
@@ -118,7 +137,7 @@ module _ (ρ : Rules) where
 
 -- ---- R268: a group without elements reads with 0 and no cells, into an empty table too
 
-no-elements : (ρ : Rules) (f : Form) → (linesOf ρ f 0 ≡ 0) × (cellsOf ρ f 0 ≡ 0)
+pub no-elements : (ρ : Rules) (f : Form) → (linesOf ρ f 0 ≡ 0) × (cellsOf ρ f 0 ≡ 0)
 unfolding Count.linesOf Count.cellsOf
 no-elements ρ f = rw (elements-none ρ f) (rounded-none (rowOf f .«per_line»), zero-mul (rowOf f .cells))
 

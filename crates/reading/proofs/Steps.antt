@@ -48,7 +48,7 @@ bad-is (done cs) r e = let z : _≡_ {A = ℕ} 0 1 = cc in absurd (omega arith)
 bad-is (bad q) r e = let p : q ≡ r = cc in ap bad p
 
 -- a clean date leaves the cells as they are
-clean-cells : (g : ℕ) (c : Cells) → verdictOf (dated g c) ≡ C.Right → dated g c ≡ c
+pub clean-cells : (g : ℕ) (c : Cells) → verdictOf (dated g c) ≡ C.Right → dated g c ≡ c
 clean-cells g (done cs) e = by (eqb g 3) (datedOf (map sizeOf cs)) e
   where
     by : (t : Bool) (d : Dated) → verdictOf (cond t (byDate cs d) (done cs)) ≡ C.Right → cond t (byDate cs d) (done cs) ≡ done cs

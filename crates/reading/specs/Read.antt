@@ -113,8 +113,9 @@ abbrev pub readingOf : Cells → Answer
 readingOf (done cs) = Done (length cs)
 readingOf (bad r) = Refused r
 
--- R266, R267: under 0 the cells stand from the table's first on, and what is behind them stays; a refusal leaves the whole table
-abbrev pub tableBy : Cells → List ℤ → List ℤ
+-- R266, R267: under 0 the cells stand from the table's first on, and what is behind them stays; a refusal, whatever is told of it, leaves the
+-- whole table
+abbrev pub tableBy : {B : Type 0} → Got B ℤ → List ℤ → List ℤ
 tableBy (done cs) old = over 0 cs old
 tableBy (bad r) old = old
 

@@ -20,6 +20,7 @@ ghost use Rattle.form.specs.Table.{rowOf, formOf};
 ghost use Rattle.form.specs.Count.{cellsOf};
 ghost use Rattle.field.specs.Read.{fieldOf, formed, valueCells};
 ghost use Rattle.count.specs.Rules.{rulingOf};
+ghost use Rattle.count.specs.Tally.{cellsIn};
 ghost use Rattle.line.specs.Lines.{reach};
 ghost use Rattle.line.specs.Contents.{contentOf};
 ghost use Rattle.reading.specs.Blanks.{blank, mayBeShort, shortest, filledTo, isRight, asField, rightContent};
@@ -380,6 +381,17 @@ fn fill_lines(
     }
 }
 
+// R266 for the lines of a group that were found clean.
+fn fill(rules: rules::Rules, form: Form, group: usize, count: u16, lines: &[u8], table: &mut [i64])
+    requires form { ⌜ formOf group ≡ GroupForm.Has form ⌝ }
+    requires clean { ⌜ verdictOf (readLines rules form (mayBeShort group) count (now lines)) ≡ Checked.Right ⌝ }
+    requires room { ⌜ cellsOf rules form count ≤ length (now table) ⌝ }
+    ensures { λ _. ⌜ now (table .exit) ≡
+        over 0 (cellsGot (readLines rules form (mayBeShort group) count (now (lines .entry)))) (now (table .entry)) ⌝ }
+{
+    fill_lines(rules, form, may_be_short(group), count, lines, table);
+}
+
 // ---- Reading a group's lines.
 
 // R260, for a group whose record is placed with 0: 11 (R264), then the lines and the date, and only then the table.
@@ -406,7 +418,7 @@ fn read_form(
     match check(rules, form, group, count, lines) {
         Checked::Refused(r) => Answer::Refused(r),
         Checked::Right => {
-            fill_lines(rules, form, may_be_short(group), count, lines, table);
+            fill(rules, form, group, count, lines, table);
             Answer::Done(cells)
         }
     }
@@ -434,4 +446,53 @@ pub fn read_kept(
     };
     let count = count::count_of(counts, group);
     read_form(rules, form, group, count, lines, table)
+}
+
+// ---- The two passes by themselves, for a record whose groups are all checked before one of them is filled.
+
+// What `read_kept` refuses a group of 1 to 60 with, given room. A count of 0 costs no more than a test (R268).
+pub fn check_kept(rules: rules::Rules, counts: &[u16], group: usize, lines: &[u8]) -> Checked
+    requires kept { ⌜ rulingOf (now counts) ≡ Ruling.Kept ⌝ }
+    requires low { ⌜ 1 ≤ group ⌝ }
+    requires high { ⌜ group ≤ 60 ⌝ }
+    ensures { λ r. ⌜ r ≡ verdictOf
+        (readGroup rules (now (counts .entry)) group (now (lines .entry)) (cellsIn rules (now (counts .entry)) group)) ⌝ }
+{
+    let count = count::count_of(counts, group);
+    if count == 0 {
+        return Checked::Right;
+    }
+    check(rules, form::form_in(group), group, count, lines)
+}
+
+// The cells of a group that was found clean, from a cell of the table on. It gives the cell behind them.
+pub fn fill_kept(
+    rules: rules::Rules,
+    counts: &[u16],
+    group: usize,
+    lines: &[u8],
+    table: &mut [i64],
+    cell: usize,
+) -> usize
+    requires kept { ⌜ rulingOf (now counts) ≡ Ruling.Kept ⌝ }
+    requires low { ⌜ 1 ≤ group ⌝ }
+    requires high { ⌜ group ≤ 60 ⌝ }
+    requires clean { ⌜ verdictOf
+        (readGroup rules (now counts) group (now lines) (cellsIn rules (now counts) group)) ≡ Checked.Right ⌝ }
+    requires room { ⌜ cell + cellsIn rules (now counts) group ≤ length (now table) ⌝ }
+    ensures end { λ r. ⌜ r ≡ cell + cellsIn rules (now (counts .entry)) group ⌝ }
+    ensures table { λ _. ⌜ now (table .exit) ≡
+        over cell
+        (cellsGot
+        (readGroup rules (now (counts .entry)) group (now (lines .entry)) (cellsIn rules (now (counts .entry)) group)))
+        (now (table .entry)) ⌝ }
+{
+    let count = count::count_of(counts, group);
+    if count == 0 {
+        return cell;
+    }
+    let form = form::form_in(group);
+    let end = cell + form::cells(rules, form, count);
+    fill(rules, form, group, count, lines, &mut table[cell..end]);
+    end
 }

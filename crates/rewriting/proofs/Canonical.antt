@@ -1,7 +1,7 @@
 -- A text of canonical records within the program's limits is rewritten as itself; and what the program prints is such a text, so that printing
 -- it again, where it is within the limits, prints the same.
 -- Assumes nothing.
-use mathlib.Core.Path.{_≡_, refl, sym, _∙_, ap, ap₂}
+use mathlib.Core.Path.{_≡_, refl, _∙_, ap, ap₂}
 use mathlib.Core.Bool.{Bool, true, false, cond}
 use mathlib.Core.List.{List, [], _++_, append-assoc, append-nil}
 use Prim.Native.Nat.{ℕ, zero, suc, _+_, _-_, _≤_}
@@ -11,10 +11,11 @@ use lib.Dec.{leb}
 use lib.ListN.{length, length-append}
 use Rattle.rules.specs.declared.Rules.{Rules}
 use Rattle.base.specs.Part.{part}
-use Rattle.base.specs.Pieces.{done}
 use Rattle.base.proofs.Part.{part-middle}
 use Rattle.count.specs.Tally.{cellsIn}
 use Rattle.place.specs.Placing.{countsAt}
+use Rattle.whole.specs.Due.{GroupDone, AllDone}
+use Rattle.whole.specs.Turn.{cellsAt}
 use Rattle.writing.specs.Canonical.{CanonicalRecord}
 use Rattle.writing.specs.RoundTrip.{groupCells, ReadsBack, ReadWhole}
 use Rattle.writing.specs.Text.{recordText, recordBytes}
@@ -27,17 +28,16 @@ use Rattle.writing.specs.Writing.{dateLetters}
 use Rattle.writing.proofs.Done.{done-is}
 use Rattle.writing.proofs.ReadsBack.{canonical-back, done-canonical}
 use Rattle.writing.proofs.ReadWrites.{again-bytes, written-again}
-use Rattle.rewriting.specs.declared.Groups.the-variants.{All}
 use Rattle.rewriting.specs.declared.Rewriting.{Rewriting}
-use Rattle.rewriting.specs.declared.Rewriting.the-variants.{Done, Refused, GroupRefused}
+use Rattle.rewriting.specs.declared.Rewriting.the-variants.{Done, Refused}
 use Rattle.rewriting.specs.Canonical.{RightRecord, CanonicalRecords, none, more}
-use Rattle.rewriting.specs.Record.{groupRead, groupsOf, allInTurn, cellsAt, textAt, rewritingOf}
+use Rattle.rewriting.specs.Record.{textAt, rewritingOf}
 use Rattle.rewriting.specs.Printed.{programRewriting, textThen, rewrittenFrom, rewritten, printed}
 use Rattle.rewriting.proofs.Cells.{record-cells}
-use Rattle.rewriting.proofs.Due.{first-due, turn-all}
+use Rattle.rewriting.proofs.Due.{first-due}
 use Rattle.rewriting.proofs.Printing.{rewritten-done, rewritten-stop, end-never}
 use Rattle.rewriting.proofs.Promises.{done-writes, done-text, done-within, done-further}
-use Rattle.rewriting.proofs.Whole.{cellsOfGroup, whole-read, whole-joined}
+use Rattle.rewriting.proofs.Whole.{groups-done, whole-read}
 
 -- ---- a right record, wherever it stands, is rewritten as itself
 
@@ -50,27 +50,30 @@ module _ (ρ : Rules) {x : List ℕ} (r : RightRecord ρ x) (a b : List ℕ) whe
   right-back = canonical-back ρ (r .canonical) (release-given (r .ns) Five (r .release))
       (kept-ruling (r .ns) (r .rules)) record { date = r .date; right = Letters.first-due (dateLetters ρ (r .ns) (r .cs)) (Right (r .date)) .1 (r .dated) } a b
 
-  reads : (g : ℕ) → 1 ≤ g → g ≤ 60 → groupRead ρ here (length a) g ≡ done (groupCells ρ (r .ns) (r .cs) g)
-  reads g low high = right-back .groups g (cellsIn ρ (countsAt ρ here (length a)) g) low high (rw (right-back .counts) (omega arith))
+  each : (g : ℕ) → 1 ≤ g → g ≤ 60 → GroupDone ρ here (length a) g
+  each g low high = record {
+    cells = groupCells ρ (r .ns) (r .cs) g;
+    reads = right-back .groups g (cellsIn ρ (countsAt ρ here (length a)) g) low high (rw (right-back .counts) (omega arith));
+  }
 
-  all : All ≡ groupsOf (allInTurn ρ here (length a))
-  all = sym (ap groupsOf (turn-all (groupRead ρ here (length a)) (λ g low high. record { cells = groupCells ρ (r .ns) (r .cs) g; is = reads g low high }) .is))
+  all : AllDone ρ here (length a) (cellsAt ρ here (length a))
+  all = groups-done ρ here (length a) each
 
   stands : CanonicalRecord ρ (countsAt ρ here (length a)) (part (length a) (length a + length x) here) (r .cs)
   stands = rw (right-back .counts, part-middle a x b) (r .canonical)
 
-  read : ReadWhole ρ here (length a) (length a + length x) (cellsOfGroup (groupRead ρ here (length a)))
+  read : ReadWhole ρ here (length a) (length a + length x) (all .cells)
   read = whole-read ρ here (length a) (length a + length x) (right-back .placed) all
 
   pub right-text : textAt ρ here (length a) ≡ x
-  right-text = ap (recordText ρ (countsAt ρ here (length a))) (whole-joined ρ here (length a) (length a + length x) (right-back .placed) all) ∙ written-again ρ read stands ∙ part-middle a x b
+  right-text = ap (recordText ρ (countsAt ρ here (length a))) (all .joined) ∙ written-again ρ read stands ∙ part-middle a x b
 
   pub right-rewritten : length x ≤ 8192 → programRewriting ρ here (length a) ≡ Done (length x) (length a + length x)
   right-rewritten l =
       let n : recordBytes ρ (countsAt ρ here (length a)) ≡ length x = again-bytes ρ read stands ∙ omega arith in
       first-due ρ here (length a) 8192 8192 (Done (length x) (length a + length x)) .1 record {
         roomy = record { placed = right-back .placed; text-fits = omega (arith, n); cells-fit = omega (arith, n, record-cells ρ (countsAt ρ here (length a))) };
-        groups = λ g low high. record { cells = groupCells ρ (r .ns) (r .cs) g; reads = reads g low high };
+        groups = each;
         written = n;
       }
 
@@ -117,8 +120,7 @@ rewritten-canonical ρ (suc k) s at = by (programRewriting ρ s at) refl (rewrit
     by : (r : Rewriting) → programRewriting ρ s at ≡ r → ((p : ℕ) → CanonicalRecords ρ (rewrittenFrom ρ k s p)) → CanonicalRecords ρ (textThen (textAt ρ s at) (rewrittenFrom ρ k s) r)
     by (Done bytes next) e rest =
         more (textAt ρ s at) (text-right ρ s at 8192 8192 bytes next e) (omega (arith, done-text ρ s at 8192 8192 bytes next e, done-within ρ s at 8192 8192 bytes next e)) (rest next)
-    by (Refused r) e rest = none
-    by (GroupRefused g r) e rest = none
+    by (Refused g r) e rest = none
 
 pub printed-canonical : (ρ : Rules) (s : List ℕ) → CanonicalRecords ρ (printed ρ s)
 unfolding printed rewritten

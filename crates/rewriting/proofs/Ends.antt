@@ -1,82 +1,51 @@
 -- R9: a record that the strict rule rewrites with 0 is rewritten so under each that counts alike: as many bytes, the same next place, the same
 -- text. What is canonical for one of two such rules is so for the other.
 -- Assumes nothing.
-use mathlib.Core.Path.{_≡_, refl, sym, _∙_, ap, ap₂, subst}
+use mathlib.Core.Path.{_≡_, sym, _∙_, ap, ap₂, subst}
 use mathlib.Core.List.{List}
-use mathlib.Core.Logic.{inl}
-use Prim.Native.Nat.{ℕ, zero, suc, _+_, _<_, _≤_}
+use Prim.Native.Nat.{ℕ}
 use native.Mathlib.Omega.{arith}
 use Rattle.rules.specs.declared.LineEnds.the-variants.{Strict}
 use Rattle.rules.specs.declared.Rules.{Rules}
-use Rattle.base.specs.Every
-use Rattle.base.specs.Every.{upFrom}
-use Rattle.count.specs.Tally.{cellsIn}
-use Rattle.place.specs.Numbered.{placingReply}
+use Rattle.base.specs.Pieces.{cellsGot}
 use Rattle.place.specs.Placing.{countsAt}
-use Rattle.place.specs.Walk.{PlacedAt}
-use Rattle.place.proofs.Ends.{strict-placing}
-use Rattle.reading.specs.Read.{Cells}
-use Rattle.group.specs.Text.{readAt}
-use Rattle.group.proofs.Ends.{strict-read}
+use Rattle.whole.proofs.Ends.{strict-placed, strict-counts, strict-cells, strict-group, strict-turn}
 use Rattle.writing.specs.Text.{recordText, recordBytes}
-use Rattle.count.specs.Tally.{recordCells}
-use Rattle.count.proofs.SameCounting as Counted
 use Rattle.date.specs.Due.{IsDate}
 use Rattle.writing.proofs.Ends.{canonical-record}
 use Rattle.writing.proofs.SameCounting.{record-text-same, record-bytes-same, date-letters-same}
 use Rattle.rewriting.specs.Canonical.{RightRecord, CanonicalRecords, none, more}
 use Rattle.rewriting.specs.declared.Rewriting.the-variants.{Done}
 use Rattle.rewriting.specs.Due.{RewrittenDue}
-use Rattle.rewriting.specs.Record.{groupRead, firstThen, cellsInTurn, rewritingOf, textAt}
+use Rattle.rewriting.specs.Record.{rewritingOf, textAt}
 use Rattle.rewriting.proofs.Due.{first-due}
-
--- groups that read the same have the same cells, one behind the other
-cells-same : (f h : ℕ → Cells) (a k : ℕ) → ((g : ℕ) → a ≤ g → g < a + k → f g ≡ h g) → cellsInTurn f (upFrom a k) ≡ cellsInTurn h (upFrom a k)
-unfolding cellsInTurn Every.upFrom
-cells-same f h a zero e = refl
-cells-same f h a (suc k) e = ap₂ firstThen (e a (omega arith) (omega arith)) (cells-same f h (suc a) k (λ g l m. e g (omega arith) (omega arith)))
 
 module _ (σ ρ : Rules) (only : σ .ends ≡ Strict) (alike : σ .counting ≡ ρ .counting) (s : List ℕ) (at cells room bytes next : ℕ) (done : rewritingOf σ s at cells room ≡ Done bytes next) where
   due : RewrittenDue σ s at cells room bytes next
   due = first-due σ s at cells room (Done bytes next) .0 done
 
-  placed : PlacedAt σ s at
-  placed = inl (ap (λ p. placingReply p .number) (due .roomy .placed))
-
   counts : countsAt ρ s at ≡ countsAt σ s at
-  counts = ap (λ c. c .counts-of) (strict-placing σ ρ only alike s at placed .1)
+  counts = strict-counts σ ρ only alike s at (due .roomy .placed) (due .groups)
 
   bytes-there : recordBytes ρ (countsAt ρ s at) ≡ recordBytes σ (countsAt σ s at)
   bytes-there = ap (recordBytes ρ) counts ∙ record-bytes-same ρ σ (sym alike) (countsAt σ s at)
-
-  cells-there : recordCells ρ (countsAt ρ s at) ≡ recordCells σ (countsAt σ s at)
-  cells-there = ap (recordCells ρ) counts ∙ Counted.record-cells-same ρ σ (sym alike) (countsAt σ s at)
-
-  same : (g : ℕ) → 1 ≤ g → g ≤ 60 → groupRead ρ s at g ≡ groupRead σ s at g
-  same g low high =
-      let d = due .groups g low high in
-      let ns = countsAt σ s at in
-      ap (λ ms. readAt ρ s at g (cellsIn ρ ms g)) counts
-      ∙ ap (readAt ρ s at g) (Counted.cells-same ρ σ (sym alike) ns g)
-      ∙ strict-read σ ρ only alike s at g (cellsIn σ ns g) (d .cells) (d .reads)
-      ∙ sym (d .reads)
 
   pub strict-rewriting : rewritingOf ρ s at cells room ≡ Done bytes next
   strict-rewriting =
       first-due ρ s at cells room (Done bytes next) .1 record {
         roomy =
             record {
-              placed = strict-placing σ ρ only alike s at placed .0 ∙ due .roomy .placed;
+              placed = strict-placed σ ρ only alike s at (due .roomy .placed) (due .groups);
               text-fits = omega (arith, bytes-there, due .roomy .text-fits);
-              cells-fit = omega (arith, cells-there, due .roomy .cells-fit);
+              cells-fit = omega (arith, strict-cells σ ρ only alike s at (due .roomy .placed) (due .groups), due .roomy .cells-fit);
             };
-        groups = λ g low high. let d = due .groups g low high in record { cells = d .cells; reads = same g low high ∙ d .reads };
+        groups = λ g low high. let d = due .groups g low high in record { cells = d .cells; reads = strict-group σ ρ only alike s at (due .roomy .placed) (due .groups) g low high ∙ d .reads };
         written = bytes-there ∙ due .written;
       }
 
   pub strict-text : textAt ρ s at ≡ textAt σ s at
   strict-text =
-      ap₂ (recordText ρ) counts (cells-same (groupRead ρ s at) (groupRead σ s at) 1 60 (λ g low high. same g low (omega arith)))
+      ap₂ (recordText ρ) counts (ap cellsGot (strict-turn σ ρ only alike s at (due .roomy .placed) (due .groups)))
       ∙ record-text-same ρ σ (sym alike) (countsAt σ s at) _
 
 -- what is canonical for one of two rules that count alike is so for the other: it has no line end that one of them refuses

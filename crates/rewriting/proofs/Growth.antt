@@ -6,8 +6,9 @@ use Prim.Native.Nat.{ℕ}
 use Rattle.rules.specs.declared.Rules.{Rules}
 use Rattle.group.specs.Answers.{AnswersAgree}
 use Rattle.group.proofs.Growth.{answers-stay}
+use Rattle.whole.proofs.Rests.{SameBasis}
 use Rattle.rewriting.specs.Growth.{RewrittenAsBefore, RewritingStays}
-use Rattle.rewriting.proofs.Rests.{SameBasis, same-rewriting, same-output, same-table}
+use Rattle.rewriting.proofs.Rests.{same-rewriting, same-output, same-table}
 
 module _ (ρ : Rules) (s b : List ℕ) where
   pub rewriting-stays : RewritingStays ρ s b

@@ -1,4 +1,4 @@
--- The laws of rewriting's definitions, a file to a subject: groups in turn (Turns), all of them read (Whole), and why a table as long as the
+-- The laws of rewriting's definitions, a file to a subject: a record all of whose groups read with 0 (Whole), and why a table as long as the
 -- output serves (Cells); when each answer is given (Due), by what led to it (Steps), and what it leaves (Promises); what the program prints
 -- (Printing), and that canonical text is printed as itself (Canonical); what an answer rests on (Rests), so texts whose
 -- lines have the same contents (Alike) and one that still grows (Growth); what is rewritten under the strict rule (Ends).
@@ -12,5 +12,4 @@ pub mod Printing
 pub mod Promises
 pub mod Rests
 pub mod Steps
-pub mod Turns
 pub mod Whole

@@ -9,7 +9,7 @@ use borrow.Author.Tests.{le-leb, lt-leb}
 use lib.ListN.{length}
 use Rattle.rules.specs.declared.Rules.{Rules}
 use Rattle.rewriting.specs.declared.Rewriting.{Rewriting}
-use Rattle.rewriting.specs.declared.Rewriting.the-variants.{Done, Refused, GroupRefused}
+use Rattle.rewriting.specs.declared.Rewriting.the-variants.{Done, Refused}
 use Rattle.rewriting.specs.Record.{rewritingOf, textAt}
 use Rattle.rewriting.specs.Printed.{programRewriting, textThen, rewrittenFrom, rewritten, printed, Reached, start, one-more, Stopped}
 use Rattle.rewriting.proofs.Promises.{done-within, done-further, done-inside}
@@ -27,8 +27,7 @@ module _ (ρ : Rules) (s : List ℕ) where
     where
       by : (r : Rewriting) → programRewriting ρ s at ≡ r → textThen (textAt ρ s at) (rewrittenFrom ρ k s) r ≡ []
       by (Done bytes next) e = absurd (never bytes next e)
-      by (Refused r) e = refl
-      by (GroupRefused g r) e = refl
+      by (Refused g r) e = refl
 
   -- there is no record at the text's end
   pub end-never : (at : ℕ) → length s ≤ at → (bytes next : ℕ) → programRewriting ρ s at ≡ Done bytes next → ⊥
@@ -46,8 +45,7 @@ module _ (ρ : Rules) (s : List ℕ) where
       by (Done bytes next) e more =
           let h = done-further ρ s at 8192 8192 bytes next e in
           ap (λ y. textAt ρ s at ++ y) (more next (omega arith) (omega arith))
-      by (Refused r) e more = refl
-      by (GroupRefused g r) e more = refl
+      by (Refused g r) e more = refl
 
 -- ---- a loop over the records: the texts printed before a place, and what follows from it on, are the whole
 

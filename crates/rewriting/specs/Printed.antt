@@ -8,7 +8,7 @@ use lib.Dec.{leb}
 use lib.ListN.{length}
 use Rattle.rules.specs.declared.Rules.{Rules}
 use Rattle.rewriting.specs.declared.Rewriting.{Rewriting}
-use Rattle.rewriting.specs.declared.Rewriting.the-variants.{Done, Refused, GroupRefused}
+use Rattle.rewriting.specs.declared.Rewriting.the-variants.{Done, Refused}
 use Rattle.rewriting.specs.Record.{rewritingOf, textAt}
 
 -- R347: a table of 8,192 cells always serves: no record has more cells than bytes of canonical text (R111)
@@ -18,8 +18,7 @@ programRewriting ρ s at = rewritingOf ρ s at 8192 8192
 -- R346: a record's text, and more behind it; nothing of a record that is refused, and nothing behind it
 abbrev pub textThen : List ℕ → (ℕ → List ℕ) → Rewriting → List ℕ
 textThen text more (Done n next) = text ++ more next
-textThen text more (Refused r) = []
-textThen text more (GroupRefused g r) = []
+textThen text more (Refused g r) = []
 
 module _ (ρ : Rules) where
   -- from a place on, at most so many records

@@ -19,6 +19,9 @@ use Rattle.group.specs.Text.{readAt}
 use Rattle.reading.specs.Read.{Cells, readingOf, tableBy}
 use Rattle.writing.specs.Due as WritingIs
 use Rattle.writing.specs.Writing.{outputBy}
+use Rattle.whole.specs.Due as WholeIs
+use Rattle.whole.specs.Turn.{Turn}
+use Rattle.whole.specs.Whole.{wholeRead, recordReadOf}
 use Rattle.rewriting.specs.Due as RewritingIs
 use Rattle.rewriting.specs.Record.{tableAfter, bufferBy}
 use Rattle.listing.specs.Listing.{listing, IsListing, ListingDue}
@@ -43,6 +46,7 @@ use Rattle.sao.proofs.record_group
 use Rattle.sao.proofs.record_lines_at
 use Rattle.sao.proofs.record_lines
 use Rattle.sao.proofs.record_characteristic
+use Rattle.sao.proofs.read_record
 use Rattle.sao.proofs.write_record
 use Rattle.sao.proofs.list
 use Rattle.sao.proofs.rewrite_record
@@ -118,6 +122,14 @@ record-lines-due κs (ρ, (text, (lent, (g, _)))) r v l =
 pub record-characteristic-due : Gives record_characteristic.ended record_characteristic.Reads.Learnt
     (λ κs a r v. RecordIs.ToldWithDue (a .0) (now (a .1 .0)) (carriedBy (a .1 .1 .0)) (a .1 .1 .1 .0) r)
 record-characteristic-due κs (ρ, (text, (lent, (k, _)))) r v l = as-due ρ .record-characteristic (now text) (carriedBy lent) k r .0 (sym l)
+
+-- ---- a whole record
+
+pub read-record-due : Gives read_record.ended read_record.Reads.Learnt
+    (λ κs a r v. (t : Turn) × WholeIs.Due (a .0) (now (a .1 .0)) (a .1 .1 .0) (length (now (a .1 .1 .1 .0))) t × (r ≡ recordReadOf t) × (v .1 .1 .1 .0 ≡ tableBy t (now (a .1 .1 .1 .0))))
+read-record-due κs (ρ, (text, (at, (table, _)))) r v l =
+    let t = wholeRead ρ (now text) at (length (now table)) in
+    (t, as-due ρ .whole (now text) at (length (now table)) t .0 refl, l .0, l .1)
 
 -- ---- writing, listing, rewriting
 

@@ -28,8 +28,12 @@ use Rattle.writing.proofs.Promises.{writing-numbered, refused-write-keeps, done
 use Rattle.rewriting.specs.declared.Rewriting.{Rewriting}
 use Rattle.rewriting.specs.declared.Rewriting.the-variants as R
 use Rattle.rewriting.specs.Numbered.{rewritingReply}
-use Rattle.rewriting.specs.Record.{rewritingOf, bufferBy}
-use Rattle.rewriting.proofs.Promises.{rewriting-numbered, unread-group, refused-rewriting-keeps, done-keeps-rest}
+use Rattle.rewriting.specs.Record.{rewritingOf, bufferBy, tableAfter}
+use Rattle.rewriting.proofs.Promises.{rewriting-numbered, refused-rewriting-keeps, refused-keeps-table, done-keeps-rest, done-table-keeps-rest}
+use Rattle.count.specs.Tally.{recordCells}
+use Rattle.place.specs.Placing.{countsAt}
+use Rattle.whole.specs.Whole.{wholeRead}
+use Rattle.whole.proofs.Promises.{whole-numbered, refused-record-keeps, record-keeps-rest}
 use Rattle.journal.specs.Model.{Call}
 use Rattle.journal.specs.Calls.{answerOf, usedBy, cellsAfter, journalBy}
 use Rattle.journal.specs.Plays.{replayOf, replayedOpen, replayedCells}
@@ -51,10 +55,10 @@ ends-numbered ρ =
       record-characteristic = λ s r k. WithRecord.characteristic-numbered ρ s r k;
       writing = writing-numbered ρ;
       listed = listed-numbered ρ;
+      whole = whole-numbered ρ;
       rewriting = rewriting-numbered ρ;
       call = call-numbered ρ;
       replay = replay-numbered ρ;
-      unread = unread-group ρ;
     }
 
 listing-keeps : (ρ : Rules) (s out : List ℕ) → NotDone (answerReply (listedIn (listing ρ s) (length out))) → putBytes 0 (listing ρ s) out ≡ out
@@ -113,17 +117,23 @@ list-rest ρ s out (A.Refused r) e = ap (drop (refusalReply r .written)) (listed
 rewrite-rest : (ρ : Rules) (s : List ℕ) (at cells : ℕ) (out : List ℕ) (r : Rewriting) → rewritingOf ρ s at cells (length out) ≡ r
     → drop (rewritingReply r .written) (bufferBy ρ s at r out) ≡ drop (rewritingReply r .written) out
 rewrite-rest ρ s at cells out (R.Done bytes next) e = done-keeps-rest ρ s at cells (length out) bytes next e out
-rewrite-rest ρ s at cells out (R.Refused r) e = refl
-rewrite-rest ρ s at cells out (R.GroupRefused g r) e = refl
+rewrite-rest ρ s at cells out (R.Refused g r) e = refl
+
+rewrite-table-rest : (ρ : Rules) (s : List ℕ) (at room : ℕ) (table : List ℤ) (r : Rewriting) → rewritingOf ρ s at (length table) room ≡ r
+    → drop (recordCells ρ (countsAt ρ s at)) (tableAfter ρ s at r table) ≡ drop (recordCells ρ (countsAt ρ s at)) table
+rewrite-table-rest ρ s at room table (R.Done bytes next) e = done-table-keeps-rest ρ s at (length table) room bytes next e table
+rewrite-table-rest ρ s at room table (R.Refused g r) e = refl
 
 keeps-rest : (ρ : Rules) → KeepsRest ρ
 keeps-rest ρ =
     record {
       reading = λ s at g table. read-rest (readAt ρ s at g (length table)) table;
       record-reading = λ s r g table. read-rest (readWith ρ s r g (length table)) table;
+      whole = λ s at table. record-keeps-rest (wholeRead ρ s at (length table)) table;
       writing = λ ns cs out. write-rest ρ ns cs out (writingOf ρ ns cs (length out)) refl;
       listed = λ s out. list-rest ρ s out (listedIn (listing ρ s) (length out)) refl;
       rewriting = λ s at cells out. rewrite-rest ρ s at cells out (rewritingOf ρ s at cells (length out)) refl;
+      rewriting-table = λ s at room table. rewrite-table-rest ρ s at room table (rewritingOf ρ s at (length table) room) refl;
     }
 
 pub demand-1 : (ρ : Rules) → Demand1 ρ
@@ -133,6 +143,8 @@ demand-1 ρ =
       refused-read = record {
         reading = λ s at g table. refused-read-keeps (readAt ρ s at g (length table)) table;
         record-reading = λ s r g table. refused-read-keeps (readWith ρ s r g (length table)) table;
+        whole = λ s at table. refused-record-keeps (wholeRead ρ s at (length table)) table;
+        rewriting = λ s at room table. refused-keeps-table ρ s at (rewritingOf ρ s at (length table) room) table;
       };
       refused-write = write-keeps ρ;
       refused-edit = edit-keeps ρ;

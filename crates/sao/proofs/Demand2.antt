@@ -15,6 +15,7 @@ use Rattle.group.proofs.Due as GroupDue
 use Rattle.group.proofs.Holding.{span-end}
 use Rattle.view.proofs.Due as RecordDue
 use Rattle.view.proofs.Placed.{placed-answers}
+use Rattle.reply.specs.declared.Refusal.{Refusal}
 use Rattle.reply.specs.declared.Answer.the-variants.{Done}
 use Rattle.writing.specs.Canonical.{CanonicalRecord}
 use Rattle.writing.specs.RoundTrip.{ReadsBack}
@@ -28,15 +29,19 @@ use Rattle.writing.proofs.SameCounting.{record-text-same, writing-same}
 use Rattle.listing.specs.Listing.{listing, IsListing}
 use Rattle.listing.proofs.Replies as Listed
 use Rattle.rewriting.specs.declared.Rewriting.the-variants.{Done as Rewritten}
-use Rattle.rewriting.specs.Record.{cellsAt, textAt, rewritingOf, bufferBy}
+use Rattle.whole.specs.Turn.{cellsAt}
+use Rattle.rewriting.specs.Record.{textAt, rewritingOf, bufferBy, tableAfter}
 use Rattle.rewriting.proofs.Due as RewritingDue
 use Rattle.journal.proofs.Due as JournalDue
 use Rattle.entry.proofs.Codec.{both-ways}
 use Rattle.journal.proofs.Made.{journal-is-stack, adds-field, reads-as, replay-same, goes-on}
 use Rattle.journal.proofs.Torn.{torn-calls}
 use Rattle.journal.proofs.Reopened.{reopened}
-use Rattle.rewriting.proofs.Promises.{done-all, done-writes, done-text, done-front, table-has}
-use Rattle.rewriting.proofs.Whole.{whole-read, whole-joined}
+use Rattle.rewriting.proofs.Promises.{done-all, done-writes, done-text, done-front, done-table-holds}
+use Rattle.rewriting.proofs.Whole.{whole-read}
+use Rattle.whole.proofs.Due as WholeDue
+use Rattle.whole.proofs.InTurn.{as-in-turn}
+use Rattle.whole.proofs.Promises.{done-record-holds}
 use Rattle.rewriting.proofs.Canonical.{canonical-printed, printed-canonical, printed-again}
 use Rattle.rewriting.proofs.Ends.{canonical-records-same}
 use Rattle.sao.specs.Demand2.{GivenAsDue, Rewrites, LentHolds, OneCanonical, WrittenReadsBack, Edits, Demand2}
@@ -58,6 +63,7 @@ as-due ρ =
       record-part = λ s r g. RecordDue.part-first-due ρ s r g;
       record-part-end = RecordDue.part-length ρ;
       record-characteristic = λ s r k. RecordDue.characteristic-first-due ρ s r k;
+      whole = λ s at room. WholeDue.first-due ρ s at room;
       writing = λ ns cs room. WritingDue.first-due ρ ns cs room;
       rewriting = λ s at cells room. RewritingDue.first-due ρ s at cells room;
       listed = λ s room. Listed.first-due (listing ρ s) room;
@@ -68,30 +74,32 @@ as-due ρ =
       listing-is = λ s x. (λ e. subst (IsListing ρ s) e (Listed.listing-is ρ s), λ h. sym (Listed.is-listing ρ s x h));
     }
 
-rewrites : (ρ : Rules) (s : List ℕ) (at cells : ℕ) (out : List ℕ) (bytes next : ℕ) → rewritingOf ρ s at cells (length out) ≡ Rewritten bytes next
-    → Rewrites ρ s at bytes next (bufferBy ρ s at (Rewritten bytes next) out)
-rewrites ρ s at cells out bytes next e =
+rewrites : (ρ : Rules) (s : List ℕ) (at : ℕ) (table : List ℤ) (out : List ℕ) (bytes next : ℕ) → rewritingOf ρ s at (length table) (length out) ≡ Rewritten bytes next
+    → Rewrites ρ s at bytes next (bufferBy ρ s at (Rewritten bytes next) out) (tableAfter ρ s at (Rewritten bytes next) table)
+rewrites ρ s at table out bytes next e =
+    let cells = length table in
     let placed = RewritingDue.first-due ρ s at cells (length out) (Rewritten bytes next) .0 e .roomy .placed in
     let all = done-all ρ s at cells (length out) bytes next e in
     let written = done-writes ρ s at cells (length out) bytes next e in
     record {
-      cells = _;
+      cells = all .cells;
       read = whole-read ρ s at next placed all;
       text = textAt ρ s at;
-      canonical = subst (CanonicalRecord ρ (countsAt ρ s at) (textAt ρ s at)) (whole-joined ρ s at next placed all) (done-canonical ρ (countsAt ρ s at) (cellsAt ρ s at) (length out) bytes written);
+      canonical = subst (CanonicalRecord ρ (countsAt ρ s at) (textAt ρ s at)) (all .joined) (done-canonical ρ (countsAt ρ s at) (cellsAt ρ s at) (length out) bytes written);
       long = done-text ρ s at cells (length out) bytes next e;
       front = done-front ρ s at cells (length out) bytes next e out;
+      cells-first = done-table-holds ρ s at cells (length out) bytes next e table ∙ all .joined;
     }
 
 lent-holds : (ρ : Rules) → LentHolds ρ
 lent-holds ρ =
     record {
-      reading = λ s at g table cs e. rw e (done-read-holds cs table);
-      record-reading = λ s r g table cs e. rw e (done-read-holds cs table);
+      reading = λ s at g table cs e. rw e (done-read-holds Refusal cs table);
+      record-reading = λ s r g table cs e. rw e (done-read-holds Refusal cs table);
+      whole = λ s at table cs e. rw e (done-record-holds cs table);
       writing = λ ns cs out n e. rw e (done-write-begins ρ ns cs out n e);
       listed = λ s out n e. Listed.listed-begins (listing ρ s) out n e;
-      rewriting = λ s at cells out bytes next e. rw e (rewrites ρ s at cells out bytes next e);
-      rewriting-table = λ s at room table. table-has ρ s at table (length table) room (rewritingOf ρ s at (length table) room) refl;
+      rewriting = λ s at table out bytes next e. rw e (rewrites ρ s at table out bytes next e);
     }
 
 one-canonical : (ρ : Rules) (ns : List ℕ) (cs : List ℤ) (room n : ℕ) → writingOf ρ ns cs room ≡ Done n → OneCanonical ρ ns cs n
@@ -127,6 +135,7 @@ demand-2 ρ =
       due = as-due ρ;
       lent = lent-holds ρ;
       records = record { exactly = RecordDue.bad-part-exactly ρ; decide = λ s r g f e d room. RecordDue.lines-decide ρ s r g room f e d; placed = placed-answers ρ };
+      in-turn = as-in-turn ρ;
       canonical = one-canonical ρ;
       reads-back = reads-back-ended ρ;
       edits = edits ρ;

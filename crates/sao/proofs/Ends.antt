@@ -15,6 +15,8 @@ use Rattle.reading.proofs.Ends.{strict-bad-line}
 use Rattle.group.proofs.Alike.{alike-read, alike-found, alike-given, alike-characteristic}
 use Rattle.group.proofs.Ends.{located-found, located-begins, located-lines, strict-read, strict-characteristic}
 use Rattle.writing.proofs.Ends.{canonical-same}
+use Rattle.whole.proofs.Alike.{alike-whole}
+use Rattle.whole.proofs.Ends.{strict-whole}
 use Rattle.rewriting.proofs.Alike.{alike-rewriting, alike-text, alike-printed}
 use Rattle.rewriting.proofs.Canonical.{right-back}
 use Rattle.journal.proofs.SameCounting.{answer-same, left-same, replay-answer-same, replay-left-same}
@@ -35,6 +37,7 @@ strict-stays-so ρ =
       spots = strict-spot σ ρ refl refl;
       reading = λ s at. strict-read σ ρ refl refl s at;
       characteristic = λ s at. strict-characteristic σ ρ refl refl s at;
+      whole = strict-whole σ ρ refl refl;
       rewriting = strict-rewriting σ ρ refl refl;
       text = strict-text σ ρ refl refl;
     }
@@ -60,6 +63,7 @@ line-ends ρ = record {
         placing = alike-placing ρ s p t q h;
         counts = alike-counts ρ s p t q h;
         reading = alike-read ρ s p t q h;
+        whole = alike-whole ρ s p t q h;
         lines = alike-found ρ s p t q h;
         part = alike-given ρ s p t q h;
         characteristic = alike-characteristic ρ s p t q h;

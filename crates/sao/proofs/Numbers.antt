@@ -37,12 +37,12 @@ answers-told =
         not-reported = refl;
         characteristic-refused = λ r. refl;
       };
+      whole = record { read = λ n. (refl, refl); refused = λ g r. (refl, refl) };
       text = record {
         written = λ n. refl;
         write-refused = λ r. refl;
         rewritten = λ n p. (refl, refl);
-        rewrite-refused = λ r. (refl, refl);
-        group-refused = λ g r. (refl, refl);
+        rewrite-refused = λ g r. (refl, refl);
       };
       journal = record { call = λ k. refl; call-refused = λ r. refl };
     }

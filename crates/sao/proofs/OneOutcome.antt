@@ -23,6 +23,7 @@ use Rattle.sao.proofs.record_group
 use Rattle.sao.proofs.record_lines_at
 use Rattle.sao.proofs.record_lines
 use Rattle.sao.proofs.record_characteristic
+use Rattle.sao.proofs.read_record
 use Rattle.sao.proofs.write_record
 use Rattle.sao.proofs.list
 use Rattle.sao.proofs.rewrite_record
@@ -73,6 +74,13 @@ record-lines-one κs a r q v w l k = ((l .0 ∙ sym (k .0), l .1 ∙ sym (k .1))
 
 pub record-characteristic-one : OneOutcome record_characteristic.ended record_characteristic.Reads.Learnt
 record-characteristic-one κs a r q v w l k = (l ∙ sym k, λ i. (tt, (tt, (tt, (tt, tt)))))
+
+-- ---- a whole record
+
+pub read-record-one : OneOutcome read_record.ended read_record.Reads.Learnt
+read-record-one κs a r q v w l k =
+    let table = l .1 ∙ sym (k .1) in
+    (l .0 ∙ sym (k .0), λ i. (tt, (tt, (tt, (table i, tt)))))
 
 -- ---- writing, listing, rewriting
 

@@ -14,11 +14,11 @@ use Rattle.rules.specs.declared.Rules.{Rules}
 use Rattle.reply.specs.declared.Reply.{Reply}
 use Rattle.reply.specs.Table.{Numbered}
 use Rattle.decimal.specs.Writing.{putBytes}
-use Rattle.place.specs.Placing.{placingOf, Carried}
+use Rattle.count.specs.Tally.{recordCells}
+use Rattle.place.specs.Placing.{placingOf, countsAt, Carried}
 use Rattle.place.specs.Numbered.{placingReply, placingRows}
 use Rattle.reading.specs.Read.{readingOf, tableBy}
 use Rattle.reading.specs.Numbered.{readingRows}
-use Rattle.reply.specs.declared.Refusal.{Refusal}
 use Rattle.reply.specs.Refusals.{checkedReply, answerReply}
 use Rattle.group.specs.Text.{readAt}
 use Rattle.group.specs.Held.{foundAt}
@@ -30,9 +30,10 @@ use Rattle.listing.specs.Listing.{listing, listedIn}
 use Rattle.listing.specs.Numbered.{listingRows}
 use Rattle.writing.specs.Writing.{writingOf, outputBy}
 use Rattle.writing.specs.Numbered.{writingRows}
-use Rattle.rewriting.specs.Record.{rewritingOf, bufferBy}
-use Rattle.rewriting.specs.declared.Rewriting.the-variants.{GroupRefused}
-use Rattle.rewriting.specs.Numbered.{rewritingReply, rewritingRows}
+use Rattle.whole.specs.Numbered.{recordReply, groupTold, NumberedWith, wholeRow}
+use Rattle.whole.specs.Whole.{wholeRead, recordReadOf}
+use Rattle.rewriting.specs.Record.{rewritingOf, bufferBy, tableAfter}
+use Rattle.rewriting.specs.Numbered.{rewritingReply, rewritingGroup, rewritingRow}
 use Rattle.journal.specs.Model.{Call}
 use Rattle.journal.specs.Calls.{answerOf, usedBy, cellsAfter, journalBy}
 use Rattle.journal.specs.Plays.{replayOf, replayedOpen, replayedCells}
@@ -58,18 +59,22 @@ module _ (ρ : Rules) where
     pub record-characteristic : (s : List ℕ) (r : Carried) (k : ℕ) → Numbered toldRows (characteristicReply (characteristicWith ρ s r k))
     pub writing : (ns : List ℕ) (cs : List ℤ) (room : ℕ) → Numbered writingRows (answerReply (writingOf ρ ns cs room))
     pub listed : (s : List ℕ) (room : ℕ) → Numbered listingRows (answerReply (listedIn (listing ρ s) room))
-    pub rewriting : (s : List ℕ) (at cells room : ℕ) → Numbered rewritingRows (rewritingReply (rewritingOf ρ s at cells room))
+    -- R272, R323: and the group that is told apart from the reply, one of 1 to 60 beside 8, 9 and 10, 0 beside all others
+    pub whole : (s : List ℕ) (at room : ℕ) → NumberedWith wholeRow (groupTold (recordReadOf (wholeRead ρ s at room))) (recordReply (recordReadOf (wholeRead ρ s at room)))
+    pub rewriting : (s : List ℕ) (at cells room : ℕ) → NumberedWith rewritingRow (rewritingGroup (rewritingOf ρ s at cells room)) (rewritingReply (rewritingOf ρ s at cells room))
     -- R550, R540: the calls of the edit journal, and a replay
     pub call : (ns j : List ℕ) (used cells : ℕ) (c : Call) → Numbered (callRows c) (editReply (answerOf ρ ns j used cells c))
     pub replay : (ns j : List ℕ) (used : ℕ) (cs : List ℤ) → Numbered replayRows (checkedReply (replayOf ρ ns j used cs))
-    -- R323: the group that rewriting tells apart from the reply is one of 1 to 60
-    pub unread : (s : List ℕ) (at cells room g : ℕ) (r : Refusal) → rewritingOf ρ s at cells room ≡ GroupRefused g r → (1 ≤ g) × (g ≤ 60)
 
-  -- D1.4: after a refused read the table is what it was (R267), by place or with a record
+  -- D1.4: after a refused read the table is what it was: a group, by place or with a record (R267); a whole record (R276), also for rewriting it
+  -- (R326)
   pub record RefusedReadKeeps : Type 0 where
     pub reading : (s : List ℕ) (at g : ℕ) (table : List ℤ) → NotDone (answerReply (readingOf (readAt ρ s at g (length table)))) → tableBy (readAt ρ s at g (length table)) table ≡ table
     pub record-reading : (s : List ℕ) (r : Carried) (g : ℕ) (table : List ℤ) → NotDone (answerReply (readingOf (readWith ρ s r g (length table))))
         → tableBy (readWith ρ s r g (length table)) table ≡ table
+    pub whole : (s : List ℕ) (at : ℕ) (table : List ℤ) → NotDone (recordReply (recordReadOf (wholeRead ρ s at (length table)))) → tableBy (wholeRead ρ s at (length table)) table ≡ table
+    pub rewriting : (s : List ℕ) (at room : ℕ) (table : List ℤ) → NotDone (rewritingReply (rewritingOf ρ s at (length table) room))
+        → tableAfter ρ s at (rewritingOf ρ s at (length table) room) table ≡ table
 
   -- D1.5: after a refused write the output is what it was: writing a record (R307), listing a text (R311), rewriting a record (R325)
   pub record RefusedWriteKeeps : Type 0 where
@@ -93,7 +98,7 @@ module _ (ρ : Rules) where
         → NotDone (checkedReply (replayOf ρ ns j used cs))
         → (replayedCells ρ ns j used cs (replayOf ρ ns j used cs) ≡ cs) × (replayedOpen ρ ns j used cs (replayOf ρ ns j used cs) ≡ 0)
 
-  -- R266, R306, R311, R324: what stands behind the cells or bytes that were written stays as it was
+  -- R266, R275, R306, R311, R324: what stands behind the cells or bytes that were written stays as it was
   pub record KeepsRest : Type 0 where
     pub reading : (s : List ℕ) (at g : ℕ) (table : List ℤ)
         → drop (answerReply (readingOf (readAt ρ s at g (length table))) .written) (tableBy (readAt ρ s at g (length table)) table)
@@ -101,6 +106,9 @@ module _ (ρ : Rules) where
     pub record-reading : (s : List ℕ) (r : Carried) (g : ℕ) (table : List ℤ)
         → drop (answerReply (readingOf (readWith ρ s r g (length table))) .written) (tableBy (readWith ρ s r g (length table)) table)
         ≡ drop (answerReply (readingOf (readWith ρ s r g (length table))) .written) table
+    pub whole : (s : List ℕ) (at : ℕ) (table : List ℤ)
+        → drop (recordReply (recordReadOf (wholeRead ρ s at (length table))) .written) (tableBy (wholeRead ρ s at (length table)) table)
+        ≡ drop (recordReply (recordReadOf (wholeRead ρ s at (length table))) .written) table
     pub writing : (ns : List ℕ) (cs : List ℤ) (out : List ℕ)
         → drop (answerReply (writingOf ρ ns cs (length out)) .written) (outputBy ρ ns cs (writingOf ρ ns cs (length out)) out)
         ≡ drop (answerReply (writingOf ρ ns cs (length out)) .written) out
@@ -110,6 +118,9 @@ module _ (ρ : Rules) where
     pub rewriting : (s : List ℕ) (at cells : ℕ) (out : List ℕ)
         → drop (rewritingReply (rewritingOf ρ s at cells (length out)) .written) (bufferBy ρ s at (rewritingOf ρ s at cells (length out)) out)
         ≡ drop (rewritingReply (rewritingOf ρ s at cells (length out)) .written) out
+    -- behind the record's cells, of which rewriting's reply has no number
+    pub rewriting-table : (s : List ℕ) (at room : ℕ) (table : List ℤ)
+        → drop (recordCells ρ (countsAt ρ s at)) (tableAfter ρ s at (rewritingOf ρ s at (length table) room) table) ≡ drop (recordCells ρ (countsAt ρ s at)) table
 
   pub record Demand1 : Type 0 where
     pub numbered : EndsNumbered

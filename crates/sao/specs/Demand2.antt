@@ -39,6 +39,7 @@ use Rattle.writing.specs.Writing.{writingOf, outputBy}
 use Rattle.writing.specs.Due as WritingIs
 use Rattle.reply.specs.declared.Checked.the-variants.{Right}
 use Rattle.count.specs.Due.{HasCells}
+use Rattle.count.specs.Tally.{recordCells}
 use Rattle.entry.specs.Bytes.{AllBytes}
 use Rattle.entry.specs.Codec.{BothWays}
 use Rattle.journal.specs.Model.{Call}
@@ -52,9 +53,12 @@ use Rattle.rewriting.specs.declared.Rewriting.{Rewriting}
 use Rattle.rewriting.specs.declared.Rewriting.the-variants.{Done as Rewritten}
 use Rattle.rewriting.specs.Canonical.{CanonicalRecords}
 use Rattle.rewriting.specs.Due as RewritingIs
-use Rattle.rewriting.specs.Due.{TableHas, groupsRead}
 use Rattle.rewriting.specs.Printed.{printed}
 use Rattle.rewriting.specs.Record.{rewritingOf, bufferBy, tableAfter}
+use Rattle.whole.specs.Due as WholeIs
+use Rattle.whole.specs.InTurn.{AsInTurn}
+use Rattle.whole.specs.Turn.{Turn}
+use Rattle.whole.specs.Whole.{wholeRead}
 
 module _ (ρ : Rules) where
   -- D2.1, D2.2: every answer is given exactly if it is due. Where a Due cites another answer (the placing, the counts, what a group reads as),
@@ -81,6 +85,8 @@ module _ (ρ : Rules) where
     pub record-part : (s : List ℕ) (r : Carried) (g from : ℕ) (x : List ℕ) → ((startWith ρ s r g ≡ from) × (partWith ρ s r g ≡ x)) ↔ RecordIs.PartWithDue ρ s r g from x
     pub record-part-end : (s : List ℕ) (r : Carried) (g : ℕ) → endWith ρ s r g ≡ startWith ρ s r g + length (partWith ρ s r g)
     pub record-characteristic : (s : List ℕ) (r : Carried) (k : ℕ) (c : Characteristic) → characteristicWith ρ s r k ≡ c ↔ RecordIs.ToldWithDue ρ s r k c
+    -- R272: a whole record: its cells, or the refusal with the group that was being read
+    pub whole : (s : List ℕ) (at room : ℕ) (t : Turn) → wholeRead ρ s at room ≡ t ↔ WholeIs.Due ρ s at room t
     pub writing : (ns : List ℕ) (cs : List ℤ) (room : ℕ) (r : Answer) → writingOf ρ ns cs room ≡ r ↔ WritingIs.Due ρ ns cs room r
     pub rewriting : (s : List ℕ) (at cells room : ℕ) (r : Rewriting) → rewritingOf ρ s at cells room ≡ r ↔ RewritingIs.Due ρ s at cells room r
     pub listed : (s : List ℕ) (room : ℕ) (r : Answer) → listedIn (listing ρ s) room ≡ r ↔ ListingDue (listing ρ s) room r
@@ -93,27 +99,26 @@ module _ (ρ : Rules) where
     pub replay-left : (ns j : List ℕ) (used : ℕ) (cs : List ℤ) (a : Checked) (cs′ : List ℤ) (d : ℕ) → replayOf ρ ns j used cs ≡ a
         → ((replayedCells ρ ns j used cs a ≡ cs′) × (replayedOpen ρ ns j used cs a ≡ d)) ↔ JournalIs.ReplayLeftDue ρ ns j used cs a cs′ d
 
-  -- what rewriting's output holds under 0: the canonical text of the counts and of what every group read as
-  pub record Rewrites (s : List ℕ) (at bytes next : ℕ) (buffer : List ℕ) : Type 0 where
+  -- what rewriting leaves under 0: in the output the canonical text of the counts and of what every group read as, in the table these cells
+  pub record Rewrites (s : List ℕ) (at bytes next : ℕ) (buffer : List ℕ) (table : List ℤ) : Type 0 where
     pub cells : ℕ → List ℤ
     pub read : ReadWhole ρ s at next cells
     pub text : List ℕ
     pub canonical : CanonicalRecord ρ (countsAt ρ s at) text (joined cells)
     pub long : length text ≡ bytes
     pub front : take bytes buffer ≡ text
+    pub cells-first : take (recordCells ρ (countsAt ρ s at)) table ≡ joined cells
 
-  -- R266, R306, R311, R324: what is lent holds what the answer says: under 0 the table's first cells are the cells read, and the output's first
+  -- R266, R275, R306, R311, R324: what is lent holds what the answer says: under 0 the table's first cells are the cells read, and the output's first
   -- bytes the text
   pub record LentHolds : Type 0 where
     pub reading : (s : List ℕ) (at g : ℕ) (table cs : List ℤ) → readAt ρ s at g (length table) ≡ done cs → take (length cs) (tableBy (readAt ρ s at g (length table)) table) ≡ cs
     pub record-reading : (s : List ℕ) (r : Carried) (g : ℕ) (table cs : List ℤ) → readWith ρ s r g (length table) ≡ done cs → take (length cs) (tableBy (readWith ρ s r g (length table)) table) ≡ cs
+    pub whole : (s : List ℕ) (at : ℕ) (table cs : List ℤ) → wholeRead ρ s at (length table) ≡ done cs → take (length cs) (tableBy (wholeRead ρ s at (length table)) table) ≡ cs
     pub writing : (ns : List ℕ) (cs : List ℤ) (out : List ℕ) (n : ℕ) → writingOf ρ ns cs (length out) ≡ Done n → take n (outputBy ρ ns cs (writingOf ρ ns cs (length out)) out) ≡ recordText ρ ns cs
     pub listed : (s out : List ℕ) (n : ℕ) → listedIn (listing ρ s) (length out) ≡ Done n → take n (putBytes 0 (listing ρ s) out) ≡ listing ρ s
-    pub rewriting : (s : List ℕ) (at cells : ℕ) (out : List ℕ) (bytes next : ℕ) → rewritingOf ρ s at cells (length out) ≡ Rewritten bytes next
-        → Rewrites s at bytes next (bufferBy ρ s at (rewritingOf ρ s at cells (length out)) out)
-    -- R326: rewriting's table begins with the cells of the groups that were read, also where a later group was refused, and is as it was behind them
-    pub rewriting-table : (s : List ℕ) (at room : ℕ) (table : List ℤ)
-        → TableHas ρ s at (groupsRead (rewritingOf ρ s at (length table) room)) table (tableAfter ρ s at (rewritingOf ρ s at (length table) room) table)
+    pub rewriting : (s : List ℕ) (at : ℕ) (table : List ℤ) (out : List ℕ) (bytes next : ℕ) → rewritingOf ρ s at (length table) (length out) ≡ Rewritten bytes next
+        → Rewrites s at bytes next (bufferBy ρ s at (rewritingOf ρ s at (length table) (length out)) out) (tableAfter ρ s at (rewritingOf ρ s at (length table) (length out)) table)
 
   -- R286 to R288: what a record's part decides
   pub record RecordAnswers : Type 0 where
@@ -182,6 +187,8 @@ module _ (ρ : Rules) where
     pub due : GivenAsDue
     pub lent : LentHolds
     pub records : RecordAnswers
+    -- R274: one call for a whole record is equal to asking for its groups in turn
+    pub in-turn : (s : List ℕ) (at : ℕ) → AsInTurn ρ s at
     pub canonical : WritesCanonical
     pub reads-back : WrittenReadsBack
     pub read-writes : ReadWrites

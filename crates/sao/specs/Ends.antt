@@ -39,6 +39,7 @@ use Rattle.journal.specs.Plays.{replayOf, replayedCells, replayedOpen}
 use Rattle.journal.specs.Runs.{Kept, answerTo, leftBy}
 use Rattle.writing.specs.RoundTrip.{ReadsBack}
 use Rattle.writing.specs.Writing.{writingOf, outputBy}
+use Rattle.whole.specs.Whole.{wholeRead}
 use Rattle.rewriting.specs.declared.Rewriting.the-variants.{Done}
 use Rattle.rewriting.specs.Alike.{SameRewriting}
 use Rattle.rewriting.specs.Canonical.{RightRecord}
@@ -82,6 +83,8 @@ pub record StrictStays (σ ρ : Rules) : Type 0 where
   pub reading : (s : List ℕ) (at g room : ℕ) (cs : List ℤ) → readAt σ s at g room ≡ done cs → readAt ρ s at g room ≡ done cs
   -- a characteristic that is not refused
   pub characteristic : (s : List ℕ) (at k : ℕ) → ((r : Refusal) → characteristicAt σ s at k ≡ Refused r → ⊥) → characteristicAt ρ s at k ≡ characteristicAt σ s at k
+  -- reply 0 of a whole record with its cells
+  pub whole : (s : List ℕ) (at room : ℕ) (cs : List ℤ) → wholeRead σ s at room ≡ done cs → wholeRead ρ s at room ≡ done cs
   -- reply 0 of rewriting with its numbers, and its text
   pub rewriting : (s : List ℕ) (at cells room bytes next : ℕ) → rewritingOf σ s at cells room ≡ Done bytes next → rewritingOf ρ s at cells room ≡ Done bytes next
   pub text : (s : List ℕ) (at cells room bytes next : ℕ) → rewritingOf σ s at cells room ≡ Done bytes next → textAt ρ s at ≡ textAt σ s at
@@ -93,6 +96,8 @@ pub record AnsweredAlike (ρ : Rules) (s : List ℕ) (p : ℕ) (t : List ℕ) (q
   pub counts : countsAt ρ s p ≡ countsAt ρ t q
   -- every group: the cells, or the refusal with its numbers
   pub reading : (g room : ℕ) → readAt ρ s p g room ≡ readAt ρ t q g room
+  -- the whole record
+  pub whole : (room : ℕ) → wholeRead ρ s p room ≡ wholeRead ρ t q room
   -- its lines, which have the same contents
   pub lines : (g : ℕ) → foundAt ρ s p g ≡ foundAt ρ t q g
   pub part : (g : ℕ) → Alike ρ (partAt ρ s p g) (partAt ρ t q g)

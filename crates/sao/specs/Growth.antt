@@ -8,6 +8,7 @@ use Rattle.place.specs.Growth.{GrowthKeeps}
 use Rattle.place.specs.Walk.{PlacedAt}
 use Rattle.group.specs.Growth.{GroupsStay}
 use Rattle.view.specs.Placed.{GrowthKept}
+use Rattle.whole.specs.Kept.{GrowthKeepsWhole}
 use Rattle.rewriting.specs.Growth.{RewritingStays}
 
 pub record Growth (ρ : Rules) : Type 0 where
@@ -17,5 +18,7 @@ pub record Growth (ρ : Rules) : Type 0 where
   pub groups : (s b : List ℕ) → GroupsStay ρ s b
   -- a record that was placed serves as before
   pub records : (s b : List ℕ) (at : ℕ) → PlacedAt ρ s at → GrowthKept ρ s b at
+  -- whole records, there: the cells, or the refusal with its numbers
+  pub whole : (s b : List ℕ) → GrowthKeepsWhole ρ s b
   -- and rewriting, there: its answer, and what it leaves in the output and in the table
   pub rewriting : (s b : List ℕ) → RewritingStays ρ s b

@@ -18,6 +18,8 @@ use Rattle.place.specs.Numbered.{placingReply}
 use Rattle.reading.specs.Read.{readingOf}
 use Rattle.group.specs.declared.Characteristic.the-variants.{Value, NoReading, NotReported, Refused}
 use Rattle.group.specs.Numbered.{characteristicReply}
+use Rattle.whole.specs.declared.RecordRead.the-variants as W
+use Rattle.whole.specs.Numbered.{recordReply, groupTold}
 use Rattle.rewriting.specs.declared.Rewriting.the-variants as R
 use Rattle.journal.specs.Numbered.{editReply}
 use Rattle.rewriting.specs.Numbered.{rewritingReply, rewritingGroup}
@@ -75,13 +77,17 @@ pub record GroupTold : Type 0 where
   pub not-reported : characteristicReply NotReported ≡ figures 0 0 0 0 0 0 0 0 0
   pub characteristic-refused : (r : Refusal) → characteristicReply (Refused r) ≡ refusalReply r
 
--- R300, R310: writing and listing; R323: and rewriting, with the group that was not read apart
+-- R272: a whole record, with the group that was being read apart
+pub record WholeTold : Type 0 where
+  pub read : (n : ℕ) → (recordReply (W.Done n) ≡ figures 0 0 n 0 0 0 0 0 0) × (groupTold (W.Done n) ≡ 0)
+  pub refused : (g : ℕ) (r : Refusal) → (recordReply (W.Refused g r) ≡ refusalReply r) × (groupTold (W.Refused g r) ≡ g)
+
+-- R300, R310: writing and listing; R323: and rewriting, with the group that was being read apart
 pub record TextTold : Type 0 where
   pub written : (n : ℕ) → answerReply (A.Done n) ≡ figures 0 0 n 0 0 0 0 0 0
   pub write-refused : (r : Refusal) → answerReply (A.Refused r) ≡ refusalReply r
   pub rewritten : (n p : ℕ) → (rewritingReply (R.Done n p) ≡ figures 0 p n 0 0 0 0 0 0) × (rewritingGroup (R.Done n p) ≡ 0)
-  pub rewrite-refused : (r : Refusal) → (rewritingReply (R.Refused r) ≡ refusalReply r) × (rewritingGroup (R.Refused r) ≡ 0)
-  pub group-refused : (g : ℕ) (r : Refusal) → (rewritingReply (R.GroupRefused g r) ≡ refusalReply r) × (rewritingGroup (R.GroupRefused g r) ≡ g)
+  pub rewrite-refused : (g : ℕ) (r : Refusal) → (rewritingReply (R.Refused g r) ≡ refusalReply r) × (rewritingGroup (R.Refused g r) ≡ g)
 
 -- R516, R540: the calls of the edit journal, of which an open has the savepoint's number; the bytes used, and a replay's open savepoints, are
 -- told apart
@@ -93,5 +99,6 @@ pub record AnswersTold : Type 0 where
   pub refusals : RefusalTold
   pub placing : PlacingTold
   pub group : GroupTold
+  pub whole : WholeTold
   pub text : TextTold
   pub journal : JournalTold

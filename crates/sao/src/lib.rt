@@ -8,6 +8,7 @@ use journal::Replayed;
 use place::Record;
 use reply::Answer;
 use rewriting::Rewriting;
+use whole::RecordRead;
 ghost use mathlib.Core.Path.{_≡_};
 ghost use lib.ListN.{length};
 ghost use Rattle.decimal.specs.Writing.{putBytes};
@@ -17,6 +18,7 @@ ghost use Rattle.group.specs.Text.{readAt};
 ghost use Rattle.group.specs.Held.{foundAt, partStart, partEnd, partAt, moved};
 ghost use Rattle.group.specs.Characteristics.{characteristicAt};
 ghost use Rattle.view.specs.With.{foundWith, startWith, endWith, partWith, readWith, characteristicWith};
+ghost use Rattle.whole.specs.Whole.{wholeRead, recordReadOf};
 ghost use Rattle.writing.specs.Writing.{writingOf, outputBy};
 ghost use Rattle.rewriting.specs.Record.{rewritingOf, tableAfter, bufferBy};
 ghost use Rattle.journal.specs.Model.{Sets, Opens, Releases, Undoes};
@@ -141,6 +143,19 @@ pub fn record_characteristic(
     view::characteristic_by(rules, text, lent, number)
 }
 
+// R271 to R277. Asked: the cells of all groups of the record at a place.
+// Answered: 0 with the number of cells, those of groups 1 to 60 one behind the other, which stand in the table from its
+// first cell on; what stands behind them is kept. A refusal has the number of the group that was being read, 0 where
+// none was, and leaves the whole table as it was.
+pub fn read_record(rules: rules::Rules, text: &[u8], at: usize, table: &mut [i64]) -> RecordRead
+    ensures answer { λ r. ⌜ r ≡
+        recordReadOf (wholeRead rules (now (text .entry)) at (length (now (table .entry)))) ⌝ }
+    ensures table { λ _. ⌜ now (table .exit) ≡
+        tableBy (wholeRead rules (now (text .entry)) at (length (now (table .entry)))) (now (table .entry)) ⌝ }
+{
+    whole::read_record(rules, text, at, table)
+}
+
 // R300 to R307. Asked: to write a record of these counts and of the cells of all groups, group 1's first.
 // Answered: 0 with the number of bytes, which stand in the output from its first byte on; what stands behind them is
 // kept. A refusal leaves the whole output as it was.
@@ -166,7 +181,8 @@ pub fn list(rules: rules::Rules, text: &[u8], out: &mut [u8]) -> Answer
 // R320 to R326. Asked: to rewrite the record at a place as canonical text.
 // Answered: 0 with the number of bytes and the next place; the bytes stand in the output from its first byte on, the
 // record's cells in the table from its first cell on, and what stands behind them is kept.
-// A refusal leaves the whole output as it was; the table has the cells of the groups that were read before it.
+// A refusal has the number of the group that was being read, 0 where none was, and leaves the whole output and the whole
+// table as they were.
 pub fn rewrite_record(
     rules: rules::Rules,
     text: &[u8],

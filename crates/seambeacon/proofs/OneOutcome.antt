@@ -12,6 +12,7 @@ use Rattle.seambeacon.proofs.seambeacon_record_lines_apart as record-li
 use Rattle.seambeacon.proofs.seambeacon_record_characteristic_apart as record-characteristic
 use Rattle.seambeacon.proofs.seambeacon_write_record as write-record
 use Rattle.seambeacon.proofs.seambeacon_list as list
+use Rattle.seambeacon.proofs.seambeacon_read_record as read-record
 use Rattle.seambeacon.proofs.seambeacon_rewrite_record as rewrite-record
 use Rattle.seambeacon.proofs.seambeacon_set_cell as set-cell
 use Rattle.seambeacon.proofs.seambeacon_open_savepoint as open-savepoint
@@ -66,6 +67,15 @@ record-characteristic-one κs a n m v w l k =
     let kind = l .1 .0 ∙ sym (k .1 .0) in
     let value = l .1 .1 ∙ sym (k .1 .1) in
     (l .0 .number ∙ sym (k .0 .number), λ i. (tt, (tt, (tt, (tt, (tt, (tt, (kind i, (value i, (beside i, tt))))))))))
+
+-- ---- a whole record
+
+pub read-record-one : OneOutcome read-record.ended read-record.Reads.Learnt
+read-record-one κs a n m v w l k =
+    let beside = l .0 .besides ∙ sym (k .0 .besides) in
+    let unread = l .1 .0 ∙ sym (k .1 .0) in
+    let table = l .1 .1 ∙ sym (k .1 .1) in
+    (l .0 .number ∙ sym (k .0 .number), λ i. (tt, (tt, (tt, (table i, (unread i, (beside i, tt)))))))
 
 -- ---- writing, listing, rewriting
 

@@ -14,6 +14,8 @@ use Rattle.group.specs.Held.{foundAt}
 use Rattle.group.specs.Characteristics.{characteristicAt}
 use Rattle.group.specs.Numbered.{characteristicReply}
 use Rattle.view.specs.With.{foundWith, readWith, characteristicWith}
+use Rattle.whole.specs.Numbered.{recordReply}
+use Rattle.whole.specs.Whole.{wholeRead, recordReadOf}
 use Rattle.writing.specs.Writing.{writingOf}
 use Rattle.rewriting.specs.Record.{rewritingOf}
 use Rattle.rewriting.specs.Numbered.{rewritingReply}
@@ -44,6 +46,10 @@ recordLinesReply ρ s r g = checkedReply (foundWith ρ s r g)
 
 abbrev pub recordCharacteristicReply : Rules → List ℕ → Carried → ℕ → Reply
 recordCharacteristicReply ρ s r k = characteristicReply (characteristicWith ρ s r k)
+
+-- the whole record, into a table of so many cells
+abbrev pub wholeReply : Rules → List ℕ → ℕ → ℕ → Reply
+wholeReply ρ s at cells = recordReply (recordReadOf (wholeRead ρ s at cells))
 
 -- into an output of so many bytes
 abbrev pub writeReply : Rules → List ℕ → List ℤ → ℕ → Reply

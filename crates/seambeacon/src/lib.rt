@@ -12,7 +12,7 @@ ghost use Rattle.seambeacon.specs.Flags.{flagged};
 ghost use Rattle.seambeacon.specs.Numbers.{Told, answerKind, answerValue};
 ghost use Rattle.seambeacon.specs.Replies.{placeReply, readReply, linesReply, characteristicReplyAt, writeReply};
 ghost use Rattle.seambeacon.specs.Replies.{recordGroupReply, recordLinesReply, recordCharacteristicReply};
-ghost use Rattle.seambeacon.specs.Replies.{listReply, rewriteReply, callAnswer};
+ghost use Rattle.seambeacon.specs.Replies.{wholeReply, listReply, rewriteReply, callAnswer};
 ghost use Rattle.decimal.specs.Writing.{putBytes};
 ghost use Rattle.place.specs.Placing.{countsAt, startsAt, endsAt, carried};
 ghost use Rattle.reading.specs.Read.{tableBy};
@@ -20,6 +20,8 @@ ghost use Rattle.group.specs.Text.{readAt};
 ghost use Rattle.group.specs.Held.{partStart, partAt};
 ghost use Rattle.group.specs.Characteristics.{characteristicAt};
 ghost use Rattle.view.specs.With.{startWith, partWith, readWith, characteristicWith};
+ghost use Rattle.whole.specs.Numbered.{groupTold};
+ghost use Rattle.whole.specs.Whole.{wholeRead, recordReadOf};
 ghost use Rattle.writing.specs.Writing.{writingOf, outputBy};
 ghost use Rattle.rewriting.specs.Record.{rewritingOf, tableAfter, bufferBy};
 ghost use Rattle.rewriting.specs.Numbered.{rewritingGroup};
@@ -272,6 +274,31 @@ pub extern "C" fn seambeacon_record_characteristic_apart(
     tell(group::reply_of(known), beside)
 }
 
+// R271 to R277, R363. Asked: the cells of all groups of the record at a place.
+// Answered: 0 with the number of cells, those of groups 1 to 60 one behind the other, which stand in the table from its
+// first cell on; what stands behind them is kept. The group that was being read, 0 where none was, is given apart.
+// A refusal leaves the whole table as it was.
+#[no_mangle]
+pub extern "C" fn seambeacon_read_record(
+    rules: u32,
+    text: &[u8],
+    at: usize,
+    table: &mut [i64],
+    unread: &mut [usize; 1],
+    beside: &mut [usize; 8],
+) -> u32
+    ensures reply { λ n. ⌜ Told (wholeReply (flagged rules) (now (text .entry)) at (length (now (table .entry)))) n
+        (now (beside .exit)) ⌝ }
+    ensures unread { λ _. ⌜ now (unread .exit) ≡
+        groupTold (recordReadOf (wholeRead (flagged rules) (now (text .entry)) at (length (now (table .entry))))) ∷ [] ⌝ }
+    ensures table { λ _. ⌜ now (table .exit) ≡
+        tableBy (wholeRead (flagged rules) (now (text .entry)) at (length (now (table .entry)))) (now (table .entry)) ⌝ }
+{
+    let answer = sao::read_record(rules_of(rules), text, at, table);
+    *unread = [whole::group_of(answer)];
+    tell(whole::reply_of(answer), beside)
+}
+
 // R300 to R307. Asked: to write a record of these counts and of the cells of all groups, group 1's first.
 // Answered: 0 with the number of bytes, which stand in the output from its first byte on; what stands behind them is
 // kept. A refusal leaves the whole output as it was.
@@ -316,9 +343,9 @@ pub extern "C" fn seambeacon_list(
 
 // R320 to R326, R363. Asked: to rewrite the record at a place as canonical text.
 // Answered: 0 with the number of bytes and the next place; the bytes stand in the output from its first byte on, the
-// record's cells in the table from its first cell on, and what stands behind them is kept. The group that was not read,
-// or 0, is given apart: a reply's own group is the blamed one.
-// A refusal leaves the whole output as it was; the table has the cells of the groups that were read before it.
+// record's cells in the table from its first cell on, and what stands behind them is kept. The group that was being
+// read, 0 where none was, is given apart: a reply's own group is the blamed one.
+// A refusal leaves the whole output and the whole table as they were.
 #[no_mangle]
 pub extern "C" fn seambeacon_rewrite_record(
     rules: u32,

@@ -30,7 +30,6 @@ use Rattle.place.proofs.Placed.{IsLocated, located-is, located-range, located-l
 use Rattle.place.proofs.Zero.{IsPlaced, is-placed}
 use Rattle.reading.specs.Blanks.{mayBeShort}
 use Rattle.reading.specs.Read.{Cells}
-use Rattle.reading.proofs.Sizes.{group-size}
 use Rattle.writing.specs.declared.Fit.the-variants.{All}
 use Rattle.reply.specs.declared.Answer.the-variants.{Done}
 use Rattle.writing.specs.Canonical.{CanonicalGroup, CanonicalRecord}
@@ -43,7 +42,7 @@ use Rattle.writing.proofs.Canonical.{group-read, canonical-text, canoni
 use Rattle.writing.proofs.Done.{is-done}
 use Rattle.writing.proofs.Fitting.{own-groups}
 use Rattle.writing.proofs.GroupCells.{group-among, cells-joined}
-use Rattle.reading.proofs.GroupRead.{GroupReads, group-reads}
+use Rattle.reading.proofs.GroupRead.{GroupReads, group-reads, reads-cells}
 use Rattle.place.proofs.Indexed.{index-is, index-counts}
 use Rattle.writing.proofs.Lengths.{record-length}
 use Rattle.writing.proofs.ReadFits.{group-fit}
@@ -54,10 +53,6 @@ use Rattle.writing.proofs.Written.{all-groups}
 -- ---- what a group that was read says
 
 module _ (ρ : Rules) {ns : List ℕ} {g : ℕ} {y : List ℕ} {room : ℕ} {c : List ℤ} (r : GroupReads ρ ns g y room c) where
-  pub reads-cells : length c ≡ cellsIn ρ ns g
-  unfolding Tally.cellsIn
-  reads-cells = rw (r .has) (group-size ρ (r .form) (mayBeShort g) (countOf ns g) y c (r .lines))
-
   reads-fit : groupFit ρ ns g c ≡ All
   reads-fit = rw (r .has) (group-fit ρ (r .form) (mayBeShort g) g (countOf ns g) y c (r .lines))
 

@@ -1,7 +1,7 @@
 //! What the tests share: the project's example texts, and record S with its numbers as the rules state them.
 #![allow(dead_code)]
 
-use seambeacon::{Placing, Refusal, Rewritten, Rules};
+use seambeacon::{Counting, Placing, Refusal, Rewritten, Rules};
 use std::fs;
 use std::path::PathBuf;
 
@@ -13,6 +13,29 @@ pub fn project(name: &str) -> PathBuf {
 /// A file's bytes; a file that is not there fails the test.
 pub fn bytes(name: &str) -> Vec<u8> {
     fs::read(project(name)).unwrap_or_else(|why| panic!("{name}: {why}"))
+}
+
+/// Every text of the vectors and of the examples.
+pub fn all_texts() -> Vec<Vec<u8>> {
+    let mut all = Vec::new();
+    for folder in ["tests/vectors", "tests/vectors/W7", "tests/vectors/W12", "examples"] {
+        let files = fs::read_dir(project(folder)).expect("a folder").map(|file| file.expect("a file").path());
+        all.extend(files.filter(|path| path.extension().is_some_and(|kind| kind == "sao")).map(|path| fs::read(path).expect("a text")));
+    }
+    assert!(all.len() >= 283, "{} texts", all.len());
+    all
+}
+
+/// Both rules for line ends, each with both for counts of group 40.
+pub fn all_rules() -> [Rules; 4] {
+    let entries = |rules: Rules| rules.counting(Counting::Entries);
+    [Rules::default(), Rules::strict(), entries(Rules::default()), entries(Rules::strict())]
+}
+
+/// The rules by the names that questions of the vectors have for them.
+pub fn rules_named(name: &str) -> Rules {
+    let names = ["either-elements", "strict-elements", "either-entries", "strict-entries"];
+    all_rules()[names.iter().position(|&known| known == name).expect("a name of rules")]
 }
 
 /// Record S, of 305 bytes.

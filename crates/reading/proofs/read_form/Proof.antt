@@ -5,10 +5,6 @@ use mathlib.Core.Path.{sym, _∙_, ap, subst}
 use Prim.Native.Nat.{_<_, _≤_}
 use lib.ListN.{length}
 use Rattle.reply.specs.declared.Answer.the-variants.{Done}
-use Rattle.base.specs.Part.{over}
-use Rattle.base.specs.Pieces.{cellsGot}
-use Rattle.reading.specs.Read.{readLines}
-use Rattle.reading.proofs.Letters.{short-letters}
 use Rattle.reading.proofs.Steps.{form-none, form-bad, lines-clean, form-done}
 use Rattle.reading.proofs.read_form.Statement.{statement}
 use Rattle.reading.proofs.read_form.Tie as tie
@@ -19,17 +15,16 @@ returns c =
     form-none (o .args .rules) (o .args .form) (o .args .group) (o .args .count) (o .args .lines .now) (o .args .table .now)
     (subst (λ m. length (o .args .table .now) < m) (c .before .cells .ensures) (c .if1 .taken))
 
-fill-lines-requires : tie.Need-fill-lines-requires
-fill-lines-requires c κs =
-    let at-check = c .before .before .before .before in
+fill-requires : tie.Need-fill-requires
+fill-requires c κs =
+    let at-check = c .before .before .before in
     let at-cells = at-check .before .before in
     let o = at-cells .before .before in
-    let short = c .before .may-be-short .ensures in
     let enough = subst (λ m. m ≤ length (o .args .table .now)) (at-cells .cells .ensures) (at-check .before .if1 .left) in
     let clean =
     lines-clean (o .args .rules) (o .args .form) (o .args .group) (o .args .count) (o .args .lines .now) (o .args .table .now) enough
-    (sym (at-check .check .ensures) ∙ c .before .before .enum-told .given .1) in
-    (rw short (short-letters (o .args .group) (o .args .form) (o .pre .0)), (rw short clean, enough))
+    (sym (at-check .check .ensures) ∙ c .before .enum-told .given .1) in
+    (o .pre .0, (clean, enough))
 
 returns-2 : tie.Need-returns-2
 returns-2 c =
@@ -40,15 +35,13 @@ returns-2 c =
 
 returns-3 : tie.Need-returns-3
 returns-3 c =
-    let at-short = c .before .before .before in
-    let at-check = at-short .before .before .before in
+    let at-told = c .before .before .before in
+    let at-check = at-told .before .before in
     let at-cells = at-check .before .before in
     let o = at-cells .before .before in
     let b = form-done (o .args .rules) (o .args .form) (o .args .group) (o .args .count) (o .args .lines .now) (o .args .table .now)
     (subst (λ m. m ≤ length (o .args .table .now)) (at-cells .cells .ensures) (at-check .before .if1 .left))
-    (sym (at-check .check .ensures) ∙ at-short .before .enum-told .given .1)
-    (c .before .fill-lines .ensures ∙ ap (λ short. over 0 (cellsGot (readLines (o .args .rules) (o .args .form) short (o .args .count) (o .args .lines .now))) (o .args .table .now))
-    (at-short .may-be-short .ensures)) in
+    (sym (at-check .check .ensures) ∙ at-told .enum-told .given .1) (c .before .fill .ensures) in
     (ap Done (at-cells .cells .ensures) ∙ b .0, b .1)
 
 pub read-form-spec : {M : Type 1} → statement M
@@ -60,8 +53,7 @@ read-form-spec =
     (λ c κs. search needs)
     (λ c. search needs)
     (λ c. search needs)
-    (λ c κs. search needs)
-    fill-lines-requires
+    fill-requires
     returns-2
     (λ c. search needs)
     returns-3)

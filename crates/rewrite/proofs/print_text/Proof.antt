@@ -2,15 +2,9 @@
 -- Assumes nothing.
 use borrow.Author.Needs.{needs}
 use native.Mathlib.Omega.{arith}
-use mathlib.Core.Path.{_≡_, subst}
-use mathlib.Core.List.{[], _∷_}
-use Prim.Native.Nat.{_-_}
-use types.Run.{OneOf}
-use denote.Enum.Declared.{tagOf}
+use mathlib.Core.Path.{_≡_}
+use Prim.Native.Nat.{ℕ, _-_}
 use lib.ListN.{length}
-use Rattle.rewriting.specs.declared.Rewriting.{Rewriting}
-use Rattle.rewriting.proofs.Rewriting.{the-type}
-use Rattle.base.proofs.Every.{not-first}
 use Rattle.rewriting.proofs.Printing.{Printing, printing-first, printing-none, printing-ended, printing-stop, printing-room, printing-further, printing-more}
 use Rattle.rewrite.proofs.print_text.Statement.{statement}
 use Rattle.rewrite.proofs.print_text.Tie as tie
@@ -29,11 +23,11 @@ loop-holds c = (c .before .before .before .pre .0, c .before .before .before .pr
 
 returns-2 : tie.Need-returns-2 Inv-loop μ-loop
 returns-2 c =
-    let t = c .before .before .before .before .before .before .before .before in
-    printing-stop (c .before .before .before .before .before .before .before .before .before .before .before .before .args .rules)
-    (c .before .before .before .before .before .before .before .before .before .before .before .before .args .text .now) (t .loop .at) (t .loop .inv .2)
-    (t .loop .inv .0) (t .loop .inv .1) _ (c .before .before .before .before .rewrite-record .ensures .0) (omega arith)
-    (λ bytes next e. not-first (1 ∷ 2 ∷ []) tt (subst (λ (r : Rewriting). OneOf (1 ∷ 2 ∷ []) (tagOf the-type r)) e (c .match .keys2)))
+    let t = c .before .before .before .before .before .before .before .before .before in
+    let a = t .before .before .before .before .args in
+    let refused = c .enum-told .given .1 in
+    printing-stop (a .rules) (a .text .now) (t .loop .at) (t .loop .inv .2) (t .loop .inv .0) (t .loop .inv .1) _ (c .before .before .before .before .before .rewrite-record .ensures .0) (omega arith)
+    (λ bytes next e. let z : _≡_ {A = ℕ} 0 1 = cc in absurd (omega arith))
 
 part-write-all-end : tie.Need-part-write-all-end Inv-loop μ-loop
 part-write-all-end c = let l =
@@ -81,6 +75,7 @@ print-text-spec =
     returns
     loop-holds
     (λ c κs. search needs)
+    (λ c. search needs)
     (λ c. search needs)
     (λ c. search needs)
     (λ c. search needs)

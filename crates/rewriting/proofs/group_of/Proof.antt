@@ -6,8 +6,8 @@ use Rattle.rewriting.specs.Numbered.{rewritingGroup}
 use Rattle.rewriting.proofs.group_of.Statement.{statement}
 use Rattle.rewriting.proofs.group_of.Tie as tie
 
-returns-3 : tie.Need-returns-3
-returns-3 c = ap rewritingGroup (sym (c .before .answer .given .1))
+returns-2 : tie.Need-returns-2
+returns-2 c = ap rewritingGroup (sym (c .before .answer .given .1))
 
 pub group-of-spec : {M : Type 1} → statement M
-group-of-spec = tie.close (tie.spec (λ c. search needs) (λ c. search needs) (λ c. search needs) (λ c. search needs) (λ c. search needs) returns-3)
+group-of-spec = tie.close (tie.spec (λ c. search needs) (λ c. search needs) (λ c. search needs) returns-2)

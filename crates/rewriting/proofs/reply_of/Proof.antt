@@ -12,19 +12,5 @@ returns c = c .written .ensures ∙ ap rewritingReply (sym (c .before .before .a
 returns-2 : tie.Need-returns-2
 returns-2 c = c .of-refusal .ensures ∙ ap rewritingReply (sym (c .before .before .answer2 .given .1))
 
-returns-3 : tie.Need-returns-3
-returns-3 c = c .of-refusal2 .ensures ∙ ap rewritingReply (sym (c .before .before .answer3 .given .1))
-
 pub reply-of-spec : {M : Type 1} → statement M
-reply-of-spec =
-    tie.close
-    (tie.spec
-    (λ c. search needs)
-    (λ c κs. search needs)
-    (λ c. search needs)
-    (λ c κs. search needs)
-    (λ c. search needs)
-    (λ c κs. search needs)
-    returns
-    returns-2
-    returns-3)
+reply-of-spec = tie.close (tie.spec (λ c. search needs) (λ c κs. search needs) (λ c. search needs) (λ c κs. search needs) returns returns-2)

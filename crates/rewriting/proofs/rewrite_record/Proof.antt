@@ -1,18 +1,17 @@
--- `rewriting::rewrite_record` meets its contract: what placing answered chooses, and then each answer, with what it leaves, by what led to it.
+-- `rewriting::rewrite_record` meets its contract: what placing answered chooses, and then what reading the placed record gives; each answer, with
+-- what it leaves, by what led to it.
 -- Assumes nothing.
 use borrow.Author.Needs.{needs}
 use native.Mathlib.Omega.{arith}
-use mathlib.Core.Path.{_≡_, refl, sym, _∙_, ap}
+use mathlib.Core.Path.{refl, sym, _∙_, ap, subst}
 use Prim.Native.Nat.{_≤_}
 use lib.ListN.{length}
-use Rattle.count.specs.Tally.{recordCells}
-use Rattle.count.proofs.Tallied.{all-cells}
-use Rattle.place.specs.declared.Placing.the-variants.{Placed}
 use Rattle.place.specs.Numbered.{asChecked}
-use Rattle.place.specs.Placing.{placingOf}
-use Rattle.place.proofs.Spans.{starts-length, ends-length}
+use Rattle.place.specs.Placing.{carriedBy}
+use Rattle.whole.specs.Whole.{Parted}
+use Rattle.whole.proofs.Placed.{parted-at}
 use Rattle.writing.specs.Text.{recordBytes}
-use Rattle.rewriting.proofs.Steps.{step-refused, step-no-text, step-no-cells, step-ready, step-unread, step-writes, step-done}
+use Rattle.rewriting.proofs.Steps.{Stands, step-unplaced, step-short, step-unread, step-writes, step-done}
 use Rattle.rewriting.proofs.rewrite_record.Statement.{statement}
 use Rattle.rewriting.proofs.rewrite_record.Tie as tie
 
@@ -20,112 +19,81 @@ returns : tie.Need-returns
 returns c =
     let at-place = c .before .before .before in
     let o = at-place .before .before .before .args in
-    let all = step-refused (o .rules) (o .text .now) (o .at) (o .table .now) (o .out .now) (ap asChecked (sym (at-place .place .ensures .0) ∙ c .before .answer .given .1)) in
+    let all = step-unplaced (o .rules) (o .text .now) (o .at) (o .table .now) (o .out .now) (ap asChecked (sym (at-place .place .ensures .0) ∙ c .before .answer .given .1)) in
     (all .0, (all .1, all .2))
 
 returns-2 : tie.Need-returns-2
 returns-2 c =
     let at-place = c .before .before .before in
     let o = at-place .before .before .before .args in
-    let all = step-refused (o .rules) (o .text .now) (o .at) (o .table .now) (o .out .now) (ap asChecked (sym (at-place .place .ensures .0) ∙ c .before .answer2 .given .1)) in
+    let all = step-unplaced (o .rules) (o .text .now) (o .at) (o .table .now) (o .out .now) (ap asChecked (sym (at-place .place .ensures .0) ∙ c .before .answer2 .given .1)) in
     (all .0, (all .1, all .2))
 
 -- ---- a record that is placed with 0
 
-placed : (c : tie.After-answer3)
-    → (let o = c .before .before .before .before .before .args in placingOf (o .rules) (o .text .now) (o .at) ≡ Placed (c .answer3 .given .0 .0))
-placed c = sym (c .before .before .place .ensures .0) ∙ c .answer3 .given .1
+here : (c : tie.After-answer3)
+    → (let p = c .before .before in let o = p .before .before .before .args in
+    Stands (o .rules) (o .text .now) (o .at) (c .answer3 .given .0 .0) (carriedBy (p .place .result)))
+here c = let e = c .before .before .place .ensures in record { placed = sym (e .0) ∙ c .answer3 .given .1; carries = rw (e .1 .0, e .1 .1 .0, e .1 .1 .1) refl }
 
 returns-3 : tie.Need-returns-3
 returns-3 c =
     let at-length = c .before in
     let at-answer = at-length .before .before .before .before in
     let o = at-answer .before .before .before .before .before .args in
-    let all = step-no-text (o .rules) (o .text .now) (o .at) (o .table .now) (o .out .now) _ (placed at-answer) _ (at-answer .before .before .place .ensures .1 .0)
-    (omega (arith, at-length .canonical-length .ensures)) in
+    let all = step-short (here at-answer) (o .table .now) (o .out .now) (omega (arith, at-length .canonical-length .ensures)) in
     (all .0, (all .1, all .2))
 
-returns-4 : tie.Need-returns-4
-returns-4 c =
-    let at-add-up = c .before .before in
-    let at-answer = at-add-up .before .before .before .before .before .before .before in
+-- ---- its text has room in the output
+
+fits : (c : tie.Else1)
+    → (let p = c .before .before .before .before .before .before .before in let o = p .before .before .before .args in
+    recordBytes (o .rules) (p .place .result .counts) ≤ length (o .out .now))
+fits c = omega (arith, c .before .canonical-length .ensures)
+
+slice-aggregate-read-placed : tie.Need-slice-aggregate-read-placed
+slice-aggregate-read-placed c = search needs
+
+read-placed-requires : tie.Need-read-placed-requires
+read-placed-requires c κs =
+    let at-answer = c .before .before .before .before .before .before .before .before .before .before .before in
     let o = at-answer .before .before .before .before .before .args in
-    let all = step-no-cells (o .rules) (o .text .now) (o .at) (o .table .now) (o .out .now) _ (placed at-answer) _ (at-answer .before .before .place .ensures .1 .0)
-    (omega (arith, at-add-up .add-up .ensures .cells-are, all-cells (o .rules) (at-answer .before .before .place .result .counts))) in
-    (all .0, (all .1, all .2))
+    let h = here at-answer in
+    subst (Parted (o .text .now)) (sym (h .carries)) (parted-at (o .rules) (o .text .now) (o .at) _ (h .placed))
 
--- ---- output and table are long enough
+-- where the answer of reading is told apart
+abbrev fitting : tie.After-read-placed → tie.Else1
+fitting c = c .before .before .before .before .before .before .before
 
-many : (c : tie.Else2)
-    → (let at-answer = c .before .before .before .before .before .before .before .before .before in let o = at-answer .before .before .before .before .before .args in
-    c .before .before .add-up .result .cells ≡ recordCells (o .rules) (at-answer .before .before .place .result .counts))
-many c =
-    let at-answer = c .before .before .before .before .before .before .before .before .before in
-    let o = at-answer .before .before .before .before .before .args in
-    c .before .before .add-up .ensures .cells-are ∙ all-cells (o .rules) (at-answer .before .before .place .result .counts)
-
-roomy : (c : tie.Else2)
-    → (let at-answer = c .before .before .before .before .before .before .before .before .before in let o = at-answer .before .before .before .before .before .args in
-    let ns = at-answer .before .before .place .result .counts in (recordBytes (o .rules) ns ≤ length (o .out .now)) × (recordCells (o .rules) ns ≤ length (o .table .now)))
-roomy c = (omega (arith, c .before .before .before .before .before .canonical-length .ensures), omega (arith, many c))
-
-slice-aggregate-read-groups : tie.Need-slice-aggregate-read-groups
-slice-aggregate-read-groups c = search needs
-
-slice-aggregate-read-groups-2 : tie.Need-slice-aggregate-read-groups-2
-slice-aggregate-read-groups-2 c =
-    let at-place = c .before .before .before .before .before .before .before .before .before .before .before .before .before .before .before in
-    let o = at-place .before .before .before .args in
-    sym (ap length (at-place .place .ensures .1 .1 .0) ∙ starts-length (o .rules) (o .text .now) (o .at))
-
-slice-aggregate-read-groups-3 : tie.Need-slice-aggregate-read-groups-3
-slice-aggregate-read-groups-3 c =
-    let at-place = c .before .before .before .before .before .before .before .before .before .before .before .before .before .before .before .before in
-    let o = at-place .before .before .before .args in
-    sym (ap length (at-place .place .ensures .1 .1 .1) ∙ ends-length (o .rules) (o .text .now) (o .at))
-
-read-groups-requires : tie.Need-read-groups-requires
-read-groups-requires c κs =
-    let at-fits = c .before .before .before .before .before .before in
-    let at-answer = at-fits .before .before .before .before .before .before .before .before .before in
-    let o = at-answer .before .before .before .before .before .args in
-    let p = at-answer .before .before .place .ensures .1 in (
-      rw (p .0, p .1 .0, p .1 .1) refl,
-      step-ready (o .rules) (o .text .now) (o .at) (o .table .now) (o .out .now) _ (placed at-answer) _ (p .0) (roomy at-fits .0) (roomy at-fits .1),
-    )
+abbrev placing : tie.After-read-placed → tie.After-answer3
+placing c = fitting c .before .before .before .before .before
 
 slice-aggregate-write-cells : tie.Need-slice-aggregate-write-cells
-slice-aggregate-write-cells c = slice-aggregate-read-groups (c .before .before .before .before .before .before .before .before)
+slice-aggregate-write-cells c = slice-aggregate-read-placed (c .before .before .before .before .before .before .before .before .before)
 
 write-cells-requires : tie.Need-write-cells-requires
 write-cells-requires c κs =
-    let at-told = c .before .before .before in
-    let read = at-told .before .before .before .read-groups .ensures in
-    let at-fits = at-told .before .before .before .before .before .before .before .before .before .before in
-    let at-answer = at-fits .before .before .before .before .before .before .before .before .before in
-    let o = at-answer .before .before .before .before .before .args in
-    step-writes (o .rules) (o .text .now) (o .at) (o .table .now) (o .out .now) _ (placed at-answer) _ (at-answer .before .before .place .ensures .1 .0) (roomy at-fits .0) (roomy at-fits .1)
-    (sym (at-told .enum-told .given .1) ∙ read .0, read .1) (many at-fits)
+    let at-cells = c .before .before .before .before in
+    let at-read = at-cells .before .before .before in
+    let o = placing at-read .before .before .before .before .before .args in
+    step-writes (here (placing at-read)) (o .table .now) (o .out .now) (fits (fitting at-read)) (at-read .read-placed .ensures) (at-cells .cells .given .1)
+
+returns-4 : tie.Need-returns-4
+returns-4 c =
+    let at-group = c .before in
+    let at-read = at-group .before .before .before in
+    let o = placing at-read .before .before .before .before .before .args in
+    let all = step-unread (here (placing at-read)) (o .table .now) (o .out .now) (fits (fitting at-read)) (at-read .read-placed .ensures) (at-group .g .given .1) in
+    (all .0, (all .1, all .2))
 
 returns-5 : tie.Need-returns-5
 returns-5 c =
-    let read = c .before .before .before .before .read-groups .ensures in
-    let at-fits = c .before .before .before .before .before .before .before .before .before .before .before in
-    let at-answer = at-fits .before .before .before .before .before .before .before .before .before in
-    let o = at-answer .before .before .before .before .before .args in
-    let all = step-unread (o .rules) (o .text .now) (o .at) (o .table .now) (o .out .now) _ (placed at-answer) _ (at-answer .before .before .place .ensures .1 .0) (roomy at-fits .0) (roomy at-fits .1)
-    (sym (c .before .g .given .1) ∙ read .0, read .1) in
-    (all .0, (all .1, all .2))
-
-returns-6 : tie.Need-returns-6
-returns-6 c =
-    let at-told = c .before .before .before .before .before .before in
-    let read = at-told .before .before .before .read-groups .ensures in
-    let at-fits = at-told .before .before .before .before .before .before .before .before .before .before in
-    let at-answer = at-fits .before .before .before .before .before .before .before .before .before in
-    let o = at-answer .before .before .before .before .before .args in
-    let all = step-done (o .rules) (o .text .now) (o .at) (o .table .now) (o .out .now) _ (placed at-answer) _ (at-answer .before .before .place .ensures .1 .0) (roomy at-fits .0) (roomy at-fits .1)
-    (sym (at-told .enum-told .given .1) ∙ read .0, read .1) (many at-fits) (at-fits .before .before .before .before .before .canonical-length .ensures) (c .before .before .write-cells .ensures) in
+    let at-write = c .before .before in
+    let at-cells = at-write .before .before .before .before .before in
+    let at-read = at-cells .before .before .before in
+    let o = placing at-read .before .before .before .before .before .args in
+    let all = step-done (here (placing at-read)) (o .table .now) (o .out .now) (fits (fitting at-read)) (at-read .read-placed .ensures) (at-cells .cells .given .1)
+    (fitting at-read .before .canonical-length .ensures) (at-write .write-cells .ensures) in
     (all .0, (all .1, all .2))
 
 pub rewrite-record-spec : {M : Type 1} → statement M
@@ -141,19 +109,16 @@ rewrite-record-spec =
     (λ c. search needs)
     (λ c κs. search needs)
     returns-3
+    slice-aggregate-read-placed
     (λ c. search needs)
-    (λ c κs. search needs)
-    returns-4
-    slice-aggregate-read-groups
-    slice-aggregate-read-groups-2
-    slice-aggregate-read-groups-3
-    read-groups-requires
+    (λ c. search needs)
+    read-placed-requires
     (λ c. search needs)
     (λ c. search needs)
     slice-aggregate-write-cells
     write-cells-requires
     (λ c. search needs)
-    returns-5
+    returns-4
     (λ c. search needs)
     (λ c. search needs)
-    returns-6)
+    returns-5)

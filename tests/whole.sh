@@ -1,0 +1,63 @@
+#!/bin/sh
+# A whole record in one call, from C (R271 to R276), by the program of tests/c. Every question of tests/vectors/W12/whole.txt, or of the folder that
+# is named (`tests/whole.sh FOLDER`), is asked, and compared with its answer: the reply, the group that was being read, all numbers beside the reply,
+# every cell of the table. Then every text of tests/vectors and examples, or of that folder, by each of the rules: at each record of the walk, where
+# it stops, at the text's end and behind that, one call answers as sixty single readings do, with their cells joined; into a table without cells,
+# one that is a cell short, an exact one and a longer one. At all these places, and at those of the questions, a rewriting is asked for too: under
+# every refusal its table and its output are as they were, and under 0 the table has the same cells (R324 to R326).
+set -u
+cd "$(dirname "$0")/.." || exit 2
+name=whole
+. tests/cases
+. tests/kit
+[ $# -le 1 ] || { echo 'usage: tests/whole.sh [FOLDER]' >&2; exit 2; }
+chosen "$@"
+folder=$vectors
+! own || folder=$vectors/W12
+
+counted 'the archive' archived || finished 1 || exit 1
+for source in tests/c/*.c; do
+    counted "$source" compiled "$source" "$work/$(basename "$source" .c).o" -std=c99
+done
+counted 'the program is linked' linked "$work/main" "$work"/*.o || finished 1 || exit 1
+counted 'tests/c/whole.c: no function is longer than 40 lines' \
+    none "$(awk '/^{/ { from = NR } /^}/ && from { if (NR - from > 39) print; from = 0 }' tests/c/whole.c)"
+
+# The program's last line is the number of its checks, and the line before that tells in numbers what was asked.
+held() { # OF LEAST WORD..: its checks hold; over the project's own vectors there are at least so many
+    of=$1
+    least=$2
+    shift 2
+    started "$work/main" "$@" >"$work/said"
+    counted "$of: every check of the program" [ "$?" = 0 ] || grep -a '^FAILED: ' "$work/said"
+    told=$(sed -n 'x; $p' "$work/said")
+    made=$(sed -n '$s/ checks, .*//p' "$work/said")
+    echo "$name: $of: $told; ${made:-0} checks"
+    ! own || counted "$of: as many checks as there are" [ "${made:-0}" -ge "$least" ]
+}
+
+asked() { # WHICH LEAST: the number that is told there; over other vectors than the project's own it may be any
+    ! own || [ "$(echo "$told" | tr -cs '0-9' ' ' | cut -d ' ' -f "$1")" -ge "$2" ]
+}
+
+# ---- the questions
+
+counted 'there are questions' grep -q ' = ' "$folder/whole.txt"
+held "$folder/whole.txt" 26760 wholes "$folder" "$folder/whole.txt"
+counted 'every line is asked' [ "${told%% *}" = "$(wc -l <"$folder/whole.txt")" ]
+counted 'as many questions as there are' asked 1 567
+
+# ---- the texts
+
+if own; then
+    # shellcheck disable=SC2046
+    set -- $(find tests/vectors examples -name '*.sao' | sort)
+else
+    set -- "$vectors"/*.sao
+fi
+held "$# texts by four rules" 171433 turns "$@"
+counted 'as many records that are read' asked 1 961
+counted 'as many with a group that is refused' asked 2 512
+counted 'as many that break a rule on counts' asked 3 50
+counted 'as many places without a record' asked 4 3885
+finished 28
