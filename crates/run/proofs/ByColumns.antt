@@ -20,25 +20,25 @@ use Rattle.number.specs.declared.Number.the-variants.{Misformed}
 use Rattle.number.specs.Read.{oneOf, pointOf, leadOf, signOf, pairOf, readI, readF, readE}
 use Rattle.number.specs.Scan.{classOf, stepOf, scanOf}
 use Rattle.field.specs.Read.{valueOf, formed}
-use Rattle.run.specs.Columns.{isDigit, pairs, isColumn, isHead, isLead, isLeading, isSign, isWhole, isFixed, isPower}
+use Rattle.run.specs.Columns.{isFigure, pairs, isColumn, isHead, isLead, isLeading, isSign, isWholeField, isFixed, isPower}
 use Rattle.run.proofs.Testing.{Column, blank, minus, digit, other, column-of, row-ask}
 use Rattle.run.proofs.Leading.{good, low, leads, point-settled, sign-settled, lead-settled, settled-good, lead-good}
 
 -- ---- I
 
-digit-one : (b : ℕ) → good (stepOf (classOf b) Blanks) ≡ isDigit b
+digit-one : (b : ℕ) → good (stepOf (classOf b) Blanks) ≡ isFigure b
 digit-one b = by (column-of b)
   where
-    by : Column b → good (stepOf (classOf b) Blanks) ≡ isDigit b
+    by : Column b → good (stepOf (classOf b) Blanks) ≡ isFigure b
     by (blank t) = ap good (t .step Blanks) ∙ sym (t .digit-is)
     by (minus t) = ap good (t .step Blanks) ∙ sym (t .digit-is)
     by (digit d t) = ap good (t .step Blanks) ∙ sym (t .digit-is)
     by (other t) = ap good (t .step Blanks) ∙ sym (t .digit-is)
 
 -- R70
-pub whole-formed : (s : List ℕ) → 1 ≤ length s → formed (valueOf (readI s)) ≡ isWhole s
+pub whole-formed : (s : List ℕ) → 1 ≤ length s → formed (valueOf (readI s)) ≡ isWholeField s
 whole-formed [] h = absurd (omega arith)
-whole-formed (x ∷ s) h = row-ask good isDigit record { asks = record { digits = λ g n. refl; broken = refl }; one = digit-one; digit-ends = λ b e. e } x s
+whole-formed (x ∷ s) h = row-ask good isFigure record { asks = record { digits = λ g n. refl; broken = refl }; one = digit-one; digit-ends = λ b e. e } x s
 
 -- ---- F
 
@@ -76,8 +76,8 @@ fixed-formed s h =
     let tail = part (length s - 3) (length s) s in
     let l : length head ≡ length s - 4 = ap length (part-zero (length s - 4) s) ∙ length-take-le (length s - 4) s (omega arith) in
     rw (le-leb 4 (length s) (omega arith))
-    (tested (eqb (getD s (length s - 4) 0) 46) (oneOf (scanOf (pointOf (scanOf Blanks head)) tail)) (isHead head && every isDigit tail)
-    (settled-good (pointOf (scanOf Blanks head)) (point-settled (scanOf Blanks head)) tail ∙ ap (λ b. b && every isDigit tail) (head-formed head (omega arith))))
+    (tested (eqb (getD s (length s - 4) 0) 46) (oneOf (scanOf (pointOf (scanOf Blanks head)) tail)) (isHead head && every isFigure tail)
+    (settled-good (pointOf (scanOf Blanks head)) (point-settled (scanOf Blanks head)) tail ∙ ap (λ b. b && every isFigure tail) (head-formed head (omega arith))))
 
 -- ---- E
 
@@ -133,6 +133,6 @@ power-formed c d x s h l =
     (tested (eqb (getD s (c + 1 + d) 0) 69) (pairOf (oneOf (scanOf (leadOf front b) ds)) (oneOf (scanOf (signOf g) xs))) _
     (pair-formed (scanOf (leadOf front b) ds) (scanOf (signOf g) xs)
     ∙ ap₂ _&&_
-    (settled-good (leadOf front b) (lead-settled front b) ds ∙ ap (λ t. t && every isDigit ds) lead)
-    (settled-good (signOf g) (sign-settled g) xs ∙ ap (λ t. t && every isDigit xs) (sign-formed g))
-    ∙ shuffle (isLeading (part 0 c s)) (every isDigit ds) (isSign g) (every isDigit xs))))
+    (settled-good (leadOf front b) (lead-settled front b) ds ∙ ap (λ t. t && every isFigure ds) lead)
+    (settled-good (signOf g) (sign-settled g) xs ∙ ap (λ t. t && every isFigure xs) (sign-formed g))
+    ∙ shuffle (isLeading (part 0 c s)) (every isFigure ds) (isSign g) (every isFigure xs))))

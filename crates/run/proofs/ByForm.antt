@@ -26,7 +26,7 @@ use Rattle.field.specs.Grammar.{One, Two, IsA, IsField}
 use Rattle.field.specs.Read.{fieldOf, valueCells, formed}
 use Rattle.field.proofs.Laws.{lawful, field-as, good-width}
 use Rattle.run.specs.Run.{runFormed, runCells}
-use Rattle.run.specs.Columns.{eachPiece, allPieces, isDigit, pairs, isWhole, isFixed, isPower, wholeCell, fixedCell, powerFirst, powerSecond}
+use Rattle.run.specs.Columns.{eachPiece, allPieces, isFigure, pairs, isWholeField, isFixed, isPower, wholeCell, fixedCell, powerFirst, powerSecond}
 use Rattle.run.proofs.Loops.{and-true}
 use Rattle.run.proofs.Pieces.{each-same, all-same, each-byte, all-bytes}
 use Rattle.run.proofs.ByColumns.{whole-formed, fixed-formed, power-formed}
@@ -38,9 +38,9 @@ testOf F7 = isFixed
 testOf A120 = every printable
 testOf A1 = every printable
 testOf F8 = isFixed
-testOf I2 = isWhole
-testOf I3 = isWhole
-testOf I1 = every isDigit
+testOf I2 = isWholeField
+testOf I3 = isWholeField
+testOf I1 = every isFigure
 testOf E11 = isPower 1 6
 testOf E20 = isPower 3 12
 testOf E8 = isPower 1 3
@@ -65,10 +65,10 @@ letters-formed true v e = e
 letters-formed false v e = refl
 
 -- one column is a digit
-one-digit : (s : List ℕ) → length s ≡ 1 → isWhole s ≡ every isDigit s
+one-digit : (s : List ℕ) → length s ≡ 1 → isWholeField s ≡ every isFigure s
 unfolding pairs
 one-digit [] e = absurd (omega arith)
-one-digit (b ∷ []) e = sym (and-true (isDigit b))
+one-digit (b ∷ []) e = sym (and-true (isFigure b))
 one-digit (b ∷ c ∷ s) e = absurd (omega arith)
 
 pub form-formed : (f : Form) (s : List ℕ) → length s ≡ rowOf f .width → formed (fieldOf f s) ≡ testOf f s
@@ -96,10 +96,10 @@ power-cells c d x s cs h = let p = power-is c d x s (h .first) (h .second) (h .h
 letter-cells : (s : List ℕ) (cs : List ℤ) → IsA s cs → cs ≡ map (λ b. pos (b - 0)) s
 letter-cells s cs h = h .cells ∙ map-same pos (λ b. pos (b - 0)) (λ b. ap pos (sym (sub-zero b))) s
 
-digit-cells : (s : List ℕ) → length s ≡ 1 → every isDigit s ≡ true → wholeCell s ∷ [] ≡ map (λ b. pos (b - 48)) s
+digit-cells : (s : List ℕ) → length s ≡ 1 → every isFigure s ≡ true → wholeCell s ∷ [] ≡ map (λ b. pos (b - 48)) s
 digit-cells [] l e = absurd (omega arith)
 digit-cells (b ∷ []) l e =
-    let h = leb-true 48 b (and-first (leb 48 b) (leb b 57) (and-first (isDigit b) true e)) in
+    let h = leb-true 48 b (and-first (leb 48 b) (leb b 57) (and-first (isFigure b) true e)) in
     let n : 0 * 10 + (b - 48) ≡ b - 48 = omega arith in
     rw (ne-eqb b 45 (λ e. omega arith), n)
 digit-cells (b ∷ c ∷ s) l e = absurd (omega arith)

@@ -15,7 +15,7 @@ use Rattle.number.specs.declared.Scan.the-variants.{Blanks, Signed, Digits, Bro
 use Rattle.number.specs.Read.{oneOf, pointOf, leadOf, signOf}
 use Rattle.number.specs.Scan.{classOf, stepOf, scanOf}
 use Rattle.field.specs.Read.{valueOf, formed}
-use Rattle.run.specs.Columns.{between, isDigit, goesOn, pairs, isLead}
+use Rattle.run.specs.Columns.{between, isFigure, goesOn, pairs, isLead}
 use Rattle.run.proofs.Loops.{and-true}
 use Rattle.run.proofs.Testing.{Column, blank, minus, digit, other, column-of, digits-ask, broken-fails}
 
@@ -50,7 +50,7 @@ lead-settled (Digits g n) b = tt
 lead-settled Broken b = tt
 
 -- digits behind such a state
-pub settled-good : (st : Scan) → Settled st → (s : List ℕ) → good (scanOf st s) ≡ (good st && every isDigit s)
+pub settled-good : (st : Scan) → Settled st → (s : List ℕ) → good (scanOf st s) ≡ (good st && every isFigure s)
 settled-good Blanks h s = absurd h
 settled-good Signed h s = absurd h
 settled-good (Digits g n) h s = digits-ask good record { digits = λ g n. refl; broken = refl } g n s
@@ -99,7 +99,7 @@ low-blank x e = rw (eqb-true x 32 e)
 low-minus : (x : ℕ) → eqb x 45 ≡ true → low x ≡ true
 low-minus x e = rw (eqb-true x 45 e)
 
-digit-high : (x : ℕ) → isDigit x ≡ true → low x ≡ false
+digit-high : (x : ℕ) → isFigure x ≡ true → low x ≡ false
 digit-high x e = let h = leb-true 48 x (and-first (leb 48 x) (leb x 57) e) in rw (lt-leb x 45 (omega arith)) (and-false (leb 32 x))
 
 lead-by : (x y z : Bool) → good (cond x (Digits false 0) (cond y (Digits false 0) (cond z (Digits true 0) Broken))) ≡ (x || (y || z))
@@ -112,10 +112,10 @@ nought-by : (x : Bool) → good (cond x (Digits true 0) Broken) ≡ x
 nought-by true = refl
 nought-by false = refl
 
-digit-lead : (b : ℕ) → (isDigit b && isLead b) ≡ eqb b 48
+digit-lead : (b : ℕ) → (isFigure b && isLead b) ≡ eqb b 48
 digit-lead b = by (eqb b 48) refl (column-of b)
   where
-    by : (t : Bool) → eqb b 48 ≡ t → Column b → (isDigit b && isLead b) ≡ eqb b 48
+    by : (t : Bool) → eqb b 48 ≡ t → Column b → (isFigure b && isLead b) ≡ eqb b 48
     by true e col = rw (eqb-true b 48 e)
     by false e (blank t) = rw (e, t .digit-is)
     by false e (minus t) = rw (e, t .digit-is)
@@ -131,15 +131,15 @@ pairs-first x [] b = refl
 pairs-first x (y ∷ r) b = refl
 
 -- a minus, and what may follow it
-minus-leads : (r : List ℕ) (b : ℕ) → good (leadOf (scanOf Signed r) b) ≡ ((isDigit (getD (r ++ (b ∷ [])) 0 0) && pairs (r ++ (b ∷ []))) && (isLead b && every low r))
+minus-leads : (r : List ℕ) (b : ℕ) → good (leadOf (scanOf Signed r) b) ≡ ((isFigure (getD (r ++ (b ∷ [])) 0 0) && pairs (r ++ (b ∷ []))) && (isLead b && every low r))
 unfolding pairs
-minus-leads [] b = nought-by (eqb b 48) ∙ sym (digit-lead b) ∙ sym (rw (and-true (isDigit b), and-true (isLead b)))
+minus-leads [] b = nought-by (eqb b 48) ∙ sym (digit-lead b) ∙ sym (rw (and-true (isFigure b), and-true (isLead b)))
 minus-leads (y ∷ r) b = settled-lead (stepOf (classOf y) Signed) (signed-step y) r b ∙ by (column-of y)
   where
-    by : Column y → false ≡ ((isDigit y && pairs (y ∷ (r ++ (b ∷ [])))) && (isLead b && (low y && every low r)))
+    by : Column y → false ≡ ((isFigure y && pairs (y ∷ (r ++ (b ∷ [])))) && (isLead b && (low y && every low r)))
     by (blank t) = rw (t .digit-is)
     by (minus t) = rw (t .digit-is)
-    by (digit d t) = rw (digit-high y (t .digit-is), and-false (isLead b)) (sym (and-false (isDigit y && pairs (y ∷ (r ++ (b ∷ []))))))
+    by (digit d t) = rw (digit-high y (t .digit-is), and-false (isLead b)) (sym (and-false (isFigure y && pairs (y ∷ (r ++ (b ∷ []))))))
     by (other t) = rw (t .digit-is)
 
 pub lead-good : (r : List ℕ) (b : ℕ) → good (leadOf (scanOf Blanks r) b) ≡ leads r b
@@ -153,10 +153,10 @@ lead-good (x ∷ r) b = by (column-of x) (lead-good r b)
         ∙ sym (rw (pairs-first x r b, t .blank-is, low-blank x (t .blank-is)))
     by (minus t) more =
         ap (λ st. good (leadOf (scanOf st r) b)) (t .step Blanks) ∙ minus-leads r b
-        ∙ sym (rw (pairs-first x r b, t .blank-is, low-minus x (t .minus-is), t .minus-is, and-true (isDigit (getD (r ++ (b ∷ [])) 0 0))))
+        ∙ sym (rw (pairs-first x r b, t .blank-is, low-minus x (t .minus-is), t .minus-is, and-true (isFigure (getD (r ++ (b ∷ [])) 0 0))))
     by (digit d t) more =
         ap (λ st. good (leadOf (scanOf st r) b)) (t .step Blanks) ∙ settled-lead (Digits false d) tt r b
         ∙ sym (rw (digit-high x (t .digit-is), and-false (isLead b)) (and-false (pairs (x ∷ (r ++ (b ∷ []))))))
     by (other t) more =
         ap (λ st. good (leadOf (scanOf st r) b)) (t .step Blanks) ∙ settled-lead Broken tt r b
-        ∙ sym (rw (pairs-first x r b, t .blank-is, t .minus-is, t .digit-is, and-false (isDigit (getD (r ++ (b ∷ [])) 0 0))))
+        ∙ sym (rw (pairs-first x r b, t .blank-is, t .minus-is, t .digit-is, and-false (isFigure (getD (r ++ (b ∷ [])) 0 0))))

@@ -16,7 +16,7 @@ use Rattle.number.specs.declared.Scan.the-variants.{Blanks, Signed, Digits, Bro
 use Rattle.number.specs.Scan.{classOf, stepOf, scanOf}
 use Rattle.number.proofs.Scanning.{scan-broken}
 use Rattle.run.proofs.Loops.{and-assoc, and-true}
-use Rattle.run.specs.Columns.{isDigit, goesOn, pairs, lastColumn}
+use Rattle.run.specs.Columns.{isFigure, goesOn, pairs, lastColumn}
 
 -- ---- what a byte does to a state, and its tests
 
@@ -42,7 +42,7 @@ pub record Steps (b : ℕ) (next : Scan → Scan) (blank minus digit : Bool) : T
   pub step : (st : Scan) → stepOf (classOf b) st ≡ next st
   pub blank-is : eqb b 32 ≡ blank
   pub minus-is : eqb b 45 ≡ minus
-  pub digit-is : isDigit b ≡ digit
+  pub digit-is : isFigure b ≡ digit
 
 pub data Column (b : ℕ) : Type 0 where
   blank : Steps b blankStep true false false → Column b
@@ -106,18 +106,18 @@ module _ (ask : Scan → Bool) (q : Asks ask) where
   broken-fails s = ap ask (scan-broken s) ∙ q .broken
 
   -- a byte that breaks the columns, where a digit is due
-  fails : (b : ℕ) (st : Scan) (s : List ℕ) (more : Bool) → stepOf (classOf b) st ≡ Broken → isDigit b ≡ false → ask (scanOf (stepOf (classOf b) st) s) ≡ (isDigit b && more)
+  fails : (b : ℕ) (st : Scan) (s : List ℕ) (more : Bool) → stepOf (classOf b) st ≡ Broken → isFigure b ≡ false → ask (scanOf (stepOf (classOf b) st) s) ≡ (isFigure b && more)
   fails b st s more e f = ap (λ st. ask (scanOf st s)) e ∙ broken-fails s ∙ sym (rw f)
 
-  pub digits-ask : (g : Bool) (n : ℕ) (s : List ℕ) → ask (scanOf (Digits g n) s) ≡ every isDigit s
+  pub digits-ask : (g : Bool) (n : ℕ) (s : List ℕ) → ask (scanOf (Digits g n) s) ≡ every isFigure s
   digits-ask g n [] = q .digits g n
   digits-ask g n (b ∷ s) = by (column-of b) (λ d. digits-ask g (n * 10 + d) s)
     where
-      by : Column b → ((d : ℕ) → ask (scanOf (Digits g (n * 10 + d)) s) ≡ every isDigit s) → ask (scanOf (stepOf (classOf b) (Digits g n)) s) ≡ (isDigit b && every isDigit s)
-      by (blank t) more = fails b (Digits g n) s (every isDigit s) (t .step (Digits g n)) (t .digit-is)
-      by (minus t) more = fails b (Digits g n) s (every isDigit s) (t .step (Digits g n)) (t .digit-is)
+      by : Column b → ((d : ℕ) → ask (scanOf (Digits g (n * 10 + d)) s) ≡ every isFigure s) → ask (scanOf (stepOf (classOf b) (Digits g n)) s) ≡ (isFigure b && every isFigure s)
+      by (blank t) more = fails b (Digits g n) s (every isFigure s) (t .step (Digits g n)) (t .digit-is)
+      by (minus t) more = fails b (Digits g n) s (every isFigure s) (t .step (Digits g n)) (t .digit-is)
       by (digit d t) more = ap (λ st. ask (scanOf st s)) (t .step (Digits g n)) ∙ more d ∙ sym (rw (t .digit-is))
-      by (other t) more = fails b (Digits g n) s (every isDigit s) (t .step (Digits g n)) (t .digit-is)
+      by (other t) more = fails b (Digits g n) s (every isFigure s) (t .step (Digits g n)) (t .digit-is)
 
 -- ---- columns from the first on
 
@@ -127,45 +127,45 @@ last-more x y s =
     let f : suc (length s) - 1 ≡ length s = omega arith in
     rw (e, f)
 
-goes-digit : (x y : ℕ) → eqb x 32 ≡ false → (eqb x 45 || isDigit x) ≡ true → goesOn x y ≡ isDigit y
-goes-digit x y e f = rw (e, f) (and-true (isDigit y))
+goes-digit : (x y : ℕ) → eqb x 32 ≡ false → (eqb x 45 || isFigure x) ≡ true → goesOn x y ≡ isFigure y
+goes-digit x y e f = rw (e, f) (and-true (isFigure y))
 
 -- what is asked of one column, of which digits pass
 pub record Ends (ask : Scan → Bool) (end : ℕ → Bool) : Type 0 where
   pub asks : Asks ask
   pub one : (b : ℕ) → ask (stepOf (classOf b) Blanks) ≡ end b
-  pub digit-ends : (b : ℕ) → isDigit b ≡ true → end b ≡ true
+  pub digit-ends : (b : ℕ) → isFigure b ≡ true → end b ≡ true
 
 module _ (ask : Scan → Bool) (end : ℕ → Bool) (q : Ends ask end) where
   abbrev pub row : List ℕ → Bool
   row s = pairs s && end (lastColumn s)
 
   -- behind a column that digits must follow
-  followed : (x y : ℕ) (s : List ℕ) → goesOn x y ≡ isDigit y → row (x ∷ y ∷ s) ≡ (isDigit y && row (y ∷ s))
+  followed : (x y : ℕ) (s : List ℕ) → goesOn x y ≡ isFigure y → row (x ∷ y ∷ s) ≡ (isFigure y && row (y ∷ s))
   unfolding pairs
-  followed x y s e = rw (e, last-more x y s) (and-assoc (isDigit y) (pairs (y ∷ s)) (end (lastColumn (y ∷ s))))
+  followed x y s e = rw (e, last-more x y s) (and-assoc (isFigure y) (pairs (y ∷ s)) (end (lastColumn (y ∷ s))))
 
-  row-digits : (d x : ℕ) (s : List ℕ) → Steps x (digitStep d) false false true → row (x ∷ s) ≡ every isDigit s
+  row-digits : (d x : ℕ) (s : List ℕ) → Steps x (digitStep d) false false true → row (x ∷ s) ≡ every isFigure s
   unfolding pairs
   row-digits d x [] t = q .digit-ends x (t .digit-is)
   row-digits d x (y ∷ s) t = followed x y s (goes-digit x y (t .blank-is) (rw (t .minus-is, t .digit-is))) ∙ by (column-of y) (λ e u. row-digits e y s u)
     where
-      by : Column y → ((e : ℕ) → Steps y (digitStep e) false false true → row (y ∷ s) ≡ every isDigit s) → (isDigit y && row (y ∷ s)) ≡ (isDigit y && every isDigit s)
+      by : Column y → ((e : ℕ) → Steps y (digitStep e) false false true → row (y ∷ s) ≡ every isFigure s) → (isFigure y && row (y ∷ s)) ≡ (isFigure y && every isFigure s)
       by (blank u) more = rw (u .digit-is)
       by (minus u) more = rw (u .digit-is)
-      by (digit e u) more = ap (λ r. isDigit y && r) (more e u)
+      by (digit e u) more = ap (λ r. isFigure y && r) (more e u)
       by (other u) more = rw (u .digit-is)
 
   -- a state behind which only digits may follow
   record Due (st : Scan) : Type 0 where
     no-blank : blankStep st ≡ Broken
     no-minus : minusStep st ≡ Broken
-    then : (d : ℕ) (s : List ℕ) → ask (scanOf (digitStep d st) s) ≡ every isDigit s
+    then : (d : ℕ) (s : List ℕ) → ask (scanOf (digitStep d st) s) ≡ every isFigure s
 
-  due-row : (st : Scan) (y : ℕ) (s : List ℕ) → Due st → ask (scanOf st (y ∷ s)) ≡ (isDigit y && row (y ∷ s))
+  due-row : (st : Scan) (y : ℕ) (s : List ℕ) → Due st → ask (scanOf st (y ∷ s)) ≡ (isFigure y && row (y ∷ s))
   due-row st y s h = by (column-of y)
     where
-      by : Column y → ask (scanOf (stepOf (classOf y) st) s) ≡ (isDigit y && row (y ∷ s))
+      by : Column y → ask (scanOf (stepOf (classOf y) st) s) ≡ (isFigure y && row (y ∷ s))
       by (blank t) = fails ask (q .asks) y st s (row (y ∷ s)) (t .step st ∙ h .no-blank) (t .digit-is)
       by (minus t) = fails ask (q .asks) y st s (row (y ∷ s)) (t .step st ∙ h .no-minus) (t .digit-is)
       by (digit d t) = ap (λ u. ask (scanOf u s)) (t .step st) ∙ h .then d s ∙ sym (rw (t .digit-is) (row-digits d y s t))
@@ -189,4 +189,4 @@ module _ (ask : Scan → Bool) (end : ℕ → Bool) (q : Ends ask end) where
           ∙ sym (followed x y s (goes-digit x y (t .blank-is) (rw (t .minus-is, t .digit-is))))
       by (other t) more =
           ap (λ st. ask (scanOf st (y ∷ s))) (t .step Blanks) ∙ broken-fails ask (q .asks) (y ∷ s)
-          ∙ sym (rw (t .blank-is, t .minus-is, t .digit-is, and-false (isDigit y)))
+          ∙ sym (rw (t .blank-is, t .minus-is, t .digit-is, and-false (isFigure y)))

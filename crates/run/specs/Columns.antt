@@ -17,12 +17,12 @@ abbrev pub between : ℕ → ℕ → ℕ → Bool
 between first last b = leb first b && leb b last
 
 -- `0` to `9`
-abbrev pub isDigit : ℕ → Bool
-isDigit = between 48 57
+abbrev pub isFigure : ℕ → Bool
+isFigure = between 48 57
 
 -- x may stand before y: a blank before anything that is right by itself, a minus or a digit before a digit
 abbrev pub goesOn : ℕ → ℕ → Bool
-goesOn x y = eqb x 32 || (isDigit y && (eqb x 45 || isDigit x))
+goesOn x y = eqb x 32 || (isFigure y && (eqb x 45 || isFigure x))
 
 -- each column goes on to the next
 unfoldable pub pairs : List ℕ → Bool
@@ -35,7 +35,7 @@ lastColumn s = getD s (length s - 1) 0
 
 -- R72: a blank, a minus or a digit may stand before F's point
 abbrev pub isColumn : ℕ → Bool
-isColumn b = eqb b 32 || (eqb b 45 || isDigit b)
+isColumn b = eqb b 32 || (eqb b 45 || isFigure b)
 
 -- R75, R76: the last column before E's point
 abbrev pub isLead : ℕ → Bool
@@ -46,15 +46,15 @@ abbrev pub isSign : ℕ → Bool
 isSign b = eqb b 43 || eqb b 45
 
 -- R70
-abbrev pub isWhole : List ℕ → Bool
-isWhole s = pairs s && isDigit (lastColumn s)
+abbrev pub isWholeField : List ℕ → Bool
+isWholeField s = pairs s && isFigure (lastColumn s)
 
 -- R72: what stands before the point, the point, three digits
 abbrev pub isHead : List ℕ → Bool
 isHead s = pairs s && isColumn (lastColumn s)
 
 abbrev pub isFixed : List ℕ → Bool
-isFixed s = eqb (getD s (length s - 4) 0) 46 && (isHead (part 0 (length s - 4) s) && every isDigit (part (length s - 3) (length s) s))
+isFixed s = eqb (getD s (length s - 4) 0) 46 && (isHead (part 0 (length s - 4) s) && every isFigure (part (length s - 3) (length s) s))
 
 -- R75, R76: what stands before the point: no digit but the last column, which is one of three
 abbrev pub isLeading : List ℕ → Bool
@@ -66,7 +66,7 @@ isPower c d s =
     eqb (getD s c 0) 46
     && (eqb (getD s (c + 1 + d) 0) 69
     && (isSign (getD s (c + 2 + d) 0)
-    && (isLeading (part 0 c s) && (every isDigit (part (c + 1) (c + 1 + d) s) && every isDigit (part (c + 3 + d) (length s) s)))))
+    && (isLeading (part 0 c s) && (every isFigure (part (c + 1) (c + 1 + d) s) && every isFigure (part (c + 3 + d) (length s) s)))))
 
 -- ---- filling
 

@@ -10,13 +10,13 @@ use Rattle.form.specs.Table.{rowOf}
 use Rattle.field.specs.Read.{fieldOf, valueCells, formed}
 
 -- field i, from 0 on: each takes as many columns as the form's row says
-abbrev pub fieldAt : Form → List ℕ → ℕ → List ℕ
-fieldAt f s i = part (i * rowOf f .width) (suc i * rowOf f .width) s
+abbrev pub runField : Form → List ℕ → ℕ → List ℕ
+runField f s i = part (i * rowOf f .width) (suc i * rowOf f .width) s
 
 -- each of the k fields is one of the form
 unfoldable pub runFormed : Form → ℕ → List ℕ → Bool
-runFormed f k s = every (λ i. formed (fieldOf f (fieldAt f s i))) (upFrom 0 k)
+runFormed f k s = every (λ i. formed (fieldOf f (runField f s i))) (upFrom 0 k)
 
 -- their cells, one field's behind the other's
 unfoldable pub runCells : Form → ℕ → List ℕ → List ℤ
-runCells f k s = flatMap (λ i. valueCells (fieldAt f s i) (fieldOf f (fieldAt f s i))) (upFrom 0 k)
+runCells f k s = flatMap (λ i. valueCells (runField f s i) (fieldOf f (runField f s i))) (upFrom 0 k)

@@ -12,7 +12,7 @@ ghost use Rattle.base.specs.Every.{every, has};
 ghost use Rattle.base.specs.Part.{over};
 ghost use Rattle.form.specs.Table.{rowOf};
 ghost use Rattle.run.specs.Run.{runFormed, runCells};
-ghost use Rattle.run.specs.Columns.{between, isDigit, goesOn, pairs, isColumn, isLead, isSign, isWhole, isHead};
+ghost use Rattle.run.specs.Columns.{between, isFigure, goesOn, pairs, isColumn, isLead, isSign, isWholeField, isHead};
 ghost use Rattle.run.specs.Columns.{isFixed, isLeading, isPower, numberIn, wholeCell, fixedCell};
 ghost use Rattle.run.specs.Columns.{powerFirst, powerSecond, eachPiece, allPieces};
 
@@ -38,7 +38,7 @@ fn all_between(s: &[u8], first: u8, last: u8) -> bool
 }
 
 fn is_digit(b: u8) -> bool
-    ensures { λ r. ⌜ r ≡ isDigit b ⌝ }
+    ensures { λ r. ⌜ r ≡ isFigure b ⌝ }
 {
     is_between(b, b'0', b'9')
 }
@@ -68,7 +68,7 @@ fn pairs(s: &[u8]) -> bool
 // R70: a digit stands last.
 fn is_whole(s: &[u8]) -> bool
     requires { ⌜ 1 ≤ length (now s) ⌝ }
-    ensures { λ r. ⌜ r ≡ isWhole (now (s .entry)) ⌝ }
+    ensures { λ r. ⌜ r ≡ isWholeField (now (s .entry)) ⌝ }
 {
     pairs(s) && is_digit(s[s.len() - 1])
 }
@@ -144,7 +144,7 @@ fn is_power(s: &[u8], c: usize, d: usize, x: usize) -> bool
 fn whole_run(fields: &[u8], k: usize, w: usize) -> bool
     requires run { ⌜ length (now fields) ≡ k * w ⌝ }
     requires w { ⌜ 1 ≤ w ⌝ }
-    ensures { λ r. ⌜ r ≡ eachPiece isWhole w k (now (fields .entry)) ⌝ }
+    ensures { λ r. ⌜ r ≡ eachPiece isWholeField w k (now (fields .entry)) ⌝ }
 {
     let mut a = 0;
     let mut i = 0;

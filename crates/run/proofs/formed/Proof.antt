@@ -4,7 +4,7 @@ use native.Mathlib.Omega.{arith}
 use mathlib.Core.Path.{refl}
 use Rattle.base.specs.Ascii.{printable}
 use Rattle.form.specs.Table
-use Rattle.run.specs.Columns.{isDigit}
+use Rattle.run.specs.Columns.{isFigure}
 use Rattle.run.proofs.ByForm.{width-as, formed-as, formed-bytes}
 use Rattle.run.proofs.formed.Statement.{statement}
 use Rattle.run.proofs.formed.Tie as tie
@@ -81,7 +81,7 @@ returns-7 : tie.Need-returns-7
 returns-7 c =
     let at = c .before .before .before .before in
     let a = at .args in
-    formed-bytes (a .form) (a .k) (a .fields .now) (at .pre) (c .before .enum-told7 .given .1) isDigit refl (c .all-between3 .ensures)
+    formed-bytes (a .form) (a .k) (a .fields .now) (at .pre) (c .before .enum-told7 .given .1) isFigure refl (c .all-between3 .ensures)
 
 power-run-requires : tie.Need-power-run-requires
 unfolding Table.rowOf Table.listedAs

@@ -5,19 +5,19 @@ use native.Mathlib.Omega.{arith}
 use mathlib.Core.Path.{sym, _∙_}
 use Prim.Native.Nat.{_-_}
 use lib.ListN.{length}
-use Rattle.run.specs.Columns.{isWhole}
+use Rattle.run.specs.Columns.{isWholeField}
 use Rattle.run.proofs.Pieces.{Tested, piece-within, piece-long, tested-none, tested-more, tested-failed, tested-all}
 use Rattle.run.proofs.whole_run.Statement.{statement}
 use Rattle.run.proofs.whole_run.Tie as tie
 
 abbrev Inv-loop : tie.InvT-loop
-Inv-loop fields k w a₀ i₀ a i = Tested isWhole w k fields a i
+Inv-loop fields k w a₀ i₀ a i = Tested isWholeField w k fields a i
 
 abbrev μ-loop : tie.MeasureT-loop
 μ-loop fields k w a₀ i₀ a i = k - i
 
 loop-holds : tie.Need-loop-holds Inv-loop μ-loop
-loop-holds c = let a = c .before .args in tested-none isWhole (a .w) (a .k) (a .fields .now)
+loop-holds c = let a = c .before .args in tested-none isWholeField (a .w) (a .k) (a .fields .now)
 
 add-e : tie.Need-add-e Inv-loop μ-loop
 add-e c =
