@@ -18,8 +18,10 @@ use Rattle.base.proofs.UpFrom.{length-up, getD-map-up}
 use Rattle.form.specs.Table.{formOf}
 use Rattle.form.specs.Count.{linesOf, cellsOf}
 use Rattle.form.specs.declared.Form.{Form}
-use Rattle.form.specs.declared.GroupForm.the-variants.{Has}
-use Rattle.count.specs.Tally.{countOf, linesIn, cellsIn, lineTally, cellTally, linesBefore, cellsBefore, recordLines, recordCells, Before}
+use Rattle.form.specs.declared.GroupForm.{GroupForm}
+use Rattle.form.specs.declared.GroupForm.the-variants.{Has, NoGroup}
+use Rattle.form.proofs.Counted.{lines-none, lines-few, cells-none, cells-few}
+use Rattle.count.specs.Tally.{countOf, linesBy, cellsBy, linesIn, cellsIn, lineTally, cellTally, linesBefore, cellsBefore, recordLines, recordCells, Before}
 
 -- ---- a count by its place in the list
 
@@ -29,6 +31,25 @@ count-at ns (suc g) h = let e : suc g - 1 ≡ g = omega arith in rw e
 
 pub count-beyond : (ns : List ℕ) (g : ℕ) → length ns < g → countOf ns g ≡ 0
 count-beyond ns g h = List·getD-eq-default (0 ∷ ns) 0 {n = g} h
+
+-- ---- what a count has in a group's form: nothing if it is 0, and never so much that a sum over the groups is long
+
+module _ (ρ : Rules) where
+  pub no-lines : (f : GroupForm) → linesBy ρ f 0 ≡ 0
+  no-lines (Has f) = lines-none ρ f
+  no-lines NoGroup = refl
+
+  pub no-cells : (f : GroupForm) → cellsBy ρ f 0 ≡ 0
+  no-cells (Has f) = cells-none ρ f
+  no-cells NoGroup = refl
+
+  pub lines-by-few : (f : GroupForm) (n : ℕ) → n ≤ 65535 → linesBy ρ f n ≤ 65535
+  lines-by-few (Has f) n h = lines-few ρ f n h
+  lines-by-few NoGroup n h = omega arith
+
+  pub cells-by-few : (f : GroupForm) (n : ℕ) → n ≤ 65535 → cellsBy ρ f n ≤ 7864200
+  cells-by-few (Has f) n h = cells-few ρ f n h
+  cells-by-few NoGroup n h = omega arith
 
 -- ---- a tally: a first entry, then one for each group 1 to 60
 
@@ -93,25 +114,12 @@ module _ (ρ : Rules) (ns : List ℕ) where
       record { lines-are = b .lines-are ∙ tally-end 2 (linesIn ρ ns) g; cells-are = b .cells-are ∙ tally-end 0 (cellsIn ρ ns) g }
 
   module _ (g l c : ℕ) (some : 0 < g) (few : g < 61) (b : Before ρ ns g l c) where
-    more : Before ρ ns (g + 1) (l + linesIn ρ ns g) (c + cellsIn ρ ns g)
-    unfolding linesBefore cellsBefore lineTally cellTally
-    more = record {
+    pub before-more : Before ρ ns (g + 1) (l + linesBy ρ (formOf g) (countOf ns g)) (c + cellsBy ρ (formOf g) (countOf ns g))
+    unfolding linesBefore cellsBefore lineTally cellTally linesIn cellsIn
+    before-more = record {
       lines-are = rw (b .lines-are) (sym (tally-more 2 (linesIn ρ ns) g some few));
       cells-are = rw (b .cells-are) (sym (tally-more 0 (cellsIn ρ ns) g some few));
     }
-
-    pub before-more : (f : Form) → formOf g ≡ Has f → Before ρ ns (g + 1) (l + linesOf ρ f (countOf ns g)) (c + cellsOf ρ f (countOf ns g))
-    unfolding linesIn cellsIn
-    before-more f e =
-        let p : linesIn ρ ns g ≡ linesOf ρ f (countOf ns g) = lines-by f e in
-        let q : cellsIn ρ ns g ≡ cellsOf ρ f (countOf ns g) = cells-by f e in
-        rw (← p, ← q) more
-      where
-        lines-by : (f : Form) → formOf g ≡ Has f → linesIn ρ ns g ≡ linesOf ρ f (countOf ns g)
-        lines-by f e = rw e
-
-        cells-by : (f : Form) → formOf g ≡ Has f → cellsIn ρ ns g ≡ cellsOf ρ f (countOf ns g)
-        cells-by f e = rw e
 
 -- before 61 is the whole record
 pub all-lines : (ρ : Rules) (ns : List ℕ) → linesBefore ρ ns 61 ≡ recordLines ρ ns
@@ -136,6 +144,10 @@ line-entry ρ ns g some few = tally-at 2 (linesIn ρ ns) g some few
 pub lines-more : (ρ : Rules) (ns : List ℕ) (g : ℕ) → g < 61 → linesBefore ρ ns (suc g) ≡ linesBefore ρ ns g + getD (lineTally ρ ns) g 0
 unfolding linesBefore lineTally
 lines-more ρ ns g h = sum-take-more (lineTally ρ ns) g (omega (arith, tally-length 2 (linesIn ρ ns)))
+
+pub lines-in : (ρ : Rules) (ns : List ℕ) (g : ℕ) → linesIn ρ ns g ≡ linesBy ρ (formOf g) (countOf ns g)
+unfolding linesIn
+lines-in ρ ns g = refl
 
 pub lines-has : (ρ : Rules) (ns : List ℕ) (g : ℕ) (f : Form) → formOf g ≡ Has f → linesIn ρ ns g ≡ linesOf ρ f (countOf ns g)
 unfolding linesIn

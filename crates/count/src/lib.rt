@@ -3,14 +3,15 @@
 use reply::Checked;
 use reply::Refusal;
 ghost use mathlib.Core.Path.{_≡_};
-ghost use mathlib.Core.Bool.{_&&_};
+ghost use mathlib.Core.Bool.{false, _&&_};
 ghost use mathlib.Core.List.{map};
 ghost use lib.Dec.{leb};
+ghost use lib.ListN.{getD};
 ghost use Prim.Native.Nat.{_+_, _^_, _<_, _≤_};
-ghost use Rattle.form.specs.Count.{linesOf, cellsOf};
-ghost use Rattle.count.specs.Tally.{countOf, Before};
+ghost use Rattle.form.specs.Table.{formOf};
+ghost use Rattle.count.specs.Tally.{countOf, linesBy, cellsBy, Before};
 ghost use Rattle.count.specs.Rules.{releaseOf, lower, one, rule, differ, settle, keeps, lowest, headRules};
-ghost use Rattle.count.specs.Rules.{letterRules, setRule, sets, zeroOr, rulingOf};
+ghost use Rattle.count.specs.Rules.{letterRules, setRule, set, sets, zeroOr, rulingOf};
 ghost use Rattle.count.specs.Check.{wellFormed, acceptedOf, checkedOf};
 
 // R24, R25: what stands under the number 80 and under the vacant ones: release 5 and nothing, another release, or the
@@ -107,13 +108,19 @@ pub fn count_of(counts: &[u16], group: usize) -> u16
     counts[group - 1]
 }
 
-// Totals with those of a group more.
-fn with_group(rules: rules::Rules, totals: Totals, form: form::Form, count: u16) -> Totals
+// Totals with those of a group more. Most groups of a record have the count 0, and nothing is looked up for them.
+fn with_group(rules: rules::Rules, totals: Totals, group: usize, count: u16) -> Totals
+    requires low { ⌜ 1 ≤ group ⌝ }
+    requires high { ⌜ group ≤ 60 ⌝ }
     requires lines { ⌜ totals .lines < 2 ^ 32 ⌝ }
     requires cells { ⌜ totals .cells < 2 ^ 32 ⌝ }
-    ensures lines { λ r. ⌜ r .lines ≡ totals .lines + linesOf rules form count ⌝ }
-    ensures cells { λ r. ⌜ r .cells ≡ totals .cells + cellsOf rules form count ⌝ }
+    ensures lines { λ r. ⌜ r .lines ≡ totals .lines + linesBy rules (formOf group) count ⌝ }
+    ensures cells { λ r. ⌜ r .cells ≡ totals .cells + cellsBy rules (formOf group) count ⌝ }
 {
+    if count == 0 {
+        return totals;
+    }
+    let form = form::form_in(group);
     Totals {
         lines: totals.lines + form::lines(rules, form, count),
         cells: totals.cells + form::cells(rules, form, count),
@@ -132,8 +139,7 @@ pub fn add_up(rules: rules::Rules, counts: &[u16], group: usize) -> Totals
     let mut totals = Totals { lines: 2, cells: 0 };
     let mut g: usize = 1;
     while g < end {
-        let f = form::form_in(g);
-        totals = with_group(rules, totals, f, count_of(counts, g));
+        totals = with_group(rules, totals, g, count_of(counts, g));
         g += 1;
     }
     totals
@@ -245,15 +251,33 @@ fn kept_by(counts: &[u16], set: Set) -> bool
     count_of(counts, last) != 0
 }
 
+// R125: a set by its place in the table, which is built anew where a variable indexes it, but not at a constant index.
+fn set_at(k: usize) -> Set
+    requires { ⌜ k < 10 ⌝ }
+    ensures { λ r. ⌜ r ≡ getD sets k (set 0 0 false) ⌝ }
+{
+    match k {
+        0 => SETS[0],
+        1 => SETS[1],
+        2 => SETS[2],
+        3 => SETS[3],
+        4 => SETS[4],
+        5 => SETS[5],
+        6 => SETS[6],
+        7 => SETS[7],
+        8 => SETS[8],
+        _ => SETS[9],
+    }
+}
+
 // A set that breaks a rule has its first group blamed.
 fn set_ruling(counts: &[u16]) -> Ruling
     ensures { λ r. ⌜ r ≡ lowest (map (setRule (now (counts .entry))) sets) ⌝ }
 {
-    let table = SETS;
     let mut low = Ruling::Kept;
     let mut k: usize = 0;
     while k < 10 {
-        let set = table[k];
+        let set = set_at(k);
         low = lower_of(low, ruled(set.first, kept_by(counts, set)));
         k += 1;
     }

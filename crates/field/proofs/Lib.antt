@@ -4,4 +4,5 @@ pub mod Fitting
 pub mod Letters
 pub mod Laws
 pub mod Entries
+pub mod Columns
 pub mod Ranges

@@ -1,5 +1,6 @@
 // One field of a form: read, asked whether cells have one at all, and written canonically; and index entries.
 use form::Form;
+use number::Byte;
 use number::Number;
 use number::Scan;
 ghost use mathlib.Core.Path.{_≡_};
@@ -12,7 +13,7 @@ ghost use Rattle.base.specs.Every.{every};
 ghost use Rattle.base.specs.Part.{over};
 ghost use Rattle.base.specs.Sign.{sizeOf};
 ghost use Rattle.form.specs.Table.{rowOf};
-ghost use Rattle.number.specs.Scan.{Below};
+ghost use Rattle.number.specs.Scan.{classOf, stepOf, SmallDigit};
 ghost use Rattle.field.specs.Kind.{kindOf, widthOf, kindCells, Small};
 ghost use Rattle.field.specs.Read.{valueOf, readAs, fieldOf};
 ghost use Rattle.field.specs.Write.{isLetter, rangeOf, fitsOf, textAs, fieldText};
@@ -397,31 +398,62 @@ pub fn put(form: Form, cells: &[i64], out: &mut [u8], at: usize)
 
 // ---- Index entries.
 
-fn count_in(st: Scan) -> IndexEntry
-    requires { ⌜ Below 1000 st ⌝ }
-    ensures { λ r. ⌜ r ≡ countIn st ⌝ }
+// R23 for columns that end in a blank and a digit: a blank stands before these.
+fn one_digit(first: Byte, units: u64) -> IndexEntry
+    requires { ⌜ units < 10 ⌝ }
+    ensures { λ r. ⌜ r ≡ countIn (stepOf (Byte.Digit units) (stepOf Byte.Blank (stepOf first Scan.Blanks))) ⌝ }
 {
-    match st {
-        Scan::Blanks => IndexEntry::Misformed,
-        Scan::Signed => IndexEntry::Misformed,
-        Scan::Digits(neg, n) => {
-            if neg {
-                return IndexEntry::Misformed;
-            }
-            IndexEntry::Count(n as u16)
-        }
-        Scan::Broken => IndexEntry::Misformed,
+    match first {
+        Byte::Blank => IndexEntry::Count(units as u16),
+        Byte::Minus => IndexEntry::Misformed,
+        Byte::Digit(_) => IndexEntry::Misformed,
+        Byte::Other => IndexEntry::Misformed,
     }
 }
 
-// R23: the count that an index entry reads as; a slice of another length than three is misformed.
+// R23 for columns that end in two digits: a blank stands before these, or a third.
+fn more_digits(first: Byte, tens: u64, units: u64) -> IndexEntry
+    requires first { ⌜ SmallDigit first ⌝ }
+    requires tens { ⌜ tens < 10 ⌝ }
+    requires units { ⌜ units < 10 ⌝ }
+    ensures { λ r. ⌜ r ≡ countIn (stepOf (Byte.Digit units) (stepOf (Byte.Digit tens) (stepOf first Scan.Blanks))) ⌝ }
+{
+    match first {
+        Byte::Blank => IndexEntry::Count((tens * 10 + units) as u16),
+        Byte::Minus => IndexEntry::Misformed,
+        Byte::Digit(hundreds) => IndexEntry::Count(((hundreds * 10 + tens) * 10 + units) as u16),
+        Byte::Other => IndexEntry::Misformed,
+    }
+}
+
+// R23 for columns that end in a digit.
+fn before_units(first: u8, second: u8, units: u64) -> IndexEntry
+    requires { ⌜ units < 10 ⌝ }
+    ensures { λ r. ⌜ r ≡ countIn (stepOf (Byte.Digit units) (stepOf (classOf second) (stepOf (classOf first)
+        Scan.Blanks))) ⌝ }
+{
+    match number::class(second) {
+        Byte::Blank => one_digit(number::class(first), units),
+        Byte::Minus => IndexEntry::Misformed, // as in ` -0`
+        Byte::Digit(tens) => more_digits(number::class(first), tens, units),
+        Byte::Other => IndexEntry::Misformed,
+    }
+}
+
+// R23: the count that an index entry reads as; a slice of another length than three is misformed. Each column is looked
+// at by itself, the last one first, which takes fewer tests than a state that goes from column to column.
 pub fn read_entry(entry: &[u8]) -> IndexEntry
     ensures { λ r. ⌜ r ≡ entryOf (now (entry .entry)) ⌝ }
 {
     if entry.len() != 3 {
         return IndexEntry::Misformed;
     }
-    count_in(number::scan_part(entry, Scan::Blanks))
+    match number::class(entry[2]) {
+        Byte::Blank => IndexEntry::Misformed,
+        Byte::Minus => IndexEntry::Misformed,
+        Byte::Digit(units) => before_units(entry[0], entry[1], units),
+        Byte::Other => IndexEntry::Misformed,
+    }
 }
 
 // Writes the canonical text of a count at a place with room.

@@ -3,18 +3,24 @@
 use mathlib.Core.Path.{_≡_, refl, sym, _∙_, ap, subst}
 use mathlib.Core.Bool.{Bool, true, false, cond}
 use mathlib.Core.List.{List, [], _∷_, _++_, map}
-use Prim.Native.Nat.{ℕ, suc, _+_, _≤_, _<_}
+use Prim.Native.Nat.{ℕ, suc, _+_, _-_, _≤_, _<_}
 use native.Mathlib.Omega.{arith}
-use native.Mathlib.Nat.{zero-add}
-use lib.ListN.{length, take, drop, getD, take-append-drop}
-use lib.Seq.{drop-cons}
+use native.Mathlib.Nat.{zero-add, add-zero}
+use native.Mathlib.Numerals.{add-one}
+use lib.ListN.{length, take, drop, getD, take-append-drop, drop-of-length-le}
+use lib.Seq.{drop-cons, drop-drop}
 use borrow.Author.Tests.{eq-eqb, ne-eqb}
 use lib.Dec.{T, leb, leb→le}
 use Rattle.base.specs.Ascii.{printable}
 use Rattle.base.specs.Every.{every}
+use Rattle.base.specs.Part.{part}
 use Rattle.base.proofs.Choice.{and-left}
 use Rattle.base.proofs.Every.{every-at}
 use Rattle.line.specs.Lines.{isFeed, feeds, Plain}
+
+pub feeds-nil : feeds [] ≡ 0
+unfolding feeds
+feeds-nil = refl
 
 pub feeds-append : (a b : List ℕ) → feeds (a ++ b) ≡ feeds a + feeds b
 unfolding feeds
@@ -39,6 +45,12 @@ feeds-le (x ∷ a) = one (isFeed x) (feeds-le a)
 pub feeds-cut : (n : ℕ) (xs : List ℕ) → feeds xs ≡ feeds (take n xs) + feeds (drop n xs)
 feeds-cut n xs = ap feeds (sym (take-append-drop n xs)) ∙ feeds-append (take n xs) (drop n xs)
 
+-- in a part and from its end on
+pub feeds-part : (s : List ℕ) (a e : ℕ) → a ≤ e → feeds (drop a s) ≡ feeds (part a e s) + feeds (drop e s)
+feeds-part s a e h =
+    let m : a + (e - a) ≡ e = omega arith in
+    feeds-cut (e - a) (drop a s) ∙ ap (λ y. feeds (part a e s) + feeds y) (drop-drop (e - a) a s ∙ ap (λ n. drop n s) m)
+
 -- from a place on, by the byte there
 pub feeds-drop-feed : (s : List ℕ) (i : ℕ) → i < length s → getD s i 0 ≡ 10 → feeds (drop i s) ≡ suc (feeds (drop (suc i) s))
 unfolding feeds
@@ -48,9 +60,15 @@ pub feeds-drop-other : (s : List ℕ) (i : ℕ) → i < length s → (getD s i 0
 unfolding feeds
 feeds-drop-other s i h n = rw (drop-cons s i 0 h, ne-eqb (getD s i 0) 10 n)
 
-pub feeds-nil : feeds [] ≡ 0
-unfolding feeds
-feeds-nil = refl
+-- the same as the code counts: what it has found, and what is left
+pub feeds-turn-feed : (s : List ℕ) (i n : ℕ) → i < length s → getD s i 0 ≡ 10 → (n + 1) + feeds (drop (i + 1) s) ≡ n + feeds (drop i s)
+feeds-turn-feed s i n h e = rw (feeds-drop-feed s i h e, add-one i) (omega arith)
+
+pub feeds-turn-other : (s : List ℕ) (i n : ℕ) → i < length s → (getD s i 0 ≡ 10 → ⊥) → n + feeds (drop (i + 1) s) ≡ n + feeds (drop i s)
+feeds-turn-other s i n h e = rw (feeds-drop-other s i h e, add-one i)
+
+pub feeds-turned : (s : List ℕ) (i n : ℕ) → length s ≤ i → n ≡ n + feeds (drop i s)
+feeds-turned s i n h = rw (drop-of-length-le s h, feeds-nil) (sym (add-zero n))
 
 pub feeds-one : feeds (10 ∷ []) ≡ 1
 unfolding feeds

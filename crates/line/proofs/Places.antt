@@ -1,5 +1,5 @@
 -- The place behind k lines from a place: what each answer means; k then j lines; nothing before the place and nothing behind the last
--- line feed found matters; only the places of line feeds matter; one byte more, as the code looks at it.
+-- line feed found matters; only the places of line feeds matter; one byte or one block more, as the code looks at it.
 -- Assumes nothing.
 use mathlib.Core.Path.{_≡_, refl, sym, _∙_, ap, subst}
 use mathlib.Core.Bool.{Bool, true, false, cond}
@@ -21,8 +21,8 @@ use Rattle.line.specs.Lines.{isFeed, feeds, reach, lines, behind, Whole}
 use Rattle.line.specs.Places.{behindAt}
 use Rattle.line.specs.Texts.{SameLines}
 use Rattle.line.specs.declared.Behind.the-variants.{At, TooFew}
-use Rattle.line.proofs.Feeds.{feeds-append, feeds-nil, feeds-drop-feed, feeds-drop-other}
-use Rattle.line.proofs.Reach.{reach-zero, reach-le, reach-add, reach-all, reach-nil, reach-append, reach-drop-feed, reach-drop-other, feeds-behind, length-lines}
+use Rattle.line.proofs.Feeds.{feeds-append, feeds-part, feeds-nil, feeds-drop-feed, feeds-drop-other}
+use Rattle.line.proofs.Reach.{reach-zero, reach-le, reach-add, reach-all, reach-nil, reach-append, reach-drop-feed, reach-drop-other, reach-passed, feeds-behind, length-lines}
 use Rattle.line.proofs.Whole.{reach-whole, feeds-whole, whole-lines, whole-same}
 use Rattle.line.proofs.Texts.{feeds-from, reach-from}
 
@@ -96,6 +96,19 @@ unfolding behindAt
 behindAt-other s i zero h p n = absurd (omega arith)
 behindAt-other s i (suc k) h p n =
     rw (add-one, feeds-drop-other s i h n, reach-drop-other s i k h n, add-suc, ← suc-add)
+
+-- ---- a part more that has fewer lines than are sought
+
+pub behindAt-passed : (s : List ℕ) (i e k n : ℕ) → i ≤ e → e ≤ length s → n ≡ feeds (part i e s) → n < k → behindAt s e (k - n) ≡ behindAt s i k
+behindAt-passed s i e k n h l u p =
+    let f = feeds-part s i e h in
+    let r : e + reach (drop e s) (k - n) ≡ i + reach (drop i s) k = rw u (reach-passed s i e k h l (omega arith)) in
+    ⊎-elim
+    (λ (m : k ≤ feeds (drop i s)).
+    is-at s e (k - n) (e + reach (drop e s) (k - n)) record { many = omega arith; place = refl }
+    ∙ sym (is-at s i k (e + reach (drop e s) (k - n)) record { many = m; place = r }))
+    (λ (m : feeds (drop i s) < k). is-few s e (k - n) (omega arith) ∙ sym (is-few s i k m))
+    (le-or-lt k (feeds (drop i s)))
 
 -- ---- j lines and then k lines
 

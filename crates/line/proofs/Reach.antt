@@ -6,7 +6,7 @@ use mathlib.Core.Bool.{Bool, true, false, cond}
 use mathlib.Core.List.{List, [], _∷_, _++_, map}
 use Prim.Native.Nat.{ℕ, zero, suc, _+_, _-_, _<_, _≤_}
 use native.Mathlib.Omega.{arith}
-use native.Mathlib.Nat.{suc-add, zero-add}
+use native.Mathlib.Nat.{suc-add, zero-add, sub-zero}
 use lib.ListN.{length, drop, getD, length-drop, take-append-drop}
 use lib.Seq.{drop-cons, drop-drop, length-take-le, take-append-le, drop-append-le}
 use borrow.Author.Tests.{eq-eqb, ne-eqb}
@@ -130,25 +130,37 @@ pub reach-drop-other : (s : List ℕ) (i k : ℕ) → i < length s → (getD s i
 unfolding reach
 reach-drop-other s i k h n = rw (drop-cons s i 0 h, ne-eqb (getD s i 0) 10 n)
 
--- bytes without a line feed in front belong to the first line
-reach-plain : (a b : List ℕ) (k : ℕ) → feeds a ≡ 0 → reach (a ++ b) (suc k) ≡ length a + reach b (suc k)
+-- bytes in front that have fewer lines: what they have is passed
+reach-append-few : (a b : List ℕ) (k : ℕ) → feeds a < k → reach (a ++ b) k ≡ length a + reach b (k - feeds a)
 unfolding feeds reach
-reach-plain [] b k h = sym (zero-add (reach b (suc k)))
-reach-plain (x ∷ a) b k h = one (isFeed x) h (reach-plain a b k)
+reach-append-few [] b k h = rw (sub-zero k) (sym (zero-add (reach b k)))
+reach-append-few (x ∷ a) b zero h = absurd (omega arith)
+reach-append-few (x ∷ a) b (suc k) h = one (isFeed x) h (reach-append-few a b (cond (isFeed x) k (suc k)))
   where
-    one : (c : Bool) → cond c (suc (feeds a)) (feeds a) ≡ 0 → (feeds a ≡ 0 → reach (a ++ b) (suc k) ≡ length a + reach b (suc k))
-        → suc (reach (a ++ b) (cond c k (suc k))) ≡ suc (length a) + reach b (suc k)
-    one true e r = absurd (omega arith)
-    one false e r = omega (arith, r e)
+    one : (c : Bool) → cond c (suc (feeds a)) (feeds a) < suc k
+        → (feeds a < cond c k (suc k) → reach (a ++ b) (cond c k (suc k)) ≡ length a + reach b (cond c k (suc k) - feeds a))
+        → suc (reach (a ++ b) (cond c k (suc k))) ≡ suc (length a) + reach b (suc k - cond c (suc (feeds a)) (feeds a))
+    one true l r =
+        let e : suc k - suc (feeds a) ≡ k - feeds a = omega arith in
+        rw e (omega (arith, r (omega arith)))
+    one false l r = omega (arith, r l)
 
--- so a line's end may be sought behind them
-pub reach-past : (s : List ℕ) (at to k : ℕ) → at ≤ to → to ≤ length s → Plain (part at to s) → to + reach (drop to s) (suc k) ≡ at + reach (drop at s) (suc k)
-unfolding Plain
-reach-past s at to k h l p =
+-- so lines may be sought behind a part that has fewer
+pub reach-passed : (s : List ℕ) (at to k : ℕ) → at ≤ to → to ≤ length s → feeds (part at to s) < k
+    → to + reach (drop to s) (k - feeds (part at to s)) ≡ at + reach (drop at s) k
+reach-passed s at to k h l p =
     let m = to - at in
     let e : at + m ≡ to = omega arith in
     let d : drop m (drop at s) ≡ drop to s = drop-drop m at s ∙ ap (λ n. drop n s) e in
     let n : length (part at to s) ≡ m = length-take-le m (drop at s) (omega (arith, length-drop at s)) in
-    let r : reach (drop at s) (suc k) ≡ length (part at to s) + reach (drop m (drop at s)) (suc k) =
-    ap (λ (y : List ℕ). reach y (suc k)) (sym (take-append-drop m (drop at s))) ∙ reach-plain (part at to s) (drop m (drop at s)) k p in
-    omega (arith, r, n, ap (λ y. reach y (suc k)) d)
+    let j = k - feeds (part at to s) in
+    let r : reach (drop at s) k ≡ length (part at to s) + reach (drop m (drop at s)) j =
+    ap (λ (y : List ℕ). reach y k) (sym (take-append-drop m (drop at s))) ∙ reach-append-few (part at to s) (drop m (drop at s)) k p in
+    omega (arith, r, n, ap (λ y. reach y j) d)
+
+-- and a line's end behind bytes without a line feed
+pub reach-past : (s : List ℕ) (at to k : ℕ) → at ≤ to → to ≤ length s → Plain (part at to s) → to + reach (drop to s) (suc k) ≡ at + reach (drop at s) (suc k)
+unfolding Plain
+reach-past s at to k h l p =
+    let e : suc k ≡ suc k - feeds (part at to s) = omega arith in
+    ap (λ n. to + reach (drop to s) n) e ∙ reach-passed s at to (suc k) h l (omega arith)

@@ -1,8 +1,8 @@
 // Lines of a text: where so many of them end, whether a part is so many, and what the content of one is.
 ghost use mathlib.Core.Path.{_≡_};
-ghost use Prim.Native.Nat.{_+_};
-ghost use lib.ListN.{drop};
-ghost use Rattle.line.specs.Lines.{reach};
+ghost use Prim.Native.Nat.{_+_, _<_, _≤_};
+ghost use lib.ListN.{length, drop};
+ghost use Rattle.line.specs.Lines.{feeds, reach};
 ghost use Rattle.line.specs.Places.{behindAt};
 ghost use Rattle.line.specs.Parts.{areLines, beginsLine, liesWithin};
 ghost use Rattle.line.specs.Contents.{contentOf};
@@ -13,16 +13,69 @@ pub enum Behind {
     TooFew,
 }
 
+// Lines that are sought from a place on.
+struct Sought {
+    pub at: usize,
+    pub lines: usize,
+}
+
+// The number of line feeds in a block. Each byte is looked at and the sum is a byte, so that the compiler can take many
+// bytes at once.
+fn feeds_in(block: &[u8]) -> u8
+    requires { ⌜ length (now block) ≤ 255 ⌝ }
+    ensures { λ r. ⌜ r ≡ feeds (now (block .entry)) ⌝ }
+{
+    let mut n: u8 = 0;
+    let mut i: usize = 0;
+    while i < block.len() {
+        if block[i] == 10 {
+            n += 1;
+        }
+        i += 1;
+    }
+    n
+}
+
+// Passes over blocks of a size, up to one that has as many line feeds as are sought, or up to the text's last bytes:
+// what is then sought from there on is what was sought.
+fn past_blocks(text: &[u8], from: Sought, size: usize) -> Sought
+    requires place { ⌜ from .at ≤ length (now text) ⌝ }
+    requires lines { ⌜ 0 < from .lines ⌝ }
+    requires some { ⌜ 0 < size ⌝ }
+    requires size { ⌜ size ≤ 255 ⌝ }
+    ensures place { λ r. ⌜ r .at ≤ length (now (text .entry)) ⌝ }
+    ensures lines { λ r. ⌜ 0 < r .lines ⌝ }
+    ensures sought { λ r. ⌜ behindAt (now (text .entry)) (r .at) (r .lines)
+        ≡ behindAt (now (text .entry)) (from .at) (from .lines) ⌝ }
+{
+    let mut at = from.at;
+    let mut lines = from.lines;
+    while size <= text.len() - at {
+        let n = feeds_in(&text[at..at + size]) as usize;
+        if lines <= n {
+            return Sought { at, lines };
+        }
+        lines -= n;
+        at += size;
+    }
+    Sought { at, lines }
+}
+
 // R6: asks for the place behind so many lines from a place of a text. Any place may be asked about, also one beyond the
-// text's end.
+// text's end. Lines are passed by large blocks and then by small ones, and the last bytes are looked at one by one.
 pub fn place_behind(text: &[u8], at: usize, lines: usize) -> Behind
     ensures { λ r. ⌜ r ≡ behindAt (now (text .entry)) at lines ⌝ }
 {
     if lines == 0 {
         return Behind::At(at);
     }
-    let mut left = lines;
-    let mut i = at;
+    if text.len() <= at {
+        return Behind::TooFew;
+    }
+    let far = past_blocks(text, Sought { at, lines }, 64);
+    let near = past_blocks(text, far, 16);
+    let mut left = near.lines;
+    let mut i = near.at;
     while i < text.len() {
         if text[i] == 10 {
             if left == 1 {

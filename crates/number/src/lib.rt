@@ -14,7 +14,7 @@ ghost use Rattle.number.specs.Write.{textE};
 // ---- Reading: one pass over the columns.
 
 // What one byte of a number's columns is.
-enum Byte {
+pub enum Byte {
     Blank,
     Minus,
     Digit(u64),
@@ -36,7 +36,7 @@ pub enum Number {
     Misformed,
 }
 
-fn class(b: u8) -> Byte
+pub fn class(b: u8) -> Byte
     ensures { λ r. ⌜ r ≡ classOf b ⌝ }
 {
     if b == b' ' {

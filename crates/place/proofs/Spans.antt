@@ -12,18 +12,15 @@ use Rattle.base.specs.Every.{upFrom}
 use Rattle.base.specs.Part.{over}
 use Rattle.base.proofs.Part.{over-none, over-all, over-turn}
 use Rattle.base.proofs.UpFrom.{length-up, getD-map-up, map-up-same}
-use Rattle.form.specs.declared.Form.{Form}
-use Rattle.form.specs.declared.GroupForm.the-variants.{Has}
 use Rattle.form.specs.Table.{formOf}
-use Rattle.form.specs.Count.{linesOf}
 use Rattle.line.specs.Lines.{reach, behind}
 use Rattle.line.specs.Places.{behindAt}
 use Rattle.line.specs.declared.Behind.{Behind}
 use Rattle.line.specs.declared.Behind.the-variants.{At, TooFew}
 use Rattle.line.proofs.Places.{at-is, behindAt-none, behindAt-then, few-then}
 use Rattle.line.proofs.Reach.{reach-add}
-use Rattle.count.specs.Tally.{linesBefore, recordLines}
-use Rattle.count.proofs.Tallied.{tally-at, before-groups, line-entry, lines-more, lines-has, lines-below, all-lines}
+use Rattle.count.specs.Tally.{linesBy, linesIn, linesBefore, recordLines}
+use Rattle.count.proofs.Tallied.{tally-at, before-groups, line-entry, lines-more, lines-in, lines-below, all-lines}
 use Rattle.reply.specs.declared.Refusal.the-variants.{TooFewLines}
 use Rattle.place.specs.Parts.{start}
 use Rattle.place.specs.Placing.{Located, located, refused, locate, placesBy, countsAt, startsAt, endsAt, carried, carriedAt, locatedBehind, locateLinesFrom, startFrom}
@@ -88,13 +85,14 @@ module _ (ρ : Rules) (s : List ℕ) (from : ℕ) (ns : List ℕ) where
 
   module _ (k at : ℕ) (starts ends : List ℕ) (p : Shared k at starts ends) where
     -- the next group has so many lines
-    module _ (f : Form) (many : ℕ) (h : k < 60) (e : formOf (k + 1) ≡ Has f) (l : many ≡ linesOf ρ f (getD ns k 0)) where
+    module _ (many : ℕ) (h : k < 60) (l : many ≡ linesBy ρ (formOf (k + 1)) (getD ns k 0)) where
       one : k + 1 ≡ suc k
       one = omega arith
 
       with-these : linesBefore ρ ns (suc (suc k)) - 2 ≡ linesBefore ρ ns (suc k) - 2 + many
       with-these =
-          omega (arith, l, two-before k, lines-more ρ ns (suc k) (omega arith), line-entry ρ ns (suc k) (omega arith) (omega arith), lines-has ρ ns (suc k) f (rw one at e))
+          let these : many ≡ linesIn ρ ns (suc k) = l ∙ ap (λ g. linesBy ρ (formOf g) (getD ns k 0)) one ∙ sym (lines-in ρ ns (suc k)) in
+          omega (arith, two-before k, lines-more ρ ns (suc k) (omega arith), line-entry ρ ns (suc k) (omega arith) (omega arith))
 
       behind-these : (b : Behind) → behindAt s at many ≡ b → behindAt s from (linesBefore ρ ns (suc (suc k)) - 2) ≡ b
       behind-these b t = ap (behindAt s from) with-these ∙ behindAt-then s from _ many at (p .place) ∙ t

@@ -1,9 +1,13 @@
 // Records in a text: placing one at a place.
+use line::Behind;
 use reply::Checked;
 use reply::Refusal;
 ghost use mathlib.Core.Path.{_≡_};
 ghost use Prim.Native.Nat.{_+_, _≤_};
 ghost use lib.ListN.{length, replicate};
+ghost use Rattle.form.specs.Table.{formOf};
+ghost use Rattle.line.specs.Places.{behindAt};
+ghost use Rattle.count.specs.Tally.{linesBy};
 ghost use Rattle.place.specs.Index.{readEntries, readIndexLine, Stored};
 ghost use Rattle.place.specs.Numbered.{placingReply, asChecked, isPlaced};
 ghost use Rattle.place.specs.Placing.{placingOf, countsAt, startsAt, endsAt, ruledAt};
@@ -78,6 +82,20 @@ fn nothing(why: Refusal) -> Record
     }
 }
 
+// R43: the place behind a group's lines. Most groups of a record have the count 0, and nothing is looked up or called
+// for them.
+fn behind_group(rules: rules::Rules, text: &[u8], at: usize, group: usize, count: u16) -> Behind
+    requires low { ⌜ 1 ≤ group ⌝ }
+    requires high { ⌜ group ≤ 60 ⌝ }
+    ensures { λ r. ⌜ r ≡ behindAt (now (text .entry)) at (linesBy rules (formOf group) count) ⌝ }
+{
+    if count == 0 {
+        return Behind::At(at);
+    }
+    let lines = form::lines(rules, form::form_in(group), count);
+    line::place_behind(text, at, lines)
+}
+
 // R203, R207, R259: a record of release 5 whose data lines begin at a place: the lines of one group after the other,
 // then the rules on counts.
 fn with_lines(rules: rules::Rules, text: &[u8], from: usize, counts: [u16; 80]) -> Record
@@ -89,8 +107,7 @@ fn with_lines(rules: rules::Rules, text: &[u8], from: usize, counts: [u16; 80]) 
     let mut at = from;
     let mut k: usize = 0;
     while k < 60 {
-        let lines = form::lines(rules, form::form_in(k + 1), counts[k]);
-        let line::Behind::At(next) = line::place_behind(text, at, lines) else {
+        let Behind::At(next) = behind_group(rules, text, at, k + 1, counts[k]) else {
             return nothing(Refusal::TooFewLines);
         };
         starts[k] = at;
@@ -139,10 +156,10 @@ pub fn place(rules: rules::Rules, text: &[u8], at: usize) -> Record
     if text.len() == at {
         return nothing(Refusal::End);
     }
-    let line::Behind::At(second) = line::place_behind(text, at, 1) else {
+    let Behind::At(second) = line::place_behind(text, at, 1) else {
         return nothing(Refusal::TooFewLines);
     };
-    let line::Behind::At(end) = line::place_behind(text, second, 1) else {
+    let Behind::At(end) = line::place_behind(text, second, 1) else {
         return nothing(Refusal::TooFewLines);
     };
     let mut counts = [0u16; 80];

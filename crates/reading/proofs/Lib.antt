@@ -10,6 +10,7 @@ pub mod Putting
 pub mod Filling
 pub mod Dates
 pub mod Steps
+pub mod One
 pub mod Promises
 pub mod Passes
 pub mod FourS

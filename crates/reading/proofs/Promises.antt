@@ -7,7 +7,7 @@ use mathlib.Core.Bool.{Bool}
 use mathlib.Core.List.{List, [], _∷_, map, _++_}
 use mathlib.Core.Logic.{inl, inr}
 use Prim.Native.Nat.{ℕ, _+_, _≤_, _<_}
-use native.Mathlib.Nat.{zero-add, zero-mul}
+use native.Mathlib.Nat.{zero-add}
 use native.Mathlib.Omega.{arith}
 use borrow.Author.Tests.{le-leb, ne-eqb}
 use lib.Dec.{lit<}
@@ -20,11 +20,10 @@ use Rattle.base.specs.Pieces
 use Rattle.base.specs.Pieces.{done, bad}
 use Rattle.form.specs.declared.Form.{Form}
 use Rattle.form.specs.declared.GroupForm.the-variants.{Has}
-use Rattle.form.specs.Table.{rowOf, formOf, NoSuchGroup}
+use Rattle.form.specs.Table.{formOf, NoSuchGroup}
 use Rattle.form.specs.Count
 use Rattle.form.specs.Count.{linesOf, cellsOf}
-use Rattle.form.proofs.Rounding.{rounded-none}
-use Rattle.form.proofs.Segments.{elements-none}
+use Rattle.form.proofs.Counted.{lines-none, cells-none}
 use Rattle.reply.specs.Table.{Numbered, cells}
 use Rattle.reply.specs.Refusals.{refusalReply, answerReply, rows, askedRefusals}
 use Rattle.reply.proofs.Replies.{fills, refusal-fills, at-row, rows-left, rows-right}
@@ -138,8 +137,7 @@ module _ (ρ : Rules) where
 -- ---- R268: a group without elements reads with 0 and no cells, into an empty table too
 
 pub no-elements : (ρ : Rules) (f : Form) → (linesOf ρ f 0 ≡ 0) × (cellsOf ρ f 0 ≡ 0)
-unfolding Count.linesOf Count.cellsOf
-no-elements ρ f = rw (elements-none ρ f) (rounded-none (rowOf f .«per_line»), zero-mul (rowOf f .cells))
+no-elements ρ f = (lines-none ρ f, cells-none ρ f)
 
 no-lines : (ρ : Rules) (f : Form) (short : Bool) (x : List ℕ) → readLines ρ f short 0 x ≡ done []
 unfolding readLines readLinesOf planOf Count.linesOf planFrom Pieces.gather Every.upFrom

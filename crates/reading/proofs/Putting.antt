@@ -1,26 +1,27 @@
--- The cells of one field, put into a table: what room they need, and what each kind of value leaves there.
+-- The cells of one field, put into a table: what room they need, and what is left there.
 -- Assumes nothing.
 use mathlib.Core.Path.{_≡_, refl, sym, _∙_, ap, subst}
 use mathlib.Core.Bool.{Bool, true, false}
 use mathlib.Core.List.{List, [], _∷_, map}
-use Prim.Native.Nat.{ℕ, zero, suc, _+_, _<_, _≤_}
+use Prim.Native.Nat.{ℕ, zero, suc, _+_, _*_, _<_, _≤_}
+use native.Mathlib.Nat.{one-mul}
 use native.Mathlib.Omega.{arith}
 use lib.Dec.{T}
 use lib.IntN.{ℤ, pos}
-use lib.ListN.{length, take, getD, set, length-map, length-set}
+use lib.ListN.{length, take, getD, set, length-map}
 use Rattle.base.specs.Part.{over}
 use Rattle.base.proofs.Mapped.{getD-map-within}
-use Rattle.base.proofs.Part.{over-turn, over-one, over-then, over-none}
+use Rattle.base.proofs.Part.{over-turn, over-none}
 use Rattle.base.proofs.Taken.{take-none}
 use lib.Seq.{take-all}
 use Rattle.form.specs.declared.Form.{Form}
 use Rattle.form.specs.Table.{rowOf}
 use Rattle.field.specs.Read.{fieldOf, formed, valueCells}
-use Rattle.field.specs.declared.Value.{Value}
-use Rattle.field.specs.declared.Value.the-variants.{Letters}
+use Rattle.run.specs.Run.{runFormed, runCells}
 use Rattle.reading.specs.Blanks.{HoldsLetters, filledTo, Fits}
 use Rattle.reading.proofs.Blanks.{filled-length, filled-getD, full-field}
 use Rattle.reading.proofs.Letters.{letters-cells}
+use Rattle.reading.proofs.One.{one-formed, one-cells}
 use Rattle.reading.proofs.Sizes.{reads-size}
 
 -- a byte that is there, whatever stands for one that isn't
@@ -82,40 +83,20 @@ module _ {f : Form} {short : Bool} {width : ℕ} {bytes : List ℕ} {old : List 
   pub short-put : short ≡ true → {new : List ℤ} → new ≡ over at (map pos (filledTo width bytes)) old → new ≡ over at (valueCells (filledTo width bytes) (fieldOf f (filledTo width bytes))) old
   short-put e n = n ∙ ap (λ l. over at l old) (sym (bytes-cells e))
 
-  module _ (no : short ≡ false) {v : Value} (r : fieldOf f bytes ≡ v) where
+  module _ (no : short ≡ false) where
     full : filledTo width bytes ≡ bytes
     full = ap (λ n. filledTo n bytes) (p .wide) ∙ full-field f bytes (rw no at (p .fit))
 
-    value : fieldOf f (filledTo width bytes) ≡ v
-    value = ap (fieldOf f) full ∙ r
+    all-there : length bytes ≡ rowOf f .width
+    all-there = let low : rowOf f .width ≤ length bytes = rw no at (p .fit .low) in omega (arith, p .fit .high)
 
-    cells : valueCells (filledTo width bytes) (fieldOf f (filledTo width bytes)) ≡ valueCells bytes v
-    cells = ap (valueCells (filledTo width bytes)) value ∙ ap (λ t. valueCells t v) full
+    -- what a run of one field asks for
+    pub full-run : (length bytes ≡ 1 * rowOf f .width) × (T (runFormed f 1 bytes)) × (at + 1 * rowOf f .cells ≤ length old)
+    full-run = (
+      all-there ∙ sym (one-mul (rowOf f .width)),
+      subst T (sym (one-formed f bytes all-there)) (subst (λ t. T (formed (fieldOf f t))) full (p .good)),
+      omega (arith, p .room, one-mul (rowOf f .cells)),
+    )
 
-    pub full-room : at + length (valueCells bytes v) ≤ length old
-    full-room = omega (arith, cells-size f (filledTo width bytes) (p .good), ap length cells)
-
-    pub full-put : {new : List ℤ} → new ≡ over at (valueCells bytes v) old → new ≡ over at (valueCells (filledTo width bytes) (fieldOf f (filledTo width bytes))) old
-    full-put n = n ∙ ap (λ l. over at l old) (sym cells)
-
-    pub full-formed : T (formed v)
-    full-formed = subst (λ x. T (formed x)) value (p .good)
-
-    pub full-letters : v ≡ Letters → (length bytes ≤ width) × (at + width ≤ length old)
-    full-letters u =
-        let low : rowOf f .width ≤ length bytes = rw no at (p .fit .low) in
-        (omega (arith, p .fit .high), omega (arith, full-room, ap (λ y. length (valueCells bytes y)) u, length-map bytes pos))
-
-    pub full-filled : {new : List ℤ} → new ≡ over at (map pos (filledTo width bytes)) old → new ≡ over at (map pos bytes) old
-    full-filled n = n ∙ ap (λ t. over at (map pos t) old) full
-
--- one cell, and two, as the machine stores them
-pub cell-put : (old : List ℤ) (at : ℕ) {y z : ℤ} → y ≡ z → at + 1 ≤ length old → set old at y ≡ over at (z ∷ []) old
-cell-put old at {z = z} e h = ap (set old at) e ∙ over-one old at z (omega arith)
-
-pub pair-put : (old : List ℤ) (at : ℕ) {y m u x : ℤ} → y ≡ m → u ≡ x → at + 2 ≤ length old → set (set old at y) (at + 1) u ≡ over at (m ∷ x ∷ []) old
-pair-put old at {m = m} {x = x} e d h =
-    rw (e, d)
-    (over-then old (m ∷ []) (x ∷ []) at (at + 1) (refl, omega arith)
-    (over-one old at m (omega arith))
-    (over-one (set old at m) (at + 1) x (omega (arith, length-set old at m))))
+    pub full-put : {new : List ℤ} → new ≡ over at (runCells f 1 bytes) old → new ≡ over at (valueCells (filledTo width bytes) (fieldOf f (filledTo width bytes))) old
+    full-put n = n ∙ ap (λ l. over at l old) (one-cells f bytes all-there ∙ ap (λ t. valueCells t (fieldOf f t)) (sym full))

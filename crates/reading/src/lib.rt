@@ -83,28 +83,21 @@ fn right_content(rules: rules::Rules, short: bool, columns: usize, line: &[u8]) 
 
 // ---- Checking.
 
-fn is_formed(value: field::Value) -> bool
-    ensures { λ r. ⌜ r ≡ formed value ⌝ }
-{
-    match value {
-        field::Value::Cell(_) => true,
-        field::Value::Pair(_, _) => true,
-        field::Value::Letters => true,
-        field::Value::Misformed => false,
-    }
-}
-
 // Whether bytes of a line are a field of the form. Where lines may be short, blanks that would be added print too
 // (R65).
-fn is_field(form: Form, short: bool, bytes: &[u8]) -> bool
+fn is_field(form: Form, short: bool, width: usize, bytes: &[u8]) -> bool
     requires letters { ⌜ HoldsLetters form short ⌝ }
-    requires width { ⌜ length (now bytes) ≤ rowOf form .width ⌝ }
+    requires columns { ⌜ length (now bytes) ≤ rowOf form .width ⌝ }
+    requires width { ⌜ width ≡ rowOf form .width ⌝ }
     ensures { λ r. ⌜ r ≡ formed (fieldOf form (asField form short (now (bytes .entry)))) ⌝ }
 {
     if short {
         return field::all_printable(bytes);
     }
-    is_formed(field::read(form, bytes))
+    if bytes.len() != width {
+        return false;
+    }
+    run::formed(form, bytes, 1)
 }
 
 // The same of the bytes in the columns from `column` on, of a line that is looked at up to `stop`.
@@ -124,7 +117,7 @@ fn is_field_at(
 {
     let from = base::lesser(column, stop);
     let to = from + base::lesser(width, stop - from);
-    is_field(form, short, &lines[from..to])
+    is_field(form, short, width, &lines[from..to])
 }
 
 // Where the fields of a line are looked for no further, before its end is known. A line that may be short has no length
@@ -292,18 +285,7 @@ fn put_field(form: Form, short: bool, width: usize, bytes: &[u8], table: &mut [i
         put_letters(bytes, width, table, at);
         return;
     }
-    match field::read(form, bytes) {
-        field::Value::Cell(z) => {
-            table[at] = z;
-        }
-        field::Value::Pair(m, x) => {
-            table[at] = m;
-            table[at + 1] = x;
-        }
-        field::Value::Letters => put_letters(bytes, width, table, at),
-        // the lines were found clean
-        field::Value::Misformed => {}
-    }
+    run::fill(form, bytes, 1, table, at);
 }
 
 // The same of the field in the columns from `column` on, of a line whose content ends at `stop`.

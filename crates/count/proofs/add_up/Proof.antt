@@ -4,9 +4,9 @@ use borrow.Author.Needs.{needs}
 use native.Mathlib.Omega.{arith}
 use mathlib.Core.Path.{_≡_}
 use Prim.Native.Nat.{_*_, _-_, _≤_, min}
-use Rattle.form.proofs.Counted.{lines-few, cells-few}
+use Rattle.form.specs.Table.{formOf}
 use Rattle.count.specs.Tally.{countOf, Before}
-use Rattle.count.proofs.Tallied.{before-none, before-groups, before-end, before-more}
+use Rattle.count.proofs.Tallied.{lines-by-few, cells-by-few, before-none, before-groups, before-end, before-more}
 use Rattle.count.proofs.add_up.Statement.{statement}
 use Rattle.count.proofs.add_up.Tie as tie
 
@@ -22,22 +22,19 @@ returns c = rw (c .if1 .taken) (before-none _ _)
 loop-holds : tie.Need-loop-holds Inv-loop μ-loop
 loop-holds c = (omega arith, omega arith, omega arith, omega arith, before-groups _ _)
 
-form-in-requires : tie.Need-form-in-requires Inv-loop μ-loop
-form-in-requires c κs = (omega arith, omega arith)
-
 with-group-requires : tie.Need-with-group-requires Inv-loop μ-loop
-with-group-requires c κs = (omega arith, omega arith)
+with-group-requires c κs = (omega arith, (omega arith, (omega arith, omega arith)))
 
 loop-again : tie.Need-loop-again Inv-loop μ-loop
 loop-again c =
-    let l = c .before .before .before .before .loop in
-    let f = c .before .before .form-in .result in
-    let o = c .before .before .before .before .before .before .before .before .args in
+    let l = c .before .before .before .loop in
+    let o = c .before .before .before .before .before .before .before .args in
     let ns = o .counts .now in
+    let f = formOf (l .g) in
     let n : countOf ns (l .g) ≤ 65535 = omega (arith, c .before .count-of .ensures) in
-    let more = before-more _ ns (l .g) (l .totals .lines) (l .totals .cells) (omega arith) (omega arith) (l .inv .4) f (c .before .before .form-in .ensures) in
+    let more = before-more _ ns (l .g) (l .totals .lines) (l .totals .cells) (omega arith) (omega arith) (l .inv .4) in
     rw (c .with-group .ensures .0, c .with-group .ensures .1, c .before .count-of .ensures)
-    (omega arith, omega arith, omega (arith, lines-few (o .rules) f (countOf ns (l .g)) n), omega (arith, cells-few (o .rules) f (countOf ns (l .g)) n), more)
+    (omega arith, omega arith, omega (arith, lines-by-few (o .rules) f (countOf ns (l .g)) n), omega (arith, cells-by-few (o .rules) f (countOf ns (l .g)) n), more)
 
 returns-2 : tie.Need-returns-2 Inv-loop μ-loop
 returns-2 c =
@@ -53,7 +50,6 @@ add-up-spec =
     returns
     (λ c κs. search needs)
     loop-holds
-    form-in-requires
     (λ c κs. search needs)
     with-group-requires
     (λ c. search needs)

@@ -14,25 +14,24 @@ use Rattle.count.proofs.set_ruling.Statement.{statement}
 use Rattle.count.proofs.set_ruling.Tie as tie
 
 abbrev Inv-loop : tie.InvT-loop
-Inv-loop counts table low₀ k₀ low k = (k ≤ 10) × (lower low (lowest (map (setRule counts) (drop k sets))) ≡ lowest (map (setRule counts) sets))
+Inv-loop counts low₀ k₀ low k = (k ≤ 10) × (lower low (lowest (map (setRule counts) (drop k sets))) ≡ lowest (map (setRule counts) sets))
 
 abbrev μ-loop : tie.MeasureT-loop
-μ-loop counts table low₀ k₀ low k = 10 - k
+μ-loop counts low₀ k₀ low k = 10 - k
 
 loop-holds : tie.Need-loop-holds Inv-loop μ-loop
 unfolding sets
 loop-holds c = (omega arith, refl)
 
 kept-by-requires : tie.Need-kept-by-requires Inv-loop μ-loop
-unfolding sets
-kept-by-requires c κs = last-group (c .before .before .loop .k) (set 0 0 false) (omega arith)
+kept-by-requires c κs = rw (c .set-at .ensures) (last-group (c .before .before .loop .k) (set 0 0 false) (omega arith))
 
 loop-again : tie.Need-loop-again Inv-loop μ-loop
 unfolding sets
 loop-again c =
     let l = c .before .before .before .before .before .loop in (
       omega arith,
-      rw (c .lower-of .ensures, c .before .ruled .ensures, c .before .before .kept-by .ensures)
+      rw (c .lower-of .ensures, c .before .ruled .ensures, c .before .before .kept-by .ensures, c .before .before .before .set-at .ensures)
           (sym (lowest-more (setRule (c .before .before .before .before .before .before .before .args .counts .now)) (set 0 0 false) sets (l .low) (l .k)
           (c .before .before .before .before .loop-test .taken)) ∙ l .inv .1),
     )
@@ -48,8 +47,7 @@ set-ruling-spec =
     Inv-loop
     μ-loop
     loop-holds
-    (λ c. search needs)
-    (λ c. search needs)
+    (λ c κs. search needs)
     kept-by-requires
     (λ c κs. search needs)
     (λ c κs. search needs)

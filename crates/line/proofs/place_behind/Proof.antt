@@ -20,13 +20,19 @@ abbrev μ-loop : tie.MeasureT-loop
 returns : tie.Need-returns Inv-loop μ-loop
 returns c = let z = c .if1 .taken in rw z (sym (behindAt-none _ _))
 
-loop-holds : tie.Need-loop-holds Inv-loop μ-loop
-loop-holds c = (omega arith, refl)
-
 returns-2 : tie.Need-returns-2 Inv-loop μ-loop
-returns-2 c =
+returns-2 c = sym (behindAt-out _ _ _ (c .if2 .taken) (omega arith))
+
+loop-holds : tie.Need-loop-holds Inv-loop μ-loop
+loop-holds c =
+    let far = c .before .past-blocks .ensures in
+    let near = c .past-blocks2 .ensures in
+    (near .1 .0, near .1 .1 ∙ far .1 .1)
+
+returns-3 : tie.Need-returns-3 Inv-loop μ-loop
+returns-3 c =
     let d = c .before .before .before in
-    sym (behindAt-last _ _ _ (d .loop-test .taken) (c .if3 .taken) (c .before .if2 .taken)) ∙ d .before .loop .inv .1
+    sym (behindAt-last _ _ _ (d .loop-test .taken) (c .if4 .taken) (c .before .if3 .taken)) ∙ d .before .loop .inv .1
 
 loop-again : tie.Need-loop-again Inv-loop μ-loop
 loop-again c =
@@ -34,10 +40,10 @@ loop-again c =
     ⊎-elim
     (λ w. rw (w .2) (omega arith, sym (behindAt-feed _ _ _ (d .loop-test .taken) (d .before .loop .inv .0) (w .0 .taken)) ∙ d .before .loop .inv .1))
     (λ w. rw (w .1) (omega arith, sym (behindAt-other _ _ _ (d .loop-test .taken) (d .before .loop .inv .0) (w .0 .left)) ∙ d .before .loop .inv .1))
-    (c .if2 .came)
+    (c .if3 .came)
 
-returns-3 : tie.Need-returns-3 Inv-loop μ-loop
-returns-3 c =
+returns-4 : tie.Need-returns-4 Inv-loop μ-loop
+returns-4 c =
     let i = c .before .loop .inv in
     sym (behindAt-out _ _ _ (c .loop-test .left) (i .0)) ∙ i .1
 
@@ -48,12 +54,15 @@ place-behind-spec =
     Inv-loop
     μ-loop
     returns
+    returns-2
+    (λ c κs. search needs)
+    (λ c κs. search needs)
     loop-holds
     (λ c. search needs)
     (λ c. search needs)
-    returns-2
+    returns-3
     (λ c. search needs)
     (λ c. search needs)
     (λ c. search needs)
     loop-again
-    returns-3)
+    returns-4)

@@ -18,18 +18,15 @@ abbrev μ-loop : tie.MeasureT-loop
 loop-holds : tie.Need-loop-holds Inv-loop μ-loop
 loop-holds c = shared-none _ _ _ _
 
-lines-requires : tie.Need-lines-requires Inv-loop μ-loop
-lines-requires c κs = search needs
-
 returns : tie.Need-returns Inv-loop μ-loop
 returns c =
     let at-behind = c .before .before .before in
-    let at-loop = at-behind .before .before .before .before in
+    let at-loop = at-behind .before .before in
     let l = at-loop .loop in
     let o = at-loop .before .before .args in
     refuses (o .rules) (o .text .now) (o .from)
-    (shared-few (o .rules) (o .text .now) (o .from) (o .t4) (l .k) (l .at) (l .starts) (l .ends) (l .inv) _ _ (at-behind .before .before .before .loop-test .taken)
-    (at-behind .before .before .form-in .ensures) (at-behind .before .lines .ensures) (sym (at-behind .place-behind .ensures) ∙ c .before .enum-told .given .1))
+    (shared-few (o .rules) (o .text .now) (o .from) (o .t4) (l .k) (l .at) (l .starts) (l .ends) (l .inv) _ (at-behind .before .loop-test .taken) refl
+    (sym (at-behind .behind-group .ensures) ∙ c .before .enum-told .given .1))
     (c .nothing .ensures)
 
 mul-starts : tie.Need-mul-starts Inv-loop μ-loop
@@ -38,11 +35,11 @@ mul-starts c = search needs
 loop-again : tie.Need-loop-again Inv-loop μ-loop
 loop-again c =
     let at-behind = c .before .before .before in
-    let at-loop = at-behind .before .before .before .before in
+    let at-loop = at-behind .before .before in
     let l = at-loop .loop in
     let o = at-loop .before .before .args in
-    shared-more (o .rules) (o .text .now) (o .from) (o .t4) (l .k) (l .at) (l .starts) (l .ends) (l .inv) _ _ (at-behind .before .before .before .loop-test .taken)
-    (at-behind .before .before .form-in .ensures) (at-behind .before .lines .ensures) _ (sym (at-behind .place-behind .ensures) ∙ c .before .next .given .1)
+    shared-more (o .rules) (o .text .now) (o .from) (o .t4) (l .k) (l .at) (l .starts) (l .ends) (l .inv) _ (at-behind .before .loop-test .taken) refl _
+    (sym (at-behind .behind-group .ensures) ∙ c .before .next .given .1)
 
 returns-2 : tie.Need-returns-2 Inv-loop μ-loop
 returns-2 c =
@@ -66,10 +63,8 @@ with-lines-spec =
     μ-loop
     loop-holds
     (λ c. search needs)
-    (λ c κs. search needs)
     (λ c. search needs)
     (λ c. search needs)
-    lines-requires
     (λ c κs. search needs)
     (λ c. search needs)
     (λ c. search needs)
