@@ -22,12 +22,8 @@ for host in 'cc -std=c99' 'c++ -x c++ -std=c++11'; do
     counted "the header alone, $host with its own headers" $host -Wall -Wextra -pedantic -Werror -Iinclude -fsyntax-only "$work/alone.c"
 done
 
-counted 'the archive' archived || finished 1 || exit 1
-for source in tests/c/*.c; do
-    counted "$source" compiled "$source" "$work/$(basename "$source" .c).o" -std=c99
-done
 rm -f "$work/alone.o"
-counted 'the program is linked' linked "$work/main" "$work"/*.o
+program_made
 
 held() { # OF LEAST WORD..: the program's checks hold; over the project's own vectors there are at least so many
     of=$1

@@ -10,11 +10,7 @@ name=journal
 . tests/kit
 chosen "$@"
 
-counted 'the archive' archived || finished 1 || exit 1
-for source in tests/c/*.c; do
-    counted "$source" compiled "$source" "$work/$(basename "$source" .c).o" -std=c99
-done
-counted 'the program is linked' linked "$work/main" "$work"/*.o
+program_made
 if own; then
     set -- "$vectors/W5/journal.txt" "$vectors/W10/journal.txt"
 else

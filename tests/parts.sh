@@ -14,13 +14,8 @@ chosen "$@"
 folder=$vectors
 ! own || folder=$vectors/W7
 
-counted 'the archive' archived || finished 1 || exit 1
-for source in tests/c/*.c; do
-    counted "$source" compiled "$source" "$work/$(basename "$source" .c).o" -std=c99
-done
-counted 'the program is linked' linked "$work/main" "$work"/*.o || finished 1 || exit 1
-counted 'tests/c/parts.c: no function is longer than 40 lines' \
-    none "$(awk '/^{/ { from = NR } /^}/ && from { if (NR - from > 39) print; from = 0 }' tests/c/parts.c)"
+program_made
+short_functions tests/c/parts.c
 
 held() { # OF LEAST: the program's checks hold, whose number is the last line that it said; over the project's own vectors there are at least so many
     last=$(tail -n 1 "$work/said")

@@ -15,13 +15,8 @@ chosen "$@"
 folder=$vectors
 ! own || folder=$vectors/W12
 
-counted 'the archive' archived || finished 1 || exit 1
-for source in tests/c/*.c; do
-    counted "$source" compiled "$source" "$work/$(basename "$source" .c).o" -std=c99
-done
-counted 'the program is linked' linked "$work/main" "$work"/*.o || finished 1 || exit 1
-counted 'tests/c/whole.c: no function is longer than 40 lines' \
-    none "$(awk '/^{/ { from = NR } /^}/ && from { if (NR - from > 39) print; from = 0 }' tests/c/whole.c)"
+program_made
+short_functions tests/c/whole.c
 
 # The program's last line is the number of its checks, and the line before that tells in numbers what was asked.
 held() { # OF LEAST WORD..: its checks hold; over the project's own vectors there are at least so many

@@ -2,7 +2,8 @@
 -- Assumes nothing.
 use borrow.Author.Needs.{needs}
 use native.Mathlib.Nat.{one-mul}
-use mathlib.Core.Path.{sym, _∙_, ap}
+use mathlib.Core.Path.{_≡_, sym, _∙_, ap}
+use lib.ListN.{length}
 use Rattle.form.specs.Table.{rowOf}
 use Rattle.field.specs.Read.{fieldOf, formed}
 use Rattle.reading.specs.Blanks.{asField}
@@ -24,7 +25,8 @@ returns-2 c =
     let o = c .before .before .before in
     let f = o .args .form in
     let bytes = o .args .bytes .now in
-    other-width f bytes (λ e. c .if2 .taken (e ∙ sym (o .pre .1 .1))) ∙ ap (λ short. formed (fieldOf f (asField f short bytes))) (sym (c .before .if1 .left))
+    let other : length bytes ≡ o .args .width → ⊥ = c .if2 .taken in
+    other-width f bytes (λ e. other (e ∙ sym (o .pre .1 .1))) ∙ ap (λ short. formed (fieldOf f (asField f short bytes))) (sym (c .before .if1 .left))
 
 formed-requires : tie.Need-formed-requires
 formed-requires c κs = let o = c .before .before .before in c .if2 .left ∙ o .pre .1 .1 ∙ sym (one-mul (rowOf (o .args .form) .width))
