@@ -20,3 +20,4 @@ pub mod Stopped
 pub mod SameCounting
 pub mod Growth
 pub mod GrownS
+pub mod Alone

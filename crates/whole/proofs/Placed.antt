@@ -47,7 +47,7 @@ module _ (ρ : Rules) (s : List ℕ) (at next : ℕ) (placed : placingOf ρ s at
         );
   }
 
-  group-by : (g : ℕ) → 1 ≤ g → g ≤ 60 → groupBy ρ s (carriedAt ρ s at) g ≡ groupRead ρ s at g
+  pub group-by : (g : ℕ) → 1 ≤ g → g ≤ 60 → groupBy ρ s (carriedAt ρ s at) g ≡ groupRead ρ s at g
   unfolding Parts.groupPart
   group-by g low high = rw (begins g low high, stops g low high) (sym (read-located ρ s at g (cellsIn ρ ns g) next ns (here .located-at)))
 

@@ -1,0 +1,5 @@
+-- The laws of getting past a ruined index.
+pub mod Stretches
+pub mod Trying
+pub mod Seeking
+pub mod Due
