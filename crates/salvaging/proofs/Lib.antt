@@ -3,3 +3,4 @@ pub mod Stretches
 pub mod Trying
 pub mod Seeking
 pub mod Due
+pub mod Pieces

@@ -9,6 +9,7 @@ ghost use lib.ListN.{length};
 ghost use Rattle.place.specs.Placing.{carried};
 ghost use Rattle.whole.specs.Whole.{Parted, groupBy};
 ghost use Rattle.salvaging.specs.Numbered.{stretchReply};
+ghost use Rattle.salvaging.specs.Pieces.{pieceAt};
 ghost use Rattle.salvaging.specs.Stretch.{isRead, areRead, isSound, stretchEnd, stretchOf};
 
 // R352: what is answered about the stretch that begins at a place.
@@ -17,6 +18,14 @@ pub enum Stretch {
     Ends(usize),
     // 1 or 2
     Refused(Refusal),
+}
+
+// R353: a piece of a text, with its place and its length.
+pub enum Piece {
+    // a placed record, which is copied as it stands
+    Copied(usize, usize),
+    // a stretch
+    LeftOut(usize, usize),
 }
 
 // Whether a group of a record reads with 0, by the lines that the record names for it. No table is asked for.
@@ -108,6 +117,23 @@ pub fn stretch_end(rules: rules::Rules, text: &[u8], at: usize) -> Stretch
         return Stretch::Refused(Refusal::End);
     }
     Stretch::Ends(end_from(rules, text, at))
+}
+
+// R353: the piece that begins at a place inside a text: a record that is placed, with 0 or 7; elsewhere a stretch.
+pub fn piece_at(rules: rules::Rules, text: &[u8], at: usize) -> Piece
+    requires { ⌜ at < length (now text) ⌝ }
+    ensures { λ r. ⌜ r ≡ pieceAt rules (now (text .entry)) at ⌝ }
+{
+    let record = place::place(rules, text, at);
+    let answer = record.answer;
+    match answer {
+        Placing::Placed(next) => Piece::Copied(at, next - at),
+        Placing::BrokenRule(_, next) => Piece::Copied(at, next - at),
+        Placing::Refused(_) => {
+            let end = end_from(rules, text, at);
+            Piece::LeftOut(at, end - at)
+        }
+    }
 }
 
 // R352: the answer's number, with the numbers beside it.
