@@ -4,3 +4,5 @@ pub mod Trying
 pub mod Seeking
 pub mod Due
 pub mod Pieces
+pub mod Covered
+pub mod Copies

@@ -170,7 +170,7 @@ module _ (ρ : Rules) (s : List ℕ) where
   located-stands : (at n : ℕ) (ns : List ℕ) → locate ρ s at ≡ located n ns → Stands ρ s at n
   located-stands at n ns e = record { placed = placed-record ρ s at .1 record { next = n; ns = ns; is = e }; next-is = sym (next-of at n ns e) }
 
-  number-of : (at : ℕ) (r : Refusal) → locate ρ s at ≡ refused r → numberAt ρ s at ≡ refusalNumber r
+  pub number-of : (at : ℕ) (r : Refusal) → locate ρ s at ≡ refused r → numberAt ρ s at ≡ refusalNumber r
   unfolding placingOf
   number-of at r e = ap (λ x. placingReply (placingBy x) .number) e
 
@@ -207,7 +207,7 @@ module _ (ρ : Rules) (s : List ℕ) where
       by (refused r) e = (r, e)
 
   -- 1 is the text's end
-  end-number : (at : ℕ) → numberAt ρ s at ≡ 1 → at ≡ length s
+  pub end-number : (at : ℕ) → numberAt ρ s at ≡ 1 → at ≡ length s
   end-number at n = by (locate ρ s at) refl
     where
       due : (q : Refusal) → RefusedFor ρ s at q → refusalNumber q ≡ 1 → at ≡ length s
