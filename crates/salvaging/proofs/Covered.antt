@@ -195,8 +195,8 @@ module _ (ρ : Rules) (s : List ℕ) where
       let at = spot ρ s (w .many) in
       let inside = spot-inside ρ s (w .many) in
       let left : at < length s → ⊥ = λ l.
-          left-never (map (recordPiece ρ s) (upFrom 0 (w .many))) at (stretchEnd ρ s at - at) (piecesFrom ρ s (stretchEnd ρ s at))
-          (subst NoStretch (pieces-walk (w .many) (w .stops .each) ∙ ap (λ ps. map (recordPiece ρ s) (upFrom 0 (w .many)) ++ ps) (pieces-left ρ s at (w .answer) l (w .stops .last))) h) in
+      left-never (map (recordPiece ρ s) (upFrom 0 (w .many))) at (stretchEnd ρ s at - at) (piecesFrom ρ s (stretchEnd ρ s at))
+      (subst NoStretch (pieces-walk (w .many) (w .stops .each) ∙ ap (λ ps. map (recordPiece ρ s) (upFrom 0 (w .many)) ++ ps) (pieces-left ρ s at (w .answer) l (w .stops .last))) h) in
       (w .many, record { each = w .stops .each; last = ⊎-elim (λ (l : length s ≤ at). locate-end ρ s at (omega arith)) (λ (l : at < length s). absurd (left l)) (le-or-lt (length s) at) })
 
   pub covers : Cover ρ s

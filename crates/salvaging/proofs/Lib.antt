@@ -6,3 +6,5 @@ pub mod Due
 pub mod Pieces
 pub mod Covered
 pub mod Copies
+pub mod Moved
+pub mod Confined

@@ -5,7 +5,7 @@ use mathlib.Core.Path.{_≡_}
 use mathlib.Core.List.{List, _∷_, _++_, map}
 use mathlib.Core.Logic.{_⊎_}
 use Prim.Native.Nat.{ℕ, suc, _+_, _-_, _<_}
-use lib.ListN.{length, take, drop}
+use lib.ListN.{length, drop}
 use Rattle.rules.specs.declared.Rules.{Rules}
 use Rattle.base.specs.Agree.{Agree, Between}
 use Rattle.line.specs.Lines.{reach}
@@ -40,10 +40,13 @@ module _ (ρ : Rules) where
     pub elsewhere : Agree (Between (spot ρ t k) (spot ρ t k + reach (drop (spot ρ t k) t) 2)) t u
     pub ruined : Ruined u (spot ρ t k) (spot ρ t (suc k))
 
-  -- each piece of t is one of u, with the same place and length; only that record is left out
+  -- the pieces of u are those of t, each with its place and length; only that record is left out
   pub record RecordLost (t u : List ℕ) (k : ℕ) : Type 0 where
-    pub was : pieces ρ t ≡ take k (pieces ρ t) ++ (Copied (spot ρ t k) (spot ρ t (suc k) - spot ρ t k) ∷ drop (suc k) (pieces ρ t))
-    pub now-is : pieces ρ u ≡ take k (pieces ρ t) ++ (LeftOut (spot ρ t k) (spot ρ t (suc k) - spot ρ t k) ∷ drop (suc k) (pieces ρ t))
+    pub before : List Piece
+    pub after : List Piece
+    pub many : length before ≡ k
+    pub was : pieces ρ t ≡ before ++ (Copied (spot ρ t k) (spot ρ t (suc k) - spot ρ t k) ∷ after)
+    pub is : pieces ρ u ≡ before ++ (LeftOut (spot ρ t k) (spot ρ t (suc k) - spot ρ t k) ∷ after)
 
   pub record DamageConfined : Type 0 where
     pub ruin : (a y b : List ℕ) (many : ℕ) → Stops ρ a many End → Ruined (a ++ (y ++ b)) (length a) (length a + length y) → RuinConfined a y b
