@@ -14,6 +14,7 @@ use Rattle.reading.specs.Read.{Cells, verdictOf}
 use Rattle.reply.specs.declared.Checked.{Checked}
 use Rattle.reply.specs.declared.Checked.the-variants as C
 use Rattle.reply.specs.declared.Refusal.{Refusal}
+use Rattle.whole.specs.Whole.{groupBy}
 use Rattle.whole.proofs.Placed.{group-by}
 use Rattle.salvaging.specs.Stretch.{isZero, isRead, areRead, isSound}
 
@@ -25,6 +26,18 @@ read-right (bad r) e = let z : _≡_ {A = ℕ} 0 1 = cc in absurd (omega arith)
 pub read-refused : (c : Cells) {r : Refusal} → C.Refused r ≡ verdictOf c → false ≡ isRead c
 read-refused (done cs) e = let z : _≡_ {A = ℕ} 0 1 = cc in absurd (omega arith)
 read-refused (bad q) e = refl
+
+-- the three groups, one after the other, up to the first that is not read
+module _ (ρ : Rules) (s : List ℕ) (r : Carried) {x : Bool} (one : x ≡ isRead (groupBy ρ s r 1)) where
+  pub one-fails : x ≡ false → x ≡ areRead ρ s r
+  one-fails e = rw (← one, e) refl
+
+  module _ {y : Bool} (passed : x ≡ true) (three : y ≡ isRead (groupBy ρ s r 3)) where
+    pub three-fails : y ≡ false → y ≡ areRead ρ s r
+    three-fails e = rw (← one, passed, ← three, e) refl
+
+    pub four-decides : {z : Bool} → y ≡ true → z ≡ isRead (groupBy ρ s r 4) → z ≡ areRead ρ s r
+    four-decides e four = rw (← one, passed, ← three, e) four
 
 module _ (ρ : Rules) (s : List ℕ) (at : ℕ) where
   pub sound-unplaced : {p : Placing} → placingOf ρ s at ≡ p → isZero p ≡ false → false ≡ isSound ρ s at
