@@ -1,5 +1,5 @@
-// The program `salvage` (R341, R349, R356): of standard input, what a walk can place is copied to standard output as it
-// stands, past indexes that are ruined; what is left out is told on standard error. Which pieces there are is
+// The program `salvage` (R341, R349, R356, R357): of standard input, what a walk can place is copied to standard output
+// as it stands, past indexes that are ruined; what is left out is told on standard error. Which pieces there are is
 // `salvaging::piece_at`'s; here they are only read, asked for and written.
 use decimal::Put;
 use salvaging::Piece;

@@ -80,7 +80,7 @@ module _ (ρ : Rules) (s : List ℕ) where
 abbrev pub bytesOf : List ℕ → Piece → List ℕ
 bytesOf s p = part (placeOf p) (endOf p) s
 
--- R357: what is printed of a piece on standard output, and what on standard error
+-- R356, R357: what is printed of a piece on standard output, and what on standard error
 abbrev pub copyOf : List ℕ → Piece → List ℕ
 copyOf s (Copied place long) = bytesOf s (Copied place long)
 copyOf s (LeftOut place long) = []

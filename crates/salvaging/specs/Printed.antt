@@ -1,5 +1,5 @@
--- R357: the program `salvage` prints piece by piece, from the text's start: a record as it stands on standard output, the line of a stretch on
--- standard error. R341: it takes 65,536 bytes; of a longer input nothing is printed on either.
+-- R356, R357: the program `salvage` prints piece by piece, from the text's start: a record as it stands on standard output, the line of a stretch
+-- on standard error. R341: it takes 65,536 bytes; of a longer input nothing is printed on either.
 use mathlib.Core.Path.{_≡_}
 use mathlib.Core.Bool.{cond}
 use mathlib.Core.List.{List, [], _∷_, _++_}
