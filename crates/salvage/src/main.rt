@@ -6,8 +6,8 @@ use salvaging::Piece;
 ghost use mathlib.Core.Path.{_≡_};
 ghost use Prim.Native.Nat.{_≤_};
 ghost use lib.ListN.{length};
-ghost use Rattle.salvaging.specs.Pieces.{endOf};
-ghost use Rattle.salvaging.specs.Printed.{Stopped};
+ghost use Rattle.salvaging.specs.Pieces.{pieceEnd};
+ghost use Rattle.salvaging.specs.Printed.{AllPassed};
 
 // R357: the line of a stretch: its place and its length.
 fn print_stretch(place: usize, long: usize) {
@@ -21,8 +21,8 @@ fn print_stretch(place: usize, long: usize) {
 
 // Prints a piece of the text, and gives the place where it ends.
 fn print_piece(text: &[u8], piece: Piece) -> usize
-    requires { ⌜ endOf piece ≤ length (now text) ⌝ }
-    ensures { λ r. ⌜ r ≡ endOf piece ⌝ }
+    requires { ⌜ pieceEnd piece ≤ length (now text) ⌝ }
+    ensures { λ r. ⌜ r ≡ pieceEnd piece ⌝ }
 {
     match piece {
         Piece::Copied(place, long) => {
@@ -40,7 +40,7 @@ fn print_piece(text: &[u8], piece: Piece) -> usize
 // Prints piece after piece from the text's start to its end, and gives the place where it stopped; of a text longer
 // than 65,536 bytes, nothing.
 fn print_text(rules: rules::Rules, text: &[u8]) -> usize
-    ensures { λ r. ⌜ Stopped rules (now (text .entry)) r ⌝ }
+    ensures { λ r. ⌜ AllPassed rules (now (text .entry)) r ⌝ }
 {
     if 65536 < text.len() {
         return 0;

@@ -31,7 +31,7 @@ use Rattle.reply.specs.declared.Refusal.the-variants.{End}
 use Rattle.salvaging.specs.declared.Piece.{Piece}
 use Rattle.salvaging.specs.declared.Piece.the-variants.{Copied, LeftOut}
 use Rattle.salvaging.specs.Cover.{Follow, no-more, then, Apart, nothing, behind-copied, last-stretch, behind-stretch, CopiedWhole, Cover, recordPiece, NothingLost}
-use Rattle.salvaging.specs.Pieces.{placeOf, lengthOf, endOf, pieceAt, piecesFrom, pieces, bytesOf, copyOf, reportOf, isCopied, NoStretch, copy, report}
+use Rattle.salvaging.specs.Pieces.{pieceStart, pieceLength, pieceEnd, pieceAt, piecesFrom, pieces, pieceBytes, copyOf, reportOf, isCopied, NoStretch, copy, report}
 use Rattle.salvaging.specs.Stretch.{Resumes, stretchEnd}
 use Rattle.salvaging.proofs.Pieces.{pieces-end, pieces-copied, pieces-left, piecewise, number-of, end-number}
 use Rattle.salvaging.proofs.Stretches.{stretch-ends}
@@ -62,13 +62,13 @@ module _ (ρ : Rules) (s : List ℕ) where
   }
 
   -- so that their bytes, one behind the other, are the text's
-  follow-joined : {at last : ℕ} {ps : List Piece} → Follow at last ps → last ≡ length s → flatMap (bytesOf s) ps ≡ drop at s
+  follow-joined : {at last : ℕ} {ps : List Piece} → Follow at last ps → last ≡ length s → flatMap (pieceBytes s) ps ≡ drop at s
   unfolding flatMap
   follow-joined (no-more {at}) e = sym (drop-of-length-le s {i = at} (omega arith))
   follow-joined (then p {ps} here some rest) e =
-      ap (λ x. bytesOf s p ++ x) (follow-joined rest e) ∙ drop-part s (placeOf p) (endOf p) (omega arith) ∙ ap (λ n. drop n s) here
+      ap (λ x. pieceBytes s p ++ x) (follow-joined rest e) ∙ drop-part s (pieceStart p) (pieceEnd p) (omega arith) ∙ ap (λ n. drop n s) here
 
-  pub pieces-joined : flatMap (bytesOf s) (pieces ρ s) ≡ s
+  pub pieces-joined : flatMap (pieceBytes s) (pieces ρ s) ≡ s
   pieces-joined = follow-joined (pieces-follow 0 (omega arith)) refl ∙ drop-none s
 
   -- ---- no two stretches are neighbours
@@ -93,10 +93,10 @@ module _ (ρ : Rules) (s : List ℕ) where
 
 -- ---- where nothing is left out
 
-none-bytes : (s : List ℕ) (ps : List Piece) → NoStretch ps → flatMap (copyOf s) ps ≡ flatMap (bytesOf s) ps
+none-bytes : (s : List ℕ) (ps : List Piece) → NoStretch ps → flatMap (copyOf s) ps ≡ flatMap (pieceBytes s) ps
 unfolding flatMap
 none-bytes s [] h = refl
-none-bytes s (Copied at n ∷ ps) h = ap (λ x. bytesOf s (Copied at n) ++ x) (none-bytes s ps h)
+none-bytes s (Copied at n ∷ ps) h = ap (λ x. pieceBytes s (Copied at n) ++ x) (none-bytes s ps h)
 none-bytes s (LeftOut at n ∷ ps) h = absurd h
 
 none-report : (ps : List Piece) → NoStretch ps → flatMap reportOf ps ≡ []

@@ -29,7 +29,7 @@ use Rattle.reply.specs.Refusals.{refusalNumber}
 use Rattle.reply.specs.declared.Refusal.{Refusal}
 use Rattle.salvaging.specs.declared.Piece.{Piece}
 use Rattle.salvaging.specs.declared.Piece.the-variants.{Copied, LeftOut}
-use Rattle.salvaging.specs.Pieces.{endOf, Stands, Halts, Salvaged, ended, copied, left-out, pieceBy, pieceAt, piecesWithin, piecesFrom, pieces}
+use Rattle.salvaging.specs.Pieces.{pieceEnd, PlacedUpTo, Halts, Salvaged, ended, copied, left-out, pieceBy, pieceAt, piecesWithin, piecesFrom, pieces}
 use Rattle.salvaging.specs.Stretch.{stretchEnd}
 use Rattle.salvaging.proofs.Stretches.{stretch-ends, stretch-is}
 
@@ -62,10 +62,10 @@ module _ (ρ : Rules) (s : List ℕ) (at : ℕ) where
   piece-refused r e = rw e refl
 
   -- it lies in the text, and is not empty
-  pub piece-end : at < length s → (at < endOf (pieceAt ρ s at)) × (endOf (pieceAt ρ s at) ≤ length s)
+  pub piece-end : at < length s → (at < pieceEnd (pieceAt ρ s at)) × (pieceEnd (pieceAt ρ s at) ≤ length s)
   piece-end l = by (locate ρ s at) refl
     where
-      by : (x : Located) → locate ρ s at ≡ x → (at < endOf (pieceAt ρ s at)) × (endOf (pieceAt ρ s at) ≤ length s)
+      by : (x : Located) → locate ρ s at ≡ x → (at < pieceEnd (pieceAt ρ s at)) × (pieceEnd (pieceAt ρ s at) ≤ length s)
       by (located n ns) e =
           let long = located-long ρ s at n ns e in
           rw (piece-located n ns e) (omega arith, omega (arith, located-range ρ s at n ns e))
@@ -81,7 +81,7 @@ module _ (ρ : Rules) (s : List ℕ) where
   within-end zero at l = refl
   within-end (suc most) at l = rw (le-ltb at (length s) l) refl
 
-  within-more : (most at : ℕ) → at < length s → piecesWithin ρ s (suc most) at ≡ pieceAt ρ s at ∷ piecesWithin ρ s most (endOf (pieceAt ρ s at))
+  within-more : (most at : ℕ) → at < length s → piecesWithin ρ s (suc most) at ≡ pieceAt ρ s at ∷ piecesWithin ρ s most (pieceEnd (pieceAt ρ s at))
   unfolding piecesWithin
   within-more most at l = rw (lt-ltb at (length s) l) refl
 
@@ -99,14 +99,14 @@ module _ (ρ : Rules) (s : List ℕ) where
       more rest l =
           let e = piece-end ρ s at l .0 in
           within-more k at l
-          ∙ ap (λ ps. pieceAt ρ s at ∷ ps) (rest (endOf (pieceAt ρ s at)) (omega arith) (omega arith))
+          ∙ ap (λ ps. pieceAt ρ s at ∷ ps) (rest (pieceEnd (pieceAt ρ s at)) (omega arith) (omega arith))
           ∙ sym (within-more m at l)
 
   pub pieces-end : (at : ℕ) → length s ≤ at → piecesFrom ρ s at ≡ []
   unfolding piecesFrom
   pieces-end at l = within-end (length s - at) at l
 
-  pub pieces-more : (at : ℕ) → at < length s → piecesFrom ρ s at ≡ pieceAt ρ s at ∷ piecesFrom ρ s (endOf (pieceAt ρ s at))
+  pub pieces-more : (at : ℕ) → at < length s → piecesFrom ρ s at ≡ pieceAt ρ s at ∷ piecesFrom ρ s (pieceEnd (pieceAt ρ s at))
   unfolding piecesFrom
   pieces-more at l =
       let k = length s - suc at in
@@ -114,7 +114,7 @@ module _ (ρ : Rules) (s : List ℕ) where
       let n : length s - at ≡ suc k = omega arith in
       ap (λ m. piecesWithin ρ s m at) n
       ∙ within-more k at l
-      ∙ ap (λ ps. pieceAt ρ s at ∷ ps) (within-enough k (length s - endOf (pieceAt ρ s at)) (endOf (pieceAt ρ s at)) (omega arith) (omega arith))
+      ∙ ap (λ ps. pieceAt ρ s at ∷ ps) (within-enough k (length s - pieceEnd (pieceAt ρ s at)) (pieceEnd (pieceAt ρ s at)) (omega arith) (omega arith))
 
   pub pieces-copied : (at n : ℕ) (ns : List ℕ) → locate ρ s at ≡ located n ns → piecesFrom ρ s at ≡ Copied at (n - at) ∷ piecesFrom ρ s n
   pieces-copied at n ns e =
@@ -156,7 +156,7 @@ module _ (ρ : Rules) (s : List ℕ) where
 -- ---- the list is what the rule says
 
 module _ (ρ : Rules) (s : List ℕ) where
-  stands-next : {at next : ℕ} → Stands ρ s at next → IsRecord ρ s at
+  stands-next : {at next : ℕ} → PlacedUpTo ρ s at next → IsRecord ρ s at
   stands-next {at} h = placed-record ρ s at .0 (h .placed)
 
   ruled-next : (n : ℕ) (r : Ruling) → placingReply (ruledAt n r) .next ≡ n
@@ -167,7 +167,7 @@ module _ (ρ : Rules) (s : List ℕ) where
   unfolding placingOf
   next-of at n ns e = rw e (ruled-next n (rulingOf ns))
 
-  located-stands : (at n : ℕ) (ns : List ℕ) → locate ρ s at ≡ located n ns → Stands ρ s at n
+  located-stands : (at n : ℕ) (ns : List ℕ) → locate ρ s at ≡ located n ns → PlacedUpTo ρ s at n
   located-stands at n ns e = record { placed = placed-record ρ s at .1 record { next = n; ns = ns; is = e }; next-is = sym (next-of at n ns e) }
 
   pub number-of : (at : ℕ) (r : Refusal) → locate ρ s at ≡ refused r → numberAt ρ s at ≡ refusalNumber r

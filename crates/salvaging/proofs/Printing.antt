@@ -13,13 +13,13 @@ use Rattle.decimal.specs.Rows.{rowText}
 use Rattle.decimal.proofs.Lengths.{length-u64}
 use Rattle.decimal.proofs.Rows.{row-size}
 use Rattle.salvaging.specs.declared.Piece.{Piece}
-use Rattle.salvaging.specs.Pieces.{endOf, pieceAt, piecesFrom, pieces}
-use Rattle.salvaging.specs.Printed.{printed, Reached, start, one-more, Stopped}
+use Rattle.salvaging.specs.Pieces.{pieceEnd, pieceAt, piecesFrom, pieces}
+use Rattle.salvaging.specs.Printed.{printedPieces, BehindPieces, start, one-more, AllPassed}
 use Rattle.salvaging.proofs.Pieces.{piece-end, pieces-end, pieces-more}
 
 pub record Printing (ρ : Rules) (s : List ℕ) (at : ℕ) : Type 0 where
   pub before : List Piece
-  pub reached : Reached ρ s at before
+  pub reached : BehindPieces ρ s at before
   pub inside : at ≤ length s
   pub whole : before ++ piecesFrom ρ s at ≡ pieces ρ s
 
@@ -28,13 +28,13 @@ module _ (ρ : Rules) (s : List ℕ) where
   printing-first = record { before = []; reached = start; inside = omega arith; whole = refl }
 
   -- R341: of more than 65,536 bytes nothing is printed
-  pub printing-none : 65536 < length s → Stopped ρ s 0
-  unfolding printed
+  pub printing-none : 65536 < length s → AllPassed ρ s 0
+  unfolding printedPieces
   printing-none l = record { before = []; reached = start; all = rw (lt-leb (length s) 65536 l) refl; passed = λ few. absurd (omega arith) }
 
   module _ {at : ℕ} (p : Printing ρ s at) where
-    pub printing-ended : length s ≤ 65536 → length s ≤ at → Stopped ρ s at
-    unfolding printed
+    pub printing-ended : length s ≤ 65536 → length s ≤ at → AllPassed ρ s at
+    unfolding printedPieces
     printing-ended few l = record {
       before = p .before;
       reached = p .reached;
@@ -42,7 +42,7 @@ module _ (ρ : Rules) (s : List ℕ) where
       passed = λ few. omega (arith, p .inside);
     }
 
-    module _ (l : at < length s) {piece : Piece} (e : piece ≡ pieceAt ρ s at) {end : ℕ} (f : end ≡ endOf piece) where
+    module _ (l : at < length s) {piece : Piece} (e : piece ≡ pieceAt ρ s at) {end : ℕ} (f : end ≡ pieceEnd piece) where
       -- the piece ends further on, in the text
       pub printing-range : (at < end) × (end ≤ length s)
       printing-range = let r = piece-end ρ s at l in rw (f, e) r
@@ -54,7 +54,7 @@ module _ (ρ : Rules) (s : List ℕ) where
             before = p .before ++ (here ∷ []);
             reached = one-more at (p .before) l (p .reached);
             inside = piece-end ρ s at l .1;
-            whole = append-assoc (p .before) (here ∷ []) (piecesFrom ρ s (endOf here)) ∙ ap (λ ps. p .before ++ ps) (sym (pieces-more ρ s at l)) ∙ p .whole;
+            whole = append-assoc (p .before) (here ∷ []) (piecesFrom ρ s (pieceEnd here)) ∙ ap (λ ps. p .before ++ ps) (sym (pieces-more ρ s at l)) ∙ p .whole;
           }
 
 -- R357: two numbers of a machine word have a line of 42 bytes at most

@@ -11,12 +11,12 @@ use Rattle.reply.specs.declared.Refusal.{Refusal}
 use Rattle.reply.specs.declared.Refusal.the-variants.{End}
 use Rattle.salvaging.specs.declared.Piece.{Piece}
 use Rattle.salvaging.specs.declared.Piece.the-variants.{Copied, LeftOut}
-use Rattle.salvaging.specs.Pieces.{placeOf, lengthOf, endOf, pieces, bytesOf, NoStretch, copy, report}
+use Rattle.salvaging.specs.Pieces.{pieceStart, pieceLength, pieceEnd, pieces, pieceBytes, NoStretch, copy, report}
 
 -- pieces that follow one another from a place up to another, none of them empty
 pub data Follow : ℕ → ℕ → List Piece → Type 0 where
   no-more : {at : ℕ} → Follow at at []
-  then : {at last : ℕ} (p : Piece) {ps : List Piece} → placeOf p ≡ at → 0 < lengthOf p → Follow (endOf p) last ps → Follow at last (p ∷ ps)
+  then : {at last : ℕ} (p : Piece) {ps : List Piece} → pieceStart p ≡ at → 0 < pieceLength p → Follow (pieceEnd p) last ps → Follow at last (p ∷ ps)
 
 -- behind each stretch stands a record that is copied, or nothing: no two of them are neighbours
 pub data Apart : List Piece → Type 0 where
@@ -34,7 +34,7 @@ module _ (ρ : Rules) (s : List ℕ) where
 
   pub record Cover : Type 0 where
     pub follow : Follow 0 (length s) (pieces ρ s)
-    pub joined : flatMap (bytesOf s) (pieces ρ s) ≡ s
+    pub joined : flatMap (pieceBytes s) (pieces ρ s) ≡ s
     pub apart : Apart (pieces ρ s)
     pub undamaged : (many : ℕ) → Stops ρ s many End → CopiedWhole
 

@@ -20,20 +20,20 @@ use Rattle.salvaging.specs.declared.Piece.{Piece}
 use Rattle.salvaging.specs.declared.Piece.the-variants.{Copied, LeftOut}
 use Rattle.salvaging.specs.Stretch.{IsStretchEnd, stretchEnd}
 
-abbrev pub placeOf : Piece → ℕ
-placeOf (Copied place long) = place
-placeOf (LeftOut place long) = place
+abbrev pub pieceStart : Piece → ℕ
+pieceStart (Copied place long) = place
+pieceStart (LeftOut place long) = place
 
-abbrev pub lengthOf : Piece → ℕ
-lengthOf (Copied place long) = long
-lengthOf (LeftOut place long) = long
+abbrev pub pieceLength : Piece → ℕ
+pieceLength (Copied place long) = long
+pieceLength (LeftOut place long) = long
 
-abbrev pub endOf : Piece → ℕ
-endOf p = placeOf p + lengthOf p
+abbrev pub pieceEnd : Piece → ℕ
+pieceEnd p = pieceStart p + pieceLength p
 
 module _ (ρ : Rules) (s : List ℕ) where
   -- R253: a record is placed, with 0 or 7, and this is its next place
-  pub record Stands (at next : ℕ) : Type 0 where
+  pub record PlacedUpTo (at next : ℕ) : Type 0 where
     pub placed : PlacedAt ρ s at
     pub next-is : next ≡ placingReply (placingOf ρ s at) .next
 
@@ -46,7 +46,7 @@ module _ (ρ : Rules) (s : List ℕ) where
     -- with 1 the walk is done
     ended : {at : ℕ} → numberAt ρ s at ≡ 1 → Salvaged at []
     -- a placed record is copied as it stands, and the walk goes on behind it
-    copied : {at : ℕ} (next : ℕ) {ps : List Piece} → Stands at next → Salvaged next ps → Salvaged at (Copied at (next - at) ∷ ps)
+    copied : {at : ℕ} (next : ℕ) {ps : List Piece} → PlacedUpTo at next → Salvaged next ps → Salvaged at (Copied at (next - at) ∷ ps)
     -- where the walk stops otherwise, a stretch is left out, and the walk goes on from its end
     left-out : {at : ℕ} (end : ℕ) {ps : List Piece} → Halts at → IsStretchEnd ρ s at end → Salvaged end ps → Salvaged at (LeftOut at (end - at) ∷ ps)
 
@@ -65,7 +65,7 @@ module _ (ρ : Rules) (s : List ℕ) where
   -- those from a place on, of which no more than `most` are looked at
   unfoldable pub piecesWithin : ℕ → ℕ → List Piece
   piecesWithin zero at = []
-  piecesWithin (suc most) at = cond (ltb at (length s)) (pieceAt at ∷ piecesWithin most (endOf (pieceAt at))) []
+  piecesWithin (suc most) at = cond (ltb at (length s)) (pieceAt at ∷ piecesWithin most (pieceEnd (pieceAt at))) []
 
   -- no piece is empty, so there are no more of them than bytes
   unfoldable pub piecesFrom : ℕ → List Piece
@@ -77,12 +77,12 @@ module _ (ρ : Rules) (s : List ℕ) where
 -- ---- what becomes of them
 
 -- its bytes
-abbrev pub bytesOf : List ℕ → Piece → List ℕ
-bytesOf s p = part (placeOf p) (endOf p) s
+abbrev pub pieceBytes : List ℕ → Piece → List ℕ
+pieceBytes s p = part (pieceStart p) (pieceEnd p) s
 
 -- R356, R357: what is printed of a piece on standard output, and what on standard error
 abbrev pub copyOf : List ℕ → Piece → List ℕ
-copyOf s (Copied place long) = bytesOf s (Copied place long)
+copyOf s (Copied place long) = pieceBytes s (Copied place long)
 copyOf s (LeftOut place long) = []
 
 abbrev pub reportOf : Piece → List ℕ

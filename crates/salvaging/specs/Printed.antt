@@ -8,20 +8,20 @@ use lib.Dec.{leb}
 use lib.ListN.{length}
 use Rattle.rules.specs.declared.Rules.{Rules}
 use Rattle.salvaging.specs.declared.Piece.{Piece}
-use Rattle.salvaging.specs.Pieces.{endOf, pieceAt, pieces}
+use Rattle.salvaging.specs.Pieces.{pieceEnd, pieceAt, pieces}
 
 module _ (ρ : Rules) (s : List ℕ) where
-  unfoldable pub printed : List Piece
-  printed = cond (leb (length s) 65536) (pieces ρ s) []
+  unfoldable pub printedPieces : List Piece
+  printedPieces = cond (leb (length s) 65536) (pieces ρ s) []
 
   -- a place behind pieces from the text's start on, and these pieces
-  pub data Reached : ℕ → List Piece → Type 0 where
-    start : Reached 0 []
-    one-more : (at : ℕ) (before : List Piece) → at < length s → Reached at before → Reached (endOf (pieceAt ρ s at)) (before ++ (pieceAt ρ s at ∷ []))
+  pub data BehindPieces : ℕ → List Piece → Type 0 where
+    start : BehindPieces 0 []
+    one-more : (at : ℕ) (before : List Piece) → at < length s → BehindPieces at before → BehindPieces (pieceEnd (pieceAt ρ s at)) (before ++ (pieceAt ρ s at ∷ []))
 
   -- where a program may stop: these pieces are all that is to be printed, and where there is anything to print the whole text has been passed
-  pub record Stopped (at : ℕ) : Type 0 where
+  pub record AllPassed (at : ℕ) : Type 0 where
     pub before : List Piece
-    pub reached : Reached at before
-    pub all : before ≡ printed
+    pub reached : BehindPieces at before
+    pub all : before ≡ printedPieces
     pub passed : length s ≤ 65536 → at ≡ length s

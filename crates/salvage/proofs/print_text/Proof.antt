@@ -5,7 +5,7 @@ use native.Mathlib.Omega.{arith}
 use mathlib.Core.Path.{_≡_, refl}
 use Prim.Native.Nat.{ℕ, _-_, _<_, _≤_}
 use lib.ListN.{length}
-use Rattle.salvaging.specs.Pieces.{endOf}
+use Rattle.salvaging.specs.Pieces.{pieceEnd}
 use Rattle.salvaging.proofs.Printing.{Printing, printing-first, printing-none, printing-ended, printing-range, printing-more}
 use Rattle.salvage.proofs.print_text.Statement.{statement}
 use Rattle.salvage.proofs.print_text.Tie as tie
@@ -20,7 +20,7 @@ abbrev start : tie.In-loop Inv-loop μ-loop → tie.Start Inv-loop μ-loop
 start c = c .before .before .before .before
 
 -- the piece that was asked for ends further on, in the text
-range : (c : tie.After-piece-at Inv-loop μ-loop) {end : ℕ} → end ≡ endOf (c .piece-at .result) → (c .before .before .loop .at < end) × (end ≤ length (start (c .before) .args .text .now))
+range : (c : tie.After-piece-at Inv-loop μ-loop) {end : ℕ} → end ≡ pieceEnd (c .piece-at .result) → (c .before .before .loop .at < end) × (end ≤ length (start (c .before) .args .text .now))
 range c f =
     let l = c .before in
     let a = start l .args in
