@@ -24,8 +24,8 @@ use Rattle.place.proofs.Tiling.{record-whole}
 
 module _ (ρ : Rules) where
   -- from the same bytes on, in whatever text at whatever place, the next place is as far behind
-  pub located-moved : (s t : List ℕ) (at bt n : ℕ) (ns : List ℕ) → drop at s ≡ drop bt t → locate ρ s at ≡ located n ns → locate ρ t bt ≡ located (bt + (n - at)) ns
-  located-moved s t at bt n ns e f =
+  pub located-moved : (s t : List ℕ) (at bt : ℕ) {n : ℕ} {ns : List ℕ} → drop at s ≡ drop bt t → locate ρ s at ≡ located n ns → locate ρ t bt ≡ located (bt + (n - at)) ns
+  located-moved s t at bt {n} {ns} e f =
       let p = located-is ρ s at n ns f in
       let head : 2 ≤ feeds (drop bt t) = subst (λ xs. 2 ≤ feeds xs) e (p .head) in
       is-located ρ t bt (bt + (n - at)) ns record {
@@ -60,5 +60,5 @@ module _ (ρ : Rules) where
   -- wherever it stands
   pub alone-located : (x ns : List ℕ) → locate ρ x 0 ≡ located (length x) ns → (a b : List ℕ) → locate ρ (a ++ (x ++ b)) (length a) ≡ located (length a + length x) ns
   alone-located x ns f a b =
-      located-moved (x ++ b) (a ++ (x ++ b)) 0 (length a) (length x) ns (drop-none (x ++ b) ∙ sym (drop-at a (x ++ b) (length a) (omega arith))) (located-grown ρ x b 0 (length x) ns f)
+      located-moved (x ++ b) (a ++ (x ++ b)) 0 (length a) (drop-none (x ++ b) ∙ sym (drop-at a (x ++ b) (length a) (omega arith))) (located-grown ρ x b 0 (length x) ns f)
       ∙ ap (λ k. located (length a + k) ns) (omega arith)

@@ -132,8 +132,8 @@ module _ (ρ : Rules) (a y b : List ℕ) where
 
 module _ (ρ : Rules) (t : List ℕ) where
   -- a record is placed the same where the text is cut behind it
-  located-within : (m at n : ℕ) (ns : List ℕ) → locate ρ t at ≡ located n ns → n ≤ m → m ≤ length t → locate ρ (take m t) at ≡ located n ns
-  located-within m at n ns e l k =
+  located-within : (m at : ℕ) {n : ℕ} {ns : List ℕ} → locate ρ t at ≡ located n ns → n ≤ m → m ≤ length t → locate ρ (take m t) at ≡ located n ns
+  located-within m at {n} {ns} e l k =
       let long = located-long ρ t at n ns e in
       let first = part 0 at t in
       let x = part at n t in
@@ -154,7 +154,7 @@ module _ (ρ : Rules) (t : List ℕ) where
 
     cut-located : (j : ℕ) (q : IsRecord ρ t (spot ρ t j)) → j < k → locate ρ (take p t) (spot ρ t j) ≡ located (q .next) (q .ns)
     cut-located j q l =
-        located-within p (spot ρ t j) (q .next) (q .ns) (q .is) (omega (arith, spot-more ρ t j (q .next) (q .ns) (q .is), spot-mono ρ t (suc j) k l)) (spot-inside ρ t k)
+        located-within p (spot ρ t j) (q .is) (omega (arith, spot-more ρ t j (q .next) (q .ns) (q .is), spot-mono ρ t (suc j) k l)) (spot-inside ρ t k)
 
     cut-spot : (j : ℕ) → j ≤ k → spot ρ (take p t) j ≡ spot ρ t j
     cut-spot zero l = sym (spot-start ρ (take p t)) ∙ spot-start ρ t

@@ -108,7 +108,7 @@ module _ (ρ : Rules) (a b : List ℕ) where
         let long = located-long ρ b p n ns e in
         let next : m + p + (n - p) ≡ m + n = omega arith in
         let size : m + n - (m + p) ≡ n - p = omega arith in
-        let f : locate ρ t (m + p) ≡ located (m + n) ns = located-moved ρ b t p (m + p) n ns (sym (same-bytes p)) e ∙ ap (λ i. located i ns) next in
+        let f : locate ρ t (m + p) ≡ located (m + n) ns = located-moved ρ b t p (m + p) (sym (same-bytes p)) e ∙ ap (λ i. located i ns) next in
         pieces-copied ρ t (m + p) (m + n) ns f ∙ ap₂ (λ i ps. Copied (m + p) i ∷ ps) size h ∙ sym (ap (map (further m)) (pieces-copied ρ b p n ns e));
     at-stretch = λ p r l e h.
         let end = stretchEnd ρ b p in
