@@ -127,7 +127,7 @@ fn fields_stop(rules: rules::Rules, short: bool, columns: usize, lines: &[u8], a
     ensures { λ r. ⌜ r ≡ at + fieldsSpan rules short columns (now (lines .entry)) at ⌝ }
 {
     if short {
-        let end = line::behind_or_end(lines, at, 1);
+        let end = line::behind_line(lines, at);
         let line::Content::Length(n) = line::content_length(rules, &lines[at..end]) else {
             return at;
         };
@@ -152,7 +152,7 @@ fn misfit(
         (rightContent rules short columns
         (part at (at + reach (drop at (now (lines .entry))) 1) (now (lines .entry)))) ⌝ }
 {
-    let end = line::behind_or_end(lines, at, 1);
+    let end = line::behind_line(lines, at);
     match right_content(rules, short, columns, &lines[at..end]) {
         line::Content::Length(_) => Refusal::BadField(number, element),
         line::Content::NoReturn => Refusal::BadLine(number),
@@ -197,7 +197,7 @@ fn check_lines(rules: rules::Rules, form: Form, short: bool, count: u16, lines: 
                 break 'lines;
             }
         }
-        let end = line::behind_or_end(lines, stop, 1);
+        let end = line::behind_line(lines, stop);
         let line::Content::Length(_) = right_content(rules, short, k * width, &lines[at..end])
         else {
             verdict = Checked::Refused(Refusal::BadLine(j + 1));
@@ -343,7 +343,7 @@ fn fill_lines(
         let k = base::lesser(per_line, left);
         // no line feed stands in the columns of these fields; a line that may be short can end anywhere, so its bytes
         // are looked at twice
-        let end = line::behind_or_end(lines, at + least(short, k * width), 1);
+        let end = line::behind_line(lines, at + least(short, k * width));
         // a clean line has a content, so this is never taken
         let line::Content::Length(n) = line::content_length(rules, &lines[at..end]) else {
             return;
