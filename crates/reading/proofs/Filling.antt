@@ -1,37 +1,39 @@
--- The second pass: its state as it comes to a line and to a field of the line; a field more, a line more, and the end.
+-- The second pass: its state as it comes to a line; a line more, and the end.
 -- Assumes nothing.
 use mathlib.Core.Path.{_≡_, refl, sym, _∙_, ap, subst}
 use mathlib.Core.Bool.{Bool, true}
 use mathlib.Core.List.{List, [], _++_, append-assoc, append-nil}
 use Prim.Native.Nat.{ℕ, _+_, _-_, _*_, _<_, _≤_, min}
-use native.Mathlib.Nat.{add-mul, one-mul, zero-mul, sub-zero, mul-le-mul}
+use native.Mathlib.Nat.{sub-zero, mul-le-mul-right}
 use native.Mathlib.Omega.{arith}
-use lib.Dec.{T}
 use lib.IntN.{ℤ}
 use lib.ListN.{length, take, drop, length-append}
 use Rattle.rules.specs.declared.Rules.{Rules}
 use Rattle.base.specs.Part.{part, over}
-use Rattle.base.specs.Pieces.{done, both, cellsGot}
-use Rattle.base.proofs.Part.{over-none, over-then, over-length}
+use Rattle.base.specs.Pieces.{done, cellsGot}
+use Rattle.base.proofs.Part.{over-none, over-then, over-length, part-length}
 use Rattle.base.proofs.Pieces.{BothDone, both-done}
-use Rattle.base.proofs.Taken.{drop-none}
+use Rattle.base.proofs.Taken.{drop-none, part-begin}
 use Rattle.form.specs.declared.Form.{Form}
 use Rattle.form.specs.Table.{rowOf}
 use Rattle.form.specs.Count
 use Rattle.form.specs.Count.{elementsOf, cellsOf}
 use Rattle.form.proofs.Rows.{row-fits}
-use Rattle.field.specs.Read.{fieldOf, formed, valueCells, ReadsAs}
 use Rattle.line.specs.Lines.{reach}
 use Rattle.line.specs.Contents.{contentOf}
 use Rattle.line.specs.declared.Content.the-variants.{Length, NoReturn}
-use Rattle.reading.specs.Blanks.{shortest, filledTo, isRight, fieldPart, rightContent, Fits}
+use Rattle.run.specs.Run.{runCells}
+use Rattle.reading.specs.Blanks.{shortest, filledTo, inColumns, isRight, rightContent, HoldsLetters}
 use Rattle.reading.specs.Plan.{Line, lineAt, planFrom, planOf}
 use Rattle.reply.specs.declared.Checked.the-variants as C
-use Rattle.reading.specs.Read.{Cells, readField, readFields, columnsOf, readLine, readLinesOf, readLines, verdictOf}
+use Rattle.reading.specs.Read.{Cells, readFields, columnsOf, readLine, readLinesOf, readLines, verdictOf}
+use Rattle.reading.proofs.Blanks.{filled-take}
 use Rattle.reading.proofs.Lines.{right-yes}
-use Rattle.reading.proofs.Fields.{restOf, lineText, fields-start, fields-more, fields-none, line-ends, enough, end-from, piece, piece-range}
-use Rattle.reading.proofs.Checking.{Walking, line-more, lines-none, many-here, columns-here, end-range, walking-next, width-few}
-use Rattle.reading.proofs.Sizes.{clean-read, field-done, reads-size, LineDone, line-done, group-size}
+use Rattle.reading.proofs.Fields.{lineText, line-ends, enough, end-from}
+use Rattle.reading.proofs.Checking.{Walking, line-more, lines-none, many-here, columns-here, end-range, walking-next}
+use Rattle.reading.proofs.Sizes.{clean-read, LineDone, line-done, line-size, group-size}
+use Rattle.reading.proofs.Runs.{IsRun, fields-run}
+use Rattle.reading.proofs.Putting.{ToPut}
 
 done-same : {a b : List ℤ} → _≡_ {A = Cells} (done a) (done b) → a ≡ b
 done-same e = cc
@@ -101,14 +103,6 @@ pub record OnLine (ρ : Rules) (f : Form) (short : Bool) (count : ℕ) (s : List
   pub end : ℕ
   pub elements : k ≡ min (r .perLine) (r .left)
   pub behind : end ≡ r .at + reach (drop (r .at) s) 1
-
--- the cells of line l go to the table `old` from `base` on
-pub record FillingFields (f : Form) (l : Line) (text : List ℕ) (old : List ℤ) (base at i from cell : ℕ) (table : List ℤ) : Type 0 where
-  pub place : from ≡ at + i * rowOf f .width
-  pub within : i ≤ l .many
-  pub more : List ℤ
-  pub rest : readFields f (restOf l i) (drop (i * rowOf f .width) text) ≡ done more
-  pub store : Stored (cellsGot (readFields f l text)) old base cell table more
 
 pub enough-room : (ρ : Rules) (f : Form) (short : Bool) (count : ℕ) (s : List ℕ) (old : List ℤ) → verdictOf (readLines ρ f short count s) ≡ C.Right → cellsOf ρ f count ≤ length old
     → length (cellsGot (readLines ρ f short count s)) ≤ length old
@@ -193,126 +187,63 @@ module _ (ρ : Rules) {f : Form} {short : Bool} {count : ℕ} {s : List ℕ} {ol
     text-done : readFields f l (lineText f l s (r .at) (o .end) m) ≡ done (split .first)
     text-done = subst (λ x. readFields f l (filledTo (columnsOf f l) (part 0 x (part (r .at) (o .end) s))) ≡ done (split .first)) bytes (here .fields)
 
-    line-cells : cellsGot (readFields f l (lineText f l s (r .at) (o .end) m)) ≡ split .first
-    line-cells = ap cellsGot text-done
+    columns : o .k * r .width ≡ columnsOf f l
+    columns = columns-here ρ f count s (o .state .walk) (o .k) (o .end) (o .elements) (o .behind)
+
+    many : l .many ≡ o .k
+    many = sym (many-here ρ f count s (o .state .walk) (o .k) (o .end) (o .elements) (o .behind))
+
+    -- the columns of its fields, as they are read
+    content : take (columnsOf f l) (lineText f l s (r .at) (o .end) m) ≡ inColumns (o .k * r .width) (part (r .at) (r .at + m) s)
+    content =
+        let n : r .at + m - r .at ≡ m = omega arith in
+        filled-take (columnsOf f l) (columnsOf f l) (part 0 m (part (r .at) (o .end) s)) (omega arith)
+        ∙ ap (inColumns (columnsOf f l)) (part-begin (r .at) (o .end) m s (omega (arith, line-ends ρ f short l s (r .at) (o .end) m inside right)))
+        ∙ rw (n, columns)
+
+    its-run : IsRun f (o .k) (inColumns (o .k * r .width) (part (r .at) (r .at + m) s)) (split .first)
+    its-run =
+        subst (λ x. IsRun f (o .k) x (split .first)) content
+        (subst (λ k. IsRun f k (take (columnsOf f l) (lineText f l s (r .at) (o .end) m)) (split .first)) many (fields-run f l (lineText f l s (r .at) (o .end) m) (split .first) text-done))
 
     -- what is left begins with the cells of this line
     before : Stored (cellsGot (readLines ρ f short count s)) old 0 (r .cell) (r .table) (split .first ++ split .second)
     before = subst (λ x. Stored (cellsGot (readLines ρ f short count s)) old 0 (r .cell) (r .table) x) (split .all) (o .state .store)
 
-    line-room : r .cell + length (cellsGot (readFields f l (lineText f l s (r .at) (o .end) m))) ≤ length (r .table)
-    line-room = omega (arith, ap length line-cells, stored-room {base = 0} (omega arith) (split .first) (split .second) before, filling-length ρ (o .room) (o .state))
+    size : length (split .first) ≡ o .k * rowOf f .cells
+    size = line-size ρ f short l (part (r .at) (o .end) s) (split .first) (split .first-is) ∙ ap (λ k. k * rowOf f .cells) many
 
-    pub fields-filling : FillingFields f l (lineText f l s (r .at) (o .end) m) (r .table) (r .cell) (r .at) 0 (r .at) (r .cell) (r .table)
-    fields-filling =
+    pub line-room : r .cell + o .k * rowOf f .cells ≤ length (r .table)
+    line-room = omega (arith, size, stored-room {base = 0} (omega arith) (split .first) (split .second) before, filling-length ρ (o .room) (o .state))
+
+    pub cells-small : (o .k * r .cells ≤ 120) × (r .cell + o .k * r .cells ≤ length old)
+    cells-small =
+        let sized = ap (λ n. o .k * n) (o .state .sized) in
+        let few = mul-le-mul-right {m = o .k} {n = rowOf f .«per_line»} (rowOf f .cells) (omega (arith, o .elements, o .state .walk .per)) in
+        (omega (arith, sized, few, row-fits f .few-cells), omega (arith, sized, line-room, filling-length ρ (o .room) (o .state)))
+
+    long : length (part (r .at) (r .at + m) s) ≡ m
+    long = part-length s (r .at) m (omega (arith, fill-inside))
+
+    pub to-put : HoldsLetters f short → ToPut f short (o .k) (o .k * r .width) (part (r .at) (r .at + m) s) (r .table) (r .cell)
+    to-put letters = record {
+      letters = letters;
+      wide = ap (λ n. o .k * n) (o .state .walk .wide);
+      long = rw (long, columns) (enough ρ f short l s (r .at) (o .end) m inside right);
+      good = its-run .each;
+      room = line-room;
+    }
+
+    -- its cells are put: the next line
+    pub filling-next : {new : List ℤ} → new ≡ over (r .cell) (runCells f (o .k) (inColumns (o .k * r .width) (part (r .at) (r .at + m) s))) (r .table)
+        → Filling ρ f short count s old
+        record { width = r .width; perLine = r .perLine; cells = r .cells; many = r .many; left = r .left - o .k; at = o .end; cell = r .cell + o .k * r .cells; j = r .j + 1; table = new }
+    filling-next {new} put =
         record {
-          place = omega (arith, zero-mul (rowOf f .width));
-          within = omega arith;
-          more = cellsGot (readFields f l (lineText f l s (r .at) (o .end) m));
-          rest = fields-start f l (lineText f l s (r .at) (o .end) m) ∙ text-done ∙ ap done (sym line-cells);
-          store = stored-none (cellsGot (readFields f l (lineText f l s (r .at) (o .end) m))) (r .table) (r .cell);
+          walk = walking-next ρ f count s (o .state .walk) (o .k) (o .end) (o .elements) (o .behind) (o .further);
+          sized = o .state .sized;
+          more = split .second;
+          rest = split .second-is;
+          store = subst (λ n. Stored (cellsGot (readLines ρ f short count s)) old 0 (r .cell + n) new (split .second)) (size ∙ ap (λ n. o .k * n) (sym (o .state .sized)))
+              (stored-more {base = 0} (omega arith) (split .first) (split .second) new before (put ∙ ap (λ y. over (r .cell) y (r .table)) (sym (its-run .cells))));
         }
-
-    module _ {i from spot : ℕ} {now : List ℤ} (g : FillingFields f l (lineText f l s (r .at) (o .end) m) (r .table) (r .cell) (r .at) i from spot now) where
-      pub fill-small : from ≤ length s + 120 * 120
-      fill-small = omega (arith, g .place, o .state .walk .inside, mul-le-mul few-passed (width-few f))
-        where
-          few-passed : i ≤ 120
-          few-passed = omega (arith, g .within, row-fits f .few)
-
-      pub fill-length : length now ≡ length (r .table)
-      fill-length = stored-length line-room (g .more) (g .store)
-
-      -- all fields are filled: the next line
-      pub filling-next : o .k ≤ i
-          → Filling ρ f short count s old
-          record { width = r .width; perLine = r .perLine; cells = r .cells; many = r .many; left = r .left - o .k; at = o .end; cell = spot; j = r .j + 1; table = now }
-      filling-next d =
-          record {
-            walk = walking-next ρ f count s (o .state .walk) (o .k) (o .end) (o .elements) (o .behind) (o .further);
-            sized = o .state .sized;
-            more = split .second;
-            rest = split .second-is;
-            store = subst (λ n. Stored (cellsGot (readLines ρ f short count s)) old 0 n now (split .second)) (sym (whole .next ∙ ap (λ y. r .cell + length y) line-cells))
-                (stored-more {base = 0} (omega arith) (split .first) (split .second) now before (whole .here ∙ ap (λ y. over (r .cell) y (r .table)) line-cells));
-          }
-        where
-          none : [] ≡ g .more
-          none = done-same
-              (sym (fields-none f l (lineText f l s (r .at) (o .end) m) i (drop (i * rowOf f .width) (lineText f l s (r .at) (o .end) m))
-              (omega (arith, many-here ρ f count s (o .state .walk) (o .k) (o .end) (o .elements) (o .behind)))) ∙ g .rest)
-
-          whole : AllStored (cellsGot (readFields f l (lineText f l s (r .at) (o .end) m))) (r .table) (r .cell) spot now
-          whole = stored-all (cellsGot (readFields f l (lineText f l s (r .at) (o .end) m))) (r .table) now (r .cell) spot
-              (subst (λ x. Stored (cellsGot (readFields f l (lineText f l s (r .at) (o .end) m))) (r .table) (r .cell) spot now x) (sym none) (g .store))
-
-      module _ (c : i < o .k) where
-        -- where what there is of the field begins and ends
-        abbrev begin : ℕ
-        begin = min from (r .at + m)
-
-        abbrev to : ℕ
-        to = min (from + r .width) (r .at + m)
-
-        inner : i < l .many
-        inner = omega (arith, many-here ρ f count s (o .state .walk) (o .k) (o .end) (o .elements) (o .behind))
-
-        to-is : to ≡ min (from + rowOf f .width) (r .at + m)
-        to-is = rw (o .state .walk .wide)
-
-        field-is : filledTo (r .width) (part begin to s) ≡ take (rowOf f .width) (drop (i * rowOf f .width) (lineText f l s (r .at) (o .end) m))
-        field-is =
-            ap (λ n. filledTo n (part begin to s)) (o .state .walk .wide)
-            ∙ piece ρ f short l s (r .at) (o .end) m inside right i from begin to inner (g .place) refl to-is
-
-        one : BothDone (readField f (l .number) (l .first + i) (filledTo (r .width) (part begin to s)))
-            (readFields f (restOf l (i + 1)) (drop ((i + 1) * rowOf f .width) (lineText f l s (r .at) (o .end) m))) (g .more)
-        one =
-            both-done (readField f (l .number) (l .first + i) (filledTo (r .width) (part begin to s)))
-            (readFields f (restOf l (i + 1)) (drop ((i + 1) * rowOf f .width) (lineText f l s (r .at) (o .end) m))) (g .more)
-            (ap (λ y. both (readField f (l .number) (l .first + i) y)
-            (readFields f (restOf l (i + 1)) (drop ((i + 1) * rowOf f .width) (lineText f l s (r .at) (o .end) m)))) field-is
-            ∙ sym (fields-more f l (lineText f l s (r .at) (o .end) m) i inner) ∙ g .rest)
-
-        reads : ReadsAs f (filledTo (r .width) (part begin to s)) (one .first)
-        reads = field-done f (l .number) (l .first + i) (filledTo (r .width) (part begin to s)) (one .first) (one .first-is)
-
-        size : length (one .first) ≡ rowOf f .cells
-        size = reads-size f (filledTo (r .width) (part begin to s)) (one .first) reads
-
-        store : Stored (cellsGot (readFields f l (lineText f l s (r .at) (o .end) m))) (r .table) (r .cell) spot now (one .first ++ one .second)
-        store = subst (λ y. Stored (cellsGot (readFields f l (lineText f l s (r .at) (o .end) m))) (r .table) (r .cell) spot now y) (one .all) (g .store)
-
-        pub record Put : Type 0 where
-          pub ends : r .at + m ≤ length s
-          pub wide : r .width ≡ rowOf f .width
-          pub fits : Fits f short (min (from + r .width) (r .at + m) - min from (r .at + m))
-          pub good : T (formed (fieldOf f (filledTo (r .width) (fieldPart (r .width) from (r .at + m) s))))
-          pub room : spot + rowOf f .cells ≤ length now
-
-        pub put-requires : Put
-        put-requires =
-            let p = piece-range ρ f short l s (r .at) (o .end) m inside right i from begin to inner (g .place) refl to-is in
-            record {
-              ends = omega (arith, fill-inside);
-              wide = o .state .walk .wide;
-              fits = p .2;
-              good = reads .good;
-              room = omega (arith, size, fill-length, stored-room line-room (one .first) (one .second) store);
-            }
-
-        pub cell-small : spot + r .cells ≤ length old
-        cell-small = omega (arith, o .state .sized, put-requires .room, fill-length, filling-length ρ (o .room) (o .state))
-
-        pub fields-next : {new : List ℤ} → new ≡ over spot
-            (valueCells (filledTo (r .width) (fieldPart (r .width) from (r .at + m) s)) (fieldOf f (filledTo (r .width) (fieldPart (r .width) from (r .at + m) s)))) now
-            → FillingFields f l (lineText f l s (r .at) (o .end) m) (r .table) (r .cell) (r .at) (i + 1) (from + r .width) (spot + r .cells) new
-        fields-next {new = new} y =
-            record {
-              place = omega (arith, g .place, o .state .walk .wide, add-mul i 1 (rowOf f .width), one-mul (rowOf f .width));
-              within = omega (arith, inner);
-              more = one .second;
-              rest = one .second-is;
-              store = subst (λ n. Stored (cellsGot (readFields f l (lineText f l s (r .at) (o .end) m))) (r .table) (r .cell) n new (one .second))
-                  (ap (λ n. spot + n) (size ∙ sym (o .state .sized))) (stored-more line-room (one .first) (one .second) new store (y ∙ ap (λ z. over spot z now) (reads .cells)));
-            }

@@ -4,8 +4,8 @@
 use mathlib.Core.Path.{_≡_, refl, sym, _∙_, ap, subst}
 use mathlib.Core.Bool.{Bool, true, false}
 use mathlib.Core.List.{List}
-use Prim.Native.Nat.{ℕ, _+_, _-_, _*_, _<_, _≤_, min}
-use native.Mathlib.Nat.{add-mul, one-mul, mul-le-mul, mul-le-mul-right, zero-mul}
+use Prim.Native.Nat.{ℕ, zero, suc, _+_, _-_, _*_, _<_, _≤_, min}
+use native.Mathlib.Nat.{add-mul, one-mul, suc-mul, mul-le-mul, mul-le-mul-right, zero-mul}
 use native.Mathlib.Omega.{arith}
 use lib.ListN.{length, take, drop, length-take, length-drop}
 use lib.Seq.{length-take-le}
@@ -27,7 +27,7 @@ use Rattle.line.specs.declared.Content.the-variants.{Length, NoReturn}
 use Rattle.line.proofs.Feeds.{plain-nil, plain-append, printable-plain}
 use Rattle.line.proofs.Reach.{reach-le, reach-past}
 use Rattle.line.proofs.Contents.{content-two, first-plain}
-use Rattle.reading.specs.Blanks.{filledTo, asField, fieldPart, rightContent, fieldsSpan, Fits}
+use Rattle.reading.specs.Blanks.{filledTo, asField, fieldPart, FirstFormed, rightContent, fieldsSpan, Fits}
 use Rattle.reading.specs.Plan.{Line, lineAt}
 use Rattle.reply.specs.declared.Refusal.{Refusal}
 use Rattle.reply.specs.declared.Refusal.the-variants.{BadLine}
@@ -277,3 +277,16 @@ module _ (ρ : Rules) {f : Form} {short : Bool} {count : ℕ} {s : List ℕ} (o 
       pub tried-next : (m : ℕ) → rightContent ρ short (o .k * o .width) (part (o .at) end s) ≡ Length m
           → Checking ρ f short count s (o .width) (o .perLine) (o .many) (o .left - o .k) end (o .element + o .perLine) (o .j + 1)
       tried-next m v = checking-next ρ f short count s (o .state) (o .further) (o .k) end (o .elements) ends m v (g .right end m ends (rw columns at v)) d
+
+  -- ---- fields that were seen to be formed
+
+  pub trying-from : {r : ℕ} → FirstFormed f short (o .at) (o .stop) s (o .k) r → (i : ℕ) → i ≤ r → Trying ρ f short l s (o .at) (o .stop) i (o .at + i * o .width)
+  trying-from seen zero h =
+      let none : o .at ≡ o .at + 0 * o .width = omega (arith, zero-mul (o .width)) in
+      subst (Trying ρ f short l s (o .at) (o .stop) 0) none trying-start
+  trying-from seen (suc i) h =
+      let next : o .at + i * o .width + o .width ≡ o .at + suc i * o .width = omega (arith, suc-mul i (o .width)) in
+      let more : i + 1 ≡ suc i = omega arith in
+      let good = subst (λ w. formed (fieldOf f (asField f short (fieldPart w (o .at + i * w) (o .stop) s))) ≡ true) (sym (o .state .walk .wide)) (seen .each i (omega arith)) in
+      subst (λ n. Trying ρ f short l s (o .at) (o .stop) n (o .at + suc i * o .width)) more
+      (subst (Trying ρ f short l s (o .at) (o .stop) (i + 1)) next (trying-next (trying-from seen i (omega arith)) (omega (arith, seen .few)) good))

@@ -4,15 +4,16 @@ use mathlib.Core.Path.{_≡_}
 use mathlib.Core.Bool.{Bool, true, cond, _&&_, _||_}
 use mathlib.Core.Logic.{_⊎_}
 use mathlib.Core.List.{List, _++_}
-use Prim.Native.Nat.{ℕ, _+_, _-_, _≤_, min}
+use Prim.Native.Nat.{ℕ, _+_, _-_, _*_, _<_, _≤_, min}
 use lib.Dec.{eqb, leb}
-use lib.ListN.{length, drop, replicate}
+use lib.ListN.{length, take, drop, replicate}
 use Rattle.rules.specs.declared.Rules.{Rules}
 use Rattle.base.specs.Every.{every}
 use Rattle.base.specs.Part.{part}
 use Rattle.form.specs.declared.Form.{Form}
 use Rattle.form.specs.declared.Form.the-variants.{A120, A1}
 use Rattle.form.specs.Table.{rowOf}
+use Rattle.field.specs.Read.{fieldOf, formed}
 use Rattle.line.specs.Lines.{reach}
 use Rattle.line.specs.Contents.{contentOf}
 use Rattle.line.specs.declared.Content.{Content}
@@ -37,6 +38,10 @@ shortest short columns = cond short 0 columns
 unfoldable pub filledTo : ℕ → List ℕ → List ℕ
 filledTo n s = s ++ replicate (n - length s) 32
 
+-- R63, R65: what stands in so many columns of a line, with blanks where it is short
+abbrev pub inColumns : ℕ → List ℕ → List ℕ
+inColumns n s = filledTo n (take n s)
+
 -- R62 to R64: a line's content is right for fields that take so many columns: long enough, at most 120 bytes, blanks alone behind them
 unfoldable pub isRight : Bool → ℕ → List ℕ → Bool
 isRight short columns s = leb (shortest short columns) (length s) && (leb (length s) 120 && every blank (drop columns s))
@@ -53,6 +58,11 @@ fieldPart width column stop s = part (min column stop) (min (column + width) sto
 -- R64: short lines are told only of forms of letters, where a blank is a field or a part of one
 abbrev pub HoldsLetters : Form → Bool → Type 0
 HoldsLetters f short = short ≡ true → (f ≡ A120) ⊎ (f ≡ A1)
+
+-- the first r of a line's k fields are formed, where the line begins at `at` and is looked at up to `stop`
+pub record FirstFormed (f : Form) (short : Bool) (at stop : ℕ) (s : List ℕ) (k r : ℕ) : Type 0 where
+  pub few : r ≤ k
+  pub each : (i : ℕ) → i < r → formed (fieldOf f (asField f short (fieldPart (rowOf f .width) (at + i * rowOf f .width) stop s))) ≡ true
 
 -- what may be lent as a field: the whole width, or less where lines may be short
 pub record Fits (f : Form) (short : Bool) (n : ℕ) : Type 0 where

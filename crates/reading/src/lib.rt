@@ -18,13 +18,14 @@ ghost use Rattle.base.specs.Part.{part, over};
 ghost use Rattle.base.specs.Pieces.{cellsGot};
 ghost use Rattle.form.specs.Table.{rowOf, formOf};
 ghost use Rattle.form.specs.Count.{cellsOf};
-ghost use Rattle.field.specs.Read.{fieldOf, formed, valueCells};
+ghost use Rattle.field.specs.Read.{fieldOf, formed};
+ghost use Rattle.run.specs.Run.{runFormed, runCells};
 ghost use Rattle.count.specs.Rules.{rulingOf};
 ghost use Rattle.count.specs.Tally.{cellsIn};
 ghost use Rattle.line.specs.Lines.{reach};
 ghost use Rattle.line.specs.Contents.{contentOf};
-ghost use Rattle.reading.specs.Blanks.{blank, mayBeShort, shortest, filledTo, isRight, asField, rightContent};
-ghost use Rattle.reading.specs.Blanks.{fieldPart, fieldsSpan, Fits, HoldsLetters};
+ghost use Rattle.reading.specs.Blanks.{blank, mayBeShort, shortest, filledTo, inColumns, isRight, asField, rightContent};
+ghost use Rattle.reading.specs.Blanks.{fieldPart, fieldsSpan, FirstFormed, HoldsLetters};
 ghost use Rattle.reading.specs.Read.{verdictOf, misfitOf, readLines, dated, readForm, readGroup, readingOf};
 ghost use Rattle.reading.specs.Read.{tableBy};
 
@@ -120,6 +121,35 @@ fn is_field_at(
     is_field(form, short, width, &lines[from..to])
 }
 
+// How many fields of a line, from the first on, are seen to be formed before they are tried one by one: all of them or
+// none. A line that is right has all of them formed.
+fn seen_formed(
+    form: Form,
+    short: bool,
+    k: usize,
+    columns: usize,
+    lines: &[u8],
+    at: usize,
+    stop: usize,
+) -> usize
+    requires letters { ⌜ HoldsLetters form short ⌝ }
+    requires columns { ⌜ columns ≡ k * rowOf form .width ⌝ }
+    requires order { ⌜ at ≤ stop ⌝ }
+    requires lines { ⌜ stop ≤ length (now lines) ⌝ }
+    ensures { λ r. ⌜ FirstFormed form short at stop (now (lines .entry)) k r ⌝ }
+{
+    if short {
+        return if field::all_printable(&lines[at..stop]) { k } else { 0 };
+    }
+    if stop - at != columns {
+        return 0;
+    }
+    if run::formed(form, &lines[at..stop], k) {
+        return k;
+    }
+    0
+}
+
 // Where the fields of a line are looked for no further, before its end is known. A line that may be short has no length
 // of its own: its content is asked for first, and its bytes are looked at twice.
 fn fields_stop(rules: rules::Rules, short: bool, columns: usize, lines: &[u8], at: usize) -> usize
@@ -178,8 +208,8 @@ fn check_lines(rules: rules::Rules, form: Form, short: bool, count: u16, lines: 
     'lines: while j < many {
         let k = base::lesser(per_line, left);
         let stop = fields_stop(rules, short, k * width, lines, at);
-        let mut from = at;
-        let mut i: usize = 0;
+        let mut i = seen_formed(form, short, k, k * width, lines, at, stop);
+        let mut from = at + i * width;
         while i < k {
             if is_field_at(form, short, width, lines, from, stop) {
                 from += width;
@@ -270,49 +300,31 @@ fn put_letters(bytes: &[u8], width: usize, table: &mut [i64], at: usize)
     }
 }
 
-// The cells of a field.
-fn put_field(form: Form, short: bool, width: usize, bytes: &[u8], table: &mut [i64], at: usize)
-    requires letters { ⌜ HoldsLetters form short ⌝ }
-    requires width { ⌜ width ≡ rowOf form .width ⌝ }
-    requires fits { ⌜ Fits form short (length (now bytes)) ⌝ }
-    requires formed { ⌜ T (formed (fieldOf form (filledTo width (now bytes)))) ⌝ }
-    requires room { ⌜ at + rowOf form .cells ≤ length (now table) ⌝ }
-    ensures { λ _. ⌜ now (table .exit) ≡
-        over at (valueCells (filledTo width (now (bytes .entry))) (fieldOf form (filledTo width (now (bytes .entry)))))
-        (now (table .entry)) ⌝ }
-{
-    if short {
-        put_letters(bytes, width, table, at);
-        return;
-    }
-    run::fill(form, bytes, 1, table, at);
-}
-
-// The same of the field in the columns from `column` on, of a line whose content ends at `stop`.
-fn put_field_at(
+// The cells of a line's fields. They are told from the line's content: all of their columns, with blanks behind the last
+// byte where the line is short (R65).
+fn put_line(
     form: Form,
     short: bool,
-    width: usize,
-    lines: &[u8],
-    column: usize,
-    stop: usize,
+    k: usize,
+    columns: usize,
+    content: &[u8],
     table: &mut [i64],
-    at: usize,
+    cell: usize,
 )
     requires letters { ⌜ HoldsLetters form short ⌝ }
-    requires lines { ⌜ stop ≤ length (now lines) ⌝ }
-    requires width { ⌜ width ≡ rowOf form .width ⌝ }
-    requires fits { ⌜ Fits form short (min (column + width) stop - min column stop) ⌝ }
-    requires formed { ⌜ T (formed (fieldOf form (filledTo width (fieldPart width column stop (now lines))))) ⌝ }
-    requires room { ⌜ at + rowOf form .cells ≤ length (now table) ⌝ }
+    requires columns { ⌜ columns ≡ k * rowOf form .width ⌝ }
+    requires long { ⌜ shortest short columns ≤ length (now content) ⌝ }
+    requires formed { ⌜ T (runFormed form k (inColumns columns (now content))) ⌝ }
+    requires room { ⌜ cell + k * rowOf form .cells ≤ length (now table) ⌝ }
     ensures { λ _. ⌜ now (table .exit) ≡
-        over at
-        (valueCells (filledTo width (fieldPart width column stop (now (lines .entry))))
-        (fieldOf form (filledTo width (fieldPart width column stop (now (lines .entry)))))) (now (table .entry)) ⌝ }
+        over cell (runCells form k (inColumns columns (now (content .entry)))) (now (table .entry)) ⌝ }
 {
-    let from = base::lesser(column, stop);
-    let to = from + base::lesser(width, stop - from);
-    put_field(form, short, width, &lines[from..to], table, at);
+    let there = base::lesser(columns, content.len());
+    if short {
+        put_letters(&content[0..there], columns, table, cell);
+        return;
+    }
+    run::fill(form, &content[0..there], k, table, cell);
 }
 
 // R266: the second pass, the cells of lines that were found clean.
@@ -341,22 +353,17 @@ fn fill_lines(
     let mut j: usize = 0;
     while j < many {
         let k = base::lesser(per_line, left);
+        let columns = k * width;
         // no line feed stands in the columns of these fields; a line that may be short can end anywhere, so its bytes
         // are looked at twice
-        let end = line::behind_line(lines, at + least(short, k * width));
+        let end = line::behind_line(lines, at + least(short, columns));
         // a clean line has a content, so this is never taken
         let line::Content::Length(n) = line::content_length(rules, &lines[at..end]) else {
             return;
         };
         let stop = at + n;
-        let mut from = at;
-        let mut i: usize = 0;
-        while i < k {
-            put_field_at(form, short, width, lines, from, stop, table, cell);
-            from += width;
-            cell += cells;
-            i += 1;
-        }
+        put_line(form, short, k, columns, &lines[at..stop], table, cell);
+        cell += k * cells;
         at = end;
         left -= k;
         j += 1;

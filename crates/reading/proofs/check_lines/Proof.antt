@@ -2,6 +2,7 @@
 -- verdict on all; the fields of a line so far are formed.
 -- Assumes nothing.
 use borrow.Author.Needs.{needs}
+use native.Mathlib.Nat.{mul-le-mul-right}
 use native.Mathlib.Omega.{arith}
 use mathlib.Core.Path.{_≡_, refl, sym, _∙_, ap}
 use Prim.Native.Nat.{_-_, _*_, _≤_}
@@ -11,16 +12,16 @@ use Rattle.form.specs.Count.{elementsOf}
 use Rattle.reading.specs.Plan.{lineAt}
 use Rattle.reply.specs.declared.Checked.the-variants as C
 use Rattle.reading.proofs.Checking.{Checking, walking-start, checking-start, checking-end, element-small, next-first, columns-small, width-few}
-use Rattle.reading.proofs.Trying.{Trying, OnLine, trying-start, try-small, stops, element-few, trying-next, trying-wrong, tried-range, tried-wrong, tried-next}
+use Rattle.reading.proofs.Trying.{Trying, OnLine, trying-from, try-small, stops, element-few, trying-next, trying-wrong, tried-range, tried-wrong, tried-next}
 use Rattle.reading.proofs.check_lines.Statement.{statement}
 use Rattle.reading.proofs.check_lines.Tie as tie
 
 abbrev Inv-loop : tie.InvT-loop
-Inv-loop rules form short count lines width per-line many left verdict₀ at element j k stop from₀ i₀ verdict from i =
+Inv-loop rules form short count lines width per-line many left verdict₀ at element j k stop i₀ from₀ verdict i from =
     (verdict ≡ C.Right) × Trying rules form short (lineAt (rowOf form .«per_line») (elementsOf rules form count) j) lines at stop i from
 
 abbrev μ-loop : tie.MeasureT-loop
-μ-loop rules form short count lines width per-line many left verdict₀ at element j k stop from₀ i₀ verdict from i = k - i
+μ-loop rules form short count lines width per-line many left verdict₀ at element j k stop i₀ from₀ verdict i from = k - i
 
 abbrev Inv-lines : tie.InvT-lines
 Inv-lines rules form short count lines width per-line many left₀ verdict₀ at₀ element₀ j₀ left verdict at element j =
@@ -76,18 +77,31 @@ line c =
 few-columns : (c : AtLine) → line c .k * line c .width ≤ 120 * 120
 few-columns c = columns-small (start c .args .rules) (start c .args .form) (start c .args .count) (start c .args .lines .now) (line c .state .walk) (line c .k) _ (line c .elements) refl
 
+seen-formed-requires : tie.Need-seen-formed-requires Inv-loop μ-loop Inv-lines μ-lines
+seen-formed-requires c κs = (start c .pre, (ap (λ w. line c .k * w) (line c .state .walk .wide), stops _ (line c)))
+
+-- its first fields may be passed over
+seen-columns : (c : tie.After-seen-formed Inv-loop μ-loop Inv-lines μ-lines) → c .seen-formed .result * line (c .before) .width ≤ 120 * 120
+seen-columns c = omega (arith, few-columns (c .before), mul-le-mul-right {m = c .seen-formed .result} {n = line (c .before) .k} (line (c .before) .width) (c .seen-formed .ensures .few))
+
+mul-from : tie.Need-mul-from Inv-loop μ-loop Inv-lines μ-lines
+mul-from c = omega (arith, seen-columns c)
+
+add-from : tie.Need-add-from Inv-loop μ-loop Inv-lines μ-lines
+add-from c = omega (arith, seen-columns c, line (c .before) .state .walk .inside)
+
 loop-holds : tie.Need-loop-holds Inv-loop μ-loop Inv-lines μ-lines
-loop-holds c = (c .before .before .before .lines .inv .0, trying-start _ (line c))
+loop-holds c = (c .before .before .before .before .lines .inv .0, trying-from _ (line (c .before)) (c .seen-formed .ensures) _ (omega arith))
 
 is-field-at-requires : tie.Need-is-field-at-requires Inv-loop μ-loop Inv-lines μ-lines
 is-field-at-requires c κs =
-    let at-line = c .before .before in
+    let at-line = c .before .before .before in
     (start at-line .pre, (stops _ (line at-line) .1, line at-line .state .walk .wide))
 
-add-from : tie.Need-add-from Inv-loop μ-loop Inv-lines μ-lines
-add-from c =
+add-from-2 : tie.Need-add-from-2 Inv-loop μ-loop Inv-lines μ-lines
+add-from-2 c =
     let at-loop = c .before .before .before in
-    let at-line = at-loop .before in
+    let at-line = at-loop .before .before in
     let o = start at-line in
     omega (arith, try-small (o .args .rules) (line at-line) (at-loop .loop .inv .1), line at-line .state .walk .wide, width-few (o .args .form))
 
@@ -96,29 +110,29 @@ loop-again c =
     let in-loop = c .before .before in
     let at-loop = in-loop .before in
     let good = sym (c .before .is-field-at .ensures) ∙ c .if1 .taken in
-    (at-loop .loop .inv .0, trying-next _ (line (at-loop .before)) (at-loop .loop .inv .1) (in-loop .loop-test .taken) good)
+    (at-loop .loop .inv .0, trying-next _ (line (at-loop .before .before)) (at-loop .loop .inv .1) (in-loop .loop-test .taken) good)
 
 mul-misfit : tie.Need-mul-misfit Inv-loop μ-loop Inv-lines μ-lines
-mul-misfit c = omega (arith, few-columns (c .before .before .before .before))
+mul-misfit c = omega (arith, few-columns (c .before .before .before .before .before))
 
 add-misfit-2 : tie.Need-add-misfit-2 Inv-loop μ-loop Inv-lines μ-lines
 add-misfit-2 c =
     let in-loop = c .before .before in
     let at-loop = in-loop .before in
-    omega (arith, element-few _ (line (at-loop .before)) (at-loop .loop .inv .1) (in-loop .loop-test .taken))
+    omega (arith, element-few _ (line (at-loop .before .before)) (at-loop .loop .inv .1) (in-loop .loop-test .taken))
 
 misfit-requires : tie.Need-misfit-requires Inv-loop μ-loop Inv-lines μ-lines
-misfit-requires c κs = line (c .before .before .before .before) .state .walk .inside
+misfit-requires c κs = line (c .before .before .before .before .before) .state .walk .inside
 
 mul-right-content : tie.Need-mul-right-content Inv-loop μ-loop Inv-lines μ-lines
-mul-right-content c = omega (arith, few-columns (c .before .before .before))
+mul-right-content c = omega (arith, few-columns (c .before .before .before .before))
 
 -- the line stands in the lines
-inside : (c : tie.After-behind-or-end Inv-loop μ-loop Inv-lines μ-lines)
-    → (let l = line (c .before .before .before) in (l .at ≤ c .behind-or-end .result) × (c .behind-or-end .result ≤ length (start (c .before .before .before) .args .lines .now)))
+inside : (c : tie.After-behind-line Inv-loop μ-loop Inv-lines μ-lines)
+    → (let l = line (c .before .before .before .before) in (l .at ≤ c .behind-line .result) × (c .behind-line .result ≤ length (start (c .before .before .before .before) .args .lines .now)))
 inside c =
     let at-loop = c .before .before in
-    tried-range _ (line (at-loop .before)) (at-loop .loop .inv .1) (omega arith) (c .behind-or-end .result) (c .behind-or-end .ensures)
+    tried-range _ (line (at-loop .before .before)) (at-loop .loop .inv .1) (omega arith) (c .behind-line .result) (c .behind-line .ensures)
 
 sub-right-content : tie.Need-sub-right-content Inv-loop μ-loop Inv-lines μ-lines
 sub-right-content c = let r = inside c in search needs
@@ -132,11 +146,11 @@ part-right-content-end c = let r = inside c in search needs
 -- ---- the next line, and the verdict
 
 sub-left : tie.Need-sub-left Inv-loop μ-loop Inv-lines μ-lines
-sub-left c = omega (arith, line (c .before .before .before .before .before .before .before) .elements)
+sub-left c = omega (arith, line (c .before .before .before .before .before .before .before .before) .elements)
 
 add-element : tie.Need-add-element Inv-loop μ-loop Inv-lines μ-lines
 add-element c =
-    let at-line = c .before .before .before .before .before .before .before in
+    let at-line = c .before .before .before .before .before .before .before .before in
     let o = start at-line in
     let state = line at-line .state in
     let next = next-first (o .args .rules) (o .args .form) (o .args .count) (o .args .lines .now) (state .walk) in
@@ -144,10 +158,10 @@ add-element c =
 
 lines-again : tie.Need-lines-again Inv-loop μ-loop Inv-lines μ-lines
 lines-again c =
-    let end = c .before .before .before .before .behind-or-end in
+    let end = c .before .before .before .before .behind-line in
     let at-loop = c .before .before .before .before .before .before in
     let right = sym (c .before .before .right-content .ensures) ∙ c .enum-told .given .1 in
-    (at-loop .loop .inv .0, tried-next _ (line (at-loop .before)) (at-loop .loop .inv .1) (omega arith) (end .result) (end .ensures) (c .enum-told .given .0 .0) right)
+    (at-loop .loop .inv .0, tried-next _ (line (at-loop .before .before)) (at-loop .loop .inv .1) (omega arith) (end .result) (end .ensures) (c .enum-told .given .0 .0) right)
 
 returns : tie.Need-returns Inv-loop μ-loop Inv-lines μ-lines
 returns c =
@@ -159,14 +173,14 @@ returns-2 c =
     let in-loop = c .before .before .before in
     let at-loop = in-loop .before in
     let bad = sym (c .before .before .is-field-at .ensures) ∙ c .before .if1 .left in
-    trying-wrong _ (line (at-loop .before)) (at-loop .loop .inv .1) (in-loop .loop-test .taken) bad (c .misfit .result) (c .misfit .ensures)
+    trying-wrong _ (line (at-loop .before .before)) (at-loop .loop .inv .1) (in-loop .loop-test .taken) bad (c .misfit .result) (c .misfit .ensures)
 
 returns-3 : tie.Need-returns-3 Inv-loop μ-loop Inv-lines μ-lines
 returns-3 c =
-    let end = c .before .before .before .before .behind-or-end in
+    let end = c .before .before .before .before .behind-line in
     let at-loop = c .before .before .before .before .before .before in
     let wrong = sym (c .before .before .right-content .ensures) ∙ c .enum-told2 .given .1 in
-    tried-wrong _ (line (at-loop .before)) (at-loop .loop .inv .1) (omega arith) (end .result) (end .ensures) wrong
+    tried-wrong _ (line (at-loop .before .before)) (at-loop .loop .inv .1) (omega arith) (end .result) (end .ensures) wrong
 
 pub check-lines-spec : {M : Type 1} → statement M
 check-lines-spec =
@@ -183,9 +197,13 @@ check-lines-spec =
     (λ c κs. search needs)
     mul-fields-stop
     fields-stop-requires
+    (λ c. omega (arith, few-columns c))
+    seen-formed-requires
+    mul-from
+    add-from
     loop-holds
     is-field-at-requires
-    add-from
+    add-from-2
     (λ c. search needs)
     (λ c. search needs)
     loop-again
