@@ -81,16 +81,16 @@ pairs-done s i h = sym (few-pairs (drop (i - 1) s) (omega (arith, length-drop (i
 
 -- ---- a number's digits
 
--- no byte is above 255, so a number that began with 0 is below 23 times a power of ten
-pub number-more : (s : List ℕ) (i n : ℕ) → i < length s → numberFrom (n * 10 + (getD s i 0 - 48)) (map (λ b. b - 48) (drop (i + 1) s)) ≡ numberFrom n (map (λ b. b - 48) (drop i s))
-number-more s i n h = rw (add-one i, drop-cons s i 0 h)
+module _ (worth : ℕ → ℕ) where
+  pub number-more : (s : List ℕ) (i n : ℕ) → i < length s → numberFrom (n * 10 + worth (getD s i 0)) (map worth (drop (i + 1) s)) ≡ numberFrom n (map worth (drop i s))
+  number-more s i n h = rw (add-one i, drop-cons s i 0 h)
 
-pub number-done : (s : List ℕ) (i n : ℕ) → length s ≤ i → numberFrom n (map (λ b. b - 48) (drop i s)) ≡ n
-number-done s i n h = rw (drop-of-length-le s h)
+  pub number-done : (s : List ℕ) (i n : ℕ) → length s ≤ i → numberFrom n (map worth (drop i s)) ≡ n
+  number-done s i n h = rw (drop-of-length-le s h)
 
--- room for a digit more, and for all that 12 columns hold
-pub room-more : (i n b : ℕ) → b < 256 → n + 24 ≤ 24 * 10 ^ i → n * 10 + (b - 48) + 24 ≤ 24 * 10 ^ (i + 1)
-room-more i n b h r = rw (add-one i, pow-suc 10 i) (omega arith)
+-- room for a digit more, and for all that 12 columns hold: no byte is above 255, so a number that began with 0 is below 24 times a power of ten
+pub room-more : (i n d : ℕ) → d < 208 → n + 24 ≤ 24 * 10 ^ i → n * 10 + d + 24 ≤ 24 * 10 ^ (i + 1)
+room-more i n d h r = rw (add-one i, pow-suc 10 i) (omega arith)
 
 pub room-all : (i n : ℕ) → i ≤ 12 → n + 24 ≤ 24 * 10 ^ i → n < 2 ^ 48
 room-all i n h r = let p = pow-le-pow-right {n = 10} (lit< tt) {i = i} {j = 12} h in omega arith

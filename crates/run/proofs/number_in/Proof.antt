@@ -31,15 +31,15 @@ loop-again c =
     let b = getD s (l .i) 0 in (
       omega arith,
       ap (λ d. numberFrom (l .n * 10 + d) (map (λ b. b - 48) (drop (l .i + 1) s))) (c .above .ensures)
-          ∙ number-more s (l .i) (l .n) (c .before .before .loop-test .taken)
+          ∙ number-more (λ b. b - 48) s (l .i) (l .n) (c .before .before .loop-test .taken)
           ∙ l .inv .1,
-      rw (c .above .ensures) (room-more (l .i) (l .n) b (omega (arith, c .before .shared-slice-known2 .given (l .i))) (l .inv .2)),
+      rw (c .above .ensures) (room-more (l .i) (l .n) (b - 48) (omega (arith, c .before .shared-slice-known2 .given (l .i))) (l .inv .2)),
     )
 
 returns : tie.Need-returns Inv-loop μ-loop
 returns c =
     let l = c .before .loop in (
-      sym (number-done (c .before .before .before .args .s .now) (l .i) (l .n) (omega arith)) ∙ l .inv .1,
+      sym (number-done (λ b. b - 48) (c .before .before .before .args .s .now) (l .i) (l .n) (omega arith)) ∙ l .inv .1,
       room-all (l .i) (l .n) (omega arith) (l .inv .2),
     )
 
