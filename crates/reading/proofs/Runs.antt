@@ -96,7 +96,7 @@ module _ (f : Form) (l : Line) (text : List ℕ) where
       (tt, sym cc)
   from-field (suc n) i cs e h =
       let d = both-done (readField f (l .number) (l .first + i) (take (rowOf f .width) (drop (i * rowOf f .width) text)))
-          (readFields f (restOf l (i + 1)) (drop ((i + 1) * rowOf f .width) text)) cs (sym (fields-more f l text i (omega arith)) ∙ h) in
+      (readFields f (restOf l (i + 1)) (drop ((i + 1) * rowOf f .width) text)) cs (sym (fields-more f l text i (omega arith)) ∙ h) in
       let r = field-done f (l .number) (l .first + i) (take (rowOf f .width) (drop (i * rowOf f .width) text)) (d .first) (d .first-is) in
       let x = sym (field-in f text (l .many) i (omega arith)) in
       let q : i + 1 ≡ suc i = omega arith in
@@ -143,8 +143,8 @@ module _ (f : Form) (k at stop : ℕ) (s : List ℕ) (order : at ≤ stop) where
         let b = min (at + i * width + width) stop in
         let begin : at + (a - at) ≡ a = omega arith in
         let inside : part a b s ≡ take (b - a) (drop (a - at) (part at stop s)) =
-            sym (ap (take (b - a)) (drop-take (a - at) (stop - at) (drop at s)) ∙ take-take (b - a) (stop - at - (a - at)) (drop (a - at) (drop at s)) (omega arith)
-            ∙ ap (take (b - a)) (drop-drop (a - at) at s ∙ ap (λ n. drop n s) begin)) in
+        sym (ap (take (b - a)) (drop-take (a - at) (stop - at) (drop at s)) ∙ take-take (b - a) (stop - at - (a - at)) (drop (a - at) (drop at s)) (omega arith)
+        ∙ ap (take (b - a)) (drop-drop (a - at) at s ∙ ap (λ n. drop n s) begin)) in
         let prints = subst (λ x. T (every printable x)) (sym inside) (every-take printable (b - a) (drop (a - at) (part at stop s)) (every-drop printable (a - at) (part at stop s) t)) in
         rw e (sym (short-field f (part a b s) letters (omega (arith, length-take (b - a) (drop a s)))) ∙ T-true (every printable (part a b s)) prints);
   }
@@ -158,8 +158,8 @@ module _ (f : Form) (k at stop : ℕ) (s : List ℕ) (order : at ≤ stop) where
         let more = suc-mul i width in
         let last = mul-le-mul-right {m = suc i} {n = k} width h in
         let same : runField f (part at stop s) i ≡ part (min (at + i * width) stop) (min (at + i * width + width) stop) s =
-            ap (λ n. runField f (take n (drop at s)) i) wide ∙ field-in f (drop at s) k i h
-            ∙ ap (take width) (drop-drop (i * width) at s) ∙ ends (min (at + i * width) stop) (min (at + i * width + width) stop) (at + i * width) (omega arith) (omega arith) in
+        ap (λ n. runField f (take n (drop at s)) i) wide ∙ field-in f (drop at s) k i h
+        ∙ ap (take width) (drop-drop (i * width) at s) ∙ ends (min (at + i * width) stop) (min (at + i * width + width) stop) (at + i * width) (omega arith) (omega arith) in
         rw e (T-true _ (subst (λ x. T (formed (fieldOf f x))) same (every-between (λ j. formed (fieldOf f (runField f (part at stop s) j))) 0 k t i (omega arith) (omega arith))));
   }
     where

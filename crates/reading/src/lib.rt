@@ -139,7 +139,11 @@ fn seen_formed(
     ensures { λ r. ⌜ FirstFormed form short at stop (now (lines .entry)) k r ⌝ }
 {
     if short {
-        return if field::all_printable(&lines[at..stop]) { k } else { 0 };
+        return if field::all_printable(&lines[at..stop]) {
+            k
+        } else {
+            0
+        };
     }
     if stop - at != columns {
         return 0;

@@ -20,7 +20,7 @@ use Rattle.base.proofs.Part.{part-middle}
 use Rattle.base.proofs.Taken.{part-zero}
 use Rattle.number.specs.Grammar.{IsI, IsF, IsE, Lead, minusOf, leadText, leadMinus, signByte}
 use Rattle.number.specs.Grammar.Lead.{nought, minusNought, bare, minus}
-use Rattle.run.specs.Columns.{numberIn, digitsIn, columnsIn, wholeCell, fixedBy, fixedCell, powerFirst, powerSecond}
+use Rattle.run.specs.Columns.{numberIn, figuresIn, columnsIn, wholeCell, fixedBy, fixedCell, powerFirst, powerSecond}
 
 -- ---- the number and the sign of columns
 
@@ -35,7 +35,7 @@ text-number ds each = ap numberOf (text-values (λ b. b - 48) (λ d h. omega ari
 pub by-sixteen : (d : ℕ) → d < 10 → (48 + d) % 16 ≡ d
 by-sixteen d h = ap (λ n. n % 16) (add-comm 48 d) ∙ add-mul-mod-self-right d 3 16 ∙ mod-eq-of-lt (omega arith)
 
-text-digits : (ds : List ℕ) → AllDigits ds → digitsIn (digitText ds) ≡ numberOf ds
+text-digits : (ds : List ℕ) → AllDigits ds → figuresIn (digitText ds) ≡ numberOf ds
 text-digits ds each = ap numberOf (text-values (λ b. b % 16) by-sixteen ds each)
 
 -- none of them is a minus
@@ -115,7 +115,7 @@ fixed-is s z i =
     ∙ ap (ofSign (i .minus)) (number-append 0 (i .units) (i .thousandths) ∙ thousands (numberOf (i .units)) (i .thousandths) (i .three))
     ∙ sym
     (ap fixedCell a ∙ fixed-parts head ts n
-    ∙ ap (λ g. ofSign g (columnsIn g head * 1000 + digitsIn ts)) (columns-minus (i .blanks) (i .minus) (i .units))
+    ∙ ap (λ g. ofSign g (columnsIn g head * 1000 + figuresIn ts)) (columns-minus (i .blanks) (i .minus) (i .units))
     ∙ ap (ofSign (i .minus)) (ap₂ (λ m n. m * 1000 + n) (columns-number (i .blanks) (i .minus) (i .units) (i .each)) (text-digits (i .thousandths) (i .every))))
 
 -- ---- E
@@ -134,9 +134,9 @@ module _ (c d : ℕ) (head ds xs : List ℕ) (g : ℕ) (l : length head ≡ c) (
   abbrev text : List ℕ
   text = head ++ (46 ∷ (ds ++ (69 ∷ g ∷ xs)))
 
-  first-parts : powerFirst c d text ≡ ofSign (has head 45) (digitsIn ds)
+  first-parts : powerFirst c d text ≡ ofSign (has head 45) (figuresIn ds)
   first-parts =
-      ap₂ (λ x y. ofSign (has x 45) (digitsIn y))
+      ap₂ (λ x y. ofSign (has x 45) (figuresIn y))
       (begin-part head (46 ∷ (ds ++ (69 ∷ g ∷ xs))) c l)
       (ap (part (c + 1) (c + 1 + d)) (sym (append-assoc head (46 ∷ []) (ds ++ (69 ∷ g ∷ xs))))
       ∙ middle-part (head ++ (46 ∷ [])) ds (69 ∷ g ∷ xs) (c + 1) (c + 1 + d) (length-append head (46 ∷ []) ∙ omega arith) (omega arith))
@@ -151,10 +151,10 @@ module _ (c d : ℕ) (head ds xs : List ℕ) (g : ℕ) (l : length head ≡ c) (
   text-sign : text ≡ before-sign ++ (g ∷ xs)
   text-sign = sym (append-assoc head (46 ∷ (ds ++ (69 ∷ []))) (g ∷ xs) ∙ ap (λ r. head ++ (46 ∷ r)) (append-assoc ds (69 ∷ []) (g ∷ xs)))
 
-  second-parts : powerSecond c d text ≡ ofSign (eqb g 45) (digitsIn xs)
+  second-parts : powerSecond c d text ≡ ofSign (eqb g 45) (figuresIn xs)
   second-parts =
       ap (powerSecond c d) text-sign
-      ∙ ap₂ (λ x y. ofSign (eqb x 45) (digitsIn y))
+      ∙ ap₂ (λ x y. ofSign (eqb x 45) (figuresIn y))
       (ap (λ i. getD (before-sign ++ (g ∷ xs)) i 0) (sym before-length) ∙ getD-append-seam before-sign g xs 0)
       (ap (λ u. part (c + 3 + d) (length u) u) (sym (append-assoc before-sign (g ∷ []) xs))
       ∙ end-part (before-sign ++ (g ∷ [])) xs (c + 3 + d) (length-append before-sign (g ∷ []) ∙ omega (arith, before-length)))

@@ -75,29 +75,29 @@ abbrev pub numberIn : List ℕ → ℕ
 numberIn s = numberOf (map (λ b. b - 48) s)
 
 -- the same of columns without a minus: what a blank's code and a digit's leave by 16 is what they count
-abbrev pub digitsIn : List ℕ → ℕ
-digitsIn s = numberOf (map (λ b. b % 16) s)
+abbrev pub figuresIn : List ℕ → ℕ
+figuresIn s = numberOf (map (λ b. b % 16) s)
 
 -- the columns in front of a number's end, told whether a minus is among them
 abbrev pub columnsIn : Bool → List ℕ → ℕ
-columnsIn minus s = cond minus (numberIn s) (digitsIn s)
+columnsIn minus s = cond minus (numberIn s) (figuresIn s)
 
 abbrev pub wholeCell : List ℕ → ℤ
 wholeCell s = ofSign (has s 45) (columnsIn (has s 45) s)
 
 -- R73: thousandths
 abbrev pub fixedBy : List ℕ → List ℕ → ℤ
-fixedBy head tail = ofSign (has head 45) (columnsIn (has head 45) head * 1000 + digitsIn tail)
+fixedBy head tail = ofSign (has head 45) (columnsIn (has head 45) head * 1000 + figuresIn tail)
 
 abbrev pub fixedCell : List ℕ → ℤ
 fixedCell s = fixedBy (part 0 (length s - 4) s) (part (length s - 3) (length s) s)
 
 -- R77: the digits and the exponent, each with its sign
 abbrev pub powerFirst : ℕ → ℕ → List ℕ → ℤ
-powerFirst c d s = ofSign (has (part 0 c s) 45) (digitsIn (part (c + 1) (c + 1 + d) s))
+powerFirst c d s = ofSign (has (part 0 c s) 45) (figuresIn (part (c + 1) (c + 1 + d) s))
 
 abbrev pub powerSecond : ℕ → ℕ → List ℕ → ℤ
-powerSecond c d s = ofSign (eqb (getD s (c + 2 + d) 0) 45) (digitsIn (part (c + 3 + d) (length s) s))
+powerSecond c d s = ofSign (eqb (getD s (c + 2 + d) 0) 45) (figuresIn (part (c + 3 + d) (length s) s))
 
 -- ---- pieces of w columns each, one behind the other
 

@@ -13,7 +13,7 @@ ghost use Rattle.base.specs.Part.{over};
 ghost use Rattle.form.specs.Table.{rowOf};
 ghost use Rattle.run.specs.Run.{runFormed, runCells};
 ghost use Rattle.run.specs.Columns.{between, isFigure, goesOn, pairs, isColumn, isLead, isSign, isWholeField, isHead};
-ghost use Rattle.run.specs.Columns.{isFixed, isLeading, isPower, numberIn, digitsIn, columnsIn};
+ghost use Rattle.run.specs.Columns.{isFixed, isLeading, isPower, numberIn, figuresIn, columnsIn};
 ghost use Rattle.run.specs.Columns.{wholeCell, fixedCell, powerFirst, powerSecond};
 ghost use Rattle.run.specs.Columns.{eachPiece, allPieces};
 
@@ -248,9 +248,9 @@ fn number_in(s: &[u8]) -> u64
 }
 
 // The same of columns without a minus, by a step less for each.
-fn digits_in(s: &[u8]) -> u64
+fn figures_in(s: &[u8]) -> u64
     requires { ⌜ length (now s) ≤ 12 ⌝ }
-    ensures number { λ r. ⌜ r ≡ digitsIn (now (s .entry)) ⌝ }
+    ensures number { λ r. ⌜ r ≡ figuresIn (now (s .entry)) ⌝ }
     ensures small { λ r. ⌜ r < 2 ^ 48 ⌝ }
 {
     let mut n: u64 = 0;
@@ -284,7 +284,7 @@ fn columns_in(s: &[u8], minus: bool) -> u64
     if minus {
         return number_in(s);
     }
-    digits_in(s)
+    figures_in(s)
 }
 
 // R71: the cell of an I field.
@@ -306,10 +306,7 @@ fn fixed_cell(s: &[u8]) -> i64
     let q = n - 3;
     let head = &s[0..p];
     let minus = has_minus(head);
-    number::cell(
-        minus,
-        columns_in(head, minus) * 1000 + digits_in(&s[q..n]),
-    )
+    number::cell(minus, columns_in(head, minus) * 1000 + figures_in(&s[q..n]))
 }
 
 // R77: the two cells of an E field.
@@ -325,8 +322,8 @@ fn put_power(s: &[u8], c: usize, d: usize, x: usize, table: &mut [i64], at: usiz
     let e = c + 1 + d;
     let g = c + 2 + d;
     let h = c + 3 + d;
-    table[at] = number::cell(has_minus(&s[0..c]), digits_in(&s[f..e]));
-    table[at + 1] = number::cell(s[g] == b'-', digits_in(&s[h..n]));
+    table[at] = number::cell(has_minus(&s[0..c]), figures_in(&s[f..e]));
+    table[at + 1] = number::cell(s[g] == b'-', figures_in(&s[h..n]));
 }
 
 fn fill_whole(fields: &[u8], k: usize, w: usize, table: &mut [i64], cell: usize)

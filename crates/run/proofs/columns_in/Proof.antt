@@ -14,7 +14,7 @@ returns c =
 returns-2 : tie.Need-returns-2
 returns-2 c =
     let a = c .before .before .before .args in
-    (c .digits-in .ensures .0 ∙ ap (λ g. columnsIn g (a .s .now)) (sym (c .before .if1 .left)), c .digits-in .ensures .1)
+    (c .figures-in .ensures .0 ∙ ap (λ g. columnsIn g (a .s .now)) (sym (c .before .if1 .left)), c .figures-in .ensures .1)
 
 pub columns-in-spec : {M : Type 1} → statement M
 columns-in-spec = tie.close (tie.spec (λ c κs. search needs) returns (λ c κs. search needs) returns-2)

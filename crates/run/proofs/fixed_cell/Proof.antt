@@ -7,7 +7,7 @@ use mir.Syntax.{w64}
 use mir.Facts.{toZ-ofZ}
 use Rattle.base.specs.Part.{part}
 use Rattle.base.specs.Sign.{ofSign}
-use Rattle.run.specs.Columns.{columnsIn, digitsIn}
+use Rattle.run.specs.Columns.{columnsIn, figuresIn}
 use Rattle.run.proofs.fixed_cell.Statement.{statement}
 use Rattle.run.proofs.fixed_cell.Tie as tie
 
@@ -17,8 +17,8 @@ returns c =
     let s = at-columns .before .before .before .before .args .s .now in
     let n = length s in
     toZ-ofZ (sfits-of {w = w64} (c .cell .ok)) ∙ c .cell .ensures
-    ∙ ap₂ (λ m n. ofSign (at-columns .before .has-minus .result) (m * 1000 + n)) (at-columns .columns-in .ensures .0) (c .before .digits-in .ensures .0)
-    ∙ ap (λ g. ofSign g (columnsIn g (part 0 (n - 4) s) * 1000 + digitsIn (part (n - 3) n s))) (at-columns .before .has-minus .ensures)
+    ∙ ap₂ (λ m n. ofSign (at-columns .before .has-minus .result) (m * 1000 + n)) (at-columns .columns-in .ensures .0) (c .before .figures-in .ensures .0)
+    ∙ ap (λ g. ofSign g (columnsIn g (part 0 (n - 4) s) * 1000 + figuresIn (part (n - 3) n s))) (at-columns .before .has-minus .ensures)
 
 pub fixed-cell-spec : {M : Type 1} → statement M
 fixed-cell-spec =

@@ -1,4 +1,4 @@
--- `run::digits_in` meets its contract. The invariant: the digits from i on, behind what was made so far, make the whole number; and there is
+-- `run::figures_in` meets its contract. The invariant: the digits from i on, behind what was made so far, make the whole number; and there is
 -- room for 12 columns.
 use borrow.Author.Needs.{needs}
 use native.Mathlib.Omega.{arith}
@@ -9,13 +9,13 @@ use native.Mathlib.Nat.{mod-lt}
 use lib.Dec.{lit<}
 use lib.ListN.{length, drop, getD}
 use Rattle.base.specs.Digits.{numberFrom}
-use Rattle.run.specs.Columns.{digitsIn}
+use Rattle.run.specs.Columns.{figuresIn}
 use Rattle.run.proofs.Loops.{number-more, number-done, room-more, room-all}
-use Rattle.run.proofs.digits_in.Statement.{statement}
-use Rattle.run.proofs.digits_in.Tie as tie
+use Rattle.run.proofs.figures_in.Statement.{statement}
+use Rattle.run.proofs.figures_in.Tie as tie
 
 abbrev Inv-loop : tie.InvT-loop
-Inv-loop s n₀ i₀ n i = (i ≤ length s) × (numberFrom n (map (λ b. b % 16) (drop i s)) ≡ digitsIn s) × (n + 24 ≤ 24 * 10 ^ i)
+Inv-loop s n₀ i₀ n i = (i ≤ length s) × (numberFrom n (map (λ b. b % 16) (drop i s)) ≡ figuresIn s) × (n + 24 ≤ 24 * 10 ^ i)
 
 abbrev μ-loop : tie.MeasureT-loop
 μ-loop s n₀ i₀ n i = length s - i
@@ -45,8 +45,8 @@ returns c =
       room-all (l .i) (l .n) (omega arith) (l .inv .2),
     )
 
-pub digits-in-spec : {M : Type 1} → statement M
-digits-in-spec =
+pub figures-in-spec : {M : Type 1} → statement M
+figures-in-spec =
     tie.close
     (tie.spec
     Inv-loop
