@@ -23,57 +23,49 @@ use Rattle.line.specs.Lines.{reach}
 use Rattle.line.specs.Contents.{contentOf}
 use Rattle.line.specs.declared.Content.the-variants.{Length, NoReturn}
 use Rattle.run.specs.Run.{runCells}
-use Rattle.reading.specs.Blanks.{shortest, filledTo, inColumns, isRight, rightContent, HoldsLetters}
+use Rattle.reading.specs.Blanks.{shortest, filledTo, isRight, rightContent, HoldsLetters, ToPut}
 use Rattle.reading.specs.Plan.{Line, lineAt, planFrom, planOf}
 use Rattle.reply.specs.declared.Checked.the-variants as C
 use Rattle.reading.specs.Read.{Cells, readFields, columnsOf, readLine, readLinesOf, readLines, verdictOf}
-use Rattle.reading.proofs.Blanks.{filled-take}
 use Rattle.reading.proofs.Lines.{right-yes}
 use Rattle.reading.proofs.Fields.{lineText, line-ends, enough, end-from}
 use Rattle.reading.proofs.Checking.{Walking, line-more, lines-none, many-here, columns-here, end-range, walking-next}
 use Rattle.reading.proofs.Sizes.{clean-read, LineDone, line-done, line-size, group-size}
 use Rattle.reading.proofs.Runs.{IsRun, fields-run}
-use Rattle.reading.proofs.Putting.{ToPut}
 
 done-same : {a b : List ℤ} → _≡_ {A = Cells} (done a) (done b) → a ≡ b
 done-same e = cc
 
--- what has been put into a table from `base` on: the cells `stored` of all cells cs, of which `rest` are left; `cell` is where the next goes
-pub record Stored (cs old : List ℤ) (base cell : ℕ) (table rest : List ℤ) : Type 0 where
+-- what has been put into a table: the cells `stored` of all cells cs, of which `rest` are left; `cell` is where the next goes
+pub record Stored (cs old : List ℤ) (cell : ℕ) (table rest : List ℤ) : Type 0 where
   pub stored : List ℤ
-  pub here : table ≡ over base stored old
-  pub next : cell ≡ base + length stored
+  pub here : table ≡ over 0 stored old
+  pub next : cell ≡ length stored
   pub all : cs ≡ stored ++ rest
 
-pub stored-none : (cs old : List ℤ) (base : ℕ) → Stored cs old base base old cs
-stored-none cs old base = record { stored = []; here = over-none old base; next = omega arith; all = refl }
+stored-none : (cs old : List ℤ) → Stored cs old 0 old cs
+stored-none cs old = record { stored = []; here = over-none old 0; next = refl; all = refl }
 
-module _ {cs old table : List ℤ} {base cell : ℕ} (room : base + length cs ≤ length old) where
-  pub stored-room : (first rest : List ℤ) → Stored cs old base cell table (first ++ rest) → cell + length first ≤ length old
+module _ {cs old table : List ℤ} {cell : ℕ} (room : length cs ≤ length old) where
+  stored-room : (first rest : List ℤ) → Stored cs old cell table (first ++ rest) → cell + length first ≤ length old
   stored-room first rest b = omega (arith, b .next, ap length (b .all), length-append (b .stored) (first ++ rest), length-append first rest)
 
-  pub stored-length : (rest : List ℤ) → Stored cs old base cell table rest → length table ≡ length old
-  stored-length rest b = ap length (b .here) ∙ over-length old (b .stored) base (omega (arith, ap length (b .all), length-append (b .stored) rest))
+  stored-length : (rest : List ℤ) → Stored cs old cell table rest → length table ≡ length old
+  stored-length rest b = ap length (b .here) ∙ over-length old (b .stored) 0 (omega (arith, ap length (b .all), length-append (b .stored) rest))
 
-  pub stored-more : (first rest new : List ℤ) → Stored cs old base cell table (first ++ rest) → new ≡ over cell first table → Stored cs old base (cell + length first) new rest
+  stored-more : (first rest new : List ℤ) → Stored cs old cell table (first ++ rest) → new ≡ over cell first table → Stored cs old (cell + length first) new rest
   stored-more first rest new b e =
       record {
         stored = b .stored ++ first;
-        here = over-then old (b .stored) first base cell (b .next, omega (arith, stored-room first rest b)) (b .here) e;
+        here = over-then old (b .stored) first 0 cell (omega (arith, b .next), omega (arith, stored-room first rest b)) (b .here) e;
         next = omega (arith, b .next, length-append (b .stored) first);
         all = b .all ∙ sym (append-assoc (b .stored) first rest);
       }
 
-pub record AllStored (cs old : List ℤ) (base cell : ℕ) (table : List ℤ) : Type 0 where
-  pub here : table ≡ over base cs old
-  pub next : cell ≡ base + length cs
+stored-all : (cs old table : List ℤ) (cell : ℕ) → Stored cs old cell table [] → table ≡ over 0 cs old
+stored-all cs old table cell b = b .here ∙ ap (λ l. over 0 l old) (sym (b .all ∙ append-nil (b .stored)))
 
-pub stored-all : (cs old table : List ℤ) (base cell : ℕ) → Stored cs old base cell table [] → AllStored cs old base cell table
-stored-all cs old table base cell b =
-    let e : b .stored ≡ cs = sym (b .all ∙ append-nil (b .stored)) in
-    record { here = b .here ∙ ap (λ l. over base l old) e; next = b .next ∙ ap (λ l. base + length l) e }
-
--- ---- the state before line j, and before field i of it
+-- ---- the state before line j
 
 -- where the pass stands: the row's numbers, the lines of the group, the elements left, the next line's place and number, the next cell
 pub record Reached : Type 0 where
@@ -92,7 +84,7 @@ pub record Filling (ρ : Rules) (f : Form) (short : Bool) (count : ℕ) (s : Lis
   pub sized : r .cells ≡ rowOf f .cells
   pub more : List ℤ
   pub rest : readLinesOf ρ f short (planFrom (rowOf f .«per_line») (elementsOf ρ f count) (r .j) (r .many - r .j)) (drop (r .at) s) ≡ done more
-  pub store : Stored (cellsGot (readLines ρ f short count s)) old 0 (r .cell) (r .table) more
+  pub store : Stored (cellsGot (readLines ρ f short count s)) old (r .cell) (r .table) more
 
 -- it has come to a line, of k elements, that ends at `end`
 pub record OnLine (ρ : Rules) (f : Form) (short : Bool) (count : ℕ) (s : List ℕ) (old : List ℤ) (r : Reached) : Type 0 where
@@ -121,7 +113,7 @@ filling-start ρ {f} {short} {count} {s} {r} b z v none =
       sized = z;
       more = cellsGot (readLines ρ f short count s);
       rest = rw (none .0, none .2, sub-zero (r .many), b .lines, drop-none s) (g .is ∙ ap done (sym (ap cellsGot (g .is))));
-      store = rw (none .1) (stored-none (cellsGot (readLines ρ f short count s)) (r .table) 0);
+      store = rw (none .1) (stored-none (cellsGot (readLines ρ f short count s)) (r .table));
     }
 
 pub filling-end : (ρ : Rules) {f : Form} {short : Bool} {count : ℕ} {s : List ℕ} {old : List ℤ} {r : Reached} → Filling ρ f short count s old r → r .many ≤ r .j
@@ -129,11 +121,11 @@ pub filling-end : (ρ : Rules) {f : Form} {short : Bool} {count : ℕ} {s : List
 filling-end ρ {f} {short} {count} {s} {old} {r} b h =
     let z : r .many - r .j ≡ 0 = omega arith in
     let e : [] ≡ b .more = done-same (sym (lines-none ρ f short s (rowOf f .«per_line») (elementsOf ρ f count) (r .j) (r .at)) ∙ (rw z at (b .rest))) in
-    stored-all (cellsGot (readLines ρ f short count s)) old (r .table) 0 (r .cell) (subst (λ x. Stored (cellsGot (readLines ρ f short count s)) old 0 (r .cell) (r .table) x) (sym e) (b .store)) .here
+    stored-all (cellsGot (readLines ρ f short count s)) old (r .table) (r .cell) (subst (λ x. Stored (cellsGot (readLines ρ f short count s)) old (r .cell) (r .table) x) (sym e) (b .store))
 
 pub filling-length : (ρ : Rules) {f : Form} {short : Bool} {count : ℕ} {s : List ℕ} {old : List ℤ} {r : Reached} → length (cellsGot (readLines ρ f short count s)) ≤ length old
     → Filling ρ f short count s old r → length (r .table) ≡ length old
-filling-length ρ room b = stored-length (omega arith) (b .more) (b .store)
+filling-length ρ room b = stored-length room (b .more) (b .store)
 
 module _ (ρ : Rules) {f : Form} {short : Bool} {count : ℕ} {s : List ℕ} {old : List ℤ} {r : Reached} (o : OnLine ρ f short count s old r) where
   abbrev pub l : Line
@@ -193,28 +185,26 @@ module _ (ρ : Rules) {f : Form} {short : Bool} {count : ℕ} {s : List ℕ} {ol
     many : l .many ≡ o .k
     many = sym (many-here ρ f count s (o .state .walk) (o .k) (o .end) (o .elements) (o .behind))
 
-    -- the columns of its fields, as they are read
-    content : take (columnsOf f l) (lineText f l s (r .at) (o .end) m) ≡ inColumns (o .k * r .width) (part (r .at) (r .at + m) s)
+    -- what its fields are read from
+    content : lineText f l s (r .at) (o .end) m ≡ filledTo (o .k * r .width) (part (r .at) (r .at + m) s)
     content =
         let n : r .at + m - r .at ≡ m = omega arith in
-        filled-take (columnsOf f l) (columnsOf f l) (part 0 m (part (r .at) (o .end) s)) (omega arith)
-        ∙ ap (inColumns (columnsOf f l)) (part-begin (r .at) (o .end) m s (omega (arith, line-ends ρ f short l s (r .at) (o .end) m inside right)))
-        ∙ rw (n, columns)
+        ap (filledTo (columnsOf f l)) (part-begin (r .at) (o .end) m s (omega (arith, line-ends ρ f short l s (r .at) (o .end) m inside right))) ∙ rw (n, columns)
 
-    its-run : IsRun f (o .k) (inColumns (o .k * r .width) (part (r .at) (r .at + m) s)) (split .first)
+    its-run : IsRun f (o .k) (filledTo (o .k * r .width) (part (r .at) (r .at + m) s)) (split .first)
     its-run =
         subst (λ x. IsRun f (o .k) x (split .first)) content
-        (subst (λ k. IsRun f k (take (columnsOf f l) (lineText f l s (r .at) (o .end) m)) (split .first)) many (fields-run f l (lineText f l s (r .at) (o .end) m) (split .first) text-done))
+        (subst (λ k. IsRun f k (lineText f l s (r .at) (o .end) m) (split .first)) many (fields-run f l (lineText f l s (r .at) (o .end) m) (split .first) text-done))
 
     -- what is left begins with the cells of this line
-    before : Stored (cellsGot (readLines ρ f short count s)) old 0 (r .cell) (r .table) (split .first ++ split .second)
-    before = subst (λ x. Stored (cellsGot (readLines ρ f short count s)) old 0 (r .cell) (r .table) x) (split .all) (o .state .store)
+    before : Stored (cellsGot (readLines ρ f short count s)) old (r .cell) (r .table) (split .first ++ split .second)
+    before = subst (λ x. Stored (cellsGot (readLines ρ f short count s)) old (r .cell) (r .table) x) (split .all) (o .state .store)
 
     size : length (split .first) ≡ o .k * rowOf f .cells
     size = line-size ρ f short l (part (r .at) (o .end) s) (split .first) (split .first-is) ∙ ap (λ k. k * rowOf f .cells) many
 
     pub line-room : r .cell + o .k * rowOf f .cells ≤ length (r .table)
-    line-room = omega (arith, size, stored-room {base = 0} (omega arith) (split .first) (split .second) before, filling-length ρ (o .room) (o .state))
+    line-room = omega (arith, size, stored-room (o .room) (split .first) (split .second) before, filling-length ρ (o .room) (o .state))
 
     pub cells-small : (o .k * r .cells ≤ 120) × (r .cell + o .k * r .cells ≤ length old)
     cells-small =
@@ -225,17 +215,17 @@ module _ (ρ : Rules) {f : Form} {short : Bool} {count : ℕ} {s : List ℕ} {ol
     long : length (part (r .at) (r .at + m) s) ≡ m
     long = part-length s (r .at) m (omega (arith, fill-inside))
 
-    pub to-put : HoldsLetters f short → ToPut f short (o .k) (o .k * r .width) (part (r .at) (r .at + m) s) (r .table) (r .cell)
+    pub to-put : HoldsLetters f short → ToPut f short (o .k) (o .k * r .width) (part (r .at) (r .at + m) s) (length (r .table)) (r .cell)
     to-put letters = record {
       letters = letters;
       wide = ap (λ n. o .k * n) (o .state .walk .wide);
       long = rw (long, columns) (enough ρ f short l s (r .at) (o .end) m inside right);
       good = its-run .each;
-      room = line-room;
+      enough-room = line-room;
     }
 
     -- its cells are put: the next line
-    pub filling-next : {new : List ℤ} → new ≡ over (r .cell) (runCells f (o .k) (inColumns (o .k * r .width) (part (r .at) (r .at + m) s))) (r .table)
+    pub filling-next : {new : List ℤ} → new ≡ over (r .cell) (runCells f (o .k) (filledTo (o .k * r .width) (part (r .at) (r .at + m) s))) (r .table)
         → Filling ρ f short count s old
         record { width = r .width; perLine = r .perLine; cells = r .cells; many = r .many; left = r .left - o .k; at = o .end; cell = r .cell + o .k * r .cells; j = r .j + 1; table = new }
     filling-next {new} put =
@@ -244,6 +234,6 @@ module _ (ρ : Rules) {f : Form} {short : Bool} {count : ℕ} {s : List ℕ} {ol
           sized = o .state .sized;
           more = split .second;
           rest = split .second-is;
-          store = subst (λ n. Stored (cellsGot (readLines ρ f short count s)) old 0 (r .cell + n) new (split .second)) (size ∙ ap (λ n. o .k * n) (sym (o .state .sized)))
-              (stored-more {base = 0} (omega arith) (split .first) (split .second) new before (put ∙ ap (λ y. over (r .cell) y (r .table)) (sym (its-run .cells))));
+          store = subst (λ n. Stored (cellsGot (readLines ρ f short count s)) old (r .cell + n) new (split .second)) (size ∙ ap (λ n. o .k * n) (sym (o .state .sized)))
+              (stored-more (o .room) (split .first) (split .second) new before (put ∙ ap (λ y. over (r .cell) y (r .table)) (sym (its-run .cells))));
         }

@@ -4,7 +4,6 @@ use mathlib.Core.Path.{_≡_, refl, sym, _∙_, ap, subst}
 use mathlib.Core.Bool.{Bool, true, false}
 use mathlib.Core.List.{List, [], _∷_, map}
 use Prim.Native.Nat.{ℕ, zero, suc, _+_, _*_, _<_, _≤_, min}
-use native.Mathlib.Nat.{sub-zero}
 use native.Mathlib.Omega.{arith}
 use lib.Dec.{T}
 use lib.IntN.{ℤ, pos}
@@ -13,13 +12,13 @@ use lib.Seq.{take-all}
 use Rattle.base.specs.Part.{part, over}
 use Rattle.base.proofs.Mapped.{getD-map-within}
 use Rattle.base.proofs.Part.{over-turn, over-none}
-use Rattle.base.proofs.Taken.{drop-none, take-none, take-both}
+use Rattle.base.proofs.Taken.{part-zero, take-none, take-both}
 use Rattle.form.specs.declared.Form.{Form}
 use Rattle.form.specs.Table.{rowOf}
 use Rattle.run.specs.Run.{runFormed, runCells}
-use Rattle.reading.specs.Blanks.{HoldsLetters, shortest, filledTo, inColumns}
-use Rattle.reading.proofs.Blanks.{filled-enough, filled-length, filled-getD}
-use Rattle.reading.proofs.Runs.{letters-wide, letters-run}
+use Rattle.reading.specs.Blanks.{filledTo, ToPut}
+use Rattle.reading.proofs.Blanks.{filled-enough, filled-length, filled-getD, filled-take}
+use Rattle.reading.proofs.Runs.{formed-front, cells-front, letters-wide, letters-run}
 
 -- a byte that is there, whatever stands for one that isn't
 pub getD-within : (xs : List ℕ) (i d e : ℕ) → i < length xs → getD xs i d ≡ getD xs i e
@@ -56,43 +55,42 @@ module _ (bytes : List ℕ) (width : ℕ) (old : List ℤ) (at : ℕ) (few : len
 
 -- ---- a line
 
--- the content of a line whose fields are formed, once their columns are filled with blanks, and room for their cells
-pub record ToPut (f : Form) (short : Bool) (k columns : ℕ) (content : List ℕ) (old : List ℤ) (cell : ℕ) : Type 0 where
-  pub letters : HoldsLetters f short
-  pub wide : columns ≡ k * rowOf f .width
-  pub long : shortest short columns ≤ length content
-  pub good : T (runFormed f k (inColumns columns content))
-  pub room : cell + k * rowOf f .cells ≤ length old
-
--- as many of its bytes as stand in these columns
-module _ {f : Form} {short : Bool} {k columns : ℕ} {content : List ℕ} {old : List ℤ} {cell : ℕ} (p : ToPut f short k columns content old cell) {there : ℕ}
+-- as many bytes of a line's content as stand in the columns of its fields
+module _ {f : Form} {short : Bool} {k columns : ℕ} {content : List ℕ} {room cell : ℕ} (p : ToPut f short k columns content room cell) {there : ℕ}
     (t : there ≡ min columns (length content)) where
   front : part 0 there content ≡ take columns content
-  front = rw (sub-zero there, drop-none content, t) (sym (take-both columns (length content) content) ∙ ap (take columns) (take-all (length content) content (omega arith)))
+  front = part-zero there content ∙ ap (λ n. take n content) t ∙ sym (take-both columns (length content) content) ∙ ap (take columns) (take-all (length content) content (omega arith))
 
   front-long : length (part 0 there content) ≡ min columns (length content)
   front-long = ap length front ∙ length-take columns content
 
-  filled : filledTo columns (part 0 there content) ≡ inColumns columns content
-  filled = ap (filledTo columns) front
+  -- filled with blanks, they are the columns of all that is filled
+  filled : filledTo columns (part 0 there content) ≡ take (k * rowOf f .width) (filledTo columns content)
+  filled = ap (filledTo columns) front ∙ sym (filled-take columns columns content (omega arith)) ∙ ap (λ n. take n (filledTo columns content)) (p .wide)
 
-  all-columns : length (inColumns columns content) ≡ k * rowOf f .width
-  all-columns = filled-length columns (take columns content) (omega (arith, length-take columns content)) ∙ p .wide
+  all-columns : length (filledTo columns (part 0 there content)) ≡ k * rowOf f .width
+  all-columns = filled-length columns (part 0 there content) (omega (arith, front-long)) ∙ p .wide
 
-  pub short-room : short ≡ true → (length (part 0 there content) ≤ columns) × (cell + columns ≤ length old)
-  short-room e = (omega (arith, front-long), omega (arith, p .room, p .wide, ap (λ n. k * n) (letters-wide f (p .letters e))))
+  good : T (runFormed f k (filledTo columns (part 0 there content)))
+  good = subst T (formed-front f k (filledTo columns content) ∙ ap (runFormed f k) (sym filled)) (p .good)
 
-  pub short-put : short ≡ true → {new : List ℤ} → new ≡ over cell (map pos (filledTo columns (part 0 there content))) old → new ≡ over cell (runCells f k (inColumns columns content)) old
-  short-put e n = n ∙ ap (λ x. over cell (map pos x) old) filled ∙ ap (λ cs. over cell cs old) (letters-run f (p .letters e) k (inColumns columns content) all-columns (p .good))
+  cells : runCells f k (filledTo columns (part 0 there content)) ≡ runCells f k (filledTo columns content)
+  cells = ap (runCells f k) filled ∙ sym (cells-front f k (filledTo columns content))
+
+  pub short-room : short ≡ true → (length (part 0 there content) ≤ columns) × (cell + columns ≤ room)
+  short-room e = (omega (arith, front-long), omega (arith, p .enough-room, p .wide, ap (λ n. k * n) (letters-wide f (p .letters e))))
+
+  pub short-put : short ≡ true → (old : List ℤ) {new : List ℤ} → new ≡ over cell (map pos (filledTo columns (part 0 there content))) old → new ≡ over cell (runCells f k (filledTo columns content)) old
+  short-put e old n = n ∙ ap (λ cs. over cell cs old) (letters-run f (p .letters e) k (filledTo columns (part 0 there content)) all-columns good ∙ cells)
 
   module _ (whole : short ≡ false) where
-    full : inColumns columns content ≡ part 0 there content
+    full : filledTo columns (part 0 there content) ≡ part 0 there content
     full =
         let low : columns ≤ length content = rw whole at (p .long) in
-        sym filled ∙ filled-enough columns (part 0 there content) (omega (arith, front-long))
+        filled-enough columns (part 0 there content) (omega (arith, front-long))
 
-    pub full-run : (length (part 0 there content) ≡ k * rowOf f .width) × (T (runFormed f k (part 0 there content))) × (cell + k * rowOf f .cells ≤ length old)
-    full-run = (ap length (sym full) ∙ all-columns, subst (λ x. T (runFormed f k x)) full (p .good), p .room)
+    pub full-run : (length (part 0 there content) ≡ k * rowOf f .width) × (T (runFormed f k (part 0 there content))) × (cell + k * rowOf f .cells ≤ room)
+    full-run = (ap length (sym full) ∙ all-columns, subst (λ x. T (runFormed f k x)) full good, p .enough-room)
 
-    pub full-put : {new : List ℤ} → new ≡ over cell (runCells f k (part 0 there content)) old → new ≡ over cell (runCells f k (inColumns columns content)) old
-    full-put n = n ∙ ap (λ x. over cell (runCells f k x) old) (sym full)
+    pub full-put : (old : List ℤ) {new : List ℤ} → new ≡ over cell (runCells f k (part 0 there content)) old → new ≡ over cell (runCells f k (filledTo columns content)) old
+    full-put old n = n ∙ ap (λ cs. over cell cs old) (ap (runCells f k) (sym full) ∙ cells)

@@ -1,43 +1,48 @@
 -- A line's fields as a run of one form: a field by itself, all fields of a line, and a line of letters.
 -- Assumes nothing.
-use mathlib.Core.Path.{_≡_, refl, sym, _∙_, ap, subst}
+use mathlib.Core.Path.{_≡_, refl, sym, _∙_, ap, ap₂, subst}
 use mathlib.Core.Bool.{Bool, true, false, _&&_}
-use mathlib.Core.List.{List, [], _++_, append-nil, map, flatMap}
+use mathlib.Core.List.{List, [], _++_, map, flatMap}
 use mathlib.Core.Logic.{_⊎_, ⊎-elim}
 use Prim.Native.Nat.{ℕ, zero, suc, _+_, _-_, _*_, _<_, _≤_, min}
 use native.Mathlib.Nat.{zero-mul, one-mul, suc-mul, sub-zero, mul-le-mul-right}
 use native.Mathlib.Omega.{arith}
-use borrow.Author.Tests.{ne-eqb}
-use lib.Dec.{T}
+use borrow.Author.Tests.{ne-eqb, leb-true, leb-false}
+use lib.Dec.{T, leb}
 use lib.IntN.{ℤ, pos}
-use lib.ListN.{length, take, drop, length-take}
-use lib.Seq.{take-all, take-take, drop-drop}
+use lib.ListN.{length, take, drop, length-take, length-drop}
+use lib.Seq.{take-all, take-take, length-take-le}
+use Rattle.base.specs.Ascii.{printable}
 use Rattle.base.specs.Every
 use Rattle.base.specs.Every.{every, upFrom}
 use Rattle.base.specs.Part.{part}
-use Rattle.base.specs.Ascii.{printable}
 use Rattle.base.specs.Pieces.{done}
-use Rattle.base.proofs.Choice.{and-both, T-true}
-use Rattle.base.proofs.Every.{every-take, every-drop, every-between}
+use Rattle.base.proofs.Choice.{and-both, true-T}
+use Rattle.base.proofs.Every.{every-between}
 use Rattle.base.proofs.Mapped.{map-same}
 use Rattle.base.proofs.Pieces.{both-done}
-use Rattle.base.proofs.Taken.{drop-none, drop-take}
+use Rattle.base.proofs.UpFrom.{flat-same}
+use Rattle.base.proofs.Taken.{drop-none, drop-take, part-part}
 use Rattle.form.specs.declared.Form.{Form}
 use Rattle.form.specs.declared.Form.the-variants.{A120, A1}
 use Rattle.form.specs.Table
 use Rattle.form.specs.Table.{rowOf}
+use Rattle.form.proofs.Rows.{row-fits}
 use Rattle.field.specs.Read
 use Rattle.field.specs.Read.{fieldOf, formed, valueCells}
+use Rattle.field.proofs.Laws.{good-width}
 use Rattle.run.specs.Run
 use Rattle.run.specs.Run.{runField, runFormed, runCells}
-use Rattle.run.specs.Columns.{allPieces}
+use Rattle.run.specs.Columns.{eachPiece, allPieces}
+use Rattle.run.proofs.Loops.{and-true}
 use Rattle.run.proofs.ByForm.{cellsBy, run-cells}
-use Rattle.run.proofs.Pieces.{all-bytes}
-use Rattle.reading.specs.Blanks.{FirstFormed}
+use Rattle.run.proofs.Pieces.{every-same, columns-long, each-byte, all-bytes}
+use Rattle.reading.specs.Blanks.{filledTo, fieldPart, allFormed}
 use Rattle.reading.specs.Plan.{Line}
-use Rattle.reading.specs.Read.{readField, readFields, columnsOf}
-use Rattle.reading.proofs.Blanks.{short-field}
-use Rattle.reading.proofs.Fields.{restOf, fields-start, fields-more, fields-none}
+use Rattle.reading.specs.Read.{readField, readFields}
+use Rattle.reading.proofs.Letters.{letters-formed}
+use Rattle.reading.proofs.Blanks.{filled-length, filled-printable}
+use Rattle.reading.proofs.Fields.{restOf, fields-start, fields-more, fields-none, filled-piece}
 use Rattle.reading.proofs.Sizes.{field-done}
 
 -- ---- a field by itself
@@ -49,28 +54,17 @@ module _ (f : Form) (s : List ℕ) where
 
   pub one-formed : length s ≡ rowOf f .width → runFormed f 1 s ≡ formed (fieldOf f s)
   unfolding Run.runFormed Every.upFrom
-  one-formed wide = ap (λ x. formed (fieldOf f x) && true) all-columns ∙ by (formed (fieldOf f s))
+  one-formed wide = ap (λ x. formed (fieldOf f x) && true) all-columns ∙ and-true (formed (fieldOf f s))
     where
       all-columns : runField f s 0 ≡ s
       all-columns =
           rw (zero-mul (rowOf f .width), one-mul (rowOf f .width), sub-zero (rowOf f .width), drop-none s) (take-all (rowOf f .width) s (omega (arith, wide)))
 
-      by : (t : Bool) → (t && true) ≡ t
-      by true = refl
-      by false = refl
+-- ---- the fields of a line
 
--- ---- the fields of a line, which stand in so many columns
-
-module _ (f : Form) (s : List ℕ) (k : ℕ) where
-  abbrev w : ℕ
-  w = rowOf f .width
-
-  -- field i of them, as it is read
-  pub field-in : (i : ℕ) → i < k → runField f (take (k * rowOf f .width) s) i ≡ take (rowOf f .width) (drop (i * rowOf f .width) s)
-  field-in i h =
-      let n : suc i * w - i * w ≡ w = omega (arith, suc-mul i w) in
-      let m : w ≤ k * w - i * w = omega (arith, suc-mul i w, mul-le-mul-right {m = suc i} {n = k} w h) in
-      rw n (ap (take w) (drop-take (i * w) (k * w) s) ∙ take-take w (k * w - i * w) (drop (i * w) s) m)
+-- field i of them, as it is read
+field-in : (f : Form) (s : List ℕ) (i : ℕ) → runField f s i ≡ take (rowOf f .width) (drop (i * rowOf f .width) s)
+field-in f s i = let n : suc i * rowOf f .width - i * rowOf f .width ≡ rowOf f .width = omega (arith, suc-mul i (rowOf f .width)) in rw n
 
 -- what is read of them is what the run has
 pub record IsRun (f : Form) (k : ℕ) (s : List ℕ) (cs : List ℤ) : Type 0 where
@@ -78,14 +72,11 @@ pub record IsRun (f : Form) (k : ℕ) (s : List ℕ) (cs : List ℤ) : Type 0 wh
   pub cells : cs ≡ runCells f k s
 
 module _ (f : Form) (l : Line) (text : List ℕ) where
-  abbrev run : List ℕ
-  run = take (columnsOf f l) text
-
   abbrev test : ℕ → Bool
-  test i = formed (fieldOf f (runField f run i))
+  test i = formed (fieldOf f (runField f text i))
 
   abbrev cells : ℕ → List ℤ
-  cells i = valueCells (runField f run i) (fieldOf f (runField f run i))
+  cells i = valueCells (runField f text i) (fieldOf f (runField f text i))
 
   -- from field i on
   from-field : (n i : ℕ) (cs : List ℤ) → i + n ≡ l .many → readFields f (restOf l i) (drop (i * rowOf f .width) text) ≡ done cs
@@ -96,20 +87,36 @@ module _ (f : Form) (l : Line) (text : List ℕ) where
       (tt, sym cc)
   from-field (suc n) i cs e h =
       let d = both-done (readField f (l .number) (l .first + i) (take (rowOf f .width) (drop (i * rowOf f .width) text)))
-      (readFields f (restOf l (i + 1)) (drop ((i + 1) * rowOf f .width) text)) cs (sym (fields-more f l text i (omega arith)) ∙ h) in
+          (readFields f (restOf l (i + 1)) (drop ((i + 1) * rowOf f .width) text)) cs (sym (fields-more f l text i (omega arith)) ∙ h) in
       let r = field-done f (l .number) (l .first + i) (take (rowOf f .width) (drop (i * rowOf f .width) text)) (d .first) (d .first-is) in
-      let x = sym (field-in f text (l .many) i (omega arith)) in
+      let x = sym (field-in f text i) in
       let q : i + 1 ≡ suc i = omega arith in
       let others = subst (λ m. T (every test (upFrom m n)) × (d .second ≡ flatMap cells (upFrom m n))) q (from-field n (i + 1) (d .second) (omega arith) (d .second-is)) in (
         and-both (test i) (every test (upFrom (suc i) n)) (subst (λ y. T (formed (fieldOf f y))) x (r .good)) (others .0),
         d .all ∙ ap (λ y. y ++ d .second) (sym (r .cells) ∙ ap (λ y. valueCells y (fieldOf f y)) x) ∙ ap (λ y. cells i ++ y) (others .1),
       )
 
-  pub fields-run : (cs : List ℤ) → readFields f l text ≡ done cs → IsRun f (l .many) (take (columnsOf f l) text) cs
+  pub fields-run : (cs : List ℤ) → readFields f l text ≡ done cs → IsRun f (l .many) text cs
   unfolding Run.runFormed Run.runCells
   fields-run cs h =
       let r = from-field (l .many) 0 cs (omega arith) (fields-start f l text ∙ h) in
       record { each = r .0; cells = r .1 }
+
+-- only the columns of k fields are looked at
+module _ (f : Form) (k : ℕ) (s : List ℕ) where
+  in-front : (i : ℕ) → i < k → runField f s i ≡ runField f (take (k * rowOf f .width) s) i
+  in-front i h =
+      let w = rowOf f .width in
+      let m : w ≤ k * w - i * w = omega (arith, suc-mul i w, mul-le-mul-right {m = suc i} {n = k} w h) in
+      sym (field-in f (take (k * w) s) i ∙ ap (take w) (drop-take (i * w) (k * w) s) ∙ take-take w (k * w - i * w) (drop (i * w) s) m ∙ sym (field-in f s i))
+
+  pub formed-front : runFormed f k s ≡ runFormed f k (take (k * rowOf f .width) s)
+  unfolding Run.runFormed
+  formed-front = every-same _ _ 0 k (λ i low h. ap (λ x. formed (fieldOf f x)) (in-front i (omega arith)))
+
+  pub cells-front : runCells f k s ≡ runCells f k (take (k * rowOf f .width) s)
+  unfolding Run.runCells
+  cells-front = flat-same _ _ 0 k (λ i low h. ap (λ x. valueCells x (fieldOf f x)) (in-front i (omega arith)))
 
 -- ---- a line of letters: a cell for each column
 
@@ -125,43 +132,78 @@ module _ (f : Form) (letters : (f ≡ A120) ⊎ (f ≡ A1)) where
       ∙ ap (λ give. allPieces give (rowOf f .width) k s) (⊎-elim (λ e. ap cellsBy (sym e)) (λ e. ap cellsBy (sym e)) letters)
       ∙ sym (run-cells f k s l t)
 
--- ---- fields that are seen to be formed before they are tried one by one
+-- ---- all fields of a line in one look, as far as there are columns of theirs
 
-pub seen-none : (f : Form) (short : Bool) (at stop : ℕ) (s : List ℕ) (k : ℕ) → FirstFormed f short at stop s k 0
-seen-none f short at stop s k = record { few = omega arith; each = λ i h. absurd (omega arith) }
+-- what there is of a field that goes on behind the last byte
+lacking : (w c stop : ℕ) (s : List ℕ) → 1 ≤ w → stop < c + w → length (fieldPart w c stop s) ≡ w → ⊥
+lacking w c stop s some h e = less (min c stop) (min (c + w) stop) (omega arith) e
+  where
+    less : (a b : ℕ) → b - a < w → length (part a b s) ≡ w → ⊥
+    less a b h e = omega (arith, length-take (b - a) (drop a s), h, e)
 
-module _ (f : Form) (k at stop : ℕ) (s : List ℕ) (order : at ≤ stop) where
-  abbrev width : ℕ
-  width = rowOf f .width
+module _ (f : Form) (k at stop to : ℕ) (s : List ℕ) (order : at ≤ stop) (within : stop ≤ length s) (seen : to ≡ at + min (k * rowOf f .width) (stop - at)) where
+  abbrev w : ℕ
+  w = rowOf f .width
 
-  -- where lines may be short, bytes that print are fields with blanks behind them
-  pub seen-letters : {short : Bool} → short ≡ true → (f ≡ A120) ⊎ (f ≡ A1) → T (every printable (part at stop s)) → FirstFormed f short at stop s k k
-  seen-letters e letters t = record {
-    few = omega arith;
-    each = λ i h.
-        let a = min (at + i * width) stop in
-        let b = min (at + i * width + width) stop in
-        let begin : at + (a - at) ≡ a = omega arith in
-        let inside : part a b s ≡ take (b - a) (drop (a - at) (part at stop s)) =
-        sym (ap (take (b - a)) (drop-take (a - at) (stop - at) (drop at s)) ∙ take-take (b - a) (stop - at - (a - at)) (drop (a - at) (drop at s)) (omega arith)
-        ∙ ap (take (b - a)) (drop-drop (a - at) at s ∙ ap (λ n. drop n s) begin)) in
-        let prints = subst (λ x. T (every printable x)) (sym inside) (every-take printable (b - a) (drop (a - at) (part at stop s)) (every-drop printable (a - at) (part at stop s) t)) in
-        rw e (sym (short-field f (part a b s) letters (omega (arith, length-take (b - a) (drop a s)))) ∙ T-true (every printable (part a b s)) prints);
-  }
+  long : length (part at to s) ≡ to - at
+  long = length-take-le (to - at) (drop at s) (omega (arith, length-drop at s))
 
-  -- and otherwise a run of all columns that is formed
-  pub seen-run : {short : Bool} → short ≡ false → stop - at ≡ k * rowOf f .width → T (runFormed f k (part at stop s)) → FirstFormed f short at stop s k k
-  unfolding Run.runFormed
-  seen-run e wide t = record {
-    few = omega arith;
-    each = λ i h.
-        let more = suc-mul i width in
-        let last = mul-le-mul-right {m = suc i} {n = k} width h in
-        let same : runField f (part at stop s) i ≡ part (min (at + i * width) stop) (min (at + i * width + width) stop) s =
-        ap (λ n. runField f (take n (drop at s)) i) wide ∙ field-in f (drop at s) k i h
-        ∙ ap (take width) (drop-drop (i * width) at s) ∙ ends (min (at + i * width) stop) (min (at + i * width + width) stop) (at + i * width) (omega arith) (omega arith) in
-        rw e (T-true _ (subst (λ x. T (formed (fieldOf f x))) same (every-between (λ j. formed (fieldOf f (runField f (part at stop s) j))) 0 k t i (omega arith) (omega arith))));
-  }
+  last : (i : ℕ) → i < k → i * w + w ≤ k * w
+  last i h = omega (arith, suc-mul i w, mul-le-mul-right {m = suc i} {n = k} w h)
+
+  -- field i, with blanks added, is its columns of all of them, with blanks added
+  filled-field : (i : ℕ) → i < k → filledTo w (fieldPart w (at + i * w) stop s) ≡ runField f (filledTo (k * w) (part at to s)) i
+  filled-field i h =
+      filled-piece (k * w) w i at (to - at) s {from = min (at + i * w) stop} {to = min (at + i * w + w) stop} (last i h) (omega (arith, last i h)) (omega (arith, last i h)) ∙ sym (field-in f (filledTo (k * w) (part at to s)) i)
+
+  pub letters-all : {short : Bool} → short ≡ true → (f ≡ A120) ⊎ (f ≡ A1) → every printable (part at to s) ≡ allFormed f short at stop s k
+  unfolding allFormed eachPiece
+  letters-all e letters =
+      let t = filledTo (k * w) (part at to s) in
+      let l : length t ≡ k * w = filled-length (k * w) (part at to s) (omega (arith, long)) in
+      rw e
+      (sym (filled-printable (k * w) (part at to s)) ∙ sym (each-byte w k t l printable)
+      ∙ every-same _ _ 0 k (λ i low h.
+      letters-formed f (runField f t i) letters (columns-long w k i t l (omega arith)) ∙ ap (λ x. formed (fieldOf f x)) (sym (filled-field i (omega arith)))))
+
+  pub run-all : {short : Bool} → short ≡ false → to - at ≡ k * rowOf f .width → runFormed f k (part at to s) ≡ allFormed f short at stop s k
+  unfolding allFormed Run.runFormed
+  run-all e wide =
+      rw e
+      (every-same _ _ 0 k (λ i low h.
+      let n = last i (omega arith) in
+      let m = suc-mul i w in
+      let b : at + i * w ≡ min (at + i * w) stop = omega arith in
+      let d : at + suc i * w ≡ min (at + i * w + w) stop = omega arith in
+      ap (λ x. formed (fieldOf f x)) (part-part at to (i * w) (suc i * w) s (omega arith) ∙ ap₂ (λ u v. part u v s) b d)))
+
+  -- the last field lacks a column
+  pub run-short : {short : Bool} → short ≡ false → (to - at ≡ k * rowOf f .width → ⊥) → false ≡ allFormed f short at stop s k
+  unfolding allFormed
+  run-short e other = rw e (by _ refl)
     where
-      ends : (a b m : ℕ) → a ≡ m → b ≡ m + width → take width (drop m s) ≡ part a b s
-      ends a b m u v = let n : b - a ≡ width = omega arith in rw (n, u)
+      some : 1 ≤ k
+      some = by k refl
+        where
+          by : (n : ℕ) → k ≡ n → 1 ≤ n
+          by zero u = absurd (other (omega (arith, ap (λ n. n * w) u, zero-mul w)))
+          by (suc n) u = omega arith
+
+      few : stop < at + k * w
+      few = less (k * w) seen other
+        where
+          less : (c : ℕ) → to ≡ at + min c (stop - at) → (to - at ≡ c → ⊥) → stop < at + c
+          less c u v = by (leb c (stop - at)) refl
+            where
+              by : (t : Bool) → leb c (stop - at) ≡ t → stop < at + c
+              by true e = absurd (v (omega (arith, leb-true c (stop - at) e)))
+              by false e = omega (arith, leb-false c (stop - at) e)
+
+      by : (t : Bool) → every (λ i. formed (fieldOf f (fieldPart w (at + i * w) stop s))) (upFrom 0 k) ≡ t → false ≡ t
+      by true u =
+          let t = every-between (λ i. formed (fieldOf f (fieldPart w (at + i * w) stop s))) 0 k (true-T _ u) (k - 1) (omega arith) (omega (arith, some)) in
+          let n = good-width f (fieldPart w (at + (k - 1) * w) stop s) t in
+          let m : suc (k - 1) ≡ k = omega (arith, some) in
+          let all : (k - 1) * w + w ≡ k * w = sym (suc-mul (k - 1) w) ∙ ap (λ n. n * w) m in
+          absurd (lacking w (at + (k - 1) * w) stop s (row-fits f .wide) (omega (arith, all, few)) n)
+      by false u = refl

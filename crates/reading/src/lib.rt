@@ -9,8 +9,7 @@ use reply::Refusal;
 ghost use mathlib.Core.Path.{_≡_};
 ghost use mathlib.Core.Bool as Bool;
 ghost use mathlib.Core.List.{map};
-ghost use Prim.Native.Nat.{_+_, _-_, _*_, _≤_, min};
-ghost use lib.Dec.{T};
+ghost use Prim.Native.Nat.{_+_, _-_, _*_, _≤_};
 ghost use lib.IntN.{pos};
 ghost use lib.ListN.{length, drop, getD};
 ghost use Rattle.base.specs.Every.{every};
@@ -19,13 +18,12 @@ ghost use Rattle.base.specs.Pieces.{cellsGot};
 ghost use Rattle.form.specs.Table.{rowOf, formOf};
 ghost use Rattle.form.specs.Count.{cellsOf};
 ghost use Rattle.field.specs.Read.{fieldOf, formed};
-ghost use Rattle.run.specs.Run.{runFormed, runCells};
+ghost use Rattle.run.specs.Run.{runCells};
 ghost use Rattle.count.specs.Rules.{rulingOf};
 ghost use Rattle.count.specs.Tally.{cellsIn};
 ghost use Rattle.line.specs.Lines.{reach};
-ghost use Rattle.line.specs.Contents.{contentOf};
-ghost use Rattle.reading.specs.Blanks.{blank, mayBeShort, shortest, filledTo, inColumns, isRight, asField, rightContent};
-ghost use Rattle.reading.specs.Blanks.{fieldPart, fieldsSpan, FirstFormed, HoldsLetters};
+ghost use Rattle.reading.specs.Blanks.{blank, mayBeShort, shortest, filledTo, isRight, asField};
+ghost use Rattle.reading.specs.Blanks.{fieldPart, fieldsSpan, allFormed, HoldsLetters, ToPut, rightContent};
 ghost use Rattle.reading.specs.Read.{verdictOf, misfitOf, readLines, dated, readForm, readGroup, readingOf};
 ghost use Rattle.reading.specs.Read.{tableBy};
 
@@ -121,9 +119,9 @@ fn is_field_at(
     is_field(form, short, width, &lines[from..to])
 }
 
-// How many fields of a line, from the first on, are seen to be formed before they are tried one by one: all of them or
-// none. A line that is right has all of them formed.
-fn seen_formed(
+// Whether all fields of a line are formed, in one look. Where lines may be short, blanks that would be added print too
+// (R65); where they may not, a field that lacks a column is none.
+fn all_formed(
     form: Form,
     short: bool,
     k: usize,
@@ -131,27 +129,21 @@ fn seen_formed(
     lines: &[u8],
     at: usize,
     stop: usize,
-) -> usize
+) -> bool
     requires letters { ⌜ HoldsLetters form short ⌝ }
     requires columns { ⌜ columns ≡ k * rowOf form .width ⌝ }
     requires order { ⌜ at ≤ stop ⌝ }
     requires lines { ⌜ stop ≤ length (now lines) ⌝ }
-    ensures { λ r. ⌜ FirstFormed form short at stop (now (lines .entry)) k r ⌝ }
+    ensures { λ r. ⌜ r ≡ allFormed form short at stop (now (lines .entry)) k ⌝ }
 {
+    let to = at + base::lesser(columns, stop - at);
     if short {
-        return if field::all_printable(&lines[at..stop]) {
-            k
-        } else {
-            0
-        };
+        return field::all_printable(&lines[at..to]);
     }
-    if stop - at != columns {
-        return 0;
+    if to - at != columns {
+        return false;
     }
-    if run::formed(form, &lines[at..stop], k) {
-        return k;
-    }
-    0
+    run::formed(form, &lines[at..to], k)
 }
 
 // Where the fields of a line are looked for no further, before its end is known. A line that may be short has no length
@@ -194,8 +186,8 @@ fn misfit(
 }
 
 // The first pass, as R443 has it: each line's fields, and then what stands behind them, up to the first line that is
-// bad (R263). It looks at no table. No line feed stands in fields that are formed, so the line's end is sought behind
-// them.
+// bad (R263). It looks at no table. A clean line has all of its fields formed, so the loop over fields is left for lines
+// in which there is one to blame. No line feed stands in fields that are formed, so the line's end is sought behind them.
 fn check_lines(rules: rules::Rules, form: Form, short: bool, count: u16, lines: &[u8]) -> Checked
     requires { ⌜ HoldsLetters form short ⌝ }
     ensures { λ r. ⌜ r ≡ verdictOf (readLines rules form short count (now (lines .entry))) ⌝ }
@@ -211,8 +203,12 @@ fn check_lines(rules: rules::Rules, form: Form, short: bool, count: u16, lines: 
     let mut j: usize = 0;
     'lines: while j < many {
         let k = base::lesser(per_line, left);
-        let stop = fields_stop(rules, short, k * width, lines, at);
-        let mut i = seen_formed(form, short, k, k * width, lines, at, stop);
+        let columns = k * width;
+        let stop = fields_stop(rules, short, columns, lines, at);
+        let mut i: usize = 0;
+        if all_formed(form, short, k, columns, lines, at, stop) {
+            i = k;
+        }
         let mut from = at + i * width;
         while i < k {
             if is_field_at(form, short, width, lines, from, stop) {
@@ -222,7 +218,7 @@ fn check_lines(rules: rules::Rules, form: Form, short: bool, count: u16, lines: 
                 verdict = Checked::Refused(misfit(
                     rules,
                     short,
-                    k * width,
+                    columns,
                     lines,
                     at,
                     j + 1,
@@ -232,8 +228,7 @@ fn check_lines(rules: rules::Rules, form: Form, short: bool, count: u16, lines: 
             }
         }
         let end = line::behind_line(lines, stop);
-        let line::Content::Length(_) = right_content(rules, short, k * width, &lines[at..end])
-        else {
+        let line::Content::Length(_) = right_content(rules, short, columns, &lines[at..end]) else {
             verdict = Checked::Refused(Refusal::BadLine(j + 1));
             break 'lines;
         };
@@ -290,7 +285,7 @@ fn byte_or_blank(bytes: &[u8], i: usize) -> u8
     32
 }
 
-// Letters, and blanks behind them up to the width.
+// Letters, and blanks behind them up to so many columns.
 fn put_letters(bytes: &[u8], width: usize, table: &mut [i64], at: usize)
     requires bytes { ⌜ length (now bytes) ≤ width ⌝ }
     requires room { ⌜ at + width ≤ length (now table) ⌝ }
@@ -304,8 +299,8 @@ fn put_letters(bytes: &[u8], width: usize, table: &mut [i64], at: usize)
     }
 }
 
-// The cells of a line's fields. They are told from the line's content: all of their columns, with blanks behind the last
-// byte where the line is short (R65).
+// The cells of a line's fields, from its content: all of their columns, with blanks behind the last byte where the line
+// is short (R65).
 fn put_line(
     form: Form,
     short: bool,
@@ -315,13 +310,9 @@ fn put_line(
     table: &mut [i64],
     cell: usize,
 )
-    requires letters { ⌜ HoldsLetters form short ⌝ }
-    requires columns { ⌜ columns ≡ k * rowOf form .width ⌝ }
-    requires long { ⌜ shortest short columns ≤ length (now content) ⌝ }
-    requires formed { ⌜ T (runFormed form k (inColumns columns (now content))) ⌝ }
-    requires room { ⌜ cell + k * rowOf form .cells ≤ length (now table) ⌝ }
+    requires { ⌜ ToPut form short k columns (now content) (length (now table)) cell ⌝ }
     ensures { λ _. ⌜ now (table .exit) ≡
-        over cell (runCells form k (inColumns columns (now (content .entry)))) (now (table .entry)) ⌝ }
+        over cell (runCells form k (filledTo columns (now (content .entry)))) (now (table .entry)) ⌝ }
 {
     let there = base::lesser(columns, content.len());
     if short {

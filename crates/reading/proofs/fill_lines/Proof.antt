@@ -139,8 +139,7 @@ inside c = fill-inside _ (line (line-of c)) _ (content c)
 put-line-requires : tie.Need-put-line-requires Inv-loop μ-loop
 put-line-requires c κs =
     let at-fields = c .before .before in
-    let p = to-put _ (line (line-of at-fields)) _ (content at-fields) (start (line-of at-fields) .pre .0) in
-    (p .letters, (p .wide, (p .long, (p .good, p .room))))
+    to-put _ (line (line-of at-fields)) _ (content at-fields) (start (line-of at-fields) .pre .0)
 
 few-cells : (c : AtFields) → (let r = reached (line-of c) in (line (line-of c) .k * r .cells ≤ 120) × (r .cell + line (line-of c) .k * r .cells ≤ length (start (line-of c) .args .table .now)))
 few-cells c = cells-small _ (line (line-of c)) _ (content c)

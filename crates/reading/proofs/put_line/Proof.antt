@@ -1,33 +1,30 @@
 -- `reading::put_line` meets its contract: letters with the blanks behind them, or a run of fields, which were found formed.
 -- Assumes nothing.
 use borrow.Author.Needs.{needs}
-use Rattle.reading.proofs.Putting.{ToPut, short-room, short-put, full-run, full-put}
+use Rattle.reading.proofs.Putting.{short-room, short-put, full-run, full-put}
 use Rattle.reading.proofs.put_line.Statement.{statement}
 use Rattle.reading.proofs.put_line.Tie as tie
-
-to-put : (o : tie.Start) → ToPut (o .args .form) (o .args .short) (o .args .k) (o .args .columns) (o .args .content .now) (o .args .table .now) (o .args .cell)
-to-put o = record { letters = o .pre .0; wide = o .pre .1 .0; long = o .pre .1 .1 .0; good = o .pre .1 .1 .1 .0; room = o .pre .1 .1 .1 .1 }
 
 put-letters-requires : tie.Need-put-letters-requires
 put-letters-requires c κs =
     let at-if1 = c .before .before in
-    short-room (to-put (at-if1 .before .before .before)) (at-if1 .before .lesser .ensures) (at-if1 .if1 .taken)
+    short-room (at-if1 .before .before .before .pre) (at-if1 .before .lesser .ensures) (at-if1 .if1 .taken)
 
 returns : tie.Need-returns
 returns c =
     let at-if1 = c .before .before .before .before in
-    short-put (to-put (at-if1 .before .before .before)) (at-if1 .before .lesser .ensures) (at-if1 .if1 .taken) (c .before .put-letters .ensures)
+    short-put (at-if1 .before .before .before .pre) (at-if1 .before .lesser .ensures) (at-if1 .if1 .taken) (at-if1 .before .before .before .args .table .now) (c .before .put-letters .ensures)
 
 fill-requires : tie.Need-fill-requires
 fill-requires c κs =
     let at-if1 = c .before .before in
-    let run = full-run (to-put (at-if1 .before .before .before)) (at-if1 .before .lesser .ensures) (at-if1 .if1 .left) in
+    let run = full-run (at-if1 .before .before .before .pre) (at-if1 .before .lesser .ensures) (at-if1 .if1 .left) in
     (run .0, (run .1, run .2))
 
 returns-2 : tie.Need-returns-2
 returns-2 c =
     let at-if1 = c .before .before .before .before in
-    full-put (to-put (at-if1 .before .before .before)) (at-if1 .before .lesser .ensures) (at-if1 .if1 .left) (c .before .fill .ensures)
+    full-put (at-if1 .before .before .before .pre) (at-if1 .before .lesser .ensures) (at-if1 .if1 .left) (at-if1 .before .before .before .args .table .now) (c .before .fill .ensures)
 
 pub put-line-spec : {M : Type 1} → statement M
 put-line-spec =
