@@ -87,7 +87,7 @@ module _ (f : Form) (l : Line) (text : List ℕ) where
       (tt, sym cc)
   from-field (suc n) i cs e h =
       let d = both-done (readField f (l .number) (l .first + i) (take (rowOf f .width) (drop (i * rowOf f .width) text)))
-          (readFields f (restOf l (i + 1)) (drop ((i + 1) * rowOf f .width) text)) cs (sym (fields-more f l text i (omega arith)) ∙ h) in
+      (readFields f (restOf l (i + 1)) (drop ((i + 1) * rowOf f .width) text)) cs (sym (fields-more f l text i (omega arith)) ∙ h) in
       let r = field-done f (l .number) (l .first + i) (take (rowOf f .width) (drop (i * rowOf f .width) text)) (d .first) (d .first-is) in
       let x = sym (field-in f text i) in
       let q : i + 1 ≡ suc i = omega arith in

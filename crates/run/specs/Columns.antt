@@ -68,7 +68,7 @@ isPower c d s =
     && (isSign (getD s (c + 2 + d) 0)
     && (isLeading (part 0 c s) && (every isFigure (part (c + 1) (c + 1 + d) s) && every isFigure (part (c + 3 + d) (length s) s)))))
 
--- ---- filling
+-- ---- filling: the sums as they are made
 
 -- R71: the number that columns make, in which a blank and a minus count nothing (their codes are below that of `0`)
 abbrev pub numberIn : List ℕ → ℕ
@@ -78,7 +78,7 @@ numberIn s = numberOf (map (λ b. b - 48) s)
 abbrev pub figuresIn : List ℕ → ℕ
 figuresIn s = numberOf (map (λ b. b % 16) s)
 
--- the columns in front of a number's end, told whether a minus is among them
+-- columns of a number, told whether a minus is among them
 abbrev pub columnsIn : Bool → List ℕ → ℕ
 columnsIn minus s = cond minus (numberIn s) (figuresIn s)
 

@@ -247,7 +247,7 @@ fn number_in(s: &[u8]) -> u64
     n
 }
 
-// The same of columns without a minus, by a step less for each.
+// The same of columns without a minus, which alone leaves by 16 what it does not count: so no column is tested.
 fn figures_in(s: &[u8]) -> u64
     requires { ⌜ length (now s) ≤ 12 ⌝ }
     ensures number { λ r. ⌜ r ≡ figuresIn (now (s .entry)) ⌝ }
@@ -275,7 +275,7 @@ fn has_minus(s: &[u8]) -> bool
     minus
 }
 
-// Most numbers have no minus.
+// The quick sum where it may be had: most numbers have no minus.
 fn columns_in(s: &[u8], minus: bool) -> u64
     requires { ⌜ length (now s) ≤ 12 ⌝ }
     ensures number { λ r. ⌜ r ≡ columnsIn minus (now (s .entry)) ⌝ }

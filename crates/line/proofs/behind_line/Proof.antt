@@ -3,7 +3,7 @@
 -- Assumes nothing.
 use borrow.Author.Needs.{needs}
 use native.Mathlib.Omega.{arith}
-use mathlib.Core.Path.{_≡_, sym, _∙_}
+use mathlib.Core.Path.{sym, _∙_}
 use Rattle.line.proofs.Places.{reach-beyond, reach-here, reach-next, reach-at, reach-end}
 use Rattle.line.proofs.behind_line.Statement.{statement}
 use Rattle.line.proofs.behind_line.Tie as tie

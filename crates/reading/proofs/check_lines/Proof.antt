@@ -91,8 +91,8 @@ line-of c = c .before .before .before
 
 tried-from : (c : AtFields)
     → (let l = line (line-of c) in let o = start (line-of c) .args in
-      Trying (o .rules) (o .form) (o .short) (lineAt (rowOf (o .form) .«per_line») (elementsOf (o .rules) (o .form) (o .count)) (l .j)) (o .lines .now) (l .at) (l .stop) (c .before .if1 .i)
-      (l .at + c .before .if1 .i * l .width))
+    Trying (o .rules) (o .form) (o .short) (lineAt (rowOf (o .form) .«per_line») (elementsOf (o .rules) (o .form) (o .count)) (l .j)) (o .lines .now) (l .at) (l .stop) (c .before .if1 .i)
+    (l .at + c .before .if1 .i * l .width))
 tried-from c =
     let l = line (line-of c) in
     ⊎-elim (λ w. trying-so-many _ l (w .1) (trying-all _ l (sym (c .before .before .all-formed .ensures) ∙ w .0 .taken))) (λ w. trying-so-many _ l (w .1) (trying-none _ l)) (c .before .if1 .came)
