@@ -1,5 +1,5 @@
-// One field of a form: whether cells have one at all, and its canonical text; and index entries, read and written. What a
-// field reads as is said in specs/Read.antt; crate `run` reads fields.
+// One field of a form: whether cells have one at all, and its canonical text; and index entries, read and written. What
+// a field reads as is said in specs/Read.antt; crate `run` reads fields.
 use form::Form;
 use number::Byte;
 use number::Scan;

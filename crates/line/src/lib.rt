@@ -88,8 +88,8 @@ pub fn place_behind(text: &[u8], at: usize, lines: usize) -> Behind
     Behind::TooFew
 }
 
-// The place behind the line that a place stands in, or the text's end where no line feed follows. Mostly it is asked for
-// where fields end, and a line end stands right there: so that is looked for before any block.
+// The place behind the line that a place stands in, or the text's end where no line feed follows. Mostly it is asked
+// for where fields end, and a line end stands right there: so that is looked for before any block.
 pub fn behind_line(text: &[u8], at: usize) -> usize
     ensures { λ r. ⌜ r ≡ at + reach (drop at (now (text .entry))) 1 ⌝ }
 {

@@ -21,8 +21,8 @@ pub enum Byte {
     Other,
 }
 
-// How far columns have been read: blanks only; a minus too; a minus or none (true for a minus) and digits; no number. The
-// definitions of reading speak by it, and writing undoes them step by step.
+// How far columns have been read: blanks only; a minus too; a minus or none (true for a minus) and digits; no number.
+// The definitions of reading speak by it, and writing undoes them step by step.
 pub enum Scan {
     Blanks,
     Signed,

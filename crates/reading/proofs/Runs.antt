@@ -154,7 +154,8 @@ module _ (f : Form) (k at stop to : ℕ) (s : List ℕ) (order : at ≤ stop) (w
   -- field i, with blanks added, is its columns of all of them, with blanks added
   filled-field : (i : ℕ) → i < k → filledTo w (fieldPart w (at + i * w) stop s) ≡ runField f (filledTo (k * w) (part at to s)) i
   filled-field i h =
-      filled-piece (k * w) w i at (to - at) s {from = min (at + i * w) stop} {to = min (at + i * w + w) stop} (last i h) (omega (arith, last i h)) (omega (arith, last i h)) ∙ sym (field-in f (filledTo (k * w) (part at to s)) i)
+      filled-piece (k * w) w i at (to - at) s {from = min (at + i * w) stop} {to = min (at + i * w + w) stop} (last i h) (omega (arith, last i h)) (omega (arith, last i h))
+      ∙ sym (field-in f (filledTo (k * w) (part at to s)) i)
 
   pub letters-all : {short : Bool} → short ≡ true → (f ≡ A120) ⊎ (f ≡ A1) → every printable (part at to s) ≡ allFormed f short at stop s k
   unfolding allFormed eachPiece

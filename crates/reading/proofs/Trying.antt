@@ -294,7 +294,8 @@ module _ (ρ : Rules) {f : Form} {short : Bool} {count : ℕ} {s : List ℕ} (o 
     up-to (suc i) h =
         let next : o .at + i * o .width + o .width ≡ o .at + suc i * o .width = omega (arith, suc-mul i (o .width)) in
         let more : i + 1 ≡ suc i = omega arith in
-        let field = every-between (λ j. formed (fieldOf f (asField f short (fieldPart (rowOf f .width) (o .at + j * rowOf f .width) (o .stop) s)))) 0 (o .k) (true-T _ all) i (omega arith) (omega arith) in
+        let test : ℕ → Bool = λ j. formed (fieldOf f (asField f short (fieldPart (rowOf f .width) (o .at + j * rowOf f .width) (o .stop) s))) in
+        let field = every-between test 0 (o .k) (true-T _ all) i (omega arith) (omega arith) in
         let good = subst (λ w. formed (fieldOf f (asField f short (fieldPart w (o .at + i * w) (o .stop) s))) ≡ true) (sym (o .state .walk .wide)) (T-true _ field) in
         subst (λ n. Trying ρ f short l s (o .at) (o .stop) n (o .at + suc i * o .width)) more
         (subst (Trying ρ f short l s (o .at) (o .stop) (i + 1)) next (trying-next (up-to i (omega arith)) (omega arith) good))

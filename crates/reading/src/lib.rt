@@ -186,8 +186,9 @@ fn misfit(
 }
 
 // The first pass, as R443 has it: each line's fields, and then what stands behind them, up to the first line that is
-// bad (R263). It looks at no table. A clean line has all of its fields formed, so the loop over fields is left for lines
-// in which there is one to blame. No line feed stands in fields that are formed, so the line's end is sought behind them.
+// bad (R263). It looks at no table. A clean line has all of its fields formed, so the loop over fields is left for
+// lines in which there is one to blame. No line feed stands in fields that are formed, so the line's end is sought
+// behind them.
 fn check_lines(rules: rules::Rules, form: Form, short: bool, count: u16, lines: &[u8]) -> Checked
     requires { ⌜ HoldsLetters form short ⌝ }
     ensures { λ r. ⌜ r ≡ verdictOf (readLines rules form short count (now (lines .entry))) ⌝ }

@@ -142,7 +142,8 @@ misfit-requires c κs = line (c .before .before .before .before .before .before 
 
 -- the line stands in the lines
 inside : (c : tie.After-behind-line Inv-loop μ-loop Inv-lines μ-lines)
-    → (let l = line (c .before .before .before .before .before .before) in (l .at ≤ c .behind-line .result) × (c .behind-line .result ≤ length (start (c .before .before .before .before .before .before) .args .lines .now)))
+    → (let at-line = c .before .before .before .before .before .before in
+    (line at-line .at ≤ c .behind-line .result) × (c .behind-line .result ≤ length (start at-line .args .lines .now)))
 inside c =
     let at-loop = c .before .before in
     tried-range _ (line (at-loop .before .before .before .before)) (at-loop .loop .inv .1) (omega arith) (c .behind-line .result) (c .behind-line .ensures)
