@@ -3,22 +3,23 @@
 -- Assumes nothing.
 use mathlib.Core.Path.{_≡_, refl, sym, ap, _∙_, subst}
 use mathlib.Core.Bool.{Bool, true, false, true≢false}
-use mathlib.Core.List.{List, []}
+use mathlib.Core.List.{List}
 use mathlib.Core.Logic.{_↔_, inl, inr, ⊎-elim}
 use Prim.Native.Nat.{ℕ, _≤_}
 use native.Mathlib.Omega.{arith}
 use borrow.Author.Tests.{le-leb, leb-true, not-true, not-false}
 use lib.Dec.{leb}
 use Rattle.base.proofs.Choice.{and-first, and-second}
+use Rattle.date.specs.declared.DigitField.{DigitField}
 use Rattle.date.specs.declared.Date.{Date}
 use Rattle.date.specs.declared.Dated.{Dated}
 use Rattle.date.specs.declared.Dated.the-variants.{Right, Wrong}
-use Rattle.date.specs.Asked.{FieldNumber, numbers, outside, position, datedBy}
+use Rattle.date.specs.Asked.{FieldNumber, numberIn, numbers, outside, position, datedBy}
 use Rattle.date.specs.Calendar.{isLeap}
 use Rattle.date.specs.Date.{datedOf, namesOneDay, judged}
-use Rattle.date.specs.Digits.{within}
+use Rattle.date.specs.Digits.{within, ReadsNumber}
 use Rattle.date.specs.Due.{AllHold, FirstFails, HasNumbers, NamesDay, InRange, IsAsked, AskedDue}
-use Rattle.date.proofs.Blame.{Remain, hold-given, first-fails, found, blamed-one, all-hold}
+use Rattle.date.proofs.Blame.{Remain, hold-given, first-fails, found, blamed-one}
 use Rattle.date.proofs.Days.{named-day}
 use Rattle.date.proofs.Due.{day-names, no-day-names, judged-of, first-due}
 
@@ -80,29 +81,17 @@ asked-position d p (inr m) = omega (arith, m .blamed)
 
 -- ---- letters that have the numbers of a date tell what is told of it
 
+read-range : {f : DigitField} {s : List ℕ} {v : ℕ} → ReadsNumber f s v → InRange (numberIn f v)
+read-range r = record { enough = r .enough; notMore = r .notMore }
+
+ranges : (s : List ℕ) (d : Date) → HasNumbers s d → AllHold InRange (numbers d)
+ranges s d n = (
+  read-range (n .in-year),
+  (read-range (n .on-day-of-year), (read-range (n .in-month), (read-range (n .on-day), (read-range (n .at-hour), (read-range (n .at-minute), (read-range (n .at-second), tt)))))),
+)
+
 pub letters-asked : (s : List ℕ) (d : Date) → HasNumbers s d → datedOf s ≡ datedBy d
-letters-asked s d n = judged-of s d n ∙ sym (range-judged d ranges)
-  where
-    ranges : AllHold InRange (numbers d)
-    ranges = (
-      record { enough = n .in-year .enough; notMore = n .in-year .notMore },
-      (
-        record { enough = n .on-day-of-year .enough; notMore = n .on-day-of-year .notMore },
-        (
-          record { enough = n .in-month .enough; notMore = n .in-month .notMore },
-          (
-            record { enough = n .on-day .enough; notMore = n .on-day .notMore },
-            (
-              record { enough = n .at-hour .enough; notMore = n .at-hour .notMore },
-              (
-                record { enough = n .at-minute .enough; notMore = n .at-minute .notMore },
-                (record { enough = n .at-second .enough; notMore = n .at-second .notMore }, tt),
-              ),
-            ),
-          ),
-        ),
-      ),
-    )
+letters-asked s d n = judged-of s d n ∙ sym (range-judged d (ranges s d n))
 
 -- so a date that a record tells may be asked for
 pub told-asked : (s : List ℕ) (d : Date) → datedOf s ≡ Right d → datedBy d ≡ Right d

@@ -63,7 +63,10 @@ greater-least [] x xs y ys h = rw (ne-eqb x y (λ e. omega arith)) (lt-ltb y x h
 greater-least (z ∷ zs) x xs y ys h = rw (eq-eqb z z refl) (greater-least zs x xs y ys h)
 
 pub least-exactly : (xs ys : List ℕ) → length xs ≡ length ys → (notLess xs ys ≡ true) ↔ ((xs ≡ ys) ⊎ Greater xs ys)
-least-exactly xs ys l = (not-less xs ys l, ⊎-elim (λ e. rw e (same-least ys)) (λ g. rw (g .first, g .second) (greater-least (g .same) (g .more) (g .behind-more) (g .less) (g .behind-less) (g .greater))))
+least-exactly xs ys l = (
+  not-less xs ys l,
+  ⊎-elim (λ e. rw e (same-least ys)) (λ g. rw (g .first, g .second) (greater-least (g .same) (g .more) (g .behind-more) (g .less) (g .behind-less) (g .greater))),
+)
 
 -- ---- number by number, as code compares them
 
