@@ -7,7 +7,7 @@ use mathlib.Core.List.{List}
 use mathlib.Core.Logic.{_↔_, inl, inr, ⊎-elim}
 use Prim.Native.Nat.{ℕ, _≤_}
 use native.Mathlib.Omega.{arith}
-use borrow.Author.Tests.{le-leb, leb-true, not-true, not-false}
+use borrow.Author.Tests.{le-leb, leb-true, not-false}
 use lib.Dec.{leb}
 use Rattle.base.proofs.Choice.{and-first, and-second}
 use Rattle.date.specs.declared.DigitField.{DigitField}
@@ -18,7 +18,7 @@ use Rattle.date.specs.Asked.{FieldNumber, numberIn, numbers, outside, po
 use Rattle.date.specs.Calendar.{isLeap}
 use Rattle.date.specs.Date.{datedOf, namesOneDay, judged}
 use Rattle.date.specs.Digits.{within, ReadsNumber}
-use Rattle.date.specs.Due.{AllHold, FirstFails, HasNumbers, NamesDay, InRange, IsAsked, AskedDue}
+use Rattle.date.specs.Due.{AllHold, FirstFails, HasNumbers, InRange, IsAsked, AskedDue}
 use Rattle.date.proofs.Blame.{Remain, hold-given, first-fails, found, blamed-one}
 use Rattle.date.proofs.Days.{named-day}
 use Rattle.date.proofs.Due.{day-names, no-day-names, judged-of, first-due}

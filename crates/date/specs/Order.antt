@@ -1,7 +1,7 @@
 -- R332: which of two dates is the later, to the second. Year, day of the year and time of day are compared, in this order; month and day need
 -- not be, since a day of a year has one month and one day (`seven-order` in proofs/Order.antt).
 use mathlib.Core.Path.{_≡_}
-use mathlib.Core.Bool.{Bool, true, false, cond}
+use mathlib.Core.Bool.{Bool, true, cond}
 use mathlib.Core.List.{List, [], _∷_, _++_}
 use mathlib.Core.Logic.{_⊎_}
 use Prim.Native.Nat.{ℕ, _<_}

@@ -6,7 +6,7 @@ use mathlib.Core.Bool.{false, false≢true}
 use Prim.Native.Nat.{_≤_}
 use Rattle.form.specs.declared.Form.the-variants.{A1}
 use Rattle.count.specs.Tally.{cellsIn}
-use Rattle.reading.specs.Read.{Cells, readLines, readGroup, verdictOf, dateTold}
+use Rattle.reading.specs.Read.{Cells, readLines, readGroup, dateTold}
 use Rattle.reading.proofs.Dates.{date-has, told-clean, told-refused, told-dated}
 use Rattle.reading.proofs.Passes.{fitting-is}
 use Rattle.reading.proofs.Steps.{kept-letters}
