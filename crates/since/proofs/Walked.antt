@@ -10,6 +10,8 @@ use Rattle.rules.specs.declared.Rules.{Rules}
 use Rattle.base.specs.Every
 use Rattle.base.specs.Every.{upFrom}
 use Rattle.date.specs.declared.Date.{Date}
+use Rattle.date.specs.declared.Dated.the-variants.{Right}
+use Rattle.date.specs.Asked.{datedBy}
 use Rattle.place.specs.Placing.{Located, located, refused, locate}
 use Rattle.place.specs.Walk.{spot, Stops, recordsIn}
 use Rattle.place.proofs.Counted.{records-stop}
@@ -19,8 +21,13 @@ use Rattle.since.specs.declared.First.{First}
 use Rattle.since.specs.declared.First.the-variants.{Found, Refused}
 use Rattle.since.specs.declared.Step.{Step}
 use Rattle.since.specs.declared.Step.the-variants as S
-use Rattle.since.specs.Since.{meets, firstIn, refusalOf, dateAt, entryAt, stopOf, firstDated}
+use Rattle.since.specs.Since.{meets, firstIn, refusalOf, dateAt, entryAt, wholeWalk, stopOf, firstDated, firstBy, firstFrom}
 use Rattle.since.specs.Steps.{stepBy, stepAt}
+
+-- R330: of a right date the answer is that of the whole walk
+pub full-walk : (ρ : Rules) (s : List ℕ) (from : Date) → datedBy from ≡ Right from → firstFrom ρ s from ≡ firstIn from (wholeWalk ρ s) 0 (Refused (recordsIn ρ s) (stopOf ρ s))
+unfolding firstFrom firstDated
+full-walk ρ s from e = ap (firstBy ρ s) e
 
 module _ (ρ : Rules) (s : List ℕ) where
   abbrev many : ℕ

@@ -32,8 +32,11 @@ ends-sixty c =
 abbrev at-place : tie.After-ends2 → tie.After-place
 at-place c = c .before .before .before .before .before .before .before .before .before
 
-placed : (c : tie.After-ends2) → (let a = at-place c .before .before .args in placingOf (a .rules) (a .text .now) (a .at) ≡ Placed (c .before .before .before .before .before .before .before .answer3 .given .0 .0))
-placed c = sym (at-place c .place .ensures .0) ∙ c .before .before .before .before .before .before .before .answer3 .given .1
+abbrev at-told : tie.After-ends2 → tie.After-answer3
+at-told c = c .before .before .before .before .before .before .before
+
+placed : (c : tie.After-ends2) → (let a = at-place c .before .before .args in placingOf (a .rules) (a .text .now) (a .at) ≡ Placed (at-told c .answer3 .given .0 .0))
+placed c = sym (at-place c .place .ensures .0) ∙ at-told c .answer3 .given .1
 
 date-by-requires : tie.Need-date-by-requires
 date-by-requires c κs =
