@@ -14,7 +14,7 @@ use Rattle.date.specs.declared.DigitField.{DigitField}
 use Rattle.date.specs.declared.Date.{Date}
 use Rattle.date.specs.declared.Dated.{Dated}
 use Rattle.date.specs.declared.Dated.the-variants.{Right, Wrong}
-use Rattle.date.specs.Asked.{FieldNumber, numberIn, numbers, outside, position, datedBy}
+use Rattle.date.specs.Asked.{FieldNumber, valueIn, numbers, outside, position, datedBy}
 use Rattle.date.specs.Calendar.{isLeap}
 use Rattle.date.specs.Date.{datedOf, namesOneDay, judged}
 use Rattle.date.specs.Digits.{within, ReadsNumber}
@@ -81,7 +81,7 @@ asked-position d p (inr m) = omega (arith, m .blamed)
 
 -- ---- letters that have the numbers of a date tell what is told of it
 
-read-range : {f : DigitField} {s : List ℕ} {v : ℕ} → ReadsNumber f s v → InRange (numberIn f v)
+read-range : {f : DigitField} {s : List ℕ} {v : ℕ} → ReadsNumber f s v → InRange (valueIn f v)
 read-range r = record { enough = r .enough; notMore = r .notMore }
 
 ranges : (s : List ℕ) (d : Date) → HasNumbers s d → AllHold InRange (numbers d)

@@ -13,19 +13,19 @@ pub record FieldNumber : Type 0 where
   pub field : DigitField
   pub value : ℕ
 
-abbrev pub numberIn : DigitField → ℕ → FieldNumber
-numberIn f v = record { field = f; value = v }
+abbrev pub valueIn : DigitField → ℕ → FieldNumber
+valueIn f v = record { field = f; value = v }
 
 -- in the order of R140
 abbrev pub numbers : Date → List FieldNumber
 numbers d =
-    numberIn year (d .year)
-    ∷ numberIn dayOfYear (d .«day_of_year»)
-    ∷ numberIn month (d .month)
-    ∷ numberIn day (d .day)
-    ∷ numberIn hour (d .hour)
-    ∷ numberIn minute (d .minute)
-    ∷ numberIn second (d .second)
+    valueIn year (d .year)
+    ∷ valueIn dayOfYear (d .«day_of_year»)
+    ∷ valueIn month (d .month)
+    ∷ valueIn day (d .day)
+    ∷ valueIn hour (d .hour)
+    ∷ valueIn minute (d .minute)
+    ∷ valueIn second (d .second)
     ∷ []
 
 -- R143: it fails alone if it is outside the range of its field, and R147 blames it where the field begins

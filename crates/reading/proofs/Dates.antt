@@ -44,7 +44,7 @@ use Rattle.reading.specs.Blanks.{mayBeShort, filledTo}
 use Rattle.reading.specs.Plan.{Line, lineAt, planFrom, planOf}
 use Rattle.reply.specs.declared.Checked.the-variants as C
 use Rattle.reply.specs.declared.Refusal.{Refusal}
-use Rattle.reading.specs.Read.{Cells, readField, readFields, columnsOf, readLine, readLinesOf, readLines, verdictOf, dated, byDate, dateVerdict, lettersDated, toldBy, dateTold}
+use Rattle.reading.specs.Read.{Cells, readField, readFields, columnsOf, readLine, readLinesOf, readLines, verdictOf, dated, byDate, dateVerdict, lettersDated, recordDated, dateTold}
 use Rattle.reading.specs.declared.RecordDate.the-variants.{NoDate}
 use Rattle.reading.proofs.Blanks.{filled-enough, right-low}
 use Rattle.reading.proofs.Letters.{letter-byte}
@@ -203,8 +203,8 @@ module _ (c : Cells) where
         verdict cs (Right y) = refl
         verdict cs (Wrong y) = refl
 
-    pub told-clean : dateTold c ≡ toldBy d
-    told-clean = ap dateTold (clean-read c v .is) ∙ ap toldBy same
+    pub told-clean : dateTold c ≡ recordDated d
+    told-clean = ap dateTold (clean-read c v .is) ∙ ap recordDated same
 
   pub told-refused : {r : Refusal} → verdictOf c ≡ C.Refused r → dateTold c ≡ NoDate
   told-refused {r} e = by c e
@@ -218,8 +218,8 @@ pub told-dated : (c : Cells) → dateTold (dated 3 c) ≡ dateTold c
 told-dated (bad r) = refl
 told-dated (done cs) = by (lettersDated cs) refl
   where
-    by : (d : Dated) → lettersDated cs ≡ d → dateTold (byDate cs d) ≡ toldBy d
-    by (Right d) e = ap toldBy e
+    by : (d : Dated) → lettersDated cs ≡ d → dateTold (byDate cs d) ≡ recordDated d
+    by (Right d) e = ap recordDated e
     by (Wrong p) e = refl
 
 -- ---- the whole check

@@ -127,13 +127,13 @@ tableBy (bad r) old = old
 abbrev pub lettersDated : List ℤ → Dated
 lettersDated cs = datedOf (map sizeOf cs)
 
-abbrev pub toldBy : Dated → RecordDate
-toldBy (Right d) = Told d
-toldBy (Wrong p) = NoDate
+abbrev pub recordDated : Dated → RecordDate
+recordDated (Right d) = Told d
+recordDated (Wrong p) = NoDate
 
 -- that of the record whose group 3 reads so; there is none where it is refused
 abbrev pub dateTold : Cells → RecordDate
-dateTold (done cs) = toldBy (lettersDated cs)
+dateTold (done cs) = recordDated (lettersDated cs)
 dateTold (bad r) = NoDate
 
 -- ---- whether all is clean, as the first pass finds it

@@ -25,14 +25,14 @@ use Rattle.place.proofs.Parted.{named-lines}
 use Rattle.place.proofs.Zero.{is-placed}
 use Rattle.reading.specs.declared.RecordDate.{RecordDate}
 use Rattle.reading.specs.declared.RecordDate.the-variants.{Told, NoDate}
-use Rattle.reading.specs.Read.{Cells, lettersDated, toldBy, dateTold}
+use Rattle.reading.specs.Read.{Cells, lettersDated, recordDated, dateTold}
 use Rattle.reply.specs.declared.Checked.the-variants as C
 use Rattle.reply.specs.declared.Refusal.the-variants as R
 use Rattle.group.specs.Due.{broken-rule}
 use Rattle.group.specs.Text.{readAt}
 use Rattle.group.proofs.Due.{first-due, found-first-due}
 use Rattle.group.proofs.Texts.{read-located, read-missing}
-use Rattle.since.specs.Due.{HasDate, IsFrom}
+use Rattle.since.specs.Due.{IsDated, IsFrom}
 use Rattle.since.specs.Since.{meets, dateAt}
 use Rattle.since.specs.Steps.{dateBy}
 
@@ -47,7 +47,7 @@ told-tells : (c : Cells) (d : Date) → dateTold c ≡ Told d → TellsDate c d
 told-tells (bad r) d e = let z : _≡_ {A = ℕ} 0 1 = cc in absurd (omega arith)
 told-tells (done cs) d e = record { cells = cs; read = refl; right = by (lettersDated cs) e }
   where
-    by : (x : Dated) → toldBy x ≡ Told d → x ≡ Right d
+    by : (x : Dated) → recordDated x ≡ Told d → x ≡ Right d
     by (Right f) e = let q : f ≡ d = cc in ap Right q
     by (Wrong p) e = let z : _≡_ {A = ℕ} 0 1 = cc in absurd (omega arith)
 
@@ -57,7 +57,7 @@ module _ (ρ : Rules) (s : List ℕ) (at : ℕ) where
   abbrev groupThree : Cells
   groupThree = readAt ρ s at 3 (cellsIn ρ (countsAt ρ s at) 3)
 
-  pub date-exactly : (d : Date) → (dateAt ρ s at ≡ Told d) ↔ HasDate ρ s at d
+  pub date-exactly : (d : Date) → (dateAt ρ s at ≡ Told d) ↔ IsDated ρ s at d
   unfolding dateAt
   date-exactly d = (
     λ e.
@@ -69,7 +69,7 @@ module _ (ρ : Rules) (s : List ℕ) (at : ℕ) where
         },
     λ h.
         ap dateTold (first-due ρ s at 3 (cellsIn ρ (countsAt ρ s at) 3) (done (h .cells)) .1 (h .reads))
-        ∙ ap toldBy (Letters.first-due (map sizeOf (h .cells)) (Right d) .1 (h .letters)),
+        ∙ ap recordDated (Letters.first-due (map sizeOf (h .cells)) (Right d) .1 (h .letters)),
   )
 
   -- a record that is placed with 0, by what it carries

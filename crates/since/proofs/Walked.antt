@@ -21,7 +21,7 @@ use Rattle.since.specs.declared.First.{First}
 use Rattle.since.specs.declared.First.the-variants.{Found, Refused}
 use Rattle.since.specs.declared.Step.{Step}
 use Rattle.since.specs.declared.Step.the-variants as S
-use Rattle.since.specs.Since.{meets, firstIn, refusalOf, dateAt, entryAt, wholeWalk, stopOf, firstDated, firstBy, firstFrom}
+use Rattle.since.specs.Since.{meets, firstIn, whyStopped, dateAt, entryAt, wholeWalk, stopOf, firstDated, firstBy, firstFrom}
 use Rattle.since.specs.Steps.{stepBy, stepAt}
 
 -- R330: of a right date the answer is that of the whole walk
@@ -37,7 +37,7 @@ module _ (ρ : Rules) (s : List ℕ) where
   pub stop-is : Stops ρ s (recordsIn ρ s) (stopOf ρ s)
   stop-is =
       let h = records-stop ρ s in
-      rw (sym (ap refusalOf (h .last))) at h
+      rw (sym (ap whyStopped (h .last))) at h
 
   module _ (d : Date) where
     -- what is left from the k-th spot on
@@ -70,7 +70,7 @@ module _ (ρ : Rules) (s : List ℕ) where
       rest-stopped r here =
           let q : k ≡ many = stops-here ρ s many (stopOf ρ s) stop-is k few r here in
           let e : many - k ≡ 0 = omega arith in
-          let why : stopOf ρ s ≡ r = ap (λ j. refusalOf (locate ρ s (spot ρ s j))) (sym q) ∙ ap refusalOf here in
+          let why : stopOf ρ s ≡ r = ap (λ j. whyStopped (locate ρ s (spot ρ s j))) (sym q) ∙ ap whyStopped here in
           rw e (ap (Refused many) why ∙ ap (λ j. Refused j r) (sym q))
 
 -- ---- as the loop goes

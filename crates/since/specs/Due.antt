@@ -21,7 +21,7 @@ use Rattle.since.specs.declared.First.the-variants.{Found, Refused}
 
 module _ (ρ : Rules) (s : List ℕ) where
   -- R333: the record at a place has this date: its group 3 is read with 0, and the letters are this date
-  pub record HasDate (at : ℕ) (d : Date) : Type 0 where
+  pub record IsDated (at : ℕ) (d : Date) : Type 0 where
     pub cells : List ℤ
     pub reads : Group.Due ρ s at 3 (cellsIn ρ (countsAt ρ s at) 3) (done cells)
     pub letters : IsDate (map sizeOf cells) d
@@ -30,7 +30,7 @@ module _ (ρ : Rules) (s : List ℕ) where
     -- R332: record k of the walk, counted from 0, is at or after the date
     pub record IsFrom (k : ℕ) : Type 0 where
       pub date : Date
-      pub has : HasDate (spot ρ s k) date
+      pub has : IsDated (spot ρ s k) date
       pub after : AtOrAfter date from
 
     -- R334, R335: it is the first, at this place, behind as many records as its number says, which are placed with 0 or 7

@@ -38,9 +38,9 @@ firstIn d [] passed none = none
 firstIn d (x ∷ xs) passed none = cond (meets d (x .date)) (Found (x .place) passed) (firstIn d xs (suc passed) none)
 
 -- why nothing is located; a record is no reason
-abbrev pub refusalOf : Located → Refusal
-refusalOf (refused r) = r
-refusalOf (located n ns) = End
+abbrev pub whyStopped : Located → Refusal
+whyStopped (refused r) = r
+whyStopped (located n ns) = End
 
 module _ (ρ : Rules) where
   -- R333: the date of the record at a place: placed with 0, and its group 3 reads with 0; otherwise it has none
@@ -57,7 +57,7 @@ module _ (ρ : Rules) where
 
   -- the refusal at which the walk stops, behind all of them
   abbrev pub stopOf : List ℕ → Refusal
-  stopOf s = refusalOf (locate ρ s (spot ρ s (recordsIn ρ s)))
+  stopOf s = whyStopped (locate ρ s (spot ρ s (recordsIn ρ s)))
 
   -- a right date
   unfoldable pub firstDated : List ℕ → Date → First

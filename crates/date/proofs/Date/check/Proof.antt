@@ -7,7 +7,7 @@ use borrow.Author.Needs.{needs}
 use borrow.Author.Tests.{not-false}
 use lib.ListN.{drop}
 use Rattle.date.specs.declared.Date.{Date}
-use Rattle.date.specs.Asked.{numberIn, numbers, outside, position, datedBy}
+use Rattle.date.specs.Asked.{valueIn, numbers, outside, position, datedBy}
 use Rattle.date.specs.Date.{month, judged}
 use Rattle.date.proofs.Asked.{all-asked, passes-range}
 use Rattle.date.proofs.Blame.{Remain, one-holds, one-fails, all-hold}
@@ -84,7 +84,7 @@ returns-7 c = sym (one-fails (left₆ (c .before .before)) (ap not (sym (c .befo
 judge-requires : tie.Need-judge-requires
 judge-requires c κs =
     let at-month = c .before .before .before .before .before .before .before .before in
-    let r = passes-range (numberIn month (asked₇ c .month)) (sym (at-month .before .allows3 .ensures) ∙ not-false _ (at-month .if3 .left)) in
+    let r = passes-range (valueIn month (asked₇ c .month)) (sym (at-month .before .allows3 .ensures) ∙ not-false _ (at-month .if3 .left)) in
     (r .enough, r .notMore)
 
 returns-8 : tie.Need-returns-8
