@@ -1,7 +1,7 @@
-// One field of a form: read, asked whether cells have one at all, and written canonically; and index entries.
+// One field of a form: whether cells have one at all, and its canonical text; and index entries, read and written. What
+// a field reads as is said in specs/Read.antt; crate `run` reads fields.
 use form::Form;
 use number::Byte;
-use number::Number;
 use number::Scan;
 ghost use mathlib.Core.Path.{_≡_};
 ghost use Prim.Native.Nat.{_+_, _<_, _≤_};
@@ -15,11 +15,11 @@ ghost use Rattle.base.specs.Sign.{sizeOf};
 ghost use Rattle.form.specs.Table.{rowOf};
 ghost use Rattle.number.specs.Scan.{classOf, stepOf, SmallDigit};
 ghost use Rattle.field.specs.Kind.{kindOf, widthOf, kindCells, Small};
-ghost use Rattle.field.specs.Read.{valueOf, readAs, fieldOf};
 ghost use Rattle.field.specs.Write.{isLetter, rangeOf, fitsOf, textAs, fieldText};
 ghost use Rattle.field.specs.Entry.{countIn, entryOf, indexEntryText};
 
-// What a field reads as: a cell; the two cells of an E field; letters, whose cells are the bytes themselves.
+// What a field reads as: a cell; the two cells of an E field; letters, whose cells are the bytes themselves. The
+// definitions speak by it; no code makes one.
 pub enum Value {
     Cell(i64),
     Pair(i64, i64),
@@ -115,33 +115,6 @@ fn kind_of(form: Form) -> Kind
     }
 }
 
-fn width_of(kind: Kind) -> usize
-    requires { ⌜ Small kind ⌝ }
-    ensures { λ r. ⌜ r ≡ widthOf kind ⌝ }
-{
-    match kind {
-        Kind::Whole {
-            width,
-            low: _,
-            high: _,
-        } => width,
-        Kind::Fixed {
-            width,
-            low: _,
-            high: _,
-        } => width,
-        Kind::Power {
-            columns,
-            digits,
-            places,
-            far: _,
-            most: _,
-        } => columns + digits + places + 3,
-        Kind::OneLetter => 1,
-        Kind::AllLetters { width } => width,
-    }
-}
-
 fn cells_of(kind: Kind) -> usize
     ensures { λ r. ⌜ r ≡ kindCells kind ⌝ }
 {
@@ -168,7 +141,7 @@ fn cells_of(kind: Kind) -> usize
     }
 }
 
-// ---- Reading.
+// ---- Letters.
 
 fn is_printable(b: u8) -> bool
     ensures { λ r. ⌜ r ≡ printable b ⌝ }
@@ -192,74 +165,6 @@ pub fn all_printable(s: &[u8]) -> bool
         }
     }
     true
-}
-
-fn value_of(n: Number) -> Value
-    ensures { λ r. ⌜ r ≡ valueOf n ⌝ }
-{
-    match n {
-        Number::One(z) => Value::Cell(z),
-        Number::Two(a, b) => Value::Pair(a, b),
-        Number::Misformed => Value::Misformed,
-    }
-}
-
-fn read_letter(s: &[u8]) -> Value
-    requires { ⌜ length (now s) ≡ 1 ⌝ }
-    ensures { λ r. ⌜ r ≡ readAs Kind.OneLetter (now (s .entry)) ⌝ }
-{
-    if all_printable(s) {
-        return Value::Cell(number::cell(false, s[0] as u64));
-    }
-    Value::Misformed
-}
-
-fn read_letters(s: &[u8]) -> Value
-    ensures { λ r. ⌜ r ≡ readAs (Kind.AllLetters (length (now (s .entry)))) (now (s .entry)) ⌝ }
-{
-    if all_printable(s) {
-        return Value::Letters;
-    }
-    Value::Misformed
-}
-
-fn read_as(kind: Kind, field: &[u8]) -> Value
-    requires field { ⌜ length (now field) ≡ widthOf kind ⌝ }
-    requires small { ⌜ Small kind ⌝ }
-    ensures { λ r. ⌜ r ≡ readAs kind (now (field .entry)) ⌝ }
-{
-    match kind {
-        Kind::Whole {
-            width: _,
-            low: _,
-            high: _,
-        } => value_of(number::read_i(field)),
-        Kind::Fixed {
-            width: _,
-            low: _,
-            high: _,
-        } => value_of(number::read_f(field)),
-        Kind::Power {
-            columns,
-            digits,
-            places,
-            far: _,
-            most: _,
-        } => value_of(number::read_e(field, columns, digits, places)),
-        Kind::OneLetter => read_letter(field),
-        Kind::AllLetters { width: _ } => read_letters(field),
-    }
-}
-
-// What the field reads as; a slice of another length than the form's width is misformed (R86).
-pub fn read(form: Form, field: &[u8]) -> Value
-    ensures { λ r. ⌜ r ≡ fieldOf form (now (field .entry)) ⌝ }
-{
-    let kind = kind_of(form);
-    if field.len() != width_of(kind) {
-        return Value::Misformed;
-    }
-    read_as(kind, field)
 }
 
 // ---- Which cells have a field.

@@ -203,14 +203,22 @@ behindAt-lines {k} {a} p b u =
       place = rw d (ap (λ n. length p + n) (sym (reach-whole b u)));
     }
 
--- ---- behind so many lines, or at the end
+-- ---- behind the line that a place stands in, or at the end
 
-module _ (s : List ℕ) (at k : ℕ) where
-  pub reach-beyond : length s < at → at ≡ at + reach (drop at s) k
-  reach-beyond h = rw (drop-of-length-le s {i = at} (omega arith), reach-nil k) (sym (add-zero at))
+module _ (s : List ℕ) (at : ℕ) where
+  pub reach-beyond : length s ≤ at → at ≡ at + reach (drop at s) 1
+  reach-beyond h = rw (drop-of-length-le s {i = at} h, reach-nil 1) (sym (add-zero at))
 
-  pub reach-at : (n : ℕ) → behindAt s at k ≡ At n → n ≡ at + reach (drop at s) k
-  reach-at n e = at-is s at k n e .place
+  pub reach-here : at < length s → getD s at 0 ≡ 10 → at + 1 ≡ at + reach (drop at s) 1
+  reach-here h e = omega (arith, reach-drop-feed s at 0 h e, reach-zero (drop (suc at) s))
 
-  pub reach-end : at ≤ length s → behindAt s at k ≡ TooFew → length s ≡ at + reach (drop at s) k
-  reach-end h e = omega (arith, reach-all (drop at s) k (few-is s at k e), length-drop at s)
+  pub reach-next : at + 1 < length s → (getD s at 0 ≡ 10 → ⊥) → getD s (at + 1) 0 ≡ 10 → at + 2 ≡ at + reach (drop at s) 1
+  reach-next h other e =
+      let n : at + 1 ≡ suc at = omega arith in
+      omega (arith, reach-drop-other s at 0 (omega arith) other, reach-drop-feed s (suc at) 0 (omega arith) (rw n at e), reach-zero (drop (suc (suc at)) s))
+
+  pub reach-at : (k n : ℕ) → behindAt s at k ≡ At n → n ≡ at + reach (drop at s) k
+  reach-at k n e = at-is s at k n e .place
+
+  pub reach-end : at ≤ length s → behindAt s at 1 ≡ TooFew → length s ≡ at + reach (drop at s) 1
+  reach-end h e = omega (arith, reach-all (drop at s) 1 (few-is s at 1 e), length-drop at s)

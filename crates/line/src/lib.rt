@@ -88,14 +88,23 @@ pub fn place_behind(text: &[u8], at: usize, lines: usize) -> Behind
     Behind::TooFew
 }
 
-// The place behind so many lines from a place, or the text's end where there are fewer.
-pub fn behind_or_end(text: &[u8], at: usize, lines: usize) -> usize
-    ensures { λ r. ⌜ r ≡ at + reach (drop at (now (text .entry))) lines ⌝ }
+// The place behind the line that a place stands in, or the text's end where no line feed follows. Mostly it is asked
+// for where fields end, and a line end stands right there: so that is looked for before any block.
+pub fn behind_line(text: &[u8], at: usize) -> usize
+    ensures { λ r. ⌜ r ≡ at + reach (drop at (now (text .entry))) 1 ⌝ }
 {
-    if text.len() < at {
+    if text.len() <= at {
         return at;
     }
-    let Behind::At(n) = place_behind(text, at, lines) else {
+    if text[at] == 10 {
+        return at + 1;
+    }
+    if 1 < text.len() - at {
+        if text[at + 1] == 10 {
+            return at + 2;
+        }
+    }
+    let Behind::At(n) = place_behind(text, at, 1) else {
         return text.len();
     };
     n

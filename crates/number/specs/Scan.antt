@@ -46,10 +46,3 @@ SmallDigit Blank = Unit {0}
 SmallDigit Minus = Unit {0}
 SmallDigit (Digit d) = d < 10
 SmallDigit Other = Unit {0}
-
--- the number that has been read is below m
-abbrev pub Below : ℕ → Scan → Type 0
-Below m Blanks = Unit {0}
-Below m Signed = Unit {0}
-Below m (Digits g n) = n < m
-Below m Broken = Unit {0}

@@ -1,4 +1,5 @@
-// Numbers in columns: I, F and E fields of any width, read in one pass and written from the last column to the first.
+// Numbers in columns: what a byte is there, the cell of a sign and a size, and I, F and E fields of any width written
+// from the last column to the first. What such a field reads as is said in specs/Read.antt; crate `run` reads them.
 ghost use mathlib.Core.Path.{_≡_};
 ghost use mathlib.Core.List.{_∷_, []};
 ghost use Prim.Native.Nat.{_+_, _<_, _≤_, _^_};
@@ -6,12 +7,11 @@ ghost use lib.ListN.{length};
 ghost use Rattle.base.specs.Part.{over};
 ghost use Rattle.base.specs.Sign.{ofSign, negative, sizeOf, holds};
 ghost use Rattle.number.specs.Grammar.{signByte};
-ghost use Rattle.number.specs.Scan.{classOf, stepOf, scanOf, SmallDigit, Below};
-ghost use Rattle.number.specs.Read.{oneOf, pointOf, leadOf, signOf, pairOf, readI, readF, readE};
+ghost use Rattle.number.specs.Scan.{classOf};
 ghost use Rattle.number.specs.Write.{lastOf, backOf, textOf, restOf, leadState, exponentText, textI, textF};
 ghost use Rattle.number.specs.Write.{textE};
 
-// ---- Reading: one pass over the columns.
+// ---- Reading.
 
 // What one byte of a number's columns is.
 pub enum Byte {
@@ -22,6 +22,7 @@ pub enum Byte {
 }
 
 // How far columns have been read: blanks only; a minus too; a minus or none (true for a minus) and digits; no number.
+// The definitions of reading speak by it, and writing undoes them step by step.
 pub enum Scan {
     Blanks,
     Signed,
@@ -29,7 +30,7 @@ pub enum Scan {
     Broken,
 }
 
-// What a field of numbers reads as: one cell, or the two of an E field.
+// What a field of numbers reads as: one cell, or the two of an E field. The definitions speak by it; no code makes one.
 pub enum Number {
     One(i64),
     Two(i64, i64),
@@ -54,50 +55,6 @@ pub fn class(b: u8) -> Byte
     Byte::Digit((b - b'0') as u64)
 }
 
-// One byte more.
-fn step(c: Byte, st: Scan) -> Scan
-    requires small { ⌜ SmallDigit c ⌝ }
-    requires below { ⌜ Below 100000000000000000 st ⌝ }
-    ensures { λ r. ⌜ r ≡ stepOf c st ⌝ }
-{
-    match c {
-        Byte::Blank => match st {
-            Scan::Blanks => Scan::Blanks,
-            Scan::Signed => Scan::Broken,
-            Scan::Digits(_, _) => Scan::Broken,
-            Scan::Broken => Scan::Broken,
-        },
-        Byte::Minus => match st {
-            Scan::Blanks => Scan::Signed,
-            Scan::Signed => Scan::Broken,
-            Scan::Digits(_, _) => Scan::Broken,
-            Scan::Broken => Scan::Broken,
-        },
-        Byte::Digit(d) => match st {
-            Scan::Blanks => Scan::Digits(false, d),
-            Scan::Signed => Scan::Digits(true, d),
-            Scan::Digits(neg, n) => Scan::Digits(neg, n * 10 + d),
-            Scan::Broken => Scan::Broken,
-        },
-        Byte::Other => Scan::Broken,
-    }
-}
-
-// The bytes of a part, from a state on.
-pub fn scan_part(s: &[u8], from: Scan) -> Scan
-    requires short { ⌜ length (now s) ≤ 12 ⌝ }
-    requires below { ⌜ Below 1000000 from ⌝ }
-    ensures { λ r. ⌜ r ≡ scanOf from (now (s .entry)) ⌝ }
-{
-    let mut st = from;
-    let mut i = 0;
-    while i < s.len() {
-        st = step(class(s[i]), st);
-        i += 1;
-    }
-    st
-}
-
 // The signed number of a sign and a size.
 pub fn cell(neg: bool, n: u64) -> i64
     requires { ⌜ n < 2 ^ 63 ⌝ }
@@ -107,147 +64,6 @@ pub fn cell(neg: bool, n: u64) -> i64
         return 0 - (n as i64);
     }
     n as i64
-}
-
-// The number that a state is worth.
-fn one(st: Scan) -> Number
-    requires { ⌜ Below 1000000000000000000 st ⌝ }
-    ensures { λ r. ⌜ r ≡ oneOf st ⌝ }
-{
-    match st {
-        Scan::Blanks => Number::Misformed,
-        Scan::Signed => Number::Misformed,
-        Scan::Digits(neg, n) => Number::One(cell(neg, n)),
-        Scan::Broken => Number::Misformed,
-    }
-}
-
-// The number that the bytes of a part end, from a state on.
-fn finish(s: &[u8], from: Scan) -> Number
-    requires short { ⌜ length (now s) ≤ 12 ⌝ }
-    requires below { ⌜ Below 1000000 from ⌝ }
-    ensures { λ r. ⌜ r ≡ oneOf (scanOf from (now (s .entry))) ⌝ }
-{
-    one(scan_part(s, from))
-}
-
-// R70: an I field of any width up to 12.
-pub fn read_i(s: &[u8]) -> Number
-    requires { ⌜ length (now s) ≤ 12 ⌝ }
-    ensures { λ r. ⌜ r ≡ readI (now (s .entry)) ⌝ }
-{
-    finish(s, Scan::Blanks)
-}
-
-// What a point leaves.
-fn point(st: Scan) -> Scan
-    ensures { λ r. ⌜ r ≡ pointOf st ⌝ }
-{
-    match st {
-        Scan::Blanks => Scan::Digits(false, 0),
-        Scan::Signed => Scan::Digits(true, 0),
-        Scan::Digits(neg, n) => Scan::Digits(neg, n),
-        Scan::Broken => Scan::Broken,
-    }
-}
-
-// R72: an F field of any width up to 10.
-pub fn read_f(s: &[u8]) -> Number
-    requires { ⌜ length (now s) ≤ 10 ⌝ }
-    ensures { λ r. ⌜ r ≡ readF (now (s .entry)) ⌝ }
-{
-    let n = s.len();
-    if n < 4 {
-        return Number::Misformed;
-    }
-    let p = n - 4;
-    if s[p] != b'.' {
-        return Number::Misformed;
-    }
-    let q = n - 3;
-    let head = scan_part(&s[0..p], Scan::Blanks);
-    finish(&s[q..n], point(head))
-}
-
-// R75, R76: the last column before E's point.
-fn lead(st: Scan, b: u8) -> Scan
-    ensures { λ r. ⌜ r ≡ leadOf st b ⌝ }
-{
-    match st {
-        Scan::Blanks => {
-            if b == b'0' {
-                return Scan::Digits(false, 0);
-            }
-            if b == b' ' {
-                return Scan::Digits(false, 0);
-            }
-            if b == b'-' {
-                return Scan::Digits(true, 0);
-            }
-            Scan::Broken
-        }
-        Scan::Signed => {
-            if b == b'0' {
-                return Scan::Digits(true, 0);
-            }
-            Scan::Broken
-        }
-        Scan::Digits(_, _) => Scan::Broken,
-        Scan::Broken => Scan::Broken,
-    }
-}
-
-// The exponent's sign.
-fn sign(b: u8) -> Scan
-    ensures { λ r. ⌜ r ≡ signOf b ⌝ }
-{
-    if b == b'+' {
-        return Scan::Digits(false, 0);
-    }
-    if b == b'-' {
-        return Scan::Digits(true, 0);
-    }
-    Scan::Broken
-}
-
-fn pair(a: Number, b: Number) -> Number
-    ensures { λ r. ⌜ r ≡ pairOf a b ⌝ }
-{
-    match a {
-        Number::One(x) => match b {
-            Number::One(y) => Number::Two(x, y),
-            Number::Two(_, _) => Number::Misformed,
-            Number::Misformed => Number::Misformed,
-        },
-        Number::Two(_, _) => Number::Misformed,
-        Number::Misformed => Number::Misformed,
-    }
-}
-
-// R74: an E field: c columns, a point, d digits, `E`, a sign and x digits.
-pub fn read_e(s: &[u8], c: usize, d: usize, x: usize) -> Number
-    requires { ⌜ (1 ≤ c) × (c ≤ 12) × (d ≤ 12) × (1 ≤ x) × (x ≤ 12) ⌝ }
-    ensures { λ r. ⌜ r ≡ readE c d x (now (s .entry)) ⌝ }
-{
-    let n = s.len();
-    if n != c + d + x + 3 {
-        return Number::Misformed;
-    }
-    if s[c] != b'.' {
-        return Number::Misformed;
-    }
-    let f = c + 1;
-    let e = c + 1 + d;
-    if s[e] != b'E' {
-        return Number::Misformed;
-    }
-    let l = c - 1;
-    let g = c + 2 + d;
-    let h = c + 3 + d;
-    let front = scan_part(&s[0..l], Scan::Blanks);
-    let a = finish(&s[f..e], lead(front, s[l]));
-    let b = finish(&s[h..n], sign(s[g]));
-    pair(a, b)
 }
 
 // ---- Writing: from the last column to the first, one division for each digit.

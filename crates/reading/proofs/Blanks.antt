@@ -22,7 +22,7 @@ use Rattle.form.specs.declared.Form.{Form}
 use Rattle.form.specs.declared.Form.the-variants.{A120, A1}
 use Rattle.form.specs.Table.{rowOf}
 use Rattle.field.specs.Read.{fieldOf, formed}
-use Rattle.reading.specs.Blanks.{blank, MayBeShort, mayBeShort, shortest, filledTo, isRight, asField, Fits}
+use Rattle.reading.specs.Blanks.{blank, MayBeShort, mayBeShort, shortest, filledTo, isRight, asField}
 use Rattle.reading.specs.Values.{RightContent}
 use Rattle.reading.proofs.Letters.{letters-formed, short-exactly, not-short}
 
@@ -106,6 +106,11 @@ shortest-most short columns = cond-elim (λ n. n ≤ columns) short (λ e. omega
 pub short-field : (f : Form) (s : List ℕ) → (f ≡ A120) ⊎ (f ≡ A1) → length s ≤ rowOf f .width → every printable s ≡ formed (fieldOf f (asField f true s))
 short-field f s h w =
     sym (filled-printable (rowOf f .width) s) ∙ letters-formed f (filledTo (rowOf f .width) s) h (filled-length (rowOf f .width) s w)
+
+-- what may be lent as a field: the whole width, or less where lines may be short
+pub record Fits (f : Form) (short : Bool) (n : ℕ) : Type 0 where
+  pub low : shortest short (rowOf f .width) ≤ n
+  pub high : n ≤ rowOf f .width
 
 -- where lines may not be short, nothing is filled
 pub full-field : (f : Form) (s : List ℕ) → Fits f false (length s) → filledTo (rowOf f .width) s ≡ s

@@ -26,13 +26,13 @@ use Rattle.field.specs.Read.{fieldOf, formed}
 use Rattle.line.specs.Lines.{reach}
 use Rattle.line.specs.declared.Content.the-variants.{Length, NoReturn}
 use Rattle.line.proofs.Reach.{reach-le}
-use Rattle.reading.specs.Blanks.{shortest, filledTo, rightContent, Fits}
+use Rattle.reading.specs.Blanks.{shortest, filledTo, rightContent}
 use Rattle.reading.specs.Plan.{Line, lineAt, planFrom, planOf}
 use Rattle.reply.specs.declared.Refusal.{Refusal}
 use Rattle.reply.specs.declared.Refusal.the-variants.{BadLine, BadField}
 use Rattle.reply.specs.declared.Checked.the-variants as C
 use Rattle.reading.specs.Read.{Cells, readField, readFields, columnsOf, readLine, readLinesOf, readLines, verdictOf}
-use Rattle.reading.proofs.Blanks.{shortest-most}
+use Rattle.reading.proofs.Blanks.{shortest-most, Fits}
 use Rattle.reading.proofs.Lines.{line-right, line-wrong}
 use Rattle.reading.proofs.Fields.{restOf, lineText, fields-start, fields-more, fields-none, line-ends, piece, piece-range}
 

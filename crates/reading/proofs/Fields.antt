@@ -25,11 +25,11 @@ use Rattle.line.specs.declared.Content.the-variants.{Length}
 use Rattle.line.proofs.Feeds.{plain-take}
 use Rattle.line.proofs.Reach.{reach-past}
 use Rattle.line.proofs.Contents.{content-two, first-plain}
-use Rattle.reading.specs.Blanks.{shortest, filledTo, fieldPart, rightContent, Fits}
+use Rattle.reading.specs.Blanks.{shortest, filledTo, fieldPart, rightContent}
 use Rattle.reading.specs.Plan.{Line}
 use Rattle.reading.specs.Read.{readField, readFields, columnsOf}
 use Rattle.reading.specs.Values.{planned, fieldIn}
-use Rattle.reading.proofs.Blanks.{filled-nil, filled-drop, filled-take, take-blanks, right-low}
+use Rattle.reading.proofs.Blanks.{filled-nil, filled-drop, filled-take, take-blanks, right-low, Fits}
 use Rattle.reading.proofs.Lines.{right-is}
 
 -- the line without its first i elements
@@ -82,6 +82,29 @@ module _ (f : Form) (l : Line) (text : List ℕ) where
 
 -- ---- the bytes of a field
 
+-- what there is of field i, filled, is the field's columns of what there is of the line, filled
+pub filled-piece : (columns w i at n : ℕ) (s : List ℕ) {from to : ℕ} → i * w + w ≤ columns → from ≡ min (at + i * w) (at + n) → to ≡ min (at + i * w + w) (at + n)
+    → filledTo w (part from to s) ≡ take w (drop (i * w) (filledTo columns (take n (drop at s))))
+filled-piece columns w i at n s {from} {to} few b e =
+    sym
+    (ap (take w) (filled-drop columns (i * w) (take n (drop at s)))
+    ∙ filled-take w (columns - i * w) (drop (i * w) (take n (drop at s))) (omega (arith, few))
+    ∙ ap (filledTo w)
+    (ap (take w) (drop-take (i * w) n (drop at s)) ∙ take-both w (n - i * w) (drop (i * w) (drop at s))
+    ∙ ap (take (min w (n - i * w))) (drop-drop (i * w) at s) ∙ cut (leb (i * w) n) refl))
+  where
+    cut : (t : Bool) → leb (i * w) n ≡ t → take (min w (n - i * w)) (drop (at + i * w) s) ≡ part from to s
+    cut true u =
+        let v = leb-true (i * w) n u in
+        let m : at + i * w ≡ from = omega arith in
+        let k : min w (n - i * w) ≡ to - from = omega arith in
+        rw (m, k)
+    cut false u =
+        let v = leb-false (i * w) n u in
+        let m : min w (n - i * w) ≡ 0 = omega arith in
+        let k : to - from ≡ 0 = omega arith in
+        rw (m, k) (take-none (drop (at + i * w) s) ∙ sym (take-none (drop from s)))
+
 -- as the code finds them: from the lesser of column and end, and from there no more than the width
 pub part-found : (width column stop from to : ℕ) (s : List ℕ) → from ≡ min column stop → to ≡ from + min width (stop - from) → part from to s ≡ fieldPart width column stop s
 part-found width column stop from to s b e =
@@ -127,24 +150,9 @@ module _ (ρ : Rules) (f : Form) (short : Bool) (l : Line) (s : List ℕ) (at en
 
     pub piece : filledTo w (part from to s) ≡ take w (drop (i * w) (lineText f l s at end n))
     piece =
-        sym
-        (ap (take w) (filled-drop (columnsOf f l) (i * w) (part 0 n (part at end s)))
-        ∙ filled-take w (columnsOf f l - i * w) (drop (i * w) (part 0 n (part at end s))) (omega (arith, columns))
-        ∙ ap (filledTo w)
-        (ap (λ c. take w (drop (i * w) c)) content ∙ ap (take w) (drop-take (i * w) n (drop at s)) ∙ take-both w (n - i * w) (drop (i * w) (drop at s))
-        ∙ ap (take (min w (n - i * w))) (drop-drop (i * w) at s) ∙ cut (leb (i * w) n) refl))
-      where
-        cut : (t : Bool) → leb (i * w) n ≡ t → take (min w (n - i * w)) (drop (at + i * w) s) ≡ part from to s
-        cut true e =
-            let b = leb-true (i * w) n e in
-            let m : at + i * w ≡ from = omega arith in
-            let k : min w (n - i * w) ≡ to - from = omega arith in
-            rw (m, k)
-        cut false e =
-            let b = leb-false (i * w) n e in
-            let m : min w (n - i * w) ≡ 0 = omega arith in
-            let k : to - from ≡ 0 = omega arith in
-            rw (m, k) (take-none (drop (at + i * w) s) ∙ sym (take-none (drop from s)))
+        let b : from ≡ min (at + i * w) (at + n) = omega arith in
+        let e : to ≡ min (at + i * w + w) (at + n) = omega arith in
+        filled-piece (columnsOf f l) w i at n s columns b e ∙ ap (λ c. take w (drop (i * w) (filledTo (columnsOf f l) c))) (sym content)
 
     pub piece-range : (from ≤ to) × (to ≤ length s) × Fits f short (to - from)
     piece-range = (omega arith, omega (arith, line-ends), record { low = least short enough; high = omega arith })

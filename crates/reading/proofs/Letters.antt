@@ -92,15 +92,3 @@ letter-byte (a ∷ b ∷ x) cs r = absurd (no (length x) (r .good))
   where
     no : (n : ℕ) → T (formed (cond (eqb (suc (suc n)) 1) (cond (every printable (a ∷ b ∷ x)) (Cell (pos a)) Misformed) Misformed)) → ⊥
     no n t = rw (ne-eqb (suc (suc n)) 1 (λ e. omega arith)) at t
-
-all-bytes : (x : List ℕ) (cs : List ℤ) → ReadsAs A120 x cs → cs ≡ map pos x
-unfolding Read.fieldOf
-all-bytes x cs r = by (eqb (length x) (rowOf A120 .width)) (every printable x) (r .good) (r .cells)
-  where
-    by : (t p : Bool) → T (formed (cond t (cond p Letters Misformed) Misformed)) → valueCells x (cond t (cond p Letters Misformed) Misformed) ≡ cs → cs ≡ map pos x
-    by true true g e = sym e
-    by true false g e = absurd g
-    by false p g e = absurd g
-
-pub letters-cells : (f : Form) (x : List ℕ) (cs : List ℤ) → (f ≡ A120) ⊎ (f ≡ A1) → ReadsAs f x cs → cs ≡ map pos x
-letters-cells f x cs h = both-forms (λ k. ReadsAs k x cs → cs ≡ map pos x) h (all-bytes x cs) (λ r. letter-byte x cs r .1)

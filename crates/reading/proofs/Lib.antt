@@ -6,11 +6,11 @@ pub mod Fields
 pub mod Checking
 pub mod Trying
 pub mod Sizes
+pub mod Runs
 pub mod Putting
 pub mod Filling
 pub mod Dates
 pub mod Steps
-pub mod One
 pub mod Promises
 pub mod Passes
 pub mod FourS

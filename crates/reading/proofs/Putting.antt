@@ -1,28 +1,24 @@
--- The cells of one field, put into a table: what room they need, and what is left there.
+-- The cells of a line's fields, put into a table: what room they need, and what is left there.
 -- Assumes nothing.
 use mathlib.Core.Path.{_≡_, refl, sym, _∙_, ap, subst}
 use mathlib.Core.Bool.{Bool, true, false}
 use mathlib.Core.List.{List, [], _∷_, map}
-use Prim.Native.Nat.{ℕ, zero, suc, _+_, _*_, _<_, _≤_}
-use native.Mathlib.Nat.{one-mul}
+use Prim.Native.Nat.{ℕ, zero, suc, _+_, _*_, _<_, _≤_, min}
 use native.Mathlib.Omega.{arith}
 use lib.Dec.{T}
 use lib.IntN.{ℤ, pos}
-use lib.ListN.{length, take, getD, set, length-map}
-use Rattle.base.specs.Part.{over}
+use lib.ListN.{length, take, getD, set, length-map, length-take}
+use lib.Seq.{take-all}
+use Rattle.base.specs.Part.{part, over}
 use Rattle.base.proofs.Mapped.{getD-map-within}
 use Rattle.base.proofs.Part.{over-turn, over-none}
-use Rattle.base.proofs.Taken.{take-none}
-use lib.Seq.{take-all}
+use Rattle.base.proofs.Taken.{part-zero, take-none, take-both}
 use Rattle.form.specs.declared.Form.{Form}
 use Rattle.form.specs.Table.{rowOf}
-use Rattle.field.specs.Read.{fieldOf, formed, valueCells}
 use Rattle.run.specs.Run.{runFormed, runCells}
-use Rattle.reading.specs.Blanks.{HoldsLetters, filledTo, Fits}
-use Rattle.reading.proofs.Blanks.{filled-length, filled-getD, full-field}
-use Rattle.reading.proofs.Letters.{letters-cells}
-use Rattle.reading.proofs.One.{one-formed, one-cells}
-use Rattle.reading.proofs.Sizes.{reads-size}
+use Rattle.reading.specs.Blanks.{filledTo, ToPut}
+use Rattle.reading.proofs.Blanks.{filled-enough, filled-length, filled-getD, filled-take}
+use Rattle.reading.proofs.Runs.{formed-front, cells-front, letters-wide, letters-run}
 
 -- a byte that is there, whatever stands for one that isn't
 pub getD-within : (xs : List ℕ) (i d e : ℕ) → i < length xs → getD xs i d ≡ getD xs i e
@@ -57,46 +53,44 @@ module _ (bytes : List ℕ) (width : ℕ) (old : List ℤ) (at : ℕ) (few : len
   pub letters-all : (i : ℕ) (table : List ℤ) → width ≤ i → table ≡ over at (take i (map pos (filledTo width bytes))) old → table ≡ over at (map pos (filledTo width bytes)) old
   letters-all i table h b = b ∙ ap (λ l. over at l old) (take-all i (map pos (filledTo width bytes)) (omega (arith, many)))
 
--- ---- a field
+-- ---- a line
 
-pub cells-size : (f : Form) (t : List ℕ) → T (formed (fieldOf f t)) → length (valueCells t (fieldOf f t)) ≡ rowOf f .cells
-cells-size f t h = reads-size f t (valueCells t (fieldOf f t)) record { good = h; cells = refl }
+-- as many bytes of a line's content as stand in the columns of its fields
+module _ {f : Form} {short : Bool} {k columns : ℕ} {content : List ℕ} {room cell : ℕ} (p : ToPut f short k columns content room cell) {there : ℕ}
+    (t : there ≡ min columns (length content)) where
+  front : part 0 there content ≡ take columns content
+  front = part-zero there content ∙ ap (λ n. take n content) t ∙ sym (take-both columns (length content) content) ∙ ap (take columns) (take-all (length content) content (omega arith))
 
--- bytes that are a field of their form once they are filled with blanks, and room for its cells
-pub record ToPut (f : Form) (short : Bool) (width : ℕ) (bytes : List ℕ) (old : List ℤ) (at : ℕ) : Type 0 where
-  pub wide : width ≡ rowOf f .width
-  pub fit : Fits f short (length bytes)
-  pub letters : HoldsLetters f short
-  pub good : T (formed (fieldOf f (filledTo width bytes)))
-  pub room : at + rowOf f .cells ≤ length old
+  front-long : length (part 0 there content) ≡ min columns (length content)
+  front-long = ap length front ∙ length-take columns content
 
-module _ {f : Form} {short : Bool} {width : ℕ} {bytes : List ℕ} {old : List ℤ} {at : ℕ} (p : ToPut f short width bytes old at) where
-  bytes-cells : short ≡ true → valueCells (filledTo width bytes) (fieldOf f (filledTo width bytes)) ≡ map pos (filledTo width bytes)
-  bytes-cells e = letters-cells f (filledTo width bytes) _ (p .letters e) record { good = p .good; cells = refl }
+  -- filled with blanks, they are the columns of all that is filled
+  filled : filledTo columns (part 0 there content) ≡ take (k * rowOf f .width) (filledTo columns content)
+  filled = ap (filledTo columns) front ∙ sym (filled-take columns columns content (omega arith)) ∙ ap (λ n. take n (filledTo columns content)) (p .wide)
 
-  pub short-room : short ≡ true → (length bytes ≤ width) × (at + width ≤ length old)
-  short-room e =
-      let l : length bytes ≤ width = omega (arith, p .wide, p .fit .high) in
-      let n = length-map (filledTo width bytes) pos ∙ filled-length width bytes l in
-      (l, omega (arith, p .room, cells-size f (filledTo width bytes) (p .good), ap length (bytes-cells e), n))
+  all-columns : length (filledTo columns (part 0 there content)) ≡ k * rowOf f .width
+  all-columns = filled-length columns (part 0 there content) (omega (arith, front-long)) ∙ p .wide
 
-  pub short-put : short ≡ true → {new : List ℤ} → new ≡ over at (map pos (filledTo width bytes)) old → new ≡ over at (valueCells (filledTo width bytes) (fieldOf f (filledTo width bytes))) old
-  short-put e n = n ∙ ap (λ l. over at l old) (sym (bytes-cells e))
+  good : T (runFormed f k (filledTo columns (part 0 there content)))
+  good = subst T (formed-front f k (filledTo columns content) ∙ ap (runFormed f k) (sym filled)) (p .good)
 
-  module _ (no : short ≡ false) where
-    full : filledTo width bytes ≡ bytes
-    full = ap (λ n. filledTo n bytes) (p .wide) ∙ full-field f bytes (rw no at (p .fit))
+  cells : runCells f k (filledTo columns (part 0 there content)) ≡ runCells f k (filledTo columns content)
+  cells = ap (runCells f k) filled ∙ sym (cells-front f k (filledTo columns content))
 
-    all-there : length bytes ≡ rowOf f .width
-    all-there = let low : rowOf f .width ≤ length bytes = rw no at (p .fit .low) in omega (arith, p .fit .high)
+  pub short-room : short ≡ true → (length (part 0 there content) ≤ columns) × (cell + columns ≤ room)
+  short-room e = (omega (arith, front-long), omega (arith, p .enough-room, p .wide, ap (λ n. k * n) (letters-wide f (p .letters e))))
 
-    -- what a run of one field asks for
-    pub full-run : (length bytes ≡ 1 * rowOf f .width) × (T (runFormed f 1 bytes)) × (at + 1 * rowOf f .cells ≤ length old)
-    full-run = (
-      all-there ∙ sym (one-mul (rowOf f .width)),
-      subst T (sym (one-formed f bytes all-there)) (subst (λ t. T (formed (fieldOf f t))) full (p .good)),
-      omega (arith, p .room, one-mul (rowOf f .cells)),
-    )
+  pub short-put : short ≡ true → (old : List ℤ) {new : List ℤ} → new ≡ over cell (map pos (filledTo columns (part 0 there content))) old → new ≡ over cell (runCells f k (filledTo columns content)) old
+  short-put e old n = n ∙ ap (λ cs. over cell cs old) (letters-run f (p .letters e) k (filledTo columns (part 0 there content)) all-columns good ∙ cells)
 
-    pub full-put : {new : List ℤ} → new ≡ over at (runCells f 1 bytes) old → new ≡ over at (valueCells (filledTo width bytes) (fieldOf f (filledTo width bytes))) old
-    full-put n = n ∙ ap (λ l. over at l old) (one-cells f bytes all-there ∙ ap (λ t. valueCells t (fieldOf f t)) (sym full))
+  module _ (whole : short ≡ false) where
+    full : filledTo columns (part 0 there content) ≡ part 0 there content
+    full =
+        let low : columns ≤ length content = rw whole at (p .long) in
+        filled-enough columns (part 0 there content) (omega (arith, front-long))
+
+    pub full-run : (length (part 0 there content) ≡ k * rowOf f .width) × (T (runFormed f k (part 0 there content))) × (cell + k * rowOf f .cells ≤ room)
+    full-run = (ap length (sym full) ∙ all-columns, subst (λ x. T (runFormed f k x)) full good, p .enough-room)
+
+    pub full-put : (old : List ℤ) {new : List ℤ} → new ≡ over cell (runCells f k (part 0 there content)) old → new ≡ over cell (runCells f k (filledTo columns content)) old
+    full-put old n = n ∙ ap (λ cs. over cell cs old) (ap (runCells f k) (sym full) ∙ cells)

@@ -4,14 +4,15 @@
 use mathlib.Core.Path.{_≡_, refl, sym, _∙_, ap, subst}
 use mathlib.Core.Bool.{Bool, true, false}
 use mathlib.Core.List.{List}
-use Prim.Native.Nat.{ℕ, _+_, _-_, _*_, _<_, _≤_, min}
-use native.Mathlib.Nat.{add-mul, one-mul, mul-le-mul, mul-le-mul-right, zero-mul}
+use Prim.Native.Nat.{ℕ, zero, suc, _+_, _-_, _*_, _<_, _≤_, min}
+use native.Mathlib.Nat.{add-mul, one-mul, suc-mul, mul-le-mul, mul-le-mul-right, zero-mul}
 use native.Mathlib.Omega.{arith}
 use lib.ListN.{length, take, drop, length-take, length-drop}
 use lib.Seq.{length-take-le}
 use Rattle.rules.specs.declared.Rules.{Rules}
 use Rattle.base.specs.Part.{part}
-use Rattle.base.proofs.Choice.{true-T}
+use Rattle.base.proofs.Choice.{true-T, T-true}
+use Rattle.base.proofs.Every.{every-between}
 use Rattle.base.proofs.Part.{part-append}
 use Rattle.base.proofs.Taken.{take-none}
 use Rattle.form.specs.declared.Form.{Form}
@@ -27,13 +28,13 @@ use Rattle.line.specs.declared.Content.the-variants.{Length, NoReturn}
 use Rattle.line.proofs.Feeds.{plain-nil, plain-append, printable-plain}
 use Rattle.line.proofs.Reach.{reach-le, reach-past}
 use Rattle.line.proofs.Contents.{content-two, first-plain}
-use Rattle.reading.specs.Blanks.{filledTo, asField, fieldPart, rightContent, fieldsSpan, Fits}
+use Rattle.reading.specs.Blanks.{filledTo, asField, fieldPart, allFormed, rightContent, fieldsSpan}
 use Rattle.reading.specs.Plan.{Line, lineAt}
 use Rattle.reply.specs.declared.Refusal.{Refusal}
 use Rattle.reply.specs.declared.Refusal.the-variants.{BadLine}
 use Rattle.reply.specs.declared.Checked.the-variants as C
 use Rattle.reading.specs.Read.{columnsOf, misfitOf, readLines, verdictOf}
-use Rattle.reading.proofs.Blanks.{as-filled}
+use Rattle.reading.proofs.Blanks.{as-filled, Fits}
 use Rattle.reading.proofs.Lines.{right-is}
 use Rattle.reading.proofs.Fields.{lineText, enough}
 use Rattle.reading.proofs.Checking.{Checking, Fielding, element-small, next-first, many-here, columns-here, end-range, width-few, wrong-line}
@@ -146,7 +147,7 @@ module _ (ρ : Rules) {f : Form} {short : Bool} {count : ℕ} {s : List ℕ} (o 
   pub stops : (o .at ≤ o .stop) × (o .stop ≤ length s)
   stops = stop-range ρ short (o .k * o .width) s (o .at) (o .state .walk .inside) (o .stop) (o .sought)
 
-  pub trying-start : Trying ρ f short l s (o .at) (o .stop) 0 (o .at)
+  trying-start : Trying ρ f short l s (o .at) (o .stop) 0 (o .at)
   trying-start =
       let z : o .at - o .at ≡ 0 = omega arith in
       record {
@@ -277,3 +278,27 @@ module _ (ρ : Rules) {f : Form} {short : Bool} {count : ℕ} {s : List ℕ} (o 
       pub tried-next : (m : ℕ) → rightContent ρ short (o .k * o .width) (part (o .at) end s) ≡ Length m
           → Checking ρ f short count s (o .width) (o .perLine) (o .many) (o .left - o .k) end (o .element + o .perLine) (o .j + 1)
       tried-next m v = checking-next ρ f short count s (o .state) (o .further) (o .k) end (o .elements) ends m v (g .right end m ends (rw columns at v)) d
+
+  -- ---- fields that are passed over: all of them, if they were seen to be formed in one look, or none
+
+  pub trying-none : Trying ρ f short l s (o .at) (o .stop) 0 (o .at + 0 * o .width)
+  trying-none = let none : o .at ≡ o .at + 0 * o .width = omega (arith, zero-mul (o .width)) in subst (Trying ρ f short l s (o .at) (o .stop) 0) none trying-start
+
+  pub trying-so-many : {i n : ℕ} → i ≡ n → Trying ρ f short l s (o .at) (o .stop) n (o .at + n * o .width) → Trying ρ f short l s (o .at) (o .stop) i (o .at + i * o .width)
+  trying-so-many e = subst (λ n. Trying ρ f short l s (o .at) (o .stop) n (o .at + n * o .width)) (sym e)
+
+  module _ (all : allFormed f short (o .at) (o .stop) s (o .k) ≡ true) where
+    up-to : (i : ℕ) → i ≤ o .k → Trying ρ f short l s (o .at) (o .stop) i (o .at + i * o .width)
+    unfolding allFormed
+    up-to zero h = trying-none
+    up-to (suc i) h =
+        let next : o .at + i * o .width + o .width ≡ o .at + suc i * o .width = omega (arith, suc-mul i (o .width)) in
+        let more : i + 1 ≡ suc i = omega arith in
+        let test : ℕ → Bool = λ j. formed (fieldOf f (asField f short (fieldPart (rowOf f .width) (o .at + j * rowOf f .width) (o .stop) s))) in
+        let field = every-between test 0 (o .k) (true-T _ all) i (omega arith) (omega arith) in
+        let good = subst (λ w. formed (fieldOf f (asField f short (fieldPart w (o .at + i * w) (o .stop) s))) ≡ true) (sym (o .state .walk .wide)) (T-true _ field) in
+        subst (λ n. Trying ρ f short l s (o .at) (o .stop) n (o .at + suc i * o .width)) more
+        (subst (Trying ρ f short l s (o .at) (o .stop) (i + 1)) next (trying-next (up-to i (omega arith)) (omega arith) good))
+
+    pub trying-all : Trying ρ f short l s (o .at) (o .stop) (o .k) (o .at + o .k * o .width)
+    trying-all = up-to (o .k) (omega arith)

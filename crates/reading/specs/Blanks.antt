@@ -4,15 +4,17 @@ use mathlib.Core.Path.{_≡_}
 use mathlib.Core.Bool.{Bool, true, cond, _&&_, _||_}
 use mathlib.Core.Logic.{_⊎_}
 use mathlib.Core.List.{List, _++_}
-use Prim.Native.Nat.{ℕ, _+_, _-_, _≤_, min}
-use lib.Dec.{eqb, leb}
+use Prim.Native.Nat.{ℕ, _+_, _-_, _*_, _≤_, min}
+use lib.Dec.{T, eqb, leb}
 use lib.ListN.{length, drop, replicate}
 use Rattle.rules.specs.declared.Rules.{Rules}
-use Rattle.base.specs.Every.{every}
+use Rattle.base.specs.Every.{every, upFrom}
 use Rattle.base.specs.Part.{part}
 use Rattle.form.specs.declared.Form.{Form}
 use Rattle.form.specs.declared.Form.the-variants.{A120, A1}
 use Rattle.form.specs.Table.{rowOf}
+use Rattle.field.specs.Read.{fieldOf, formed}
+use Rattle.run.specs.Run.{runFormed}
 use Rattle.line.specs.Lines.{reach}
 use Rattle.line.specs.Contents.{contentOf}
 use Rattle.line.specs.declared.Content.{Content}
@@ -54,10 +56,17 @@ fieldPart width column stop s = part (min column stop) (min (column + width) sto
 abbrev pub HoldsLetters : Form → Bool → Type 0
 HoldsLetters f short = short ≡ true → (f ≡ A120) ⊎ (f ≡ A1)
 
--- what may be lent as a field: the whole width, or less where lines may be short
-pub record Fits (f : Form) (short : Bool) (n : ℕ) : Type 0 where
-  pub low : shortest short (rowOf f .width) ≤ n
-  pub high : n ≤ rowOf f .width
+-- all of a line's k fields are formed, where the line begins at `at` and is looked at up to `stop`
+unfoldable pub allFormed : Form → Bool → (at stop : ℕ) → List ℕ → ℕ → Bool
+allFormed f short at stop s k = every (λ i. formed (fieldOf f (asField f short (fieldPart (rowOf f .width) (at + i * rowOf f .width) stop s)))) (upFrom 0 k)
+
+-- the content of a clean line of k fields, and room for their cells from a cell of a table on
+pub record ToPut (f : Form) (short : Bool) (k columns : ℕ) (content : List ℕ) (room cell : ℕ) : Type 0 where
+  pub letters : HoldsLetters f short
+  pub wide : columns ≡ k * rowOf f .width
+  pub long : shortest short columns ≤ length content
+  pub good : T (runFormed f k (filledTo columns content))
+  pub enough-room : cell + k * rowOf f .cells ≤ room
 
 -- ---- a line's content, if it is right; as the code asks for it (proofs/Lines.antt)
 

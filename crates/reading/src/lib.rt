@@ -1,6 +1,7 @@
 // Reading the lines of a group under its record's counts. The lines are checked first, and the table is filled only
 // when all of them are clean (R267). The text that they come from is not known here (R269).
 use count::Ruling;
+use date::Dated;
 use form::Form;
 use form::GroupForm;
 use reply::Answer;
@@ -9,8 +10,7 @@ use reply::Refusal;
 ghost use mathlib.Core.Path.{_≡_};
 ghost use mathlib.Core.Bool as Bool;
 ghost use mathlib.Core.List.{map};
-ghost use Prim.Native.Nat.{_+_, _-_, _*_, _≤_, min};
-ghost use lib.Dec.{T};
+ghost use Prim.Native.Nat.{_+_, _-_, _*_, _≤_};
 ghost use lib.IntN.{pos};
 ghost use lib.ListN.{length, drop, getD};
 ghost use Rattle.base.specs.Every.{every};
@@ -18,15 +18,21 @@ ghost use Rattle.base.specs.Part.{part, over};
 ghost use Rattle.base.specs.Pieces.{cellsGot};
 ghost use Rattle.form.specs.Table.{rowOf, formOf};
 ghost use Rattle.form.specs.Count.{cellsOf};
-ghost use Rattle.field.specs.Read.{fieldOf, formed, valueCells};
+ghost use Rattle.field.specs.Read.{fieldOf, formed};
+ghost use Rattle.run.specs.Run.{runCells};
 ghost use Rattle.count.specs.Rules.{rulingOf};
 ghost use Rattle.count.specs.Tally.{cellsIn};
 ghost use Rattle.line.specs.Lines.{reach};
-ghost use Rattle.line.specs.Contents.{contentOf};
-ghost use Rattle.reading.specs.Blanks.{blank, mayBeShort, shortest, filledTo, isRight, asField, rightContent};
-ghost use Rattle.reading.specs.Blanks.{fieldPart, fieldsSpan, Fits, HoldsLetters};
+ghost use Rattle.reading.specs.Blanks.{blank, mayBeShort, shortest, filledTo, isRight, asField};
+ghost use Rattle.reading.specs.Blanks.{fieldPart, fieldsSpan, allFormed, HoldsLetters, ToPut, rightContent};
 ghost use Rattle.reading.specs.Read.{verdictOf, misfitOf, readLines, dated, readForm, readGroup, readingOf};
-ghost use Rattle.reading.specs.Read.{tableBy};
+ghost use Rattle.reading.specs.Read.{tableBy, lettersDated, dateTold};
+
+// R333: the date of a record, if it has one.
+pub enum RecordDate {
+    Told(date::Date),
+    NoDate,
+}
 
 // ---- What a line holds.
 
@@ -120,6 +126,33 @@ fn is_field_at(
     is_field(form, short, width, &lines[from..to])
 }
 
+// Whether all fields of a line are formed, in one look. Where lines may be short, blanks that would be added print too
+// (R65); where they may not, a field that lacks a column is none.
+fn all_formed(
+    form: Form,
+    short: bool,
+    k: usize,
+    columns: usize,
+    lines: &[u8],
+    at: usize,
+    stop: usize,
+) -> bool
+    requires letters { ⌜ HoldsLetters form short ⌝ }
+    requires columns { ⌜ columns ≡ k * rowOf form .width ⌝ }
+    requires order { ⌜ at ≤ stop ⌝ }
+    requires lines { ⌜ stop ≤ length (now lines) ⌝ }
+    ensures { λ r. ⌜ r ≡ allFormed form short at stop (now (lines .entry)) k ⌝ }
+{
+    let to = at + base::lesser(columns, stop - at);
+    if short {
+        return field::all_printable(&lines[at..to]);
+    }
+    if to - at != columns {
+        return false;
+    }
+    run::formed(form, &lines[at..to], k)
+}
+
 // Where the fields of a line are looked for no further, before its end is known. A line that may be short has no length
 // of its own: its content is asked for first, and its bytes are looked at twice.
 fn fields_stop(rules: rules::Rules, short: bool, columns: usize, lines: &[u8], at: usize) -> usize
@@ -127,7 +160,7 @@ fn fields_stop(rules: rules::Rules, short: bool, columns: usize, lines: &[u8], a
     ensures { λ r. ⌜ r ≡ at + fieldsSpan rules short columns (now (lines .entry)) at ⌝ }
 {
     if short {
-        let end = line::behind_or_end(lines, at, 1);
+        let end = line::behind_line(lines, at);
         let line::Content::Length(n) = line::content_length(rules, &lines[at..end]) else {
             return at;
         };
@@ -152,7 +185,7 @@ fn misfit(
         (rightContent rules short columns
         (part at (at + reach (drop at (now (lines .entry))) 1) (now (lines .entry)))) ⌝ }
 {
-    let end = line::behind_or_end(lines, at, 1);
+    let end = line::behind_line(lines, at);
     match right_content(rules, short, columns, &lines[at..end]) {
         line::Content::Length(_) => Refusal::BadField(number, element),
         line::Content::NoReturn => Refusal::BadLine(number),
@@ -160,8 +193,9 @@ fn misfit(
 }
 
 // The first pass, as R443 has it: each line's fields, and then what stands behind them, up to the first line that is
-// bad (R263). It looks at no table. No line feed stands in fields that are formed, so the line's end is sought behind
-// them.
+// bad (R263). It looks at no table. A clean line has all of its fields formed, so the loop over fields is left for
+// lines in which there is one to blame. No line feed stands in fields that are formed, so the line's end is sought
+// behind them.
 fn check_lines(rules: rules::Rules, form: Form, short: bool, count: u16, lines: &[u8]) -> Checked
     requires { ⌜ HoldsLetters form short ⌝ }
     ensures { λ r. ⌜ r ≡ verdictOf (readLines rules form short count (now (lines .entry))) ⌝ }
@@ -177,9 +211,13 @@ fn check_lines(rules: rules::Rules, form: Form, short: bool, count: u16, lines: 
     let mut j: usize = 0;
     'lines: while j < many {
         let k = base::lesser(per_line, left);
-        let stop = fields_stop(rules, short, k * width, lines, at);
-        let mut from = at;
+        let columns = k * width;
+        let stop = fields_stop(rules, short, columns, lines, at);
         let mut i: usize = 0;
+        if all_formed(form, short, k, columns, lines, at, stop) {
+            i = k;
+        }
+        let mut from = at + i * width;
         while i < k {
             if is_field_at(form, short, width, lines, from, stop) {
                 from += width;
@@ -188,7 +226,7 @@ fn check_lines(rules: rules::Rules, form: Form, short: bool, count: u16, lines: 
                 verdict = Checked::Refused(misfit(
                     rules,
                     short,
-                    k * width,
+                    columns,
                     lines,
                     at,
                     j + 1,
@@ -197,9 +235,8 @@ fn check_lines(rules: rules::Rules, form: Form, short: bool, count: u16, lines: 
                 break 'lines;
             }
         }
-        let end = line::behind_or_end(lines, stop, 1);
-        let line::Content::Length(_) = right_content(rules, short, k * width, &lines[at..end])
-        else {
+        let end = line::behind_line(lines, stop);
+        let line::Content::Length(_) = right_content(rules, short, columns, &lines[at..end]) else {
             verdict = Checked::Refused(Refusal::BadLine(j + 1));
             break 'lines;
         };
@@ -211,18 +248,27 @@ fn check_lines(rules: rules::Rules, form: Form, short: bool, count: u16, lines: 
     verdict
 }
 
-// R140, R210: the date stands in the first line of group 3, where R123 puts 19 characters at least.
+// R140: the date stands in the first line of group 3, where R123 puts 19 characters at least.
+fn date_in(rules: rules::Rules, count: u16, lines: &[u8]) -> Dated
+    requires date { ⌜ 19 ≤ count ⌝ }
+    requires clean { ⌜ verdictOf (readLines rules Form.A1 Bool.false count (now lines)) ≡ Checked.Right ⌝ }
+    ensures { λ r. ⌜ r ≡ lettersDated (cellsGot (readLines rules Form.A1 Bool.false count (now (lines .entry)))) ⌝ }
+{
+    let n = form::elements(rules, Form::A1, count);
+    let row = form::row_of(Form::A1);
+    let k = base::lesser(row.per_line, n);
+    date::Date::new(&lines[0..k])
+}
+
+// R210: whether these letters are a date.
 fn check_date(rules: rules::Rules, count: u16, lines: &[u8]) -> Checked
     requires date { ⌜ 19 ≤ count ⌝ }
     requires clean { ⌜ verdictOf (readLines rules Form.A1 Bool.false count (now lines)) ≡ Checked.Right ⌝ }
     ensures { λ r. ⌜ r ≡ verdictOf (dated 3 (readLines rules Form.A1 Bool.false count (now (lines .entry)))) ⌝ }
 {
-    let n = form::elements(rules, Form::A1, count);
-    let row = form::row_of(Form::A1);
-    let k = base::lesser(row.per_line, n);
-    match date::Date::new(&lines[0..k]) {
-        date::Dated::Right(_) => Checked::Right,
-        date::Dated::Wrong(position) => Checked::Refused(Refusal::BadDate(position)),
+    match date_in(rules, count, lines) {
+        Dated::Right(_) => Checked::Right,
+        Dated::Wrong(position) => Checked::Refused(Refusal::BadDate(position)),
     }
 }
 
@@ -256,7 +302,7 @@ fn byte_or_blank(bytes: &[u8], i: usize) -> u8
     32
 }
 
-// Letters, and blanks behind them up to the width.
+// Letters, and blanks behind them up to so many columns.
 fn put_letters(bytes: &[u8], width: usize, table: &mut [i64], at: usize)
     requires bytes { ⌜ length (now bytes) ≤ width ⌝ }
     requires room { ⌜ at + width ≤ length (now table) ⌝ }
@@ -270,49 +316,27 @@ fn put_letters(bytes: &[u8], width: usize, table: &mut [i64], at: usize)
     }
 }
 
-// The cells of a field.
-fn put_field(form: Form, short: bool, width: usize, bytes: &[u8], table: &mut [i64], at: usize)
-    requires letters { ⌜ HoldsLetters form short ⌝ }
-    requires width { ⌜ width ≡ rowOf form .width ⌝ }
-    requires fits { ⌜ Fits form short (length (now bytes)) ⌝ }
-    requires formed { ⌜ T (formed (fieldOf form (filledTo width (now bytes)))) ⌝ }
-    requires room { ⌜ at + rowOf form .cells ≤ length (now table) ⌝ }
-    ensures { λ _. ⌜ now (table .exit) ≡
-        over at (valueCells (filledTo width (now (bytes .entry))) (fieldOf form (filledTo width (now (bytes .entry)))))
-        (now (table .entry)) ⌝ }
-{
-    if short {
-        put_letters(bytes, width, table, at);
-        return;
-    }
-    run::fill(form, bytes, 1, table, at);
-}
-
-// The same of the field in the columns from `column` on, of a line whose content ends at `stop`.
-fn put_field_at(
+// The cells of a line's fields, from its content: all of their columns, with blanks behind the last byte where the line
+// is short (R65).
+fn put_line(
     form: Form,
     short: bool,
-    width: usize,
-    lines: &[u8],
-    column: usize,
-    stop: usize,
+    k: usize,
+    columns: usize,
+    content: &[u8],
     table: &mut [i64],
-    at: usize,
+    cell: usize,
 )
-    requires letters { ⌜ HoldsLetters form short ⌝ }
-    requires lines { ⌜ stop ≤ length (now lines) ⌝ }
-    requires width { ⌜ width ≡ rowOf form .width ⌝ }
-    requires fits { ⌜ Fits form short (min (column + width) stop - min column stop) ⌝ }
-    requires formed { ⌜ T (formed (fieldOf form (filledTo width (fieldPart width column stop (now lines))))) ⌝ }
-    requires room { ⌜ at + rowOf form .cells ≤ length (now table) ⌝ }
+    requires { ⌜ ToPut form short k columns (now content) (length (now table)) cell ⌝ }
     ensures { λ _. ⌜ now (table .exit) ≡
-        over at
-        (valueCells (filledTo width (fieldPart width column stop (now (lines .entry))))
-        (fieldOf form (filledTo width (fieldPart width column stop (now (lines .entry)))))) (now (table .entry)) ⌝ }
+        over cell (runCells form k (filledTo columns (now (content .entry)))) (now (table .entry)) ⌝ }
 {
-    let from = base::lesser(column, stop);
-    let to = from + base::lesser(width, stop - from);
-    put_field(form, short, width, &lines[from..to], table, at);
+    let there = base::lesser(columns, content.len());
+    if short {
+        put_letters(&content[0..there], columns, table, cell);
+        return;
+    }
+    run::fill(form, &content[0..there], k, table, cell);
 }
 
 // R266: the second pass, the cells of lines that were found clean.
@@ -341,22 +365,17 @@ fn fill_lines(
     let mut j: usize = 0;
     while j < many {
         let k = base::lesser(per_line, left);
+        let columns = k * width;
         // no line feed stands in the columns of these fields; a line that may be short can end anywhere, so its bytes
         // are looked at twice
-        let end = line::behind_or_end(lines, at + least(short, k * width), 1);
+        let end = line::behind_line(lines, at + least(short, columns));
         // a clean line has a content, so this is never taken
         let line::Content::Length(n) = line::content_length(rules, &lines[at..end]) else {
             return;
         };
         let stop = at + n;
-        let mut from = at;
-        let mut i: usize = 0;
-        while i < k {
-            put_field_at(form, short, width, lines, from, stop, table, cell);
-            from += width;
-            cell += cells;
-            i += 1;
-        }
+        put_line(form, short, k, columns, &lines[at..stop], table, cell);
+        cell += k * cells;
         at = end;
         left -= k;
         j += 1;
@@ -447,6 +466,24 @@ pub fn check_kept(rules: rules::Rules, counts: &[u16], group: usize, lines: &[u8
         return Checked::Right;
     }
     check(rules, form::form_in(group), group, count, lines)
+}
+
+// R333: the date of a record with these counts, whose group 3 has these lines. It has one if `read_kept` reads that group
+// with 0, given room. No cell is stored.
+pub fn date_kept(rules: rules::Rules, counts: &[u16], lines: &[u8]) -> RecordDate
+    requires { ⌜ rulingOf (now counts) ≡ Ruling.Kept ⌝ }
+    ensures { λ r. ⌜ r ≡
+        dateTold
+        (readGroup rules (now (counts .entry)) 3 (now (lines .entry)) (cellsIn rules (now (counts .entry)) 3)) ⌝ }
+{
+    let count = count::count_of(counts, 3);
+    let Checked::Right = check_lines(rules, Form::A1, false, count, lines) else {
+        return RecordDate::NoDate;
+    };
+    match date_in(rules, count, lines) {
+        Dated::Right(date) => RecordDate::Told(date),
+        Dated::Wrong(_) => RecordDate::NoDate,
+    }
 }
 
 // The cells of a group that was found clean, from a cell of the table on. It gives the cell behind them.

@@ -3,7 +3,7 @@
 use mathlib.Core.Path.{_≡_, refl, sym, ap, ap₂, _∙_, subst}
 use mathlib.Core.Bool.{Bool, true, false, cond}
 use mathlib.Core.List.{List, [], _∷_, map}
-use Prim.Native.Nat.{ℕ, _+_, _*_, _-_, _≤_}
+use Prim.Native.Nat.{ℕ, _+_, _*_, _-_, _%_, _≤_}
 use native.Mathlib.Nat.{sub-zero}
 use native.Mathlib.Omega.{arith}
 use borrow.Author.Tests.{ne-eqb, leb-true}
@@ -13,7 +13,7 @@ use lib.ListN.{length}
 use Rattle.base.specs.Ascii.{printable}
 use Rattle.base.specs.Every.{every}
 use Rattle.base.specs.Part.{over}
-use Rattle.base.proofs.Choice.{and-first, T-true}
+use Rattle.base.proofs.Choice.{and-first, and-second, T-true}
 use Rattle.base.proofs.Mapped.{map-same}
 use Rattle.form.specs.Table
 use Rattle.form.specs.declared.Form.{Form}
@@ -30,7 +30,7 @@ use Rattle.run.specs.Columns.{eachPiece, allPieces, isFigure, pairs, isW
 use Rattle.run.proofs.Loops.{and-true}
 use Rattle.run.proofs.Pieces.{each-same, all-same, each-byte, all-bytes}
 use Rattle.run.proofs.ByColumns.{whole-formed, fixed-formed, power-formed}
-use Rattle.run.proofs.Cells.{whole-is, fixed-is, power-is}
+use Rattle.run.proofs.Cells.{by-sixteen, whole-is, fixed-is, power-is}
 
 -- R70, R72, R74, R80
 abbrev pub testOf : Form → List ℕ → Bool
@@ -99,8 +99,12 @@ letter-cells s cs h = h .cells ∙ map-same pos (λ b. pos (b - 0)) (λ b. ap po
 digit-cells : (s : List ℕ) → length s ≡ 1 → every isFigure s ≡ true → wholeCell s ∷ [] ≡ map (λ b. pos (b - 48)) s
 digit-cells [] l e = absurd (omega arith)
 digit-cells (b ∷ []) l e =
-    let h = leb-true 48 b (and-first (leb 48 b) (leb b 57) (and-first (isFigure b) true e)) in
-    let n : 0 * 10 + (b - 48) ≡ b - 48 = omega arith in
+    let f = and-first (isFigure b) true e in
+    let h = leb-true 48 b (and-first (leb 48 b) (leb b 57) f) in
+    let k = leb-true b 57 (and-second (leb 48 b) (leb b 57) f) in
+    let m : 48 + (b - 48) ≡ b = omega arith in
+    let d : b % 16 ≡ b - 48 = ap (λ n. n % 16) (sym m) ∙ by-sixteen (b - 48) (omega arith) in
+    let n : 0 * 10 + b % 16 ≡ b - 48 = omega (arith, d) in
     rw (ne-eqb b 45 (λ e. omega arith), n)
 digit-cells (b ∷ c ∷ s) l e = absurd (omega arith)
 

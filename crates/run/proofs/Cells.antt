@@ -3,7 +3,8 @@
 use mathlib.Core.Path.{_≡_, refl, sym, ap, ap₂, _∙_}
 use mathlib.Core.Bool.{Bool, true, false}
 use mathlib.Core.List.{List, [], _∷_, _++_, map, append-assoc}
-use Prim.Native.Nat.{ℕ, zero, suc, _+_, _*_, _-_}
+use Prim.Native.Nat.{ℕ, zero, suc, _+_, _*_, _-_, _%_, _<_}
+use native.Mathlib.Nat.{add-comm, add-mul-mod-self-right, mod-eq-of-lt}
 use native.Mathlib.Omega.{arith}
 use borrow.Author.Tests.{ne-eqb}
 use lib.Dec.{eqb}
@@ -13,39 +14,39 @@ use lib.Seq.{take-at, take-all, drop-at, getD-append-seam}
 use Rattle.base.specs.Every.{has}
 use Rattle.base.specs.Part.{part}
 use Rattle.base.specs.Sign.{ofSign}
-use Rattle.base.specs.Digits.{numberFrom, numberOf, digitText}
+use Rattle.base.specs.Digits.{AllDigits, numberFrom, numberOf, digitText}
 use Rattle.base.proofs.Digits.{number-append}
 use Rattle.base.proofs.Part.{part-middle}
 use Rattle.base.proofs.Taken.{part-zero}
 use Rattle.number.specs.Grammar.{IsI, IsF, IsE, Lead, minusOf, leadText, leadMinus, signByte}
 use Rattle.number.specs.Grammar.Lead.{nought, minusNought, bare, minus}
-use Rattle.run.specs.Columns.{numberIn, wholeCell, fixedCell, powerFirst, powerSecond}
-
-abbrev values : List ℕ → List ℕ
-values s = map (λ b. b - 48) s
+use Rattle.run.specs.Columns.{numberIn, figuresIn, columnsIn, wholeCell, fixedBy, fixedCell, powerFirst, powerSecond}
 
 -- ---- the number and the sign of columns
 
--- digits are worth themselves, and none of them is a minus
-text-values : (ds : List ℕ) → values (digitText ds) ≡ ds
-text-values [] = refl
-text-values (d ∷ ds) = let e : 48 + d - 48 ≡ d = omega arith in ap₂ _∷_ e (text-values ds)
+-- columns that are digits are worth these, by whatever counts a digit for itself
+text-values : (worth : ℕ → ℕ) → ((d : ℕ) → d < 10 → worth (48 + d) ≡ d) → (ds : List ℕ) → AllDigits ds → map worth (digitText ds) ≡ ds
+text-values worth w [] each = refl
+text-values worth w (d ∷ ds) each = ap₂ _∷_ (w d (each .0)) (text-values worth w ds (each .1))
 
-pub text-number : (ds : List ℕ) → numberIn (digitText ds) ≡ numberOf ds
-text-number ds = ap numberOf (text-values ds)
+text-number : (ds : List ℕ) → AllDigits ds → numberIn (digitText ds) ≡ numberOf ds
+text-number ds each = ap numberOf (text-values (λ b. b - 48) (λ d h. omega arith) ds each)
 
+pub by-sixteen : (d : ℕ) → d < 10 → (48 + d) % 16 ≡ d
+by-sixteen d h = ap (λ n. n % 16) (add-comm 48 d) ∙ add-mul-mod-self-right d 3 16 ∙ mod-eq-of-lt (omega arith)
+
+text-digits : (ds : List ℕ) → AllDigits ds → figuresIn (digitText ds) ≡ numberOf ds
+text-digits ds each = ap numberOf (text-values (λ b. b % 16) by-sixteen ds each)
+
+-- none of them is a minus
 text-minus : (ds : List ℕ) → has (digitText ds) 45 ≡ false
 text-minus [] = refl
 text-minus (d ∷ ds) = rw (ne-eqb (48 + d) 45 (λ e. omega arith)) (text-minus ds)
 
--- blanks and a minus are worth nothing
-blanks-number : (k : ℕ) (t : List ℕ) → numberIn (replicate k 32 ++ t) ≡ numberIn t
-blanks-number zero t = refl
-blanks-number (suc k) t = blanks-number k t
-
-minus-number : (g : Bool) (t : List ℕ) → numberIn (minusOf g ++ t) ≡ numberIn t
-minus-number true t = refl
-minus-number false t = refl
+-- blanks are worth nothing, and nor is a minus
+blanks-worth : (worth : ℕ → ℕ) → worth 32 ≡ 0 → (k : ℕ) (t : List ℕ) → numberOf (map worth (replicate k 32 ++ t)) ≡ numberOf (map worth t)
+blanks-worth worth w zero t = refl
+blanks-worth worth w (suc k) t = ap (λ n. numberFrom (0 * 10 + n) (map worth (replicate k 32 ++ t))) w ∙ blanks-worth worth w k t
 
 blanks-minus : (k : ℕ) (t : List ℕ) → has (replicate k 32 ++ t) 45 ≡ has t 45
 blanks-minus zero t = refl
@@ -56,18 +57,19 @@ minus-minus true ds = refl
 minus-minus false ds = text-minus ds
 
 -- columns as the grammar has them
-pub columns-number : (k : ℕ) (g : Bool) (ds : List ℕ) → numberIn (replicate k 32 ++ (minusOf g ++ digitText ds)) ≡ numberOf ds
-columns-number k g ds = blanks-number k (minusOf g ++ digitText ds) ∙ minus-number g (digitText ds) ∙ text-number ds
+columns-number : (k : ℕ) (g : Bool) (ds : List ℕ) → AllDigits ds → columnsIn g (replicate k 32 ++ (minusOf g ++ digitText ds)) ≡ numberOf ds
+columns-number k true ds each = blanks-worth (λ b. b - 48) refl k (45 ∷ digitText ds) ∙ text-number ds each
+columns-number k false ds each = blanks-worth (λ b. b % 16) refl k (digitText ds) ∙ text-digits ds each
 
-pub columns-minus : (k : ℕ) (g : Bool) (ds : List ℕ) → has (replicate k 32 ++ (minusOf g ++ digitText ds)) 45 ≡ g
+columns-minus : (k : ℕ) (g : Bool) (ds : List ℕ) → has (replicate k 32 ++ (minusOf g ++ digitText ds)) 45 ≡ g
 columns-minus k g ds = blanks-minus k (minusOf g ++ digitText ds) ∙ minus-minus g ds
 
 -- ---- I
 
 pub whole-is : (s : List ℕ) (z : ℤ) → IsI s z → z ≡ wholeCell s
 whole-is s z i =
-    i .value
-    ∙ sym (ap wholeCell (i .text) ∙ ap₂ ofSign (columns-minus (i .blanks) (i .minus) (i .digits)) (columns-number (i .blanks) (i .minus) (i .digits)))
+    let g = columns-minus (i .blanks) (i .minus) (i .digits) in
+    i .value ∙ sym (ap wholeCell (i .text) ∙ rw g (ap (ofSign (i .minus)) (columns-number (i .blanks) (i .minus) (i .digits) (i .each))))
 
 -- ---- parts of a text that is written in pieces
 
@@ -91,13 +93,13 @@ thousands m (a ∷ b ∷ []) e = absurd (omega arith)
 thousands m (a ∷ b ∷ c ∷ []) e = omega arith
 thousands m (a ∷ b ∷ c ∷ d ∷ ds) e = absurd (omega arith)
 
-fixed-parts : (h t : List ℕ) → length t ≡ 3 → fixedCell (h ++ (46 ∷ t)) ≡ ofSign (has h 45) (numberIn h * 1000 + numberIn t)
+fixed-parts : (h t : List ℕ) → length t ≡ 3 → fixedCell (h ++ (46 ∷ t)) ≡ fixedBy h t
 fixed-parts h t e =
     let s = h ++ (46 ∷ t) in
     let l = length-append h (46 ∷ t) in
     let a : s ≡ (h ++ (46 ∷ [])) ++ t = sym (append-assoc h (46 ∷ []) t) in
     let n : length (h ++ (46 ∷ [])) ≡ length s - 3 = length-append h (46 ∷ []) ∙ omega arith in
-    ap₂ (λ x y. ofSign (has x 45) (numberIn x * 1000 + numberIn y))
+    ap₂ fixedBy
     (begin-part h (46 ∷ t) (length s - 4) (omega arith))
     (ap (λ u. part (length s - 3) (length u) u) a ∙ end-part (h ++ (46 ∷ [])) t (length s - 3) n)
 
@@ -113,8 +115,8 @@ fixed-is s z i =
     ∙ ap (ofSign (i .minus)) (number-append 0 (i .units) (i .thousandths) ∙ thousands (numberOf (i .units)) (i .thousandths) (i .three))
     ∙ sym
     (ap fixedCell a ∙ fixed-parts head ts n
-    ∙ ap₂ ofSign (columns-minus (i .blanks) (i .minus) (i .units))
-    (ap₂ (λ m n. m * 1000 + n) (columns-number (i .blanks) (i .minus) (i .units)) (text-number (i .thousandths))))
+    ∙ ap (λ g. ofSign g (columnsIn g head * 1000 + figuresIn ts)) (columns-minus (i .blanks) (i .minus) (i .units))
+    ∙ ap (ofSign (i .minus)) (ap₂ (λ m n. m * 1000 + n) (columns-number (i .blanks) (i .minus) (i .units) (i .each)) (text-digits (i .thousandths) (i .every))))
 
 -- ---- E
 
@@ -132,9 +134,9 @@ module _ (c d : ℕ) (head ds xs : List ℕ) (g : ℕ) (l : length head ≡ c) (
   abbrev text : List ℕ
   text = head ++ (46 ∷ (ds ++ (69 ∷ g ∷ xs)))
 
-  first-parts : powerFirst c d text ≡ ofSign (has head 45) (numberIn ds)
+  first-parts : powerFirst c d text ≡ ofSign (has head 45) (figuresIn ds)
   first-parts =
-      ap₂ (λ x y. ofSign (has x 45) (numberIn y))
+      ap₂ (λ x y. ofSign (has x 45) (figuresIn y))
       (begin-part head (46 ∷ (ds ++ (69 ∷ g ∷ xs))) c l)
       (ap (part (c + 1) (c + 1 + d)) (sym (append-assoc head (46 ∷ []) (ds ++ (69 ∷ g ∷ xs))))
       ∙ middle-part (head ++ (46 ∷ [])) ds (69 ∷ g ∷ xs) (c + 1) (c + 1 + d) (length-append head (46 ∷ []) ∙ omega arith) (omega arith))
@@ -149,10 +151,10 @@ module _ (c d : ℕ) (head ds xs : List ℕ) (g : ℕ) (l : length head ≡ c) (
   text-sign : text ≡ before-sign ++ (g ∷ xs)
   text-sign = sym (append-assoc head (46 ∷ (ds ++ (69 ∷ []))) (g ∷ xs) ∙ ap (λ r. head ++ (46 ∷ r)) (append-assoc ds (69 ∷ []) (g ∷ xs)))
 
-  second-parts : powerSecond c d text ≡ ofSign (eqb g 45) (numberIn xs)
+  second-parts : powerSecond c d text ≡ ofSign (eqb g 45) (figuresIn xs)
   second-parts =
       ap (powerSecond c d) text-sign
-      ∙ ap₂ (λ x y. ofSign (eqb x 45) (numberIn y))
+      ∙ ap₂ (λ x y. ofSign (eqb x 45) (figuresIn y))
       (ap (λ i. getD (before-sign ++ (g ∷ xs)) i 0) (sym before-length) ∙ getD-append-seam before-sign g xs 0)
       (ap (λ u. part (c + 3 + d) (length u) u) (sym (append-assoc before-sign (g ∷ []) xs))
       ∙ end-part (before-sign ++ (g ∷ [])) xs (c + 3 + d) (length-append before-sign (g ∷ []) ∙ omega (arith, before-length)))
@@ -166,7 +168,7 @@ power-is c d x s m e i =
     let g = signByte (r .down) in
     let n : length ds ≡ d = length-map (r .digits) (λ d. 48 + d) ∙ r .many in (
       r .first
-          ∙ sym (ap (powerFirst c d) (r .text) ∙ first-parts c d head ds xs g (i .columns) n ∙ ap₂ ofSign (lead-minus (i .blanks) (i .lead)) (text-number (r .digits))),
+          ∙ sym (ap (powerFirst c d) (r .text) ∙ first-parts c d head ds xs g (i .columns) n ∙ ap₂ ofSign (lead-minus (i .blanks) (i .lead)) (text-digits (r .digits) (r .each))),
       r .second
-          ∙ sym (ap (powerSecond c d) (r .text) ∙ second-parts c d head ds xs g (i .columns) n ∙ ap₂ ofSign (sign-minus (r .down)) (text-number (r .exponent))),
+          ∙ sym (ap (powerSecond c d) (r .text) ∙ second-parts c d head ds xs g (i .columns) n ∙ ap₂ ofSign (sign-minus (r .down)) (text-digits (r .exponent) (r .every))),
     )

@@ -11,7 +11,8 @@ use lib.Dec.{eqb, lit<}
 use lib.ListN.{length, drop, getD, drop-of-length-le, length-drop}
 use lib.Seq.{drop-cons}
 use Rattle.base.specs.Every.{every, has}
-use Rattle.base.specs.Digits.{numberFrom}
+use Rattle.base.specs.Digits.{numberFrom, numberOf}
+use Rattle.base.proofs.Taken.{drop-none}
 use Rattle.run.specs.Columns.{goesOn, pairs}
 
 pub and-assoc : (a b c : Bool) → ((a && b) && c) ≡ (a && (b && c))
@@ -81,16 +82,35 @@ pairs-done s i h = sym (few-pairs (drop (i - 1) s) (omega (arith, length-drop (i
 
 -- ---- a number's digits
 
--- no byte is above 255, so a number that began with 0 is below 23 times a power of ten
-pub number-more : (s : List ℕ) (i n : ℕ) → i < length s → numberFrom (n * 10 + (getD s i 0 - 48)) (map (λ b. b - 48) (drop (i + 1) s)) ≡ numberFrom n (map (λ b. b - 48) (drop i s))
-number-more s i n h = rw (add-one i, drop-cons s i 0 h)
+-- no byte is above 255, so a number that began with 0 is below 24 times a power of ten, and 12 columns have room
+room-more : (i n d : ℕ) → d < 208 → n + 24 ≤ 24 * 10 ^ i → n * 10 + d + 24 ≤ 24 * 10 ^ (i + 1)
+room-more i n d h r = rw (add-one i, pow-suc 10 i) (omega arith)
 
-pub number-done : (s : List ℕ) (i n : ℕ) → length s ≤ i → numberFrom n (map (λ b. b - 48) (drop i s)) ≡ n
-number-done s i n h = rw (drop-of-length-le s h)
-
--- room for a digit more, and for all that 12 columns hold
-pub room-more : (i n b : ℕ) → b < 256 → n + 24 ≤ 24 * 10 ^ i → n * 10 + (b - 48) + 24 ≤ 24 * 10 ^ (i + 1)
-room-more i n b h r = rw (add-one i, pow-suc 10 i) (omega arith)
-
-pub room-all : (i n : ℕ) → i ≤ 12 → n + 24 ≤ 24 * 10 ^ i → n < 2 ^ 48
+room-all : (i n : ℕ) → i ≤ 12 → n + 24 ≤ 24 * 10 ^ i → n < 2 ^ 48
 room-all i n h r = let p = pow-le-pow-right {n = 10} (lit< tt) {i = i} {j = 12} h in omega arith
+
+-- the columns before column i made n, each of them as much as it is worth; those from i on, behind it, make the whole number
+pub record Summing (worth : ℕ → ℕ) (s : List ℕ) (n i : ℕ) : Type 0 where
+  pub within : i ≤ length s
+  pub rest : numberFrom n (map worth (drop i s)) ≡ numberOf (map worth s)
+  pub room : n + 24 ≤ 24 * 10 ^ i
+
+pub summing-none : (worth : ℕ → ℕ) (s : List ℕ) → Summing worth s 0 0
+summing-none worth s = record { within = omega arith; rest = ap (λ x. numberFrom 0 (map worth x)) (drop-none s); room = omega arith }
+
+module _ {worth : ℕ → ℕ} {s : List ℕ} {n i : ℕ} (t : Summing worth s n i) (few : length s ≤ 12) where
+  pub summing-small : n < 2 ^ 48
+  summing-small = room-all i n (omega (arith, t .within)) (t .room)
+
+  pub summing-more : i < length s → {d : ℕ} → d ≡ worth (getD s i 0) → d < 208 → Summing worth s (n * 10 + d) (i + 1)
+  summing-more h {d} e small = record {
+    within = omega arith;
+    rest = ap (λ d. numberFrom (n * 10 + d) (map worth (drop (i + 1) s))) e ∙ next ∙ t .rest;
+    room = room-more i n d small (t .room);
+  }
+    where
+      next : numberFrom (n * 10 + worth (getD s i 0)) (map worth (drop (i + 1) s)) ≡ numberFrom n (map worth (drop i s))
+      next = rw (add-one i, drop-cons s i 0 h)
+
+  pub summing-all : length s ≤ i → (n ≡ numberOf (map worth s)) × (n < 2 ^ 48)
+  summing-all h = (ap (λ x. numberFrom n (map worth x)) (sym (drop-of-length-le s h)) ∙ t .rest, summing-small)

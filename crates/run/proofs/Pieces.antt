@@ -40,12 +40,12 @@ piece-within w k i a n l e h = let m = mul-le-mul-right w h in omega (arith, suc
 pub piece-long : (w k i a : ℕ) (s : List ℕ) → length s ≡ k * w → a ≡ i * w → i < k → length (part a (a + w) s) ≡ w
 piece-long w k i a s l e h = part-length s a w (piece-within w k i a (length s) l e h)
 
-columns-long : (w k i : ℕ) (s : List ℕ) → length s ≡ k * w → i < k → length (columnsAt w s i) ≡ w
+pub columns-long : (w k i : ℕ) (s : List ℕ) → length s ≡ k * w → i < k → length (columnsAt w s i) ≡ w
 columns-long w k i s l h = ap length (sym (columns-lent w i (i * w) s refl)) ∙ piece-long w k i (i * w) s l refl h
 
 -- ---- by another test, by other cells
 
-every-same : (f g : ℕ → Bool) (b n : ℕ) → ((i : ℕ) → b ≤ i → i < b + n → f i ≡ g i) → every f (upFrom b n) ≡ every g (upFrom b n)
+pub every-same : (f g : ℕ → Bool) (b n : ℕ) → ((i : ℕ) → b ≤ i → i < b + n → f i ≡ g i) → every f (upFrom b n) ≡ every g (upFrom b n)
 unfolding upFrom
 every-same f g b zero e = refl
 every-same f g b (suc n) e = ap₂ _&&_ (e b (omega arith) (omega arith)) (every-same f g (suc b) n (λ i l h. e i (omega arith) (omega arith)))

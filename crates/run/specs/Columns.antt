@@ -1,8 +1,8 @@
 -- Columns as they are tested and summed, each by itself and beside the next one: no state goes from column to column. What passes is what
 -- `number` reads (proofs/ByColumns.antt), and of what passes the sums are its cells (proofs/Cells.antt), over every width.
-use mathlib.Core.Bool.{Bool, true, _&&_, _||_}
+use mathlib.Core.Bool.{Bool, true, cond, _&&_, _||_}
 use mathlib.Core.List.{List, [], _∷_, map, flatMap}
-use Prim.Native.Nat.{ℕ, suc, _+_, _*_, _-_}
+use Prim.Native.Nat.{ℕ, suc, _+_, _*_, _-_, _%_}
 use lib.Dec.{leb, eqb}
 use lib.IntN.{ℤ}
 use lib.ListN.{length, getD}
@@ -68,29 +68,36 @@ isPower c d s =
     && (isSign (getD s (c + 2 + d) 0)
     && (isLeading (part 0 c s) && (every isFigure (part (c + 1) (c + 1 + d) s) && every isFigure (part (c + 3 + d) (length s) s)))))
 
--- ---- filling
+-- ---- filling: the sums as they are made
 
 -- R71: the number that columns make, in which a blank and a minus count nothing (their codes are below that of `0`)
 abbrev pub numberIn : List ℕ → ℕ
 numberIn s = numberOf (map (λ b. b - 48) s)
 
-abbrev pub signedIn : List ℕ → ℕ → ℤ
-signedIn s n = ofSign (has s 45) n
+-- the same of columns without a minus: what a blank's code and a digit's leave by 16 is what they count
+abbrev pub figuresIn : List ℕ → ℕ
+figuresIn s = numberOf (map (λ b. b % 16) s)
+
+-- columns of a number, told whether a minus is among them
+abbrev pub columnsIn : Bool → List ℕ → ℕ
+columnsIn minus s = cond minus (numberIn s) (figuresIn s)
 
 abbrev pub wholeCell : List ℕ → ℤ
-wholeCell s = signedIn s (numberIn s)
+wholeCell s = ofSign (has s 45) (columnsIn (has s 45) s)
 
 -- R73: thousandths
+abbrev pub fixedBy : List ℕ → List ℕ → ℤ
+fixedBy head tail = ofSign (has head 45) (columnsIn (has head 45) head * 1000 + figuresIn tail)
+
 abbrev pub fixedCell : List ℕ → ℤ
-fixedCell s =
-    signedIn (part 0 (length s - 4) s) (numberIn (part 0 (length s - 4) s) * 1000 + numberIn (part (length s - 3) (length s) s))
+fixedCell s = fixedBy (part 0 (length s - 4) s) (part (length s - 3) (length s) s)
 
 -- R77: the digits and the exponent, each with its sign
 abbrev pub powerFirst : ℕ → ℕ → List ℕ → ℤ
-powerFirst c d s = signedIn (part 0 c s) (numberIn (part (c + 1) (c + 1 + d) s))
+powerFirst c d s = ofSign (has (part 0 c s) 45) (figuresIn (part (c + 1) (c + 1 + d) s))
 
 abbrev pub powerSecond : ℕ → ℕ → List ℕ → ℤ
-powerSecond c d s = ofSign (eqb (getD s (c + 2 + d) 0) 45) (numberIn (part (c + 3 + d) (length s) s))
+powerSecond c d s = ofSign (eqb (getD s (c + 2 + d) 0) 45) (figuresIn (part (c + 3 + d) (length s) s))
 
 -- ---- pieces of w columns each, one behind the other
 

@@ -13,8 +13,9 @@ ghost use Rattle.base.specs.Part.{over};
 ghost use Rattle.form.specs.Table.{rowOf};
 ghost use Rattle.run.specs.Run.{runFormed, runCells};
 ghost use Rattle.run.specs.Columns.{between, isFigure, goesOn, pairs, isColumn, isLead, isSign, isWholeField, isHead};
-ghost use Rattle.run.specs.Columns.{isFixed, isLeading, isPower, numberIn, wholeCell, fixedCell};
-ghost use Rattle.run.specs.Columns.{powerFirst, powerSecond, eachPiece, allPieces};
+ghost use Rattle.run.specs.Columns.{isFixed, isLeading, isPower, numberIn, figuresIn, columnsIn};
+ghost use Rattle.run.specs.Columns.{wholeCell, fixedCell, powerFirst, powerSecond};
+ghost use Rattle.run.specs.Columns.{eachPiece, allPieces};
 
 // ---- Testing, without making a value.
 
@@ -246,6 +247,21 @@ fn number_in(s: &[u8]) -> u64
     n
 }
 
+// The same of columns without a minus, which alone leaves by 16 what it does not count: so no column is tested.
+fn figures_in(s: &[u8]) -> u64
+    requires { ⌜ length (now s) ≤ 12 ⌝ }
+    ensures number { λ r. ⌜ r ≡ figuresIn (now (s .entry)) ⌝ }
+    ensures small { λ r. ⌜ r < 2 ^ 48 ⌝ }
+{
+    let mut n: u64 = 0;
+    let mut i = 0;
+    while i < s.len() {
+        n = n * 10 + (s[i] % 16) as u64;
+        i += 1;
+    }
+    n
+}
+
 // Whether a minus stands in the columns before a number's digits.
 fn has_minus(s: &[u8]) -> bool
     ensures { λ r. ⌜ r ≡ has (now (s .entry)) 45 ⌝ }
@@ -259,12 +275,25 @@ fn has_minus(s: &[u8]) -> bool
     minus
 }
 
+// The quick sum where it may be had: most numbers have no minus.
+fn columns_in(s: &[u8], minus: bool) -> u64
+    requires { ⌜ length (now s) ≤ 12 ⌝ }
+    ensures number { λ r. ⌜ r ≡ columnsIn minus (now (s .entry)) ⌝ }
+    ensures small { λ r. ⌜ r < 2 ^ 48 ⌝ }
+{
+    if minus {
+        return number_in(s);
+    }
+    figures_in(s)
+}
+
 // R71: the cell of an I field.
 fn whole_cell(s: &[u8]) -> i64
     requires { ⌜ length (now s) ≤ 12 ⌝ }
     ensures { λ r. ⌜ r ≡ wholeCell (now (s .entry)) ⌝ }
 {
-    number::cell(has_minus(s), number_in(s))
+    let minus = has_minus(s);
+    number::cell(minus, columns_in(s, minus))
 }
 
 // R73: the cell of an F field, in thousandths.
@@ -276,10 +305,8 @@ fn fixed_cell(s: &[u8]) -> i64
     let p = n - 4;
     let q = n - 3;
     let head = &s[0..p];
-    number::cell(
-        has_minus(head),
-        number_in(head) * 1000 + number_in(&s[q..n]),
-    )
+    let minus = has_minus(head);
+    number::cell(minus, columns_in(head, minus) * 1000 + figures_in(&s[q..n]))
 }
 
 // R77: the two cells of an E field.
@@ -295,8 +322,8 @@ fn put_power(s: &[u8], c: usize, d: usize, x: usize, table: &mut [i64], at: usiz
     let e = c + 1 + d;
     let g = c + 2 + d;
     let h = c + 3 + d;
-    table[at] = number::cell(has_minus(&s[0..c]), number_in(&s[f..e]));
-    table[at + 1] = number::cell(s[g] == b'-', number_in(&s[h..n]));
+    table[at] = number::cell(has_minus(&s[0..c]), figures_in(&s[f..e]));
+    table[at + 1] = number::cell(s[g] == b'-', figures_in(&s[h..n]));
 }
 
 fn fill_whole(fields: &[u8], k: usize, w: usize, table: &mut [i64], cell: usize)

@@ -12,11 +12,11 @@ use Rattle.reading.proofs.fields_stop.Statement.{statement}
 use Rattle.reading.proofs.fields_stop.Tie as tie
 
 -- the line stands in the lines
-inside : (c : tie.After-behind-or-end) → (let a = c .before .before .before .args in (a .at ≤ c .behind-or-end .result) × (c .behind-or-end .result ≤ length (a .lines .now)))
+inside : (c : tie.After-behind-line) → (let a = c .before .before .before .args in (a .at ≤ c .behind-line .result) × (c .behind-line .result ≤ length (a .lines .now)))
 inside c =
     let o = c .before .before .before in
     let r = line-range (o .args .rules) (o .args .lines .now) (o .args .at) (o .pre) in
-    (omega (arith, c .behind-or-end .ensures), omega (arith, r .1, c .behind-or-end .ensures))
+    (omega (arith, c .behind-line .ensures), omega (arith, r .1, c .behind-line .ensures))
 
 sub-content-length : tie.Need-sub-content-length
 sub-content-length c = let r = inside c in search needs
@@ -32,7 +32,7 @@ returns c =
     let o = c .before .before .before .before .before .before .before in
     span-none (o .args .rules) (o .args .short) (o .args .columns) (o .args .lines .now) (o .args .at) (o .pre)
     (c .before .before .before .before .before .if1 .taken)
-    (ap (λ x. contentOf (o .args .rules) (part (o .args .at) x (o .args .lines .now))) (sym (c .before .before .before .before .behind-or-end .ensures))
+    (ap (λ x. contentOf (o .args .rules) (part (o .args .at) x (o .args .lines .now))) (sym (c .before .before .before .before .behind-line .ensures))
     ∙ sym (c .before .before .content-length .ensures) ∙ c .enum-told .given .1)
 
 add-result : tie.Need-add-result
@@ -41,7 +41,7 @@ add-result c =
     omega (
       arith,
       content-fits (o .args .rules) (o .args .lines .now) (o .args .at) (o .pre) (c .before .n .given .0 .0)
-          (ap (λ x. contentOf (o .args .rules) (part (o .args .at) x (o .args .lines .now))) (sym (c .before .before .before .before .before .behind-or-end .ensures))
+          (ap (λ x. contentOf (o .args .rules) (part (o .args .at) x (o .args .lines .now))) (sym (c .before .before .before .before .before .behind-line .ensures))
           ∙ sym (c .before .before .before .content-length .ensures) ∙ c .before .n .given .1),
     )
 
@@ -50,7 +50,7 @@ returns-2 c =
     let o = c .before .before .before .before .before .before .before .before in
     span-content (o .args .rules) (o .args .short) (o .args .columns) (o .args .lines .now) (o .args .at) (o .pre)
     (c .before .before .before .before .before .before .if1 .taken) (c .before .n .given .0 .0)
-    (ap (λ x. contentOf (o .args .rules) (part (o .args .at) x (o .args .lines .now))) (sym (c .before .before .before .before .before .behind-or-end .ensures))
+    (ap (λ x. contentOf (o .args .rules) (part (o .args .at) x (o .args .lines .now))) (sym (c .before .before .before .before .before .behind-line .ensures))
     ∙ sym (c .before .before .before .content-length .ensures) ∙ c .before .n .given .1)
 
 add-result-2 : tie.Need-add-result-2

@@ -8,7 +8,7 @@ use Rattle.form.specs.Table.{rowOf}
 use Rattle.field.specs.Read.{fieldOf, formed}
 use Rattle.reading.specs.Blanks.{asField}
 use Rattle.reading.proofs.Blanks.{short-field}
-use Rattle.reading.proofs.One.{other-width, one-formed}
+use Rattle.reading.proofs.Runs.{other-width, one-formed}
 use Rattle.reading.proofs.is_field.Statement.{statement}
 use Rattle.reading.proofs.is_field.Tie as tie
 

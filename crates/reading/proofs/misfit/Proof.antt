@@ -13,11 +13,11 @@ use Rattle.reading.proofs.misfit.Statement.{statement}
 use Rattle.reading.proofs.misfit.Tie as tie
 
 -- the line stands in the lines
-inside : (c : tie.After-behind-or-end) → (let a = c .before .before .args in (a .at ≤ c .behind-or-end .result) × (c .behind-or-end .result ≤ length (a .lines .now)))
+inside : (c : tie.After-behind-line) → (let a = c .before .before .args in (a .at ≤ c .behind-line .result) × (c .behind-line .result ≤ length (a .lines .now)))
 inside c =
     let o = c .before .before in
     let r = line-range (o .args .rules) (o .args .lines .now) (o .args .at) (o .pre) in
-    (omega (arith, c .behind-or-end .ensures), omega (arith, r .1, c .behind-or-end .ensures))
+    (omega (arith, c .behind-line .ensures), omega (arith, r .1, c .behind-line .ensures))
 
 sub-right-content : tie.Need-sub-right-content
 sub-right-content c = let r = inside c in search needs
@@ -32,14 +32,14 @@ returns : tie.Need-returns
 returns c =
     let o = c .before .before .before .before .before .before in
     sym (ap (misfitOf (o .args .number) (o .args .element))
-    (ap (λ x. rightContent (o .args .rules) (o .args .short) (o .args .columns) (part (o .args .at) x (o .args .lines .now))) (sym (c .before .before .before .before .behind-or-end .ensures))
+    (ap (λ x. rightContent (o .args .rules) (o .args .short) (o .args .columns) (part (o .args .at) x (o .args .lines .now))) (sym (c .before .before .before .before .behind-line .ensures))
     ∙ sym (c .before .before .right-content .ensures) ∙ c .enum-told .given .1))
 
 returns-2 : tie.Need-returns-2
 returns-2 c =
     let o = c .before .before .before .before .before .before in
     sym (ap (misfitOf (o .args .number) (o .args .element))
-    (ap (λ x. rightContent (o .args .rules) (o .args .short) (o .args .columns) (part (o .args .at) x (o .args .lines .now))) (sym (c .before .before .before .before .behind-or-end .ensures))
+    (ap (λ x. rightContent (o .args .rules) (o .args .short) (o .args .columns) (part (o .args .at) x (o .args .lines .now))) (sym (c .before .before .before .before .behind-line .ensures))
     ∙ sym (c .before .before .right-content .ensures) ∙ c .enum-told2 .given .1))
 
 pub misfit-spec : {M : Type 1} → statement M

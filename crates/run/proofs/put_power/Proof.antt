@@ -27,8 +27,8 @@ returns c =
     let e = powerSecond (a .c) (a .d) s in
     let u =
     toZ-ofZ (sfits-of {w = w64} (calls .cell .ok)) ∙ calls .cell .ensures
-    ∙ ap₂ ofSign (calls .before .before .before .has-minus .ensures) (calls .before .number-in .ensures .0) in
-    let v = toZ-ofZ (sfits-of {w = w64} (c .cell2 .ok)) ∙ c .cell2 .ensures ∙ ap (ofSign (eqb (getD s (a .c + 2 + a .d) 0) 45)) (c .before .number-in2 .ensures .0) in
+    ∙ ap₂ ofSign (calls .before .before .before .has-minus .ensures) (calls .before .figures-in .ensures .0) in
+    let v = toZ-ofZ (sfits-of {w = w64} (c .cell2 .ok)) ∙ c .cell2 .ensures ∙ ap (ofSign (eqb (getD s (a .c + 2 + a .d) 0) 45)) (c .before .figures-in2 .ensures .0) in
     rw (u, v)
     (over-then xs (m ∷ []) (e ∷ []) (a .at) (a .at + 1) (omega arith, omega arith) (over-one xs (a .at) m (omega arith))
     (over-one (set xs (a .at) m) (a .at + 1) e (simp length-set (omega arith))))
