@@ -7,7 +7,8 @@ ghost use mathlib.Core.Path.{_≡_};
 ghost use Prim.Native.Nat.{_<_, _≤_};
 ghost use lib.ListN.{length};
 ghost use Rattle.place.specs.Placing.{carried};
-ghost use Rattle.whole.specs.Whole.{Parted, groupBy};
+ghost use Rattle.place.specs.Parted.{Parted};
+ghost use Rattle.whole.specs.Whole.{groupBy};
 ghost use Rattle.salvaging.specs.Numbered.{stretchReply};
 ghost use Rattle.salvaging.specs.Pieces.{pieceAt};
 ghost use Rattle.salvaging.specs.Stretch.{isRead, areRead, isSound, stretchEnd, stretchOf};
@@ -97,7 +98,7 @@ fn end_from(rules: rules::Rules, text: &[u8], from: usize) -> usize
 {
     let mut at = from;
     while at < text.len() {
-        at = line::behind_or_end(text, at, 1);
+        at = line::behind_line(text, at);
         if is_sound(rules, text, at) {
             return at;
         }

@@ -22,20 +22,20 @@ returns : tie.Need-returns Inv-loop μ-loop
 returns c =
     let in-loop = c .before .before .before in
     let a = in-loop .before .before .before .args in
-    seeking-found (a .rules) (a .text .now) (a .from) (in-loop .before .loop .inv) (in-loop .loop-test .taken) (c .before .before .behind-or-end .ensures)
+    seeking-found (a .rules) (a .text .now) (a .from) (in-loop .before .loop .inv) (in-loop .loop-test .taken) (c .before .before .behind-line .ensures)
     (sym (c .before .is-sound .ensures) ∙ c .if1 .taken)
 
 loop-less : tie.Need-loop-less Inv-loop μ-loop
 loop-less c =
     let in-loop = c .before .before .before in
     let a = in-loop .before .before .before .args in
-    omega (arith, seeking-further (a .rules) (a .text .now) (a .from) (in-loop .before .loop .inv) (in-loop .loop-test .taken) (c .before .before .behind-or-end .ensures) .0)
+    omega (arith, seeking-further (a .rules) (a .text .now) (a .from) (in-loop .before .loop .inv) (in-loop .loop-test .taken) (c .before .before .behind-line .ensures) .0)
 
 loop-again : tie.Need-loop-again Inv-loop μ-loop
 loop-again c =
     let in-loop = c .before .before .before in
     let a = in-loop .before .before .before .args in
-    seeking-more (a .rules) (a .text .now) (a .from) (in-loop .before .loop .inv) (in-loop .loop-test .taken) (c .before .before .behind-or-end .ensures)
+    seeking-more (a .rules) (a .text .now) (a .from) (in-loop .before .loop .inv) (in-loop .loop-test .taken) (c .before .before .behind-line .ensures)
     (sym (c .before .is-sound .ensures) ∙ c .if1 .left)
 
 returns-2 : tie.Need-returns-2 Inv-loop μ-loop

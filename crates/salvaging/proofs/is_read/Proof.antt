@@ -5,7 +5,7 @@ use mathlib.Core.Path.{sym, _∙_}
 use Rattle.place.specs.Placing.{carried}
 use Rattle.reading.specs.Read.{Cells}
 use Rattle.whole.specs.Whole.{groupBy}
-use Rattle.whole.proofs.Passes.{named}
+use Rattle.place.proofs.Parted.{named}
 use Rattle.salvaging.proofs.Trying.{read-right, read-refused}
 use Rattle.salvaging.proofs.is_read.Statement.{statement}
 use Rattle.salvaging.proofs.is_read.Tie as tie

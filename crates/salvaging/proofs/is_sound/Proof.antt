@@ -3,8 +3,8 @@
 use borrow.Author.Needs.{needs}
 use mathlib.Core.Path.{_≡_, refl, sym, _∙_, subst}
 use Rattle.place.specs.Placing.{carriedBy, carriedAt}
-use Rattle.whole.specs.Whole.{Parted}
-use Rattle.whole.proofs.Placed.{parted-at}
+use Rattle.place.specs.Parted.{Parted}
+use Rattle.place.proofs.Parted.{parted-at}
 use Rattle.salvaging.proofs.Trying.{sound-unplaced, sound-placed}
 use Rattle.salvaging.proofs.is_sound.Statement.{statement}
 use Rattle.salvaging.proofs.is_sound.Tie as tie
