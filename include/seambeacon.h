@@ -253,6 +253,16 @@ enum seambeacon_reply seambeacon_first_from(uint32_t rules, const uint8_t *text,
                                             const struct seambeacon_date *from, size_t *place,
                                             size_t *passed, struct seambeacon_beside *beside);
 
+/* Asked: where the stretch ends that begins at a place of a text. Where a walk stops with 3, 4, 5 or
+   6, it may go on from there (R350); but the place may be any.
+   Answered: 0; the next place is the first later one, just behind a line feed, at which placing
+   gives 0 and groups 1, 3 and 4 are read with 0 (R351), or the text's length if there is none.
+   What looks like a record inside a ruined one is taken for one.
+   A refusal: 2 if the place lies behind the text's end, 1 if it is there. */
+enum seambeacon_reply seambeacon_stretch_end(uint32_t rules, const uint8_t *text,
+                                             size_t text_length, size_t at,
+                                             struct seambeacon_beside *beside);
+
 /* The questions with a record, which are asked beside a text. Counts are those of the record, and
    nothing else of it is looked at but the start and the end of the group that is asked for, or of
    group 4 for a characteristic. A record that placing gave (0 or 7) in this very text, by these

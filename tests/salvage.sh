@@ -3,20 +3,23 @@
 # [--entries]`), with what is due on both outputs. What is copied and what is left out are then put together again and have to be the text, and what
 # was copied is given to the program again. Every text of tests/vectors under all rules: what the listing says was placed is copied, and the first
 # stretch begins where the walk stops. Record S with each kind of ruin, line ends, words; inputs at the limit; line feeds alone, and index lines alone
-# that all have to be tried. Expected texts come from the vectors, from the rules, or from their arithmetic. Prints each case that fails, and how many
-# passed.
+# that all have to be tried. From C, by the program of tests/c, every text of the vectors under these rules comes to the same pieces by two questions,
+# placing and the end of a stretch. Expected texts come from the vectors, from the rules, or from their arithmetic. Prints each case that fails, and
+# how many passed.
 set -u
 LC_ALL=C
 export LC_ALL
 cd "$(dirname "$0")/.." || exit 2
 name=salvage
 . tests/cases
+. tests/kit
 . tests/limit
 chosen "$@"
 folder=$vectors
 ! own || folder=$vectors/W9
 words=''
-[ "$rules" != "${rules%% *}" ] || words=$(words_for "$rules")
+known=usual
+[ "$rules" != "${rules%% *}" ] || { known=$rules; words=$(words_for "$rules"); }
 s=examples/s.sao
 : >"$work/nothing"
 # it is built where it has to be, which is told on standard error
@@ -49,6 +52,14 @@ covered() { # CASE TEXT [WORDS]: what was copied and the stretches are the text,
     salvaged "$1, the copy again" "$work/copy" "$work/copy" "$work/nothing" "${3-}"
 }
 
+mkdir "$work/printed"
+kept() { # TEXT RULES: what was printed of it, to be compared with what is asked from C
+    many_kept=$((${many_kept-0} + 1))
+    cp "$work/got" "$work/printed/$many_kept.salvage"
+    cp "$work/said" "$work/printed/$many_kept.stretches"
+    echo "$2 $1 $work/printed/$many_kept.salvage $work/printed/$many_kept.stretches" >>"$work/pieces"
+}
+
 # ---- the vectors
 
 many=0
@@ -56,7 +67,9 @@ for text in "$folder"/*.sao; do
     [ -e "$text" ] || continue
     many=$((many + 1))
     salvaged "$text" "$text" "${text%.sao}.salvage" "${text%.sao}.stretches" "$words"
-    [ "$(wc -c <"$text")" -gt 65536 ] || covered "$text" "$text" "$words"
+    [ "$(wc -c <"$text")" -le 65536 ] || continue
+    kept "$text" "$known"
+    covered "$text" "$text" "$words"
 done
 counted 'there are texts' [ "$many" -gt 0 ]
 ! own || counted 'as many texts as there are' [ "$many" -ge 85 ]
@@ -72,6 +85,7 @@ follows_listing() { # TEXT RULES LISTING
         counted "$1, $2: longer than it takes" [ ! -s "$work/got" ] && counted "$1, $2: nothing left out" [ ! -s "$work/said" ]
         return
     fi
+    kept "$1" "$2"
     bytes "$1" 0 "$5" >"$work/first"
     head -c "$5" "$work/got" | cmp -s "$work/first" -
     counted "$1, $2: begins with what the walk has placed" [ $? = 0 ]
@@ -197,4 +211,13 @@ sized '541 lines of an index' "$work/text" 65463
 echo '0 65463' >"$work/left"
 salvaged '541 lines of an index' "$work/text" "$work/nothing" "$work/left"
 
+# ---- the same pieces from C
+
+program_made
+short_functions tests/c/salvage.c
+# shellcheck disable=SC2046
+set -- $(cat "$work/pieces")
+held "$(($# / 4)) texts by their rules" 1 pieces "$@"
+counted 'as many records that are copied' asked 1 1
+counted 'as many stretches' asked 2 1
 finished 3600

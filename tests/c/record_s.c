@@ -156,6 +156,24 @@ static void check_first(void)
     ask_first(NULL, 0, &wrong, 10, seconds, 0, 0);
 }
 
+/* The end of a stretch: S twice, from its start on, from inside and from its end on; behind S one that is broken, or has a misformed field; no text. */
+static void check_stretch(void)
+{
+    of_case("the end of a stretch", 0);
+    ask_stretch(twice.bytes, twice.length, 0, 0, 305);
+    ask_stretch(twice.bytes, twice.length, 304, 0, 305);
+    ask_stretch(twice.bytes, twice.length, 305, 0, 610);
+    ask_stretch(twice.bytes, twice.length, 609, 0, 610);
+    ask_stretch(twice.bytes, twice.length, 610, 1, 0);
+    ask_stretch(twice.bytes, twice.length, 611, 2, 0);
+    ask_stretch(twice.bytes, twice.length, GREATEST, 2, 0);
+    ask_stretch(s_broken.bytes, s_broken.length, 0, 0, s_broken.length);
+    ask_stretch(twice_comma.bytes, twice_comma.length, 0, 0, 305);
+    ask_stretch(cut.bytes, cut.length, 0, 0, 304);
+    ask_stretch(NULL, 0, 0, 1, 0);
+    ask_stretch(NULL, 0, 1, 2, 0);
+}
+
 /* Refusals; a part can be given where the lines are only misread. */
 static const struct {
     const struct text *text;
@@ -417,6 +435,7 @@ void check_record_s(void)
         check_groups();
         check_no_table();
         check_first();
+        check_stretch();
         check_refusals();
         check_whole();
         check_characteristics();

@@ -24,7 +24,7 @@ use Rattle.reply.specs.declared.Refusal.the-variants.{End, Beyond}
 use Rattle.whole.specs.Due.{GroupDone}
 use Rattle.whole.specs.Turn.{groupRead}
 use Rattle.salvaging.specs.declared.Stretch.the-variants.{Ends, Refused}
-use Rattle.salvaging.specs.Stretch.{Sound, Resumes, IsStretchEnd, isZero, isRead, firstFrom, isSound, resumes, stretchEnd, stretchOf}
+use Rattle.salvaging.specs.Stretch.{Sound, Resumes, IsStretchEnd, isZero, isRead, firstThat, isSound, resumes, stretchEnd, stretchOf}
 
 -- ---- the tests
 
@@ -84,12 +84,12 @@ record IsFirst (test : ℕ → Bool) (at last end : ℕ) : Type 0 where
   none : (p : ℕ) → at ≤ p → p < end → test p ≡ true → ⊥
   found : (test end ≡ true) ⊎ (end ≡ last)
 
-first-is : (test : ℕ → Bool) (left at : ℕ) → IsFirst test at (at + left) (firstFrom test left at)
-unfolding firstFrom
+first-is : (test : ℕ → Bool) (left at : ℕ) → IsFirst test at (at + left) (firstThat test left at)
+unfolding firstThat
 first-is test zero at = record { from = omega arith; to = omega arith; none = λ p a b e. omega arith; found = inr (omega arith) }
 first-is test (suc left) at = by (test at) refl (first-is test left (suc at))
   where
-    by : (b : Bool) → test at ≡ b → IsFirst test (suc at) (suc at + left) (firstFrom test left (suc at)) → IsFirst test at (at + suc left) (cond b at (firstFrom test left (suc at)))
+    by : (b : Bool) → test at ≡ b → IsFirst test (suc at) (suc at + left) (firstThat test left (suc at)) → IsFirst test at (at + suc left) (cond b at (firstThat test left (suc at)))
     by true e h = record { from = omega arith; to = omega arith; none = λ p a b u. omega arith; found = inl e }
     by false e h =
         record {

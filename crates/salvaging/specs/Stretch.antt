@@ -53,9 +53,9 @@ isRead (done cs) = true
 isRead (bad r) = false
 
 -- the first of so many places, from one on, that passes a test; the place behind them if none does
-unfoldable pub firstFrom : (ℕ → Bool) → ℕ → ℕ → ℕ
-firstFrom test zero at = at
-firstFrom test (suc left) at = cond (test at) at (firstFrom test left (suc at))
+unfoldable pub firstThat : (ℕ → Bool) → ℕ → ℕ → ℕ
+firstThat test zero at = at
+firstThat test (suc left) at = cond (test at) at (firstThat test left (suc at))
 
 module _ (ρ : Rules) (s : List ℕ) where
   unfoldable pub isSound : ℕ → Bool
@@ -69,7 +69,7 @@ module _ (ρ : Rules) (s : List ℕ) where
   resumes at = beginsLine s at && isSound at
 
   unfoldable pub stretchEnd : ℕ → ℕ
-  stretchEnd at = firstFrom resumes (length s - suc at) (suc at)
+  stretchEnd at = firstThat resumes (length s - suc at) (suc at)
 
   -- R352: 2, 1, and else 0 with that place
   unfoldable pub stretchOf : ℕ → Stretch

@@ -43,6 +43,10 @@ use Rattle.date.proofs.Order.{seven-order, not-before-exactly}
 use Rattle.since.proofs.Due as FirstDue
 use Rattle.since.proofs.Kept.{stops-there}
 use Rattle.since.proofs.Walked.{full-walk}
+use Rattle.salvaging.proofs.Confined.{damage-confined}
+use Rattle.salvaging.proofs.Copies.{salvages}
+use Rattle.salvaging.proofs.Due as StretchDue
+use Rattle.salvaging.proofs.Pieces.{salvaged-exactly}
 use Rattle.whole.proofs.Due as WholeDue
 use Rattle.whole.proofs.InTurn.{as-in-turn}
 use Rattle.whole.proofs.Promises.{done-record-holds}
@@ -69,6 +73,7 @@ as-due ρ =
       record-characteristic = λ s r k. RecordDue.characteristic-first-due ρ s r k;
       whole = λ s at room. WholeDue.first-due ρ s at room;
       first = λ s from. FirstDue.first-due ρ s from;
+      stretch = λ s at. StretchDue.first-due ρ s at;
       writing = λ ns cs room. WritingDue.first-due ρ ns cs room;
       rewriting = λ s at cells room. RewritingDue.first-due ρ s at cells room;
       listed = λ s room. Listed.first-due (listing ρ s) room;
@@ -142,6 +147,7 @@ demand-2 ρ =
       records = record { exactly = RecordDue.bad-part-exactly ρ; decide = λ s r g f e d room. RecordDue.lines-decide ρ s r g room f e d; placed = placed-answers ρ };
       in-turn = as-in-turn ρ;
       first-record = record { full-walk = full-walk ρ; stops-there = stops-there ρ; order = seven-order; at-or-after = not-before-exactly };
+      salvaging = record { exactly = λ s. salvaged-exactly ρ s; covers = salvages ρ; confined = damage-confined ρ };
       canonical = one-canonical ρ;
       reads-back = reads-back-ended ρ;
       edits = edits ρ;
