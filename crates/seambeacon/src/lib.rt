@@ -349,7 +349,12 @@ pub extern "C" fn seambeacon_first_from(
 // Answered: 0 with the next place: that of the first later record from which a walk may go on, or the text's end.
 // A refusal: 2 beyond the text, 1 at its end.
 #[no_mangle]
-pub extern "C" fn seambeacon_stretch_end(rules: u32, text: &[u8], at: usize, beside: &mut [usize; 8]) -> u32
+pub extern "C" fn seambeacon_stretch_end(
+    rules: u32,
+    text: &[u8],
+    at: usize,
+    beside: &mut [usize; 8],
+) -> u32
     ensures { λ n. ⌜ Told (stretchEndReply (flagged rules) (now (text .entry)) at) n (now (beside .exit)) ⌝ }
 {
     let answer = sao::stretch_end(rules_of(rules), text, at);
