@@ -238,16 +238,16 @@ enum seambeacon_reply seambeacon_characteristic(uint32_t rules, const uint8_t *t
                                                 enum seambeacon_kind *kind, int64_t *value,
                                                 struct seambeacon_beside *beside);
 
-/* Asked: the first record of a text, in the order in which they stand in it, whose date and time
-   is at or after a given one. All seven numbers of that count: day of the year, month and day have
-   to name the same day, and the time is compared to the second (R331, R332).
+/* Asked: the first record of a text, in the order in which they stand in it, that is not earlier
+   than a date and time. All seven numbers of that count: day of the year, month and day have to
+   name the same day, and the time is compared to the second (R331, R332).
    Answered: 0; *place is the record's place, and *passed is how many records stand before it.
    A record has a date if it is placed with 0 and its group 3 is read with 0; all others are passed
    (R333). Records need not stand in the order of their dates. The walk ends at the record that is
    found, and nothing behind it is looked at (R336).
    A refusal has *place 0: 10 for a given date that is wrong, before the text is looked at, with
-   *passed 0; where no record is found, the reply at which the walk stopped (1 at the text's end, 3,
-   4, 5, 6), with all its records in *passed. */
+   *passed 0; where there is no such record, what the walk stopped with (1 at the text's end, or 3
+   to 6), with all its records in *passed. */
 enum seambeacon_reply seambeacon_first_from(uint32_t rules, const uint8_t *text,
                                             size_t text_length,
                                             const struct seambeacon_date *from, size_t *place,
