@@ -73,7 +73,7 @@ enum seambeacon_reply {
     SEAMBEACON_BAD_LINE = 8,
     /* a field is misformed: its line and its element */
     SEAMBEACON_BAD_FIELD = 9,
-    /* the date in group 3 is wrong: the position blamed */
+    /* the date in group 3, or one that is asked for, is wrong: the position in group 3 blamed */
     SEAMBEACON_BAD_DATE = 10,
     /* the table, the output or the journal is too short for what 0 would put there */
     SEAMBEACON_NO_ROOM = 11,
@@ -127,6 +127,17 @@ struct seambeacon_beside {
 struct seambeacon_part {
     size_t start;
     size_t length;
+};
+
+/* A date (R367), with the time of day, by the seven numbers of group 3. */
+struct seambeacon_date {
+    size_t year;        /* 0 to 9999 */
+    size_t day_of_year; /* 1 to 366 */
+    size_t month;       /* 1 to 12 */
+    size_t day;         /* 1 to 31 */
+    size_t hour;        /* 0 to 23 */
+    size_t minute;      /* 0 to 59 */
+    size_t second;      /* 0 to 59 */
 };
 
 /* A record (R366), as placing gives it. Placing's answer is reply, with beside; the questions with
@@ -226,6 +237,21 @@ enum seambeacon_reply seambeacon_characteristic(uint32_t rules, const uint8_t *t
                                                 size_t text_length, size_t at, size_t number,
                                                 enum seambeacon_kind *kind, int64_t *value,
                                                 struct seambeacon_beside *beside);
+
+/* Asked: the first record of a text, in the order in which they stand in it, that is not earlier
+   than a date and time. All seven numbers of that count: day of the year, month and day have to
+   name the same day, and the time is compared to the second (R331, R332).
+   Answered: 0; *place is the record's place, and *passed is how many records stand before it.
+   A record has a date if it is placed with 0 and its group 3 is read with 0; all others are passed
+   (R333). Records need not stand in the order of their dates. The walk ends at the record that is
+   found, and nothing behind it is looked at (R336).
+   A refusal has *place 0: 10 for a given date that is wrong, before the text is looked at, with
+   *passed 0; where there is no such record, what the walk stopped with (1 at the text's end, or 3
+   to 6), with all its records in *passed. */
+enum seambeacon_reply seambeacon_first_from(uint32_t rules, const uint8_t *text,
+                                            size_t text_length,
+                                            const struct seambeacon_date *from, size_t *place,
+                                            size_t *passed, struct seambeacon_beside *beside);
 
 /* The questions with a record, which are asked beside a text. Counts are those of the record, and
    nothing else of it is looked at but the start and the end of the group that is asked for, or of

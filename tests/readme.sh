@@ -2,8 +2,8 @@
 # What README.md shows. Its rows of the example day, and those about the rules, are what list, dump and rewrite print. The C program is cut out
 # of it, compiled, linked and run, and so is the Rust program where cargo is at hand; both must print foF2 of each hour of examples/day.sao, as
 # it stands in the text's columns, but for the one hour where it was not scaled (R291). The scene of edit is played, and its lines about a
-# record and the journal in Rust are those that the wrapper's documentation runs. What it shows of profile and follow stands in these programs, and
-# is printed. On every machine the kit's own compiler, linker and loader are used; on x86-64 the commands of README.md too. Another file than
+# record and the journal in Rust are those that the wrapper's documentation runs. What it shows of profile, noon and follow stands in these programs,
+# and is printed. On every machine the kit's own compiler, linker and loader are used; on x86-64 the commands of README.md too. Another file than
 # README.md may be named.
 set -u
 home=$(cd "$(dirname "$0")/.." && pwd -P) || exit 2
@@ -158,11 +158,27 @@ grep -o '`[0-9.]* [0-9.]* [0-9.]*E+[0-9]`' "$readme" | tr -d '`' >"$work/rows"
 counted 'two points are shown' [ "$(wc -l <"$work/rows")" -eq 2 ]
 counted 'and are printed' none "$(grep -Fxv -f "$work/got" "$work/rows")"
 
+# noon: five lines of a program, which prints the second half of the day
+block c 3 >"$work/noon.c"
+counted 'the plot from noon on is that of examples' within "$work/noon.c" examples/noon.c
+counted 'in five lines' [ "$(wc -l <"$work/noon.c")" -eq 5 ]
+counted 'with the library in it' grep -q 'seambeacon_first_from' "$work/noon.c"
+counted 'noon is compiled by the kit' compiled examples/noon.c "$work/noon.o" -std=c99
+counted 'and linked' linked "$work/noon" "$work/noon.o"
+if command -v cc >/dev/null; then
+    counted 'noon, cc with its own headers' cc -std=c99 -Wall -Wextra -pedantic -Werror -Iinclude -fsyntax-only examples/noon.c
+fi
+started "$work/noon" <examples/day.sao >"$work/got"
+tail -n 12 "$work/hours" >"$work/afternoon"
+compared 'foF2 of each hour from noon on' "$work/afternoon"
+counted 'the first of them is shown' grep -q "12 values from \`$(head -n 1 "$work/afternoon")\` on" "$readme"
+counted 'there is none in the morning' fails sh -c "head -c 25092 examples/day.sao | '$work/noon'"
+
 # what is shown of follow: lines of the program that stand there one behind the other, and lines that it prints of the day
-block c 3 >"$work/walk.c"
+block c 4 >"$work/walk.c"
 counted 'the walk of follow is that of examples' within "$work/walk.c" examples/follow.c
 counted 'with the library in it' grep -q 'seambeacon_place' "$work/walk.c"
-block c 4 >"$work/loop.c"
+block c 5 >"$work/loop.c"
 counted 'and so is its loop' within "$work/loop.c" examples/follow.c
 counted 'which walks on' grep -q 'walk_on()' "$work/loop.c"
 grep -E '^record [0-9]+: |^waiting at ' "$readme" >"$work/rows"
@@ -209,4 +225,4 @@ if [ "$machine" = x86_64 ] && command -v cargo >/dev/null; then
 else
     echo "tests/readme.sh: skipped: the command for Rust, which needs x86-64 and cargo (this is $machine)"
 fi
-finished 50
+finished 58

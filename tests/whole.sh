@@ -18,23 +18,6 @@ folder=$vectors
 program_made
 short_functions tests/c/whole.c
 
-# The program's last line is the number of its checks, and the line before that tells in numbers what was asked.
-held() { # OF LEAST WORD..: its checks hold; over the project's own vectors there are at least so many
-    of=$1
-    least=$2
-    shift 2
-    started "$work/main" "$@" >"$work/said"
-    counted "$of: every check of the program" [ "$?" = 0 ] || grep -a '^FAILED: ' "$work/said"
-    told=$(sed -n 'x; $p' "$work/said")
-    made=$(sed -n '$s/ checks, .*//p' "$work/said")
-    echo "$name: $of: $told; ${made:-0} checks"
-    ! own || counted "$of: as many checks as there are" [ "${made:-0}" -ge "$least" ]
-}
-
-asked() { # WHICH LEAST: the number that is told there; over other vectors than the project's own it may be any
-    ! own || [ "$(echo "$told" | tr -cs '0-9' ' ' | cut -d ' ' -f "$1")" -ge "$2" ]
-}
-
 # ---- the questions
 
 counted 'there are questions' grep -q ' = ' "$folder/whole.txt"

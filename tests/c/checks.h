@@ -45,6 +45,10 @@ struct lent {
     size_t used;
     size_t before_open;
     size_t open;
+    size_t before_place;
+    size_t place;
+    size_t before_passed;
+    size_t passed;
     size_t before_record;
     struct seambeacon_record record;
     size_t behind;

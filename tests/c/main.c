@@ -5,6 +5,8 @@
    main records TEXT ..: checks by all rules that the records of texts answer as their places do.
    main wholes FOLDER QUESTIONS: checks the answers to questions for a whole record, in texts of that folder.
    main turns TEXT ..: checks by all rules that one call for a record of texts answers as its sixty groups do in turn.
+   main firsts FOLDER QUESTIONS: checks the answers to questions for the first record from a date on, in texts of that folder.
+   main dates TEXT ..: checks by all rules that these answer as the whole walk does.
    RULES is `usual`, `strict`, `entries` or `strict-entries`; a write question or a script may say itself what a count of group 40 counts.
    Ends with the number of checks, and with exit 1 where one failed. */
 #include "checks.h"
@@ -14,6 +16,7 @@
 #include "line_ends.h"
 #include "parts.h"
 #include "record_s.h"
+#include "since.h"
 #include "vectors.h"
 #include "whole.h"
 
@@ -77,6 +80,14 @@ static void check_turns(char **texts, int count)
            (unsigned long)met.read, (unsigned long)met.refused, (unsigned long)met.broken, (unsigned long)met.none);
 }
 
+static void check_from_all(char **texts, int count)
+{
+    size_t asked = 0;
+    for (int i = 0; i < count; i++)
+        asked += check_from_each(texts[i]);
+    printf("%lu dates\n", (unsigned long)asked);
+}
+
 int main(int count, char **words)
 {
     of_case("main", 0);
@@ -94,6 +105,10 @@ int main(int count, char **words)
         printf("%lu questions\n", (unsigned long)check_wholes(words[2], words[3]));
     else if (count > 2 && strcmp(words[1], "turns") == 0)
         check_turns(words + 2, count - 2);
+    else if (count == 4 && strcmp(words[1], "firsts") == 0)
+        printf("%lu questions\n", (unsigned long)check_firsts(words[2], words[3]));
+    else if (count > 2 && strcmp(words[1], "dates") == 0)
+        check_from_all(words + 2, count - 2);
     else
         need("words that say what to check", 0);
     return checks_ended();

@@ -91,6 +91,16 @@ void ask_whole(const uint8_t *text, size_t length, size_t at, size_t room, size_
     cells_due("read_record: the table", cells, beside.written);
 }
 
+void ask_first(const uint8_t *text, size_t length, const struct seambeacon_date *from, size_t reply, struct seambeacon_beside beside, size_t place,
+               size_t passed)
+{
+    fresh();
+    due.beside = beside;
+    due.place = place;
+    due.passed = passed;
+    answered("first_from", seambeacon_first_from(rules, text, length, from, &lent.place, &lent.passed, &lent.beside), reply);
+}
+
 void ask_lines(const uint8_t *text, size_t length, size_t at, size_t group, size_t reply, struct seambeacon_beside beside,
                struct seambeacon_part part)
 {

@@ -139,6 +139,23 @@ static void check_no_table(void)
     answered("no text either", seambeacon_read_record(rules, NULL, 0, 0, NULL, 0, &lent.unread, &lent.beside), 1);
 }
 
+/* The first record from a date on: S's own second, the next one, and a date that is wrong; of S, of no text, and of S twice behind its first record. */
+static void check_first(void)
+{
+    static const struct seambeacon_date its = {2006, 265, 9, 22, 14, 25, 30}, later = {2006, 265, 9, 22, 14, 25, 31},
+                                        wrong = {2006, 265, 9, 22, 14, 25, GREATEST};
+    const struct seambeacon_beside seconds = {.position = 18};
+    of_case("the first record from a date on", 0);
+    ask_first(s.bytes, s.length, &its, 0, none, 0, 0);
+    ask_first(twice.bytes, twice.length, &its, 0, none, 0, 0);
+    ask_first(s_broken.bytes, s_broken.length, &later, 1, none, 0, 2);
+    ask_first(twice.bytes, twice.length, &later, 1, none, 0, 2);
+    ask_first(cut.bytes, cut.length, &its, 3, none, 0, 0);
+    ask_first(NULL, 0, &its, 1, none, 0, 0);
+    ask_first(s.bytes, s.length, &wrong, 10, seconds, 0, 0);
+    ask_first(NULL, 0, &wrong, 10, seconds, 0, 0);
+}
+
 /* Refusals; a part can be given where the lines are only misread. */
 static const struct {
     const struct text *text;
@@ -399,6 +416,7 @@ void check_record_s(void)
         check_places();
         check_groups();
         check_no_table();
+        check_first();
         check_refusals();
         check_whole();
         check_characteristics();

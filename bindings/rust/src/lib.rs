@@ -111,7 +111,7 @@ pub enum Refusal {
         /// The element in the group, counted through all its lines.
         element: usize,
     },
-    /// 10: group 3 has no right date.
+    /// 10: group 3 has no right date, or a date that is asked for is wrong.
     BadDate {
         /// The position in group 3 that is blamed.
         position: usize,
@@ -189,7 +189,7 @@ impl fmt::Display for Refusal {
             Refusal::BrokenRule { group } => write!(to, "the count of group {group} breaks a rule"),
             Refusal::BadLine { group, line } => write!(to, "line {line} of group {group} has a wrong length or line end"),
             Refusal::BadField { group, line, element } => write!(to, "element {element} of group {group}, in line {line}, is misformed"),
-            Refusal::BadDate { position } => write!(to, "the date in group 3 is wrong at position {position}"),
+            Refusal::BadDate { position } => write!(to, "the date is wrong at position {position} of group 3"),
             Refusal::NoRoom => write!(to, "the table, the output or the journal is too short"),
             Refusal::NoSuchNumber => write!(to, "there is no group, cell or characteristic of that number"),
             Refusal::NoField { group, element } => write!(to, "element {element} of group {group} fits no field"),
@@ -286,6 +286,36 @@ pub enum Characteristic {
     NoReading,
     /// The record has fewer characteristics.
     NotReported,
+}
+
+/// A date with the time of day, by the seven numbers of group 3 (R140, R367). Whatever they are, it may be asked for: one that is wrong is refused.
+#[derive(Clone, Copy, Debug, PartialEq, Eq, Hash)]
+pub struct Date {
+    /// 0 to 9999.
+    pub year: usize,
+    /// 1 to 366, which names the same day as month and day.
+    pub day_of_year: usize,
+    /// 1 to 12.
+    pub month: usize,
+    /// 1 to 31.
+    pub day: usize,
+    /// 0 to 23.
+    pub hour: usize,
+    /// 0 to 59.
+    pub minute: usize,
+    /// 0 to 59.
+    pub second: usize,
+}
+
+/// How a search for the first record from a date on ended.
+#[derive(Clone, Copy, Debug, PartialEq, Eq, Hash)]
+#[must_use]
+pub struct First {
+    /// The place of the record that was found, or the refusal: 10 for a date that is wrong, or where no record was found, the refusal at which the
+    /// walk stopped, which is 1, 3, 4, 5 or 6.
+    pub place: Result<usize, Refusal>,
+    /// How many records were passed: those that stand before the one that was found, all if none was, and none if the date is wrong.
+    pub passed: usize,
 }
 
 /// A record as canonical text.
@@ -464,6 +494,25 @@ pub fn read_record(rules: Rules, text: &[u8], at: usize, table: &mut [i64]) -> R
     let mut unread = 0;
     let reply = raw::read_record(rules.flags(), text, at, table, &mut unread);
     Ok(reply.done(unread)?.written)
+}
+
+/// The first record of a text, in the order in which they stand in it, that is not earlier than a given date, to the second (R330). A record
+/// has a date if it is placed with 0 and its group 3 is read with 0; all others are passed. The walk ends at the record that is found, and nothing
+/// behind it is looked at (R336).
+///
+/// ```
+/// # let (rules, day) = (seambeacon::Rules::default(), concat!(env!("CARGO_MANIFEST_DIR"), "/../../examples/day.sao"));
+/// # let text = std::fs::read(day).expect("the example day");
+/// let noon = seambeacon::Date { year: 2004, day_of_year: 60, month: 2, day: 29, hour: 12, minute: 0, second: 0 };
+/// let first = seambeacon::first_from(rules, &text, noon);
+/// assert_eq!((first.place, first.passed), (Ok(25_092), 12)); // the day has a record an hour
+/// ```
+pub fn first_from(rules: Rules, text: &[u8], from: Date) -> First {
+    let Date { year, day_of_year, month, day, hour, minute, second } = from;
+    let (mut place, mut passed) = (0, 0);
+    let seven = [year, day_of_year, month, day, hour, minute, second];
+    let reply = raw::first_from(rules.flags(), text, &seven, &mut place, &mut passed);
+    First { place: reply.done(0).map(|_| place), passed }
 }
 
 /// The lines of a group, 1 to 60, of the record at a place: the part of the lent text in which they stand, with their line ends (R280). With

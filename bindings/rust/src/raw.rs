@@ -101,6 +101,15 @@ extern "C" {
         unread: *mut usize,
         beside: *mut Beside,
     ) -> u32;
+    fn seambeacon_first_from(
+        rules: u32,
+        text: *const u8,
+        text_length: usize,
+        from: *const [usize; 7],
+        place: *mut usize,
+        passed: *mut usize,
+        beside: *mut Beside,
+    ) -> u32;
     fn seambeacon_group_lines(
         rules: u32,
         text: *const u8,
@@ -256,6 +265,11 @@ pub fn read_group(rules: u32, text: &[u8], at: usize, group: usize, table: &mut 
 pub fn read_record(rules: u32, text: &[u8], at: usize, table: &mut [i64], unread: &mut usize) -> Reply {
     // SAFETY: as the head of this file says.
     reply(|beside| unsafe { seambeacon_read_record(rules, text.as_ptr(), text.len(), at, table.as_mut_ptr(), table.len(), unread, beside) })
+}
+
+pub fn first_from(rules: u32, text: &[u8], from: &[usize; 7], place: &mut usize, passed: &mut usize) -> Reply {
+    // SAFETY: as the head of this file says.
+    reply(|beside| unsafe { seambeacon_first_from(rules, text.as_ptr(), text.len(), from, place, passed, beside) })
 }
 
 pub fn group_lines(rules: u32, text: &[u8], at: usize, group: usize, part: &mut Part) -> Reply {

@@ -3,13 +3,10 @@
 -- Assumes nothing.
 use mathlib.Core.Path.{_≡_, refl, sym, ap, _∙_, subst}
 use mathlib.Core.Bool.{Bool, true, false, true≢false}
-use mathlib.Core.List.{List, [], _∷_, _++_}
+use mathlib.Core.List.{List}
 use mathlib.Core.Logic.{_↔_, _⊎_, inl, inr, ⊎-elim}
 use Prim.Native.Nat.{ℕ, _≤_}
 use native.Mathlib.Omega.{arith}
-use lib.Dec.{T, leb, leb→le}
-use Rattle.base.specs.Every.{every}
-use Rattle.base.proofs.Choice.{and-left, and-right}
 use Rattle.date.specs.declared.DigitField.{DigitField}
 use Rattle.date.specs.declared.Digits.{Digits}
 use Rattle.date.specs.declared.Digits.the-variants.{Number, Fails}
@@ -18,8 +15,9 @@ use Rattle.date.specs.declared.Dated.{Dated}
 use Rattle.date.specs.declared.Dated.the-variants.{Right, Wrong}
 use Rattle.date.specs.Digits.{fieldDigits, ReadsNumber}
 use Rattle.date.specs.Calendar.{isLeap}
-use Rattle.date.specs.Date.{fields, fails, number, firstBlamed, datedOf, dateOf, namesOneDay, judged}
-use Rattle.date.specs.Due.{Holds, FailsAlone, AllHold, FirstFails, HasNumbers, NamesDay, Due}
+use Rattle.date.specs.Date.{fields, fails, number, beginsAt, failsIn, datedOf, dateOf, namesOneDay, judged}
+use Rattle.date.specs.Due.{Holds, AllHold, FieldFails, HasNumbers, NamesDay, Due}
+use Rattle.date.proofs.Blame.{hold-given, first-fails, found, blamed-one}
 use Rattle.date.proofs.Days.{day-named, named-day, not-named}
 use Rattle.date.proofs.Grammar.{read-is, is-read}
 
@@ -27,69 +25,20 @@ held : (x : Digits) → fails x ≡ false → x ≡ Number (number x)
 held (Number v) e = refl
 held Fails e = let z : _≡_ {A = ℕ} 0 1 = cc in absurd (omega arith)
 
--- a field holds exactly if the text has its digits, and fails alone exactly if it has none
-holds-passes : (f : DigitField) (s : List ℕ) → Holds f s → fails (fieldDigits f s) ≡ false
+-- a field holds exactly if the text has its digits
+holds-passes : (f : DigitField) (s : List ℕ) → Holds f s → failsIn s f ≡ false
 holds-passes f s h = rw (is-read f s (h .value) (h .reads))
 
-passes-reads : (f : DigitField) (s : List ℕ) → fails (fieldDigits f s) ≡ false → ReadsNumber f s (number (fieldDigits f s))
+passes-reads : (f : DigitField) (s : List ℕ) → failsIn s f ≡ false → ReadsNumber f s (number (fieldDigits f s))
 passes-reads f s e = read-is f s (number (fieldDigits f s)) (held (fieldDigits f s) e)
 
-alone-fails : (f : DigitField) (s : List ℕ) → FailsAlone f s → fails (fieldDigits f s) ≡ true
-alone-fails f s h = by (fails (fieldDigits f s)) refl
-  where
-    by : (t : Bool) → fails (fieldDigits f s) ≡ t → t ≡ true
-    by true e = refl
-    by false e = absurd (h (number (fieldDigits f s)) (passes-reads f s e))
-
-fails-alone : (f : DigitField) (s : List ℕ) → fails (fieldDigits f s) ≡ true → FailsAlone f s
-fails-alone f s e v r = absurd (true≢false (sym e ∙ holds-passes f s record { value = v; reads = r }))
-
--- ---- any list of fields: all hold and the answer is as given, or the first that fails is blamed
-
-hold-given : (fs : List DigitField) (s : List ℕ) (given : Dated) → AllHold fs s → firstBlamed fs s given ≡ given
-unfolding firstBlamed
-hold-given [] s given a = refl
-hold-given (f ∷ fs) s given a = rw (holds-passes f s (a .0)) (hold-given fs s given (a .1))
-
-before-holds : (bs : List DigitField) (f : DigitField) (cs : List DigitField) (s : List ℕ) (given : Dated) → AllHold bs s → FailsAlone f s → firstBlamed (bs ++ (f ∷ cs)) s given ≡ Wrong (f .first)
-unfolding firstBlamed
-before-holds [] f cs s given a h = rw (alone-fails f s h)
-before-holds (b ∷ bs) f cs s given a h = rw (holds-passes b s (a .0)) (before-holds bs f cs s given (a .1) h)
-
-first-fails : (fs : List DigitField) (s : List ℕ) (p : ℕ) (given : Dated) → FirstFails fs s p → firstBlamed fs s given ≡ Wrong p
-first-fails fs s p given r = rw (r .order, r .position) (before-holds (r .before) (r .field) (r .behind) s given (r .hold) (r .failing))
-
--- the fields hold, or one fails first
-abbrev Found : List DigitField → List ℕ → Type 0
-Found fs s = AllHold fs s ⊎ ((p : ℕ) × FirstFails fs s p)
-
-found-more : (f : DigitField) (fs : List DigitField) (s : List ℕ) (t : Bool) → fails (fieldDigits f s) ≡ t → Found fs s → Found (f ∷ fs) s
-found-more f fs s true e r =
-    inr (f .first, record { before = []; field = f; behind = fs; order = refl; hold = tt; failing = fails-alone f s e; position = refl })
-found-more f fs s false e (inl a) = inl (record { value = number (fieldDigits f s); reads = passes-reads f s e }, a)
-found-more f fs s false e (inr r) =
-    let q = r .1 in
-    inr (
-      r .0,
-      record {
-        before = f ∷ q .before;
-        field = q .field;
-        behind = q .behind;
-        order = ap (λ l. f ∷ l) (q .order);
-        hold = (record { value = number (fieldDigits f s); reads = passes-reads f s e }, q .hold);
-        failing = q .failing;
-        position = q .position;
-      },
-    )
-
-found : (fs : List DigitField) (s : List ℕ) → Found fs s
-found [] s = inl tt
-found (f ∷ fs) s = found-more f fs s (fails (fieldDigits f s)) refl (found fs s)
+field-test : (s : List ℕ) (f : DigitField) → (failsIn s f ≡ false) ↔ Holds f s
+field-test s f = (λ e. record { value = number (fieldDigits f s); reads = passes-reads f s e }, holds-passes f s)
 
 -- ---- the seven numbers
 
 -- fields that hold read as the numbers of `dateOf`
-all-numbers : (s : List ℕ) → AllHold fields s → HasNumbers s (dateOf s)
+all-numbers : (s : List ℕ) → AllHold (λ f. Holds f s) fields → HasNumbers s (dateOf s)
 all-numbers s (y, (n, (m, (d, (h, (i, (e, _))))))) =
     record {
       in-year = passes-reads _ s (holds-passes _ s y);
@@ -104,7 +53,7 @@ all-numbers s (y, (n, (m, (d, (h, (i, (e, _))))))) =
 read-holds : {f : DigitField} {s : List ℕ} {v : ℕ} → ReadsNumber f s v → Holds f s
 read-holds {v = v} r = record { value = v; reads = r }
 
-numbers-hold : (s : List ℕ) (d : Date) → HasNumbers s d → AllHold fields s
+numbers-hold : (s : List ℕ) (d : Date) → HasNumbers s d → AllHold (λ f. Holds f s) fields
 numbers-hold s d n = (
   read-holds
       (n .in-year),
@@ -123,23 +72,23 @@ numbers-are s d n =
       is-read _ s _ (n .at-second),
     )
 
-day-names : (d : Date) → NamesDay d → namesOneDay d ≡ true
+pub day-names : (d : Date) → NamesDay d → namesOneDay d ≡ true
 day-names d h = day-named (isLeap (d .year)) (d .«day_of_year») (d .month) (d .day) h
 
-no-day-names : (d : Date) → (NamesDay d → ⊥) → namesOneDay d ≡ false
+pub no-day-names : (d : Date) → (NamesDay d → ⊥) → namesOneDay d ≡ false
 no-day-names d h = not-named (isLeap (d .year)) (d .«day_of_year») (d .month) (d .day) h
 
 -- ---- the answer on the letters of group 3
 
-hold-judged : (s : List ℕ) → AllHold fields s → datedOf s ≡ judged (dateOf s)
+hold-judged : (s : List ℕ) → AllHold (λ f. Holds f s) fields → datedOf s ≡ judged (dateOf s)
 unfolding datedOf
-hold-judged s a = hold-given fields s (judged (dateOf s)) a
+hold-judged s a = hold-given beginsAt (failsIn s) (λ f. Holds f s) (field-test s) fields (judged (dateOf s)) a
 
-fails-blamed : (s : List ℕ) (p : ℕ) → FirstFails fields s p → datedOf s ≡ Wrong p
+fails-blamed : (s : List ℕ) (p : ℕ) → FieldFails s p → datedOf s ≡ Wrong p
 unfolding datedOf
-fails-blamed s p r = first-fails fields s p (judged (dateOf s)) r
+fails-blamed s p r = first-fails beginsAt (failsIn s) (λ f. Holds f s) (field-test s) fields p (judged (dateOf s)) r
 
-judged-of : (s : List ℕ) (d : Date) → HasNumbers s d → datedOf s ≡ judged d
+pub judged-of : (s : List ℕ) (d : Date) → HasNumbers s d → datedOf s ≡ judged d
 judged-of s d n = hold-judged s (numbers-hold s d n) ∙ ap judged (numbers-are s d n)
 
 due-given : (s : List ℕ) (x : Dated) → Due s x → datedOf s ≡ x
@@ -160,19 +109,12 @@ given-due s =
     ⊎-elim
     (λ a. subst (Due s) (sym (hold-judged s a)) (judged-due s (namesOneDay (dateOf s)) (all-numbers s a) refl))
     (λ r. subst (Due s) (sym (fails-blamed s (r .0) (r .1))) (inl (r .1)))
-    (found fields s)
+    (found beginsAt (failsIn s) (λ f. Holds f s) (field-test s) fields)
 
 pub first-due : (s : List ℕ) (x : Dated) → datedOf s ≡ x ↔ Due s x
 first-due s x = (λ e. subst (Due s) e (given-due s), due-given s x)
 
--- ---- a position that is blamed is one: positions count from 1
-
-first-one : (bs : List DigitField) (f : DigitField) (cs : List DigitField) → T (every (λ d. leb 1 (d .first)) (bs ++ (f ∷ cs))) → 1 ≤ f .first
-first-one [] f cs t = leb→le 1 (f .first) (and-left (leb 1 (f .first)) (every (λ d. leb 1 (d .first)) cs) t)
-first-one (b ∷ bs) f cs t = first-one bs f cs (and-right (leb 1 (b .first)) (every (λ d. leb 1 (d .first)) (bs ++ (f ∷ cs))) t)
-
+-- a position that is blamed is one: positions count from 1
 pub blamed-position : (s : List ℕ) (p : ℕ) → Due s (Wrong p) → 1 ≤ p
-blamed-position s p (inl r) =
-    let l = first-one (r .before) (r .field) (r .behind) (subst (λ fs. T (every (λ d. leb 1 (d .first)) fs)) (r .order) tt) in
-    omega (arith, l, r .position)
+blamed-position s p (inl r) = blamed-one beginsAt (λ f. Holds f s) fields p tt r
 blamed-position s p (inr m) = omega (arith, m .position)

@@ -65,15 +65,23 @@ dateOf s =
       second = number (fieldDigits second s);
     }
 
--- R147: the first of these fields that fails alone is blamed, at its first position; if none of them does, it is as given
-unfoldable pub firstBlamed : List DigitField → List ℕ → Dated → Dated
-firstBlamed [] s given = given
-firstBlamed (f ∷ fs) s given = cond (fails (fieldDigits f s)) (Wrong (f .first)) (firstBlamed fs s given)
+-- R147: of several, each with a position, the first that fails alone is blamed at its position; if none of them does, it is as given
+module _ {A : Type 0} (position : A → ℕ) (failing : A → Bool) where
+  unfoldable pub firstBlamed : List A → Dated → Dated
+  firstBlamed [] given = given
+  firstBlamed (x ∷ xs) given = cond (failing x) (Wrong (position x)) (firstBlamed xs given)
 
 -- R148: where no field fails alone, the date is right if the three agree, and else 7 is blamed
 abbrev pub judged : Date → Dated
 judged d = cond (namesOneDay d) (Right d) (Wrong 7)
 
+-- a field of letters: where it begins, and whether it fails alone
+abbrev pub beginsAt : DigitField → ℕ
+beginsAt f = f .first
+
+abbrev pub failsIn : List ℕ → DigitField → Bool
+failsIn s f = fails (fieldDigits f s)
+
 -- the date that the letters of group 3 tell, or the position blamed
 unfoldable pub datedOf : List ℕ → Dated
-datedOf s = firstBlamed fields s (judged (dateOf s))
+datedOf s = firstBlamed beginsAt (failsIn s) fields (judged (dateOf s))

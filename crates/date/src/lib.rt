@@ -1,10 +1,13 @@
-// The date in group 3: digit fields, the calendar, and a date type whose constructor checks. specs/ says what is right.
+// The date in group 3: digit fields, the calendar, and a date type whose constructor checks; a date that is asked for, and
+// which of two is the later. specs/ says what is right.
 ghost use mathlib.Core.Path.{_≡_};
 ghost use mathlib.Core.Bool.{false};
 ghost use Prim.Native.Nat.{_≤_};
-ghost use Rattle.date.specs.Digits.{readDigits, fieldDigits};
+ghost use Rattle.date.specs.Digits.{within, readDigits, fieldDigits};
 ghost use Rattle.date.specs.Calendar.{isLeap, daysTo, nameDay};
-ghost use Rattle.date.specs.Date.{datedOf};
+ghost use Rattle.date.specs.Date.{judged, datedOf};
+ghost use Rattle.date.specs.Asked.{datedBy};
+ghost use Rattle.date.specs.Order.{notBefore};
 
 // R141, a digit field: its first position, counted from 1, how many digits it has, and its least and its greatest
 // value.
@@ -74,6 +77,13 @@ impl DigitField {
         }
         let to = from + length;
         number(&text[from..to], self.least, self.greatest)
+    }
+
+    // R143: whether a number lies within the field's range.
+    fn allows(self, value: usize) -> bool
+        ensures { λ r. ⌜ r ≡ within (self .least) (self .greatest) value ⌝ }
+    {
+        self.least <= value && value <= self.greatest
     }
 }
 
@@ -222,18 +232,74 @@ impl Date {
         let Digits::Number(second) = Self::SECOND.read(letters) else {
             return Dated::Wrong(Self::SECOND.first);
         };
-        if names(year, day_of_year, month, day) {
-            Dated::Right(Date {
-                year,
-                day_of_year,
-                month,
-                day,
-                hour,
-                minute,
-                second,
-            })
+        let date = Date {
+            year,
+            day_of_year,
+            month,
+            day,
+            hour,
+            minute,
+            second,
+        };
+        date.judge()
+    }
+
+    // R148: of numbers that are each within their range, the date if day of the year, month and day agree.
+    fn judge(self) -> Dated
+        requires { ⌜ (1 ≤ self .month) × (self .month ≤ 12) ⌝ }
+        ensures { λ r. ⌜ r ≡ judged self ⌝ }
+    {
+        if names(self.year, self.day_of_year, self.month, self.day) {
+            Dated::Right(self)
         } else {
             Dated::Wrong(Self::DAY_OF_YEAR.first)
         }
+    }
+
+    // R331: a date that is asked for: itself, or the position blamed.
+    pub fn check(self) -> Dated
+        ensures { λ r. ⌜ r ≡ datedBy self ⌝ }
+    {
+        if !Self::YEAR.allows(self.year) {
+            return Dated::Wrong(Self::YEAR.first);
+        }
+        if !Self::DAY_OF_YEAR.allows(self.day_of_year) {
+            return Dated::Wrong(Self::DAY_OF_YEAR.first);
+        }
+        if !Self::MONTH.allows(self.month) {
+            return Dated::Wrong(Self::MONTH.first);
+        }
+        if !Self::DAY.allows(self.day) {
+            return Dated::Wrong(Self::DAY.first);
+        }
+        if !Self::HOUR.allows(self.hour) {
+            return Dated::Wrong(Self::HOUR.first);
+        }
+        if !Self::MINUTE.allows(self.minute) {
+            return Dated::Wrong(Self::MINUTE.first);
+        }
+        if !Self::SECOND.allows(self.second) {
+            return Dated::Wrong(Self::SECOND.first);
+        }
+        self.judge()
+    }
+
+    // R332: whether this date is the other, to the second, or comes after it.
+    pub fn at_or_after(self, other: Date) -> bool
+        ensures { λ r. ⌜ r ≡ notBefore self other ⌝ }
+    {
+        if self.year != other.year {
+            return other.year < self.year;
+        }
+        if self.day_of_year != other.day_of_year {
+            return other.day_of_year < self.day_of_year;
+        }
+        if self.hour != other.hour {
+            return other.hour < self.hour;
+        }
+        if self.minute != other.minute {
+            return other.minute < self.minute;
+        }
+        other.second <= self.second
     }
 }

@@ -34,16 +34,15 @@ use Rattle.reply.specs.declared.Refusal.{Refusal}
 use Rattle.place.specs.declared.Placing.the-variants.{Refused}
 use Rattle.place.specs.Placing
 use Rattle.place.specs.Placing.{Located, located, refused, locate, ruledAt, placingBy, placingOf, countsAt}
-use Rattle.place.specs.Walk.{spot, IsRecord}
+use Rattle.place.specs.Walk.{spot, IsRecord, recordsIn}
 use Rattle.place.proofs.Placed.{located-is, located-range}
 use Rattle.place.specs.Due.{RefusedFor, beyond, text-end, few-for-index, few-for-data, bad-index, bad-release, fills-vacant}
 use Rattle.place.proofs.Due.{refused-due}
 use Rattle.place.proofs.Walked.{spot-inside}
 use Rattle.listing.specs.Rows.{replyOf, nextOf, groupOf, filledGroups, recordRow, endRow}
-use Rattle.listing.specs.Records.{recordsIn}
 use Rattle.listing.specs.Listing.{rowAt, rowsFrom, endAt, listingOf, listing, printedListing}
 use Rattle.listing.proofs.Groups.{blamed-within, filled-within}
-use Rattle.listing.proofs.Counted.{records-stop, records-bytes}
+use Rattle.place.proofs.Counted.{records-stop, records-bytes}
 
 -- ---- the two cases of what is printed
 

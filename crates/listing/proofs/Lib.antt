@@ -1,8 +1,7 @@
--- The laws of the listing: groups with a count and the groups that replies name (Groups), the records of a walk (Counted), the lines from
--- a record on (Lines), a turn of the walks that list (Turns), the answer's reply (Replies), how long a listing is (Bound), and that of S
+-- The laws of the listing: groups with a count and the groups that replies name (Groups), the lines from a record on (Lines),
+-- a turn of the walks that list (Turns), the answer's reply (Replies), how long a listing is (Bound), and that of S
 -- twice (TwiceS).
 pub mod Groups
-pub mod Counted
 pub mod Lines
 pub mod Turns
 pub mod Replies

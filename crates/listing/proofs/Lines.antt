@@ -13,14 +13,13 @@ use Rattle.base.specs.Quoted.{bytes}
 use Rattle.decimal.specs.Rows.{rowText}
 use Rattle.place.specs.Placing.{located, refused, locate, placingOf, countsAt}
 use Rattle.reply.specs.declared.Refusal.{Refusal}
-use Rattle.place.specs.Walk.{spot, Stops}
+use Rattle.place.specs.Walk.{spot, Stops, recordsIn}
 use Rattle.place.proofs.Walked.{spot-more, stops-some, stops-later, stops-here}
 use Rattle.place.proofs.Placed.{located-range, located-long}
 use Rattle.place.specs.Numbered.{isPlaced}
 use Rattle.listing.specs.Rows.{replyOf, nextOf, recordRow, endRow}
-use Rattle.listing.specs.Records.{recordsIn}
 use Rattle.listing.specs.Listing.{rowAt, rowsFrom, endAt, listingOf, listing}
-use Rattle.listing.proofs.Counted.{records-are, records-stop}
+use Rattle.place.proofs.Counted.{records-are, records-stop}
 use Rattle.place.proofs.Stopped.{placed-goes, placed-halts}
 
 -- for a walk that has so many records the listing has their rows

@@ -34,12 +34,11 @@ use Rattle.base.proofs.UpFrom.{length-up, getD-map-up}
 use Rattle.decimal.specs.Rows.{rowText}
 use Rattle.place.specs.Placing.{placingOf, countsAt}
 use Rattle.place.proofs.Due as Placing
-use Rattle.place.specs.Walk.{spot}
+use Rattle.place.specs.Walk.{spot, recordsIn}
 use Rattle.listing.specs.Rows.{recordRow, endRow}
-use Rattle.listing.specs.Records.{recordsIn}
 use Rattle.listing.specs.Listing.{rowAt, rowsFrom, endAt, listingOf, listing, listedIn, IsRow, IsListing, RefusedFor, no-room, ListingDue}
 use Rattle.listing.specs.Numbered.{listingRows}
-use Rattle.listing.proofs.Counted.{records-are, records-stop}
+use Rattle.place.proofs.Counted.{records-are, records-stop}
 
 -- a listing has its line `end` at least
 some-line : (ρ : Rules) (s : List ℕ) → 1 ≤ length (listing ρ s)

@@ -17,10 +17,9 @@ use Rattle.decimal.specs.declared.Put.the-variants.{Next, NoRoom}
 use Rattle.decimal.proofs.Writing.{end-then, end-first, end-next, end-full, over-rest, next-means, none-means, puts-done, puts-length}
 use Rattle.place.specs.declared.Placing.{Placing}
 use Rattle.place.specs.Placing.{placingOf, countsAt}
-use Rattle.place.specs.Walk.{spot}
+use Rattle.place.specs.Walk.{spot, recordsIn}
 use Rattle.place.specs.Numbered.{isPlaced}
 use Rattle.listing.specs.Rows.{replyOf, nextOf, recordRow, endRow}
-use Rattle.listing.specs.Records.{recordsIn}
 use Rattle.listing.specs.Listing.{listing}
 use Rattle.listing.proofs.Lines.{linesFrom, lines-all, row-here, end-here, more-few, more-spot, more-bytes, more-inside, more-lines, last-line}
 

@@ -15,11 +15,10 @@ use Rattle.reply.specs.declared.Answer.the-variants.{Done, Refused}
 use Rattle.decimal.specs.Rows.{rowText}
 use Rattle.place.specs.Placing.{placingOf, countsAt}
 use Rattle.place.specs.declared.Placing.{Placing}
-use Rattle.place.specs.Walk.{spot, Stops}
+use Rattle.place.specs.Walk.{spot, Stops, recordsIn}
 use Rattle.count.specs.Tally.{recordLines}
 use Rattle.place.specs.Due as Place
 use Rattle.listing.specs.Rows.{nextOf, replyOf, groupOf, filledGroups, recordRow, endRow}
-use Rattle.listing.specs.Records.{recordsIn}
 
 module _ (ρ : Rules) where
   -- the line of the record at the k-th spot, whose number is one more: spots count from 0

@@ -15,14 +15,16 @@ use Rattle.base.proofs.Order.{le-or-lt}
 use Rattle.base.proofs.Part.{part-within}
 use Rattle.form.specs.Count
 use Rattle.form.specs.Table
+use Rattle.base.specs.Part.{part}
 use Rattle.line.specs.Lines.{isFeed, feeds, lines}
+use Rattle.line.proofs.Feeds.{feeds-part}
 use Rattle.line.proofs.Reach.{reach-le, reach-append, lines-append}
 use Rattle.count.specs.Rules.{rulingOf}
 use Rattle.count.specs.declared.Ruling.{Ruling}
 use Rattle.count.specs.declared.Ruling.the-variants.{Kept, Broken}
 use Rattle.count.specs.Tally
 use Rattle.count.specs.Tally.{linesBefore, recordLines}
-use Rattle.count.proofs.Tallied.{all-lines, lines-below, lines-all}
+use Rattle.count.proofs.Tallied.{all-lines, lines-below, lines-all, record-two}
 use Rattle.reply.specs.Refusals.{refusalNumber}
 use Rattle.reply.specs.declared.Refusal.{Refusal}
 use Rattle.place.specs.Due.{RefusedFor, beyond, text-end, few-for-index, few-for-data, bad-index, bad-release, fills-vacant}
@@ -35,6 +37,7 @@ use Rattle.place.proofs.Due.{refused-due}
 use Rattle.place.proofs.Local.{ByIndex, four, five, six, from-index, refused-local, located-local, placing-same}
 use Rattle.place.proofs.Placed.{no-record, located-is, located-range, located-long}
 use Rattle.place.proofs.Spans.{carried-same}
+use Rattle.place.proofs.Tiling.{record-whole}
 use Rattle.place.proofs.Walked.{spot-start, spot-more}
 
 -- ---- 0, 4, 5, 6 and 7; 1, 2 and 3
@@ -157,6 +160,15 @@ module _ (ρ : Rules) (s b : List ℕ) (at : ℕ) where
       let p = located-is ρ s at n ns e in
       let l : at ≤ n = omega (arith, located-long ρ s at n ns e) in
       located-local ρ s (s ++ b) at n ns (head-grown (p .inside) (p .head)) (ap (map isFeed) (sym (part-within s b at n l (located-range ρ s at n ns e)))) e
+
+  -- and the other way: a record that ends inside s does not need what stands behind
+  pub located-cut : (n : ℕ) (ns : List ℕ) → locate ρ (s ++ b) at ≡ located n ns → n ≤ length s → locate ρ s at ≡ located n ns
+  located-cut n ns e inside =
+      let l : at ≤ n = omega (arith, located-long ρ (s ++ b) at n ns e) in
+      let same : part at n (s ++ b) ≡ part at n s = part-within s b at n l inside in
+      let many = record-whole ρ (s ++ b) at n ns e .many in
+      let two : 2 ≤ feeds (drop at s) = omega (arith, feeds-part s at n l, ap feeds same, many, record-two ρ ns) in
+      located-local ρ (s ++ b) s at n ns (ap (lines 2) (drop-append-le at s b (omega arith)) ∙ lines-append (drop at s) b 2 two) (ap (map isFeed) same) e
 
   refused-grown : (r : Refusal) → ByIndex r → locate ρ s at ≡ refused r → locate ρ (s ++ b) at ≡ refused r
   refused-grown r i e = let x = from-index ρ at r i s e in refused-local ρ at r i s (s ++ b) (head-grown (x .inner) (x .two)) e

@@ -3,6 +3,7 @@ pub mod Entries
 pub mod Steps
 pub mod Placed
 pub mod Walked
+pub mod Counted
 pub mod Due
 pub mod Tiling
 pub mod Spans
@@ -10,6 +11,7 @@ pub mod Local
 pub mod SameWalk
 pub mod Numbered
 pub mod Zero
+pub mod Parted
 pub mod Alike
 pub mod Ends
 pub mod Apart

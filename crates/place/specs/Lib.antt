@@ -7,6 +7,8 @@ pub mod Parts
 pub mod Walk
 pub mod Numbered
 pub mod Due
+-- R259: what is read by the places that a record carries
+pub mod Parted
 -- R256, R257: what bytes that are added at a text's end leave as it was
 pub mod Growth
 -- R9: answers that are the same but for the next place

@@ -3,6 +3,7 @@ use mathlib.Core.Path.{_≡_}
 use mathlib.Core.List.{List}
 use mathlib.Core.Logic.{_⊎_, _↔_}
 use Prim.Native.Nat.{ℕ, zero, suc, _<_}
+use lib.ListN.{length}
 use Rattle.rules.specs.declared.Rules.{Rules}
 use Rattle.reply.specs.declared.Refusal.{Refusal}
 use Rattle.place.specs.declared.Placing.the-variants.{Refused}
@@ -17,6 +18,11 @@ PlacedAt ρ s at = (placingReply (placingOf ρ s at) .number ≡ 0) ⊎ (placing
 abbrev pub onward : ℕ → Located → ℕ
 onward at (located n ns) = n
 onward at (refused r) = at
+
+-- a record more, if one stands there
+abbrev pub oneMore : Located → ℕ → ℕ
+oneMore (located n ns) many = suc many
+oneMore (refused r) many = 0
 
 module _ (ρ : Rules) where
   -- R254: where the walk stands after k steps from the text's start; once it has stopped it stays
@@ -34,6 +40,15 @@ module _ (ρ : Rules) where
   pub record Stops (s : List ℕ) (many : ℕ) (r : Refusal) : Type 0 where
     pub each : (k : ℕ) → k < many → IsRecord s (spot s k)
     pub last : locate ρ s (spot s many) ≡ refused r
+
+  -- how many records the walk has: those from the k-th spot on, of which no more than `most` are looked at
+  unfoldable pub recordsFrom : List ℕ → ℕ → ℕ → ℕ
+  recordsFrom s k zero = 0
+  recordsFrom s k (suc most) = oneMore (locate ρ s (spot s k)) (recordsFrom s (suc k) most)
+
+  -- a text has no more records than bytes. proofs/Counted.antt: it is the number at which the walk stops, and there is no other
+  unfoldable pub recordsIn : List ℕ → ℕ
+  recordsIn s = recordsFrom s 0 (length s)
 
   -- ---- R254 in what placing gives (`walks` in proofs/Stopped.antt)
 

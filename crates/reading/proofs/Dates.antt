@@ -15,7 +15,7 @@ use Rattle.base.specs.Every
 use Rattle.base.specs.Every.{upFrom}
 use Rattle.base.specs.Part.{part}
 use Rattle.base.specs.Pieces
-use Rattle.base.specs.Pieces.{done, bad}
+use Rattle.base.specs.Pieces.{done, bad, cellsGot}
 use Rattle.base.specs.Sign.{sizeOf}
 use Rattle.base.proofs.Pieces.{BothDone, both-done}
 use Rattle.base.proofs.Taken.{drop-none, take-none, drop-take, take-both, part-begin}
@@ -44,7 +44,8 @@ use Rattle.reading.specs.Blanks.{mayBeShort, filledTo}
 use Rattle.reading.specs.Plan.{Line, lineAt, planFrom, planOf}
 use Rattle.reply.specs.declared.Checked.the-variants as C
 use Rattle.reply.specs.declared.Refusal.{Refusal}
-use Rattle.reading.specs.Read.{Cells, readField, readFields, columnsOf, readLine, readLinesOf, readLines, verdictOf, dated, byDate, dateVerdict}
+use Rattle.reading.specs.Read.{Cells, readField, readFields, columnsOf, readLine, readLinesOf, readLines, verdictOf, dated, byDate, dateVerdict, lettersDated, recordDated, dateTold}
+use Rattle.reading.specs.declared.RecordDate.the-variants.{NoDate}
 use Rattle.reading.proofs.Blanks.{filled-enough, right-low}
 use Rattle.reading.proofs.Letters.{letter-byte}
 use Rattle.reading.proofs.Checking.{lines-more}
@@ -178,18 +179,48 @@ module _ (ρ : Rules) (count : ℕ) (x : List ℕ) (v : verdictOf (readLines ρ 
   pub letters-inside : k ≤ length x
   letters-inside = letters-first .inside
 
-  pub date-verdict : {d : Dated} → datedOf (part 0 k x) ≡ d → dateVerdict d ≡ verdictOf (dated 3 (readLines ρ A1 false count x))
-  date-verdict {d = d} e =
+  pub line-dated : datedOf (part 0 k x) ≡ lettersDated (cellsGot (readLines ρ A1 false count x))
+  line-dated =
       let r = clean-read (readLines ρ A1 false count x) v in
       let b = letters-first in
       let long : 19 ≤ k = omega (arith, letters-row .0, letters-elements ρ count) in
-      let same : datedOf (map sizeOf (r .cells)) ≡ d =
-      sym (dated-take (map sizeOf (r .cells)) k (omega (arith, b .many)) long) ∙ ap datedOf (b .same ∙ ap (take k) (sym (drop-none x)) ∙ ap (λ i. take i (drop 0 x)) (sym (sub-zero k))) ∙ e in
-      sym (ap (λ g. verdictOf (dated 3 g)) (r .is) ∙ verdict (r .cells) (datedOf (map sizeOf (r .cells))) ∙ ap dateVerdict same)
+      sym (ap datedOf (b .same ∙ ap (take k) (sym (drop-none x)) ∙ ap (λ i. take i (drop 0 x)) (sym (sub-zero k))))
+      ∙ dated-take (map sizeOf (r .cells)) k (omega (arith, b .many)) long
+      ∙ ap (λ c. lettersDated (cellsGot c)) (sym (r .is))
+
+module _ (c : Cells) where
+  -- clean lines: the letters decide
+  module _ (v : verdictOf c ≡ C.Right) {d : Dated} (e : lettersDated (cellsGot c) ≡ d) where
+    same : lettersDated (clean-read c v .cells) ≡ d
+    same = ap (λ g. lettersDated (cellsGot g)) (sym (clean-read c v .is)) ∙ e
+
+    pub date-verdict : dateVerdict d ≡ verdictOf (dated 3 c)
+    date-verdict =
+        let r = clean-read c v in
+        sym (ap (λ g. verdictOf (dated 3 g)) (r .is) ∙ verdict (r .cells) (lettersDated (r .cells)) ∙ ap dateVerdict same)
+      where
+        verdict : (cs : List ℤ) (d : Dated) → verdictOf (byDate cs d) ≡ dateVerdict d
+        verdict cs (Right y) = refl
+        verdict cs (Wrong y) = refl
+
+    pub told-clean : dateTold c ≡ recordDated d
+    told-clean = ap dateTold (clean-read c v .is) ∙ ap recordDated same
+
+  pub told-refused : {r : Refusal} → verdictOf c ≡ C.Refused r → dateTold c ≡ NoDate
+  told-refused {r} e = by c e
     where
-      verdict : (cs : List ℤ) (d : Dated) → verdictOf (byDate cs d) ≡ dateVerdict d
-      verdict cs (Right y) = refl
-      verdict cs (Wrong y) = refl
+      by : (c : Cells) → verdictOf c ≡ C.Refused r → dateTold c ≡ NoDate
+      by (done cs) e = let z : _≡_ {A = ℕ} 0 1 = cc in absurd (omega arith)
+      by (bad q) e = refl
+
+-- letters that tell no date are refused, and so tell none either way
+pub told-dated : (c : Cells) → dateTold (dated 3 c) ≡ dateTold c
+told-dated (bad r) = refl
+told-dated (done cs) = by (lettersDated cs) refl
+  where
+    by : (d : Dated) → lettersDated cs ≡ d → dateTold (byDate cs d) ≡ recordDated d
+    by (Right d) e = ap recordDated e
+    by (Wrong p) e = refl
 
 -- ---- the whole check
 
@@ -202,10 +233,13 @@ bad-date g (done cs) e = let z : _≡_ {A = ℕ} 0 1 = cc in absurd (omega arith
 bad-date g (bad r) e = sym e
 
 -- group 3 has the form A1
-pub date-form : (g : ℕ) (f : Form) → formOf g ≡ Has f → g ≡ 3 → f ≡ A1
+pub date-has : formOf 3 ≡ Has A1
 unfolding Table.formOf Table.formAmong Table.listedAs
+date-has = refl
+
+pub date-form : (g : ℕ) (f : Form) → formOf g ≡ Has f → g ≡ 3 → f ≡ A1
 date-form g f e t =
-    let z : Has A1 ≡ Has f = ap formOf (sym t) ∙ e in
+    let z : Has A1 ≡ Has f = sym date-has ∙ ap formOf (sym t) ∙ e in
     cc
 
 -- and its lines may not be short

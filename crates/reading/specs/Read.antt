@@ -29,6 +29,8 @@ use Rattle.date.specs.declared.Dated.{Dated}
 use Rattle.date.specs.declared.Dated.the-variants.{Right, Wrong}
 use Rattle.reading.specs.Blanks.{mayBeShort, isRight, filledTo}
 use Rattle.reading.specs.Plan.{Line, planOf, elementsIn}
+use Rattle.reading.specs.declared.RecordDate.{RecordDate}
+use Rattle.reading.specs.declared.RecordDate.the-variants.{Told, NoDate}
 use Rattle.reply.specs.declared.Refusal.{Refusal}
 use Rattle.reply.specs.declared.Refusal.the-variants.{NoSuchNumber, BrokenRule, NoRoom, BadLine, BadField, BadDate}
 use Rattle.reply.specs.declared.Answer.{Answer}
@@ -118,6 +120,21 @@ readingOf (bad r) = Refused r
 abbrev pub tableBy : {B : Type 0} → Got B ℤ → List ℤ → List ℤ
 tableBy (done cs) old = over 0 cs old
 tableBy (bad r) old = old
+
+-- ---- R333: the date of a record
+
+-- the date that the cells of group 3 tell, which are its letters
+abbrev pub lettersDated : List ℤ → Dated
+lettersDated cs = datedOf (map sizeOf cs)
+
+abbrev pub recordDated : Dated → RecordDate
+recordDated (Right d) = Told d
+recordDated (Wrong p) = NoDate
+
+-- that of the record whose group 3 reads so; there is none where it is refused
+abbrev pub dateTold : Cells → RecordDate
+dateTold (done cs) = recordDated (lettersDated cs)
+dateTold (bad r) = NoDate
 
 -- ---- whether all is clean, as the first pass finds it
 

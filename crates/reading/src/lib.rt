@@ -1,6 +1,7 @@
 // Reading the lines of a group under its record's counts. The lines are checked first, and the table is filled only
 // when all of them are clean (R267). The text that they come from is not known here (R269).
 use count::Ruling;
+use date::Dated;
 use form::Form;
 use form::GroupForm;
 use reply::Answer;
@@ -25,7 +26,13 @@ ghost use Rattle.line.specs.Lines.{reach};
 ghost use Rattle.reading.specs.Blanks.{blank, mayBeShort, shortest, filledTo, isRight, asField};
 ghost use Rattle.reading.specs.Blanks.{fieldPart, fieldsSpan, allFormed, HoldsLetters, ToPut, rightContent};
 ghost use Rattle.reading.specs.Read.{verdictOf, misfitOf, readLines, dated, readForm, readGroup, readingOf};
-ghost use Rattle.reading.specs.Read.{tableBy};
+ghost use Rattle.reading.specs.Read.{tableBy, lettersDated, dateTold};
+
+// R333: the date of a record, if it has one.
+pub enum RecordDate {
+    Told(date::Date),
+    NoDate,
+}
 
 // ---- What a line holds.
 
@@ -241,18 +248,27 @@ fn check_lines(rules: rules::Rules, form: Form, short: bool, count: u16, lines: 
     verdict
 }
 
-// R140, R210: the date stands in the first line of group 3, where R123 puts 19 characters at least.
+// R140: the date stands in the first line of group 3, where R123 puts 19 characters at least.
+fn date_in(rules: rules::Rules, count: u16, lines: &[u8]) -> Dated
+    requires date { ⌜ 19 ≤ count ⌝ }
+    requires clean { ⌜ verdictOf (readLines rules Form.A1 Bool.false count (now lines)) ≡ Checked.Right ⌝ }
+    ensures { λ r. ⌜ r ≡ lettersDated (cellsGot (readLines rules Form.A1 Bool.false count (now (lines .entry)))) ⌝ }
+{
+    let n = form::elements(rules, Form::A1, count);
+    let row = form::row_of(Form::A1);
+    let k = base::lesser(row.per_line, n);
+    date::Date::new(&lines[0..k])
+}
+
+// R210: whether these letters are a date.
 fn check_date(rules: rules::Rules, count: u16, lines: &[u8]) -> Checked
     requires date { ⌜ 19 ≤ count ⌝ }
     requires clean { ⌜ verdictOf (readLines rules Form.A1 Bool.false count (now lines)) ≡ Checked.Right ⌝ }
     ensures { λ r. ⌜ r ≡ verdictOf (dated 3 (readLines rules Form.A1 Bool.false count (now (lines .entry)))) ⌝ }
 {
-    let n = form::elements(rules, Form::A1, count);
-    let row = form::row_of(Form::A1);
-    let k = base::lesser(row.per_line, n);
-    match date::Date::new(&lines[0..k]) {
-        date::Dated::Right(_) => Checked::Right,
-        date::Dated::Wrong(position) => Checked::Refused(Refusal::BadDate(position)),
+    match date_in(rules, count, lines) {
+        Dated::Right(_) => Checked::Right,
+        Dated::Wrong(position) => Checked::Refused(Refusal::BadDate(position)),
     }
 }
 
@@ -450,6 +466,24 @@ pub fn check_kept(rules: rules::Rules, counts: &[u16], group: usize, lines: &[u8
         return Checked::Right;
     }
     check(rules, form::form_in(group), group, count, lines)
+}
+
+// R333: the date of a record with these counts, whose group 3 has these lines. It has one if `read_kept` reads that group
+// with 0, given room. No cell is stored.
+pub fn date_kept(rules: rules::Rules, counts: &[u16], lines: &[u8]) -> RecordDate
+    requires { ⌜ rulingOf (now counts) ≡ Ruling.Kept ⌝ }
+    ensures { λ r. ⌜ r ≡
+        dateTold
+        (readGroup rules (now (counts .entry)) 3 (now (lines .entry)) (cellsIn rules (now (counts .entry)) 3)) ⌝ }
+{
+    let count = count::count_of(counts, 3);
+    let Checked::Right = check_lines(rules, Form::A1, false, count, lines) else {
+        return RecordDate::NoDate;
+    };
+    match date_in(rules, count, lines) {
+        Dated::Right(date) => RecordDate::Told(date),
+        Dated::Wrong(_) => RecordDate::NoDate,
+    }
 }
 
 // The cells of a group that was found clean, from a cell of the table on. It gives the cell behind them.

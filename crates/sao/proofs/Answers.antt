@@ -19,6 +19,7 @@ use Rattle.group.specs.Text.{readAt}
 use Rattle.reading.specs.Read.{Cells, readingOf, tableBy}
 use Rattle.writing.specs.Due as WritingIs
 use Rattle.writing.specs.Writing.{outputBy}
+use Rattle.since.specs.Due as FirstIs
 use Rattle.whole.specs.Due as WholeIs
 use Rattle.whole.specs.Turn.{Turn}
 use Rattle.whole.specs.Whole.{wholeRead, recordReadOf}
@@ -47,6 +48,7 @@ use Rattle.sao.proofs.record_lines_at
 use Rattle.sao.proofs.record_lines
 use Rattle.sao.proofs.record_characteristic
 use Rattle.sao.proofs.read_record
+use Rattle.sao.proofs.first_from
 use Rattle.sao.proofs.write_record
 use Rattle.sao.proofs.list
 use Rattle.sao.proofs.rewrite_record
@@ -130,6 +132,11 @@ pub read-record-due : Gives read_record.ended read_record.Reads.Learnt
 read-record-due κs (ρ, (text, (at, (table, _)))) r v l =
     let t = wholeRead ρ (now text) at (length (now table)) in
     (t, as-due ρ .whole (now text) at (length (now table)) t .0 refl, l .0, l .1)
+
+-- ---- the first record from a date on
+
+pub first-from-due : Gives first_from.ended first_from.Reads.Learnt (λ κs a r v. FirstIs.Due (a .0) (now (a .1 .0)) (a .1 .1 .0) r)
+first-from-due κs (ρ, (text, (from, _))) r v l = as-due ρ .first (now text) from r .0 (sym l)
 
 -- ---- writing, listing, rewriting
 

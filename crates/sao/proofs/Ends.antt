@@ -15,6 +15,7 @@ use Rattle.reading.proofs.Ends.{strict-bad-line}
 use Rattle.group.proofs.Alike.{alike-read, alike-found, alike-given, alike-characteristic}
 use Rattle.group.proofs.Ends.{located-found, located-begins, located-lines, strict-read, strict-characteristic}
 use Rattle.writing.proofs.Ends.{canonical-same}
+use Rattle.since.proofs.Kept.{alike-first}
 use Rattle.whole.proofs.Alike.{alike-whole}
 use Rattle.whole.proofs.Ends.{strict-whole}
 use Rattle.rewriting.proofs.Alike.{alike-rewriting, alike-text, alike-printed}
@@ -70,7 +71,7 @@ line-ends ρ = record {
         rewriting = alike-rewriting ρ s p t q h;
         text = alike-text ρ s p t q h;
       };
-  walk = λ s t h. record { spots = alike-spot ρ s t h; stops = alike-stops ρ s t h; prints = alike-printed ρ s t h };
+  walk = λ s t h. record { spots = alike-spot ρ s t h; stops = alike-stops ρ s t h; first = alike-first ρ s t h; prints = alike-printed ρ s t h };
   canonical =
       record {
         reads-back = λ e x r a b. right-back (ended e ρ) (right-record-same ρ (ended e ρ) refl r) a b;

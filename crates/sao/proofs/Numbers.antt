@@ -38,6 +38,7 @@ answers-told =
         characteristic-refused = λ r. refl;
       };
       whole = record { read = λ n. (refl, refl); refused = λ g r. (refl, refl) };
+      first = record { found = λ p k. (refl, refl, refl); refused = λ k r. (refl, refl, refl) };
       text = record {
         written = λ n. refl;
         write-refused = λ r. refl;

@@ -24,6 +24,7 @@ use Rattle.sao.proofs.record_lines_at
 use Rattle.sao.proofs.record_lines
 use Rattle.sao.proofs.record_characteristic
 use Rattle.sao.proofs.read_record
+use Rattle.sao.proofs.first_from
 use Rattle.sao.proofs.write_record
 use Rattle.sao.proofs.list
 use Rattle.sao.proofs.rewrite_record
@@ -81,6 +82,11 @@ pub read-record-one : OneOutcome read_record.ended read_record.Reads.Learnt
 read-record-one κs a r q v w l k =
     let table = l .1 ∙ sym (k .1) in
     (l .0 ∙ sym (k .0), λ i. (tt, (tt, (tt, (table i, tt)))))
+
+-- ---- the first record from a date on
+
+pub first-from-one : OneOutcome first_from.ended first_from.Reads.Learnt
+first-from-one κs a r q v w l k = (l ∙ sym k, λ i. (tt, (tt, (tt, tt))))
 
 -- ---- writing, listing, rewriting
 

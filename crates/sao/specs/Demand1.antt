@@ -30,6 +30,9 @@ use Rattle.listing.specs.Listing.{listing, listedIn}
 use Rattle.listing.specs.Numbered.{listingRows}
 use Rattle.writing.specs.Writing.{writingOf, outputBy}
 use Rattle.writing.specs.Numbered.{writingRows}
+use Rattle.date.specs.declared.Date.{Date}
+use Rattle.since.specs.Numbered.{firstReply, placeTold, passedTold, NumberedApart}
+use Rattle.since.specs.Since.{firstFrom}
 use Rattle.whole.specs.Numbered.{recordReply, groupTold, NumberedWith, wholeRow}
 use Rattle.whole.specs.Whole.{wholeRead, recordReadOf}
 use Rattle.rewriting.specs.Record.{rewritingOf, bufferBy, tableAfter}
@@ -62,6 +65,8 @@ module _ (ρ : Rules) where
     -- R272, R323: and the group that is told apart from the reply, one of 1 to 60 beside 8, 9 and 10, 0 beside all others
     pub whole : (s : List ℕ) (at room : ℕ) → NumberedWith wholeRow (groupTold (recordReadOf (wholeRead ρ s at room))) (recordReply (recordReadOf (wholeRead ρ s at room)))
     pub rewriting : (s : List ℕ) (at cells room : ℕ) → NumberedWith rewritingRow (rewritingGroup (rewritingOf ρ s at cells room)) (rewritingReply (rewritingOf ρ s at cells room))
+    -- R335: and the place and the records passed, told apart too: the place is 0 beside every refusal, the records passed are 0 beside 10
+    pub first : (s : List ℕ) (from : Date) → NumberedApart (placeTold (firstFrom ρ s from)) (passedTold (firstFrom ρ s from)) (firstReply (firstFrom ρ s from))
     -- R550, R540: the calls of the edit journal, and a replay
     pub call : (ns j : List ℕ) (used cells : ℕ) (c : Call) → Numbered (callRows c) (editReply (answerOf ρ ns j used cells c))
     pub replay : (ns j : List ℕ) (used : ℕ) (cs : List ℤ) → Numbered replayRows (checkedReply (replayOf ρ ns j used cs))

@@ -5,6 +5,7 @@
 --
 -- s is a text, ns are counts, cs the cells of all groups, group 1's first (R47).
 use mathlib.Core.Path.{_≡_}
+use mathlib.Core.Bool.{true}
 use mathlib.Core.List.{List, _++_}
 use mathlib.Core.Logic.{_↔_}
 use Prim.Native.Nat.{ℕ, _+_, _-_, _≤_}
@@ -21,7 +22,7 @@ use Rattle.reply.specs.declared.Answer.{Answer}
 use Rattle.reply.specs.declared.Answer.the-variants.{Done}
 use Rattle.place.specs.declared.Placing.{Placing}
 use Rattle.place.specs.Placing.{placingOf, countsAt, startsAt, endsAt, Carried}
-use Rattle.place.specs.Walk.{Walks}
+use Rattle.place.specs.Walk.{Walks, recordsIn}
 use Rattle.place.specs.Due as PlacingIs
 use Rattle.reading.specs.Read.{Cells, tableBy}
 use Rattle.group.specs.declared.Characteristic.{Characteristic}
@@ -55,6 +56,15 @@ use Rattle.rewriting.specs.Canonical.{CanonicalRecords}
 use Rattle.rewriting.specs.Due as RewritingIs
 use Rattle.rewriting.specs.Printed.{printed}
 use Rattle.rewriting.specs.Record.{rewritingOf, bufferBy, tableAfter}
+use Rattle.date.specs.declared.Date.{Date}
+use Rattle.date.specs.declared.Dated.the-variants as Dated
+use Rattle.date.specs.Asked.{datedBy}
+use Rattle.date.specs.Order.{notLess, seven, AtOrAfter, notBefore}
+use Rattle.since.specs.declared.First.{First}
+use Rattle.since.specs.declared.First.the-variants.{Found, Refused}
+use Rattle.since.specs.Due as FirstIs
+use Rattle.since.specs.Kept.{StopsThere}
+use Rattle.since.specs.Since.{firstIn, wholeWalk, stopOf, firstFrom}
 use Rattle.whole.specs.Due as WholeIs
 use Rattle.whole.specs.InTurn.{AsInTurn}
 use Rattle.whole.specs.Turn.{Turn}
@@ -87,6 +97,8 @@ module _ (ρ : Rules) where
     pub record-characteristic : (s : List ℕ) (r : Carried) (k : ℕ) (c : Characteristic) → characteristicWith ρ s r k ≡ c ↔ RecordIs.ToldWithDue ρ s r k c
     -- R272: a whole record: its cells, or the refusal with the group that was being read
     pub whole : (s : List ℕ) (at room : ℕ) (t : Turn) → wholeRead ρ s at room ≡ t ↔ WholeIs.Due ρ s at room t
+    -- R334: the first record from a date on: its place and the records passed, or the refusal with these
+    pub first : (s : List ℕ) (from : Date) (x : First) → firstFrom ρ s from ≡ x ↔ FirstIs.Due ρ s from x
     pub writing : (ns : List ℕ) (cs : List ℤ) (room : ℕ) (r : Answer) → writingOf ρ ns cs room ≡ r ↔ WritingIs.Due ρ ns cs room r
     pub rewriting : (s : List ℕ) (at cells room : ℕ) (r : Rewriting) → rewritingOf ρ s at cells room ≡ r ↔ RewritingIs.Due ρ s at cells room r
     pub listed : (s : List ℕ) (room : ℕ) (r : Answer) → listedIn (listing ρ s) room ≡ r ↔ ListingDue (listing ρ s) room r
@@ -128,6 +140,16 @@ module _ (ρ : Rules) where
     pub decide : (s : List ℕ) (r : Carried) → LinesDecide ρ s r
     -- a record that was placed in the text at hand, under the same rules: as asking by its place, and 22 never comes
     pub placed : PlacedAnswers ρ
+
+  -- R330, R332, R336: the first record from a date on
+  pub record FirstRecord : Type 0 where
+    -- all records of the walk are listed with their dates, and the first that is at or after is the answer; if none is, the stop is
+    pub full-walk : (s : List ℕ) (from : Date) → datedBy from ≡ Dated.Right from → firstFrom ρ s from ≡ firstIn from (wholeWalk ρ s) 0 (Refused (recordsIn ρ s) (stopOf ρ s))
+    -- what stands behind the record that is found has no part in it
+    pub stops-there : (s : List ℕ) (from : Date) (place passed : ℕ) → firstFrom ρ s from ≡ Found place passed → StopsThere ρ s from place passed
+    -- year, day of the year and time of day order right dates as all seven numbers do; and that test is the statement
+    pub order : (d e : Date) → datedBy d ≡ Dated.Right d → datedBy e ≡ Dated.Right e → notLess (seven d) (seven e) ≡ notBefore d e
+    pub at-or-after : (d e : Date) → (notBefore d e ≡ true) ↔ AtOrAfter d e
 
   -- D2.3: n bytes, canonical with these counts and cells, and no other text is (R100)
   pub record OneCanonical (ns : List ℕ) (cs : List ℤ) (n : ℕ) : Type 0 where
@@ -189,6 +211,7 @@ module _ (ρ : Rules) where
     pub records : RecordAnswers
     -- R274: one call for a whole record is equal to asking for its groups in turn
     pub in-turn : (s : List ℕ) (at : ℕ) → AsInTurn ρ s at
+    pub first-record : FirstRecord
     pub canonical : WritesCanonical
     pub reads-back : WrittenReadsBack
     pub read-writes : ReadWrites

@@ -39,6 +39,9 @@ use Rattle.journal.specs.Plays.{replayOf, replayedCells, replayedOpen}
 use Rattle.journal.specs.Runs.{Kept, answerTo, leftBy}
 use Rattle.writing.specs.RoundTrip.{ReadsBack}
 use Rattle.writing.specs.Writing.{writingOf, outputBy}
+use Rattle.date.specs.declared.Date.{Date}
+use Rattle.since.specs.Kept.{SameFirst}
+use Rattle.since.specs.Since.{firstFrom}
 use Rattle.whole.specs.Whole.{wholeRead}
 use Rattle.rewriting.specs.declared.Rewriting.the-variants.{Done}
 use Rattle.rewriting.specs.Alike.{SameRewriting}
@@ -112,6 +115,8 @@ pub record WalkedAlike (ρ : Rules) (s t : List ℕ) : Type 0 where
   pub spots : (k : ℕ) → AlikeFrom ρ s (spot ρ s k) t (spot ρ t k)
   -- as many records, and the same refusal behind them
   pub stops : (many : ℕ) (r : Refusal) → Stops ρ s many r ↔ Stops ρ t many r
+  -- the same record is the first from a date on, or the same refusal is given
+  pub first : (from : Date) → SameFirst ρ s t (firstFrom ρ s from) (firstFrom ρ t from)
   -- R341: the rewriting program prints the same for both, where both are within its limit
   pub prints : length s ≤ 65536 → length t ≤ 65536 → printed ρ s ≡ printed ρ t
 

@@ -8,6 +8,8 @@ use Rattle.place.specs.Growth.{GrowthKeeps}
 use Rattle.place.specs.Walk.{PlacedAt}
 use Rattle.group.specs.Growth.{GroupsStay}
 use Rattle.view.specs.Placed.{GrowthKept}
+use Rattle.date.specs.declared.Date.{Date}
+use Rattle.since.specs.Kept.{GrowthKeepsFirst}
 use Rattle.whole.specs.Kept.{GrowthKeepsWhole}
 use Rattle.rewriting.specs.Growth.{RewritingStays}
 
@@ -20,5 +22,7 @@ pub record Growth (ρ : Rules) : Type 0 where
   pub records : (s b : List ℕ) (at : ℕ) → PlacedAt ρ s at → GrowthKept ρ s b at
   -- whole records, there: the cells, or the refusal with its numbers
   pub whole : (s b : List ℕ) → GrowthKeepsWhole ρ s b
+  -- the first record from a date on: one that was found, and every refusal but 1 and 3
+  pub first : (s b : List ℕ) (from : Date) → GrowthKeepsFirst ρ s b from
   -- and rewriting, there: its answer, and what it leaves in the output and in the table
   pub rewriting : (s b : List ℕ) → RewritingStays ρ s b

@@ -20,6 +20,8 @@ use Rattle.group.specs.declared.Characteristic.the-variants.{Value, NoReading, 
 use Rattle.group.specs.Numbered.{characteristicReply}
 use Rattle.whole.specs.declared.RecordRead.the-variants as W
 use Rattle.whole.specs.Numbered.{recordReply, groupTold}
+use Rattle.since.specs.declared.First.the-variants as F
+use Rattle.since.specs.Numbered.{firstReply, placeTold, passedTold}
 use Rattle.rewriting.specs.declared.Rewriting.the-variants as R
 use Rattle.journal.specs.Numbered.{editReply}
 use Rattle.rewriting.specs.Numbered.{rewritingReply, rewritingGroup}
@@ -82,6 +84,11 @@ pub record WholeTold : Type 0 where
   pub read : (n : ℕ) → (recordReply (W.Done n) ≡ figures 0 0 n 0 0 0 0 0 0) × (groupTold (W.Done n) ≡ 0)
   pub refused : (g : ℕ) (r : Refusal) → (recordReply (W.Refused g r) ≡ refusalReply r) × (groupTold (W.Refused g r) ≡ g)
 
+-- R334, R335: the first record from a date on, with its place and the records that were passed apart
+pub record FirstTold : Type 0 where
+  pub found : (p k : ℕ) → (firstReply (F.Found p k) ≡ figures 0 0 0 0 0 0 0 0 0) × (placeTold (F.Found p k) ≡ p) × (passedTold (F.Found p k) ≡ k)
+  pub refused : (k : ℕ) (r : Refusal) → (firstReply (F.Refused k r) ≡ refusalReply r) × (placeTold (F.Refused k r) ≡ 0) × (passedTold (F.Refused k r) ≡ k)
+
 -- R300, R310: writing and listing; R323: and rewriting, with the group that was being read apart
 pub record TextTold : Type 0 where
   pub written : (n : ℕ) → answerReply (A.Done n) ≡ figures 0 0 n 0 0 0 0 0 0
@@ -100,5 +107,6 @@ pub record AnswersTold : Type 0 where
   pub placing : PlacingTold
   pub group : GroupTold
   pub whole : WholeTold
+  pub first : FirstTold
   pub text : TextTold
   pub journal : JournalTold

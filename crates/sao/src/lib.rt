@@ -1,6 +1,7 @@
 // The questions, R240. Each may be asked of every text, place, number, table and output; nothing has to hold beforehand
 // (R241). The layers answer them; here each has its name, its contract and nothing else. `reply`, and the layers'
 // `reply_of` for answers of their own, give an answer's number, with the numbers beside it (R200 to R217 and R222).
+use date::Date;
 use group::Characteristic;
 use group::Lines;
 use journal::Edited;
@@ -8,6 +9,7 @@ use journal::Replayed;
 use place::Record;
 use reply::Answer;
 use rewriting::Rewriting;
+use since::First;
 use whole::RecordRead;
 ghost use mathlib.Core.Path.{_≡_};
 ghost use lib.ListN.{length};
@@ -18,6 +20,7 @@ ghost use Rattle.group.specs.Text.{readAt};
 ghost use Rattle.group.specs.Held.{foundAt, partStart, partEnd, partAt, moved};
 ghost use Rattle.group.specs.Characteristics.{characteristicAt};
 ghost use Rattle.view.specs.With.{foundWith, startWith, endWith, partWith, readWith, characteristicWith};
+ghost use Rattle.since.specs.Since.{firstFrom};
 ghost use Rattle.whole.specs.Whole.{wholeRead, recordReadOf};
 ghost use Rattle.writing.specs.Writing.{writingOf, outputBy};
 ghost use Rattle.rewriting.specs.Record.{rewritingOf, tableAfter, bufferBy};
@@ -196,6 +199,17 @@ pub fn rewrite_record(
     ensures output { λ r. ⌜ now (out .exit) ≡ bufferBy rules (now (text .entry)) at r (now (out .entry)) ⌝ }
 {
     rewriting::rewrite_record(rules, text, at, table, out)
+}
+
+// R330 to R337. Asked: the first record of a text's walk that is not earlier than a date, which is given by the seven
+// numbers that group 3 has.
+// Answered: 0 with the record's place, and how many records were passed before it. Nothing behind it is looked at.
+// A refusal has how many records were passed: 10 for a date that breaks the rules of the date, before the text is looked
+// at; where there is no such record, what the walk stopped with behind all of them, one of 1 and 3 to 6.
+pub fn first_from(rules: rules::Rules, text: &[u8], from: Date) -> First
+    ensures { λ r. ⌜ r ≡ firstFrom rules (now (text .entry)) from ⌝ }
+{
+    since::first_from(rules, text, from)
 }
 
 // ---- The edit journal, R500 to R550. What is kept between two calls is the caller's: the counts of a record, the

@@ -13,6 +13,7 @@ use Rattle.seambeacon.proofs.seambeacon_record_characteristic_apart as 
 use Rattle.seambeacon.proofs.seambeacon_write_record as write-record
 use Rattle.seambeacon.proofs.seambeacon_list as list
 use Rattle.seambeacon.proofs.seambeacon_read_record as read-record
+use Rattle.seambeacon.proofs.seambeacon_first_from as first-from
 use Rattle.seambeacon.proofs.seambeacon_rewrite_record as rewrite-record
 use Rattle.seambeacon.proofs.seambeacon_set_cell as set-cell
 use Rattle.seambeacon.proofs.seambeacon_open_savepoint as open-savepoint
@@ -76,6 +77,15 @@ read-record-one κs a n m v w l k =
     let unread = l .1 .0 ∙ sym (k .1 .0) in
     let table = l .1 .1 ∙ sym (k .1 .1) in
     (l .0 .number ∙ sym (k .0 .number), λ i. (tt, (tt, (tt, (table i, (unread i, (beside i, tt)))))))
+
+-- ---- the first record from a date on
+
+pub first-from-one : OneOutcome first-from.ended first-from.Reads.Learnt
+first-from-one κs a n m v w l k =
+    let beside = l .0 .besides ∙ sym (k .0 .besides) in
+    let place = l .1 .0 ∙ sym (k .1 .0) in
+    let passed = l .1 .1 ∙ sym (k .1 .1) in
+    (l .0 .number ∙ sym (k .0 .number), λ i. (tt, (tt, (tt, (place i, (passed i, (beside i, tt)))))))
 
 -- ---- writing, listing, rewriting
 

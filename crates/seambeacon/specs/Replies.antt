@@ -16,6 +16,9 @@ use Rattle.group.specs.Numbered.{characteristicReply}
 use Rattle.view.specs.With.{foundWith, readWith, characteristicWith}
 use Rattle.whole.specs.Numbered.{recordReply}
 use Rattle.whole.specs.Whole.{wholeRead, recordReadOf}
+use Rattle.date.specs.declared.Date.{Date}
+use Rattle.since.specs.Numbered.{firstReply}
+use Rattle.since.specs.Since.{firstFrom}
 use Rattle.writing.specs.Writing.{writingOf}
 use Rattle.rewriting.specs.Record.{rewritingOf}
 use Rattle.rewriting.specs.Numbered.{rewritingReply}
@@ -50,6 +53,10 @@ recordCharacteristicReply ρ s r k = characteristicReply (characteristicWith ρ 
 -- the whole record, into a table of so many cells
 abbrev pub wholeReply : Rules → List ℕ → ℕ → ℕ → Reply
 wholeReply ρ s at cells = recordReply (recordReadOf (wholeRead ρ s at cells))
+
+-- the first record from a date on
+abbrev pub firstFromReply : Rules → List ℕ → Date → Reply
+firstFromReply ρ s from = firstReply (firstFrom ρ s from)
 
 -- into an output of so many bytes
 abbrev pub writeReply : Rules → List ℕ → List ℤ → ℕ → Reply

@@ -2,6 +2,7 @@
 // reply's number and writes the eight numbers beside it, in the order of `eightBeside`, into lent memory; those that
 // the reply's row doesn't name are 0. What else is lent is altered as the question of the same name says. R365: each
 // takes the rules first, as a number of flags. include/seambeacon.h tells a caller in C.
+use date::Date;
 use group::Characteristic;
 use reply::Reply;
 use rules::Rules;
@@ -9,10 +10,10 @@ ghost use mathlib.Core.Path.{_≡_};
 ghost use mathlib.Core.List.{[], _∷_};
 ghost use lib.ListN.{length};
 ghost use Rattle.seambeacon.specs.Flags.{flagged};
-ghost use Rattle.seambeacon.specs.Numbers.{Told, answerKind, answerValue};
+ghost use Rattle.seambeacon.specs.Numbers.{Told, answerKind, answerValue, sevenDate};
 ghost use Rattle.seambeacon.specs.Replies.{placeReply, readReply, linesReply, characteristicReplyAt, writeReply};
 ghost use Rattle.seambeacon.specs.Replies.{recordGroupReply, recordLinesReply, recordCharacteristicReply};
-ghost use Rattle.seambeacon.specs.Replies.{wholeReply, listReply, rewriteReply, callAnswer};
+ghost use Rattle.seambeacon.specs.Replies.{wholeReply, firstFromReply, listReply, rewriteReply, callAnswer};
 ghost use Rattle.decimal.specs.Writing.{putBytes};
 ghost use Rattle.place.specs.Placing.{countsAt, startsAt, endsAt, carried};
 ghost use Rattle.reading.specs.Read.{tableBy};
@@ -20,6 +21,8 @@ ghost use Rattle.group.specs.Text.{readAt};
 ghost use Rattle.group.specs.Held.{partStart, partAt};
 ghost use Rattle.group.specs.Characteristics.{characteristicAt};
 ghost use Rattle.view.specs.With.{startWith, partWith, readWith, characteristicWith};
+ghost use Rattle.since.specs.Numbered.{placeTold, passedTold};
+ghost use Rattle.since.specs.Since.{firstFrom};
 ghost use Rattle.whole.specs.Numbered.{groupTold};
 ghost use Rattle.whole.specs.Whole.{wholeRead, recordReadOf};
 ghost use Rattle.writing.specs.Writing.{writingOf, outputBy};
@@ -80,6 +83,21 @@ fn rules_of(flags: u32) -> Rules
     ensures { λ r. ⌜ r ≡ flagged flags ⌝ }
 {
     rules::choose(flags % 2 == 1, flags / 2 % 2 == 1)
+}
+
+// R367: a date as seven numbers, in the order in which they stand in group 3.
+fn date_of(seven: &[usize; 7]) -> Date
+    ensures { λ r. ⌜ r ≡ sevenDate (now (seven .entry)) ⌝ }
+{
+    Date {
+        year: seven[0],
+        day_of_year: seven[1],
+        month: seven[2],
+        day: seven[3],
+        hour: seven[4],
+        minute: seven[5],
+        second: seven[6],
+    }
 }
 
 // ---- The questions.
@@ -299,6 +317,31 @@ pub extern "C" fn seambeacon_read_record(
     let answer = sao::read_record(rules_of(rules), text, at, table);
     *unread = [whole::group_of(answer)];
     tell(whole::reply_of(answer), beside)
+}
+
+// R330 to R337, R367. Asked: the first record of a text's walk whose date is at or after a given one.
+// Answered: 0, and apart from it the record's place, and how many records were passed before it.
+// A refusal, 10 or that at which the walk stopped, has place 0, and how many records were passed.
+#[no_mangle]
+pub extern "C" fn seambeacon_first_from(
+    rules: u32,
+    text: &[u8],
+    from: &[usize; 7],
+    place: &mut usize,
+    passed: &mut usize,
+    beside: &mut [usize; 8],
+) -> u32
+    ensures reply { λ n. ⌜ Told (firstFromReply (flagged rules) (now (text .entry)) (sevenDate (now (from .entry)))) n
+        (now (beside .exit)) ⌝ }
+    ensures place { λ _. ⌜ now (place .exit) ≡
+        placeTold (firstFrom (flagged rules) (now (text .entry)) (sevenDate (now (from .entry)))) ⌝ }
+    ensures passed { λ _. ⌜ now (passed .exit) ≡
+        passedTold (firstFrom (flagged rules) (now (text .entry)) (sevenDate (now (from .entry)))) ⌝ }
+{
+    let answer = sao::first_from(rules_of(rules), text, date_of(from));
+    *place = since::place_of(answer);
+    *passed = since::passed_of(answer);
+    tell(since::reply_of(answer), beside)
 }
 
 // R300 to R307. Asked: to write a record of these counts and of the cells of all groups, group 1's first.

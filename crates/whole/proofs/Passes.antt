@@ -2,10 +2,10 @@
 -- Assumes nothing.
 use mathlib.Core.Path.{_≡_, refl, sym, _∙_, ap}
 use mathlib.Core.List.{List, [], _∷_}
-use Prim.Native.Nat.{ℕ, _+_, _-_, _<_, _≤_}
+use Prim.Native.Nat.{ℕ, _+_, _-_, _≤_}
 use native.Mathlib.Omega.{arith}
 use lib.IntN.{ℤ}
-use lib.ListN.{length, getD}
+use lib.ListN.{length}
 use Rattle.rules.specs.declared.Rules.{Rules}
 use Rattle.base.specs.Every.{upFrom}
 use Rattle.base.specs.Part.{over}
@@ -16,6 +16,7 @@ use Rattle.base.proofs.UpFrom.{up-more, up-done}
 use Rattle.count.specs.Tally
 use Rattle.count.specs.Tally.{cellsIn, cellsBefore, recordCells}
 use Rattle.count.proofs.Tallied.{all-cells, cells-first, cells-next, cells-below}
+use Rattle.place.specs.Parted.{linesNamed}
 use Rattle.place.specs.Placing.{Carried}
 use Rattle.reply.specs.declared.Refusal.{Refusal}
 use Rattle.reply.specs.declared.Checked.{Checked}
@@ -24,14 +25,8 @@ use Rattle.reading.specs.Read.{Cells, verdictOf}
 use Rattle.reading.proofs.GroupRead.{read-size}
 use Rattle.whole.specs.declared.Groups.the-variants.{All, GroupRefused}
 use Rattle.whole.specs.Turn.{Turn, inTurn}
-use Rattle.whole.specs.Whole.{groupsOf, Parted, linesNamed, groupBy, allBy}
+use Rattle.whole.specs.Whole.{groupsOf, groupBy, allBy}
 use Rattle.whole.proofs.Turns.{FirstDone, turn-done, turn-bad, turn-split, turn-length}
-
--- what the record names for a group: both places are among those that are lent, and what stands between them is a part of the text
-module _ {s : List ℕ} {r : Carried} (p : Parted s r) {g : ℕ} (low : 1 ≤ g) (high : g ≤ 60) where
-  pub named : ((g - 1 < length (r .starts-of)) × (g - 1 < length (r .ends-of)))
-      × ((getD (r .starts-of) (g - 1) 0 ≤ getD (r .ends-of) (g - 1) 0) × (getD (r .ends-of) (g - 1) 0 ≤ length s))
-  named = ((omega (arith, p .listed .0), omega (arith, p .listed .1)), p .within (g - 1) (omega arith))
 
 module _ (ρ : Rules) (s : List ℕ) (r : Carried) where
   -- the groups from g on
@@ -46,7 +41,7 @@ module _ (ρ : Rules) (s : List ℕ) (r : Carried) where
   next {g} h = ap (inTurn (groupBy ρ s r)) (up-more g 60 h)
 
   group-size : (g : ℕ) (cs : List ℤ) → groupBy ρ s r g ≡ done cs → length cs ≡ cellsIn ρ (r .counts-of) g
-  group-size g cs e = read-size ρ (r .counts-of) g (linesNamed ρ s r g) (cellsIn ρ (r .counts-of) g) cs e
+  group-size g cs e = read-size ρ (r .counts-of) g (linesNamed s r g) (cellsIn ρ (r .counts-of) g) cs e
 
   -- all groups have as many cells as the counts say
   pub all-size : (cs : List ℤ) → allBy ρ s r ≡ done cs → length cs ≡ recordCells ρ (r .counts-of)

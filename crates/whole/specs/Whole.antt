@@ -1,19 +1,16 @@
 -- R271: reading the whole record at a place. R272 is the order: what placing refuses with; 11; what the first group that is refused is refused
 -- with; 0. The group number is that of the group that was being read, and 0 where none was.
-use mathlib.Core.Path.{_≡_}
 use mathlib.Core.Bool.{cond}
 use mathlib.Core.List.{List}
-use Prim.Native.Nat.{ℕ, _-_, _<_, _≤_}
+use Prim.Native.Nat.{ℕ}
 use lib.Dec.{leb}
-use lib.ListN.{length, getD}
+use lib.ListN.{length}
 use Rattle.rules.specs.declared.Rules.{Rules}
 use Rattle.base.specs.Every.{upFrom}
-use Rattle.base.specs.Part.{part}
 use Rattle.base.specs.Pieces.{done, bad}
-use Rattle.count.specs.Rules.{rulingOf}
-use Rattle.count.specs.declared.Ruling.the-variants.{Kept}
 use Rattle.count.specs.Tally.{cellsIn, recordCells}
 use Rattle.place.specs.Numbered.{asChecked}
+use Rattle.place.specs.Parted.{linesNamed}
 use Rattle.place.specs.Placing.{Carried, placingOf, countsAt}
 use Rattle.reading.specs.Read.{Cells, readGroup}
 use Rattle.reply.specs.declared.Checked.{Checked}
@@ -52,19 +49,10 @@ abbrev pub groupsOf : Turn → Groups
 groupsOf (done cs) = G.All
 groupsOf (bad u) = G.GroupRefused (u .0) (u .1)
 
--- what reading by a record asks for: the counts keep their rules, and what the record names for each group is a part of the text
-pub record Parted (s : List ℕ) (r : Carried) : Type 0 where
-  pub kept : rulingOf (r .counts-of) ≡ Kept
-  pub listed : (60 ≤ length (r .starts-of)) × (60 ≤ length (r .ends-of))
-  pub within : (i : ℕ) → i < 60 → (getD (r .starts-of) i 0 ≤ getD (r .ends-of) i 0) × (getD (r .ends-of) i 0 ≤ length s)
-
 module _ (ρ : Rules) (s : List ℕ) (r : Carried) where
-  -- the lines that the record names for group g
-  abbrev pub linesNamed : ℕ → List ℕ
-  linesNamed g = part (getD (r .starts-of) (g - 1) 0) (getD (r .ends-of) (g - 1) 0) s
-
+  -- a group, by the lines that the record names for it
   abbrev pub groupBy : ℕ → Cells
-  groupBy g = readGroup ρ (r .counts-of) g (linesNamed g) (cellsIn ρ (r .counts-of) g)
+  groupBy g = readGroup ρ (r .counts-of) g (linesNamed s r g) (cellsIn ρ (r .counts-of) g)
 
   abbrev pub allBy : Turn
   allBy = inTurn groupBy (upFrom 1 60)

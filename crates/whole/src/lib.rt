@@ -9,10 +9,11 @@ ghost use lib.ListN.{length};
 ghost use Rattle.base.specs.Part.{over};
 ghost use Rattle.base.specs.Pieces.{cellsGot};
 ghost use Rattle.count.specs.Tally.{recordCells};
+ghost use Rattle.place.specs.Parted.{Parted};
 ghost use Rattle.place.specs.Placing.{carried};
 ghost use Rattle.reading.specs.Read.{tableBy};
 ghost use Rattle.whole.specs.Numbered.{recordReply, groupTold};
-ghost use Rattle.whole.specs.Whole.{wholeRead, recordReadOf, groupsOf, Parted, allBy, wholeBy};
+ghost use Rattle.whole.specs.Whole.{wholeRead, recordReadOf, groupsOf, allBy, wholeBy};
 
 // R272: what reading a whole record answers.
 pub enum RecordRead {

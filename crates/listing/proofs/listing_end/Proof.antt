@@ -8,11 +8,10 @@ use borrow.Author.Tests.{not-true, not-false}
 use lib.ListN.{length}
 use Rattle.reply.specs.declared.Reply.{Reply}
 use Rattle.decimal.specs.Writing.{endIn}
-use Rattle.place.specs.Walk.{spot}
+use Rattle.place.specs.Walk.{spot, recordsIn}
 use Rattle.place.proofs.Walked.{spot-start}
 use Rattle.place.specs.Numbered.{isPlaced}
-use Rattle.listing.specs.Records.{recordsIn}
-use Rattle.listing.proofs.Counted.{records-bytes}
+use Rattle.place.proofs.Counted.{records-bytes}
 use Rattle.listing.specs.Listing.{listing}
 use Rattle.listing.proofs.Lines.{linesFrom, lines-all}
 use Rattle.listing.proofs.Turns.{Met, More, met-more, met-last, end-stops, end-more, end-no-room}

@@ -6,11 +6,10 @@ use mathlib.Core.Path.{_≡_, _∙_, ap}
 use Prim.Native.Nat.{suc, _-_, _≤_}
 use borrow.Author.Tests.{not-true, not-false}
 use Rattle.reply.specs.declared.Reply.{Reply}
-use Rattle.place.specs.Walk.{spot}
+use Rattle.place.specs.Walk.{spot, recordsIn}
 use Rattle.place.proofs.Walked.{spot-start}
 use Rattle.place.specs.Numbered.{isPlaced}
-use Rattle.listing.specs.Records.{recordsIn}
-use Rattle.listing.proofs.Counted.{records-bytes}
+use Rattle.place.proofs.Counted.{records-bytes}
 use Rattle.listing.proofs.Turns.{Met, More, Putting, met-more, met-last, put-starts, put-stops, put-more, put-has-room}
 use Rattle.listing.proofs.put_listing.Statement.{statement}
 use Rattle.listing.proofs.put_listing.Tie as tie

@@ -1,49 +1,26 @@
--- `reading::check_date` meets its contract: the letters that decide the date are the first bytes of the lines.
+-- `reading::check_date` meets its contract: the date of clean lines decides.
 -- Assumes nothing.
 use borrow.Author.Needs.{needs}
-use native.Mathlib.Omega.{arith}
-use mathlib.Core.Path.{_≡_, sym, _∙_}
-use Prim.Native.Nat.{min}
+use mathlib.Core.Path.{sym, _∙_}
+use mathlib.Core.Bool.{false}
 use Rattle.form.specs.declared.Form.the-variants.{A1}
-use Rattle.form.specs.Table.{rowOf}
-use Rattle.form.specs.Count.{elementsOf}
-use Rattle.reading.proofs.Dates.{letters-inside, date-verdict}
+use Rattle.reading.specs.Read.{Cells, readLines}
+use Rattle.reading.proofs.Dates.{date-verdict}
 use Rattle.reading.proofs.check_date.Statement.{statement}
 use Rattle.reading.proofs.check_date.Tie as tie
 
--- as many letters as the first line has
-first-many : (c : tie.After-lesser) → c .lesser .result ≡ min (rowOf A1 .«per_line») (elementsOf (c .before .before .before .before .args .rules) A1 (c .before .before .before .before .args .count))
-first-many c = c .lesser .ensures ∙ rw (c .before .row-of .ensures, c .before .before .elements .ensures)
-
-part-new-end : tie.Need-part-new-end
-part-new-end c =
-    let o = c .before .before .before .before in
-    omega (arith, letters-inside (o .args .rules) (o .args .count) (o .args .lines .now) (o .pre .1) (o .pre .0) (c .lesser .result) (first-many c))
+abbrev lines : tie.After-date-in → Cells
+lines c = let a = c .before .before .args in readLines (a .rules) A1 false (a .count) (a .lines .now)
 
 returns : tie.Need-returns
 returns c =
-    let o = c .before .before .before .before .before .before .before .before in
-    date-verdict (o .args .rules) (o .args .count) (o .args .lines .now) (o .pre .1) (o .pre .0) (c .before .before .before .before .lesser .result) (first-many (c .before .before .before .before))
-    (sym (c .before .before .new .ensures) ∙ c .enum-told .given .1)
+    let at-date = c .before .before in
+    date-verdict (lines at-date) (at-date .before .before .pre .1) (sym (at-date .date-in .ensures) ∙ c .enum-told .given .1)
 
 returns-2 : tie.Need-returns-2
 returns-2 c =
-    let o = c .before .before .before .before .before .before .before .before .before in
-    date-verdict (o .args .rules) (o .args .count) (o .args .lines .now) (o .pre .1) (o .pre .0) (c .before .before .before .before .before .lesser .result)
-    (first-many (c .before .before .before .before .before)) (sym (c .before .before .before .new .ensures) ∙ c .before .position .given .1)
+    let at-date = c .before .before .before in
+    date-verdict (lines at-date) (at-date .before .before .pre .1) (sym (at-date .date-in .ensures) ∙ c .before .position .given .1)
 
 pub check-date-spec : {M : Type 1} → statement M
-check-date-spec =
-    tie.close
-    (tie.spec
-    (λ c κs. search needs)
-    (λ c κs. search needs)
-    (λ c κs. search needs)
-    (λ c. search needs)
-    (λ c. search needs)
-    part-new-end
-    (λ c κs. search needs)
-    (λ c. search needs)
-    (λ c. search needs)
-    returns
-    returns-2)
+check-date-spec = tie.close (tie.spec (λ c κs. search needs) (λ c. search needs) (λ c. search needs) returns returns-2)

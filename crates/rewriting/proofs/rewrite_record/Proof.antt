@@ -8,8 +8,8 @@ use Prim.Native.Nat.{_≤_}
 use lib.ListN.{length}
 use Rattle.place.specs.Numbered.{asChecked}
 use Rattle.place.specs.Placing.{carriedBy}
-use Rattle.whole.specs.Whole.{Parted}
-use Rattle.whole.proofs.Placed.{parted-at}
+use Rattle.place.specs.Parted.{Parted}
+use Rattle.place.proofs.Parted.{parted-at}
 use Rattle.writing.specs.Text.{recordBytes}
 use Rattle.rewriting.proofs.Steps.{Stands, step-unplaced, step-short, step-unread, step-writes, step-done}
 use Rattle.rewriting.proofs.rewrite_record.Statement.{statement}

@@ -4,8 +4,9 @@ use borrow.Author.Needs.{needs}
 use native.Mathlib.Omega.{arith}
 use Prim.Native.Nat.{_-_, _≤_}
 use Rattle.place.specs.Placing.{Carried, carried}
-use Rattle.whole.specs.Whole.{Parted}
-use Rattle.whole.proofs.Passes.{named, Filling, filling-first, filling-all, filling-clean, filling-room, filling-more}
+use Rattle.place.specs.Parted.{Parted}
+use Rattle.place.proofs.Parted.{named}
+use Rattle.whole.proofs.Passes.{Filling, filling-first, filling-all, filling-clean, filling-room, filling-more}
 use Rattle.whole.proofs.fill_groups.Statement.{statement}
 use Rattle.whole.proofs.fill_groups.Tie as tie
 

@@ -6,8 +6,8 @@ use lib.ListN.{length}
 use Rattle.place.specs.Numbered.{asChecked}
 use Rattle.place.specs.Placing.{carriedBy, carriedAt}
 use Rattle.place.proofs.Spans.{starts-length, ends-length}
-use Rattle.whole.specs.Whole.{Parted}
-use Rattle.whole.proofs.Placed.{parted-at}
+use Rattle.place.specs.Parted.{Parted}
+use Rattle.place.proofs.Parted.{parted-at}
 use Rattle.whole.proofs.Steps.{step-unplaced, step-placed}
 use Rattle.whole.proofs.read_record.Statement.{statement}
 use Rattle.whole.proofs.read_record.Tie as tie

@@ -6,7 +6,7 @@ use borrow.Author.Needs.{needs}
 use lib.ListN.{drop}
 use Rattle.date.specs.declared.Date.{Date}
 use Rattle.date.specs.Date.{year, dayOfYear, month, day, hour, minute, second, fields, dateOf}
-use Rattle.date.proofs.Blame.{Held, all-remain, field-holds, field-fails, date-right, date-mismatched}
+use Rattle.date.proofs.Fields.{Held, all-left, field-holds, field-fails, date-judged}
 use Rattle.date.proofs.Grammar.{read-is}
 use Rattle.date.proofs.Date.new.Statement.{statement}
 use Rattle.date.proofs.Date.new.Tie as tie
@@ -20,7 +20,7 @@ abbrev number₁ : tie.After-known-told → ℕ
 number₁ c = c .before .year .given .0 .0
 
 held₁ : (c : tie.After-known-told) → Held year (drop 1 fields) (text₁ c) (number₁ c)
-held₁ c = field-holds (all-remain _) (c .before .before .before .read .ensures) (c .before .year .given .1)
+held₁ c = field-holds (all-left _) (c .before .before .before .read .ensures) (c .before .year .given .1)
 
 abbrev text₂ : tie.After-known-told2 → List ℕ
 text₂ c = text₁ (c .before .before .before .before)
@@ -123,7 +123,7 @@ dates c =
 -- ---- the needs
 
 returns : tie.Need-returns
-returns c = sym (field-fails (all-remain _) (c .before .before .read .ensures) (c .enum-told .given .1))
+returns c = sym (field-fails (all-left _) (c .before .before .read .ensures) (c .enum-told .given .1))
 
 returns-2 : tie.Need-returns-2
 returns-2 c = sym (field-fails (held₁ (c .before .before .before) .remain) (c .before .before .read2 .ensures) (c .enum-told2 .given .1))
@@ -143,20 +143,15 @@ returns-6 c = sym (field-fails (held₅ (c .before .before .before) .remain) (c 
 returns-7 : tie.Need-returns-7
 returns-7 c = sym (field-fails (held₆ (c .before .before .before) .remain) (c .before .before .read7 .ensures) (c .enum-told7 .given .1))
 
-names-requires : tie.Need-names-requires
-names-requires c κs =
+judge-requires : tie.Need-judge-requires
+judge-requires c κs =
     let r = read-is month (text₇ c) (number₃ (at₃ c)) (held₃ (at₃ c) .reads) in
     (r .enough, r .notMore)
 
 returns-8 : tie.Need-returns-8
 returns-8 c =
-    let d = c .before .before in
-    sym (date-right (text₇ d) (date d) (held₇ d .remain) (dates d) (sym (c .before .names .ensures) ∙ c .if1 .taken))
-
-returns-9 : tie.Need-returns-9
-returns-9 c =
-    let d = c .before .before in
-    sym (date-mismatched (text₇ d) (date d) (held₇ d .remain) (dates d) (sym (c .before .names .ensures) ∙ c .if1 .left))
+    let d = c .before in
+    c .judge .ensures ∙ sym (date-judged (text₇ d) (date d) (held₇ d .remain) (dates d))
 
 pub new-spec : {M : Type 1} → statement M
 new-spec =
@@ -190,6 +185,5 @@ new-spec =
     (λ c. search needs)
     (λ c. search needs)
     returns-7
-    names-requires
-    returns-8
-    returns-9)
+    judge-requires
+    returns-8)

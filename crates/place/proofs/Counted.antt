@@ -7,10 +7,9 @@ use native.Mathlib.Omega.{arith}
 use lib.ListN.{length}
 use Rattle.rules.specs.declared.Rules.{Rules}
 use Rattle.reply.specs.declared.Refusal.{Refusal}
 use Rattle.place.specs.Placing.{refused, locate}
-use Rattle.place.specs.Walk.{spot, Stops}
+use Rattle.place.specs.Walk.{spot, Stops, oneMore, recordsFrom, recordsIn}
 use Rattle.place.proofs.Walked.{stops-some, stops-few}
-use Rattle.listing.specs.Records.{oneMore, recordsFrom, recordsIn}
 
 -- ---- the number of records
 
