@@ -238,16 +238,16 @@ enum seambeacon_reply seambeacon_characteristic(uint32_t rules, const uint8_t *t
                                                 enum seambeacon_kind *kind, int64_t *value,
                                                 struct seambeacon_beside *beside);
 
-/* Asked: the first record of a text, in the order in which they stand in it, whose date and time
-   is at or after a given one. All seven numbers of that count: day of the year, month and day have
-   to name the same day, and the time is compared to the second (R331, R332).
+/* Asked: the first record of a text, in the order in which they stand in it, that is not earlier
+   than a date and time. All seven numbers of that count: day of the year, month and day have to
+   name the same day, and the time is compared to the second (R331, R332).
    Answered: 0; *place is the record's place, and *passed is how many records stand before it.
    A record has a date if it is placed with 0 and its group 3 is read with 0; all others are passed
    (R333). Records need not stand in the order of their dates. The walk ends at the record that is
    found, and nothing behind it is looked at (R336).
    A refusal has *place 0: 10 for a given date that is wrong, before the text is looked at, with
-   *passed 0; where no record is found, the reply at which the walk stopped (1 at the text's end, 3,
-   4, 5, 6), with all its records in *passed. */
+   *passed 0; where there is no such record, what the walk stopped with (1 at the text's end, or 3
+   to 6), with all its records in *passed. */
 enum seambeacon_reply seambeacon_first_from(uint32_t rules, const uint8_t *text,
                                             size_t text_length,
                                             const struct seambeacon_date *from, size_t *place,
@@ -255,8 +255,8 @@ enum seambeacon_reply seambeacon_first_from(uint32_t rules, const uint8_t *text,
 
 /* Asked: where the stretch ends that begins at a place of a text. Where a walk stops with 3, 4, 5 or
    6, it may go on from there (R350); but the place may be any.
-   Answered: 0; the next place is the first later one, just behind a line feed, at which placing
-   gives 0 and groups 1, 3 and 4 are read with 0 (R351), or the text's length if there is none.
+   Answered: 0; the next place is the first later one, just behind a line feed, at which a record is
+   placed with 0 and its groups 1, 3 and 4 are read so (R351), or the text's length if there is none.
    What looks like a record inside a ruined one is taken for one.
    A refusal: 2 if the place lies behind the text's end, 1 if it is there. */
 enum seambeacon_reply seambeacon_stretch_end(uint32_t rules, const uint8_t *text,

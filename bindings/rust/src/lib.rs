@@ -496,7 +496,7 @@ pub fn read_record(rules: Rules, text: &[u8], at: usize, table: &mut [i64]) -> R
     Ok(reply.done(unread)?.written)
 }
 
-/// The first record of a text, in the order in which they stand in it, whose date and time is at or after a given one, to the second (R330). A record
+/// The first record of a text, in the order in which they stand in it, that is not earlier than a given date, to the second (R330). A record
 /// has a date if it is placed with 0 and its group 3 is read with 0; all others are passed. The walk ends at the record that is found, and nothing
 /// behind it is looked at (R336).
 ///

@@ -37,7 +37,7 @@ module _ (ρ : Rules) (s : List ℕ) where
     pub placed : PlacedAt ρ s at
     pub next-is : next ≡ placingReply (placingOf ρ s at) .next
 
-  -- R254: the walk stops with 3, 4, 5 or 6, though the text goes on
+  -- R254: the walk stops though the text goes on, with one of 3 to 6
   abbrev pub Halts : ℕ → Type 0
   Halts at = (numberAt ρ s at ≡ 3) ⊎ ((numberAt ρ s at ≡ 4) ⊎ ((numberAt ρ s at ≡ 5) ⊎ (numberAt ρ s at ≡ 6)))
 

@@ -152,7 +152,7 @@ module _ (ρ : Rules) where
 
   -- R330, R332, R336: the first record from a date on
   pub record FirstRecord : Type 0 where
-    -- the answer is that of listing every record of the walk with its date, and taking the first that is at or after; if none is, that of the stop
+    -- all records of the walk are listed with their dates, and the first that is at or after is the answer; if none is, the stop is
     pub full-walk : (s : List ℕ) (from : Date) → datedBy from ≡ Dated.Right from → firstFrom ρ s from ≡ firstIn from (wholeWalk ρ s) 0 (Refused (recordsIn ρ s) (stopOf ρ s))
     -- what stands behind the record that is found has no part in it
     pub stops-there : (s : List ℕ) (from : Date) (place passed : ℕ) → firstFrom ρ s from ≡ Found place passed → StopsThere ρ s from place passed

@@ -203,11 +203,11 @@ pub fn rewrite_record(
     rewriting::rewrite_record(rules, text, at, table, out)
 }
 
-// R330 to R337. Asked: the first record of a text's walk whose date is at or after a given one, of seven numbers as in
-// group 3.
+// R330 to R337. Asked: the first record of a text's walk that is not earlier than a date, which is given by the seven
+// numbers that group 3 has.
 // Answered: 0 with the record's place, and how many records were passed before it. Nothing behind it is looked at.
 // A refusal has how many records were passed: 10 for a date that breaks the rules of the date, before the text is looked
-// at; where no record is found, the reply at which the walk stopped, 1, 3, 4, 5 or 6, behind all of its records.
+// at; where there is no such record, what the walk stopped with behind all of them, one of 1 and 3 to 6.
 pub fn first_from(rules: rules::Rules, text: &[u8], from: Date) -> First
     ensures { λ r. ⌜ r ≡ firstFrom rules (now (text .entry)) from ⌝ }
 {

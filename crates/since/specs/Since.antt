@@ -37,7 +37,7 @@ unfoldable pub firstIn : Date → List Entry → ℕ → First → First
 firstIn d [] passed none = none
 firstIn d (x ∷ xs) passed none = cond (meets d (x .date)) (Found (x .place) passed) (firstIn d xs (suc passed) none)
 
--- why nothing is located; a record is no reason
+-- what ends a walk. Where it stops no record is located, so the second line is never asked (`stop-is` in proofs/Walked.antt)
 abbrev pub whyStopped : Located → Refusal
 whyStopped (refused r) = r
 whyStopped (located n ns) = End
