@@ -253,10 +253,10 @@ enum seambeacon_reply seambeacon_first_from(uint32_t rules, const uint8_t *text,
                                             const struct seambeacon_date *from, size_t *place,
                                             size_t *passed, struct seambeacon_beside *beside);
 
-/* Asked: where the stretch ends that begins at a place of a text. Where a walk stops with 3, 4, 5 or
-   6, it may go on from there (R350); but the place may be any.
+/* Asked: where the stretch ends that begins at a place of a text. There a walk may go on that has
+   stopped at the place with one of 3 to 6 (R350); but any place may be asked about.
    Answered: 0; the next place is the first later one, just behind a line feed, at which a record is
-   placed with 0 and its groups 1, 3 and 4 are read so (R351), or the text's length if there is none.
+   placed with 0 and its groups 1, 3 and 4 are read so (R351); if there is none, the text's length.
    What looks like a record inside a ruined one is taken for one.
    A refusal: 2 if the place lies behind the text's end, 1 if it is there. */
 enum seambeacon_reply seambeacon_stretch_end(uint32_t rules, const uint8_t *text,
