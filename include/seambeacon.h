@@ -244,7 +244,7 @@ enum seambeacon_reply seambeacon_characteristic(uint32_t rules, const uint8_t *t
    Answered: 0; *place is the record's place, and *passed is how many records stand before it.
    A record has a date if it is placed with 0 and its group 3 is read with 0; all others are passed
    (R333). Records need not stand in the order of their dates. The walk ends at the record that is
-   found, and nothing behind it is looked at (R336).
+   found; what stands behind it has no part in the answer (R336).
    A refusal has *place 0: 10 for a given date that is wrong, before the text is looked at, with
    *passed 0; where there is no such record, what the walk stopped with (1 at the text's end, or 3
    to 6), with all its records in *passed. */

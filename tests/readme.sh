@@ -176,7 +176,10 @@ started "$work/noon" <examples/day.sao >"$work/got"
 tail -n 12 "$work/hours" >"$work/afternoon"
 compared 'foF2 of each hour from noon on' "$work/afternoon"
 counted 'the first of them is shown' grep -q "12 values from \`$(head -n 1 "$work/afternoon")\` on" "$readme"
-counted 'there is none in the morning' fails sh -c "head -c 25092 examples/day.sao | '$work/noon'"
+head -c 25092 examples/day.sao >"$work/morning"
+started "$work/noon" <"$work/morning" >"$work/got"
+counted 'there is none in the morning: exit status 1' [ $? -eq 1 ]
+counted 'and nothing is printed' [ ! -s "$work/got" ]
 
 # what is shown of follow: lines of the program that stand there one behind the other, and lines that it prints of the day
 block c 4 >"$work/walk.c"

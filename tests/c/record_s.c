@@ -139,7 +139,7 @@ static void check_no_table(void)
     answered("no text either", seambeacon_read_record(rules, NULL, 0, 0, NULL, 0, &lent.unread, &lent.beside), 1);
 }
 
-/* The first record from a date on: S's own second, the next one, and a date that is wrong; of S, of no text, and of S twice behind its first record. */
+/* The first record from a date on: S's own second, the next one, and a date that is wrong; of S, of S twice, of records that are broken or cut, of no text. */
 static void check_first(void)
 {
     static const struct seambeacon_date its = {2006, 265, 9, 22, 14, 25, 30}, later = {2006, 265, 9, 22, 14, 25, 31},

@@ -497,8 +497,8 @@ pub fn read_record(rules: Rules, text: &[u8], at: usize, table: &mut [i64]) -> R
 }
 
 /// The first record of a text, in the order in which they stand in it, that is not earlier than a given date, to the second (R330). A record
-/// has a date if it is placed with 0 and its group 3 is read with 0; all others are passed. The walk ends at the record that is found, and nothing
-/// behind it is looked at (R336).
+/// has a date if it is placed with 0 and its group 3 is read with 0; all others are passed. The walk ends at the record that is found, and what
+/// stands behind it has no part in the answer (R336).
 ///
 /// ```
 /// # let (rules, day) = (seambeacon::Rules::default(), concat!(env!("CARGO_MANIFEST_DIR"), "/../../examples/day.sao"));

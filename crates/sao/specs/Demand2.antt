@@ -7,7 +7,7 @@
 use mathlib.Core.Path.{_≡_}
 use mathlib.Core.Bool.{true}
 use mathlib.Core.List.{List, _++_}
-use mathlib.Core.Logic.{_↔_}
+use mathlib.Core.Logic.{_↔_, _⊎_}
 use Prim.Native.Nat.{ℕ, _+_, _-_, _≤_}
 use lib.IntN.{ℤ}
 use lib.ListN.{length, take}
@@ -59,7 +59,8 @@ use Rattle.rewriting.specs.Record.{rewritingOf, bufferBy, tableAfter}
 use Rattle.date.specs.declared.Date.{Date}
 use Rattle.date.specs.declared.Dated.the-variants as Dated
 use Rattle.date.specs.Asked.{datedBy}
-use Rattle.date.specs.Order.{notLess, seven, AtOrAfter, notBefore}
+use Rattle.date.specs.Date.{datedOf}
+use Rattle.date.specs.Order.{Greater, seven, AtOrAfter, notBefore}
 use Rattle.since.specs.declared.First.{First}
 use Rattle.since.specs.declared.First.the-variants.{Found, Refused}
 use Rattle.since.specs.Due as FirstIs
@@ -157,7 +158,9 @@ module _ (ρ : Rules) where
     -- what stands behind the record that is found has no part in it
     pub stops-there : (s : List ℕ) (from : Date) (place passed : ℕ) → firstFrom ρ s from ≡ Found place passed → StopsThere ρ s from place passed
     -- year, day of the year and time of day order right dates as all seven numbers do; and that test is the statement
-    pub order : (d e : Date) → datedBy d ≡ Dated.Right d → datedBy e ≡ Dated.Right e → notLess (seven d) (seven e) ≡ notBefore d e
+    pub order : (d e : Date) → datedBy d ≡ Dated.Right d → datedBy e ≡ Dated.Right e → AtOrAfter d e ↔ ((seven d ≡ seven e) ⊎ Greater (seven d) (seven e))
+    -- dates that letters tell are right ones
+    pub told-right : (s : List ℕ) (d : Date) → datedOf s ≡ Dated.Right d → datedBy d ≡ Dated.Right d
     pub at-or-after : (d e : Date) → (notBefore d e ≡ true) ↔ AtOrAfter d e
 
   -- R353 to R355: what is copied past stretches, and what is left out

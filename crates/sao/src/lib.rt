@@ -205,9 +205,10 @@ pub fn rewrite_record(
 
 // R330 to R337. Asked: the first record of a text's walk that is not earlier than a date, which is given by the seven
 // numbers that group 3 has.
-// Answered: 0 with the record's place, and how many records were passed before it. Nothing behind it is looked at.
-// A refusal has how many records were passed: 10 for a date that breaks the rules of the date, before the text is looked
-// at; where there is no such record, what the walk stopped with behind all of them, one of 1 and 3 to 6.
+// Answered: 0 with the record's place, and how many records were passed before it. What stands behind it has no part in
+// the answer.
+// A refusal has how many records were passed: 10 for a date that breaks the rules of the date, before the text is
+// looked at; where there is no such record, what the walk stopped with behind all of them, one of 1 and 3 to 6.
 pub fn first_from(rules: rules::Rules, text: &[u8], from: Date) -> First
     ensures { λ r. ⌜ r ≡ firstFrom rules (now (text .entry)) from ⌝ }
 {
