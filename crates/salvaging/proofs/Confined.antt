@@ -253,6 +253,7 @@ module _ (ρ : Rules) (t u : List ℕ) (k : ℕ) (h : IndexRuined ρ t u k) wher
         is = ap (pieces ρ) u-parts ∙ pieces-behind ρ a k w (y ++ b) ∙ ap (λ ps. pieces ρ a ++ ps)
             (pieces-ruined ρ a y b g ∙ ap₂ (λ p n. LeftOut p n ∷ map (further (length a + length y)) (pieces ρ b)) long-first (long-part u e)
             ∙ ap (λ n. LeftOut from (to - from) ∷ map (further n) (pieces ρ b)) (behind u e));
+        copies = ap (copy ρ) u-parts ∙ ruin-confined ρ a y b g k w .copies;
       }
 
 pub damage-confined : (ρ : Rules) → DamageConfined ρ

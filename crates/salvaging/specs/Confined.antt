@@ -5,7 +5,7 @@ use mathlib.Core.Path.{_≡_}
 use mathlib.Core.List.{List, _∷_, _++_, map}
 use mathlib.Core.Logic.{_⊎_}
 use Prim.Native.Nat.{ℕ, suc, _+_, _-_, _<_}
-use lib.ListN.{length, drop}
+use lib.ListN.{length, take, drop}
 use Rattle.rules.specs.declared.Rules.{Rules}
 use Rattle.base.specs.Agree.{Agree, Between}
 use Rattle.line.specs.Lines.{reach}
@@ -47,6 +47,8 @@ module _ (ρ : Rules) where
     pub many : length before ≡ k
     pub was : pieces ρ t ≡ before ++ (Copied (spot ρ t k) (spot ρ t (suc k) - spot ρ t k) ∷ after)
     pub is : pieces ρ u ≡ before ++ (LeftOut (spot ρ t k) (spot ρ t (suc k) - spot ρ t k) ∷ after)
+    -- what stands before it is copied, and what stands behind it is salvaged as by itself
+    pub copies : copy ρ u ≡ take (spot ρ t k) t ++ copy ρ (drop (spot ρ t (suc k)) t)
 
   pub record DamageConfined : Type 0 where
     pub ruin : (a y b : List ℕ) (many : ℕ) → Stops ρ a many End → Ruined (a ++ (y ++ b)) (length a) (length a + length y) → RuinConfined a y b

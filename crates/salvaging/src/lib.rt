@@ -1,5 +1,5 @@
-// Getting past a ruined index: where a walk that has stopped may go on (R350 to R352). Any text and place may be given
-// (R241).
+// Getting past a ruined index: where a walk that has stopped may go on, and the pieces of a text (R350 to R353). Any
+// text and place may be asked about (R241).
 use place::Placing;
 use reply::Checked;
 use reply::Refusal;
