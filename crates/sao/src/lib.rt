@@ -216,8 +216,8 @@ pub fn first_from(rules: rules::Rules, text: &[u8], from: Date) -> First
 }
 
 // R350 to R352. Asked: where the stretch ends that begins at a place of a text, whatever stands there.
-// Answered: 0 with the next place: the first later line start at which a record is placed with 0 and its groups 1, 3 and
-// 4 read with 0, or the text's end if there is none. So a walk that stops may go on.
+// Answered: 0 with the next place: the first later line start at which a record is placed with 0 and its groups 1, 3
+// and 4 read with 0, or the text's end if there is none. So a walk that stops may go on.
 // A refusal: 2 beyond the text, 1 at its end.
 pub fn stretch_end(rules: rules::Rules, text: &[u8], at: usize) -> Stretch
     ensures { λ r. ⌜ r ≡ stretchOf rules (now (text .entry)) at ⌝ }
