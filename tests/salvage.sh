@@ -3,8 +3,8 @@
 # [--entries]`), with what is due on both outputs. What is copied and what is left out are then put together again and have to be the text, and what
 # was copied is given to the program again. Every text of tests/vectors under all rules: what the listing says was placed is copied, and the first
 # stretch begins where the walk stops. Record S with each kind of ruin, line ends, words; inputs at the limit; line feeds alone, and index lines alone
-# that all have to be tried. From C, by the program of tests/c, every text of the vectors under these rules comes to the same pieces by two questions,
-# placing and the end of a stretch. Expected texts come from the vectors, from the rules, or from their arithmetic. Prints each case that fails, and
+# that all have to be tried. From C, by the program of tests/c, every text of the vectors and examples comes to the same pieces under all rules by two
+# questions, placing and the end of a stretch. Expected texts come from the vectors, from the rules, or from their arithmetic. Prints each case that fails, and
 # how many passed.
 set -u
 LC_ALL=C
@@ -213,11 +213,21 @@ salvaged '541 lines of an index' "$work/text" "$work/nothing" "$work/left"
 
 # ---- the same pieces from C
 
+if own; then
+    for text in $(find "$vectors"/W* examples -name '*.sao' | sort); do
+        for ruled in $rules; do
+            [ "$(wc -c <"$text")" -le 65536 ] || continue
+            # shellcheck disable=SC2046
+            ./run salvage $(words_for "$ruled") <"$text" >"$work/got" 2>"$work/said"
+            kept "$text" "$ruled"
+        done
+    done
+fi
 program_made
 short_functions tests/c/salvage.c
 # shellcheck disable=SC2046
 set -- $(cat "$work/pieces")
-held "$(($# / 4)) texts by their rules" 1 pieces "$@"
-counted 'as many records that are copied' asked 1 1
-counted 'as many stretches' asked 2 1
-finished 3600
+held "$(($# / 4)) texts by their rules" 8978 pieces "$@"
+counted 'as many records that are copied' asked 1 2640
+counted 'as many stretches' asked 2 1014
+finished 3680
