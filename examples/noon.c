@@ -1,5 +1,5 @@
-/* Prints foF2 of each record of the example day from noon on, as fof2.c does of the whole day: `noon < DAY`. What stands behind the first of them is
-   looked at only to be printed. Ends with exit status 1 where there is no such record. */
+/* Prints foF2 of each record of the example day from noon on, as fof2.c does of the whole day: `noon < DAY`. Ends with exit status 1 where there is
+   no such record. */
 #include <stdio.h>
 
 #include "seambeacon.h"

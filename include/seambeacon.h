@@ -244,7 +244,7 @@ enum seambeacon_reply seambeacon_characteristic(uint32_t rules, const uint8_t *t
    Answered: 0; *place is the record's place, and *passed is how many records stand before it.
    A record has a date if it is placed with 0 and its group 3 is read with 0; all others are passed
    (R333). Records need not stand in the order of their dates. The walk ends at the record that is
-   found, and nothing behind it is looked at (R336).
+   found; what stands behind it has no part in the answer (R336).
    A refusal has *place 0: 10 for a given date that is wrong, before the text is looked at, with
    *passed 0; where there is no such record, what the walk stopped with (1 at the text's end, or 3
    to 6), with all its records in *passed. */
@@ -252,6 +252,16 @@ enum seambeacon_reply seambeacon_first_from(uint32_t rules, const uint8_t *text,
                                             size_t text_length,
                                             const struct seambeacon_date *from, size_t *place,
                                             size_t *passed, struct seambeacon_beside *beside);
+
+/* Asked: where the stretch ends that begins at a place of a text. There a walk may go on that has
+   stopped at the place with one of 3 to 6 (R350); but any place may be asked about.
+   Answered: 0; the next place is the first later one, just behind a line feed, at which a record is
+   placed with 0 and its groups 1, 3 and 4 are read so (R351); if there is none, the text's length.
+   What looks like a record inside a ruined one is taken for one.
+   A refusal: 2 if the place lies behind the text's end, 1 if it is there. */
+enum seambeacon_reply seambeacon_stretch_end(uint32_t rules, const uint8_t *text,
+                                             size_t text_length, size_t at,
+                                             struct seambeacon_beside *beside);
 
 /* The questions with a record, which are asked beside a text. Counts are those of the record, and
    nothing else of it is looked at but the start and the end of the group that is asked for, or of

@@ -28,7 +28,7 @@ program_made
 set -- "$vectors/writes.txt"
 ! own || set -- "$@" "$vectors/W10/writes.txt"
 own || [ -e "$1" ] || shift # a folder of texts alone
-held 'record S, line ends, group 40, dates and writing' 53648 answers "${rules%% *}" "$@"
+held 'record S, line ends, group 40, dates and writing' 53840 answers "${rules%% *}" "$@"
 
 counted 'there are texts' texts
 set --

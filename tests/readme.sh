@@ -44,9 +44,11 @@ for text in day damaged; do
     counted 'and is printed once' [ "$(awk -v row="$row" 'index($0 " ", row " ") == 1' "$work/dump" | grep -c .)" -eq 1 ]
 done
 
-# the commands about line ends and group 40, each with what it prints behind it: the rows, parted by commas, up to a colon; or the day itself
+# the commands about line ends, group 40 and a ruined index, each with what it prints behind it: the rows, parted by commas, up to a colon; or the day
+# itself. A program is built where it has to be, which is told on standard error
+./run salvage </dev/null >/dev/null 2>&1
 block sh | grep ' # ' >"$work/ruled"
-counted 'three commands about line ends and two about group 40 are shown' [ "$(wc -l <"$work/ruled")" -eq 5 ]
+counted 'three commands about line ends, two about group 40 and three about a ruined index are shown' [ "$(wc -l <"$work/ruled")" -eq 8 ]
 while read -r shown; do
     eval "${shown%%#*}" >"$work/got" </dev/null
     told=${shown#*# }
@@ -56,6 +58,8 @@ while read -r shown; do
     esac
     compared "$shown" "$work/said"
 done <"$work/ruled"
+{ head -c 18346 examples/damaged.sao && tail -c +20479 examples/damaged.sao; } >"$work/said"
+counted 'what was salvaged is the damaged day without 09:00' cmp -s target/salvaged.sao "$work/said"
 
 block c 1 >"$work/fof2.c"
 counted 'the C program is that of examples' cmp -s "$work/fof2.c" examples/fof2.c
@@ -172,7 +176,10 @@ started "$work/noon" <examples/day.sao >"$work/got"
 tail -n 12 "$work/hours" >"$work/afternoon"
 compared 'foF2 of each hour from noon on' "$work/afternoon"
 counted 'the first of them is shown' grep -q "12 values from \`$(head -n 1 "$work/afternoon")\` on" "$readme"
-counted 'there is none in the morning' fails sh -c "head -c 25092 examples/day.sao | '$work/noon'"
+head -c 25092 examples/day.sao >"$work/morning"
+started "$work/noon" <"$work/morning" >"$work/got"
+counted 'there is none in the morning: exit status 1' [ $? -eq 1 ]
+counted 'and nothing is printed' [ ! -s "$work/got" ]
 
 # what is shown of follow: lines of the program that stand there one behind the other, and lines that it prints of the day
 block c 4 >"$work/walk.c"
@@ -225,4 +232,4 @@ if [ "$machine" = x86_64 ] && command -v cargo >/dev/null; then
 else
     echo "tests/readme.sh: skipped: the command for Rust, which needs x86-64 and cargo (this is $machine)"
 fi
-finished 58
+finished 62

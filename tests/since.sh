@@ -2,8 +2,8 @@
 # The first record from a date on, from C (R330 to R336), by the program of tests/c. Every question of tests/vectors/W8/first.txt, or of the folder
 # that is named (`tests/since.sh FOLDER`), is asked, but for those with a number below 0, and compared with its answer: the reply, the place, the
 # records passed, all numbers beside the reply. Then every text of tests/vectors and examples, or of that folder, by each of the rules: for the date of
-# each record, a second before and a second behind it, and the least and the greatest date of all, the answer is that of a walk over all records; and
-# it stays when what stands behind the record that is found is replaced or cut off.
+# each record, a second before and behind it within its minute, and the least and the greatest date of all, the answer is that of a walk over all
+# records; and it stays when what stands behind the record that is found is replaced or cut off.
 set -u
 cd "$(dirname "$0")/.." || exit 2
 name=since

@@ -7,6 +7,7 @@
    main turns TEXT ..: checks by all rules that one call for a record of texts answers as its sixty groups do in turn.
    main firsts FOLDER QUESTIONS: checks the answers to questions for the first record from a date on, in texts of that folder.
    main dates TEXT ..: checks by all rules that these answer as the whole walk does.
+   main pieces RULES TEXT COPY STRETCHES ..: checks that texts, each by its rules, are salvaged by the questions as in these files.
    RULES is `usual`, `strict`, `entries` or `strict-entries`; a write question or a script may say itself what a count of group 40 counts.
    Ends with the number of checks, and with exit 1 where one failed. */
 #include "checks.h"
@@ -16,6 +17,7 @@
 #include "line_ends.h"
 #include "parts.h"
 #include "record_s.h"
+#include "salvage.h"
 #include "since.h"
 #include "vectors.h"
 #include "whole.h"
@@ -88,6 +90,16 @@ static void check_from_all(char **texts, int count)
     printf("%lu dates\n", (unsigned long)asked);
 }
 
+static void check_salvaged(char **words, int count)
+{
+    size_t copied = 0, left_out = 0;
+    for (int i = 0; i < count; i += 4) {
+        under(named(words[i]));
+        check_pieces(words[i + 1], words[i + 2], words[i + 3], &copied, &left_out);
+    }
+    printf("%lu records copied, %lu stretches left out\n", (unsigned long)copied, (unsigned long)left_out);
+}
+
 int main(int count, char **words)
 {
     of_case("main", 0);
@@ -109,6 +121,8 @@ int main(int count, char **words)
         printf("%lu questions\n", (unsigned long)check_firsts(words[2], words[3]));
     else if (count > 2 && strcmp(words[1], "dates") == 0)
         check_from_all(words + 2, count - 2);
+    else if (count > 2 && (count - 2) % 4 == 0 && strcmp(words[1], "pieces") == 0)
+        check_salvaged(words + 2, count - 2);
     else
         need("words that say what to check", 0);
     return checks_ended();

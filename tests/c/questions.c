@@ -101,6 +101,13 @@ void ask_first(const uint8_t *text, size_t length, const struct seambeacon_date 
     answered("first_from", seambeacon_first_from(rules, text, length, from, &lent.place, &lent.passed, &lent.beside), reply);
 }
 
+void ask_stretch(const uint8_t *text, size_t length, size_t at, size_t reply, size_t next)
+{
+    fresh();
+    due.beside = (struct seambeacon_beside){.next = next};
+    answered("stretch_end", seambeacon_stretch_end(rules, text, length, at, &lent.beside), reply);
+}
+
 void ask_lines(const uint8_t *text, size_t length, size_t at, size_t group, size_t reply, struct seambeacon_beside beside,
                struct seambeacon_part part)
 {

@@ -24,6 +24,7 @@ void ask_whole(const uint8_t *text, size_t length, size_t at, size_t room, size_
                const int64_t *cells);
 void ask_first(const uint8_t *text, size_t length, const struct seambeacon_date *from, size_t reply, struct seambeacon_beside beside, size_t place,
                size_t passed);
+void ask_stretch(const uint8_t *text, size_t length, size_t at, size_t reply, size_t next);
 void ask_lines(const uint8_t *text, size_t length, size_t at, size_t group, size_t reply, struct seambeacon_beside beside,
                struct seambeacon_part part);
 void ask_characteristic(const uint8_t *text, size_t length, size_t at, size_t number, size_t reply, struct seambeacon_beside beside,

@@ -139,7 +139,7 @@ static void check_no_table(void)
     answered("no text either", seambeacon_read_record(rules, NULL, 0, 0, NULL, 0, &lent.unread, &lent.beside), 1);
 }
 
-/* The first record from a date on: S's own second, the next one, and a date that is wrong; of S, of no text, and of S twice behind its first record. */
+/* The first record from a date on: S's own second, the next one, and a date that is wrong; of S, of S twice, of records that are broken or cut, of no text. */
 static void check_first(void)
 {
     static const struct seambeacon_date its = {2006, 265, 9, 22, 14, 25, 30}, later = {2006, 265, 9, 22, 14, 25, 31},
@@ -154,6 +154,24 @@ static void check_first(void)
     ask_first(NULL, 0, &its, 1, none, 0, 0);
     ask_first(s.bytes, s.length, &wrong, 10, seconds, 0, 0);
     ask_first(NULL, 0, &wrong, 10, seconds, 0, 0);
+}
+
+/* The end of a stretch: S twice, from its start on, from inside and from its end on; behind S one that is broken, or has a misformed field; no text. */
+static void check_stretch(void)
+{
+    of_case("the end of a stretch", 0);
+    ask_stretch(twice.bytes, twice.length, 0, 0, 305);
+    ask_stretch(twice.bytes, twice.length, 304, 0, 305);
+    ask_stretch(twice.bytes, twice.length, 305, 0, 610);
+    ask_stretch(twice.bytes, twice.length, 609, 0, 610);
+    ask_stretch(twice.bytes, twice.length, 610, 1, 0);
+    ask_stretch(twice.bytes, twice.length, 611, 2, 0);
+    ask_stretch(twice.bytes, twice.length, GREATEST, 2, 0);
+    ask_stretch(s_broken.bytes, s_broken.length, 0, 0, s_broken.length);
+    ask_stretch(twice_comma.bytes, twice_comma.length, 0, 0, 305);
+    ask_stretch(cut.bytes, cut.length, 0, 0, 304);
+    ask_stretch(NULL, 0, 0, 1, 0);
+    ask_stretch(NULL, 0, 1, 2, 0);
 }
 
 /* Refusals; a part can be given where the lines are only misread. */
@@ -417,6 +435,7 @@ void check_record_s(void)
         check_groups();
         check_no_table();
         check_first();
+        check_stretch();
         check_refusals();
         check_whole();
         check_characteristics();

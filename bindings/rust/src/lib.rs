@@ -497,8 +497,8 @@ pub fn read_record(rules: Rules, text: &[u8], at: usize, table: &mut [i64]) -> R
 }
 
 /// The first record of a text, in the order in which they stand in it, that is not earlier than a given date, to the second (R330). A record
-/// has a date if it is placed with 0 and its group 3 is read with 0; all others are passed. The walk ends at the record that is found, and nothing
-/// behind it is looked at (R336).
+/// has a date if it is placed with 0 and its group 3 is read with 0; all others are passed. The walk ends at the record that is found, and what
+/// stands behind it has no part in the answer (R336).
 ///
 /// ```
 /// # let (rules, day) = (seambeacon::Rules::default(), concat!(env!("CARGO_MANIFEST_DIR"), "/../../examples/day.sao"));
@@ -513,6 +513,24 @@ pub fn first_from(rules: Rules, text: &[u8], from: Date) -> First {
     let seven = [year, day_of_year, month, day, hour, minute, second];
     let reply = raw::first_from(rules.flags(), text, &seven, &mut place, &mut passed);
     First { place: reply.done(0).map(|_| place), passed }
+}
+
+/// Where the stretch ends that begins at a place of a text, whatever stands there (R350): the first later place, just behind a line feed, at which a
+/// record is placed with 0 and its groups 1, 3 and 4 are read with 0; the text's length if there is none. So a walk that stops may go on.
+///
+/// ```
+/// # let (rules, day) = (seambeacon::Rules::default(), concat!(env!("CARGO_MANIFEST_DIR"), "/../../examples/day.sao"));
+/// # let mut text = std::fs::read(day).expect("the example day");
+/// text[18_348] = b'x'; // in the index of 09:00
+/// assert_eq!(seambeacon::place(rules, &text, 18_346), Err(seambeacon::Refusal::Misformed));
+/// assert_eq!(seambeacon::stretch_end(rules, &text, 18_346), Ok(20_478)); // 10:00
+/// ```
+///
+/// # Errors
+///
+/// 2 beyond the text's end, 1 where it ends.
+pub fn stretch_end(rules: Rules, text: &[u8], at: usize) -> Result<usize, Refusal> {
+    Ok(raw::stretch_end(rules.flags(), text, at).done(0)?.next)
 }
 
 /// The lines of a group, 1 to 60, of the record at a place: the part of the lent text in which they stand, with their line ends (R280). With

@@ -110,6 +110,7 @@ extern "C" {
         passed: *mut usize,
         beside: *mut Beside,
     ) -> u32;
+    fn seambeacon_stretch_end(rules: u32, text: *const u8, text_length: usize, at: usize, beside: *mut Beside) -> u32;
     fn seambeacon_group_lines(
         rules: u32,
         text: *const u8,
@@ -270,6 +271,11 @@ pub fn read_record(rules: u32, text: &[u8], at: usize, table: &mut [i64], unread
 pub fn first_from(rules: u32, text: &[u8], from: &[usize; 7], place: &mut usize, passed: &mut usize) -> Reply {
     // SAFETY: as the head of this file says.
     reply(|beside| unsafe { seambeacon_first_from(rules, text.as_ptr(), text.len(), from, place, passed, beside) })
+}
+
+pub fn stretch_end(rules: u32, text: &[u8], at: usize) -> Reply {
+    // SAFETY: as the head of this file says.
+    reply(|beside| unsafe { seambeacon_stretch_end(rules, text.as_ptr(), text.len(), at, beside) })
 }
 
 pub fn group_lines(rules: u32, text: &[u8], at: usize, group: usize, part: &mut Part) -> Reply {

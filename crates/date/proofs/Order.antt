@@ -132,3 +132,10 @@ module _ (d e : Date) (g : NamesDay d) (h : NamesDay e) where
 -- of right dates: the order of all seven numbers
 pub seven-order : (d e : Date) → datedBy d ≡ Right d → datedBy e ≡ Right e → notLess (seven d) (seven e) ≡ notBefore d e
 seven-order d e p q = days-order d e (asked-same d d p .1 .one-day) (asked-same e e q .1 .one-day)
+
+-- the statement: a right date is at or after another exactly if it is by all seven numbers
+pub seven-exactly : (d e : Date) → datedBy d ≡ Right d → datedBy e ≡ Right e → AtOrAfter d e ↔ ((seven d ≡ seven e) ⊎ Greater (seven d) (seven e))
+seven-exactly d e p q =
+    let same = seven-order d e p q in
+    let exactly = least-exactly (seven d) (seven e) refl in
+    (λ a. exactly .0 (same ∙ not-before-exactly d e .1 a), λ g. not-before-exactly d e .0 (sym same ∙ exactly .1 g))

@@ -1,5 +1,5 @@
--- R140 to R148 as statements on the letters of group 3, and R331 as one on numbers: which date it is, and who is blamed. `first-due` and
--- `asked-first-due` in proofs/Due.antt: the answer is given exactly if it is due.
+-- R140 to R148 as statements on the letters of group 3, and R331 as one on numbers: which date it is, and who is blamed. `first-due` in
+-- proofs/Due.antt and `asked-first-due` in proofs/Asked.antt: the answer is given exactly if it is due.
 use mathlib.Core.Path.{_≡_}
 use mathlib.Core.List.{List, [], _∷_, _++_}
 use mathlib.Core.Logic.{_⊎_}

@@ -1,5 +1,5 @@
-// The date in group 3: digit fields, the calendar, and a date type whose constructor checks; a date that is asked for, and
-// which of two is the later. specs/ says what is right.
+// The date in group 3: digit fields, the calendar, and a date type whose constructor checks; a date that is asked for,
+// and which of two is the later. specs/ says what is right.
 ghost use mathlib.Core.Path.{_≡_};
 ghost use mathlib.Core.Bool.{false};
 ghost use Prim.Native.Nat.{_≤_};

@@ -18,8 +18,8 @@ use Rattle.line.specs.Lines.{isFeed, feeds, reach, behind, Whole}
 use Rattle.line.specs.Parts.{LineStart, text-start, behind-feed, AreLines, liesWithin, beginsLine, isWhole, areLines}
 use Rattle.line.specs.Places.{behindAt}
 use Rattle.line.specs.declared.Behind.the-variants.{At, TooFew}
-use Rattle.line.proofs.Feeds.{feeds-le}
-use Rattle.line.proofs.Last.{reach-last, whole-last, last-whole}
+use Rattle.line.proofs.Feeds.{feeds-le, feeds-cut, feeds-drop-feed}
+use Rattle.line.proofs.Last.{reach-last, whole-last, last-whole, feeds-reach}
 use Rattle.line.proofs.Places.{is-at, few-is, whole-at}
 use Rattle.line.proofs.Reach.{reach-zero, reach-le, reach-add, reach-least, feeds-behind}
 use Rattle.line.proofs.Whole.{whole-lines}
@@ -38,6 +38,17 @@ reach-starts s at k p h =
     let e : suc n ≡ at + reach (drop at s) k = omega arith in
     let f : getD s n 0 ≡ 10 = sym (getD-drop at s (reach (drop at s) k - 1) 0) ∙ reach-last (drop at s) k p h in
     subst (LineStart s) e (behind-feed n (omega (arith, reach-le (drop at s) k, length-drop at s)) f)
+
+-- and no line begins inside it
+pub line-start-later : (s : List ℕ) (at p : ℕ) → LineStart s p → at < p → at + reach (drop at s) 1 ≤ p
+line-start-later s at p text-start l = absurd (omega arith)
+line-start-later s at p (behind-feed i h e) l =
+    let x = take (suc i - at) (drop at s) in
+    let long : length x ≡ suc i - at = length-take-le (suc i - at) (drop at s) (omega (arith, length-drop at s)) in
+    let at-feed : at + (i - at) ≡ i = omega arith in
+    let feed : getD x (i - at) 0 ≡ 10 = getD-take (suc i - at) (drop at s) (i - at) 0 (omega arith) ∙ getD-drop at s (i - at) 0 ∙ ap (λ n. getD s n 0) at-feed ∙ e in
+    let some : 1 ≤ feeds x = omega (arith, feeds-cut (i - at) x, feeds-drop-feed x (i - at) (omega arith) feed) in
+    omega (arith, feeds-reach (drop at s) 1 (suc i - at) some)
 
 -- ---- R7 of the part
 

@@ -22,3 +22,4 @@ pub mod Stopped
 pub mod SameCounting
 pub mod Growth
 pub mod GrownS
+pub mod Alone

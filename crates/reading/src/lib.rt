@@ -468,8 +468,8 @@ pub fn check_kept(rules: rules::Rules, counts: &[u16], group: usize, lines: &[u8
     check(rules, form::form_in(group), group, count, lines)
 }
 
-// R333: the date of a record with these counts, whose group 3 has these lines. It has one if `read_kept` reads that group
-// with 0, given room. No cell is stored.
+// R333: the date of a record with these counts, whose group 3 has these lines. It has one if `read_kept` reads that
+// group with 0, given room. No cell is stored.
 pub fn date_kept(rules: rules::Rules, counts: &[u16], lines: &[u8]) -> RecordDate
     requires { ⌜ rulingOf (now counts) ≡ Ruling.Kept ⌝ }
     ensures { λ r. ⌜ r ≡

@@ -20,6 +20,7 @@ use Rattle.reading.specs.Read.{Cells, readingOf, tableBy}
 use Rattle.writing.specs.Due as WritingIs
 use Rattle.writing.specs.Writing.{outputBy}
 use Rattle.since.specs.Due as FirstIs
+use Rattle.salvaging.specs.Due as StretchIs
 use Rattle.whole.specs.Due as WholeIs
 use Rattle.whole.specs.Turn.{Turn}
 use Rattle.whole.specs.Whole.{wholeRead, recordReadOf}
@@ -49,6 +50,7 @@ use Rattle.sao.proofs.record_lines
 use Rattle.sao.proofs.record_characteristic
 use Rattle.sao.proofs.read_record
 use Rattle.sao.proofs.first_from
+use Rattle.sao.proofs.stretch_end
 use Rattle.sao.proofs.write_record
 use Rattle.sao.proofs.list
 use Rattle.sao.proofs.rewrite_record
@@ -137,6 +139,11 @@ read-record-due κs (ρ, (text, (at, (table, _)))) r v l =
 
 pub first-from-due : Gives first_from.ended first_from.Reads.Learnt (λ κs a r v. FirstIs.Due (a .0) (now (a .1 .0)) (a .1 .1 .0) r)
 first-from-due κs (ρ, (text, (from, _))) r v l = as-due ρ .first (now text) from r .0 (sym l)
+
+-- ---- the end of a stretch
+
+pub stretch-end-due : Gives stretch_end.ended stretch_end.Reads.Learnt (λ κs a r v. StretchIs.Due (a .0) (now (a .1 .0)) (a .1 .1 .0) r)
+stretch-end-due κs (ρ, (text, (at, _))) r v l = as-due ρ .stretch (now text) at r .0 (sym l)
 
 -- ---- writing, listing, rewriting
 

@@ -35,6 +35,7 @@ use Rattle.place.specs.Placing.{countsAt}
 use Rattle.whole.specs.Whole.{wholeRead}
 use Rattle.whole.proofs.Promises.{whole-numbered, refused-record-keeps, record-keeps-rest}
 use Rattle.since.proofs.Promises.{first-numbered}
+use Rattle.salvaging.proofs.Due.{stretch-numbered}
 use Rattle.journal.specs.Model.{Call}
 use Rattle.journal.specs.Calls.{answerOf, usedBy, cellsAfter, journalBy}
 use Rattle.journal.specs.Plays.{replayOf, replayedOpen, replayedCells}
@@ -59,6 +60,7 @@ ends-numbered ρ =
       whole = whole-numbered ρ;
       rewriting = rewriting-numbered ρ;
       first = first-numbered ρ;
+      stretch = stretch-numbered ρ;
       call = call-numbered ρ;
       replay = replay-numbered ρ;
     }

@@ -39,10 +39,15 @@ use Rattle.journal.proofs.Torn.{torn-calls}
 use Rattle.journal.proofs.Reopened.{reopened}
 use Rattle.rewriting.proofs.Promises.{done-all, done-writes, done-text, done-front, done-table-holds}
 use Rattle.rewriting.proofs.Whole.{whole-read}
-use Rattle.date.proofs.Order.{seven-order, not-before-exactly}
+use Rattle.date.proofs.Asked.{told-asked}
+use Rattle.date.proofs.Order.{seven-exactly, not-before-exactly}
 use Rattle.since.proofs.Due as FirstDue
 use Rattle.since.proofs.Kept.{stops-there}
 use Rattle.since.proofs.Walked.{full-walk}
+use Rattle.salvaging.proofs.Confined.{damage-confined}
+use Rattle.salvaging.proofs.Copies.{salvages}
+use Rattle.salvaging.proofs.Due as StretchDue
+use Rattle.salvaging.proofs.Pieces.{salvaged-exactly}
 use Rattle.whole.proofs.Due as WholeDue
 use Rattle.whole.proofs.InTurn.{as-in-turn}
 use Rattle.whole.proofs.Promises.{done-record-holds}
@@ -69,6 +74,7 @@ as-due ρ =
       record-characteristic = λ s r k. RecordDue.characteristic-first-due ρ s r k;
       whole = λ s at room. WholeDue.first-due ρ s at room;
       first = λ s from. FirstDue.first-due ρ s from;
+      stretch = λ s at. StretchDue.first-due ρ s at;
       writing = λ ns cs room. WritingDue.first-due ρ ns cs room;
       rewriting = λ s at cells room. RewritingDue.first-due ρ s at cells room;
       listed = λ s room. Listed.first-due (listing ρ s) room;
@@ -141,7 +147,8 @@ demand-2 ρ =
       lent = lent-holds ρ;
       records = record { exactly = RecordDue.bad-part-exactly ρ; decide = λ s r g f e d room. RecordDue.lines-decide ρ s r g room f e d; placed = placed-answers ρ };
       in-turn = as-in-turn ρ;
-      first-record = record { full-walk = full-walk ρ; stops-there = stops-there ρ; order = seven-order; at-or-after = not-before-exactly };
+      first-record = record { full-walk = full-walk ρ; stops-there = stops-there ρ; order = seven-exactly; told-right = told-asked; at-or-after = not-before-exactly };
+      salvaging = record { exactly = λ s. salvaged-exactly ρ s; covers = salvages ρ; confined = damage-confined ρ };
       canonical = one-canonical ρ;
       reads-back = reads-back-ended ρ;
       edits = edits ρ;

@@ -39,6 +39,7 @@ answers-told =
       };
       whole = record { read = λ n. (refl, refl); refused = λ g r. (refl, refl) };
       first = record { found = λ p k. (refl, refl, refl); refused = λ k r. (refl, refl, refl) };
+      stretch = record { ends = λ p. refl; refused = λ r. refl };
       text = record {
         written = λ n. refl;
         write-refused = λ r. refl;

@@ -25,6 +25,7 @@ use Rattle.sao.proofs.record_lines
 use Rattle.sao.proofs.record_characteristic
 use Rattle.sao.proofs.read_record
 use Rattle.sao.proofs.first_from
+use Rattle.sao.proofs.stretch_end
 use Rattle.sao.proofs.write_record
 use Rattle.sao.proofs.list
 use Rattle.sao.proofs.rewrite_record
@@ -87,6 +88,11 @@ read-record-one κs a r q v w l k =
 
 pub first-from-one : OneOutcome first_from.ended first_from.Reads.Learnt
 first-from-one κs a r q v w l k = (l ∙ sym k, λ i. (tt, (tt, (tt, tt))))
+
+-- ---- the end of a stretch
+
+pub stretch-end-one : OneOutcome stretch_end.ended stretch_end.Reads.Learnt
+stretch-end-one κs a r q v w l k = (l ∙ sym k, λ i. (tt, (tt, (tt, tt))))
 
 -- ---- writing, listing, rewriting
 

@@ -33,6 +33,8 @@ use Rattle.writing.specs.Numbered.{writingRows}
 use Rattle.date.specs.declared.Date.{Date}
 use Rattle.since.specs.Numbered.{firstReply, placeTold, passedTold, NumberedApart}
 use Rattle.since.specs.Since.{firstFrom}
+use Rattle.salvaging.specs.Numbered.{stretchReply, stretchRows}
+use Rattle.salvaging.specs.Stretch.{stretchOf}
 use Rattle.whole.specs.Numbered.{recordReply, groupTold, NumberedWith, wholeRow}
 use Rattle.whole.specs.Whole.{wholeRead, recordReadOf}
 use Rattle.rewriting.specs.Record.{rewritingOf, bufferBy, tableAfter}
@@ -67,6 +69,7 @@ module _ (ρ : Rules) where
     pub rewriting : (s : List ℕ) (at cells room : ℕ) → NumberedWith rewritingRow (rewritingGroup (rewritingOf ρ s at cells room)) (rewritingReply (rewritingOf ρ s at cells room))
     -- R335: and the place and the records passed, told apart too: the place is 0 beside every refusal, the records passed are 0 beside 10
     pub first : (s : List ℕ) (from : Date) → NumberedApart (placeTold (firstFrom ρ s from)) (passedTold (firstFrom ρ s from)) (firstReply (firstFrom ρ s from))
+    pub stretch : (s : List ℕ) (at : ℕ) → Numbered stretchRows (stretchReply (stretchOf ρ s at))
     -- R550, R540: the calls of the edit journal, and a replay
     pub call : (ns j : List ℕ) (used cells : ℕ) (c : Call) → Numbered (callRows c) (editReply (answerOf ρ ns j used cells c))
     pub replay : (ns j : List ℕ) (used : ℕ) (cs : List ℤ) → Numbered replayRows (checkedReply (replayOf ρ ns j used cs))

@@ -7,7 +7,7 @@
 use mathlib.Core.Path.{_≡_}
 use mathlib.Core.Bool.{true}
 use mathlib.Core.List.{List, _++_}
-use mathlib.Core.Logic.{_↔_}
+use mathlib.Core.Logic.{_↔_, _⊎_}
 use Prim.Native.Nat.{ℕ, _+_, _-_, _≤_}
 use lib.IntN.{ℤ}
 use lib.ListN.{length, take}
@@ -59,12 +59,20 @@ use Rattle.rewriting.specs.Record.{rewritingOf, bufferBy, tableAfter}
 use Rattle.date.specs.declared.Date.{Date}
 use Rattle.date.specs.declared.Dated.the-variants as Dated
 use Rattle.date.specs.Asked.{datedBy}
-use Rattle.date.specs.Order.{notLess, seven, AtOrAfter, notBefore}
+use Rattle.date.specs.Date.{datedOf}
+use Rattle.date.specs.Order.{Greater, seven, AtOrAfter, notBefore}
 use Rattle.since.specs.declared.First.{First}
 use Rattle.since.specs.declared.First.the-variants.{Found, Refused}
 use Rattle.since.specs.Due as FirstIs
 use Rattle.since.specs.Kept.{StopsThere}
 use Rattle.since.specs.Since.{firstIn, wholeWalk, stopOf, firstFrom}
+use Rattle.salvaging.specs.declared.Piece.{Piece}
+use Rattle.salvaging.specs.declared.Stretch.{Stretch}
+use Rattle.salvaging.specs.Confined.{DamageConfined}
+use Rattle.salvaging.specs.Cover.{Salvages}
+use Rattle.salvaging.specs.Due as StretchIs
+use Rattle.salvaging.specs.Pieces.{Salvaged, pieces}
+use Rattle.salvaging.specs.Stretch.{stretchOf}
 use Rattle.whole.specs.Due as WholeIs
 use Rattle.whole.specs.InTurn.{AsInTurn}
 use Rattle.whole.specs.Turn.{Turn}
@@ -99,6 +107,8 @@ module _ (ρ : Rules) where
     pub whole : (s : List ℕ) (at room : ℕ) (t : Turn) → wholeRead ρ s at room ≡ t ↔ WholeIs.Due ρ s at room t
     -- R334: the first record from a date on: its place and the records passed, or the refusal with these
     pub first : (s : List ℕ) (from : Date) (x : First) → firstFrom ρ s from ≡ x ↔ FirstIs.Due ρ s from x
+    -- R352: the end of the stretch that begins at a place
+    pub stretch : (s : List ℕ) (at : ℕ) (x : Stretch) → stretchOf ρ s at ≡ x ↔ StretchIs.Due ρ s at x
     pub writing : (ns : List ℕ) (cs : List ℤ) (room : ℕ) (r : Answer) → writingOf ρ ns cs room ≡ r ↔ WritingIs.Due ρ ns cs room r
     pub rewriting : (s : List ℕ) (at cells room : ℕ) (r : Rewriting) → rewritingOf ρ s at cells room ≡ r ↔ RewritingIs.Due ρ s at cells room r
     pub listed : (s : List ℕ) (room : ℕ) (r : Answer) → listedIn (listing ρ s) room ≡ r ↔ ListingDue (listing ρ s) room r
@@ -148,8 +158,19 @@ module _ (ρ : Rules) where
     -- what stands behind the record that is found has no part in it
     pub stops-there : (s : List ℕ) (from : Date) (place passed : ℕ) → firstFrom ρ s from ≡ Found place passed → StopsThere ρ s from place passed
     -- year, day of the year and time of day order right dates as all seven numbers do; and that test is the statement
-    pub order : (d e : Date) → datedBy d ≡ Dated.Right d → datedBy e ≡ Dated.Right e → notLess (seven d) (seven e) ≡ notBefore d e
+    pub order : (d e : Date) → datedBy d ≡ Dated.Right d → datedBy e ≡ Dated.Right e → AtOrAfter d e ↔ ((seven d ≡ seven e) ⊎ Greater (seven d) (seven e))
+    -- dates that letters tell are right ones
+    pub told-right : (s : List ℕ) (d : Date) → datedOf s ≡ Dated.Right d → datedBy d ≡ Dated.Right d
     pub at-or-after : (d e : Date) → (notBefore d e ≡ true) ↔ AtOrAfter d e
+
+  -- R353 to R355: what is copied past stretches, and what is left out
+  pub record SalvagesAsDue : Type 0 where
+    -- the list of pieces is the one that the rule gives
+    pub exactly : (s : List ℕ) (ps : List Piece) → pieces ρ s ≡ ps ↔ Salvaged ρ s 0 ps
+    -- they cover the text, no record of the walk is lost, and the copy stays as it is
+    pub covers : (s : List ℕ) → Salvages ρ s
+    -- a ruined index costs its own record
+    pub confined : DamageConfined ρ
 
   -- D2.3: n bytes, canonical with these counts and cells, and no other text is (R100)
   pub record OneCanonical (ns : List ℕ) (cs : List ℤ) (n : ℕ) : Type 0 where
@@ -212,6 +233,7 @@ module _ (ρ : Rules) where
     -- R274: one call for a whole record is equal to asking for its groups in turn
     pub in-turn : (s : List ℕ) (at : ℕ) → AsInTurn ρ s at
     pub first-record : FirstRecord
+    pub salvaging : SalvagesAsDue
     pub canonical : WritesCanonical
     pub reads-back : WrittenReadsBack
     pub read-writes : ReadWrites

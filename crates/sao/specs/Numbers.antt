@@ -22,6 +22,8 @@ use Rattle.whole.specs.declared.RecordRead.the-variants as W
 use Rattle.whole.specs.Numbered.{recordReply, groupTold}
 use Rattle.since.specs.declared.First.the-variants as F
 use Rattle.since.specs.Numbered.{firstReply, placeTold, passedTold}
+use Rattle.salvaging.specs.declared.Stretch.the-variants as S
+use Rattle.salvaging.specs.Numbered.{stretchReply}
 use Rattle.rewriting.specs.declared.Rewriting.the-variants as R
 use Rattle.journal.specs.Numbered.{editReply}
 use Rattle.rewriting.specs.Numbered.{rewritingReply, rewritingGroup}
@@ -89,6 +91,11 @@ pub record FirstTold : Type 0 where
   pub found : (p k : ℕ) → (firstReply (F.Found p k) ≡ figures 0 0 0 0 0 0 0 0 0) × (placeTold (F.Found p k) ≡ p) × (passedTold (F.Found p k) ≡ k)
   pub refused : (k : ℕ) (r : Refusal) → (firstReply (F.Refused k r) ≡ refusalReply r) × (placeTold (F.Refused k r) ≡ 0) × (passedTold (F.Refused k r) ≡ k)
 
+-- R352: the end of a stretch, as the next place
+pub record StretchTold : Type 0 where
+  pub ends : (p : ℕ) → stretchReply (S.Ends p) ≡ figures 0 p 0 0 0 0 0 0 0
+  pub refused : (r : Refusal) → stretchReply (S.Refused r) ≡ refusalReply r
+
 -- R300, R310: writing and listing; R323: and rewriting, with the group that was being read apart
 pub record TextTold : Type 0 where
   pub written : (n : ℕ) → answerReply (A.Done n) ≡ figures 0 0 n 0 0 0 0 0 0
@@ -108,5 +115,6 @@ pub record AnswersTold : Type 0 where
   pub group : GroupTold
   pub whole : WholeTold
   pub first : FirstTold
+  pub stretch : StretchTold
   pub text : TextTold
   pub journal : JournalTold

@@ -9,6 +9,7 @@ use journal::Replayed;
 use place::Record;
 use reply::Answer;
 use rewriting::Rewriting;
+use salvaging::Stretch;
 use since::First;
 use whole::RecordRead;
 ghost use mathlib.Core.Path.{_≡_};
@@ -20,6 +21,7 @@ ghost use Rattle.group.specs.Text.{readAt};
 ghost use Rattle.group.specs.Held.{foundAt, partStart, partEnd, partAt, moved};
 ghost use Rattle.group.specs.Characteristics.{characteristicAt};
 ghost use Rattle.view.specs.With.{foundWith, startWith, endWith, partWith, readWith, characteristicWith};
+ghost use Rattle.salvaging.specs.Stretch.{stretchOf};
 ghost use Rattle.since.specs.Since.{firstFrom};
 ghost use Rattle.whole.specs.Whole.{wholeRead, recordReadOf};
 ghost use Rattle.writing.specs.Writing.{writingOf, outputBy};
@@ -203,13 +205,24 @@ pub fn rewrite_record(
 
 // R330 to R337. Asked: the first record of a text's walk that is not earlier than a date, which is given by the seven
 // numbers that group 3 has.
-// Answered: 0 with the record's place, and how many records were passed before it. Nothing behind it is looked at.
-// A refusal has how many records were passed: 10 for a date that breaks the rules of the date, before the text is looked
-// at; where there is no such record, what the walk stopped with behind all of them, one of 1 and 3 to 6.
+// Answered: 0 with the record's place, and how many records were passed before it. What stands behind it has no part in
+// the answer.
+// A refusal has how many records were passed: 10 for a date that breaks the rules of the date, before the text is
+// looked at; where there is no such record, what the walk stopped with behind all of them, one of 1 and 3 to 6.
 pub fn first_from(rules: rules::Rules, text: &[u8], from: Date) -> First
     ensures { λ r. ⌜ r ≡ firstFrom rules (now (text .entry)) from ⌝ }
 {
     since::first_from(rules, text, from)
+}
+
+// R350 to R352. Asked: where the stretch ends that begins at a place of a text, whatever stands there.
+// Answered: 0 with the next place: the first later line start at which a record is placed with 0 and its groups 1, 3
+// and 4 read with 0, or the text's end if there is none. So a walk that stops may go on.
+// A refusal: 2 beyond the text, 1 at its end.
+pub fn stretch_end(rules: rules::Rules, text: &[u8], at: usize) -> Stretch
+    ensures { λ r. ⌜ r ≡ stretchOf rules (now (text .entry)) at ⌝ }
+{
+    salvaging::stretch_end(rules, text, at)
 }
 
 // ---- The edit journal, R500 to R550. What is kept between two calls is the caller's: the counts of a record, the

@@ -14,6 +14,7 @@ use Rattle.seambeacon.proofs.seambeacon_write_record as write-record
 use Rattle.seambeacon.proofs.seambeacon_list as list
 use Rattle.seambeacon.proofs.seambeacon_read_record as read-record
 use Rattle.seambeacon.proofs.seambeacon_first_from as first-from
+use Rattle.seambeacon.proofs.seambeacon_stretch_end as stretch-end
 use Rattle.seambeacon.proofs.seambeacon_rewrite_record as rewrite-record
 use Rattle.seambeacon.proofs.seambeacon_set_cell as set-cell
 use Rattle.seambeacon.proofs.seambeacon_open_savepoint as open-savepoint
@@ -86,6 +87,13 @@ first-from-one κs a n m v w l k =
     let place = l .1 .0 ∙ sym (k .1 .0) in
     let passed = l .1 .1 ∙ sym (k .1 .1) in
     (l .0 .number ∙ sym (k .0 .number), λ i. (tt, (tt, (tt, (place i, (passed i, (beside i, tt)))))))
+
+-- ---- the end of a stretch
+
+pub stretch-end-one : OneOutcome stretch-end.ended stretch-end.Reads.Learnt
+stretch-end-one κs a n m v w l k =
+    let beside = l .besides ∙ sym (k .besides) in
+    (l .number ∙ sym (k .number), λ i. (tt, (tt, (tt, (beside i, tt)))))
 
 -- ---- writing, listing, rewriting
 

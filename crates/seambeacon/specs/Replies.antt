@@ -19,6 +19,8 @@ use Rattle.whole.specs.Whole.{wholeRead, recordReadOf}
 use Rattle.date.specs.declared.Date.{Date}
 use Rattle.since.specs.Numbered.{firstReply}
 use Rattle.since.specs.Since.{firstFrom}
+use Rattle.salvaging.specs.Numbered.{stretchReply}
+use Rattle.salvaging.specs.Stretch.{stretchOf}
 use Rattle.writing.specs.Writing.{writingOf}
 use Rattle.rewriting.specs.Record.{rewritingOf}
 use Rattle.rewriting.specs.Numbered.{rewritingReply}
@@ -57,6 +59,10 @@ wholeReply ρ s at cells = recordReply (recordReadOf (wholeRead ρ s at cells))
 -- the first record from a date on
 abbrev pub firstFromReply : Rules → List ℕ → Date → Reply
 firstFromReply ρ s from = firstReply (firstFrom ρ s from)
+
+-- the end of the stretch that begins at a place
+abbrev pub stretchEndReply : Rules → List ℕ → ℕ → Reply
+stretchEndReply ρ s at = stretchReply (stretchOf ρ s at)
 
 -- into an output of so many bytes
 abbrev pub writeReply : Rules → List ℕ → List ℤ → ℕ → Reply

@@ -13,7 +13,8 @@ ghost use Rattle.seambeacon.specs.Flags.{flagged};
 ghost use Rattle.seambeacon.specs.Numbers.{Told, answerKind, answerValue, sevenDate};
 ghost use Rattle.seambeacon.specs.Replies.{placeReply, readReply, linesReply, characteristicReplyAt, writeReply};
 ghost use Rattle.seambeacon.specs.Replies.{recordGroupReply, recordLinesReply, recordCharacteristicReply};
-ghost use Rattle.seambeacon.specs.Replies.{wholeReply, firstFromReply, listReply, rewriteReply, callAnswer};
+ghost use Rattle.seambeacon.specs.Replies.{wholeReply, firstFromReply, stretchEndReply, listReply, rewriteReply};
+ghost use Rattle.seambeacon.specs.Replies.{callAnswer};
 ghost use Rattle.decimal.specs.Writing.{putBytes};
 ghost use Rattle.place.specs.Placing.{countsAt, startsAt, endsAt, carried};
 ghost use Rattle.reading.specs.Read.{tableBy};
@@ -342,6 +343,22 @@ pub extern "C" fn seambeacon_first_from(
     *place = since::place_of(answer);
     *passed = since::passed_of(answer);
     tell(since::reply_of(answer), beside)
+}
+
+// R350 to R352. Asked: where the stretch ends that begins at a place of a text, whatever stands there.
+// Answered: 0 with the next place: that of the first later record from which a walk may go on, or the text's end.
+// A refusal: 2 beyond the text, 1 at its end.
+#[no_mangle]
+pub extern "C" fn seambeacon_stretch_end(
+    rules: u32,
+    text: &[u8],
+    at: usize,
+    beside: &mut [usize; 8],
+) -> u32
+    ensures { λ n. ⌜ Told (stretchEndReply (flagged rules) (now (text .entry)) at) n (now (beside .exit)) ⌝ }
+{
+    let answer = sao::stretch_end(rules_of(rules), text, at);
+    tell(salvaging::reply_of(answer), beside)
 }
 
 // R300 to R307. Asked: to write a record of these counts and of the cells of all groups, group 1's first.

@@ -1,6 +1,6 @@
-// R330, the first record from a given date on: the walk, in the text's order, up to the first record whose date is at or
-// after the one that is asked for. Of each record on the way group 3 is read, and nothing else; no table is lent. Any text
-// and any seven numbers may be given (R241).
+// R330, the first record from a given date on: the walk, in the text's order, up to the first record whose date is at
+// or after the one that is asked for. Of the groups of each record on the way only group 3 is read; no table is lent.
+// Any text and any seven numbers may be given (R241).
 use date::Date;
 use date::Dated;
 use place::Placing;

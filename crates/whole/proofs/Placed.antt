@@ -22,7 +22,7 @@ module _ (ρ : Rules) (s : List ℕ) (at next : ℕ) (placed : placingOf ρ s at
   here : IsPlaced ρ s at next
   here = is-placed ρ s at next placed
 
-  group-by : (g : ℕ) → 1 ≤ g → g ≤ 60 → groupBy ρ s (carriedAt ρ s at) g ≡ groupRead ρ s at g
+  pub group-by : (g : ℕ) → 1 ≤ g → g ≤ 60 → groupBy ρ s (carriedAt ρ s at) g ≡ groupRead ρ s at g
   group-by g low high = rw (named-lines ρ s at next placed g low high) (sym (read-located ρ s at g (cellsIn ρ ns g) next ns (here .located-at)))
 
   pub all-by : allBy ρ s (carriedAt ρ s at) ≡ allInTurn ρ s at

@@ -18,7 +18,7 @@ pub fn bytes(name: &str) -> Vec<u8> {
 /// Every text of the vectors and of the examples.
 pub fn all_texts() -> Vec<Vec<u8>> {
     let mut all = Vec::new();
-    for folder in ["tests/vectors", "tests/vectors/W7", "tests/vectors/W8", "tests/vectors/W12", "examples"] {
+    for folder in ["tests/vectors", "tests/vectors/W7", "tests/vectors/W8", "tests/vectors/W9", "tests/vectors/W12", "examples"] {
         let files = fs::read_dir(project(folder)).expect("a folder").map(|file| file.expect("a file").path());
         all.extend(files.filter(|path| path.extension().is_some_and(|kind| kind == "sao")).map(|path| fs::read(path).expect("a text")));
     }
