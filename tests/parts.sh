@@ -9,13 +9,7 @@ cd "$(dirname "$0")/.." || exit 2
 name=parts
 . tests/cases
 . tests/kit
-[ $# -le 1 ] || { echo 'usage: tests/parts.sh [FOLDER]' >&2; exit 2; }
-chosen "$@"
-folder=$vectors
-! own || folder=$vectors/W7
-
-program_made
-short_functions tests/c/parts.c
+begun W7 "$@"
 
 held() { # OF LEAST: the program's checks hold, whose number is the last line that it said; over the project's own vectors there are at least so many
     last=$(tail -n 1 "$work/said")
@@ -40,16 +34,10 @@ held 'the questions' 2397
 
 # ---- placed records
 
-if own; then
-    # shellcheck disable=SC2046
-    set -- $(find tests/vectors examples -name '*.sao' | sort)
-else
-    set -- "$vectors"/*.sao
-fi
-started "$work/main" records "$@" >"$work/said"
+over_texts started "$work/main" records >"$work/said"
 counted 'placed records: every check of the program' [ "$?" = 0 ] || head -n 21 "$work/said"
 records=$(sed -n 's/^\([0-9]*\) records$/\1/p' "$work/said")
-echo "$name: $# texts, ${records:-0} records placed by four rules"
+echo "$name: ${records:-0} records placed by four rules"
 ! own || counted 'as many records as there are' [ "${records:-0}" -ge 1523 ]
 held 'placed records' 531527
 finished 22

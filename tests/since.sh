@@ -9,13 +9,7 @@ cd "$(dirname "$0")/.." || exit 2
 name=since
 . tests/cases
 . tests/kit
-[ $# -le 1 ] || { echo 'usage: tests/since.sh [FOLDER]' >&2; exit 2; }
-chosen "$@"
-folder=$vectors
-! own || folder=$vectors/W8
-
-program_made
-short_functions tests/c/since.c
+begun W8 "$@"
 
 # ---- the questions
 
@@ -26,12 +20,6 @@ counted 'as many questions as there are' asked 1 378
 
 # ---- the texts
 
-if own; then
-    # shellcheck disable=SC2046
-    set -- $(find tests/vectors examples -name '*.sao' | sort)
-else
-    set -- "$vectors"/*.sao
-fi
-held "$# texts by four rules" 16203 dates "$@"
+over_texts texts_held 16203 dates
 counted 'as many dates as there are' asked 1 4685
 finished 26

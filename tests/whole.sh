@@ -10,13 +10,7 @@ cd "$(dirname "$0")/.." || exit 2
 name=whole
 . tests/cases
 . tests/kit
-[ $# -le 1 ] || { echo 'usage: tests/whole.sh [FOLDER]' >&2; exit 2; }
-chosen "$@"
-folder=$vectors
-! own || folder=$vectors/W12
-
-program_made
-short_functions tests/c/whole.c
+begun W12 "$@"
 
 # ---- the questions
 
@@ -27,13 +21,7 @@ counted 'as many questions as there are' asked 1 567
 
 # ---- the texts
 
-if own; then
-    # shellcheck disable=SC2046
-    set -- $(find tests/vectors examples -name '*.sao' | sort)
-else
-    set -- "$vectors"/*.sao
-fi
-held "$# texts by four rules" 171433 turns "$@"
+over_texts texts_held 171433 turns
 counted 'as many records that are read' asked 1 961
 counted 'as many with a group that is refused' asked 2 512
 counted 'as many that break a rule on counts' asked 3 50
