@@ -27,23 +27,31 @@ module _ {A C : Type 0} {P : A → List ℕ → List C → Type 0} where
   each_cells size l [] [] [] none = refl
   each_cells size l (a ∷ bs) s cs (more x c {y} {d} p h) =
       length-append c d ∙ ap₂ ◌+◌ (l a x c p) (each_cells size l bs y d h)
+  each_cells size l [] [] (_ ∷ _) x5 = elim x5 [ ]
+  each_cells size l [] (_ ∷ _) cs x5 = elim x5 [ ]
 
   pub each_bytes : (size : A → ℕ) → ((a : A) (x : List ℕ) (c : List C) → P a x c → length x ≡ size a) → (bs : List A) (s : List ℕ) (cs : List C) → Each P bs s cs → length s ≡ sum (map size bs)
   unfolding sum
   each_bytes size l [] [] [] none = refl
   each_bytes size l (a ∷ bs) s cs (more x c {y} {d} p h) =
       length-append x y ∙ ap₂ ◌+◌ (l a x c p) (each_bytes size l bs y d h)
+  each_bytes size l [] [] (_ ∷ _) x5 = elim x5 [ ]
+  each_bytes size l [] (_ ∷ _) cs x5 = elim x5 [ ]
 
   -- pieces that hold of another statement too
   pub each_imply : {Q : A → List ℕ → List C → Type 0} → ((a : A) (x : List ℕ) (c : List C) → P a x c → Q a x c) → (bs : List A) (s : List ℕ) (cs : List C) → Each P bs s cs → Each Q bs s cs
   each_imply f [] [] [] none = none
   each_imply f (a ∷ bs) s cs (more x c {y} {d} p h) = more x c (f a x c p) (each_imply f bs y d h)
+  each_imply {Q = Q} f [] [] (_ ∷ _) x5 = elim x5 [ ]
+  each_imply {Q = Q} f [] (_ ∷ _) cs x5 = elim x5 [ ]
 
   -- a test that every piece passes
   pub each_passed : (f : A → Bool) (bs : List A) (s : List ℕ) (cs : List C) → T (every f bs) → Each P bs s cs → Each (λ a x c. T (f a) × P a x c) bs s cs
   each_passed f [] [] [] t none = none
   each_passed f (a ∷ bs) s cs t (more x c {y} {d} p h) =
       more x c (and_left (f a) (every f bs) t, p) (each_passed f bs y d (and_right (f a) (every f bs) t) h)
+  each_passed f [] [] (_ ∷ _) t x8 = elim x8 [ ]
+  each_passed f [] (_ ∷ _) cs t x7 = elim x7 [ ]
 
   -- pieces that are gathered so: all cells are read
   pub each_gather : {B : Type 0} {wide : A → List ℕ → ℕ} {read : A → List ℕ → Got B C} → Gathers P wide read → (bs : List A) (s : List ℕ) (cs : List C) (b : List ℕ)
@@ -52,6 +60,8 @@ module _ {A C : Type 0} {P : A → List ℕ → List C → Type 0} where
   each_gather g [] [] [] b none = refl
   each_gather g (a ∷ bs) s cs b (more x c {y} {d} p h) =
       rw (append_assoc x y b, g.exact a x c (y ++ b) p, take-append_seam x (y ++ b), drop-append_seam x (y ++ b), g.back a x c p, each_gather g bs y d b h)
+  each_gather {B = B} {wide = wide} {read = read} g [] [] (_ ∷ _) b x5 = elim x5 [ ]
+  each_gather {B = B} {wide = wide} {read = read} g [] (_ ∷ _) cs b x5 = elim x5 [ ]
 
   -- pieces that are the texts of their cells: the whole is what is written for all cells
   pub each_emit : (size : A → ℕ) (text : A → List C → List ℕ) → ((a : A) (x : List ℕ) (c : List C) → P a x c → (x ≡ text a c) × (length c ≡ size a))
@@ -61,6 +71,8 @@ module _ {A C : Type 0} {P : A → List ℕ → List C → Type 0} where
   each_emit size text t (a ∷ bs) s cs (more x c {y} {d} p h) =
       let u = t a x c p in
       rw (take_at c d (size a) u.1, drop_at c d (size a) u.1) (ap₂ ◌++◌ u.0 (each_emit size text t bs y d h))
+  each_emit size text t [] [] (_ ∷ _) x5 = elim x5 [ ]
+  each_emit size text t [] (_ ∷ _) cs x5 = elim x5 [ ]
 
 -- what is written for pieces, each of which has its own cells and a text for them
 pub own_each : {A C : Type 0} {P : A → List ℕ → List C → Type 0} (size : A → ℕ) (text : A → List C → List ℕ) (Q : A → List C → Type 0)
@@ -84,6 +96,8 @@ module _ {A C : Type 0} {P : A → List ℕ → List C → Type 0} where
   each_own size Q t (a ∷ bs) s cs (more x c {y} {d} p h) =
       let u = t a x c p in
       rw (take_at c d (size a) u.0, drop_at c d (size a) u.0) (u.1, each_own size Q t bs y d h)
+  each_own size Q t [] [] (_ ∷ _) x5 = elim x5 [ ]
+  each_own size Q t [] (_ ∷ _) cs x5 = elim x5 [ ]
 
 -- texts and cells of pieces, one behind the other
 pub flat_each : {A C : Type 0} (text : A → List ℕ) (cells : A → List C) (bs : List A) → Each (λ a x c. (x ≡ text a) × (c ≡ cells a)) bs (flat_map text bs) (flat_map cells bs)
@@ -115,6 +129,8 @@ each_append [] bs [] t [] ds none k = k
 each_append {P = P} (a ∷ ks) bs s t cs ds (more x c {y} {d} p h) k =
     subst (λ z. Each P (a ∷ (ks ++ bs)) z ((c ++ d) ++ ds)) (sym (append_assoc x y t))
     (subst (Each P (a ∷ (ks ++ bs)) (x ++ (y ++ t))) (sym (append_assoc c d ds)) (more x c p (each_append ks bs y t d ds h k)))
+each_append {A = A} {C = C} {P = P} [] bs [] t (_ ∷ _) ds x8 k = elim x8 [ ]
+each_append {A = A} {C = C} {P = P} [] bs (_ ∷ _) t cs ds x7 k = elim x7 [ ]
 
 -- pieces that are pieces themselves
 pub each_flat : {A B C : Type 0} {P : B → List ℕ → List C → Type 0} (inner : A → List B) (ks : List A) (s : List ℕ) (cs : List C) → Each (λ a x c. Pieced P (inner a) c) ks s cs
@@ -124,6 +140,8 @@ each_flat inner [] [] [] none = record { text = []; each = none }
 each_flat inner (a ∷ ks) s cs (more x c {y} {d} p h) =
     let r = each_flat inner ks y d h in
     record { text = p.text ++ r.text; each = each_append (inner a) (flat_map inner ks) p.text r.text c d p.each r.each }
+each_flat {A = A} {B = B} {C = C} {P = P} inner [] [] (_ ∷ _) x5 = elim x5 [ ]
+each_flat {A = A} {B = B} {C = C} {P = P} inner [] (_ ∷ _) cs x5 = elim x5 [ ]
 
 -- piece k of the pieces, with what stands before it and behind it
 pub record Among {A C : Type 0} (P : A → List ℕ → List C → Type 0) (bs : List A) (k : ℕ) (a : A) (s : List ℕ) (cs : List C) : Type 0 where

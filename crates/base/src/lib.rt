@@ -1,4 +1,6 @@
 // What every layer needs. specs/ has the definitions, proofs/ their laws.
+#![tactic(auto)]
+
 ghost use Rattle.std.specs.Prelude.{◌≡◌, ◌+◌, min, leb};
 
 // Whether k bytes fit behind a place of n. No sum is made, so any numbers may be given.

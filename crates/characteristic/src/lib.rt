@@ -1,4 +1,6 @@
 // Which characteristics are frequencies (R295), and which of their cells mean that there is no reading (R291).
+#![tactic(auto)]
+
 ghost use Rattle.std.specs.Prelude.{◌↔◌, T};
 ghost use Rattle.characteristic.specs.NoReading.{Frequency, IsNoReading};
 

@@ -1,5 +1,7 @@
 // Counts: the lines and cells that they stand for, the rules on them, and the whole check before they are used. Counts
 // are lent as a slice of any length; one that is not there is 0 (R243).
+#![tactic(auto)]
+
 ghost use Rattle.std.specs.Prelude.{◌≡◌, false, ◌&&◌, map, leb, get_or, ◌+◌, ◌^◌, ◌<◌, ◌≤◌};
 ghost use Rattle.form.specs.Table.{form_of};
 ghost use Rattle.count.specs.Tally.{count_of, lines_by, cells_by, Before};

@@ -1,5 +1,7 @@
 // The date in group 3: digit fields, the calendar, and a date type whose constructor checks; a date that is asked for,
 // and which of two is the later. specs/ says what is right.
+#![tactic(auto)]
+
 ghost use Rattle.std.specs.Prelude.{◌≡◌, false, ◌≤◌};
 ghost use Rattle.date.specs.Digits.{within, read_digits, field_digits};
 ghost use Rattle.date.specs.Calendar.{is_leap, days_to, name_day};

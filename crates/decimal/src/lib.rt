@@ -1,4 +1,6 @@
 // Numbers as decimal text, into bytes that the caller lends.
+#![tactic(auto)]
+
 ghost use Rattle.std.specs.Prelude.{◌≡◌, ◌∷◌, [], ◌++◌, ◌+◌, ◌≤◌, length};
 ghost use Rattle.base.specs.Columns.{columns};
 ghost use Rattle.base.specs.Part.{over};

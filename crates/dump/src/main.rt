@@ -1,6 +1,8 @@
 // For tests alone: walks over standard input and prints, of each record that it places, all that is answered about it,
 // in the format of tests/vectors/README.md. It asks the questions and makes rows of what they answer; the answers are
 // not its own.
+#![tactic(auto)]
+
 use decimal::Put;
 use group::Characteristic;
 use libc::{STDIN_FILENO, STDOUT_FILENO};

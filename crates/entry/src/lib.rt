@@ -1,4 +1,6 @@
 // R520 to R524: one field of the edit journal: its bytes, and the entry that they tell.
+#![tactic(auto)]
+
 ghost use Rattle.std.specs.Prelude.{◌≡◌, ◌+◌, ◌<◌, ◌≤◌, length, take, drop};
 ghost use Rattle.base.specs.Part.{over};
 ghost use Rattle.entry.specs.Bytes.{number_bytes, value_from, bits_of, cell_of};

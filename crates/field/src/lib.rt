@@ -1,5 +1,7 @@
 // One field of a form: whether cells have one at all, and its canonical text; and index entries, read and written. What
 // a field reads as is said in specs/Read.antt; crate `run` reads fields.
+#![tactic(auto)]
+
 ghost use Rattle.std.specs.Prelude.{◌≡◌, ◌+◌, ◌<◌, ◌≤◌, T, length, map};
 ghost use Rattle.base.specs.Ascii.{printable};
 ghost use Rattle.base.specs.Every.{every};

@@ -1,4 +1,6 @@
 // The ten field forms: which group has which, what each takes, and the lines, elements and cells of a group's count.
+#![tactic(auto)]
+
 ghost use Rattle.std.specs.Prelude.{◌≡◌, ◌≤◌};
 ghost use Rattle.form.specs.Table.{row_of, form_of};
 ghost use Rattle.form.specs.Count.{is_segments, segment_elements, elements_of, rounded_up, lines_of, cells_of};

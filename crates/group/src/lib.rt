@@ -1,5 +1,7 @@
 // A group of the record at a place of a text: read into a table (R260), its lines as a part of the text (R280), a
 // characteristic (R290). Any text, place, number and table may be given (R241).
+#![tactic(auto)]
+
 ghost use Rattle.std.specs.Prelude.{◌≡◌, ◌&&◌, ◌≤◌, leb, length, replicate};
 ghost use Rattle.reading.specs.Read.{reading_of, table_by};
 ghost use Rattle.group.specs.Characteristics.{told_by, told_of, characteristic_at};

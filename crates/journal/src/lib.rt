@@ -1,6 +1,8 @@
 // R500 to R550: the edit journal. All that is kept between calls is the caller's: the counts and the table of all
 // cells of a record, a buffer of bytes and how many of them are used. No call has a `requires`: whatever is lent is
 // looked at first (R550).
+#![tactic(auto)]
+
 ghost use Rattle.std.specs.Prelude.{◌≡◌, true, cond, [], ◌+◌, ◌-◌, ◌≤◌, length, take};
 ghost use Rattle.base.specs.Part.{over};
 ghost use Rattle.entry.specs.Field.{entry_text, entry_size, set_bytes, savepoint_bytes};

@@ -1,4 +1,6 @@
 // Lines of a text: where so many of them end, whether a part is so many, and what the content of one is.
+#![tactic(auto)]
+
 ghost use Rattle.std.specs.Prelude.{◌≡◌, ◌+◌, ◌<◌, ◌≤◌, length, drop};
 ghost use Rattle.line.specs.Lines.{feeds, reach};
 ghost use Rattle.line.specs.Places.{behind_at};

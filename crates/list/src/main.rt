@@ -1,5 +1,7 @@
 // The program `list` (R341 to R344, R349): standard input is listed on standard output. What is printed is
 // `listing::print`'s; here it is only read, asked for and written.
+#![tactic(auto)]
+
 use decimal::Put;
 
 fn main() {

@@ -1,4 +1,6 @@
 // The listing of a text: a line for each record of its walk (R342), and then the line `end` (R343).
+#![tactic(auto)]
+
 ghost use Rattle.std.specs.Prelude.{◌≡◌, ◌+◌, ◌≤◌, length};
 ghost use Rattle.base.specs.Part.{over};
 ghost use Rattle.decimal.specs.Writing.{end_in, put_bytes, Puts};

@@ -1,5 +1,7 @@
 // Numbers in columns: what a byte is there, the cell of a sign and a size, and I, F and E fields of any width written
 // from the last column to the first. What such a field reads as is said in specs/Read.antt; crate `run` reads them.
+#![tactic(auto)]
+
 ghost use Rattle.std.specs.Prelude.{◌≡◌, ◌∷◌, [], ◌+◌, ◌<◌, ◌≤◌, ◌^◌, length};
 ghost use Rattle.base.specs.Part.{over};
 ghost use Rattle.base.specs.Sign.{of_sign, negative, size_of, holds};

@@ -1,4 +1,6 @@
 // Records in a text: placing one at a place.
+#![tactic(auto)]
+
 ghost use Rattle.std.specs.Prelude.{◌≡◌, ◌+◌, ◌≤◌, length, replicate};
 ghost use Rattle.form.specs.Table.{form_of};
 ghost use Rattle.line.specs.Places.{behind_at};

@@ -1,5 +1,7 @@
 // Reading the lines of a group under its record's counts. The lines are checked first, and the table is filled only
 // when all of them are clean (R267). The text that they come from is not known here (R269).
+#![tactic(auto)]
+
 ghost use Rattle.std.specs.Prelude.{◌≡◌, map, ◌+◌, ◌-◌, ◌*◌, ◌≤◌, pos, length, drop, get_or};
 ghost use Rattle.std.proofs.Math.Bool as Bool;
 ghost use Rattle.base.specs.Every.{every};

@@ -1,5 +1,7 @@
 // R200 to R217 and R222: the replies. What a question refuses with is a `Refusal`, whichever question it is; a reply is
 // told as its number, with the numbers beside it. What a reply's row doesn't name is 0 (R230).
+#![tactic(auto)]
+
 ghost use Rattle.std.specs.Prelude.{◌≡◌, [], ◌∷◌};
 ghost use Rattle.reply.specs.Table.{told, next, bytes, group, line, element, position, savepoint, place};
 ghost use Rattle.reply.specs.Refusals.{refusal_reply, checked_reply, answer_reply};

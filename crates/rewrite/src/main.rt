@@ -1,6 +1,8 @@
 // The program `rewrite` (R341, R345, R346, R349): standard input is printed again as canonical text, record by record.
 // What a record's text is, and where the next begins, is `sao::rewrite_record`'s; here it is only read, asked for and
 // written.
+#![tactic(auto)]
+
 ghost use Rattle.std.specs.Prelude.{◌≡◌, length};
 ghost use Rattle.rewriting.specs.Printed.{Stopped};
 

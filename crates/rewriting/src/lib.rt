@@ -1,5 +1,7 @@
 // R320, rewriting: the record at a place of a text, read whole and written as canonical text, over a lent table. Any
 // text, place, table and output may be given (R241).
+#![tactic(auto)]
+
 ghost use Rattle.std.specs.Prelude.{◌≡◌, ◌≤◌, length};
 ghost use Rattle.base.specs.Part.{part, over};
 ghost use Rattle.writing.specs.Text.{record_text, record_bytes};

@@ -1,4 +1,6 @@
 // The rules under which questions are asked. A caller chooses them; who chooses nothing has the usual ones.
+#![tactic(auto)]
+
 ghost use Rattle.std.specs.Prelude.{◌≡◌};
 ghost use Rattle.rules.specs.Choice.{chosen, ends_by, counting_by};
 

@@ -1,6 +1,8 @@
 // A run of fields of one form, one behind the other: whether each is one of the form (R70 to R86), and their cells. The
 // form is matched once for a run, and one loop goes over its fields. The loops are written over any width, and the
 // form's own is a constant where they are called: there the compiler takes the loops over a field's columns apart.
+#![tactic(auto)]
+
 ghost use Rattle.std.specs.Prelude.{◌≡◌, ◌∷◌, [], map, ◌+◌, ◌*◌, ◌-◌, ◌^◌, ◌<◌, ◌≤◌, T, pos, length};
 ghost use Rattle.base.specs.Every.{every, has};
 ghost use Rattle.base.specs.Part.{over};

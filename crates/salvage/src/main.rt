@@ -1,6 +1,8 @@
 // The program `salvage` (R341, R349, R356, R357): of standard input, what a walk can place is copied to standard output
 // as it stands, past indexes that are ruined; what is left out is told on standard error. Which pieces there are is
 // `salvaging::piece_at`'s; here they are only read, asked for and written.
+#![tactic(auto)]
+
 ghost use Rattle.std.specs.Prelude.{◌≡◌, ◌≤◌, length};
 ghost use Rattle.salvaging.specs.Pieces.{piece_end};
 ghost use Rattle.salvaging.specs.Printed.{AllPassed};

@@ -1,5 +1,7 @@
 // Getting past a ruined index: where a walk that has stopped may go on, and the pieces of a text (R350 to R353). Any
 // text and place may be asked about (R241).
+#![tactic(auto)]
+
 ghost use Rattle.std.specs.Prelude.{◌≡◌, ◌<◌, ◌≤◌, length};
 ghost use Rattle.place.specs.Placing.{carried};
 ghost use Rattle.place.specs.Parted.{Parted};

@@ -1,6 +1,8 @@
 // The questions, R240. Each may be asked of every text, place, number, table and output; nothing has to hold beforehand
 // (R241). The layers answer them; here each has its name, its contract and nothing else. `reply`, and the layers'
 // `reply_of` for answers of their own, give an answer's number, with the numbers beside it (R200 to R217 and R222).
+#![tactic(auto)]
+
 ghost use Rattle.std.specs.Prelude.{◌≡◌, length};
 ghost use Rattle.decimal.specs.Writing.{put_bytes};
 ghost use Rattle.place.specs.Placing.{placing_of, counts_at, starts_at, ends_at, carried_by};

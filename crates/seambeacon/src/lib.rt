@@ -2,6 +2,8 @@
 // reply's number and writes the eight numbers beside it, in the order of `eight_beside`, into lent memory; those that
 // the reply's row doesn't name are 0. What else is lent is altered as the question of the same name says. R365: each
 // takes the rules first, as a number of flags. include/seambeacon.h tells a caller in C.
+#![tactic(auto)]
+
 ghost use Rattle.std.specs.Prelude.{◌≡◌, [], ◌∷◌, length};
 ghost use Rattle.seambeacon.specs.Flags.{flagged};
 ghost use Rattle.seambeacon.specs.Numbers.{Told, answer_kind, answer_value, seven_date};

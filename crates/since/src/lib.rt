@@ -1,6 +1,8 @@
 // R330, the first record from a given date on: the walk, in the text's order, up to the first record whose date is at
 // or after the one that is asked for. Of the groups of each record on the way only group 3 is read; no table is lent.
 // Any text and any seven numbers may be given (R241).
+#![tactic(auto)]
+
 ghost use Rattle.std.specs.Prelude.{◌≡◌};
 ghost use Rattle.place.specs.Parted.{Parted};
 ghost use Rattle.place.specs.Placing.{carried};

@@ -1,6 +1,8 @@
 // R285 to R289: questions asked with a record, which says where the lines of its groups stand: whichever record and
 // whichever text (R241). The part that it names for the group is looked at first, and is refused with 22 if it is not
 // exactly as many whole lines of the text as the group's count needs.
+#![tactic(auto)]
+
 ghost use Rattle.std.specs.Prelude.{◌≡◌, length};
 ghost use Rattle.reading.specs.Read.{reading_of, table_by};
 ghost use Rattle.place.specs.Placing.{carried, carried_by};

@@ -1,5 +1,7 @@
 // R271, a whole record in one call: its groups are checked in their order, and then one table is filled for all of
 // them. Any text, place and table may be given (R241).
+#![tactic(auto)]
+
 ghost use Rattle.std.specs.Prelude.{◌≡◌, ◌≤◌, length};
 ghost use Rattle.base.specs.Part.{over};
 ghost use Rattle.base.specs.Pieces.{cells_got};

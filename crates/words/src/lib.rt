@@ -1,4 +1,6 @@
 // R349: the words that a program is started with: which are known, and what they ask for.
+#![tactic(auto)]
+
 ghost use Rattle.std.specs.Prelude.{◌≡◌};
 ghost use Rattle.words.specs.Words.{same_bytes, with_word};
 

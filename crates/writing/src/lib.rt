@@ -1,5 +1,7 @@
 // Writing a record: counts and cells to canonical text. All is checked first, and a byte is written only when nothing
 // is refused (R307).
+#![tactic(auto)]
+
 ghost use Rattle.std.specs.Prelude.{◌≡◌, ◌++◌, map, ◌+◌, ◌*◌, ◌≤◌, T, length, drop};
 ghost use Rattle.base.specs.Every.{every};
 ghost use Rattle.base.specs.Part.{part, over};
