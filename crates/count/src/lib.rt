@@ -13,7 +13,7 @@ use reply::{Checked, Refusal};
 
 // R24, R25: what stands under the number 80 and under the vacant ones: release 5 and nothing, another release, or the
 // lowest vacant number with a count.
-#[derive(Drop)]
+#[derive(Clone, Copy)]
 pub enum Release {
     Five,
     Other,
@@ -21,14 +21,14 @@ pub enum Release {
 }
 
 // R120: the rules on counts are kept, or the lowest group blamed.
-#[derive(Drop)]
+#[derive(Clone, Copy)]
 pub enum Ruling {
     Kept,
     Broken(usize),
 }
 
 // R126: a set's nonzero counts are equal; R127: where `ends` is true, its first and last group are there if any is.
-#[derive(Drop)]
+#[derive(Clone, Copy)]
 struct Set {
     pub first: usize,
     pub last: usize,
@@ -90,7 +90,7 @@ const SETS: [Set; 10] = [
 ];
 
 // Lines and cells.
-#[derive(Drop)]
+#[derive(Clone, Copy)]
 pub struct Totals {
     pub lines: usize,
     pub cells: usize,

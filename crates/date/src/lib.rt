@@ -11,7 +11,7 @@ ghost use Rattle.date.specs.Order.{not_before};
 
 // R141, a digit field: its first position, counted from 1, how many digits it has, and its least and its greatest
 // value.
-#[derive(Drop)]
+#[derive(Clone, Copy)]
 pub struct DigitField {
     pub first: usize,
     pub length: usize,
@@ -20,7 +20,7 @@ pub struct DigitField {
 }
 
 // What a digit field reads as.
-#[derive(Drop)]
+#[derive(Clone, Copy)]
 pub enum Digits {
     Number(usize),
     Fails,
@@ -143,7 +143,7 @@ fn names(year: usize, day_of_year: usize, month: usize, day: usize) -> bool
     day_of_year - before == day
 }
 
-#[derive(Drop)]
+#[derive(Clone, Copy)]
 pub struct Date {
     pub year: usize,
     pub day_of_year: usize,
@@ -155,7 +155,7 @@ pub struct Date {
 }
 
 // R147, R148: a date, or the position that is blamed.
-#[derive(Drop)]
+#[derive(Clone, Copy)]
 pub enum Dated {
     Right(Date),
     Wrong(usize),

@@ -10,7 +10,7 @@ ghost use Rattle.decimal.specs.Rows.{row_text, end_byte};
 ghost use Rattle.decimal.specs.Writing.{end_in, Puts};
 
 // The place behind what was put, or that it has no room: then nothing is altered.
-#[derive(Drop)]
+#[derive(Clone, Copy)]
 pub enum Put {
     Next(usize),
     NoRoom,

@@ -133,7 +133,7 @@ fn print_group(rules: rules::Rules, text: &[u8], placed: Record, g: usize, page:
     }
 }
 
-#[derive(Drop)]
+#[derive(Clone, Copy)]
 struct Shown {
     kind: usize,
     value: i64,

@@ -9,7 +9,7 @@ ghost use Rattle.entry.specs.Field.{tagged, numbered, set_of, field_at};
 
 // R521, R522: what a field tells: a set with its group, its cell in the group from 1, the old and the new value; an
 // open, a release or an undo with the savepoint's number. R523: or none of these.
-#[derive(Drop)]
+#[derive(Clone, Copy)]
 pub enum Entry {
     Set(usize, usize, i64, i64),
     Open(usize),

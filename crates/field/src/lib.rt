@@ -18,7 +18,7 @@ use number::{Byte, Scan};
 
 // What a field reads as: a cell; the two cells of an E field; letters, whose cells are the bytes themselves. The
 // definitions speak by it; no code makes one.
-#[derive(Drop)]
+#[derive(Clone, Copy)]
 pub enum Value {
     Cell(i64),
     Pair(i64, i64),
@@ -27,7 +27,7 @@ pub enum Value {
 }
 
 // What an index entry reads as.
-#[derive(Drop)]
+#[derive(Clone, Copy)]
 pub enum IndexEntry {
     Count(u16),
     Misformed,
@@ -35,7 +35,7 @@ pub enum IndexEntry {
 
 // What a form's field holds: a whole number or thousandths, from minus `low` to `high`; a number with an exponent; a
 // letter, or a line of letters.
-#[derive(Drop)]
+#[derive(Clone, Copy)]
 enum Kind {
     Whole {
         width: usize,

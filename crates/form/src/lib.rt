@@ -6,7 +6,7 @@ ghost use Rattle.form.specs.Table.{row_of, form_of};
 ghost use Rattle.form.specs.Count.{is_segments, segment_elements, elements_of, rounded_up, lines_of, cells_of};
 
 // A form is named by its letter and its width; the number of decimals follows from these.
-#[derive(Drop)]
+#[derive(Clone, Copy)]
 pub enum Form {
     F7,
     A120,
@@ -21,14 +21,14 @@ pub enum Form {
 }
 
 // What stands under a group number.
-#[derive(Drop)]
+#[derive(Clone, Copy)]
 pub enum GroupForm {
     Has(Form),
     NoGroup,
 }
 
 // A form's field has `width` columns and gives `cells` cells; a full line has `per_line` elements.
-#[derive(Drop)]
+#[derive(Clone, Copy)]
 pub struct Row {
     pub width: usize,
     pub per_line: usize,

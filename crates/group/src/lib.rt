@@ -12,7 +12,7 @@ ghost use Rattle.group.specs.Text.{read_at};
 use reply::{Answer, Checked, Refusal};
 
 // The answer, the counts of the record, and from where to where the group's lines stand in the text.
-#[derive(Drop)]
+#[derive(Clone, Copy)]
 struct Held {
     found: Checked,
     counts: [u16; 80],
@@ -64,7 +64,7 @@ fn held_at(rules: rules::Rules, text: &[u8], at: usize, group: usize) -> Held
 }
 
 // Whether the lines of a group can be given, and from where to where they stand in the text.
-#[derive(Drop)]
+#[derive(Clone, Copy)]
 pub struct Lines {
     pub found: Checked,
     pub from: usize,
@@ -127,7 +127,7 @@ pub fn read_group(
 // ---- A characteristic.
 
 // R290, R444: a value in thousandths; no reading; not reported; or why group 4 was not read.
-#[derive(Drop)]
+#[derive(Clone, Copy)]
 pub enum Characteristic {
     Value(i64),
     NoReading,

@@ -22,21 +22,21 @@ use entry::Entry;
 use reply::{Answer, Checked, Refusal};
 
 // What a call answers, and how many bytes of the journal are used behind it. 0 of an open has the savepoint's number.
-#[derive(Drop)]
+#[derive(Clone, Copy)]
 pub struct Edited {
     pub answer: Answer,
     pub used: usize,
 }
 
 // What a replay answers, and how many savepoints are open behind it; none on a refusal.
-#[derive(Drop)]
+#[derive(Clone, Copy)]
 pub struct Replayed {
     pub answer: Checked,
     pub open: usize,
 }
 
 // Where a cell stands in the table.
-#[derive(Drop)]
+#[derive(Clone, Copy)]
 enum Spot {
     At(usize),
     Nowhere,
@@ -44,7 +44,7 @@ enum Spot {
 
 // How far a walk came, with how many fields, and the savepoints open there: `marks` has the number of fields before
 // each one's open.
-#[derive(Drop)]
+#[derive(Clone, Copy)]
 struct State {
     pub place: usize,
     pub count: usize,
@@ -54,7 +54,7 @@ struct State {
 
 // What a call finds before it is looked at itself: the reply that is due then, how many fields the journal has, and the
 // savepoints open behind them.
-#[derive(Drop)]
+#[derive(Clone, Copy)]
 struct Found {
     pub stands: Checked,
     pub count: usize,

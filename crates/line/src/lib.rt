@@ -8,14 +8,14 @@ ghost use Rattle.line.specs.Parts.{are_lines, begins_line, lies_within};
 ghost use Rattle.line.specs.Contents.{content_of};
 
 // The place behind so many lines, or that fewer line feeds are left.
-#[derive(Drop)]
+#[derive(Clone, Copy)]
 pub enum Behind {
     At(usize),
     TooFew,
 }
 
 // Lines that are sought from a place on.
-#[derive(Drop)]
+#[derive(Clone, Copy)]
 struct Sought {
     pub at: usize,
     pub lines: usize,
@@ -144,7 +144,7 @@ pub fn are_lines(text: &[u8], from: usize, to: usize, lines: usize) -> bool
 }
 
 // How many bytes of a line are its content, or that it has none: its line end is not one that the rules allow.
-#[derive(Drop)]
+#[derive(Clone, Copy)]
 pub enum Content {
     Length(usize),
     NoReturn,

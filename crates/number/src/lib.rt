@@ -13,7 +13,7 @@ ghost use Rattle.number.specs.Write.{text_e};
 // ---- Reading.
 
 // What one byte of a number's columns is.
-#[derive(Drop)]
+#[derive(Clone, Copy)]
 pub enum Byte {
     Blank,
     Minus,
@@ -23,7 +23,7 @@ pub enum Byte {
 
 // How far columns have been read: blanks only; a minus too; a minus or none (true for a minus) and digits; no number.
 // The definitions of reading speak by it, and writing undoes them step by step.
-#[derive(Drop)]
+#[derive(Clone, Copy)]
 pub enum Scan {
     Blanks,
     Signed,
@@ -32,7 +32,7 @@ pub enum Scan {
 }
 
 // What a field of numbers reads as: one cell, or the two of an E field. The definitions speak by it; no code makes one.
-#[derive(Drop)]
+#[derive(Clone, Copy)]
 pub enum Number {
     One(i64),
     Two(i64, i64),
@@ -139,7 +139,7 @@ fn put_byte(out: &mut [u8], at: usize, b: u8)
 }
 
 // A number's sign (true for a minus) and size, also the least of an i64.
-#[derive(Drop)]
+#[derive(Clone, Copy)]
 pub struct Magnitude {
     pub neg: bool,
     pub size: u64,

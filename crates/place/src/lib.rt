@@ -14,7 +14,7 @@ use line::Behind;
 use reply::{Checked, Refusal};
 
 // R200 to R207: what placing answers. A record whose counts break a rule is placed all the same (R253).
-#[derive(Drop)]
+#[derive(Clone, Copy)]
 pub enum Placing {
     // 0, with the next place
     Placed(usize),
@@ -26,7 +26,7 @@ pub enum Placing {
 
 // R253, R259: the answer, with the 80 counts of a record that is placed (0 or 7), and from where to where the lines of
 // each of its 60 groups stand in the text; else zeros.
-#[derive(Drop)]
+#[derive(Clone, Copy)]
 pub struct Record {
     pub answer: Placing,
     pub counts: [u16; 80],

@@ -25,7 +25,7 @@ use form::{Form, GroupForm};
 use reply::{Answer, Checked, Refusal};
 
 // R333: the date of a record, if it has one.
-#[derive(Drop)]
+#[derive(Clone, Copy)]
 pub enum RecordDate {
     Told(date::Date),
     NoDate,

@@ -8,7 +8,7 @@ ghost use Rattle.reply.specs.Refusals.{refusal_reply, checked_reply, answer_repl
 
 // Why a question is refused; each variant is a reply of R201 to R217 and R222. Which of them a question can give, its
 // Due says.
-#[derive(Drop)]
+#[derive(Clone, Copy)]
 pub enum Refusal {
     // 1
     End,
@@ -49,20 +49,20 @@ pub enum Refusal {
 }
 
 // 0 with nothing beside it, or a refusal.
-#[derive(Drop)]
+#[derive(Clone, Copy)]
 pub enum Checked {
     Right,
     Refused(Refusal),
 }
 
 // 0 with the cells or bytes that were written, or a refusal.
-#[derive(Drop)]
+#[derive(Clone, Copy)]
 pub enum Answer {
     Done(usize),
     Refused(Refusal),
 }
 
-#[derive(Drop)]
+#[derive(Clone, Copy)]
 pub struct Reply {
     pub number: u32,
     pub next: usize,

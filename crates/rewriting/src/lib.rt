@@ -14,7 +14,7 @@ use reply::{Answer, Refusal};
 use whole::RecordRead;
 
 // R321: what rewriting a record answers.
-#[derive(Drop)]
+#[derive(Clone, Copy)]
 pub enum Rewriting {
     // R200: 0, with the bytes that were written and the next place
     Done(usize, usize),

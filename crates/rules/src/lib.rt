@@ -5,7 +5,7 @@ ghost use Rattle.std.specs.Prelude.{◌≡◌};
 ghost use Rattle.rules.specs.Choice.{chosen, ends_by, counting_by};
 
 // R9: what a line may end with.
-#[derive(Drop)]
+#[derive(Clone, Copy)]
 pub enum LineEnds {
     // a carriage return and a line feed
     Strict,
@@ -14,7 +14,7 @@ pub enum LineEnds {
 }
 
 // R13: what a count of group 40 counts.
-#[derive(Drop)]
+#[derive(Clone, Copy)]
 pub enum Counting {
     // elements, as a count of every other group
     Elements,
@@ -23,7 +23,7 @@ pub enum Counting {
 }
 
 // R12: one rule of each kind.
-#[derive(Drop)]
+#[derive(Clone, Copy)]
 pub struct Rules {
     pub ends: LineEnds,
     pub counting: Counting,

@@ -14,7 +14,7 @@ use place::Placing;
 use reply::{Checked, Refusal};
 
 // R352: what is answered about the stretch that begins at a place.
-#[derive(Drop)]
+#[derive(Clone, Copy)]
 pub enum Stretch {
     // R200: 0, with the place where it ends
     Ends(usize),
@@ -23,7 +23,7 @@ pub enum Stretch {
 }
 
 // R353: a piece of a text, with its place and its length.
-#[derive(Drop)]
+#[derive(Clone, Copy)]
 pub enum Piece {
     // a placed record, which is copied as it stands
     Copied(usize, usize),

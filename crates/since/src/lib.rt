@@ -16,7 +16,7 @@ use reading::RecordDate;
 use reply::Refusal;
 
 // R334: what asking for the first record from a date on answers.
-#[derive(Drop)]
+#[derive(Clone, Copy)]
 pub enum First {
     // R200: 0, with the record's place, and how many records were passed
     Found(usize, usize),
@@ -25,7 +25,7 @@ pub enum First {
 }
 
 // What the walk meets at a place.
-#[derive(Drop)]
+#[derive(Clone, Copy)]
 enum Step {
     // a record that is at or after the date
     Found,

@@ -195,7 +195,7 @@ pub fn characteristic_by(
 // ---- The same with a text and a record kept together.
 
 // R289, R447: a text, and a record that was placed in it, or any other.
-#[derive(Drop)]
+#[derive(Clone, Copy)]
 pub struct View<'a> {
     pub text: &'a [u8],
     pub record: Record,

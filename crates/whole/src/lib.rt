@@ -16,7 +16,7 @@ use place::Placing;
 use reply::{Checked, Refusal};
 
 // R272: what reading a whole record answers.
-#[derive(Drop)]
+#[derive(Clone, Copy)]
 pub enum RecordRead {
     // R200: 0, with the cells that were read
     Done(usize),
@@ -25,7 +25,7 @@ pub enum RecordRead {
 }
 
 // Whether all groups of a record are clean, or the first that is not.
-#[derive(Drop)]
+#[derive(Clone, Copy)]
 enum Groups {
     All,
     GroupRefused(usize, Refusal),

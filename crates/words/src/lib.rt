@@ -5,7 +5,7 @@ ghost use Rattle.std.specs.Prelude.{◌≡◌};
 ghost use Rattle.words.specs.Words.{same_bytes, with_word};
 
 // Whether all words so far were known, and what they asked for.
-#[derive(Drop)]
+#[derive(Clone, Copy)]
 pub struct Words {
     pub known: bool,
     pub strict: bool,

@@ -20,7 +20,7 @@ use form::Form;
 use reply::{Answer, Checked, Refusal};
 
 // R303: each element's cells have a field of their form, or the group and the element of the first that have none.
-#[derive(Drop)]
+#[derive(Clone, Copy)]
 enum Fit {
     All,
     Not(usize, usize),
