@@ -105,6 +105,7 @@ field_text_lem (Set g c o n) r h = set_back g c o n r h
 field_text_lem (Open k) r (sized_open h) = numbered_back 2 k r (omega arith) h
 field_text_lem (Release k) r (sized_release h) = numbered_back 3 k r (omega arith) h
 field_text_lem (Undo k) r (sized_undo h) = numbered_back 4 k r (omega arith) h
+field_text_lem Misformed r h = elim h [ ]
 
 -- ---- what is read is written as it stood
 

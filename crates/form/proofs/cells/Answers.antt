@@ -12,8 +12,8 @@ pub overflow_mul-result : goal.overflow_mul-result
 unfolding cells_of
 overflow_mul-result c =
     let whole : c.elements-n.result * c.row_of-row.result.cells ≡ cells_of c.args.rules c.args.form c.args.count =
-        rw (c.elements-n.ensures, c.row_of-row.ensures) in
-        let asked = c.args in
+    rw (c.elements-n.ensures, c.row_of-row.ensures) in
+    let asked = c.args in
     let few = cells_few asked.rules asked.form asked.count (omega arith) in
     omega (arith, whole, few)
 

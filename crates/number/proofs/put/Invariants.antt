@@ -11,7 +11,7 @@ use Rattle.number.specs.Write.{text_of, rest_of, back_of, last_of}
 use Rattle.number.proofs.put.Given as goal
 
 abbrev pub invariant-loop-i : goal.invariant-loop-i
-invariant-loop-i l =     (l.i ≤ length l.out)
+invariant-loop-i l = (l.i ≤ length l.out)
     × (length l.out ≡ length l.initial.out)
     × (text_of l.filled l.i l.st ++ drop l.i l.out ≡ text_of l.filled (length l.initial.out) l.initial.st)
     × (rest_of l.filled l.i l.st ≡ rest_of l.filled (length l.initial.out) l.initial.st)
