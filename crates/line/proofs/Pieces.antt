@@ -21,11 +21,15 @@ module _ {A C : Type 0} {P : A → List ℕ → List C → Type 0} where
   unfolding Sum.sum
   each_whole many w [] [] [] none = whole_nil
   each_whole many w (a ∷ bs) s cs (more x c {y} {d} p h) = whole_append (w a x c p) (each_whole many w bs y d h)
+  each_whole many w [] [] (_ ∷ _) x5 = elim x5 [ ]
+  each_whole many w [] (_ ∷ _) cs x5 = elim x5 [ ]
 
   -- and pieces without a line feed have none together
   pub each_plain : ((a : A) (x : List ℕ) (c : List C) → P a x c → Plain x) → (bs : List A) (s : List ℕ) (cs : List C) → Each P bs s cs → Plain s
   each_plain w [] [] [] none = plain_nil
   each_plain w (a ∷ bs) s cs (more x c {y} {d} p h) = plain_append x y (w a x c p) (each_plain w bs y d h)
+  each_plain w [] [] (_ ∷ _) x5 = elim x5 [ ]
+  each_plain w [] (_ ∷ _) cs x5 = elim x5 [ ]
 
 pub unbroken_plain : (s : List ℕ) → T (every (λ b. not (eqb b 10)) s) → Plain s
 unbroken_plain [] t = plain_nil
