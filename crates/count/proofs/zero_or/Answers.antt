@@ -1,0 +1,10 @@
+-- `count::zero_or` meets its contract by cases.
+-- Assumes nothing.
+use borrow.Author.Tests.{eq-eqb, ne_eqb}
+use Rattle.count.proofs.zero_or.Goals as goal
+
+pub returns-then-x-eq0 : goal.returns-then-x-eq0
+returns-then-x-eq0 c = rw (eq-eqb _ _ c.if-x-eq0.true)
+
+pub returns-else-x-eq0 : goal.returns-else-x-eq0
+returns-else-x-eq0 c = rw (ne_eqb _ _ c.if-x-eq0.false)
