@@ -1,0 +1,6 @@
+-- `run::is_column` meets its contract: what the call answers.
+use borrow.Author.Rules.{rules}
+use Rattle.run.proofs.is_column.Goals as goal
+
+pub returns : goal.returns
+returns c = rw (← c.is_digit.ensures)

@@ -1,0 +1,27 @@
+-- `run::number_in` meets its contract. The invariant: the columns before column i made the number so far, and those from it on make the rest.
+-- Assumes nothing.
+use borrow.Author.Rules.{rules}
+use native.Mathlib.Omega.{arith}
+use Prim.Native.Nat.{◌-◌}
+use lib.ListN.{length, get_or}
+use Rattle.run.proofs.Loops.{Summing, summing_none, summing_small, summing_more, summing_all}
+use Rattle.run.proofs.number_in.Goals as goal
+
+pub overflow_mul-n : goal.overflow_mul-n
+overflow_mul-n c = let l = c.loop-i in omega (arith, summing_small l.invariant c.requires)
+
+pub overflow_add-n : goal.overflow_add-n
+overflow_add-n c = let l = c.loop-i in omega (arith, summing_small l.invariant c.requires)
+
+pub loop-i-preserved : goal.loop-i-preserved
+loop-i-preserved c =
+    let l = c.loop-i in let b = get_or c.args.s.now l.i 0 in
+    summing_more l.invariant c.requires c.loop-i-test.true c.above.ensures (omega (arith, c.above.ensures, c.shared_slice_known-in-loop-i-1.given l.i))
+
+pub loop-i-init : goal.loop-i-init
+loop-i-init c = summing_none _ _
+
+pub returns : goal.returns
+returns c =
+    let all = summing_all c.loop-i.invariant c.requires (omega arith) in
+    record { number = all.0; small = all.1 }

@@ -1,0 +1,44 @@
+-- `run::power_run` meets its contract. The invariant: the fields before field i have passed.
+use borrow.Author.Rules.{rules}
+use borrow.Author.Tests.{not-true, not-false}
+use native.Mathlib.Omega.{arith}
+use mathlib.Core.Path.{sym, ◌∙◌}
+use Prim.Native.Nat.{◌+◌, ◌-◌}
+use lib.ListN.{length}
+use Rattle.run.specs.Columns.{is_power}
+use Rattle.run.proofs.Pieces.{Tested, piece_within, piece_long, tested_none, tested_more, tested_failed, tested_all}
+use Rattle.run.proofs.power_run.Goals as goal
+
+pub loop-i-init : goal.loop-i-init
+loop-i-init c = let a = c.args in tested_none (is_power a.c a.d) (a.c + a.d + a.x + 3) a.k a.fields.now
+
+pub overflow_add-e : goal.overflow_add-e
+overflow_add-e c =
+    let l = c.loop-i in let a = c.args in
+    omega (arith, piece_within (a.c + a.d + a.x + 3) a.k l.i l.a (length a.fields.now) c.requires.run l.invariant.place c.loop-i-test.true)
+
+pub slice_bounds-is_power-end : goal.slice_bounds-is_power-end
+slice_bounds-is_power-end c =
+    let l = c.loop-i in let a = c.args in
+    omega (arith, piece_within (a.c + a.d + a.x + 3) a.k l.i l.a (length a.fields.now) c.requires.run l.invariant.place c.loop-i-test.true)
+
+pub is_power-requires : goal.is_power-requires
+is_power-requires c =
+    let l = c.loop-i in let a = c.args in
+    let n = piece_long (a.c + a.d + a.x + 3) a.k l.i l.a a.fields.now c.requires.run l.invariant.place c.loop-i-test.true in record {
+      width = n;
+      c = c.requires.small.0;
+    }
+
+pub returns-then-not-is_power : goal.returns-then-not-is_power
+returns-then-not-is_power c =
+    tested_failed c.loop-i.invariant c.loop-i-test.true
+    (sym c.is_power.ensures ∙ not-true _ c.if-not-is_power.true-raw)
+
+pub loop-i-preserved : goal.loop-i-preserved
+loop-i-preserved c =
+    tested_more c.loop-i.invariant c.loop-i-test.true
+    (sym c.is_power.ensures ∙ not-false _ c.if-not-is_power.false-raw)
+
+pub returns : goal.returns
+returns c = tested_all c.loop-i.invariant (omega arith)
