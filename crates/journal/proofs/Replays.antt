@@ -147,7 +147,7 @@ module _ {ps : List ℕ} (s x : List ℕ) (stuck : entry_in x ≡ Misformed) whe
       sym (drop-drop (entry_size e) at s) ∙ ap (drop (entry_size e)) q'' ∙ drop_at (entry_text e) (journal_text es ++ x) (entry_size e) (length_text e) in
       let l : length (with_entry pre e) ≡ length pre + 1 = length-append pre (e ∷ []) in
       let a : at + entry_size e + length (journal_text es) ≡ at + length (entry_text e ++ journal_text es) = omega arith in
-      let n = play_text (with_entry pre e) es (at + entry_size e) f g
+      let n = play_text {t = played_on ps e pre t} (with_entry pre e) es (at + entry_size e) f g
       (record { tells = tells_more s pre at e h.tells w; rest = q'; long = omega arith; enough = omega arith }) in
       rw (lt-ltb at (length s) (omega arith), w, r.ok, r.same, played_on_lem ps s pre e t h.tells.reads, ← append_assoc pre (e ∷ []) es, ← a) (rw (l, marks_entry pre e) at n)
 

@@ -68,25 +68,25 @@ module _ {ps : List ℕ} where
   pub read_written : {i : ℕ} {ms : List ℕ} (es : List Entry) (p r s : List ℕ) → Fine ps es i ms → s ≡ p ++ (journal_text es ++ r) → entries_at s (length p) (length es) ≡ es
   unfolding entries_at journal_text
   read_written [] p r s fine_none q = refl
-  read_written (e ∷ es) p r s (fine_more h o hs) q =
+  read_written {i = i} {ms = ms} (e ∷ es) p r s (fine_more h o hs) q =
       let q' : s ≡ p ++ (entry_text e ++ (journal_text es ++ r)) = q ∙ ap (λ l. p ++ l) (append_assoc (entry_text e) (journal_text es) r) in
       let d : drop (length p) s ≡ entry_text e ++ (journal_text es ++ r) = ap (drop (length p)) q' ∙ drop_at p (entry_text e ++ (journal_text es ++ r)) (length p) refl in
       let f : field_at s (length p) ≡ e = ap entry_in d ∙ field_text_lem e (journal_text es ++ r) h in
       let m : length (p ++ entry_text e) ≡ length p + entry_size e = length-append p (entry_text e) ∙ rw (length_text e) in
       let q'' : s ≡ (p ++ entry_text e) ++ (journal_text es ++ r) = q' ∙ sym (append_assoc p (entry_text e) (journal_text es ++ r)) in
       ap (λ x. x ∷ entries_at s (length p + entry_size x) (length es)) f
-      ∙ ap (λ l. e ∷ l) (ap (λ n. entries_at s n (length es)) (sym m) ∙ read_written es (p ++ entry_text e) r s hs q'')
+      ∙ ap (λ l. e ∷ l) (ap (λ n. entries_at s n (length es)) (sym m) ∙ read_written {i = i + 1} {ms = mark_step e i ms} es (p ++ entry_text e) r s hs q'')
 
   -- and ends where the text does
   pub place_written : {i : ℕ} {ms : List ℕ} (es : List Entry) (p s : List ℕ) → Fine ps es i ms → s ≡ p ++ journal_text es → place_at s (length p) (length es) ≡ length s
   unfolding place_at journal_text
   place_written [] p s fine_none q = sym (ap length (q ∙ append-nil p))
-  place_written (e ∷ es) p s (fine_more h o hs) q =
+  place_written {i = i} {ms = ms} (e ∷ es) p s (fine_more h o hs) q =
       let d : drop (length p) s ≡ entry_text e ++ journal_text es = ap (drop (length p)) q ∙ drop_at p (entry_text e ++ journal_text es) (length p) refl in
       let f : field_at s (length p) ≡ e = ap entry_in d ∙ field_text_lem e (journal_text es) h in
       let m : length (p ++ entry_text e) ≡ length p + entry_size e = length-append p (entry_text e) ∙ rw (length_text e) in
       let q' : s ≡ (p ++ entry_text e) ++ journal_text es = q ∙ sym (append_assoc p (entry_text e) (journal_text es)) in
-      ap (λ x. place_at s (length p + entry_size x) (length es)) f ∙ ap (λ n. place_at s n (length es)) (sym m) ∙ place_written es (p ++ entry_text e) s hs q'
+      ap (λ x. place_at s (length p + entry_size x) (length es)) f ∙ ap (λ n. place_at s n (length es)) (sym m) ∙ place_written {i = i + 1} {ms = mark_step e i ms} es (p ++ entry_text e) s hs q'
 
   -- going back over the bytes is going back over the entries
   pub back_journal : (es : List Entry) (m : ℕ) (t : List ℤ) → Fine ps es 0 [] → m ≤ length es → back_to ps (journal_text es) m (length es) t ≡ restore ps (drop m es) t

@@ -1,0 +1,11 @@
+-- `journal::reply_of` meets its contract: the variant chooses the reply.
+-- Assumes nothing.
+use mathlib.Core.Path.{sym, ◌∙◌, ap}
+use Rattle.journal.specs.Numbered.{edit_reply}
+use Rattle.journal.proofs.reply_of.Goals as goal
+
+pub returns-in-Done : goal.returns-in-Done
+returns-in-Done c = c.opened.ensures ∙ ap edit_reply (sym c.in-Done.is)
+
+pub returns-in-Refused : goal.returns-in-Refused
+returns-in-Refused c = c.of_refusal.ensures ∙ ap edit_reply (sym c.in-Refused.is)
