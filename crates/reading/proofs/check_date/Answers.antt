@@ -1,0 +1,21 @@
+-- `reading::check_date` meets its contract: the date of clean lines decides.
+-- Assumes nothing.
+use borrow.Author.Rules.{rules}
+use mathlib.Core.Path.{sym, ◌∙◌}
+use mathlib.Core.Bool.{false}
+use Rattle.form.specs.declared.Form.TheVariants.{A1}
+use Rattle.reading.specs.Read.{Cells, read_lines}
+use Rattle.reading.proofs.Dates.{date_verdict_lem}
+use Rattle.reading.proofs.check_date.Goals as goal
+
+pub returns-in-Right : goal.returns-in-Right
+returns-in-Right c =
+    let lines : Cells =
+    let a = c.args in read_lines a.rules A1 false a.count a.lines.now in
+    date_verdict_lem (lines) c.requires.clean (sym c.date_in.ensures ∙ c.in-Right.is)
+
+pub returns-in-Wrong : goal.returns-in-Wrong
+returns-in-Wrong c =
+    let lines : Cells =
+    let a = c.args in read_lines a.rules A1 false a.count a.lines.now in
+    date_verdict_lem (lines) c.requires.clean (sym c.date_in.ensures ∙ c.in-Wrong.is)

@@ -1,0 +1,28 @@
+-- `reading::check_kept` meets its contract: a count of 0 has nothing to check; else lines and date decide.
+-- Assumes nothing.
+use borrow.Author.Rules.{rules}
+use mathlib.Core.Path.{sym, ◌∙◌, ap, subst}
+use Prim.Native.Nat.{◌≤◌}
+use Rattle.count.specs.Tally.{count_of}
+use Rattle.reading.specs.Read.{verdict_of}
+use Rattle.reading.proofs.Passes.{fitting_none, fitting_is}
+use Rattle.reading.proofs.Steps.{kept_letters}
+use Rattle.reading.proofs.check_kept.Goals as goal
+
+pub returns-then-count-eq0 : goal.returns-then-count-eq0
+returns-then-count-eq0 c =
+    let a = c.args in
+    let none = fitting_none a.rules a.counts.now a.group a.lines.now c.requires.kept c.requires.low c.requires.high (sym c.count_of-count.ensures ∙ c.if-count-eq0.true) in
+    sym (ap verdict_of none.0)
+
+pub check-requires : goal.check-requires
+check-requires c =
+    let ns = c.args.counts.now in record {
+      form = c.form_in.ensures;
+      date = λ t. subst (λ n. 19 ≤ n) (sym (c.count_of-count.ensures ∙ ap (count_of ns) t)) (kept_letters ns c.requires.kept);
+    }
+
+pub returns : goal.returns
+returns c =
+    let a = c.args in
+    c.check.ensures ∙ sym (ap verdict_of (fitting_is a.rules a.counts.now a.group a.lines.now c.requires.kept _ c.form_in.ensures c.count_of-count.ensures))

@@ -1,0 +1,23 @@
+-- `reading::date_in` meets its contract: the letters that decide the date are the first bytes of the lines.
+-- Assumes nothing.
+use borrow.Author.Rules.{rules}
+use native.Mathlib.Omega.{arith}
+use mathlib.Core.Path.{◌≡◌, ◌∙◌}
+use Prim.Native.Nat.{min}
+use Rattle.form.specs.declared.Form.TheVariants.{A1}
+use Rattle.form.specs.Table.{row_of}
+use Rattle.form.specs.Count.{elements_of}
+use Rattle.reading.proofs.Dates.{letters_inside, line_dated}
+use Rattle.reading.proofs.date_in.Goals as goal
+
+pub slice_bounds-new-end : goal.slice_bounds-new-end
+slice_bounds-new-end c =
+    let first-many : c.lesser-k.result ≡ min (row_of A1).per_line (elements_of c.args.rules A1 c.args.count) =
+    c.lesser-k.ensures ∙ rw (c.row_of-row.ensures, c.elements-n.ensures) in
+    omega (arith, letters_inside c.args.rules c.args.count c.args.lines.now c.requires.clean c.requires.date c.lesser-k.result (first-many))
+
+pub returns : goal.returns
+returns c =
+    let first-many : c.lesser-k.result ≡ min (row_of A1).per_line (elements_of c.args.rules A1 c.args.count) =
+    c.lesser-k.ensures ∙ rw (c.row_of-row.ensures, c.elements-n.ensures) in
+    c.new.ensures ∙ line_dated c.args.rules c.args.count c.args.lines.now c.requires.clean c.requires.date c.lesser-k.result (first-many)

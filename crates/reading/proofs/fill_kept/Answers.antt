@@ -1,0 +1,60 @@
+-- `reading::fill_kept` meets its contract: a count of 0 has no cells; else the group's part of the table is filled.
+-- Assumes nothing.
+use borrow.Author.Rules.{rules}
+use native.Mathlib.Omega.{arith}
+use mathlib.Core.Path.{◌≡◌, sym, ◌∙◌, ap}
+use Prim.Native.Nat.{◌+◌, ◌≤◌}
+use lib.ListN.{length}
+use Rattle.base.specs.Part.{over}
+use Rattle.base.specs.Pieces.{cells_got}
+use Rattle.base.proofs.Part.{over_none}
+use Rattle.form.specs.Count.{cells_of}
+use Rattle.reading.proofs.Passes.{fitting_none, fitting_cells, lines_clean, filled_part}
+use Rattle.reading.proofs.fill_kept.Goals as goal
+
+pub returns-then-count-eq0 : goal.returns-then-count-eq0
+returns-then-count-eq0 c =
+    let a = c.args in
+    let none = fitting_none a.rules a.counts.now a.group a.lines.now c.requires.kept c.requires.low c.requires.high (sym c.count_of-count.ensures ∙ c.if-count-eq0.true) in record {
+      end = omega (arith, none.1);
+      table = over_none a.table.now a.cell ∙ ap (λ y. over a.cell (cells_got y) a.table.now) (sym none.0);
+    }
+
+pub overflow_add-end : goal.overflow_add-end
+overflow_add-end c =
+    let cells-end : ((c.args.cell + c.cells.result ≡ c.args.cell + cells_of c.args.rules c.form_in-form.result c.count_of-count.result) × (c.args.cell + c.cells.result ≤ length c.args.table.now)) =
+    let a = c.args in
+    let e = fitting_cells a.rules a.counts.now a.group a.lines.now c.requires.kept _ c.form_in-form.ensures c.count_of-count.ensures in
+    (ap (λ n. a.cell + n) c.cells.ensures, omega (arith, e, c.cells.ensures, c.requires.room)) in
+    let h = cells-end in search rules
+
+pub slice_bounds-fill-end : goal.slice_bounds-fill-end
+slice_bounds-fill-end c =
+    let cells-end : ((c.args.cell + c.cells.result ≡ c.args.cell + cells_of c.args.rules c.form_in-form.result c.count_of-count.result) × (c.args.cell + c.cells.result ≤ length c.args.table.now)) =
+    let a = c.args in
+    let e = fitting_cells a.rules a.counts.now a.group a.lines.now c.requires.kept _ c.form_in-form.ensures c.count_of-count.ensures in
+    (ap (λ n. a.cell + n) c.cells.ensures, omega (arith, e, c.cells.ensures, c.requires.room)) in
+    (cells-end).1
+
+pub fill-requires : goal.fill-requires
+fill-requires c =
+    let a = c.args in
+    let f = c.form_in-form in record {
+      form = f.ensures;
+      clean = lines_clean a.rules a.counts.now a.group a.lines.now c.requires.kept _ f.ensures c.count_of-count.ensures c.requires.clean;
+      room = search rules;
+    }
+
+pub returns : goal.returns
+returns c =
+    let cells-end : ((c.args.cell + c.cells.result ≡ c.args.cell + cells_of c.args.rules c.form_in-form.result c.count_of-count.result) × (c.args.cell + c.cells.result ≤ length c.args.table.now)) =
+    let a = c.args in
+    let e = fitting_cells a.rules a.counts.now a.group a.lines.now c.requires.kept _ c.form_in-form.ensures c.count_of-count.ensures in
+    (ap (λ n. a.cell + n) c.cells.ensures, omega (arith, e, c.cells.ensures, c.requires.room)) in
+    let a = c.args in
+    let f = c.form_in-form in let e = fitting_cells a.rules a.counts.now a.group a.lines.now c.requires.kept _ f.ensures c.count_of-count.ensures in
+    let h = cells-end in record {
+      end = ap (λ n. a.cell + n) (c.cells.ensures ∙ sym e);
+      table = filled_part a.rules a.counts.now a.group a.lines.now c.requires.kept _ f.ensures c.count_of-count.ensures c.requires.clean a.table.now a.cell _ h.0 h.1
+          c.fill.ensures;
+    }

@@ -1,0 +1,30 @@
+-- `reading::put_letters` meets its contract. The invariant: the first i letters stand in the table.
+-- Assumes nothing.
+use borrow.Author.Rules.{rules}
+use native.Mathlib.Omega.{arith}
+use mathlib.Core.Path.{◌≡◌, refl, ◌∙◌, ap}
+use mathlib.Core.List.{map}
+use Prim.Native.Nat.{◌≤◌, ◌-◌}
+use borrow.Author.Rules.{sfits_of}
+use mir.Syntax.{w64}
+use mir.Facts.{to_z-of_z}
+use lib.IntN.{pos}
+use lib.ListN.{length, take, length-set}
+use Rattle.base.specs.Part.{over}
+use Rattle.reading.specs.Blanks.{filled_to}
+use Rattle.reading.proofs.Putting.{letters_none, letters_more, letters_all}
+use Rattle.reading.proofs.put_letters.Goals as goal
+
+pub loop-i-init : goal.loop-i-init
+loop-i-init c = (omega arith, refl, letters_none c.args.bytes.now c.args.width c.args.table.now c.args.at c.requires.bytes c.requires.room)
+
+pub loop-i-preserved : goal.loop-i-preserved
+loop-i-preserved c = (
+  omega arith,
+  simp length-set c.loop-i.invariant.1,
+  letters_more c.args.bytes.now c.args.width c.args.table.now c.args.at c.requires.bytes c.requires.room
+      c.loop-i.i _ _ c.loop-i-test.true (to_z-of_z (sfits_of {w = w64} c.cell.type_inv) ∙ c.cell.ensures ∙ ap pos c.byte_or_blank.ensures) c.loop-i.invariant.2,
+)
+
+pub returns : goal.returns
+returns c = letters_all c.args.bytes.now c.args.width c.args.table.now c.args.at c.requires.bytes c.requires.room c.loop-i.i _ (omega arith) c.loop-i.invariant.2

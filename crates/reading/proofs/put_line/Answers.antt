@@ -1,0 +1,24 @@
+-- `reading::put_line` meets its contract: letters with the blanks behind them, or a run of fields, which were found formed.
+-- Assumes nothing.
+use borrow.Author.Rules.{rules}
+use Rattle.reading.proofs.Putting.{short_room, short_put, full_run, full_put}
+use Rattle.reading.proofs.put_line.Goals as goal
+
+pub put_letters-requires : goal.put_letters-requires
+put_letters-requires c =
+    let all = short_room c.requires c.lesser-there.ensures c.if-short.true in
+    record { bytes = all.0; room = all.1 }
+
+pub returns-then-short : goal.returns-then-short
+returns-then-short c = short_put c.requires c.lesser-there.ensures c.if-short.true c.args.table.now c.put_letters.ensures
+
+pub fill-requires : goal.fill-requires
+fill-requires c =
+    let run = full_run c.requires c.lesser-there.ensures c.if-short.false in record {
+      run = run.0;
+      formed = run.1;
+      room = run.2;
+    }
+
+pub returns : goal.returns
+returns c = full_put c.requires c.lesser-there.ensures c.if-short.false c.args.table.now c.fill.ensures

@@ -1,0 +1,42 @@
+-- `reading::read_form` meets its contract: room, then the check, and the table is filled only where all is clean.
+-- Assumes nothing.
+use borrow.Author.Rules.{rules}
+use mathlib.Core.Path.{sym, ◌∙◌, ap, subst}
+use Prim.Native.Nat.{◌<◌, ◌≤◌}
+use lib.ListN.{length}
+use Rattle.reply.specs.declared.Answer.TheVariants.{Done}
+use Rattle.reading.proofs.Steps.{form_none, form_bad, lines_clean, form_done}
+use Rattle.reading.proofs.read_form.Goals as goal
+
+pub returns-then-table-cells : goal.returns-then-table-cells
+returns-then-table-cells c =
+    let all = form_none c.args.rules c.args.form c.args.group c.args.count c.args.lines.now c.args.table.now
+    (subst (λ m. length c.args.table.now < m) c.cells-cells.ensures c.if-table-cells.true) in
+    record { answer = all.0; table = all.1 }
+
+pub fill-requires : goal.fill-requires
+fill-requires c =
+    let enough = subst (λ m. m ≤ length c.args.table.now) c.cells-cells.ensures c.if-table-cells.false in
+    let clean =
+    lines_clean c.args.rules c.args.form c.args.group c.args.count c.args.lines.now c.args.table.now enough
+    (sym c.check.ensures ∙ c.in-Right.is) in record {
+      form = c.requires.form;
+      clean = clean;
+      room = enough;
+    }
+
+pub returns-in-Refused : goal.returns-in-Refused
+returns-in-Refused c =
+    let all = form_bad c.args.rules c.args.form c.args.group c.args.count c.args.lines.now c.args.table.now
+    (subst (λ m. m ≤ length c.args.table.now) c.cells-cells.ensures c.if-table-cells.false) _
+    (sym c.check.ensures ∙ c.in-Refused.is) in
+    record { answer = all.0; table = all.1 }
+
+pub returns-in-Right : goal.returns-in-Right
+returns-in-Right c =
+    let b = form_done c.args.rules c.args.form c.args.group c.args.count c.args.lines.now c.args.table.now
+    (subst (λ m. m ≤ length c.args.table.now) c.cells-cells.ensures c.if-table-cells.false)
+    (sym c.check.ensures ∙ c.in-Right.is) c.fill.ensures in record {
+      answer = ap Done c.cells-cells.ensures ∙ b.0;
+      table = b.1;
+    }
