@@ -31,10 +31,14 @@ entries_text_lem : (ns s cs : List ℕ) → Each EntryOf ns s cs → s ≡ entri
 unfolding entries_text
 entries_text_lem [] [] [] none = refl
 entries_text_lem (n ∷ ns) s cs (more x c {y} {d} p h) = ap₂ ◌++◌ (entry_one x n p.0) (entries_text_lem ns y d h)
+entries_text_lem [] [] (_ ∷ _) x5 = elim x5 [ ]
+entries_text_lem [] (_ ∷ _) cs x5 = elim x5 [ ]
 
 entries_bytes : (ns s cs : List ℕ) → Each EntryOf ns s cs → length s ≡ length ns * 3
 entries_bytes [] [] [] none = refl
 entries_bytes (n ∷ ns) s cs (more x c {y} {d} p h) = length-append x y ∙ omega (arith, p.0.width, entries_bytes ns y d h)
+entries_bytes [] [] (_ ∷ _) x5 = elim x5 [ ]
+entries_bytes [] (_ ∷ _) cs x5 = elim x5 [ ]
 
 entries_plain : (ns s cs : List ℕ) → Each EntryOf ns s cs → Plain s
 entries_plain ns s cs h = each_plain (λ n x c p. entry_unbroken n x p.0) ns s cs h
@@ -48,6 +52,8 @@ entries_read [] [] [] none = refl
 entries_read (n ∷ ns) s cs (more x c {y} {d} p h) =
     let w = p.0.width in
     rw (take_at x y 3 w, drop_at x y 3 w, is_entry x n (canonical_entry x n p.0), entries_read ns y d h)
+entries_read [] [] (_ ∷ _) x5 = elim x5 [ ]
+entries_read [] (_ ∷ _) cs x5 = elim x5 [ ]
 
 -- ---- a line of 40 counts
 

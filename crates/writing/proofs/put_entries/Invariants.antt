@@ -1,0 +1,14 @@
+-- `writing::put_entries` meets its contract. The invariant: the entries from i on, put at a, make all of them.
+-- Assumes nothing.
+use borrow.Author.Rules.{rules}
+use native.Mathlib.Omega.{arith}
+use Prim.Native.Nat.{◌-◌}
+use lib.ListN.{length}
+use Rattle.writing.proofs.Putting.{Entries, entries_start, entries_end, entry_room, entries_next}
+use Rattle.writing.proofs.put_entries.Given as goal
+
+abbrev pub invariant-loop-i : goal.invariant-loop-i
+invariant-loop-i l = Entries l.counts l.initial.out l.at l.a l.i l.out
+
+abbrev pub decreases-loop-i : goal.decreases-loop-i
+decreases-loop-i l = length l.counts - l.i
