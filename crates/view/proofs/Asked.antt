@@ -6,10 +6,11 @@
 use mathlib.Core.Path.{◌≡◌, refl, subst}
 use mathlib.Core.Bool.{true}
 use mathlib.Core.List.{List, [], ◌∷◌}
+use Prim.Native.Nat.{ℕ}
 use lib.Dec.{T as Holds}
 use lib.ListN.{length}
 use seplogic.Ra.Ura.{Ura}
-use mir.Syntax.{Name, named, erased, imm, w8, w64, Ty, ty_int, ty_ref, field, place, copy, rv_opd, assign, seq, call, return, local, value_local, Fn}
+use mir.Syntax.{Callee, named, erased, imm, w8, w64, Ty, ty_int, ty_ref, field, place, copy, rv_opd, assign, seq, call, return, local, value_local, Fn}
 use mir.Val.{Val, WT, has_ty, vint, vstruct}
 use mir.Facts.{and_yes}
 use base.Logic.{SProp, ent, sep, guard, emp, via, id⊢}
@@ -54,11 +55,13 @@ use Rattle.view.specs.contracts.View as Viewed
 use Rattle.view.proofs.View.TheLaws as Viewed'
 
 -- ---- the code: of rules, a view and a number, f is called with the rules, the view's text, its record and the number
-abbrev pub asks : Ty → Name → Fn
+abbrev pub asks : Ty → Callee → Fn
 asks τ f = record {
   lifetimes = 1;
   outlives = [];
   params = 3;
+  ty_params = [];
+  givens = 0;
   locals =
       local τ value_local ∷ local Choice'.mir value_local ∷ local (Viewed'.mir (named 0)) value_local ∷ local (ty_int w64) value_local ∷
       local (slice_ty (ty_ref erased imm (ty_int w8))) value_local ∷ local Placed'.mir value_local ∷ [];
@@ -74,26 +77,26 @@ pub record Question : Type 2 where
   pub mir : Ty
   pub one : (κs : Lfts 1) → (slot.row κs).mir ≡ mir ∷ []
   pub lawful : {M : Type 1} {𝓤 : Ura M} (𝓛 : Logic 𝓤) → (κs : Lfts 1) → Lawful 𝓛 (slot.row κs)
-  pub called : Name
+  pub called : Callee
   pub routine : Routine
   pub code : Code (asks mir called)
   pub calls : code.env called ≡ routine
 
 -- ---- what is passed
-abbrev with-view : List (Slot 1)
-with-view = plain (λ κs. Choice.the_row) ∷ plain (λ κs. Viewed.the_row (named_lft 1 0 tt κs)) ∷ plain (λ κs. usize) ∷ []
+abbrev with_view : List (Slot 1)
+with_view = plain (λ κs. Choice.the_row) ∷ plain (λ κs. Viewed.the_row (named_lft 1 0 tt κs)) ∷ plain (λ κs. usize) ∷ []
 
-abbrev with-parts : List (Slot 1)
-with-parts =
+abbrev with_parts : List (Slot 1)
+with_parts =
     plain (λ κs. Choice.the_row) ∷ SliceRefOf (0 ∷ []) tt (plain (λ κs. u8)) (λ κs. tt) ∷ plain (λ κs. Placed.the_row) ∷
     plain (λ κs. usize) ∷ []
 
 module _ (κs : Lfts 1) where
   abbrev pub Asked : Type 0
-  Asked = Denots (types_at with-view κs)
+  Asked = Denots (types_at with_view κs)
 
   abbrev pub Parts : Type 0
-  Parts = Denots (types_at with-parts κs)
+  Parts = Denots (types_at with_parts κs)
 
   abbrev pub the_view : Declared
   the_view = Viewed.the_type (named_lft 1 0 tt κs)
@@ -121,19 +124,19 @@ module _ (κs : Lfts 1) where
     abbrev number : Val
     number = vint w64 a.1.1.0
 
-    abbrev as-view : Valss (types_at with-view κs)
-    as-view = (chosen ∷ [], (viewed ∷ [], (number ∷ [], tt)))
+    abbrev as_view : Valss (types_at with_view κs)
+    as_view = (chosen ∷ [], (viewed ∷ [], (number ∷ [], tt)))
 
-    abbrev as_parts : Valss (types_at with-parts κs)
+    abbrev as_parts : Valss (types_at with_parts κs)
     as_parts = (chosen ∷ [], (text ∷ [], (placed ∷ [], (number ∷ [], tt))))
 
 -- ---- the contracts
 module _ (t : Question) where
-  abbrev pub of-view : Signature
-  of-view = record { lifetimes = 1; outlives = []; params = with-view; result = t.slot }
+  abbrev pub of_view : Signature
+  of_view = record { lifetimes = 1; outlives = []; params = with_view; result = t.slot }
 
   abbrev pub of_parts : Signature
-  of_parts = record { lifetimes = 1; outlives = []; params = with-parts; result = t.slot }
+  of_parts = record { lifetimes = 1; outlives = []; params = with_parts; result = t.slot }
 
   -- what is promised of an answer, by the parts; by a view it is that of its parts, so that no view's contract can say less
   pub record Promise {M : Type 1} (𝓤 : Ura M) : Type 2 where
@@ -147,14 +150,14 @@ module _ {M : Type 1} {𝓤 : Ura M} (𝓛 : Logic 𝓤) (t : Question) (p : Pro
     ensures = λ _ r. exits 𝓛 (of_parts t) (yes, (yes, (yes, (yes, tt)))) κs a (λ _. p.by_parts κs a r);
   }
 
-  abbrev pub spec-of-view : Spec 𝓤 (of-view t)
-  spec-of-view κs a = record {
+  abbrev pub spec-of_view : Spec 𝓤 (of_view t)
+  spec-of_view κs a = record {
     ghost = Unit {0};
     requires = λ _. emp 𝓤;
-    ensures = λ _ r. exits 𝓛 (of-view t) (yes, (yes, (yes, tt))) κs a (λ _. p.by_parts κs (parts κs a) r);
+    ensures = λ _ r. exits 𝓛 (of_view t) (yes, (yes, (yes, tt))) κs a (λ _. p.by_parts κs (parts κs a) r);
   }
 
-module _ {M : Type 1} {𝓤 : Ura M} {𝓛 : Logic 𝓤} (𝓜 : Model 𝓤 𝓛.H) (𝓡 : Running 𝓤 𝓛.H 𝓜) (t : Question) where
+module _ {M : Type 1} {𝓤 : Ura M} (𝓛 : Logic 𝓤) (𝓜 : Model 𝓤 𝓛.H) (𝓡 : Running 𝓤 𝓛.H 𝓜) (t : Question) where
   open 𝓛 use {H}
 
   abbrev C : Calls 𝓤 H
@@ -171,13 +174,13 @@ module _ {M : Type 1} {𝓤 : Ura M} {𝓛 : Logic 𝓤} (𝓜 : Model 𝓤 𝓛
   Fits u = Holds (has_ty t.mir u) × WT u
 
   module _ (κs : Lfts 1) (a : Asked κs) where
-    walk : (X : SProp 𝓤) (Q : Val → SProp 𝓤) → Are (types_at with-view κs) (Ises (types_at with-view κs)) a (as-view κs a)
-        → ent 𝓤 X (C t.called (flat (types_at with-parts κs) (as_parts κs a)) (λ u. H.⇛ (guard 𝓤 (Fits u) (Q u))))
-        → ent 𝓤 X (WpFn 𝓤 H C Λ (asks t.mir t.called) (flat (types_at with-view κs) (as-view κs a)) Q)
+    walk : (X : SProp 𝓤) (Q : Val → SProp 𝓤) → Are (types_at with_view κs) (Ises (types_at with_view κs)) a (as_view κs a)
+        → ent 𝓤 X (C t.called (flat (types_at with_parts κs) (as_parts κs a)) (λ u. H.⇛ (guard 𝓤 (Fits u) (Q u))))
+        → ent 𝓤 X (WpFn 𝓤 H C Λ (asks t.mir t.called) (flat (types_at with_view κs) (as_view κs a)) Q)
     walk X Q are met =
         let rules-fit = ((LL.lawful Choice.the_type Choice'.the_laws 𝓛).typed a.0 _ are.0).0 in
         let view-fits = ((LL.lawful (the_view κs) (view_laws κs) 𝓛).typed a.1.0 _ are.1.0).0 in
-        qed 𝓛 (raw X ∷ []) ∵ enter ! C Λ (asks t.mir t.called) (flat (types_at with-view κs) (as-view κs a)) _ $
+        qed 𝓛 (raw X ∷ []) ∵ enter ! C Λ (asks t.mir t.called) (flat (types_at with_view κs) (as_view κs a)) _ $
         alloc1 ! (λ l₀. alloc1 ! (λ l₁. alloc1 ! (λ l₂. alloc1 ! (λ l₃. alloc1 ! (λ l₄. alloc1 ! (λ l₅. alloc0 ! $ params1 ! $
         pass1 ! (init ! 8 refl rules-fit) $ pass1 ! (init ! 6 refl view-fits) $ pass1 ! (init ! 4 refl (tt, record { fits = are.1.1.0.1 })) $ pass0 ! $
         assigns ! (of_opd ! (load ! (from ! (fld ! refl (stop !))) (look_in ! 6 (sub ! 0 refl (whole !))))) (from ! (stop !))
@@ -186,7 +189,7 @@ module _ {M : Type 1} {𝓤 : Ura M} {𝓛 : Logic 𝓤} (𝓜 : Model 𝓤 𝓛
         (init ! 0 refl ((and_yes (has_ty Placed'.mir (placed κs a)) true view-fits.0).0, view-fits.1.1.0)) $
         move ! (12 ∷ []) $
         -- [what the call needs; _5; …; _4; …; _3; …; _2; …; _1; …; room for _0; …]
-        calls_from ! framed-calls (raw X) (flat (types_at with-parts κs) (as_parts κs a)) (λ u. H.⇛ (guard 𝓤 (Fits u) (Q u))) met
+        calls_from ! framed-calls (raw X) (flat (types_at with_parts κs) (as_parts κs a)) (λ u. H.⇛ (guard 𝓤 (Fits u) (Q u))) met
         (and_then ! (load ! (from ! (stop !)) (look ! 9 refl)) (and_then ! (load ! (from ! (stop !)) (look ! 3 refl))
         (and_then ! (load ! (from ! (stop !)) (look ! 1 refl)) (and_then ! (load ! (from ! (stop !)) (look ! 5 refl)) (no_more !))))) (λ u.
         use1 𝓛 (later (given (Fits u) (raw (Q u)))) (id⊢ 𝓤 _) $ await ! tt $ learn ! (λ fits.
@@ -201,9 +204,9 @@ module _ {M : Type 1} {𝓤 : Ura M} {𝓛 : Logic 𝓤} (𝓜 : Model 𝓤 𝓛
 
     module _ (qs : Shares 1) where
       -- what the view owns is what its text and its record own
-      apart : ent 𝓤 (on_entry 𝓛 (of-view t) κs qs a (as-view κs a)) (sep 𝓤 (on_entry 𝓛 (of_parts t) κs qs (parts κs a) (as_parts κs a)) (emp 𝓤))
+      apart : ent 𝓤 (on_entry 𝓛 (of_view t) κs qs a (as_view κs a)) (sep 𝓤 (on_entry 𝓛 (of_parts t) κs qs (parts κs a) (as_parts κs a)) (emp 𝓤))
       apart =
-          qed 𝓛 ((‵ (flft κs.0 qs.0) ⊛ ‵ ftrue) ∷ ‵ (owns (types_at with-view κs) a (as-view κs a)) ∷ []) ∵
+          qed 𝓛 ((‵ (flft κs.0 qs.0) ⊛ ‵ ftrue) ∷ ‵ (owns (types_at with_view κs) a (as_view κs a)) ∷ []) ∵
           move ! (1 ∷ []) $ fsplit ! $ move ! (1 ∷ []) $ fsplit ! $
           -- [what the view owns; what the number owns; what the rules own; the token]
           use1 𝓛 (given (viewed κs a ∷ [] ≡ vstruct (spelled (the_view κs).parts (view_laws κs) fields) ∷ []) (‵ (all_own (the_view κs).parts (view_laws κs) fields)))
@@ -217,46 +220,46 @@ module _ {M : Type 1} {𝓤 : Ura M} {𝓛 : Logic 𝓤} (𝓜 : Model 𝓤 𝓛
         of-the-parts = triple_of 𝓛 (of_parts t) (spec-of-parts 𝓛 t p)
 
         abbrev of-the-view : Contract 𝓤
-        of-the-view = triple_of 𝓛 (of-view t) (spec-of-view 𝓛 t p)
+        of-the-view = triple_of 𝓛 (of_view t) (spec-of_view 𝓛 t p)
 
         abbrev with-them : of-the-parts.Ghost
         with-them = ((κs, qs, tt, parts κs a, as_parts κs a), tt)
 
         abbrev with_it : of-the-view.Ghost
-        with_it = ((κs, qs, tt, a, as-view κs a), tt)
+        with_it = ((κs, qs, tt, a, as_view κs a), tt)
 
         fits : (r : (t.slot.row κs).Denot) (u : Val) → Is (t.slot.row κs) r (u ∷ []) → Fits u
         fits r u is = (subst (λ τs. Typed τs (u ∷ [])) (t.one κs) ((t.lawful 𝓛 κs).typed r (u ∷ []) is)).0
 
         -- what is said at exit of parameters that hold no `&mut`
-        abbrev silent-parts : Fins κs with-parts (yes, (yes, (yes, (yes, tt)))) (parts κs a) → Fml
-        silent-parts = lasts_of κs with-parts (yes, (yes, (yes, (yes, tt)))) (parts κs a)
+        abbrev silent-parts : Fins κs with_parts (yes, (yes, (yes, (yes, tt)))) (parts κs a) → Fml
+        silent-parts = lasts_of κs with_parts (yes, (yes, (yes, (yes, tt)))) (parts κs a)
 
-        abbrev silent-view : Fins κs with-view (yes, (yes, (yes, tt))) a → Fml
-        silent-view = lasts_of κs with-view (yes, (yes, (yes, tt))) a
+        abbrev silent-view : Fins κs with_view (yes, (yes, (yes, tt))) a → Fml
+        silent-view = lasts_of κs with_view (yes, (yes, (yes, tt))) a
 
         -- an answer that is promised of the parts is one of the view
         answers : (u : Val) → ent 𝓤 (of-the-parts.post with-them u) (H.⇛ (guard 𝓤 (Fits u) (of-the-view.post with_it u)))
         answers u =
-            qed 𝓛 (later (some (λ (r : (t.slot.row κs).Denot). ((‵ (flft κs.0 qs.0) ⊛ ‵ ftrue) ⊛ ‵ ((t.slot.row κs).own r (u ∷ []))) ⊛
-            some (λ (ws : Fins κs with-parts (yes, (yes, (yes, (yes, tt)))) (parts κs a)). ‵ (silent-parts ws) ⊛ raw (p.by_parts κs (parts κs a) r)))) ∷ []) ∵
+            qed 𝓛 (later (some (λ (r : (t.slot.row κs).Denot). ((‵ (flft κs.0 qs.0) ⊛ ‵ ftrue) ⊛ ‵ ((t.slot.row κs).own_val r (u ∷ []))) ⊛
+            some (λ (ws : Fins κs with_parts (yes, (yes, (yes, (yes, tt)))) (parts κs a)). ‵ (silent-parts ws) ⊛ raw (p.by_parts κs (parts κs a) r)))) ∷ []) ∵
             updating ! $ await ! tt $ pick ! (λ r. split ! $ split ! $ move ! (1 ∷ []) $
             peeks ! (t.slot.row κs) (Is (t.slot.row κs)) (shows 𝓛 (t.slot.row κs)) r (u ∷ []) (λ is.
             at_once ! $ check ! (fits r u is) $ updating ! $ at_once ! $
-            show ! (λ r'. sep 𝓤 (Back 𝓛 (of-view t) with_it.0 u r') ((spec-of-view 𝓛 t p κs a).ensures tt r')) r $
+            show ! (λ r'. sep 𝓤 (Back 𝓛 (of_view t) with_it.0 u r') ((spec-of_view 𝓛 t p κs a).ensures tt r')) r $
             move ! (1 ∷ 0 ∷ []) $ join ! $ frame ! $ pick ! (λ ws. split ! $ fsplit ! $ drop ! $
             show ! (λ ws'. sep 𝓤 (sem 𝓛 (silent-view ws')) (p.by_parts κs (parts κs a) r)) (tt, (tt, (tt, tt))) $ done !)))
 
-        through : Triple 𝓤 (C t.called) of-the-parts → Are (types_at with-view κs) (Ises (types_at with-view κs)) a (as-view κs a)
-            → ent 𝓤 (on_entry 𝓛 (of-view t) κs qs a (as-view κs a))
-            (WpFn 𝓤 H C Λ (asks t.mir t.called) (flat (types_at with-view κs) (as-view κs a)) (of-the-view.post with_it))
+        through : Triple 𝓤 (C t.called) of-the-parts → Are (types_at with_view κs) (Ises (types_at with_view κs)) a (as_view κs a)
+            → ent 𝓤 (on_entry 𝓛 (of_view t) κs qs a (as_view κs a))
+            (WpFn 𝓤 H C Λ (asks t.mir t.called) (flat (types_at with_view κs) (as_view κs a)) (of-the-view.post with_it))
         through known are = walk _ _ are (via 𝓤 _ apart (via 𝓤 _ (known with-them) (fm→mono_c 𝓤 H 𝓛.laws C framed-calls t.called _ _ _ answers)))
 
   -- the law, as a function's theorem states it
   pub asked : (p : Promise t 𝓤) → Meets 𝓛 (of_parts t) (𝓡.run t.routine) (spec-of-parts 𝓛 t p)
-      → Meets 𝓛 (of-view t) (𝓡.run (t.code.env t.code.name)) (spec-of-view 𝓛 t p)
+      → Meets 𝓛 (of_view t) (𝓡.run (t.code.env t.code.name)) (spec-of_view 𝓛 t p)
   asked p met =
-      enters {𝓛 = 𝓛} 𝓜 𝓡 t.code (of-view t) (spec-of-view 𝓛 t p)
+      enters 𝓛 𝓜 𝓡 t.code (of_view t) (spec-of_view 𝓛 t p)
       (λ κs. (LL.vals Choice.the_type Choice'.the_laws, (LL.vals (the_view κs) (view_laws κs), (uint_vals w64, tt))))
       (λ κs. (LL.tells Choice.the_type Choice'.the_laws, (LL.tells (the_view κs) (view_laws κs), (uint_Tells w64, tt))))
       (λ κs a qs bounds g. through κs a qs p

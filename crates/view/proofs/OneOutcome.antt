@@ -70,27 +70,27 @@ module _ (T : Ended) where
         → OneUpTo same
     one tells alike m κs a g r q v w = via m.𝓤 _ (both m (tells m κs a g r v) (tells m κs a g q w)) (fact_mono m.𝓤 _ _ (λ l. alike κs a r q v w l.0 l.1))
 
-pub part_of_one : OneUpTo part_of.ended (λ M. part_of.clauses) (λ κs r q. (r.now ≡ q.now) × (r.ref_ptr ≡ q.ref_ptr))
+pub part_of_one : OneUpTo part_of.ended (λ M 𝓤. part_of.clauses {𝓤 = 𝓤}) (λ κs r q. (r.now ≡ q.now) × (r.ref_ptr ≡ q.ref_ptr))
 part_of_one =
-    one part_of.ended (λ M. part_of.clauses) (λ m κs a g r v. both m (told m) (told m)) (λ κs a r q v w l k. ((l.0 ∙ sym k.0, l.1 ∙ sym k.1), refl))
+    one part_of.ended (λ M 𝓤. part_of.clauses {𝓤 = 𝓤}) (λ m κs a g r v. both m (told m) (told m)) (λ κs a r q v w l k. ((l.0 ∙ sym k.0, l.1 ∙ sym k.1), refl))
 
-pub lines_of_one : OneOutcome lines_of.ended (λ M. lines_of.clauses)
+pub lines_of_one : OneOutcome lines_of.ended (λ M 𝓤. lines_of.clauses {𝓤 = 𝓤})
 lines_of_one =
-    one lines_of.ended (λ M. lines_of.clauses) (λ m κs a g r v. both m (told m) (both m (told m) (told m))) (λ κs a r q v w l k.
+    one lines_of.ended (λ M 𝓤. lines_of.clauses {𝓤 = 𝓤}) (λ m κs a g r v. both m (told m) (both m (told m) (told m))) (λ κs a r q v w l k.
     let found = l.0 ∙ sym k.0 in
     let from = l.1.0 ∙ sym k.1.0 in
     let to = l.1.1 ∙ sym k.1.1 in
     (λ i. record { found = found i; from = from i; to = to i }, refl))
 
-pub characteristic_of_one : OneOutcome characteristic_of.ended (λ M. characteristic_of.clauses)
-characteristic_of_one = one characteristic_of.ended (λ M. characteristic_of.clauses) (λ m κs a g r v. told m) (λ κs a r q v w l k. (l ∙ sym k, refl))
+pub characteristic_of_one : OneOutcome characteristic_of.ended (λ M 𝓤. characteristic_of.clauses {𝓤 = 𝓤})
+characteristic_of_one = one characteristic_of.ended (λ M 𝓤. characteristic_of.clauses {𝓤 = 𝓤}) (λ m κs a g r v. told m) (λ κs a r q v w l k. (l ∙ sym k, refl))
 
-pub view_of_one : OneOutcome view_of.ended (λ M. view_of.clauses)
+pub view_of_one : OneOutcome view_of.ended (λ M 𝓤. view_of.clauses {𝓤 = 𝓤})
 view_of_one =
-    one view_of.ended (λ M. view_of.clauses) (λ m κs a g r v. told m) (λ κs a r q v w l k.
+    one view_of.ended (λ M 𝓤. view_of.clauses {𝓤 = 𝓤}) (λ m κs a g r v. told m) (λ κs a r q v w l k.
     let text = l.0 ∙ sym k.0 in
     let placed = l.1 ∙ sym k.1 in
     (λ i. record { text = text i; «record» = placed i }, refl))
 
-pub counts_of_one : OneOutcome counts_of.ended (λ M. counts_of.clauses)
-counts_of_one = one counts_of.ended (λ M. counts_of.clauses) (λ m κs a g r v. told m) (λ κs a r q v w l k. (l ∙ sym k, refl))
+pub counts_of_one : OneOutcome counts_of.ended (λ M 𝓤. counts_of.clauses {𝓤 = 𝓤})
+counts_of_one = one counts_of.ended (λ M 𝓤. counts_of.clauses {𝓤 = 𝓤}) (λ m κs a g r v. told m) (λ κs a r q v w l k. (l ∙ sym k, refl))

@@ -3,8 +3,9 @@
 -- Nothing is handed back of a parameter, so a walk may use up what they own, and keeps none of it for the end.
 -- Assumes nothing.
 use mathlib.Core.List.{List, [], ◌∷◌}
+use Prim.Native.Nat.{ℕ}
 use seplogic.Ra.Ura.{Ura}
-use mir.Syntax.{Name, Fn}
+use mir.Syntax.{Callee, Fn}
 use mir.Val.{Val}
 use base.Logic.{SProp, ent, ex, sep, emp, via, fst∗}
 use prog.Model.{Model}
@@ -30,12 +31,12 @@ use denote.Triple.Table.{entered}
 -- the function e under its name, where its calls mean what they do in env
 pub record Code (e : Fn) : Type 2 where
   pub env : Env
-  pub name : Name
+  pub name : Callee
   pub closed : {M : Type 1} (𝓤 : Ura M) (H : Heap 𝓤) (𝓜 : Model 𝓤 H) (𝓡 : Running 𝓤 H 𝓜)
       → Closed 𝓤 H (tables 𝓤 H 𝓜 𝓡 env).C (tables 𝓤 H 𝓜 𝓡 env).Λ name e
 
 -- a walk may take the parameters' machine values as written out, and knows that they are of their types
-module _ {M : Type 1} {𝓤 : Ura M} {𝓛 : Logic 𝓤} (𝓜 : Model 𝓤 𝓛.H) (𝓡 : Running 𝓤 𝓛.H 𝓜) {e : Fn} (c : Code e) (S : Signature) (p : Spec 𝓤 S) where
+module _ {M : Type 1} {𝓤 : Ura M} (𝓛 : Logic 𝓤) (𝓜 : Model 𝓤 𝓛.H) (𝓡 : Running 𝓤 𝓛.H 𝓜) {e : Fn} (c : Code e) (S : Signature) (p : Spec 𝓤 S) where
   open 𝓛 use {H}
 
   abbrev Meant : Fun 𝓤

@@ -205,7 +205,7 @@ pub struct View<'a> {
 pub fn part_of<'a>(rules: rules::Rules, view: View<'a>, group: usize) -> &'a [u8]
     ensures bytes { result.now ≡
         part_with rules view.entry.text.now (carried_by view.entry.record) group }
-    ensures address { result.ref_ptr ≡ moved view.entry.text.ptr
+    ensures address { result.ref_ptr ≡ moved view.entry.text.ref_ptr
         (start_with rules view.entry.text.now (carried_by view.entry.record) group) }
 {
     part_by(rules, view.text, view.record, group)
