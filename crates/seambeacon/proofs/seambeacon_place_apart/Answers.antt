@@ -1,0 +1,20 @@
+-- `seambeacon::seambeacon_place_apart` meets its contract: what `sao::place` answers, in numbers.
+-- Assumes nothing.
+use borrow.Author.Rules.{rules}
+use mathlib.Core.Path.{◌∙◌, ap}
+use Rattle.place.specs.Numbered.{placing_reply}
+use Rattle.seambeacon.proofs.Telling.{told_as}
+use Rattle.seambeacon.proofs.seambeacon_place_apart.Goals as goal
+
+pub returns : goal.returns
+returns c =
+    let e-answer = rw c.rules_of.ensures at c.place-placed.ensures.answer in
+    let e-counts = rw c.rules_of.ensures at c.place-placed.ensures.counts in
+    let e-starts = rw c.rules_of.ensures at c.place-placed.ensures.starts in
+    let e-ends = rw c.rules_of.ensures at c.place-placed.ensures.ends in
+    record {
+      reply = told_as (c.reply_of.ensures ∙ ap placing_reply e-answer) c.tell.ensures;
+      counts = e-counts;
+      starts = e-starts;
+      ends = e-ends;
+    }

@@ -1,0 +1,14 @@
+-- `seambeacon::seambeacon_record_group_apart` meets its contract: what `view::read_with` answers, in numbers.
+-- Assumes nothing.
+use borrow.Author.Rules.{rules}
+use mathlib.Core.Path.{◌∙◌, ap}
+use Rattle.reply.specs.Refusals.{answer_reply}
+use Rattle.seambeacon.proofs.Telling.{told_as}
+use Rattle.seambeacon.proofs.seambeacon_record_group_apart.Goals as goal
+
+pub returns : goal.returns
+returns c =
+    let e-answer = rw c.rules_of.ensures at c.read_with-answer.ensures.answer in
+    let e-table = rw c.rules_of.ensures at c.read_with-answer.ensures.table in
+    let told = told_as (c.of_answer.ensures ∙ ap answer_reply e-answer) c.tell.ensures in
+    search (rules, told, e-answer, e-table)
