@@ -21,7 +21,6 @@ use Rattle.base.proofs.Sign.{sign_size, negative_some, holds_of, holds_high, hol
 use Rattle.number.specs.declared.Scan.TheVariants.{Digits}
 use Rattle.number.specs.Write.{last_of, begun, back_of, text_of, state_of, lead_state, text_i, text_f, text_e}
 use Rattle.number.specs.Grammar.{IsI, IsF, IsE, minus_of, lead_text, lead_minus, sign_byte}
-use Rattle.number.specs.Grammar.Lead.{minus}
 use Rattle.number.specs.Canonical.{CanonicalI, CanonicalF, CanonicalE, due_lead}
 use Rattle.number.proofs.Grammar.{Behind}
 use Rattle.number.proofs.Unique.{blanks_text}

@@ -5,8 +5,8 @@ use mathlib.Core.Path.{◌≡◌, sym, ◌∙◌, ap, subst}
 use mathlib.Core.List.{List, ◌++◌}
 use Prim.Native.Nat.{ℕ, ◌+◌, ◌-◌, ◌≤◌}
 use native.Mathlib.Omega.{arith}
-use lib.ListN.{length, take, drop, length-drop, take-append-drop}
-use lib.Seq.{drop-drop, drop_at, length-take-le}
+use lib.ListN.{length, drop, length-drop, take-append-drop}
+use lib.Seq.{drop_at}
 use Rattle.rules.specs.declared.Rules.{Rules}
 use Rattle.base.specs.Part.{part}
 use Rattle.base.proofs.Taken.{drop_none}
@@ -15,11 +15,11 @@ use Rattle.line.proofs.Feeds.{feeds_le}
 use Rattle.line.proofs.Reach.{lines_append}
 use Rattle.count.specs.Tally.{record_lines}
 use Rattle.count.proofs.Tallied.{record_two}
-use Rattle.place.specs.Index.{counts, read_index}
+use Rattle.place.specs.Index.{read_index}
 use Rattle.place.specs.Placing.{located, locate}
 use Rattle.place.proofs.Growth.{located_grown}
 use Rattle.place.proofs.Local.{index_local}
-use Rattle.place.proofs.Placed.{is_located, located_is, located_range, located_long}
+use Rattle.place.proofs.Placed.{is_located, located_is}
 use Rattle.place.proofs.Tiling.{record_whole}
 
 module _ (ρ : Rules) where

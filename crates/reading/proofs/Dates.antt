@@ -28,7 +28,6 @@ use Rattle.form.specs.Count
 use Rattle.form.specs.Count.{elements_of, lines_of, rounded_up}
 use Rattle.form.proofs.Rounding.{quotient}
 use Rattle.form.proofs.Segments.{letters_elements}
-use Rattle.field.specs.Read
 use Rattle.field.proofs.Letters.{bytes_back}
 use Rattle.line.specs.Lines.{reach}
 use Rattle.line.proofs.Contents.{content_two}

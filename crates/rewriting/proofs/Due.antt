@@ -15,7 +15,7 @@ use Rattle.place.specs.Numbered.{as_checked}
 use Rattle.place.proofs.Due as Placing
 use Rattle.place.specs.Placing.{placing_of, counts_at}
 use Rattle.reply.specs.declared.Refusal.{Refusal}
-use Rattle.reply.specs.declared.Refusal.TheVariants.{NoRoom, BrokenRule}
+use Rattle.reply.specs.declared.Refusal.TheVariants.{NoRoom}
 use Rattle.reply.specs.declared.Checked.TheVariants as C
 use Rattle.whole.specs.Due as WholeIs
 use Rattle.whole.specs.Due.{RoomForAll}

@@ -1,15 +1,12 @@
 -- R355: a ruined index costs its own record, and all else is salvaged as it is by itself.
 -- Assumes nothing.
 use mathlib.Core.Path.{◌≡◌, refl, sym, ◌∙◌, ap, ap₂, subst}
-use mathlib.Core.List.{List, [], ◌∷◌, ◌++◌, map, flat_map, append_assoc, append-nil}
-use mathlib.Core.Logic.{inl, inr}
+use mathlib.Core.List.{List, ◌∷◌, ◌++◌, map, flat_map, append_assoc, append-nil}
 use Prim.Native.Nat.{ℕ, zero, suc, ◌+◌, ◌-◌, ◌<◌, ◌≤◌}
-use native.Mathlib.Nat.{add-zero}
 use native.Mathlib.Omega.{arith}
-use lib.ListN.{length, take, drop, length-append, length-drop, length-map, take-append-drop}
+use lib.ListN.{length, take, drop, length-append, length-drop, length-map}
 use lib.Seq.{drop-drop, take_at, take_all, length-take-le}
 use Rattle.rules.specs.declared.Rules.{Rules}
-use Rattle.base.specs.Agree.{Agree, Between}
 use Rattle.base.specs.Every.{up_from}
 use Rattle.base.specs.Part.{part}
 use Rattle.base.proofs.Agree.{part_agree}
@@ -19,17 +16,16 @@ use Rattle.base.proofs.UpFrom.{length_up, map_up_same}
 use Rattle.line.specs.Lines.{reach}
 use Rattle.line.proofs.Reach.{reach_mono}
 use Rattle.count.proofs.Tallied.{record_two}
-use Rattle.place.specs.Placing.{located, refused, locate}
+use Rattle.place.specs.Placing.{located, locate}
 use Rattle.place.specs.Walk.{spot, IsRecord, Stops}
 use Rattle.place.proofs.Alone.{located_alone, alone_located}
 use Rattle.place.proofs.Apart.{record_before, spot_mono}
 use Rattle.place.proofs.Growth.{located_grown, growth_keeps}
-use Rattle.place.proofs.Placed.{located_is, located_range, located_long}
+use Rattle.place.proofs.Placed.{located_is, located_long}
 use Rattle.place.proofs.Steps.{locate_end}
 use Rattle.place.proofs.Stopped.{placed_record}
 use Rattle.place.proofs.Walked.{spot_start, spot_more, spot_inside}
 use Rattle.reply.specs.declared.Refusal.TheVariants.{End}
-use Rattle.salvaging.specs.declared.Piece.{Piece}
 use Rattle.salvaging.specs.declared.Piece.TheVariants.{Copied, LeftOut}
 use Rattle.salvaging.specs.Confined.{further, Ruined, RuinConfined, IndexRuined, RecordLost, DamageConfined}
 use Rattle.salvaging.specs.Cover.{record_piece}

@@ -1,37 +1,31 @@
 -- R354: the pieces cover the text, no two stretches are neighbours, and the records of the plain walk are the first pieces.
 -- Assumes nothing.
 use mathlib.Core.Path.{◌≡◌, refl, sym, ◌∙◌, ap, ap₂, subst}
-use mathlib.Core.Bool.{Bool, true, false}
 use mathlib.Core.List.{List, [], ◌∷◌, ◌++◌, map, flat_map, append_assoc, append-nil}
-use mathlib.Core.Logic.{inl, inr, ⊎_elim}
+use mathlib.Core.Logic.{⊎_elim}
 use Prim.Native.Nat.{ℕ, zero, suc, ◌+◌, ◌-◌, ◌<◌, ◌≤◌}
 use native.Mathlib.Omega.{arith}
-use native.Mathlib.Nat.{add-zero}
-use lib.Dec.{T}
-use lib.ListN.{length, take, drop, length-drop, length-map, take-append-drop, drop_of_length-le}
+use lib.ListN.{length, take, drop, length-map, take-append-drop, drop_of_length-le}
 use lib.Seq.{drop-drop, take_at, length-take-le}
 use Rattle.rules.specs.declared.Rules.{Rules}
 use Rattle.base.specs.Every
 use Rattle.base.specs.Every.{every, up_from}
 use Rattle.base.specs.Part.{part}
-use Rattle.base.proofs.Choice.{and_left, and_right, and_both}
 use Rattle.base.proofs.Order.{le_or_lt}
 use Rattle.base.proofs.Part.{part_append}
 use Rattle.base.proofs.Taken.{drop_none, take_none, part_zero}
-use Rattle.base.proofs.UpFrom.{length_up, parts_flat}
-use Rattle.place.specs.Placing.{Located, located, refused, locate}
+use Rattle.base.proofs.UpFrom.{length_up}
 use Rattle.place.specs.Walk.{spot, IsRecord, Stops}
-use Rattle.place.proofs.Placed.{no_record, located_is, located_range, located_long}
+use Rattle.place.proofs.Placed.{located_long}
 use Rattle.place.proofs.Steps.{locate_end}
-use Rattle.place.proofs.Walked.{HasStop, spot_start, spot_more, spot_inside, stops_some}
+use Rattle.place.proofs.Walked.{spot_start, spot_more, spot_inside, stops_some}
 use Rattle.place.proofs.Apart.{spot_mono}
 use Rattle.place.proofs.Zero.{is_placed_lem}
-use Rattle.reply.specs.declared.Refusal.{Refusal}
 use Rattle.reply.specs.declared.Refusal.TheVariants.{End}
 use Rattle.salvaging.specs.declared.Piece.{Piece}
 use Rattle.salvaging.specs.declared.Piece.TheVariants.{Copied, LeftOut}
 use Rattle.salvaging.specs.Cover.{Follow, no_more, then, Apart, nothing, behind_copied, last_stretch, behind_stretch, CopiedWhole, Cover, record_piece, NothingLost}
-use Rattle.salvaging.specs.Pieces.{piece_start, piece_length, piece_end, piece_at, pieces_from, pieces, piece_bytes, copy_of, report_of, is_copied, NoStretch, copy, report}
+use Rattle.salvaging.specs.Pieces.{piece_start, piece_end, pieces_from, pieces, piece_bytes, copy_of, report_of, NoStretch, copy, report}
 use Rattle.salvaging.specs.Stretch.{Resumes, stretch_end}
 use Rattle.salvaging.proofs.Pieces.{pieces_end, pieces_copied, pieces_left, piecewise, number_of, end_number}
 use Rattle.salvaging.proofs.Stretches.{stretch_ends}

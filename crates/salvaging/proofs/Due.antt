@@ -1,6 +1,6 @@
 -- *First due*: the question about a stretch gives each answer exactly if it is due; and each answer fills a row of its table.
 -- Assumes nothing.
-use mathlib.Core.Path.{◌≡◌, refl, sym, ◌∙◌, ap, subst}
+use mathlib.Core.Path.{◌≡◌, sym, ◌∙◌, ap, subst}
 use mathlib.Core.List.{List, [], ◌∷◌}
 use mathlib.Core.Logic.{◌↔◌, inl, inr, ⊎_elim}
 use Prim.Native.Nat.{ℕ, ◌<◌, ◌≤◌}
@@ -18,7 +18,7 @@ use Rattle.salvaging.specs.declared.Stretch.{Stretch}
 use Rattle.salvaging.specs.declared.Stretch.TheVariants.{Ends, Refused}
 use Rattle.salvaging.specs.Due.{RefusedFor, beyond, text_end, Due}
 use Rattle.salvaging.specs.Numbered.{stretch_reply, stretch_rows}
-use Rattle.salvaging.specs.Stretch.{stretch_end, stretch_of}
+use Rattle.salvaging.specs.Stretch.{stretch_of}
 use Rattle.salvaging.proofs.Stretches.{stretch_ends, stretch_is, stretch_beyond, stretch_at_end, stretch_inside}
 
 module _ (ρ : Rules) (s : List ℕ) (at : ℕ) where

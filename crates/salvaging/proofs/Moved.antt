@@ -17,14 +17,13 @@ use Rattle.place.specs.Placing.{located, locate, placing_of}
 use Rattle.place.proofs.Alike.{alike_placing, alike_refused}
 use Rattle.place.proofs.Alone.{located_moved}
 use Rattle.place.proofs.Placed.{located_long}
-use Rattle.whole.specs.Turn.{group_read}
 use Rattle.whole.proofs.Alike.{alike_basis}
 use Rattle.whole.proofs.Rests.{same_reads}
 use Rattle.salvaging.specs.declared.Piece.{Piece}
 use Rattle.salvaging.specs.declared.Piece.TheVariants.{Copied, LeftOut}
 use Rattle.salvaging.specs.Confined.{further}
 use Rattle.salvaging.specs.Pieces.{pieces_from, copy_of}
-use Rattle.salvaging.specs.Stretch.{Sound, Resumes, IsStretchEnd, is_zero, is_read, is_sound, stretch_end}
+use Rattle.salvaging.specs.Stretch.{Sound, Resumes, IsStretchEnd, is_zero, is_sound, stretch_end}
 use Rattle.salvaging.proofs.Pieces.{pieces_end, pieces_copied, pieces_left, piecewise}
 use Rattle.salvaging.proofs.Stretches.{sound_exactly, stretch_ends, stretch_is}
 

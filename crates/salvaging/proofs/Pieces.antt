@@ -2,7 +2,6 @@
 -- rule says, and nothing else is.
 -- Assumes nothing.
 use mathlib.Core.Path.{◌≡◌, refl, sym, ◌∙◌, ap, subst}
-use mathlib.Core.Bool.{cond}
 use mathlib.Core.List.{List, [], ◌∷◌}
 use mathlib.Core.Logic.{◌⊎◌, ◌↔◌, inl, inr, ⊎_elim}
 use Prim.Native.Nat.{ℕ, zero, suc, ◌+◌, ◌-◌, ◌<◌, ◌≤◌}
@@ -20,9 +19,9 @@ use Rattle.place.specs.Due.{RefusedFor, beyond, text_end, few_for_index, few_for
 use Rattle.place.specs.Growth.{number_at}
 use Rattle.place.specs.Numbered.{placing_reply}
 use Rattle.place.specs.Placing.{Located, located, refused, locate, ruled_at, placing_by, placing_of}
-use Rattle.place.specs.Walk.{PlacedAt, IsRecord}
+use Rattle.place.specs.Walk.{IsRecord}
 use Rattle.place.proofs.Due.{refused_due, first_due}
-use Rattle.place.proofs.Placed.{no_record, located_is, located_range, located_long}
+use Rattle.place.proofs.Placed.{located_is, located_range, located_long}
 use Rattle.place.proofs.Steps.{locate_end}
 use Rattle.place.proofs.Stopped.{placed_record}
 use Rattle.reply.specs.Refusals.{refusal_number}

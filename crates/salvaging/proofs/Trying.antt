@@ -1,6 +1,6 @@
 -- A try of a place, as the code goes: what placing answered, and then the three groups by the lines that the record names.
 -- Assumes nothing.
-use mathlib.Core.Path.{◌≡◌, refl, sym, ◌∙◌, ap}
+use mathlib.Core.Path.{◌≡◌, refl}
 use mathlib.Core.Bool.{Bool, true, false}
 use mathlib.Core.List.{List}
 use Prim.Native.Nat.{ℕ}
@@ -11,7 +11,6 @@ use Rattle.place.specs.declared.Placing.{Placing}
 use Rattle.place.specs.declared.Placing.TheVariants as P
 use Rattle.place.specs.Placing.{Carried, placing_of, carried_at}
 use Rattle.reading.specs.Read.{Cells, verdict_of}
-use Rattle.reply.specs.declared.Checked.{Checked}
 use Rattle.reply.specs.declared.Checked.TheVariants as C
 use Rattle.reply.specs.declared.Refusal.{Refusal}
 use Rattle.whole.specs.Whole.{group_by}

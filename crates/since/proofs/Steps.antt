@@ -10,7 +10,6 @@ use Rattle.count.specs.Rules.{ruling_of}
 use Rattle.count.specs.declared.Ruling.{Ruling}
 use Rattle.count.specs.declared.Ruling.TheVariants.{Kept, Broken}
 use Rattle.date.specs.declared.Date.{Date}
-use Rattle.place.specs.declared.Placing.{Placing}
 use Rattle.place.specs.declared.Placing.TheVariants.{Placed, BrokenRule, Refused}
 use Rattle.place.specs.Placing
 use Rattle.place.specs.Placing.{Carried, Located, located, refused, locate, ruled_at, placing_by, placing_of, carried_at}

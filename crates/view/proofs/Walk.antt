@@ -3,7 +3,6 @@
 -- Nothing is handed back of a parameter, so a walk may use up what they own, and keeps none of it for the end.
 -- Assumes nothing.
 use mathlib.Core.List.{List, [], ◌∷◌}
-use Prim.Native.Nat.{ℕ}
 use seplogic.Ra.Ura.{Ura}
 use mir.Syntax.{Callee, Fn}
 use mir.Val.{Val}

@@ -18,7 +18,7 @@ use Rattle.place.specs.Numbered.{as_checked}
 use Rattle.place.proofs.Due as Placing
 use Rattle.place.specs.Placing.{placing_of, counts_at}
 use Rattle.reply.specs.declared.Refusal.{Refusal}
-use Rattle.reply.specs.declared.Refusal.TheVariants.{NoRoom, BrokenRule}
+use Rattle.reply.specs.declared.Refusal.TheVariants.{NoRoom}
 use Rattle.reply.specs.declared.Checked.TheVariants as C
 use Rattle.whole.specs.Due.{FirstRefused, AllDone, NoRoomForAll, RoomForAll, RefusedFor, unplaced, broken_rule, no_room, unread, Due}
 use Rattle.whole.specs.Turn.{Turn, group_read, all_in_turn}

@@ -1,6 +1,5 @@
 -- `characteristic::is_no_reading` meets its contract: the sign decides, then the size, and for 999,900 the number.
 -- Assumes nothing.
-use borrow.Author.Rules.{rules}
 use borrow.Author.Tests.{ne_eqb}
 use mathlib.Core.Path.{◌≡◌, sym, ap, ◌∙◌}
 use mathlib.Core.Bool.{false}

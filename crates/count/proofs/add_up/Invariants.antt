@@ -1,12 +1,7 @@
 -- `count::add_up` meets its contract. The invariant: the totals are those before group g.
 -- Assumes nothing.
-use borrow.Author.Rules.{rules}
-use native.Mathlib.Omega.{arith}
-use mathlib.Core.Path.{◌≡◌}
-use Prim.Native.Nat.{◌*◌, ◌-◌, ◌≤◌, min}
-use Rattle.form.specs.Table.{form_of}
-use Rattle.count.specs.Tally.{count_of, Before}
-use Rattle.count.proofs.Tallied.{lines_by_few, cells_by_few, before_none, before_groups, before_end, before_more}
+use Prim.Native.Nat.{◌*◌, ◌-◌, ◌≤◌}
+use Rattle.count.specs.Tally.{Before}
 use Rattle.count.proofs.add_up.Given as goal
 
 abbrev pub invariant-loop-g : goal.invariant-loop-g

@@ -1,6 +1,5 @@
 -- `count::check` meets its contract by cases: the counts are refused, or the length decides.
 -- Assumes nothing.
-use borrow.Author.Rules.{rules}
 use mathlib.Core.Path.{sym, ◌∙◌}
 use Rattle.count.proofs.Checks.{checked_refused, checked_right, checked_length}
 use Rattle.count.proofs.check.Goals as goal

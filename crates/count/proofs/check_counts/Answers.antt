@@ -1,6 +1,5 @@
 -- `count::check_counts` meets its contract by cases, in the order of the replies.
 -- Assumes nothing.
-use borrow.Author.Rules.{rules}
 use mathlib.Core.Path.{sym, ◌∙◌}
 use borrow.Author.Tests.{not-true, not-false}
 use Rattle.count.proofs.Checks.{accepted_misformed, accepted_release, accepted_filled, accepted_broken, accepted_right}

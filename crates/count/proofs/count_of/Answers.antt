@@ -1,6 +1,5 @@
 -- `count::count_of` meets its contract: a number that is not in the list is 0.
 -- Assumes nothing.
-use borrow.Author.Rules.{rules}
 use native.Mathlib.Omega.{arith}
 use mathlib.Core.Path.{sym}
 use Rattle.count.proofs.Tallied.{count_at, count_beyond}

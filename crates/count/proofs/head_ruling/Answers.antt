@@ -1,6 +1,5 @@
 -- `count::head_ruling` meets its contract by its definition.
 -- Assumes nothing.
-use borrow.Author.Rules.{rules}
 use mathlib.Core.Path.{◌∙◌}
 use Rattle.count.specs.Rules.{lowest, head_rules}
 use Rattle.count.proofs.Rulings.{lower_kept}

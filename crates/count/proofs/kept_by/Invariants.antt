@@ -1,12 +1,7 @@
 -- `count::kept_by` meets its contract. The invariant: the counts from g on, after what was seen, agree exactly if all do.
 -- Assumes nothing.
-use borrow.Author.Rules.{rules}
-use native.Mathlib.Omega.{arith}
-use mathlib.Core.Path.{◌≡◌, sym, ◌∙◌}
 use Prim.Native.Nat.{◌-◌, suc}
-use borrow.Author.Tests.{eq-eqb, ne_eqb}
-use Rattle.count.specs.Rules.{keeps}
-use Rattle.count.proofs.Sets.{Seen, ends_seen, seen_start, seen_differs, seen_more, seen_end}
+use Rattle.count.proofs.Sets.{Seen}
 use Rattle.count.proofs.kept_by.Given as goal
 
 abbrev pub invariant-loop-g : goal.invariant-loop-g

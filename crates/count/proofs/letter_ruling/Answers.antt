@@ -1,6 +1,5 @@
 -- `count::letter_ruling` meets its contract by its definition.
 -- Assumes nothing.
-use borrow.Author.Rules.{rules}
 use mathlib.Core.Path.{◌∙◌}
 use Rattle.count.specs.Rules.{lowest, letter_rules}
 use Rattle.count.proofs.Rulings.{lower_kept}

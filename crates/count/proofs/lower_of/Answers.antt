@@ -1,6 +1,5 @@
 -- `count::lower_of` meets its contract by cases.
 -- Assumes nothing.
-use borrow.Author.Rules.{rules}
 use mathlib.Core.Path.{sym}
 use Rattle.count.proofs.Rulings.{lower_one}
 use Rattle.count.proofs.lower_of.Goals as goal

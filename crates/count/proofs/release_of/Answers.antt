@@ -1,13 +1,10 @@
 -- `count::release_of` meets its contract. The invariant: what the vacant groups from g on give is what all give.
 -- Assumes nothing.
-use borrow.Author.Rules.{rules}
 use native.Mathlib.Omega.{arith}
-use mathlib.Core.Path.{◌≡◌, refl, sym, ◌∙◌}
-use Prim.Native.Nat.{◌≤◌, ◌-◌}
+use mathlib.Core.Path.{refl, sym, ◌∙◌}
 use borrow.Author.Tests.{eq-eqb, ne_eqb}
-use Rattle.base.specs.Every.{up_from}
 use Rattle.count.specs.Tally.{count_of}
-use Rattle.count.specs.Rules.{filled_among, release_of}
+use Rattle.count.specs.Rules.{release_of}
 use Rattle.count.proofs.Vacant.{vacant_passed, vacant_found, vacant_done}
 use Rattle.count.proofs.release_of.Goals as goal
 

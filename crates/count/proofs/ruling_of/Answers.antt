@@ -1,6 +1,5 @@
 -- `count::ruling_of` meets its contract: the lowest of three lists of rules is the lowest of them all.
 -- Assumes nothing.
-use borrow.Author.Rules.{rules}
 use mathlib.Core.Path.{◌∙◌}
 use mathlib.Core.List.{map, ◌++◌}
 use Rattle.count.specs.Rules.{head_rules, letter_rules, set_rule, sets, ruling_of}

@@ -1,6 +1,5 @@
 -- `count::set_at` meets its contract: the number chooses the entry of the table.
 -- Assumes nothing.
-use borrow.Author.Rules.{rules}
 use native.Mathlib.Omega.{arith}
 use mathlib.Core.Path.{sym, ap}
 use mathlib.Core.Bool.{false}

@@ -1,15 +1,10 @@
 -- `count::set_ruling` meets its contract. The invariant: what the sets met so far give, with what the others give, is what all give.
 -- Assumes nothing.
-use borrow.Author.Rules.{rules}
-use native.Mathlib.Omega.{arith}
-use mathlib.Core.Path.{◌≡◌, refl, sym, ◌∙◌}
-use mathlib.Core.Bool.{false}
+use mathlib.Core.Path.{◌≡◌}
 use mathlib.Core.List.{map}
 use Prim.Native.Nat.{◌≤◌, ◌-◌}
 use lib.ListN.{drop}
-use Rattle.count.specs.Rules.{set, lower, lowest, sets, set_rule}
-use Rattle.count.proofs.Rulings.{lowest_more, lowest_done}
-use Rattle.count.proofs.Sets.{last_group}
+use Rattle.count.specs.Rules.{lower, lowest, sets, set_rule}
 use Rattle.count.proofs.set_ruling.Given as goal
 
 abbrev pub invariant-loop-k : goal.invariant-loop-k

@@ -1,13 +1,10 @@
 -- `count::well_formed` meets its contract. The invariant: what is left passes exactly if the whole does.
 -- Assumes nothing.
-use borrow.Author.Rules.{rules}
 use native.Mathlib.Omega.{arith}
-use mathlib.Core.Path.{◌≡◌, refl, sym, ◌∙◌}
-use Prim.Native.Nat.{◌≤◌, ◌-◌}
+use mathlib.Core.Path.{refl, sym, ◌∙◌}
 use borrow.Author.Tests.{eq-eqb, ne_eqb, le-leb, lt-leb}
 use lib.Dec.{leb}
-use lib.ListN.{length, drop}
-use Rattle.base.specs.Every.{every}
+use lib.ListN.{length}
 use Rattle.base.proofs.Every.{every_passed, every_failed, every_done}
 use Rattle.count.specs.Check.{well_formed}
 use Rattle.count.proofs.well_formed.Goals as goal

@@ -1,6 +1,5 @@
 -- `count::with_group` meets its contract: a count of 0 adds nothing, and a group has at most 65,535 lines and 7,864,200 cells, so that the
 -- sums fit. Assumes nothing.
-use borrow.Author.Rules.{rules}
 use native.Mathlib.Omega.{arith}
 use mathlib.Core.Path.{refl}
 use Rattle.form.specs.Table.{form_of}

@@ -1,5 +1,4 @@
 -- The formula, from February's end on and before it.
-use borrow.Author.Rules.{rules}
 use borrow.Author.Tests.{le-leb, lt-leb}
 use native.Mathlib.Omega.{arith}
 use Rattle.date.proofs.Twelfths.{common_days}

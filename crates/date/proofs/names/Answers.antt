@@ -1,6 +1,5 @@
 -- The day number lies before the month, behind it, or so far into it as it is above the days of the months before.
 use native.Mathlib.Omega.{arith}
-use borrow.Author.Rules.{rules}
 use mathlib.Core.Path.{sym, ap, ◌∙◌}
 use Prim.Native.Nat.{◌-◌}
 use Rattle.date.specs.Calendar.{is_leap, days_to}

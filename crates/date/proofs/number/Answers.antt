@@ -1,12 +1,8 @@
 -- What the bytes read as is what those from i on read as behind the digits passed, whose number is not greater than the greatest value.
-use mathlib.Core.Path.{◌≡◌, sym, ◌∙◌}
-use Prim.Native.Nat.{◌-◌, ◌≤◌}
+use mathlib.Core.Path.{sym, ◌∙◌}
 use native.Mathlib.Omega.{arith}
-use borrow.Author.Rules.{rules}
 use borrow.Author.Tests.{lt-leb, le-leb}
-use lib.ListN.{length, drop}
-use Rattle.date.specs.Digits.{read_digits}
-use Rattle.date.proofs.Numbers.{read_from, digit_is, digit_low, digit_high, number_more, number_none, number_over, number_done}
+use Rattle.date.proofs.Numbers.{digit_is, digit_low, digit_high, number_more, number_none, number_over, number_done}
 use Rattle.date.proofs.number.Goals as goal
 
 -- no digit

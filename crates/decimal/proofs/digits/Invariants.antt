@@ -1,12 +1,9 @@
 -- `decimal::digits` meets its contract: k digits are no more than n has as long as `power`, the k-th power of ten, is not above n.
 -- Assumes nothing.
-use mathlib.Core.Path.{◌≡◌, refl}
-use Prim.Native.Nat.{◌+◌, ◌-◌, ◌^◌, ◌<◌, ◌≤◌}
-use native.Mathlib.Omega.{arith}
+use mathlib.Core.Path.{◌≡◌}
+use Prim.Native.Nat.{◌-◌, ◌^◌, ◌≤◌}
 use lib.ListN.{length}
-use borrow.Author.Rules.{rules}
 use Rattle.decimal.specs.Numerals.{numeral}
-use Rattle.decimal.proofs.Lengths.{length_some, length_exact, length_above, length_u64, power_next, power_fits}
 use Rattle.decimal.proofs.digits.Given as goal
 
 abbrev pub invariant-loop-power : goal.invariant-loop-power

@@ -2,7 +2,6 @@
 -- Assumes nothing.
 use mathlib.Core.Path.{◌≡◌, refl}
 use Prim.Native.Nat.{ℕ, zero, suc}
-use borrow.Author.Rules.{rules}
 use Rattle.decimal.specs.Rows.{end_byte}
 use Rattle.decimal.proofs.end_byte.Goals as goal
 

@@ -1,13 +1,8 @@
 -- `decimal::numbers_end` meets its contract. The invariant: the numbers from i on, put from a on, end where the whole row does.
 -- Assumes nothing.
-use borrow.Author.Rules.{rules}
 use native.Mathlib.Omega.{arith}
-use mathlib.Core.Path.{◌≡◌, sym, ◌∙◌}
-use Prim.Native.Nat.{◌-◌, ◌≤◌}
-use lib.ListN.{length, drop}
-use Rattle.decimal.specs.Rows.{row_text}
-use Rattle.decimal.specs.Writing.{end_in}
-use Rattle.decimal.proofs.Rows.{rest, end_empty, end_whole, end_over, end_turn, end_last}
+use mathlib.Core.Path.{sym, ◌∙◌}
+use Rattle.decimal.proofs.Rows.{end_empty, end_whole, end_over, end_turn, end_last}
 use Rattle.decimal.proofs.Writing.{end_done, end_none}
 use Rattle.decimal.proofs.numbers_end.Goals as goal
 

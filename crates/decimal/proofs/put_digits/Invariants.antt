@@ -1,14 +1,11 @@
 -- `decimal::put_digits` meets its contract. The invariant: the columns before i, as they are to be, and those from i on, as they are, are
 -- the whole.
 -- Assumes nothing.
-use mathlib.Core.Path.{◌≡◌, refl, sym, ◌∙◌}
+use mathlib.Core.Path.{◌≡◌}
 use mathlib.Core.List.{◌++◌}
 use Prim.Native.Nat.{◌≤◌}
-use native.Mathlib.Omega.{arith}
-use lib.ListN.{length, drop, length-set}
-use borrow.Author.Rules.{rules}
+use lib.ListN.{length, drop}
 use Rattle.base.specs.Columns.{columns}
-use Rattle.base.proofs.Columns.{columns_whole, columns_turn, columns_done}
 use Rattle.decimal.specs.Numerals.{last_byte, tenth}
 use Rattle.decimal.proofs.put_digits.Given as goal
 

@@ -3,7 +3,6 @@
 use mathlib.Core.Path.{ap}
 use Prim.Native.Nat.{◌+◌}
 use native.Mathlib.Omega.{arith}
-use borrow.Author.Rules.{rules}
 use Rattle.decimal.specs.Numerals.{numeral}
 use Rattle.decimal.proofs.Writing.{over_last}
 use Rattle.decimal.proofs.put_ended.Goals as goal

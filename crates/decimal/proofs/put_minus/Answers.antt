@@ -2,7 +2,6 @@
 -- Assumes nothing.
 use native.Mathlib.Omega.{arith}
 use lib.ListN.{length-set}
-use borrow.Author.Rules.{rules}
 use Rattle.decimal.specs.Numerals.{numeral}
 use Rattle.decimal.proofs.Writing.{over_first, first_length}
 use Rattle.decimal.proofs.put_minus.Goals as goal

@@ -1,13 +1,11 @@
 -- `decimal::put_numbers` meets its contract. The invariant: the numbers from i on, put at a, make the whole row.
 -- Assumes nothing.
-use mathlib.Core.Path.{◌≡◌, refl, sym, ◌∙◌}
-use Prim.Native.Nat.{◌-◌, ◌+◌, ◌≤◌}
-use native.Mathlib.Omega.{arith}
+use mathlib.Core.Path.{◌≡◌}
+use Prim.Native.Nat.{◌-◌, ◌+◌}
 use lib.ListN.{length, drop}
-use borrow.Author.Rules.{rules}
 use Rattle.base.specs.Part.{over}
 use Rattle.decimal.specs.Rows.{row_text}
-use Rattle.decimal.proofs.Rows.{rest, rest_row, rest_length, row_some, put_nil, put_length, put_place, put_turn, put_end}
+use Rattle.decimal.proofs.Rows.{rest}
 use Rattle.decimal.proofs.put_numbers.Given as goal
 
 abbrev pub invariant-loop-i : goal.invariant-loop-i

@@ -1,7 +1,6 @@
 -- `decimal::put_numeral` meets its contract: as many columns as n has digits are its numeral.
 -- Assumes nothing.
 use mathlib.Core.Path.{◌∙◌, ap}
-use borrow.Author.Rules.{rules}
 use Rattle.base.specs.Part.{over}
 use Rattle.base.proofs.Columns.{columns_lent}
 use Rattle.decimal.specs.Numerals.{last_byte, tenth}

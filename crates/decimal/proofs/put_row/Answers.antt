@@ -1,6 +1,5 @@
 -- `decimal::put_row` meets its contract: where the row has an end, its first bytes and its numbers have room.
 -- Assumes nothing.
-use borrow.Author.Rules.{rules}
 use native.Mathlib.Omega.{arith}
 use mathlib.Core.Path.{◌≡◌, refl, sym, ◌∙◌, ap}
 use mathlib.Core.List.{◌++◌}

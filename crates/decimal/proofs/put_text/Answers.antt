@@ -1,11 +1,9 @@
 -- `decimal::put_text` meets its contract. The invariant: so far the first i bytes of the text stand there.
 -- Assumes nothing.
-use mathlib.Core.Path.{◌≡◌, refl, ◌∙◌, ap}
-use Prim.Native.Nat.{◌-◌, ◌≤◌}
+use mathlib.Core.Path.{refl, ◌∙◌, ap}
 use native.Mathlib.Omega.{arith}
-use lib.ListN.{length, take, length-set}
+use lib.ListN.{length-set}
 use lib.Seq.{take_all}
-use borrow.Author.Rules.{rules}
 use Rattle.base.specs.Part.{over}
 use Rattle.base.proofs.Part.{over_none}
 use Rattle.decimal.proofs.Writing.{copy_turn}

@@ -1,6 +1,5 @@
 -- `decimal::row_end` meets its contract: the row ends where its numbers do, behind its first bytes.
 -- Assumes nothing.
-use borrow.Author.Rules.{rules}
 use native.Mathlib.Omega.{arith}
 use mathlib.Core.Path.{refl, sym, ◌∙◌}
 use Prim.Native.Nat.{◌+◌, ◌≤◌}

@@ -2,7 +2,6 @@
 -- Assumes nothing.
 use Prim.Native.Nat.{◌-◌, ◌^◌}
 use native.Mathlib.Omega.{arith}
-use borrow.Author.Rules.{rules}
 use Rattle.entry.proofs.Signed.{cell_low, minus_fits, below_fits, cell_high}
 use Rattle.entry.proofs.cell_of.Goals as goal
 

@@ -2,7 +2,6 @@
 -- Assumes nothing.
 use borrow.Author.Tests.{lt-ltb, le-ltb, eq-eqb, ne_eqb}
 use Rattle.entry.proofs.Reading.{field_by_lem}
-use borrow.Author.Rules.{rules}
 use Rattle.entry.proofs.field_at.Goals as goal
 
 pub returns-then-left-lt4 : goal.returns-then-left-lt4

@@ -1,11 +1,7 @@
 -- `entry::number` meets its contract. The invariant: what the rest makes of what was read is what all of it makes.
 -- Assumes nothing.
-use mathlib.Core.Path.{◌≡◌, refl, sym, ◌∙◌}
-use Prim.Native.Nat.{◌-◌, ◌^◌, ◌<◌, ◌≤◌}
-use lib.ListN.{length, drop}
+use mathlib.Core.Path.{refl, sym, ◌∙◌}
 use native.Mathlib.Omega.{arith}
-use borrow.Author.Rules.{rules}
-use Rattle.entry.specs.Bytes.{value_from}
 use Rattle.entry.proofs.Numbers.{value_more, value_done, value_room, value_grows}
 use Rattle.entry.proofs.number.Goals as goal
 

@@ -1,12 +1,9 @@
 -- `entry::number` meets its contract. The invariant: what the rest makes of what was read is what all of it makes.
 -- Assumes nothing.
-use mathlib.Core.Path.{◌≡◌, refl, sym, ◌∙◌}
+use mathlib.Core.Path.{◌≡◌}
 use Prim.Native.Nat.{◌-◌, ◌^◌, ◌<◌, ◌≤◌}
 use lib.ListN.{length, drop}
-use native.Mathlib.Omega.{arith}
-use borrow.Author.Rules.{rules}
 use Rattle.entry.specs.Bytes.{value_from}
-use Rattle.entry.proofs.Numbers.{value_more, value_done, value_room, value_grows}
 use Rattle.entry.proofs.number.Given as goal
 
 abbrev pub invariant-loop-i : goal.invariant-loop-i

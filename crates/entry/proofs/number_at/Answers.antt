@@ -1,7 +1,6 @@
 -- `entry::number_at` meets its contract.
 -- Assumes nothing.
 use native.Mathlib.Nat.{add-sub_cancel_left}
-use borrow.Author.Rules.{rules}
 use Rattle.entry.proofs.number_at.Goals as goal
 
 pub returns : goal.returns

@@ -1,12 +1,9 @@
 -- `entry::put_number` meets its contract. The invariant: the bytes still to write, and behind them those written.
 -- Assumes nothing.
-use mathlib.Core.Path.{◌≡◌, refl, sym, ◌∙◌}
-use mathlib.Core.List.{◌++◌}
-use Prim.Native.Nat.{◌≤◌}
-use lib.ListN.{length, drop, length-set}
+use mathlib.Core.Path.{refl, sym, ◌∙◌}
+use lib.ListN.{length-set}
 use native.Mathlib.Omega.{arith}
 use borrow.Author.Rules.{rules}
-use Rattle.entry.specs.Bytes.{number_bytes}
 use Rattle.entry.proofs.Numbers.{bytes_more, bytes_whole, bytes_done}
 use Rattle.entry.proofs.put_number.Goals as goal
 

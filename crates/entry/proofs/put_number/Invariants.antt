@@ -1,13 +1,10 @@
 -- `entry::put_number` meets its contract. The invariant: the bytes still to write, and behind them those written.
 -- Assumes nothing.
-use mathlib.Core.Path.{◌≡◌, refl, sym, ◌∙◌}
+use mathlib.Core.Path.{◌≡◌}
 use mathlib.Core.List.{◌++◌}
 use Prim.Native.Nat.{◌≤◌}
-use lib.ListN.{length, drop, length-set}
-use native.Mathlib.Omega.{arith}
-use borrow.Author.Rules.{rules}
+use lib.ListN.{length, drop}
 use Rattle.entry.specs.Bytes.{number_bytes}
-use Rattle.entry.proofs.Numbers.{bytes_more, bytes_whole, bytes_done}
 use Rattle.entry.proofs.put_number.Given as goal
 
 abbrev pub invariant-loop-i : goal.invariant-loop-i

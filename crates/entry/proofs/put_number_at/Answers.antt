@@ -1,7 +1,6 @@
 -- `entry::put_number_at` meets its contract.
 -- Assumes nothing.
 use Rattle.entry.proofs.Numbers.{bytes_lent}
-use borrow.Author.Rules.{rules}
 use Rattle.entry.proofs.put_number_at.Goals as goal
 
 pub returns : goal.returns

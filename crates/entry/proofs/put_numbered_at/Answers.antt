@@ -5,7 +5,6 @@ use native.Mathlib.Omega.{arith}
 use Rattle.base.proofs.Part.{Put, put_before}
 use Rattle.entry.specs.Bytes.{number_bytes}
 use Rattle.entry.proofs.Numbers.{length_bytes}
-use borrow.Author.Rules.{rules}
 use Rattle.entry.proofs.put_numbered_at.Goals as goal
 
 pub returns : goal.returns

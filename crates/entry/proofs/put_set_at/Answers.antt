@@ -11,7 +11,6 @@ use Rattle.entry.specs.Bytes.{number_bytes, bits_of}
 use Rattle.entry.specs.Field.{entry_text}
 use Rattle.entry.proofs.Numbers.{length_bytes}
 use Rattle.entry.proofs.Codec.{set_length}
-use borrow.Author.Rules.{rules}
 use Rattle.entry.proofs.put_set_at.Goals as goal
 
 pub returns : goal.returns

@@ -9,7 +9,6 @@ use mir.Val.{of_z, to_z}
 use borrow.Author.Rules.{sfits_of}
 use Rattle.entry.specs.Bytes.{value_from, cell_of}
 use Rattle.entry.proofs.Reading.{set_by_lem}
-use borrow.Author.Rules.{rules}
 use Rattle.entry.proofs.set_at.Goals as goal
 
 pub returns : goal.returns

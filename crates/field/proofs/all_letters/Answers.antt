@@ -1,10 +1,8 @@
 -- `field::all_letters` meets its contract. The invariant: the cells from i on pass the test where all of them do.
-use borrow.Author.Rules.{rules, sfits_of}
+use borrow.Author.Rules.{sfits_of}
 use native.Mathlib.Omega.{arith}
-use mathlib.Core.Path.{◌≡◌, sym, ap, ◌∙◌}
-use Prim.Native.Nat.{◌≤◌, ◌-◌}
-use lib.ListN.{length, drop, get_or}
-use Rattle.base.specs.Every.{every}
+use mathlib.Core.Path.{sym, ap, ◌∙◌}
+use lib.ListN.{get_or}
 use Rattle.base.proofs.Every.{every_passed, every_failed, every_done}
 use Rattle.field.specs.Write.{is_letter}
 use lib.IntN.{pos}

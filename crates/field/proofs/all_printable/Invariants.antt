@@ -1,12 +1,9 @@
 -- `field::all_printable` meets its contract. The invariant: the bytes from i on pass the test where all of them do.
-use borrow.Author.Rules.{rules}
-use native.Mathlib.Omega.{arith}
-use mathlib.Core.Path.{◌≡◌, sym, ◌∙◌}
+use mathlib.Core.Path.{◌≡◌}
 use Prim.Native.Nat.{◌≤◌, ◌-◌}
 use lib.ListN.{length, drop}
 use Rattle.base.specs.Ascii.{printable}
 use Rattle.base.specs.Every.{every}
-use Rattle.base.proofs.Every.{every_passed, every_failed, every_done}
 use Rattle.field.proofs.all_printable.Given as goal
 
 abbrev pub invariant-loop-i : goal.invariant-loop-i

@@ -1,12 +1,10 @@
 -- `field::before_units` meets its contract: the second column chooses the case.
 -- Assumes nothing.
-use borrow.Author.Rules.{rules}
 use native.Mathlib.Omega.{arith}
-use mathlib.Core.Path.{sym, ◌∙◌, ap, subst}
-use Rattle.number.specs.declared.Byte.TheVariants.{Digit}
+use mathlib.Core.Path.{sym, ◌∙◌, subst}
 use Rattle.number.specs.Scan.{class_of, SmallDigit}
 use Rattle.number.proofs.Scanning.{class_small}
-use Rattle.field.proofs.Columns.{columns_in, minus_within}
+use Rattle.field.proofs.Columns.{minus_within}
 use Rattle.field.proofs.before_units.Goals as goal
 
 pub more_digits-requires : goal.more_digits-requires

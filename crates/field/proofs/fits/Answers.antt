@@ -1,5 +1,4 @@
 -- `field::fits` meets its contract: the kind's cells are those of the form's row.
-use borrow.Author.Rules.{rules}
 use mathlib.Core.Path.{◌≡◌, sym, ap, ◌∙◌}
 use borrow.Author.Tests.{eq-eqb, ne_eqb}
 use lib.ListN.{length}

@@ -1,5 +1,4 @@
 -- `field::is_letter` meets its contract: the sign decides, then the size.
-use borrow.Author.Rules.{rules}
 use mathlib.Core.Path.{sym, ap, ◌∙◌}
 use borrow.Author.Tests.{le-leb, lt-leb}
 use mir.Syntax.{w64}

@@ -1,5 +1,4 @@
 -- `field::letter` meets its contract: the size of a letter fits a byte.
-use borrow.Author.Rules.{rules}
 use mathlib.Core.Path.{ap, ◌∙◌}
 use native.Mathlib.Omega.{arith}
 use mir.Syntax.{w64}

@@ -1,6 +1,5 @@
 -- `field::more_digits` meets its contract: the first column chooses the case, and three digits fit a u16.
 -- Assumes nothing.
-use borrow.Author.Rules.{rules}
 use native.Mathlib.Omega.{arith}
 use mathlib.Core.Path.{sym, ap, subst}
 use Rattle.number.specs.declared.Byte.TheVariants.{Digit}

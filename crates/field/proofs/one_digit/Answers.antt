@@ -1,6 +1,5 @@
 -- `field::one_digit` meets its contract: the first column chooses the case.
 -- Assumes nothing.
-use borrow.Author.Rules.{rules}
 use mathlib.Core.Path.{sym, ap}
 use Rattle.number.specs.declared.Byte.TheVariants.{Blank, Digit}
 use Rattle.field.proofs.Columns.{columns_in}

@@ -1,6 +1,5 @@
 -- `field::put` meets its contract: cells that fit are as many as the form's kind has, and in its range.
 -- Assumes nothing.
-use borrow.Author.Rules.{rules}
 use native.Mathlib.Omega.{arith}
 use mathlib.Core.Path.{sym, ap, ◌∙◌}
 use Rattle.base.specs.Part.{over}

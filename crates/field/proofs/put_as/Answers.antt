@@ -1,5 +1,5 @@
 -- `field::put_as` meets its contract: the variant chooses the writer.
-use borrow.Author.Rules.{rules, sfits_of}
+use borrow.Author.Rules.{sfits_of}
 use mathlib.Core.Path.{ap, subst}
 use native.Mathlib.Omega.{arith}
 use mir.Syntax.{w64}

@@ -1,10 +1,10 @@
 -- `field::put_letters` meets its contract. The invariant: the letters of the first i cells stand there.
-use borrow.Author.Rules.{rules, sfits_of}
+use borrow.Author.Rules.{sfits_of}
 use native.Mathlib.Omega.{arith}
 use mathlib.Core.Path.{◌≡◌, refl, sym, ap, ◌∙◌}
 use mathlib.Core.List.{map}
-use Prim.Native.Nat.{◌+◌, ◌≤◌, ◌-◌}
-use lib.ListN.{length, take, set, get_or, length-map, length-set, get_or-map}
+use Prim.Native.Nat.{◌+◌}
+use lib.ListN.{length, set, get_or, length-map, length-set, get_or-map}
 use Rattle.base.specs.Part.{over}
 use Rattle.base.specs.Sign.{size_of}
 use Rattle.base.proofs.Part.{over_none, over_turn}

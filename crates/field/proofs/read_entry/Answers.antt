@@ -1,7 +1,5 @@
 -- `field::read_entry` meets its contract: another length is misformed, and the last of three columns chooses the case.
 -- Assumes nothing.
-use native.Mathlib.Omega.{arith}
-use borrow.Author.Rules.{rules}
 use mathlib.Core.Path.{sym, ◌∙◌, subst}
 use borrow.Author.Tests.{ne_eqb}
 use lib.ListN.{get_or}

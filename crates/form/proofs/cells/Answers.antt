@@ -3,7 +3,6 @@
 use mathlib.Core.Path.{◌≡◌}
 use Prim.Native.Nat.{◌*◌}
 use native.Mathlib.Omega.{arith}
-use borrow.Author.Rules.{rules}
 use Rattle.form.specs.Count.{cells_of}
 use Rattle.form.proofs.Counted.{cells_few}
 use Rattle.form.proofs.cells.Goals as goal

@@ -1,6 +1,5 @@
 -- `form::elements` meets its contract: group 40's count by the rules, any other as it stands.
 -- Assumes nothing.
-use borrow.Author.Rules.{rules}
 use borrow.Author.Tests.{not-true, not-false}
 use mathlib.Core.Path.{sym, ◌∙◌}
 use Rattle.form.specs.Count.{elements_of}

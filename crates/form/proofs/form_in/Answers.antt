@@ -1,6 +1,5 @@
 -- `form::form_in` meets its contract.
 -- Assumes nothing.
-use borrow.Author.Rules.{rules}
 use native.Mathlib.Omega.{arith}
 use mathlib.Core.Path.{sym, ◌∙◌}
 use Rattle.form.proofs.Table.{has_form}

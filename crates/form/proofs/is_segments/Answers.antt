@@ -1,6 +1,5 @@
 -- `form::is_segments` meets its contract: the variant tells whether group 40 has the form.
 -- Assumes nothing.
-use borrow.Author.Rules.{rules}
 use mathlib.Core.Path.{sym, ap}
 use Rattle.form.specs.Table.{listed_as}
 use Rattle.form.specs.Count.{is_segments}

@@ -1,6 +1,5 @@
 -- `form::lines` meets its contract by its definition.
 -- Assumes nothing.
-use borrow.Author.Rules.{rules}
 use Rattle.form.specs.Count.{lines_of}
 use Rattle.form.proofs.lines.Goals as goal
 

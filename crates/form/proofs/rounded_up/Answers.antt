@@ -4,7 +4,6 @@ use mathlib.Core.Path.{sym, ap, ◌∙◌}
 use Prim.Native.Nat.{◌-◌}
 use native.Mathlib.Nat.{div-le_self}
 use native.Mathlib.Omega.{arith}
-use borrow.Author.Rules.{rules}
 use Rattle.form.specs.Count.{rounded_up}
 use Rattle.form.proofs.Rounding.{rounded_none, rounded_by_zero, quotient}
 use Rattle.form.proofs.rounded_up.Goals as goal

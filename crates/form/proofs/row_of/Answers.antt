@@ -1,6 +1,5 @@
 -- `form::row_of` meets its contract: the variant chooses the entry of the table.
 -- Assumes nothing.
-use borrow.Author.Rules.{rules}
 use mathlib.Core.Path.{sym, ap}
 use Rattle.form.specs.Table.{row_of, listed_as}
 use Rattle.form.proofs.row_of.Goals as goal

@@ -1,6 +1,5 @@
 -- `form::segment_elements` meets its contract.
 -- Assumes nothing.
-use borrow.Author.Rules.{rules}
 use native.Mathlib.Omega.{arith}
 use mathlib.Core.Path.{sym, ◌∙◌, ap}
 use Rattle.form.specs.Count.{segment_elements}

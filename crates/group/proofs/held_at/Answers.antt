@@ -1,20 +1,13 @@
 -- `group::held_at` meets its contract: 12, then what placing answered.
 -- Assumes nothing.
-use borrow.Author.Rules.{rules}
 use native.Mathlib.Omega.{arith}
-use mathlib.Core.Path.{◌≡◌, sym, ◌∙◌, ap, subst}
-use mathlib.Core.List.{[], ◌∷◌}
+use mathlib.Core.Path.{◌≡◌, sym, ◌∙◌, ap}
 use Prim.Native.Nat.{◌-◌, ◌≤◌}
 use lib.ListN.{get_or}
-use types.Run.{OneOf}
-use denote.Enum.Declared.{tag_of}
 use Rattle.form.specs.declared.GroupForm.TheVariants.{Has}
 use Rattle.form.specs.Table.{form_of}
 use Rattle.form.proofs.Table.{form_range}
-use Rattle.place.specs.declared.Placing.{Placing}
-use Rattle.place.specs.contracts.Placing.{the_type}
 use Rattle.group.proofs.Holding.{held_none, held_placed, held_refused}
-use Rattle.base.proofs.Every.{not_first}
 use Rattle.group.proofs.held_at.Goals as goal
 
 pub returns-in_default : goal.returns-in_default

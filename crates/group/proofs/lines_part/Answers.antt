@@ -1,6 +1,5 @@
 -- `group::lines_part` meets its contract: the part of the text that the span names.
 -- Assumes nothing.
-use borrow.Author.Rules.{rules}
 use native.Mathlib.Omega.{arith}
 use Rattle.group.proofs.Holding.{span_range, span_part, moved_by}
 use Rattle.group.proofs.lines_part.Goals as goal

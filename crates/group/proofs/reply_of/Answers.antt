@@ -1,6 +1,5 @@
 -- `group::reply_of` meets its contract: the variant chooses the reply.
 -- Assumes nothing.
-use borrow.Author.Rules.{rules}
 use mathlib.Core.Path.{sym, ◌∙◌, ap}
 use Rattle.group.specs.Numbered.{characteristic_reply}
 use Rattle.group.proofs.reply_of.Goals as goal

@@ -1,6 +1,5 @@
 -- `group::told_by` meets its contract by the test.
 -- Assumes nothing.
-use borrow.Author.Rules.{rules}
 use mathlib.Core.Path.{sym}
 use mir.Syntax.{w64}
 use mir.Facts.{to_z-of_z}

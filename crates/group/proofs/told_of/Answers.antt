@@ -1,6 +1,6 @@
 -- `group::told_of` meets its contract: by the answer, and by how many cells there are.
 -- Assumes nothing.
-use borrow.Author.Rules.{rules, sfits_of}
+use borrow.Author.Rules.{sfits_of}
 use mathlib.Core.Path.{refl, sym, ◌∙◌, ap}
 use mir.Syntax.{w64}
 use mir.Facts.{to_z-of_z}

@@ -2,7 +2,6 @@
 -- Assumes nothing.
 use mathlib.Core.Path.{◌≡◌, sym, ◌∙◌}
 use mathlib.Core.Bool.{true}
-use borrow.Author.Rules.{rules}
 use borrow.Author.Tests.{not-true, not-false}
 use Rattle.line.specs.Parts.{lies_within, begins_line}
 use Rattle.line.proofs.Parts.{lies_within_lem, lines_no_part, lines_no_start, lines_few, lines_told}

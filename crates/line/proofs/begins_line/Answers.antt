@@ -1,6 +1,5 @@
 -- `line::begins_line` meets its contract.
 -- Assumes nothing.
-use borrow.Author.Rules.{rules}
 use borrow.Author.Tests.{le-leb, lt-leb, eq-eqb, ne_eqb}
 use Rattle.line.specs.Parts.{begins_line}
 use Rattle.line.proofs.begins_line.Goals as goal

@@ -1,7 +1,6 @@
 -- `line::behind_line` meets its contract: a line end that stands right there, and else what is found behind; where no line feed follows, a line
 -- reaches to the end.
 -- Assumes nothing.
-use borrow.Author.Rules.{rules}
 use native.Mathlib.Omega.{arith}
 use mathlib.Core.Path.{sym, ◌∙◌}
 use Rattle.line.proofs.Places.{reach_beyond, reach_here, reach_next, reach_at, reach_end}

@@ -4,7 +4,6 @@ use mathlib.Core.Path.{◌≡◌, sym}
 use mathlib.Core.Logic.{⊎_elim}
 use Prim.Native.Nat.{◌-◌, ◌≤◌}
 use native.Mathlib.Omega.{arith}
-use borrow.Author.Rules.{rules}
 use borrow.Author.Tests.{eqb-true, eqb-false}
 use lib.ListN.{length, get_or}
 use Rattle.line.proofs.Contents.{content_empty, content_no_feed, content_found, content_alone}

@@ -1,11 +1,7 @@
 -- `line::feeds_in` meets its contract. The invariant: the sum and the line feeds that are left are all of the block's.
 -- Assumes nothing.
-use mathlib.Core.Path.{◌≡◌, ◌∙◌}
-use Prim.Native.Nat.{◌+◌, ◌-◌, ◌≤◌}
+use mathlib.Core.Path.{◌∙◌}
 use native.Mathlib.Omega.{arith}
-use lib.ListN.{length, drop}
-use borrow.Author.Rules.{rules}
-use Rattle.line.specs.Lines.{feeds}
 use Rattle.line.proofs.Feeds.{feeds_turn_feed, feeds_turn_other, feeds_turned}
 use Rattle.line.proofs.feeds_in.Goals as goal
 use Rattle.line.proofs.feeds_in.Goals.{then-block-i-eq10, else-block-i-eq10}

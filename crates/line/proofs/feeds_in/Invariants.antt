@@ -1,13 +1,9 @@
 -- `line::feeds_in` meets its contract. The invariant: the sum and the line feeds that are left are all of the block's.
 -- Assumes nothing.
-use mathlib.Core.Path.{◌≡◌, ◌∙◌}
-use mathlib.Core.Logic.{⊎_elim}
+use mathlib.Core.Path.{◌≡◌}
 use Prim.Native.Nat.{◌+◌, ◌-◌, ◌≤◌}
-use native.Mathlib.Omega.{arith}
 use lib.ListN.{length, drop}
-use borrow.Author.Rules.{rules}
 use Rattle.line.specs.Lines.{feeds}
-use Rattle.line.proofs.Feeds.{feeds_turn_feed, feeds_turn_other, feeds_turned}
 use Rattle.line.proofs.feeds_in.Given as goal
 
 abbrev pub invariant-loop-i : goal.invariant-loop-i

@@ -1,11 +1,7 @@
 -- `line::past_blocks` meets its contract. The invariant: the place behind the lines that are left is, from here on, the one asked for.
 -- Assumes nothing.
-use mathlib.Core.Path.{◌≡◌, refl, ◌∙◌}
-use Prim.Native.Nat.{◌-◌, ◌<◌, ◌≤◌}
+use mathlib.Core.Path.{refl, ◌∙◌}
 use native.Mathlib.Omega.{arith}
-use lib.ListN.{length}
-use borrow.Author.Rules.{rules}
-use Rattle.line.specs.Places.{behind_at}
 use Rattle.line.proofs.Places.{behind_at_passed}
 use Rattle.line.proofs.past_blocks.Goals as goal
 

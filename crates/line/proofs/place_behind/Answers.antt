@@ -1,11 +1,7 @@
 -- `line::place_behind` meets its contract. The invariant: from here on, the place behind the lines that are left is the one asked for.
 -- Assumes nothing.
-use mathlib.Core.Path.{◌≡◌, refl, sym, ◌∙◌}
-use Prim.Native.Nat.{◌-◌, ◌<◌}
+use mathlib.Core.Path.{sym, ◌∙◌}
 use native.Mathlib.Omega.{arith}
-use lib.ListN.{length}
-use borrow.Author.Rules.{rules}
-use Rattle.line.specs.Places.{behind_at}
 use Rattle.line.proofs.Places.{behind_at_none, behind_at_out, behind_at_feed, behind_at_last, behind_at_other}
 use Rattle.line.proofs.place_behind.Goals as goal
 use Rattle.line.proofs.place_behind.Goals.{then-text-i-eq10+else-left-eq1, else-text-i-eq10}

@@ -1,13 +1,9 @@
 -- `line::place_behind` meets its contract. The invariant: from here on, the place behind the lines that are left is the one asked for.
 -- Assumes nothing.
-use mathlib.Core.Path.{◌≡◌, refl, sym, ◌∙◌}
-use mathlib.Core.Logic.{⊎_elim}
+use mathlib.Core.Path.{◌≡◌}
 use Prim.Native.Nat.{◌-◌, ◌<◌}
-use native.Mathlib.Omega.{arith}
 use lib.ListN.{length}
-use borrow.Author.Rules.{rules}
 use Rattle.line.specs.Places.{behind_at}
-use Rattle.line.proofs.Places.{behind_at_none, behind_at_out, behind_at_feed, behind_at_last, behind_at_other}
 use Rattle.line.proofs.place_behind.Given as goal
 
 abbrev pub invariant-loop-i : goal.invariant-loop-i

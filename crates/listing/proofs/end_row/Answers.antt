@@ -1,6 +1,5 @@
 -- `listing::end_row` meets its contract.
 -- Assumes nothing.
-use borrow.Author.Rules.{rules}
 use Rattle.listing.specs.Rows.{end_row}
 use Rattle.listing.proofs.end_row.Goals as goal
 

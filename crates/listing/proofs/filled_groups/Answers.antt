@@ -1,12 +1,8 @@
 -- `listing::filled_groups` meets its contract. The invariant: with those from group g on, so many are all.
 -- Assumes nothing.
-use borrow.Author.Rules.{rules}
 use native.Mathlib.Omega.{arith}
-use mathlib.Core.Path.{◌≡◌, sym, ◌∙◌}
-use mathlib.Core.Logic.{⊎_elim}
-use Prim.Native.Nat.{◌-◌, ◌+◌, ◌≤◌}
-use Rattle.listing.specs.Rows.{filled_groups}
-use Rattle.listing.proofs.Groups.{filled_from, filled_all, filled_more, filled_passed, filled_done}
+use mathlib.Core.Path.{sym, ◌∙◌}
+use Rattle.listing.proofs.Groups.{filled_all, filled_more, filled_passed, filled_done}
 use Rattle.listing.proofs.filled_groups.Goals as goal
 use Rattle.listing.proofs.filled_groups.Goals.{then-count_of-ne0, else-count_of-ne0}
 

@@ -1,12 +1,9 @@
 -- `listing::filled_groups` meets its contract. The invariant: with those from group g on, so many are all.
 -- Assumes nothing.
-use borrow.Author.Rules.{rules}
-use native.Mathlib.Omega.{arith}
-use mathlib.Core.Path.{◌≡◌, sym, ◌∙◌}
-use mathlib.Core.Logic.{⊎_elim}
+use mathlib.Core.Path.{◌≡◌}
 use Prim.Native.Nat.{◌-◌, ◌+◌, ◌≤◌}
 use Rattle.listing.specs.Rows.{filled_groups}
-use Rattle.listing.proofs.Groups.{filled_from, filled_all, filled_more, filled_passed, filled_done}
+use Rattle.listing.proofs.Groups.{filled_from}
 use Rattle.listing.proofs.filled_groups.Given as goal
 
 abbrev pub invariant-loop-g : goal.invariant-loop-g

@@ -1,6 +1,5 @@
 -- `listing::list` meets its contract: where the listing was put says what is answered.
 -- Assumes nothing.
-use borrow.Author.Rules.{rules}
 use Rattle.listing.specs.Listing.{listing}
 use Rattle.listing.proofs.Replies.{put_done, put_none}
 use Rattle.listing.proofs.list.Goals as goal

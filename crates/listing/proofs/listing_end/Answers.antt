@@ -1,19 +1,15 @@
 -- `listing::listing_end` meets its contract. The invariant: the lines from the k-th spot on, put from a on, end where the listing does.
 -- Assumes nothing.
-use borrow.Author.Rules.{rules}
 use native.Mathlib.Omega.{arith}
-use mathlib.Core.Path.{◌≡◌, sym, ◌∙◌, ap}
-use Prim.Native.Nat.{suc, ◌-◌, ◌≤◌}
+use mathlib.Core.Path.{sym, ◌∙◌, ap}
 use borrow.Author.Tests.{not-true, not-false}
 use lib.ListN.{length}
 use Rattle.reply.specs.declared.Reply.{Reply}
 use Rattle.decimal.specs.Writing.{end_in}
-use Rattle.place.specs.Walk.{spot, records_in}
 use Rattle.place.proofs.Walked.{spot_start}
 use Rattle.place.specs.Numbered.{is_placed}
 use Rattle.place.proofs.Counted.{records_bytes}
-use Rattle.listing.specs.Listing.{listing}
-use Rattle.listing.proofs.Lines.{lines_from, lines_all}
+use Rattle.listing.proofs.Lines.{lines_all}
 use Rattle.listing.proofs.Turns.{Met, More, met_more, met_last, end_stops, end_more, end_no_room}
 use Rattle.listing.proofs.listing_end.Goals as goal
 

@@ -1,6 +1,5 @@
 -- `listing::print` meets its contract: the two cases of what is printed.
 -- Assumes nothing.
-use borrow.Author.Rules.{rules}
 use Rattle.listing.proofs.Bound.{printed_long, printed_short}
 use Rattle.listing.proofs.print.Goals as goal
 

@@ -1,6 +1,5 @@
 -- `listing::record_row` meets its contract: each number by the function that gives it.
 -- Assumes nothing.
-use borrow.Author.Rules.{rules}
 use mathlib.Core.Path.{◌∙◌}
 use Rattle.count.proofs.Tallied.{all_lines}
 use Rattle.listing.specs.Rows.{record_row}

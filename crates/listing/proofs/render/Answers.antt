@@ -1,6 +1,5 @@
 -- `listing::render` meets its contract: the listing is put only where it has room.
 -- Assumes nothing.
-use borrow.Author.Rules.{rules}
 use mathlib.Core.Path.{◌≡◌, sym, ◌∙◌}
 use lib.ListN.{length}
 use Rattle.decimal.specs.Writing.{end_in}

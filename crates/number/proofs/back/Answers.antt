@@ -1,5 +1,4 @@
 -- `number::back` meets its contract: at each return the tests that led there choose the case.
-use borrow.Author.Rules.{rules}
 use borrow.Author.Tests.{le-leb, lt-leb}
 use Rattle.number.proofs.back.Goals as goal
 

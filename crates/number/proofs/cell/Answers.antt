@@ -1,7 +1,6 @@
 -- `number::cell` meets its contract: the test says the sign, and what the machine computes on the bits is `of_sign`'s (base's Sign).
 use mathlib.Core.Path.{◌∙◌}
 use mathlib.Core.Bool.{true}
-use borrow.Author.Rules.{rules}
 use mir.Syntax.{w64}
 use mir.Facts.{to_z-of_z, to_z_pos}
 use Rattle.base.proofs.Sign.{fits_sign, minus}

@@ -1,5 +1,4 @@
 -- `number::class` meets its contract: at each return the tests that led there choose the case.
-use borrow.Author.Rules.{rules}
 use borrow.Author.Tests.{lt-ltb, le-ltb, eq-eqb, ne_eqb}
 use Rattle.number.proofs.class.Goals as goal
 

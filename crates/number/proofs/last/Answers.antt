@@ -1,5 +1,4 @@
 -- `number::last` meets its contract: the state chooses the byte.
-use borrow.Author.Rules.{rules}
 use Rattle.number.proofs.last.Goals as goal
 
 pub returns-in-Digits : goal.returns-in-Digits

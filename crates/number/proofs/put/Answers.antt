@@ -2,12 +2,10 @@
 -- asked for, and what is left after them is what was to be left.
 use borrow.Author.Rules.{rules}
 use native.Mathlib.Omega.{arith}
-use mathlib.Core.Path.{◌≡◌, refl, sym, ◌∙◌}
-use mathlib.Core.List.{◌++◌}
-use Prim.Native.Nat.{◌≤◌}
-use lib.ListN.{length, drop, length-set}
+use mathlib.Core.Path.{refl, sym, ◌∙◌}
+use lib.ListN.{length-set}
 use Rattle.base.proofs.Columns.{columns_turn, columns_whole, columns_done, backs_turn, backs_done}
-use Rattle.number.specs.Write.{text_of, rest_of, back_of, last_of}
+use Rattle.number.specs.Write.{back_of, last_of}
 use Rattle.number.proofs.put.Goals as goal
 
 pub loop-i-init : goal.loop-i-init

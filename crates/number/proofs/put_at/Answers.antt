@@ -1,5 +1,4 @@
 -- `number::put_at` meets its contract: the part that was lent comes back with the columns in it.
-use borrow.Author.Rules.{rules}
 use mathlib.Core.Path.{ap, ◌∙◌}
 use Rattle.base.proofs.Columns.{columns_lent}
 use Rattle.base.proofs.Part.{part_length}

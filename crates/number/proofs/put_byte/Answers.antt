@@ -1,5 +1,4 @@
 -- `number::put_byte` meets its contract: one place is overwritten.
-use borrow.Author.Rules.{rules}
 use Rattle.base.proofs.Part.{over_one}
 use Rattle.number.proofs.put_byte.Goals as goal
 

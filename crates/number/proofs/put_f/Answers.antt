@@ -1,6 +1,5 @@
 -- `number::put_f` meets its contract: three writes that meet, and what is left of the number after three digits are its thousands.
 use native.Mathlib.Omega.{arith}
-use borrow.Author.Rules.{rules}
 use mathlib.Core.Path.{◌≡◌, refl, ap, ap₂, ◌∙◌}
 use mathlib.Core.List.{[], ◌∷◌}
 use mathlib.Core.Bool.{Bool, true, false}

@@ -1,5 +1,4 @@
 -- `number::put_i` meets its contract: the columns are those of the number's sign and size.
-use borrow.Author.Rules.{rules}
 use mathlib.Core.Path.{ap, ◌∙◌}
 use mir.Syntax.{w64}
 use mir.Facts.{to_z-of_z}

@@ -1,5 +1,4 @@
 -- `number::within` meets its contract: the sign chooses the bound.
-use borrow.Author.Rules.{rules}
 use mathlib.Core.Path.{◌≡◌, sym, ap, ◌∙◌}
 use mathlib.Core.Bool.{true, false}
 use lib.Dec.{leb}

@@ -1,6 +1,5 @@
 -- `place::as_checked` meets its contract: the variant chooses the answer.
 -- Assumes nothing.
-use borrow.Author.Rules.{rules}
 use mathlib.Core.Path.{sym, ap}
 use Rattle.place.specs.Numbered.{as_checked}
 use Rattle.place.proofs.as_checked.Goals as goal

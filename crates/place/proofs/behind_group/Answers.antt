@@ -1,6 +1,5 @@
 -- `place::behind_group` meets its contract: no lines for a count of 0, and else those of the group's form.
 -- Assumes nothing.
-use borrow.Author.Rules.{rules}
 use mathlib.Core.Path.{sym}
 use Rattle.form.specs.Table.{form_of}
 use Rattle.line.proofs.Places.{behind_at_none}

@@ -1,6 +1,5 @@
 -- `place::place` meets its contract: each answer by what led to it, in the order of the replies.
 -- Assumes nothing.
-use borrow.Author.Rules.{rules}
 use native.Mathlib.Omega.{arith}
 use mathlib.Core.Path.{◌≡◌, refl, sym, ◌∙◌}
 use mathlib.Core.List.{List}

@@ -1,6 +1,5 @@
 -- `place::reply_of` meets its contract: the variant chooses the reply.
 -- Assumes nothing.
-use borrow.Author.Rules.{rules}
 use mathlib.Core.Path.{sym, ◌∙◌, ap}
 use Rattle.place.specs.Numbered.{placing_reply}
 use Rattle.place.proofs.reply_of.Goals as goal

@@ -1,6 +1,5 @@
 -- `place::ruled_at` meets its contract by cases.
 -- Assumes nothing.
-use borrow.Author.Rules.{rules}
 use mathlib.Core.Path.{sym, ap}
 use Rattle.place.specs.Placing.{ruled_at}
 use Rattle.place.proofs.ruled_at.Goals as goal

@@ -1,11 +1,9 @@
 -- `place::store_entries` meets its contract. The invariant: the first k entries are stored, and all give what these and the others give.
 -- Assumes nothing.
-use borrow.Author.Rules.{rules}
 use native.Mathlib.Omega.{arith}
-use mathlib.Core.Path.{◌≡◌, refl, sym, ◌∙◌}
-use Prim.Native.Nat.{◌-◌, ◌≤◌}
-use lib.ListN.{length, length-set}
-use Rattle.place.proofs.Entries.{Storing, storing_none, storing_more, storing_bad, storing_done}
+use mathlib.Core.Path.{refl, sym, ◌∙◌}
+use lib.ListN.{length-set}
+use Rattle.place.proofs.Entries.{storing_none, storing_more, storing_bad, storing_done}
 use Rattle.place.proofs.store_entries.Goals as goal
 
 pub loop-k-init : goal.loop-k-init

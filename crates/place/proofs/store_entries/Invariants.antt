@@ -1,11 +1,9 @@
 -- `place::store_entries` meets its contract. The invariant: the first k entries are stored, and all give what these and the others give.
 -- Assumes nothing.
-use borrow.Author.Rules.{rules}
-use native.Mathlib.Omega.{arith}
-use mathlib.Core.Path.{◌≡◌, refl, sym, ◌∙◌}
+use mathlib.Core.Path.{◌≡◌}
 use Prim.Native.Nat.{◌-◌, ◌≤◌}
-use lib.ListN.{length, length-set}
-use Rattle.place.proofs.Entries.{Storing, storing_none, storing_more, storing_bad, storing_done}
+use lib.ListN.{length}
+use Rattle.place.proofs.Entries.{Storing}
 use Rattle.place.proofs.store_entries.Given as goal
 
 abbrev pub invariant-loop-k : goal.invariant-loop-k

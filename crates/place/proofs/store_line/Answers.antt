@@ -1,8 +1,7 @@
 -- `place::store_line` meets its contract: the content is what stands before the line end.
 -- Assumes nothing.
-use borrow.Author.Rules.{rules}
 use native.Mathlib.Omega.{arith}
-use mathlib.Core.Path.{◌≡◌, refl, sym, ◌∙◌}
+use mathlib.Core.Path.{refl, sym, ◌∙◌}
 use Prim.Native.Nat.{◌-◌, ◌<◌}
 use lib.ListN.{length, length-take}
 use Rattle.line.proofs.Contents.{content_two}

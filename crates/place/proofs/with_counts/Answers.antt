@@ -1,6 +1,5 @@
 -- `place::with_counts` meets its contract by cases.
 -- Assumes nothing.
-use borrow.Author.Rules.{rules}
 use mathlib.Core.Path.{sym, ◌∙◌}
 use Rattle.place.proofs.Steps.{from_release, refuses}
 use Rattle.place.proofs.with_counts.Goals as goal

@@ -1,11 +1,7 @@
 -- `place::with_lines` meets its contract: one group's lines after the other's. The invariant: the first k groups have their places.
 -- Assumes nothing.
-use borrow.Author.Rules.{rules}
-use native.Mathlib.Omega.{arith}
-use mathlib.Core.Path.{◌≡◌, refl, sym, ◌∙◌}
 use Prim.Native.Nat.{◌-◌}
-use Rattle.place.proofs.Spans.{Shared, shared_none, shared_few, shared_more, shared_all, all_begun, all_ended}
-use Rattle.place.proofs.Steps.{refuses}
+use Rattle.place.proofs.Spans.{Shared}
 use Rattle.place.proofs.with_lines.Given as goal
 
 abbrev pub invariant-loop-k : goal.invariant-loop-k

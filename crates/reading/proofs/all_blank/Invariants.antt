@@ -1,13 +1,9 @@
 -- `reading::all_blank` meets its contract. The invariant: the bytes from i on are blanks where all of them are.
 -- Assumes nothing.
-use borrow.Author.Rules.{rules}
-use native.Mathlib.Omega.{arith}
-use mathlib.Core.Path.{◌≡◌, sym, ◌∙◌}
+use mathlib.Core.Path.{◌≡◌}
 use Prim.Native.Nat.{◌≤◌, ◌-◌}
-use borrow.Author.Tests.{eq-eqb, ne_eqb}
 use lib.ListN.{length, drop}
 use Rattle.base.specs.Every.{every}
-use Rattle.base.proofs.Every.{every_passed, every_failed, every_done}
 use Rattle.reading.specs.Blanks.{blank}
 use Rattle.reading.proofs.all_blank.Given as goal
 

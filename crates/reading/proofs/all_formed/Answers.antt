@@ -1,6 +1,5 @@
 -- `reading::all_formed` meets its contract: letters that print; or a run of all columns; or the last field lacks a column.
 -- Assumes nothing.
-use borrow.Author.Rules.{rules}
 use native.Mathlib.Omega.{arith}
 use mathlib.Core.Path.{◌≡◌, sym, ap, ◌∙◌}
 use Prim.Native.Nat.{◌+◌, ◌-◌, ◌*◌, min}

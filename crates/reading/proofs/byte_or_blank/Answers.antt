@@ -1,6 +1,5 @@
 -- `reading::byte_or_blank` meets its contract: behind the last byte there is none.
 -- Assumes nothing.
-use borrow.Author.Rules.{rules}
 use mathlib.Core.Path.{sym}
 use Rattle.reading.proofs.Putting.{get_d_within, get_d_beyond}
 use Rattle.reading.proofs.byte_or_blank.Goals as goal

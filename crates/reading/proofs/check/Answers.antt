@@ -1,6 +1,5 @@
 -- `reading::check` meets its contract: the lines first, and the date only of group 3.
 -- Assumes nothing.
-use borrow.Author.Rules.{rules}
 use mathlib.Core.Path.{◌≡◌, sym, ◌∙◌, ap}
 use mathlib.Core.Bool.{false}
 use Rattle.form.specs.declared.Form.TheVariants.{A1}

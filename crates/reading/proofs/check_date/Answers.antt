@@ -1,6 +1,5 @@
 -- `reading::check_date` meets its contract: the date of clean lines decides.
 -- Assumes nothing.
-use borrow.Author.Rules.{rules}
 use mathlib.Core.Path.{sym, ◌∙◌}
 use mathlib.Core.Bool.{false}
 use Rattle.form.specs.declared.Form.TheVariants.{A1}

@@ -1,6 +1,5 @@
 -- `reading::check_kept` meets its contract: a count of 0 has nothing to check; else lines and date decide.
 -- Assumes nothing.
-use borrow.Author.Rules.{rules}
 use mathlib.Core.Path.{sym, ◌∙◌, ap, subst}
 use Prim.Native.Nat.{◌≤◌}
 use Rattle.count.specs.Tally.{count_of}

@@ -1,20 +1,14 @@
 -- `reading::check_lines` meets its contract. The invariants (proofs/Checking.antt, proofs/Trying.antt): the verdict on the lines that are left is the
 -- verdict on all; the fields of a line so far are formed.
 -- Assumes nothing.
-use borrow.Author.Rules.{rules}
-use native.Mathlib.Nat.{mul-le-mul}
-use native.Mathlib.Omega.{arith}
-use mathlib.Core.Path.{◌≡◌, refl, sym, ◌∙◌, ap}
-use mathlib.Core.Logic.{⊎_elim}
-use Prim.Native.Nat.{◌+◌, ◌-◌, ◌*◌, ◌≤◌}
-use lib.ListN.{length}
+use mathlib.Core.Path.{◌≡◌}
+use Prim.Native.Nat.{◌-◌}
 use Rattle.form.specs.Table.{row_of}
 use Rattle.form.specs.Count.{elements_of}
-use Rattle.form.proofs.Rows.{row_fits}
 use Rattle.reading.specs.Plan.{line_at}
 use Rattle.reply.specs.declared.Checked.TheVariants as C
-use Rattle.reading.proofs.Checking.{Checking, walking_start, checking_start, checking_end, element_small, next_first, columns_small, width_few}
-use Rattle.reading.proofs.Trying.{Trying, OnLine, trying_none, trying_so_many, trying_all, try_small, stops, element_few, trying_next, trying_wrong, tried_range, tried_wrong, tried_next}
+use Rattle.reading.proofs.Checking.{Checking}
+use Rattle.reading.proofs.Trying.{Trying}
 use Rattle.reading.proofs.check_lines.Given as goal
 
 abbrev pub invariant-loop-i : goal.invariant-loop-i

@@ -1,6 +1,5 @@
 -- `reading::date_in` meets its contract: the letters that decide the date are the first bytes of the lines.
 -- Assumes nothing.
-use borrow.Author.Rules.{rules}
 use native.Mathlib.Omega.{arith}
 use mathlib.Core.Path.{◌≡◌, ◌∙◌}
 use Prim.Native.Nat.{min}

@@ -1,6 +1,5 @@
 -- `reading::date_kept` meets its contract: the lines of group 3 first, and if these are clean, their date.
 -- Assumes nothing.
-use borrow.Author.Rules.{rules}
 use mathlib.Core.Path.{◌≡◌, sym, ◌∙◌, ap, subst}
 use mathlib.Core.Bool.{false, false≢true}
 use Prim.Native.Nat.{◌≤◌}

@@ -1,6 +1,5 @@
 -- `reading::fill` meets its contract: whether a line may be short is told by its group.
 -- Assumes nothing.
-use borrow.Author.Rules.{rules}
 use mathlib.Core.Path.{◌∙◌, ap}
 use Rattle.base.specs.Part.{over}
 use Rattle.base.specs.Pieces.{cells_got}

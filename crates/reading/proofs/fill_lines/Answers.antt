@@ -4,7 +4,7 @@
 use borrow.Author.Rules.{rules}
 use native.Mathlib.Omega.{arith}
 use mathlib.Core.Path.{◌≡◌, refl, sym, ◌∙◌, ap}
-use Prim.Native.Nat.{ℕ, ◌+◌, ◌-◌, ◌*◌, ◌<◌, ◌≤◌}
+use Prim.Native.Nat.{ℕ, ◌+◌, ◌*◌, ◌<◌, ◌≤◌}
 use lib.ListN.{length, drop}
 use Rattle.base.specs.Part.{part}
 use Rattle.base.specs.Pieces.{cells_got}
@@ -13,7 +13,7 @@ use Rattle.line.specs.Contents.{content_of}
 use Rattle.line.specs.declared.Content.TheVariants.{Length}
 use Rattle.reading.specs.Read.{read_lines}
 use Rattle.reading.proofs.Checking.{walking_start, columns_small, seek_small}
-use Rattle.reading.proofs.Filling.{Reached, Filling, OnLine, enough_room, filling_start, filling_end, filling_length, filling_next}
+use Rattle.reading.proofs.Filling.{Reached, OnLine, enough_room, filling_start, filling_end, filling_length, filling_next}
 use Rattle.reading.proofs.Filling.{line_inside, has_content, end_behind, fill_inside, to_put, cells_small}
 use Rattle.reading.proofs.fill_lines.Goals as goal
 

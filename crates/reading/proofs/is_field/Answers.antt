@@ -1,6 +1,5 @@
 -- `reading::is_field` meets its contract: letters print with or without the blanks behind them, and other fields are not filled.
 -- Assumes nothing.
-use borrow.Author.Rules.{rules}
 use native.Mathlib.Nat.{one-mul}
 use mathlib.Core.Path.{◌≡◌, sym, ◌∙◌, ap}
 use lib.ListN.{length}

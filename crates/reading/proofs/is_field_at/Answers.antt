@@ -1,6 +1,5 @@
 -- `reading::is_field_at` meets its contract: the bytes that are lent are those of the field that the content has.
 -- Assumes nothing.
-use borrow.Author.Rules.{rules}
 use native.Mathlib.Omega.{arith}
 use mathlib.Core.Path.{◌∙◌, ap}
 use Prim.Native.Nat.{◌+◌}

@@ -1,6 +1,5 @@
 -- `reading::is_right` meets its contract: test by test, and then the bytes behind the fields.
 -- Assumes nothing.
-use borrow.Author.Rules.{rules}
 use mathlib.Core.Path.{sym, ◌∙◌, subst}
 use Prim.Native.Nat.{◌<◌, ◌≤◌}
 use borrow.Author.Tests.{le-leb, lt-leb}

@@ -1,17 +1,12 @@
 -- `reading::put_letters` meets its contract. The invariant: the first i letters stand in the table.
 -- Assumes nothing.
-use borrow.Author.Rules.{rules}
 use native.Mathlib.Omega.{arith}
-use mathlib.Core.Path.{◌≡◌, refl, ◌∙◌, ap}
-use mathlib.Core.List.{map}
-use Prim.Native.Nat.{◌≤◌, ◌-◌}
+use mathlib.Core.Path.{refl, ◌∙◌, ap}
 use borrow.Author.Rules.{sfits_of}
 use mir.Syntax.{w64}
 use mir.Facts.{to_z-of_z}
 use lib.IntN.{pos}
-use lib.ListN.{length, take, length-set}
-use Rattle.base.specs.Part.{over}
-use Rattle.reading.specs.Blanks.{filled_to}
+use lib.ListN.{length-set}
 use Rattle.reading.proofs.Putting.{letters_none, letters_more, letters_all}
 use Rattle.reading.proofs.put_letters.Goals as goal
 

@@ -1,6 +1,5 @@
 -- `reading::put_line` meets its contract: letters with the blanks behind them, or a run of fields, which were found formed.
 -- Assumes nothing.
-use borrow.Author.Rules.{rules}
 use Rattle.reading.proofs.Putting.{short_room, short_put, full_run, full_put}
 use Rattle.reading.proofs.put_line.Goals as goal
 

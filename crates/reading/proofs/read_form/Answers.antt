@@ -1,6 +1,5 @@
 -- `reading::read_form` meets its contract: room, then the check, and the table is filled only where all is clean.
 -- Assumes nothing.
-use borrow.Author.Rules.{rules}
 use mathlib.Core.Path.{sym, ◌∙◌, ap, subst}
 use Prim.Native.Nat.{◌<◌, ◌≤◌}
 use lib.ListN.{length}

@@ -1,6 +1,5 @@
 -- `reading::read_kept` meets its contract: 12, and then by the group's form.
 -- Assumes nothing.
-use borrow.Author.Rules.{rules}
 use mathlib.Core.Path.{sym, ◌∙◌, ap, subst}
 use Prim.Native.Nat.{◌≤◌}
 use Rattle.count.specs.Tally.{count_of}

@@ -1,6 +1,5 @@
 -- `reading::right_content` meets its contract: there is a content, and it is right, or there is none.
 -- Assumes nothing.
-use borrow.Author.Rules.{rules}
 use native.Mathlib.Omega.{arith}
 use mathlib.Core.Path.{sym, ◌∙◌}
 use Rattle.line.proofs.Contents.{content_two}

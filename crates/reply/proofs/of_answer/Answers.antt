@@ -1,6 +1,5 @@
 -- `reply::of_answer` meets its contract: the variant chooses the reply.
 -- Assumes nothing.
-use borrow.Author.Rules.{rules}
 use mathlib.Core.Path.{sym, ◌∙◌, ap}
 use Rattle.reply.specs.Refusals.{answer_reply}
 use Rattle.reply.proofs.of_answer.Goals as goal

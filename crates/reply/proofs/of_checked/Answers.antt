@@ -1,6 +1,5 @@
 -- `reply::of_checked` meets its contract: the variant chooses the reply.
 -- Assumes nothing.
-use borrow.Author.Rules.{rules}
 use mathlib.Core.Path.{sym, ◌∙◌, ap}
 use Rattle.reply.specs.Refusals.{checked_reply}
 use Rattle.reply.proofs.of_checked.Goals as goal

@@ -1,6 +1,5 @@
 -- `rewriting::group_of` meets its contract: the variant chooses the group.
 -- Assumes nothing.
-use borrow.Author.Rules.{rules}
 use mathlib.Core.Path.{sym, ap}
 use Rattle.rewriting.specs.Numbered.{rewriting_group}
 use Rattle.rewriting.proofs.group_of.Goals as goal

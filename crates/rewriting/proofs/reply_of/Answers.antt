@@ -1,6 +1,5 @@
 -- `rewriting::reply_of` meets its contract: the variant chooses the reply.
 -- Assumes nothing.
-use borrow.Author.Rules.{rules}
 use mathlib.Core.Path.{sym, ◌∙◌, ap}
 use Rattle.rewriting.specs.Numbered.{rewriting_reply}
 use Rattle.rewriting.proofs.reply_of.Goals as goal

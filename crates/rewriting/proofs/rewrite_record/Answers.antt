@@ -1,7 +1,6 @@
 -- `rewriting::rewrite_record` meets its contract: what placing answered chooses, and then what reading the placed record gives; each answer, with
 -- what it leaves, by what led to it.
 -- Assumes nothing.
-use borrow.Author.Rules.{rules}
 use native.Mathlib.Omega.{arith}
 use mathlib.Core.Path.{refl, sym, ◌∙◌, ap, subst}
 use Prim.Native.Nat.{◌≤◌}

@@ -1,6 +1,5 @@
 -- `rewriting::write_cells` meets its contract: writing would answer 0, and so its text is put.
 -- Assumes nothing.
-use borrow.Author.Rules.{rules}
 use lib.ListN.{length}
 use Rattle.base.specs.Part.{part}
 use Rattle.reply.specs.declared.Checked.TheVariants.{Right}

@@ -1,10 +1,9 @@
 -- `run::all_between` meets its contract. The invariant: what was found so far and the bytes from i on answer for all of them.
-use borrow.Author.Rules.{rules}
 use native.Mathlib.Omega.{arith}
-use mathlib.Core.Path.{◌≡◌, sym, ap, ◌∙◌}
+use mathlib.Core.Path.{sym, ap, ◌∙◌}
 use mathlib.Core.Bool.{◌&&◌}
-use Prim.Native.Nat.{◌+◌, ◌-◌, ◌≤◌}
-use lib.ListN.{length, drop}
+use Prim.Native.Nat.{◌+◌}
+use lib.ListN.{drop}
 use Rattle.base.specs.Every.{every}
 use Rattle.run.specs.Columns.{between}
 use Rattle.run.proofs.Loops.{gather_more, gather_done}

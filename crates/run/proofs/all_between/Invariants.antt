@@ -1,13 +1,10 @@
 -- `run::all_between` meets its contract. The invariant: what was found so far and the bytes from i on answer for all of them.
-use borrow.Author.Rules.{rules}
-use native.Mathlib.Omega.{arith}
-use mathlib.Core.Path.{◌≡◌, sym, ap, ◌∙◌}
+use mathlib.Core.Path.{◌≡◌}
 use mathlib.Core.Bool.{◌&&◌}
-use Prim.Native.Nat.{◌+◌, ◌-◌, ◌≤◌}
+use Prim.Native.Nat.{◌-◌, ◌≤◌}
 use lib.ListN.{length, drop}
 use Rattle.base.specs.Every.{every}
 use Rattle.run.specs.Columns.{between}
-use Rattle.run.proofs.Loops.{gather_more, gather_done}
 use Rattle.run.proofs.all_between.Given as goal
 
 abbrev pub invariant-loop-i : goal.invariant-loop-i

@@ -1,6 +1,5 @@
 -- `run::columns_in` meets its contract: whether a minus is among the columns chooses.
 -- Assumes nothing.
-use borrow.Author.Rules.{rules}
 use mathlib.Core.Path.{sym, ap, ◌∙◌}
 use Rattle.run.specs.Columns.{columns_in}
 use Rattle.run.proofs.columns_in.Goals as goal

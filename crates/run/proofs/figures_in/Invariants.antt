@@ -1,13 +1,8 @@
 -- `run::figures_in` meets its contract. The invariant: the columns before column i made the number so far, and those from it on make the rest.
 -- Assumes nothing.
-use borrow.Author.Rules.{rules}
-use native.Mathlib.Omega.{arith}
-use mathlib.Core.Path.{refl}
-use Prim.Native.Nat.{ℕ, ◌-◌, ◌%◌, ◌<◌}
-use native.Mathlib.Nat.{mod-lt}
-use lib.Dec.{lit<}
-use lib.ListN.{length, get_or}
-use Rattle.run.proofs.Loops.{Summing, summing_none, summing_small, summing_more, summing_all}
+use Prim.Native.Nat.{◌-◌, ◌%◌}
+use lib.ListN.{length}
+use Rattle.run.proofs.Loops.{Summing}
 use Rattle.run.proofs.figures_in.Given as goal
 
 abbrev pub invariant-loop-i : goal.invariant-loop-i

@@ -1,5 +1,4 @@
 -- `run::fill` meets its contract: the form chooses the cells, which are the form's own (proofs/ByForm.antt).
-use borrow.Author.Rules.{rules}
 use native.Mathlib.Omega.{arith}
 use mathlib.Core.Path.{refl, ◌∙◌}
 use Prim.Native.Nat.{◌-◌}

@@ -1,11 +1,11 @@
 -- `run::fill_bytes` meets its contract. The invariant: the cells of the first i bytes stand there.
-use borrow.Author.Rules.{rules, sfits_of}
+use borrow.Author.Rules.{sfits_of}
 use native.Mathlib.Omega.{arith}
 use mathlib.Core.Path.{◌≡◌, refl, sym, ap, ◌∙◌}
 use mathlib.Core.List.{map}
-use Prim.Native.Nat.{◌+◌, ◌-◌, ◌≤◌}
+use Prim.Native.Nat.{◌+◌, ◌-◌}
 use lib.IntN.{pos}
-use lib.ListN.{length, take, set, length-map, length-set}
+use lib.ListN.{length, set, length-map, length-set}
 use lib.Seq.{take_all}
 use mir.Syntax.{w64}
 use mir.Facts.{to_z-of_z}

@@ -1,17 +1,10 @@
 -- `run::fill_bytes` meets its contract. The invariant: the cells of the first i bytes stand there.
-use borrow.Author.Rules.{rules, sfits_of}
-use native.Mathlib.Omega.{arith}
-use mathlib.Core.Path.{◌≡◌, refl, sym, ap, ◌∙◌}
+use mathlib.Core.Path.{◌≡◌}
 use mathlib.Core.List.{map}
-use Prim.Native.Nat.{◌+◌, ◌-◌, ◌≤◌}
+use Prim.Native.Nat.{◌-◌, ◌≤◌}
 use lib.IntN.{pos}
-use lib.ListN.{length, take, set, length-map, length-set}
-use lib.Seq.{take_all}
-use mir.Syntax.{w64}
-use mir.Facts.{to_z-of_z}
+use lib.ListN.{length, take}
 use Rattle.base.specs.Part.{over}
-use Rattle.base.proofs.Part.{over_none, over_turn}
-use Rattle.base.proofs.Mapped.{get_d_map_within}
 use Rattle.run.proofs.fill_bytes.Given as goal
 
 abbrev pub invariant-loop-i : goal.invariant-loop-i

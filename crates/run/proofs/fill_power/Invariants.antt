@@ -1,12 +1,9 @@
 -- `run::fill_power` meets its contract. The invariant: the cells of the fields before field i stand there, two of each.
-use borrow.Author.Rules.{rules}
-use native.Mathlib.Omega.{arith}
-use mathlib.Core.Path.{◌≡◌, refl}
+use mathlib.Core.Path.{◌≡◌}
 use mathlib.Core.List.{◌∷◌, []}
 use Prim.Native.Nat.{◌+◌, ◌*◌, ◌-◌}
-use lib.ListN.{length}
 use Rattle.run.specs.Columns.{power_first, power_second}
-use Rattle.run.proofs.Pieces.{Filled, piece_within, piece_long, filled_none, filled_room, filled_more, filled_all}
+use Rattle.run.proofs.Pieces.{Filled}
 use Rattle.run.proofs.fill_power.Given as goal
 
 abbrev pub invariant-loop-i : goal.invariant-loop-i

@@ -1,9 +1,9 @@
 -- `run::fill_whole` meets its contract. The invariant: the cells of the fields before field i stand there.
-use borrow.Author.Rules.{rules, sfits_of}
+use borrow.Author.Rules.{sfits_of}
 use native.Mathlib.Omega.{arith}
 use mathlib.Core.Path.{refl, ◌∙◌}
 use mathlib.Core.List.{◌∷◌, []}
-use Prim.Native.Nat.{◌+◌, ◌-◌}
+use Prim.Native.Nat.{◌+◌}
 use native.Mathlib.Nat.{mul-one}
 use lib.ListN.{length}
 use mir.Syntax.{w64}
@@ -11,7 +11,7 @@ use mir.Facts.{to_z-of_z}
 use Rattle.base.specs.Part.{part}
 use Rattle.base.proofs.Part.{over_one}
 use Rattle.run.specs.Columns.{whole_cell}
-use Rattle.run.proofs.Pieces.{Filled, piece_within, piece_long, filled_none, filled_more, filled_all}
+use Rattle.run.proofs.Pieces.{piece_within, piece_long, filled_none, filled_more, filled_all}
 use Rattle.run.proofs.fill_whole.Goals as goal
 
 pub loop-i-init : goal.loop-i-init

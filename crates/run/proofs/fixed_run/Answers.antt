@@ -1,12 +1,10 @@
 -- `run::fixed_run` meets its contract. The invariant: the fields before field i have passed.
-use borrow.Author.Rules.{rules}
 use borrow.Author.Tests.{not-true, not-false}
 use native.Mathlib.Omega.{arith}
 use mathlib.Core.Path.{sym, ◌∙◌}
-use Prim.Native.Nat.{◌-◌}
 use lib.ListN.{length}
 use Rattle.run.specs.Columns.{is_fixed}
-use Rattle.run.proofs.Pieces.{Tested, piece_within, piece_long, tested_none, tested_more, tested_failed, tested_all}
+use Rattle.run.proofs.Pieces.{piece_within, piece_long, tested_none, tested_more, tested_failed, tested_all}
 use Rattle.run.proofs.fixed_run.Goals as goal
 
 pub loop-i-init : goal.loop-i-init

@@ -1,5 +1,4 @@
 -- `run::formed` meets its contract: the form chooses the test, which is the form's own (proofs/ByForm.antt).
-use borrow.Author.Rules.{rules}
 use native.Mathlib.Omega.{arith}
 use mathlib.Core.Path.{refl}
 use Rattle.base.specs.Ascii.{printable}

@@ -1,5 +1,4 @@
 -- `run::goes_on` meets its contract: at each return the tests that led there choose the case.
-use borrow.Author.Rules.{rules}
 use borrow.Author.Tests.{eq-eqb, ne_eqb}
 use mathlib.Core.Path.{sym, ◌∙◌}
 use Rattle.run.proofs.goes_on.Goals as goal

@@ -1,11 +1,6 @@
 -- `run::has_minus` meets its contract. The invariant: what was found so far and the bytes from i on answer for all of them.
-use borrow.Author.Rules.{rules}
 use native.Mathlib.Omega.{arith}
-use mathlib.Core.Path.{◌≡◌, sym, ◌∙◌}
-use mathlib.Core.Bool.{◌||◌}
-use Prim.Native.Nat.{◌-◌, ◌≤◌}
-use lib.ListN.{length, drop}
-use Rattle.base.specs.Every.{has}
+use mathlib.Core.Path.{sym, ◌∙◌}
 use Rattle.run.proofs.Loops.{seek_more, seek_done}
 use Rattle.run.proofs.has_minus.Goals as goal
 

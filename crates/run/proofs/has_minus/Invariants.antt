@@ -1,12 +1,9 @@
 -- `run::has_minus` meets its contract. The invariant: what was found so far and the bytes from i on answer for all of them.
-use borrow.Author.Rules.{rules}
-use native.Mathlib.Omega.{arith}
-use mathlib.Core.Path.{◌≡◌, sym, ◌∙◌}
+use mathlib.Core.Path.{◌≡◌}
 use mathlib.Core.Bool.{◌||◌}
 use Prim.Native.Nat.{◌-◌, ◌≤◌}
 use lib.ListN.{length, drop}
 use Rattle.base.specs.Every.{has}
-use Rattle.run.proofs.Loops.{seek_more, seek_done}
 use Rattle.run.proofs.has_minus.Given as goal
 
 abbrev pub invariant-loop-i : goal.invariant-loop-i

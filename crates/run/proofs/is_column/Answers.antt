@@ -1,5 +1,4 @@
 -- `run::is_column` meets its contract: what the call answers.
-use borrow.Author.Rules.{rules}
 use Rattle.run.proofs.is_column.Goals as goal
 
 pub returns : goal.returns

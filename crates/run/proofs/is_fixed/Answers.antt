@@ -1,5 +1,4 @@
 -- `run::is_fixed` meets its contract: at each return the answers that led there choose the case.
-use borrow.Author.Rules.{rules}
 use borrow.Author.Tests.{eq-eqb, ne_eqb}
 use mathlib.Core.Path.{sym, ◌∙◌}
 use Rattle.run.proofs.is_fixed.Goals as goal

@@ -1,5 +1,4 @@
 -- `run::is_leading` meets its contract: what the calls answer, one and then the other.
-use borrow.Author.Rules.{rules}
 use mathlib.Core.Bool.{◌&&◌}
 use Prim.Native.Nat.{◌-◌}
 use lib.ListN.{length}

@@ -1,5 +1,4 @@
 -- `run::is_whole` meets its contract: what the calls answer, one and then the other.
-use borrow.Author.Rules.{rules}
 use Rattle.run.specs.Columns.{pairs, last_column, is_figure}
 use Rattle.run.proofs.Loops.{and_then, and_stop}
 use Rattle.run.proofs.is_whole.Goals as goal

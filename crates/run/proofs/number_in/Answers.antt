@@ -1,10 +1,8 @@
 -- `run::number_in` meets its contract. The invariant: the columns before column i made the number so far, and those from it on make the rest.
 -- Assumes nothing.
-use borrow.Author.Rules.{rules}
 use native.Mathlib.Omega.{arith}
-use Prim.Native.Nat.{◌-◌}
-use lib.ListN.{length, get_or}
-use Rattle.run.proofs.Loops.{Summing, summing_none, summing_small, summing_more, summing_all}
+use lib.ListN.{get_or}
+use Rattle.run.proofs.Loops.{summing_none, summing_small, summing_more, summing_all}
 use Rattle.run.proofs.number_in.Goals as goal
 
 pub overflow_mul-n : goal.overflow_mul-n

@@ -1,10 +1,8 @@
 -- `run::number_in` meets its contract. The invariant: the columns before column i made the number so far, and those from it on make the rest.
 -- Assumes nothing.
-use borrow.Author.Rules.{rules}
-use native.Mathlib.Omega.{arith}
 use Prim.Native.Nat.{◌-◌}
-use lib.ListN.{length, get_or}
-use Rattle.run.proofs.Loops.{Summing, summing_none, summing_small, summing_more, summing_all}
+use lib.ListN.{length}
+use Rattle.run.proofs.Loops.{Summing}
 use Rattle.run.proofs.number_in.Given as goal
 
 abbrev pub invariant-loop-i : goal.invariant-loop-i

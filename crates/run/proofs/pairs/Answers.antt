@@ -1,11 +1,8 @@
 -- `run::pairs` meets its contract. The invariant: the columns from the one before i on answer for all of them.
-use borrow.Author.Rules.{rules}
 use borrow.Author.Tests.{not-true, not-false}
 use native.Mathlib.Omega.{arith}
 use mathlib.Core.Path.{◌≡◌, sym, ◌∙◌}
-use Prim.Native.Nat.{◌+◌, ◌-◌, ◌≤◌}
-use lib.ListN.{length, drop}
-use Rattle.run.specs.Columns.{pairs}
+use Prim.Native.Nat.{◌+◌, ◌-◌}
 use Rattle.run.proofs.Loops.{pairs_passed, pairs_failed, pairs_done}
 use Rattle.run.proofs.pairs.Goals as goal
 

@@ -1,5 +1,5 @@
 -- `run::put_power` meets its contract: two cells, one behind the other.
-use borrow.Author.Rules.{rules, sfits_of}
+use borrow.Author.Rules.{sfits_of}
 use native.Mathlib.Omega.{arith}
 use mathlib.Core.Path.{ap, ap₂, ◌∙◌}
 use mathlib.Core.List.{◌∷◌, []}

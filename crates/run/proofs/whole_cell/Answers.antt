@@ -1,5 +1,5 @@
 -- `run::whole_cell` meets its contract: what the calls answer.
-use borrow.Author.Rules.{rules, sfits_of}
+use borrow.Author.Rules.{sfits_of}
 use native.Mathlib.Omega.{arith}
 use mathlib.Core.Path.{ap, ◌∙◌}
 use mir.Syntax.{w64}

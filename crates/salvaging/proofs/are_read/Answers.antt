@@ -1,6 +1,5 @@
 -- `salvaging::are_read` meets its contract: group by group, up to the first that is not read.
 -- Assumes nothing.
-use borrow.Author.Rules.{rules}
 use Rattle.place.specs.Placing.{Carried, carried}
 use Rattle.salvaging.proofs.Trying.{one_fails, three_fails, four_decides}
 use Rattle.salvaging.proofs.are_read.Goals as goal

@@ -1,11 +1,8 @@
 -- `salvaging::end_from` meets its contract. The invariant: of the places behind the first, none that was passed will do.
 -- Assumes nothing.
-use borrow.Author.Rules.{rules}
 use native.Mathlib.Omega.{arith}
 use mathlib.Core.Path.{sym, ◌∙◌}
-use Prim.Native.Nat.{◌-◌}
-use lib.ListN.{length}
-use Rattle.salvaging.proofs.Seeking.{Seeking, seeking_first, seeking_all, seeking_further, seeking_found, seeking_more}
+use Rattle.salvaging.proofs.Seeking.{seeking_first, seeking_all, seeking_further, seeking_found, seeking_more}
 use Rattle.salvaging.proofs.end_from.Goals as goal
 
 pub loop-at-init : goal.loop-at-init

@@ -1,6 +1,5 @@
 -- `salvaging::is_read` meets its contract: the verdict on the lines that the record names.
 -- Assumes nothing.
-use borrow.Author.Rules.{rules}
 use mathlib.Core.Path.{sym, ◌∙◌}
 use Rattle.place.specs.Placing.{carried}
 use Rattle.reading.specs.Read.{Cells}

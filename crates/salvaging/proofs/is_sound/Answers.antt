@@ -1,6 +1,5 @@
 -- `salvaging::is_sound` meets its contract: what placing answered chooses, and then the three groups of the placed record.
 -- Assumes nothing.
-use borrow.Author.Rules.{rules}
 use mathlib.Core.Path.{◌≡◌, refl, sym, ◌∙◌, subst}
 use Rattle.place.specs.Placing.{carried_by, carried_at}
 use Rattle.place.specs.Parted.{Parted}

@@ -1,6 +1,5 @@
 -- `salvaging::piece_at` meets its contract: what placing answered chooses.
 -- Assumes nothing.
-use borrow.Author.Rules.{rules}
 use native.Mathlib.Omega.{arith}
 use mathlib.Core.Path.{◌≡◌, sym, ◌∙◌, ap}
 use Prim.Native.Nat.{◌-◌}

@@ -1,6 +1,5 @@
 -- `salvaging::reply_of` meets its contract: the variant chooses the reply.
 -- Assumes nothing.
-use borrow.Author.Rules.{rules}
 use mathlib.Core.Path.{sym, ◌∙◌, ap}
 use Rattle.salvaging.specs.Numbered.{stretch_reply}
 use Rattle.salvaging.proofs.reply_of.Goals as goal

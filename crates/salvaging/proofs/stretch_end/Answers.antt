@@ -1,6 +1,5 @@
 -- `salvaging::stretch_end` meets its contract: 2, 1, and else where the stretch ends.
 -- Assumes nothing.
-use borrow.Author.Rules.{rules}
 use native.Mathlib.Omega.{arith}
 use mathlib.Core.Path.{◌∙◌, ap}
 use Rattle.salvaging.specs.declared.Stretch.TheVariants.{Ends}

@@ -1,6 +1,6 @@
 -- `seambeacon::seambeacon_characteristic` meets its contract: what `sao::characteristic` answers, in numbers.
 -- Assumes nothing.
-use borrow.Author.Rules.{rules, sfits_of}
+use borrow.Author.Rules.{sfits_of}
 use mathlib.Core.Path.{◌∙◌, ap}
 use mir.Syntax.{w64}
 use mir.Facts.{to_z-of_z}

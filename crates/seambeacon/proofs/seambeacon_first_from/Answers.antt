@@ -1,6 +1,5 @@
 -- `seambeacon::seambeacon_first_from` meets its contract: what `sao::first_from` answers, in numbers.
 -- Assumes nothing.
-use borrow.Author.Rules.{rules}
 use mathlib.Core.Path.{◌∙◌, ap}
 use Rattle.since.specs.Numbered.{first_reply, place_told, passed_told}
 use Rattle.seambeacon.proofs.Telling.{told_as}

@@ -1,6 +1,5 @@
 -- `seambeacon::seambeacon_group_lines` meets its contract: the reply in numbers, and where the part starts with its length.
 -- Assumes nothing.
-use borrow.Author.Rules.{rules}
 use mathlib.Core.Path.{refl, ◌∙◌, ap}
 use native.Mathlib.Omega.{arith}
 use Rattle.reply.specs.Refusals.{checked_reply}

@@ -1,6 +1,5 @@
 -- `seambeacon::seambeacon_list` meets its contract: what `sao::list` answers, in numbers.
 -- Assumes nothing.
-use borrow.Author.Rules.{rules}
 use mathlib.Core.Path.{◌∙◌, ap}
 use Rattle.reply.specs.Refusals.{answer_reply}
 use Rattle.seambeacon.proofs.Telling.{told_as}

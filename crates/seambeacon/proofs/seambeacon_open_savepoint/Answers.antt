@@ -1,6 +1,5 @@
 -- `seambeacon::seambeacon_open_savepoint` meets its contract: what `sao::open_savepoint` answers, in numbers.
 -- Assumes nothing.
-use borrow.Author.Rules.{rules}
 use mathlib.Core.Path.{◌∙◌, ap}
 use Rattle.journal.specs.Model.{Opens}
 use Rattle.journal.specs.Calls.{used_by, journal_by}

@@ -1,6 +1,5 @@
 -- `seambeacon::seambeacon_place_apart` meets its contract: what `sao::place` answers, in numbers.
 -- Assumes nothing.
-use borrow.Author.Rules.{rules}
 use mathlib.Core.Path.{◌∙◌, ap}
 use Rattle.place.specs.Numbered.{placing_reply}
 use Rattle.seambeacon.proofs.Telling.{told_as}

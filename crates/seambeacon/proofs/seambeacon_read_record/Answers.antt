@@ -1,6 +1,5 @@
 -- `seambeacon::seambeacon_read_record` meets its contract: what `sao::read_record` answers, in numbers.
 -- Assumes nothing.
-use borrow.Author.Rules.{rules}
 use mathlib.Core.Path.{◌∙◌, ap}
 use mathlib.Core.List.{[], ◌∷◌}
 use Rattle.whole.specs.Numbered.{record_reply, group_told}

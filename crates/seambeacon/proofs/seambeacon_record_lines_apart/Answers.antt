@@ -1,6 +1,5 @@
 -- `seambeacon::seambeacon_record_lines_apart` meets its contract: the reply in numbers, and where the part starts with its length.
 -- Assumes nothing.
-use borrow.Author.Rules.{rules}
 use mathlib.Core.Path.{◌≡◌, refl, ◌∙◌, ap}
 use native.Mathlib.Omega.{arith}
 use Prim.Native.Nat.{◌-◌}

@@ -1,6 +1,5 @@
 -- `seambeacon::seambeacon_release_savepoint` meets its contract: what `sao::release_savepoint` answers, in numbers.
 -- Assumes nothing.
-use borrow.Author.Rules.{rules}
 use mathlib.Core.Path.{◌≡◌, subst, ◌∙◌, ap}
 use Rattle.journal.specs.Model.{Releases}
 use Rattle.journal.specs.Calls.{used_by, journal_by}

@@ -1,6 +1,5 @@
 -- `seambeacon::seambeacon_replay` meets its contract: what `sao::replay` answers, in numbers.
 -- Assumes nothing.
-use borrow.Author.Rules.{rules}
 use mathlib.Core.Path.{◌∙◌, ap}
 use Rattle.reply.specs.Refusals.{checked_reply}
 use Rattle.journal.specs.Plays.{replayed_open, replayed_cells}

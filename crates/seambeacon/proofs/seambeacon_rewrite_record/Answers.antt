@@ -1,6 +1,5 @@
 -- `seambeacon::seambeacon_rewrite_record` meets its contract: what `sao::rewrite_record` answers, in numbers.
 -- Assumes nothing.
-use borrow.Author.Rules.{rules}
 use mathlib.Core.Path.{◌∙◌, ap}
 use mathlib.Core.List.{[], ◌∷◌}
 use Rattle.rewriting.specs.Numbered.{rewriting_reply, rewriting_group}

@@ -1,6 +1,5 @@
 -- `seambeacon::seambeacon_stretch_end` meets its contract: what `sao::stretch_end` answers, in numbers.
 -- Assumes nothing.
-use borrow.Author.Rules.{rules}
 use mathlib.Core.Path.{◌∙◌, ap}
 use Rattle.salvaging.specs.Numbered.{stretch_reply}
 use Rattle.seambeacon.proofs.Telling.{told_as}

@@ -1,6 +1,5 @@
 -- `seambeacon::seambeacon_undo_to_savepoint` meets its contract: what `sao::undo_to_savepoint` answers, in numbers.
 -- Assumes nothing.
-use borrow.Author.Rules.{rules}
 use mathlib.Core.Path.{◌≡◌, subst, ◌∙◌, ap}
 use Rattle.journal.specs.Model.{Undoes}
 use Rattle.journal.specs.Calls.{used_by, cells_after, journal_by}

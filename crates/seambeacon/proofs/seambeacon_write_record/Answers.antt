@@ -1,6 +1,5 @@
 -- `seambeacon::seambeacon_write_record` meets its contract: what `sao::write_record` answers, in numbers.
 -- Assumes nothing.
-use borrow.Author.Rules.{rules}
 use mathlib.Core.Path.{◌∙◌, ap}
 use Rattle.reply.specs.Refusals.{answer_reply}
 use Rattle.writing.specs.Writing.{output_by}

@@ -1,6 +1,6 @@
 -- `seambeacon::value_of` meets its contract: the variant chooses the value.
 -- Assumes nothing.
-use borrow.Author.Rules.{rules, sfits_of}
+use borrow.Author.Rules.{rules}
 use mathlib.Core.Path.{sym, ◌∙◌, ap}
 use mir.Syntax.{w64}
 use mir.Facts.{to_z-of_z}

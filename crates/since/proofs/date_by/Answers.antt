@@ -1,6 +1,5 @@
 -- `since::date_by` meets its contract: what the record names for group 3 is a part of the text.
 -- Assumes nothing.
-use borrow.Author.Rules.{rules}
 use lib.Dec.{lit≤}
 use Rattle.place.proofs.Parted.{named}
 use Rattle.since.proofs.date_by.Goals as goal

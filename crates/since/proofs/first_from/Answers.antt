@@ -1,6 +1,5 @@
 -- `since::first_from` meets its contract: what is told of the date that is asked for chooses.
 -- Assumes nothing.
-use borrow.Author.Rules.{rules}
 use mathlib.Core.Path.{sym, ◌∙◌, ap}
 use Rattle.since.specs.Since.{first_by, first_from}
 use Rattle.since.proofs.first_from.Goals as goal

@@ -1,6 +1,5 @@
 -- `since::meets` meets its contract: the date decides, if there is one.
 -- Assumes nothing.
-use borrow.Author.Rules.{rules}
 use mathlib.Core.Path.{sym, ◌∙◌, ap}
 use Rattle.since.specs.Since as Since
 use Rattle.since.proofs.meets.Goals as goal

@@ -1,6 +1,5 @@
 -- `since::passed_of` meets its contract: either variant has the number.
 -- Assumes nothing.
-use borrow.Author.Rules.{rules}
 use mathlib.Core.Path.{sym, ap}
 use Rattle.since.specs.Numbered.{passed_told}
 use Rattle.since.proofs.passed_of.Goals as goal

@@ -1,6 +1,5 @@
 -- `since::reply_of` meets its contract: the variant chooses the reply.
 -- Assumes nothing.
-use borrow.Author.Rules.{rules}
 use mathlib.Core.Path.{sym, ◌∙◌, ap}
 use Rattle.since.specs.Numbered.{first_reply}
 use Rattle.since.proofs.reply_of.Goals as goal

@@ -1,12 +1,9 @@
 -- `since::search` meets its contract. The invariant: the walk stands at the k-th spot, and what is left from there on answers as all of it does.
 -- Assumes nothing.
-use borrow.Author.Rules.{rules}
 use native.Mathlib.Omega.{arith}
 use mathlib.Core.Path.{sym, ◌∙◌}
-use Prim.Native.Nat.{suc, ◌-◌}
-use Rattle.place.specs.Walk.{records_in}
 use Rattle.place.proofs.Counted.{records_bytes}
-use Rattle.since.proofs.Walked.{Walking, walking_first, walking_found, walking_stopped, walking_passed}
+use Rattle.since.proofs.Walked.{walking_first, walking_found, walking_stopped, walking_passed}
 use Rattle.since.proofs.search.Goals as goal
 
 pub loop-why-init : goal.loop-why-init

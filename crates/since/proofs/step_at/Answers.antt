@@ -1,6 +1,5 @@
 -- `since::step_at` meets its contract: what placing answered chooses, and of a record that is placed with 0 its date.
 -- Assumes nothing.
-use borrow.Author.Rules.{rules}
 use mathlib.Core.Path.{◌≡◌, refl, sym, ◌∙◌, ap, subst}
 use lib.ListN.{length}
 use Rattle.place.specs.Parted.{Parted}

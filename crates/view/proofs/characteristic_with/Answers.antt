@@ -1,6 +1,5 @@
 -- `view::characteristic_with` meets its contract: its number, then what group 4 reads as.
 -- Assumes nothing.
-use borrow.Author.Rules.{rules}
 use borrow.Author.Tests.{not-true, not-false}
 use native.Mathlib.Omega.{arith}
 use mathlib.Core.Path.{sym, ◌∙◌}

@@ -1,6 +1,5 @@
 -- `view::part_by` meets its contract: the part of the text that is given.
 -- Assumes nothing.
-use borrow.Author.Rules.{rules}
 use native.Mathlib.Omega.{arith}
 use Prim.Native.Nat.{◌≤◌}
 use lib.ListN.{length}

@@ -1,6 +1,5 @@
 -- `view::read_with` meets its contract: what was found, and then the counts and the part of the text that holds the group's lines.
 -- Assumes nothing.
-use borrow.Author.Rules.{rules}
 use native.Mathlib.Omega.{arith}
 use mathlib.Core.Path.{◌≡◌, sym, ◌∙◌}
 use Prim.Native.Nat.{◌≤◌}

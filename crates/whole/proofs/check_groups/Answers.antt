@@ -1,12 +1,11 @@
 -- `whole::check_groups` meets its contract. The invariant: before group g, the groups from g on decide as all do.
 -- Assumes nothing.
-use borrow.Author.Rules.{rules}
 use native.Mathlib.Omega.{arith}
-use Prim.Native.Nat.{◌-◌, ◌≤◌}
+use Prim.Native.Nat.{◌≤◌}
 use Rattle.place.specs.Placing.{Carried, carried}
 use Rattle.place.specs.Parted.{Parted}
 use Rattle.place.proofs.Parted.{named}
-use Rattle.whole.proofs.Passes.{Checking, checking_first, checking_all, checking_refused, checking_more}
+use Rattle.whole.proofs.Passes.{checking_first, checking_all, checking_refused, checking_more}
 use Rattle.whole.proofs.check_groups.Goals as goal
 
 pub loop-g-init : goal.loop-g-init

@@ -1,12 +1,8 @@
 -- `whole::fill_groups` meets its contract. The invariant: before each group, the cells of the groups from it on are all that is still to be put.
 -- Assumes nothing.
-use borrow.Author.Rules.{rules}
-use native.Mathlib.Omega.{arith}
-use Prim.Native.Nat.{◌-◌, ◌≤◌}
-use Rattle.place.specs.Placing.{Carried, carried}
-use Rattle.place.specs.Parted.{Parted}
-use Rattle.place.proofs.Parted.{named}
-use Rattle.whole.proofs.Passes.{Filling, filling_first, filling_all, filling_clean, filling_room, filling_more}
+use Prim.Native.Nat.{◌-◌}
+use Rattle.place.specs.Placing.{carried}
+use Rattle.whole.proofs.Passes.{Filling}
 use Rattle.whole.proofs.fill_groups.Given as goal
 
 abbrev pub invariant-loop-group : goal.invariant-loop-group

@@ -1,6 +1,5 @@
 -- `whole::group_of` meets its contract: the variant chooses the group.
 -- Assumes nothing.
-use borrow.Author.Rules.{rules}
 use mathlib.Core.Path.{sym, ap}
 use Rattle.whole.specs.Numbered.{group_told}
 use Rattle.whole.proofs.group_of.Goals as goal

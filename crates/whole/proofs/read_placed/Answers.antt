@@ -1,6 +1,5 @@
 -- `whole::read_placed` meets its contract: room, then all groups are checked, and only then the table is filled.
 -- Assumes nothing.
-use borrow.Author.Rules.{rules}
 use native.Mathlib.Omega.{arith}
 use mathlib.Core.Path.{◌≡◌, sym, ◌∙◌}
 use Prim.Native.Nat.{◌≤◌}

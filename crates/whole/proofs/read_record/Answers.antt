@@ -1,6 +1,5 @@
 -- `whole::read_record` meets its contract: what placing answered chooses, and then the placed record is read.
 -- Assumes nothing.
-use borrow.Author.Rules.{rules}
 use mathlib.Core.Path.{◌≡◌, refl, sym, ◌∙◌, ap, subst}
 use lib.ListN.{length}
 use Rattle.place.specs.Numbered.{as_checked}

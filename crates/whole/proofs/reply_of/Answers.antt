@@ -1,6 +1,5 @@
 -- `whole::reply_of` meets its contract: the variant chooses the reply.
 -- Assumes nothing.
-use borrow.Author.Rules.{rules}
 use mathlib.Core.Path.{sym, ◌∙◌, ap}
 use Rattle.whole.specs.Numbered.{record_reply}
 use Rattle.whole.proofs.reply_of.Goals as goal

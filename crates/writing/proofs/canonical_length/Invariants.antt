@@ -1,9 +1,7 @@
 -- `writing::canonical_length` meets its contract. The invariant: the bytes of the groups from g on are still to be added.
 -- Assumes nothing.
-use borrow.Author.Rules.{rules}
-use native.Mathlib.Omega.{arith}
 use Prim.Native.Nat.{◌-◌}
-use Rattle.writing.proofs.Lengths.{Adding, adding_start, adding_end, adding_more}
+use Rattle.writing.proofs.Lengths.{Adding}
 use Rattle.writing.proofs.canonical_length.Given as goal
 
 abbrev pub invariant-loop-g : goal.invariant-loop-g

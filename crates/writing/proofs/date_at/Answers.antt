@@ -1,6 +1,5 @@
 -- `writing::date_at` meets its contract: the letters are copied into 19 bytes.
 -- Assumes nothing.
-use borrow.Author.Rules.{rules}
 use mathlib.Core.Path.{refl, ap, ◌∙◌}
 use lib.ListN.{replicate}
 use Rattle.date.specs.Date.{dated_of}

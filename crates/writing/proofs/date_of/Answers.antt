@@ -1,6 +1,5 @@
 -- `writing::date_of` meets its contract: the letters of group 3 begin behind the cells of groups 1 and 2.
 -- Assumes nothing.
-use borrow.Author.Rules.{rules}
 use mathlib.Core.Path.{ap, ◌∙◌}
 use mathlib.Core.List.{map}
 use Prim.Native.Nat.{◌+◌}

@@ -1,11 +1,10 @@
 -- `writing::elements_fit` meets its contract. The invariant: e elements fit, and all are as the others are.
 -- Assumes nothing.
 use borrow.Author.Rules.{rules}
-use native.Mathlib.Omega.{arith}
 use mathlib.Core.Path.{sym, ap, ◌∙◌}
-use Prim.Native.Nat.{◌+◌, ◌-◌, ◌≤◌}
+use Prim.Native.Nat.{◌+◌, ◌≤◌}
 use lib.ListN.{length}
-use Rattle.writing.proofs.Checking.{Elements, elements_start, elements_end, element_range, elements_more, elements_bad}
+use Rattle.writing.proofs.Checking.{elements_start, elements_end, element_range, elements_more, elements_bad}
 use Rattle.writing.proofs.elements_fit.Goals as goal
 
 pub loop-e-init : goal.loop-e-init

@@ -1,11 +1,7 @@
 -- `writing::elements_fit` meets its contract. The invariant: e elements fit, and all are as the others are.
 -- Assumes nothing.
-use borrow.Author.Rules.{rules}
-use native.Mathlib.Omega.{arith}
-use mathlib.Core.Path.{sym, ap, ◌∙◌}
-use Prim.Native.Nat.{◌+◌, ◌-◌, ◌≤◌}
-use lib.ListN.{length}
-use Rattle.writing.proofs.Checking.{Elements, elements_start, elements_end, element_range, elements_more, elements_bad}
+use Prim.Native.Nat.{◌-◌}
+use Rattle.writing.proofs.Checking.{Elements}
 use Rattle.writing.proofs.elements_fit.Given as goal
 
 abbrev pub invariant-loop-e : goal.invariant-loop-e

@@ -1,6 +1,5 @@
 -- `writing::group_bytes` meets its contract.
 -- Assumes nothing.
-use borrow.Author.Rules.{rules}
 use native.Mathlib.Omega.{arith}
 use mathlib.Core.Path.{ap}
 use Rattle.form.specs.Count

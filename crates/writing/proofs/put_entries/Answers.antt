@@ -1,10 +1,7 @@
 -- `writing::put_entries` meets its contract. The invariant: the entries from i on, put at a, make all of them.
 -- Assumes nothing.
-use borrow.Author.Rules.{rules}
 use native.Mathlib.Omega.{arith}
-use Prim.Native.Nat.{◌-◌}
-use lib.ListN.{length}
-use Rattle.writing.proofs.Putting.{Entries, entries_start, entries_end, entry_room, entries_next}
+use Rattle.writing.proofs.Putting.{entries_start, entries_end, entry_room, entries_next}
 use Rattle.writing.proofs.put_entries.Goals as goal
 
 pub loop-i-init : goal.loop-i-init

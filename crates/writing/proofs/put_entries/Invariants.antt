@@ -1,10 +1,8 @@
 -- `writing::put_entries` meets its contract. The invariant: the entries from i on, put at a, make all of them.
 -- Assumes nothing.
-use borrow.Author.Rules.{rules}
-use native.Mathlib.Omega.{arith}
 use Prim.Native.Nat.{◌-◌}
 use lib.ListN.{length}
-use Rattle.writing.proofs.Putting.{Entries, entries_start, entries_end, entry_room, entries_next}
+use Rattle.writing.proofs.Putting.{Entries}
 use Rattle.writing.proofs.put_entries.Given as goal
 
 abbrev pub invariant-loop-i : goal.invariant-loop-i

@@ -2,13 +2,13 @@
 -- Assumes nothing.
 use borrow.Author.Rules.{rules}
 use native.Mathlib.Omega.{arith}
-use Prim.Native.Nat.{◌+◌, ◌-◌, ◌≤◌}
+use Prim.Native.Nat.{◌+◌, ◌≤◌}
 use lib.Dec.{T}
 use lib.ListN.{length}
 use Rattle.base.specs.Part.{part}
 use Rattle.form.specs.Table.{row_of}
 use Rattle.field.specs.Write.{fits_of}
-use Rattle.writing.proofs.Putting.{Fields, fields_start, fields_end, field_requires, fields_next}
+use Rattle.writing.proofs.Putting.{fields_start, fields_end, field_requires, fields_next}
 use Rattle.writing.proofs.put_fields.Goals as goal
 
 pub loop-i-init : goal.loop-i-init

@@ -1,14 +1,7 @@
 -- `writing::put_fields` meets its contract. The invariant: the fields from i on, put at a, make all of them.
 -- Assumes nothing.
-use borrow.Author.Rules.{rules}
-use native.Mathlib.Omega.{arith}
-use Prim.Native.Nat.{◌+◌, ◌-◌, ◌≤◌}
-use lib.Dec.{T}
-use lib.ListN.{length}
-use Rattle.base.specs.Part.{part}
-use Rattle.form.specs.Table.{row_of}
-use Rattle.field.specs.Write.{fits_of}
-use Rattle.writing.proofs.Putting.{Fields, fields_start, fields_end, field_requires, fields_next}
+use Prim.Native.Nat.{◌-◌}
+use Rattle.writing.proofs.Putting.{Fields}
 use Rattle.writing.proofs.put_fields.Given as goal
 
 abbrev pub invariant-loop-i : goal.invariant-loop-i

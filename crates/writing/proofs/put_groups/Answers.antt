@@ -1,13 +1,12 @@
 -- `writing::put_groups` meets its contract. The invariant: the groups from g on, put at a, make all of them.
 -- Assumes nothing.
-use borrow.Author.Rules.{rules}
 use native.Mathlib.Omega.{arith}
-use Prim.Native.Nat.{◌+◌, ◌-◌, ◌*◌, ◌≤◌}
+use Prim.Native.Nat.{◌+◌, ◌*◌, ◌≤◌}
 use lib.ListN.{length, drop}
 use Rattle.form.specs.Table.{row_of}
 use Rattle.writing.specs.Fitting.{Fitted}
 use Rattle.writing.specs.Text.{many_bytes}
-use Rattle.writing.proofs.Putting.{GroupsPut, groups_put_start, groups_put_end, group_cells_lem, group_requires, groups_put_next}
+use Rattle.writing.proofs.Putting.{groups_put_start, groups_put_end, group_cells_lem, group_requires, groups_put_next}
 use Rattle.writing.proofs.put_groups.Goals as goal
 
 pub loop-g-init : goal.loop-g-init

@@ -1,6 +1,5 @@
 -- `writing::put_index` meets its contract: two lines of 122 bytes.
 -- Assumes nothing.
-use borrow.Author.Rules.{rules}
 use Rattle.writing.proofs.Putting.{index_put}
 use Rattle.writing.proofs.put_index.Goals as goal
 

@@ -1,6 +1,5 @@
 -- `writing::put_index_line` meets its contract: 40 entries of three bytes, and the line's end.
 -- Assumes nothing.
-use borrow.Author.Rules.{rules}
 use native.Mathlib.Omega.{arith}
 use Rattle.writing.proofs.Lengths.{entries_length}
 use Rattle.writing.proofs.Putting.{index_line_put}

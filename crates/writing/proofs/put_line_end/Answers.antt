@@ -1,6 +1,5 @@
 -- `writing::put_line_end` meets its contract.
 -- Assumes nothing.
-use borrow.Author.Rules.{rules}
 use native.Mathlib.Omega.{arith}
 use lib.ListN.{length-set}
 use Rattle.writing.proofs.Putting.{line_end_put}

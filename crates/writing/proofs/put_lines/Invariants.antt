@@ -1,9 +1,7 @@
 -- `writing::put_lines` meets its contract. The invariant: the lines from the j-th on, put at a, make all of them.
 -- Assumes nothing.
-use borrow.Author.Rules.{rules}
-use native.Mathlib.Omega.{arith}
 use Prim.Native.Nat.{◌-◌}
-use Rattle.writing.proofs.Putting.{Lines, lines_start_lem, lines_end, line_requires, lines_next}
+use Rattle.writing.proofs.Putting.{Lines}
 use Rattle.writing.proofs.put_lines.Given as goal
 
 abbrev pub invariant-loop-j : goal.invariant-loop-j

@@ -1,6 +1,5 @@
 -- `writing::put_record` meets its contract: the index, and the groups behind it.
 -- Assumes nothing.
-use borrow.Author.Rules.{rules}
 use native.Mathlib.Omega.{arith}
 use Rattle.writing.proofs.Steps.{all_needed, all_there, index_room, groups_room, index_groups}
 use Rattle.writing.proofs.put_record.Goals as goal

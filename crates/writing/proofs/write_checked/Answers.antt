@@ -1,6 +1,5 @@
 -- `writing::write_checked` meets its contract: 13, 10, and what is left to be asked.
 -- Assumes nothing.
-use borrow.Author.Rules.{rules}
 use mathlib.Core.Path.{sym, ◌∙◌}
 use Rattle.writing.proofs.Steps.{all_needed, fit_bad, date_bad, date_right}
 use Rattle.writing.proofs.write_checked.Goals as goal

@@ -1,6 +1,5 @@
 -- `writing::write_record` meets its contract: the check's answer chooses.
 -- Assumes nothing.
-use borrow.Author.Rules.{rules}
 use mathlib.Core.Path.{refl, sym, ◌∙◌}
 use Rattle.writing.proofs.Steps.{checked_by}
 use Rattle.writing.proofs.write_record.Goals as goal

@@ -1,6 +1,5 @@
 -- `writing::write_right` meets its contract: 11, or the text.
 -- Assumes nothing.
-use borrow.Author.Rules.{rules}
 use native.Mathlib.Omega.{arith}
 use Rattle.writing.proofs.Steps.{right_full, right_done}
 use Rattle.writing.proofs.write_right.Goals as goal

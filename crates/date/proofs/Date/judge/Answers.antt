@@ -1,7 +1,6 @@
 -- `Date::judge` meets its contract: the three name one day, or they do not.
 -- Assumes nothing.
 use mathlib.Core.Path.{sym, ◌∙◌}
-use borrow.Author.Rules.{rules}
 use Rattle.date.proofs.Date.judge.Goals as goal
 
 pub returns-then-names : goal.returns-then-names

@@ -2,7 +2,6 @@
 use mathlib.Core.Path.{◌≡◌, sym, ◌∙◌}
 use mathlib.Core.List.{List}
 use Prim.Native.Nat.{ℕ}
-use borrow.Author.Rules.{rules}
 use lib.ListN.{drop}
 use Rattle.date.specs.declared.Date.{Date}
 use Rattle.date.specs.Date.{year, day_in_year, month, day, hour, minute, second, fields, date_of}

@@ -1,6 +1,5 @@
 -- The text has no such positions, or the field's digits are read from the part that holds them.
 use native.Mathlib.Omega.{arith}
-use borrow.Author.Rules.{rules}
 use Prim.Native.Nat.{◌+◌, ◌-◌}
 use lib.ListN.{length}
 use borrow.Author.Tests.{lt-leb, le-leb}
