@@ -3,19 +3,21 @@
 #![tactic(auto)]
 
 use decimal::Put;
+use std::io;
+use std::io::Read;
 
-fn main() {
-    let asked = words::given(b"list");
+fn main(rt: HostRuntime) -> io::Result<()> {
+    let asked = words::given(&rt, &mut rt.stderr(), b"list")?;
     if !asked.known {
-        return;
+        return Ok(());
     }
     let rules = rules::choose(asked.strict, asked.entries);
-    let mut space = [0u8; 65537];
-    let n = io::read_full(libc::STDIN_FILENO, &mut space);
+    let mut text = Vec::new(rt.alloc());
+    rt.stdin().take(65537).read_to_end(&mut text)?;
     let mut page = [0u8; 8192];
     // R347: what is printed is shorter than 8,192 bytes, so this is never taken
-    let Put::Next(end) = listing::print(rules, &space[0..n], &mut page) else {
-        return;
+    let Put::Next(end) = listing::print(rules, text.as_slice(), &mut page) else {
+        return Ok(());
     };
-    io::write_all(libc::STDOUT_FILENO, &page[0..end]);
+    rt.write_all(&page[0..end])
 }
