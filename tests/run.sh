@@ -112,4 +112,4 @@ MACHINE=other
 tools=$KIT/toolchain
 printf 'word %s\n' "$tools/lib/ld-linux-x86-64.so.2" --library-path "$tools/lib" "$program" 'a b' >"$work/want"
 compared 'on another processor' "$work/want"
-finished 68
+finished 64
