@@ -3,9 +3,12 @@
 // `salvaging::piece_at`'s; here they are only read, asked for and written.
 #![tactic(auto)]
 
-ghost use Rattle.std.specs.Prelude.{◌≡◌, ◌≤◌, length, IfOk};
-ghost use Rattle.salvaging.specs.Pieces.{piece_end};
+ghost use Rattle.std.specs.Prelude.{◌≡◌, [], ◌∷◌, ◌≤◌, length, IfOk, OnOk};
+ghost use Rattle.std.specs.Io.KnownBytes.{Appends};
+ghost use Rattle.decimal.specs.Rows.{row_text};
+ghost use Rattle.salvaging.specs.Pieces.{piece_end, copy_of, report_of};
 ghost use Rattle.salvaging.specs.Printed.{AllPassed};
+ghost use Rattle.salvage.specs.Written.{printed_copy, printed_report};
 
 use decimal::Put;
 use salvaging::Piece;
@@ -13,24 +16,28 @@ use std::io;
 use std::io::{Read, Write};
 
 // R357: the line of a stretch: its place and its length.
-fn print_stretch(standard_error: &mut impl Write, place: usize, long: usize) -> io::Result<()> {
+fn print_stretch<E: Write>(standard_error: &mut E, place: usize, long: usize) -> io::Result<()>
+    ensures { OnOk result (Appends (E.contents standard_error.old) (E.contents standard_error.new) (row_text (place ∷ long ∷ []))) }
+{
     let mut line = [0u8; 42];
-    // two numbers of 20 digits, a space and a line feed have room, so this is never taken
+    // two numbers of 20 digits, a space and a line feed have room
     let Put::Next(end) = decimal::put_row(&mut line, 0, b"", &[place as u64, long as u64]) else {
-        return Ok(());
+        unreachable!();
     };
     standard_error.write_all(&line[0..end])
 }
 
 // Prints a piece of the text, and gives the place where it ends. An error is that of writing.
-fn print_piece(
-    out: &mut impl Write,
-    standard_error: &mut impl Write,
+fn print_piece<W: Write, E: Write>(
+    out: &mut W,
+    standard_error: &mut E,
     text: &[u8],
     piece: Piece,
 ) -> io::Result<usize>
     requires { piece_end piece ≤ length text.now }
-    ensures { IfOk result (λ end. end ≡ piece_end piece) }
+    ensures end { IfOk result (λ end. end ≡ piece_end piece) }
+    ensures copied { OnOk result (Appends (W.contents out.old) (W.contents out.new) (copy_of text.now piece)) }
+    ensures reported { OnOk result (Appends (E.contents standard_error.old) (E.contents standard_error.new) (report_of piece)) }
 {
     match piece {
         Piece::Copied(place, long) => {
@@ -47,13 +54,15 @@ fn print_piece(
 
 // Prints piece after piece from the text's start to its end, and gives the place where it stopped; of a text longer
 // than 65,536 bytes, nothing. An error is that of writing, and nothing is printed behind it.
-fn print_text(
-    out: &mut impl Write,
-    standard_error: &mut impl Write,
+fn print_text<W: Write, E: Write>(
+    out: &mut W,
+    standard_error: &mut E,
     rules: rules::Rules,
     text: &[u8],
 ) -> io::Result<usize>
-    ensures { IfOk result (λ at. AllPassed rules text.now at) }
+    ensures passed { IfOk result (λ at. AllPassed rules text.now at) }
+    ensures copied { OnOk result (Appends (W.contents out.old) (W.contents out.new) (printed_copy rules text.now)) }
+    ensures reported { OnOk result (Appends (E.contents standard_error.old) (E.contents standard_error.new) (printed_report rules text.now)) }
 {
     if 65536 < text.len() {
         return Ok(0);
