@@ -2,17 +2,19 @@
 -- Assumes nothing.
 use mathlib.Core.Path.{◌≡◌, refl, sym, ◌∙◌, ap, subst}
 use mathlib.Core.List.{List, [], ◌∷◌, ◌++◌, flat_map, append_assoc, append-nil}
-use Prim.Native.Nat.{ℕ, ◌<◌, ◌≤◌}
+use Prim.Native.Nat.{ℕ, ◌+◌, ◌-◌, ◌<◌, ◌≤◌}
 use native.Mathlib.Omega.{arith}
 use borrow.Author.Tests.{le-leb, lt-leb}
-use lib.ListN.{length}
+use lib.ListN.{length, take, drop}
 use Rattle.std.specs.declared.option.Option.{Option}
 use Rattle.std.specs.declared.option.Option.TheVariants.{Some, None}
 use Rattle.std.specs.Io.KnownBytes.{Appends}
+use Rattle.base.specs.Part.{over}
+use Rattle.base.proofs.Part.{part_middle}
 use Rattle.rules.specs.declared.Rules.{Rules}
 use Rattle.salvaging.specs.declared.Piece.{Piece}
 use Rattle.salvaging.specs.Pieces.{piece_end, piece_at, pieces_from, pieces, copy_of, report_of}
-use Rattle.salvaging.specs.Printed.{printed_pieces, BehindPieces, start, one_more, AllPassed}
+use Rattle.salvaging.specs.Printed.{printed_pieces, BehindPieces, start, one_more}
 use Rattle.salvaging.proofs.Pieces.{piece_end_lem, pieces_end, pieces_more}
 use Rattle.salvaging.proofs.Printing.{Printing}
 use Rattle.salvage.specs.Written.{printed_copy, printed_report}
@@ -33,6 +35,10 @@ flat_last : {A : Type 0} (f : A → List ℕ) (xs : List A) (x : A) → flat_map
 unfolding flat_map
 flat_last f [] x = append-nil (f x)
 flat_last f (y ∷ ys) x = ap (λ t. f y ++ t) (flat_last f ys x) ∙ sym (append_assoc (f y) (flat_map f ys) (f x))
+
+-- the first bytes of a page into which a text was put
+pub front_over : {end : ℕ} {page : List ℕ} (text old : List ℕ) → (end ≡ 0 + length text) × (end ≤ length old) × (page ≡ over 0 text old) → take (end - 0) page ≡ text
+front_over text old m = rw (m.0, m.2) (part_middle [] text (drop (0 + length text) old))
 
 -- ---- piece by piece
 
