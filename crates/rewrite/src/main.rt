@@ -3,8 +3,9 @@
 // written.
 #![tactic(auto)]
 
-ghost use Rattle.std.specs.Prelude.{◌≡◌, length, IfOk};
-ghost use Rattle.rewriting.specs.Printed.{Stopped};
+ghost use Rattle.std.specs.Prelude.{◌≡◌, length, IfOk, OnOk};
+ghost use Rattle.std.specs.Io.KnownBytes.{Appends};
+ghost use Rattle.rewriting.specs.Printed.{Stopped, printed};
 
 use rewriting::Rewriting;
 use std::io;
@@ -13,8 +14,8 @@ use std::io::{Read, Write};
 // Prints the canonical text of each record from the text's start on, until the first that is not rewritten with 0, and
 // gives the place where it stopped; of a text longer than 65,536 bytes, nothing. The table has a cell for each byte of
 // the page, which is always enough (R347). An error is that of writing, and nothing is printed behind it.
-fn print_text(
-    out: &mut impl Write,
+fn print_text<W: Write>(
+    out: &mut W,
     rules: rules::Rules,
     text: &[u8],
     table: &mut [i64],
@@ -22,7 +23,8 @@ fn print_text(
 ) -> io::Result<usize>
     requires table { length table.old ≡ 8192 }
     requires page { length page.old ≡ 8192 }
-    ensures { IfOk result (λ at. Stopped rules text.now at) }
+    ensures stopped { IfOk result (λ at. Stopped rules text.now at) }
+    ensures written { OnOk result (Appends (W.contents out.old) (W.contents out.new) (printed rules text.now)) }
 {
     if 65536 < text.len() {
         return Ok(0);
