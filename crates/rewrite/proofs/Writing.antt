@@ -14,7 +14,7 @@ use Rattle.rewriting.specs.declared.Rewriting.{Rewriting}
 use Rattle.rewriting.specs.declared.Rewriting.TheVariants.{Done}
 use Rattle.rewriting.specs.Record.{rewriting_of, text_at, buffer_by}
 use Rattle.rewriting.specs.Printed.{program_rewriting, rewritten_from, rewritten, printed, Reached, start, one_more}
-use Rattle.rewriting.proofs.Promises.{done_front, done_further}
+use Rattle.rewriting.proofs.Promises.{done_front}
 use Rattle.rewriting.proofs.Printing.{Printing, rewritten_done, rewritten_stop, rewritten_enough, end_never}
 
 -- ---- bytes that grow
@@ -63,24 +63,32 @@ module _ (ρ : Rules) (s : List ℕ) where
 
     -- what was asked over a table and a page of 8,192
     module _ {cells room : ℕ} (c : cells ≡ 8192) (r : room ≡ 8192) (answer : Rewriting) (a : answer ≡ rewriting_of ρ s at cells room) where
+      asked : answer ≡ program_rewriting ρ s at
+      asked = a ∙ rw (c, r) refl
+
       pub stopped_written : length s ≤ 65536 → ((bytes next : ℕ) → answer ≡ Done bytes next → ⊥) → Appends out out' (printed ρ s)
-      stopped_written few never = all_written few (λ bytes next e. never bytes next (a ∙ rw (c, r) e))
+      stopped_written few never = all_written few (λ bytes next e. never bytes next (asked ∙ e))
 
-      module _ (bytes next : ℕ) (d : answer ≡ Done bytes next) {page page' : List ℕ} (p : page' ≡ buffer_by ρ s at answer page) {out'' : Option (List ℕ)}
-          (k : Appends out' out'' (take (bytes - 0) page')) where
+      module _ (bytes next : ℕ) (d : answer ≡ Done bytes next) where
         e : program_rewriting ρ s at ≡ Done bytes next
-        e = rw (sym c, sym r) (sym a ∙ d)
+        e = sym asked ∙ d
 
-        front : take bytes page' ≡ text_at ρ s at
-        front = rw (p, d) (done_front ρ s at 8192 8192 bytes next e page)
+        -- the page begins with the record's text
+        front : (page page' : List ℕ) → page' ≡ buffer_by ρ s at answer page → take (bytes - 0) page' ≡ text_at ρ s at
+        front page page' p =
+            let z : bytes - 0 ≡ bytes = omega arith in
+            rw (z, p, d) (done_front ρ s at 8192 8192 bytes next e page)
 
-        pub writing_more : Writing ρ s next out out''
-        writing_more =
+        pub writing_more : (page : List ℕ) {page' : List ℕ} → page' ≡ buffer_by ρ s at answer page → {out'' : Option (List ℕ)} → Appends out' out'' (take (bytes - 0) page')
+            → Writing ρ s next out out''
+        writing_more page {page'} p {out''} k =
             let f : rewritten_from ρ (length s) s at ≡ text_at ρ s at ++ rewritten_from ρ (length s) s next =
             rewritten_enough ρ s (length s) (suc (length s)) at (omega arith) (omega arith) ∙ rewritten_done ρ s (length s) at bytes next e in
             record {
               before = w.before ++ text_at ρ s at;
               reached = one_more at bytes next w.before w.reached e;
               whole = append_assoc w.before (text_at ρ s at) (rewritten_from ρ (length s) s next) ∙ ap (λ y. w.before ++ y) (sym f) ∙ w.whole;
-              written = appends_more out out' out'' w.before (text_at ρ s at) w.written (subst (λ t. Appends out' out'' t) front k);
+              written =
+                  appends_more out out' out'' w.before (text_at ρ s at) w.written
+                  (subst (λ t. Appends out' out'' t) (front page page' p) k);
             }

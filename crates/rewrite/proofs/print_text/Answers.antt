@@ -1,6 +1,6 @@
 -- `rewrite::print_text` meets its contract.
 -- Assumes nothing.
-use Rattle.std.proofs.Common.{◌≡◌, ℕ, arith}
+use Rattle.std.proofs.Common.{rules, ◌≡◌, ℕ, arith}
 use Rattle.rewriting.proofs.Printing.{printing_none, printing_ended, printing_stop, printing_room, printing_further}
 use Rattle.rewrite.proofs.Writing.{writing_first, none_written, printing_of, ended_written, stopped_written, writing_more}
 use Rattle.rewrite.proofs.print_text.Goals as goal
@@ -19,20 +19,20 @@ returns-in_default-clause-stopped g c =
     let i = c.loop-at.invariant in
     printing_stop c.args.rules c.args.text.now c.loop-at.at (printing_of c.args.rules c.args.text.now i.2) i.0 i.1 _ c.rewrite_record-answer.ensures.answer
     (omega arith)
-    (λ bytes next e. let z : ◌≡◌ {A = ℕ} 0 1 = cc (e, c.in_default.is) in absurd (omega arith))
+    (λ bytes next e. let z : ◌≡◌ {A = ℕ} 0 1 = cc in absurd (omega arith))
 
 pub returns-in_default-clause-written : goal.returns-in_default-clause-written
 returns-in_default-clause-written g c =
     let i = c.loop-at.invariant in
     stopped_written c.args.rules c.args.text.now i.2 i.0 i.1 _ c.rewrite_record-answer.ensures.answer (omega arith)
-    (λ bytes next e. let z : ◌≡◌ {A = ℕ} 0 1 = cc (e, c.in_default.is) in absurd (omega arith))
+    (λ bytes next e. let z : ◌≡◌ {A = ℕ} 0 1 = cc in absurd (omega arith))
 
 pub slice_bounds-write_all-end : goal.slice_bounds-write_all-end
 slice_bounds-write_all-end g c =
     let i = c.loop-at.invariant in
     let l =
-        printing_room c.args.rules c.args.text.now c.loop-at.at (printing_of c.args.rules c.args.text.now i.2) i.0 i.1 _ c.rewrite_record-answer.ensures.answer
-        _ _ c.in-Done.is
+    printing_room c.args.rules c.args.text.now c.loop-at.at (printing_of c.args.rules c.args.text.now i.2) i.0 i.1 _ c.rewrite_record-answer.ensures.answer
+    _ _ c.in-Done.is
     in
     search rules
 
@@ -40,8 +40,8 @@ pub loop-at-smaller : goal.loop-at-smaller
 loop-at-smaller g c =
     let i = c.loop-at.invariant in
     let l =
-        printing_further c.args.rules c.args.text.now c.loop-at.at (printing_of c.args.rules c.args.text.now i.2) i.0 i.1 _
-        c.rewrite_record-answer.ensures.answer _ _ c.in-Done.is
+    printing_further c.args.rules c.args.text.now c.loop-at.at (printing_of c.args.rules c.args.text.now i.2) i.0 i.1 _
+    c.rewrite_record-answer.ensures.answer _ _ c.in-Done.is
     in
     search rules
 
@@ -50,7 +50,7 @@ loop-at-preserved g c =
     let i = c.loop-at.invariant in (
       search rules,
       search rules,
-      writing_more c.args.rules c.args.text.now i.2 i.0 i.1 _ c.rewrite_record-answer.ensures.answer _ _ c.in-Done.is c.rewrite_record-answer.ensures.output
+      writing_more c.args.rules c.args.text.now i.2 i.0 i.1 _ c.rewrite_record-answer.ensures.answer _ _ c.in-Done.is _ c.rewrite_record-answer.ensures.output
           c.in_ok-write_all.ensures.bytes,
     )
 
