@@ -43,20 +43,16 @@ fn put_count(page: &mut [u8], at: usize, count: u16) -> usize {
 
 fn put_counts(page: &mut [u8], at: usize, counts: &[u16]) -> usize {
     let mut behind = at;
-    let mut i: usize = 0;
-    while i < counts.len() {
-        behind = put_count(page, behind, counts[i]);
-        i += 1;
+    for count in counts {
+        behind = put_count(page, behind, *count);
     }
     behind
 }
 
 fn put_cells(page: &mut [u8], at: usize, cells: &[i64]) -> usize {
     let mut behind = at;
-    let mut i: usize = 0;
-    while i < cells.len() {
-        behind = put_cell(page, behind, cells[i]);
-        i += 1;
+    for cell in cells {
+        behind = put_cell(page, behind, *cell);
     }
     behind
 }
@@ -189,10 +185,8 @@ fn print_groups(
     placed: Record,
     page: &mut [u8],
 ) -> io::Result<()> {
-    let mut g: usize = 1;
-    while g <= 60 {
+    for g in 1..61 {
         print_group(out, rules, text, placed, g, page)?;
-        g += 1;
     }
     Ok(())
 }
@@ -204,10 +198,8 @@ fn print_characteristics(
     placed: Record,
     page: &mut [u8],
 ) -> io::Result<()> {
-    let mut number: usize = 1;
-    while number <= 49 {
+    for number in 1..50 {
         print_characteristic(out, rules, text, placed, number, page)?;
-        number += 1;
     }
     Ok(())
 }
@@ -220,8 +212,7 @@ fn print_records(
     page: &mut [u8],
 ) -> io::Result<()> {
     let mut at: usize = 0;
-    let mut k: usize = 0;
-    while k < 300 {
+    for _ in 0..300 {
         let placed = sao::place(rules, text, at);
         let answer = placed.answer;
         let counts = placed.counts;
@@ -233,7 +224,6 @@ fn print_records(
         print_groups(out, rules, text, placed, page)?;
         print_characteristics(out, rules, text, placed, page)?;
         at = r.next;
-        k += 1;
     }
     Ok(())
 }
