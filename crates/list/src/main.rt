@@ -2,9 +2,25 @@
 // `listing::print`'s; here it is only read, asked for and written.
 #![tactic(auto)]
 
+ghost use Rattle.std.specs.Prelude.{OnOk};
+ghost use Rattle.std.specs.Io.KnownBytes.{Appends};
+ghost use Rattle.listing.specs.Listing.{printed_listing};
+
 use decimal::Put;
 use std::io;
-use std::io::Read;
+use std::io::{Read, Write};
+
+// Prints what the program prints for a text. An error is that of writing.
+fn print_listing<W: Write>(out: &mut W, rules: rules::Rules, text: &[u8]) -> io::Result<()>
+    ensures { OnOk result (Appends (W.contents out.old) (W.contents out.new) (printed_listing rules text.now)) }
+{
+    let mut page = [0u8; 8192];
+    // R347: what is printed is shorter than 8,192 bytes
+    let Put::Next(end) = listing::print(rules, text, &mut page) else {
+        unreachable!();
+    };
+    out.write_all(&page[0..end])
+}
 
 fn main(rt: HostRuntime) -> io::Result<()> {
     let asked = words::given(&rt, &mut rt.stderr(), b"list")?;
@@ -14,10 +30,5 @@ fn main(rt: HostRuntime) -> io::Result<()> {
     let rules = rules::choose(asked.strict, asked.entries);
     let mut text = Vec::new(rt.alloc());
     rt.stdin().take(65537).read_to_end(&mut text)?;
-    let mut page = [0u8; 8192];
-    // R347: what is printed is shorter than 8,192 bytes
-    let Put::Next(end) = listing::print(rules, text.as_slice(), &mut page) else {
-        unreachable!();
-    };
-    rt.write_all(&page[0..end])
+    print_listing(&mut rt.stdout(), rules, text.as_slice())
 }
