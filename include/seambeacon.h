@@ -1,5 +1,5 @@
 /* Seambeacon: places, reads and writes SAO 4.3 records, and keeps a journal of edits.
-   Link target/staticlib/libseambeacon.a (`rt staticlib seambeacon`), x86-64.
+   Link crates/seambeacon/out/libseambeacon.a (`rt lib` in crates/seambeacon), x86-64.
 
    Whatever rules, text, place, record, number, table, output and journal a function is given, it
    ends and returns one of the replies below; nothing has to be checked before a call. R with a

@@ -81,7 +81,7 @@ made() { # NUMBERS CODE: of a made-up function f, so many `ensures` and `require
     counted "made up: $2" [ "$(contracts "$work/made.rt" | cut -d ' ' -f 2-)" = "$1" ]
 }
 
-made 'f 1 0' 'pub fn f(n: usize) -> usize ensures { λ r. ⌜ r ≡ n ⌝ } { n }'
+made 'f 1 0' 'pub fn f(n: usize) -> usize ensures { result ≡ n } { n }'
 made 'f 2 0' 'pub fn f(n: &mut [u8; 2]) ensures answer { a } ensures table { S { b } } { n }'
 made 'f 1 1' 'pub fn f(n: usize) -> usize requires { n } ensures { n } { n }'
 made 'f 1 1' 'pub fn f(n: usize) -> usize
@@ -90,7 +90,7 @@ made 'f 1 1' 'pub fn f(n: usize) -> usize
 {
     n
 }'
-made 'f 1 1' '#[no_mangle] pub extern "C" fn f(
+made 'f 1 1' '#[unsafe(no_mangle)] pub extern "C" fn f(
     n: usize,
 ) -> usize requires
 { n } ensures

@@ -22,12 +22,14 @@ made() { # a project of two crates, one edit and one program, in "$work/made"
     printf '#!/bin/sh\necho "tests/skips.sh: skipped: no such machine"\n' >"$work/made/tests/skips.sh"
     cat >"$work/made/bin/rt" <<'RT'
 #!/bin/sh
-[ "$1" = ci ] || exit 0
-echo called >calls
-echo 'rt: one proved (1 s)'
-echo 'rt: must-fail one/wrong: refused, as it must be (first at proofs/f/Proof.antt:1:1; 1 s)'
-echo "rt: two ran as nobody, and wrote what its file 'stdout' has (0 s)"
-echo 'rt: ok, 2 crates proved, 1 must-fail edits refused'
+echo "rt $*" >>calls
+echo 'rt: one proved'
+echo 'rt: one: trying its must-fail edits (1)'
+echo 'rt: must-fail one/wrong.edit: refused, as it must be: note: src/lib.rt:1:1: it is not proved'
+echo 'rt: two proved'
+echo 'rt: two ran, and wrote what its file stdout has'
+echo "rt: two ran (built by Rattle's own compiler), and wrote what its file stdout has"
+echo 'rt: ok; handles allowed: none; must-fail edits: 1 refused; every proof and must-fail edit was done in this run'
 echo '3 passed, 0 failed'
 RT
     chmod +x "$work/made/bin/rt" "$work/made"/tests/*.sh
@@ -54,15 +56,27 @@ changed() { # FILE SCRIPT
 }
 
 made
-counted 'all is there and right' matches "$(gate)" '^0 17 passed, 0 failed$'
+counted 'all is there and right' matches "$(gate)" '^0 18 passed, 0 failed$'
+counted 'rt is asked for the gate, once, and for nothing else' [ "$(cat "$work/made/calls")" = 'rt ci' ]
+made
+(cd "$work/made" && changed bin/rt 's/every proof.*run/done in this run: 1 of the 2 proofs; the others are kept/')
+counted 'what an earlier run proved is kept' matches "$(gate)" '^0 18 passed, 0 failed$'
+made
+(cd "$work/made" && changed crates.txt 's/^one:/one staticlib:/')
+counted 'a crate is a static library' matches "$(gate)" '^0 18 passed, 0 failed$'
 refused 'a crate is not proved' changed bin/rt 's/^echo .3 passed/echo "2 passed/; s/failed.$/failed"/'
 refused 'an edit is not tried' changed bin/rt '/must-fail one/d'
+refused 'an edit is bad' changed bin/rt 's/: 1 refused/: 0 refused, 1 bad/'
+refused 'an edit is bad, and is counted beside those of the tree' changed bin/rt 's/: 1 refused/: 1 refused, 1 bad/'
+refused 'edits are bad, and some are refused only by a limit' changed bin/rt 's/: 1 refused/: 1 refused, 1 of them only by a limit, 12 bad/'
+refused 'rt does not say that all is well' changed bin/rt '/rt: ok/d'
 refused 'an edit is not refused' changed bin/rt 's/: refused, as it must be/: NOT REFUSED/'
-refused 'a program is not run' changed bin/rt '/ran as nobody/d'
-refused 'rt says nothing' changed bin/rt '/^echo .[r3]/d'
+refused 'a program is not run' changed bin/rt '/two ran, /d'
+refused 'a program is not run as the second compiler builds it' changed bin/rt '/two ran (/d'
+refused 'rt says nothing' changed bin/rt '/^echo ..*[r3]/d'
 refused 'rt says that one failed' changed bin/rt 's/0 failed/1 failed/'
 refused 'rt fails' sh -c 'echo "exit 1" >>bin/rt'
-refused 'the layout is wrong' changed bin/rt 's/|| exit 0/|| exit 1/'
+refused 'the layout is wrong' changed bin/rt '/two ran/d; s/^echo .rt: two proved/echo "rt: two NOT PROVED/; s/^echo .rt: ok.*/echo "rt: FAILED: two"/; s/^echo .3 passed, 0/echo "2 passed, 1/; s/failed.$/failed"/; s/PROVED.$/PROVED"/'
 refused 'a crate is lost from the list' changed crates.txt '/^two/d'
 refused 'a crate is lost from the tree' rm -r crates/two
 refused 'an edit more than was tried' sh -c ': >crates/one/must-fail/more.edit'
@@ -79,4 +93,4 @@ refused 'a test fails' sh -c 'echo "exit 1" >>tests/other.sh'
 refused 'a test is not to be run' chmod -x tests/other.sh
 refused 'a quick test fails' sh -c 'echo "exit 1" >>tests/edits.sh'
 counted 'and nothing was proved before that was said' [ ! -e "$work/made/calls" ]
-finished 25
+finished 33

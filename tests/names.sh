@@ -27,7 +27,7 @@ demands='crates/sao/specs/Demand*.antt crates/sao/specs/Ends.antt crates/sao/spe
 declared() { # FOLDER
     (
         cd "$1" || exit 2
-        find . -name target -prune -o -name .git -prune -o -print | sed -n 's|^\./|path |p'
+        find . -name target -prune -o -name out -prune -o -name .git -prune -o -print | sed -n 's|^\./|path |p'
         for crate in crates/*/; do
             crate=${crate%/}
             echo "crate ${crate#crates/}"
@@ -391,7 +391,7 @@ counted 'a name has one meaning' none "$(twice "$work/declared")"
 standing docs/FORMAT.md >"$work/standing"
 counted 'there are rules' [ "$(wc -l <"$work/standing")" -ge 200 ]
 # shellcheck disable=SC2046
-set -- $(find README.md run .ci crates tests include bindings examples docs -name target -prune -o -name stdout -prune -o -name '*.sao' -prune -o \
+set -- $(find README.md run .ci crates tests include bindings examples docs -name target -prune -o -name out -prune -o -name stdout -prune -o -name '*.sao' -prune -o \
     -path 'tests/vectors/[0-9]*' -prune -o -path tests/vectors/writes.txt -prune -o -type f -print)
 counted 'there are files that may cite them' [ $# -ge 200 ]
 counted 'a rule that is cited stands in FORMAT.md' none "$(unknown "$work/standing" "$@")"

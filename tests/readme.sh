@@ -3,7 +3,7 @@
 # of it, compiled, linked and run, and so is the Rust program where cargo is at hand; both must print foF2 of each hour of examples/day.sao, as
 # it stands in the text's columns, but for the one hour where it was not scaled (R291). The scene of edit is played, and its lines about a
 # record and the journal in Rust are those that the wrapper's documentation runs. What it shows of profile, noon and follow stands in these programs,
-# and is printed. On every machine the kit's own compiler, linker and loader are used; on x86-64 the commands of README.md too. Another file than
+# and is printed. The toolchain's own compiler, linker and loader are used; on x86-64 the commands of README.md too. Another file than
 # README.md may be named.
 set -u
 home=$(cd "$(dirname "$0")/.." && pwd -P) || exit 2
@@ -18,6 +18,8 @@ name=readme
 . tests/kit
 
 counted 'the archive' archived || finished 1 || exit 1
+counted 'it is said how the folder is made that its commands write into' grep -qF '`mkdir -p target`' "$readme"
+mkdir -p target
 
 block() { # LANGUAGE NUMBER: the fenced block of that language, all where no number is given
     awk -v fence="\`\`\`$1" -v number="${2:-0}" '
@@ -86,8 +88,7 @@ mkdir "$work/project" "$work/project/target"
 for part in include examples bindings tests crates crates.txt; do
     ln -s "$PWD/$part" "$work/project/$part"
 done
-ln -s "$PWD/target/staticlib" "$work/project/target/staticlib"
-counted 'the archive is made by a command' [ "$(commands 'rt staticlib seambeacon$' | grep -c .)" -eq 1 ]
+counted 'the archive is made by a command' [ "$(commands '(cd crates/seambeacon && rt lib)$' | grep -c .)" -eq 1 ]
 if [ "$machine" = x86_64 ] && command -v cc >/dev/null; then
     shown 'for C' "$(commands 'cc .*fof2')"
 else
@@ -232,4 +233,4 @@ if [ "$machine" = x86_64 ] && command -v cargo >/dev/null; then
 else
     echo "tests/readme.sh: skipped: the command for Rust, which needs x86-64 and cargo (this is $machine)"
 fi
-finished 62
+finished 63

@@ -8,38 +8,40 @@ name=run
 . tests/cases
 
 made=$(cd "$work" && pwd -P)/made
-mkdir -p "$made/bin" "$made/crates/one/src" "$made/crates/one/proofs" "$work/kit/docs" "$work/kit/on/other/toolchain/bin"
+mkdir -p "$made/bin" "$made/crates/one/src" "$made/crates/one/proofs" "$made/crates/two/src"
 cp run "$made/run"
 : >"$made/crates.txt"
 : >"$made/crates/one/src/main.rt"
 : >"$made/crates/one/proofs/Law.antt"
 
-# checking writes the program, or fails where there is a file `refuses`; it reads all input that it is given
+# running builds the program, or fails where there is a file `refuses`; rt reads all input that it is given, and the program says something there
 cat >"$made/bin/rt" <<'RT'
 #!/bin/sh
-[ "$1" != doc ] || { echo "$KIT/docs/START-HERE.md"; exit; }
-echo "rt $*, in ${PWD##*/}" >>"$CALLS"
+[ "$1" != doc ] || { echo "$KIT/START-HERE.md"; exit; }
+echo "rt $*, in ${PWD#"$MADE"/}" >>"$CALLS"
 cat >>"$CALLS"
 echo 'what rt says'
-[ ! -e refuses ] || exit 1
-mkdir -p target/bin
-printf '#!/bin/sh\nfor word in "$@"; do echo "word $word"; done\nsed "s/^/input /"\nexit 7\n' >"target/bin/$2"
-chmod +x "target/bin/$2"
+echo 'what rt says there' >&2
+[ ! -e ../../refuses ] || exit 1
+mkdir -p out
+printf '#!/bin/sh\nfor word in "$@"; do echo "word $word"; done\nsed "s/^/input /"\nexit 7\n' >out/one
+chmod +x out/one
 RT
 printf '#!/bin/sh\necho "$MACHINE"\n' >"$made/bin/uname"
-printf '#!/bin/sh\nfor word in "$@"; do echo "word $word"; done\n' >"$work/kit/on/other/toolchain/bin/qemu-x86_64"
-chmod +x "$made/bin/rt" "$made/bin/uname" "$work/kit/on/other/toolchain/bin/qemu-x86_64"
+printf '#!/bin/sh\nfor word in "$@"; do echo "word $word"; done\n' >"$made/bin/qemu-x86_64"
+chmod +x "$made/bin/rt" "$made/bin/uname" "$made/bin/qemu-x86_64"
 CALLS=$work/calls
 KIT=$work/kit
 MACHINE=x86_64
-export CALLS KIT MACHINE
+MADE=$made
+export CALLS KIT MACHINE MADE
 
 ran() { # CASE CALLS: ./run was asked for `one`; rt was called so many times, and the program has its words and its input and ends with 7
     : >"$CALLS"
     (cd / && PATH=$made/bin:$PATH "$made/run" one 'a b' c) >"$work/got" 2>"$work/errors" <"$work/input"
     counted "$1: the program's own exit status" [ "$?" = 7 ]
     compared "$1: words and input" "$work/want"
-    counted "$1: checked $2 times" [ "$(grep -cx 'rt check one, in made' "$CALLS")" = "$2" ]
+    counted "$1: checked $2 times" [ "$(grep -cx 'rt run, in crates/one' "$CALLS")" = "$2" ]
     counted "$1: nothing else was asked of rt, and it had no input" [ "$(wc -l <"$CALLS")" = "$2" ]
 }
 
@@ -54,8 +56,8 @@ later() { # FILE..
 printf 'first\nsecond\n' >"$work/input"
 printf 'word a b\nword c\ninput first\ninput second\n' >"$work/want"
 sources="$made/crates.txt $made/crates $made/crates/one $made/crates/one/src $made/crates/one/src/main.rt $made/crates/one/proofs"
-sources="$sources $made/crates/one/proofs/Law.antt"
-program=$made/target/bin/one
+sources="$sources $made/crates/one/proofs/Law.antt $made/crates/two/src"
+program=$made/crates/one/out/one
 
 ran 'missing' 1
 counted 'what rt says is no output of the program' grep -qx 'what rt says' "$work/errors"
@@ -71,6 +73,10 @@ for source in crates.txt crates/one/src/main.rt crates/one/proofs/Law.antt; do
     ran "checked again after $source" 0
     old "$made/$source"
 done
+# what is built, and the folders that it makes, are no sources
+mkdir "$made/crates/two/out"
+: >"$made/crates/two/out/two"
+ran 'older than what is built of another crate' 0
 rm "$made/crates/one/proofs/Law.antt"
 later "$made/crates/one/proofs"
 old "$program"
@@ -90,7 +96,7 @@ old "$program"
 : >"$CALLS"
 (PATH=$made/bin:$PATH && "$made/run" one) >"$work/got" 2>"$work/errors" <"$work/input"
 counted 'a failed check ends with 2' [ "$?" = 2 ]
-counted 'it was made' grep -qx 'rt check one, in made' "$CALLS"
+counted 'it was made' grep -qx 'rt run, in crates/one' "$CALLS"
 counted 'and nothing is started' [ ! -s "$work/got" ]
 counted 'nor is it taken for checked' [ -n "$(find "$made/crates/one/proofs" -newer "$program")" ]
 (PATH=$made/bin:$PATH && "$made/run") >"$work/got" 2>"$work/errors" <"$work/input"
@@ -103,7 +109,7 @@ later "$program"
 old "$made/crates/one/proofs"
 MACHINE=other
 (PATH=$made/bin:$PATH && "$made/run" one 'a b') >"$work/got" 2>"$work/errors" <"$work/input"
-tools=$KIT/on/other/toolchain
+tools=$KIT/toolchain
 printf 'word %s\n' "$tools/lib/ld-linux-x86-64.so.2" --library-path "$tools/lib" "$program" 'a b' >"$work/want"
 compared 'on another processor' "$work/want"
-finished 60
+finished 64

@@ -35,7 +35,7 @@ export SEAMBEACON_ARCHIVE
 counted 'cargo check without the archive' asked check --all-targets
 counted 'cargo doc without the archive' asked doc --no-deps
 counted 'without the archive there is no build' fails asked build
-what='there is no .*libseambeacon\.a: run `rt staticlib seambeacon`'
+what='there is no .*libseambeacon\.a: run `rt lib` in the project.s crates/seambeacon'
 [ "$machine" = x86_64 ] || what="the library is x86-64 code, and this build is for $machine"
 counted 'and the build says what to do' grep -q "nothing can be linked: $what" "$work/said"
 if cargo clippy --version >/dev/null 2>&1; then

@@ -1,6 +1,6 @@
 //! Links the proved library's archive, `libseambeacon.a`: from the folder that SEAMBEACON_ARCHIVE names, or from the project's
-//! `target/staticlib`, where `rt staticlib seambeacon` puts it. Documentation, checks and lints need no archive, so its lack is a warning here;
-//! what is linked without it is then refused by the compiler.
+//! `crates/seambeacon/out`, where `rt lib` in `crates/seambeacon` puts it. Documentation, checks and lints need no archive, so its lack is a
+//! warning here; what is linked without it is then refused by the compiler.
 
 use std::env;
 use std::path::PathBuf;
@@ -12,7 +12,7 @@ fn main() {
     let machine = env::var("CARGO_CFG_TARGET_ARCH").unwrap_or_default();
     let folder = match env::var_os(VARIABLE) {
         Some(named) => PathBuf::from(named),
-        None => PathBuf::from(env::var_os("CARGO_MANIFEST_DIR").unwrap_or_default()).join("../../target/staticlib"),
+        None => PathBuf::from(env::var_os("CARGO_MANIFEST_DIR").unwrap_or_default()).join("../../crates/seambeacon/out"),
     };
     let archive = folder.join(ARCHIVE);
     println!("cargo:rerun-if-env-changed={VARIABLE}");
@@ -21,7 +21,7 @@ fn main() {
         println!("cargo:warning=nothing can be linked: the library is x86-64 code, and this build is for {machine}");
     } else if !archive.is_file() {
         println!(
-            "cargo:warning=nothing can be linked: there is no {}: run `rt staticlib seambeacon` in the project's folder, or name the archive's folder in {VARIABLE}",
+            "cargo:warning=nothing can be linked: there is no {}: run `rt lib` in the project's crates/seambeacon, or name the archive's folder in {VARIABLE}",
             archive.display()
         );
     } else {

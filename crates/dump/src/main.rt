@@ -5,9 +5,10 @@
 
 use decimal::Put;
 use group::Characteristic;
-use libc::{STDIN_FILENO, STDOUT_FILENO};
 use place::Record;
 use reply::Reply;
+use std::io;
+use std::io::{Read, Write};
 
 // ---- Rows. A page has room for the longest: 5,989 elements of group 40 (R13), with at most 18 bytes for the cells of
 // each. What has no room is left out.
@@ -42,20 +43,16 @@ fn put_count(page: &mut [u8], at: usize, count: u16) -> usize {
 
 fn put_counts(page: &mut [u8], at: usize, counts: &[u16]) -> usize {
     let mut behind = at;
-    let mut i: usize = 0;
-    while i < counts.len() {
-        behind = put_count(page, behind, counts[i]);
-        i += 1;
+    for count in counts {
+        behind = put_count(page, behind, *count);
     }
     behind
 }
 
 fn put_cells(page: &mut [u8], at: usize, cells: &[i64]) -> usize {
     let mut behind = at;
-    let mut i: usize = 0;
-    while i < cells.len() {
-        behind = put_cell(page, behind, cells[i]);
-        i += 1;
+    for cell in cells {
+        behind = put_cell(page, behind, *cell);
     }
     behind
 }
@@ -79,31 +76,38 @@ fn put_reply(page: &mut [u8], at: usize, r: Reply) -> usize {
     put(page, first, r.element)
 }
 
-fn print_row(name: &[u8], page: &mut [u8], end: usize) {
+fn print_row(out: &mut impl Write, name: &[u8], page: &mut [u8], end: usize) -> io::Result<()> {
     let behind = put_byte(page, end, 10);
     if behind <= page.len() {
-        io::write_all(STDOUT_FILENO, name);
-        io::write_all(STDOUT_FILENO, &page[0..behind]);
+        out.write_all(name)?;
+        out.write_all(&page[0..behind])?;
     }
+    Ok(())
 }
 
 // ---- Answers.
 
-fn print_record(place: usize, r: Reply, counts: &[u16], page: &mut [u8]) {
+fn print_record(
+    out: &mut impl Write,
+    place: usize,
+    r: Reply,
+    counts: &[u16],
+    page: &mut [u8],
+) -> io::Result<()> {
     let at = put(page, 0, place);
     let number = put(page, at, r.number as usize);
     let next = put(page, number, r.next);
     let end = put(page, next, r.group);
     let behind = put_counts(page, end, counts);
-    print_row(b"record", page, behind);
+    print_row(out, b"record", page, behind)
 }
 
-fn print_stop(place: usize, r: Reply, page: &mut [u8]) {
+fn print_stop(out: &mut impl Write, place: usize, r: Reply, page: &mut [u8]) -> io::Result<()> {
     let at = put(page, 0, place);
     let number = put(page, at, r.number as usize);
     let next = put(page, number, r.next);
     let end = put(page, next, r.group);
-    print_row(b"stop", page, end);
+    print_row(out, b"stop", page, end)
 }
 
 // Where a part of the text ends that begins at a place.
@@ -117,7 +121,14 @@ fn part_to(text: &[u8], from: usize, part: &[u8]) -> usize {
     from + part.len()
 }
 
-fn print_group(rules: rules::Rules, text: &[u8], placed: Record, g: usize, page: &mut [u8]) {
+fn print_group(
+    out: &mut impl Write,
+    rules: rules::Rules,
+    text: &[u8],
+    placed: Record,
+    g: usize,
+    page: &mut [u8],
+) -> io::Result<()> {
     let mut table = [0i64; 11978];
     let r = reply::of_answer(sao::record_group(rules, text, placed, g, &mut table));
     let from = sao::record_lines_at(rules, text, placed, g).from;
@@ -129,8 +140,9 @@ fn print_group(rules: rules::Rules, text: &[u8], placed: Record, g: usize, page:
     let many = r.written;
     if many <= table.len() {
         let behind = put_cells(page, end, &table[0..many]);
-        print_row(b"group", page, behind);
+        print_row(out, b"group", page, behind)?;
     }
+    Ok(())
 }
 
 #[derive(Clone, Copy)]
@@ -149,12 +161,13 @@ fn told(c: Characteristic) -> Shown {
 }
 
 fn print_characteristic(
+    out: &mut impl Write,
     rules: rules::Rules,
     text: &[u8],
     placed: Record,
     number: usize,
     page: &mut [u8],
-) {
+) -> io::Result<()> {
     let answer = sao::record_characteristic(rules, text, placed, number);
     let t = told(answer);
     let r = group::reply_of(answer);
@@ -162,58 +175,70 @@ fn print_characteristic(
     let kind = put(page, first, t.kind);
     let value = put_cell(page, kind, t.value);
     let end = put_reply(page, value, r);
-    print_row(b"char", page, end);
+    print_row(out, b"char", page, end)
 }
 
-fn print_groups(rules: rules::Rules, text: &[u8], placed: Record, page: &mut [u8]) {
-    let mut g: usize = 1;
-    while g <= 60 {
-        print_group(rules, text, placed, g, page);
-        g += 1;
+fn print_groups(
+    out: &mut impl Write,
+    rules: rules::Rules,
+    text: &[u8],
+    placed: Record,
+    page: &mut [u8],
+) -> io::Result<()> {
+    for g in 1..61 {
+        print_group(out, rules, text, placed, g, page)?;
     }
+    Ok(())
 }
 
-fn print_characteristics(rules: rules::Rules, text: &[u8], placed: Record, page: &mut [u8]) {
-    let mut number: usize = 1;
-    while number <= 49 {
-        print_characteristic(rules, text, placed, number, page);
-        number += 1;
+fn print_characteristics(
+    out: &mut impl Write,
+    rules: rules::Rules,
+    text: &[u8],
+    placed: Record,
+    page: &mut [u8],
+) -> io::Result<()> {
+    for number in 1..50 {
+        print_characteristic(out, rules, text, placed, number, page)?;
     }
+    Ok(())
 }
 
 // The records from a place on. A record has 242 bytes at least (R9, R21, R28), so 65,536 bytes hold fewer than 300.
-fn print_records(rules: rules::Rules, text: &[u8], page: &mut [u8]) {
+fn print_records(
+    out: &mut impl Write,
+    rules: rules::Rules,
+    text: &[u8],
+    page: &mut [u8],
+) -> io::Result<()> {
     let mut at: usize = 0;
-    let mut k: usize = 0;
-    while k < 300 {
+    for _ in 0..300 {
         let placed = sao::place(rules, text, at);
         let answer = placed.answer;
         let counts = placed.counts;
         let r = place::reply_of(answer);
         if r.next == 0 {
-            print_stop(at, r, page);
-            return;
+            return print_stop(out, at, r, page);
         }
-        print_record(at, r, &counts, page);
-        print_groups(rules, text, placed, page);
-        print_characteristics(rules, text, placed, page);
+        print_record(out, at, r, &counts, page)?;
+        print_groups(out, rules, text, placed, page)?;
+        print_characteristics(out, rules, text, placed, page)?;
         at = r.next;
-        k += 1;
     }
+    Ok(())
 }
 
-fn main() {
-    let asked = words::given(b"dump");
+fn main(rt: HostRuntime) -> io::Result<()> {
+    let asked = words::given(&rt, &mut rt.stderr(), b"dump")?;
     if !asked.known {
-        return;
+        return Ok(());
     }
     let rules = rules::choose(asked.strict, asked.entries);
-    let mut space = [0u8; 65537];
-    let n = io::read_full(STDIN_FILENO, &mut space);
+    let mut text = Vec::new(rt.alloc());
+    rt.stdin().take(65537).read_to_end(&mut text)?;
     let mut page = [0u8; 131072];
-    if 65536 < n {
-        io::write_all(STDOUT_FILENO, b"stop 0 11 0 0\n");
-        return;
+    if 65536 < text.len() {
+        return rt.write_all(b"stop 0 11 0 0\n");
     }
-    print_records(rules, &space[0..n], &mut page);
+    print_records(&mut rt.stdout(), rules, text.as_slice(), &mut page)
 }

@@ -2,20 +2,33 @@
 // `listing::print`'s; here it is only read, asked for and written.
 #![tactic(auto)]
 
-use decimal::Put;
+ghost use Rattle.std.specs.Prelude.{OnOk};
+ghost use Rattle.std.specs.Io.KnownBytes.{Appends};
+ghost use Rattle.listing.specs.Listing.{printed_listing};
 
-fn main() {
-    let asked = words::given(b"list");
+use decimal::Put;
+use std::io;
+use std::io::{Read, Write};
+
+// Prints what the program prints for a text. An error is that of writing.
+fn print_listing<W: Write>(out: &mut W, rules: rules::Rules, text: &[u8]) -> io::Result<()>
+    ensures { OnOk result (Appends (W.contents out.old) (W.contents out.new) (printed_listing rules text.now)) }
+{
+    let mut page = [0u8; 8192];
+    // R347: what is printed is shorter than 8,192 bytes
+    let Put::Next(end) = listing::print(rules, text, &mut page) else {
+        unreachable!();
+    };
+    out.write_all(&page[0..end])
+}
+
+fn main(rt: HostRuntime) -> io::Result<()> {
+    let asked = words::given(&rt, &mut rt.stderr(), b"list")?;
     if !asked.known {
-        return;
+        return Ok(());
     }
     let rules = rules::choose(asked.strict, asked.entries);
-    let mut space = [0u8; 65537];
-    let n = io::read_full(libc::STDIN_FILENO, &mut space);
-    let mut page = [0u8; 8192];
-    // R347: what is printed is shorter than 8,192 bytes, so this is never taken
-    let Put::Next(end) = listing::print(rules, &space[0..n], &mut page) else {
-        return;
-    };
-    io::write_all(libc::STDOUT_FILENO, &page[0..end]);
+    let mut text = Vec::new(rt.alloc());
+    rt.stdin().take(65537).read_to_end(&mut text)?;
+    print_listing(&mut rt.stdout(), rules, text.as_slice())
 }

@@ -3,43 +3,60 @@
 // written.
 #![tactic(auto)]
 
-ghost use Rattle.std.specs.Prelude.{◌≡◌, length};
-ghost use Rattle.rewriting.specs.Printed.{Stopped};
+ghost use Rattle.std.specs.Prelude.{◌≡◌, length, IfOk, OnOk};
+ghost use Rattle.std.specs.Io.KnownBytes.{Appends};
+ghost use Rattle.rewriting.specs.Printed.{Stopped, printed};
 
 use rewriting::Rewriting;
+use std::io;
+use std::io::{Read, Write};
 
 // Prints the canonical text of each record from the text's start on, until the first that is not rewritten with 0, and
 // gives the place where it stopped; of a text longer than 65,536 bytes, nothing. The table has a cell for each byte of
-// the page, which is always enough (R347).
-fn print_text(rules: rules::Rules, text: &[u8], table: &mut [i64], page: &mut [u8]) -> usize
+// the page, which is always enough (R347). An error is that of writing, and nothing is printed behind it.
+fn print_text<W: Write>(
+    out: &mut W,
+    rules: rules::Rules,
+    text: &[u8],
+    table: &mut [i64],
+    page: &mut [u8],
+) -> io::Result<usize>
     requires table { length table.old ≡ 8192 }
     requires page { length page.old ≡ 8192 }
-    ensures { Stopped rules text.now result }
+    ensures stopped { IfOk result (λ at. Stopped rules text.now at) }
+    ensures written { OnOk result (Appends (W.contents out.old) (W.contents out.new) (printed rules text.now)) }
 {
     if 65536 < text.len() {
-        return 0;
+        return Ok(0);
     }
     let mut at: usize = 0;
     while at < text.len() {
         let answer = sao::rewrite_record(rules, text, at, table, page);
         let Rewriting::Done(bytes, next) = answer else {
-            return at;
+            return Ok(at);
         };
-        io::write_all(libc::STDOUT_FILENO, &page[0..bytes]);
+        out.write_all(&page[0..bytes])?;
         at = next;
     }
-    at
+    Ok(at)
 }
 
-fn main() {
-    let asked = words::given(b"rewrite");
+fn main(rt: HostRuntime) -> io::Result<()> {
+    let asked = words::given(&rt, &mut rt.stderr(), b"rewrite")?;
     if !asked.known {
-        return;
+        return Ok(());
     }
     let rules = rules::choose(asked.strict, asked.entries);
-    let mut space = [0u8; 65537];
-    let n = io::read_full(libc::STDIN_FILENO, &mut space);
+    let mut text = Vec::new(rt.alloc());
+    rt.stdin().take(65537).read_to_end(&mut text)?;
     let mut table = [0i64; 8192];
     let mut page = [0u8; 8192];
-    print_text(rules, &space[0..n], &mut table, &mut page);
+    print_text(
+        &mut rt.stdout(),
+        rules,
+        text.as_slice(),
+        &mut table,
+        &mut page,
+    )?;
+    Ok(())
 }

@@ -3,64 +3,86 @@
 // `salvaging::piece_at`'s; here they are only read, asked for and written.
 #![tactic(auto)]
 
-ghost use Rattle.std.specs.Prelude.{◌≡◌, ◌≤◌, length};
-ghost use Rattle.salvaging.specs.Pieces.{piece_end};
+ghost use Rattle.std.specs.Prelude.{◌≡◌, [], ◌∷◌, ◌≤◌, length, IfOk, OnOk};
+ghost use Rattle.std.specs.Io.KnownBytes.{Appends};
+ghost use Rattle.decimal.specs.Rows.{row_text};
+ghost use Rattle.salvaging.specs.Pieces.{piece_end, copy_of, report_of};
 ghost use Rattle.salvaging.specs.Printed.{AllPassed};
+ghost use Rattle.salvage.specs.Written.{printed_copy, printed_report};
 
 use decimal::Put;
 use salvaging::Piece;
+use std::io;
+use std::io::{Read, Write};
 
 // R357: the line of a stretch: its place and its length.
-fn print_stretch(place: usize, long: usize) {
+fn print_stretch<E: Write>(standard_error: &mut E, place: usize, long: usize) -> io::Result<()>
+    ensures { OnOk result (Appends (E.contents standard_error.old) (E.contents standard_error.new) (row_text (place ∷ long ∷ []))) }
+{
     let mut line = [0u8; 42];
-    // two numbers of 20 digits, a space and a line feed have room, so this is never taken
+    // two numbers of 20 digits, a space and a line feed have room
     let Put::Next(end) = decimal::put_row(&mut line, 0, b"", &[place as u64, long as u64]) else {
-        return;
+        unreachable!();
     };
-    io::write_all(libc::STDERR_FILENO, &line[0..end]);
+    standard_error.write_all(&line[0..end])
 }
 
-// Prints a piece of the text, and gives the place where it ends.
-fn print_piece(text: &[u8], piece: Piece) -> usize
+// Prints a piece of the text, and gives the place where it ends. An error is that of writing.
+fn print_piece<W: Write, E: Write>(
+    out: &mut W,
+    standard_error: &mut E,
+    text: &[u8],
+    piece: Piece,
+) -> io::Result<usize>
     requires { piece_end piece ≤ length text.now }
-    ensures { result ≡ piece_end piece }
+    ensures end { IfOk result (λ end. end ≡ piece_end piece) }
+    ensures copied { OnOk result (Appends (W.contents out.old) (W.contents out.new) (copy_of text.now piece)) }
+    ensures reported { OnOk result (Appends (E.contents standard_error.old) (E.contents standard_error.new) (report_of piece)) }
 {
     match piece {
         Piece::Copied(place, long) => {
             let end = place + long;
-            io::write_all(libc::STDOUT_FILENO, &text[place..end]);
-            end
+            out.write_all(&text[place..end])?;
+            Ok(end)
         }
         Piece::LeftOut(place, long) => {
-            print_stretch(place, long);
-            place + long
+            print_stretch(standard_error, place, long)?;
+            Ok(place + long)
         }
     }
 }
 
 // Prints piece after piece from the text's start to its end, and gives the place where it stopped; of a text longer
-// than 65,536 bytes, nothing.
-fn print_text(rules: rules::Rules, text: &[u8]) -> usize
-    ensures { AllPassed rules text.now result }
+// than 65,536 bytes, nothing. An error is that of writing, and nothing is printed behind it.
+fn print_text<W: Write, E: Write>(
+    out: &mut W,
+    standard_error: &mut E,
+    rules: rules::Rules,
+    text: &[u8],
+) -> io::Result<usize>
+    ensures passed { IfOk result (λ at. AllPassed rules text.now at) }
+    ensures copied { OnOk result (Appends (W.contents out.old) (W.contents out.new) (printed_copy rules text.now)) }
+    ensures reported { OnOk result (Appends (E.contents standard_error.old) (E.contents standard_error.new) (printed_report rules text.now)) }
 {
     if 65536 < text.len() {
-        return 0;
+        return Ok(0);
     }
     let mut at: usize = 0;
     while at < text.len() {
         let piece = salvaging::piece_at(rules, text, at);
-        at = print_piece(text, piece);
+        at = print_piece(out, standard_error, text, piece)?;
     }
-    at
+    Ok(at)
 }
 
-fn main() {
-    let asked = words::given(b"salvage");
+fn main(rt: HostRuntime) -> io::Result<()> {
+    let asked = words::given(&rt, &mut rt.stderr(), b"salvage")?;
     if !asked.known {
-        return;
+        return Ok(());
     }
     let rules = rules::choose(asked.strict, asked.entries);
-    let mut space = [0u8; 65537];
-    let n = io::read_full(libc::STDIN_FILENO, &mut space);
-    print_text(rules, &space[0..n]);
+    let mut text = Vec::new(rt.alloc());
+    rt.stdin().take(65537).read_to_end(&mut text)?;
+    print_text(&mut rt.stdout(), &mut rt.stderr(), rules, text.as_slice())?;
+    Ok(())
 }

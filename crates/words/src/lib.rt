@@ -4,6 +4,10 @@
 ghost use Rattle.std.specs.Prelude.{◌≡◌};
 ghost use Rattle.words.specs.Words.{same_bytes, with_word};
 
+use std::env::FillError;
+use std::io;
+use std::rt::Env;
+
 // Whether all words so far were known, and what they asked for.
 #[derive(Clone, Copy)]
 pub struct Words {
@@ -63,25 +67,30 @@ pub fn with_word(words: Words, word: &[u8]) -> Words
 
 // All words that the program of this name was started with; where one is unknown, how the program is asked is written
 // to standard error. What the system hands over is in no contract, so this has none but that it is safe and ends. A
-// word of more than 16 bytes is read as an empty one, which is unknown too; 16 is more than every known word has.
-pub fn given(program: &[u8]) -> Words {
+// word of more than 16 bytes is read as an empty one, which is unknown too; 16 is more than every known word has. An
+// error is that of writing to standard error.
+pub fn given(
+    rt: &impl Env,
+    standard_error: &mut impl io::Write,
+    program: &[u8],
+) -> io::Result<Words> {
     let mut words = NONE;
-    let mut i: usize = 1;
-    let count = os::arg_count();
-    while i < count {
+    for i in 1..usize::MAX {
         let mut space = [0u8; 16];
-        let n = os::arg(i, &mut space);
-        words = with_word(words, &space[0..n]);
-        i += 1;
+        match rt.arg(i, &mut space) {
+            Ok(n) => words = with_word(words, &space[0..n]),
+            Err(FillError::TooLong) => words = with_word(words, b""),
+            Err(FillError::NotPresent) => break,
+        }
     }
     if !words.known {
-        usage(program);
+        usage(standard_error, program)?;
     }
-    words
+    Ok(words)
 }
 
-fn usage(program: &[u8]) {
-    io::write_all(libc::STDERR_FILENO, b"usage: ");
-    io::write_all(libc::STDERR_FILENO, program);
-    io::write_all(libc::STDERR_FILENO, b" [--strict] [--entries] < TEXT\n");
+fn usage(standard_error: &mut impl io::Write, program: &[u8]) -> io::Result<()> {
+    standard_error.write_all(b"usage: ")?;
+    standard_error.write_all(program)?;
+    standard_error.write_all(b" [--strict] [--entries] < TEXT\n")
 }

@@ -1,0 +1,2 @@
+-- The first bytes of a page into which a text was put (Front).
+mod Front

@@ -1,0 +1,2 @@
+-- What has been written when some records have been printed (Writing).
+mod Writing

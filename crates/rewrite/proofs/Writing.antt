@@ -1,0 +1,94 @@
+-- What stands on the output behind the records that were printed: their texts, one behind the other.
+-- Assumes nothing.
+use mathlib.Core.Path.{◌≡◌, refl, sym, ◌∙◌, ap, subst}
+use mathlib.Core.List.{List, [], ◌++◌, append_assoc, append-nil}
+use Prim.Native.Nat.{ℕ, suc, ◌-◌, ◌<◌, ◌≤◌}
+use native.Mathlib.Omega.{arith}
+use borrow.Author.Tests.{le-leb, lt-leb}
+use lib.ListN.{length, take}
+use Rattle.std.specs.declared.option.Option.{Option}
+use Rattle.std.specs.declared.option.Option.TheVariants.{Some, None}
+use Rattle.std.specs.Io.KnownBytes.{Appends}
+use Rattle.rules.specs.declared.Rules.{Rules}
+use Rattle.rewriting.specs.declared.Rewriting.{Rewriting}
+use Rattle.rewriting.specs.declared.Rewriting.TheVariants.{Done}
+use Rattle.rewriting.specs.Record.{rewriting_of, text_at, buffer_by}
+use Rattle.rewriting.specs.Printed.{program_rewriting, rewritten_from, rewritten, printed, Reached, start, one_more}
+use Rattle.rewriting.proofs.Promises.{done_front}
+use Rattle.rewriting.proofs.Printing.{Printing, rewritten_done, rewritten_stop, rewritten_enough, end_never}
+
+-- ---- bytes that grow
+
+pub appends_none : (o : Option (List ℕ)) → Appends o o []
+appends_none None = tt
+appends_none (Some xs) = sym (append-nil xs)
+
+appends_more : (o p q : Option (List ℕ)) (a b : List ℕ) → Appends o p a → Appends p q b → Appends o q (a ++ b)
+appends_more None p q a b h k = tt
+appends_more (Some xs) None q a b h k = absurd h
+appends_more (Some xs) (Some ys) None a b h k = absurd k
+appends_more (Some xs) (Some ys) (Some zs) a b h k = k ∙ ap (λ t. t ++ b) h ∙ append_assoc xs a b
+
+-- ---- record by record
+
+pub record Writing (ρ : Rules) (s : List ℕ) (at : ℕ) (out out' : Option (List ℕ)) : Type 0 where
+  pub before : List ℕ
+  pub reached : Reached ρ s at before
+  pub whole : before ++ rewritten_from ρ (length s) s at ≡ rewritten ρ s
+  pub written : Appends out out' before
+
+module _ (ρ : Rules) (s : List ℕ) where
+  pub writing_first : (out : Option (List ℕ)) → Writing ρ s 0 out out
+  unfolding rewritten
+  writing_first out = record { before = []; reached = start; whole = refl; written = appends_none out }
+
+  -- R341: nothing is to be written of more than 65,536 bytes
+  pub none_written : 65536 < length s → (out : Option (List ℕ)) → Appends out out (printed ρ s)
+  unfolding printed
+  none_written l out = rw (lt-leb (length s) 65536 l) (appends_none out)
+
+  module _ {at : ℕ} {out out' : Option (List ℕ)} (w : Writing ρ s at out out') where
+    pub printing_of : Printing ρ s at
+    printing_of = record { before = w.before; reached = w.reached; whole = w.whole }
+
+    -- all is written where no record is rewritten with 0
+    pub all_written : length s ≤ 65536 → ((bytes next : ℕ) → program_rewriting ρ s at ≡ Done bytes next → ⊥) → Appends out out' (printed ρ s)
+    unfolding printed
+    all_written few never =
+        rw (le-leb (length s) 65536 few)
+        (subst (λ t. Appends out out' t) (sym (append-nil w.before) ∙ ap (λ t. w.before ++ t) (sym (rewritten_stop ρ s (length s) at never)) ∙ w.whole) w.written)
+
+    pub ended_written : length s ≤ 65536 → length s ≤ at → Appends out out' (printed ρ s)
+    ended_written few l = all_written few (end_never ρ s at l)
+
+    -- what was asked over a table and a page of 8,192
+    module _ {cells room : ℕ} (c : cells ≡ 8192) (r : room ≡ 8192) (answer : Rewriting) (a : answer ≡ rewriting_of ρ s at cells room) where
+      asked : answer ≡ program_rewriting ρ s at
+      asked = a ∙ rw (c, r) refl
+
+      pub stopped_written : length s ≤ 65536 → ((bytes next : ℕ) → answer ≡ Done bytes next → ⊥) → Appends out out' (printed ρ s)
+      stopped_written few never = all_written few (λ bytes next e. never bytes next (asked ∙ e))
+
+      module _ (bytes next : ℕ) (d : answer ≡ Done bytes next) where
+        e : program_rewriting ρ s at ≡ Done bytes next
+        e = sym asked ∙ d
+
+        -- the page begins with the record's text
+        front : (page page' : List ℕ) → page' ≡ buffer_by ρ s at answer page → take (bytes - 0) page' ≡ text_at ρ s at
+        front page page' p =
+            let z : bytes - 0 ≡ bytes = omega arith in
+            rw (z, p, d) (done_front ρ s at 8192 8192 bytes next e page)
+
+        pub writing_more : (page : List ℕ) {page' : List ℕ} → page' ≡ buffer_by ρ s at answer page → {out'' : Option (List ℕ)} → Appends out' out'' (take (bytes - 0) page')
+            → Writing ρ s next out out''
+        writing_more page {page'} p {out''} k =
+            let f : rewritten_from ρ (length s) s at ≡ text_at ρ s at ++ rewritten_from ρ (length s) s next =
+            rewritten_enough ρ s (length s) (suc (length s)) at (omega arith) (omega arith) ∙ rewritten_done ρ s (length s) at bytes next e in
+            record {
+              before = w.before ++ text_at ρ s at;
+              reached = one_more at bytes next w.before w.reached e;
+              whole = append_assoc w.before (text_at ρ s at) (rewritten_from ρ (length s) s next) ∙ ap (λ y. w.before ++ y) (sym f) ∙ w.whole;
+              written =
+                  appends_more out out' out'' w.before (text_at ρ s at) w.written
+                  (subst (λ t. Appends out' out'' t) (front page page' p) k);
+            }

@@ -1,0 +1,2 @@
+-- What has been written when some pieces have been printed (Writing).
+mod Writing

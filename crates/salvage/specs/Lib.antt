@@ -1,0 +1,2 @@
+-- What is written on both outputs (Written).
+pub mod Written
