@@ -1,6 +1,5 @@
--- R420, R421: one outcome, of the contract itself, for each function that takes or gives a view. They are walked by hand, so they have no reading by
--- which a caller learns their contracts, and by which `sao` says this of its questions. Here it is said of what is ensured: whoever has it of two
--- outcomes learns that they are one. A contract that leaves open a part of the answer has no proof here.
+-- R420, R421: one outcome, of the contract itself, for each function that takes or gives a view. It is said of what is ensured, in whatever logic that
+-- is read: whoever has it of two outcomes learns that they are one. A contract that leaves open a part of the answer has no proof here.
 -- Assumes nothing.
 use mathlib.Core.Path.{◌≡◌, refl, sym, ◌∙◌}
 use seplogic.Ra.Ura.{Ura}
