@@ -142,15 +142,15 @@ module _ (t : Question) where
     pub by_parts : (κs : Lfts 1) → Parts κs → (t.slot.row κs).Denot → SProp 𝓤
 
 module _ {M : Type 1} {𝓤 : Ura M} (𝓛 : Logic 𝓤) (t : Question) (p : Promise t 𝓤) where
-  abbrev pub spec-of-parts : Spec 𝓤 (of_parts t)
-  spec-of-parts κs a = record {
+  abbrev pub spec_of_parts : Spec 𝓤 (of_parts t)
+  spec_of_parts κs a = record {
     ghost = Unit {0};
     requires = λ _. emp 𝓤;
     ensures = λ _ r. exits 𝓛 (of_parts t) (yes, (yes, (yes, (yes, tt)))) κs a (λ _. p.by_parts κs a r);
   }
 
-  abbrev pub spec-of_view : Spec 𝓤 (of_view t)
-  spec-of_view κs a = record {
+  abbrev pub spec_of_view : Spec 𝓤 (of_view t)
+  spec_of_view κs a = record {
     ghost = Unit {0};
     requires = λ _. emp 𝓤;
     ensures = λ _ r. exits 𝓛 (of_view t) (yes, (yes, (yes, tt))) κs a (λ _. p.by_parts κs (parts κs a) r);
@@ -165,8 +165,8 @@ module _ {M : Type 1} {𝓤 : Ura M} (𝓛 : Logic 𝓤) (𝓜 : Model 𝓤 𝓛
   abbrev Λ : Loops 𝓤 H
   Λ = (tables 𝓤 H 𝓜 𝓡 t.code.env).Λ
 
-  framed-calls : FmC 𝓤 H 𝓛.laws C
-  framed-calls f = framed 𝓤 H 𝓜 (tables 𝓤 H 𝓜 𝓡 t.code.env) f
+  framed_calls : FmC 𝓤 H 𝓛.laws C
+  framed_calls f = framed 𝓤 H 𝓜 (tables 𝓤 H 𝓜 𝓡 t.code.env) f
 
   -- u is of the type of the question's answers
   abbrev Fits : Val → Type 0
@@ -188,7 +188,7 @@ module _ {M : Type 1} {𝓤 : Ura M} (𝓛 : Logic 𝓤) (𝓜 : Model 𝓤 𝓛
         (init ! 0 refl ((and_yes (has_ty Placed'.mir (placed κs a)) true view-fits.0).0, view-fits.1.1.0)) $
         move ! (12 ∷ []) $
         -- [what the call needs; _5; …; _4; …; _3; …; _2; …; _1; …; room for _0; …]
-        calls_from ! framed-calls (raw X) (flat (types_at with_parts κs) (as_parts κs a)) (λ u. H.⇛ (guard 𝓤 (Fits u) (Q u))) met
+        calls_from ! framed_calls (raw X) (flat (types_at with_parts κs) (as_parts κs a)) (λ u. H.⇛ (guard 𝓤 (Fits u) (Q u))) met
         (and_then ! (load ! (from ! (stop !)) (look ! 9 refl)) (and_then ! (load ! (from ! (stop !)) (look ! 3 refl))
         (and_then ! (load ! (from ! (stop !)) (look ! 1 refl)) (and_then ! (load ! (from ! (stop !)) (look ! 5 refl)) (no_more !))))) (λ u.
         use1 𝓛 (later (given (Fits u) (raw (Q u)))) (id⊢ 𝓤 _) $ await ! tt $ learn ! (λ fits.
@@ -215,51 +215,51 @@ module _ {M : Type 1} {𝓤 : Ura M} (𝓛 : Logic 𝓤) (𝓜 : Model 𝓤 𝓛
           move ! (0 ∷ 2 ∷ []) $ fjoin ! $ move ! (1 ∷ 0 ∷ []) $ fjoin ! $ move ! (1 ∷ 0 ∷ []) $ fjoin ! $ move ! (1 ∷ 0 ∷ []) $ join ! $ frame ! $ done !)
 
       module _ (p : Promise t 𝓤) where
-        abbrev of-the-parts : Contract 𝓤
-        of-the-parts = triple_of 𝓛 (of_parts t) (spec-of-parts 𝓛 t p)
+        abbrev of_the_parts : Contract 𝓤
+        of_the_parts = triple_of 𝓛 (of_parts t) (spec_of_parts 𝓛 t p)
 
-        abbrev of-the-view : Contract 𝓤
-        of-the-view = triple_of 𝓛 (of_view t) (spec-of_view 𝓛 t p)
+        abbrev of_the_view : Contract 𝓤
+        of_the_view = triple_of 𝓛 (of_view t) (spec_of_view 𝓛 t p)
 
-        abbrev with-them : of-the-parts.Ghost
-        with-them = ((κs, qs, tt, parts κs a, as_parts κs a), tt)
+        abbrev with_them : of_the_parts.Ghost
+        with_them = ((κs, qs, tt, parts κs a, as_parts κs a), tt)
 
-        abbrev with_it : of-the-view.Ghost
+        abbrev with_it : of_the_view.Ghost
         with_it = ((κs, qs, tt, a, as_view κs a), tt)
 
         fits : (r : (t.slot.row κs).Denot) (u : Val) → Is (t.slot.row κs) r (u ∷ []) → Fits u
         fits r u is = (subst (λ τs. Typed τs (u ∷ [])) (t.one κs) ((t.lawful 𝓛 κs).typed r (u ∷ []) is)).0
 
         -- what is said at exit of parameters that hold no `&mut`
-        abbrev silent-parts : Fins κs with_parts (yes, (yes, (yes, (yes, tt)))) (parts κs a) → Fml
-        silent-parts = lasts_of κs with_parts (yes, (yes, (yes, (yes, tt)))) (parts κs a)
+        abbrev silent_parts : Fins κs with_parts (yes, (yes, (yes, (yes, tt)))) (parts κs a) → Fml
+        silent_parts = lasts_of κs with_parts (yes, (yes, (yes, (yes, tt)))) (parts κs a)
 
-        abbrev silent-view : Fins κs with_view (yes, (yes, (yes, tt))) a → Fml
-        silent-view = lasts_of κs with_view (yes, (yes, (yes, tt))) a
+        abbrev silent_view : Fins κs with_view (yes, (yes, (yes, tt))) a → Fml
+        silent_view = lasts_of κs with_view (yes, (yes, (yes, tt))) a
 
         -- an answer that is promised of the parts is one of the view
-        answers : (u : Val) → ent 𝓤 (of-the-parts.post with-them u) (H.⇛ (guard 𝓤 (Fits u) (of-the-view.post with_it u)))
+        answers : (u : Val) → ent 𝓤 (of_the_parts.post with_them u) (H.⇛ (guard 𝓤 (Fits u) (of_the_view.post with_it u)))
         answers u =
             qed 𝓛 (later (some (λ (r : (t.slot.row κs).Denot). ((‵ (flft κs.0 qs.0) ⊛ ‵ ftrue) ⊛ ‵ ((t.slot.row κs).own_val r (u ∷ []))) ⊛
-            some (λ (ws : Fins κs with_parts (yes, (yes, (yes, (yes, tt)))) (parts κs a)). ‵ (silent-parts ws) ⊛ raw (p.by_parts κs (parts κs a) r)))) ∷ []) ∵
+            some (λ (ws : Fins κs with_parts (yes, (yes, (yes, (yes, tt)))) (parts κs a)). ‵ (silent_parts ws) ⊛ raw (p.by_parts κs (parts κs a) r)))) ∷ []) ∵
             updating ! $ await ! tt $ pick ! (λ r. split ! $ split ! $ move ! (1 ∷ []) $
             peeks ! (t.slot.row κs) (Is (t.slot.row κs)) (shows 𝓛 (t.slot.row κs)) r (u ∷ []) (λ is.
             at_once ! $ check ! (fits r u is) $ updating ! $ at_once ! $
-            show ! (λ r'. sep 𝓤 (Back 𝓛 (of_view t) with_it.0 u r') ((spec-of_view 𝓛 t p κs a).ensures tt r')) r $
+            show ! (λ r'. sep 𝓤 (Back 𝓛 (of_view t) with_it.0 u r') ((spec_of_view 𝓛 t p κs a).ensures tt r')) r $
             move ! (1 ∷ 0 ∷ []) $ join ! $ frame ! $ pick ! (λ ws. split ! $ fsplit ! $ drop ! $
-            show ! (λ ws'. sep 𝓤 (sem 𝓛 (silent-view ws')) (p.by_parts κs (parts κs a) r)) (tt, (tt, (tt, tt))) $ done !)))
+            show ! (λ ws'. sep 𝓤 (sem 𝓛 (silent_view ws')) (p.by_parts κs (parts κs a) r)) (tt, (tt, (tt, tt))) $ done !)))
 
-        through : Triple 𝓤 (C t.called) of-the-parts → Are (types_at with_view κs) (Ises (types_at with_view κs)) a (as_view κs a)
+        through : Triple 𝓤 (C t.called) of_the_parts → Are (types_at with_view κs) (Ises (types_at with_view κs)) a (as_view κs a)
             → ent 𝓤 (on_entry 𝓛 (of_view t) κs qs a (as_view κs a))
-            (WpFn 𝓤 H C Λ (asks t.mir t.called) (flat (types_at with_view κs) (as_view κs a)) (of-the-view.post with_it))
-        through known are = walk _ _ are (via 𝓤 _ apart (via 𝓤 _ (known with-them) (fm→mono_c 𝓤 H 𝓛.laws C framed-calls t.called _ _ _ answers)))
+            (WpFn 𝓤 H C Λ (asks t.mir t.called) (flat (types_at with_view κs) (as_view κs a)) (of_the_view.post with_it))
+        through known are = walk _ _ are (via 𝓤 _ apart (via 𝓤 _ (known with_them) (fm→mono_c 𝓤 H 𝓛.laws C framed_calls t.called _ _ _ answers)))
 
   -- the law, as a function's theorem states it
-  pub asked : (p : Promise t 𝓤) → Meets 𝓛 (of_parts t) (𝓡.run t.routine) (spec-of-parts 𝓛 t p)
-      → Meets 𝓛 (of_view t) (𝓡.run (t.code.env t.code.name)) (spec-of_view 𝓛 t p)
+  pub asked : (p : Promise t 𝓤) → Meets 𝓛 (of_parts t) (𝓡.run t.routine) (spec_of_parts 𝓛 t p)
+      → Meets 𝓛 (of_view t) (𝓡.run (t.code.env t.code.name)) (spec_of_view 𝓛 t p)
   asked p met =
-      enters 𝓛 𝓜 𝓡 t.code (of_view t) (spec-of_view 𝓛 t p)
+      enters 𝓛 𝓜 𝓡 t.code (of_view t) (spec_of_view 𝓛 t p)
       (λ κs. (LL.vals Choice.the_type Choice'.the_laws, (LL.vals (the_view κs) (view_laws κs), (uint_vals w64, tt))))
       (λ κs. (LL.tells Choice.the_type Choice'.the_laws, (LL.tells (the_view κs) (view_laws κs), (uint_Tells w64, tt))))
       (λ κs a qs bounds g. through κs a qs p
-      (cited 𝓤 H (triple_of 𝓛 (of_parts t) (spec-of-parts 𝓛 t p)) 𝓜 𝓡 t.code.env t.called t.routine t.calls met))
+      (cited 𝓤 H (triple_of 𝓛 (of_parts t) (spec_of_parts 𝓛 t p)) 𝓜 𝓡 t.code.env t.called t.routine t.calls met))
