@@ -1,6 +1,6 @@
--- R289: a question asked with a view is the same question asked with the view's text and its record, said once of the code of all such questions: it
--- takes the view apart and calls a function (`asks`), and answers what that one answers (`walk`). The check proves each question's own contract by
--- itself; this law ties the two contracts, whatever is promised. What the view owns is what its text and its record own (`apart`). So what is promised
+-- R289: a question asked with a view is the same question asked with the view's text and its record, said once of code that takes a view apart and
+-- calls a function (`asks`): it answers what that one answers (`walk`), whatever is promised, if its calls mean what a fixed environment says. The check
+-- proves the contracts of this crate's questions by itself, and none of their proofs stands on this law. What the view owns is what its text and its record own (`apart`). So what is promised
 -- of the text and the record is what is promised of the view, no more and no less (`asked`). Of the function that is called, only its contract is known.
 -- Assumes nothing.
 use mathlib.Core.Path.{◌≡◌, refl, subst}

@@ -1,4 +1,4 @@
--- The laws of view's definitions, and that a question asked with a view is one asked with its text and its record (Walk, Asked).
+-- The laws of view's definitions, and a law of code that takes a view apart and asks with its text and its record (Walk, Asked).
 pub mod Found
 pub mod Due
 pub mod Numbered

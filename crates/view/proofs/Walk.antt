@@ -1,5 +1,5 @@
 -- How a walk by hand becomes a function's theorem: what every walk over a function of a view (R289) needs before its first statement (`enters`) and
--- behind its last one (`ends`). The check proves these functions by itself; this law holds of any walk, whoever makes it.
+-- behind its last one (`ends`). The check proves these functions by itself, and no proof of theirs stands on this law.
 -- Nothing is handed back of a parameter, so a walk may use up what they own, and keeps none of it for the end.
 -- Assumes nothing.
 use mathlib.Core.List.{List, [], ◌∷◌}
