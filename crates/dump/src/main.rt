@@ -8,7 +8,7 @@ use group::Characteristic;
 use place::Record;
 use reply::Reply;
 use std::io;
-use std::io::{Read, Write};
+use std::io::Write;
 
 // ---- Rows. A page has room for the longest: 5,989 elements of group 40 (R13), with at most 18 bytes for the cells of
 // each. What has no room is left out.
@@ -234,11 +234,12 @@ fn main(rt: HostRuntime) -> io::Result<()> {
         return Ok(());
     }
     let rules = rules::choose(asked.strict, asked.entries);
-    let mut text = Vec::new(rt.alloc());
-    rt.stdin().take(65537).read_to_end(&mut text)?;
+    let mut space = [0u8; 65537];
+    let n = words::filled(&mut rt.stdin(), &mut space)?;
+    let text = &space[0..n];
     let mut page = [0u8; 131072];
     if 65536 < text.len() {
         return rt.write_all(b"stop 0 11 0 0\n");
     }
-    print_records(&mut rt.stdout(), rules, text.as_slice(), &mut page)
+    print_records(&mut rt.stdout(), rules, text, &mut page)
 }

@@ -8,7 +8,7 @@ ghost use Rattle.listing.specs.Listing.{printed_listing};
 
 use decimal::Put;
 use std::io;
-use std::io::{Read, Write};
+use std::io::Write;
 
 // Prints what the program prints for a text. An error is that of writing.
 fn print_listing<W: Write>(out: &mut W, rules: rules::Rules, text: &[u8]) -> io::Result<()>
@@ -28,7 +28,8 @@ fn main(rt: HostRuntime) -> io::Result<()> {
         return Ok(());
     }
     let rules = rules::choose(asked.strict, asked.entries);
-    let mut text = Vec::new(rt.alloc());
-    rt.stdin().take(65537).read_to_end(&mut text)?;
-    print_listing(&mut rt.stdout(), rules, text.as_slice())
+    let mut space = [0u8; 65537];
+    let n = words::filled(&mut rt.stdin(), &mut space)?;
+    let text = &space[0..n];
+    print_listing(&mut rt.stdout(), rules, text)
 }

@@ -9,7 +9,7 @@ ghost use Rattle.rewriting.specs.Printed.{Stopped, printed};
 
 use rewriting::Rewriting;
 use std::io;
-use std::io::{Read, Write};
+use std::io::Write;
 
 // Prints the canonical text of each record from the text's start on, until the first that is not rewritten with 0, and
 // gives the place where it stopped; of a text longer than 65,536 bytes, nothing. The table has a cell for each byte of
@@ -47,14 +47,15 @@ fn main(rt: HostRuntime) -> io::Result<()> {
         return Ok(());
     }
     let rules = rules::choose(asked.strict, asked.entries);
-    let mut text = Vec::new(rt.alloc());
-    rt.stdin().take(65537).read_to_end(&mut text)?;
+    let mut space = [0u8; 65537];
+    let n = words::filled(&mut rt.stdin(), &mut space)?;
+    let text = &space[0..n];
     let mut table = [0i64; 8192];
     let mut page = [0u8; 8192];
     print_text(
         &mut rt.stdout(),
         rules,
-        text.as_slice(),
+        text,
         &mut table,
         &mut page,
     )?;

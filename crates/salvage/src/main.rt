@@ -13,7 +13,7 @@ ghost use Rattle.salvage.specs.Written.{printed_copy, printed_report};
 use decimal::Put;
 use salvaging::Piece;
 use std::io;
-use std::io::{Read, Write};
+use std::io::Write;
 
 // R357: the line of a stretch: its place and its length.
 fn print_stretch<E: Write>(standard_error: &mut E, place: usize, long: usize) -> io::Result<()>
@@ -81,8 +81,9 @@ fn main(rt: HostRuntime) -> io::Result<()> {
         return Ok(());
     }
     let rules = rules::choose(asked.strict, asked.entries);
-    let mut text = Vec::new(rt.alloc());
-    rt.stdin().take(65537).read_to_end(&mut text)?;
-    print_text(&mut rt.stdout(), &mut rt.stderr(), rules, text.as_slice())?;
+    let mut space = [0u8; 65537];
+    let n = words::filled(&mut rt.stdin(), &mut space)?;
+    let text = &space[0..n];
+    print_text(&mut rt.stdout(), &mut rt.stderr(), rules, text)?;
     Ok(())
 }

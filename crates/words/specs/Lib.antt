@@ -1,2 +1,3 @@
--- R349: the words that a program is started with (Words).
+-- R349: the words that a program is started with (Words). What an error of writing leaves (Written).
 pub mod Words
+pub mod Written

@@ -1,11 +1,15 @@
-// R349: the words that a program is started with: which are known, and what they ask for.
+// R349: the words that a program is started with: which are known, and what they ask for. Beside them, how a program
+// reads its input and writes what it prints.
 #![tactic(auto)]
 
-ghost use Rattle.std.specs.Prelude.{◌≡◌};
+ghost use Rattle.std.specs.Prelude.{◌≡◌, ◌<◌, ◌≤◌, length, take, IfOk, OnOk, OnErr};
+ghost use Rattle.std.specs.Io.KnownBytes.{Appends, Consumes, IsAtEnd};
 ghost use Rattle.words.specs.Words.{same_bytes, with_word};
+ghost use Rattle.words.specs.Written.{AppendsFront};
 
 use std::env::FillError;
 use std::io;
+use std::io::{ErrorKind, Read, Write};
 use std::rt::Env;
 
 // Whether all words so far were known, and what they asked for.
@@ -65,15 +69,71 @@ pub fn with_word(words: Words, word: &[u8]) -> Words
     }
 }
 
+// ---- Input and output
+
+// After 2^64 - 1 tries, which no run comes to: so each loop ends.
+const TOO_MANY_TRIES: &str = "gave up reading or writing after 2^64 tries";
+
+// Reads until the space is full or the input gives nothing more, and gives how many bytes were read; they are the
+// space's first. A read that a signal interrupted is tried again. Nothing is allocated.
+pub fn filled<R: Read>(input: &mut R, space: &mut [u8]) -> io::Result<usize>
+    ensures room { length space.new ≡ length space.old }
+    ensures fits { IfOk result (λ n. n ≤ length space.new) }
+    ensures consumed { IfOk result (λ n. Consumes (R.remaining input.old) (R.remaining input.new) (take n space.new)) }
+    ensures all { IfOk result (λ n. n < length space.new → IsAtEnd (R.remaining input.new)) }
+{
+    let mut n: usize = 0;
+    'reads: for _ in 0..u64::MAX {
+        if space.len() <= n {
+            return Ok(n);
+        }
+        match input.read(&mut space[n..]) {
+            Ok(0) => return Ok(n),
+            Ok(more) => n += more,
+            Err(e) => {
+                if e.kind() != ErrorKind::Interrupted {
+                    return Err(e);
+                }
+            }
+        }
+    }
+    Err(io::Error::new(ErrorKind::TimedOut, TOO_MANY_TRIES))
+}
+
+// Writes all of the bytes, as `write_all` does, of which no contract says what an error leaves: here a front part of
+// the bytes was written.
+pub fn put_all<W: Write>(out: &mut W, bytes: &[u8]) -> io::Result<()>
+    ensures all { OnOk result (Appends (W.contents out.old) (W.contents out.new) bytes.now) }
+    ensures front { OnErr result (AppendsFront (W.contents out.old) (W.contents out.new) bytes.now) }
+{
+    let mut at: usize = 0;
+    'writes: for _ in 0..u64::MAX {
+        if bytes.len() <= at {
+            return Ok(());
+        }
+        match out.write(&bytes[at..]) {
+            Ok(0) => {
+                let message = "failed to write whole buffer";
+                return Err(io::Error::new(ErrorKind::WriteZero, message));
+            }
+            Ok(more) => at += more,
+            Err(e) => {
+                if e.kind() != ErrorKind::Interrupted {
+                    return Err(e);
+                }
+            }
+        }
+    }
+    Err(io::Error::new(ErrorKind::TimedOut, TOO_MANY_TRIES))
+}
+
+// ---- The words of a run
+
 // All words that the program of this name was started with; where one is unknown, how the program is asked is written
 // to standard error. What the system hands over is in no contract, so this has none but that it is safe and ends. A
 // word of more than 16 bytes is read as an empty one, which is unknown too; 16 is more than every known word has. An
 // error is that of writing to standard error.
-pub fn given(
-    rt: &impl Env,
-    standard_error: &mut impl io::Write,
-    program: &[u8],
-) -> io::Result<Words> {
+pub fn given(rt: &impl Env, standard_error: &mut impl Write, program: &[u8]) -> io::Result<Words> {
     let mut words = NONE;
     for i in 1..usize::MAX {
         let mut space = [0u8; 16];
@@ -89,8 +149,8 @@ pub fn given(
     Ok(words)
 }
 
-fn usage(standard_error: &mut impl io::Write, program: &[u8]) -> io::Result<()> {
-    standard_error.write_all(b"usage: ")?;
-    standard_error.write_all(program)?;
-    standard_error.write_all(b" [--strict] [--entries] < TEXT\n")
+fn usage(standard_error: &mut impl Write, program: &[u8]) -> io::Result<()> {
+    put_all(standard_error, b"usage: ")?;
+    put_all(standard_error, program)?;
+    put_all(standard_error, b" [--strict] [--entries] < TEXT\n")
 }

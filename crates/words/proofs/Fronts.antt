@@ -1,0 +1,27 @@
+-- Bytes of which a front part was written: nothing, all, or more behind what was written before.
+-- Assumes nothing.
+use Rattle.std.proofs.Common.{◌≡◌, ℕ, ◌+◌, ◌≤◌, List, ◌++◌, arith, refl, sym, ap, ◌∙◌, subst, length, take, take-add, take_at, drop_at, take_all, length-append, le_refl}
+use lib.Seq.{take-append-le}
+use Rattle.std.specs.declared.option.Option.{Option}
+use Rattle.std.specs.Io.KnownBytes.{Appends}
+use Rattle.std.proofs.KnownBytes.{Appends-nil, Appends-trans}
+use Rattle.words.specs.Written.{AppendsFront}
+
+pub front_of_nothing : (o : Option (List ℕ)) (due : List ℕ) → AppendsFront o o due
+front_of_nothing o due = (0, omega arith, Appends-nil o)
+
+pub front_of_all : (o p : Option (List ℕ)) (due : List ℕ) → Appends o p due → AppendsFront o p due
+front_of_all o p due h = (length due, le_refl _, subst (Appends o p) (sym (take_all (length due) due (le_refl _))) h)
+
+-- a front part of the whole: what was written before, and a front part of what comes next
+front_joined : (before here behind : List ℕ) (n : ℕ) → n ≤ length here → before ++ take n here ≡ take (length before + n) (before ++ (here ++ behind))
+front_joined before here behind n l =
+    sym (take-add (length before) n (before ++ (here ++ behind)) ∙ rw (take_at before (here ++ behind) (length before) refl, drop_at before (here ++ behind) (length before) refl, take-append-le n here behind l) refl)
+
+pub front_behind : (o p q : Option (List ℕ)) (before here behind due : List ℕ) → before ++ (here ++ behind) ≡ due → Appends o p before → AppendsFront p q here
+    → AppendsFront o q due
+front_behind o p q before here behind due e h (n, l, k) = (
+  length before + n,
+  omega (arith, l, ap length e, length-append before (here ++ behind), length-append here behind),
+  subst (Appends o q) (front_joined before here behind n l ∙ ap (take (length before + n)) e) (Appends-trans o p q before (take n here) h k),
+)
