@@ -14,7 +14,8 @@ use std::io::Write;
 // Prints what the program prints for a text. An error is that of writing, and a front part was printed.
 fn print_listing<W: Write>(out: &mut W, rules: rules::Rules, text: &[u8]) -> io::Result<()>
     ensures listed { OnOk result (Appends (W.contents out.old) (W.contents out.new) (printed_listing rules text.now)) }
-    ensures front { OnErr result (AppendsFront (W.contents out.old) (W.contents out.new) (printed_listing rules text.now)) }
+    ensures front { OnErr result (AppendsFront (W.contents out.old) (W.contents out.new)
+        (printed_listing rules text.now)) }
 {
     let mut page = [0u8; 8192];
     // R347: what is printed is shorter than 8,192 bytes
