@@ -2,24 +2,27 @@
 // `listing::print`'s; here it is only read, asked for and written.
 #![tactic(auto)]
 
-ghost use Rattle.std.specs.Prelude.{OnOk};
+ghost use Rattle.std.specs.Prelude.{OnOk, OnErr};
 ghost use Rattle.std.specs.Io.KnownBytes.{Appends};
 ghost use Rattle.listing.specs.Listing.{printed_listing};
+ghost use Rattle.words.specs.Written.{AppendsFront};
 
 use decimal::Put;
 use std::io;
 use std::io::Write;
 
-// Prints what the program prints for a text. An error is that of writing.
+// Prints what the program prints for a text. An error is that of writing, and a front part was printed.
 fn print_listing<W: Write>(out: &mut W, rules: rules::Rules, text: &[u8]) -> io::Result<()>
-    ensures { OnOk result (Appends (W.contents out.old) (W.contents out.new) (printed_listing rules text.now)) }
+    ensures listed { OnOk result (Appends (W.contents out.old) (W.contents out.new) (printed_listing rules text.now)) }
+    ensures front { OnErr result (AppendsFront (W.contents out.old) (W.contents out.new)
+        (printed_listing rules text.now)) }
 {
     let mut page = [0u8; 8192];
     // R347: what is printed is shorter than 8,192 bytes
     let Put::Next(end) = listing::print(rules, text, &mut page) else {
         unreachable!();
     };
-    out.write_all(&page[0..end])
+    words::put_all(out, &page[0..end])
 }
 
 fn main(rt: HostRuntime) -> io::Result<()> {

@@ -14,6 +14,8 @@ use Rattle.rewriting.specs.declared.Rewriting.{Rewriting}
 use Rattle.rewriting.specs.declared.Rewriting.TheVariants.{Done}
 use Rattle.rewriting.specs.Record.{rewriting_of, text_at, buffer_by}
 use Rattle.rewriting.specs.Printed.{program_rewriting, rewritten_from, rewritten, printed, Reached, start, one_more}
+use Rattle.words.specs.Written.{AppendsFront}
+use Rattle.words.proofs.Fronts.{front_behind}
 use Rattle.rewriting.proofs.Promises.{done_front}
 use Rattle.rewriting.proofs.Printing.{Printing, rewritten_done, rewritten_stop, rewritten_enough, end_never}
 
@@ -79,16 +81,27 @@ module _ (ρ : Rules) (s : List ℕ) where
             let z : bytes - 0 ≡ bytes = omega arith in
             rw (z, p, d) (done_front ρ s at 8192 8192 bytes next e page)
 
+        further : rewritten_from ρ (length s) s at ≡ text_at ρ s at ++ rewritten_from ρ (length s) s next
+        further = rewritten_enough ρ s (length s) (suc (length s)) at (omega arith) (omega arith) ∙ rewritten_done ρ s (length s) at bytes next e
+
         pub writing_more : (page : List ℕ) {page' : List ℕ} → page' ≡ buffer_by ρ s at answer page → {out'' : Option (List ℕ)} → Appends out' out'' (take (bytes - 0) page')
             → Writing ρ s next out out''
         writing_more page {page'} p {out''} k =
-            let f : rewritten_from ρ (length s) s at ≡ text_at ρ s at ++ rewritten_from ρ (length s) s next =
-            rewritten_enough ρ s (length s) (suc (length s)) at (omega arith) (omega arith) ∙ rewritten_done ρ s (length s) at bytes next e in
             record {
               before = w.before ++ text_at ρ s at;
               reached = one_more at bytes next w.before w.reached e;
-              whole = append_assoc w.before (text_at ρ s at) (rewritten_from ρ (length s) s next) ∙ ap (λ y. w.before ++ y) (sym f) ∙ w.whole;
+              whole = append_assoc w.before (text_at ρ s at) (rewritten_from ρ (length s) s next) ∙ ap (λ y. w.before ++ y) (sym further) ∙ w.whole;
               written =
                   appends_more out out' out'' w.before (text_at ρ s at) w.written
                   (subst (λ t. Appends out' out'' t) (front page page' p) k);
             }
+
+        -- where the record's text is not printed whole: a front part of it, and so of all that is due
+        pub written_part : length s ≤ 65536 → (page : List ℕ) {page' : List ℕ} → page' ≡ buffer_by ρ s at answer page → (out'' : Option (List ℕ))
+            → AppendsFront out' out'' (take (bytes - 0) page') → AppendsFront out out'' (printed ρ s)
+        unfolding printed
+        written_part few page {page'} p out'' k =
+            rw (le-leb (length s) 65536 few)
+            (front_behind out out' out'' w.before (text_at ρ s at) (rewritten_from ρ (length s) s next) (rewritten ρ s)
+            (ap (λ y. w.before ++ y) (sym further) ∙ w.whole) w.written
+            (subst (λ t. AppendsFront out' out'' t) (front page page' p) k))

@@ -3,9 +3,10 @@
 // written.
 #![tactic(auto)]
 
-ghost use Rattle.std.specs.Prelude.{◌≡◌, length, IfOk, OnOk};
+ghost use Rattle.std.specs.Prelude.{◌≡◌, length, IfOk, OnOk, OnErr};
 ghost use Rattle.std.specs.Io.KnownBytes.{Appends};
 ghost use Rattle.rewriting.specs.Printed.{Stopped, printed};
+ghost use Rattle.words.specs.Written.{AppendsFront};
 
 use rewriting::Rewriting;
 use std::io;
@@ -13,7 +14,8 @@ use std::io::Write;
 
 // Prints the canonical text of each record from the text's start on, until the first that is not rewritten with 0, and
 // gives the place where it stopped; of a text longer than 65,536 bytes, nothing. The table has a cell for each byte of
-// the page, which is always enough (R347). An error is that of writing, and nothing is printed behind it.
+// the page, which is always enough (R347). An error is that of writing, and nothing is printed behind it: on the output
+// stands a front part of what is due.
 fn print_text<W: Write>(
     out: &mut W,
     rules: rules::Rules,
@@ -25,6 +27,8 @@ fn print_text<W: Write>(
     requires page { length page.old ≡ 8192 }
     ensures stopped { IfOk result (λ at. Stopped rules text.now at) }
     ensures written { OnOk result (Appends (W.contents out.old) (W.contents out.new) (printed rules text.now)) }
+    ensures front { OnErr result (AppendsFront (W.contents out.old) (W.contents out.new)
+        (printed rules text.now)) }
 {
     if 65536 < text.len() {
         return Ok(0);
@@ -35,7 +39,7 @@ fn print_text<W: Write>(
         let Rewriting::Done(bytes, next) = answer else {
             return Ok(at);
         };
-        out.write_all(&page[0..bytes])?;
+        words::put_all(out, &page[0..bytes])?;
         at = next;
     }
     Ok(at)
@@ -52,12 +56,6 @@ fn main(rt: HostRuntime) -> io::Result<()> {
     let text = &space[0..n];
     let mut table = [0i64; 8192];
     let mut page = [0u8; 8192];
-    print_text(
-        &mut rt.stdout(),
-        rules,
-        text,
-        &mut table,
-        &mut page,
-    )?;
+    print_text(&mut rt.stdout(), rules, text, &mut table, &mut page)?;
     Ok(())
 }

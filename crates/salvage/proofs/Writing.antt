@@ -17,6 +17,8 @@ use Rattle.salvaging.specs.Pieces.{piece_end, piece_at, pieces_from, pieces, cop
 use Rattle.salvaging.specs.Printed.{printed_pieces, BehindPieces, start, one_more}
 use Rattle.salvaging.proofs.Pieces.{piece_end_lem, pieces_end, pieces_more}
 use Rattle.salvaging.proofs.Printing.{Printing}
+use Rattle.words.specs.Written.{AppendsFront}
+use Rattle.words.proofs.Fronts.{front_behind}
 use Rattle.salvage.specs.Written.{printed_copy, printed_report}
 
 -- ---- bytes that grow
@@ -31,10 +33,14 @@ appends_more (Some xs) None q a b h k = absurd h
 appends_more (Some xs) (Some ys) None a b h k = absurd k
 appends_more (Some xs) (Some ys) (Some zs) a b h k = k ∙ ap (λ t. t ++ b) h ∙ append_assoc xs a b
 
+flat_both : {A : Type 0} (f : A → List ℕ) (xs ys : List A) → flat_map f (xs ++ ys) ≡ flat_map f xs ++ flat_map f ys
+unfolding flat_map
+flat_both f [] ys = refl
+flat_both f (x ∷ xs) ys = ap (λ t. f x ++ t) (flat_both f xs ys) ∙ sym (append_assoc (f x) (flat_map f xs) (flat_map f ys))
+
 flat_last : {A : Type 0} (f : A → List ℕ) (xs : List A) (x : A) → flat_map f (xs ++ (x ∷ [])) ≡ flat_map f xs ++ f x
 unfolding flat_map
-flat_last f [] x = append-nil (f x)
-flat_last f (y ∷ ys) x = ap (λ t. f y ++ t) (flat_last f ys x) ∙ sym (append_assoc (f y) (flat_map f ys) (f x))
+flat_last f xs x = flat_both f xs (x ∷ []) ∙ ap (λ t. flat_map f xs ++ t) (append-nil (f x))
 
 -- the first bytes of a page into which a text was put
 pub front_over : {end : ℕ} {page : List ℕ} (text old : List ℕ) → (end ≡ 0 + length text) × (end ≤ length old) × (page ≡ over 0 text old) → take (end - 0) page ≡ text
@@ -110,3 +116,19 @@ module _ (ρ : Rules) (s : List ℕ) where
           → Appends told' told'' (report_of piece) → Writing ρ s end out out'' told told''
       writing_more e f c r =
           rw (f, e) (one_further (subst (λ p. Appends out' out'' (copy_of s p)) e c) (subst (λ p. Appends told' told'' (report_of p)) e r))
+
+    -- where the piece at hand is not printed whole: of what is due of it a front part, and so of what is due of all pieces
+    module _ (few : length s ≤ 65536) (l : at < length s) {piece : Piece} (e : piece ≡ piece_at ρ s at) where
+      due : (f : Piece → List ℕ) → flat_map f w.before ++ (f piece ++ flat_map f (pieces_from ρ s (piece_end piece))) ≡ flat_map f (printed_pieces ρ s)
+      unfolding flat_map printed_pieces
+      due f =
+          rw (e, le-leb (length s) 65536 few)
+          (sym (flat_both f w.before (piece_at ρ s at ∷ pieces_from ρ s (piece_end (piece_at ρ s at))))
+          ∙ ap (λ ps. flat_map f (w.before ++ ps)) (sym (pieces_more ρ s at l))
+          ∙ ap (flat_map f) w.whole)
+
+      pub copied_part : (out'' : Option (List ℕ)) → AppendsFront out' out'' (copy_of s piece) → AppendsFront out out'' (printed_copy ρ s)
+      copied_part out'' = front_behind out out' out'' (flat_map (copy_of s) w.before) (copy_of s piece) _ (printed_copy ρ s) (due (copy_of s)) w.copied
+
+      pub reported_part : (told'' : Option (List ℕ)) → AppendsFront told' told'' (report_of piece) → AppendsFront told told'' (printed_report ρ s)
+      reported_part told'' = front_behind told told' told'' (flat_map report_of w.before) (report_of piece) _ (printed_report ρ s) (due report_of) w.reported

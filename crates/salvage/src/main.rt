@@ -3,31 +3,36 @@
 // `salvaging::piece_at`'s; here they are only read, asked for and written.
 #![tactic(auto)]
 
-ghost use Rattle.std.specs.Prelude.{◌≡◌, [], ◌∷◌, ◌≤◌, length, IfOk, OnOk};
+ghost use Rattle.std.specs.Prelude.{◌≡◌, [], ◌∷◌, ◌≤◌, length, IfOk, OnOk, OnErr};
 ghost use Rattle.std.specs.Io.KnownBytes.{Appends};
 ghost use Rattle.decimal.specs.Rows.{row_text};
 ghost use Rattle.salvaging.specs.Pieces.{piece_end, copy_of, report_of};
 ghost use Rattle.salvaging.specs.Printed.{AllPassed};
 ghost use Rattle.salvage.specs.Written.{printed_copy, printed_report};
+ghost use Rattle.words.specs.Written.{AppendsFront};
 
 use decimal::Put;
 use salvaging::Piece;
 use std::io;
 use std::io::Write;
 
-// R357: the line of a stretch: its place and its length.
+// R357: the line of a stretch: its place and its length. An error is that of writing, and a front part of it was
+// printed.
 fn print_stretch<E: Write>(standard_error: &mut E, place: usize, long: usize) -> io::Result<()>
-    ensures { OnOk result (Appends (E.contents standard_error.old) (E.contents standard_error.new) (row_text (place ∷ long ∷ []))) }
+    ensures told { OnOk result (Appends (E.contents standard_error.old) (E.contents standard_error.new) (row_text (place ∷ long ∷ []))) }
+    ensures front { OnErr result (AppendsFront (E.contents standard_error.old) (E.contents standard_error.new)
+        (row_text (place ∷ long ∷ []))) }
 {
     let mut line = [0u8; 42];
     // two numbers of 20 digits, a space and a line feed have room
     let Put::Next(end) = decimal::put_row(&mut line, 0, b"", &[place as u64, long as u64]) else {
         unreachable!();
     };
-    standard_error.write_all(&line[0..end])
+    words::put_all(standard_error, &line[0..end])
 }
 
-// Prints a piece of the text, and gives the place where it ends. An error is that of writing.
+// Prints a piece of the text, and gives the place where it ends. An error is that of writing, and a front part of what
+// is due was printed on each output: nothing on the one that the piece is not for.
 fn print_piece<W: Write, E: Write>(
     out: &mut W,
     standard_error: &mut E,
@@ -38,11 +43,15 @@ fn print_piece<W: Write, E: Write>(
     ensures end { IfOk result (λ end. end ≡ piece_end piece) }
     ensures copied { OnOk result (Appends (W.contents out.old) (W.contents out.new) (copy_of text.now piece)) }
     ensures reported { OnOk result (Appends (E.contents standard_error.old) (E.contents standard_error.new) (report_of piece)) }
+    ensures copied_front { OnErr result (AppendsFront (W.contents out.old) (W.contents out.new)
+        (copy_of text.now piece)) }
+    ensures reported_front { OnErr result (AppendsFront (E.contents standard_error.old) (E.contents standard_error.new)
+        (report_of piece)) }
 {
     match piece {
         Piece::Copied(place, long) => {
             let end = place + long;
-            out.write_all(&text[place..end])?;
+            words::put_all(out, &text[place..end])?;
             Ok(end)
         }
         Piece::LeftOut(place, long) => {
@@ -53,7 +62,8 @@ fn print_piece<W: Write, E: Write>(
 }
 
 // Prints piece after piece from the text's start to its end, and gives the place where it stopped; of a text longer
-// than 65,536 bytes, nothing. An error is that of writing, and nothing is printed behind it.
+// than 65,536 bytes, nothing. An error is that of writing, and nothing is printed behind it: on each output stands a
+// front part of what is due.
 fn print_text<W: Write, E: Write>(
     out: &mut W,
     standard_error: &mut E,
@@ -63,6 +73,10 @@ fn print_text<W: Write, E: Write>(
     ensures passed { IfOk result (λ at. AllPassed rules text.now at) }
     ensures copied { OnOk result (Appends (W.contents out.old) (W.contents out.new) (printed_copy rules text.now)) }
     ensures reported { OnOk result (Appends (E.contents standard_error.old) (E.contents standard_error.new) (printed_report rules text.now)) }
+    ensures copied_front { OnErr result (AppendsFront (W.contents out.old) (W.contents out.new)
+        (printed_copy rules text.now)) }
+    ensures reported_front { OnErr result (AppendsFront (E.contents standard_error.old) (E.contents standard_error.new)
+        (printed_report rules text.now)) }
 {
     if 65536 < text.len() {
         return Ok(0);

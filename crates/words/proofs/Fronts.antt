@@ -1,6 +1,6 @@
 -- Bytes of which a front part was written: nothing, all, or more behind what was written before.
 -- Assumes nothing.
-use Rattle.std.proofs.Common.{◌≡◌, ℕ, ◌+◌, ◌≤◌, List, ◌++◌, arith, refl, sym, ap, ◌∙◌, subst, length, take, take-add, take_at, drop_at, take_all, length-append, le_refl}
+use Rattle.std.proofs.Common.{Result, Ok, Err, OnErr, ◌≡◌, ℕ, ◌+◌, ◌≤◌, List, ◌++◌, arith, refl, sym, ap, ◌∙◌, subst, length, take, take-add, take_at, drop_at, take_all, length-append, le_refl}
 use lib.Seq.{take-append-le}
 use Rattle.std.specs.declared.option.Option.{Option}
 use Rattle.std.specs.Io.KnownBytes.{Appends}
@@ -25,3 +25,8 @@ front_behind o p q before here behind due e h (n, l, k) = (
   omega (arith, l, ap length e, length-append before (here ++ behind), length-append here behind),
   subst (Appends o q) (front_joined before here behind n l ∙ ap (take (length before + n)) e) (Appends-trans o p q before (take n here) h k),
 )
+
+-- what an error leaves
+pub on_error : {T E P : Type 0} (r : Result T E) → P → OnErr r P
+on_error (Ok v) p = tt
+on_error (Err e) p = p

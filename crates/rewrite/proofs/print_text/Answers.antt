@@ -2,7 +2,8 @@
 -- Assumes nothing.
 use Rattle.std.proofs.Common.{rules, ◌≡◌, ℕ, arith}
 use Rattle.rewriting.proofs.Printing.{printing_none, printing_ended, printing_stop, printing_room, printing_further}
-use Rattle.rewrite.proofs.Writing.{writing_first, none_written, printing_of, ended_written, stopped_written, writing_more}
+use Rattle.words.proofs.Fronts.{on_error}
+use Rattle.rewrite.proofs.Writing.{writing_first, none_written, printing_of, ended_written, stopped_written, writing_more, written_part}
 use Rattle.rewrite.proofs.print_text.Goals as goal
 
 pub returns-then-text-gt65536-clause-stopped : goal.returns-then-text-gt65536-clause-stopped
@@ -27,14 +28,22 @@ returns-in_default-clause-written g c =
     stopped_written c.args.rules c.args.text.now i.2 i.0 i.1 _ c.rewrite_record-answer.ensures.answer (omega arith)
     (λ bytes next e. let z : ◌≡◌ {A = ℕ} 0 1 = cc in absurd (omega arith))
 
-pub slice_bounds-write_all-end : goal.slice_bounds-write_all-end
-slice_bounds-write_all-end g c =
+pub slice_bounds-put_all-end : goal.slice_bounds-put_all-end
+slice_bounds-put_all-end g c =
     let i = c.loop-at.invariant in
     let l =
     printing_room c.args.rules c.args.text.now c.loop-at.at (printing_of c.args.rules c.args.text.now i.2) i.0 i.1 _ c.rewrite_record-answer.ensures.answer
     _ _ c.in-Done.is
     in
     search rules
+
+-- the record's text was not printed whole
+pub returns-in_err-put_all-clause-front : goal.returns-in_err-put_all-clause-front
+returns-in_err-put_all-clause-front g c =
+    let i = c.loop-at.invariant in
+    on_error _
+    (written_part c.args.rules c.args.text.now i.2 i.0 i.1 _ c.rewrite_record-answer.ensures.answer _ _ c.in-Done.is (omega arith) _ c.rewrite_record-answer.ensures.output
+    _ c.in_err-put_all.ensures.front)
 
 pub loop-at-smaller : goal.loop-at-smaller
 loop-at-smaller g c =
@@ -51,7 +60,7 @@ loop-at-preserved g c =
       search rules,
       search rules,
       writing_more c.args.rules c.args.text.now i.2 i.0 i.1 _ c.rewrite_record-answer.ensures.answer _ _ c.in-Done.is _ c.rewrite_record-answer.ensures.output
-          c.in_ok-write_all.ensures.bytes,
+          c.in_ok-put_all.ensures.all,
     )
 
 pub returns-clause-stopped : goal.returns-clause-stopped

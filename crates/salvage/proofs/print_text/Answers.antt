@@ -2,7 +2,8 @@
 -- Assumes nothing.
 use Rattle.std.proofs.Common.{arith, refl}
 use Rattle.salvaging.proofs.Printing.{printing_none, printing_ended, printing_range}
-use Rattle.salvage.proofs.Writing.{writing_first, none_copied, none_reported, printing_of, all_copied, all_reported, writing_more}
+use Rattle.words.proofs.Fronts.{on_error}
+use Rattle.salvage.proofs.Writing.{writing_first, none_copied, none_reported, printing_of, all_copied, all_reported, writing_more, copied_part, reported_part}
 use Rattle.salvage.proofs.print_text.Goals as goal
 
 pub returns-then-text-gt65536-clause-passed : goal.returns-then-text-gt65536-clause-passed
@@ -34,6 +35,17 @@ pub loop-at-preserved : goal.loop-at-preserved
 loop-at-preserved g c =
     writing_more c.args.rules c.args.text.now c.loop-at.invariant c.loop-at-test.true c.piece_at-piece.ensures c.in_ok-at.ensures.end
     c.in_ok-at.ensures.copied c.in_ok-at.ensures.reported
+
+-- the piece at hand was not printed whole
+pub returns-in_err-at-clause-copied_front : goal.returns-in_err-at-clause-copied_front
+returns-in_err-at-clause-copied_front g c =
+    on_error _
+    (copied_part c.args.rules c.args.text.now c.loop-at.invariant (omega arith) c.loop-at-test.true c.piece_at-piece.ensures _ c.in_err-at.ensures.copied_front)
+
+pub returns-in_err-at-clause-reported_front : goal.returns-in_err-at-clause-reported_front
+returns-in_err-at-clause-reported_front g c =
+    on_error _
+    (reported_part c.args.rules c.args.text.now c.loop-at.invariant (omega arith) c.loop-at-test.true c.piece_at-piece.ensures _ c.in_err-at.ensures.reported_front)
 
 pub returns-clause-passed : goal.returns-clause-passed
 returns-clause-passed g c =
