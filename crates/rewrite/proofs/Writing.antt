@@ -9,6 +9,7 @@ use lib.ListN.{length, take}
 use Rattle.std.specs.declared.option.Option.{Option}
 use Rattle.std.specs.declared.option.Option.TheVariants.{Some, None}
 use Rattle.std.specs.Io.KnownBytes.{Appends}
+use Rattle.std.proofs.KnownBytes.{Appends-nil, Appends-trans}
 use Rattle.rules.specs.declared.Rules.{Rules}
 use Rattle.rewriting.specs.declared.Rewriting.{Rewriting}
 use Rattle.rewriting.specs.declared.Rewriting.TheVariants.{Done}
@@ -18,18 +19,6 @@ use Rattle.words.specs.Written.{AppendsFront}
 use Rattle.words.proofs.Fronts.{front_behind}
 use Rattle.rewriting.proofs.Promises.{done_front}
 use Rattle.rewriting.proofs.Printing.{Printing, rewritten_done, rewritten_stop, rewritten_enough, end_never}
-
--- ---- bytes that grow
-
-pub appends_none : (o : Option (List ℕ)) → Appends o o []
-appends_none None = tt
-appends_none (Some xs) = sym (append-nil xs)
-
-appends_more : (o p q : Option (List ℕ)) (a b : List ℕ) → Appends o p a → Appends p q b → Appends o q (a ++ b)
-appends_more None p q a b h k = tt
-appends_more (Some xs) None q a b h k = absurd h
-appends_more (Some xs) (Some ys) None a b h k = absurd k
-appends_more (Some xs) (Some ys) (Some zs) a b h k = k ∙ ap (λ t. t ++ b) h ∙ append_assoc xs a b
 
 -- ---- record by record
 
@@ -42,12 +31,12 @@ pub record Writing (ρ : Rules) (s : List ℕ) (at : ℕ) (out out' : Option (Li
 module _ (ρ : Rules) (s : List ℕ) where
   pub writing_first : (out : Option (List ℕ)) → Writing ρ s 0 out out
   unfolding rewritten
-  writing_first out = record { before = []; reached = start; whole = refl; written = appends_none out }
+  writing_first out = record { before = []; reached = start; whole = refl; written = Appends-nil out }
 
   -- R341: nothing is to be written of more than 65,536 bytes
   pub none_written : 65536 < length s → (out : Option (List ℕ)) → Appends out out (printed ρ s)
   unfolding printed
-  none_written l out = rw (lt-leb (length s) 65536 l) (appends_none out)
+  none_written l out = rw (lt-leb (length s) 65536 l) (Appends-nil out)
 
   module _ {at : ℕ} {out out' : Option (List ℕ)} (w : Writing ρ s at out out') where
     pub printing_of : Printing ρ s at
@@ -92,7 +81,7 @@ module _ (ρ : Rules) (s : List ℕ) where
               reached = one_more at bytes next w.before w.reached e;
               whole = append_assoc w.before (text_at ρ s at) (rewritten_from ρ (length s) s next) ∙ ap (λ y. w.before ++ y) (sym further) ∙ w.whole;
               written =
-                  appends_more out out' out'' w.before (text_at ρ s at) w.written
+                  Appends-trans out out' out'' w.before (text_at ρ s at) w.written
                   (subst (λ t. Appends out' out'' t) (front page page' p) k);
             }
 

@@ -9,6 +9,8 @@ use lib.ListN.{length, take, drop}
 use Rattle.std.specs.declared.option.Option.{Option}
 use Rattle.std.specs.declared.option.Option.TheVariants.{Some, None}
 use Rattle.std.specs.Io.KnownBytes.{Appends}
+use Rattle.std.proofs.KnownBytes.{Appends-nil, Appends-trans}
+use Rattle.std.proofs.lemmas.Grind.{flat_map-append}
 use Rattle.base.specs.Part.{over}
 use Rattle.base.proofs.Part.{part_middle}
 use Rattle.rules.specs.declared.Rules.{Rules}
@@ -21,30 +23,9 @@ use Rattle.words.specs.Written.{AppendsFront}
 use Rattle.words.proofs.Fronts.{front_behind}
 use Rattle.salvage.specs.Written.{printed_copy, printed_report}
 
--- ---- bytes that grow
-
-pub appends_none : (o : Option (List ℕ)) → Appends o o []
-appends_none None = tt
-appends_none (Some xs) = sym (append-nil xs)
-
-pub appends_more : (o p q : Option (List ℕ)) (a b : List ℕ) → Appends o p a → Appends p q b → Appends o q (a ++ b)
-appends_more None p q a b h k = tt
-appends_more (Some xs) None q a b h k = absurd h
-appends_more (Some xs) (Some ys) None a b h k = absurd k
-appends_more (Some xs) (Some ys) (Some zs) a b h k = k ∙ ap (λ t. t ++ b) h ∙ append_assoc xs a b
-
-flat_both : {A : Type 0} (f : A → List ℕ) (xs ys : List A) → flat_map f (xs ++ ys) ≡ flat_map f xs ++ flat_map f ys
-unfolding flat_map
-flat_both f [] ys = refl
-flat_both f (x ∷ xs) ys = ap (λ t. f x ++ t) (flat_both f xs ys) ∙ sym (append_assoc (f x) (flat_map f xs) (flat_map f ys))
-
 flat_last : {A : Type 0} (f : A → List ℕ) (xs : List A) (x : A) → flat_map f (xs ++ (x ∷ [])) ≡ flat_map f xs ++ f x
 unfolding flat_map
-flat_last f xs x = flat_both f xs (x ∷ []) ∙ ap (λ t. flat_map f xs ++ t) (append-nil (f x))
-
--- the first bytes of a page into which a text was put
-pub front_over : {end : ℕ} {page : List ℕ} (text old : List ℕ) → (end ≡ 0 + length text) × (end ≤ length old) × (page ≡ over 0 text old) → take (end - 0) page ≡ text
-front_over text old m = rw (m.0, m.2) (part_middle [] text (drop (0 + length text) old))
+flat_last f xs x = flat_map-append f xs (x ∷ []) ∙ ap (λ t. flat_map f xs ++ t) (append-nil (f x))
 
 -- ---- piece by piece
 
@@ -64,8 +45,8 @@ module _ (ρ : Rules) (s : List ℕ) where
     reached = start;
     inside = omega arith;
     whole = refl;
-    copied = appends_none out;
-    reported = appends_none told;
+    copied = Appends-nil out;
+    reported = Appends-nil told;
   }
 
   -- R341: nothing is to be written of more than 65,536 bytes
@@ -76,11 +57,11 @@ module _ (ρ : Rules) (s : List ℕ) where
 
     pub none_copied : (out : Option (List ℕ)) → Appends out out (printed_copy ρ s)
     unfolding flat_map
-    none_copied out = rw none_printed (appends_none out)
+    none_copied out = rw none_printed (Appends-nil out)
 
     pub none_reported : (told : Option (List ℕ)) → Appends told told (printed_report ρ s)
     unfolding flat_map
-    none_reported told = rw none_printed (appends_none told)
+    none_reported told = rw none_printed (Appends-nil told)
 
   module _ {at : ℕ} {out out' told told' : Option (List ℕ)} (w : Writing ρ s at out out' told told') where
     pub printing_of : Printing ρ s at
@@ -108,8 +89,8 @@ module _ (ρ : Rules) (s : List ℕ) where
             reached = one_more at w.before l w.reached;
             inside = (piece_end_lem ρ s at l).1;
             whole = append_assoc w.before (here ∷ []) (pieces_from ρ s (piece_end here)) ∙ ap (λ ps. w.before ++ ps) (sym (pieces_more ρ s at l)) ∙ w.whole;
-            copied = rw (flat_last (copy_of s) w.before here) (appends_more out out' out'' (flat_map (copy_of s) w.before) (copy_of s here) w.copied c);
-            reported = rw (flat_last report_of w.before here) (appends_more told told' told'' (flat_map report_of w.before) (report_of here) w.reported r);
+            copied = rw (flat_last (copy_of s) w.before here) (Appends-trans out out' out'' (flat_map (copy_of s) w.before) (copy_of s here) w.copied c);
+            reported = rw (flat_last report_of w.before here) (Appends-trans told told' told'' (flat_map report_of w.before) (report_of here) w.reported r);
           }
 
       pub writing_more : {piece : Piece} → piece ≡ piece_at ρ s at → {end : ℕ} → end ≡ piece_end piece → Appends out' out'' (copy_of s piece)
@@ -123,7 +104,7 @@ module _ (ρ : Rules) (s : List ℕ) where
       unfolding flat_map printed_pieces
       due f =
           rw (e, le-leb (length s) 65536 few)
-          (sym (flat_both f w.before (piece_at ρ s at ∷ pieces_from ρ s (piece_end (piece_at ρ s at))))
+          (sym (flat_map-append f w.before (piece_at ρ s at ∷ pieces_from ρ s (piece_end (piece_at ρ s at))))
           ∙ ap (λ ps. flat_map f (w.before ++ ps)) (sym (pieces_more ρ s at l))
           ∙ ap (flat_map f) w.whole)
 

@@ -1,17 +1,13 @@
--- Bytes of which a front part was written: nothing, all, or more behind what was written before.
+-- Bytes of which a front part was written, behind what was written before; the bytes that a page into which a text was put begins with.
 -- Assumes nothing.
-use Rattle.std.proofs.Common.{Result, Ok, Err, OnErr, ◌≡◌, ℕ, ◌+◌, ◌≤◌, List, ◌++◌, arith, refl, sym, ap, ◌∙◌, subst, length, take, take-add, take_at, drop_at, take_all, length-append, le_refl}
+use Rattle.std.proofs.Common.{[], drop, ◌-◌, Result, Ok, Err, OnErr, ◌≡◌, ℕ, ◌+◌, ◌≤◌, List, ◌++◌, arith, refl, sym, ap, ◌∙◌, subst, length, take, take-add, take_at, drop_at, take_all, length-append, le_refl}
 use lib.Seq.{take-append-le}
 use Rattle.std.specs.declared.option.Option.{Option}
 use Rattle.std.specs.Io.KnownBytes.{Appends}
-use Rattle.std.proofs.KnownBytes.{Appends-nil, Appends-trans}
+use Rattle.std.proofs.KnownBytes.{Appends-trans}
+use Rattle.base.specs.Part.{over}
+use Rattle.base.proofs.Part.{part_middle}
 use Rattle.words.specs.Written.{AppendsFront}
-
-pub front_of_nothing : (o : Option (List ℕ)) (due : List ℕ) → AppendsFront o o due
-front_of_nothing o due = (0, omega arith, Appends-nil o)
-
-pub front_of_all : (o p : Option (List ℕ)) (due : List ℕ) → Appends o p due → AppendsFront o p due
-front_of_all o p due h = (length due, le_refl _, subst (Appends o p) (sym (take_all (length due) due (le_refl _))) h)
 
 -- a front part of the whole: what was written before, and a front part of what comes next
 front_joined : (before here behind : List ℕ) (n : ℕ) → n ≤ length here → before ++ take n here ≡ take (length before + n) (before ++ (here ++ behind))
@@ -30,3 +26,7 @@ front_behind o p q before here behind due e h (n, l, k) = (
 pub on_error : {T E P : Type 0} (r : Result T E) → P → OnErr r P
 on_error (Ok v) p = tt
 on_error (Err e) p = p
+
+-- a page into which a text was put from its first byte on begins with that text
+pub front_over : {end : ℕ} {page : List ℕ} (text old : List ℕ) → (end ≡ 0 + length text) × (end ≤ length old) × (page ≡ over 0 text old) → take (end - 0) page ≡ text
+front_over text old m = rw (m.0, m.2) (part_middle [] text (drop (0 + length text) old))

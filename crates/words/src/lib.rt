@@ -5,7 +5,7 @@
 ghost use Rattle.std.specs.Prelude.{◌≡◌, ◌<◌, ◌≤◌, length, take, IfOk, OnOk, OnErr};
 ghost use Rattle.std.specs.Io.KnownBytes.{Appends, Consumes, IsAtEnd};
 ghost use Rattle.words.specs.Words.{same_bytes, with_word};
-ghost use Rattle.words.specs.Written.{AppendsFront};
+ghost use Rattle.words.specs.Written.{AppendsFront, ConsumesInto};
 
 use std::env::FillError;
 use std::io;
@@ -75,12 +75,14 @@ pub fn with_word(words: Words, word: &[u8]) -> Words
 const TOO_MANY_TRIES: &str = "gave up reading or writing after 2^64 tries";
 
 // Reads until the space is full or the input gives nothing more, and gives how many bytes were read; they are the
-// space's first. A read that a signal interrupted is tried again. Nothing is allocated.
+// space's first; with an error, some of them may stand there. A read that a signal interrupted is tried again. Nothing
+// is allocated.
 pub fn filled<R: Read>(input: &mut R, space: &mut [u8]) -> io::Result<usize>
     ensures room { length space.new ≡ length space.old }
     ensures fits { IfOk result (λ n. n ≤ length space.new) }
     ensures consumed { IfOk result (λ n. Consumes (R.remaining input.old) (R.remaining input.new) (take n space.new)) }
     ensures all { IfOk result (λ n. n < length space.new → IsAtEnd (R.remaining input.new)) }
+    ensures front { OnErr result (ConsumesInto (R.remaining input.old) (R.remaining input.new) space.new) }
 {
     let mut n: usize = 0;
     'reads: for _ in 0..u64::MAX {

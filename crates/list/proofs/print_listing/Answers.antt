@@ -5,7 +5,7 @@ use Rattle.std.specs.Io.KnownBytes.{Appends}
 use Rattle.decimal.proofs.Writing.{next_means, puts_length}
 use Rattle.listing.proofs.Bound.{print_no_refusal}
 use Rattle.words.specs.Written.{AppendsFront}
-use Rattle.list.proofs.Front.{front_over}
+use Rattle.words.proofs.Fronts.{front_over}
 use Rattle.list.proofs.print_listing.Goals as goal
 
 pub unreachable-requires : goal.unreachable-requires

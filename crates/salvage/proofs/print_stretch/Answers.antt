@@ -5,7 +5,7 @@ use Rattle.std.specs.Io.KnownBytes.{Appends}
 use Rattle.decimal.proofs.Writing.{next_means, none_means, puts_length}
 use Rattle.salvaging.proofs.Printing.{stretch_room}
 use Rattle.words.specs.Written.{AppendsFront}
-use Rattle.salvage.proofs.Writing.{front_over}
+use Rattle.words.proofs.Fronts.{front_over}
 use Rattle.salvage.proofs.print_stretch.Goals as goal
 
 pub unreachable-requires : goal.unreachable-requires

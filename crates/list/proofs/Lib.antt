@@ -1,2 +1,0 @@
--- The first bytes of a page into which a text was put (Front).
-mod Front
