@@ -70,25 +70,30 @@ declared() { # FOLDER
                 file = $1
                 split(file, part, "/")
                 where = part[2] " " substr(file, length(part[2]) + 9)
-                owner = "-"; braces = 0; nested = 0; awaited = ""; open = 0; before = ""
+                owner = "-"; braces = 0; nested = 0; head = 0; awaited = ""; open = 0; before = ""
             }
             { word = $2 }
             word == "{" { braces++ }
             word == "}" && --braces == 0 { owner = "-" }
             word ~ /^[([]$/ { nested++ }
             word ~ /^[])]$/ { nested-- }
-            awaited == "impl" { owner = word }
+            # the type of an impl is what stands last in its head, its parameters aside
+            awaited == "impl" && nested == 0 { head = 1; angles = 0 }
+            head && word == "<" { angles++ }
+            head && word == ">" && before != "-" { angles-- }
+            head && word ~ /^({|where)$/ { head = 0 }
+            head && angles == 0 && word ~ /^[A-Za-z]/ { owner = word }
             awaited ~ /^(enum|struct)$/ { print "code", where, "-", word, open; owner = word; members = 1 }
-            awaited ~ /^(fn|const)$/ { print "code", where, owner, word, open }
-            awaited == "" && owner != "-" && members && braces == 1 && nested == 0 && before ~ /^([{,]|pub)$/ && word ~ /^[A-Za-z]/ {
-                if (word != "pub")
+            awaited ~ /^(fn|const|static)$/ { print "code", where, owner, word, open }
+            awaited == "" && owner != "-" && members && braces == 1 && nested == 0 && before ~ /^([{,]|pub|ghost)$/ && word ~ /^[A-Za-z]/ {
+                if (word !~ /^(pub|ghost)$/)
                     print "code", where, owner, word, "-"
             }
             awaited == "" && word == "impl" { members = 0 }
             awaited != "" { open = "-" }
-            { awaited = word ~ /^(impl|enum|struct|fn|const)$/ ? word : "" }
+            { awaited = word ~ /^(impl|enum|struct|fn|const|static)$/ ? word : "" }
             word ~ /^(pub|extern)$/ { open = "open" }
-            word !~ /^(pub|extern|""|const|unsafe|fn|enum|struct|impl)$/ { open = "-" }
+            word !~ /^(pub|extern|""|const|static|unsafe|fn|enum|struct|impl)$/ { open = "-" }
             { before = word }'
     )
 }
@@ -98,7 +103,7 @@ looked_up() { # DECLARED DOCUMENT..
     awk '
         BEGIN {
             # words of the language and of what the programs print; folders of every crate
-            many = split("requires|ensures|pub fn|let .. else|specs/|proofs/|src/|must-fail/|E|end|end |end 0 0 11 0", list, "|")
+            many = split("requires|ensures|pub fn|let .. else|static|Option|Result|specs/|proofs/|src/|must-fail/|E|end|end |end 0 0 11 0", list, "|")
             for (i = 1; i <= many; i++)
                 word[list[i]] = 1
         }
@@ -296,6 +301,8 @@ printf '%s\n' '-- pub remark : A' 'pub record Whole : Type 0 where' '  pub part 
     >"$one/specs/A.antt"
 printf '%s\n' 'module _ where' '  pub law-one : A' '  law-one = a' '    where' '    inner : A' >"$one/proofs/A.antt"
 printf '%s\n' 'pub enum E { One, Two(u8) }' 'impl E {' '    pub const TOP: u8 = 1;' '}' '// pub fn gone()' 'pub fn f(s: S) -> E { }' \
+    'static ROWS: [u8; 2] = [1, 2];' "pub struct View<'a> { pub text: &'a [u8], ghost kept: { A } }" \
+    "impl<'a> From<S> for View<'a> { fn from(s: &impl Into<S>) -> View<'a> { } }" "impl View<'_> { pub fn kept_of(self) -> E { } }" \
     >"$one/src/lib.rt"
 : >"$one/must-fail/bad_answer.edit"
 : >"$work/made/tests/a.sh"
@@ -322,7 +329,10 @@ made 1 '`short` (two, `specs/A.antt`)'
 made 2 '| `short` | (one, `specs/A.antt`) |'
 made 1 '`short` and no file'
 made 1 '`short` (`specs/A.antt`), `short` (one, `specs/A.antt`)'
+made 0 '`one::ROWS`, `one::View`, `one::View::text`, `one::View::kept`, `one::View::from(s: S)`, `one::View::kept_of`'
 made 1 '`one::gone`'
+made 1 '`one::From::from`'
+made 1 '`one::View::ghost`'
 made 1 '`one::E::Three`'
 made 1 '`two::f`'
 made 1 '`f(s: S)`'
@@ -397,4 +407,4 @@ counted 'there are files that may cite them' [ $# -ge 200 ]
 counted 'a rule that is cited stands in FORMAT.md' none "$(unknown "$work/standing" "$@")"
 # shellcheck disable=SC2086
 counted 'a rule of FORMAT.md is cited in the documents' none "$(uncited "$work/standing" $documents)"
-finished 60
+finished 63

@@ -1,10 +1,10 @@
 -- A test at each element of a list, which antt computes where the list and its elements are given.
-use Rattle.std.specs.Prelude.{Bool, true, false, ◌&&◌, ◌||◌, List, [], ◌∷◌, ℕ, zero, suc, eqb}
+use Rattle.std.specs.Prelude.{Bool, false, ◌||◌, List, [], ◌∷◌, ℕ, zero, suc, eqb}
+use Rattle.std.specs.List.{list_all}
 
 -- the test passes at each element
 abbrev pub every : {A : Type 0} → (A → Bool) → List A → Bool
-every f [] = true
-every f (x ∷ xs) = f x && every f xs
+every f xs = list_all f xs
 
 -- the number is one of these
 abbrev pub has : List ℕ → ℕ → Bool

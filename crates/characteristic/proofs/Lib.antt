@@ -1,3 +1,2 @@
 -- The laws of characteristic's definitions.
 pub mod NoReading
-pub mod Arms

@@ -8,22 +8,12 @@ ghost use Rattle.characteristic.specs.NoReading.{Frequency, IsNoReading};
 pub fn is_frequency(number: usize) -> bool
     ensures { T result ↔ Frequency number }
 {
-    match number {
-        1 | 2 | 4..=10 | 22 | 23 | 25 | 27..=31 | 35 | 36 | 44 | 46 | 48 => true,
-        _ => false,
-    }
+    matches!(number, 1 | 2 | 4..=10 | 22 | 23 | 25 | 27..=31 | 35 | 36 | 44 | 46 | 48)
 }
 
 // R291: whether this cell of the characteristic of this number means no reading.
 pub fn is_no_reading(number: usize, cell: i64) -> bool
     ensures { T result ↔ IsNoReading number cell }
 {
-    let m = number::signed(cell);
-    if m.neg {
-        return false;
-    }
-    if m.size == 9999000 {
-        return true;
-    }
-    m.size == 999900 && is_frequency(number)
+    cell == 9999000 || (cell == 999900 && is_frequency(number))
 }

@@ -10,9 +10,8 @@ use Rattle.rules.specs.declared.Rules.{Rules}
 use Rattle.reply.specs.declared.Refusal.{Refusal}
 use Rattle.reply.specs.declared.Refusal.TheVariants.{Misformed, OtherRelease, FilledVacant, BrokenRule, OtherLength}
 use Rattle.reply.specs.Table.{Numbered}
-use Rattle.reply.specs.declared.Checked.{Checked}
-use Rattle.reply.specs.declared.Checked.TheVariants.{Right, Refused}
 use Rattle.reply.specs.Refusals.{refusal_reply, checked_reply, rows}
+use Rattle.std.proofs.Common.{Result, Ok, Err}
 use Rattle.reply.proofs.Replies.{fills, refusal_fills, at_row, rows_left}
 use Rattle.count.specs.Numbered.{counts_refusals, counts_rows, check_refusals, check_rows}
 use Rattle.count.specs.Check.{accepted_of, checked_of}
@@ -32,9 +31,9 @@ counts_refusal_numbered ns r (broken_rule g d) =
 pub accepted_numbered : (ns : List ℕ) → Numbered counts_rows (checked_reply (accepted_of ns))
 accepted_numbered ns = by (accepted_of ns) ((accepted_first_due ns (accepted_of ns)).0 refl)
   where
-    by : (a : Checked) → AcceptedDue ns a → Numbered counts_rows (checked_reply a)
-    by Right d = inl (fills 0 [] tt)
-    by (Refused r) d = inr (counts_refusal_numbered ns r d)
+    by : (a : Result (Unit {0}) Refusal) → AcceptedDue ns a → Numbered counts_rows (checked_reply a)
+    by (Ok right) d = inl (fills 0 [] tt)
+    by (Err r) d = inr (counts_refusal_numbered ns r d)
 
 pub check_refusal_numbered : (ρ : Rules) (ns : List ℕ) (cells : ℕ) (r : Refusal) → RefusedFor ρ ns cells r → Numbered (rows check_refusals) (refusal_reply r)
 check_refusal_numbered ρ ns cells r (refused_counts q d) = rows_left counts_refusals (OtherLength ∷ []) (refusal_reply q) (counts_refusal_numbered ns q d)
@@ -43,6 +42,6 @@ check_refusal_numbered ρ ns cells r (other_length d) = at_row 4 (rows check_ref
 pub check_numbered : (ρ : Rules) (ns : List ℕ) (cells : ℕ) → Numbered check_rows (checked_reply (checked_of ρ ns cells))
 check_numbered ρ ns cells = by (checked_of ρ ns cells) ((first_due ρ ns cells (checked_of ρ ns cells)).0 refl)
   where
-    by : (c : Checked) → Due ρ ns cells c → Numbered check_rows (checked_reply c)
-    by Right d = inl (fills 0 [] tt)
-    by (Refused r) d = inr (check_refusal_numbered ρ ns cells r d)
+    by : (c : Result (Unit {0}) Refusal) → Due ρ ns cells c → Numbered check_rows (checked_reply c)
+    by (Ok right) d = inl (fills 0 [] tt)
+    by (Err r) d = inr (check_refusal_numbered ρ ns cells r d)

@@ -14,22 +14,18 @@ use Rattle.base.specs.Every.{every}
 use Rattle.base.proofs.Choice.{and_left, and_right}
 use Rattle.base.proofs.Order.{le_or_lt}
 use Rattle.count.specs.Rules.{Rule, lower, one, lowest, head_rules, sets, letter_rules, rules, ruling_of}
+use Rattle.std.proofs.Common.{Option, Some, None}
 use Rattle.count.specs.Blame.{Blames, Says, KeepsRules, BreaksRules}
-use Rattle.count.specs.declared.Ruling.{Ruling}
-use Rattle.count.specs.declared.Ruling.TheVariants.{Kept, Broken}
 
-pub lower_kept : (a : Ruling) → lower a Kept ≡ a
-lower_kept Kept = refl
-lower_kept (Broken g) = refl
+pub lower_kept : (a : Option ℕ) → lower a None ≡ a
+lower_kept None = refl
+lower_kept (Some g) = refl
 
-pub lower_one : {a b : Ruling} {g : ℕ} → a ≡ Broken g → b ≡ Kept → lower a b ≡ Broken g
-lower_one e f = rw (e, f)
-
-pub lower_assoc : (a b c : Ruling) → lower (lower a b) c ≡ lower a (lower b c)
-lower_assoc Kept b c = refl
-lower_assoc (Broken g) Kept c = refl
-lower_assoc (Broken g) (Broken h) Kept = refl
-lower_assoc (Broken g) (Broken h) (Broken k) = ap Broken (omega arith)
+pub lower_assoc : (a b c : Option ℕ) → lower (lower a b) c ≡ lower a (lower b c)
+lower_assoc None b c = refl
+lower_assoc (Some g) None c = refl
+lower_assoc (Some g) (Some h) None = refl
+lower_assoc (Some g) (Some h) (Some k) = ap Some (omega arith)
 
 pub lowest_append : (rs ss : List Rule) → lowest (rs ++ ss) ≡ lower (lowest rs) (lowest ss)
 unfolding lowest
@@ -38,27 +34,27 @@ lowest_append (r ∷ rs) ss = ap (lower (one r)) (lowest_append rs ss) ∙ sym (
 
 -- rules met one after the other, from those of a table
 module _ {S : Type 0} (f : S → Rule) (d : S) (ss : List S) where
-  pub lowest_more : (low : Ruling) (k : ℕ) → k < length ss → lower low (lowest (map f (drop k ss))) ≡ lower (lower low (one (f (get_or ss k d)))) (lowest (map f (drop (k + 1) ss)))
+  pub lowest_more : (low : Option ℕ) (k : ℕ) → k < length ss → lower low (lowest (map f (drop k ss))) ≡ lower (lower low (one (f (get_or ss k d)))) (lowest (map f (drop (k + 1) ss)))
   unfolding lowest
   lowest_more low k h =
       rw (add-one k, drop-cons ss k d h) (sym (lower_assoc low (one (f (get_or ss k d))) (lowest (map f (drop (suc k) ss)))))
 
-  pub lowest_done : (low : Ruling) (k : ℕ) → length ss ≤ k → lower low (lowest (map f (drop k ss))) ≡ low
+  pub lowest_done : (low : Option ℕ) (k : ℕ) → length ss ≤ k → lower low (lowest (map f (drop k ss))) ≡ low
   unfolding lowest
   lowest_done low k h = rw (drop_of_length-le ss h) (lower_kept low)
 
 -- ---- in plain words
 
 -- a rule more, kept or broken
-says_kept : (r : Rule) (rs : List Rule) (a : Ruling) → r.kept ≡ true → Says rs a → Says (r ∷ rs) a
+says_kept : (r : Rule) (rs : List Rule) (a : Option ℕ) → r.kept ≡ true → Says rs a → Says (r ∷ rs) a
 unfolding Blames
-says_kept r rs Kept k s = λ g b. ⊎_elim (λ h. absurd (true≢false (sym k ∙ h.0))) (s g) b
-says_kept r rs (Broken g) k s = record { broken = inr s.broken; lowest = λ h b. ⊎_elim (λ j. absurd (true≢false (sym k ∙ j.0))) (s.lowest h) b }
+says_kept r rs None k s = λ g b. ⊎_elim (λ h. absurd (true≢false (sym k ∙ h.0))) (s g) b
+says_kept r rs (Some g) k s = record { broken = inr s.broken; lowest = λ h b. ⊎_elim (λ j. absurd (true≢false (sym k ∙ j.0))) (s.lowest h) b }
 
-says_broken : (r : Rule) (rs : List Rule) (a : Ruling) → r.kept ≡ false → Says rs a → Says (r ∷ rs) (lower (Broken r.blamed) a)
+says_broken : (r : Rule) (rs : List Rule) (a : Option ℕ) → r.kept ≡ false → Says rs a → Says (r ∷ rs) (lower (Some r.blamed) a)
 unfolding Blames
-says_broken r rs Kept k s = record { broken = inl (k, refl); lowest = λ h b. ⊎_elim (λ j. omega (arith, j.1)) (λ l. absurd (s h l)) b }
-says_broken r rs (Broken g) k s =
+says_broken r rs None k s = record { broken = inl (k, refl); lowest = λ h b. ⊎_elim (λ j. omega (arith, j.1)) (λ l. absurd (s h l)) b }
+says_broken r rs (Some g) k s =
     record {
       broken = ⊎_elim (λ (l : r.blamed ≤ g). inl (k, omega arith)) (λ (l : g < r.blamed). inr (rw (least l) s.broken)) (le_or_lt r.blamed g);
       lowest = λ h b. ⊎_elim (λ j. omega (arith, j.1)) (λ l. omega (arith, s.lowest h l)) b;
@@ -73,34 +69,34 @@ unfolding lowest Blames
 lowest_says [] = λ g b. b
 lowest_says (r ∷ rs) = by r.kept refl (lowest_says rs)
   where
-    by : (k : Bool) → r.kept ≡ k → Says rs (lowest rs) → Says (r ∷ rs) (lower (cond k Kept (Broken r.blamed)) (lowest rs))
+    by : (k : Bool) → r.kept ≡ k → Says rs (lowest rs) → Says (r ∷ rs) (lower (cond k None (Some r.blamed)) (lowest rs))
     by true e s = says_kept r rs (lowest rs) e s
     by false e s = says_broken r rs (lowest rs) e s
 
 -- and only one answer does
-pub says_one : (rs : List Rule) (a b : Ruling) → Says rs a → Says rs b → a ≡ b
-says_one rs Kept Kept s t = refl
-says_one rs Kept (Broken g) s t = absurd (s g t.broken)
-says_one rs (Broken g) Kept s t = absurd (t g s.broken)
-says_one rs (Broken g) (Broken h) s t = ap Broken (omega (arith, s.lowest h t.broken, t.lowest g s.broken))
+pub says_one : (rs : List Rule) (a b : Option ℕ) → Says rs a → Says rs b → a ≡ b
+says_one rs None None s t = refl
+says_one rs None (Some g) s t = absurd (s g t.broken)
+says_one rs (Some g) None s t = absurd (t g s.broken)
+says_one rs (Some g) (Some h) s t = ap Some (omega (arith, s.lowest h t.broken, t.lowest g s.broken))
 
 -- R207: reply 7 with a group exactly if the group is blamed and no lower one is; no 7 exactly if none is
-pub ruling_says : (ns : List ℕ) (a : Ruling) → ruling_of ns ≡ a ↔ Says (rules ns) a
+pub ruling_says : (ns : List ℕ) (a : Option ℕ) → ruling_of ns ≡ a ↔ Says (rules ns) a
 unfolding ruling_of
 ruling_says ns a = (λ e. subst (Says (rules ns)) e (lowest_says (rules ns)), λ s. says_one (rules ns) (lowest (rules ns)) a (lowest_says (rules ns)) s)
 
 module _ (ns : List ℕ) where
-  pub kept_ruling : KeepsRules ns → ruling_of ns ≡ Kept
-  kept_ruling k = (ruling_says ns Kept).1 k
+  pub kept_ruling : KeepsRules ns → ruling_of ns ≡ None
+  kept_ruling k = (ruling_says ns None).1 k
 
-  pub ruling_kept : ruling_of ns ≡ Kept → KeepsRules ns
-  ruling_kept e = (ruling_says ns Kept).0 e
+  pub ruling_kept : ruling_of ns ≡ None → KeepsRules ns
+  ruling_kept e = (ruling_says ns None).0 e
 
-  pub broken_ruling : {g : ℕ} → BreaksRules ns g → ruling_of ns ≡ Broken g
-  broken_ruling {g = g} b = (ruling_says ns (Broken g)).1 b
+  pub broken_ruling : {g : ℕ} → BreaksRules ns g → ruling_of ns ≡ Some g
+  broken_ruling {g = g} b = (ruling_says ns (Some g)).1 b
 
-  pub ruling_broken : {g : ℕ} → ruling_of ns ≡ Broken g → BreaksRules ns g
-  ruling_broken {g = g} e = (ruling_says ns (Broken g)).0 e
+  pub ruling_broken : {g : ℕ} → ruling_of ns ≡ Some g → BreaksRules ns g
+  ruling_broken {g = g} e = (ruling_says ns (Some g)).0 e
 
 -- ---- which groups rules can blame
 

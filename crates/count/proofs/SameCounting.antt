@@ -10,12 +10,11 @@ use Rattle.rules.specs.declared.Rules.{Rules}
 use Rattle.base.specs.Every.{up_from}
 use Rattle.base.specs.Sum.{sum}
 use Rattle.base.proofs.Mapped.{map_same}
-use Rattle.form.specs.declared.GroupForm.{GroupForm}
-use Rattle.form.specs.declared.GroupForm.TheVariants.{Has, NoGroup}
+use Rattle.form.specs.declared.Form.{Form}
+use Rattle.std.proofs.Common.{Option, Some, None, Ok, Err}
 use Rattle.form.specs.Table.{form_of}
 use Rattle.form.proofs.Segments as Segments
 use Rattle.reply.specs.declared.Refusal.TheVariants.{OtherLength}
-use Rattle.reply.specs.declared.Checked.TheVariants.{Right, Refused}
 use Rattle.count.specs.Tally.{count_of, lines_by, cells_by, lines_in, cells_in, line_tally, cell_tally, lines_before, cells_before, record_lines, record_cells}
 use Rattle.count.specs.Check.{accepted_of, and_then, checked_of}
 
@@ -24,17 +23,17 @@ module _ (σ ρ : Rules) (alike : σ.counting ≡ ρ.counting) (ns : List ℕ) w
   unfolding lines_in
   lines_same g = by (form_of g)
     where
-      by : (f : GroupForm) → lines_by σ f (count_of ns g) ≡ lines_by ρ f (count_of ns g)
-      by (Has f) = Segments.lines_same σ ρ alike f (count_of ns g)
-      by NoGroup = refl
+      by : (f : Option Form) → lines_by σ f (count_of ns g) ≡ lines_by ρ f (count_of ns g)
+      by (Some f) = Segments.lines_same σ ρ alike f (count_of ns g)
+      by None = refl
 
   pub cells_same : (g : ℕ) → cells_in σ ns g ≡ cells_in ρ ns g
   unfolding cells_in
   cells_same g = by (form_of g)
     where
-      by : (f : GroupForm) → cells_by σ f (count_of ns g) ≡ cells_by ρ f (count_of ns g)
-      by (Has f) = Segments.cells_same σ ρ alike f (count_of ns g)
-      by NoGroup = refl
+      by : (f : Option Form) → cells_by σ f (count_of ns g) ≡ cells_by ρ f (count_of ns g)
+      by (Some f) = Segments.cells_same σ ρ alike f (count_of ns g)
+      by None = refl
 
   pub line_tally_same : line_tally σ ns ≡ line_tally ρ ns
   unfolding line_tally
@@ -61,4 +60,4 @@ module _ (σ ρ : Rules) (alike : σ.counting ≡ ρ.counting) (ns : List ℕ) w
   -- R302: so a table is as long as they ask for under each of them or under none
   pub check_same : (cells : ℕ) → checked_of σ ns cells ≡ checked_of ρ ns cells
   unfolding checked_of
-  check_same cells = ap (λ n. and_then (accepted_of ns) (cond (eqb cells n) Right (Refused OtherLength))) record_cells_same
+  check_same cells = ap (λ n. and_then (accepted_of ns) (cond (eqb cells n) (Ok tt) (Err OtherLength))) record_cells_same

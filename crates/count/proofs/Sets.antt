@@ -196,10 +196,11 @@ module _ (ns : List ℕ) (s : Set) where
         kept_seen ns s
         ∙ rw (← seen.agrees, next h, settle_agree v (count_of ns g) (counts_from ns s (g + 1)), d)
 
-    pub seen_more : g ≤ s.last → differ v (count_of ns g) ≡ false → Seen ns s (settle v (count_of ns g)) (g + 1)
-    seen_more h d =
-        let a : agree v (counts_from ns s g) ≡ agree (settle v (count_of ns g)) (counts_from ns s (g + 1)) = rw (next h, settle_agree v (count_of ns g) (counts_from ns s (g + 1)), d) in
-        let b : seen_in v (counts_from ns s g) ≡ seen_in (settle v (count_of ns g)) (counts_from ns s (g + 1)) = rw (next h) (settle_seen v (count_of ns g) (counts_from ns s (g + 1))) in
+    pub seen_more : (n w : ℕ) → g ≤ s.last → n ≡ count_of ns g → differ v n ≡ false → w ≡ settle v n → Seen ns s w (g + 1)
+    seen_more n w h e d f =
+        let more = next h ∙ ap (λ x. x ∷ counts_from ns s (g + 1)) (sym e) in
+        let a : agree v (counts_from ns s g) ≡ agree w (counts_from ns s (g + 1)) = rw (more, settle_agree v n (counts_from ns s (g + 1)), d, f) in
+        let b : seen_in v (counts_from ns s g) ≡ seen_in w (counts_from ns s (g + 1)) = rw (more, f) (settle_seen v n (counts_from ns s (g + 1))) in
         record { agrees = sym a ∙ seen.agrees; sees = sym b ∙ seen.sees }
 
     pub seen_end : s.last < g → keeps ns s ≡ ends_seen ns s v

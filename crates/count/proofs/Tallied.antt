@@ -18,8 +18,7 @@ use Rattle.base.proofs.UpFrom.{length_up, get_d_map_up}
 use Rattle.form.specs.Table.{form_of}
 use Rattle.form.specs.Count.{lines_of, cells_of}
 use Rattle.form.specs.declared.Form.{Form}
-use Rattle.form.specs.declared.GroupForm.{GroupForm}
-use Rattle.form.specs.declared.GroupForm.TheVariants.{Has, NoGroup}
+use Rattle.std.proofs.Common.{Option, Some, None}
 use Rattle.form.proofs.Counted.{lines_none, lines_few, cells_none, cells_few}
 use Rattle.count.specs.Tally.{count_of, lines_by, cells_by, lines_in, cells_in, line_tally, cell_tally, lines_before, cells_before, record_lines, record_cells, Before}
 
@@ -35,21 +34,21 @@ count_beyond ns g h = get_or-eq_default (0 ∷ ns) 0 {n = g} h
 -- ---- what a count has in a group's form: nothing if it is 0, and never so much that a sum over the groups is long
 
 module _ (ρ : Rules) where
-  pub no_lines : (f : GroupForm) → lines_by ρ f 0 ≡ 0
-  no_lines (Has f) = lines_none ρ f
-  no_lines NoGroup = refl
+  pub no_lines : (f : Option Form) → lines_by ρ f 0 ≡ 0
+  no_lines (Some f) = lines_none ρ f
+  no_lines None = refl
 
-  pub no_cells : (f : GroupForm) → cells_by ρ f 0 ≡ 0
-  no_cells (Has f) = cells_none ρ f
-  no_cells NoGroup = refl
+  pub no_cells : (f : Option Form) → cells_by ρ f 0 ≡ 0
+  no_cells (Some f) = cells_none ρ f
+  no_cells None = refl
 
-  pub lines_by_few : (f : GroupForm) (n : ℕ) → n ≤ 65535 → lines_by ρ f n ≤ 65535
-  lines_by_few (Has f) n h = lines_few ρ f n h
-  lines_by_few NoGroup n h = omega arith
+  pub lines_by_few : (f : Option Form) (n : ℕ) → n ≤ 65535 → lines_by ρ f n ≤ 65535
+  lines_by_few (Some f) n h = lines_few ρ f n h
+  lines_by_few None n h = omega arith
 
-  pub cells_by_few : (f : GroupForm) (n : ℕ) → n ≤ 65535 → cells_by ρ f n ≤ 7864200
-  cells_by_few (Has f) n h = cells_few ρ f n h
-  cells_by_few NoGroup n h = omega arith
+  pub cells_by_few : (f : Option Form) (n : ℕ) → n ≤ 65535 → cells_by ρ f n ≤ 7864200
+  cells_by_few (Some f) n h = cells_few ρ f n h
+  cells_by_few None n h = omega arith
 
 -- ---- a tally: a first entry, then one for each group 1 to 60
 
@@ -100,9 +99,9 @@ module _ (first : ℕ) (f : ℕ → ℕ) where
 -- ---- the lines and the cells before a group, a group more
 
 module _ (ρ : Rules) (ns : List ℕ) where
-  pub before_none : Before ρ ns 0 0 0
+  pub before_none : (g : ℕ) → g ≡ 0 → Before ρ ns g 0 0
   unfolding lines_before cells_before line_tally cell_tally
-  before_none = record { lines_are = sym (tally_none 2 (lines_in ρ ns)); cells_are = sym (tally_none 0 (cells_in ρ ns)) }
+  before_none g e = rw e record { lines_are = sym (tally_none 2 (lines_in ρ ns)); cells_are = sym (tally_none 0 (cells_in ρ ns)) }
 
   pub before_groups : Before ρ ns 1 2 0
   unfolding lines_before cells_before line_tally cell_tally
@@ -114,11 +113,11 @@ module _ (ρ : Rules) (ns : List ℕ) where
       record { lines_are = b.lines_are ∙ tally_end 2 (lines_in ρ ns) g; cells_are = b.cells_are ∙ tally_end 0 (cells_in ρ ns) g }
 
   module _ (g l c : ℕ) (some : 0 < g) (few : g < 61) (b : Before ρ ns g l c) where
-    pub before_more : Before ρ ns (g + 1) (l + lines_by ρ (form_of g) (count_of ns g)) (c + cells_by ρ (form_of g) (count_of ns g))
+    pub before_more : (n m d : ℕ) → n ≡ count_of ns g → m ≡ l + lines_by ρ (form_of g) n → d ≡ c + cells_by ρ (form_of g) n → Before ρ ns (g + 1) m d
     unfolding lines_before cells_before line_tally cell_tally lines_in cells_in
-    before_more = record {
-      lines_are = rw b.lines_are (sym (tally_more 2 (lines_in ρ ns) g some few));
-      cells_are = rw b.cells_are (sym (tally_more 0 (cells_in ρ ns) g some few));
+    before_more n m d e p q = record {
+      lines_are = rw (p, e, b.lines_are) (sym (tally_more 2 (lines_in ρ ns) g some few));
+      cells_are = rw (q, e, b.cells_are) (sym (tally_more 0 (cells_in ρ ns) g some few));
     }
 
 -- before 61 is the whole record
@@ -149,7 +148,7 @@ pub lines_in_lem : (ρ : Rules) (ns : List ℕ) (g : ℕ) → lines_in ρ ns g �
 unfolding lines_in
 lines_in_lem ρ ns g = refl
 
-pub lines_has : (ρ : Rules) (ns : List ℕ) (g : ℕ) (f : Form) → form_of g ≡ Has f → lines_in ρ ns g ≡ lines_of ρ f (count_of ns g)
+pub lines_has : (ρ : Rules) (ns : List ℕ) (g : ℕ) (f : Form) → form_of g ≡ Some f → lines_in ρ ns g ≡ lines_of ρ f (count_of ns g)
 unfolding lines_in
 lines_has ρ ns g f e = rw e
 
@@ -163,7 +162,7 @@ lines_all ρ ns g h = tally_all 2 (lines_in ρ ns) g h
 
 -- ---- the cells before a group
 
-pub cells_has : (ρ : Rules) (ns : List ℕ) (g : ℕ) (f : Form) → form_of g ≡ Has f → cells_in ρ ns g ≡ cells_of ρ f (count_of ns g)
+pub cells_has : (ρ : Rules) (ns : List ℕ) (g : ℕ) (f : Form) → form_of g ≡ Some f → cells_in ρ ns g ≡ cells_of ρ f (count_of ns g)
 unfolding cells_in
 cells_has ρ ns g f e = rw e
 

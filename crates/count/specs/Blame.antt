@@ -1,8 +1,6 @@
 -- R120, R207: reply 7 in plain words. A broken rule blames a group, and the lowest of the groups blamed is given.
-use Rattle.std.specs.Prelude.{◌≡◌, false, List, [], ◌∷◌, ◌⊎◌, ℕ, ◌≤◌}
+use Rattle.std.specs.Prelude.{◌≡◌, false, List, [], ◌∷◌, ◌⊎◌, ℕ, ◌≤◌, Option, Some, None}
 use Rattle.count.specs.Rules.{Rule, rules}
-use Rattle.count.specs.declared.Ruling.{Ruling}
-use Rattle.count.specs.declared.Ruling.TheVariants.{Kept, Broken}
 
 -- some rule that blames the group is broken
 unfoldable pub Blames : List Rule → ℕ → Type 0
@@ -18,9 +16,9 @@ pub record LowestBlamed (rs : List Rule) (g : ℕ) : Type 0 where
   pub broken : Blames rs g
   pub lowest : (h : ℕ) → Blames rs h → g ≤ h
 
-abbrev pub Says : List Rule → Ruling → Type 0
-Says rs Kept = NoneBlamed rs
-Says rs (Broken g) = LowestBlamed rs g
+abbrev pub Says : List Rule → Option ℕ → Type 0
+Says rs None = NoneBlamed rs
+Says rs (Some g) = LowestBlamed rs g
 
 -- R121 to R128, of these counts
 abbrev pub KeepsRules : List ℕ → Type 0

@@ -1,16 +1,12 @@
 -- R233, R302: when each answer about counts is due, and about counts and a table's length: its own condition holds, and none earlier in the
 -- order 4, 5, 6, 7, 14.
-use Rattle.std.specs.Prelude.{◌≡◌, List, ℕ, ◌<◌, ◌≤◌, length, get_or}
+use Rattle.std.specs.Prelude.{◌≡◌, List, ℕ, ◌<◌, ◌≤◌, length, get_or, Result, Ok, Err}
 use Rattle.rules.specs.declared.Rules.{Rules}
 use Rattle.form.specs.Count.{most_count}
 use Rattle.count.specs.Tally.{count_of, record_cells}
 use Rattle.count.specs.Blame.{KeepsRules, BreaksRules}
-use Rattle.count.specs.declared.Release.{Release}
-use Rattle.count.specs.declared.Release.TheVariants.{Five, Other, Filled}
 use Rattle.reply.specs.declared.Refusal.{Refusal}
 use Rattle.reply.specs.declared.Refusal.TheVariants.{Misformed, OtherRelease, FilledVacant, BrokenRule, OtherLength}
-use Rattle.reply.specs.declared.Checked.{Checked}
-use Rattle.reply.specs.declared.Checked.TheVariants.{Right, Refused}
 
 module _ (ns : List ℕ) where
   -- ---- R205, R206: the release
@@ -28,10 +24,11 @@ module _ (ns : List ℕ) where
     pub filled : count_of ns g ≡ 0 → ⊥
     pub lowest : (h : ℕ) → 61 ≤ h → h < g → count_of ns h ≡ 0
 
-  abbrev pub ReleaseDue : Release → Type 0
-  ReleaseDue Five = ReleaseFive
-  ReleaseDue Other = count_of ns 80 ≡ 5 → ⊥
-  ReleaseDue (Filled g) = LowestFilled g
+  abbrev pub ReleaseDue : Result (Unit {0}) Refusal → Type 0
+  ReleaseDue (Ok five) = ReleaseFive
+  ReleaseDue (Err OtherRelease) = count_of ns 80 ≡ 5 → ⊥
+  ReleaseDue (Err (FilledVacant g)) = LowestFilled g
+  ReleaseDue (Err _) = ⊥
 
   -- ---- the check of counts
 
@@ -41,30 +38,30 @@ module _ (ns : List ℕ) where
     pub small : (i : ℕ) → i < 80 → get_or ns i 0 ≤ most_count
 
   -- not 4, and what is said of the release
-  pub record Released (r : Release) : Type 0 where
+  pub record Released (r : Result (Unit {0}) Refusal) : Type 0 where
     pub counts : HasCounts
     pub release : ReleaseDue r
 
   -- R207: none of 4, 5 and 6, but a rule is broken
   pub record Breaks (g : ℕ) : Type 0 where
-    pub released : Released Five
+    pub released : Released (Ok tt)
     pub broken : BreaksRules ns g
 
   -- nor 7
   pub record HasRules : Type 0 where
-    pub released : Released Five
+    pub released : Released (Ok tt)
     pub kept : KeepsRules ns
 
   -- what counts are refused with, and when
   pub data CountsRefusedFor : Refusal → Type 0 where
     misformed : (HasCounts → ⊥) → CountsRefusedFor Misformed
-    other_release : Released Other → CountsRefusedFor OtherRelease
-    filled_vacant : (g : ℕ) → Released (Filled g) → CountsRefusedFor (FilledVacant g)
+    other_release : Released (Err OtherRelease) → CountsRefusedFor OtherRelease
+    filled_vacant : (g : ℕ) → Released (Err (FilledVacant g)) → CountsRefusedFor (FilledVacant g)
     broken_rule : (g : ℕ) → Breaks g → CountsRefusedFor (BrokenRule g)
 
-  abbrev pub AcceptedDue : Checked → Type 0
-  AcceptedDue Right = HasRules
-  AcceptedDue (Refused r) = CountsRefusedFor r
+  abbrev pub AcceptedDue : Result (Unit {0}) Refusal → Type 0
+  AcceptedDue (Ok right) = HasRules
+  AcceptedDue (Err r) = CountsRefusedFor r
 
 module _ (ρ : Rules) (ns : List ℕ) where
   -- ---- the whole check
@@ -84,6 +81,6 @@ module _ (ρ : Rules) (ns : List ℕ) where
     refused_counts : (r : Refusal) → CountsRefusedFor ns r → RefusedFor cells r
     other_length : Differs cells → RefusedFor cells OtherLength
 
-  abbrev pub Due : ℕ → Checked → Type 0
-  Due cells Right = HasCells cells
-  Due cells (Refused r) = RefusedFor cells r
+  abbrev pub Due : ℕ → Result (Unit {0}) Refusal → Type 0
+  Due cells (Ok right) = HasCells cells
+  Due cells (Err r) = RefusedFor cells r

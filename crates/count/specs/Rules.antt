@@ -1,22 +1,20 @@
 -- R24, R25: the release and the vacant groups (replies 5 and 6). R120 to R128: the rules on counts (reply 7).
-use Rattle.std.specs.Prelude.{Bool, true, false, cond, not, ◌&&◌, ◌||◌, List, [], ◌∷◌, ◌++◌, map, ℕ, suc, ◌-◌, min, eqb, leb}
+use Rattle.std.specs.Prelude.{Bool, true, false, cond, not, ◌&&◌, ◌||◌, List, [], ◌∷◌, ◌++◌, map, ℕ, suc, ◌-◌, min, eqb, leb, Option, Some, None, Result, Ok, Err}
 use Rattle.base.specs.Every.{every, up_from}
 use Rattle.count.specs.Tally.{count_of}
-use Rattle.count.specs.declared.Release.{Release}
-use Rattle.count.specs.declared.Release.TheVariants.{Five, Other, Filled}
-use Rattle.count.specs.declared.Ruling.{Ruling}
-use Rattle.count.specs.declared.Ruling.TheVariants.{Kept, Broken}
+use Rattle.reply.specs.declared.Refusal.{Refusal}
+use Rattle.reply.specs.declared.Refusal.TheVariants.{OtherRelease, FilledVacant}
 use Rattle.count.specs.declared.Set.{Set}
 
 -- ---- R24: the number 80 is no count but the release, and only 5 is accepted. R25: 61 to 79 are no groups, so their counts are 0
 
 -- R206: the first of these groups that has a count
-unfoldable pub filled_among : List ℕ → List ℕ → Release
-filled_among ns [] = Five
-filled_among ns (g ∷ gs) = cond (eqb (count_of ns g) 0) (filled_among ns gs) (Filled g)
+unfoldable pub filled_among : List ℕ → List ℕ → Result (Unit {0}) Refusal
+filled_among ns [] = Ok tt
+filled_among ns (g ∷ gs) = cond (eqb (count_of ns g) 0) (filled_among ns gs) (Err (FilledVacant g))
 
-unfoldable pub release_of : List ℕ → Release
-release_of ns = cond (eqb (count_of ns 80) 5) (filled_among ns (up_from 61 19)) Other
+unfoldable pub release_of : List ℕ → Result (Unit {0}) Refusal
+release_of ns = cond (eqb (count_of ns 80) 5) (filled_among ns (up_from 61 19)) (Err OtherRelease)
 
 -- ---- R120: each rule blames a group; of the groups that broken rules blame, the lowest is reported
 
@@ -28,16 +26,16 @@ abbrev pub rule : ℕ → Bool → Rule
 rule g k = record { blamed = g; kept = k }
 
 -- the lower of two answers' groups
-abbrev pub lower : Ruling → Ruling → Ruling
-lower Kept b = b
-lower (Broken g) Kept = Broken g
-lower (Broken g) (Broken h) = Broken (min g h)
+abbrev pub lower : Option ℕ → Option ℕ → Option ℕ
+lower None b = b
+lower (Some g) None = Some g
+lower (Some g) (Some h) = Some (min g h)
 
-abbrev pub one : Rule → Ruling
-one r = cond r.kept Kept (Broken r.blamed)
+abbrev pub one : Rule → Option ℕ
+one r = cond r.kept None (Some r.blamed)
 
-unfoldable pub lowest : List Rule → Ruling
-lowest [] = Kept
+unfoldable pub lowest : List Rule → Option ℕ
+lowest [] = None
 lowest (r ∷ rs) = lower (one r) (lowest rs)
 
 -- R121 to R124, one to a line: 4 or more, 0 to 2, 19 or more, 1 to 49
@@ -92,7 +90,7 @@ letter_rules ns =
 abbrev pub rules : List ℕ → List Rule
 rules ns = head_rules ns ++ (map (set_rule ns) sets ++ letter_rules ns)
 
-unfoldable pub ruling_of : List ℕ → Ruling
+unfoldable pub ruling_of : List ℕ → Option ℕ
 ruling_of ns = lowest (rules ns)
 
 -- ---- a set's counts, one after the other, as the code takes them (proofs/Sets.antt)

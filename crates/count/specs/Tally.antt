@@ -1,5 +1,5 @@
 -- R22: of the index's 80 numbers, the one at g is group g's count. What the counts say of lines (R28) and cells (R47).
-use Rattle.std.specs.Prelude.{◌≡◌, ℕ, suc, ℤ, get_or, take}
+use Rattle.std.specs.Prelude.{◌≡◌, ℕ, suc, ℤ, get_or, take, Option, Some, None}
 use mathlib.Core.List.{List, ◌∷◌, map, flat_map}
 use Rattle.rules.specs.declared.Rules.{Rules}
 use Rattle.base.specs.Every.{up_from}
@@ -7,8 +7,7 @@ use Rattle.base.specs.Part.{part}
 use Rattle.base.specs.Sum.{sum}
 use Rattle.form.specs.Table.{form_of}
 use Rattle.form.specs.Count.{lines_of, cells_of}
-use Rattle.form.specs.declared.GroupForm.{GroupForm}
-use Rattle.form.specs.declared.GroupForm.TheVariants.{Has, NoGroup}
+use Rattle.form.specs.declared.Form.{Form}
 
 -- R22, R243: number g of the counts, from 1; 0 where there is no such number
 abbrev pub count_of : List ℕ → ℕ → ℕ
@@ -16,13 +15,13 @@ count_of ns g = get_or (0 ∷ ns) g 0
 
 module _ (ρ : Rules) where
   -- R43, R46: the lines and the cells of a count of n in a group's form; what is no group has neither
-  abbrev pub lines_by : GroupForm → ℕ → ℕ
-  lines_by (Has f) n = lines_of ρ f n
-  lines_by NoGroup n = 0
+  abbrev pub lines_by : Option Form → ℕ → ℕ
+  lines_by (Some f) n = lines_of ρ f n
+  lines_by None n = 0
 
-  abbrev pub cells_by : GroupForm → ℕ → ℕ
-  cells_by (Has f) n = cells_of ρ f n
-  cells_by NoGroup n = 0
+  abbrev pub cells_by : Option Form → ℕ → ℕ
+  cells_by (Some f) n = cells_of ρ f n
+  cells_by None n = 0
 
   unfoldable pub lines_in : List ℕ → ℕ → ℕ
   lines_in ns g = lines_by (form_of g) (count_of ns g)

@@ -2,30 +2,17 @@
 // are lent as a slice of any length; one that is not there is 0 (R243).
 #![tactic(auto)]
 
-ghost use Rattle.std.specs.Prelude.{◌≡◌, false, ◌&&◌, map, leb, get_or, ◌+◌, ◌^◌, ◌<◌, ◌≤◌};
+ghost use Rattle.std.specs.Prelude.{◌≡◌, ◌∷◌, None, false, ◌&&◌, map, leb, get_or, ◌+◌, ◌^◌, ◌<◌, ◌≤◌};
+ghost use Rattle.base.specs.Every.{every};
 ghost use Rattle.form.specs.Table.{form_of};
+ghost use Rattle.form.specs.Count.{is_count};
 ghost use Rattle.count.specs.Tally.{count_of, lines_by, cells_by, Before};
 ghost use Rattle.count.specs.Rules.{release_of, lower, one, rule, differ, settle, keeps, lowest, head_rules};
 ghost use Rattle.count.specs.Rules.{letter_rules, set_rule, set, sets, zero_or, ruling_of};
 ghost use Rattle.count.specs.Check.{well_formed, accepted_of, checked_of};
 
-use reply::{Checked, Refusal};
-
-// R24, R25: what stands under the number 80 and under the vacant ones: release 5 and nothing, another release, or the
-// lowest vacant number with a count.
-#[derive(Clone, Copy)]
-pub enum Release {
-    Five,
-    Other,
-    Filled(usize),
-}
-
-// R120: the rules on counts are kept, or the lowest group blamed.
-#[derive(Clone, Copy)]
-pub enum Ruling {
-    Kept,
-    Broken(usize),
-}
+use form::Group;
+use reply::Refusal;
 
 // R126: a set's nonzero counts are equal; R127: where `ends` is true, its first and last group are there if any is.
 #[derive(Clone, Copy)]
@@ -35,8 +22,8 @@ struct Set {
     pub ends: bool,
 }
 
-// R125, in its order: eight traces, two profiles.
-const SETS: [Set; 10] = [
+// R125, in its order: eight traces, two profiles. It is a static, so that a loop over it builds no table.
+static SETS: [Set; 10] = [
     Set {
         first: 7,
         last: 11,
@@ -89,6 +76,13 @@ const SETS: [Set; 10] = [
     },
 ];
 
+// R261: counts that keep the rules on counts, as those of a record that was placed with 0 do: they are not tried again.
+#[derive(Clone, Copy)]
+pub struct Kept<'a> {
+    pub counts: &'a [u16],
+    ghost kept: { ruling_of counts.now ≡ None },
+}
+
 // Lines and cells.
 #[derive(Clone, Copy)]
 pub struct Totals {
@@ -96,32 +90,36 @@ pub struct Totals {
     pub cells: usize,
 }
 
+// R22, R243: what a list has under a number, from 1; `none` where it has no such number.
+pub fn at_number<T: Copy>(list: &[T], number: usize, none: T) -> T
+    ensures { result ≡ get_or (none ∷ list.now) number none }
+{
+    number
+        .checked_sub(1)
+        .and_then(|place| list.get(place))
+        .copied()
+        .unwrap_or(none)
+}
+
 // The count of a group.
 pub fn count_of(counts: &[u16], group: usize) -> u16
     ensures { result ≡ count_of counts.now group }
 {
-    if group == 0 {
-        return 0;
-    }
-    if counts.len() < group {
-        return 0;
-    }
-    counts[group - 1]
+    at_number(counts, group, 0)
 }
 
 // Totals with those of a group more. Most groups of a record have the count 0, and nothing is looked up for them.
-fn with_group(rules: rules::Rules, totals: Totals, group: usize, count: u16) -> Totals
-    requires low { 1 ≤ group }
-    requires high { group ≤ 60 }
+#[tactic(auto, using(crate::proofs::Tallied::no_lines, crate::proofs::Tallied::no_cells, form::proofs::Counted::lines_few, form::proofs::Counted::cells_few))]
+fn with_group(rules: rules::Rules, totals: Totals, group: Group, count: u16) -> Totals
     requires lines { totals.lines < 2 ^ 32 }
     requires cells { totals.cells < 2 ^ 32 }
-    ensures lines { result.lines ≡ totals.lines + lines_by rules (form_of group) count }
-    ensures cells { result.cells ≡ totals.cells + cells_by rules (form_of group) count }
+    ensures lines { result.lines ≡ totals.lines + lines_by rules (form_of group.number) count }
+    ensures cells { result.cells ≡ totals.cells + cells_by rules (form_of group.number) count }
 {
     if count == 0 {
         return totals;
     }
-    let form = form::form_in(group);
+    let form = group.form();
     Totals {
         lines: totals.lines + form::lines(rules, form, count),
         cells: totals.cells + form::cells(rules, form, count),
@@ -136,151 +134,101 @@ pub fn add_up(rules: rules::Rules, counts: &[u16], group: usize) -> Totals
     if group == 0 {
         return Totals { lines: 0, cells: 0 };
     }
-    let end = base::lesser(group, 61);
     let mut totals = Totals { lines: 2, cells: 0 };
-    let mut g: usize = 1;
-    while g < end {
-        totals = with_group(rules, totals, g, count_of(counts, g));
-        g += 1;
+    for number in 1..group.min(61) {
+        totals = with_group(rules, totals, Group { number }, count_of(counts, number));
     }
     totals
 }
 
 // R205, R206: the release is looked at first, and then the vacant numbers from 61 on.
-pub fn release_of(counts: &[u16]) -> Release
+#[tactic(auto, using(crate::proofs::Vacant::vacant_passed, crate::proofs::Vacant::vacant_found, crate::proofs::Vacant::vacant_done), unfolding(crate::specs::Rules::release_of))]
+pub fn release_of(counts: &[u16]) -> Result<(), Refusal>
     ensures { result ≡ release_of counts.now }
 {
     if count_of(counts, 80) != 5 {
-        return Release::Other;
+        return Err(Refusal::OtherRelease);
     }
-    let mut g: usize = 61;
-    while g < 80 {
+    for g in 61..80 {
         if count_of(counts, g) != 0 {
-            return Release::Filled(g);
+            return Err(Refusal::FilledVacant(g));
         }
-        g += 1;
     }
-    Release::Five
+    Ok(())
 }
 
 // The lower of two answers' groups.
-fn lower_of(a: Ruling, b: Ruling) -> Ruling
+fn lower_of(a: Option<usize>, b: Option<usize>) -> Option<usize>
     ensures { result ≡ lower a b }
 {
-    match a {
-        Ruling::Kept => b,
-        Ruling::Broken(g) => match b {
-            Ruling::Kept => Ruling::Broken(g),
-            Ruling::Broken(h) => Ruling::Broken(base::lesser(g, h)),
-        },
+    match (a, b) {
+        (Some(g), Some(h)) => Some(g.min(h)),
+        (None, group) | (group, None) => group,
     }
 }
 
 // One rule: kept, or its group blamed.
-fn ruled(group: usize, kept: bool) -> Ruling
+fn ruled(group: usize, kept: bool) -> Option<usize>
     ensures { result ≡ one (rule group kept) }
 {
-    if kept {
-        return Ruling::Kept;
-    }
-    Ruling::Broken(group)
-}
-
-fn within(n: u16, low: u16, high: u16) -> bool
-    ensures { result ≡ leb low n && leb n high }
-{
-    low <= n && n <= high
+    (!kept).then_some(group)
 }
 
 // R121 to R124.
-fn head_ruling(counts: &[u16]) -> Ruling
+#[tactic(auto, using(crate::proofs::Rulings::lower_kept), unfolding(crate::specs::Rules::head_rules, crate::specs::Rules::lowest))]
+fn head_ruling(counts: &[u16]) -> Option<usize>
     ensures { result ≡ lowest (head_rules counts.now) }
 {
-    let one = ruled(1, 4 <= count_of(counts, 1));
+    let one = ruled(1, count_of(counts, 1) >= 4);
     let two = ruled(2, count_of(counts, 2) <= 2);
-    let three = ruled(3, 19 <= count_of(counts, 3));
-    let four = ruled(4, within(count_of(counts, 4), 1, 49));
+    let three = ruled(3, count_of(counts, 3) >= 19);
+    let four = ruled(4, (1..=49).contains(&count_of(counts, 4)));
     lower_of(one, lower_of(two, lower_of(three, four)))
 }
 
-// Whether a count differs from the one nonzero count seen so far; 0 is no count, and 0 as what was seen is none yet.
+// Whether a count differs from the one nonzero count seen so far; 0 is no count, and 0 as what was seen is none yet, as
+// the definition `differ` has it.
 fn differs(seen: u16, n: u16) -> bool
     ensures { result ≡ differ seen n }
 {
-    n != 0 && (seen != 0 && n != seen)
+    n != 0 && seen != 0 && n != seen
 }
 
 // What has been seen behind a count.
 fn settled(seen: u16, n: u16) -> u16
     ensures { result ≡ settle seen n }
 {
-    if n == 0 {
-        return seen;
-    }
-    if seen == 0 {
-        return n;
-    }
-    seen
+    if n == 0 || seen != 0 { seen } else { n }
 }
 
-// R126, R127: whether a set keeps its rules.
-fn kept_by(counts: &[u16], set: Set) -> bool
-    requires { set.last ≤ 79 }
-    ensures { result ≡ keeps counts.now set }
+// R126, R127: whether a set keeps its rules. What has been seen of its nonzero counts is one of them, 0 before the first.
+#[tactic(auto, using(crate::proofs::Sets::seen_start, crate::proofs::Sets::seen_differs, crate::proofs::Sets::seen_end))]
+fn kept_by(counts: &[u16], set: &Set) -> bool
+    requires { set.now.last ≤ 79 }
+    ensures { result ≡ keeps counts.now set.now }
 {
-    let first = set.first;
-    let last = set.last;
-    let mut seen: u16 = 0;
-    let mut g = first;
-    while g <= last {
+    let mut seen = 0;
+    for g in set.first..set.last + 1 {
         let n = count_of(counts, g);
         if differs(seen, n) {
             return false;
         }
         seen = settled(seen, n);
-        g += 1;
     }
-    if !set.ends {
+    if !set.ends || seen == 0 {
         return true;
     }
-    if seen == 0 {
-        return true;
-    }
-    if count_of(counts, first) == 0 {
-        return false;
-    }
-    count_of(counts, last) != 0
-}
-
-// R125: a set by its place in the table, which is built anew where a variable indexes it, but not at a constant index.
-fn set_at(k: usize) -> Set
-    requires { k < 10 }
-    ensures { result ≡ get_or sets k (set 0 0 false) }
-{
-    match k {
-        0 => SETS[0],
-        1 => SETS[1],
-        2 => SETS[2],
-        3 => SETS[3],
-        4 => SETS[4],
-        5 => SETS[5],
-        6 => SETS[6],
-        7 => SETS[7],
-        8 => SETS[8],
-        _ => SETS[9],
-    }
+    count_of(counts, set.first) != 0 && count_of(counts, set.last) != 0
 }
 
 // A set that breaks a rule has its first group blamed.
-fn set_ruling(counts: &[u16]) -> Ruling
+#[tactic(auto, using(crate::proofs::Rulings::lowest_done, crate::proofs::Sets::last_group), unfolding(crate::specs::Rules::sets))]
+fn set_ruling(counts: &[u16]) -> Option<usize>
     ensures { result ≡ lowest (map (set_rule counts.now) sets) }
 {
-    let mut low = Ruling::Kept;
-    let mut k: usize = 0;
-    while k < 10 {
-        let set = set_at(k);
+    let mut low = None;
+    for set in &SETS {
         low = lower_of(low, ruled(set.first, kept_by(counts, set)));
-        k += 1;
     }
     low
 }
@@ -292,7 +240,8 @@ fn zero_or(x: u16, n: u16) -> bool
 }
 
 // R128: the letters go with group 4.
-fn letter_ruling(counts: &[u16]) -> Ruling
+#[tactic(auto, using(crate::proofs::Rulings::lower_kept), unfolding(crate::specs::Rules::letter_rules, crate::specs::Rules::lowest))]
+fn letter_ruling(counts: &[u16]) -> Option<usize>
     ensures { result ≡ lowest (letter_rules counts.now) }
 {
     let n = count_of(counts, 4);
@@ -302,7 +251,8 @@ fn letter_ruling(counts: &[u16]) -> Ruling
 }
 
 // R207: each rule is asked, and the lowest group blamed is the answer (R120).
-pub fn ruling_of(counts: &[u16]) -> Ruling
+#[tactic(auto, using(crate::proofs::Rulings::lowest_append), unfolding(crate::specs::Rules::ruling_of))]
+pub fn ruling_of(counts: &[u16]) -> Option<usize>
     ensures { result ≡ ruling_of counts.now }
 {
     lower_of(
@@ -311,54 +261,46 @@ pub fn ruling_of(counts: &[u16]) -> Ruling
     )
 }
 
+// R129: each count is 0 to 999.
+fn all_small(counts: &[u16]) -> bool
+    ensures { result ≡ every is_count counts.now }
+{
+    counts.iter().all(|n| *n <= 999)
+}
+
 // R129: 80 counts, each 0 to 999.
+#[tactic(auto, unfolding(crate::specs::Check::well_formed))]
 fn well_formed(counts: &[u16]) -> bool
     ensures { result ≡ well_formed counts.now }
 {
-    if counts.len() != 80 {
-        return false;
-    }
-    let mut i: usize = 0;
-    while i < counts.len() {
-        if 999 < counts[i] {
-            return false;
-        }
-        i += 1;
-    }
-    true
+    counts.len() == 80 && all_small(counts)
 }
 
 // R204 to R207: the check of counts alone: right, or the first of 4, 5, 6 and 7 that is due. None of these depends on
 // what a count counts, so no rules are given.
-pub fn check_counts(counts: &[u16]) -> Checked
+#[tactic(auto, unfolding(crate::specs::Check::accepted_of))]
+pub fn check_counts(counts: &[u16]) -> Result<(), Refusal>
     ensures { result ≡ accepted_of counts.now }
 {
     if !well_formed(counts) {
-        return Checked::Refused(Refusal::Misformed);
+        return Err(Refusal::Misformed);
     }
-    match release_of(counts) {
-        Release::Other => Checked::Refused(Refusal::OtherRelease),
-        Release::Filled(g) => Checked::Refused(Refusal::FilledVacant(g)),
-        Release::Five => match ruling_of(counts) {
-            Ruling::Broken(g) => Checked::Refused(Refusal::BrokenRule(g)),
-            Ruling::Kept => Checked::Right,
-        },
+    release_of(counts)?;
+    match ruling_of(counts) {
+        Some(group) => Err(Refusal::BrokenRule(group)),
+        None => Ok(()),
     }
 }
 
 // R302: the whole check of counts and the length of the table of all cells: right, or the first of 4, 5, 6, 7 and 14
 // that is due.
-pub fn check(rules: rules::Rules, counts: &[u16], cells: usize) -> Checked
+#[tactic(auto, using(crate::proofs::Tallied::all_cells), unfolding(crate::specs::Check::checked_of))]
+pub fn check(rules: rules::Rules, counts: &[u16], cells: usize) -> Result<(), Refusal>
     ensures { result ≡ checked_of rules counts.now cells }
 {
-    match check_counts(counts) {
-        Checked::Refused(why) => Checked::Refused(why),
-        Checked::Right => {
-            let all = add_up(rules, counts, 61);
-            if cells == all.cells {
-                return Checked::Right;
-            }
-            Checked::Refused(Refusal::OtherLength)
-        }
+    check_counts(counts)?;
+    if cells != add_up(rules, counts, 61).cells {
+        return Err(Refusal::OtherLength);
     }
+    Ok(())
 }

@@ -1,6 +1,7 @@
 -- A date that is asked for (R331): a position is blamed exactly if it is that of the first number that is outside its range, or it is 7, all are
 -- inside, and the three name no day; else the date is given. Letters that have these numbers tell the same.
 -- Assumes nothing.
+use Rattle.std.specs.Prelude.{Result, Ok, Err}
 use mathlib.Core.Path.{◌≡◌, refl, sym, ap, ◌∙◌, subst}
 use mathlib.Core.Bool.{Bool, true, false, true≢false}
 use mathlib.Core.List.{List}
@@ -12,14 +13,12 @@ use lib.Dec.{leb}
 use Rattle.base.proofs.Choice.{and_first, and_second}
 use Rattle.date.specs.declared.DigitField.{DigitField}
 use Rattle.date.specs.declared.Date.{Date}
-use Rattle.date.specs.declared.Dated.{Dated}
-use Rattle.date.specs.declared.Dated.TheVariants.{Right, Wrong}
 use Rattle.date.specs.Asked.{FieldNumber, value_in, numbers, outside, position, dated_by}
 use Rattle.date.specs.Calendar.{is_leap}
 use Rattle.date.specs.Date.{dated_of, names_one_day, judged}
 use Rattle.date.specs.Digits.{within, ReadsNumber}
 use Rattle.date.specs.Due.{AllHold, FirstFails, HasNumbers, InRange, IsAsked, AskedDue}
-use Rattle.date.proofs.Blame.{Remain, hold_given, first_fails, found, blamed_one}
+use Rattle.date.proofs.Blame.{hold_given, first_fails, found, blamed_one}
 use Rattle.date.proofs.Days.{named_day}
 use Rattle.date.proofs.Due.{day_names, no_day_names, judged_of, first_due}
 
@@ -28,7 +27,7 @@ use Rattle.date.proofs.Due.{day_names, no_day_names, judged_of, first_due}
 range_passes : (n : FieldNumber) → InRange n → outside n ≡ false
 range_passes n h = rw (le-leb n.field.least n.value h.enough, le-leb n.value n.field.greatest h.not_more)
 
-pub passes_range : (n : FieldNumber) → within n.field.least n.field.greatest n.value ≡ true → InRange n
+passes_range : (n : FieldNumber) → within n.field.least n.field.greatest n.value ≡ true → InRange n
 passes_range n e =
     let low = leb n.field.least n.value in
     let high = leb n.value n.field.greatest in
@@ -39,22 +38,18 @@ number_test n = (λ e. passes_range n (not-false _ e), range_passes n)
 
 -- ---- all seven
 
-pub all_asked : (d : Date) → Remain position outside (numbers d) (judged d) (dated_by d)
-unfolding dated_by
-all_asked d = record { decide = refl }
-
 range_judged : (d : Date) → AllHold InRange (numbers d) → dated_by d ≡ judged d
 unfolding dated_by
 range_judged d a = hold_given position outside InRange number_test (numbers d) (judged d) a
 
-outside_blamed : (d : Date) (p : ℕ) → FirstFails position InRange (numbers d) p → dated_by d ≡ Wrong p
+outside_blamed : (d : Date) (p : ℕ) → FirstFails position InRange (numbers d) p → dated_by d ≡ Err p
 unfolding dated_by
 outside_blamed d p r = first_fails position outside InRange number_test (numbers d) p (judged d) r
 
-due_given : (d : Date) (x : Dated) → AskedDue d x → dated_by d ≡ x
-due_given d (Right e) a = range_judged d a.1.each ∙ rw (day_names d a.1.one_day) (ap Right (sym a.0))
-due_given d (Wrong p) (inl r) = outside_blamed d p r
-due_given d (Wrong p) (inr m) = range_judged d m.each ∙ rw (no_day_names d m.no_day, m.blamed)
+due_given : (d : Date) (x : Result Date ℕ) → AskedDue d x → dated_by d ≡ x
+due_given d (Ok e) a = range_judged d a.1.each ∙ rw (day_names d a.1.one_day) (ap Ok (sym a.0))
+due_given d (Err p) (inl r) = outside_blamed d p r
+due_given d (Err p) (inr m) = range_judged d m.each ∙ rw (no_day_names d m.no_day, m.blamed)
 
 judged_due : (d : Date) (t : Bool) → AllHold InRange (numbers d) → names_one_day d ≡ t → AskedDue d (judged d)
 judged_due d true a e = rw e (refl, record { each = a; one_day = named_day (is_leap d.year) d.day_of_year d.month d.day e })
@@ -67,15 +62,15 @@ given_due d =
     (λ r. subst (AskedDue d) (sym (outside_blamed d r.0 r.1)) (inl r.1))
     (found position outside InRange number_test (numbers d))
 
-pub asked_first_due : (d : Date) (x : Dated) → dated_by d ≡ x ↔ AskedDue d x
+pub asked_first_due : (d : Date) (x : Result Date ℕ) → dated_by d ≡ x ↔ AskedDue d x
 asked_first_due d x = (λ e. subst (AskedDue d) e (given_due d), due_given d x)
 
 -- the date that is given is the one that is asked for
-pub asked_same : (d e : Date) → dated_by d ≡ Right e → (e ≡ d) × IsAsked d
-asked_same d e q = (asked_first_due d (Right e)).0 q
+pub asked_same : (d e : Date) → dated_by d ≡ Ok e → (e ≡ d) × IsAsked d
+asked_same d e q = (asked_first_due d (Ok e)).0 q
 
 -- a position that is blamed is one
-pub asked_position : (d : Date) (p : ℕ) → AskedDue d (Wrong p) → 1 ≤ p
+pub asked_position : (d : Date) (p : ℕ) → AskedDue d (Err p) → 1 ≤ p
 asked_position d p (inl r) = blamed_one position InRange (numbers d) p tt r
 asked_position d p (inr m) = omega (arith, m.blamed)
 
@@ -94,5 +89,5 @@ pub letters_asked : (s : List ℕ) (d : Date) → HasNumbers s d → dated_of s 
 letters_asked s d n = judged_of s d n ∙ sym (range_judged d (ranges s d n))
 
 -- so a date that a record tells may be asked for
-pub told_asked : (s : List ℕ) (d : Date) → dated_of s ≡ Right d → dated_by d ≡ Right d
-told_asked s d e = sym (letters_asked s d ((first_due s (Right d)).0 e).numbers) ∙ e
+pub told_asked : (s : List ℕ) (d : Date) → dated_of s ≡ Ok d → dated_by d ≡ Ok d
+told_asked s d e = sym (letters_asked s d ((first_due s (Ok d)).0 e).numbers) ∙ e

@@ -1,6 +1,6 @@
--- Which of several is blamed (`first_blamed`): one that holds alone passes the question on, one that fails answers it, and behind the last stands
--- what is given. A test that tells of each whether it holds alone blames the first that does not.
+-- Which of several is blamed (`first_blamed`): a test that tells of each whether it holds alone blames the first that does not.
 -- Assumes nothing.
+use Rattle.std.specs.Prelude.{Result, Err}
 use mathlib.Core.Path.{◌≡◌, refl, sym, ap, ◌∙◌, subst}
 use mathlib.Core.Bool.{Bool, true, false, true≢false}
 use mathlib.Core.List.{List, [], ◌∷◌, ◌++◌}
@@ -9,30 +9,9 @@ use Prim.Native.Nat.{ℕ, ◌≤◌}
 use lib.Dec.{T, leb, leb→le}
 use Rattle.base.specs.Every.{every}
 use Rattle.base.proofs.Choice.{and_left, and_right}
-use Rattle.date.specs.declared.Dated.{Dated}
-use Rattle.date.specs.declared.Dated.TheVariants.{Wrong}
 use Rattle.date.specs.Date.{first_blamed}
 use Rattle.date.specs.Due.{AllHold, FirstFails}
-
--- ---- one after the other, as code goes through them
-
--- what is asked is decided by these, since those before them hold
-pub record Remain {A : Type 0} (position : A → ℕ) (failing : A → Bool) (xs : List A) (given whole : Dated) : Type 0 where
-  pub decide : whole ≡ first_blamed position failing xs given
-
-module _ {A : Type 0} {position : A → ℕ} {failing : A → Bool} {given whole : Dated} where
-  module _ {x : A} {xs : List A} (r : Remain position failing (x ∷ xs) given whole) where
-    pub one_holds : failing x ≡ false → Remain position failing xs given whole
-    unfolding first_blamed
-    one_holds e = record { decide = rw e at r.decide }
-
-    pub one_fails : failing x ≡ true → whole ≡ Wrong (position x)
-    unfolding first_blamed
-    one_fails e = rw e at r.decide
-
-  pub all_hold : Remain position failing [] given whole → whole ≡ given
-  unfolding first_blamed
-  all_hold r = r.decide
+use Rattle.date.specs.declared.Date.{Date}
 
 -- ---- by a test that passes exactly where something holds alone
 
@@ -44,17 +23,17 @@ module _ {A : Type 0} (position : A → ℕ) (failing : A → Bool) (Alone : A �
       by true e = refl
       by false e = absurd (n ((test x).0 e))
 
-  pub hold_given : (xs : List A) (given : Dated) → AllHold Alone xs → first_blamed position failing xs given ≡ given
+  pub hold_given : (xs : List A) (given : Result Date ℕ) → AllHold Alone xs → first_blamed position failing xs given ≡ given
   unfolding first_blamed
   hold_given [] given a = refl
   hold_given (x ∷ xs) given a = rw ((test x).1 a.0) (hold_given xs given a.1)
 
-  before_hold : (bs : List A) (x : A) (cs : List A) (given : Dated) → AllHold Alone bs → (Alone x → ⊥) → first_blamed position failing (bs ++ (x ∷ cs)) given ≡ Wrong (position x)
+  before_hold : (bs : List A) (x : A) (cs : List A) (given : Result Date ℕ) → AllHold Alone bs → (Alone x → ⊥) → first_blamed position failing (bs ++ (x ∷ cs)) given ≡ Err (position x)
   unfolding first_blamed
   before_hold [] x cs given a n = rw (alone_fails x n)
   before_hold (b ∷ bs) x cs given a n = rw ((test b).1 a.0) (before_hold bs x cs given a.1 n)
 
-  pub first_fails : (xs : List A) (p : ℕ) (given : Dated) → FirstFails position Alone xs p → first_blamed position failing xs given ≡ Wrong p
+  pub first_fails : (xs : List A) (p : ℕ) (given : Result Date ℕ) → FirstFails position Alone xs p → first_blamed position failing xs given ≡ Err p
   first_fails xs p given r = rw (r.order, r.blamed) (before_hold r.before r.field r.behind given r.hold r.failing)
 
   -- all hold, or one fails first

@@ -1,6 +1,7 @@
 -- First due: a position is blamed exactly if it is that of the first field that fails alone, or it is 7, no field fails alone, and the three
 -- name no day; a date is right exactly if neither is so.
 -- Assumes nothing.
+use Rattle.std.specs.Prelude.{Option, Some, None, Result, Ok, Err}
 use mathlib.Core.Path.{◌≡◌, refl, sym, ap, ◌∙◌, subst}
 use mathlib.Core.Bool.{Bool, true, false, true≢false}
 use mathlib.Core.List.{List}
@@ -8,11 +9,7 @@ use mathlib.Core.Logic.{◌↔◌, inl, inr, ⊎_elim}
 use Prim.Native.Nat.{ℕ, ◌≤◌}
 use native.Mathlib.Omega.{arith}
 use Rattle.date.specs.declared.DigitField.{DigitField}
-use Rattle.date.specs.declared.Digits.{Digits}
-use Rattle.date.specs.declared.Digits.TheVariants.{Number, Fails}
 use Rattle.date.specs.declared.Date.{Date}
-use Rattle.date.specs.declared.Dated.{Dated}
-use Rattle.date.specs.declared.Dated.TheVariants.{Right, Wrong}
 use Rattle.date.specs.Digits.{field_digits, ReadsNumber}
 use Rattle.date.specs.Calendar.{is_leap}
 use Rattle.date.specs.Date.{fields, fails, number, begins_at, fails_in, dated_of, date_of, names_one_day, judged}
@@ -21,9 +18,9 @@ use Rattle.date.proofs.Blame.{hold_given, first_fails, found, blamed_one}
 use Rattle.date.proofs.Days.{day_named, named_day, not_named}
 use Rattle.date.proofs.Grammar.{read_is, is_read_lem}
 
-held : (x : Digits) → fails x ≡ false → x ≡ Number (number x)
-held (Number v) e = refl
-held Fails e = let z : ◌≡◌ {A = ℕ} 0 1 = cc in absurd (omega arith)
+held : (x : Option ℕ) → fails x ≡ false → x ≡ Some (number x)
+held (Some v) e = refl
+held None e = let z : ◌≡◌ {A = ℕ} 0 1 = cc in absurd (omega arith)
 
 -- a field holds exactly if the text has its digits
 holds_passes : (f : DigitField) (s : List ℕ) → Holds f s → fails_in s f ≡ false
@@ -84,17 +81,17 @@ hold_judged : (s : List ℕ) → AllHold (λ f. Holds f s) fields → dated_of s
 unfolding dated_of
 hold_judged s a = hold_given begins_at (fails_in s) (λ f. Holds f s) (field_test s) fields (judged (date_of s)) a
 
-fails_blamed : (s : List ℕ) (p : ℕ) → FieldFails s p → dated_of s ≡ Wrong p
+fails_blamed : (s : List ℕ) (p : ℕ) → FieldFails s p → dated_of s ≡ Err p
 unfolding dated_of
 fails_blamed s p r = first_fails begins_at (fails_in s) (λ f. Holds f s) (field_test s) fields p (judged (date_of s)) r
 
 pub judged_of : (s : List ℕ) (d : Date) → HasNumbers s d → dated_of s ≡ judged d
 judged_of s d n = hold_judged s (numbers_hold s d n) ∙ ap judged (numbers_are s d n)
 
-due_given : (s : List ℕ) (x : Dated) → Due s x → dated_of s ≡ x
-due_given s (Right d) i = judged_of s d i.numbers ∙ rw (day_names d i.one_day)
-due_given s (Wrong p) (inl r) = fails_blamed s p r
-due_given s (Wrong p) (inr m) = judged_of s m.date m.numbers ∙ rw (no_day_names m.date m.no_day, m.position)
+due_given : (s : List ℕ) (x : Result Date ℕ) → Due s x → dated_of s ≡ x
+due_given s (Ok d) i = judged_of s d i.numbers ∙ rw (day_names d i.one_day)
+due_given s (Err p) (inl r) = fails_blamed s p r
+due_given s (Err p) (inr m) = judged_of s m.date m.numbers ∙ rw (no_day_names m.date m.no_day, m.position)
 
 -- no field fails alone: the calendar decides
 judged_due : (s : List ℕ) (t : Bool) → HasNumbers s (date_of s) → names_one_day (date_of s) ≡ t → Due s (judged (date_of s))
@@ -111,10 +108,10 @@ given_due s =
     (λ r. subst (Due s) (sym (fails_blamed s r.0 r.1)) (inl r.1))
     (found begins_at (fails_in s) (λ f. Holds f s) (field_test s) fields)
 
-pub first_due : (s : List ℕ) (x : Dated) → dated_of s ≡ x ↔ Due s x
+pub first_due : (s : List ℕ) (x : Result Date ℕ) → dated_of s ≡ x ↔ Due s x
 first_due s x = (λ e. subst (Due s) e (given_due s), due_given s x)
 
 -- a position that is blamed is one: positions count from 1
-pub blamed_position : (s : List ℕ) (p : ℕ) → Due s (Wrong p) → 1 ≤ p
+pub blamed_position : (s : List ℕ) (p : ℕ) → Due s (Err p) → 1 ≤ p
 blamed_position s p (inl r) = blamed_one begins_at (λ f. Holds f s) fields p tt r
 blamed_position s p (inr m) = omega (arith, m.position)

@@ -1,6 +1,8 @@
 -- A digit field reads as v exactly if the text has, at its positions, as many digits as the field is long, whose number is v and lies from
 -- the least to the greatest (`ReadsNumber`). A number has one such text.
 -- Assumes nothing.
+use Rattle.std.specs.Prelude.{Option, Some, None, Ok}
+use Rattle.std.specs.Option.{ok_or}
 use mathlib.Core.Path.{◌≡◌, refl, sym, ap, ◌∙◌}
 use mathlib.Core.Bool.{Bool, true, false, cond, ◌&&◌}
 use mathlib.Core.List.{List, [], ◌∷◌, ◌++◌}
@@ -16,8 +18,6 @@ use Rattle.base.proofs.Part.{part_cut, part_middle, part_length}
 use Rattle.base.proofs.Digits.{same_digits}
 use Rattle.base.proofs.Choice.{and_first, and_second}
 use Rattle.date.specs.declared.DigitField.{DigitField}
-use Rattle.date.specs.declared.Digits.{Digits}
-use Rattle.date.specs.declared.Digits.TheVariants.{Number, Fails}
 use Rattle.date.specs.Digits.{is_digit, digits_shown, within, read_digits, has_positions, bytes_at, field_digits, ReadsNumber}
 use Rattle.date.proofs.Numbers.{digit_is}
 
@@ -46,12 +46,12 @@ text_digits (d ∷ ds) = let e : 48 + d - 48 ≡ d = omega arith in rw e (ap (λ
 
 -- ---- both directions
 
-number_only : (t : Bool) (x : Digits) (v : ℕ) → cond t x Fails ≡ Number v → (t ≡ true) × (x ≡ Number v)
+number_only : (t : Bool) (x : Option ℕ) (v : ℕ) → cond t x None ≡ Some v → (t ≡ true) × (x ≡ Some v)
 number_only true x v e = (refl, e)
 number_only false x v e = let z : ◌≡◌ {A = ℕ} 0 1 = cc in absurd (omega arith)
 
 module _ (f : DigitField) (s : List ℕ) (v : ℕ) where
-  pub read_is : field_digits f s ≡ Number v → ReadsNumber f s v
+  pub read_is : field_digits f s ≡ Some v → ReadsNumber f s v
   unfolding field_digits
   read_is e =
       let at = f.first - 1 in
@@ -60,7 +60,7 @@ module _ (f : DigitField) (s : List ℕ) (v : ℕ) where
       let placed = number_only (has_positions f s) (read_digits f.least f.greatest bs) v e in
       let one = leb-true 1 f.first (and_first (leb 1 f.first) (leb (at + f.length) (length s)) placed.0) in
       let room = leb-true (at + f.length) (length s) (and_second (leb 1 f.first) (leb (at + f.length) (length s)) placed.0) in
-      let is = number_only (every is_digit bs && within f.least f.greatest n) (Number n) v placed.1 in
+      let is = number_only (every is_digit bs && within f.least f.greatest n) (Some n) v placed.1 in
       let digits = and_first (every is_digit bs) (within f.least f.greatest n) is.0 in
       let ranged = and_second (every is_digit bs) (within f.least f.greatest n) is.0 in
       let q : n ≡ v = cc in
@@ -83,7 +83,7 @@ module _ (f : DigitField) (s : List ℕ) (v : ℕ) where
       let k : f.length ≡ length (digit_text r.digits) = sym r.many ∙ sym (length-map r.digits (λ d. 48 + d)) in
       rw (e, k, r.text) (part_middle r.before (digit_text r.digits) r.behind)
 
-  pub is_read_lem : ReadsNumber f s v → field_digits f s ≡ Number v
+  pub is_read_lem : ReadsNumber f s v → field_digits f s ≡ Some v
   unfolding field_digits
   is_read_lem r =
       let b = reads_bytes r in
@@ -98,6 +98,11 @@ module _ (f : DigitField) (s : List ℕ) (v : ℕ) where
         le-leb f.least v r.enough,
         le-leb v f.greatest r.not_more,
       )
+
+-- what was read and not blamed
+pub ok_read : (answer : Option ℕ) (p v : ℕ) → Ok v ≡ ok_or answer p → answer ≡ Some v
+ok_read (Some w) p v e = cc
+ok_read None p v e = cc
 
 -- ---- a number has one text
 

@@ -1,18 +1,17 @@
 -- The order of dates (R332): the test is the statement, and of right dates it is the order of all seven numbers, since month and day follow from
 -- the day of the year.
 -- Assumes nothing.
+use Rattle.std.specs.Prelude.{Ok}
 use mathlib.Core.Path.{◌≡◌, refl, sym, ap, ap₂, ◌∙◌}
 use mathlib.Core.Bool.{Bool, true, false, cond}
 use mathlib.Core.List.{List, [], ◌∷◌, ◌++◌}
 use mathlib.Core.Logic.{◌↔◌, ◌⊎◌, inl, inr, ⊎_elim}
-use Prim.Native.Nat.{ℕ, ◌<◌, ◌≤◌}
+use Prim.Native.Nat.{ℕ, ◌<◌}
 use native.Mathlib.Omega.{arith}
-use borrow.Author.Tests.{eqb-true, eqb-false, eq-eqb, ne_eqb, ltb-true, lt-ltb, le-ltb, le-leb, lt-leb}
-use lib.Dec.{eqb, ltb, leb}
+use borrow.Author.Tests.{eqb-true, eq-eqb, ne_eqb, ltb-true, lt-ltb}
+use lib.Dec.{eqb, ltb}
 use lib.ListN.{length}
-use Rattle.base.proofs.Order.{le_or_lt}
 use Rattle.date.specs.declared.Date.{Date}
-use Rattle.date.specs.declared.Dated.TheVariants.{Right}
 use Rattle.date.specs.Asked.{dated_by}
 use Rattle.date.specs.Calendar.{is_leap, IsDay}
 use Rattle.date.specs.Due.{NamesDay}
@@ -68,33 +67,6 @@ least_exactly xs ys l = (
   ⊎_elim (λ e. rw e (same_least ys)) (λ g. rw (g.first, g.second) (greater_least g.same g.more g.behind_more g.less g.behind_less g.greater)),
 )
 
--- ---- number by number, as code compares them
-
-module _ (x : ℕ) (xs : List ℕ) (y : ℕ) (ys : List ℕ) where
-  pub compare_on : x ≡ y → not_less (x ∷ xs) (y ∷ ys) ≡ not_less xs ys
-  unfolding not_less
-  compare_on e = rw (eq-eqb x y e)
-
-  pub compare_here : (x ≡ y → ⊥) → not_less (x ∷ xs) (y ∷ ys) ≡ ltb y x
-  unfolding not_less
-  compare_here n = rw (ne_eqb x y n)
-
-pub compare_last : (x y : ℕ) → not_less (x ∷ []) (y ∷ []) ≡ leb y x
-unfolding not_less
-compare_last x y = by (eqb x y) refl
-  where
-    below : (x ≡ y → ⊥) → y ≤ x → y < x
-    below n l = ⊎_elim (λ (m : x ≤ y). absurd (n (omega arith))) (λ (m : y < x). m) (le_or_lt x y)
-
-    by : (t : Bool) → eqb x y ≡ t → cond t true (ltb y x) ≡ leb y x
-    by true e = let q = eqb-true x y e in sym (le-leb y x (omega arith))
-    by false e =
-        let n = eqb-false x y e in
-        ⊎_elim
-        (λ (l : y ≤ x). lt-ltb y x (below n l) ∙ sym (le-leb y x l))
-        (λ (l : x < y). le-ltb y x (omega arith) ∙ sym (lt-leb y x l))
-        (le_or_lt y x)
-
 -- ---- dates
 
 pub not_before_exactly : (d e : Date) → (not_before d e ≡ true) ↔ AtOrAfter d e
@@ -130,11 +102,11 @@ module _ (d e : Date) (g : NamesDay d) (h : NamesDay e) where
       by_year false y = refl
 
 -- of right dates: the order of all seven numbers
-pub seven_order : (d e : Date) → dated_by d ≡ Right d → dated_by e ≡ Right e → not_less (seven d) (seven e) ≡ not_before d e
+pub seven_order : (d e : Date) → dated_by d ≡ Ok d → dated_by e ≡ Ok e → not_less (seven d) (seven e) ≡ not_before d e
 seven_order d e p q = days_order d e (asked_same d d p).1.one_day (asked_same e e q).1.one_day
 
 -- the statement: a right date is at or after another exactly if it is by all seven numbers
-pub seven_exactly : (d e : Date) → dated_by d ≡ Right d → dated_by e ≡ Right e → AtOrAfter d e ↔ ((seven d ≡ seven e) ⊎ Greater (seven d) (seven e))
+pub seven_exactly : (d e : Date) → dated_by d ≡ Ok d → dated_by e ≡ Ok e → AtOrAfter d e ↔ ((seven d ≡ seven e) ⊎ Greater (seven d) (seven e))
 seven_exactly d e p q =
     let same = seven_order d e p q in
     let exactly = least_exactly (seven d) (seven e) refl in

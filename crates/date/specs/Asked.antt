@@ -1,8 +1,7 @@
 -- R331: a date that a caller asks for, as seven numbers, is held to the rules of a date in group 3.
-use Rattle.std.specs.Prelude.{Bool, not, List, [], ◌∷◌, ℕ}
+use Rattle.std.specs.Prelude.{Bool, not, List, [], ◌∷◌, ℕ, Result}
 use Rattle.date.specs.declared.DigitField.{DigitField}
 use Rattle.date.specs.declared.Date.{Date}
-use Rattle.date.specs.declared.Dated.{Dated}
 use Rattle.date.specs.Digits.{within}
 use Rattle.date.specs.Date.{year, day_in_year, month, day, hour, minute, second, first_blamed, judged}
 
@@ -34,5 +33,5 @@ abbrev pub position : FieldNumber → ℕ
 position n = n.field.first
 
 -- the date itself, or the position blamed (R147, R148)
-unfoldable pub dated_by : Date → Dated
+unfoldable pub dated_by : Date → Result Date ℕ
 dated_by d = first_blamed position outside (numbers d) (judged d)

@@ -1,11 +1,7 @@
 -- R140: the seven digit fields of the date; R147, R148: who is blamed.
-use Rattle.std.specs.Prelude.{Bool, true, false, cond, List, [], ◌∷◌, ℕ, suc, ◌-◌}
+use Rattle.std.specs.Prelude.{Bool, true, false, cond, List, [], ◌∷◌, ℕ, suc, ◌-◌, Option, Some, None, Result, Ok, Err}
 use Rattle.date.specs.declared.DigitField.{DigitField}
-use Rattle.date.specs.declared.Digits.{Digits}
-use Rattle.date.specs.declared.Digits.TheVariants.{Number, Fails}
 use Rattle.date.specs.declared.Date.{Date}
-use Rattle.date.specs.declared.Dated.{Dated}
-use Rattle.date.specs.declared.Dated.TheVariants.{Right, Wrong}
 use Rattle.date.specs.Digits.{field_digits}
 use Rattle.date.specs.Calendar.{is_leap, name_day}
 
@@ -38,13 +34,13 @@ abbrev pub fields : List DigitField
 fields = year ∷ day_in_year ∷ month ∷ day ∷ hour ∷ minute ∷ second ∷ []
 
 -- R143: a field that fails alone, and the number that it reads as otherwise
-abbrev pub fails : Digits → Bool
-fails (Number v) = false
-fails Fails = true
+abbrev pub fails : Option ℕ → Bool
+fails (Some v) = false
+fails None = true
 
-abbrev pub number : Digits → ℕ
-number (Number v) = v
-number Fails = 0
+abbrev pub number : Option ℕ → ℕ
+number (Some v) = v
+number None = 0
 
 -- R146: day of the year, month and day agree, in the date's year
 abbrev pub names_one_day : Date → Bool
@@ -65,13 +61,13 @@ date_of s =
 
 -- R147: of several, each with a position, the first that fails alone is blamed at its position; if none of them does, it is as given
 module _ {A : Type 0} (position : A → ℕ) (failing : A → Bool) where
-  unfoldable pub first_blamed : List A → Dated → Dated
+  unfoldable pub first_blamed : List A → Result Date ℕ → Result Date ℕ
   first_blamed [] given = given
-  first_blamed (x ∷ xs) given = cond (failing x) (Wrong (position x)) (first_blamed xs given)
+  first_blamed (x ∷ xs) given = cond (failing x) (Err (position x)) (first_blamed xs given)
 
 -- R148: where no field fails alone, the date is right if the three agree, and else 7 is blamed
-abbrev pub judged : Date → Dated
-judged d = cond (names_one_day d) (Right d) (Wrong 7)
+abbrev pub judged : Date → Result Date ℕ
+judged d = cond (names_one_day d) (Ok d) (Err 7)
 
 -- a field of letters: where it begins, and whether it fails alone
 abbrev pub begins_at : DigitField → ℕ
@@ -81,5 +77,5 @@ abbrev pub fails_in : List ℕ → DigitField → Bool
 fails_in s f = fails (field_digits f s)
 
 -- the date that the letters of group 3 tell, or the position blamed
-unfoldable pub dated_of : List ℕ → Dated
+unfoldable pub dated_of : List ℕ → Result Date ℕ
 dated_of s = first_blamed begins_at (fails_in s) fields (judged (date_of s))

@@ -1,12 +1,10 @@
 -- R141, digit fields: a run of digits with its first position (counted from 1), its length, its least and its greatest value.
 -- R142: each of its bytes is a digit, so a number that needs fewer digits has zeros before it.
-use Rattle.std.specs.Prelude.{◌≡◌, Bool, cond, ◌&&◌, List, ◌++◌, map, ℕ, ◌+◌, ◌-◌, ◌≤◌, leb, length}
+use Rattle.std.specs.Prelude.{◌≡◌, Bool, cond, ◌&&◌, List, ◌++◌, map, ℕ, ◌+◌, ◌-◌, ◌≤◌, leb, length, Option, Some, None}
 use Rattle.base.specs.Digits.{AllDigits, number_of, digit_text}
 use Rattle.base.specs.Every.{every}
 use Rattle.base.specs.Part.{part}
 use Rattle.date.specs.declared.DigitField.{DigitField}
-use Rattle.date.specs.declared.Digits.{Digits}
-use Rattle.date.specs.declared.Digits.TheVariants.{Number, Fails}
 
 -- ---- as a statement on the text
 
@@ -38,9 +36,9 @@ abbrev pub within : ℕ → ℕ → ℕ → Bool
 within least greatest v = leb least v && leb v greatest
 
 -- what bytes read as: the number of their digits
-abbrev pub read_digits : ℕ → ℕ → List ℕ → Digits
+abbrev pub read_digits : ℕ → ℕ → List ℕ → Option ℕ
 read_digits least greatest bs =
-    cond (every is_digit bs && within least greatest (number_of (digits_shown bs))) (Number (number_of (digits_shown bs))) Fails
+    cond (every is_digit bs && within least greatest (number_of (digits_shown bs))) (Some (number_of (digits_shown bs))) None
 
 -- the text has the positions of the field, which count from 1
 abbrev pub has_positions : DigitField → List ℕ → Bool
@@ -51,5 +49,5 @@ abbrev pub bytes_at : DigitField → List ℕ → List ℕ
 bytes_at f s = part (f.first - 1) (f.first - 1 + f.length) s
 
 -- what a field reads as in a text
-unfoldable pub field_digits : DigitField → List ℕ → Digits
-field_digits f s = cond (has_positions f s) (read_digits f.least f.greatest (bytes_at f s)) Fails
+unfoldable pub field_digits : DigitField → List ℕ → Option ℕ
+field_digits f s = cond (has_positions f s) (read_digits f.least f.greatest (bytes_at f s)) None

@@ -1,10 +1,8 @@
 -- R140 to R148 as statements on the letters of group 3, and R331 as one on numbers: which date it is, and who is blamed. `first_due` in
 -- proofs/Due.antt and `asked_first_due` in proofs/Asked.antt: the answer is given exactly if it is due.
-use Rattle.std.specs.Prelude.{◌≡◌, List, [], ◌∷◌, ◌++◌, ◌⊎◌, ℕ, ◌≤◌}
+use Rattle.std.specs.Prelude.{◌≡◌, List, [], ◌∷◌, ◌++◌, ◌⊎◌, ℕ, ◌≤◌, Result, Ok, Err}
 use Rattle.date.specs.declared.DigitField.{DigitField}
 use Rattle.date.specs.declared.Date.{Date}
-use Rattle.date.specs.declared.Dated.{Dated}
-use Rattle.date.specs.declared.Dated.TheVariants.{Right, Wrong}
 use Rattle.date.specs.Digits.{ReadsNumber}
 use Rattle.date.specs.Calendar.{is_leap, IsDay}
 use Rattle.date.specs.Date.{year, day_in_year, month, day, hour, minute, second, fields, begins_at}
@@ -59,9 +57,9 @@ pub record Mismatched (s : List ℕ) (p : ℕ) : Type 0 where
   pub no_day : NamesDay date → ⊥
   pub position : p ≡ 7
 
-abbrev pub Due : List ℕ → Dated → Type 0
-Due s (Right d) = IsDate s d
-Due s (Wrong p) = FieldFails s p ⊎ Mismatched s p
+abbrev pub Due : List ℕ → Result Date ℕ → Type 0
+Due s (Ok d) = IsDate s d
+Due s (Err p) = FieldFails s p ⊎ Mismatched s p
 
 -- ---- R331: of a date that is asked for
 
@@ -80,6 +78,6 @@ pub record AskedMismatched (d : Date) (p : ℕ) : Type 0 where
   pub no_day : NamesDay d → ⊥
   pub blamed : p ≡ 7
 
-abbrev pub AskedDue : Date → Dated → Type 0
-AskedDue d (Right e) = (e ≡ d) × IsAsked d
-AskedDue d (Wrong p) = FirstFails position InRange (numbers d) p ⊎ AskedMismatched d p
+abbrev pub AskedDue : Date → Result Date ℕ → Type 0
+AskedDue d (Ok e) = (e ≡ d) × IsAsked d
+AskedDue d (Err p) = FirstFails position InRange (numbers d) p ⊎ AskedMismatched d p

@@ -1,15 +1,17 @@
 -- How long numerals are: no longer than k digits exactly if the number is below 10 ^ k; so at most 20 digits for a u64.
 -- Assumes nothing.
 use mathlib.Core.Path.{◌≡◌, sym, ◌∙◌, ap}
-use mathlib.Core.List.{[], ◌∷◌, ◌++◌}
+use mathlib.Core.List.{List, [], ◌∷◌, ◌++◌}
 use mathlib.Core.Logic.{⊎_elim}
-use Prim.Native.Nat.{ℕ, zero, suc, ◌+◌, ◌*◌, ◌/◌, ◌%◌, ◌^◌, ◌<◌, ◌≤◌}
+use Prim.Native.Nat.{max, ℕ, zero, suc, ◌+◌, ◌-◌, ◌*◌, ◌/◌, ◌%◌, ◌^◌, ◌<◌, ◌≤◌}
 use native.Mathlib.Omega.{arith}
 use native.Mathlib.Nat.{pow-suc, pow-le-pow_right, div-add-mod'}
 use native.Mathlib.Numerals.{add-one}
 use lib.Dec.{lit<}
-use lib.ListN.{length, length-append, length-map}
+use lib.ListN.{length, take, drop, length-append, length-map}
 use Rattle.base.specs.Columns.{columns}
+use Rattle.base.specs.Part.{part, over}
+use Rattle.base.proofs.Part.{part_length, over_lent}
 use Rattle.base.specs.Digits.{digit_text}
 use Rattle.base.proofs.Digits.{number_below}
 use Rattle.base.proofs.Order.{le_or_lt}
@@ -62,18 +64,13 @@ length_mono m n h = go (length (numeral n)) (length_some n) (length_below n)
 pub length_u64 : (n : ℕ) → n < 2 ^ 64 → length (numeral n) ≤ 20
 length_u64 n h = length_within 19 n (omega arith)
 
--- k digits are all
-pub length_exact : (k n : ℕ) → 1 ≤ k → k ≤ length (numeral n) → n < 10 ^ k → k ≡ length (numeral n)
-length_exact zero n p h b = absurd (omega arith)
-length_exact (suc k) n p h b = omega (arith, length_within k n b)
+-- ---- by the power of ten that is not above n, or not above 1 for zero: what `digits` cites
 
--- ---- powers of ten, as a loop goes through them
-
-pub power_next : (p k : ℕ) → p ≡ 10 ^ k → p * 10 ≡ 10 ^ (k + 1)
-power_next p k e = rw (e, add-one, pow-suc 10 k)
-
-pub power_fits : (k : ℕ) → k ≤ 19 → 10 ^ k < 2 ^ 64
-power_fits k h = omega (arith, pow-le-pow_right {n = 10} (lit< tt) {i = k} {j = 19} h)
+pub digits_by_power : (n p : ℕ) → 10 ^ p ≤ max n 1 → max n 1 < 10 * 10 ^ p → p + 1 ≡ length (numeral n)
+digits_by_power n zero h b = omega (arith, length_some n, length_within 0 n (omega arith))
+digits_by_power n (suc q) h b =
+    let ten : 10 ^ 1 ≤ 10 ^ suc q = pow-le-pow_right {n = 10} (lit< tt) {i = 1} {j = suc q} (omega arith) in
+    omega (arith, length_above (suc q) n (omega arith), length_within (suc q) n (rw (pow-suc 10 (suc q)) (omega arith)))
 
 -- ---- as a loop writes it: from the last digit to the first
 
@@ -86,5 +83,10 @@ numeral_columns =
     small : (n : ℕ) → n < 10 → last_byte n ∷ [] ≡ (48 + n) ∷ []
     small n h = let e : n % 10 ≡ n = omega arith in rw e
 
-pub numeral_filled : (n k : ℕ) → k ≡ length (numeral n) → columns last_byte tenth k n ≡ numeral n
-numeral_filled n k e = ap (λ w. columns last_byte tenth w n) e ∙ numeral_columns n
+-- and as they stand in a part that was lent
+pub numeral_lent : (xs ys : List ℕ) (at end n : ℕ) → end ≡ at + length (numeral n) → end ≤ length xs → ys ≡ columns last_byte tenth (length (part at end xs)) n
+    → take at xs ++ (ys ++ drop (end - at) (drop at xs)) ≡ over at (numeral n) xs
+numeral_lent xs ys at end n e h p =
+    let l : length (part at end xs) ≡ length (numeral n) = rw e (part_length xs at (length (numeral n)) (omega arith)) in
+    let f : ys ≡ numeral n = p ∙ ap (λ k. columns last_byte tenth k n) l ∙ numeral_columns n in
+    rw f (over_lent xs (numeral n) at (end - at) (omega arith))

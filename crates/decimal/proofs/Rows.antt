@@ -2,7 +2,7 @@
 -- Assumes nothing.
 use mathlib.Core.Path.{◌≡◌, refl, sym, ◌∙◌, ap}
 use mathlib.Core.List.{List, [], ◌∷◌, ◌++◌, append_assoc, append-nil}
-use Prim.Native.Nat.{ℕ, suc, ◌+◌, ◌*◌, ◌-◌, ◌<◌, ◌≤◌}
+use Prim.Native.Nat.{ℕ, zero, suc, ◌+◌, ◌*◌, ◌-◌, ◌<◌, ◌≤◌}
 use native.Mathlib.Nat.{add-zero, suc-mul}
 use native.Mathlib.Omega.{arith}
 use native.Mathlib.Numerals.{add-one}
@@ -12,9 +12,9 @@ use Rattle.decimal.specs.Numerals.{numeral}
 use borrow.Author.Tests.{le-leb}
 use Rattle.decimal.specs.Rows.{row_text, end_byte, row_size}
 use Rattle.decimal.specs.Writing.{end_in}
-use Rattle.decimal.specs.declared.Put.TheVariants.{Next, NoRoom}
+use Rattle.std.proofs.Common.{Some, None}
 use Rattle.base.specs.Part.{over}
-use Rattle.base.proofs.Part.{over_none, over_one, over_length}
+use Rattle.base.proofs.Part.{over_one, over_length}
 use Rattle.decimal.proofs.Lengths.{length_mono}
 use Rattle.decimal.proofs.Writing.{end_none, over_rest}
 
@@ -47,6 +47,12 @@ rest_turn ns i h =
 pub rest_end : (ns : List ℕ) (i : ℕ) → length ns ≤ i → rest (drop i ns) ≡ []
 rest_end ns i h = ap rest (drop_of_length-le ns {i = i} h)
 
+-- and the last one
+pub rest_last : (ns : List ℕ) (i : ℕ) → i + 1 ≡ length ns → rest (drop i ns) ≡ numeral (get_or ns i 0) ++ (10 ∷ [])
+rest_last ns i e =
+    let z : length ns - (i + 1) ≡ 0 = omega arith in
+    rest_turn ns i (omega arith) ∙ rw (z, rest_end ns (i + 1) (omega arith)) (append-nil (numeral (get_or ns i 0) ++ (10 ∷ [])))
+
 pub rest_length : (ns : List ℕ) (i : ℕ) → i < length ns → length (rest (drop i ns)) ≡ length (numeral (get_or ns i 0)) + 1 + length (rest (drop (i + 1) ns))
 rest_length ns i h =
     let t = numeral (get_or ns i 0) in
@@ -64,13 +70,13 @@ pub end_whole : (ns : List ℕ) (at size : ℕ) → (length ns ≡ 0 → ⊥) �
 end_whole ns at size h = rw (rest_row ns (omega arith))
 
 module _ (ns : List ℕ) (i k a size : ℕ) (h : i < length ns) (e : k ≡ length (numeral (get_or ns i 0))) where
-  pub end_over : size ≤ a + k → NoRoom ≡ end_in a (length (rest (drop i ns))) size
+  pub end_over : size ≤ a + k → None ≡ end_in a (length (rest (drop i ns))) size
   end_over l = sym (end_none a (length (rest (drop i ns))) size (omega (arith, rest_length ns i h)))
 
   pub end_turn : end_in (a + (k + 1)) (length (rest (drop (i + 1) ns))) size ≡ end_in a (length (rest (drop i ns))) size
   end_turn = let m : a + (k + 1) + length (rest (drop (i + 1) ns)) ≡ a + length (rest (drop i ns)) = omega (arith, rest_length ns i h) in rw m
 
-pub end_last : (ns : List ℕ) (i a size : ℕ) → length ns ≤ i → a ≤ size → Next a ≡ end_in a (length (rest (drop i ns))) size
+pub end_last : (ns : List ℕ) (i a size : ℕ) → length ns ≤ i → a ≤ size → Some a ≡ end_in a (length (rest (drop i ns))) size
 end_last ns i a size h l = rw (rest_end ns i h, add-zero a, le-leb a size l)
 
 -- ---- a row put into bytes, number by number
@@ -83,6 +89,10 @@ unfolding row_text
 row_some [] = omega arith
 row_some (n ∷ []) = omega (arith, length-append (numeral n) (10 ∷ []))
 row_some (n ∷ m ∷ ns) = omega (arith, length-append (numeral n) (32 ∷ row_text (m ∷ ns)))
+
+pub end_space : (k : ℕ) → 0 < k → end_byte k ≡ 32
+end_space zero h = absurd (omega arith)
+end_space (suc k) h = refl
 
 -- a number and the byte behind it were put at a, and the others are put behind them
 module _ (ns out new : List ℕ) (i a b e : ℕ) (h : i < length ns) (r : a + length (rest (drop i ns)) ≤ length out) (p : b ≡ a + (length (numeral (get_or ns i 0)) + 1))
@@ -100,9 +110,6 @@ module _ (ns out new : List ℕ) (i a b e : ℕ) (h : i < length ns) (r : a + le
   put_turn =
       over_rest out (numeral (get_or ns i 0) ++ (e ∷ [])) (rest (drop (i + 1) ns)) a b (omega (arith, size), omega (arith, rest_length ns i h)) o
       ∙ ap (λ t. over a t out) (ap (λ d. (numeral (get_or ns i 0) ++ (d ∷ [])) ++ rest (drop (i + 1) ns)) q ∙ sym (rest_turn ns i h))
-
-pub put_end : (ns out : List ℕ) (i a : ℕ) → length ns ≤ i → over a (rest (drop i ns)) out ≡ out
-put_end ns out i a h = rw (rest_end ns i h) (sym (over_none out a))
 
 -- ---- how long a row is
 
@@ -128,3 +135,9 @@ size_within (n ∷ ns) m h =
 
 pub row_within : (ns : List ℕ) (m : ℕ) → 0 < length ns → ((i : ℕ) → i < length ns → get_or ns i 0 ≤ m) → length (row_text ns) ≤ length ns * (length (numeral m) + 1)
 row_within ns m p h = rw (row_size_lem ns p) (size_within ns m h)
+
+-- what `numbers_end` cites
+pub ruleset row_ends = (end_empty, end_whole, end_over, end_turn, end_last)
+
+-- what `put_numbers` cites
+pub ruleset row_put = (put_nil, row_some, rest_row, rest_last, rest_length, put_length, put_place, put_turn, end_space)

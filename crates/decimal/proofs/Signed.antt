@@ -1,7 +1,6 @@
--- Signed numerals: by sign and size; how long they are; that they read back as the number.
+-- Signed numerals: how long they are; that they read back as the number.
 -- Assumes nothing.
 use mathlib.Core.Path.{◌≡◌, sym, ap}
-use mathlib.Core.Bool.{true, false}
 use mathlib.Core.List.{List, ◌∷◌}
 use Prim.Native.Nat.{ℕ, suc, ◌≤◌}
 use native.Mathlib.Omega.{arith}
@@ -9,20 +8,10 @@ use lib.IntN.{ℤ, pos, negsuc}
 use lib.ListN.{length, get_or}
 use mir.Syntax.{w64}
 use mir.Val.{SFits}
-use Rattle.base.specs.Sign.{negative, size_of}
 use Rattle.decimal.specs.Numerals.{numeral}
 use Rattle.decimal.specs.Signed.{signed_numeral}
 use Rattle.decimal.proofs.Numerals.{numeral_same, numeral_bytes}
 use Rattle.decimal.proofs.Lengths.{length_some, length_within}
-
--- n is the size of v
-pub signed_below : (v : ℤ) (n : ℕ) → negative v ≡ true → n ≡ size_of v → signed_numeral v ≡ 45 ∷ numeral n
-signed_below (pos m) n t e = let z : ◌≡◌ {A = ℕ} 0 1 = cc in absurd (omega arith)
-signed_below (negsuc m) n t e = ap (λ k. 45 ∷ numeral k) (sym e)
-
-pub signed_above : (v : ℤ) (n : ℕ) → negative v ≡ false → n ≡ size_of v → signed_numeral v ≡ numeral n
-signed_above (pos m) n t e = ap numeral (sym e)
-signed_above (negsuc m) n t e = let z : ◌≡◌ {A = ℕ} 0 1 = cc in absurd (omega arith)
 
 -- at most 20 bytes for an i64
 pub signed_length : (v : ℤ) → SFits w64 v → length (signed_numeral v) ≤ 20

@@ -3,203 +3,162 @@
 // not its own.
 #![tactic(auto)]
 
-use decimal::Put;
+ghost use Rattle.std.specs.Prelude.{◌≤◌};
+
 use group::Characteristic;
-use place::Record;
-use reply::Reply;
+use place::{Placing, Record};
+use reply::{Refusal, Reply};
 use std::io;
 use std::io::Write;
 
-// ---- Rows. A page has room for the longest: 5,989 elements of group 40 (R13), with at most 18 bytes for the cells of
-// each. What has no room is left out.
-
-fn put_byte(page: &mut [u8], at: usize, byte: u8) -> usize {
-    if at < page.len() {
-        page[at] = byte;
-        return at + 1;
-    }
-    at
+// A row as it is made. It has room for the longest: 5,989 elements of group 40 (R13), with at most 18 bytes for the
+// cells of each. What has no room is left out.
+#[derive(Drop)]
+struct OutputRow {
+    bytes: [u8; 131072],
+    end: usize,
+    ghost within: { end ≤ 131072 },
 }
 
-fn put_cell(page: &mut [u8], at: usize, cell: i64) -> usize {
-    let behind = put_byte(page, at, 32);
-    match decimal::put_signed(page, behind, cell) {
-        Put::Next(end) => end,
-        Put::NoRoom => behind,
+impl OutputRow {
+    fn byte(&mut self, byte: u8) {
+        if self.end < self.bytes.len() {
+            self.bytes[self.end] = byte;
+            self.end += 1;
+        }
     }
-}
 
-fn put(page: &mut [u8], at: usize, number: usize) -> usize {
-    let behind = put_byte(page, at, 32);
-    match decimal::put_number(page, behind, number as u64) {
-        Put::Next(end) => end,
-        Put::NoRoom => behind,
+    #[tactic(auto, unfolding(decimal::specs::Writing::put_answer))]
+    fn number(&mut self, number: usize) {
+        self.byte(b' ');
+        if let Some(end) = decimal::put_number(&mut self.bytes, self.end, number as u64) {
+            self.end = end;
+        }
     }
-}
 
-fn put_count(page: &mut [u8], at: usize, count: u16) -> usize {
-    put(page, at, count as usize)
-}
-
-fn put_counts(page: &mut [u8], at: usize, counts: &[u16]) -> usize {
-    let mut behind = at;
-    for count in counts {
-        behind = put_count(page, behind, *count);
+    #[tactic(auto, unfolding(decimal::specs::Writing::put_answer))]
+    fn cell(&mut self, cell: i64) {
+        self.byte(b' ');
+        if let Some(end) = decimal::put_signed(&mut self.bytes, self.end, cell) {
+            self.end = end;
+        }
     }
-    behind
-}
 
-fn put_cells(page: &mut [u8], at: usize, cells: &[i64]) -> usize {
-    let mut behind = at;
-    for cell in cells {
-        behind = put_cell(page, behind, *cell);
+    // The reply's number, and the numbers beside it.
+    fn reply(&mut self, answer: Result<usize, Refusal>) {
+        let reply = Reply::from(answer);
+        self.number(reply.number as usize);
+        self.number(beside(answer));
+        self.number(reply.element);
     }
-    behind
+
+    fn print(&mut self, out: &mut impl Write, name: &[u8]) -> io::Result<()> {
+        self.byte(b'\n');
+        out.write_all(name)?;
+        out.write_all(&self.bytes[..self.end])?;
+        self.end = 0;
+        Ok(())
+    }
 }
 
 // The first number beside a reply to a question about a group: cells, group, line or position. The second is the
 // element.
-fn beside(r: Reply) -> usize {
-    let number = r.number;
-    match number {
-        0 => r.written,
-        6 | 7 => r.group,
-        8 | 9 => r.line,
-        10 => r.position,
-        _ => 0,
+fn beside(answer: Result<usize, Refusal>) -> usize {
+    match answer {
+        Ok(cells) => cells,
+        Err(Refusal::FilledVacant(group) | Refusal::BrokenRule(group)) => group,
+        Err(Refusal::BadLine(line) | Refusal::BadField(line, _)) => line,
+        Err(Refusal::BadDate(position)) => position,
+        Err(_) => 0,
     }
-}
-
-fn put_reply(page: &mut [u8], at: usize, r: Reply) -> usize {
-    let number = put(page, at, r.number as usize);
-    let first = put(page, number, beside(r));
-    put(page, first, r.element)
-}
-
-fn print_row(out: &mut impl Write, name: &[u8], page: &mut [u8], end: usize) -> io::Result<()> {
-    let behind = put_byte(page, end, 10);
-    if behind <= page.len() {
-        out.write_all(name)?;
-        out.write_all(&page[0..behind])?;
-    }
-    Ok(())
 }
 
 // ---- Answers.
 
-fn print_record(
-    out: &mut impl Write,
-    place: usize,
-    r: Reply,
-    counts: &[u16],
-    page: &mut [u8],
-) -> io::Result<()> {
-    let at = put(page, 0, place);
-    let number = put(page, at, r.number as usize);
-    let next = put(page, number, r.next);
-    let end = put(page, next, r.group);
-    let behind = put_counts(page, end, counts);
-    print_row(out, b"record", page, behind)
+// A record that was placed, with the rules and the text that it is asked about with.
+#[derive(Clone, Copy)]
+struct Asked<'a> {
+    rules: rules::Rules,
+    text: &'a [u8],
+    record: &'a Record,
 }
 
-fn print_stop(out: &mut impl Write, place: usize, r: Reply, page: &mut [u8]) -> io::Result<()> {
-    let at = put(page, 0, place);
-    let number = put(page, at, r.number as usize);
-    let next = put(page, number, r.next);
-    let end = put(page, next, r.group);
-    print_row(out, b"stop", page, end)
+// The place, and what placing answers there.
+fn put_placing(row: &mut OutputRow, at: usize, answer: Placing) {
+    let reply = Reply::from(answer);
+    row.number(at);
+    row.number(reply.number as usize);
+    row.number(reply.next);
+    row.number(reply.group);
 }
 
-// Where a part of the text ends that begins at a place.
-fn part_to(text: &[u8], from: usize, part: &[u8]) -> usize {
-    if text.len() < from {
-        return 0;
-    }
-    if text.len() - from < part.len() {
-        return 0;
-    }
-    from + part.len()
-}
-
+// A group's cells, and its lines: where they begin, and where the part that is told as them ends; 0 where that is no part
+// of the text.
 fn print_group(
     out: &mut impl Write,
-    rules: rules::Rules,
-    text: &[u8],
-    placed: Record,
-    g: usize,
-    page: &mut [u8],
+    asked: Asked<'_>,
+    group: usize,
+    row: &mut OutputRow,
 ) -> io::Result<()> {
     let mut table = [0i64; 11978];
-    let r = reply::of_answer(sao::record_group(rules, text, placed, g, &mut table));
-    let from = sao::record_lines_at(rules, text, placed, g).from;
-    let part = sao::record_lines(rules, text, placed, g);
-    let number = put(page, 0, g);
-    let told = put_reply(page, number, r);
-    let start = put(page, told, from);
-    let end = put(page, start, part_to(text, from, part));
-    let many = r.written;
-    if many <= table.len() {
-        let behind = put_cells(page, end, &table[0..many]);
-        print_row(out, b"group", page, behind)?;
+    let record = *asked.record;
+    let answer = sao::record_group(asked.rules, asked.text, record, group, &mut table);
+    let from = sao::record_lines_at(asked.rules, asked.text, record, group).from;
+    let part = sao::record_lines(asked.rules, asked.text, record, group);
+    let to = from
+        .checked_add(part.len())
+        .filter(|to| *to <= asked.text.len())
+        .unwrap_or(0);
+    let Some(cells) = table.get(..answer.unwrap_or(0)) else {
+        return Ok(());
+    };
+    row.number(group);
+    row.reply(answer);
+    row.number(from);
+    row.number(to);
+    for cell in cells {
+        row.cell(*cell);
     }
-    Ok(())
+    row.print(out, b"group")
 }
 
-#[derive(Clone, Copy)]
-struct Shown {
-    kind: usize,
-    value: i64,
-}
-
-fn told(c: Characteristic) -> Shown {
-    match c {
-        Characteristic::Value(value) => Shown { kind: 0, value },
-        Characteristic::NoReading => Shown { kind: 1, value: 0 },
-        Characteristic::NotReported => Shown { kind: 2, value: 0 },
-        Characteristic::Refused(_) => Shown { kind: 3, value: 0 },
-    }
-}
-
+// A characteristic: its kind, its value or 0, and the reply.
 fn print_characteristic(
     out: &mut impl Write,
-    rules: rules::Rules,
-    text: &[u8],
-    placed: Record,
+    asked: Asked<'_>,
     number: usize,
-    page: &mut [u8],
+    row: &mut OutputRow,
 ) -> io::Result<()> {
-    let answer = sao::record_characteristic(rules, text, placed, number);
-    let t = told(answer);
-    let r = group::reply_of(answer);
-    let first = put(page, 0, number);
-    let kind = put(page, first, t.kind);
-    let value = put_cell(page, kind, t.value);
-    let end = put_reply(page, value, r);
-    print_row(out, b"char", page, end)
+    let told = sao::record_characteristic(asked.rules, asked.text, *asked.record, number);
+    let (kind, value, answer) = match told {
+        Characteristic::Value(value) => (0, value, Ok(0)),
+        Characteristic::NoReading => (1, 0, Ok(0)),
+        Characteristic::NotReported => (2, 0, Ok(0)),
+        Characteristic::Refused(why) => (3, 0, Err(why)),
+    };
+    row.number(number);
+    row.number(kind);
+    row.cell(value);
+    row.reply(answer);
+    row.print(out, b"char")
 }
 
-fn print_groups(
+fn print_record(
     out: &mut impl Write,
-    rules: rules::Rules,
-    text: &[u8],
-    placed: Record,
-    page: &mut [u8],
+    at: usize,
+    asked: Asked<'_>,
+    row: &mut OutputRow,
 ) -> io::Result<()> {
-    for g in 1..61 {
-        print_group(out, rules, text, placed, g, page)?;
+    put_placing(row, at, asked.record.answer);
+    for count in &asked.record.counts {
+        row.number(usize::from(*count));
     }
-    Ok(())
-}
-
-fn print_characteristics(
-    out: &mut impl Write,
-    rules: rules::Rules,
-    text: &[u8],
-    placed: Record,
-    page: &mut [u8],
-) -> io::Result<()> {
+    row.print(out, b"record")?;
+    for group in 1..61 {
+        print_group(out, asked, group, row)?;
+    }
     for number in 1..50 {
-        print_characteristic(out, rules, text, placed, number, page)?;
+        print_characteristic(out, asked, number, row)?;
     }
     Ok(())
 }
@@ -209,37 +168,39 @@ fn print_records(
     out: &mut impl Write,
     rules: rules::Rules,
     text: &[u8],
-    page: &mut [u8],
+    row: &mut OutputRow,
 ) -> io::Result<()> {
-    let mut at: usize = 0;
+    let mut at = 0;
     for _ in 0..300 {
-        let placed = sao::place(rules, text, at);
-        let answer = placed.answer;
-        let counts = placed.counts;
-        let r = place::reply_of(answer);
-        if r.next == 0 {
-            return print_stop(out, at, r, page);
-        }
-        print_record(out, at, r, &counts, page)?;
-        print_groups(out, rules, text, placed, page)?;
-        print_characteristics(out, rules, text, placed, page)?;
-        at = r.next;
+        let record = sao::place(rules, text, at);
+        let (Placing::Placed(next) | Placing::BrokenRule(_, next)) = record.answer else {
+            put_placing(row, at, record.answer);
+            return row.print(out, b"stop");
+        };
+        let asked = Asked {
+            rules,
+            text,
+            record: &record,
+        };
+        print_record(out, at, asked, row)?;
+        at = next;
     }
     Ok(())
 }
 
 fn main(rt: HostRuntime) -> io::Result<()> {
-    let asked = words::given(&rt, &mut rt.stderr(), b"dump")?;
-    if !asked.known {
+    let Some(asked) = words::given(&rt, &mut rt.stderr(), b"dump")? else {
         return Ok(());
-    }
+    };
     let rules = rules::choose(asked.strict, asked.entries);
     let mut space = [0u8; 65537];
     let n = words::filled(&mut rt.stdin(), &mut space)?;
-    let text = &space[0..n];
-    let mut page = [0u8; 131072];
-    if 65536 < text.len() {
+    if 65536 < n {
         return rt.write_all(b"stop 0 11 0 0\n");
     }
-    print_records(&mut rt.stdout(), rules, text, &mut page)
+    let mut row = OutputRow {
+        bytes: [0; 131072],
+        end: 0,
+    };
+    print_records(&mut rt.stdout(), rules, &space[..n], &mut row)
 }

@@ -1,15 +1,15 @@
--- Numbers as bytes: how many, what they hold, both ways; and the loops that write and read them.
+-- Numbers as bytes: how many, what they hold, both ways; and that the bytes of the machine are these.
 -- Assumes nothing.
-use mathlib.Core.Path.{◌≡◌, refl, sym, ap, ◌∙◌}
+use mathlib.Core.Path.{◌≡◌, refl, sym, ap, ap₂, ◌∙◌}
 use mathlib.Core.List.{List, [], ◌∷◌, ◌++◌, append_assoc, append-nil}
 use Prim.Native.Nat.{ℕ, zero, suc, ◌+◌, ◌-◌, ◌*◌, ◌/◌, ◌%◌, ◌^◌, ◌<◌, ◌≤◌}
-use native.Mathlib.Nat.{pow-suc, pow-le-pow_right}
-use native.Mathlib.Numerals.{add-one}
+use native.Mathlib.Nat.{pow-suc, pow-succ', div-div-eq-div-mul, zero-add, suc-add}
 use native.Mathlib.Omega.{arith}
-use lib.ListN.{length, get_or, set, take, drop, length-append, length-set, drop_of_length-le}
-use lib.Seq.{drop-cons, get_or-set_same, drop-set-lt}
+use lib.ListN.{length, take, drop, replicate, length-append, length-drop, drop_of_length-le}
+use lib.Seq.{length-take-le, take_all}
+use Rattle.std.specs.Int.{w64, byte_at, bytes_high_first, to_be_bytes, from_be_bytes}
 use Rattle.base.specs.Part.{over}
-use Rattle.base.proofs.Part.{part_length, over_lent}
+use Rattle.base.proofs.Part.{Put, put_before}
 use Rattle.entry.specs.Bytes.{number_bytes, value_from, AllBytes}
 
 pub length_bytes : (k n : ℕ) → length (number_bytes k n) ≡ k
@@ -59,56 +59,69 @@ value_small' i a (b ∷ s) h k =
 pub value_small : (k : ℕ) (s : List ℕ) → length s ≡ k → AllBytes s → value_from 0 s < 256 ^ k
 value_small k s e h = let z : k ≡ 0 + length s = omega arith in rw z (value_small' 0 0 s h (omega arith))
 
--- ---- writing from the last byte on
+-- ---- the machine's bytes of 64 bits
 
-before_last : (k : ℕ) → suc k - 1 ≡ k
-before_last k = omega arith
+-- one byte more at the end
+byte_before : (k n : ℕ) → byte_at (suc k) n ≡ byte_at k (n / 256)
+byte_before zero n = refl
+byte_before (suc k) n = ap (λ m. n / m % 256) (pow-succ' 256 (suc k)) ∙ ap (λ m. m % 256) (sym (div-div-eq-div-mul n 256 (256 ^ suc k)))
 
-pub bytes_more : (i n : ℕ) (out : List ℕ) → 0 < i → i ≤ length out → number_bytes (i - 1) (n / 256) ++ drop (i - 1) (set out (i - 1) (n % 256)) ≡ number_bytes i n ++ drop i out
+high_last : (k n : ℕ) → bytes_high_first (suc k) n ≡ bytes_high_first k (n / 256) ++ (n % 256 ∷ [])
+high_last zero n = refl
+high_last (suc k) n = ap₂ ◌∷◌ (byte_before k n) (high_last k n)
+
+high_bytes : (k n : ℕ) → bytes_high_first k n ≡ number_bytes k n
 unfolding number_bytes
-bytes_more zero n out h p = absurd (omega arith)
-bytes_more (suc k) n out h p =
-    let q : k < length (set out k (n % 256)) = simp length-set p in
-    rw (
-      before_last k,
-      drop-cons (set out k (n % 256)) k 0 q,
-      get_or-set_same out k (n % 256) 0 p,
-      drop-set-lt (suc k) out k (n % 256) (omega arith),
-      append_assoc
-          (number_bytes k (n / 256)) (n % 256 ∷ []) (drop (suc k) out),
-    )
+high_bytes zero n = refl
+high_bytes (suc k) n = high_last k n ∙ ap (λ l. l ++ (n % 256 ∷ [])) (high_bytes k (n / 256))
 
-pub bytes_whole : (n : ℕ) (out : List ℕ) → number_bytes (length out) n ++ drop (length out) out ≡ number_bytes (length out) n
-bytes_whole n out = rw (drop_of_length-le out {i = length out} (omega arith)) (append-nil (number_bytes (length out) n))
+high_drop : (j k n : ℕ) → drop j (bytes_high_first (j + k) n) ≡ bytes_high_first k n
+high_drop zero k n = rw (zero-add k)
+high_drop (suc j) k n = rw (suc-add j k) (high_drop j k n)
 
-pub bytes_done : (i n : ℕ) (out : List ℕ) → i ≤ 0 → number_bytes i n ++ drop i out ≡ out
-unfolding number_bytes
-bytes_done zero n out h = refl
-bytes_done (suc i) n out h = absurd (omega arith)
+-- what `to_be_bytes` gives ends in a number's low bytes
+pub low_bytes : (k n : ℕ) → k ≤ 8 → take (8 - (8 - k)) (drop (8 - k) (to_be_bytes w64 n)) ≡ number_bytes k n
+low_bytes k n h =
+    let e : 8 - k + k ≡ 8 = omega arith in
+    let v : 8 - (8 - k) ≡ k = omega arith in
+    let l : drop (8 - k) (to_be_bytes w64 n) ≡ number_bytes k n = sym (ap (λ m. drop (8 - k) (bytes_high_first m n)) e) ∙ high_drop (8 - k) k n ∙ high_bytes k n in
+    rw (l, v) (take_all k (number_bytes k n) (omega (arith, length_bytes k n)))
 
--- in a part that is lent
-pub bytes_lent : (xs ys : List ℕ) (at w n : ℕ) → at + w ≤ length xs → ys ≡ number_bytes (length (take (at + w - at) (drop at xs))) n
-    → take at xs ++ (ys ++ drop (at + w - at) (drop at xs)) ≡ over at (number_bytes w n) xs
-bytes_lent xs ys at w n h e =
-    let d : at + w - at ≡ w = omega arith in
-    let f : ys ≡ number_bytes w n = e ∙ ap (λ k. number_bytes k n) (part_length xs at w h) in
-    rw (f, d) (over_lent xs (number_bytes w n) at w (length_bytes w n))
-
--- ---- reading from the first byte on
-
-pub value_more : (s : List ℕ) (i a : ℕ) → i < length s → value_from (a * 256 + get_or s i 0) (drop (i + 1) s) ≡ value_from a (drop i s)
+-- zeros before the first byte change nothing
+value_zeros : (n j : ℕ) (s : List ℕ) → value_from 0 (take j (replicate n 0) ++ s) ≡ value_from 0 s
 unfolding value_from
-value_more s i a h = rw (add-one i, drop-cons s i 0 h)
+value_zeros zero zero s = refl
+value_zeros zero (suc j) s = refl
+value_zeros (suc n) zero s = refl
+value_zeros (suc n) (suc j) s = value_zeros n j s
 
-pub value_done : (s : List ℕ) (i a : ℕ) → length s ≤ i → value_from a (drop i s) ≡ a
+-- `from_be_bytes` gives what eight bytes hold
+be_value : (s : List ℕ) → length s ≡ 8 → from_be_bytes w64 s ≡ value_from 0 s
 unfolding value_from
-value_done s i a h = rw (drop_of_length-le s {i = i} h)
+be_value (a ∷ b ∷ c ∷ d ∷ e ∷ f ∷ g ∷ h ∷ []) l = omega arith
+be_value [] l = absurd (omega arith)
+be_value (a ∷ []) l = absurd (omega arith)
+be_value (a ∷ b ∷ []) l = absurd (omega arith)
+be_value (a ∷ b ∷ c ∷ []) l = absurd (omega arith)
+be_value (a ∷ b ∷ c ∷ d ∷ []) l = absurd (omega arith)
+be_value (a ∷ b ∷ c ∷ d ∷ e ∷ []) l = absurd (omega arith)
+be_value (a ∷ b ∷ c ∷ d ∷ e ∷ f ∷ []) l = absurd (omega arith)
+be_value (a ∷ b ∷ c ∷ d ∷ e ∷ f ∷ g ∷ []) l = absurd (omega arith)
+be_value (a ∷ b ∷ c ∷ d ∷ e ∷ f ∷ g ∷ h ∷ i ∷ s) l = absurd (omega arith)
 
-pub value_room : (i a : ℕ) → i < 8 → a < 256 ^ i → a < 256 ^ 7
-value_room i a h k =
-    let o : 0 < 256 = omega arith in
-    let l : i ≤ 7 = omega arith in
-    let p : 256 ^ i ≤ 256 ^ 7 = pow-le-pow_right o l in omega arith
+abbrev pub zeros : List ℕ
+zeros = replicate 8 0
 
-pub value_grows : (i a b : ℕ) → a < 256 ^ i → b < 256 → a * 256 + b < 256 ^ (i + 1)
-value_grows i a b h k = let p : 256 ^ suc i ≡ 256 ^ i * 256 = pow-suc 256 i in rw (add-one i) (omega arith)
+-- and where zeros fill the bytes before a part, what the part holds
+pub filled_value : (k m : ℕ) (t : List ℕ) → k ≤ 8 → k ≤ m → length t ≡ k → from_be_bytes w64 (take (8 - k) zeros ++ (t ++ drop m (drop (8 - k) zeros))) ≡ value_from 0 t
+filled_value k m t h g e =
+    let n : drop m (drop (8 - k) zeros) ≡ [] = drop_of_length-le (drop (8 - k) zeros) (omega (arith, length-drop (8 - k) zeros)) in
+    rw (n, append-nil t)
+    (be_value (take (8 - k) zeros ++ t) (length-append (take (8 - k) zeros) t ∙ omega (arith, length-take-le (8 - k) zeros (omega arith))) ∙ value_zeros 8 (8 - k) t)
+
+-- ---- numbers written one before the other
+
+pub bytes_before : (xs t : List ℕ) (at b k n : ℕ) → b ≡ at + k → b ≤ length xs → over at (number_bytes k n) (over b t xs) ≡ over at (number_bytes k n ++ t) xs
+bytes_before xs t at b k n e h =
+    let p : Put xs b t (over b t xs) = record { room = h; is = refl } in
+    (put_before p (number_bytes k n) (over at (number_bytes k n) (over b t xs)) at (e ∙ ap (λ m. at + m) (sym (length_bytes k n))) refl).is

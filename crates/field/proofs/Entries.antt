@@ -4,6 +4,7 @@ use mathlib.Core.Path.{◌≡◌, refl, sym, ap, ◌∙◌}
 use mathlib.Core.Bool.{true, false}
 use mathlib.Core.List.{List, ◌++◌}
 use mathlib.Core.Logic.{◌↔◌}
+use Rattle.std.specs.Prelude.{Some, None}
 use Prim.Native.Nat.{ℕ, ◌≤◌}
 use native.Mathlib.Omega.{arith}
 use borrow.Author.Tests.{eq-eqb, eqb-true}
@@ -25,37 +26,33 @@ use Rattle.number.proofs.Grammar.{columns_read, Held, held}
 use Rattle.number.proofs.Unique.{lean_text}
 use Rattle.number.proofs.Fits.{i_canonical}
 use Rattle.number.proofs.Text.{i_length, i_printable}
-use Rattle.field.specs.declared.IndexEntry.TheVariants.{Count, Misformed}
 use Rattle.form.specs.Count.{most_count, is_count}
 use Rattle.field.specs.Entry.{IsEntry, HasEntry, CanonicalEntry, count_in, entry_of, index_entry_text}
 
 -- ---- reading
 
-misformed_count : (n : ℕ) → Misformed ≡ Count n → ⊥
-misformed_count n e = let y : ◌≡◌ {A = ℕ} 0 1 = cc in omega arith
-
-held_is : (s : List ℕ) (n : ℕ) (st : Scan) → length s ≡ 3 → Held s st → count_in st ≡ Count n → IsEntry s n
-held_is s n Blanks l h e = absurd (misformed_count n e)
-held_is s n Signed l h e = absurd (misformed_count n e)
-held_is s n (Digits true m) l h e = absurd (misformed_count n e)
+held_is : (s : List ℕ) (n : ℕ) (st : Scan) → length s ≡ 3 → Held s st → count_in st ≡ Some n → IsEntry s n
+held_is s n Blanks l h e = cc
+held_is s n Signed l h e = cc
+held_is s n (Digits true m) l h e = cc
 held_is s n (Digits false m) l h e =
     let y : m ≡ n = cc in
     record { width = l; blanks = h.blanks; digits = h.digits; each = h.each; some = h.some; text = h.text; value = sym (h.value ∙ y) }
-held_is s n Broken l h e = absurd (misformed_count n e)
+held_is s n Broken l h e = cc
 
-pub entry_is : (s : List ℕ) (n : ℕ) → entry_of s ≡ Count n → IsEntry s n
+pub entry_is : (s : List ℕ) (n : ℕ) → entry_of s ≡ Some n → IsEntry s n
 unfolding entry_of
 entry_is s n e =
-    let l = eqb-true (length s) 3 (cond_taken (eqb (length s) 3) (count_in (scan_of Blanks s)) Misformed (Count n) (misformed_count n) e) in
-    held_is s n (scan_of Blanks s) l (held s) (cond_kept (eqb (length s) 3) (count_in (scan_of Blanks s)) Misformed (Count n) (misformed_count n) e)
+    let l = eqb-true (length s) 3 (cond_taken (eqb (length s) 3) (count_in (scan_of Blanks s)) None (Some n) (λ h. cc) e) in
+    held_is s n (scan_of Blanks s) l (held s) (cond_kept (eqb (length s) 3) (count_in (scan_of Blanks s)) None (Some n) (λ h. cc) e)
 
-pub is_entry : (s : List ℕ) (n : ℕ) → IsEntry s n → entry_of s ≡ Count n
+pub is_entry : (s : List ℕ) (n : ℕ) → IsEntry s n → entry_of s ≡ Some n
 unfolding entry_of
 is_entry s n i =
     rw (eq-eqb (length s) 3 i.width)
     (ap (λ t. count_in (scan_of Blanks t)) i.text
     ∙ ap count_in (columns_read i.blanks false i.digits i.each i.some)
-    ∙ ap Count (sym i.value))
+    ∙ ap Some (sym i.value))
 
 -- ---- fits exactly
 
@@ -95,7 +92,7 @@ canonical_entry s n c =
 
 -- ---- written reads
 
-pub entry_back : (n : ℕ) → T (is_count n) → entry_of (index_entry_text n) ≡ Count n
+pub entry_back : (n : ℕ) → T (is_count n) → entry_of (index_entry_text n) ≡ Some n
 entry_back n t = is_entry (index_entry_text n) n (canonical_entry (index_entry_text n) n (entry_canonical n t))
 
 pub entry_wide : (n : ℕ) → length (index_entry_text n) ≡ 3

@@ -1,31 +1,16 @@
 -- Letters: cells and bytes from 32 to 126.
 -- Assumes nothing.
 use mathlib.Core.Path.{◌≡◌, refl, ap}
-use mathlib.Core.Bool.{true, false}
 use mathlib.Core.List.{List, [], ◌∷◌, map}
-use Prim.Native.Nat.{ℕ, ◌<◌}
-use native.Mathlib.Omega.{arith}
+use Prim.Native.Nat.{ℕ}
 use lib.Dec.{T, leb, leb→le, le→leb}
 use lib.IntN.{ℤ, pos, negsuc}
 use Rattle.base.specs.Ascii.{printable}
 use Rattle.base.specs.Every.{every}
-use Rattle.base.specs.Sign.{negative, size_of}
+use Rattle.base.specs.Sign.{size_of}
 use Rattle.base.proofs.Choice.{and_left, and_right, and_both}
 use Rattle.field.specs.Write.{is_letter}
 use Rattle.field.specs.Grammar.{Letters}
-
--- a cell's sign decides, then its size
-pub letter_negative : (z : ℤ) → negative z ≡ true → is_letter z ≡ false
-letter_negative (pos n) e = let y : ◌≡◌ {A = ℕ} 0 1 = cc in absurd (omega arith)
-letter_negative (negsuc n) e = refl
-
-pub letter_natural : (z : ℤ) → negative z ≡ false → is_letter z ≡ printable (size_of z)
-letter_natural (pos n) e = refl
-letter_natural (negsuc n) e = let y : ◌≡◌ {A = ℕ} 0 1 = cc in absurd (omega arith)
-
-pub letter_small : (z : ℤ) → T (is_letter z) → size_of z < 256
-letter_small (pos n) t = let h = leb→le n 126 (and_right (leb 32 n) (leb n 126) t) in omega arith
-letter_small (negsuc n) t = absurd t
 
 -- the test at each byte is R80
 pub printable_letters : (s : List ℕ) → T (every printable s) → Letters s

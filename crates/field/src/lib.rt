@@ -8,28 +8,21 @@ ghost use Rattle.base.specs.Every.{every};
 ghost use Rattle.base.specs.Part.{over};
 ghost use Rattle.base.specs.Sign.{size_of};
 ghost use Rattle.form.specs.Table.{row_of};
-ghost use Rattle.number.specs.Scan.{class_of, step_of, SmallDigit};
 ghost use Rattle.field.specs.Kind.{kind_of, width_of, kind_cells, Small};
 ghost use Rattle.field.specs.Write.{is_letter, range_of, fits_of, text_as, field_text};
-ghost use Rattle.field.specs.Entry.{count_in, entry_of, index_entry_text};
+ghost use Rattle.field.specs.Entry.{entry_of, index_entry_text};
 
 use form::Form;
 use number::{Byte, Scan};
 
 // What a field reads as: a cell; the two cells of an E field; letters, whose cells are the bytes themselves. The
-// definitions speak by it; no code makes one.
+// definitions speak by it, and the laws (`Lawful`, specs/Law.antt) of `Misformed` as one of its variants; no code makes
+// one.
 #[derive(Clone, Copy)]
 pub enum Value {
     Cell(i64),
     Pair(i64, i64),
     Letters,
-    Misformed,
-}
-
-// What an index entry reads as.
-#[derive(Clone, Copy)]
-pub enum IndexEntry {
-    Count(u16),
     Misformed,
 }
 
@@ -60,7 +53,7 @@ enum Kind {
     },
 }
 
-// The ten forms. The widths are those of the form's row, which a constant table would build anew for each field.
+// The ten forms. The widths are those of the form's row.
 fn kind_of(form: Form) -> Kind
     ensures { result ≡ kind_of form }
 {
@@ -120,24 +113,8 @@ fn cells_of(kind: Kind) -> usize
     ensures { result ≡ kind_cells kind }
 {
     match kind {
-        Kind::Whole {
-            width: _,
-            low: _,
-            high: _,
-        } => 1,
-        Kind::Fixed {
-            width: _,
-            low: _,
-            high: _,
-        } => 1,
-        Kind::Power {
-            columns: _,
-            digits: _,
-            places: _,
-            far: _,
-            most: _,
-        } => 2,
-        Kind::OneLetter => 1,
+        Kind::Whole { .. } | Kind::Fixed { .. } | Kind::OneLetter => 1,
+        Kind::Power { .. } => 2,
         Kind::AllLetters { width } => width,
     }
 }
@@ -147,25 +124,14 @@ fn cells_of(kind: Kind) -> usize
 fn is_printable(b: u8) -> bool
     ensures { result ≡ printable b }
 {
-    if b < 32 {
-        return false;
-    }
-    b <= 126
+    (32..=126).contains(&b)
 }
 
 // R80: whether each byte is 32 to 126.
 pub fn all_printable(s: &[u8]) -> bool
     ensures { result ≡ every printable s.now }
 {
-    let mut i = 0;
-    while i < s.len() {
-        if is_printable(s[i]) {
-            i += 1;
-        } else {
-            return false;
-        }
-    }
-    true
+    s.iter().all(|b| is_printable(*b))
 }
 
 // ---- Which cells have a field.
@@ -173,28 +139,15 @@ pub fn all_printable(s: &[u8]) -> bool
 fn is_letter(v: i64) -> bool
     ensures { result ≡ is_letter v }
 {
-    let m = number::signed(v);
-    if m.neg {
-        return false;
-    }
-    if m.size < 32 {
-        return false;
-    }
-    m.size <= 126
+    (32..=126).contains(&v)
 }
 
+// The same of cells: one function for both would need a trait of what bytes and cells have in common, no plainer than
+// these two.
 fn all_letters(cells: &[i64]) -> bool
     ensures { result ≡ every is_letter cells.now }
 {
-    let mut i = 0;
-    while i < cells.len() {
-        if is_letter(cells[i]) {
-            i += 1;
-        } else {
-            return false;
-        }
-    }
-    true
+    cells.iter().all(|v| is_letter(*v))
 }
 
 fn in_range(kind: Kind, cells: &[i64]) -> bool
@@ -202,42 +155,22 @@ fn in_range(kind: Kind, cells: &[i64]) -> bool
     ensures { result ≡ range_of kind cells.now }
 {
     match kind {
-        Kind::Whole {
-            width: _,
-            low,
-            high,
-        } => number::within(cells[0], low, high),
-        Kind::Fixed {
-            width: _,
-            low,
-            high,
-        } => number::within(cells[0], low, high),
-        Kind::Power {
-            columns: _,
-            digits: _,
-            places: _,
-            far,
-            most,
-        } => {
-            if number::within(cells[0], far, far) {
-                return number::within(cells[1], most, most);
-            }
-            false
-        }
-        Kind::OneLetter => all_letters(cells),
-        Kind::AllLetters { width: _ } => all_letters(cells),
+        Kind::Whole { low, high, .. } | Kind::Fixed { low, high, .. } => number::within(
+            cells[0], low, high,
+        ),
+        Kind::Power { far, most, .. } => number::within(cells[0], far, far)
+            && number::within(cells[1], most, most),
+        Kind::OneLetter | Kind::AllLetters { .. } => all_letters(cells),
     }
 }
 
 // Whether some field of the form reads as these cells; another number of cells than the form has fits none.
+#[tactic(auto, using(crate::proofs::Forms::kind_cells_lem), unfolding(crate::specs::Write::fits_of))]
 pub fn fits(form: Form, cells: &[i64]) -> bool
     ensures { result ≡ fits_of form cells.now }
 {
     let kind = kind_of(form);
-    if cells.len() != cells_of(kind) {
-        return false;
-    }
-    in_range(kind, cells)
+    cells.len() == cells_of(kind) && in_range(kind, cells)
 }
 
 // ---- Writing.
@@ -246,8 +179,7 @@ fn letter(v: i64) -> u8
     requires { T (is_letter v) }
     ensures { result ≡ size_of v }
 {
-    let m = number::signed(v);
-    m.size as u8
+    v as u8
 }
 
 // Writes cells that are letters at a place with room.
@@ -256,10 +188,8 @@ pub fn put_letters(cells: &[i64], out: &mut [u8], at: usize)
     requires letters { T (every is_letter cells.now) }
     ensures { out.new ≡ over at (map size_of cells.now) out.old }
 {
-    let mut i = 0;
-    while i < cells.len() {
-        out[at + i] = letter(cells[i]);
-        i += 1;
+    for (i, v) in cells.iter().enumerate() {
+        out[at + i] = letter(*v);
     }
 }
 
@@ -271,29 +201,20 @@ fn put_as(kind: Kind, cells: &[i64], out: &mut [u8], at: usize)
     ensures { out.new ≡ over at (text_as kind cells.now) out.old }
 {
     match kind {
-        Kind::Whole {
-            width,
-            low: _,
-            high: _,
-        } => number::put_i(out, at, width, cells[0]),
-        Kind::Fixed {
-            width,
-            low: _,
-            high: _,
-        } => number::put_f(out, at, width, cells[0]),
+        Kind::Whole { width, .. } => number::put_i(out, at, width, cells[0]),
+        Kind::Fixed { width, .. } => number::put_f(out, at, width, cells[0]),
         Kind::Power {
             columns,
             digits,
             places,
-            far: _,
-            most: _,
+            ..
         } => number::put_e(out, at, columns, digits, places, cells[0], cells[1]),
-        Kind::OneLetter => put_letters(cells, out, at),
-        Kind::AllLetters { width: _ } => put_letters(cells, out, at),
+        Kind::OneLetter | Kind::AllLetters { .. } => put_letters(cells, out, at),
     }
 }
 
 // Writes the canonical text of cells that fit at a place with room.
+#[tactic(auto, using(crate::proofs::Forms::kind_width, crate::proofs::Fitting::fits_counted, crate::proofs::Fitting::fits_range), unfolding(crate::specs::Write::field_text))]
 pub fn put(form: Form, cells: &[i64], out: &mut [u8], at: usize)
     requires fits { T (fits_of form cells.now) }
     requires room { at + (row_of form).width ≤ length out.old }
@@ -304,61 +225,25 @@ pub fn put(form: Form, cells: &[i64], out: &mut [u8], at: usize)
 
 // ---- Index entries.
 
-// R23 for columns that end in a blank and a digit: a blank stands before these.
-fn one_digit(first: Byte, units: u64) -> IndexEntry
-    requires { units < 10 }
-    ensures { result ≡ count_in (step_of (Byte.Digit units) (step_of Byte.Blank (step_of first Scan.Blanks))) }
-{
-    match first {
-        Byte::Blank => IndexEntry::Count(units as u16),
-        Byte::Minus => IndexEntry::Misformed,
-        Byte::Digit(_) => IndexEntry::Misformed,
-        Byte::Other => IndexEntry::Misformed,
-    }
-}
-
-// R23 for columns that end in two digits: a blank stands before these, or a third.
-fn more_digits(first: Byte, tens: u64, units: u64) -> IndexEntry
-    requires first { SmallDigit first }
-    requires tens { tens < 10 }
-    requires units { units < 10 }
-    ensures { result ≡ count_in (step_of (Byte.Digit units) (step_of (Byte.Digit tens) (step_of first Scan.Blanks))) }
-{
-    match first {
-        Byte::Blank => IndexEntry::Count((tens * 10 + units) as u16),
-        Byte::Minus => IndexEntry::Misformed,
-        Byte::Digit(hundreds) => IndexEntry::Count(((hundreds * 10 + tens) * 10 + units) as u16),
-        Byte::Other => IndexEntry::Misformed,
-    }
-}
-
-// R23 for columns that end in a digit.
-fn before_units(first: u8, second: u8, units: u64) -> IndexEntry
-    requires { units < 10 }
-    ensures { result ≡ count_in (step_of (Byte.Digit units) (step_of (class_of second) (step_of (class_of first)
-        Scan.Blanks))) }
-{
-    match number::class(second) {
-        Byte::Blank => one_digit(number::class(first), units),
-        Byte::Minus => IndexEntry::Misformed, // as in ` -0`
-        Byte::Digit(tens) => more_digits(number::class(first), tens, units),
-        Byte::Other => IndexEntry::Misformed,
-    }
-}
-
-// R23: the count that an index entry reads as; a slice of another length than three is misformed. Each column is looked
-// at by itself, the last one first, which takes fewer tests than a state that goes from column to column.
-pub fn read_entry(entry: &[u8]) -> IndexEntry
+// R23: the count that an index entry reads as. It has three columns: blanks, and digits to the end.
+#[tactic(auto, using(crate::proofs::Columns::entry_columns), unfolding(crate::specs::Entry::entry_of))]
+pub fn read_entry(entry: &[u8]) -> Option<u16>
     ensures { result ≡ entry_of entry.now }
 {
-    if entry.len() != 3 {
-        return IndexEntry::Misformed;
-    }
-    match number::class(entry[2]) {
-        Byte::Blank => IndexEntry::Misformed,
-        Byte::Minus => IndexEntry::Misformed,
-        Byte::Digit(units) => before_units(entry[0], entry[1], units),
-        Byte::Other => IndexEntry::Misformed,
+    let [first, second, third] = entry else {
+        return None;
+    };
+    match (
+        number::class(*first),
+        number::class(*second),
+        number::class(*third),
+    ) {
+        (Byte::Blank, Byte::Blank, Byte::Digit(units)) => Some(units as u16),
+        (Byte::Blank, Byte::Digit(tens), Byte::Digit(units)) => Some((tens * 10 + units) as u16),
+        (Byte::Digit(hundreds), Byte::Digit(tens), Byte::Digit(units)) => {
+            Some(((hundreds * 10 + tens) * 10 + units) as u16)
+        }
+        _ => None,
     }
 }
 

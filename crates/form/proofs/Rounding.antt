@@ -1,10 +1,12 @@
 -- Rounding up: so many lines are enough for n elements, and one fewer are not.
 -- Assumes nothing.
-use mathlib.Core.Path.{◌≡◌, refl, ap}
+use mathlib.Core.Path.{◌≡◌, refl, sym, ap}
 use mathlib.Core.Logic.{◌↔◌, ⊎_elim}
 use Prim.Native.Nat.{ℕ, zero, suc, ◌+◌, ◌-◌, ◌*◌, ◌/◌, ◌<◌, ◌≤◌}
 use native.Mathlib.Omega.{arith}
 use native.Mathlib.Nat.{div-lt_iff_lt-mul, lt-div-mul-add, suc-mul, mul-le-mul_right, add-mul, one-mul, div-mul-le_self, div-zero, div-eq_of_lt}
+use Rattle.std.specs.Int.{div_ceil}
+use Rattle.std.proofs.lemmas.Grind.{div_ceil_times}
 use Rattle.base.proofs.Order.{le_or_lt}
 use Rattle.form.specs.Count.{rounded_up, Takes}
 
@@ -57,3 +59,14 @@ module _ (n p : ℕ) (some : 0 < p) where
       where
         before_one : (n - 1) / p * p < n → ((n - 1) / p + 1 - 1) * p < n
         before_one h = let e : (n - 1) / p + 1 - 1 ≡ (n - 1) / p = omega arith in rw e h
+
+  -- as std rounds up
+  pub by_div_ceil : div_ceil n p ≡ rounded_up n p
+  by_div_ceil = sym (lines_exact (div_ceil n p) record {
+    enough = (div_ceil_times n p some).0;
+    needed = λ h. one_fewer (div_ceil n p) h (div_ceil_times n p some).1;
+  })
+    where
+      one_fewer : (k : ℕ) → 0 < k → k * p < n + p → (k - 1) * p < n
+      one_fewer (suc k) h l = let e : suc k - 1 ≡ k = omega arith in rw e (omega (arith, suc-mul k p))
+      one_fewer zero h l = absurd (omega arith)

@@ -1,7 +1,6 @@
 -- R48, the rule of the table, by one test over the forms: a line's fields take at most 120 columns, and every number of a row is 1 to 120, and so
 -- are the cells of a full line.
 -- Assumes nothing.
-use mathlib.Core.Path.{◌≡◌}
 use mathlib.Core.Bool.{Bool, ◌&&◌}
 use Prim.Native.Nat.{◌*◌, ◌≤◌}
 use lib.Dec.{T, leb, leb→le}
@@ -50,7 +49,3 @@ all_fit = tt
 
 pub row_fits : (f : Form) → RowFits (row_of f)
 row_fits f = passed (row_of f) (each_form (λ g. fits (row_of g)) all_fit f)
-
--- a row that is some form's
-pub fits_by : {r : Row} (f : Form) → r ≡ row_of f → RowFits r
-fits_by f e = rw e (row_fits f)

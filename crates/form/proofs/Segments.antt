@@ -14,7 +14,7 @@ use Rattle.rules.specs.declared.Counting.{Counting}
 use Rattle.rules.specs.declared.Counting.TheVariants.{Elements, Entries}
 use Rattle.form.specs.declared.Form.{Form}
 use Rattle.form.specs.declared.Form.TheVariants.{A1, E20}
-use Rattle.form.specs.declared.GroupForm.TheVariants.{Has}
+use Rattle.std.proofs.Common.{Some}
 use Rattle.form.specs.Table.{listed_as, row_of, forms, form_of}
 use Rattle.form.specs.Count.{is_segments, segment_elements, elements_of, rounded_up, lines_of, cells_of}
 use Rattle.form.proofs.Table.{each_form, form_listed}
@@ -43,7 +43,7 @@ segments_six : (f : Form) → is_segments f ≡ true → (row_of f).per_line ≡
 segments_six f e = eqb→eq (row_of f).per_line 6 (and_left (six f) (forty f) (as_forty f e))
 
 -- and no other group has it
-pub segments_forty : (g : ℕ) (f : Form) → form_of g ≡ Has f → (g ≡ 40 → ⊥) → is_segments f ≡ false
+pub segments_forty : (g : ℕ) (f : Form) → form_of g ≡ Some f → (g ≡ 40 → ⊥) → is_segments f ≡ false
 segments_forty g f h other = by (is_segments f) refl
   where
     by : (t : Bool) → is_segments f ≡ t → is_segments f ≡ false
@@ -73,9 +73,9 @@ module _ (ρ : Rules) where
 
 -- ---- a count of 0 and of 1, whatever is counted
 
-pub segments_none : (k : Counting) → segment_elements 0 k ≡ 0
+pub segments_none : (n : ℕ) (k : Counting) → n ≡ 0 → segment_elements n k ≡ 0
 unfolding segment_elements
-segments_none k = refl
+segments_none n k e = rw e refl
 
 pub segments_one : (k : Counting) → segment_elements 1 k ≡ 1
 unfolding segment_elements
@@ -88,7 +88,7 @@ module _ (ρ : Rules) where
   elements_none f = by (is_segments f)
     where
       by : (t : Bool) → cond t (segment_elements 0 ρ.counting) 0 ≡ 0
-      by true = segments_none ρ.counting
+      by true = segments_none 0 ρ.counting refl
       by false = refl
 
 -- ---- R42: every other group, and all groups where elements are counted

@@ -14,8 +14,7 @@ use Rattle.base.proofs.Every.{every_get_d, every_has, every_between}
 use Rattle.base.proofs.Choice.{and_left, and_right}
 use Rattle.form.specs.declared.Form.{Form}
 use Rattle.form.specs.declared.Form.TheVariants.{F7, A120, A1, F8, I2, I3, I1, E11, E20, E8}
-use Rattle.form.specs.declared.GroupForm.{GroupForm}
-use Rattle.form.specs.declared.GroupForm.TheVariants.{Has, NoGroup}
+use Rattle.std.proofs.Common.{Option, Some, None}
 use Rattle.form.specs.Table.{listed_as, forms, form_number, form_among, form_of}
 
 -- ---- a test that passes at every form passes at each
@@ -42,52 +41,52 @@ number_below f = leb→le (suc (form_number f)) 10 (each_form (λ g. leb (suc (f
 
 -- ---- a computed test of two answers' equality
 
-abbrev pub code : GroupForm → ℕ
-code (Has f) = form_number f
-code NoGroup = 10
+abbrev pub code : Option Form → ℕ
+code (Some f) = form_number f
+code None = 10
 
-abbrev back : ℕ → GroupForm
-back n = cond (ltb n 10) (Has (get_or forms n F7)) NoGroup
+abbrev back : ℕ → Option Form
+back n = cond (ltb n 10) (Some (get_or forms n F7)) None
 
-back_code : (f : GroupForm) → back (code f) ≡ f
-back_code (Has f) = rw (lt-ltb (form_number f) 10 (number_below f)) (ap Has (forms_number f))
-back_code NoGroup = refl
+back_code : (f : Option Form) → back (code f) ≡ f
+back_code (Some f) = rw (lt-ltb (form_number f) 10 (number_below f)) (ap Some (forms_number f))
+back_code None = refl
 
 -- the group has this form, or there is no such group
-abbrev pub is : GroupForm → ℕ → Bool
+abbrev pub is : Option Form → ℕ → Bool
 is f g = eqb (code f) (code (form_of g))
 
-pub is_form : (f : GroupForm) (g : ℕ) → T (is f g) → f ≡ form_of g
+pub is_form : (f : Option Form) (g : ℕ) → T (is f g) → f ≡ form_of g
 is_form f g t = sym (back_code f) ∙ ap back (eqb→eq (code f) (code (form_of g)) t) ∙ back_code (form_of g)
 
 -- ---- a form's groups have the form
 
 abbrev listed : Form → Bool
-listed f = every (is (Has f)) (listed_as f).groups
+listed f = every (is (Some f)) (listed_as f).groups
 
 all_listed : T (every listed forms)
 unfolding listed_as form_of form_among
 all_listed = tt
 
-pub listed_form : (f : Form) (g : ℕ) → T (has (listed_as f).groups g) → form_of g ≡ Has f
-listed_form f g h = sym (is_form (Has f) g (every_has (is (Has f)) (listed_as f).groups (each_form listed all_listed f) g h))
+pub listed_form : (f : Form) (g : ℕ) → T (has (listed_as f).groups g) → form_of g ≡ Some f
+listed_form f g h = sym (is_form (Some f) g (every_has (is (Some f)) (listed_as f).groups (each_form listed all_listed f) g h))
 
 -- ---- a group's form lists the group
 
-step : (k f : Form) (fs : List Form) (g : ℕ) (t : Bool) → has (listed_as k).groups g ≡ t → (form_among fs g ≡ Has f → T (has (listed_as f).groups g))
-    → cond t (Has k) (form_among fs g) ≡ Has f → T (has (listed_as f).groups g)
+step : (k f : Form) (fs : List Form) (g : ℕ) (t : Bool) → has (listed_as k).groups g ≡ t → (form_among fs g ≡ Some f → T (has (listed_as f).groups g))
+    → cond t (Some k) (form_among fs g) ≡ Some f → T (has (listed_as f).groups g)
 step k f fs g true u rest e =
     let p : k ≡ f = cc in
     rw (← p, u) tt
 step k f fs g false u rest e = rest e
 
-among : (fs : List Form) (f : Form) (g : ℕ) → form_among fs g ≡ Has f → T (has (listed_as f).groups g)
+among : (fs : List Form) (f : Form) (g : ℕ) → form_among fs g ≡ Some f → T (has (listed_as f).groups g)
 unfolding form_among
 among [] f g e = let z : ◌≡◌ {A = ℕ} 0 1 = cc in absurd (omega arith)
 among (k ∷ fs) f g e = step k f fs g (has (listed_as k).groups g) refl (among fs f g) e
 
 -- a group has a form exactly if the form's row lists the group
-pub form_listed : (f : Form) (g : ℕ) → form_of g ≡ Has f ↔ T (has (listed_as f).groups g)
+pub form_listed : (f : Form) (g : ℕ) → form_of g ≡ Some f ↔ T (has (listed_as f).groups g)
 unfolding form_of
 form_listed f g = (among forms f g, listed_form f g)
 
@@ -112,7 +111,7 @@ pub record IsGroup (g : ℕ) : Type 0 where
   pub low : 1 ≤ g
   pub high : g ≤ 60
 
-has_group : (g : ℕ) (f : Form) → form_of g ≡ Has f → IsGroup g
+has_group : (g : ℕ) (f : Form) → form_of g ≡ Some f → IsGroup g
 has_group g f e =
     let t = every_has inside (listed_as f).groups (each_form (λ k. every inside (listed_as k).groups) all_inside f) g ((form_listed f g).0 e) in
     record {
@@ -121,30 +120,30 @@ has_group g f e =
     }
 
 -- a number has a form exactly if it is a group
-pub no_group : (g : ℕ) → form_of g ≡ NoGroup ↔ (IsGroup g → ⊥)
+pub no_group : (g : ℕ) → form_of g ≡ None ↔ (IsGroup g → ⊥)
 no_group g = (there, back_again (form_of g) refl)
   where
-    there : form_of g ≡ NoGroup → IsGroup g → ⊥
+    there : form_of g ≡ None → IsGroup g → ⊥
     there e i =
         let t : T (is_group g) = every_between is_group 1 60 all_groups g i.low (omega (arith, i.high)) in
         let z : T (leb 10 9) = rw e at t in
         z
 
-    back_again : (f : GroupForm) → form_of g ≡ f → (IsGroup g → ⊥) → form_of g ≡ NoGroup
-    back_again (Has f) e n = absurd (n (has_group g f e))
-    back_again NoGroup e n = e
+    back_again : (f : Option Form) → form_of g ≡ f → (IsGroup g → ⊥) → form_of g ≡ None
+    back_again (Some f) e n = absurd (n (has_group g f e))
+    back_again None e n = e
 
 -- each of 1 to 60 has a form
-pub has_form : (g : ℕ) → 0 < g → g < 61 → form_of g ≡ NoGroup → ⊥
+pub has_form : (g : ℕ) → 0 < g → g < 61 → form_of g ≡ None → ⊥
 has_form g some few e = (no_group g).0 e record { low = some; high = omega arith }
 
-pub group_form : (g : ℕ) → 1 ≤ g → g ≤ 60 → (f : Form) × (form_of g ≡ Has f)
+pub group_form : (g : ℕ) → 1 ≤ g → g ≤ 60 → (f : Form) × (form_of g ≡ Some f)
 group_form g a b = by (form_of g) refl
   where
-    by : (h : GroupForm) → form_of g ≡ h → (f : Form) × (form_of g ≡ Has f)
-    by (Has f) e = (f, e)
-    by NoGroup e = absurd (has_form g a (omega arith) e)
+    by : (h : Option Form) → form_of g ≡ h → (f : Form) × (form_of g ≡ Some f)
+    by (Some f) e = (f, e)
+    by None e = absurd (has_form g a (omega arith) e)
 
 -- and what has a form is one of them
-pub form_range : (g : ℕ) (f : Form) → form_of g ≡ Has f → (1 ≤ g) × (g ≤ 60)
+pub form_range : (g : ℕ) (f : Form) → form_of g ≡ Some f → (1 ≤ g) × (g ≤ 60)
 form_range g f e = let i = has_group g f e in (i.low, i.high)

@@ -1,11 +1,9 @@
 -- R40, R41: what a form takes of a line, the cells that it gives, and the groups that have it.
-use Rattle.std.specs.Prelude.{cond, List, [], ◌∷◌, ℕ, ◌≤◌}
+use Rattle.std.specs.Prelude.{cond, List, [], ◌∷◌, ℕ, ◌≤◌, Option, Some, None}
 use Rattle.base.specs.Every.{has}
 use Rattle.form.specs.declared.Row.{Row}
 use Rattle.form.specs.declared.Form.{Form}
 use Rattle.form.specs.declared.Form.TheVariants.{F7, A120, A1, F8, I2, I3, I1, E11, E20, E8}
-use Rattle.form.specs.declared.GroupForm.{GroupForm}
-use Rattle.form.specs.declared.GroupForm.TheVariants.{Has, NoGroup}
 
 pub record FormRow : Type 0 where
   pub row : Row
@@ -50,12 +48,12 @@ unfoldable pub row_of : Form → Row
 row_of f = (listed_as f).row
 
 -- the form among these whose groups have the number; no group where there is none
-unfoldable pub form_among : List Form → ℕ → GroupForm
-form_among [] g = NoGroup
-form_among (f ∷ fs) g = cond (has (listed_as f).groups g) (Has f) (form_among fs g)
+unfoldable pub form_among : List Form → ℕ → Option Form
+form_among [] g = None
+form_among (f ∷ fs) g = cond (has (listed_as f).groups g) (Some f) (form_among fs g)
 
 -- R40: a group's number decides its form, and no other number has one
-unfoldable pub form_of : ℕ → GroupForm
+unfoldable pub form_of : ℕ → Option Form
 form_of g = form_among forms g
 
 -- R212: the number is none of 1 to 60 (`no_group` in proofs/Table.antt: exactly the numbers that have no form)

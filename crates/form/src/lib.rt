@@ -20,13 +20,6 @@ pub enum Form {
     E8,
 }
 
-// What stands under a group number.
-#[derive(Clone, Copy)]
-pub enum GroupForm {
-    Has(Form),
-    NoGroup,
-}
-
 // A form's field has `width` columns and gives `cells` cells; a full line has `per_line` elements.
 #[derive(Clone, Copy)]
 pub struct Row {
@@ -35,8 +28,9 @@ pub struct Row {
     pub cells: usize,
 }
 
-// R41 as one constant table (R440), in the order of the enum.
-const ROWS: [Row; 10] = [
+// R41 as one constant table (R440), in the order of the enum. It is a static: a `const` would be built anew where a
+// variable indexes it.
+static ROWS: [Row; 10] = [
     // F7
     Row {
         width: 7,
@@ -100,13 +94,14 @@ const ROWS: [Row; 10] = [
 ];
 
 // R40 as one match, in which groups that follow one another are a range (R441).
-pub fn form_of(group: usize) -> GroupForm
+#[tactic(auto, unfolding(crate::specs::Table::form_of, crate::specs::Table::listed_as, crate::specs::Table::form_among))]
+pub fn form_of(group: usize) -> Option<Form>
     ensures { result ≡ form_of group }
 {
     match group {
-        1 | 6 => GroupForm::Has(Form::F7),
-        2 => GroupForm::Has(Form::A120),
-        3 | 54 | 55 => GroupForm::Has(Form::A1),
+        1 | 6 => Some(Form::F7),
+        2 => Some(Form::A120),
+        3 | 54 | 55 => Some(Form::A1),
         4
         | 7
         | 8
@@ -124,118 +119,99 @@ pub fn form_of(group: usize) -> GroupForm
         | 47
         | 50..=52
         | 58
-        | 59 => GroupForm::Has(Form::F8),
-        5 => GroupForm::Has(Form::I2),
-        9 | 14 | 19 | 23 | 27 | 31 | 34..=36 | 44 | 48 => GroupForm::Has(Form::I3),
-        10 | 15 | 20 | 24 | 28 | 32 | 41 | 45 | 49 | 56 => GroupForm::Has(Form::I1),
-        37..=39 | 42 | 57 => GroupForm::Has(Form::E11),
-        40 => GroupForm::Has(Form::E20),
-        53 | 60 => GroupForm::Has(Form::E8),
-        _ => GroupForm::NoGroup,
+        | 59 => Some(Form::F8),
+        5 => Some(Form::I2),
+        9 | 14 | 19 | 23 | 27 | 31 | 34..=36 | 44 | 48 => Some(Form::I3),
+        10 | 15 | 20 | 24 | 28 | 32 | 41 | 45 | 49 | 56 => Some(Form::I1),
+        37..=39 | 42 | 57 => Some(Form::E11),
+        40 => Some(Form::E20),
+        53 | 60 => Some(Form::E8),
+        _ => None,
     }
 }
 
-// R40 where the number is known to be a group's: each of 1 to 60 has a form, so the other arm is never taken.
-pub fn form_in(group: usize) -> Form
-    requires low { 1 ≤ group }
-    requires high { group ≤ 60 }
-    ensures { form_of group ≡ GroupForm.Has result }
-{
-    let GroupForm::Has(form) = form_of(group) else {
-        return Form::F7;
-    };
-    form
+// R40: the number of a group, 1 to 60.
+#[derive(Clone, Copy)]
+pub struct Group {
+    pub number: usize,
+    ghost low: { 1 ≤ number },
+    ghost high: { number ≤ 60 },
 }
 
-// R41: a form's row. A constant table is built anew where a variable indexes it, but not at a constant index: so this
-// costs nothing in a loop.
+impl Group {
+    // R40: each group has a form.
+    #[tactic(auto, using(crate::proofs::Table::has_form))]
+    pub fn form(self) -> Form
+        ensures { form_of self.number ≡ Some result }
+    {
+        form_of(self.number).unwrap()
+    }
+}
+
+// R41: a form's row.
+#[tactic(auto, unfolding(crate::specs::Table::row_of, crate::specs::Table::listed_as))]
 pub fn row_of(form: Form) -> Row
     ensures { result ≡ row_of form }
 {
-    match form {
-        Form::F7 => ROWS[0],
-        Form::A120 => ROWS[1],
-        Form::A1 => ROWS[2],
-        Form::F8 => ROWS[3],
-        Form::I2 => ROWS[4],
-        Form::I3 => ROWS[5],
-        Form::I1 => ROWS[6],
-        Form::E11 => ROWS[7],
-        Form::E20 => ROWS[8],
-        Form::E8 => ROWS[9],
-    }
+    ROWS[form as usize]
 }
 
 // R13: whether the form is group 40's.
+#[tactic(auto, unfolding(crate::specs::Count::is_segments, crate::specs::Table::listed_as))]
 fn is_segments(form: Form) -> bool
     ensures { result ≡ is_segments form }
 {
-    match form {
-        Form::F7 => false,
-        Form::A120 => false,
-        Form::A1 => false,
-        Form::F8 => false,
-        Form::I2 => false,
-        Form::I3 => false,
-        Form::I1 => false,
-        Form::E11 => false,
-        Form::E20 => true,
-        Form::E8 => false,
-    }
+    matches!(form, Form::E20)
 }
 
 // R13: the elements of a count of group 40.
+#[tactic(auto, using(crate::proofs::Segments::segments_none, crate::proofs::Segments::segments_plain, crate::proofs::Segments::segments_entries))]
 fn segment_elements(counting: rules::Counting, count: u16) -> usize
     ensures { result ≡ segment_elements count counting }
 {
-    let n = count as usize;
-    if n == 0 {
-        return n;
-    }
+    let n = usize::from(count);
     match counting {
         rules::Counting::Elements => n,
+        rules::Counting::Entries if n == 0 => 0,
         rules::Counting::Entries => 6 * (n - 1) + 1,
     }
 }
 
 // R42: the elements of a group of this form and count.
+#[tactic(auto, unfolding(crate::specs::Count::elements_of))]
 pub fn elements(rules: rules::Rules, form: Form, count: u16) -> usize
     ensures { result ≡ elements_of rules form count }
 {
-    if !is_segments(form) {
-        return count as usize;
+    if is_segments(form) {
+        segment_elements(rules.counting, count)
+    } else {
+        usize::from(count)
     }
-    let counting = rules.counting;
-    segment_elements(counting, count)
 }
 
-// n divided by p, rounded up; 0 where p is 0.
+// n divided by p, rounded up; 0 where p is 0, which std's `div_ceil` rules out and this contract does not.
+#[tactic(auto, using(crate::proofs::Rounding::rounded_by_zero, crate::proofs::Rounding::by_div_ceil))]
 pub fn rounded_up(n: usize, p: usize) -> usize
     ensures { result ≡ rounded_up n p }
 {
-    if n == 0 {
-        return 0;
-    }
     if p == 0 {
         return 0;
     }
-    (n - 1) / p + 1
+    n.div_ceil(p)
 }
 
 // R43: its lines, rounded up; none for no elements.
+#[tactic(auto, unfolding(crate::specs::Count::lines_of))]
 pub fn lines(rules: rules::Rules, form: Form, count: u16) -> usize
     ensures { result ≡ lines_of rules form count }
 {
-    let n = elements(rules, form, count);
-    let row = row_of(form);
-    rounded_up(n, row.per_line)
+    rounded_up(elements(rules, form, count), row_of(form).per_line)
 }
 
 // R46: its cells.
+#[tactic(auto, using(crate::proofs::Counted::cells_few), unfolding(crate::specs::Count::cells_of))]
 pub fn cells(rules: rules::Rules, form: Form, count: u16) -> usize
     ensures { result ≡ cells_of rules form count }
 {
-    let n = elements(rules, form, count);
-    let row = row_of(form);
-    n * row.cells
+    elements(rules, form, count) * row_of(form).cells
 }

@@ -1,12 +1,11 @@
 -- R9: a group at a place of each of two texts that are alike from there on: whether its lines can be given, what it reads as, and a
 -- characteristic are the same, and its lines have the same contents.
 -- Assumes nothing.
+use Rattle.std.specs.Prelude.{Option, Some, None, Result, Ok, Err}
 use mathlib.Core.Path.{◌≡◌, refl, sym, ◌∙◌}
 use mathlib.Core.List.{List, []}
 use Prim.Native.Nat.{ℕ}
 use Rattle.rules.specs.declared.Rules.{Rules}
-use Rattle.form.specs.declared.GroupForm.{GroupForm}
-use Rattle.form.specs.declared.GroupForm.TheVariants.{Has, NoGroup as NoForm}
 use Rattle.form.specs.Table.{form_of}
 use Rattle.line.specs.Alike.{Alike, AlikeFrom}
 use Rattle.line.proofs.Alike.{alike_refl}
@@ -17,14 +16,14 @@ use Rattle.place.specs.Parts.{group_part}
 use Rattle.place.specs.Placing.{placing_of, counts_at}
 use Rattle.place.proofs.Alike.{AlikeLocated, both_located, neither, alike_located, alike_placing, alike_counts, alike_part}
 use Rattle.reading.proofs.Alike.{alike_group_read}
-use Rattle.reply.specs.declared.Checked.{Checked}
-use Rattle.reply.specs.declared.Checked.TheVariants as C
 use Rattle.group.specs.Characteristics.{characteristic_at}
 use Rattle.group.specs.Held.{found_in, found_at, part_at}
 use Rattle.group.specs.Text.{read_at}
 use Rattle.group.proofs.Holding.{given_part, missing_part}
 use Rattle.group.proofs.SamePlace.{read_refused, characteristic_same}
 use Rattle.group.proofs.Texts.{read_located}
+use Rattle.reply.specs.declared.Refusal.{Refusal}
+use Rattle.form.specs.declared.Form.{Form}
 
 module _ (ρ : Rules) (s : List ℕ) (p : ℕ) (t : List ℕ) (q : ℕ) (h : AlikeFrom ρ s p t q) where
   pub alike_found : (g : ℕ) → found_at ρ s p g ≡ found_at ρ t q g
@@ -36,18 +35,18 @@ module _ (ρ : Rules) (s : List ℕ) (p : ℕ) (t : List ℕ) (q : ℕ) (h : Ali
       checked a b (both_broken k n m f) = refl
       checked a b (both_refused r) = refl
 
-      by : (f : GroupForm) → found_in ρ s p f ≡ found_in ρ t q f
-      by (Has f) = checked (placing_of ρ s p) (placing_of ρ t q) (alike_placing ρ s p t q h)
-      by NoForm = refl
+      by : (f : Option Form) → found_in ρ s p f ≡ found_in ρ t q f
+      by (Some f) = checked (placing_of ρ s p) (placing_of ρ t q) (alike_placing ρ s p t q h)
+      by None = refl
 
   -- the lines themselves, or no bytes
   pub alike_given : (g : ℕ) → Alike ρ (part_at ρ s p g) (part_at ρ t q g)
   alike_given g = by (found_at ρ s p g) refl
     where
-      by : (c : Checked) → found_at ρ s p g ≡ c → Alike ρ (part_at ρ s p g) (part_at ρ t q g)
-      by C.Right e =
+      by : (c : Result (Unit {0}) Refusal) → found_at ρ s p g ≡ c → Alike ρ (part_at ρ s p g) (part_at ρ t q g)
+      by (Ok _) e =
           rw (given_part ρ s p g e, given_part ρ t q g (sym (alike_found g) ∙ e), alike_counts ρ s p t q h) (alike_part ρ s p t q h (counts_at ρ t q) g)
-      by (C.Refused r) e = rw (missing_part ρ s p g e, missing_part ρ t q g (sym (alike_found g) ∙ e)) (alike_refl ρ [])
+      by (Err r) e = rw (missing_part ρ s p g e, missing_part ρ t q g (sym (alike_found g) ∙ e)) (alike_refl ρ [])
 
   -- the cells, or the refusal with its numbers
   pub alike_read : (g room : ℕ) → read_at ρ s p g room ≡ read_at ρ t q g room

@@ -3,6 +3,7 @@
 -- misses these lines too (`Spares`), it gives what it gave. D may be the lines of one group or of any number of them.
 -- By placing is local (place, SameWalk) and reading is local (SamePlace).
 -- Assumes nothing.
+use Rattle.std.specs.Prelude.{Result, Ok, Err}
 use mathlib.Core.Path.{◌≡◌, refl, sym, ◌∙◌, ap}
 use mathlib.Core.List.{List}
 use mathlib.Core.Logic.{◌↔◌}
@@ -25,8 +26,6 @@ use Rattle.place.proofs.Zero.{is_placed_lem}
 use Rattle.place.proofs.Spans.{carried_same}
 use Rattle.place.proofs.SameWalk.{start_same, same_located, same_spot, same_answer, same_stops}
 use Rattle.reading.specs.Read.{read_group}
-use Rattle.reply.specs.declared.Checked.{Checked}
-use Rattle.reply.specs.declared.Checked.TheVariants as C
 use Rattle.group.specs.Damage.{Spares, Replaced}
 use Rattle.group.specs.Held.{lines_start, found_at, start_by, part_start, part_end, part_at}
 use Rattle.group.specs.Text.{read_at}
@@ -67,11 +66,11 @@ module _ (ρ : Rules) (s t : List ℕ) (at : ℕ) (l : SameLines s t) (e : locat
     unfolding part_at part_start part_end
     part_same = part_agree s t (start_by ρ s at g (found_at ρ s at g)) (start_by ρ s at (suc g) (found_at ρ s at g)) a (by (found_at ρ s at g) refl) ∙ part_there ρ s t at e g starts_same
       where
-        by : (f : Checked) → found_at ρ s at g ≡ f → Misses D (start_by ρ s at g f) (start_by ρ s at (suc g) f)
-        by C.Right u =
+        by : (f : Result (Unit {0}) Refusal) → found_at ρ s at g ≡ f → Misses D (start_by ρ s at g f) (start_by ρ s at (suc g) f)
+        by (Ok done) u =
             let i = given_is ρ s at g u in
             clear i.next (counts_at ρ s at) (is_placed_lem ρ s at i.next i.placed).located_at
-        by (C.Refused r) u = λ i low high d. omega arith
+        by (Err r) u = λ i low high d. omega arith
 
     read_spared : (room : ℕ) → read_at ρ s at g room ≡ read_at ρ t at g room
     read_spared room = read_same ρ s t at e g (λ n ns u. lines_same ρ s t at l ns g a (clear n ns u)) room

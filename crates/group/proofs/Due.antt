@@ -1,6 +1,7 @@
 -- First due: asking for a group's lines at a place, reading a group there, and asking for a characteristic each give a reply exactly if that
 -- reply is due (specs/Due.antt). So group 4 never lacks room in 49 cells.
 -- Assumes nothing.
+use Rattle.std.specs.Prelude.{Option, Some, None, Result, Ok, Err}
 use mathlib.Core.Path.{◌≡◌, refl, sym, ◌∙◌, ap, subst}
 use mathlib.Core.Bool.{Bool, true, false, cond, false≢true}
 use mathlib.Core.List.{List}
@@ -15,8 +16,6 @@ use Rattle.rules.specs.declared.Rules.{Rules}
 use Rattle.base.specs.Pieces.{done, bad}
 use Rattle.base.proofs.Order.{le_or_lt}
 use Rattle.form.specs.declared.Form.TheVariants.{F8}
-use Rattle.form.specs.declared.GroupForm.{GroupForm}
-use Rattle.form.specs.declared.GroupForm.TheVariants.{Has, NoGroup as NoForm}
 use Rattle.form.specs.Table.{form_of}
 use Rattle.form.specs.Count.{cells_of}
 use Rattle.form.proofs.Table.{no_group as none_has}
@@ -38,8 +37,6 @@ use Rattle.reading.specs.Read.{Cells, read_group}
 use Rattle.reading.specs.Due.{TableShort}
 use Rattle.reading.proofs.Due as Reading
 use Rattle.form.proofs.Table.{group_form, form_range}
-use Rattle.reply.specs.declared.Checked.{Checked}
-use Rattle.reply.specs.declared.Checked.TheVariants as C
 use Rattle.group.specs.declared.Characteristic.{Characteristic}
 use Rattle.group.specs.declared.Characteristic.TheVariants.{Value, NoReading, NotReported, Refused}
 use Rattle.group.specs.Held.{found_in, found_at, start_by, part_start, part_at}
@@ -54,15 +51,16 @@ use Rattle.place.proofs.Indexed.{index_is}
 use Rattle.place.proofs.Tiling.{is_part, part_is}
 use Rattle.base.proofs.Taken.{take_none}
 use Rattle.group.specs.Due.{PlacingDue, RefusedFor, no_group, broken_rule, unplaced, FoundDue, GivenPart, PartDue, ReadingDue, Due, NoNumber, FourReads, HasCell, ToldDue, CharacteristicDue}
-use Rattle.group.proofs.Holding.{given_part, missing_span}
+use Rattle.group.proofs.Holding.{given_part, missing_start, missing_end}
 use Rattle.group.proofs.Texts.{read_missing, read_given}
 use Rattle.group.proofs.Reported.{is_no_reading_lem, is_reading, number_none, number_inside}
 use Rattle.group.proofs.Rooms.{form_four, room_four, same_room, four_size}
+use Rattle.form.specs.declared.Form.{Form}
 
 -- ---- the lines of a group
 
 module _ (ρ : Rules) (s : List ℕ) (at g : ℕ) where
-  found_none : NoSuchGroup g → found_at ρ s at g ≡ C.Refused NoSuchNumber
+  found_none : NoSuchGroup g → found_at ρ s at g ≡ Err NoSuchNumber
   unfolding found_at
   found_none n = rw ((none_has g).1 (λ i. n (i.low, i.high))) refl
 
@@ -70,14 +68,14 @@ module _ (ρ : Rules) (s : List ℕ) (at g : ℕ) where
   unfolding found_at
   found_placing p d = rw ((group_form g d.low d.high).1, (Placing.first_due ρ s at p).1 d.placing) refl
 
-  missing_given : (r : Refusal) → RefusedFor ρ s at g r → found_at ρ s at g ≡ C.Refused r
+  missing_given : (r : Refusal) → RefusedFor ρ s at g r → found_at ρ s at g ≡ Err r
   missing_given r (no_group d) = found_none d
   missing_given r (broken_rule h d) = found_placing (P.BrokenRule h d.next) d.broken
   missing_given r (unplaced q d) = found_placing (P.Refused q) d
 
-  found_given : (r : Checked) → FoundDue ρ s at g r → found_at ρ s at g ≡ r
-  found_given C.Right d = found_placing (P.Placed d.next) d.placed
-  found_given (C.Refused r) d = missing_given r d
+  found_given : (r : Result (Unit {0}) Refusal) → FoundDue ρ s at g r → found_at ρ s at g ≡ r
+  found_given (Ok _) d = found_placing (P.Placed d.next) d.placed
+  found_given (Err r) d = missing_given r d
 
   from_placing : (p : Placing) → PlacingDue ρ s at g p → FoundDue ρ s at g (as_checked p)
   from_placing (P.Placed n) d = record { next = n; placed = d }
@@ -88,13 +86,13 @@ module _ (ρ : Rules) (s : List ℕ) (at g : ℕ) where
   unfolding found_at
   found_is_due = by (form_of g) refl
     where
-      by : (h : GroupForm) → form_of g ≡ h → FoundDue ρ s at g (found_in ρ s at h)
-      by (Has f) e =
+      by : (h : Option Form) → form_of g ≡ h → FoundDue ρ s at g (found_in ρ s at h)
+      by (Some f) e =
           let r = form_range g f e in
           from_placing (placing_of ρ s at) record { low = r.0; high = r.1; placing = (Placing.first_due ρ s at (placing_of ρ s at)).0 refl }
-      by NoForm e = no_group (λ i. (none_has g).0 e record { low = i.0; high = i.1 })
+      by None e = no_group (λ i. (none_has g).0 e record { low = i.0; high = i.1 })
 
-  pub found_first_due : (r : Checked) → found_at ρ s at g ≡ r ↔ FoundDue ρ s at g r
+  pub found_first_due : (r : Result (Unit {0}) Refusal) → found_at ρ s at g ≡ r ↔ FoundDue ρ s at g r
   found_first_due r = (λ e. subst (FoundDue ρ s at g) e found_is_due, found_given r)
 
 -- ---- a group
@@ -115,7 +113,7 @@ placed_part ρ s at g n d =
     subst (λ ns. IsPart ρ s at ns g (start ρ s at ns g) (group_part ρ s at ns g)) (counts_are ρ s at n d.placing) (part_is ρ s at n (counts_at ρ s at) q.located_at g d.low d.high)
 
 module _ (ρ : Rules) (s : List ℕ) (at g : ℕ) where
-  part_placed : found_at ρ s at g ≡ C.Right → (d : FoundDue ρ s at g C.Right) → GivenPart ρ s at g (part_start ρ s at g) (part_at ρ s at g)
+  part_placed : found_at ρ s at g ≡ Ok tt → (d : FoundDue ρ s at g (Ok tt)) → GivenPart ρ s at g (part_start ρ s at g) (part_at ρ s at g)
   unfolding part_start
   part_placed e d =
       let p = d.placed.placing in
@@ -128,12 +126,12 @@ module _ (ρ : Rules) (s : List ℕ) (at g : ℕ) where
             (rw (e, given_part ρ s at g e) (part_is ρ s at d.next (counts_at ρ s at) q.located_at g d.placed.low d.placed.high));
       }
 
-  part_due : (r : Checked) → found_at ρ s at g ≡ r → FoundDue ρ s at g r → PartDue ρ s at g (part_start ρ s at g) (part_at ρ s at g)
+  part_due : (r : Result (Unit {0}) Refusal) → found_at ρ s at g ≡ r → FoundDue ρ s at g r → PartDue ρ s at g (part_start ρ s at g) (part_at ρ s at g)
   unfolding part_at
-  part_due C.Right e d = inl (part_placed e d)
-  part_due (C.Refused r) e d =
-      let b = missing_span ρ s at g e in
-      inr record { why = r; missing = d; text_start = sym b.0; empty = rw (← b.0, ← b.1) (take_none s) }
+  part_due (Ok _) e d = inl (part_placed e d)
+  part_due (Err r) e d =
+      let b = missing_start ρ s at g e in
+      inr record { why = r; missing = d; text_start = b; empty = rw (b, missing_end ρ s at g e) (take_none s) }
 
   due_part : (from : ℕ) (x : List ℕ) → PartDue ρ s at g from x → (part_start ρ s at g ≡ from) × (part_at ρ s at g ≡ x)
   unfolding part_at part_start
@@ -147,8 +145,8 @@ module _ (ρ : Rules) (s : List ℕ) (at g : ℕ) where
       )
   due_part from x (inr h) =
       let e = missing_given ρ s at g h.why h.missing in
-      let b = missing_span ρ s at g e in
-      (sym b.0 ∙ sym h.text_start, rw (← b.0, ← b.1) (take_none s) ∙ sym h.empty)
+      let b = missing_start ρ s at g e in
+      (b ∙ sym h.text_start, rw (b, missing_end ρ s at g e) (take_none s) ∙ sym h.empty)
 
   -- the part that is given is the one that is due, and no other is
   pub part_first_due : (from : ℕ) (x : List ℕ) → ((part_start ρ s at g ≡ from) × (part_at ρ s at g ≡ x)) ↔ PartDue ρ s at g from x
@@ -182,8 +180,8 @@ module _ (ρ : Rules) (s : List ℕ) (at g room : ℕ) where
   from_reading (done cs) d = d
   from_reading (bad r) d = inr d
 
-  from_found : (r : Checked) → found_at ρ s at g ≡ r → FoundDue ρ s at g r → Due ρ s at g room (read_at ρ s at g room)
-  from_found C.Right e d =
+  from_found : (r : Result (Unit {0}) Refusal) → found_at ρ s at g ≡ r → FoundDue ρ s at g r → Due ρ s at g room (read_at ρ s at g room)
+  from_found (Ok _) e d =
       let ns = d.placed.placing.ns in
       let u = to_reading d.next d.placed in
       from_reading (read_at ρ s at g room) record {
@@ -194,7 +192,7 @@ module _ (ρ : Rules) (s : List ℕ) (at g room : ℕ) where
         lines = placed_part ρ s at g d.next d.placed;
         reading = (Reading.first_due ρ ns g (group_part ρ s at ns g) room (read_at ρ s at g room)).0 (sym u);
       }
-  from_found (C.Refused r) e d = subst (Due ρ s at g room) (sym (read_missing ρ s at g room e)) (inl d)
+  from_found (Err r) e d = subst (Due ρ s at g room) (sym (read_missing ρ s at g room e)) (inl d)
 
   -- the reply that is given is the one that is due, and no other is
   pub first_due : (c : Cells) → read_at ρ s at g room ≡ c ↔ Due ρ s at g room c
@@ -282,6 +280,6 @@ module _ (ρ : Rules) (s : List ℕ) (at k : ℕ) where
 -- 49 cells always have room for group 4
 pub four_has_room : (ρ : Rules) (ns x : List ℕ) → TableShort ρ ns 4 x 49 → ⊥
 four_has_room ρ ns x d =
-    let h : Has d.f ≡ Has F8 = sym d.ruled.form ∙ form_four in
+    let h : Some d.f ≡ Some F8 = sym d.ruled.form ∙ form_four in
     let u : d.f ≡ F8 = cc in
     omega (arith, d.few, ap (λ y. cells_of ρ y (count_of ns 4)) u, room_four ρ ns (kept_ruling ns d.ruled.kept))

@@ -1,5 +1,6 @@
 -- Each answer of the questions about a group fills a row of the question's table.
 -- Assumes nothing.
+use Rattle.std.specs.Prelude.{Result, Ok, Err}
 use mathlib.Core.Path.{refl}
 use mathlib.Core.List.{List, [], ◌∷◌, ◌++◌}
 use mathlib.Core.Logic.{inl, inr}
@@ -22,8 +23,6 @@ use Rattle.reading.specs.Numbered.{given_refusals, reading_rows}
 use Rattle.reading.specs.Due as Reading
 use Rattle.reading.specs.Read.{Cells, reading_of}
 use Rattle.reading.proofs.Promises.{HasAsked, has_asked, refusal_behind}
-use Rattle.reply.specs.declared.Checked.{Checked}
-use Rattle.reply.specs.declared.Checked.TheVariants as C
 use Rattle.group.specs.declared.Characteristic.{Characteristic}
 use Rattle.group.specs.declared.Characteristic.TheVariants.{Value, NoReading, NotReported, Refused}
 use Rattle.group.specs.Characteristics.{characteristic_at}
@@ -42,9 +41,9 @@ module _ (ρ : Rules) (s : List ℕ) (at g : ℕ) where
       at_row 7 (rows asked_refusals) (refusal_reply (BrokenRule h)) (lit< tt) (refusal_fills (BrokenRule h) ((broken_group b.ns b.broken).0, tt))
   missing_numbered r (unplaced q d) = inr (rows_left unplaced_refusals (BrokenRule 0 ∷ []) (refusal_reply q) (refused_numbered ρ s at q d.placing))
 
-  found_due_numbered : (r : Checked) → FoundDue ρ s at g r → Numbered found_rows (checked_reply r)
-  found_due_numbered C.Right d = inl (fills 0 [] tt)
-  found_due_numbered (C.Refused r) d = inr (missing_numbered r d)
+  found_due_numbered : (r : Result (Unit {0}) Refusal) → FoundDue ρ s at g r → Numbered found_rows (checked_reply r)
+  found_due_numbered (Ok _) d = inl (fills 0 [] tt)
+  found_due_numbered (Err r) d = inr (missing_numbered r d)
 
   pub found_numbered : Numbered found_rows (checked_reply (found_at ρ s at g))
   found_numbered = found_due_numbered (found_at ρ s at g) ((found_first_due ρ s at g (found_at ρ s at g)).0 refl)

@@ -1,21 +1,21 @@
 -- A characteristic: by its number, by what group 4 reads as, and by its cell.
 -- Assumes nothing.
+use Rattle.std.specs.Prelude.{Result, Err}
 use mathlib.Core.Path.{◌≡◌, refl, sym, ◌∙◌, ap}
 use mathlib.Core.Bool.{Bool, true, false, cond, ◌&&◌}
 use mathlib.Core.List.{List}
-use Prim.Native.Nat.{ℕ, ◌+◌, ◌-◌, ◌<◌, ◌≤◌}
+use Prim.Native.Nat.{ℕ, ◌+◌, ◌-◌, ◌≤◌}
 use native.Mathlib.Omega.{arith}
-use borrow.Author.Tests.{le-leb, lt-leb, leb-true}
-use lib.Dec.{leb, leb→le}
+use borrow.Author.Tests.{le-leb, leb-true}
+use mathlib.Core.Logic.{◌↔◌}
+use lib.Dec.{T, leb, leb→le}
 use lib.IntN.{ℤ, pos}
 use lib.ListN.{length, drop, get_or, get_or-append}
 use Rattle.base.specs.Pieces.{done, bad}
-use Rattle.base.proofs.Choice.{and_left, and_right, and_first, and_second, T_true, not_T_false}
+use Rattle.base.proofs.Choice.{true_T, and_left, and_right, and_first, and_second, T_true, not_T_false}
 use Rattle.characteristic.specs.NoReading.{IsNoReading, is_no_reading}
 use Rattle.characteristic.proofs.NoReading.{no_reading_exactly}
 use Rattle.reply.specs.declared.Refusal.TheVariants.{NoSuchNumber}
-use Rattle.reply.specs.declared.Answer.{Answer}
-use Rattle.reply.specs.declared.Answer.TheVariants as A
 use Rattle.reply.specs.declared.Refusal.{Refusal}
 use Rattle.group.specs.declared.Characteristic.TheVariants.{Value, NoReading, NotReported, Refused}
 use Rattle.reading.specs.Read.{Cells, reading_of, table_by}
@@ -29,6 +29,13 @@ module _ (k : ℕ) (z : ℤ) where
 
   pub is_reading : (IsNoReading k z → ⊥) → told_by k z ≡ Value z
   is_reading n = rw (not_T_false (is_no_reading k z) (λ t. n ((no_reading_exactly k z).0 t)))
+
+  -- as the test has it
+  pub told_none : {t : Bool} → T t ↔ IsNoReading k z → t ≡ true → told_by k z ≡ NoReading
+  told_none h e = is_no_reading_lem (h.0 (true_T _ e))
+
+  pub told_value : {t : Bool} → T t ↔ IsNoReading k z → t ≡ false → told_by k z ≡ Value z
+  told_value h e = is_reading (λ n. rw e at (h.1 n))
 
 -- ---- by the number
 
@@ -49,12 +56,11 @@ module _ (k : ℕ) (four : Cells) where
 pub number_within : (k : ℕ) → leb 1 k && leb k 49 ≡ true → (1 ≤ k) × (k ≤ 49)
 number_within k e = (leb-true 1 k (and_first (leb 1 k) (leb k 49) e), leb-true k 49 (and_second (leb 1 k) (leb k 49) e))
 
--- by the answer of reading group 4
-pub told_few : (k n : ℕ) (cells : List ℤ) → n < k → NotReported ≡ told_of k (A.Done n) cells
-told_few k n cells h = rw (lt-leb k n h) refl
+pub number_low : (k : ℕ) → leb 1 k && leb k 49 ≡ true → 1 ≤ k
+number_low k e = (number_within k e).0
 
-pub told_cell : (k n : ℕ) (cells : List ℤ) → k ≤ n → told_by k (get_or cells (k - 1) (pos 0)) ≡ told_of k (A.Done n) cells
-told_cell k n cells h = rw (le-leb k n h) refl
+pub number_high : (k : ℕ) → leb 1 k && leb k 49 ≡ true → k ≤ 49
+number_high k e = (number_within k e).1
 
 -- what the table holds of group 4's cells
 told_cells : (k : ℕ) (four : Cells) (old : List ℤ) → 1 ≤ k → told_of k (reading_of four) (table_by four old) ≡ reported k four
@@ -65,11 +71,11 @@ told_cells k (done cs) old low = by (leb k (length cs)) refl
     by false e = refl
 told_cells k (bad r) old low = refl
 
-pub four_told : (k : ℕ) (four : Cells) (answer : Answer) (new old : List ℤ) → (1 ≤ k) × (k ≤ 49) → (answer ≡ reading_of four) × (new ≡ table_by four old)
+pub four_told : (k : ℕ) (four : Cells) (answer : Result ℕ Refusal) (new old : List ℤ) → (1 ≤ k) × (k ≤ 49) → (answer ≡ reading_of four) × (new ≡ table_by four old)
     → told_of k answer new ≡ characteristic_by k four
 four_told k four answer new old within e = rw (e.0, e.1) (told_cells k four old within.0 ∙ sym (number_inside k four within.0 within.1))
 
 -- what group 4 is refused with
-pub four_refused : (k : ℕ) (four : Cells) {r : Refusal} → 1 ≤ k → k ≤ 49 → reading_of four ≡ A.Refused r → characteristic_by k four ≡ Refused r
+pub four_refused : (k : ℕ) (four : Cells) {r : Refusal} → 1 ≤ k → k ≤ 49 → reading_of four ≡ Err r → characteristic_by k four ≡ Refused r
 four_refused k (done cs) low high e = let z : ◌≡◌ {A = ℕ} 0 1 = cc in absurd (omega arith)
 four_refused k (bad q) {r} low high e = let p : q ≡ r = cc in number_inside k (bad q) low high ∙ ap Refused p

@@ -2,6 +2,7 @@
 -- does the part; and where they have the same bytes, the group reads the same, and so does a characteristic, if the group is 4.
 -- By *reading is local* (`read_local`).
 -- Assumes nothing.
+use Rattle.std.specs.Prelude.{Option, Some, None, Result, Ok, Err}
 use mathlib.Core.Path.{◌≡◌, refl, sym, ◌∙◌, ap}
 use mathlib.Core.Bool.{cond, ◌&&◌}
 use mathlib.Core.List.{List}
@@ -10,16 +11,12 @@ use lib.Dec.{leb}
 use lib.IntN.{ℤ}
 use Rattle.rules.specs.declared.Rules.{Rules}
 use Rattle.base.specs.Part.{part}
-use Rattle.form.specs.declared.GroupForm.{GroupForm}
-use Rattle.form.specs.declared.GroupForm.TheVariants.{Has, NoGroup as NoForm}
 use Rattle.form.specs.Table.{form_of}
 use Rattle.place.specs.Parts.{group_part}
 use Rattle.place.specs.Placing
 use Rattle.place.specs.Placing.{Located, located, refused, locate}
 use Rattle.place.proofs.Local.{placing_same}
 use Rattle.reading.specs.Read.{Cells, reading_of, table_by}
-use Rattle.reply.specs.declared.Checked.{Checked}
-use Rattle.reply.specs.declared.Checked.TheVariants as C
 use Rattle.reply.specs.declared.Refusal.{Refusal}
 use Rattle.reply.specs.declared.Refusal.TheVariants.{NoSuchNumber}
 use Rattle.group.specs.declared.Characteristic.TheVariants.{Refused}
@@ -28,6 +25,7 @@ use Rattle.group.specs.Characteristics.{reported, characteristic_at}
 use Rattle.group.specs.Held.{lines_start, found_in, found_at, start_by, part_start, part_end, part_at}
 use Rattle.group.specs.Text.{read_found, read_at}
 use Rattle.group.proofs.Promises.{read_local}
+use Rattle.form.specs.declared.Form.{Form}
 
 -- the same cells, or the same refusal
 pub same_reading : (a b : Cells) (table : List ℤ) → a ≡ b → SameReading a b table
@@ -41,9 +39,9 @@ module _ (ρ : Rules) (s t : List ℕ) (at bt : ℕ) where
   unfolding read_at found_at Placing.placing_of
   read_refused g room a b = by (form_of g)
     where
-      by : (h : GroupForm) → read_found ρ s at g room (found_in ρ s at h) ≡ read_found ρ t bt g room (found_in ρ t bt h)
-      by (Has f) = rw (a, b)
-      by NoForm = refl
+      by : (h : Option Form) → read_found ρ s at g room (found_in ρ s at h) ≡ read_found ρ t bt g room (found_in ρ t bt h)
+      by (Some f) = rw (a, b)
+      by None = refl
 
   pub characteristic_same : (k : ℕ) → read_at ρ s at 4 49 ≡ read_at ρ t bt 4 49 → characteristic_at ρ s at k ≡ characteristic_at ρ t bt k
   unfolding characteristic_at
@@ -56,15 +54,15 @@ module _ (ρ : Rules) (s t : List ℕ) (at : ℕ) (e : locate ρ s at ≡ locate
   unfolding found_at
   found_same = by (form_of g)
     where
-      by : (h : GroupForm) → found_in ρ s at h ≡ found_in ρ t at h
-      by (Has f) = rw (placing_same ρ s t at e).0
-      by NoForm = refl
+      by : (h : Option Form) → found_in ρ s at h ≡ found_in ρ t at h
+      by (Some f) = rw (placing_same ρ s t at e).0
+      by None = refl
 
   -- the lines begin at the same places
   module _ (starts : (h : ℕ) → lines_start ρ s at h ≡ lines_start ρ t at h) where
-    start_by_lem : (h : ℕ) (f : Checked) → start_by ρ s at h f ≡ start_by ρ t at h f
-    start_by_lem h C.Right = starts h
-    start_by_lem h (C.Refused r) = refl
+    start_by_lem : (h : ℕ) (f : Result (Unit {0}) Refusal) → start_by ρ s at h f ≡ start_by ρ t at h f
+    start_by_lem h (Ok done) = starts h
+    start_by_lem h (Err r) = refl
 
     pub part_start_same : part_start ρ s at g ≡ part_start ρ t at g
     unfolding part_start

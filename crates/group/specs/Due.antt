@@ -1,6 +1,6 @@
 -- R233: when each reply of a question about a group at a place is due: its own condition holds, and none earlier in the order of the
 -- question (R260, R281, R294): 12; the reply of placing, if it is not 0; and then what place's and reading's own Due say.
-use Rattle.std.specs.Prelude.{◌≡◌, List, [], ◌⊎◌, ℕ, ◌-◌, ◌<◌, ◌≤◌, ℤ, pos, get_or}
+use Rattle.std.specs.Prelude.{◌≡◌, List, [], ◌⊎◌, ℕ, ◌-◌, ◌<◌, ◌≤◌, ℤ, pos, get_or, Result, Ok, Err}
 use Rattle.rules.specs.declared.Rules.{Rules}
 use Rattle.base.specs.Pieces.{done, bad}
 use Rattle.form.specs.Table.{NoSuchGroup}
@@ -15,8 +15,6 @@ use Rattle.reply.specs.declared.Refusal.TheVariants.{NoSuchNumber, BrokenRule}
 use Rattle.reading.specs.Read.{Cells}
 use Rattle.reading.specs.Due as Reading
 use Rattle.characteristic.specs.NoReading.{IsNoReading}
-use Rattle.reply.specs.declared.Checked.{Checked}
-use Rattle.reply.specs.declared.Checked.TheVariants as C
 use Rattle.group.specs.declared.Characteristic.{Characteristic}
 use Rattle.group.specs.declared.Characteristic.TheVariants.{Value, NoReading, NotReported, Refused}
 
@@ -45,9 +43,9 @@ module _ (ρ : Rules) where
       broken_rule : (h : ℕ) → BrokenDue h → RefusedFor (BrokenRule h)
       unplaced : (r : Refusal) → PlacingDue (P.Refused r) → RefusedFor r
 
-    abbrev pub FoundDue : Checked → Type 0
-    FoundDue C.Right = IsPlaced
-    FoundDue (C.Refused r) = RefusedFor r
+    abbrev pub FoundDue : Result (Unit {0}) Refusal → Type 0
+    FoundDue (Ok _) = IsPlaced
+    FoundDue (Err r) = RefusedFor r
 
     -- R280, R283: the part: with 0 the lines of the group, which follow those of the index and of the groups before it; else the empty part
     -- at the text's start

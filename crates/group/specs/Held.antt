@@ -1,47 +1,36 @@
 -- R280: the lines of a group, as a part of the text that the caller lent. R281: 12 first, and then the reply of placing, if it is not 0.
 -- R282: with the count 0 the part is empty, and lies where the lines would be. R283: a refusal gives the empty part at place 0.
-use Rattle.std.specs.Prelude.{List, ℕ, suc, ◌+◌, replicate}
+use Rattle.std.specs.Prelude.{List, ℕ, suc, ◌+◌, Option, Some, None, Result, Ok, Err}
 use Rattle.rules.specs.declared.Rules.{Rules}
 use Rattle.base.specs.Part.{part}
-use Rattle.form.specs.declared.GroupForm.{GroupForm}
-use Rattle.form.specs.declared.GroupForm.TheVariants.{Has, NoGroup as NoForm}
 use Rattle.form.specs.Table.{form_of}
 use Rattle.place.specs.Numbered.{as_checked}
 use Rattle.place.specs.Placing.{placing_of, counts_at}
 use Rattle.place.specs.Parts.{start}
 use Rattle.reply.specs.declared.Refusal.TheVariants.{NoSuchNumber}
-use Rattle.reply.specs.declared.Checked.{Checked}
-use Rattle.reply.specs.declared.Checked.TheVariants as C
-
--- a refused question has no counts
-abbrev pub counts_found : Checked → List ℕ → List ℕ
-counts_found C.Right ns = ns
-counts_found (C.Refused r) ns = replicate 80 0
+use Rattle.reply.specs.declared.Refusal.{Refusal}
+use Rattle.form.specs.declared.Form.{Form}
 
 -- R283: the place of a part that can be given, or the text's start
-abbrev pub place_if : Checked → ℕ → ℕ
-place_if C.Right n = n
-place_if (C.Refused r) n = 0
+abbrev pub place_if : Result (Unit {0}) Refusal → ℕ → ℕ
+place_if (Ok _) n = n
+place_if (Err r) n = 0
 
 module _ (ρ : Rules) where
-  abbrev pub found_in : List ℕ → ℕ → GroupForm → Checked
-  found_in s at (Has f) = as_checked (placing_of ρ s at)
-  found_in s at NoForm = C.Refused NoSuchNumber
+  abbrev pub found_in : List ℕ → ℕ → Option Form → Result (Unit {0}) Refusal
+  found_in s at (Some f) = as_checked (placing_of ρ s at)
+  found_in s at None = Err NoSuchNumber
 
   -- R281: whether the lines of group g of the record at a place can be given
-  unfoldable pub found_at : List ℕ → ℕ → ℕ → Checked
+  unfoldable pub found_at : List ℕ → ℕ → ℕ → Result (Unit {0}) Refusal
   found_at s at g = found_in s at (form_of g)
-
-  -- the counts of the record, or zeros
-  unfoldable pub counts_held : List ℕ → ℕ → ℕ → List ℕ
-  counts_held s at g = counts_found (found_at s at g) (counts_at ρ s at)
 
   -- R27: where the lines of group g of the record at a place begin; they end where those of the next group begin
   abbrev pub lines_start : List ℕ → ℕ → ℕ → ℕ
   lines_start s at g = start ρ s at (counts_at ρ s at) g
 
   -- R280, R283: the same where they can be given, or the text's start
-  abbrev pub start_by : List ℕ → ℕ → ℕ → Checked → ℕ
+  abbrev pub start_by : List ℕ → ℕ → ℕ → Result (Unit {0}) Refusal → ℕ
   start_by s at g c = place_if c (lines_start s at g)
 
   -- where the part begins and where it ends, and the part

@@ -2,126 +2,109 @@
 // characteristic (R290). Any text, place, number and table may be given (R241).
 #![tactic(auto)]
 
-ghost use Rattle.std.specs.Prelude.{◌≡◌, ◌&&◌, ◌≤◌, leb, length, replicate};
+ghost use Rattle.std.specs.Prelude.{◌≡◌, ◌&&◌, ◌≤◌, leb, length, MatchResult};
+ghost use Rattle.place.specs.Placing.{counts_at};
 ghost use Rattle.reading.specs.Read.{reading_of, table_by};
 ghost use Rattle.group.specs.Characteristics.{told_by, told_of, characteristic_at};
 ghost use Rattle.group.specs.Numbered.{characteristic_reply};
-ghost use Rattle.group.specs.Held.{found_at, counts_held, part_start, part_end, part_at, moved};
+ghost use Rattle.group.specs.Held.{found_at, part_start, part_end, part_at, moved};
 ghost use Rattle.group.specs.Text.{read_at};
 
-use reply::{Answer, Checked, Refusal};
+use count::Kept;
+use place::Placing;
+use reply::{Refusal, Reply};
 
-// The answer, the counts of the record, and from where to where the group's lines stand in the text.
+// The counts of a record, and from where to where a group's lines stand in the text.
 #[derive(Clone, Copy)]
 struct Held {
-    found: Checked,
     counts: [u16; 80],
     from: usize,
     to: usize,
 }
 
-// What is answered where no group is held.
-fn missing(found: Checked) -> Held
-    ensures found { result.found ≡ found }
-    ensures counts { result.counts ≡ replicate 80 0 }
-    ensures from { result.from ≡ 0 }
-    ensures to { result.to ≡ 0 }
-{
-    Held {
-        found,
-        counts: [0u16; 80],
-        from: 0,
-        to: 0,
-    }
-}
-
 // R260, R281: what every question about a group asks first: 12, and the reply of placing, if it is not 0. The group's
-// lines stand where the placed record says (R259).
-fn held_at(rules: rules::Rules, text: &[u8], at: usize, group: usize) -> Held
-    ensures found { result.found ≡ found_at rules text.now at group }
-    ensures counts { result.counts ≡ counts_held rules text.now at group }
-    ensures from { result.from ≡ part_start rules text.now at group }
-    ensures to { result.to ≡ part_end rules text.now at group }
+// lines stand where the placed record says (R259). R442 has `let .. else` here, where `?` would serve.
+#[tactic(auto, using(crate::proofs::Holding::found_none, crate::proofs::Holding::found_by, crate::proofs::Holding::given_start, crate::proofs::Holding::given_end, crate::proofs::Holding::group_low, crate::proofs::Holding::group_high))]
+fn held_at(rules: rules::Rules, text: &[u8], at: usize, group: usize) -> Result<Held, Refusal>
+    ensures { MatchResult result
+        (λ held. (found_at rules text.now at group ≡ Ok tt)
+        × (held.counts ≡ counts_at rules text.now at)
+        × (held.from ≡ part_start rules text.now at group)
+        × (held.to ≡ part_end rules text.now at group))
+        (λ why. found_at rules text.now at group ≡ Err why) }
 {
-    let form::GroupForm::Has(_) = form::form_of(group) else {
-        return missing(Checked::Refused(Refusal::NoSuchNumber));
-    };
+    form::form_of(group).ok_or(Refusal::NoSuchNumber)?;
     let record = place::place(rules, text, at);
-    let answer = record.answer;
-    let place::Placing::Placed(_) = answer else {
-        return missing(place::as_checked(answer));
+    let Placing::Placed(_) = record.answer else {
+        return Err(place::as_checked(record.answer).unwrap_err());
     };
-    let counts = record.counts;
-    let starts = record.starts;
-    let ends = record.ends;
-    let k = group - 1;
-    Held {
-        found: Checked::Right,
-        counts,
-        from: starts[k],
-        to: ends[k],
-    }
+    Ok(Held {
+        counts: record.counts,
+        from: record.starts[group - 1],
+        to: record.ends[group - 1],
+    })
 }
 
-// Whether the lines of a group can be given, and from where to where they stand in the text.
+// Whether the lines of a group can be given, and from where to where they stand in the text. Both places stand beside a
+// refusal too, since R283 tells them there.
 #[derive(Clone, Copy)]
 pub struct Lines {
-    pub found: Checked,
+    pub found: Result<(), Refusal>,
     pub from: usize,
     pub to: usize,
 }
 
 // R280: asks where the lines of a group of the record at a place stand, their line ends among them. With count 0 both
 // places are where they would begin (R282), and at a refusal both are the text's start (R283).
+#[tactic(auto, using(crate::proofs::Holding::missing_start, crate::proofs::Holding::missing_end))]
 pub fn lines_at(rules: rules::Rules, text: &[u8], at: usize, group: usize) -> Lines
     ensures found { result.found ≡ found_at rules text.now at group }
     ensures from { result.from ≡ part_start rules text.now at group }
     ensures to { result.to ≡ part_end rules text.now at group }
 {
-    let held = held_at(rules, text, at, group);
-    let found = held.found;
-    Lines {
-        found,
-        from: held.from,
-        to: held.to,
+    match held_at(rules, text, at, group) {
+        Ok(held) => Lines {
+            found: Ok(()),
+            from: held.from,
+            to: held.to,
+        },
+        Err(why) => Lines {
+            found: Err(why),
+            from: 0,
+            to: 0,
+        },
     }
 }
 
 // R280, R446: the lines, as a part of the text that was lent; no copy is made.
+#[tactic(auto, using(crate::proofs::Holding::span_order, crate::proofs::Holding::span_within), unfolding(crate::specs::Held::part_at))]
 pub fn lines_part<'a>(rules: rules::Rules, text: &'a [u8], at: usize, group: usize) -> &'a [u8]
     ensures bytes { result.now ≡ part_at rules text.now at group }
     ensures address { result.ref_ptr ≡ moved text.entry.ref_ptr (part_start rules text.now at group) }
 {
     let lines = lines_at(rules, text, at, group);
-    let from = lines.from;
-    let to = lines.to;
-    &text[from..to]
+    &text[lines.from..lines.to]
 }
 
 // R260: reads a group of the record at a place of a text into a table: first as `held_at` says, then by the record's
 // counts and the group's own lines (R269). A refusal alters nothing (R267).
+#[tactic(auto, using(crate::proofs::Holding::span_order, crate::proofs::Holding::span_within, crate::proofs::Holding::given_kept, crate::proofs::Texts::read_missing, crate::proofs::Texts::read_given), unfolding(crate::specs::Held::part_at))]
 pub fn read_group(
     rules: rules::Rules,
     text: &[u8],
     at: usize,
     group: usize,
     table: &mut [i64],
-) -> Answer
+) -> Result<usize, Refusal>
     ensures answer { result ≡ reading_of (read_at rules text.now at group (length table.old)) }
     ensures table { table.new ≡
         table_by (read_at rules text.now at group (length table.old)) table.old }
 {
-    let held = held_at(rules, text, at, group);
-    let found = held.found;
-    match found {
-        Checked::Refused(r) => Answer::Refused(r),
-        Checked::Right => {
-            let counts = held.counts;
-            let from = held.from;
-            let to = held.to;
-            reading::read_kept(rules, &counts, group, &text[from..to], table)
-        }
-    }
+    let held = held_at(rules, text, at, group)?;
+    let kept = Kept {
+        counts: &held.counts,
+    };
+    reading::read_kept(rules, kept, group, &text[held.from..held.to], table)
 }
 
 // ---- A characteristic.
@@ -136,6 +119,7 @@ pub enum Characteristic {
 }
 
 // R291, R293: what is told of a characteristic, by its number and its cell.
+#[tactic(auto, using(crate::proofs::Reported::told_none, crate::proofs::Reported::told_value))]
 fn told_by(number: usize, cell: i64) -> Characteristic
     ensures { result ≡ told_by number cell }
 {
@@ -149,27 +133,24 @@ fn told_by(number: usize, cell: i64) -> Characteristic
 pub fn is_characteristic(number: usize) -> bool
     ensures { result ≡ leb 1 number && leb number 49 }
 {
-    1 <= number && number <= 49
+    (1..=49).contains(&number)
 }
 
 // R292: what is told of a characteristic, by the answer of reading group 4 and the cells behind it.
-pub fn told_of(number: usize, answer: Answer, cells: &[i64]) -> Characteristic
+pub fn told_of(number: usize, answer: Result<usize, Refusal>, cells: &[i64]) -> Characteristic
     requires low { 1 ≤ number }
     requires high { number ≤ length cells.now }
     ensures { result ≡ told_of number answer cells.now }
 {
     match answer {
-        Answer::Refused(r) => Characteristic::Refused(r),
-        Answer::Done(n) => {
-            if n < number {
-                return Characteristic::NotReported;
-            }
-            told_by(number, cells[number - 1])
-        }
+        Ok(n) if n < number => Characteristic::NotReported,
+        Ok(_) => told_by(number, cells[number - 1]),
+        Err(why) => Characteristic::Refused(why),
     }
 }
 
 // R294: asks for a characteristic, 1 to 49, of the record at a place of a text.
+#[tactic(auto, using(crate::proofs::Reported::number_outside, crate::proofs::Reported::number_low, crate::proofs::Reported::number_high, crate::proofs::Reported::four_told), unfolding(crate::specs::Characteristics::characteristic_at))]
 pub fn characteristic_at(
     rules: rules::Rules,
     text: &[u8],
@@ -181,7 +162,7 @@ pub fn characteristic_at(
     if !is_characteristic(number) {
         return Characteristic::Refused(Refusal::NoSuchNumber);
     }
-    let mut table = [0i64; 49];
+    let mut table = [0; 49];
     let answer = read_group(rules, text, at, 4, &mut table);
     told_of(number, answer, &table)
 }
@@ -189,13 +170,14 @@ pub fn characteristic_at(
 // ---- Replies.
 
 // R200 to R212: the answer's number, with the numbers beside it.
-pub fn reply_of(answer: Characteristic) -> reply::Reply
-    ensures { result ≡ characteristic_reply answer }
-{
-    match answer {
-        Characteristic::Value(_) => reply::plain(0),
-        Characteristic::NoReading => reply::plain(0),
-        Characteristic::NotReported => reply::plain(0),
-        Characteristic::Refused(r) => reply::of_refusal(r),
+impl From<Characteristic> for Reply {
+    ghost from_gives = { λ answer reply. reply ≡ characteristic_reply answer };
+
+    fn from(answer: Characteristic) -> Reply {
+        match answer {
+            Characteristic::Value(_) | Characteristic::NoReading | Characteristic::NotReported =>
+                reply::plain(0),
+            Characteristic::Refused(why) => Reply::from(why),
+        }
     }
 }

@@ -1,6 +1,7 @@
 -- R500, R516, R543: any calls on a fresh journal are a stack of whole tables, reply for reply, and a replay of what they made comes to the
 -- same; by what stands after each call.
 -- Assumes nothing.
+use Rattle.std.specs.Prelude.{Option, Some, None, Result, Ok, Err}
 use mathlib.Core.Path.{◌≡◌, refl, sym, ap, ap₂, ◌∙◌, subst}
 use mathlib.Core.Bool.{Bool, true, false}
 use mathlib.Core.List.{List, [], ◌∷◌, ◌++◌, append_assoc, append-nil}
@@ -23,17 +24,11 @@ use Rattle.count.specs.Due.{HasCells}
 use Rattle.count.proofs.Due as Counted
 use Rattle.reply.specs.declared.Refusal.{Refusal}
 use Rattle.reply.specs.declared.Refusal.TheVariants.{NoRoom}
-use Rattle.reply.specs.declared.Checked.{Checked}
-use Rattle.reply.specs.declared.Checked.TheVariants as C
-use Rattle.reply.specs.declared.Answer.{Answer}
-use Rattle.reply.specs.declared.Answer.TheVariants.{Done, Refused}
 use Rattle.entry.specs.declared.Entry.{Entry}
 use Rattle.entry.specs.declared.Entry.TheVariants.{Set, Open, Release, Undo, Misformed}
 use Rattle.entry.specs.Field.{entry_text, entry_size}
 use Rattle.entry.specs.Codec.{Sized, sized_set, sized_open, sized_release, sized_undo}
 use Rattle.entry.proofs.Codec.{length_text}
-use Rattle.journal.specs.declared.Spot.{Spot}
-use Rattle.journal.specs.declared.Spot.TheVariants.{At, Nowhere}
 use Rattle.journal.specs.Layout.{starts_of, spot_of, get_at, put_at}
 use Rattle.journal.specs.Model.{Call, Sets, Opens, Releases, Undoes, accepts, bytes_for, number_for, refusal_of, decided, Stack, stacked, on_stack}
 use Rattle.journal.specs.Model.{model_answer, model_step, model_answers, model_run, by_answer}
@@ -53,18 +48,18 @@ use Rattle.journal.proofs.Small.{cell_small}
 
 -- ---- cells of 64 bits
 
-fit_put : (p : Spot) (v : ℤ) (t : List ℤ) → SFits w64 v → Fit t → Fit (put_at p v t)
-fit_put (At i) v t h f j = by (eqb i j) (ltb j (length t)) refl refl
+fit_put : (p : Option ℕ) (v : ℤ) (t : List ℤ) → SFits w64 v → Fit t → Fit (put_at p v t)
+fit_put (Some i) v t h f j = by (eqb i j) (ltb j (length t)) refl refl
   where
     by : (b d : Bool) → eqb i j ≡ b → ltb j (length t) ≡ d → SFits w64 (get_or (set t i v) j (pos 0))
     by true true e l = rw (eqb-true i j e, get_or-set_same t j v (pos 0) (ltb-true j (length t) l)) h
     by true false e l = rw (eqb-true i j e, set_out t j v (ltb-false j (length t) l)) (f j)
     by false d e l = rw (get_or-set_other t i j v (pos 0) (λ q. eqb-false i j e (sym q))) (f j)
-fit_put Nowhere v t h f j = f j
+fit_put None v t h f j = f j
 
-fit_get : (p : Spot) (t : List ℤ) → Fit t → SFits w64 (get_at p t)
-fit_get (At i) t f = f i
-fit_get Nowhere t f = record { sfits = omega arith }
+fit_get : (p : Option ℕ) (t : List ℤ) → Fit t → SFits w64 (get_at p t)
+fit_get (Some i) t f = f i
+fit_get None t f = record { sfits = omega arith }
 
 fit_back : (ps : List ℕ) (e : Entry) (t : List ℤ) → Sized e → Fit t → Fit (give_back ps e t)
 fit_back ps (Set g c o n) t (sized_set hg hc fo fn) f = fit_put (spot_of ps g c) o t fo f
@@ -109,7 +104,7 @@ module _ (ρ : Rules) (ns : List ℕ) (t₀ : List ℤ) where
   entry_size_lem (Releases k) d t = refl
   entry_size_lem (Undoes k) d t = refl
 
-  entry_sized : (c : Call) (d n : ℕ) (t : List ℤ) → checked_of ρ ns n ≡ C.Right → accepts ps c d ≡ true → d ≤ 16 → FitCall c × Fit t → Sized (entry_for ps c d t)
+  entry_sized : (c : Call) (d n : ℕ) (t : List ℤ) → checked_of ρ ns n ≡ Ok tt → accepts ps c d ≡ true → d ≤ 16 → FitCall c × Fit t → Sized (entry_for ps c d t)
   entry_sized (Sets g c v) d n t e h l f = let m = cell_small ρ ns n e g c h in sized_set m.0 m.1 (fit_get (spot_of ps g c) t f.1) f.0
   entry_sized Opens d n t e h l f = sized_open {k = d + 1} (omega arith)
   entry_sized (Releases k) d n t e h l f = sized_release {k = k} (omega (arith, ok_release ps d k h))
@@ -167,7 +162,7 @@ module _ (ρ : Rules) (ns : List ℕ) (t₀ : List ℤ) where
     pub told : stands.entries ≡ es
 
   -- the entry of a call, if its answer is this one
-  abbrev told_by_lem : Call → Kept → Answer → List Entry
+  abbrev told_by_lem : Call → Kept → Result ℕ Refusal → List Entry
   told_by_lem c k a = by_answer a (entry_to ρ ns c k ∷ []) []
 
   -- a call on what stands: the stack's answer, and what stands behind it
@@ -191,7 +186,7 @@ module _ (ρ : Rules) (ns : List ℕ) (t₀ : List ℤ) where
     walk_is = ap (walk_of ps) s.bytes ∙ walk_journal es s.fine ∙ ap (λ p. walked p (length es) (marks_of es)) used_is
 
     -- both answers are one
-    next_of : (a : Answer) → answer_to ρ ns c k ≡ a → model_answer ρ ns c (stack_of k ts) ≡ a → (saved : List (List ℤ))
+    next_of : (a : Result ℕ Refusal) → answer_to ρ ns c k ≡ a → model_answer ρ ns c (stack_of k ts) ≡ a → (saved : List (List ℤ))
         → by_answer a (on_stack ps c (stack_of k ts)) (stack_of k ts) ≡ stack_of (left_by ρ ns c k a) saved → With (left_by ρ ns c k a) saved (es ++ told_by_lem c k a) → Next c k ts es
     next_of a e m saved q st =
         record {
@@ -201,25 +196,25 @@ module _ (ρ : Rules) (ns : List ℕ) (t₀ : List ℤ) where
           left = subst (λ x. With (left_by ρ ns c k x) saved (es ++ told_by_lem c k x)) (sym e) st;
         }
 
-    next_refused : (r : Refusal) → answer_to ρ ns c k ≡ Refused r → model_answer ρ ns c (stack_of k ts) ≡ Refused r → Next c k ts es
-    next_refused r e m = next_of (Refused r) e m ts refl record { stands = s; told = sym (append-nil es) }
+    next_refused : (r : Refusal) → answer_to ρ ns c k ≡ Err r → model_answer ρ ns c (stack_of k ts) ≡ Err r → Next c k ts es
+    next_refused r e m = next_of (Err r) e m ts refl record { stands = s; told = sym (append-nil es) }
 
-    standing_is : checked_of ρ ns (length k.cells) ≡ C.Right → standing_of ρ ns k.journal k.used (length k.cells) ≡ C.Right
+    standing_is : checked_of ρ ns (length k.cells) ≡ Ok tt → standing_of ρ ns k.journal k.used (length k.cells) ≡ Ok tt
     unfolding standing_of
     standing_is e = rw (e, walk_is, eq-eqb k.used k.used refl) refl
 
-    refused_standing : (r : Refusal) → checked_of ρ ns (length k.cells) ≡ C.Refused r → standing_of ρ ns k.journal k.used (length k.cells) ≡ C.Refused r
+    refused_standing : (r : Refusal) → checked_of ρ ns (length k.cells) ≡ Err r → standing_of ρ ns k.journal k.used (length k.cells) ≡ Err r
     unfolding standing_of
     refused_standing r e = rw e refl
 
-    pub answer_is : checked_of ρ ns (length k.cells) ≡ C.Right → answer_to ρ ns c k ≡ decided ps c d (length k.journal - k.used)
+    pub answer_is : checked_of ρ ns (length k.cells) ≡ Ok tt → answer_to ρ ns c k ≡ decided ps c d (length k.journal - k.used)
     answer_is e = answer_right ρ ns k.journal k.used (length k.cells) c (standing_is e) ∙ ap (λ w. decided ps c (length w.marks) (length k.journal - k.used)) walk_is
 
-    model_is : checked_of ρ ns (length k.cells) ≡ C.Right → model_answer ρ ns c (stack_of k ts) ≡ decided ps c d (length k.journal - k.used)
+    model_is : checked_of ρ ns (length k.cells) ≡ Ok tt → model_answer ρ ns c (stack_of k ts) ≡ decided ps c d (length k.journal - k.used)
     model_is e = rw (e, ← holds_length s.held) refl
 
     -- a call that is done
-    module _ (right : checked_of ρ ns (length k.cells) ≡ C.Right) (fits : FitCall c) (ok : accepts ps c d ≡ true) (room : bytes_for c ≤ length k.journal - k.used) where
+    module _ (right : checked_of ρ ns (length k.cells) ≡ Ok tt) (fits : FitCall c) (ok : accepts ps c d ≡ true) (room : bytes_for c ≤ length k.journal - k.used) where
       abbrev t : List ℤ
       t = k.cells
 
@@ -238,7 +233,7 @@ module _ (ρ : Rules) (ns : List ℕ) (t₀ : List ℤ) where
       abbrev saved : List (List ℤ)
       saved = (on_stack ps c (stack_of k ts)).saved
 
-      pub left_is : (n : ℕ) → left_by ρ ns c k (Done n) ≡ kept (cells_on ps c es t) (over k.used (entry_text e) k.journal) (k.used + bytes_for c)
+      pub left_is : (n : ℕ) → left_by ρ ns c k (Ok n) ≡ kept (cells_on ps c es t) (over k.used (entry_text e) k.journal) (k.used + bytes_for c)
       left_is n =
           ap (λ w. kept (cells_for ps c (take k.used k.journal) w t) (over k.used (entry_text (entry_for ps c (length w.marks) t)) k.journal) (k.used + bytes_for c)) walk_is
           ∙ ap (λ x. kept (cells_for ps c x (walked k.used (length es) (marks_of es)) t) (over k.used (entry_text e) k.journal) (k.used + bytes_for c)) s.bytes
@@ -268,14 +263,14 @@ module _ (ρ : Rules) (ns : List ℕ) (t₀ : List ℤ) where
           ∙ ap (λ x. stacked x saved (length k.journal - k.used - bytes_for c)) (sym (held_cells ps es t ts (length k.journal - k.used) s.held c ok))
           ∙ ap (stacked (cells_on ps c es t) saved) z
 
-      next_done : (n : ℕ) → answer_to ρ ns c k ≡ Done n → model_answer ρ ns c (stack_of k ts) ≡ Done n → Next c k ts es
+      next_done : (n : ℕ) → answer_to ρ ns c k ≡ Ok n → model_answer ρ ns c (stack_of k ts) ≡ Ok n → Next c k ts es
       next_done n a m =
-          next_of (Done n) a m saved (model_done ∙ ap (λ x. stack_of x saved) (sym (left_is n)))
+          next_of (Ok n) a m saved (model_done ∙ ap (λ x. stack_of x saved) (sym (left_is n)))
           (subst (λ x. With x saved (with_entry es (entry_to ρ ns c k))) (sym (left_is n))
           record { stands = stands_done; told = entries_done ∙ ap (λ w. with_entry es (entry_for ps c (length w.marks) t)) (sym walk_is) })
 
     -- any call
-    next_right : checked_of ρ ns (length k.cells) ≡ C.Right → FitCall c → Next c k ts es
+    next_right : checked_of ρ ns (length k.cells) ≡ Ok tt → FitCall c → Next c k ts es
     next_right r f = by (accepts ps c d) (ltb (length k.journal - k.used) (bytes_for c)) refl refl
       where
         by : (b l : Bool) → accepts ps c d ≡ b → ltb (length k.journal - k.used) (bytes_for c) ≡ l → Next c k ts es
@@ -287,12 +282,12 @@ module _ (ρ : Rules) (ns : List ℕ) (t₀ : List ℤ) where
     pub next : FitCall c → Next c k ts es
     next f = by (checked_of ρ ns (length k.cells)) refl
       where
-        by : (r : Checked) → checked_of ρ ns (length k.cells) ≡ r → Next c k ts es
-        by C.Right e = next_right e f
-        by (C.Refused r) e = next_refused r (refused_answer r e) (rw e refl)
+        by : (r : Result (Unit {0}) Refusal) → checked_of ρ ns (length k.cells) ≡ r → Next c k ts es
+        by (Ok done) e = next_right e f
+        by (Err r) e = next_refused r (refused_answer r e) (rw e refl)
           where
-            refused_answer : (r : Refusal) → checked_of ρ ns (length k.cells) ≡ C.Refused r → answer_to ρ ns c k ≡ Refused r
-            refused_answer r e = sym (answer_refused ρ ns k.journal k.used (length k.cells) c (refused_standing r e))
+            refused_answer : (r : Refusal) → checked_of ρ ns (length k.cells) ≡ Err r → answer_to ρ ns c k ≡ Err r
+            refused_answer r e = answer_refused ρ ns k.journal k.used (length k.cells) c (refused_standing r e)
 
   -- ---- any calls
 
@@ -333,7 +328,7 @@ module _ (ρ : Rules) (ns : List ℕ) (t₀ : List ℤ) where
       ap (λ x. play_of ps x t₀) (q ∙ s.bytes) ∙ play_journal (journal_text s.entries) s.entries s.leads refl (text_length s.fine)
       ∙ ap (λ p. played p (length s.entries) (marks_of s.entries) k.cells) used
 
-  pub replay_stands : (k : Kept) (ts : List (List ℤ)) (j : List ℕ) → Stands k ts → take k.used j ≡ take k.used k.journal → checked_of ρ ns (length t₀) ≡ C.Right → ReplaysTo ρ ns t₀ j k
+  pub replay_stands : (k : Kept) (ts : List (List ℤ)) (j : List ℕ) → Stands k ts → take k.used j ≡ take k.used k.journal → checked_of ρ ns (length t₀) ≡ Ok tt → ReplaysTo ρ ns t₀ j k
   unfolding replay_of
   replay_stands k ts j s q r =
       let p = play_is k ts j s q in
@@ -381,7 +376,7 @@ module _ (ρ : Rules) (ns : List ℕ) (t : List ℤ) (j : List ℕ) (cs : List C
   replay_same h =
       let a = after_calls ρ ns t cs (kept t j 0) [] fc (fresh ρ ns t j ft) in
       let k = left_to ρ ns cs (kept t j 0) in
-      replay_stands ρ ns t k a.saved k.journal a.left.stands refl ((Counted.first_due ρ ns (length t) C.Right).1 h)
+      replay_stands ρ ns t k a.saved k.journal a.left.stands refl ((Counted.first_due ρ ns (length t) (Ok tt)).1 h)
 
   -- R520: the bytes used are the fields of the calls that were accepted, and read as these
   pub reads_as : ReadsEntries (left_to ρ ns cs (kept t j 0)) (entries_to ρ ns cs (kept t j 0))

@@ -1,6 +1,7 @@
 -- Fields in order, said plainly (specs/Order.antt), are those that a walk, and a replay, goes through; and where it stops is where a journal is at
 -- fault.
 -- Assumes nothing.
+use Rattle.std.specs.Prelude.{Some, None}
 use mathlib.Core.Path.{◌≡◌, refl, sym, ◌∙◌, ap, subst}
 use mathlib.Core.Bool.{Bool, true, false, cond, ◌&&◌, true≢false}
 use mathlib.Core.List.{List, [], ◌∷◌, ◌++◌, map}
@@ -23,7 +24,6 @@ use Rattle.count.proofs.Tallied.{cells_first, cells_next}
 use Rattle.entry.specs.declared.Entry.{Entry}
 use Rattle.entry.specs.declared.Entry.TheVariants.{Set, Open, Release, Undo, Misformed}
 use Rattle.entry.specs.Field.{entry_in, field_at}
-use Rattle.journal.specs.declared.Spot.TheVariants.{At, Nowhere}
 use Rattle.journal.specs.Layout.{starts_of, spot_in, spot_of, exists, put_at}
 use Rattle.journal.specs.Model.{Call, Sets, Opens, Releases, Undoes, accepts}
 use Rattle.journal.specs.Entries.{mark_step, mark_of, restore, next_at, entries_at, place_at}
@@ -43,7 +43,7 @@ use Rattle.journal.proofs.Replays.{no_field, AllBelow, step_below, none_below}
 span : (start end c : ℕ) → exists (spot_in start end c) ≡ (leb 1 c && leb c (end - start))
 span start end c = by (leb 1 c && leb c (end - start))
   where
-    by : (t : Bool) → exists (cond t (At (start + (c - 1))) Nowhere) ≡ t
+    by : (t : Bool) → exists (cond t (Some (start + (c - 1))) None) ≡ t
     by true = refl
     by false = refl
 
@@ -77,11 +77,11 @@ module _ (ρ : Rules) (ns : List ℕ) (g c : ℕ) where
           absurd (omega arith)
 
   -- where it stands
-  pub spot_at : IsCell ρ ns g c → spot_of (starts_of ρ ns) g c ≡ At (cell_place ρ ns g c)
+  pub spot_at : IsCell ρ ns g c → spot_of (starts_of ρ ns) g c ≡ Some (cell_place ρ ns g c)
   unfolding spot_of
   spot_at i =
       rw (le-leb 1 c i.first, le-leb c (get_or (starts_of ρ ns) (g + 1) 0 - get_or (starts_of ρ ns) g 0) (omega (arith, ends i.low i.high, i.last)))
-      (ap (λ n. At (n + (c - 1))) (starts_at_lem ρ ns g (omega (arith, i.high))))
+      (ap (λ n. Some (n + (c - 1))) (starts_at_lem ρ ns g (omega (arith, i.high))))
 
 -- ---- a call that is accepted
 

@@ -1,6 +1,7 @@
 -- R543: a journal of bytes that replays with 0 over a table is one that calls made on that table: so that calls go on behind it as if it had
 -- never been left.
 -- Assumes nothing.
+use Rattle.std.specs.Prelude.{Ok}
 use mathlib.Core.Path.{◌≡◌, refl, sym, ap, ◌∙◌, subst}
 use mathlib.Core.Bool.{true}
 use mathlib.Core.List.{List, [], ◌∷◌, ◌++◌}
@@ -17,8 +18,6 @@ use Rattle.base.proofs.Choice.{cond_elim}
 use Rattle.base.proofs.Part.{part_cut}
 use Rattle.base.proofs.Taken.{drop_take}
 use Rattle.count.specs.Check.{checked_of}
-use Rattle.reply.specs.declared.Checked.TheVariants as C
-use Rattle.reply.specs.declared.Answer.TheVariants.{Done}
 use Rattle.entry.specs.declared.Entry.{Entry}
 use Rattle.entry.specs.declared.Entry.TheVariants.{Set, Open, Release, Undo, Misformed}
 use Rattle.entry.specs.Bytes.{AllBytes}
@@ -100,7 +99,7 @@ module _ (ρ : Rules) (ns : List ℕ) (t₀ : List ℤ) (j : List ℕ) (used : �
   made_by : {k end : Kept} (calls : List Call) → FitCalls calls → left_to ρ ns calls k ≡ end → MadeBy ρ ns k end
   made_by calls f q = record { calls = calls; fits = f; left = q }
 
-  module _ (right : checked_of ρ ns (length t₀) ≡ C.Right) (bytes : AllBytes s) where
+  module _ (right : checked_of ρ ns (length t₀) ≡ Ok tt) (bytes : AllBytes s) where
     -- the whole is made from here, if a replay from here comes to its end
     abbrev Comes : Kept → Played → Type 0
     Comes k r = r.place ≡ used → MadeBy ρ ns k (kept r.cells j used)
@@ -137,13 +136,13 @@ module _ (ρ : Rules) (ns : List ℕ) (t₀ : List ℤ) (j : List ℕ) (used : �
         within : k.used + entry_size e ≤ length s
         within = next_within s k.used (omega arith)
 
-        right_here : checked_of ρ ns (length t) ≡ C.Right
+        right_here : checked_of ρ ns (length t) ≡ Ok tt
         right_here = ap (checked_of ρ ns) same ∙ right
 
         room : bytes_for c ≤ length k.journal - k.used
         room = omega (arith, within, size_is, length-take used j, ap length q)
 
-        answers : answer_to ρ ns c k ≡ Done (number_for c d)
+        answers : answer_to ρ ns c k ≡ Ok (number_for c d)
         answers =
             answer_is ρ ns t₀ c k ts st right_here
             ∙ rw (call_ok ps d e ok, le-ltb (length k.journal - k.used) (bytes_for c) room) refl
@@ -217,7 +216,7 @@ module _ (ρ : Rules) (ns : List ℕ) (t₀ : List ℤ) (j : List ℕ) (used : �
     comes_fresh f = comes (length s) (kept t₀ j 0) [] refl (fresh ρ ns t₀ j f) refl (record { ends = refl; reads = refl })
 
   -- a replay that gives 0: the journal is one that calls made on the table, and the cells are theirs
-  pub reopened : Fit t₀ → AllBytes s → replay_of ρ ns j used t₀ ≡ C.Right → MadeBy ρ ns (kept t₀ j 0) (behind_replay ρ ns t₀ (kept t₀ j used))
+  pub reopened : Fit t₀ → AllBytes s → replay_of ρ ns j used t₀ ≡ Ok tt → MadeBy ρ ns (kept t₀ j 0) (behind_replay ρ ns t₀ (kept t₀ j used))
   unfolding replay_of
   reopened f b r =
       let q = then_right (checked_of ρ ns (length t₀)) (whole (play_in ρ ns j used t₀).place used) r in

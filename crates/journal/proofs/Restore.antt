@@ -1,5 +1,6 @@
 -- Giving old values back: what it leaves in each cell, and that doing it again alters nothing.
 -- Assumes nothing.
+use Rattle.std.specs.Prelude.{Option, Some, None}
 use mathlib.Core.Path.{◌≡◌, refl, sym, ap, ◌∙◌}
 use mathlib.Core.Bool.{Bool, true, false, cond}
 use mathlib.Core.List.{List, [], ◌∷◌, ◌++◌}
@@ -12,8 +13,6 @@ use lib.Seq.{get_or-set_same, get_or-set_other, ext_get_or, drop-drop}
 use borrow.Author.Tests.{eqb-true, eqb-false}
 use Rattle.entry.specs.declared.Entry.{Entry}
 use Rattle.entry.specs.declared.Entry.TheVariants.{Set, Open, Release, Undo, Misformed}
-use Rattle.journal.specs.declared.Spot.{Spot}
-use Rattle.journal.specs.declared.Spot.TheVariants.{At, Nowhere}
 use Rattle.journal.specs.Layout.{spot_of, put_at}
 use Rattle.journal.specs.Entries.{give_back, restore}
 use Rattle.journal.proofs.Spots.{length_put}
@@ -48,9 +47,9 @@ module _ (ps : List ℕ) where
 -- ---- cell by cell
 
 -- cell i behind a put, where it held z before
-abbrev pub put_cell : Spot → ℤ → ℕ → ℤ → ℤ
-put_cell (At k) v i z = cond (eqb k i) v z
-put_cell Nowhere v i z = z
+abbrev pub put_cell : Option ℕ → ℤ → ℕ → ℤ → ℤ
+put_cell (Some k) v i z = cond (eqb k i) v z
+put_cell None v i z = z
 
 abbrev pub back_cell : List ℕ → Entry → ℕ → ℤ → ℤ
 back_cell ps (Set g c o n) i z = put_cell (spot_of ps g c) o i z
@@ -68,17 +67,17 @@ set_cell : (b : Bool) (t : List ℤ) (d i : ℕ) (o : ℤ) → eqb d i ≡ b →
 set_cell true t d i o e h = rw (eqb-true d i e) (get_or-set_same t i o (pos 0) h)
 set_cell false t d i o e h = get_or-set_other t d i o (pos 0) (λ q. eqb-false d i e (sym q))
 
-put_cell_lem : (s : Spot) (v : ℤ) (t : List ℤ) (i : ℕ) → i < length t → get_or (put_at s v t) i (pos 0) ≡ put_cell s v i (get_or t i (pos 0))
-put_cell_lem (At k) v t i h = set_cell (eqb k i) t k i v refl h
-put_cell_lem Nowhere v t i h = refl
+put_cell_lem : (s : Option ℕ) (v : ℤ) (t : List ℤ) (i : ℕ) → i < length t → get_or (put_at s v t) i (pos 0) ≡ put_cell s v i (get_or t i (pos 0))
+put_cell_lem (Some k) v t i h = set_cell (eqb k i) t k i v refl h
+put_cell_lem None v t i h = refl
 
-again : (s : Spot) (f : ℤ → ℤ) (o : ℤ) (i : ℕ) (z : ℤ) → f (f z) ≡ f z → put_cell s o i (f (put_cell s o i (f z))) ≡ put_cell s o i (f z)
-again (At k) f o i z q = twice (eqb k i)
+again : (s : Option ℕ) (f : ℤ → ℤ) (o : ℤ) (i : ℕ) (z : ℤ) → f (f z) ≡ f z → put_cell s o i (f (put_cell s o i (f z))) ≡ put_cell s o i (f z)
+again (Some k) f o i z q = twice (eqb k i)
   where
     twice : (b : Bool) → cond b o (f (cond b o (f z))) ≡ cond b o (f z)
     twice true = refl
     twice false = q
-again Nowhere f o i z q = q
+again None f o i z q = q
 
 module _ (ps : List ℕ) where
   back_cell_lem : (e : Entry) (t : List ℤ) (i : ℕ) → i < length t → get_or (give_back ps e t) i (pos 0) ≡ back_cell ps e i (get_or t i (pos 0))

@@ -1,5 +1,6 @@
 -- Under counts that are right, a cell's group has one byte and its number in the group two.
 -- Assumes nothing.
+use Rattle.std.specs.Prelude.{Some, None, Ok}
 use mathlib.Core.Path.{◌≡◌, refl, sym, ap, ◌∙◌}
 use mathlib.Core.Bool.{Bool, true, false, cond, ◌&&◌, ◌||◌}
 use mathlib.Core.List.{List}
@@ -15,7 +16,6 @@ use Rattle.base.proofs.Choice.{and_first, and_second}
 use Rattle.base.proofs.Order.{le_or_lt}
 use Rattle.form.specs.declared.Form.{Form}
 use Rattle.form.specs.declared.Form.TheVariants.{F7, A120, A1, F8, I2, I3, I1, E11, E20, E8}
-use Rattle.form.specs.declared.GroupForm.TheVariants.{Has}
 use Rattle.form.specs.Table.{listed_as, row_of}
 use Rattle.form.specs.Count.{is_segments, elements_of, cells_of}
 use Rattle.form.proofs.Segments.{elements_few}
@@ -27,8 +27,6 @@ use Rattle.count.specs.Check.{checked_of}
 use Rattle.count.specs.Due.{HasCells}
 use Rattle.count.proofs.Tallied.{count_at, cells_has, cells_next, cells_first}
 use Rattle.count.proofs.Due.{first_due}
-use Rattle.reply.specs.declared.Checked.TheVariants as C
-use Rattle.journal.specs.declared.Spot.TheVariants.{At, Nowhere}
 use Rattle.journal.specs.Layout.{starts_of, spot_in, spot_of, exists}
 use Rattle.journal.proofs.Spots.{starts_length, starts_at_lem}
 use Rattle.journal.proofs.Walking.{no_way}
@@ -67,7 +65,7 @@ group_small : (ρ : Rules) (ns : List ℕ) (n : ℕ) → HasCells ρ ns n → (g
 group_small ρ ns n d g l h =
     let f = group_form g l h in
     let m : count_of ns g ≤ 999 = rw (count_at ns g l) (d.rules.released.counts.small (g - 1) (omega arith)) in
-    rw (cells_has ρ ns g f.0 f.1) (form_small ρ f.0 (count_of ns g) m (λ q. few (letters g ((form_listed A120 g).0 (f.1 ∙ ap Has q)))))
+    rw (cells_has ρ ns g f.0 f.1) (form_small ρ f.0 (count_of ns g) m (λ q. few (letters g ((form_listed A120 g).0 (f.1 ∙ ap Some q)))))
   where
     few : g ≡ 2 → count_of ns g ≤ 2
     few e = rw e (two_few ns d.rules.kept)
@@ -75,11 +73,11 @@ group_small ρ ns n d g l h =
 spot_exists : (start end c : ℕ) → exists (spot_in start end c) ≡ true → (1 ≤ c) × (c ≤ end - start)
 spot_exists start end c h = by (leb 1 c && leb c (end - start)) refl h
   where
-    by : (b : Bool) → (leb 1 c && leb c (end - start)) ≡ b → exists (cond b (At (start + (c - 1))) Nowhere) ≡ true → (1 ≤ c) × (c ≤ end - start)
+    by : (b : Bool) → (leb 1 c && leb c (end - start)) ≡ b → exists (cond b (Some (start + (c - 1))) None) ≡ true → (1 ≤ c) × (c ≤ end - start)
     by true e q = (leb-true 1 c (and_first (leb 1 c) (leb c (end - start)) e), leb-true c (end - start) (and_second (leb 1 c) (leb c (end - start)) e))
     by false e q = no_way (sym q)
 
-pub cell_small : (ρ : Rules) (ns : List ℕ) (n : ℕ) → checked_of ρ ns n ≡ C.Right → (g c : ℕ) → exists (spot_of (starts_of ρ ns) g c) ≡ true → (g < 256) × (c < 65536)
+pub cell_small : (ρ : Rules) (ns : List ℕ) (n : ℕ) → checked_of ρ ns n ≡ Ok tt → (g c : ℕ) → exists (spot_of (starts_of ρ ns) g c) ≡ true → (g < 256) × (c < 65536)
 unfolding spot_of
 cell_small ρ ns n e g c h =
     let q = spot_exists (get_or (starts_of ρ ns) g 0) (get_or (starts_of ρ ns) (g + 1) 0) c h in
@@ -93,5 +91,5 @@ cell_small ρ ns n e g c h =
         within = rw (starts_at_lem ρ ns g (omega arith), starts_at_lem ρ ns (g + 1) (omega arith)) at q.1
 
         some : (1 ≤ g) ⊎ (g < 1) → (g < 256) × (c < 65536)
-        some (inl k) = (omega arith, omega (arith, within, cells_next ρ ns g (omega arith) (omega arith), group_small ρ ns n ((first_due ρ ns n C.Right).0 e) g k l))
+        some (inl k) = (omega arith, omega (arith, within, cells_next ρ ns g (omega arith) (omega arith), group_small ρ ns n ((first_due ρ ns n (Ok tt)).0 e) g k l))
         some (inr k) = let z : g ≡ 0 = omega arith in absurd (omega (arith, q.0, rw z at within, cells_first ρ ns))

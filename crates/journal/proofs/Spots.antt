@@ -1,5 +1,6 @@
 -- Cells by their spots: where they stand by the counts, and what putting one leaves.
 -- Assumes nothing.
+use Rattle.std.specs.Prelude.{Option, Some, None}
 use mathlib.Core.Path.{◌≡◌, refl, sym, ap, ◌∙◌}
 use mathlib.Core.Bool.{Bool, true, false}
 use mathlib.Core.List.{List}
@@ -19,23 +20,21 @@ use Rattle.base.proofs.Order.{le_or_lt}
 use Rattle.base.proofs.UpFrom.{length_up, get_d_map_up}
 use Rattle.count.specs.Tally.{cells_before}
 use Rattle.count.proofs.Tallied.{cells_below, cells_first}
-use Rattle.journal.specs.declared.Spot.{Spot}
-use Rattle.journal.specs.declared.Spot.TheVariants.{At, Nowhere}
 use Rattle.journal.specs.Layout.{starts_of, spot_in, spot_of, get_at, put_at}
 
 -- ---- putting
 
-pub length_put : (s : Spot) (v : ℤ) (t : List ℤ) → length (put_at s v t) ≡ length t
-length_put (At i) v t = length-set t i v
-length_put Nowhere v t = refl
+pub length_put : (s : Option ℕ) (v : ℤ) (t : List ℤ) → length (put_at s v t) ≡ length t
+length_put (Some i) v t = length-set t i v
+length_put None v t = refl
 
-pub put_put : (s : Spot) (v w : ℤ) (t : List ℤ) → put_at s w (put_at s v t) ≡ put_at s w t
-put_put (At i) v w t = set-set t i v w
-put_put Nowhere v w t = refl
+pub put_put : (s : Option ℕ) (v w : ℤ) (t : List ℤ) → put_at s w (put_at s v t) ≡ put_at s w t
+put_put (Some i) v w t = set-set t i v w
+put_put None v w t = refl
 
-pub put_get : (s : Spot) (t : List ℤ) → put_at s (get_at s t) t ≡ t
-put_get (At i) t = set-get_or t i (pos 0)
-put_get Nowhere t = refl
+pub put_get : (s : Option ℕ) (t : List ℤ) → put_at s (get_at s t) t ≡ t
+put_get (Some i) t = set-get_or t i (pos 0)
+put_get None t = refl
 
 -- ---- where groups begin
 
@@ -61,16 +60,11 @@ filled_more ρ ns ps g v l e f i h = by (eqb (g + 1) i) refl
         let z : i ≡ g + 1 → ⊥ = λ y. eqb-false (g + 1) i q (sym y) in
         get_or-set_other ps (g + 1) i v 0 z ∙ f i (omega arith)
 
-pub filled_start : (ρ : Rules) (ns ps : List ℕ) → length ps ≡ 62 → FilledTo ρ ns (set (set ps 0 0) 1 0) 1
-filled_start ρ ns ps l =
-    let k : length (set ps 0 0) ≡ 62 = length-set ps 0 0 ∙ l in
-    filled_more ρ ns (set ps 0 0) 0 0 (omega arith) (sym (cells_first ρ ns)) first
+pub filled_start : (ρ : Rules) (ns ps : List ℕ) → ((i : ℕ) → i ≤ 1 → get_or ps i 0 ≡ 0) → FilledTo ρ ns ps 1
+filled_start ρ ns ps z i h = z i h ∙ none
   where
-    first : FilledTo ρ ns (set ps 0 0) 0
-    first i h =
-        let z : 0 ≡ i = omega arith in
-        let none : 0 ≡ cells_before ρ ns 0 = omega (arith, cells_below ρ ns 0 1 (omega arith), cells_first ρ ns) in
-        rw (← z, get_or-set_same ps 0 0 0 (omega arith)) none
+    none : 0 ≡ cells_before ρ ns i
+    none = omega (arith, cells_below ρ ns i 1 h, cells_first ρ ns)
 
 pub filled_all : (ρ : Rules) (ns ps : List ℕ) (g : ℕ) → length ps ≡ 62 → 61 ≤ g → FilledTo ρ ns ps g → ps ≡ starts_of ρ ns
 filled_all ρ ns ps g l h f =
@@ -79,21 +73,21 @@ filled_all ρ ns ps g l h f =
 -- ---- the code's tests
 
 module _ (start end c : ℕ) where
-  pub spot_zero : c < 1 → Nowhere ≡ spot_in start end c
+  pub spot_zero : c < 1 → None ≡ spot_in start end c
   spot_zero h = rw (lt-leb 1 c h)
 
-  pub spot_beyond : end - start < c → Nowhere ≡ spot_in start end c
+  pub spot_beyond : end - start < c → None ≡ spot_in start end c
   spot_beyond h = rw (lt-leb c (end - start) h, and_false (leb 1 c))
 
   -- a group without cells
-  pub spot_none : end ≤ start → Nowhere ≡ spot_in start end c
+  pub spot_none : end ≤ start → None ≡ spot_in start end c
   spot_none h = none (le_or_lt 1 c)
     where
-      none : (1 ≤ c) ⊎ (c < 1) → Nowhere ≡ spot_in start end c
+      none : (1 ≤ c) ⊎ (c < 1) → None ≡ spot_in start end c
       none (inl k) = spot_beyond (omega arith)
       none (inr k) = spot_zero k
 
-  pub spot_at : 1 ≤ c → c ≤ end - start → At (start + (c - 1)) ≡ spot_in start end c
+  pub spot_at : 1 ≤ c → c ≤ end - start → Some (start + (c - 1)) ≡ spot_in start end c
   spot_at h k = rw (le-leb 1 c h, le-leb c (end - start) k)
 
 module _ (ps : List ℕ) (g c : ℕ) where
@@ -102,6 +96,6 @@ module _ (ps : List ℕ) (g c : ℕ) where
   spot_in_lem = refl
 
   -- the numbers behind 60
-  pub spot_no_group : length ps ≡ 62 → 60 < g → Nowhere ≡ spot_of ps g c
+  pub spot_no_group : length ps ≡ 62 → 60 < g → None ≡ spot_of ps g c
   spot_no_group l h =
       spot_none (get_or ps g 0) (get_or ps (g + 1) 0) c (omega (arith, get_or-eq_default ps 0 {n = g + 1} (omega arith))) ∙ spot_in_lem

@@ -1,5 +1,6 @@
 -- R544: the first bytes of a journal that calls made, cut anywhere.
 -- Assumes nothing.
+use Rattle.std.specs.Prelude.{Result, Ok, Err}
 use mathlib.Core.Path.{◌≡◌, refl, sym, ap, ◌∙◌, subst}
 use mathlib.Core.List.{List, [], ◌∷◌, ◌++◌}
 use mathlib.Core.Logic.{◌⊎◌, inl, inr}
@@ -14,9 +15,6 @@ use Rattle.base.proofs.Order.{le_or_lt}
 use Rattle.count.specs.Check.{checked_of}
 use Rattle.count.specs.Due.{HasCells}
 use Rattle.count.proofs.Due as Counted
-use Rattle.reply.specs.declared.Checked.TheVariants as C
-use Rattle.reply.specs.declared.Answer.{Answer}
-use Rattle.reply.specs.declared.Answer.TheVariants.{Done, Refused}
 use Rattle.entry.specs.declared.Entry.{Entry}
 use Rattle.entry.specs.declared.Entry.TheVariants.{Misformed}
 use Rattle.entry.specs.Field.{entry_text, entry_in}
@@ -29,6 +27,7 @@ use Rattle.journal.specs.Runs.{Fit, FitCalls, Kept, kept, answer_to, left_by, le
 use Rattle.journal.proofs.Made.{Stands, used_is, next, fresh, replay_stands, adds_field}
 use Rattle.journal.proofs.Text.{text_length}
 use Rattle.journal.proofs.Replays.{play_cut, no_field}
+use Rattle.reply.specs.declared.Refusal.{Refusal}
 
 -- ---- the first bytes of it
 
@@ -36,7 +35,7 @@ use Rattle.journal.proofs.Replays.{play_cut, no_field}
 shorter : (m n : ℕ) (a b : List ℕ) → m ≤ n → take n a ≡ take n b → take m a ≡ take m b
 shorter m n a b l q = sym (take-take m n a l) ∙ ap (take m) q ∙ take-take m n b l
 
-module _ (ρ : Rules) (ns : List ℕ) (t₀ : List ℤ) (right : checked_of ρ ns (length t₀) ≡ C.Right) where
+module _ (ρ : Rules) (ns : List ℕ) (t₀ : List ℤ) (right : checked_of ρ ns (length t₀) ≡ Ok tt) where
   -- bytes that begin as those kept, and go on with what is no field
   cut_here : (k : Kept) (ts : List (List ℤ)) (j : List ℕ) (n : ℕ) → Stands ρ ns t₀ k ts → k.used ≤ n → take k.used j ≡ take k.used k.journal
       → entry_in (drop k.used (take n j)) ≡ Misformed → replay_of ρ ns j n t₀ ≡ whole k.used n
@@ -56,9 +55,9 @@ module _ (ρ : Rules) (ns : List ℕ) (t₀ : List ℤ) (right : checked_of ρ n
   adds : (c : Call) (k : Kept) → (after c k ≡ k) ⊎ Adds k (entry_to ρ ns c k) (after c k)
   adds c k = by (answer_to ρ ns c k) refl
     where
-      by : (a : Answer) → answer_to ρ ns c k ≡ a → (after c k ≡ k) ⊎ Adds k (entry_to ρ ns c k) (after c k)
-      by (Refused r) q = inl (ap (left_by ρ ns c k) q)
-      by (Done n) q = inr (subst (λ a. Adds k (entry_to ρ ns c k) (left_by ρ ns c k a)) (sym q) ((adds_field ρ ns c k).done n q))
+      by : (a : Result ℕ Refusal) → answer_to ρ ns c k ≡ a → (after c k ≡ k) ⊎ Adds k (entry_to ρ ns c k) (after c k)
+      by (Err r) q = inl (ap (left_by ρ ns c k) q)
+      by (Ok n) q = inr (subst (λ a. Adds k (entry_to ρ ns c k) (left_by ρ ns c k a)) (sym q) ((adds_field ρ ns c k).done n q))
 
   -- the bytes used never become fewer
   grows : (cs : List Call) (k : Kept) → k.used ≤ (left_to ρ ns cs k).used
@@ -167,4 +166,4 @@ module _ (ρ : Rules) (ns : List ℕ) (t₀ : List ℤ) (right : checked_of ρ n
 module _ (ρ : Rules) (ns : List ℕ) (t : List ℤ) (j : List ℕ) (cs : List Call) (ft : Fit t) (fc : FitCalls cs) where
   -- R544: cut at any byte, and whatever stands behind
   pub torn_calls : HasCells ρ ns (length t) → {n : ℕ} {j' : List ℕ} → FirstBytes (left_to ρ ns cs (kept t j 0)) n j' → Torn ρ ns t cs (kept t j 0) n j'
-  torn_calls h {n} {j'} b = torn ρ ns t ((Counted.first_due ρ ns (length t) C.Right).1 h) n j' cs (kept t j 0) [] fc (fresh ρ ns t j ft) (omega arith) b
+  torn_calls h {n} {j'} b = torn ρ ns t ((Counted.first_due ρ ns (length t) (Ok tt)).1 h) n j' cs (kept t j 0) [] fc (fresh ρ ns t j ft) (omega arith) b

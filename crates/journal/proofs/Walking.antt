@@ -2,21 +2,26 @@
 -- Assumes nothing.
 use mathlib.Core.Path.{◌≡◌, refl, sym, ap, ◌∙◌, subst}
 use mathlib.Core.Bool.{Bool, true, false, cond}
-use mathlib.Core.List.{List, []}
-use Prim.Native.Nat.{ℕ, zero, suc, ◌+◌, ◌-◌, ◌<◌, ◌≤◌}
+use mathlib.Core.List.{List}
+use mathlib.Core.Logic.{◌⊎◌, inl, inr}
+use Rattle.std.specs.Prelude.{Option, Some, None}
+use Prim.Native.Nat.{ℕ, zero, suc, ◌+◌, ◌-◌, ◌*◌, ◌<◌, ◌≤◌}
 use native.Mathlib.Omega.{arith}
 use native.Mathlib.Numerals.{add-one}
 use lib.Dec.{ltb, leb, eqb}
-use lib.ListN.{length, get_or, set, drop}
+use lib.ListN.{length, get_or, set, drop, replicate, length-set}
 use lib.Seq.{get_or-set_same, get_or-set_other}
 use borrow.Author.Tests.{lt-ltb, le-ltb, ltb-true, leb-true, eqb-true, eqb-false}
 use Rattle.base.proofs.Choice.{and_first, and_second}
+use Rattle.base.proofs.Order.{le_or_lt}
 use Rattle.entry.specs.declared.Entry.{Entry}
 use Rattle.entry.specs.declared.Entry.TheVariants.{Set, Open, Release, Undo, Misformed}
 use Rattle.entry.specs.Field.{entry_size, field_at}
+use Rattle.entry.proofs.Reading.{next_within}
 use Rattle.journal.specs.Model.{outer}
 use Rattle.journal.specs.Entries.{mark_step, mark_of, next_at}
-use Rattle.journal.specs.Walks.{ok_entry, new_depth, depth_after, walked, walk_from, walk_of, down}
+use Rattle.journal.specs.declared.State.{State}
+use Rattle.journal.specs.Walks.{ok_entry, new_depth, walked, walk_from, walk_of, down, MarksBelow, WalksTo, next_field, passed}
 
 pub no_way : {A : Type 0} → true ≡ false → A
 no_way e = let z : ◌≡◌ {A = ℕ} 0 1 = cc in absurd (omega arith)
@@ -89,7 +94,7 @@ module _ (ps : List ℕ) (d : ℕ) where
 
   -- ---- depths
 
-  new_small : (e : Entry) → ok_entry ps e d ≡ true → d ≤ 16 → new_depth e d ≤ 16
+  pub new_small : (e : Entry) → ok_entry ps e d ≡ true → d ≤ 16 → new_depth e d ≤ 16
   new_small (Set g c o v) h l = l
   new_small (Open k) h l = omega (arith, (ok_open ps d k h).0)
   new_small (Release k) h l = omega arith
@@ -102,21 +107,6 @@ module _ (ps : List ℕ) (d : ℕ) where
   new_next (Release k) h = omega arith
   new_next (Undo k) h = omega (arith, (ok_undo ps d k h).1)
   new_next Misformed h = no_way (sym h)
-
-depth_no' : (b : Bool) (m : ℕ) → (b ≡ true → m ≤ 16) → 16 < cond b m 17 → b ≡ false
-depth_no' true m f h = absurd (omega (arith, f refl))
-depth_no' false m f h = refl
-
-depth_yes' : (b : Bool) (m : ℕ) → cond b m 17 ≤ 16 → (b ≡ true) × (cond b m 17 ≡ m)
-depth_yes' true m h = (refl, refl)
-depth_yes' false m h = absurd (omega arith)
-
-module _ (ps : List ℕ) (e : Entry) (d : ℕ) where
-  pub depth_no : d ≤ 16 → 16 < depth_after ps e d → ok_entry ps e d ≡ false
-  depth_no l h = depth_no' (ok_entry ps e d) (new_depth e d) (λ q. new_small ps d e q l) h
-
-  pub depth_yes : depth_after ps e d ≤ 16 → (ok_entry ps e d ≡ true) × (depth_after ps e d ≡ new_depth e d)
-  depth_yes h = depth_yes' (ok_entry ps e d) (new_depth e d) h
 
 -- ---- no mark is past the fields so far
 
@@ -134,26 +124,108 @@ module _ (ps s : List ℕ) (p n d : ℕ) (a : List ℕ) where
   pub below_more : (e : Entry) → ok_entry ps e d ≡ true → d < length a → ((j : ℕ) → j < d → get_or a j 0 ≤ n) → (j : ℕ) → j < new_depth e d → get_or (set a d n) j 0 ≤ n + 1
   below_more e o l f j h = below_set n d a (eqb d j) j refl l (omega (arith, new_next ps d e o)) (f j)
 
-  -- ---- the walk
-
-  pub walk_more : n < length s → p < length s → ok_entry ps (field_at s p) d ≡ true → d < length a
-      → walk_from (length s - (n + 1)) ps s (next_at s p) (n + 1) (down (new_depth (field_at s p) d) (set a d n)) ≡ walk_from (length s - n) ps s p n (down d a)
-  unfolding walk_from
-  walk_more h l o k =
-      let z : length s - n ≡ suc (length s - (n + 1)) = omega arith in
-      rw (z, lt-ltb p (length s) l, down_length d a, o, mark_down ps d (field_at s p) n a o k)
-
-  pub walk_stop : n < length s → p < length s → ok_entry ps (field_at s p) d ≡ false → walked p n (down d a) ≡ walk_from (length s - n) ps s p n (down d a)
-  unfolding walk_from
-  walk_stop h l o =
-      let z : length s - n ≡ suc (length s - (n + 1)) = omega arith in
-      rw (z, lt-ltb p (length s) l, down_length d a, o)
-
 pub walk_end : (f : ℕ) (ps s : List ℕ) (p n : ℕ) (ms : List ℕ) → length s ≤ p → walk_from f ps s p n ms ≡ walked p n ms
 unfolding walk_from
 walk_end zero ps s p n ms h = refl
 walk_end (suc f) ps s p n ms h = rw (le-ltb p (length s) h)
 
-pub walk_start : (ps s : List ℕ) → walk_from (length s - 0) ps s 0 0 [] ≡ walk_of ps s
+-- ---- states of a walk
+
+-- no state is beyond the bytes, and none has more fields or savepoints than its place and its marks have room for
+pub record Going (s : List ℕ) (r : State) : Type 0 where
+  pub early : 4 * r.count ≤ r.place
+  pub within : r.place ≤ length s
+  pub few : r.depth ≤ 16
+  pub room : length r.marks ≡ 17
+  pub below : MarksBelow r.depth r.marks r.count
+
+abbrev pub start : State
+start = record { place = 0; count = 0; depth = 0; marks = replicate 17 0 }
+
+pub going_start : (s : List ℕ) → Going s start
+going_start s = record { early = omega arith; within = omega arith; few = omega arith; room = refl; below = λ j h. absurd (omega arith) }
+
+-- the state behind the field at a state's place
+abbrev pub behind : List ℕ → State → State
+behind s r = passed r (entry_size (field_at s r.place)) (new_depth (field_at s r.place) r.depth)
+
+module _ (ps s : List ℕ) {r : State} (g : Going s r) where
+  pub going_more : ok_entry ps (field_at s r.place) r.depth ≡ true → Going s (behind s r)
+  going_more o =
+      let e = field_at s r.place in
+      record {
+        early = omega (arith, g.early, ok_size ps r.depth e o);
+        within = next_within s r.place g.within;
+        few = new_small ps r.depth e o g.few;
+        room = length-set r.marks r.depth r.count ∙ g.room;
+        below = below_more ps s r.place r.count r.depth r.marks e o (omega (arith, g.few, g.room)) g.below;
+      }
+
+  -- a field that is accepted is not behind the last byte
+  pub before_end : ok_entry ps (field_at s r.place) r.depth ≡ true → r.place < length s
+  before_end o = omega (arith, next_within s r.place g.within, ok_size ps r.depth (field_at s r.place) o)
+
+  pub nearer_end : ok_entry ps (field_at s r.place) r.depth ≡ true → length s - (behind s r).place < length s - r.place
+  nearer_end o = omega (arith, before_end o, ok_size ps r.depth (field_at s r.place) o)
+
+  pub fields_left : r.place < length s → length s - r.count ≡ suc (length s - (r.count + 1))
+  fields_left h = omega (arith, g.early)
+
+  -- ---- the walk
+
+  pub walk_more : ok_entry ps (field_at s r.place) r.depth ≡ true
+      → walk_from (length s - (r.count + 1)) ps s (next_at s r.place) (r.count + 1) (down (behind s r).depth (behind s r).marks) ≡ walk_from (length s - r.count) ps s r.place r.count (down r.depth r.marks)
+  unfolding walk_from
+  walk_more o =
+      rw (
+        fields_left (before_end o),
+        lt-ltb r.place (length s) (before_end o),
+        down_length r.depth r.marks,
+        o,
+        mark_down ps r.depth (field_at s r.place) r.count r.marks o (omega (arith, g.few, g.room)),
+      )
+
+  pub walk_stop : ok_entry ps (field_at s r.place) r.depth ≡ false → walked r.place r.count (down r.depth r.marks) ≡ walk_from (length s - r.count) ps s r.place r.count (down r.depth r.marks)
+  unfolding walk_from
+  walk_stop o = by (le_or_lt (length s) r.place)
+    where
+      by : (length s ≤ r.place) ⊎ (r.place < length s) → walked r.place r.count (down r.depth r.marks) ≡ walk_from (length s - r.count) ps s r.place r.count (down r.depth r.marks)
+      by (inl h) = sym (walk_end (length s - r.count) ps s r.place r.count (down r.depth r.marks) h)
+      by (inr h) = rw (fields_left h, lt-ltb r.place (length s) h, down_length r.depth r.marks, o)
+
+-- the walk goes on from a state
+pub record Walking (ps s : List ℕ) (r : State) : Type 0 where
+  pub going : Going s r
+  pub rest : walk_from (length s - r.count) ps s r.place r.count (down r.depth r.marks) ≡ walk_of ps s
+
+pub walking_start : (ps s : List ℕ) → Walking ps s start
 unfolding walk_of
-walk_start ps s = let z : length s - 0 ≡ length s = omega arith in rw z
+walking_start ps s = record { going = going_start s; rest = let z : length s - 0 ≡ length s = omega arith in rw z }
+
+module _ {ps s : List ℕ} {r : State} (w : Walking ps s r) where
+  pub walking_more : ok_entry ps (field_at s r.place) r.depth ≡ true → Walking ps s (behind s r)
+  walking_more o = record { going = going_more ps s w.going o; rest = walk_more ps s w.going o ∙ w.rest }
+
+  pub walking_stop : ok_entry ps (field_at s r.place) r.depth ≡ false → WalksTo ps s r
+  walking_stop o = record { found = walk_stop ps s w.going o ∙ w.rest; small = w.going.few; within = w.going.within; below = w.going.below }
+
+-- ---- what the code finds at a state's place
+
+cond_some : {A : Type 0} (b : Bool) (x y : A) → Some y ≡ cond b (Some x) None → (b ≡ true) × (y ≡ x)
+cond_some true x y e = (refl, cc)
+cond_some false x y e = cc
+
+pub record NextFound (ps s : List ℕ) (r : State) (entry : Entry) (depth : ℕ) : Type 0 where
+  pub accepted : ok_entry ps (field_at s r.place) r.depth ≡ true
+  pub field : entry ≡ field_at s r.place
+  pub left : depth ≡ new_depth (field_at s r.place) r.depth
+
+pub next_found : (ps s : List ℕ) (r : State) {entry : Entry} {depth : ℕ} → ◌≡◌ {A = Option (Entry × ℕ)} (Some (entry, depth)) (next_field ps s r) → NextFound ps s r entry depth
+next_found ps s r {entry} {depth} e =
+    let x = field_at s r.place in
+    let t = cond_some (ok_entry ps x r.depth) (x, new_depth x r.depth) (entry, depth) e in
+    record { accepted = t.0; field = ap (λ p. p.0) t.1; left = ap (λ p. p.1) t.1 }
+
+-- the state behind it, by its bytes
+pub stepped : {ps s : List ℕ} {r r' : State} {entry : Entry} {depth size : ℕ} → NextFound ps s r entry depth → size ≡ entry_size entry → r' ≡ passed r size depth → r' ≡ behind s r
+stepped n z q = q ∙ rw (z, n.field, n.left)

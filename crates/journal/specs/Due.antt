@@ -1,13 +1,9 @@
 -- R233, R550: when each reply of a call and of a replay is due: its own condition holds, and none earlier in the order 4, 5, 6, 7, 14, 17, 12, 15,
 -- 16, 11. And what is due to be left: the bytes used, the cells, the journal, a replay's open savepoints.
-use Rattle.std.specs.Prelude.{◌≡◌, List, ℕ, ◌+◌, ◌<◌, ◌≤◌, ℤ, pos, length, take, get_or}
+use Rattle.std.specs.Prelude.{◌≡◌, List, ℕ, ◌+◌, ◌<◌, ◌≤◌, ℤ, pos, length, take, get_or, Result, Ok, Err}
 use Rattle.rules.specs.declared.Rules.{Rules}
 use Rattle.reply.specs.declared.Refusal.{Refusal}
 use Rattle.reply.specs.declared.Refusal.TheVariants.{NoRoom, BadEntry}
-use Rattle.reply.specs.declared.Checked.{Checked}
-use Rattle.reply.specs.declared.Checked.TheVariants as C
-use Rattle.reply.specs.declared.Answer.{Answer}
-use Rattle.reply.specs.declared.Answer.TheVariants.{Done, Refused}
 use Rattle.count.specs.Due as Counts
 use Rattle.entry.specs.declared.Entry.{Entry}
 use Rattle.entry.specs.declared.Entry.TheVariants.{Set, Open, Release, Undo}
@@ -61,9 +57,9 @@ module _ (ρ : Rules) (ns j : List ℕ) (used cells : ℕ) where
     pub room : used + bytes_for c ≤ length j
     pub number : k ≡ number_for c (length last.marks)
 
-  abbrev pub Due : Call → Answer → Type 0
-  Due c (Done k) = CallDue c k
-  Due c (Refused r) = RefusedFor c r
+  abbrev pub Due : Call → Result ℕ Refusal → Type 0
+  Due c (Ok k) = CallDue c k
+  Due c (Err r) = RefusedFor c r
 
 -- ---- what a call leaves
 
@@ -83,9 +79,9 @@ module _ (ρ : Rules) where
     pub cells : k'.cells ≡ cells_behind ρ ns (take k.used k.journal) last.count last.marks (field_for ns (length last.marks) k.cells c) k.cells
 
   -- R518: a refused call leaves all as it was
-  abbrev pub LeftDue : List ℕ → Call → Kept → Answer → Kept → Type 0
-  LeftDue ns c k (Done n) k' = CallLeaves ns c k k'
-  LeftDue ns c k (Refused r) k' = k' ≡ k
+  abbrev pub LeftDue : List ℕ → Call → Kept → Result ℕ Refusal → Kept → Type 0
+  LeftDue ns c k (Ok n) k' = CallLeaves ns c k k'
+  LeftDue ns c k (Err r) k' = k' ≡ k
 
 -- ---- R540 to R542: a replay, which compares old values too
 
@@ -105,9 +101,9 @@ module _ (ρ : Rules) (ns j : List ℕ) (used : ℕ) (t : List ℤ) where
     pub last : Played
     pub fields : AllReplayed last
 
-  abbrev pub ReplayDue : Checked → Type 0
-  ReplayDue C.Right = ReplayDone
-  ReplayDue (C.Refused r) = ReplayRefusedFor r
+  abbrev pub ReplayDue : Result (Unit {0}) Refusal → Type 0
+  ReplayDue (Ok done) = ReplayDone
+  ReplayDue (Err r) = ReplayRefusedFor r
 
   -- the cells, and how many savepoints are open, behind the last field
   pub record ReplayLeaves (t' : List ℤ) (d : ℕ) : Type 0 where
@@ -116,6 +112,6 @@ module _ (ρ : Rules) (ns j : List ℕ) (used : ℕ) (t : List ℤ) where
     pub cells : t' ≡ last.cells
     pub opened : d ≡ length last.marks
 
-  abbrev pub ReplayLeftDue : Checked → List ℤ → ℕ → Type 0
-  ReplayLeftDue C.Right t' d = ReplayLeaves t' d
-  ReplayLeftDue (C.Refused r) t' d = (t' ≡ t) × (d ≡ 0)
+  abbrev pub ReplayLeftDue : Result (Unit {0}) Refusal → List ℤ → ℕ → Type 0
+  ReplayLeftDue (Ok done) t' d = ReplayLeaves t' d
+  ReplayLeftDue (Err r) t' d = (t' ≡ t) × (d ≡ 0)

@@ -1,14 +1,10 @@
 -- R510 to R518, what the calls mean: a plain stack of whole tables, the cells now and those at each opening. No journal occurs here but as the
 -- room that is left in it.
-use Rattle.std.specs.Prelude.{Bool, cond, ◌&&◌, List, [], ◌∷◌, ℕ, ◌+◌, ◌-◌, leb, ltb, eqb, ℤ, length, get_or, drop}
+use Rattle.std.specs.Prelude.{Bool, cond, ◌&&◌, List, [], ◌∷◌, ℕ, ◌+◌, ◌-◌, leb, ltb, eqb, ℤ, length, get_or, drop, Result, Ok, Err}
 use Rattle.rules.specs.declared.Rules.{Rules}
 use Rattle.count.specs.Check.{checked_of}
 use Rattle.reply.specs.declared.Refusal.{Refusal}
 use Rattle.reply.specs.declared.Refusal.TheVariants.{NoRoom, NoSuchNumber, NotOpen, AllOpen}
-use Rattle.reply.specs.declared.Checked.{Checked}
-use Rattle.reply.specs.declared.Checked.TheVariants as C
-use Rattle.reply.specs.declared.Answer.{Answer}
-use Rattle.reply.specs.declared.Answer.TheVariants.{Done, Refused}
 use Rattle.entry.specs.Field.{set_bytes, savepoint_bytes}
 use Rattle.journal.specs.Layout.{starts_of, spot_of, exists, put_at}
 
@@ -50,21 +46,21 @@ number_for (Releases k) d = 0
 number_for (Undoes k) d = 0
 
 -- R550: last of all, 11 where the field finds no room
-abbrev pub room_for : (size room number : ℕ) → Answer
-room_for size room number = cond (ltb room size) (Refused NoRoom) (Done number)
+abbrev pub room_for : (size room number : ℕ) → Result ℕ Refusal
+room_for size room number = cond (ltb room size) (Err NoRoom) (Ok number)
 
-abbrev pub decided : List ℕ → Call → (d room : ℕ) → Answer
-decided starts c d room = cond (accepts starts c d) (room_for (bytes_for c) room (number_for c d)) (Refused (refusal_of c))
+abbrev pub decided : List ℕ → Call → (d room : ℕ) → Result ℕ Refusal
+decided starts c d room = cond (accepts starts c d) (room_for (bytes_for c) room (number_for c d)) (Err (refusal_of c))
 
 -- first of all, what counts and table are refused with
-abbrev pub when_right : Checked → Answer → Answer
-when_right C.Right a = a
-when_right (C.Refused r) a = Refused r
+abbrev pub when_right : Result (Unit {0}) Refusal → Result ℕ Refusal → Result ℕ Refusal
+when_right (Ok done) a = a
+when_right (Err r) a = Err r
 
 -- what is left by a call that is done, and else what was (R518)
-abbrev pub by_answer : {A : Type 0} → Answer → A → A → A
-by_answer (Done n) new old = new
-by_answer (Refused r) new old = old
+abbrev pub by_answer : {A : Type 0} → Result ℕ Refusal → A → A → A
+by_answer (Ok n) new old = new
+by_answer (Err r) new old = old
 
 -- ---- the stack of whole tables: the cells now, those at each opening, innermost first; and the bytes left in the journal
 
@@ -90,14 +86,14 @@ abbrev pub on_stack : List ℕ → Call → Stack → Stack
 on_stack starts c s = on_tables starts c s (s.room - bytes_for c)
 
 module _ (ρ : Rules) (ns : List ℕ) where
-  abbrev pub model_answer : Call → Stack → Answer
+  abbrev pub model_answer : Call → Stack → Result ℕ Refusal
   model_answer c s = when_right (checked_of ρ ns (length s.cells)) (decided (starts_of ρ ns) c (length s.saved) s.room)
 
   abbrev pub model_step : Call → Stack → Stack
   model_step c s = by_answer (model_answer c s) (on_stack (starts_of ρ ns) c s) s
 
   -- any calls, one after the other: what is answered, and what is left
-  abbrev pub model_answers : List Call → Stack → List Answer
+  abbrev pub model_answers : List Call → Stack → List (Result ℕ Refusal)
   model_answers [] s = []
   model_answers (c ∷ cs) s = model_answer c s ∷ model_answers cs (model_step c s)
 

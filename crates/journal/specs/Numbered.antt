@@ -1,19 +1,17 @@
 -- R516, R540, R550: what the calls and a replay refuse with, in their order, their rows, and a call's reply.
-use Rattle.std.specs.Prelude.{List, [], ◌∷◌, ◌++◌}
+use Rattle.std.specs.Prelude.{ℕ, List, [], ◌∷◌, ◌++◌, Result, Ok, Err}
 use Rattle.reply.specs.declared.Reply.{Reply}
 use Rattle.reply.specs.declared.Refusal.{Refusal}
 use Rattle.reply.specs.declared.Refusal.TheVariants.{NoRoom, BadEntry}
-use Rattle.reply.specs.declared.Answer.{Answer}
-use Rattle.reply.specs.declared.Answer.TheVariants.{Done, Refused}
 use Rattle.reply.specs.Table.{Beside, told, Row, row, savepoint}
 use Rattle.reply.specs.Refusals.{refusal_reply, rows}
 use Rattle.count.specs.Numbered.{check_refusals}
 use Rattle.journal.specs.Model.{Call, Sets, Opens, Releases, Undoes, refusal_of}
 
 -- R516: 0 of an open has the savepoint's number
-abbrev pub edit_reply : Answer → Reply
-edit_reply (Done k) = told 0 ((savepoint, k) ∷ [])
-edit_reply (Refused r) = refusal_reply r
+abbrev pub edit_reply : Result ℕ Refusal → Reply
+edit_reply (Ok k) = told 0 ((savepoint, k) ∷ [])
+edit_reply (Err r) = refusal_reply r
 
 -- R540: 4, 5, 6, 7 and 14, and then 17
 abbrev pub replay_refusals : List Refusal

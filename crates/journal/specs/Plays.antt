@@ -1,9 +1,7 @@
 -- R540 to R543: replay over a table, field by field, with no stack of tables: an undo goes back over the bytes.
-use Rattle.std.specs.Prelude.{◌≡◌, Bool, true, false, cond, List, [], ℕ, zero, suc, ◌+◌, ◌≤◌, ltb, eqb, ℤ, pos, negsuc, length, take}
+use Rattle.std.specs.Prelude.{◌≡◌, Bool, true, false, cond, List, [], ℕ, zero, suc, ◌+◌, ◌≤◌, ltb, eqb, ℤ, pos, negsuc, length, take, Result, Ok, Err}
 use Rattle.rules.specs.declared.Rules.{Rules}
 use Rattle.count.specs.Check.{checked_of, and_then}
-use Rattle.reply.specs.declared.Checked.{Checked}
-use Rattle.reply.specs.declared.Checked.TheVariants.{Right, Refused}
 use Rattle.entry.specs.declared.Entry.{Entry}
 use Rattle.entry.specs.declared.Entry.TheVariants.{Set, Open, Release, Undo, Misformed}
 use Rattle.entry.specs.Field.{field_at}
@@ -12,6 +10,7 @@ use Rattle.journal.specs.Layout.{starts_of, spot_of, get_at, put_at}
 use Rattle.journal.specs.Entries.{mark_step, mark_of, next_at, back_to}
 use Rattle.journal.specs.Walks.{ok_entry, down}
 use Rattle.journal.specs.Calls.{whole}
+use Rattle.reply.specs.declared.Refusal.{Refusal}
 
 abbrev pub same_cell : ℤ → ℤ → Bool
 same_cell (pos m) (pos n) = eqb m n
@@ -58,23 +57,23 @@ play_of starts s t = play_from (length s) starts s 0 0 [] t
 
 -- ---- the question
 
-abbrev pub by_checked : {A : Type 0} → Checked → A → A → A
-by_checked Right new old = new
-by_checked (Refused r) new old = old
+abbrev pub by_checked : {A : Type 0} → Result (Unit {0}) Refusal → A → A → A
+by_checked (Ok done) new old = new
+by_checked (Err r) new old = old
 
 module _ (ρ : Rules) (ns j : List ℕ) (used : ℕ) where
   abbrev pub play_in : List ℤ → Played
   play_in t = play_of (starts_of ρ ns) (take used j) t
 
   -- R540: 4, 5, 6, 7, 14, and then 17
-  unfoldable pub replay_of : List ℤ → Checked
+  unfoldable pub replay_of : List ℤ → Result (Unit {0}) Refusal
   replay_of t = and_then (checked_of ρ ns (length t)) (whole (play_in t).place used)
 
   -- R542: the cells and the open savepoints behind a replay; a refused one leaves the cells as they were
-  abbrev pub replayed_cells : List ℤ → Checked → List ℤ
+  abbrev pub replayed_cells : List ℤ → Result (Unit {0}) Refusal → List ℤ
   replayed_cells t r = by_checked r (play_in t).cells t
 
-  abbrev pub replayed_open : List ℤ → Checked → ℕ
+  abbrev pub replayed_open : List ℤ → Result (Unit {0}) Refusal → ℕ
   replayed_open t r = by_checked r (length (play_in t).marks) 0
 
 -- ---- the same with the marks in an array

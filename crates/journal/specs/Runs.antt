@@ -1,12 +1,9 @@
 -- R500, R516: calls one after the other, on what the caller keeps: the cells, the journal's buffer and the bytes used. What is promised of them.
-use Rattle.std.specs.Prelude.{◌≡◌, List, [], ◌∷◌, ◌++◌, ℕ, ◌+◌, ◌≤◌, ℤ, pos, length, take, drop, get_or}
+use Rattle.std.specs.Prelude.{◌≡◌, List, [], ◌∷◌, ◌++◌, ℕ, ◌+◌, ◌≤◌, ℤ, pos, length, take, drop, get_or, Result, Ok, Err}
 use Rattle.std.specs.Int.{w64}
 use Rattle.std.proofs.Common.{SFits}
 use Rattle.rules.specs.declared.Rules.{Rules}
 use Rattle.reply.specs.declared.Refusal.{Refusal}
-use Rattle.reply.specs.declared.Answer.{Answer}
-use Rattle.reply.specs.declared.Answer.TheVariants.{Done, Refused}
-use Rattle.reply.specs.declared.Checked.TheVariants.{Right}
 use Rattle.entry.specs.declared.Entry.{Entry}
 use Rattle.entry.specs.Field.{entry_text}
 use Rattle.journal.specs.Layout.{starts_of}
@@ -55,13 +52,13 @@ pub record FirstBytes (k : Kept) (n : ℕ) (j : List ℕ) : Type 0 where
 
 module _ (ρ : Rules) (ns : List ℕ) where
   -- what a call answers, and what it leaves, by the definitions that the contracts cite
-  abbrev pub answer_to : Call → Kept → Answer
+  abbrev pub answer_to : Call → Kept → Result ℕ Refusal
   answer_to c k = answer_of ρ ns k.journal k.used (length k.cells) c
 
-  abbrev pub left_by : Call → Kept → Answer → Kept
+  abbrev pub left_by : Call → Kept → Result ℕ Refusal → Kept
   left_by c k a = kept (cells_after ρ ns k.journal k.used c k.cells a) (journal_by ρ ns k.journal k.used c k.cells a) (used_by k.used c a)
 
-  abbrev pub answers_to : List Call → Kept → List Answer
+  abbrev pub answers_to : List Call → Kept → List (Result ℕ Refusal)
   answers_to [] k = []
   answers_to (c ∷ cs) k = answer_to c k ∷ answers_to cs (left_by c k (answer_to c k))
 
@@ -78,8 +75,8 @@ module _ (ρ : Rules) (ns : List ℕ) where
   entry_to c k = entry_for (starts_of ρ ns) c (open_in k) k.cells
 
   pub record AddsField (c : Call) (k : Kept) : Type 0 where
-    pub done : (n : ℕ) → answer_to c k ≡ Done n → Adds k (entry_to c k) (left_by c k (Done n))
-    pub refused : (r : Refusal) → answer_to c k ≡ Refused r → left_by c k (Refused r) ≡ k
+    pub done : (n : ℕ) → answer_to c k ≡ Ok n → Adds k (entry_to c k) (left_by c k (Ok n))
+    pub refused : (r : Refusal) → answer_to c k ≡ Err r → left_by c k (Err r) ≡ k
 
   -- the entries of those calls that are accepted
   abbrev pub entries_to : List Call → Kept → List Entry
@@ -94,13 +91,13 @@ module _ (ρ : Rules) (ns : List ℕ) where
 
   -- R543: replayed over the table t, the bytes that k uses, where they stand in the buffer j, come to k's cells and open savepoints
   pub record ReplaysTo (t : List ℤ) (j : List ℕ) (k : Kept) : Type 0 where
-    pub answer : replay_of ρ ns j k.used t ≡ Right
-    pub cells : replayed_cells ρ ns j k.used t Right ≡ k.cells
-    pub opened : replayed_open ρ ns j k.used t Right ≡ open_in k
+    pub answer : replay_of ρ ns j k.used t ≡ Ok tt
+    pub cells : replayed_cells ρ ns j k.used t (Ok tt) ≡ k.cells
+    pub opened : replayed_open ρ ns j k.used t (Ok tt) ≡ open_in k
 
   -- what is kept behind a replay over t that gives 0
   abbrev pub behind_replay : List ℤ → Kept → Kept
-  behind_replay t k = kept (replayed_cells ρ ns k.journal k.used t Right) k.journal k.used
+  behind_replay t k = kept (replayed_cells ρ ns k.journal k.used t (Ok tt)) k.journal k.used
 
   -- R544: a buffer j that has the first n bytes of what calls made, and behind them anything. So many calls are whole in them, and no more; a
   -- replay gives 0 at the end of a field, and else 17 with the place of the field that was cut. The bytes before it are those that were used

@@ -1,5 +1,5 @@
 -- R530 to R532: a journal's fields one after the other: how far they are in order, how many they are, and the savepoints open there.
-use Rattle.std.specs.Prelude.{◌≡◌, Bool, false, cond, ◌&&◌, List, [], ◌∷◌, ℕ, zero, suc, ◌+◌, ◌-◌, ◌≤◌, ◌<◌, ltb, eqb, length, get_or}
+use Rattle.std.specs.Prelude.{◌≡◌, Bool, false, cond, ◌&&◌, List, [], ◌∷◌, ℕ, zero, suc, ◌+◌, ◌-◌, ◌≤◌, ◌<◌, ltb, eqb, length, get_or, set, Option, Some, None}
 use Rattle.entry.specs.declared.Entry.{Entry}
 use Rattle.entry.specs.declared.Entry.TheVariants.{Set, Open, Release, Undo, Misformed}
 use Rattle.entry.specs.Field.{field_at}
@@ -23,9 +23,9 @@ new_depth (Release k) d = d - 1
 new_depth (Undo k) d = k
 new_depth Misformed d = d
 
--- or 17, which are never open
-abbrev pub depth_after : List ℕ → Entry → ℕ → ℕ
-depth_after starts e d = cond (ok_entry starts e d) (new_depth e d) 17
+-- or none, where it is not accepted
+abbrev pub depth_after : List ℕ → Entry → ℕ → Option ℕ
+depth_after starts e d = cond (ok_entry starts e d) (Some (new_depth e d)) None
 
 pub record Walked : Type 0 where
   pub place : ℕ
@@ -53,6 +53,14 @@ walk_of starts s = walk_from (length s) starts s 0 0 []
 abbrev pub down : ℕ → List ℕ → List ℕ
 down zero a = []
 down (suc d) a = get_or a d 0 ∷ down d a
+
+-- the field at a state's place, and the savepoints open behind it; none where it is not accepted
+abbrev pub next_field : (starts s : List ℕ) → State → Option (Entry × ℕ)
+next_field starts s r = cond (ok_entry starts (field_at s r.place) r.depth) (Some (field_at s r.place, new_depth (field_at s r.place) r.depth)) None
+
+-- behind one field more, of so many bytes, and so many savepoints open there
+abbrev pub passed : State → (size depth : ℕ) → State
+passed r size depth = record { place = r.place + size; count = r.count + 1; depth = depth; marks = set r.marks r.depth r.count }
 
 -- no mark is past n fields
 abbrev pub MarksBelow : ℕ → List ℕ → ℕ → Type 0

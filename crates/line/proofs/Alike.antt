@@ -20,8 +20,7 @@ use Rattle.base.proofs.Taken.{drop_none, take_none, part_zero}
 use Rattle.line.specs.Alike.{SameLine, Alike, same_rest, same_line, AlikeFrom, line_end_by, ended_by, EitherWay, no_content, one_content}
 use Rattle.line.specs.Contents.{EndsInReturn, HasContent, content_of}
 use Rattle.line.specs.Lines.{feeds, reach, lines, behind, Whole, Plain}
-use Rattle.line.specs.declared.Content.{Content}
-use Rattle.line.specs.declared.Content.TheVariants.{Length, NoReturn}
+use Rattle.std.proofs.Common.{Option, Some, None}
 use Rattle.line.proofs.Contents.{content_is, is_content, content_one, content_line, none_is, is_none}
 use Rattle.line.proofs.Ends.{either_has}
 use Rattle.line.proofs.Feeds.{feeds_le, plain_nil, printable_plain}
@@ -60,18 +59,18 @@ module _ (ρ : Rules) where
   )
 
   -- whatever is made of a line's content alone is the same of both
-  pub same_line_told : {A : Type 0} (f : List ℕ → Content → A) (a b : List ℕ) → ((n : ℕ) → part 0 n a ≡ part 0 n b → f a (Length n) ≡ f b (Length n)) → f a NoReturn ≡ f b NoReturn → SameLine ρ a b
+  pub same_line_told : {A : Type 0} (f : List ℕ → Option ℕ → A) (a b : List ℕ) → ((n : ℕ) → part 0 n a ≡ part 0 n b → f a (Some n) ≡ f b (Some n)) → f a None ≡ f b None → SameLine ρ a b
       → f a (content_of ρ a) ≡ f b (content_of ρ b)
   same_line_told f a b long none h = by (content_of ρ a) refl
     where
-      by : (c : Content) → content_of ρ a ≡ c → f a c ≡ f b (content_of ρ b)
-      by (Length n) e =
+      by : (c : Option ℕ) → content_of ρ a ≡ c → f a c ≡ f b (content_of ρ b)
+      by (Some n) e =
           let p = is_content ρ a n e in
           let q = (h (take n a)).0 p.0 in
-          let m : content_of ρ b ≡ Length n = content_is ρ b (take n a) q ∙ ap Length p.1 in
+          let m : content_of ρ b ≡ Some n = content_is ρ b (take n a) q ∙ ap Some p.1 in
           let s : take n a ≡ take n b = content_one ρ b (take n a) (take n b) q (is_content ρ b n m).0 in
           long n (part_zero n a ∙ s ∙ sym (part_zero n b)) ∙ ap (f b) (sym m)
-      by NoReturn e = none ∙ ap (f b) (sym (is_none ρ b (λ c q. none_is ρ a c e ((h c).1 q))))
+      by None e = none ∙ ap (f b) (sym (is_none ρ b (λ c q. none_is ρ a c e ((h c).1 q))))
 
   -- ---- two texts
 

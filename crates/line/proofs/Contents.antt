@@ -15,14 +15,13 @@ use Rattle.rules.specs.declared.LineEnds.{LineEnds}
 use Rattle.rules.specs.declared.LineEnds.TheVariants.{Strict, Either}
 use Rattle.rules.specs.declared.Rules.{Rules}
 use Rattle.line.specs.Contents.{EndsInReturn, HasContent, returned, alone, is_return_feed, is_feed_alone, feed_alone, content_of}
-use Rattle.line.specs.declared.Content.{Content}
-use Rattle.line.specs.declared.Content.TheVariants.{Length, NoReturn}
+use Rattle.std.proofs.Common.{Option, Some, None}
 use Rattle.line.proofs.Feeds.{feeds_append, feeds_cut, plain_nil, plain_cons, plain_append}
 use Rattle.line.proofs.Reach.{length_lines}
 use Rattle.line.proofs.Whole.{whole_line, whole_lines}
 
 -- the content of a, carriage return, line feed is a, whatever the rules
-pub content_append : (ρ : Rules) (a : List ℕ) → content_of ρ (a ++ (13 ∷ 10 ∷ [])) ≡ Length (length a)
+pub content_append : (ρ : Rules) (a : List ℕ) → content_of ρ (a ++ (13 ∷ 10 ∷ [])) ≡ Some (length a)
 unfolding content_of
 content_append ρ a =
     let n : length (a ++ (13 ∷ 10 ∷ [])) - 2 ≡ length a = omega (arith, length-append a (13 ∷ 10 ∷ [])) in
@@ -73,7 +72,7 @@ is_return x a u e =
 
 module _ (ρ : Rules) where
   -- the content of a line is the one that it has
-  pub content_is : (x a : List ℕ) → HasContent ρ x a → content_of ρ x ≡ Length (length a)
+  pub content_is : (x a : List ℕ) → HasContent ρ x a → content_of ρ x ≡ Some (length a)
   unfolding content_of
   content_is x a (returned e) = rw e (content_append ρ a)
   content_is x a (alone k e n) = go (is_return_feed (drop (length x - 2) x)) refl
@@ -82,17 +81,17 @@ module _ (ρ : Rules) where
       m = omega (arith, ap length e, length-append a (10 ∷ []))
 
       go : (t : Bool) → is_return_feed (drop (length x - 2) x) ≡ t
-          → cond t (Length (length x - 2)) (cond (is_feed_alone (drop (length x - 1) x)) (feed_alone ρ.ends (length x - 1)) NoReturn) ≡ Length (length a)
+          → cond t (Some (length x - 2)) (cond (is_feed_alone (drop (length x - 1) x)) (feed_alone ρ.ends (length x - 1)) None) ≡ Some (length a)
       go true u = absurd (n (is_return x a u e))
       go false u = rw (m, k, e, drop-append_seam a (10 ∷ []))
 
   -- and a line with a content is it and the line's end
-  pub is_content : (x : List ℕ) (n : ℕ) → content_of ρ x ≡ Length n → HasContent ρ x (take n x) × (length (take n x) ≡ n)
+  pub is_content : (x : List ℕ) (n : ℕ) → content_of ρ x ≡ Some n → HasContent ρ x (take n x) × (length (take n x) ≡ n)
   unfolding content_of
   is_content x n e = go (is_return_feed (drop (length x - 2) x)) (is_feed_alone (drop (length x - 1) x)) ρ.ends refl refl refl e
     where
       go : (t f : Bool) (l : LineEnds) → is_return_feed (drop (length x - 2) x) ≡ t → is_feed_alone (drop (length x - 1) x) ≡ f → ρ.ends ≡ l
-          → cond t (Length (length x - 2)) (cond f (feed_alone l (length x - 1)) NoReturn) ≡ Length n → HasContent ρ x (take n x) × (length (take n x) ≡ n)
+          → cond t (Some (length x - 2)) (cond f (feed_alone l (length x - 1)) None) ≡ Some n → HasContent ρ x (take n x) × (length (take n x) ≡ n)
       go true f l u v w e =
           let m : length x - 2 ≡ n = cc in
           let d : drop n x ≡ 13 ∷ 10 ∷ [] = rw m at (return_feed (drop (length x - 2) x) u) in
@@ -110,13 +109,13 @@ module _ (ρ : Rules) where
   content_end x a (returned e) = let l = ap length e ∙ length-append a (13 ∷ 10 ∷ []) in (omega (arith, l), omega (arith, l))
   content_end x a (alone k e n) = let l = ap length e ∙ length-append a (10 ∷ []) in (omega (arith, l), omega (arith, l))
 
-  pub content_two : (x : List ℕ) (n : ℕ) → content_of ρ x ≡ Length n → (n < length x) × (length x ≤ n + 2)
+  pub content_two : (x : List ℕ) (n : ℕ) → content_of ρ x ≡ Some n → (n < length x) × (length x ≤ n + 2)
   content_two x n e =
       let h = is_content x n e in
       rw h.1 at (content_end x (take n x) h.0)
 
   -- two under the strict rule
-  pub content_strict : ρ.ends ≡ Strict → (x : List ℕ) (n : ℕ) → content_of ρ x ≡ Length n → length x ≡ n + 2
+  pub content_strict : ρ.ends ≡ Strict → (x : List ℕ) (n : ℕ) → content_of ρ x ≡ Some n → length x ≡ n + 2
   content_strict s x n e = by (is_content x n e).0
     where
       by : HasContent ρ x (take n x) → length x ≡ n + 2
@@ -124,19 +123,19 @@ module _ (ρ : Rules) where
       by (alone k f m) = let z : ◌≡◌ {A = ℕ} 0 1 = cc in absurd (omega arith)
 
   -- and under the other each line has a content
-  pub content_either : ρ.ends ≡ Either → (a : List ℕ) → content_of ρ (a ++ (10 ∷ [])) ≡ NoReturn → ⊥
+  pub content_either : ρ.ends ≡ Either → (a : List ℕ) → content_of ρ (a ++ (10 ∷ [])) ≡ None → ⊥
   unfolding content_of
   content_either k a e = go (is_return_feed (drop (length (a ++ (10 ∷ [])) - 2) (a ++ (10 ∷ [])))) e
     where
       m : length (a ++ (10 ∷ [])) - 1 ≡ length a
       m = omega (arith, length-append a (10 ∷ []))
 
-      f : cond (is_feed_alone (drop (length (a ++ (10 ∷ [])) - 1) (a ++ (10 ∷ [])))) (feed_alone ρ.ends (length (a ++ (10 ∷ [])) - 1)) NoReturn ≡ Length (length a)
+      f : cond (is_feed_alone (drop (length (a ++ (10 ∷ [])) - 1) (a ++ (10 ∷ [])))) (feed_alone ρ.ends (length (a ++ (10 ∷ [])) - 1)) None ≡ Some (length a)
       f = rw (m, k, drop-append_seam a (10 ∷ []))
 
       go : (t : Bool)
-          → cond t (Length (length (a ++ (10 ∷ [])) - 2))
-          (cond (is_feed_alone (drop (length (a ++ (10 ∷ [])) - 1) (a ++ (10 ∷ [])))) (feed_alone ρ.ends (length (a ++ (10 ∷ [])) - 1)) NoReturn) ≡ NoReturn → ⊥
+          → cond t (Some (length (a ++ (10 ∷ [])) - 2))
+          (cond (is_feed_alone (drop (length (a ++ (10 ∷ [])) - 1) (a ++ (10 ∷ [])))) (feed_alone ρ.ends (length (a ++ (10 ∷ [])) - 1)) None) ≡ None → ⊥
       go true e = let z : ◌≡◌ {A = ℕ} 0 1 = cc in absurd (omega arith)
       go false e = let g = sym f ∙ e in let z : ◌≡◌ {A = ℕ} 0 1 = cc in absurd (omega arith)
 
@@ -147,11 +146,11 @@ module _ (ρ : Rules) where
 
   pub content_one : (x a b : List ℕ) → HasContent ρ x a → HasContent ρ x b → a ≡ b
   content_one x a b p q =
-      let l : Length (length a) ≡ Length (length b) = sym (content_is x a p) ∙ content_is x b q in
+      let l : Some (length a) ≡ Some (length b) = sym (content_is x a p) ∙ content_is x b q in
       let m : length a ≡ length b = cc in
       sym (front x a p) ∙ ap (λ n. take n x) m ∙ front x b q
 
-  pub content_taken : (x a : List ℕ) (n : ℕ) → HasContent ρ x a → content_of ρ x ≡ Length n → take n x ≡ a
+  pub content_taken : (x a : List ℕ) (n : ℕ) → HasContent ρ x a → content_of ρ x ≡ Some n → take n x ≡ a
   content_taken x a n h e = content_one x (take n x) a (is_content x n e).0 h
 
 -- a line that is made of a content without line feeds is one line; the content of one line has no line feed
@@ -170,7 +169,7 @@ module _ (ρ : Rules) where
   content_plain x a u h = omega (arith, u.many, content_feeds x a h)
 
   -- the content of a text's first line has no line feed
-  pub first_plain : (xs : List ℕ) (n : ℕ) → content_of ρ (lines 1 xs) ≡ Length n → Plain (take n xs)
+  pub first_plain : (xs : List ℕ) (n : ℕ) → content_of ρ (lines 1 xs) ≡ Some n → Plain (take n xs)
   first_plain xs n e =
       let h = is_content ρ (lines 1 xs) n e in
       let a = take n (lines 1 xs) in
@@ -178,18 +177,18 @@ module _ (ρ : Rules) where
       subst Plain (take-take n (reach xs 1) xs (omega (arith, (content_two ρ (lines 1 xs) n e).0, length_lines xs 1))) (content_plain (lines 1 xs) a (whole_lines xs 1 f) h.0)
 
   -- no content
-  pub none_is : (x a : List ℕ) → content_of ρ x ≡ NoReturn → HasContent ρ x a → ⊥
+  pub none_is : (x a : List ℕ) → content_of ρ x ≡ None → HasContent ρ x a → ⊥
   none_is x a e h =
       let p = content_is ρ x a h in
       let z : ◌≡◌ {A = ℕ} 0 1 = cc in
       omega arith
 
-  pub is_none : (x : List ℕ) → ((a : List ℕ) → HasContent ρ x a → ⊥) → content_of ρ x ≡ NoReturn
+  pub is_none : (x : List ℕ) → ((a : List ℕ) → HasContent ρ x a → ⊥) → content_of ρ x ≡ None
   is_none x n = go (content_of ρ x) refl
     where
-      go : (c : Content) → content_of ρ x ≡ c → content_of ρ x ≡ NoReturn
-      go (Length m) e = absurd (n (take m x) (is_content ρ x m e).0)
-      go NoReturn e = e
+      go : (c : Option ℕ) → content_of ρ x ≡ c → content_of ρ x ≡ None
+      go (Some m) e = absurd (n (take m x) (is_content ρ x m e).0)
+      go None e = e
 
 -- ---- by places, as the code looks
 
@@ -217,18 +216,21 @@ not_returned x n = go (is_return_feed (drop (length x - 2) x)) refl
         absurd (n h p q)
 
 module _ (ρ : Rules) (x : List ℕ) where
-  pub content_empty : length x ≡ 0 → content_of ρ x ≡ NoReturn
+  pub content_empty : length x ≡ 0 → content_of ρ x ≡ None
   content_empty h = is_none ρ x (λ a e. omega (arith, (content_end ρ x a e).0))
 
   module _ (h : 1 ≤ length x) where
-    pub content_no_feed : (get_or x (length x - 1) 0 ≡ 10 → ⊥) → content_of ρ x ≡ NoReturn
+    pub content_no_feed : (get_or x (length x - 1) 0 ≡ 10 → ⊥) → content_of ρ x ≡ None
     unfolding content_of
     content_no_feed f = rw (not_returned x (λ l p q. f q), last_one x h, ne_eqb (get_or x (length x - 1) 0) 10 f)
 
-    pub content_found : 2 ≤ length x → get_or x (length x - 2) 0 ≡ 13 → get_or x (length x - 1) 0 ≡ 10 → content_of ρ x ≡ Length (length x - 2)
+    pub content_found : 2 ≤ length x → get_or x (length x - 2) 0 ≡ 13 → get_or x (length x - 1) 0 ≡ 10 → content_of ρ x ≡ Some (length x - 2)
     unfolding content_of
     content_found l p f = rw (last_two x l, eq-eqb (get_or x (length x - 2) 0) 13 p, eq-eqb (get_or x (length x - 1) 0) 10 f)
 
     pub content_alone : {e : LineEnds} → get_or x (length x - 1) 0 ≡ 10 → (2 ≤ length x → get_or x (length x - 2) 0 ≡ 13 → ⊥) → ρ.ends ≡ e → content_of ρ x ≡ feed_alone e (length x - 1)
     unfolding content_of
     content_alone f n e = rw (not_returned x (λ l p q. n l p), last_one x h, eq-eqb (get_or x (length x - 1) 0) 10 f, e)
+
+-- what `content_length` cites
+pub ruleset last_bytes = (content_empty, content_no_feed, content_found, content_alone)

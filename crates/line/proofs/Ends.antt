@@ -11,7 +11,7 @@ use Rattle.rules.specs.declared.LineEnds.TheVariants.{Strict, Either}
 use Rattle.rules.specs.declared.Rules.{Rules}
 use Rattle.line.specs.Contents.{EndsInReturn, HasContent, returned, alone, content_of}
 use Rattle.line.specs.Lines.{Whole}
-use Rattle.line.specs.declared.Content.TheVariants.{Length, NoReturn}
+use Rattle.std.proofs.Common.{Some, None}
 use Rattle.line.proofs.Contents.{same_front, content_is, is_content, is_none, content_either, last_one}
 use Rattle.line.proofs.Feeds.{feeds_le}
 use Rattle.line.proofs.Last.{whole_last}
@@ -23,11 +23,11 @@ module _ (ρ : Rules) (either : ρ.ends ≡ Either) where
   pub either_has : (a : List ℕ) → (EndsInReturn a → ⊥) → HasContent ρ (a ++ (10 ∷ [])) a × HasContent ρ (a ++ (13 ∷ 10 ∷ [])) a
   either_has a n = (alone either refl n, returned refl)
 
-  pub either_content : (a : List ℕ) → (EndsInReturn a → ⊥) → content_of ρ (a ++ (10 ∷ [])) ≡ Length (length a)
+  pub either_content : (a : List ℕ) → (EndsInReturn a → ⊥) → content_of ρ (a ++ (10 ∷ [])) ≡ Some (length a)
   either_content a n = content_is ρ (a ++ (10 ∷ [])) a (either_has a n).0
 
   -- no line is without a content
-  pub either_some : (x : List ℕ) → Whole 1 x → content_of ρ x ≡ NoReturn → ⊥
+  pub either_some : (x : List ℕ) → Whole 1 x → content_of ρ x ≡ None → ⊥
   either_some x u e =
       let n = length x - 1 in
       let l = last_one x (omega (arith, u.many, feeds_le x)) ∙ ap (λ b. b ∷ []) (whole_last x (omega arith) u) in
@@ -37,7 +37,7 @@ module _ (ρ : Rules) (either : ρ.ends ≡ Either) where
 -- ---- strict
 
 -- a line feed alone ends no line under the strict rule
-pub strict_none : (σ : Rules) → σ.ends ≡ Strict → (a : List ℕ) → (EndsInReturn a → ⊥) → content_of σ (a ++ (10 ∷ [])) ≡ NoReturn
+pub strict_none : (σ : Rules) → σ.ends ≡ Strict → (a : List ℕ) → (EndsInReturn a → ⊥) → content_of σ (a ++ (10 ∷ [])) ≡ None
 strict_none σ s a n = is_none σ (a ++ (10 ∷ [])) by
   where
     by : (c : List ℕ) → HasContent σ (a ++ (10 ∷ [])) c → ⊥
@@ -49,7 +49,7 @@ pub strict_has : (σ ρ : Rules) → σ.ends ≡ Strict → (x a : List ℕ) →
 strict_has σ ρ s x a (returned e) = returned e
 strict_has σ ρ s x a (alone k e n) = let z : ◌≡◌ {A = ℕ} 0 1 = cc in absurd (omega arith)
 
-pub strict_content : (σ ρ : Rules) → σ.ends ≡ Strict → (x : List ℕ) (n : ℕ) → content_of σ x ≡ Length n → content_of ρ x ≡ Length n
+pub strict_content : (σ ρ : Rules) → σ.ends ≡ Strict → (x : List ℕ) (n : ℕ) → content_of σ x ≡ Some n → content_of ρ x ≡ Some n
 strict_content σ ρ s x n e =
     let h = is_content σ x n e in
-    content_is ρ x (take n x) (strict_has σ ρ s x (take n x) h.0) ∙ ap Length h.1
+    content_is ρ x (take n x) (strict_has σ ρ s x (take n x) h.0) ∙ ap Some h.1

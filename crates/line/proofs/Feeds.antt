@@ -5,10 +5,10 @@ use mathlib.Core.Bool.{Bool, true, false, cond}
 use mathlib.Core.List.{List, [], ◌∷◌, ◌++◌, map}
 use Prim.Native.Nat.{ℕ, suc, ◌+◌, ◌-◌, ◌≤◌, ◌<◌}
 use native.Mathlib.Omega.{arith}
-use native.Mathlib.Nat.{zero-add, add-zero}
-use native.Mathlib.Numerals.{add-one}
-use lib.ListN.{length, take, drop, get_or, take-append-drop, drop_of_length-le}
+use native.Mathlib.Nat.{zero-add}
+use lib.ListN.{length, take, drop, get_or, take-append-drop}
 use lib.Seq.{drop-cons, drop-drop}
+use Rattle.std.proofs.lemmas.List.Sums.{sum_by-cons}
 use borrow.Author.Tests.{eq-eqb, ne_eqb}
 use lib.Dec.{T, leb, leb→le}
 use Rattle.base.specs.Ascii.{printable}
@@ -22,10 +22,18 @@ pub feeds_nil : feeds [] ≡ 0
 unfolding feeds
 feeds_nil = refl
 
+pub feeds_cons : (x : ℕ) (a : List ℕ) → feeds (x ∷ a) ≡ cond (is_feed x) (suc (feeds a)) (feeds a)
+unfolding feeds
+feeds_cons x a = sum_by-cons (λ y. cond (is_feed y) 1 0) x a ∙ one (is_feed x)
+  where
+    one : (c : Bool) → cond c 1 0 + feeds a ≡ cond c (suc (feeds a)) (feeds a)
+    one true = omega arith
+    one false = omega arith
+
 pub feeds_append : (a b : List ℕ) → feeds (a ++ b) ≡ feeds a + feeds b
 unfolding feeds
 feeds_append [] b = sym (zero-add (feeds b))
-feeds_append (x ∷ a) b = one (is_feed x) (feeds_append a b)
+feeds_append (x ∷ a) b = rw (feeds_cons x (a ++ b), feeds_cons x a) (one (is_feed x) (feeds_append a b))
   where
     one : (c : Bool) → feeds (a ++ b) ≡ feeds a + feeds b → cond c (suc (feeds (a ++ b))) (feeds (a ++ b)) ≡ cond c (suc (feeds a)) (feeds a) + feeds b
     one true e = omega arith
@@ -35,7 +43,7 @@ feeds_append (x ∷ a) b = one (is_feed x) (feeds_append a b)
 pub feeds_le : (a : List ℕ) → feeds a ≤ length a
 unfolding feeds
 feeds_le [] = omega arith
-feeds_le (x ∷ a) = one (is_feed x) (feeds_le a)
+feeds_le (x ∷ a) = rw (feeds_cons x a) (one (is_feed x) (feeds_le a))
   where
     one : (c : Bool) → feeds a ≤ length a → cond c (suc (feeds a)) (feeds a) ≤ suc (length a)
     one true h = omega arith
@@ -54,21 +62,11 @@ feeds_part s a e h =
 -- from a place on, by the byte there
 pub feeds_drop_feed : (s : List ℕ) (i : ℕ) → i < length s → get_or s i 0 ≡ 10 → feeds (drop i s) ≡ suc (feeds (drop (suc i) s))
 unfolding feeds
-feeds_drop_feed s i h e = rw (drop-cons s i 0 h, eq-eqb (get_or s i 0) 10 e)
+feeds_drop_feed s i h e = rw (drop-cons s i 0 h, feeds_cons (get_or s i 0) (drop (suc i) s), eq-eqb (get_or s i 0) 10 e)
 
 pub feeds_drop_other : (s : List ℕ) (i : ℕ) → i < length s → (get_or s i 0 ≡ 10 → ⊥) → feeds (drop i s) ≡ feeds (drop (suc i) s)
 unfolding feeds
-feeds_drop_other s i h n = rw (drop-cons s i 0 h, ne_eqb (get_or s i 0) 10 n)
-
--- the same as the code counts: what it has found, and what is left
-pub feeds_turn_feed : (s : List ℕ) (i n : ℕ) → i < length s → get_or s i 0 ≡ 10 → (n + 1) + feeds (drop (i + 1) s) ≡ n + feeds (drop i s)
-feeds_turn_feed s i n h e = rw (feeds_drop_feed s i h e, add-one i) (omega arith)
-
-pub feeds_turn_other : (s : List ℕ) (i n : ℕ) → i < length s → (get_or s i 0 ≡ 10 → ⊥) → n + feeds (drop (i + 1) s) ≡ n + feeds (drop i s)
-feeds_turn_other s i n h e = rw (feeds_drop_other s i h e, add-one i)
-
-pub feeds_turned : (s : List ℕ) (i n : ℕ) → length s ≤ i → n ≡ n + feeds (drop i s)
-feeds_turned s i n h = rw (drop_of_length-le s h, feeds_nil) (sym (add-zero n))
+feeds_drop_other s i h n = rw (drop-cons s i 0 h, feeds_cons (get_or s i 0) (drop (suc i) s), ne_eqb (get_or s i 0) 10 n)
 
 pub feeds_one : feeds (10 ∷ []) ≡ 1
 unfolding feeds
@@ -83,7 +81,7 @@ feeds_same (x ∷ s) [] e = let z : ◌≡◌ {A = ℕ} 0 1 = cc in absurd (omeg
 feeds_same (x ∷ s) (y ∷ t) e =
     let b : is_feed x ≡ is_feed y = cc in
     let r : map is_feed s ≡ map is_feed t = cc in
-    rw (b, feeds_same s t r)
+    rw (feeds_cons x s, feeds_cons y t, b, feeds_same s t r)
 
 -- ---- no line feed
 
@@ -93,7 +91,7 @@ plain_nil = feeds_nil
 
 pub plain_cons : (x : ℕ) (a : List ℕ) → (x ≡ 10 → ⊥) → Plain a → Plain (x ∷ a)
 unfolding Plain feeds
-plain_cons x a n p = rw (ne_eqb x 10 n) p
+plain_cons x a n p = rw (feeds_cons x a, ne_eqb x 10 n) p
 
 pub plain_append : (a b : List ℕ) → Plain a → Plain b → Plain (a ++ b)
 unfolding Plain

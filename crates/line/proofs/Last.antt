@@ -12,7 +12,7 @@ use lib.Seq.{get_or-take, get_or-drop, length-take-le, take-take}
 use borrow.Author.Tests.{eqb-true}
 use Rattle.base.proofs.Order.{le_or_lt}
 use Rattle.line.specs.Lines.{is_feed, feeds, reach, lines, behind, Whole, Plain}
-use Rattle.line.proofs.Feeds.{feeds_cut, plain_only_if}
+use Rattle.line.proofs.Feeds.{feeds_cons, feeds_cut, plain_only_if}
 use Rattle.line.proofs.Reach.{reach_zero, reach_le, reach_append, reach_least, feeds_behind, feeds_lines, length_lines}
 use Rattle.line.proofs.Whole.{reach_whole}
 
@@ -21,7 +21,7 @@ pub reach_last : (xs : List ℕ) (k : ℕ) → 0 < k → k ≤ feeds xs → get_
 unfolding feeds reach
 reach_last [] k p h = absurd (omega arith)
 reach_last (x ∷ xs) zero p h = absurd (omega arith)
-reach_last (x ∷ xs) (suc k) p h = byte (is_feed x) refl h (λ j q l. further j q l (reach_last xs j q l))
+reach_last (x ∷ xs) (suc k) p h = byte (is_feed x) refl (rw feeds_cons at h) (λ j q l. further j q l (reach_last xs j q l))
   where
     further : (j : ℕ) → 0 < j → j ≤ feeds xs → get_or xs (reach xs j - 1) 0 ≡ 10 → get_or (x ∷ xs) (suc (reach xs j) - 1) 0 ≡ 10
     further j q l r =

@@ -10,14 +10,15 @@ use native.Mathlib.Omega.{arith}
 use lib.Dec.{leb, eqb, eqb-suc-zero}
 use lib.ListN.{length, take, drop, get_or, length-drop}
 use lib.Seq.{get_or-take, get_or-drop, drop-drop, take_all, length-take-le}
-use borrow.Author.Tests.{le-leb, leb-true, eq-eqb, ne_eqb, eqb-true}
+use borrow.Author.Tests.{le-leb, lt-leb, leb-true, eq-eqb, ne_eqb, eqb-true}
 use Rattle.base.specs.Part.{part}
 use Rattle.base.proofs.Choice.{and_first, and_second, and_false, test_same}
 use Rattle.base.proofs.Order.{le_or_lt}
 use Rattle.line.specs.Lines.{is_feed, feeds, reach, behind, Whole}
 use Rattle.line.specs.Parts.{LineStart, text_start, behind_feed, AreLines, lies_within, begins_line, is_whole, are_lines}
+use Rattle.std.proofs.Common.{Option, Some, None, ◌⊎◌, inl, inr, nat_eq}
+use Rattle.std.specs.Option.{option_eq}
 use Rattle.line.specs.Places.{behind_at}
-use Rattle.line.specs.declared.Behind.TheVariants.{At, TooFew}
 use Rattle.line.proofs.Feeds.{feeds_le, feeds_cut, feeds_drop_feed}
 use Rattle.line.proofs.Last.{reach_last, whole_last, last_whole, feeds_reach}
 use Rattle.line.proofs.Places.{is_at, few_is, whole_at}
@@ -185,17 +186,17 @@ lines_there s at k j p h =
 -- ---- as the code asks: by the place behind the lines
 
 -- R7 by that place: a text is exactly k lines if its end is the place behind them
-whole_end : (a : List ℕ) (k : ℕ) → behind_at a 0 k ≡ At (length a) → Whole k a
+whole_end : (a : List ℕ) (k : ℕ) → behind_at a 0 k ≡ Some (length a) → Whole k a
 whole_end a k e = subst (Whole k) (take_all (length a - 0) a (omega arith)) (whole_at a 0 k (length a) e)
 
-end_whole : (a : List ℕ) (k : ℕ) → Whole k a → behind_at a 0 k ≡ At (length a)
+end_whole : (a : List ℕ) (k : ℕ) → Whole k a → behind_at a 0 k ≡ Some (length a)
 end_whole a k w = is_at a 0 k (length a) record { many = omega (arith, w.many); place = omega (arith, w.ends) }
 
-whole_told : (a : List ℕ) (k n : ℕ) → behind_at a 0 k ≡ At n → eqb n (length a) ≡ is_whole k a
+whole_told : (a : List ℕ) (k n : ℕ) → behind_at a 0 k ≡ Some n → eqb n (length a) ≡ is_whole k a
 whole_told a k n e = test_same (eqb n (length a)) (is_whole k a) whole found
   where
     whole : eqb n (length a) ≡ true → is_whole k a ≡ true
-    whole t = (is_whole_lem k a).1 (whole_end a k (e ∙ ap At (eqb-true n (length a) t)))
+    whole t = (is_whole_lem k a).1 (whole_end a k (e ∙ ap Some (eqb-true n (length a) t)))
 
     found : is_whole k a ≡ true → eqb n (length a) ≡ true
     found t =
@@ -203,25 +204,23 @@ whole_told a k n e = test_same (eqb n (length a)) (is_whole k a) whole found
         let g : n ≡ length a = cc in
         eq-eqb n (length a) g
 
-whole_few : (a : List ℕ) (k : ℕ) → behind_at a 0 k ≡ TooFew → is_whole k a ≡ false
+whole_few : (a : List ℕ) (k : ℕ) → behind_at a 0 k ≡ None → is_whole k a ≡ false
 whole_few a k e = rw (ne_eqb (feeds a) k (λ f. omega (arith, few_is a 0 k e)))
 
+whole_asked : (a : List ℕ) (k : ℕ) → is_whole k a ≡ option_eq nat_eq (behind_at a 0 k) (Some (length a))
+whole_asked a k = go (behind_at a 0 k) refl
+  where
+    go : (o : Option ℕ) → behind_at a 0 k ≡ o → is_whole k a ≡ option_eq nat_eq o (Some (length a))
+    go (Some n) e = sym (whole_told a k n e)
+    go None e = whole_few a k e
+
 module _ (s : List ℕ) (from to lines : ℕ) where
-  pub lines_no_part : lies_within s from to ≡ false → are_lines s from to lines ≡ false
-  unfolding are_lines
-  lines_no_part p = rw p
+  pub lines_no_part : (to < from) ⊎ (length s < to) → are_lines s from to lines ≡ false
+  unfolding are_lines lies_within
+  lines_no_part (inl h) = rw (lt-leb from to h)
+  lines_no_part (inr h) = rw (lt-leb to (length s) h, and_false (leb from to))
 
-  module _ (p : lies_within s from to ≡ true) where
-    pub lines_no_start : begins_line s from ≡ false → are_lines s from to lines ≡ false
-    unfolding are_lines
-    lines_no_start b = rw (p, b)
-
-    pub lines_few : behind_at (part from to s) 0 lines ≡ TooFew → are_lines s from to lines ≡ false
-    unfolding are_lines
-    lines_few e = rw (p, whole_few (part from to s) lines e, and_false (begins_line s from))
-
-    pub lines_told : (n : ℕ) → begins_line s from ≡ true → behind_at (part from to s) 0 lines ≡ At n → are_lines s from to lines ≡ eqb n (to - from)
-    unfolding are_lines
-    lines_told n b e =
-        let h = lies_within_lem s from to p in
-        rw (p, b, ← whole_told (part from to s) lines n e, part_long s from to h.0 h.1)
+  pub lines_asked : from ≤ to → to ≤ length s
+      → are_lines s from to lines ≡ (begins_line s from && option_eq nat_eq (behind_at (part from to s) 0 lines) (Some (length (part from to s))))
+  unfolding are_lines lies_within
+  lines_asked h l = rw (le-leb from to h, le-leb to (length s) l, whole_asked (part from to s) lines)

@@ -12,7 +12,7 @@ use lib.Seq.{drop-cons, drop-drop, length-take-le, take-append-le, drop-append-l
 use borrow.Author.Tests.{eq-eqb, ne_eqb}
 use Rattle.base.specs.Part.{part}
 use Rattle.line.specs.Lines.{is_feed, feeds, reach, lines, behind, Plain}
-use Rattle.line.proofs.Feeds.{feeds_append, feeds_le}
+use Rattle.line.proofs.Feeds.{feeds_cons, feeds_append, feeds_le}
 
 pub reach_zero : (a : List ℕ) → reach a 0 ≡ 0
 unfolding reach
@@ -57,7 +57,7 @@ pub reach_append : (a b : List ℕ) (k : ℕ) → k ≤ feeds a → reach (a ++ 
 unfolding feeds reach
 reach_append [] b k h = let z : k ≡ 0 = omega arith in rw z (reach_zero b)
 reach_append (x ∷ a) b zero h = refl
-reach_append (x ∷ a) b (suc k) h = ap suc (reach_append a b (cond (is_feed x) k (suc k)) (one (is_feed x) h))
+reach_append (x ∷ a) b (suc k) h = ap suc (reach_append a b (cond (is_feed x) k (suc k)) (one (is_feed x) (rw feeds_cons at h)))
   where
     one : (c : Bool) → suc k ≤ cond c (suc (feeds a)) (feeds a) → cond c k (suc k) ≤ feeds a
     one true l = omega arith
@@ -74,7 +74,7 @@ pub reach_all : (a : List ℕ) (k : ℕ) → feeds a < k → reach a k ≡ lengt
 unfolding feeds reach
 reach_all [] k h = refl
 reach_all (x ∷ a) zero h = absurd (omega arith)
-reach_all (x ∷ a) (suc k) h = ap suc (reach_all a (cond (is_feed x) k (suc k)) (one (is_feed x) h))
+reach_all (x ∷ a) (suc k) h = ap suc (reach_all a (cond (is_feed x) k (suc k)) (one (is_feed x) (rw feeds_cons at h)))
   where
     one : (c : Bool) → cond c (suc (feeds a)) (feeds a) < suc k → feeds a < cond c k (suc k)
     one true l = omega arith
@@ -85,7 +85,7 @@ pub feeds_behind : (xs : List ℕ) (k : ℕ) → k ≤ feeds xs → feeds (behin
 unfolding feeds reach
 feeds_behind [] k h = omega arith
 feeds_behind (x ∷ xs) zero h = omega arith
-feeds_behind (x ∷ xs) (suc k) h = one (is_feed x) h (feeds_behind xs (cond (is_feed x) k (suc k)))
+feeds_behind (x ∷ xs) (suc k) h = rw feeds_cons (one (is_feed x) (rw feeds_cons at h) (feeds_behind xs (cond (is_feed x) k (suc k))))
   where
     one : (c : Bool) → suc k ≤ cond c (suc (feeds xs)) (feeds xs) → (cond c k (suc k) ≤ feeds xs → feeds (behind (cond c k (suc k)) xs) + cond c k (suc k) ≡ feeds xs)
         → feeds (behind (cond c k (suc k)) xs) + suc k ≡ cond c (suc (feeds xs)) (feeds xs)
@@ -131,11 +131,11 @@ unfolding reach
 reach_drop_other s i k h n = rw (drop-cons s i 0 h, ne_eqb (get_or s i 0) 10 n)
 
 -- bytes in front that have fewer lines: what they have is passed
-reach_append_few : (a b : List ℕ) (k : ℕ) → feeds a < k → reach (a ++ b) k ≡ length a + reach b (k - feeds a)
+pub reach_append_few : (a b : List ℕ) (k : ℕ) → feeds a < k → reach (a ++ b) k ≡ length a + reach b (k - feeds a)
 unfolding feeds reach
 reach_append_few [] b k h = rw (sub-zero k) (sym (zero-add (reach b k)))
 reach_append_few (x ∷ a) b zero h = absurd (omega arith)
-reach_append_few (x ∷ a) b (suc k) h = one (is_feed x) h (reach_append_few a b (cond (is_feed x) k (suc k)))
+reach_append_few (x ∷ a) b (suc k) h = rw feeds_cons (one (is_feed x) (rw feeds_cons at h) (reach_append_few a b (cond (is_feed x) k (suc k))))
   where
     one : (c : Bool) → cond c (suc (feeds a)) (feeds a) < suc k
         → (feeds a < cond c k (suc k) → reach (a ++ b) (cond c k (suc k)) ≡ length a + reach b (cond c k (suc k) - feeds a))

@@ -9,7 +9,7 @@ use lib.ListN.{length, length-append, length-drop, take-append-drop}
 use lib.Seq.{take-append_seam, drop-append_seam}
 use Rattle.base.proofs.Mapped.{map_length}
 use Rattle.line.specs.Lines.{is_feed, feeds, reach, lines, behind, Whole, Plain}
-use Rattle.line.proofs.Feeds.{feeds_append, feeds_one, feeds_same}
+use Rattle.line.proofs.Feeds.{feeds_cons, feeds_append, feeds_one, feeds_same}
 use Rattle.line.proofs.Reach.{reach_append, reach_add, reach_same, feeds_lines, feeds_behind, length_lines}
 
 pub whole_nil : Whole 0 []
@@ -20,7 +20,7 @@ whole_nil = record { many = refl; ends = refl }
 reach_line : (a : List ℕ) → feeds a ≡ 0 → reach (a ++ (10 ∷ [])) 1 ≡ suc (length a)
 unfolding feeds reach
 reach_line [] h = refl
-reach_line (x ∷ a) h = one (is_feed x) h (reach_line a)
+reach_line (x ∷ a) h = one (is_feed x) (rw feeds_cons at h) (reach_line a)
   where
     one : (c : Bool) → cond c (suc (feeds a)) (feeds a) ≡ 0 → (feeds a ≡ 0 → reach (a ++ (10 ∷ [])) 1 ≡ suc (length a)) → suc (reach (a ++ (10 ∷ [])) (cond c 0 1)) ≡ suc (suc (length a))
     one true e r = absurd (omega arith)

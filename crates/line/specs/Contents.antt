@@ -2,12 +2,10 @@
 -- R5, R9: the line end is a line feed (10) and the carriage return (13) directly before it, and only that one: an earlier one is part of the
 -- content. A line without that carriage return has no content under the strict rule; under the other it has all that stands before its line feed.
 -- What doesn't end in a line feed has none.
-use Rattle.std.specs.Prelude.{◌≡◌, Bool, false, cond, ◌&&◌, List, [], ◌∷◌, ◌++◌, ℕ, ◌-◌, eqb, length, drop}
+use Rattle.std.specs.Prelude.{◌≡◌, Bool, false, cond, ◌&&◌, List, [], ◌∷◌, ◌++◌, ℕ, ◌-◌, eqb, length, drop, Option, Some, None}
 use Rattle.rules.specs.declared.LineEnds.{LineEnds}
 use Rattle.rules.specs.declared.LineEnds.TheVariants.{Strict, Either}
 use Rattle.rules.specs.declared.Rules.{Rules}
-use Rattle.line.specs.declared.Content.{Content}
-use Rattle.line.specs.declared.Content.TheVariants.{Length, NoReturn}
 
 -- a ends in a carriage return
 pub record EndsInReturn (a : List ℕ) : Type 0 where
@@ -36,13 +34,13 @@ is_feed_alone (f ∷ []) = eqb f 10
 is_feed_alone (f ∷ x ∷ xs) = false
 
 -- R9: the content of n bytes and a line feed that has no carriage return before it
-abbrev pub feed_alone : LineEnds → ℕ → Content
-feed_alone Strict n = NoReturn
-feed_alone Either n = Length n
+abbrev pub feed_alone : LineEnds → ℕ → Option ℕ
+feed_alone Strict n = None
+feed_alone Either n = Some n
 
 -- how many bytes of x are its content: all but the last two, if these are a carriage return and a line feed; else, if the rule allows that, all
 -- but a last line feed
-unfoldable pub content_of : Rules → List ℕ → Content
+unfoldable pub content_of : Rules → List ℕ → Option ℕ
 content_of ρ x =
-    cond (is_return_feed (drop (length x - 2) x)) (Length (length x - 2))
-    (cond (is_feed_alone (drop (length x - 1) x)) (feed_alone ρ.ends (length x - 1)) NoReturn)
+    cond (is_return_feed (drop (length x - 2) x)) (Some (length x - 2))
+    (cond (is_feed_alone (drop (length x - 1) x)) (feed_alone ρ.ends (length x - 1)) None)

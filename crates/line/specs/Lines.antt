@@ -1,13 +1,12 @@
 -- R2, R3: a line ends with its line feed (10), and bytes behind the last line feed are no line.
-use Rattle.std.specs.Prelude.{◌≡◌, Bool, cond, List, [], ◌∷◌, ℕ, zero, suc, eqb, length, take, drop}
+use Rattle.std.specs.Prelude.{◌≡◌, Bool, cond, List, [], ◌∷◌, ℕ, zero, suc, count_by, eqb, length, take, drop}
 
 abbrev pub is_feed : ℕ → Bool
 is_feed x = eqb x 10
 
 -- the number of line feeds
 unfoldable pub feeds : List ℕ → ℕ
-feeds [] = zero
-feeds (x ∷ xs) = cond (is_feed x) (suc (feeds xs)) (feeds xs)
+feeds xs = count_by is_feed xs
 
 -- how far k lines reach, in bytes: through the k-th line feed, or to the end if there are fewer
 unfoldable pub reach : List ℕ → ℕ → ℕ

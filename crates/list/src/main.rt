@@ -7,11 +7,11 @@ ghost use Rattle.std.specs.Io.KnownBytes.{Appends};
 ghost use Rattle.listing.specs.Listing.{printed_listing};
 ghost use Rattle.words.specs.Written.{AppendsFront};
 
-use decimal::Put;
 use std::io;
 use std::io::Write;
 
 // Prints what the program prints for a text. An error is that of writing, and a front part was printed.
+#[tactic(auto, using(std::proofs::lemmas::Grind::common_steps, listing::proofs::Bound::printed_within, words::proofs::Fronts::front_over), unfolding(decimal::specs::Writing::put_answer, decimal::specs::Writing::put_bytes))]
 fn print_listing<W: Write>(out: &mut W, rules: rules::Rules, text: &[u8]) -> io::Result<()>
     ensures listed { OnOk result (Appends (W.contents out.old) (W.contents out.new) (printed_listing rules text.now)) }
     ensures front { OnErr result (AppendsFront (W.contents out.old) (W.contents out.new)
@@ -19,20 +19,16 @@ fn print_listing<W: Write>(out: &mut W, rules: rules::Rules, text: &[u8]) -> io:
 {
     let mut page = [0u8; 8192];
     // R347: what is printed is shorter than 8,192 bytes
-    let Put::Next(end) = listing::print(rules, text, &mut page) else {
-        unreachable!();
-    };
-    words::put_all(out, &page[0..end])
+    let end = listing::print(rules, text, &mut page).unwrap();
+    words::put_all(out, &page[..end])
 }
 
 fn main(rt: HostRuntime) -> io::Result<()> {
-    let asked = words::given(&rt, &mut rt.stderr(), b"list")?;
-    if !asked.known {
+    let Some(asked) = words::given(&rt, &mut rt.stderr(), b"list")? else {
         return Ok(());
-    }
+    };
     let rules = rules::choose(asked.strict, asked.entries);
     let mut space = [0u8; 65537];
     let n = words::filled(&mut rt.stdin(), &mut space)?;
-    let text = &space[0..n];
-    print_listing(&mut rt.stdout(), rules, text)
+    print_listing(&mut rt.stdout(), rules, &space[..n])
 }

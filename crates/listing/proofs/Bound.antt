@@ -2,6 +2,7 @@
 -- bytes. Its row has at most 30 bytes: 3 digits for the number, 5 for each place, 1 for the reply, 2 for the blamed group, 2 for the
 -- groups with a count, 5 for the lines, and a byte behind each. The end row has at most 19.
 -- Assumes nothing.
+use Rattle.std.specs.Prelude.{Option, Some, None}
 use mathlib.Core.Path.{◌≡◌, refl, ◌∙◌, ap}
 use mathlib.Core.List.{List, [], ◌∷◌, ◌++◌}
 use mathlib.Core.Logic.{⊎_elim}
@@ -17,15 +18,12 @@ use Rattle.base.proofs.Order.{le_or_lt}
 use Rattle.line.proofs.Feeds.{feeds_le}
 use Rattle.count.specs.Tally.{record_lines}
 use Rattle.count.specs.Rules.{ruling_of}
-use Rattle.count.specs.declared.Ruling.{Ruling}
-use Rattle.count.specs.declared.Ruling.TheVariants.{Kept, Broken}
 use Rattle.decimal.specs.Numerals
 use Rattle.decimal.specs.Numerals.{numeral}
 use Rattle.decimal.specs.Rows
 use Rattle.decimal.specs.Rows.{row_text, row_size}
 use Rattle.decimal.specs.Writing
 use Rattle.decimal.specs.Writing.{put_answer, Puts}
-use Rattle.decimal.specs.declared.Put.TheVariants.{Next, NoRoom}
 use Rattle.decimal.proofs.Lengths.{length_within}
 use Rattle.decimal.proofs.Rows.{row_size_lem}
 use Rattle.decimal.proofs.Writing.{end_done, none_means}
@@ -60,9 +58,9 @@ pub record Small (p : Placing) : Type 0 where
   pub reply : reply_of p ≤ 7
   pub group : group_of p ≤ 79
 
-ruled_small : (n : ℕ) (r : Ruling) → ((g : ℕ) → r ≡ Broken g → g ≤ 60) → Small (ruled_at n r)
-ruled_small n Kept h = record { reply = omega arith; group = omega arith }
-ruled_small n (Broken g) h = record { reply = omega arith; group = omega (arith, h g refl) }
+ruled_small : (n : ℕ) (r : Option ℕ) → ((g : ℕ) → r ≡ Some g → g ≤ 60) → Small (ruled_at n r)
+ruled_small n None h = record { reply = omega arith; group = omega arith }
+ruled_small n (Some g) h = record { reply = omega arith; group = omega (arith, h g refl) }
 
 refused_small : (ρ : Rules) (s : List ℕ) (at : ℕ) (r : Refusal) → RefusedFor ρ s at r → Small (Refused r)
 refused_small ρ s at r (beyond d) = record { reply = omega arith; group = omega arith }
@@ -103,9 +101,9 @@ located_lines ρ s at n ns e =
 pub record_within : (ρ : Rules) (s : List ℕ) (at : ℕ) → IsRecord ρ s at → Within ρ s at
 record_within ρ s at r = record { next = next r.next r.ns r.is; lines = lines r.next r.ns r.is }
   where
-    ruled : (n : ℕ) (u : Ruling) → n ≤ length s → next_of (ruled_at n u) ≤ length s
-    ruled n Kept h = h
-    ruled n (Broken g) h = h
+    ruled : (n : ℕ) (u : Option ℕ) → n ≤ length s → next_of (ruled_at n u) ≤ length s
+    ruled n None h = h
+    ruled n (Some g) h = h
 
     next : (n : ℕ) (ns : List ℕ) → locate ρ s at ≡ located n ns → next_of (placing_of ρ s at) ≤ length s
     next n ns e = rw (placing_is ρ s at n ns e) (ruled n (ruling_of ns) (located_range ρ s at n ns e))
@@ -178,9 +176,9 @@ printed_within ρ s =
     (le_or_lt (length s) 65536)
 
 -- so the program's 8,192 bytes have room for whatever it is given
-pub print_has_room : (ρ : Rules) (s out : List ℕ) → length out ≡ 8192 → put_answer 0 (printed_listing ρ s) out ≡ Next (length (printed_listing ρ s))
+pub print_has_room : (ρ : Rules) (s out : List ℕ) → length out ≡ 8192 → put_answer 0 (printed_listing ρ s) out ≡ Some (length (printed_listing ρ s))
 unfolding Writing.put_answer
-print_has_room ρ s out h = end_done 0 (length (printed_listing ρ s)) (length out) (omega (arith, printed_within ρ s)) ∙ ap Next (zero-add (length (printed_listing ρ s)))
+print_has_room ρ s out h = end_done 0 (length (printed_listing ρ s)) (length out) (omega (arith, printed_within ρ s)) ∙ ap Some (zero-add (length (printed_listing ρ s)))
 
-pub print_no_refusal : (ρ : Rules) (s out new : List ℕ) → length out ≡ 8192 → Puts 0 (printed_listing ρ s) out NoRoom new → ⊥
+pub print_no_refusal : (ρ : Rules) (s out new : List ℕ) → length out ≡ 8192 → Puts 0 (printed_listing ρ s) out None new → ⊥
 print_no_refusal ρ s out new h p = omega (arith, (none_means 0 (printed_listing ρ s) out new p).0, printed_within ρ s)

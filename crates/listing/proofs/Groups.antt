@@ -1,46 +1,51 @@
 -- The groups with a nonzero count, group by group, and how many they may be; and how large the groups are that replies name.
 -- Assumes nothing.
-use mathlib.Core.Path.{◌≡◌, refl}
-use mathlib.Core.Bool.{Bool, true, false, cond}
+use Rattle.std.specs.Prelude.{Some}
+use mathlib.Core.Path.{◌≡◌, refl, sym, ap}
+use mathlib.Core.Bool.{Bool, true, false, cond, not}
+use mathlib.Core.Logic.{⊎_elim}
+use Rattle.std.specs.List.{count_by}
+use Rattle.std.proofs.lemmas.List.Sums.{sum_by-cons}
+use Rattle.base.proofs.Order.{le_or_lt}
+use Rattle.base.proofs.Taken.{take_none}
 use mathlib.Core.List.{List, [], ◌∷◌, map}
-use Prim.Native.Nat.{ℕ, suc, ◌+◌, ◌-◌, ◌<◌, ◌≤◌}
+use Prim.Native.Nat.{ℕ, zero, suc, ◌+◌, ◌<◌, ◌≤◌}
 use native.Mathlib.Omega.{arith}
-use native.Mathlib.Nat.{add-zero}
-use lib.ListN.{length}
+use lib.ListN.{length, take, drop, get_or, drop_of_length-le, get_or-eq_default}
+use lib.Seq.{drop-cons, take-nil}
 use lib.Dec.{eqb}
-use borrow.Author.Tests.{eq-eqb, ne_eqb}
+use Rattle.base.specs.Every
 use Rattle.base.specs.Every.{up_from}
 use Rattle.base.specs.Sum
 use Rattle.base.specs.Sum.{sum}
-use Rattle.base.proofs.UpFrom.{length_up, up_more, up_done}
+use Rattle.base.proofs.UpFrom.{length_up}
 use Rattle.count.specs.Tally.{count_of}
 use Rattle.count.specs.Rules.{ruling_of}
-use Rattle.count.specs.declared.Ruling.TheVariants.{Broken}
 use Rattle.count.proofs.Rulings.{ruling_broken, broken_group}
 use Rattle.listing.specs.Rows.{filled, filled_groups}
 
 module _ (ns : List ℕ) where
-  -- the groups from g on
-  abbrev pub filled_from : ℕ → ℕ
-  filled_from g = sum (map (filled ns) (up_from g (61 - g)))
+  -- by the counts themselves: of those from place k on, so many are not 0
+  told : (b : Bool) → ◌≡◌ {A = ℕ} (cond b 0 1) (cond (not b) 1 0)
+  told true = refl
+  told false = refl
 
-  pub filled_all : filled_from 1 ≡ filled_groups ns
+  filled_from : (k many : ℕ) → sum (map (filled ns) (up_from (suc k) many)) ≡ count_by (λ n. not (eqb n 0)) (take many (drop k ns))
+  unfolding Sum.sum Every.up_from
+  filled_from k zero = ap (count_by (λ n. not (eqb n 0))) (sym (take_none (drop k ns)))
+  filled_from k (suc many) =
+      let rest = filled_from (suc k) many in
+      let n = get_or ns k 0 in
+      ⊎_elim
+      (λ (h : length ns ≤ k).
+      rw (rest, drop_of_length-le ns {i = k} h, get_or-eq_default ns 0 {n = k} h, drop_of_length-le ns {i = suc k} (omega arith), take-nil {A = ℕ} many) refl)
+      (λ (h : k < length ns).
+      rw (rest, drop-cons ns k 0 h, sum_by-cons (λ m. cond (not (eqb m 0)) 1 0) n (take many (drop (suc k) ns)), told (eqb n 0)) refl)
+      (le_or_lt (length ns) k)
+
+  pub filled_count : count_by (λ n. not (eqb n 0)) (take 60 ns) ≡ filled_groups ns
   unfolding filled_groups
-  filled_all = refl
-
-  filled_step : (g : ℕ) → g ≤ 60 → filled_from g ≡ filled ns g + filled_from (g + 1)
-  unfolding Sum.sum
-  filled_step g h = rw (up_more g 60 h)
-
-  pub filled_more : (g many : ℕ) → g ≤ 60 → (count_of ns g ≡ 0 → ⊥) → many + filled_from g ≡ many + 1 + filled_from (g + 1)
-  filled_more g many h n = let e : filled ns g ≡ 1 = rw (ne_eqb (count_of ns g) 0 n) in omega (arith, filled_step g h)
-
-  pub filled_passed : (g many : ℕ) → g ≤ 60 → count_of ns g ≡ 0 → many + filled_from g ≡ many + filled_from (g + 1)
-  filled_passed g many h n = let e : filled ns g ≡ 0 = rw (eq-eqb (count_of ns g) 0 n) in omega (arith, filled_step g h)
-
-  pub filled_done : (g many : ℕ) → 60 < g → many + filled_from g ≡ many
-  unfolding Sum.sum
-  filled_done g many h = rw (up_done g 60 h) (add-zero many)
+  filled_count = sym (filled_from 0 60)
 
   -- no more than there are groups
   among : (gs : List ℕ) → sum (map (filled ns) gs) ≤ length gs
@@ -58,5 +63,5 @@ module _ (ns : List ℕ) where
 
 -- ---- the group that reply 7 blames is at most 60
 
-pub blamed_within : (ns : List ℕ) (g : ℕ) → ruling_of ns ≡ Broken g → g ≤ 60
+pub blamed_within : (ns : List ℕ) (g : ℕ) → ruling_of ns ≡ Some g → g ≤ 60
 blamed_within ns g e = (broken_group ns (ruling_broken ns e)).1

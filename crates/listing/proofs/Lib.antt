@@ -1,9 +1,7 @@
 -- The laws of the listing: groups with a count and the groups that replies name (Groups), the lines from a record on (Lines),
--- a turn of the walks that list (Turns), the answer's reply (Replies), how long a listing is (Bound), and that of S
--- twice (TwiceS).
+-- the answer's reply (Replies), how long a listing is (Bound), and that of S twice (TwiceS).
 pub mod Groups
 pub mod Lines
-pub mod Turns
 pub mod Replies
 pub mod Bound
 pub mod TwiceS

@@ -1,6 +1,7 @@
 -- The listing as due: there is one listing of a text, and it is the one that is given; 0 comes with its bytes, and 11 exactly if there are
 -- fewer bytes than that; what is lent afterwards; and each answer fills a row of the question's table.
 -- Assumes nothing.
+use Rattle.std.specs.Prelude.{Result, Ok, Err}
 use mathlib.Core.Path.{◌≡◌, refl, sym, ◌∙◌, ap, subst}
 use mathlib.Core.Bool.{Bool, true, false, cond}
 use mathlib.Core.List.{List, [], ◌∷◌, ◌++◌, map, flat_map}
@@ -15,16 +16,11 @@ use lib.Seq.{take_at, drop_at, ext_get_or}
 use Rattle.rules.specs.declared.Rules.{Rules}
 use Rattle.reply.specs.declared.Refusal.{Refusal}
 use Rattle.reply.specs.declared.Refusal.TheVariants.{NoRoom}
-use Rattle.reply.specs.declared.Answer.{Answer}
-use Rattle.reply.specs.declared.Answer.TheVariants.{Done, Refused}
 use Rattle.reply.specs.Table.{Numbered, bytes as textBytes}
 use Rattle.reply.specs.Refusals.{answer_reply}
 use Rattle.reply.proofs.Replies.{fills, refusal_fills}
 use Rattle.decimal.specs.Writing
 use Rattle.decimal.specs.Writing.{put_bytes, Puts}
-use Rattle.decimal.specs.declared.Put.{Put}
-use Rattle.decimal.specs.declared.Put.TheVariants as P
-use Rattle.decimal.proofs.Writing.{next_means, none_means}
 use Rattle.place.proofs.Walked.{stops_some}
 use Rattle.base.specs.Part.{over}
 use Rattle.base.specs.Every
@@ -51,7 +47,7 @@ some_line ρ s =
 pub listed_numbered : (ρ : Rules) (s : List ℕ) (room : ℕ) → Numbered listing_rows (answer_reply (listed_in (listing ρ s) room))
 listed_numbered ρ s room = by (leb (length (listing ρ s)) room)
   where
-    by : (t : Bool) → Numbered listing_rows (answer_reply (cond t (Done (length (listing ρ s))) (Refused NoRoom)))
+    by : (t : Bool) → Numbered listing_rows (answer_reply (cond t (Ok (length (listing ρ s))) (Err NoRoom)))
     by true = inl (fills 0 ((textBytes, length (listing ρ s)) ∷ []) (some_line ρ s, tt))
     by false = inr (inl (refusal_fills NoRoom tt))
 
@@ -120,41 +116,29 @@ is_listing ρ s x h =
 -- ---- which answer
 
 module _ (x : List ℕ) (room : ℕ) where
-  due_given : (r : Answer) → ListingDue x room r → listed_in x room ≡ r
-  due_given (Done n) d = rw (le-leb (length x) room d.1) (ap Done (sym d.0))
-  due_given (Refused r) (no_room d) = rw (lt-leb (length x) room d)
+  due_given : (r : Result ℕ Refusal) → ListingDue x room r → listed_in x room ≡ r
+  due_given (Ok n) d = rw (le-leb (length x) room d.1) (ap Ok (sym d.0))
+  due_given (Err r) (no_room d) = rw (lt-leb (length x) room d)
 
   is_due : ListingDue x room (listed_in x room)
   is_due = by (leb (length x) room) refl
     where
-      by : (t : Bool) → leb (length x) room ≡ t → ListingDue x room (cond t (Done (length x)) (Refused NoRoom))
+      by : (t : Bool) → leb (length x) room ≡ t → ListingDue x room (cond t (Ok (length x)) (Err NoRoom))
       by true e = (refl, leb-true (length x) room e)
       by false e = no_room (leb-false (length x) room e)
 
-  pub first_due : (r : Answer) → listed_in x room ≡ r ↔ ListingDue x room r
+  pub first_due : (r : Result ℕ Refusal) → listed_in x room ≡ r ↔ ListingDue x room r
   first_due r = (λ e. subst (ListingDue x room) e is_due, due_given r)
 
--- ---- the answer from where the listing was put
+-- ---- what is lent, afterwards
 
 module _ (x out : List ℕ) where
-  pub put_done : {r : Put} {n : ℕ} {new : List ℕ} → r ≡ P.Next n → Puts 0 x out r new → (Done n ≡ listed_in x (length out)) × (new ≡ put_bytes 0 x out)
-  put_done {n = n} {new = new} e p =
-      let m = next_means 0 n x out new (subst (λ r. Puts 0 x out r new) e p) in
-      (sym (due_given x (length out) (Done n) (m.0 ∙ zero-add (length x), omega (arith, m.0, m.1))), p.bytes)
+  room_for : (n : ℕ) → listed_in x (length out) ≡ Ok n → (n ≡ length x) × (length x ≤ length out)
+  room_for n e = (first_due x (length out) (Ok n)).0 e
 
-  pub put_none : {r : Put} {new : List ℕ} → r ≡ P.NoRoom → Puts 0 x out r new → (Refused NoRoom ≡ listed_in x (length out)) × (new ≡ put_bytes 0 x out)
-  put_none {new = new} e p =
-      let m = none_means 0 x out new (subst (λ r. Puts 0 x out r new) e p) in
-      (sym (due_given x (length out) (Refused NoRoom) (no_room (omega (arith, m.0)))), p.bytes)
-
-  -- ---- what is lent, afterwards
-
-  room_for : (n : ℕ) → listed_in x (length out) ≡ Done n → (n ≡ length x) × (length x ≤ length out)
-  room_for n e = (first_due x (length out) (Done n)).0 e
-
-  pub listed_keeps : (r : Refusal) → listed_in x (length out) ≡ Refused r → put_bytes 0 x out ≡ out
+  pub listed_keeps : (r : Refusal) → listed_in x (length out) ≡ Err r → put_bytes 0 x out ≡ out
   unfolding Writing.put_bytes
-  listed_keeps r e = by r ((first_due x (length out) (Refused r)).0 e)
+  listed_keeps r e = by r ((first_due x (length out) (Err r)).0 e)
     where
       by : (r : Refusal) → RefusedFor x (length out) r → cond (leb (0 + length x) (length out)) (over 0 x out) out ≡ out
       by r (no_room d) = rw (lt-leb (0 + length x) (length out) (omega arith))
@@ -163,12 +147,12 @@ module _ (x out : List ℕ) where
   unfolding Writing.put_bytes
   put_front h = rw (le-leb (0 + length x) (length out) (omega arith))
 
-  pub listed_begins : (n : ℕ) → listed_in x (length out) ≡ Done n → take n (put_bytes 0 x out) ≡ x
+  pub listed_begins : (n : ℕ) → listed_in x (length out) ≡ Ok n → take n (put_bytes 0 x out) ≡ x
   listed_begins n e =
       let m = room_for n e in
       ap (take n) (put_front m.1) ∙ take_at x (drop (0 + length x) out) n (sym m.0)
 
-  pub listed_rest : (n : ℕ) → listed_in x (length out) ≡ Done n → drop n (put_bytes 0 x out) ≡ drop n out
+  pub listed_rest : (n : ℕ) → listed_in x (length out) ≡ Ok n → drop n (put_bytes 0 x out) ≡ drop n out
   listed_rest n e =
       let m = room_for n e in
       ap (drop n) (put_front m.1) ∙ drop_at x (drop (0 + length x) out) n (sym m.0) ∙ ap (λ k. drop k out) (zero-add (length x) ∙ sym m.0)

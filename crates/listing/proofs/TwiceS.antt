@@ -1,5 +1,6 @@
 -- R382: the listing of two copies of record S.
 -- Assumes nothing.
+use Rattle.std.specs.Prelude.{None}
 use mathlib.Core.Path.{◌≡◌, refl, ◌∙◌}
 use mathlib.Core.List.{[], ◌∷◌, ◌++◌}
 use Rattle.rules.specs.declared.Rules.{Rules}
@@ -12,7 +13,6 @@ use Rattle.count.specs.Rules
 use Rattle.count.specs.Rules.{ruling_of}
 use Rattle.count.specs.Tally
 use Rattle.count.specs.Tally.{record_lines}
-use Rattle.count.specs.declared.Ruling.TheVariants.{Kept}
 use Rattle.decimal.specs.Numerals
 use Rattle.decimal.specs.Rows
 use Rattle.reply.specs.declared.Refusal.TheVariants.{End}
@@ -25,7 +25,7 @@ use Rattle.listing.specs.Listing.{row_at, rows_from, end_at, listing_of, listing
 use Rattle.listing.specs.Rows.{filled_groups, record_row, end_row}
 use Rattle.listing.proofs.Lines.{listing_is}
 
-counted : (ρ : Rules) → (filled_groups counts_s ≡ 3) × (record_lines ρ counts_s ≡ 5) × (ruling_of counts_s ≡ Kept)
+counted : (ρ : Rules) → (filled_groups counts_s ≡ 3) × (record_lines ρ counts_s ≡ 5) × (ruling_of counts_s ≡ None)
 unfolding filled_groups RecordS.counts_s Tally.lines_in Tally.line_tally Sum.sum Every.up_from Table.row_of Table.listed_as Table.form_among Table.form_of Count.lines_of
     Count.rounded_up Count.elements_of Count.is_segments Count.segment_elements Rules.ruling_of Rules.lowest Rules.head_rules Rules.sets Rules.keeps Rules.letter_rules
 counted ρ = (refl, refl, refl)

@@ -1,13 +1,11 @@
 -- The listing of a text: the rows of its records, one behind the other (R342), and then the end row (R343). How the numbers of a row make
 -- its line (R344) is decimal's `row_text`.
-use Rattle.std.specs.Prelude.{◌≡◌, cond, ℕ, zero, suc, ◌<◌, ◌≤◌, leb, length, get_or}
+use Rattle.std.specs.Prelude.{◌≡◌, cond, ℕ, zero, suc, ◌<◌, ◌≤◌, leb, length, get_or, Result, Ok, Err}
 use mathlib.Core.List.{List, [], ◌∷◌, ◌++◌, flat_map}
 use Rattle.rules.specs.declared.Rules.{Rules}
 use Rattle.base.specs.Quoted.{bytes}
 use Rattle.reply.specs.declared.Refusal.{Refusal}
 use Rattle.reply.specs.declared.Refusal.TheVariants.{NoRoom}
-use Rattle.reply.specs.declared.Answer.{Answer}
-use Rattle.reply.specs.declared.Answer.TheVariants.{Done, Refused}
 use Rattle.decimal.specs.Rows.{row_text}
 use Rattle.place.specs.Placing.{placing_of, counts_at}
 use Rattle.place.specs.declared.Placing.{Placing}
@@ -42,8 +40,8 @@ module _ (ρ : Rules) where
   printed_listing s = cond (leb (length s) 65536) (listing s) (bytes "end " ++ row_text (0 ∷ 0 ∷ 11 ∷ 0 ∷ []))
 
 -- R310: a listing put into so many bytes: 0 with the bytes that were written, or 11
-abbrev pub listed_in : List ℕ → ℕ → Answer
-listed_in x room = cond (leb (length x) room) (Done (length x)) (Refused NoRoom)
+abbrev pub listed_in : List ℕ → ℕ → Result ℕ Refusal
+listed_in x room = cond (leb (length x) room) (Ok (length x)) (Err NoRoom)
 
 module _ (ρ : Rules) where
   -- ---- as a statement
@@ -79,6 +77,6 @@ module _ (ρ : Rules) where
 pub data RefusedFor (x : List ℕ) (room : ℕ) : Refusal → Type 0 where
   no_room : room < length x → RefusedFor x room NoRoom
 
-abbrev pub ListingDue : List ℕ → ℕ → Answer → Type 0
-ListingDue x room (Done n) = (n ≡ length x) × (length x ≤ room)
-ListingDue x room (Refused r) = RefusedFor x room r
+abbrev pub ListingDue : List ℕ → ℕ → Result ℕ Refusal → Type 0
+ListingDue x room (Ok n) = (n ≡ length x) × (length x ≤ room)
+ListingDue x room (Err r) = RefusedFor x room r

@@ -1,10 +1,11 @@
 -- R342: the seven numbers that stand in the line of a record; R343: the four that stand behind `end`.
-use Rattle.std.specs.Prelude.{cond, List, [], ◌∷◌, map, ℕ, eqb}
+use Rattle.std.specs.Prelude.{cond, List, [], ◌∷◌, map, ℕ, eqb, Option, Some, None}
 use Rattle.rules.specs.declared.Rules.{Rules}
 use Rattle.base.specs.Every.{up_from}
 use Rattle.base.specs.Sum.{sum}
 use Rattle.count.specs.Tally.{count_of, record_lines}
 use Rattle.place.specs.declared.Placing.{Placing}
+use Rattle.place.specs.declared.Placing.TheVariants.{Placed, BrokenRule, Refused}
 use Rattle.place.specs.Numbered.{placing_reply}
 
 -- R200 to R207: the reply's number, and the next place and the group beside it
@@ -16,6 +17,12 @@ next_of p = (placing_reply p).next
 
 abbrev pub group_of : Placing → ℕ
 group_of p = (placing_reply p).group
+
+-- R253: the next place, where a record is placed
+abbrev pub next_place : Placing → Option ℕ
+next_place (Placed n) = Some n
+next_place (BrokenRule g n) = Some n
+next_place (Refused r) = None
 
 -- R342, number 6: which of the groups 1 to 60 have a count; 1 for each of them
 abbrev pub filled : List ℕ → ℕ → ℕ

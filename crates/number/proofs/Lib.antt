@@ -7,3 +7,4 @@ pub mod Unique
 pub mod Fits
 pub mod Leads
 pub mod Text
+pub mod Storing

@@ -7,8 +7,8 @@ ghost use Rattle.base.specs.Part.{over};
 ghost use Rattle.base.specs.Sign.{of_sign, negative, size_of, holds};
 ghost use Rattle.number.specs.Grammar.{sign_byte};
 ghost use Rattle.number.specs.Scan.{class_of};
-ghost use Rattle.number.specs.Write.{last_of, back_of, text_of, rest_of, lead_state, exponent_text, text_i, text_f};
-ghost use Rattle.number.specs.Write.{text_e};
+ghost use Rattle.number.specs.Write.{last_of, back_of, text_of, rest_of, state_of, lead_state, exponent_text, text_i};
+ghost use Rattle.number.specs.Write.{text_f, text_e};
 
 // ---- Reading.
 
@@ -42,19 +42,12 @@ pub enum Number {
 pub fn class(b: u8) -> Byte
     ensures { result ≡ class_of b }
 {
-    if b == b' ' {
-        return Byte::Blank;
+    match b {
+        b' ' => Byte::Blank,
+        b'-' => Byte::Minus,
+        b'0'..=b'9' => Byte::Digit(u64::from(b - b'0')),
+        _ => Byte::Other,
     }
-    if b == b'-' {
-        return Byte::Minus;
-    }
-    if b < b'0' {
-        return Byte::Other;
-    }
-    if b'9' < b {
-        return Byte::Other;
-    }
-    Byte::Digit((b - b'0') as u64)
 }
 
 // The signed number of a sign and a size.
@@ -62,10 +55,7 @@ pub fn cell(neg: bool, n: u64) -> i64
     requires { n < 2 ^ 63 }
     ensures { result ≡ of_sign neg n }
 {
-    if neg {
-        return 0 - (n as i64);
-    }
-    n as i64
+    if neg { -(n as i64) } else { n as i64 }
 }
 
 // ---- Writing: from the last column to the first, one division for each digit.
@@ -75,10 +65,9 @@ fn last(st: Scan) -> u8
     ensures { result ≡ last_of st }
 {
     match st {
-        Scan::Blanks => b' ',
+        Scan::Blanks | Scan::Broken => b' ',
         Scan::Signed => b'-',
         Scan::Digits(_, n) => b'0' + (n % 10) as u8,
-        Scan::Broken => b' ',
     }
 }
 
@@ -87,20 +76,9 @@ fn back(filled: bool, st: Scan) -> Scan
     ensures { result ≡ back_of filled st }
 {
     match st {
-        Scan::Blanks => Scan::Blanks,
-        Scan::Signed => Scan::Blanks,
-        Scan::Digits(neg, n) => {
-            if filled {
-                return Scan::Digits(neg, n / 10);
-            }
-            if 10 <= n {
-                return Scan::Digits(neg, n / 10);
-            }
-            if neg {
-                return Scan::Signed;
-            }
-            Scan::Blanks
-        }
+        Scan::Blanks | Scan::Signed => Scan::Blanks,
+        Scan::Digits(neg, n) if filled || 10 <= n => Scan::Digits(neg, n / 10),
+        Scan::Digits(neg, _) => if neg { Scan::Signed } else { Scan::Blanks },
         Scan::Broken => Scan::Broken,
     }
 }
@@ -111,16 +89,15 @@ fn put(out: &mut [u8], filled: bool, what: Scan) -> Scan
     ensures answer { result ≡ rest_of filled (length out.old) what }
 {
     let mut st = what;
-    let mut i = out.len();
-    while 0 < i {
-        i -= 1;
+    for i in (0..out.len()).rev() {
         out[i] = last(st);
         st = back(filled, st);
     }
     st
 }
 
-// ---- Writing at a place: each is `over`, so that two in a row are one.
+// ---- Writing at a place: each is `over`, so that two in a row are one. Output, place and width stand apart, as callers
+// count them: a struct of the three would be built for each field, and be no plainer.
 
 pub fn put_at(out: &mut [u8], at: usize, w: usize, filled: bool, what: Scan) -> Scan
     requires { at + w ≤ length out.old }
@@ -129,13 +106,6 @@ pub fn put_at(out: &mut [u8], at: usize, w: usize, filled: bool, what: Scan) -> 
 {
     let e = at + w;
     put(&mut out[at..e], filled, what)
-}
-
-fn put_byte(out: &mut [u8], at: usize, b: u8)
-    requires { at < length out.old }
-    ensures { out.new ≡ over at (b ∷ []) out.old }
-{
-    out[at] = b;
 }
 
 // A number's sign (true for a minus) and size, also the least of an i64.
@@ -149,16 +119,9 @@ pub fn signed(v: i64) -> Magnitude
     ensures neg { result.neg ≡ negative v }
     ensures size { result.size ≡ size_of v }
 {
-    if v < 0 {
-        let m = 0 - (v + 1);
-        return Magnitude {
-            neg: true,
-            size: m as u64 + 1,
-        };
-    }
     Magnitude {
-        neg: false,
-        size: v as u64,
+        neg: v < 0,
+        size: v.unsigned_abs(),
     }
 }
 
@@ -166,21 +129,24 @@ pub fn signed(v: i64) -> Magnitude
 pub fn within(v: i64, low: u64, high: u64) -> bool
     ensures { result ≡ holds low high v }
 {
-    let m = signed(v);
-    if m.neg {
-        return m.size <= low;
-    }
-    m.size <= high
+    v.unsigned_abs() <= if v < 0 { low } else { high }
 }
 
-// ---- I, F and E fields at a place, canonical (R103 to R108).
+// The digits of a number, with its sign.
+fn digits(v: i64) -> Scan
+    ensures { result ≡ state_of v }
+{
+    let m = signed(v);
+    Scan::Digits(m.neg, m.size)
+}
+
+// ---- I, F and E fields at a place, canonical (R103 to R108). Each kind has its own numbers, so they are three.
 
 pub fn put_i(out: &mut [u8], at: usize, w: usize, v: i64)
     requires { at + w ≤ length out.old }
     ensures { out.new ≡ over at (text_i w v) out.old }
 {
-    let m = signed(v);
-    put_at(out, at, w, false, Scan::Digits(m.neg, m.size));
+    put_at(out, at, w, false, digits(v));
 }
 
 // Thousandths: the last three digits first, and what is left of the number before the point.
@@ -189,10 +155,10 @@ pub fn put_f(out: &mut [u8], at: usize, w: usize, v: i64)
     requires w { 4 ≤ w }
     ensures { out.new ≡ over at (text_f w v) out.old }
 {
-    let m = signed(v);
     let h = w - 4;
-    let rest = put_at(out, at + h + 1, 3, true, Scan::Digits(m.neg, m.size));
-    put_byte(out, at + h, b'.');
+    let point = at + h;
+    let rest = put_at(out, point + 1, 3, true, digits(v));
+    out[point] = b'.';
     put_at(out, at, h, false, rest);
 }
 
@@ -200,22 +166,17 @@ pub fn put_f(out: &mut [u8], at: usize, w: usize, v: i64)
 fn lead_state(c: usize, neg: bool) -> Scan
     ensures { result ≡ lead_state c neg }
 {
-    if neg {
-        if c == 1 {
-            return Scan::Signed;
-        }
-        return Scan::Digits(true, 0);
+    if neg && c == 1 {
+        Scan::Signed
+    } else {
+        Scan::Digits(neg, 0)
     }
-    Scan::Digits(false, 0)
 }
 
 fn sign_byte(neg: bool) -> u8
     ensures { result ≡ sign_byte neg }
 {
-    if neg {
-        return b'-';
-    }
-    b'+'
+    if neg { b'-' } else { b'+' }
 }
 
 // `E`, the exponent's sign and its x digits.
@@ -223,11 +184,10 @@ fn put_exponent(out: &mut [u8], at: usize, x: usize, e: i64)
     requires { at + (x + 2) ≤ length out.old }
     ensures { out.new ≡ over at (exponent_text x e) out.old }
 {
-    let m = signed(e);
     let sign = at + 1;
-    put_at(out, sign + 1, x, true, Scan::Digits(m.neg, m.size));
-    put_byte(out, sign, sign_byte(m.neg));
-    put_byte(out, at, b'E');
+    put_at(out, sign + 1, x, true, digits(e));
+    out[sign] = sign_byte(e < 0);
+    out[at] = b'E';
 }
 
 // c columns, a point, d digits and the exponent, from the last to the first.
@@ -235,11 +195,10 @@ pub fn put_e(out: &mut [u8], at: usize, c: usize, d: usize, x: usize, v: i64, e:
     requires { at + (c + d + x + 3) ≤ length out.old }
     ensures { out.new ≡ over at (text_e c d x v e) out.old }
 {
-    let m = signed(v);
     let point = at + c;
     let first = point + 1;
     put_exponent(out, first + d, x, e);
-    put_at(out, first, d, true, Scan::Digits(m.neg, m.size));
-    put_byte(out, point, b'.');
-    put_at(out, at, c, false, lead_state(c, m.neg));
+    put_at(out, first, d, true, digits(v));
+    out[point] = b'.';
+    put_at(out, at, c, false, lead_state(c, v < 0));
 }

@@ -1,6 +1,7 @@
 -- R9: placing in texts whose lines have the same contents. From places on that the texts are alike from, placing gives the same answer but for
 -- the next place, with the same counts, and from the next places on the texts are alike again. So is the walk, from spot to spot.
 -- Assumes nothing.
+use Rattle.std.specs.Prelude.{Option, Some, None, Result, Ok, Err}
 use mathlib.Core.Path.{◌≡◌, refl, sym, ◌∙◌, ap}
 use mathlib.Core.Bool.{Bool, true, false, cond}
 use mathlib.Core.List.{List}
@@ -16,12 +17,8 @@ use Rattle.line.specs.Lines.{feeds, reach, lines, behind}
 use Rattle.line.proofs.Alike.{same_line_told, alike_feeds, alike_sym, alike_behind, alike_lines, alike_first, alike_line, alike_start, alike_from_sym, alike_ends, alike_further}
 use Rattle.count.specs.Tally.{lines_before, record_lines}
 use Rattle.count.specs.Rules.{release_of, ruling_of}
-use Rattle.count.specs.declared.Release.{Release}
-use Rattle.count.specs.declared.Release.TheVariants.{Five, Other, Filled}
-use Rattle.count.specs.declared.Ruling.{Ruling}
-use Rattle.count.specs.declared.Ruling.TheVariants.{Kept, Broken}
 use Rattle.reply.specs.declared.Refusal.{Refusal}
-use Rattle.reply.specs.declared.Refusal.TheVariants.{End, TooFewLines, Misformed, OtherRelease, FilledVacant}
+use Rattle.reply.specs.declared.Refusal.TheVariants.{End, TooFewLines, Misformed}
 use Rattle.place.specs.Alike.{SamePlacing, both_placed, both_broken, both_refused}
 use Rattle.place.specs.Index.{Indexed, counts, misformed, read_entries, read_index_content, read_index_line, read_index}
 use Rattle.place.specs.Parts.{group_part}
@@ -73,10 +70,9 @@ module _ (ρ : Rules) where
     by_lines ns true a b = both_located (p + reach xs (record_lines ρ ns)) (q + reach ys (record_lines ρ ns)) ns a b (alike_further ρ s p t q h (record_lines ρ ns))
     by_lines ns false a b = neither TooFewLines a b
 
-    by_release_lem : (ns : List ℕ) (r : Release) → locate ρ s p ≡ locate_release ρ xs p ns r → locate ρ t q ≡ locate_release ρ ys q ns r → AlikeLocated ρ s p t q
-    by_release_lem ns Five a b = by_lines ns (leb (record_lines ρ ns) (feeds xs)) a (rw (← same_feeds) at b)
-    by_release_lem ns Other a b = neither OtherRelease a b
-    by_release_lem ns (Filled g) a b = neither (FilledVacant g) a b
+    by_release_lem : (ns : List ℕ) (r : Result (Unit {0}) Refusal) → locate ρ s p ≡ locate_release ρ xs p ns r → locate ρ t q ≡ locate_release ρ ys q ns r → AlikeLocated ρ s p t q
+    by_release_lem ns (Ok five) a b = by_lines ns (leb (record_lines ρ ns) (feeds xs)) a (rw (← same_feeds) at b)
+    by_release_lem ns (Err r) a b = neither r a b
 
     by_index : (i : Indexed) → locate ρ s p ≡ locate_index ρ xs p i → locate ρ t q ≡ locate_index ρ ys q i → AlikeLocated ρ s p t q
     by_index (counts ns) a b = by_release_lem ns (release_of ns) a b
@@ -108,9 +104,9 @@ module _ (ρ : Rules) where
 
     -- the answer and the counts
 
-    ruled : (n m : ℕ) (r : Ruling) → AlikeFrom ρ s n t m → SamePlacing ρ s t (ruled_at n r) (ruled_at m r)
-    ruled n m Kept f = both_placed n m f
-    ruled n m (Broken g) f = both_broken g n m f
+    ruled : (n m : ℕ) (r : Option ℕ) → AlikeFrom ρ s n t m → SamePlacing ρ s t (ruled_at n r) (ruled_at m r)
+    ruled n m None f = both_placed n m f
+    ruled n m (Some g) f = both_broken g n m f
 
     pub alike_placing : SamePlacing ρ s t (placing_of ρ s p) (placing_of ρ t q)
     unfolding placing_of

@@ -1,5 +1,6 @@
 -- First due: placing gives a reply exactly if that reply is due (specs/Due.antt).
 -- Assumes nothing.
+use Rattle.std.specs.Prelude.{Option, Some, None, Result, Ok, Err}
 use mathlib.Core.Path.{◌≡◌, refl, sym, ◌∙◌, ap, ap₂, subst}
 use mathlib.Core.Bool.{Bool, true, false, cond}
 use mathlib.Core.List.{List}
@@ -13,10 +14,6 @@ use Rattle.rules.specs.declared.Rules.{Rules}
 use Rattle.line.specs.Lines.{feeds, reach}
 use Rattle.count.specs.Tally.{record_lines}
 use Rattle.count.specs.Rules.{release_of, ruling_of}
-use Rattle.count.specs.declared.Release.{Release}
-use Rattle.count.specs.declared.Release.TheVariants.{Five, Other, Filled}
-use Rattle.count.specs.declared.Ruling.{Ruling}
-use Rattle.count.specs.declared.Ruling.TheVariants.{Kept, Broken}
 use Rattle.count.specs.Check.{accepted_of}
 use Rattle.count.specs.Due.{ReleaseDue, Released, broken_rule, AcceptedDue}
 use Rattle.count.proofs.Due.{accepted_first_due}
@@ -24,7 +21,7 @@ use Rattle.count.proofs.Rulings.{kept_ruling, ruling_kept, broken_ruling, ruling
 use Rattle.count.proofs.Releases.{release_given, release_due}
 use Rattle.place.specs.declared.Placing.{Placing}
 use Rattle.reply.specs.declared.Refusal.{Refusal}
-use Rattle.reply.specs.declared.Refusal.TheVariants.{End, Beyond, TooFewLines}
+use Rattle.reply.specs.declared.Refusal.TheVariants.{End, Beyond, TooFewLines, OtherRelease, FilledVacant}
 use Rattle.place.specs.declared.Placing.TheVariants.{Placed, BrokenRule, Refused}
 use Rattle.place.specs.Index.{Indexed, counts, misformed, read_index}
 use Rattle.place.specs.Parts.{start, group_part}
@@ -46,7 +43,7 @@ module _ (ρ : Rules) (s : List ℕ) (at : ℕ) where
   to_counts ns h = locate_index_lem ρ s at h.place.inside h.place.lines ∙ rw ((index_is ρ (drop at s) ns).1 h.index)
 
   to_lines : (ns : List ℕ) → HasRelease ρ s at ns → locate ρ s at ≡ locate_lines ρ (drop at s) at ns
-  to_lines ns h = to_counts ns h.index ∙ rw (release_given ns Five h.release)
+  to_lines ns h = to_counts ns h.index ∙ rw (release_given ns (Ok tt) h.release)
 
   to_located : (ns : List ℕ) (n : ℕ) → HasLines ρ s at ns n → locate ρ s at ≡ located n ns
   to_located ns n h =
@@ -59,8 +56,8 @@ module _ (ρ : Rules) (s : List ℕ) (at : ℕ) where
   given_refusal r (few_for_index d) = ap placing_by (locate_few ρ s at d.inside d.few)
   given_refusal r (few_for_data d) = ap placing_by (to_lines d.ns d.head) ∙ rw (lt-leb (record_lines ρ d.ns) (feeds (drop at s)) d.few)
   given_refusal r (bad_index d) = ap placing_by (locate_index_lem ρ s at d.place.inside d.place.lines) ∙ rw ((no_index ρ (drop at s)).1 d.none)
-  given_refusal r (bad_release d) = ap placing_by (to_counts d.ns d.index) ∙ rw (release_given d.ns Other d.other)
-  given_refusal r (fills_vacant g d) = ap placing_by (to_counts d.ns d.index) ∙ rw (release_given d.ns (Filled g) d.filled)
+  given_refusal r (bad_release d) = ap placing_by (to_counts d.ns d.index) ∙ rw (release_given d.ns (Err OtherRelease) d.other)
+  given_refusal r (fills_vacant g d) = ap placing_by (to_counts d.ns d.index) ∙ rw (release_given d.ns (Err (FilledVacant g)) d.filled)
 
   given : (p : Placing) → Due ρ s at p → placing_by (locate ρ s at) ≡ p
   given (Refused r) d = given_refusal r d
@@ -69,9 +66,9 @@ module _ (ρ : Rules) (s : List ℕ) (at : ℕ) where
 
   -- ---- what is given is due
 
-  from_ruling : (ns : List ℕ) (n : ℕ) (k : Ruling) → HasLines ρ s at ns n → ruling_of ns ≡ k → Due ρ s at (ruled_at n k)
-  from_ruling ns n Kept h e = record { ns = ns; lines = h; kept = ruling_kept ns e }
-  from_ruling ns n (Broken g) h e = record { ns = ns; lines = h; broken = ruling_broken ns e }
+  from_ruling : (ns : List ℕ) (n : ℕ) (k : Option ℕ) → HasLines ρ s at ns n → ruling_of ns ≡ k → Due ρ s at (ruled_at n k)
+  from_ruling ns n None h e = record { ns = ns; lines = h; kept = ruling_kept ns e }
+  from_ruling ns n (Some g) h e = record { ns = ns; lines = h; broken = ruling_broken ns e }
 
   from_lines : (ns : List ℕ) (t : Bool) → HasRelease ρ s at ns → leb (record_lines ρ ns) (feeds (drop at s)) ≡ t
       → Due ρ s at (placing_by (cond t (located (at + reach (drop at s) (record_lines ρ ns)) ns) (refused TooFewLines)))
@@ -79,11 +76,12 @@ module _ (ρ : Rules) (s : List ℕ) (at : ℕ) where
       from_ruling ns (at + reach (drop at s) (record_lines ρ ns)) (ruling_of ns) record { head = h; enough = leb-true (record_lines ρ ns) (feeds (drop at s)) e; next = refl } refl
   from_lines ns false h e = few_for_data record { ns = ns; head = h; few = leb-false (record_lines ρ ns) (feeds (drop at s)) e }
 
-  from_release : (ns : List ℕ) (r : Release) → HasEntries ρ s at ns → ReleaseDue ns r → Due ρ s at (placing_by (locate_release ρ (drop at s) at ns r))
-  from_release ns Five h f =
+  from_release : (ns : List ℕ) (r : Result (Unit {0}) Refusal) → HasEntries ρ s at ns → ReleaseDue ns r → Due ρ s at (placing_by (locate_release ρ (drop at s) at ns r))
+  from_release ns (Ok five) h f =
       from_lines ns (leb (record_lines ρ ns) (feeds (drop at s))) record { index = h; release = f } refl
-  from_release ns Other h f = bad_release record { ns = ns; index = h; other = f }
-  from_release ns (Filled g) h f = fills_vacant g record { ns = ns; index = h; filled = f }
+  from_release ns (Err OtherRelease) h f = bad_release record { ns = ns; index = h; other = f }
+  from_release ns (Err (FilledVacant g)) h f = fills_vacant g record { ns = ns; index = h; filled = f }
+  from_release ns (Err _) h f = absurd f
 
   from_index : (q : Indexed) → HasIndex ρ s at → read_index ρ (drop at s) ≡ q → Due ρ s at (placing_by (locate_index ρ (drop at s) at q))
   from_index (counts ns) h e = from_release ns (release_of ns) record { place = h; index = (index_is ρ (drop at s) ns).0 e } (release_due ns)
@@ -194,9 +192,9 @@ module _ (ρ : Rules) (s : List ℕ) (at : ℕ) where
   pub located_accepted : (n : ℕ) (ns : List ℕ) → locate ρ s at ≡ located n ns → accepted_of ns ≡ as_checked (ruled_at n (ruling_of ns))
   located_accepted n ns e = (accepted_first_due ns (as_checked (ruled_at n (ruling_of ns)))).1 (by (ruling_of ns) refl)
     where
-      released : Released ns Five
+      released : Released ns (Ok tt)
       released = let h = (located_lines n ns e).head in record { counts = index_counts ρ (drop at s) ns h.index.index; release = h.release }
 
-      by : (k : Ruling) → ruling_of ns ≡ k → AcceptedDue ns (as_checked (ruled_at n k))
-      by Kept u = record { released = released; kept = ruling_kept ns u }
-      by (Broken g) u = broken_rule g record { released = released; broken = ruling_broken ns u }
+      by : (k : Option ℕ) → ruling_of ns ≡ k → AcceptedDue ns (as_checked (ruled_at n k))
+      by None u = record { released = released; kept = ruling_kept ns u }
+      by (Some g) u = broken_rule g record { released = released; broken = ruling_broken ns u }

@@ -1,6 +1,7 @@
 -- R9: an index line without its carriage return is misformed under the strict rule. What is located under it is located under each that counts alike, with
 -- the same next place and counts. So 0 and 7 stay with their numbers, and the walk stays on its way through placed records.
 -- Assumes nothing.
+use Rattle.std.specs.Prelude.{Option, Some, None}
 use mathlib.Core.Path.{◌≡◌, refl, sym, ◌∙◌, ap}
 use mathlib.Core.List.{List, [], ◌∷◌, ◌++◌}
 use Prim.Native.Nat.{ℕ, zero, suc, ◌<◌}
@@ -10,8 +11,6 @@ use Rattle.rules.specs.declared.LineEnds.TheVariants.{Strict}
 use Rattle.rules.specs.declared.Rules.{Rules}
 use Rattle.line.specs.Contents.{EndsInReturn, content_of}
 use Rattle.line.specs.Lines.{lines, behind}
-use Rattle.line.specs.declared.Content.{Content}
-use Rattle.line.specs.declared.Content.TheVariants.{Length, NoReturn}
 use Rattle.count.proofs.SameCounting.{record_lines_same}
 use Rattle.line.proofs.Ends.{strict_none, strict_content}
 use Rattle.place.specs.Index.{counts, misformed, read_index_content, read_index_line, read_index}
@@ -31,9 +30,9 @@ module _ (σ ρ : Rules) (only : σ.ends ≡ Strict) where
   unfolding read_index_line
   strict_index_line x ns e = by (content_of σ x) refl e
     where
-      by : (c : Content) → content_of σ x ≡ c → read_index_content x c ≡ counts ns → read_index_content x (content_of ρ x) ≡ counts ns
-      by (Length n) u f = rw (strict_content σ ρ only x n u) f
-      by NoReturn u f = let z : ◌≡◌ {A = ℕ} 0 1 = cc in absurd (omega arith)
+      by : (c : Option ℕ) → content_of σ x ≡ c → read_index_content x c ≡ counts ns → read_index_content x (content_of ρ x) ≡ counts ns
+      by (Some n) u f = rw (strict_content σ ρ only x n u) f
+      by None u f = let z : ◌≡◌ {A = ℕ} 0 1 = cc in absurd (omega arith)
 
   pub strict_index : (xs ns : List ℕ) → read_index σ xs ≡ counts ns → read_index ρ xs ≡ counts ns
   unfolding read_index

@@ -1,6 +1,7 @@
 -- R256, R257: bytes that are added at a text's end (specs/Growth.antt). By *placing is local* (Local): 4, 5 and 6 rest on the two index lines, 0
 -- and 7 on these and on where line feeds are up to the next place, and all of that is there already.
 -- Assumes nothing.
+use Rattle.std.specs.Prelude.{Option, Some, None}
 use mathlib.Core.Path.{◌≡◌, refl, sym, ◌∙◌, ap}
 use mathlib.Core.List.{List, ◌++◌, map}
 use mathlib.Core.Logic.{◌⊎◌, ◌↔◌, inl, inr, ⊎_elim}
@@ -20,8 +21,6 @@ use Rattle.line.specs.Lines.{is_feed, feeds, lines}
 use Rattle.line.proofs.Feeds.{feeds_part}
 use Rattle.line.proofs.Reach.{reach_le, reach_append, lines_append}
 use Rattle.count.specs.Rules.{ruling_of}
-use Rattle.count.specs.declared.Ruling.{Ruling}
-use Rattle.count.specs.declared.Ruling.TheVariants.{Kept, Broken}
 use Rattle.count.specs.Tally
 use Rattle.count.specs.Tally.{lines_before, record_lines}
 use Rattle.count.proofs.Tallied.{all_lines, lines_below, lines_all, record_two}
@@ -71,9 +70,9 @@ module _ (ρ : Rules) (s : List ℕ) (at : ℕ) where
   unfolding placing_of
   settled_or = by (locate ρ s at) refl
     where
-      ruled : (n : ℕ) (k : Ruling) → Settled (placing_reply (ruled_at n k)).number
-      ruled n Kept = inl refl
-      ruled n (Broken g) = inr (inr (inr (inr refl)))
+      ruled : (n : ℕ) (k : Option ℕ) → Settled (placing_reply (ruled_at n k)).number
+      ruled n None = inl refl
+      ruled n (Some g) = inr (inr (inr (inr refl)))
 
       by : (l : Located) → locate ρ s at ≡ l → Settled (placing_reply (placing_by l)).number ⊎ Unsettled (placing_reply (placing_by l)).number
       by (located n ns) e = inl (ruled n (ruling_of ns))

@@ -1,6 +1,7 @@
 -- What an index is: the two lines read as counts exactly if they are the index of these counts (IsIndex). The counts of an index are 80 that
 -- each have an entry, and such counts are those that the whole check passes.
 -- Assumes nothing.
+use Rattle.std.specs.Prelude.{Option, Some, None}
 use mathlib.Core.Path.{◌≡◌, refl, sym, ◌∙◌, ap, subst}
 use mathlib.Core.Bool.{Bool, true, false, cond}
 use mathlib.Core.List.{List, [], ◌∷◌, ◌++◌}
@@ -18,13 +19,9 @@ use Rattle.form.specs.Count.{most_count}
 use Rattle.count.specs.Tally.{count_of}
 use Rattle.count.specs.Due.{HasCounts}
 use Rattle.field.specs.Entry.{entry_of, IsEntry, HasEntry}
-use Rattle.field.specs.declared.IndexEntry.{IndexEntry}
-use Rattle.field.specs.declared.IndexEntry.TheVariants.{Count, Misformed}
 use Rattle.field.proofs.Entries.{entry_is, is_entry, has_entry}
 use Rattle.line.specs.Lines.{lines, behind}
 use Rattle.line.specs.Contents.{content_of, HasContent}
-use Rattle.line.specs.declared.Content.{Content}
-use Rattle.line.specs.declared.Content.TheVariants.{Length, NoReturn}
 use Rattle.line.proofs.Contents.{content_is, is_content, content_taken}
 use Rattle.place.specs.Index.{Indexed, counts, misformed, entry_then, read_entries, read_index_content, read_index_line, read_index, IsIndex}
 use Rattle.place.proofs.Placed.{two_lines}
@@ -48,17 +45,17 @@ entry_later i s =
     three (suc i) s ∙ ap (λ n. take 3 (drop n s)) e ∙ ap (take 3) (sym (drop-drop (i * 3) 3 s)) ∙ sym (three i (drop 3 s))
 
 -- an entry in front of others
-record Front (x : IndexEntry) (r : Indexed) (ns : List ℕ) : Type 0 where
+record Front (x : Option ℕ) (r : Indexed) (ns : List ℕ) : Type 0 where
   pub count : ℕ
   pub rest : List ℕ
-  pub first : x ≡ Count count
+  pub first : x ≡ Some count
   pub others : r ≡ counts rest
   pub all : ns ≡ count ∷ rest
 
-front : (x : IndexEntry) (r : Indexed) (ns : List ℕ) → entry_then x r ≡ counts ns → Front x r ns
-front (Count n) (counts ms) ns e = record { count = n; rest = ms; first = refl; others = refl; all = cc }
-front (Count n) misformed ns e = let z : ◌≡◌ {A = ℕ} 0 1 = cc in absurd (omega arith)
-front Misformed r ns e = let z : ◌≡◌ {A = ℕ} 0 1 = cc in absurd (omega arith)
+front : (x : Option ℕ) (r : Indexed) (ns : List ℕ) → entry_then x r ≡ counts ns → Front x r ns
+front (Some n) (counts ms) ns e = record { count = n; rest = ms; first = refl; others = refl; all = cc }
+front (Some n) misformed ns e = let z : ◌≡◌ {A = ℕ} 0 1 = cc in absurd (omega arith)
+front None r ns e = let z : ◌≡◌ {A = ℕ} 0 1 = cc in absurd (omega arith)
 
 read_entries_lem : (k : ℕ) (s ns : List ℕ) → read_entries k s ≡ counts ns → Entries k s ns
 unfolding read_entries
@@ -78,7 +75,7 @@ entries_read zero s [] h = refl
 entries_read zero s (n ∷ ns) h = absurd (omega (arith, h.many))
 entries_read (suc k) s [] h = absurd (omega (arith, h.many))
 entries_read (suc k) s (n ∷ ns) h =
-    let first : entry_of (take 3 s) ≡ Count n = is_entry (take 3 s) n (rw (entry_first s) at (h.each 0 (omega arith))) in
+    let first : entry_of (take 3 s) ≡ Some n = is_entry (take 3 s) n (rw (entry_first s) at (h.each 0 (omega arith))) in
     let more : Entries k (drop 3 s) ns = record { many = omega (arith, h.many); each = λ i l. rw (entry_later i s) at (h.each (suc i) (omega (arith, l))) } in
     rw (first, entries_read k (drop 3 s) ns more)
 
@@ -95,21 +92,21 @@ read_line_lem : (ρ : Rules) (x ns : List ℕ) → read_index_line ρ x ≡ coun
 unfolding read_index_line
 read_line_lem ρ x ns e = by (content_of ρ x) refl e
   where
-    whole : (n : ℕ) (t : Bool) → content_of ρ x ≡ Length n → eqb n 120 ≡ t → cond t (read_entries 40 (part 0 n x)) misformed ≡ counts ns → Line ρ x ns
+    whole : (n : ℕ) (t : Bool) → content_of ρ x ≡ Some n → eqb n 120 ≡ t → cond t (read_entries 40 (part 0 n x)) misformed ≡ counts ns → Line ρ x ns
     whole n true f u g =
         let c = is_content ρ x n f in
         let p : part 0 n x ≡ take n x = rw (sub-zero n) in
         record { content = take n x; is = c.0; wide = c.1 ∙ eqb-true n 120 u; entries = read_entries_lem 40 (take n x) ns (rw p at g) }
     whole n false f u g = let z : ◌≡◌ {A = ℕ} 0 1 = cc in absurd (omega arith)
 
-    by : (c : Content) → content_of ρ x ≡ c → read_index_content x c ≡ counts ns → Line ρ x ns
-    by (Length n) f g = whole n (eqb n 120) f refl g
-    by NoReturn f g = let z : ◌≡◌ {A = ℕ} 0 1 = cc in absurd (omega arith)
+    by : (c : Option ℕ) → content_of ρ x ≡ c → read_index_content x c ≡ counts ns → Line ρ x ns
+    by (Some n) f g = whole n (eqb n 120) f refl g
+    by None f g = let z : ◌≡◌ {A = ℕ} 0 1 = cc in absurd (omega arith)
 
 line_read_lem : (ρ : Rules) (x ns : List ℕ) → Line ρ x ns → read_index_line ρ x ≡ counts ns
 unfolding read_index_line
 line_read_lem ρ x ns h =
-    let f : content_of ρ x ≡ Length 120 = content_is ρ x h.content h.is ∙ ap Length h.wide in
+    let f : content_of ρ x ≡ Some 120 = content_is ρ x h.content h.is ∙ ap Some h.wide in
     let p : part 0 120 x ≡ h.content = content_taken ρ x h.content 120 h.is f in
     rw (f, p) (entries_read 40 h.content ns h.entries)
 

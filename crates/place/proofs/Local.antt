@@ -1,6 +1,7 @@
 -- R255: placing is local. Whatever stands before the place, the answer is the same. Two texts that have the same two lines from there on
 -- share 4, 5 and 6; if their line feeds agree too, as far as the record goes, they share 0 and 7 and all that is told with these.
 -- Assumes nothing.
+use Rattle.std.specs.Prelude.{Result, Ok, Err}
 use mathlib.Core.Path.{◌≡◌, refl, sym, ◌∙◌, ap, subst}
 use mathlib.Core.Bool.{Bool, true, false, cond}
 use mathlib.Core.List.{List, ◌++◌, map}
@@ -17,8 +18,6 @@ use Rattle.line.proofs.Reach.{lines_append, behind_append, feeds_lines, feeds_be
 use Rattle.line.proofs.Places.{is_at, at_is, behind_at_local}
 use Rattle.count.specs.Tally.{record_lines}
 use Rattle.count.specs.Rules.{release_of}
-use Rattle.count.specs.declared.Release.{Release}
-use Rattle.count.specs.declared.Release.TheVariants.{Five, Other, Filled}
 use Rattle.reply.specs.declared.Refusal.{Refusal}
 use Rattle.reply.specs.declared.Refusal.TheVariants.{End, Beyond, TooFewLines, Misformed, OtherRelease, FilledVacant}
 use Rattle.place.specs.Index.{Indexed, counts, misformed, read_index}
@@ -106,10 +105,9 @@ module _ (ρ : Rules) (at : ℕ) (p : Refusal) (b : ByIndex p) where
   by_lines xs ys ns true e = no_record (sym e)
   by_lines xs ys ns false e = not_by e not_few b
 
-  by_release_lem : (xs ys ns : List ℕ) (r : Release) → locate_release ρ xs at ns r ≡ refused p → locate_release ρ ys at ns r ≡ refused p
-  by_release_lem xs ys ns Five e = by_lines xs ys ns (leb (record_lines ρ ns) (feeds xs)) e
-  by_release_lem xs ys ns Other e = e
-  by_release_lem xs ys ns (Filled g) e = e
+  by_release_lem : (xs ys ns : List ℕ) (r : Result (Unit {0}) Refusal) → locate_release ρ xs at ns r ≡ refused p → locate_release ρ ys at ns r ≡ refused p
+  by_release_lem xs ys ns (Ok _) e = by_lines xs ys ns (leb (record_lines ρ ns) (feeds xs)) e
+  by_release_lem xs ys ns (Err r) e = e
 
   by_index : (xs ys : List ℕ) (q : Indexed) → locate_index ρ xs at q ≡ refused p → locate_index ρ ys at q ≡ refused p
   by_index xs ys (counts ns) e = by_release_lem xs ys ns (release_of ns) e

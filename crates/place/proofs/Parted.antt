@@ -1,6 +1,7 @@
 -- A record that is placed with 0 carries a part of the text for each group, and that is the group's lines.
 -- Assumes nothing.
-use mathlib.Core.Path.{◌≡◌, sym, ◌∙◌, ap}
+use Rattle.std.specs.Prelude.{Ok}
+use mathlib.Core.Path.{◌≡◌, refl, sym, ◌∙◌, ap, subst}
 use mathlib.Core.List.{List}
 use Prim.Native.Nat.{ℕ, suc, ◌-◌, ◌<◌, ◌≤◌}
 use native.Mathlib.Omega.{arith}
@@ -9,8 +10,11 @@ use Rattle.rules.specs.declared.Rules.{Rules}
 use Rattle.place.specs.Parts
 use Rattle.place.specs.Parts.{start, group_part}
 use Rattle.place.specs.Parted.{Parted, lines_named}
-use Rattle.place.specs.declared.Placing.TheVariants.{Placed}
-use Rattle.place.specs.Placing.{Carried, placing_of, counts_at, starts_at, ends_at, carried_at}
+use Rattle.place.specs.declared.Placing.{Placing}
+use Rattle.place.specs.declared.Placing.TheVariants.{Placed, BrokenRule, Refused}
+use Rattle.place.specs.declared.Record.{Record}
+use Rattle.place.specs.Numbered.{as_checked}
+use Rattle.place.specs.Placing.{Carried, placing_of, counts_at, starts_at, ends_at, carried_by, carried_at}
 use Rattle.place.proofs.Placed.{located_range}
 use Rattle.place.proofs.Spans.{starts_length, ends_length, start_at, end_at_lem}
 use Rattle.place.proofs.Tiling.{start_mono, start_within}
@@ -52,3 +56,16 @@ module _ (ρ : Rules) (s : List ℕ) (at next : ℕ) (placed : placing_of ρ s a
   pub named_lines : (g : ℕ) → 1 ≤ g → g ≤ 60 → lines_named s (carried_at ρ s at) g ≡ group_part ρ s at ns g
   unfolding Parts.group_part
   named_lines g low high = rw (begins g low high, stops g low high)
+
+-- a record as placing gives it, where its answer is 0
+pub placed_parted : (ρ : Rules) (s : List ℕ) (at : ℕ) (r : Record) → r.answer ≡ placing_of ρ s at → r.counts ≡ counts_at ρ s at → r.starts ≡ starts_at ρ s at → r.ends ≡ ends_at ρ s at
+    → as_checked r.answer ≡ Ok tt → Parted s (carried_by r)
+placed_parted ρ s at r a n b e zero = by r.answer refl zero
+  where
+    carries : carried_by r ≡ carried_at ρ s at
+    carries = rw (n, b, e) refl
+
+    by : (p : Placing) → r.answer ≡ p → as_checked p ≡ Ok tt → Parted s (carried_by r)
+    by (Placed next) u z = subst (Parted s) (sym carries) (parted_at ρ s at next (sym a ∙ u))
+    by (BrokenRule g next) u z = let z : ◌≡◌ {A = ℕ} 0 1 = cc in absurd (omega arith)
+    by (Refused why) u z = let z : ◌≡◌ {A = ℕ} 0 1 = cc in absurd (omega arith)

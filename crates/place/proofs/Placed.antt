@@ -1,5 +1,6 @@
 -- What it means that a record is located, as one record of facts, both ways; where it lies; and that its index lines are 121 bytes each at least.
 -- Assumes nothing.
+use Rattle.std.specs.Prelude.{Option, Some, None, Result, Ok, Err}
 use mathlib.Core.Path.{◌≡◌, refl, sym, ◌∙◌, ap}
 use mathlib.Core.Bool.{Bool, true, false, cond}
 use mathlib.Core.List.{List, ◌++◌}
@@ -11,15 +12,11 @@ use lib.ListN.{length, take, drop, length-drop}
 use Rattle.rules.specs.declared.Rules.{Rules}
 use Rattle.line.specs.Lines.{feeds, reach, lines, behind}
 use Rattle.line.specs.Contents.{content_of}
-use Rattle.line.specs.declared.Content.{Content}
-use Rattle.line.specs.declared.Content.TheVariants.{Length, NoReturn}
 use Rattle.line.proofs.Feeds.{feeds_le}
 use Rattle.line.proofs.Reach.{reach_le, reach_mono, reach_add, length_lines}
 use Rattle.line.proofs.Contents.{content_two}
 use Rattle.count.specs.Tally.{record_lines}
 use Rattle.count.specs.Rules.{release_of}
-use Rattle.count.specs.declared.Release.{Release}
-use Rattle.count.specs.declared.Release.TheVariants.{Five, Other, Filled}
 use Rattle.count.proofs.Tallied.{record_two}
 use Rattle.reply.specs.declared.Refusal.{Refusal}
 use Rattle.reply.specs.declared.Refusal.TheVariants.{End, Beyond, TooFewLines}
@@ -32,7 +29,7 @@ pub record IsLocated (ρ : Rules) (s : List ℕ) (at n : ℕ) (ns : List ℕ) : 
   pub inside : at < length s
   pub head : 2 ≤ feeds (drop at s)
   pub index : read_index ρ (drop at s) ≡ counts ns
-  pub release : release_of ns ≡ Five
+  pub release : release_of ns ≡ Ok tt
   pub many : record_lines ρ ns ≤ feeds (drop at s)
   pub next : n ≡ at + reach (drop at s) (record_lines ρ ns)
 
@@ -51,7 +48,7 @@ module _ (ρ : Rules) (s : List ℕ) (at n : ℕ) (ns : List ℕ) where
   xs : List ℕ
   xs = drop at s
 
-  by_lines : (ms : List ℕ) (t : Bool) → at < length s → 2 ≤ feeds xs → read_index ρ xs ≡ counts ms → release_of ms ≡ Five → leb (record_lines ρ ms) (feeds xs) ≡ t
+  by_lines : (ms : List ℕ) (t : Bool) → at < length s → 2 ≤ feeds xs → read_index ρ xs ≡ counts ms → release_of ms ≡ Ok tt → leb (record_lines ρ ms) (feeds xs) ≡ t
       → cond t (located (at + reach xs (record_lines ρ ms)) ms) (refused TooFewLines) ≡ located n ns → IsLocated ρ s at n ns
   unfolding xs
   by_lines ms true i h r f u e =
@@ -60,11 +57,10 @@ module _ (ρ : Rules) (s : List ℕ) (at n : ℕ) (ns : List ℕ) where
       record { inside = i; head = h; index = r ∙ ap counts p; release = rw p at f; many = rw p at m; next = cc }
   by_lines ms false i h r f u e = no_record e
 
-  by_release_lem : (ms : List ℕ) (r : Release) → at < length s → 2 ≤ feeds xs → read_index ρ xs ≡ counts ms → release_of ms ≡ r → locate_release ρ xs at ms r ≡ located n ns → IsLocated ρ s at n ns
+  by_release_lem : (ms : List ℕ) (r : Result (Unit {0}) Refusal) → at < length s → 2 ≤ feeds xs → read_index ρ xs ≡ counts ms → release_of ms ≡ r → locate_release ρ xs at ms r ≡ located n ns → IsLocated ρ s at n ns
   unfolding xs
-  by_release_lem ms Five i h x f e = by_lines ms (leb (record_lines ρ ms) (feeds xs)) i h x f refl e
-  by_release_lem ms Other i h x f e = no_record e
-  by_release_lem ms (Filled g) i h x f e = no_record e
+  by_release_lem ms (Ok five) i h x f e = by_lines ms (leb (record_lines ρ ms) (feeds xs)) i h x f refl e
+  by_release_lem ms (Err r) i h x f e = no_record e
 
   by_index : (q : Indexed) → at < length s → 2 ≤ feeds xs → read_index ρ xs ≡ q → locate_index ρ xs at q ≡ located n ns → IsLocated ρ s at n ns
   by_index (counts ms) i h x e = by_release_lem ms (release_of ms) i h x refl e
@@ -96,13 +92,13 @@ line_bytes : (ρ : Rules) (x ns : List ℕ) → read_index_line ρ x ≡ counts 
 unfolding read_index_line
 line_bytes ρ x ns e = by (content_of ρ x) refl e
   where
-    whole : (n : ℕ) (t : Bool) → content_of ρ x ≡ Length n → eqb n 120 ≡ t → cond t (read_entries 40 (take (n - 0) (drop 0 x))) misformed ≡ counts ns → 121 ≤ length x
+    whole : (n : ℕ) (t : Bool) → content_of ρ x ≡ Some n → eqb n 120 ≡ t → cond t (read_entries 40 (take (n - 0) (drop 0 x))) misformed ≡ counts ns → 121 ≤ length x
     whole n true f u g = omega (arith, (content_two ρ x n f).0, eqb-true n 120 u)
     whole n false f u g = let z : ◌≡◌ {A = ℕ} 0 1 = cc in absurd (omega arith)
 
-    by : (c : Content) → content_of ρ x ≡ c → read_index_content x c ≡ counts ns → 121 ≤ length x
-    by (Length n) f g = whole n (eqb n 120) f refl g
-    by NoReturn f g = let z : ◌≡◌ {A = ℕ} 0 1 = cc in absurd (omega arith)
+    by : (c : Option ℕ) → content_of ρ x ≡ c → read_index_content x c ≡ counts ns → 121 ≤ length x
+    by (Some n) f g = whole n (eqb n 120) f refl g
+    by None f g = let z : ◌≡◌ {A = ℕ} 0 1 = cc in absurd (omega arith)
 
 -- both lines of an index are well formed
 pub record TwoLines (a b : Indexed) (ns : List ℕ) : Type 0 where

@@ -1,6 +1,7 @@
 -- Two texts with their lines at the same places that agree on the index lines of the walk's records: each record is at the same place, with
 -- the same answer and the same counts, and the walk stops at the same place with the same answer.
 -- Assumes nothing.
+use Rattle.std.specs.Prelude.{Result, Ok, Err}
 use mathlib.Core.Path.{◌≡◌, refl, sym, ◌∙◌, ap}
 use mathlib.Core.Bool.{Bool, true, false, cond}
 use mathlib.Core.List.{List}
@@ -18,8 +19,6 @@ use Rattle.line.specs.Texts.{SameLines}
 use Rattle.line.proofs.Texts.{feeds_from, reach_from}
 use Rattle.count.specs.Tally.{record_lines}
 use Rattle.count.specs.Rules.{release_of}
-use Rattle.count.specs.declared.Release.{Release}
-use Rattle.count.specs.declared.Release.TheVariants.{Five, Other, Filled}
 use Rattle.reply.specs.declared.Refusal.{Refusal}
 use Rattle.reply.specs.declared.Refusal.TheVariants.{End, Beyond, TooFewLines}
 use Rattle.place.specs.Index.{Indexed, counts, misformed, read_index}
@@ -31,10 +30,9 @@ use Rattle.place.proofs.Local.{index_local}
 -- ---- at one place
 
 module _ (ρ : Rules) (s t : List ℕ) (h : SameLines s t) where
-  same_release : (at : ℕ) (ns : List ℕ) (r : Release) → locate_release ρ (drop at s) at ns r ≡ locate_release ρ (drop at t) at ns r
-  same_release at ns Five = rw (feeds_from s t at h, reach_from s t at (record_lines ρ ns) h)
-  same_release at ns Other = refl
-  same_release at ns (Filled g) = refl
+  same_release : (at : ℕ) (ns : List ℕ) (r : Result (Unit {0}) Refusal) → locate_release ρ (drop at s) at ns r ≡ locate_release ρ (drop at t) at ns r
+  same_release at ns (Ok five) = rw (feeds_from s t at h, reach_from s t at (record_lines ρ ns) h)
+  same_release at ns (Err r) = refl
 
   same_index : (at : ℕ) (q : Indexed) → locate_index ρ (drop at s) at q ≡ locate_index ρ (drop at t) at q
   same_index at (counts ns) = same_release at ns (release_of ns)

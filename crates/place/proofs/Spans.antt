@@ -1,5 +1,6 @@
 -- R259: where the lines of each group begin and end, one group after the other, as the code finds them from the data lines on.
 -- Assumes nothing.
+use Rattle.std.specs.Prelude.{Option, Some, None}
 use mathlib.Core.Path.{◌≡◌, refl, sym, ◌∙◌, ap, ap₂}
 use mathlib.Core.List.{List, map}
 use Prim.Native.Nat.{ℕ, suc, ◌+◌, ◌-◌, ◌<◌, ◌≤◌}
@@ -15,8 +16,6 @@ use Rattle.base.proofs.UpFrom.{length_up, get_d_map_up, map_up_same}
 use Rattle.form.specs.Table.{form_of}
 use Rattle.line.specs.Lines.{reach, behind}
 use Rattle.line.specs.Places.{behind_at}
-use Rattle.line.specs.declared.Behind.{Behind}
-use Rattle.line.specs.declared.Behind.TheVariants.{At, TooFew}
 use Rattle.line.proofs.Places.{at_is, behind_at_none, behind_at_then, few_then}
 use Rattle.line.proofs.Reach.{reach_add}
 use Rattle.count.specs.Tally.{lines_by, lines_in, lines_before, record_lines}
@@ -71,7 +70,7 @@ module _ (ρ : Rules) (s : List ℕ) (from : ℕ) (ns : List ℕ) where
   -- k groups have their places, and the next begins at `at`
   pub record Shared (k at : ℕ) (starts ends : List ℕ) : Type 0 where
     pub few : k ≤ 60
-    pub place : behind_at s from (lines_before ρ ns (suc k) - 2) ≡ At at
+    pub place : behind_at s from (lines_before ρ ns (suc k) - 2) ≡ Some at
     pub begin : PlacesStored (start_from ρ s from ns) k starts
     pub end : PlacesStored (λ g. start_from ρ s from ns (suc g)) k ends
 
@@ -94,20 +93,20 @@ module _ (ρ : Rules) (s : List ℕ) (from : ℕ) (ns : List ℕ) where
           let these : many ≡ lines_in ρ ns (suc k) = l ∙ ap (λ g. lines_by ρ (form_of g) (get_or ns k 0)) one ∙ sym (lines_in_lem ρ ns (suc k)) in
           omega (arith, two_before k, lines_more ρ ns (suc k) (omega arith), line_entry ρ ns (suc k) (omega arith) (omega arith))
 
-      behind_these_lem : (b : Behind) → behind_at s at many ≡ b → behind_at s from (lines_before ρ ns (suc (suc k)) - 2) ≡ b
+      behind_these_lem : (b : Option ℕ) → behind_at s at many ≡ b → behind_at s from (lines_before ρ ns (suc (suc k)) - 2) ≡ b
       behind_these_lem b t = ap (behind_at s from) with_these ∙ behind_at_then s from _ many at p.place ∙ t
 
-      pub shared_few : behind_at s at many ≡ TooFew → locate_lines_from ρ s from ns ≡ refused TooFewLines
+      pub shared_few : behind_at s at many ≡ None → locate_lines_from ρ s from ns ≡ refused TooFewLines
       unfolding locate_lines_from
       shared_few t =
           let rest = record_lines ρ ns - lines_before ρ ns (suc (suc k)) in
           let all : record_lines ρ ns - 2 ≡ lines_before ρ ns (suc (suc k)) - 2 + rest =
           omega (arith, two_before (suc k), lines_below ρ ns (suc (suc k)) 61 (omega arith), all_lines ρ ns) in
-          ap (located_behind ns) (ap (behind_at s from) all ∙ few_then s from _ rest (behind_these_lem TooFew t))
+          ap (located_behind ns) (ap (behind_at s from) all ∙ few_then s from _ rest (behind_these_lem None t))
 
-      pub shared_more : (next : ℕ) → behind_at s at many ≡ At next → Shared (k + 1) next (set starts k at) (set ends k next)
+      pub shared_more : (next : ℕ) → behind_at s at many ≡ Some next → Shared (k + 1) next (set starts k at) (set ends k next)
       shared_more next t =
-          let here = behind_these_lem (At next) t in
+          let here = behind_these_lem (Some next) t in
           record {
             few = omega arith;
             place = ap (λ g. behind_at s from (lines_before ρ ns (suc g) - 2)) one ∙ here;

@@ -1,5 +1,6 @@
 -- Placing step by step, as the code goes: each answer by what led to it.
 -- Assumes nothing.
+use Rattle.std.specs.Prelude.{Some, None, Result, Ok, Err}
 use mathlib.Core.Path.{◌≡◌, refl, sym, ◌∙◌, ap}
 use mathlib.Core.Bool.{Bool, true, false, cond}
 use mathlib.Core.List.{List, ◌++◌}
@@ -15,14 +16,10 @@ use Rattle.line.specs.Lines.{feeds, reach, behind}
 use Rattle.line.specs.Places
 use Rattle.line.specs.Places.{behind_at}
 use Rattle.line.specs.Contents.{content_of}
-use Rattle.line.specs.declared.Content.TheVariants.{Length, NoReturn}
-use Rattle.line.specs.declared.Behind.TheVariants.{At, TooFew}
 use Rattle.line.proofs.Places.{at_is, few_is, behind_at_then, lines_at}
 use Rattle.count.specs.Tally.{record_lines}
 use Rattle.count.proofs.Tallied.{record_two}
 use Rattle.count.specs.Rules.{release_of}
-use Rattle.count.specs.declared.Release.{Release}
-use Rattle.count.specs.declared.Release.TheVariants.{Five, Other, Filled}
 use Rattle.place.specs.declared.Record.{Record}
 use Rattle.reply.specs.declared.Refusal.{Refusal}
 use Rattle.reply.specs.declared.Refusal.TheVariants.{End, Beyond, TooFewLines, Misformed}
@@ -35,15 +32,15 @@ use Rattle.place.proofs.Spans.{places_from}
 -- ---- an index line
 
 module _ (ρ : Rules) (x : List ℕ) where
-  pub line_no_return : content_of ρ x ≡ NoReturn → read_index_line ρ x ≡ misformed
+  pub line_no_return : content_of ρ x ≡ None → read_index_line ρ x ≡ misformed
   unfolding read_index_line
   line_no_return e = rw e
 
-  pub line_other_length : (n : ℕ) → content_of ρ x ≡ Length n → (n ≡ 120 → ⊥) → read_index_line ρ x ≡ misformed
+  pub line_other_length : (n : ℕ) → content_of ρ x ≡ Some n → (n ≡ 120 → ⊥) → read_index_line ρ x ≡ misformed
   unfolding read_index_line
   line_other_length n e k = rw (e, ne_eqb n 120 k)
 
-  pub line_entries : (n : ℕ) → content_of ρ x ≡ Length n → n ≡ 120 → read_index_line ρ x ≡ read_entries 40 (part 0 n x)
+  pub line_entries : (n : ℕ) → content_of ρ x ≡ Some n → n ≡ 120 → read_index_line ρ x ≡ read_entries 40 (part 0 n x)
   unfolding read_index_line
   line_entries n e k = rw (e, eq-eqb n 120 k)
 
@@ -70,9 +67,13 @@ module _ (ρ : Rules) (s : List ℕ) (at : ℕ) where
 -- ---- from the data lines on
 
 module _ (ρ : Rules) (s : List ℕ) (from : ℕ) (ns : List ℕ) where
-  pub from_release : {r : Release} → release_of ns ≡ r → locate_from ρ s from ns ≡ locate_five ρ s from ns r
+  pub with_release : release_of ns ≡ Ok tt → locate_from ρ s from ns ≡ locate_lines_from ρ s from ns
   unfolding locate_from
-  from_release e = rw e
+  with_release e = rw e
+
+  pub without_release : {r : Refusal} → release_of ns ≡ Err r → locate_from ρ s from ns ≡ refused r
+  unfolding locate_from
+  without_release e = rw e
 
 -- an answer that refuses, with its zeros
 abbrev pub RefusesWith : Refusal → Record → Type 0
@@ -91,21 +92,24 @@ lines_behind ρ s at ns = by (leb (record_lines ρ ns) (feeds (drop at s)))
     n : ℕ
     n = at + reach (drop at s) (record_lines ρ ns)
 
-    by : (t : Bool) → cond t (located n ns) (refused TooFewLines) ≡ located_behind ns (cond t (At n) TooFew)
+    by : (t : Bool) → cond t (located n ns) (refused TooFewLines) ≡ located_behind ns (cond t (Some n) None)
     by true = refl
     by false = refl
 
 module _ (ρ : Rules) (s : List ℕ) (at : ℕ) (inside : at < length s) where
-  pub first_few : behind_at s at 1 ≡ TooFew → locate ρ s at ≡ refused TooFewLines
+  pub first_few : behind_at s at 1 ≡ None → locate ρ s at ≡ refused TooFewLines
   first_few e = locate_few ρ s at inside (omega (arith, few_is s at 1 e))
 
-  module _ (second : ℕ) (f : behind_at s at 1 ≡ At second) where
-    pub second_few : behind_at s second 1 ≡ TooFew → locate ρ s at ≡ refused TooFewLines
+  module _ (second : ℕ) (f : behind_at s at 1 ≡ Some second) where
+    pub second_few : behind_at s second 1 ≡ None → locate ρ s at ≡ refused TooFewLines
     second_few e = locate_few ρ s at inside (few_is s at 2 (behind_at_then s at 1 1 second f ∙ e))
 
-    module _ (end : ℕ) (g : behind_at s second 1 ≡ At end) where
-      both : behind_at s at 2 ≡ At end
+    module _ (end : ℕ) (g : behind_at s second 1 ≡ Some end) where
+      both : behind_at s at 2 ≡ Some end
       both = behind_at_then s at 1 1 second f ∙ g
+
+      pub index_end : end ≡ at + reach (drop at s) 2
+      index_end = (at_is s at 2 end both).place
 
       second_from : behind 1 (drop at s) ≡ drop second s
       second_from = drop-drop (reach (drop at s) 1) at s ∙ ap (λ n. drop n s) (sym (at_is s at 1 second f).place)
@@ -123,14 +127,13 @@ module _ (ρ : Rules) (s : List ℕ) (at : ℕ) (inside : at < length s) where
       pub second_misformed : (a : List ℕ) → read_index_line ρ (part at second s) ≡ counts a → read_index_line ρ (part second end s) ≡ misformed → locate ρ s at ≡ refused Misformed
       second_misformed a e k = here ∙ rw (e, k)
 
-      by_release_lem : (ns : List ℕ) (r : Release) → locate_release ρ (drop at s) at ns r ≡ locate_five ρ s end ns r
+      by_release_lem : (ns : List ℕ) (r : Result (Unit {0}) Refusal) → locate_release ρ (drop at s) at ns r ≡ locate_five ρ s end ns r
       unfolding locate_lines_from
-      by_release_lem ns Five = lines_behind ρ s at ns ∙ ap (located_behind ns) (ap (behind_at s at) (two ns) ∙ behind_at_then s at 2 (record_lines ρ ns - 2) end both)
+      by_release_lem ns (Ok five) = lines_behind ρ s at ns ∙ ap (located_behind ns) (ap (behind_at s at) (two ns) ∙ behind_at_then s at 2 (record_lines ρ ns - 2) end both)
         where
           two : (ns : List ℕ) → record_lines ρ ns ≡ 2 + (record_lines ρ ns - 2)
           two ns = omega (arith, record_two ρ ns)
-      by_release_lem ns Other = refl
-      by_release_lem ns (Filled g) = refl
+      by_release_lem ns (Err r) = refl
 
       pub with_index : (a b : List ℕ) → read_index_line ρ (part at second s) ≡ counts a → read_index_line ρ (part second end s) ≡ counts b → locate ρ s at ≡ locate_from ρ s end (a ++ b)
       unfolding locate_from

@@ -1,5 +1,6 @@
 -- What an answer of placing says of the walk: 0 or 7, and a record is located; any other reply, and none is.
 -- Assumes nothing.
+use Rattle.std.specs.Prelude.{Option, Some, None}
 use mathlib.Core.Path.{◌≡◌, refl, sym, ◌∙◌, ap, subst}
 use mathlib.Core.Bool.{Bool, true, false}
 use mathlib.Core.List.{List}
@@ -11,8 +12,6 @@ use lib.Dec.{T, eqb}
 use Rattle.rules.specs.declared.Rules.{Rules}
 use Rattle.base.proofs.Choice.{true_T, T_true, or_elim}
 use Rattle.count.specs.Rules.{ruling_of}
-use Rattle.count.specs.declared.Ruling.{Ruling}
-use Rattle.count.specs.declared.Ruling.TheVariants.{Kept, Broken}
 use Rattle.place.specs.declared.Placing.{Placing}
 use Rattle.place.specs.declared.Placing.TheVariants.{Refused}
 use Rattle.reply.specs.declared.Refusal.{Refusal}
@@ -29,13 +28,13 @@ number p = (placing_reply p).number
 abbrev next : Placing → ℕ
 next p = (placing_reply p).next
 
-ruled_next : (n : ℕ) (r : Ruling) → next (ruled_at n r) ≡ n
-ruled_next n Kept = refl
-ruled_next n (Broken g) = refl
+ruled_next : (n : ℕ) (r : Option ℕ) → next (ruled_at n r) ≡ n
+ruled_next n None = refl
+ruled_next n (Some g) = refl
 
-ruled_placed : (n : ℕ) (r : Ruling) → is_placed (number (ruled_at n r)) ≡ true
-ruled_placed n Kept = refl
-ruled_placed n (Broken g) = refl
+ruled_placed : (n : ℕ) (r : Option ℕ) → is_placed (number (ruled_at n r)) ≡ true
+ruled_placed n None = refl
+ruled_placed n (Some g) = refl
 
 module _ (ρ : Rules) (s : List ℕ) (at : ℕ) where
   -- what placing refuses with is neither 0 nor 7

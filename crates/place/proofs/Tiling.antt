@@ -1,7 +1,7 @@
 -- R27, R28: lines and tiling of a located record. From its place to the next there are just as many lines as its counts say, with a line feed
 -- as the last byte. Index and groups share them out: each begins where the one before it ends, and is just its own number of lines.
 -- Assumes nothing.
-use mathlib.Core.Path.{◌≡◌, sym, ◌∙◌, ap, subst}
+use mathlib.Core.Path.{refl, ◌≡◌, sym, ◌∙◌, ap, subst}
 use mathlib.Core.List.{List, ◌++◌}
 use Prim.Native.Nat.{ℕ, suc, ◌+◌, ◌-◌, ◌<◌, ◌≤◌}
 use native.Mathlib.Nat.{add-zero}
@@ -27,7 +27,7 @@ use Rattle.place.proofs.Placed.{IsLocated, located_is}
 module _ (ρ : Rules) (s : List ℕ) (at : ℕ) (ns : List ℕ) where
   pub start_zero : start ρ s at ns 0 ≡ at
   unfolding start
-  start_zero = rw (← (before_none ρ ns).lines_are, reach_zero (drop at s), add-zero at)
+  start_zero = rw (← (before_none ρ ns 0 refl).lines_are, reach_zero (drop at s), add-zero at)
 
   -- the groups begin where the two index lines end
   pub start_one : start ρ s at ns 1 ≡ at + reach (drop at s) 2

@@ -1,13 +1,12 @@
 -- A record that is placed with 0: it is located, with the counts that placing gives, and these keep the rules on counts.
 -- Assumes nothing.
+use Rattle.std.specs.Prelude.{None, Ok}
 use mathlib.Core.Path.{◌≡◌, sym, ◌∙◌, ap}
 use mathlib.Core.List.{List}
 use Prim.Native.Nat.{ℕ}
 use lib.ListN.{drop}
 use Rattle.rules.specs.declared.Rules.{Rules}
 use Rattle.count.specs.Rules.{ruling_of}
-use Rattle.count.specs.declared.Release.TheVariants.{Five}
-use Rattle.count.specs.declared.Ruling.TheVariants.{Kept}
 use Rattle.count.proofs.Releases.{release_given}
 use Rattle.count.proofs.Rulings.{kept_ruling}
 use Rattle.place.specs.declared.Placing.TheVariants.{Placed}
@@ -18,7 +17,7 @@ use Rattle.place.proofs.Placed.{is_located}
 
 pub record IsPlaced (ρ : Rules) (s : List ℕ) (at n : ℕ) : Type 0 where
   pub located_at : locate ρ s at ≡ located n (counts_at ρ s at)
-  pub kept : ruling_of (counts_at ρ s at) ≡ Kept
+  pub kept : ruling_of (counts_at ρ s at) ≡ None
 
 pub is_placed_lem : (ρ : Rules) (s : List ℕ) (at n : ℕ) → placing_of ρ s at ≡ Placed n → IsPlaced ρ s at n
 unfolding counts_at
@@ -29,7 +28,7 @@ is_placed_lem ρ s at n e =
       inside = h.head.index.place.inside;
       head = h.head.index.place.lines;
       index = (index_is ρ (drop at s) d.ns).1 h.head.index.index;
-      release = release_given d.ns Five h.head.release;
+      release = release_given d.ns (Ok tt) h.head.release;
       many = h.enough;
       next = h.next;
     } in

@@ -1,34 +1,35 @@
 -- R21 to R23: an index is two lines with contents of 120 bytes, 40 entries each; an entry is an I3 field that has no minus.
-use Rattle.std.specs.Prelude.{◌≡◌, Bool, true, false, cond, List, [], ◌∷◌, ◌++◌, ℕ, zero, suc, ◌+◌, ◌*◌, ◌<◌, eqb, length, take, drop}
+use Rattle.std.specs.Prelude.{◌≡◌, cond, List, [], ◌∷◌, ◌++◌, ℕ, zero, suc, ◌+◌, ◌*◌, ◌<◌, eqb, length, take, drop, Option, Some, None}
 use Rattle.rules.specs.declared.Rules.{Rules}
-use Rattle.base.specs.Part.{part, over}
+use Rattle.base.specs.Part.{part}
 use Rattle.count.specs.Tally.{count_of}
 use Rattle.field.specs.Entry.{entry_of, IsEntry}
-use Rattle.field.specs.declared.IndexEntry.{IndexEntry}
-use Rattle.field.specs.declared.IndexEntry.TheVariants.{Count, Misformed}
 use Rattle.line.specs.Lines.{lines, behind}
 use Rattle.line.specs.Contents.{content_of, HasContent}
-use Rattle.line.specs.declared.Content.{Content}
-use Rattle.line.specs.declared.Content.TheVariants.{Length, NoReturn}
 
 -- the counts that entries give, or that one of them, or their line, is misformed
 pub data Indexed : Type 0 where
   counts : List ℕ → Indexed
   misformed : Indexed
 
-abbrev pub entry_then : IndexEntry → Indexed → Indexed
-entry_then (Count n) (counts ns) = counts (n ∷ ns)
-entry_then (Count n) misformed = misformed
-entry_then Misformed r = misformed
+-- the same as an answer: the counts, or none
+abbrev pub indexed : Option (List ℕ) → Indexed
+indexed (Some ns) = counts ns
+indexed None = misformed
+
+abbrev pub entry_then : Option ℕ → Indexed → Indexed
+entry_then (Some n) (counts ns) = counts (n ∷ ns)
+entry_then (Some n) misformed = misformed
+entry_then None r = misformed
 
 -- R21: so many entries of three columns, one behind the other
 unfoldable pub read_entries : ℕ → List ℕ → Indexed
 read_entries zero s = counts []
 read_entries (suc k) s = entry_then (entry_of (take 3 s)) (read_entries k (drop 3 s))
 
-abbrev pub read_index_content : List ℕ → Content → Indexed
-read_index_content x (Length n) = cond (eqb n 120) (read_entries 40 (part 0 n x)) misformed
-read_index_content x NoReturn = misformed
+abbrev pub read_index_content : List ℕ → Option ℕ → Indexed
+read_index_content x (Some n) = cond (eqb n 120) (read_entries 40 (part 0 n x)) misformed
+read_index_content x None = misformed
 
 -- an index line, with its line feed
 unfoldable pub read_index_line : Rules → List ℕ → Indexed
@@ -59,8 +60,3 @@ module _ (ρ : Rules) where
     pub many : length ns ≡ 80
     pub first : IsIndexLine (lines 1 xs) ns 0
     pub second : IsIndexLine (lines 1 (behind 1 xs)) ns 40
-
--- ---- what a function that stores the counts of a line from an index on leaves: all of them, or the answer that there are none
-abbrev pub Stored : Indexed → ℕ → List ℕ → Bool → List ℕ → Type 0
-Stored (counts ns) from old r new = (r ≡ true) × (new ≡ over from ns old)
-Stored misformed from old r new = r ≡ false

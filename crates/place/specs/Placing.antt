@@ -1,24 +1,18 @@
 -- R251: what placing answers, in its order: 2, 1, 3 for the index, 4, 5, 6, 3 for the record's other lines, 7. Locating a record
 -- tries all of these but the last; the counts that it finds are then held to their rules.
-use Rattle.std.specs.Prelude.{cond, List, map, ℕ, suc, ◌+◌, ◌-◌, eqb, leb, ltb, length, drop, replicate, ◌≡◌}
+use Rattle.std.specs.Prelude.{cond, List, map, ℕ, suc, ◌+◌, ◌-◌, eqb, leb, ltb, length, drop, replicate, ◌≡◌, Option, Some, None, Result, Ok, Err}
 use Rattle.rules.specs.declared.Rules.{Rules}
 use Rattle.base.specs.Every.{up_from}
 use Rattle.line.specs.Places.{behind_at}
-use Rattle.line.specs.declared.Behind.{Behind}
-use Rattle.line.specs.declared.Behind.TheVariants.{At, TooFew}
 use Rattle.line.specs.Lines.{feeds, reach}
 use Rattle.count.specs.Tally.{lines_before, record_lines}
 use Rattle.count.specs.Rules.{release_of, ruling_of}
-use Rattle.count.specs.declared.Release.{Release}
-use Rattle.count.specs.declared.Release.TheVariants.{Five, Other, Filled}
-use Rattle.count.specs.declared.Ruling.{Ruling}
-use Rattle.count.specs.declared.Ruling.TheVariants.{Kept, Broken}
 use Rattle.place.specs.Index.{Indexed, counts, misformed, read_index}
 use Rattle.place.specs.Parts.{start}
 use Rattle.place.specs.declared.Placing.{Placing}
 use Rattle.place.specs.declared.Record.{Record}
 use Rattle.reply.specs.declared.Refusal.{Refusal}
-use Rattle.reply.specs.declared.Refusal.TheVariants.{End, Beyond, TooFewLines, Misformed, OtherRelease, FilledVacant}
+use Rattle.reply.specs.declared.Refusal.TheVariants.{End, Beyond, TooFewLines, Misformed}
 use Rattle.place.specs.declared.Placing.TheVariants.{Placed, BrokenRule, Refused}
 
 -- the next place and the counts, or why there is no record
@@ -34,10 +28,9 @@ module _ (ρ : Rules) where
   locate_lines xs at ns = cond (leb (record_lines ρ ns) (feeds xs)) (located (at + reach xs (record_lines ρ ns)) ns) (refused TooFewLines)
 
   -- R205, R206: another release, or one of 61 to 79 has a count
-  abbrev pub locate_release : List ℕ → ℕ → List ℕ → Release → Located
-  locate_release xs at ns Five = locate_lines xs at ns
-  locate_release xs at ns Other = refused OtherRelease
-  locate_release xs at ns (Filled g) = refused (FilledVacant g)
+  abbrev pub locate_release : List ℕ → ℕ → List ℕ → Result (Unit {0}) Refusal → Located
+  locate_release xs at ns (Ok five) = locate_lines xs at ns
+  locate_release xs at ns (Err r) = refused r
 
   -- R204: one of the two is no index line, or an entry is misformed; all 80 are looked at before the release is (R252)
   abbrev pub locate_index : List ℕ → ℕ → Indexed → Located
@@ -54,9 +47,9 @@ module _ (ρ : Rules) where
       cond (ltb (length s) at) (refused Beyond) (cond (eqb (length s) at) (refused End) (locate_here (drop at s) at))
 
 -- R207: counts that break a rule have a next place all the same
-abbrev pub ruled_at : ℕ → Ruling → Placing
-ruled_at n Kept = Placed n
-ruled_at n (Broken g) = BrokenRule g n
+abbrev pub ruled_at : ℕ → Option ℕ → Placing
+ruled_at n None = Placed n
+ruled_at n (Some g) = BrokenRule g n
 
 abbrev pub placing_by : Located → Placing
 placing_by (located n ns) = ruled_at n (ruling_of ns)
@@ -105,18 +98,17 @@ carried_at ρ s at = carried (counts_at ρ s at) (starts_at ρ s at) (ends_at ρ
 
 -- ---- the same from the data lines on, as the code goes (proofs/Steps.antt)
 
-abbrev pub located_behind : List ℕ → Behind → Located
-located_behind ns (At n) = located n ns
-located_behind ns TooFew = refused TooFewLines
+abbrev pub located_behind : List ℕ → Option ℕ → Located
+located_behind ns (Some n) = located n ns
+located_behind ns None = refused TooFewLines
 
 module _ (ρ : Rules) where
   unfoldable pub locate_lines_from : List ℕ → ℕ → List ℕ → Located
   locate_lines_from s from ns = located_behind ns (behind_at s from (record_lines ρ ns - 2))
 
-  abbrev pub locate_five : List ℕ → ℕ → List ℕ → Release → Located
-  locate_five s from ns Five = locate_lines_from s from ns
-  locate_five s from ns Other = refused OtherRelease
-  locate_five s from ns (Filled g) = refused (FilledVacant g)
+  abbrev pub locate_five : List ℕ → ℕ → List ℕ → Result (Unit {0}) Refusal → Located
+  locate_five s from ns (Ok five) = locate_lines_from s from ns
+  locate_five s from ns (Err r) = refused r
 
   unfoldable pub locate_from : List ℕ → ℕ → List ℕ → Located
   locate_from s from ns = locate_five s from ns (release_of ns)
@@ -130,3 +122,8 @@ module _ (ρ : Rules) where
     pub beside : r.counts ≡ counts_by l
     pub begin : r.starts ≡ places_by (start_from s from) l
     pub end : r.ends ≡ places_by (λ ns g. start_from s from ns (suc g)) l
+
+  -- the record that is located, or why none is
+  abbrev pub Answered : List ℕ → ℕ → Located → Result Record Refusal → Type 0
+  Answered s from l (Ok r) = Answers s from l r
+  Answered s from l (Err why) = l ≡ refused why

@@ -1,5 +1,7 @@
 -- The date of group 3: its letters' first 19 decide it, and these are the first bytes of its first line.
 -- Assumes nothing.
+use Rattle.std.specs.Prelude.{Some, None, Result, Ok, Err}
+use Rattle.std.specs.Result.{result_ok}
 use mathlib.Core.Path.{◌≡◌, refl, sym, ◌∙◌, ap, ap₂, subst}
 use mathlib.Core.Bool.{false}
 use mathlib.Core.List.{List, [], ◌∷◌, ◌++◌, map}
@@ -21,7 +23,6 @@ use Rattle.base.proofs.Pieces.{BothDone, both_done}
 use Rattle.base.proofs.Taken.{drop_none, take_none, drop_take, take_both, part_begin}
 use Rattle.form.specs.declared.Form.TheVariants.{A1}
 use Rattle.form.specs.declared.Form.{Form}
-use Rattle.form.specs.declared.GroupForm.TheVariants.{Has}
 use Rattle.form.specs.Table
 use Rattle.form.specs.Table.{row_of, form_of}
 use Rattle.form.specs.Count
@@ -37,18 +38,15 @@ use Rattle.date.specs.Digits.{field_digits, bytes_at}
 use Rattle.date.specs.Date
 use Rattle.date.specs.Date.{dated_of, year, day_in_year, month, day, hour, minute, second}
 use Rattle.date.specs.declared.DigitField.{DigitField}
-use Rattle.date.specs.declared.Dated.{Dated}
-use Rattle.date.specs.declared.Dated.TheVariants.{Right, Wrong}
 use Rattle.reading.specs.Blanks.{may_be_short, filled_to}
 use Rattle.reading.specs.Plan.{Line, line_at, plan_from, plan_of}
-use Rattle.reply.specs.declared.Checked.TheVariants as C
 use Rattle.reply.specs.declared.Refusal.{Refusal}
 use Rattle.reading.specs.Read.{Cells, read_field, read_fields, columns_of, read_line, read_lines_of, read_lines, verdict_of, dated, by_date, date_verdict, letters_dated, record_dated, date_told}
-use Rattle.reading.specs.declared.RecordDate.TheVariants.{NoDate}
 use Rattle.reading.proofs.Blanks.{filled_enough, right_low}
 use Rattle.reading.proofs.Letters.{letter_byte}
 use Rattle.reading.proofs.Checking.{lines_more}
 use Rattle.reading.proofs.Sizes.{clean_read, field_done, line_done}
+use Rattle.date.specs.declared.Date.{Date}
 
 -- ---- only the beginning matters, as far as the fields go
 
@@ -171,7 +169,7 @@ module _ (ρ : Rules) (count : ℕ) (x : List ℕ) (cs : List ℤ) (h : read_lin
 
 -- ---- the date
 
-module _ (ρ : Rules) (count : ℕ) (x : List ℕ) (v : verdict_of (read_lines ρ A1 false count x) ≡ C.Right) (enough : 19 ≤ count) (k : ℕ) (q : k ≡ min (row_of A1).per_line (elements_of ρ A1 count)) where
+module _ (ρ : Rules) (count : ℕ) (x : List ℕ) (v : verdict_of (read_lines ρ A1 false count x) ≡ Ok tt) (enough : 19 ≤ count) (k : ℕ) (q : k ≡ min (row_of A1).per_line (elements_of ρ A1 count)) where
   letters_first : FirstLetters k x (map size_of (clean_read (read_lines ρ A1 false count x) v).cells)
   letters_first = let r = clean_read (read_lines ρ A1 false count x) v in first_letters ρ count x r.cells r.is enough k q
 
@@ -189,7 +187,7 @@ module _ (ρ : Rules) (count : ℕ) (x : List ℕ) (v : verdict_of (read_lines �
 
 module _ (c : Cells) where
   -- clean lines: the letters decide
-  module _ (v : verdict_of c ≡ C.Right) {d : Dated} (e : letters_dated (cells_got c) ≡ d) where
+  module _ (v : verdict_of c ≡ Ok tt) {d : Result Date ℕ} (e : letters_dated (cells_got c) ≡ d) where
     same : letters_dated (clean_read c v).cells ≡ d
     same = ap (λ g. letters_dated (cells_got g)) (sym (clean_read c v).is) ∙ e
 
@@ -198,49 +196,51 @@ module _ (c : Cells) where
         let r = clean_read c v in
         sym (ap (λ g. verdict_of (dated 3 g)) r.is ∙ verdict r.cells (letters_dated r.cells) ∙ ap date_verdict same)
       where
-        verdict : (cs : List ℤ) (d : Dated) → verdict_of (by_date cs d) ≡ date_verdict d
-        verdict cs (Right y) = refl
-        verdict cs (Wrong y) = refl
+        verdict : (cs : List ℤ) (d : Result Date ℕ) → verdict_of (by_date cs d) ≡ date_verdict d
+        verdict cs (Ok y) = refl
+        verdict cs (Err y) = refl
 
     pub told_clean : date_told c ≡ record_dated d
     told_clean = ap date_told (clean_read c v).is ∙ ap record_dated same
 
-  pub told_refused : {r : Refusal} → verdict_of c ≡ C.Refused r → date_told c ≡ NoDate
-  told_refused {r} e = by c e
-    where
-      by : (c : Cells) → verdict_of c ≡ C.Refused r → date_told c ≡ NoDate
-      by (done cs) e = let z : ◌≡◌ {A = ℕ} 0 1 = cc in absurd (omega arith)
-      by (bad q) e = refl
+-- whether lines are clean, as the code asks for it
+pub told_refused : (c : Cells) → result_ok (verdict_of c) ≡ None → date_told c ≡ None
+told_refused (done cs) e = let z : ◌≡◌ {A = ℕ} 0 1 = cc in absurd (omega arith)
+told_refused (bad q) e = refl
+
+pub told_lines : (c : Cells) {u : Unit {0}} → result_ok (verdict_of c) ≡ Some u → verdict_of c ≡ Ok tt
+told_lines (done cs) e = refl
+told_lines (bad q) e = let z : ◌≡◌ {A = ℕ} 0 1 = cc in absurd (omega arith)
 
 -- letters that tell no date are refused, and so tell none either way
 pub told_dated : (c : Cells) → date_told (dated 3 c) ≡ date_told c
 told_dated (bad r) = refl
 told_dated (done cs) = by (letters_dated cs) refl
   where
-    by : (d : Dated) → letters_dated cs ≡ d → date_told (by_date cs d) ≡ record_dated d
-    by (Right d) e = ap record_dated e
-    by (Wrong p) e = refl
+    by : (d : Result Date ℕ) → letters_dated cs ≡ d → date_told (by_date cs d) ≡ record_dated d
+    by (Ok d) e = ap record_dated e
+    by (Err p) e = refl
 
 -- ---- the whole check
 
-pub clean_date : (g : ℕ) (c : Cells) → (g ≡ 3 → ⊥) → verdict_of c ≡ C.Right → C.Right ≡ verdict_of (dated g c)
+pub clean_date : (g : ℕ) (c : Cells) → (g ≡ 3 → ⊥) → verdict_of c ≡ Ok tt → Ok tt ≡ verdict_of (dated g c)
 clean_date g (done cs) n e = rw (ne_eqb g 3 n)
 clean_date g (bad r) n e = sym e
 
-pub bad_date : (g : ℕ) (c : Cells) {r : Refusal} → verdict_of c ≡ C.Refused r → C.Refused r ≡ verdict_of (dated g c)
+pub bad_date : (g : ℕ) (c : Cells) {r : Refusal} → verdict_of c ≡ Err r → Err r ≡ verdict_of (dated g c)
 bad_date g (done cs) e = let z : ◌≡◌ {A = ℕ} 0 1 = cc in absurd (omega arith)
 bad_date g (bad r) e = sym e
 
 -- group 3 has the form A1
-pub date_has : form_of 3 ≡ Has A1
+pub date_has : form_of 3 ≡ Some A1
 unfolding Table.form_of Table.form_among Table.listed_as
 date_has = refl
 
-pub date_form : (g : ℕ) (f : Form) → form_of g ≡ Has f → g ≡ 3 → f ≡ A1
+pub date_form : (g : ℕ) (f : Form) → form_of g ≡ Some f → g ≡ 3 → f ≡ A1
 date_form g f e t =
-    let z : Has A1 ≡ Has f = sym date_has ∙ ap form_of (sym t) ∙ e in
+    let z : Some A1 ≡ Some f = sym date_has ∙ ap form_of (sym t) ∙ e in
     cc
 
 -- and its lines may not be short
-pub date_lines : (ρ : Rules) (g : ℕ) (f : Form) (count : ℕ) (x : List ℕ) → form_of g ≡ Has f → g ≡ 3 → read_lines ρ f (may_be_short g) count x ≡ read_lines ρ A1 false count x
+pub date_lines : (ρ : Rules) (g : ℕ) (f : Form) (count : ℕ) (x : List ℕ) → form_of g ≡ Some f → g ≡ 3 → read_lines ρ f (may_be_short g) count x ≡ read_lines ρ A1 false count x
 date_lines ρ g f count x e t = ap₂ (λ k short. read_lines ρ k short count x) (date_form g f e t) (ap may_be_short t)

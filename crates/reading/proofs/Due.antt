@@ -1,5 +1,6 @@
 -- First due: reading a group under its record's counts gives a reply exactly if that reply is due (specs/Due.antt).
 -- Assumes nothing.
+use Rattle.std.specs.Prelude.{Option, Some, None, Result, Ok, Err}
 use mathlib.Core.Path.{◌≡◌, refl, sym, ◌∙◌, ap, subst}
 use mathlib.Core.Bool.{Bool, true, false, cond}
 use mathlib.Core.List.{List, map}
@@ -20,8 +21,6 @@ use Rattle.base.proofs.FirstBad.{IsDone, FirstBad, bad_told, first_bad, all_done
 use Rattle.base.proofs.Taken.{part_zero}
 use Rattle.form.specs.declared.Form.{Form}
 use Rattle.form.specs.declared.Form.TheVariants.{A120}
-use Rattle.form.specs.declared.GroupForm.{GroupForm}
-use Rattle.form.specs.declared.GroupForm.TheVariants.{Has, NoGroup as NoForm}
 use Rattle.form.specs.Table
 use Rattle.form.specs.Table.{row_of, form_of}
 use Rattle.form.specs.Count.{lines_of, cells_of}
@@ -29,18 +28,12 @@ use Rattle.form.proofs.Table.{no_group as none_has, group_form, form_range}
 use Rattle.field.specs.Read.{field_of, formed, value_cells}
 use Rattle.field.specs.Grammar.{SomeField}
 use Rattle.field.proofs.Laws.{some_field}
-use Rattle.line.specs.declared.Content.{Content}
-use Rattle.line.specs.declared.Content.TheVariants.{Length, NoReturn}
 use Rattle.line.proofs.Contents.{is_content, content_is, content_taken}
 use Rattle.count.specs.Tally.{count_of}
 use Rattle.count.specs.Rules.{ruling_of}
-use Rattle.count.specs.declared.Ruling.{Ruling}
-use Rattle.count.specs.declared.Ruling.TheVariants.{Kept, Broken}
 use Rattle.count.proofs.Rulings.{kept_ruling, ruling_kept, broken_ruling, ruling_broken}
 use Rattle.date.proofs.Due as Letters
 use Rattle.date.specs.Date.{dated_of}
-use Rattle.date.specs.declared.Dated.{Dated}
-use Rattle.date.specs.declared.Dated.TheVariants.{Right, Wrong}
 use Rattle.reply.specs.declared.Refusal.{Refusal}
 use Rattle.reply.specs.declared.Refusal.TheVariants.{NoRoom, BadLine, BadField}
 use Rattle.reading.specs.Blanks.{may_be_short, is_right, filled_to, right_content}
@@ -54,6 +47,7 @@ use Rattle.reading.proofs.Lines.{right_yes, right_is, line_right, line_wrong}
 use Rattle.reading.proofs.Fields.{fields_start}
 use Rattle.reading.proofs.Sizes.{field_done}
 use Rattle.reading.proofs.Values.{fields_pieces, line_read, lines_pieces, lines_start_lem, line_read_lem, line_cells_lem, read_values, values_one}
+use Rattle.date.specs.declared.Date.{Date}
 
 -- ---- a field: 9
 
@@ -95,7 +89,7 @@ module _ (ρ : Rules) (f : Form) (g : ℕ) (count : ℕ) (x : List ℕ) where
       none : (s : List ℕ) → RightLine ρ f g count x j s → ⊥
       told : line_read ρ f short count x j ≡ bad (BadLine (planned ρ f count j).number)
 
-    right_content_lem : (s : List ℕ) → RightLine ρ f g count x j s → (right_content ρ short (columns_of f l) (line_of x j) ≡ Length (length s)) × (part 0 (length s) (line_of x j) ≡ s)
+    right_content_lem : (s : List ℕ) → RightLine ρ f g count x j s → (right_content ρ short (columns_of f l) (line_of x j) ≡ Some (length s)) × (part 0 (length s) (line_of x j) ≡ s)
     right_content_lem s r =
         let y = line_of x j in
         let e = content_is ρ y s r.content in
@@ -110,8 +104,8 @@ module _ (ρ : Rules) (f : Form) (g : ℕ) (count : ℕ) (x : List ℕ) where
     line_either : LineRight ⊎ LineWrong
     line_either = by (right_content ρ short (columns_of f l) (line_of x j)) refl
       where
-        by : (c : Content) → right_content ρ short (columns_of f l) (line_of x j) ≡ c → LineRight ⊎ LineWrong
-        by (Length n) e =
+        by : (c : Option ℕ) → right_content ρ short (columns_of f l) (line_of x j) ≡ c → LineRight ⊎ LineWrong
+        by (Some n) e =
             let i = right_is ρ short (columns_of f l) (line_of x j) n e in
             let r : RightLine ρ f g count x j (take n (line_of x j)) =
             record {
@@ -120,9 +114,9 @@ module _ (ρ : Rules) (f : Form) (g : ℕ) (count : ℕ) (x : List ℕ) where
                   (ap (is_right short (columns_of f l)) (sym (part_zero n (line_of x j))) ∙ i.right);
             } in
             inl record { content = take n (line_of x j); line = r; reads = right_reads (take n (line_of x j)) r }
-        by NoReturn e =
+        by None e =
             inr record {
-              none = λ s r. let w : Length (length s) ≡ NoReturn = sym (right_content_lem s r).0 ∙ e in let z : ◌≡◌ {A = ℕ} 0 1 = cc in omega arith;
+              none = λ s r. let w : Some (length s) ≡ None = sym (right_content_lem s r).0 ∙ e in let z : ◌≡◌ {A = ℕ} 0 1 = cc in omega arith;
               told = line_wrong ρ f short l (line_of x j) e;
             }
 
@@ -247,13 +241,13 @@ module _ (ρ : Rules) (ns : List ℕ) (g : ℕ) (x : List ℕ) (room : ℕ) wher
   refusal_given r (bad_field n e d) = to_lines d.f d.roomy ∙ ap (dated g) (field_given ρ d.f g (count_of ns g) x n e d.field)
   refusal_given r (bad_date p d) =
       to_cells d.cs d.cells
-      ∙ rw (eq-eqb g 3 d.three, (Letters.first_due (map size_of d.cs) (Wrong p)).1 d.wrong) refl
+      ∙ rw (eq-eqb g 3 d.three, (Letters.first_due (map size_of d.cs) (Err p)).1 d.wrong) refl
 
   done_given : (cs : List ℤ) → DoneDue ρ ns g x room cs → read_group ρ ns g x room ≡ done cs
   done_given cs d = to_cells cs d.cells ∙ by (eqb g 3) refl
     where
       by : (t : Bool) → eqb g 3 ≡ t → cond t (by_date cs (dated_of (map size_of cs))) (done cs) ≡ done cs
-      by true e = let t = d.date (eqb-true g 3 e) in rw ((Letters.first_due (map size_of cs) (Right t.0)).1 t.1) refl
+      by true e = let t = d.date (eqb-true g 3 e) in rw ((Letters.first_due (map size_of cs) (Ok t.0)).1 t.1) refl
       by false e = refl
 
   given : (c : Cells) → Due ρ ns g x room c → read_group ρ ns g x room ≡ c
@@ -266,9 +260,9 @@ module _ (ρ : Rules) (ns : List ℕ) (g : ℕ) (x : List ℕ) (room : ℕ) wher
   from_bad f r h (wrong_line n d) = bad_line n record { f = f; roomy = h; line = d }
   from_bad f r h (wrong_field n e d) = bad_field n e record { f = f; roomy = h; field = d }
 
-  from_date : (cs : List ℤ) (t : Bool) (c : Dated) → CellsRead ρ ns g x room cs → eqb g 3 ≡ t → dated_of (map size_of cs) ≡ c → Due ρ ns g x room (cond t (by_date cs c) (done cs))
-  from_date cs true (Right d) h e u = record { cells = h; date = λ three. (d, (Letters.first_due (map size_of cs) (Right d)).0 u) }
-  from_date cs true (Wrong p) h e u = bad_date p record { cs = cs; cells = h; three = eqb-true g 3 e; wrong = (Letters.first_due (map size_of cs) (Wrong p)).0 u }
+  from_date : (cs : List ℤ) (t : Bool) (c : Result Date ℕ) → CellsRead ρ ns g x room cs → eqb g 3 ≡ t → dated_of (map size_of cs) ≡ c → Due ρ ns g x room (cond t (by_date cs c) (done cs))
+  from_date cs true (Ok d) h e u = record { cells = h; date = λ three. (d, (Letters.first_due (map size_of cs) (Ok d)).0 u) }
+  from_date cs true (Err p) h e u = bad_date p record { cs = cs; cells = h; three = eqb-true g 3 e; wrong = (Letters.first_due (map size_of cs) (Err p)).0 u }
   from_date cs false c h e u = record { cells = h; date = λ three. absurd (eqb-false g 3 e three) }
 
   from_lines : (f : Form) (c : Cells) → Roomy ρ ns g x room f → read_lines ρ f (may_be_short g) (count_of ns g) x ≡ c → Due ρ ns g x room (dated g c)
@@ -281,18 +275,18 @@ module _ (ρ : Rules) (ns : List ℕ) (g : ℕ) (x : List ℕ) (room : ℕ) wher
   from_room f true h e = from_lines f (read_lines ρ f (may_be_short g) (count_of ns g) x) record { ruled = h; enough = leb-true (cells_of ρ f (count_of ns g)) room e } refl
   from_room f false h e = no_room record { f = f; ruled = h; few = leb-false (cells_of ρ f (count_of ns g)) room e }
 
-  from_ruling : (f : Form) (k : Ruling) → form_of g ≡ Has f → ruling_of ns ≡ k → Due ρ ns g x room (read_ruled ρ f ns g x room k)
+  from_ruling : (f : Form) (k : Option ℕ) → form_of g ≡ Some f → ruling_of ns ≡ k → Due ρ ns g x room (read_ruled ρ f ns g x room k)
   unfolding read_form
-  from_ruling f Kept h e = from_room f (leb (cells_of ρ f (count_of ns g)) room) record { form = h; kept = ruling_kept ns e } refl
-  from_ruling f (Broken k) h e = let r = form_range g f h in broken_rule k record { low = r.0; high = r.1; broken = ruling_broken ns e }
+  from_ruling f None h e = from_room f (leb (cells_of ρ f (count_of ns g)) room) record { form = h; kept = ruling_kept ns e } refl
+  from_ruling f (Some k) h e = let r = form_range g f h in broken_rule k record { low = r.0; high = r.1; broken = ruling_broken ns e }
 
   is_due : Due ρ ns g x room (read_group ρ ns g x room)
   unfolding read_group
   is_due = by (form_of g) refl
     where
-      by : (h : GroupForm) → form_of g ≡ h → Due ρ ns g x room (read_by ρ ns g x room h)
-      by (Has f) e = from_ruling f (ruling_of ns) e refl
-      by NoForm e = no_group (λ i. (none_has g).0 e record { low = i.0; high = i.1 })
+      by : (h : Option Form) → form_of g ≡ h → Due ρ ns g x room (read_by ρ ns g x room h)
+      by (Some f) e = from_ruling f (ruling_of ns) e refl
+      by None e = no_group (λ i. (none_has g).0 e record { low = i.0; high = i.1 })
 
   -- the reply that is given is the one that is due, and no other is
   pub first_due : (c : Cells) → read_group ρ ns g x room ≡ c ↔ Due ρ ns g x room c

@@ -1,6 +1,7 @@
 -- R9: a data line without its carriage return is wrong under the strict rule. What reads with 0 under it reads so under each: a line, the
 -- lines of a group, and under each that counts alike the group.
 -- Assumes nothing.
+use Rattle.std.specs.Prelude.{Option, Some, None}
 use mathlib.Core.Path.{◌≡◌, refl, sym, ◌∙◌, ap}
 use mathlib.Core.Bool.{Bool}
 use mathlib.Core.List.{List, [], ◌∷◌, ◌++◌}
@@ -13,12 +14,9 @@ use Rattle.base.specs.Pieces
 use Rattle.base.specs.Pieces.{done, bad}
 use Rattle.base.proofs.Pieces.{both_done}
 use Rattle.form.specs.declared.Form.{Form}
-use Rattle.form.specs.declared.GroupForm.TheVariants.{Has}
 use Rattle.form.specs.Table.{form_of}
 use Rattle.line.specs.Contents.{EndsInReturn, content_of}
 use Rattle.line.specs.Lines.{lines, behind}
-use Rattle.line.specs.declared.Content.{Content}
-use Rattle.line.specs.declared.Content.TheVariants.{Length, NoReturn}
 use Rattle.line.proofs.Ends.{strict_none, strict_content}
 use Rattle.count.specs.Tally.{count_of}
 use Rattle.reply.specs.declared.Refusal.TheVariants.{BadLine}
@@ -38,9 +36,9 @@ module _ (σ ρ : Rules) (only : σ.ends ≡ Strict) where
   unfolding read_line
   strict_line_read f short l x c e = by (content_of σ x) refl e
     where
-      by : (o : Content) → content_of σ x ≡ o → read_content f short l x o ≡ done c → read_content f short l x (content_of ρ x) ≡ done c
-      by (Length n) u v = rw (strict_content σ ρ only x n u) v
-      by NoReturn u v = let z : ◌≡◌ {A = ℕ} 0 1 = cc in absurd (omega arith)
+      by : (o : Option ℕ) → content_of σ x ≡ o → read_content f short l x o ≡ done c → read_content f short l x (content_of ρ x) ≡ done c
+      by (Some n) u v = rw (strict_content σ ρ only x n u) v
+      by None u v = let z : ◌≡◌ {A = ℕ} 0 1 = cc in absurd (omega arith)
 
   strict_lines_read : (f : Form) (short : Bool) (ls : List Line) (x : List ℕ) (c : List ℤ) → read_lines_of σ f short ls x ≡ done c → read_lines_of ρ f short ls x ≡ done c
   unfolding read_lines_of Pieces.gather
@@ -54,10 +52,10 @@ module _ (σ ρ : Rules) (only : σ.ends ≡ Strict) where
   unfolding read_lines
   strict_group_read alike ns g x room c e = group_by_lines ρ σ ns g x x (sym alike) same room ∙ e
     where
-      same : (f : Form) → form_of g ≡ Has f → read_lines ρ f (may_be_short g) (count_of ns g) x ≡ read_lines σ f (may_be_short g) (count_of ns g) x
+      same : (f : Form) → form_of g ≡ Some f → read_lines ρ f (may_be_short g) (count_of ns g) x ≡ read_lines σ f (may_be_short g) (count_of ns g) x
       same f u =
           let r = group_reads σ ns g x room c e in
-          let w : Has r.form ≡ Has f = sym r.has ∙ u in
+          let w : Some r.form ≡ Some f = sym r.has ∙ u in
           let k : r.form ≡ f = cc in
           let v : read_lines σ f (may_be_short g) (count_of ns g) x ≡ done c = rw k at r.lines in
           ap (λ ls. read_lines_of ρ f (may_be_short g) ls x) (plan_same ρ σ (sym alike) f (count_of ns g))

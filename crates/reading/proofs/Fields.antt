@@ -1,6 +1,7 @@
 -- The fields of a line, one after the other: the bytes that the code lends for field i are that field, filled with blanks; one field more;
 -- the line's end, sought from within its content.
 -- Assumes nothing.
+use Rattle.std.specs.Prelude.{Some}
 use mathlib.Core.Path.{◌≡◌, refl, sym, ◌∙◌, ap, subst}
 use mathlib.Core.Bool.{Bool, true, false}
 use mathlib.Core.List.{List, []}
@@ -21,7 +22,6 @@ use Rattle.base.specs.Every
 use Rattle.form.specs.declared.Form.{Form}
 use Rattle.form.specs.Table.{row_of}
 use Rattle.line.specs.Lines.{reach, Plain}
-use Rattle.line.specs.declared.Content.TheVariants.{Length}
 use Rattle.line.proofs.Feeds.{plain_take}
 use Rattle.line.proofs.Reach.{reach_past}
 use Rattle.line.proofs.Contents.{content_two, first_plain}
@@ -111,7 +111,7 @@ part_found width column stop from to s b e =
     let t : to ≡ min (column + width) stop = omega arith in
     rw (t, b)
 
-module _ (ρ : Rules) (f : Form) (short : Bool) (l : Line) (s : List ℕ) (at end n : ℕ) (inside : end ≤ length s) (e : right_content ρ short (columns_of f l) (part at end s) ≡ Length n) where
+module _ (ρ : Rules) (f : Form) (short : Bool) (l : Line) (s : List ℕ) (at end n : ℕ) (inside : end ≤ length s) (e : right_content ρ short (columns_of f l) (part at end s) ≡ Some n) where
   abbrev w : ℕ
   w = (row_of f).width
 

@@ -1,7 +1,8 @@
--- The second pass: its state as it comes to a line; a line more, and the end.
+-- The second pass: the cells of a clean line; the pass's state as it comes to a line; a line more, and the end.
 -- Assumes nothing.
+use Rattle.std.specs.Prelude.{Some, None, Ok}
 use mathlib.Core.Path.{◌≡◌, refl, sym, ◌∙◌, ap, subst}
-use mathlib.Core.Bool.{Bool, true}
+use mathlib.Core.Bool.{Bool}
 use mathlib.Core.List.{List, [], ◌++◌, append_assoc, append-nil}
 use Prim.Native.Nat.{ℕ, ◌+◌, ◌-◌, ◌*◌, ◌<◌, ◌≤◌, min}
 use native.Mathlib.Nat.{sub-zero, mul-le-mul_right}
@@ -11,27 +12,100 @@ use lib.ListN.{length, drop, length-append}
 use Rattle.rules.specs.declared.Rules.{Rules}
 use Rattle.base.specs.Part.{part, over}
 use Rattle.base.specs.Pieces.{done, cells_got}
+use Rattle.base.proofs.FirstBad.{IsDone}
 use Rattle.base.proofs.Part.{over_none, over_then, over_length, part_length}
 use Rattle.base.proofs.Pieces.{BothDone, both_done}
 use Rattle.base.proofs.Taken.{drop_none, part_begin}
 use Rattle.form.specs.declared.Form.{Form}
 use Rattle.form.specs.Table.{row_of}
 use Rattle.form.specs.Count
-use Rattle.form.specs.Count.{elements_of, cells_of}
+use Rattle.form.specs.Count.{elements_of, lines_of, cells_of}
 use Rattle.form.proofs.Rows.{row_fits}
 use Rattle.line.specs.Lines.{reach}
 use Rattle.line.specs.Contents.{content_of}
-use Rattle.line.specs.declared.Content.TheVariants.{Length, NoReturn}
 use Rattle.run.specs.Run.{run_cells}
-use Rattle.reading.specs.Blanks.{shortest, filled_to, is_right, right_content, HoldsLetters, ToPut}
-use Rattle.reading.specs.Plan.{Line, line_at, plan_from, plan_of}
-use Rattle.reply.specs.declared.Checked.TheVariants as C
+use Rattle.reading.specs.Blanks.{shortest, filled_to, right_content, HoldsLetters, ToPut}
+use Rattle.reading.specs.Plan.{Line, plan_from, plan_of}
 use Rattle.reading.specs.Read.{Cells, read_fields, columns_of, read_line, read_lines_of, read_lines, verdict_of}
 use Rattle.reading.proofs.Lines.{right_yes}
 use Rattle.reading.proofs.Fields.{line_text, line_ends, enough, end_from}
-use Rattle.reading.proofs.Checking.{Walking, line_more, lines_none, many_here, columns_here, end_range, walking_next}
+use Rattle.reading.proofs.Checking.{Walking, walking_start, walking_next, line_more, line_here, lines_none}
 use Rattle.reading.proofs.Sizes.{clean_read, LineDone, line_done, line_size, group_size}
 use Rattle.reading.proofs.Runs.{IsRun, fields_run}
+use Rattle.reading.proofs.Trying.{line_range}
+
+-- ---- a clean line
+
+module _ (ρ : Rules) (f : Form) (short : Bool) (l : Line) (s : List ℕ) (at : ℕ) (inside : at ≤ length s)
+    (clean : verdict_of (read_line ρ f short l (part at (at + reach (drop at s) 1) s)) ≡ Ok tt) where
+  abbrev end : ℕ
+  end = at + reach (drop at s) 1
+
+  its : IsDone (read_line ρ f short l (part at (at + reach (drop at s) 1) s))
+  its = clean_read (read_line ρ f short l (part at end s)) clean
+
+  here : LineDone ρ f short l (part at (at + reach (drop at s) 1) s) (its.cells)
+  here = line_done ρ f short l (part at end s) its.cells its.is
+
+  right : right_content ρ short (columns_of f l) (part at (at + reach (drop at s) 1) s) ≡ Some here.bytes
+  right = right_yes ρ short (columns_of f l) (part at end s) here.bytes here.content here.right
+
+  range : (at ≤ end) × (end ≤ length s)
+  range = line_range ρ s at inside
+
+  -- it has a content
+  pub has_content : content_of ρ (part at (at + reach (drop at s) 1) s) ≡ None → ⊥
+  has_content e =
+      let y = sym here.content ∙ e in
+      let z : ◌≡◌ {A = ℕ} 0 1 = cc in
+      absurd (omega arith)
+
+  -- which is no shorter than the code takes it to be
+  pub end_behind : (m : ℕ) → m ≡ shortest short (l.many * (row_of f).width) → at + m + reach (drop (at + m) s) 1 ≡ at + reach (drop at s) 1
+  end_behind m e =
+      end_from ρ f short l s at end here.bytes range.1 right refl m (omega (arith, e, enough ρ f short l s at end here.bytes range.1 right))
+
+  module _ (m : ℕ) (e : content_of ρ (part at (at + reach (drop at s) 1) s) ≡ Some m) where
+    bytes : here.bytes ≡ m
+    bytes = same (sym here.content ∙ e)
+      where
+        same : {a b : ℕ} → Some a ≡ Some b → a ≡ b
+        same e = cc
+
+    is : right_content ρ short (columns_of f l) (part at (at + reach (drop at s) 1) s) ≡ Some m
+    is = right ∙ ap Some bytes
+
+    pub fill_inside : at + m < length s
+    fill_inside = omega (arith, line_ends ρ f short l s at end m range.1 is, range.1)
+
+    text_done : read_fields f l (line_text f l s at (at + reach (drop at s) 1) m) ≡ done its.cells
+    text_done = subst (λ x. read_fields f l (filled_to (columns_of f l) (part 0 x (part at end s))) ≡ done its.cells) bytes here.fields
+
+    -- what its fields are read from
+    content : line_text f l s at (at + reach (drop at s) 1) m ≡ filled_to (columns_of f l) (part at (at + m) s)
+    content =
+        let n : at + m - at ≡ m = omega arith in
+        ap (filled_to (columns_of f l)) (part_begin at end m s (omega (arith, line_ends ρ f short l s at end m range.1 is))) ∙ rw n
+
+    its_run : IsRun f l.many (filled_to (columns_of f l) (part at (at + m) s)) its.cells
+    its_run = subst (λ x. IsRun f l.many x its.cells) content (fields_run f l (line_text f l s at end m) its.cells text_done)
+
+    long : length (part at (at + m) s) ≡ m
+    long = part_length s at m (omega (arith, fill_inside))
+
+    pub to_put : HoldsLetters f short → (room cell : ℕ) → cell + l.many * (row_of f).cells ≤ room → ToPut f short l.many (l.many * (row_of f).width) (part at (at + m) s) room cell
+    to_put letters room cell h = record {
+      letters = letters;
+      wide = refl;
+      long = rw long (enough ρ f short l s at end m range.1 is);
+      good = its_run.each;
+      enough_room = h;
+    }
+
+    pub line_put : run_cells f l.many (filled_to (l.many * (row_of f).width) (part at (at + m) s)) ≡ cells_got (read_line ρ f short l (part at (at + reach (drop at s) 1) s))
+    line_put = sym its_run.cells ∙ sym (ap cells_got its.is)
+
+-- ---- what has been put into a table
 
 done_same : {a b : List ℤ} → ◌≡◌ {A = Cells} (done a) (done b) → a ≡ b
 done_same e = cc
@@ -65,175 +139,83 @@ module _ {cs old table : List ℤ} {cell : ℕ} (room : length cs ≤ length old
 stored_all : (cs old table : List ℤ) (cell : ℕ) → Stored cs old cell table [] → table ≡ over 0 cs old
 stored_all cs old table cell b = b.here ∙ ap (λ l. over 0 l old) (sym (b.all ∙ append-nil b.stored))
 
--- ---- the state before line j
+-- ---- the state before line j, at the place `at` of the lines and the cell `cell` of the table
 
--- where the pass stands: the row's numbers, the lines of the group, the elements left, the next line's place and number, the next cell
-pub record Reached : Type 0 where
-  pub width : ℕ
-  pub per_line : ℕ
-  pub cells : ℕ
-  pub many : ℕ
-  pub left : ℕ
-  pub at : ℕ
-  pub cell : ℕ
-  pub j : ℕ
-  pub table : List ℤ
-
-pub record Filling (ρ : Rules) (f : Form) (short : Bool) (count : ℕ) (s : List ℕ) (old : List ℤ) (r : Reached) : Type 0 where
-  pub walk : Walking ρ f count s r.width r.per_line r.many r.left r.at r.j
-  pub sized : r.cells ≡ (row_of f).cells
+pub record Filling (ρ : Rules) (f : Form) (short : Bool) (count : ℕ) (s : List ℕ) (old : List ℤ) (left at cell j : ℕ) (table : List ℤ) : Type 0 where
+  pub walk : Walking ρ f count s left at j
   pub more : List ℤ
-  pub rest : read_lines_of ρ f short (plan_from (row_of f).per_line (elements_of ρ f count) r.j (r.many - r.j)) (drop r.at s) ≡ done more
-  pub store : Stored (cells_got (read_lines ρ f short count s)) old r.cell r.table more
+  pub rest : read_lines_of ρ f short (plan_from (row_of f).per_line (elements_of ρ f count) j (lines_of ρ f count - j)) (drop at s) ≡ done more
+  pub store : Stored (cells_got (read_lines ρ f short count s)) old cell table more
 
--- it has come to a line, of k elements, that ends at `end`
-pub record OnLine (ρ : Rules) (f : Form) (short : Bool) (count : ℕ) (s : List ℕ) (old : List ℤ) (r : Reached) : Type 0 where
-  pub room : length (cells_got (read_lines ρ f short count s)) ≤ length old
-  pub state : Filling ρ f short count s old r
-  pub further : r.j < r.many
-  pub k : ℕ
-  pub end : ℕ
-  pub elements : k ≡ min r.per_line r.left
-  pub behind : end ≡ r.at + reach (drop r.at s) 1
+module _ (ρ : Rules) (f : Form) (short : Bool) (count : ℕ) (s : List ℕ) (old : List ℤ) (clean : verdict_of (read_lines ρ f short count s) ≡ Ok tt)
+    (room : cells_of ρ f count ≤ length old) where
+  enough_room : length (cells_got (read_lines ρ f short count s)) ≤ length old
+  enough_room =
+      let r = clean_read (read_lines ρ f short count s) clean in
+      omega (arith, ap (λ g. length (cells_got g)) r.is, group_size ρ f short count s r.cells r.is, room)
 
-pub enough_room : (ρ : Rules) (f : Form) (short : Bool) (count : ℕ) (s : List ℕ) (old : List ℤ) → verdict_of (read_lines ρ f short count s) ≡ C.Right → cells_of ρ f count ≤ length old
-    → length (cells_got (read_lines ρ f short count s)) ≤ length old
-enough_room ρ f short count s old v room =
-    let r = clean_read (read_lines ρ f short count s) v in
-    omega (arith, ap (λ g. length (cells_got g)) r.is, group_size ρ f short count s r.cells r.is)
+  pub filling_start : {left : ℕ} → left ≡ elements_of ρ f count → Filling ρ f short count s old left 0 0 0 old
+  unfolding read_lines plan_of Count.lines_of
+  filling_start e =
+      let g = clean_read (read_lines ρ f short count s) clean in
+      record {
+        walk = walking_start ρ e;
+        more = cells_got (read_lines ρ f short count s);
+        rest = rw (sub-zero (lines_of ρ f count), drop_none s) (g.is ∙ ap done (sym (ap cells_got g.is)));
+        store = stored_none (cells_got (read_lines ρ f short count s)) old;
+      }
 
-pub filling_start : (ρ : Rules) {f : Form} {short : Bool} {count : ℕ} {s : List ℕ} {r : Reached} → Walking ρ f count s r.width r.per_line r.many r.left r.at r.j
-    → r.cells ≡ (row_of f).cells
-    → verdict_of (read_lines ρ f short count s) ≡ C.Right → (r.at ≡ 0) × (r.cell ≡ 0) × (r.j ≡ 0) → Filling ρ f short count s r.table r
-unfolding read_lines plan_of Count.lines_of
-filling_start ρ {f} {short} {count} {s} {r} b z v none =
-    let g = clean_read (read_lines ρ f short count s) v in
-    record {
-      walk = b;
-      sized = z;
-      more = cells_got (read_lines ρ f short count s);
-      rest = rw (none.0, none.2, sub-zero r.many, b.lines, drop_none s) (g.is ∙ ap done (sym (ap cells_got g.is)));
-      store = rw none.1 (stored_none (cells_got (read_lines ρ f short count s)) r.table);
-    }
+  module _ {left at cell j : ℕ} {table : List ℤ} (b : Filling ρ f short count s old left at cell j table) where
+    pub filling_end : lines_of ρ f count ≤ j → table ≡ over 0 (cells_got (read_lines ρ f short count s)) old
+    filling_end h =
+        let z : lines_of ρ f count - j ≡ 0 = omega arith in
+        let e : [] ≡ b.more = done_same (sym (lines_none ρ f short s (row_of f).per_line (elements_of ρ f count) j at) ∙ (rw z at b.rest)) in
+        stored_all (cells_got (read_lines ρ f short count s)) old table cell (subst (λ x. Stored (cells_got (read_lines ρ f short count s)) old cell table x) (sym e) b.store)
 
-pub filling_end : (ρ : Rules) {f : Form} {short : Bool} {count : ℕ} {s : List ℕ} {old : List ℤ} {r : Reached} → Filling ρ f short count s old r → r.many ≤ r.j
-    → r.table ≡ over 0 (cells_got (read_lines ρ f short count s)) old
-filling_end ρ {f} {short} {count} {s} {old} {r} b h =
-    let z : r.many - r.j ≡ 0 = omega arith in
-    let e : [] ≡ b.more = done_same (sym (lines_none ρ f short s (row_of f).per_line (elements_of ρ f count) r.j r.at) ∙ (rw z at b.rest)) in
-    stored_all (cells_got (read_lines ρ f short count s)) old r.table r.cell (subst (λ x. Stored (cells_got (read_lines ρ f short count s)) old r.cell r.table x) (sym e) b.store)
+    pub filling_length : length table ≡ length old
+    filling_length = stored_length enough_room b.more b.store
 
-pub filling_length : (ρ : Rules) {f : Form} {short : Bool} {count : ℕ} {s : List ℕ} {old : List ℤ} {r : Reached} → length (cells_got (read_lines ρ f short count s)) ≤ length old
-    → Filling ρ f short count s old r → length r.table ≡ length old
-filling_length ρ room b = stored_length room b.more b.store
+    module _ (h : j < lines_of ρ f count) where
+      abbrev l : Line
+      l = line_here ρ f count s b.walk
 
-module _ (ρ : Rules) {f : Form} {short : Bool} {count : ℕ} {s : List ℕ} {old : List ℤ} {r : Reached} (o : OnLine ρ f short count s old r) where
-  abbrev pub l : Line
-  l = line_at (row_of f).per_line (elements_of ρ f count) r.j
+      split : BothDone (read_line ρ f short (line_here ρ f count s b.walk) (part at (at + reach (drop at s) 1) s))
+          (read_lines_of ρ f short (plan_from (row_of f).per_line (elements_of ρ f count) (j + 1) (lines_of ρ f count - (j + 1))) (drop (at + reach (drop at s) 1) s)) b.more
+      split =
+          both_done (read_line ρ f short l (part at (at + reach (drop at s) 1) s))
+          (read_lines_of ρ f short (plan_from (row_of f).per_line (elements_of ρ f count) (j + 1) (lines_of ρ f count - (j + 1))) (drop (at + reach (drop at s) 1) s)) b.more
+          (sym (line_more ρ f count s b.walk (at + reach (drop at s) 1) refl short h) ∙ b.rest)
 
-  -- the cells behind this line
-  abbrev pub others : Cells
-  others = read_lines_of ρ f short (plan_from (row_of f).per_line (elements_of ρ f count) (r.j + 1) (r.many - (r.j + 1))) (drop o.end s)
+      pub line_is_clean : verdict_of (read_line ρ f short (line_here ρ f count s b.walk) (part at (at + reach (drop at s) 1) s)) ≡ Ok tt
+      line_is_clean = ap verdict_of split.first_is
 
-  split : BothDone (read_line ρ f short l (part r.at o.end s)) others o.state.more
-  split = both_done (read_line ρ f short l (part r.at o.end s)) others o.state.more
-      (sym (line_more ρ f count s o.state.walk o.k o.end o.elements o.behind short o.further) ∙ o.state.rest)
+      -- what is left begins with the cells of this line
+      before : Stored (cells_got (read_lines ρ f short count s)) old cell table (split.first ++ split.second)
+      before = subst (λ x. Stored (cells_got (read_lines ρ f short count s)) old cell table x) split.all b.store
 
-  here : LineDone ρ f short l (part r.at o.end s) split.first
-  here = line_done ρ f short l (part r.at o.end s) split.first split.first_is
+      size : length split.first ≡ (line_here ρ f count s b.walk).many * (row_of f).cells
+      size = line_size ρ f short l (part at (at + reach (drop at s) 1) s) split.first split.first_is
 
-  pub line_inside : (r.at ≤ o.end) × (o.end ≤ length s)
-  line_inside = end_range ρ f count s o.state.walk o.k o.end o.elements o.behind
+      pub line_room : cell + (line_here ρ f count s b.walk).many * (row_of f).cells ≤ length table
+      line_room = omega (arith, size, stored_room enough_room split.first split.second before, filling_length)
 
-  -- a clean line has a content
-  pub has_content : content_of ρ (part r.at o.end s) ≡ NoReturn → ⊥
-  has_content e =
-      let y = sym here.content ∙ e in
-      let z : ◌≡◌ {A = ℕ} 0 1 = cc in
-      absurd (omega arith)
+      pub cells_small : (line_here ρ f count s b.walk).many * (row_of f).cells ≤ 120
+      cells_small =
+          let few = mul-le-mul_right {m = l.many} {n = (row_of f).per_line} (row_of f).cells (omega arith) in
+          omega (arith, few, (row_fits f).few_cells)
 
-  -- which is no shorter than the code takes it to be
-  pub end_behind : (m : ℕ) → m ≡ shortest short (o.k * r.width) → r.at + m + reach (drop (r.at + m) s) 1 ≡ r.at + reach (drop r.at s) 1
-  end_behind m e =
-      let y = right_yes ρ short (columns_of f l) (part r.at o.end s) here.bytes here.content here.right in
-      let i = line_inside.1 in
-      let n : m ≡ shortest short (columns_of f l) = e ∙ ap (shortest short) (columns_here ρ f count s o.state.walk o.k o.end o.elements o.behind) in
-      end_from ρ f short l s r.at o.end here.bytes i y o.behind m (omega (arith, enough ρ f short l s r.at o.end here.bytes i y))
-
-  module _ (m : ℕ) (e : content_of ρ (part r.at o.end s) ≡ Length m) where
-    bytes : here.bytes ≡ m
-    bytes = same (sym here.content ∙ e)
-      where
-        same : {a b : ℕ} → Length a ≡ Length b → a ≡ b
-        same e = cc
-
-    right : right_content ρ short (columns_of f l) (part r.at o.end s) ≡ Length m
-    right = right_yes ρ short (columns_of f l) (part r.at o.end s) m e (subst (λ x. is_right short (columns_of f l) (part 0 x (part r.at o.end s)) ≡ true) bytes here.right)
-
-    inside : o.end ≤ length s
-    inside = line_inside.1
-
-    pub fill_inside : r.at + m < length s
-    fill_inside = omega (arith, line_ends ρ f short l s r.at o.end m inside right, inside)
-
-    text_done : read_fields f l (line_text f l s r.at o.end m) ≡ done split.first
-    text_done = subst (λ x. read_fields f l (filled_to (columns_of f l) (part 0 x (part r.at o.end s))) ≡ done split.first) bytes here.fields
-
-    columns : o.k * r.width ≡ columns_of f l
-    columns = columns_here ρ f count s o.state.walk o.k o.end o.elements o.behind
-
-    many : l.many ≡ o.k
-    many = sym (many_here ρ f count s o.state.walk o.k o.end o.elements o.behind)
-
-    -- what its fields are read from
-    content : line_text f l s r.at o.end m ≡ filled_to (o.k * r.width) (part r.at (r.at + m) s)
-    content =
-        let n : r.at + m - r.at ≡ m = omega arith in
-        ap (filled_to (columns_of f l)) (part_begin r.at o.end m s (omega (arith, line_ends ρ f short l s r.at o.end m inside right))) ∙ rw (n, columns)
-
-    its_run : IsRun f o.k (filled_to (o.k * r.width) (part r.at (r.at + m) s)) split.first
-    its_run =
-        subst (λ x. IsRun f o.k x split.first) content
-        (subst (λ k. IsRun f k (line_text f l s r.at o.end m) split.first) many (fields_run f l (line_text f l s r.at o.end m) split.first text_done))
-
-    -- what is left begins with the cells of this line
-    before : Stored (cells_got (read_lines ρ f short count s)) old r.cell r.table (split.first ++ split.second)
-    before = subst (λ x. Stored (cells_got (read_lines ρ f short count s)) old r.cell r.table x) split.all o.state.store
-
-    size : length split.first ≡ o.k * (row_of f).cells
-    size = line_size ρ f short l (part r.at o.end s) split.first split.first_is ∙ ap (λ k. k * (row_of f).cells) many
-
-    pub line_room : r.cell + o.k * (row_of f).cells ≤ length r.table
-    line_room = omega (arith, size, stored_room o.room split.first split.second before, filling_length ρ o.room o.state)
-
-    pub cells_small : (o.k * r.cells ≤ 120) × (r.cell + o.k * r.cells ≤ length old)
-    cells_small =
-        let sized = ap (λ n. o.k * n) o.state.sized in
-        let few = mul-le-mul_right {m = o.k} {n = (row_of f).per_line} (row_of f).cells (omega (arith, o.elements, o.state.walk.per)) in
-        (omega (arith, sized, few, (row_fits f).few_cells), omega (arith, sized, line_room, filling_length ρ o.room o.state))
-
-    long : length (part r.at (r.at + m) s) ≡ m
-    long = part_length s r.at m (omega (arith, fill_inside))
-
-    pub to_put : HoldsLetters f short → ToPut f short o.k (o.k * r.width) (part r.at (r.at + m) s) (length r.table) r.cell
-    to_put letters = record {
-      letters = letters;
-      wide = ap (λ n. o.k * n) o.state.walk.wide;
-      long = rw (long, columns) (enough ρ f short l s r.at o.end m inside right);
-      good = its_run.each;
-      enough_room = line_room;
-    }
-
-    -- its cells are put: the next line
-    pub filling_next : {new : List ℤ} → new ≡ over r.cell (run_cells f o.k (filled_to (o.k * r.width) (part r.at (r.at + m) s))) r.table
-        → Filling ρ f short count s old
-        record { width = r.width; per_line = r.per_line; cells = r.cells; many = r.many; left = r.left - o.k; at = o.end; cell = r.cell + o.k * r.cells; j = r.j + 1; table = new }
-    filling_next {new} put =
-        record {
-          walk = walking_next ρ f count s o.state.walk o.k o.end o.elements o.behind o.further;
-          sized = o.state.sized;
-          more = split.second;
-          rest = split.second_is;
-          store = subst (λ n. Stored (cells_got (read_lines ρ f short count s)) old (r.cell + n) new split.second) (size ∙ ap (λ n. o.k * n) (sym o.state.sized))
-              (stored_more o.room split.first split.second new before (put ∙ ap (λ y. over r.cell y r.table) (sym its_run.cells)));
-        }
+      -- its cells are put: the next line
+      pub filling_next : (next : ℕ) {new : List ℤ} → next ≡ at + reach (drop at s) 1
+          → new ≡ over cell (cells_got (read_line ρ f short (line_here ρ f count s b.walk) (part at (at + reach (drop at s) 1) s))) table
+          → Filling ρ f short count s old (left - min (row_of f).per_line left) next (cell + (line_here ρ f count s b.walk).many * (row_of f).cells) (j + 1) new
+      filling_next next {new} w put =
+          subst
+          (λ e. Filling ρ f short count s old (left - min (row_of f).per_line left) e (cell + (line_here ρ f count s b.walk).many * (row_of f).cells) (j + 1) new)
+          (sym w)
+          record {
+            walk = walking_next ρ f count s b.walk (at + reach (drop at s) 1) refl h;
+            more = split.second;
+            rest = split.second_is;
+            store = subst (λ n. Stored (cells_got (read_lines ρ f short count s)) old (cell + n) new split.second) size
+                (stored_more enough_room split.first split.second new before (put ∙ ap (λ y. over cell y table) (ap cells_got split.first_is)));
+          }

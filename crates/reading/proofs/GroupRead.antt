@@ -1,5 +1,6 @@
 -- What it says that a group reads with 0, as one record of facts, both ways: what is due (proofs/Due), with the lines as the definition has them.
 -- Assumes nothing.
+use Rattle.std.specs.Prelude.{Some, None, Ok}
 use mathlib.Core.Path.{◌≡◌, ◌∙◌, sym}
 use mathlib.Core.List.{List, map}
 use Prim.Native.Nat.{ℕ, ◌≤◌}
@@ -9,18 +10,15 @@ use Rattle.rules.specs.declared.Rules.{Rules}
 use Rattle.base.specs.Pieces.{done}
 use Rattle.base.specs.Sign.{size_of}
 use Rattle.form.specs.declared.Form.{Form}
-use Rattle.form.specs.declared.GroupForm.TheVariants.{Has}
 use Rattle.form.specs.Table.{form_of}
 use Rattle.form.specs.Count.{cells_of}
 use Rattle.count.specs.Tally.{count_of, cells_in}
 use Rattle.count.specs.Rules.{ruling_of}
-use Rattle.count.specs.declared.Ruling.TheVariants.{Kept}
 use Rattle.count.proofs.Rulings.{ruling_kept}
 use Rattle.count.proofs.Tallied.{cells_has}
 use Rattle.date.specs.Date.{dated_of}
 use Rattle.date.proofs.Due as Letters
 use Rattle.date.specs.declared.Date.{Date}
-use Rattle.date.specs.declared.Dated.TheVariants.{Right}
 use Rattle.reading.specs.Blanks.{may_be_short}
 use Rattle.reading.specs.Read.{read_lines, read_group}
 use Rattle.reading.proofs.Due.{lines_read, lines_clean, first_due}
@@ -30,18 +28,18 @@ use Rattle.reading.proofs.Values.{read_values}
 -- letters tell a date
 pub record TellsDate (letters : List ℕ) : Type 0 where
   pub date : Date
-  pub right : dated_of letters ≡ Right date
+  pub right : dated_of letters ≡ Ok date
 
 -- the lines y of group g read as the cells c
 pub record GroupReads (ρ : Rules) (ns : List ℕ) (g : ℕ) (y : List ℕ) (room : ℕ) (c : List ℤ) : Type 0 where
   pub form : Form
-  pub has : form_of g ≡ Has form
+  pub has : form_of g ≡ Some form
   pub enough : cells_of ρ form (count_of ns g) ≤ room
   pub lines : read_lines ρ form (may_be_short g) (count_of ns g) y ≡ done c
   pub date : g ≡ 3 → TellsDate (map size_of c)
 
 module _ (ρ : Rules) (ns : List ℕ) (g : ℕ) (y : List ℕ) (room : ℕ) (c : List ℤ) where
-  pub reads_group : ruling_of ns ≡ Kept → GroupReads ρ ns g y room c → read_group ρ ns g y room ≡ done c
+  pub reads_group : ruling_of ns ≡ None → GroupReads ρ ns g y room c → read_group ρ ns g y room ≡ done c
   reads_group kept r =
       let f = r.form in
       let n = count_of ns g in
@@ -52,7 +50,7 @@ module _ (ρ : Rules) (ns : List ℕ) (g : ℕ) (y : List ℕ) (room : ℕ) (c :
           clean = lines_clean ρ f g n y c r.lines;
           values = read_values ρ f g n y c r.lines;
         };
-        date = λ three. let d = r.date three in (d.date, (Letters.first_due (map size_of c) (Right d.date)).0 d.right);
+        date = λ three. let d = r.date three in (d.date, (Letters.first_due (map size_of c) (Ok d.date)).0 d.right);
       }
 
   pub group_reads : read_group ρ ns g y room ≡ done c → GroupReads ρ ns g y room c
@@ -64,7 +62,7 @@ module _ (ρ : Rules) (ns : List ℕ) (g : ℕ) (y : List ℕ) (room : ℕ) (c :
         has = h.roomy.ruled.form;
         enough = h.roomy.enough;
         lines = lines_read ρ h.f g (count_of ns g) y c h.clean h.values;
-        date = λ three. let t = d.date three in record { date = t.0; right = (Letters.first_due (map size_of c) (Right t.0)).1 t.1 };
+        date = λ three. let t = d.date three in record { date = t.0; right = (Letters.first_due (map size_of c) (Ok t.0)).1 t.1 };
       }
 
 -- so it has as many cells as its count says

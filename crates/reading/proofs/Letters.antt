@@ -1,6 +1,7 @@
 -- Forms of letters: groups whose lines may be short have one; a text of their width is a field exactly if its bytes print, and its cells are
 -- its bytes.
 -- Assumes nothing.
+use Rattle.std.specs.Prelude.{Some}
 use mathlib.Core.Path.{◌≡◌, refl, sym, ◌∙◌, ap, subst}
 use mathlib.Core.Bool.{Bool, true, false, cond, ◌||◌}
 use mathlib.Core.List.{List, [], ◌∷◌, map}
@@ -15,15 +16,14 @@ use Rattle.base.specs.Ascii.{printable}
 use Rattle.base.specs.Every.{every}
 use Rattle.base.proofs.Choice.{or_elim, true_T, not_T_false}
 use Rattle.form.specs.declared.Form.{Form}
-use Rattle.form.specs.declared.Form.TheVariants.{A120, A1}
-use Rattle.form.specs.declared.GroupForm.TheVariants.{Has}
+use Rattle.form.specs.declared.Form.TheVariants.{F7, A120, A1, F8, I2, I3, I1, E11, E20, E8}
 use Rattle.form.specs.Table
 use Rattle.form.specs.Table.{row_of, form_of}
 use Rattle.field.specs.Read
 use Rattle.field.specs.Read.{field_of, formed, value_cells, ReadsAs}
 use Rattle.field.specs.declared.Value.{Value}
 use Rattle.field.specs.declared.Value.TheVariants.{Cell, Letters, Misformed}
-use Rattle.reading.specs.Blanks.{MayBeShort, may_be_short, HoldsLetters}
+use Rattle.reading.specs.Blanks.{MayBeShort, may_be_short, is_letters, HoldsLetters}
 
 -- R64: the test passes exactly where the statement holds
 pub short_exactly : (g : ℕ) → T (may_be_short g) ↔ MayBeShort g
@@ -44,18 +44,33 @@ short_exactly g = (there, back)
 pub not_short : (g : ℕ) → (MayBeShort g → ⊥) → may_be_short g ≡ false
 not_short g n = not_T_false (may_be_short g) (λ t. n ((short_exactly g).0 t))
 
-pub short_letters : (g : ℕ) (f : Form) → form_of g ≡ Has f → HoldsLetters f (may_be_short g)
+pub short_letters : (g : ℕ) (f : Form) → form_of g ≡ Some f → HoldsLetters f (may_be_short g)
 unfolding Table.form_of Table.form_among Table.listed_as
 short_letters g f e t =
     ⊎_elim
-    (λ h. inl (form_is A120 2 h refl))
-    (⊎_elim (λ h. inr (form_is A1 54 h refl)) (λ h. inr (form_is A1 55 h refl)))
+    (λ h. subst (λ k. T (is_letters k)) (sym (form_is A120 2 h refl)) tt)
+    (⊎_elim
+    (λ h. subst (λ k. T (is_letters k)) (sym (form_is A1 54 h refl)) tt)
+    (λ h. subst (λ k. T (is_letters k)) (sym (form_is A1 55 h refl)) tt))
     ((short_exactly g).0 (true_T (may_be_short g) t))
   where
-    form_is : (k : Form) (n : ℕ) → g ≡ n → form_of n ≡ Has k → f ≡ k
+    form_is : (k : Form) (n : ℕ) → g ≡ n → form_of n ≡ Some k → f ≡ k
     form_is k n h u =
-        let z : Has f ≡ Has k = sym e ∙ ap form_of h ∙ u in
+        let z : Some f ≡ Some k = sym e ∙ ap form_of h ∙ u in
         cc
+
+-- the two forms of letters
+pub letters_forms : (f : Form) → T (is_letters f) → (f ≡ A120) ⊎ (f ≡ A1)
+letters_forms A120 t = inl refl
+letters_forms A1 t = inr refl
+letters_forms F7 t = absurd t
+letters_forms F8 t = absurd t
+letters_forms I2 t = absurd t
+letters_forms I3 t = absurd t
+letters_forms I1 t = absurd t
+letters_forms E11 t = absurd t
+letters_forms E20 t = absurd t
+letters_forms E8 t = absurd t
 
 -- a statement on forms of letters holds if it holds of both
 both_forms : (P : Form → Type 0) {f : Form} → (f ≡ A120) ⊎ (f ≡ A1) → P A120 → P A1 → P f

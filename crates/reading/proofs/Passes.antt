@@ -1,6 +1,7 @@
 -- The two passes over a group by themselves: what the check finds and what is filled are the reading of the group into a table with just as many
 -- cells as it needs. Room is no question then, so lines and date decide.
 -- Assumes nothing.
+use Rattle.std.specs.Prelude.{Some, None, Ok}
 use mathlib.Core.Path.{◌≡◌, refl, sym, ◌∙◌, ap}
 use mathlib.Core.List.{List, [], ◌++◌}
 use Prim.Native.Nat.{ℕ, ◌+◌, ◌-◌, ◌≤◌}
@@ -13,22 +14,19 @@ use Rattle.base.specs.Part.{part, over}
 use Rattle.base.specs.Pieces.{done, cells_got}
 use Rattle.base.proofs.Part.{over_all, over_lent, part_length}
 use Rattle.form.specs.declared.Form.{Form}
-use Rattle.form.specs.declared.GroupForm.TheVariants.{Has}
 use Rattle.form.specs.Table.{form_of}
 use Rattle.form.specs.Count.{cells_of}
 use Rattle.form.proofs.Table.{group_form}
 use Rattle.count.specs.Rules.{ruling_of}
-use Rattle.count.specs.declared.Ruling.TheVariants.{Kept}
 use Rattle.count.specs.Tally.{count_of, cells_in}
 use Rattle.count.proofs.Tallied.{cells_has}
-use Rattle.reply.specs.declared.Checked.TheVariants as C
 use Rattle.reading.specs.Blanks.{may_be_short}
 use Rattle.reading.specs.Read.{Cells, read_lines, dated, read_form, read_group, verdict_of}
 use Rattle.reading.proofs.Promises.{no_elements, read_none}
 use Rattle.reading.proofs.Sizes.{clean_read, group_size}
 use Rattle.reading.proofs.Steps.{clean_cells}
 
-module _ (ρ : Rules) (ns : List ℕ) (g : ℕ) (x : List ℕ) (kept : ruling_of ns ≡ Kept) where
+module _ (ρ : Rules) (ns : List ℕ) (g : ℕ) (x : List ℕ) (kept : ruling_of ns ≡ None) where
   abbrev fitting : Cells
   fitting = read_group ρ ns g x (cells_in ρ ns g)
 
@@ -38,7 +36,7 @@ module _ (ρ : Rules) (ns : List ℕ) (g : ℕ) (x : List ℕ) (kept : ruling_of
       let f = group_form g low high in
       (read_none ρ ns g x (cells_in ρ ns g) f.0 f.1 kept none, cells_has ρ ns g f.0 f.1 ∙ ap (cells_of ρ f.0) none ∙ (no_elements ρ f.0).1)
 
-  module _ (f : Form) (has : form_of g ≡ Has f) {count : ℕ} (its : count ≡ count_of ns g) where
+  module _ (f : Form) (has : form_of g ≡ Some f) {count : ℕ} (its : count ≡ count_of ns g) where
     abbrev lines : Cells
     lines = read_lines ρ f (may_be_short g) count x
 
@@ -49,14 +47,14 @@ module _ (ρ : Rules) (ns : List ℕ) (g : ℕ) (x : List ℕ) (kept : ruling_of
     unfolding read_group read_form
     fitting_is = rw (has, kept, fitting_cells, ← its, le-leb (cells_of ρ f count) (cells_of ρ f count) (omega arith)) refl
 
-    module _ (clean : verdict_of fitting ≡ C.Right) where
-      dated_clean : verdict_of (dated g lines) ≡ C.Right
+    module _ (clean : verdict_of fitting ≡ Ok tt) where
+      dated_clean : verdict_of (dated g lines) ≡ Ok tt
       dated_clean = ap verdict_of (sym fitting_is) ∙ clean
 
       fitting_lines : fitting ≡ lines
       fitting_lines = fitting_is ∙ clean_cells g lines dated_clean
 
-      pub lines_clean : verdict_of lines ≡ C.Right
+      pub lines_clean : verdict_of lines ≡ Ok tt
       lines_clean = ap verdict_of (sym fitting_lines) ∙ clean
 
       -- what was filled in a part of the table that was lent

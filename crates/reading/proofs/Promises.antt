@@ -2,6 +2,7 @@
 -- stands behind the cells; a broken rule on counts is 7 for every group; a group reads the same into every table with room; a count of 0
 -- gives 0 and no cells.
 -- Assumes nothing.
+use Rattle.std.specs.Prelude.{Option, Some, None, Ok}
 use mathlib.Core.Path.{◌≡◌, refl, sym, ◌∙◌, ap}
 use mathlib.Core.Bool.{Bool}
 use mathlib.Core.List.{List, [], ◌∷◌, map, ◌++◌}
@@ -19,7 +20,6 @@ use Rattle.base.specs.Every
 use Rattle.base.specs.Pieces
 use Rattle.base.specs.Pieces.{done, bad}
 use Rattle.form.specs.declared.Form.{Form}
-use Rattle.form.specs.declared.GroupForm.TheVariants.{Has}
 use Rattle.form.specs.Table.{form_of, NoSuchGroup}
 use Rattle.form.specs.Count
 use Rattle.form.specs.Count.{lines_of, cells_of}
@@ -32,12 +32,9 @@ use Rattle.count.proofs.Rulings.{broken_group}
 use Rattle.date.proofs.Due.{blamed_position}
 use Rattle.count.specs.Tally.{count_of}
 use Rattle.count.specs.Rules.{ruling_of}
-use Rattle.count.specs.declared.Ruling.{Ruling}
-use Rattle.count.specs.declared.Ruling.TheVariants.{Kept, Broken}
 use Rattle.reply.specs.declared.Refusal.{Refusal}
 use Rattle.reply.specs.declared.Reply.{Reply}
 use Rattle.reply.specs.declared.Refusal.TheVariants.{NoSuchNumber, BrokenRule, NoRoom, BadLine, BadField, BadDate}
-use Rattle.reply.specs.declared.Answer.TheVariants.{Done}
 use Rattle.reading.specs.Numbered.{group_refusals, given_refusals, reading_rows}
 use Rattle.reading.specs.Due.{RuleDue, TableShort, RefusedFor, no_group, broken_rule, no_room, bad_line, bad_field, bad_date, Due}
 use Rattle.reading.specs.Blanks.{may_be_short}
@@ -109,7 +106,7 @@ done_read_holds B cs old = take_at cs (drop (0 + length cs) old) (length cs) ref
 pub cells_keep_rest : (B : Type 0) (cs old : List ℤ) → drop (length cs) (table_by {B = B} (done cs) old) ≡ drop (length cs) old
 cells_keep_rest B cs old = rw (zero-add (length cs)) (drop_at cs (drop (length cs) old) (length cs) refl)
 
-pub done_read_keeps_rest : (g : Cells) (old : List ℤ) (n : ℕ) → reading_of g ≡ Done n → drop n (table_by g old) ≡ drop n old
+pub done_read_keeps_rest : (g : Cells) (old : List ℤ) (n : ℕ) → reading_of g ≡ Ok n → drop n (table_by g old) ≡ drop n old
 done_read_keeps_rest (done cs) old n e =
     let m : length cs ≡ n = cc in
     rw (← m) (cells_keep_rest Refusal cs old)
@@ -117,22 +114,22 @@ done_read_keeps_rest (bad r) old n e = let z : ◌≡◌ {A = ℕ} 0 1 = cc in a
 
 module _ (ρ : Rules) where
   -- R261: a record that breaks a rule on counts gives 7 for every group, whatever its lines hold
-  pub read_broken : (ns : List ℕ) (g : ℕ) (x : List ℕ) (room h : ℕ) (f : Form) → form_of g ≡ Has f → ruling_of ns ≡ Broken h → read_group ρ ns g x room ≡ bad (BrokenRule h)
+  pub read_broken : (ns : List ℕ) (g : ℕ) (x : List ℕ) (room h : ℕ) (f : Form) → form_of g ≡ Some f → ruling_of ns ≡ Some h → read_group ρ ns g x room ≡ bad (BrokenRule h)
   unfolding read_group
   read_broken ns g x room h f e r = rw (e, r)
 
 module _ (ρ : Rules) where
   -- R264: a group reads the same into every table with room for what its counts, if they keep the rules on counts, let it fill
-  pub read_room : (ns : List ℕ) (g : ℕ) (x : List ℕ) (room more : ℕ) (f : Form) → form_of g ≡ Has f
-      → (ruling_of ns ≡ Kept → (cells_of ρ f (count_of ns g) ≤ room) × (cells_of ρ f (count_of ns g) ≤ more)) → read_group ρ ns g x room ≡ read_group ρ ns g x more
+  pub read_room : (ns : List ℕ) (g : ℕ) (x : List ℕ) (room more : ℕ) (f : Form) → form_of g ≡ Some f
+      → (ruling_of ns ≡ None → (cells_of ρ f (count_of ns g) ≤ room) × (cells_of ρ f (count_of ns g) ≤ more)) → read_group ρ ns g x room ≡ read_group ρ ns g x more
   unfolding read_group read_form
   read_room ns g x room more f e h = rw e (by (ruling_of ns) refl)
     where
-      by : (k : Ruling) → ruling_of ns ≡ k → read_ruled ρ f ns g x room k ≡ read_ruled ρ f ns g x more k
-      by Kept u =
+      by : (k : Option ℕ) → ruling_of ns ≡ k → read_ruled ρ f ns g x room k ≡ read_ruled ρ f ns g x more k
+      by None u =
           let m = h u in
           rw (le-leb (cells_of ρ f (count_of ns g)) room m.0, le-leb (cells_of ρ f (count_of ns g)) more m.1) refl
-      by (Broken b) u = refl
+      by (Some b) u = refl
 
 -- ---- R268: a group without elements reads with 0 and no cells, into an empty table too
 
@@ -144,7 +141,7 @@ unfolding read_lines read_lines_of plan_of Count.lines_of plan_from Pieces.gathe
 no_lines ρ f short x = rw (no_elements ρ f).0
 
 module _ (ρ : Rules) where
-  pub read_none : (ns : List ℕ) (g : ℕ) (x : List ℕ) (room : ℕ) (f : Form) → form_of g ≡ Has f → ruling_of ns ≡ Kept → count_of ns g ≡ 0 → read_group ρ ns g x room ≡ done []
+  pub read_none : (ns : List ℕ) (g : ℕ) (x : List ℕ) (room : ℕ) (f : Form) → form_of g ≡ Some f → ruling_of ns ≡ None → count_of ns g ≡ 0 → read_group ρ ns g x room ≡ done []
   unfolding read_group read_form
   read_none ns g x room f e r c =
       rw (e, r, c, (no_elements ρ f).1, le-leb 0 room (omega arith), no_lines ρ f (may_be_short g) x, ne_eqb g 3 other)

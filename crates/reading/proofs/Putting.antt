@@ -17,6 +17,7 @@ use Rattle.form.specs.declared.Form.{Form}
 use Rattle.form.specs.Table.{row_of}
 use Rattle.run.specs.Run.{run_formed, run_cells}
 use Rattle.reading.specs.Blanks.{filled_to, ToPut}
+use Rattle.reading.proofs.Letters.{letters_forms}
 use Rattle.reading.proofs.Blanks.{filled_enough, filled_length, filled_get_d, filled_take}
 use Rattle.reading.proofs.Runs.{formed_front, cells_front, letters_wide, letters_run}
 
@@ -78,10 +79,10 @@ module _ {f : Form} {short : Bool} {k columns : ℕ} {content : List ℕ} {room 
   cells = ap (run_cells f k) filled ∙ sym (cells_front f k (filled_to columns content))
 
   pub short_room : short ≡ true → (length (part 0 there content) ≤ columns) × (cell + columns ≤ room)
-  short_room e = (omega (arith, front_long), omega (arith, p.enough_room, p.wide, ap (λ n. k * n) (letters_wide f (p.letters e))))
+  short_room e = (omega (arith, front_long), omega (arith, p.enough_room, p.wide, ap (λ n. k * n) (letters_wide f (letters_forms f (p.letters e)))))
 
   pub short_put : short ≡ true → (old : List ℤ) {new : List ℤ} → new ≡ over cell (map pos (filled_to columns (part 0 there content))) old → new ≡ over cell (run_cells f k (filled_to columns content)) old
-  short_put e old n = n ∙ ap (λ cs. over cell cs old) (letters_run f (p.letters e) k (filled_to columns (part 0 there content)) all_columns good ∙ cells)
+  short_put e old n = n ∙ ap (λ cs. over cell cs old) (letters_run f (letters_forms f (p.letters e)) k (filled_to columns (part 0 there content)) all_columns good ∙ cells)
 
   module _ (whole : short ≡ false) where
     full : filled_to columns (part 0 there content) ≡ part 0 there content

@@ -1,5 +1,6 @@
 -- How many cells are read: a field's as many as its form has, a line's for each of its elements, a group's for each of its elements.
 -- Assumes nothing.
+use Rattle.std.specs.Prelude.{Option, Some, None, Ok}
 use mathlib.Core.Path.{◌≡◌, refl, sym, ◌∙◌, ap}
 use mathlib.Core.Bool.{Bool, true, false, cond}
 use mathlib.Core.List.{List, []}
@@ -28,13 +29,10 @@ use Rattle.field.specs.Read.{field_of, formed, value_cells, ReadsAs}
 use Rattle.field.proofs.Laws.{lawful}
 use Rattle.line.specs.Lines.{reach}
 use Rattle.line.specs.Contents.{content_of}
-use Rattle.line.specs.declared.Content.{Content}
-use Rattle.line.specs.declared.Content.TheVariants.{Length, NoReturn}
 use Rattle.reading.specs.Blanks.{filled_to, is_right}
 use Rattle.reading.specs.Plan.{Line, line_at, plan_from, plan_of}
 use Rattle.reply.specs.declared.Refusal.{Refusal}
 use Rattle.reply.specs.declared.Refusal.TheVariants.{BadLine, BadField}
-use Rattle.reply.specs.declared.Checked.TheVariants as C
 use Rattle.reading.specs.Read.{Cells, read_field, read_fields, columns_of, read_content, read_line, read_lines_of, read_lines, verdict_of}
 use Rattle.reading.proofs.Checking.{lines_more, lines_none}
 
@@ -42,7 +40,7 @@ no_done : {A : Type 0} {r : Refusal} {cs : List ℤ} → ◌≡◌ {A = Cells} (
 no_done e = let z : ◌≡◌ {A = ℕ} 0 1 = cc in absurd (omega arith)
 
 -- what is clean was read
-pub clean_read : (g : Cells) → verdict_of g ≡ C.Right → IsDone g
+pub clean_read : (g : Cells) → verdict_of g ≡ Ok tt → IsDone g
 clean_read (done cs) e = record { cells = cs; is = refl }
 clean_read (bad r) e = let z : ◌≡◌ {A = ℕ} 0 1 = cc in absurd (omega arith)
 
@@ -80,7 +78,7 @@ fields_size f number e (suc k) s cs h =
 -- a line that was read is right, and its fields were
 pub record LineDone (ρ : Rules) (f : Form) (short : Bool) (l : Line) (x : List ℕ) (cs : List ℤ) : Type 0 where
   pub bytes : ℕ
-  pub content : content_of ρ x ≡ Length bytes
+  pub content : content_of ρ x ≡ Some bytes
   pub right : is_right short (columns_of f l) (part 0 bytes x) ≡ true
   pub fields : read_fields f l (filled_to (columns_of f l) (part 0 bytes x)) ≡ done cs
 
@@ -88,14 +86,14 @@ pub line_done : (ρ : Rules) (f : Form) (short : Bool) (l : Line) (x : List ℕ)
 unfolding read_line
 line_done ρ f short l x cs h = by (content_of ρ x) refl h
   where
-    test : (n : ℕ) (t : Bool) → content_of ρ x ≡ Length n → is_right short (columns_of f l) (part 0 n x) ≡ t
+    test : (n : ℕ) (t : Bool) → content_of ρ x ≡ Some n → is_right short (columns_of f l) (part 0 n x) ≡ t
         → cond t (read_fields f l (filled_to (columns_of f l) (part 0 n x))) (bad (BadLine l.number)) ≡ done cs → LineDone ρ f short l x cs
     test n true u v w = record { bytes = n; content = u; right = v; fields = w }
     test n false u v w = no_done w
 
-    by : (c : Content) → content_of ρ x ≡ c → read_content f short l x c ≡ done cs → LineDone ρ f short l x cs
-    by (Length n) u w = test n (is_right short (columns_of f l) (part 0 n x)) u refl w
-    by NoReturn u w = no_done w
+    by : (c : Option ℕ) → content_of ρ x ≡ c → read_content f short l x c ≡ done cs → LineDone ρ f short l x cs
+    by (Some n) u w = test n (is_right short (columns_of f l) (part 0 n x)) u refl w
+    by None u w = no_done w
 
 pub line_size : (ρ : Rules) (f : Form) (short : Bool) (l : Line) (x : List ℕ) (cs : List ℤ) → read_line ρ f short l x ≡ done cs → length cs ≡ l.many * (row_of f).cells
 line_size ρ f short l x cs h =

@@ -1,6 +1,7 @@
 -- R62, R63: a data line's content has all its fields, and behind them nothing but blanks, 120 bytes at most. R64, R65: in some groups it may
 -- be short, and then reads as if blanks were added.
-use Rattle.std.specs.Prelude.{◌≡◌, Bool, true, cond, ◌&&◌, ◌||◌, ◌⊎◌, List, ◌++◌, ℕ, ◌+◌, ◌-◌, ◌*◌, ◌≤◌, min, T, eqb, leb, length, drop, replicate}
+use Rattle.std.specs.Prelude.{◌≡◌, Bool, true, false, cond, ◌&&◌, ◌||◌, ◌⊎◌, List, ◌++◌, ℕ, ◌+◌, ◌-◌, ◌*◌, ◌<◌, ◌≤◌, min, T, eqb, leb, length, drop, replicate, Option, Some, None}
+use Rattle.std.specs.Option.{unwrap_or}
 use Rattle.rules.specs.declared.Rules.{Rules}
 use Rattle.base.specs.Every.{every, up_from}
 use Rattle.base.specs.Part.{part}
@@ -11,8 +12,6 @@ use Rattle.field.specs.Read.{field_of, formed}
 use Rattle.run.specs.Run.{run_formed}
 use Rattle.line.specs.Lines.{reach}
 use Rattle.line.specs.Contents.{content_of}
-use Rattle.line.specs.declared.Content.{Content}
-use Rattle.line.specs.declared.Content.TheVariants.{Length, NoReturn}
 
 abbrev pub blank : ℕ → Bool
 blank b = eqb b 32
@@ -47,12 +46,25 @@ abbrev pub field_part : ℕ → ℕ → ℕ → List ℕ → List ℕ
 field_part width column stop s = part (min column stop) (min (column + width) stop) s
 
 -- R64: short lines are told only of forms of letters, where a blank is a field or a part of one
-abbrev pub HoldsLetters : Form → Bool → Type 0
-HoldsLetters f short = short ≡ true → (f ≡ A120) ⊎ (f ≡ A1)
+abbrev pub is_letters : Form → Bool
+is_letters A120 = true
+is_letters A1 = true
+is_letters _ = false
 
--- all of a line's k fields are formed, where the line begins at `at` and is looked at up to `stop`
+abbrev pub HoldsLetters : Form → Bool → Type 0
+HoldsLetters f short = short ≡ true → T (is_letters f)
+
+-- field k, from 0, of a line that begins at `at` and is looked at up to `stop` is formed
+abbrev pub is_formed_at : Form → Bool → (at stop : ℕ) → List ℕ → ℕ → Bool
+is_formed_at f short at stop s k = formed (field_of f (as_field f short (field_part (row_of f).width (at + k * (row_of f).width) stop s)))
+
+-- all of such a line's k fields are formed
 unfoldable pub all_formed : Form → Bool → (at stop : ℕ) → List ℕ → ℕ → Bool
-all_formed f short at stop s k = every (λ i. formed (field_of f (as_field f short (field_part (row_of f).width (at + i * (row_of f).width) stop s)))) (up_from 0 k)
+all_formed f short at stop s k = every (is_formed_at f short at stop s) (up_from 0 k)
+
+-- each of the fields below k is
+abbrev pub FormedBelow : Form → Bool → (at stop : ℕ) → List ℕ → ℕ → Type 0
+FormedBelow f short at stop s k = (i : ℕ) → i < k → is_formed_at f short at stop s i ≡ true
 
 -- the content of a clean line of k fields, and room for their cells from a cell of a table on
 pub record ToPut (f : Form) (short : Bool) (k columns : ℕ) (content : List ℕ) (room cell : ℕ) : Type 0 where
@@ -64,20 +76,16 @@ pub record ToPut (f : Form) (short : Bool) (k columns : ℕ) (content : List ℕ
 
 -- ---- a line's content, if it is right; as the code asks for it (proofs/Lines.antt)
 
-abbrev pub if_right : Bool → ℕ → List ℕ → Content → Content
-if_right short columns x (Length n) = cond (is_right short columns (part 0 n x)) (Length n) NoReturn
-if_right short columns x NoReturn = NoReturn
+abbrev pub if_right : Bool → ℕ → List ℕ → Option ℕ → Option ℕ
+if_right short columns x (Some n) = cond (is_right short columns (part 0 n x)) (Some n) None
+if_right short columns x None = None
 
-unfoldable pub right_content : Rules → Bool → ℕ → List ℕ → Content
+unfoldable pub right_content : Rules → Bool → ℕ → List ℕ → Option ℕ
 right_content ρ short columns x = if_right short columns x (content_of ρ x)
 
 -- ---- how far a line's fields are looked for before its end is known: over their columns, if there are so many bytes; a line that may be
 -- short has no length of its own, so its content is asked for first
 
-abbrev pub content_long : Content → ℕ
-content_long (Length n) = n
-content_long NoReturn = 0
-
 unfoldable pub fields_span : Rules → Bool → ℕ → List ℕ → ℕ → ℕ
 fields_span ρ short columns s at =
-    cond short (content_long (content_of ρ (part at (at + reach (drop at s) 1) s))) (min columns (length s - at))
+    cond short (unwrap_or (content_of ρ (part at (at + reach (drop at s) 1) s)) 0) (min columns (length s - at))

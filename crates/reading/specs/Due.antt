@@ -1,18 +1,16 @@
 -- R233, R260: when each reply of reading a group under its record's counts is due: its own condition holds, and none earlier in the order:
 -- 12; the reply of placing, of which the counts decide 7; 11; 8 and 9, by lines; 10.
-use Rattle.std.specs.Prelude.{◌≡◌, List, map, ℕ, ◌+◌, ◌<◌, ◌≤◌, ℤ}
+use Rattle.std.specs.Prelude.{◌≡◌, List, map, ℕ, ◌+◌, ◌<◌, ◌≤◌, ℤ, Some, Ok, Err}
 use Rattle.rules.specs.declared.Rules.{Rules}
 use Rattle.base.specs.Pieces.{done, bad}
 use Rattle.base.specs.Sign.{size_of}
 use Rattle.form.specs.declared.Form.{Form}
-use Rattle.form.specs.declared.GroupForm.TheVariants.{Has}
 use Rattle.form.specs.Table.{form_of, NoSuchGroup}
 use Rattle.form.specs.Count.{lines_of, cells_of}
 use Rattle.field.specs.Grammar.{SomeField}
 use Rattle.count.specs.Tally.{count_of}
 use Rattle.count.specs.Blame.{KeepsRules, BreaksRules}
 use Rattle.date.specs.declared.Date.{Date}
-use Rattle.date.specs.declared.Dated.TheVariants.{Right, Wrong}
 use Rattle.date.specs.Due as Letters
 use Rattle.reply.specs.declared.Refusal.{Refusal}
 use Rattle.reply.specs.declared.Refusal.TheVariants.{NoSuchNumber, BrokenRule, NoRoom, BadLine, BadField, BadDate}
@@ -72,7 +70,7 @@ module _ (ρ : Rules) where
 
     -- neither 12 nor 7
     pub record Ruled (f : Form) : Type 0 where
-      pub form : form_of g ≡ Has f
+      pub form : form_of g ≡ Some f
       pub kept : KeepsRules ns
 
     -- R211, R264: the table has fewer cells than the group; for no other reason
@@ -109,12 +107,12 @@ module _ (ρ : Rules) where
       pub cs : List ℤ
       pub cells : CellsRead cs
       pub three : g ≡ 3
-      pub wrong : Letters.Due (map size_of cs) (Wrong p)
+      pub wrong : Letters.Due (map size_of cs) (Err p)
 
     -- R200: 0, and of group 3 a date
     pub record DoneDue (cs : List ℤ) : Type 0 where
       pub cells : CellsRead cs
-      pub date : g ≡ 3 → (d : Date) × Letters.Due (map size_of cs) (Right d)
+      pub date : g ≡ 3 → (d : Date) × Letters.Due (map size_of cs) (Ok d)
 
     -- what it refuses with, and when
     pub data RefusedFor : Refusal → Type 0 where

@@ -5,12 +5,11 @@ use Rattle.base.specs.Every.{up_from}
 use Rattle.form.specs.declared.Form.{Form}
 use Rattle.form.specs.Table.{row_of}
 use Rattle.form.specs.Count.{elements_of, rounded_up}
+use Rattle.reading.specs.declared.Line as L
 
 -- R60: a line of a group: its number and its first element's number, both from 1, and how many elements it has
-pub record Line : Type 0 where
-  pub number : ℕ
-  pub first : ℕ
-  pub many : ℕ
+abbrev pub Line : Type 0
+Line = L.Line
 
 -- the line with j lines before it, of n elements that stand p to a line
 abbrev pub line_at : (p n j : ℕ) → Line

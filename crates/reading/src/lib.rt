@@ -2,7 +2,7 @@
 // when all of them are clean (R267). The text that they come from is not known here (R269).
 #![tactic(auto)]
 
-ghost use Rattle.std.specs.Prelude.{◌≡◌, map, ◌+◌, ◌-◌, ◌*◌, ◌≤◌, pos, length, drop, get_or};
+ghost use Rattle.std.specs.Prelude.{◌≡◌, map, ◌+◌, ◌*◌, ◌^◌, ◌≤◌, pos, length, drop};
 ghost use Rattle.std.proofs.Math.Bool as Bool;
 ghost use Rattle.base.specs.Every.{every};
 ghost use Rattle.base.specs.Part.{part, over};
@@ -11,27 +11,28 @@ ghost use Rattle.form.specs.Table.{row_of, form_of};
 ghost use Rattle.form.specs.Count.{cells_of};
 ghost use Rattle.field.specs.Read.{field_of, formed};
 ghost use Rattle.run.specs.Run.{run_cells};
-ghost use Rattle.count.specs.Rules.{ruling_of};
 ghost use Rattle.count.specs.Tally.{cells_in};
 ghost use Rattle.line.specs.Lines.{reach};
 ghost use Rattle.reading.specs.Blanks.{blank, may_be_short, shortest, filled_to, is_right, as_field};
-ghost use Rattle.reading.specs.Blanks.{field_part, fields_span, all_formed, HoldsLetters, ToPut, right_content};
-ghost use Rattle.reading.specs.Read.{verdict_of, misfit_of, read_lines, dated, read_form, read_group, reading_of};
+ghost use Rattle.reading.specs.Blanks.{is_formed_at, all_formed, FormedBelow, fields_span, HoldsLetters};
+ghost use Rattle.reading.specs.Blanks.{ToPut, right_content};
+ghost use Rattle.reading.specs.Read.{verdict_of, misfit_of, read_line, line_passed, read_lines, dated, read_form, read_group, reading_of};
 ghost use Rattle.reading.specs.Read.{table_by, letters_dated, date_told};
 
-use count::Ruling;
-use date::Dated;
-use form::{Form, GroupForm};
-use reply::{Answer, Checked, Refusal};
-
-// R333: the date of a record, if it has one.
-#[derive(Clone, Copy)]
-pub enum RecordDate {
-    Told(date::Date),
-    NoDate,
-}
+use count::Kept;
+use form::{Form, Group};
+use reply::Refusal;
 
 // ---- What a line holds.
+
+// R64: the form of the fields of a group's lines, and whether its lines may be shorter than their fields, as only lines of
+// letters may.
+#[derive(Clone, Copy)]
+struct LineForm {
+    pub fields: Form,
+    pub short: bool,
+    ghost letters: { HoldsLetters fields short },
+}
 
 // R64: whether lines of the group may be shorter than their fields.
 fn may_be_short(group: usize) -> bool
@@ -44,23 +45,13 @@ fn may_be_short(group: usize) -> bool
 fn least(short: bool, columns: usize) -> usize
     ensures { result ≡ shortest short columns }
 {
-    if short {
-        return 0;
-    }
-    columns
+    if short { 0 } else { columns }
 }
 
 fn all_blank(s: &[u8]) -> bool
     ensures { result ≡ every blank s.now }
 {
-    let mut i = 0;
-    while i < s.len() {
-        if s[i] != 32 {
-            return false;
-        }
-        i += 1;
-    }
-    true
+    s.iter().all(|byte| *byte == b' ')
 }
 
 // R62 to R64, R66: whether a content is right for fields that take so many columns.
@@ -72,82 +63,79 @@ fn is_right(short: bool, columns: usize, content: &[u8]) -> bool
 }
 
 // R66: the length of a line's content, if there is one and it is right.
-fn right_content(rules: rules::Rules, short: bool, columns: usize, line: &[u8]) -> line::Content
+fn right_content(rules: rules::Rules, short: bool, columns: usize, line: &[u8]) -> Option<usize>
     ensures { result ≡ right_content rules short columns line.now }
 {
-    let line::Content::Length(n) = line::content_length(rules, line) else {
-        return line::Content::NoReturn;
-    };
-    if is_right(short, columns, &line[0..n]) {
-        return line::Content::Length(n);
-    }
-    line::Content::NoReturn
+    let length = line::content_length(rules, line)?;
+    is_right(short, columns, &line[0..length]).then_some(length)
 }
 
-// ---- Checking.
+// ---- Checking. Lines, the place of one and where its fields are looked at no further are told apart, since the laws of a
+// line speak of places: a slice of each line would be cut and its place told besides, no plainer.
 
 // Whether bytes of a line are a field of the form. Where lines may be short, blanks that would be added print too
 // (R65).
-fn is_field(form: Form, short: bool, width: usize, bytes: &[u8]) -> bool
-    requires letters { HoldsLetters form short }
-    requires columns { length bytes.now ≤ (row_of form).width }
-    requires width { width ≡ (row_of form).width }
-    ensures { result ≡ formed (field_of form (as_field form short bytes.now)) }
+fn is_field(form: LineForm, bytes: &[u8]) -> bool
+    requires columns { length bytes.now ≤ (row_of form.fields).width }
+    ensures { result ≡ formed (field_of form.fields (as_field form.fields form.short bytes.now)) }
 {
-    if short {
+    if form.short {
         return field::all_printable(bytes);
     }
-    if bytes.len() != width {
-        return false;
-    }
-    run::formed(form, bytes, 1)
+    bytes.len() == form::row_of(form.fields).width && run::formed(form.fields, bytes, 1)
 }
 
-// The same of the bytes in the columns from `column` on, of a line that is looked at up to `stop`.
-fn is_field_at(
-    form: Form,
-    short: bool,
-    width: usize,
-    lines: &[u8],
-    column: usize,
-    stop: usize,
-) -> bool
-    requires letters { HoldsLetters form short }
+// The same of the bytes in the columns of field `k`, from 0, of a line that begins at a place and is looked at up to
+// `stop`.
+fn is_field_at(form: LineForm, lines: &[u8], at: usize, stop: usize, k: usize) -> bool
+    requires order { at ≤ stop }
     requires lines { stop ≤ length lines.now }
-    requires width { width ≡ (row_of form).width }
-    ensures { result ≡
-        formed (field_of form (as_field form short (field_part width column stop lines.now))) }
+    requires few { k ≤ 120 }
+    ensures { result ≡ is_formed_at form.fields form.short at stop lines.now k }
 {
-    let from = base::lesser(column, stop);
-    let to = from + base::lesser(width, stop - from);
-    is_field(form, short, width, &lines[from..to])
+    let width = form::row_of(form.fields).width;
+    let from = stop.min(at + k * width);
+    let to = from + width.min(stop - from);
+    is_field(form, &lines[from..to])
 }
 
 // Whether all fields of a line are formed, in one look. Where lines may be short, blanks that would be added print too
 // (R65); where they may not, a field that lacks a column is none.
 fn all_formed(
-    form: Form,
-    short: bool,
+    form: LineForm,
     k: usize,
     columns: usize,
     lines: &[u8],
     at: usize,
     stop: usize,
 ) -> bool
-    requires letters { HoldsLetters form short }
-    requires columns { columns ≡ k * (row_of form).width }
+    requires columns { columns ≡ k * (row_of form.fields).width }
     requires order { at ≤ stop }
     requires lines { stop ≤ length lines.now }
-    ensures { result ≡ all_formed form short at stop lines.now k }
+    ensures { result ≡ all_formed form.fields form.short at stop lines.now k }
 {
-    let to = at + base::lesser(columns, stop - at);
-    if short {
+    let to = at + columns.min(stop - at);
+    if form.short {
         return field::all_printable(&lines[at..to]);
     }
-    if to - at != columns {
-        return false;
+    to - at == columns && run::formed(form.fields, &lines[at..to], k)
+}
+
+// How many of a line's fields are seen to be formed in one look: all of them or none. A clean line has all of its fields
+// formed, so they are gone over one by one only in a line in which there is one to blame.
+fn seen_formed(form: LineForm, many: usize, lines: &[u8], at: usize, stop: usize) -> usize
+    requires few { many ≤ 120 }
+    requires order { at ≤ stop }
+    requires lines { stop ≤ length lines.now }
+    ensures seen { FormedBelow form.fields form.short at stop lines.now result }
+    ensures most { result ≤ many }
+{
+    let columns = many * form::row_of(form.fields).width;
+    if all_formed(form, many, columns, lines, at, stop) {
+        many
+    } else {
+        0
     }
-    run::formed(form, &lines[at..to], k)
 }
 
 // Where the fields of a line are looked for no further, before its end is known. A line that may be short has no length
@@ -158,12 +146,17 @@ fn fields_stop(rules: rules::Rules, short: bool, columns: usize, lines: &[u8], a
 {
     if short {
         let end = line::behind_line(lines, at);
-        let line::Content::Length(n) = line::content_length(rules, &lines[at..end]) else {
-            return at;
-        };
-        return at + n;
+        return at + line::content_length(rules, &lines[at..end]).unwrap_or(0);
     }
-    at + base::lesser(columns, lines.len() - at)
+    at + columns.min(lines.len() - at)
+}
+
+// R60: a line of a group: its number and its first element's, both from 1, and how many elements it has.
+#[derive(Clone, Copy)]
+pub struct Line {
+    pub number: usize,
+    pub first: usize,
+    pub many: usize,
 }
 
 // R262: what is blamed where a field is misformed. A line that is wrong comes before its fields.
@@ -173,221 +166,227 @@ fn misfit(
     columns: usize,
     lines: &[u8],
     at: usize,
-    number: usize,
-    element: usize,
+    line: Line,
+    k: usize,
 ) -> Refusal
-    requires { at ≤ length lines.now }
+    requires inside { at ≤ length lines.now }
+    requires small { line.first + k ≤ 2 ^ 33 }
     ensures { result ≡
-        misfit_of number element
+        misfit_of line.number (line.first + k)
         (right_content rules short columns
         (part at (at + reach (drop at lines.now) 1) lines.now)) }
 {
     let end = line::behind_line(lines, at);
     match right_content(rules, short, columns, &lines[at..end]) {
-        line::Content::Length(_) => Refusal::BadField(number, element),
-        line::Content::NoReturn => Refusal::BadLine(number),
+        Some(_) => Refusal::BadField(line.number, line.first + k),
+        None => Refusal::BadLine(line.number),
+    }
+}
+
+// R262: where a line ends whose fields, looked for up to `stop`, are all formed, or that it is wrong. No line feed stands
+// in fields that are formed, so the line's end is sought behind them.
+fn line_end(
+    rules: rules::Rules,
+    form: LineForm,
+    line: Line,
+    lines: &[u8],
+    at: usize,
+    stop: usize,
+) -> Result<usize, Refusal>
+    requires few { line.many ≤ (row_of form.fields).per_line }
+    requires inside { at ≤ length lines.now }
+    requires sought { stop ≡ at + fields_span rules form.short (line.many * (row_of form.fields).width) lines.now at }
+    requires formed { FormedBelow form.fields form.short at stop lines.now line.many }
+    ensures { result ≡ line_passed (at + reach (drop at lines.now) 1)
+        (verdict_of (read_line rules form.fields form.short line (part at (at + reach (drop at lines.now) 1) lines.now))) }
+{
+    let end = line::behind_line(lines, stop);
+    let columns = line.many * form::row_of(form.fields).width;
+    match right_content(rules, form.short, columns, &lines[at..end]) {
+        Some(_) => Ok(end),
+        None => Err(Refusal::BadLine(line.number)),
     }
 }
 
 // The first pass, as R443 has it: each line's fields, and then what stands behind them, up to the first line that is
-// bad (R263). It looks at no table. A clean line has all of its fields formed, so the loop over fields is left for
-// lines in which there is one to blame. No line feed stands in fields that are formed, so the line's end is sought
-// behind them.
-fn check_lines(rules: rules::Rules, form: Form, short: bool, count: u16, lines: &[u8]) -> Checked
-    requires { HoldsLetters form short }
-    ensures { result ≡ verdict_of (read_lines rules form short count lines.now) }
+// bad (R263). It looks at no table.
+fn check_lines(rules: rules::Rules, form: LineForm, count: u16, lines: &[u8]) -> Result<(), Refusal>
+    ensures { result ≡ verdict_of (read_lines rules form.fields form.short count lines.now) }
 {
-    let row = form::row_of(form);
-    let width = row.width;
-    let per_line = row.per_line;
-    let many = form::lines(rules, form, count);
-    let mut left = form::elements(rules, form, count);
-    let mut verdict = Checked::Right;
+    let row = form::row_of(form.fields);
+    let mut left = form::elements(rules, form.fields, count);
+    let mut verdict = Ok(());
     let mut at: usize = 0;
-    let mut element: usize = 1;
-    let mut j: usize = 0;
-    'lines: while j < many {
-        let k = base::lesser(per_line, left);
-        let columns = k * width;
-        let stop = fields_stop(rules, short, columns, lines, at);
-        let mut i: usize = 0;
-        if all_formed(form, short, k, columns, lines, at, stop) {
-            i = k;
-        }
-        let mut from = at + i * width;
-        while i < k {
-            if is_field_at(form, short, width, lines, from, stop) {
-                from += width;
-                i += 1;
-            } else {
-                verdict = Checked::Refused(misfit(
-                    rules,
-                    short,
-                    columns,
-                    lines,
-                    at,
-                    j + 1,
-                    element + i,
-                ));
+    'lines: for j in 0..form::lines(rules, form.fields, count) {
+        let line = Line {
+            number: j + 1,
+            first: j * row.per_line + 1,
+            many: row.per_line.min(left),
+        };
+        let columns = line.many * row.width;
+        let stop = fields_stop(rules, form.short, columns, lines, at);
+        for k in seen_formed(form, line.many, lines, at, stop)..line.many {
+            if !is_field_at(form, lines, at, stop, k) {
+                verdict = Err(misfit(rules, form.short, columns, lines, at, line, k));
                 break 'lines;
             }
         }
-        let end = line::behind_line(lines, stop);
-        let line::Content::Length(_) = right_content(rules, short, columns, &lines[at..end]) else {
-            verdict = Checked::Refused(Refusal::BadLine(j + 1));
-            break 'lines;
-        };
-        at = end;
-        left -= k;
-        element += per_line;
-        j += 1;
+        at = line_end(rules, form, line, lines, at, stop)?;
+        left -= line.many;
     }
     verdict
 }
 
 // R140: the date stands in the first line of group 3, where R123 puts 19 characters at least.
-fn date_in(rules: rules::Rules, count: u16, lines: &[u8]) -> Dated
+fn date_in(rules: rules::Rules, count: u16, lines: &[u8]) -> Result<date::Date, usize>
     requires date { 19 ≤ count }
-    requires clean { verdict_of (read_lines rules Form.A1 Bool.false count lines.now) ≡ Checked.Right }
+    requires clean { verdict_of (read_lines rules Form.A1 Bool.false count lines.now) ≡ Ok tt }
     ensures { result ≡ letters_dated (cells_got (read_lines rules Form.A1 Bool.false count lines.now)) }
 {
-    let n = form::elements(rules, Form::A1, count);
-    let row = form::row_of(Form::A1);
-    let k = base::lesser(row.per_line, n);
-    date::Date::new(&lines[0..k])
+    let elements = form::elements(rules, Form::A1, count);
+    let first = form::row_of(Form::A1).per_line.min(elements);
+    date::Date::new(&lines[0..first])
 }
 
 // R210: whether these letters are a date.
-fn check_date(rules: rules::Rules, count: u16, lines: &[u8]) -> Checked
+fn check_date(rules: rules::Rules, count: u16, lines: &[u8]) -> Result<(), Refusal>
     requires date { 19 ≤ count }
-    requires clean { verdict_of (read_lines rules Form.A1 Bool.false count lines.now) ≡ Checked.Right }
+    requires clean { verdict_of (read_lines rules Form.A1 Bool.false count lines.now) ≡ Ok tt }
     ensures { result ≡ verdict_of (dated 3 (read_lines rules Form.A1 Bool.false count lines.now)) }
 {
     match date_in(rules, count, lines) {
-        Dated::Right(_) => Checked::Right,
-        Dated::Wrong(position) => Checked::Refused(Refusal::BadDate(position)),
+        Ok(_) => Ok(()),
+        Err(position) => Err(Refusal::BadDate(position)),
     }
 }
 
 // R262, R265: lines, and then the date of group 3.
-fn check(rules: rules::Rules, form: Form, group: usize, count: u16, lines: &[u8]) -> Checked
-    requires form { form_of group ≡ GroupForm.Has form }
+fn check(
+    rules: rules::Rules,
+    form: Form,
+    group: usize,
+    count: u16,
+    lines: &[u8],
+) -> Result<(), Refusal>
+    requires form { form_of group ≡ Some form }
     requires date { group ≡ 3 → 19 ≤ count }
     ensures { result ≡
         verdict_of (dated group (read_lines rules form (may_be_short group) count lines.now)) }
 {
-    match check_lines(rules, form, may_be_short(group), count, lines) {
-        Checked::Refused(r) => Checked::Refused(r),
-        Checked::Right => {
-            if group == 3 {
-                return check_date(rules, count, lines);
-            }
-            Checked::Right
-        }
+    let form_of_lines = LineForm {
+        fields: form,
+        short: may_be_short(group),
+    };
+    check_lines(rules, form_of_lines, count, lines)?;
+    if group == 3 {
+        return check_date(rules, count, lines);
     }
+    Ok(())
 }
 
 // ---- Filling.
 
-// R65: a byte, or a blank behind the last.
-fn byte_or_blank(bytes: &[u8], i: usize) -> u8
-    ensures { result ≡ get_or bytes.now i 32 }
-{
-    if i < bytes.len() {
-        return bytes[i];
-    }
-    32
-}
-
-// Letters, and blanks behind them up to so many columns.
+// Letters, and blanks behind them up to so many columns (R65).
 fn put_letters(bytes: &[u8], width: usize, table: &mut [i64], at: usize)
     requires bytes { length bytes.now ≤ width }
     requires room { at + width ≤ length table.old }
     ensures { table.new ≡
         over at (map pos (filled_to width bytes.now)) table.old }
 {
-    let mut i: usize = 0;
-    while i < width {
-        table[at + i] = number::cell(false, byte_or_blank(bytes, i) as u64);
-        i += 1;
+    for i in 0..width {
+        let letter = bytes.get(i).copied().unwrap_or(b' ');
+        table[at + i] = i64::from(letter);
     }
 }
 
 // The cells of a line's fields, from its content: all of their columns, with blanks behind the last byte where the line
 // is short (R65).
 fn put_line(
-    form: Form,
-    short: bool,
+    form: LineForm,
     k: usize,
     columns: usize,
     content: &[u8],
     table: &mut [i64],
     cell: usize,
 )
-    requires { ToPut form short k columns content.now (length table.old) cell }
+    requires { ToPut form.fields form.short k columns content.now (length table.old) cell }
     ensures { table.new ≡
-        over cell (run_cells form k (filled_to columns content.now)) table.old }
+        over cell (run_cells form.fields k (filled_to columns content.now)) table.old }
 {
-    let there = base::lesser(columns, content.len());
-    if short {
+    let there = columns.min(content.len());
+    if form.short {
         put_letters(&content[0..there], columns, table, cell);
         return;
     }
-    run::fill(form, &content[0..there], k, table, cell);
+    run::fill(form.fields, &content[0..there], k, table, cell);
+}
+
+// The cells of a clean line that begins at a place, from a cell of the table on; the place behind it.
+fn fill_line(
+    rules: rules::Rules,
+    form: LineForm,
+    line: Line,
+    lines: &[u8],
+    at: usize,
+    table: &mut [i64],
+    cell: usize,
+) -> usize
+    requires few { line.many ≤ (row_of form.fields).per_line }
+    requires inside { at ≤ length lines.now }
+    requires clean { verdict_of (read_line rules form.fields form.short line (part at (at + reach (drop at lines.now) 1) lines.now))
+        ≡ Ok tt }
+    requires room { cell + line.many * (row_of form.fields).cells ≤ length table.old }
+    ensures end { result ≡ at + reach (drop at lines.now) 1 }
+    ensures table { table.new ≡ over cell
+        (cells_got (read_line rules form.fields form.short line (part at (at + reach (drop at lines.now) 1) lines.now))) table.old }
+{
+    let columns = line.many * form::row_of(form.fields).width;
+    // no line feed stands in the columns of these fields; a line that may be short can end anywhere, so its bytes are
+    // looked at twice
+    let end = line::behind_line(lines, at + least(form.short, columns));
+    // a clean line has a content
+    let length = line::content_length(rules, &lines[at..end]).unwrap();
+    let stop = at + length;
+    put_line(form, line.many, columns, &lines[at..stop], table, cell);
+    end
 }
 
 // R266: the second pass, the cells of lines that were found clean.
-fn fill_lines(
-    rules: rules::Rules,
-    form: Form,
-    short: bool,
-    count: u16,
-    lines: &[u8],
-    table: &mut [i64],
-)
-    requires letters { HoldsLetters form short }
-    requires clean { verdict_of (read_lines rules form short count lines.now) ≡ Checked.Right }
-    requires room { cells_of rules form count ≤ length table.old }
+fn fill_lines(rules: rules::Rules, form: LineForm, count: u16, lines: &[u8], table: &mut [i64])
+    requires clean { verdict_of (read_lines rules form.fields form.short count lines.now) ≡ Ok tt }
+    requires room { cells_of rules form.fields count ≤ length table.old }
     ensures { table.new ≡
-        over 0 (cells_got (read_lines rules form short count lines.now)) table.old }
+        over 0 (cells_got (read_lines rules form.fields form.short count lines.now)) table.old }
 {
-    let row = form::row_of(form);
-    let width = row.width;
-    let per_line = row.per_line;
-    let cells = row.cells;
-    let many = form::lines(rules, form, count);
-    let mut left = form::elements(rules, form, count);
+    let row = form::row_of(form.fields);
+    let mut left = form::elements(rules, form.fields, count);
     let mut at: usize = 0;
     let mut cell: usize = 0;
-    let mut j: usize = 0;
-    while j < many {
-        let k = base::lesser(per_line, left);
-        let columns = k * width;
-        // no line feed stands in the columns of these fields; a line that may be short can end anywhere, so its bytes
-        // are looked at twice
-        let end = line::behind_line(lines, at + least(short, columns));
-        // a clean line has a content, so this is never taken
-        let line::Content::Length(n) = line::content_length(rules, &lines[at..end]) else {
-            return;
+    for j in 0..form::lines(rules, form.fields, count) {
+        let line = Line {
+            number: j + 1,
+            first: j * row.per_line + 1,
+            many: row.per_line.min(left),
         };
-        let stop = at + n;
-        put_line(form, short, k, columns, &lines[at..stop], table, cell);
-        cell += k * cells;
-        at = end;
-        left -= k;
-        j += 1;
+        at = fill_line(rules, form, line, lines, at, table, cell);
+        cell += line.many * row.cells;
+        left -= line.many;
     }
 }
 
 // R266 for the lines of a group that were found clean.
 fn fill(rules: rules::Rules, form: Form, group: usize, count: u16, lines: &[u8], table: &mut [i64])
-    requires form { form_of group ≡ GroupForm.Has form }
-    requires clean { verdict_of (read_lines rules form (may_be_short group) count lines.now) ≡ Checked.Right }
+    requires form { form_of group ≡ Some form }
+    requires clean { verdict_of (read_lines rules form (may_be_short group) count lines.now) ≡ Ok tt }
     requires room { cells_of rules form count ≤ length table.old }
     ensures { table.new ≡
         over 0 (cells_got (read_lines rules form (may_be_short group) count lines.now)) table.old }
 {
-    fill_lines(rules, form, may_be_short(group), count, lines, table);
+    let form_of_lines = LineForm {
+        fields: form,
+        short: may_be_short(group),
+    };
+    fill_lines(rules, form_of_lines, count, lines, table);
 }
 
 // ---- Reading a group's lines.
@@ -400,8 +399,8 @@ fn read_form(
     count: u16,
     lines: &[u8],
     table: &mut [i64],
-) -> Answer
-    requires form { form_of group ≡ GroupForm.Has form }
+) -> Result<usize, Refusal>
+    requires form { form_of group ≡ Some form }
     requires date { group ≡ 3 → 19 ≤ count }
     ensures answer { result ≡
         reading_of (read_form rules form group count lines.now (length table.old)) }
@@ -411,106 +410,103 @@ fn read_form(
 {
     let cells = form::cells(rules, form, count);
     if table.len() < cells {
-        return Answer::Refused(Refusal::NoRoom);
+        return Err(Refusal::NoRoom);
     }
-    match check(rules, form, group, count, lines) {
-        Checked::Refused(r) => Answer::Refused(r),
-        Checked::Right => {
-            fill(rules, form, group, count, lines, table);
-            Answer::Done(cells)
-        }
-    }
+    check(rules, form, group, count, lines)?;
+    fill(rules, form, group, count, lines, table);
+    Ok(cells)
 }
 
 // R260: reads a group of a record with these counts, whose lines these are, into a table. It is altered only if all is
-// clean, and then only as far as the group's cells go (R266, R267). The counts keep the rules on counts, as those of a
-// record that was placed with 0 do: they are not tried again.
+// clean, and then only as far as the group's cells go (R266, R267).
 pub fn read_kept(
     rules: rules::Rules,
-    counts: &[u16],
+    kept: Kept<'_>,
     group: usize,
     lines: &[u8],
     table: &mut [i64],
-) -> Answer
-    requires { ruling_of counts.now ≡ Ruling.Kept }
+) -> Result<usize, Refusal>
     ensures answer { result ≡
-        reading_of (read_group rules counts.now group lines.now (length table.old)) }
+        reading_of (read_group rules kept.entry.counts.now group lines.now (length table.old)) }
     ensures table { table.new ≡
-        table_by (read_group rules counts.now group lines.now (length table.old))
+        table_by (read_group rules kept.entry.counts.now group lines.now (length table.old))
         table.old }
 {
-    let form::GroupForm::Has(form) = form::form_of(group) else {
-        return Answer::Refused(Refusal::NoSuchNumber);
-    };
-    let count = count::count_of(counts, group);
+    let form = form::form_of(group).ok_or(Refusal::NoSuchNumber)?;
+    let count = count::count_of(kept.counts, group);
     read_form(rules, form, group, count, lines, table)
 }
 
 // ---- The two passes by themselves, for a record whose groups are all checked before one of them is filled.
 
-// What `read_kept` refuses a group of 1 to 60 with, given room. A count of 0 costs no more than a test (R268).
-pub fn check_kept(rules: rules::Rules, counts: &[u16], group: usize, lines: &[u8]) -> Checked
-    requires kept { ruling_of counts.now ≡ Ruling.Kept }
-    requires low { 1 ≤ group }
-    requires high { group ≤ 60 }
+// What `read_kept` refuses a group with, given room. A count of 0 costs no more than a test (R268).
+pub fn check_kept(
+    rules: rules::Rules,
+    kept: Kept<'_>,
+    group: Group,
+    lines: &[u8],
+) -> Result<(), Refusal>
     ensures { result ≡
         verdict_of
-        (read_group rules counts.now group lines.now
-        (cells_in rules counts.now group)) }
+        (read_group rules kept.entry.counts.now group.number lines.now
+        (cells_in rules kept.entry.counts.now group.number)) }
 {
-    let count = count::count_of(counts, group);
+    let count = count::count_of(kept.counts, group.number);
     if count == 0 {
-        return Checked::Right;
+        return Ok(());
     }
-    check(rules, form::form_in(group), group, count, lines)
+    check(rules, group.form(), group.number, count, lines)
 }
 
 // R333: the date of a record with these counts, whose group 3 has these lines. It has one if `read_kept` reads that
 // group with 0, given room. No cell is stored.
-pub fn date_kept(rules: rules::Rules, counts: &[u16], lines: &[u8]) -> RecordDate
-    requires { ruling_of counts.now ≡ Ruling.Kept }
+pub fn date_kept(rules: rules::Rules, kept: Kept<'_>, lines: &[u8]) -> Option<date::Date>
     ensures { result ≡
         date_told
-        (read_group rules counts.now 3 lines.now (cells_in rules counts.now 3)) }
+        (read_group rules kept.entry.counts.now 3 lines.now (cells_in rules kept.entry.counts.now 3)) }
 {
-    let count = count::count_of(counts, 3);
-    let Checked::Right = check_lines(rules, Form::A1, false, count, lines) else {
-        return RecordDate::NoDate;
+    let count = count::count_of(kept.counts, 3);
+    let letters = LineForm {
+        fields: Form::A1,
+        short: false,
     };
-    match date_in(rules, count, lines) {
-        Dated::Right(date) => RecordDate::Told(date),
-        Dated::Wrong(_) => RecordDate::NoDate,
-    }
+    check_lines(rules, letters, count, lines).ok()?;
+    date_in(rules, count, lines).ok()
 }
 
 // The cells of a group that was found clean, from a cell of the table on. It gives the cell behind them.
 pub fn fill_kept(
     rules: rules::Rules,
-    counts: &[u16],
-    group: usize,
+    kept: Kept<'_>,
+    group: Group,
     lines: &[u8],
     table: &mut [i64],
     cell: usize,
 ) -> usize
-    requires kept { ruling_of counts.now ≡ Ruling.Kept }
-    requires low { 1 ≤ group }
-    requires high { group ≤ 60 }
     requires clean { verdict_of
-        (read_group rules counts.now group lines.now (cells_in rules counts.now group)) ≡ Checked.Right }
-    requires room { cell + cells_in rules counts.now group ≤ length table.old }
-    ensures end { result ≡ cell + cells_in rules counts.now group }
+        (read_group rules kept.counts.now group.number lines.now (cells_in rules kept.counts.now group.number)) ≡ Ok tt }
+    requires room { cell + cells_in rules kept.counts.now group.number ≤ length table.old }
+    ensures end { result ≡ cell + cells_in rules kept.entry.counts.now group.number }
     ensures table { table.new ≡
         over cell
         (cells_got
-        (read_group rules counts.now group lines.now (cells_in rules counts.now group)))
+        (read_group rules kept.entry.counts.now group.number lines.now
+        (cells_in rules kept.entry.counts.now group.number)))
         table.old }
 {
-    let count = count::count_of(counts, group);
+    let count = count::count_of(kept.counts, group.number);
     if count == 0 {
         return cell;
     }
-    let form = form::form_in(group);
+    let form = group.form();
     let end = cell + form::cells(rules, form, count);
-    fill(rules, form, group, count, lines, &mut table[cell..end]);
+    fill(
+        rules,
+        form,
+        group.number,
+        count,
+        lines,
+        &mut table[cell..end],
+    );
     end
 }

@@ -1,14 +1,10 @@
 -- R200 to R217 and R222: each refusal's number, with the numbers beside it; which refusals several questions share.
-use Rattle.std.specs.Prelude.{List, [], ◌∷◌, ◌++◌, map, ℕ}
+use Rattle.std.specs.Prelude.{List, [], ◌∷◌, ◌++◌, map, ℕ, Result, Ok, Err}
 use Rattle.reply.specs.declared.Reply.{Reply}
 use Rattle.reply.specs.declared.Refusal.{Refusal}
 use Rattle.reply.specs.declared.Refusal.TheVariants.{End, Beyond, TooFewLines, Misformed, OtherRelease, FilledVacant, BrokenRule, BadLine, BadField}
 use Rattle.reply.specs.declared.Refusal.TheVariants.{BadDate, NoRoom, NoSuchNumber, NoField, OtherLength}
 use Rattle.reply.specs.declared.Refusal.TheVariants.{NotOpen, AllOpen, BadEntry, BadPart}
-use Rattle.reply.specs.declared.Checked.{Checked}
-use Rattle.reply.specs.declared.Checked.TheVariants as C
-use Rattle.reply.specs.declared.Answer.{Answer}
-use Rattle.reply.specs.declared.Answer.TheVariants as A
 use Rattle.reply.specs.Table.{Given, told, kinds_of, Row, row, bytes, group, line, element, position, place}
 
 -- R201 to R217 and R222
@@ -57,13 +53,13 @@ abbrev pub refusal_reply : Refusal → Reply
 refusal_reply r = told (refusal_number r) (beside_of r)
 
 -- R200: 0, with nothing beside it, or with how many cells or bytes were written; which of both, the question says, and its row
-abbrev pub checked_reply : Checked → Reply
-checked_reply C.Right = told 0 []
-checked_reply (C.Refused r) = refusal_reply r
+abbrev pub checked_reply : Result (Unit {0}) Refusal → Reply
+checked_reply (Ok done) = told 0 []
+checked_reply (Err r) = refusal_reply r
 
-abbrev pub answer_reply : Answer → Reply
-answer_reply (A.Done n) = told 0 ((bytes, n) ∷ [])
-answer_reply (A.Refused r) = refusal_reply r
+abbrev pub answer_reply : Result ℕ Refusal → Reply
+answer_reply (Ok n) = told 0 ((bytes, n) ∷ [])
+answer_reply (Err r) = refusal_reply r
 
 -- ---- the rows of refusals; in a list of variants the numbers beside them stand for any
 

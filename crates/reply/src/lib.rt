@@ -1,14 +1,14 @@
-// R200 to R217 and R222: the replies. What a question refuses with is a `Refusal`, whichever question it is; a reply is
-// told as its number, with the numbers beside it. What a reply's row doesn't name is 0 (R230).
+// R200 to R217 and R222: the replies. What a question refuses with is a `Refusal`, whichever question it is: its answer
+// is a `Result`. A reply is told as its number, with the numbers beside it. What a reply's row doesn't name is 0 (R230).
 #![tactic(auto)]
 
 ghost use Rattle.std.specs.Prelude.{◌≡◌, [], ◌∷◌};
-ghost use Rattle.reply.specs.Table.{told, next, bytes, group, line, element, position, savepoint, place};
+ghost use Rattle.reply.specs.Table.{told, next, bytes, group, savepoint};
 ghost use Rattle.reply.specs.Refusals.{refusal_reply, checked_reply, answer_reply};
 
 // Why a question is refused; each variant is a reply of R201 to R217 and R222. Which of them a question can give, its
 // Due says.
-#[derive(Clone, Copy)]
+#[derive(Clone, Copy, Debug, PartialEq, Eq)]
 pub enum Refusal {
     // 1
     End,
@@ -48,20 +48,7 @@ pub enum Refusal {
     BadPart,
 }
 
-// 0 with nothing beside it, or a refusal.
-#[derive(Clone, Copy)]
-pub enum Checked {
-    Right,
-    Refused(Refusal),
-}
-
-// 0 with the cells or bytes that were written, or a refusal.
-#[derive(Clone, Copy)]
-pub enum Answer {
-    Done(usize),
-    Refused(Refusal),
-}
-
+// R200: a reply's number, and the numbers beside it, as they are told to C.
 #[derive(Clone, Copy)]
 pub struct Reply {
     pub number: u32,
@@ -75,6 +62,19 @@ pub struct Reply {
     pub place: usize,
 }
 
+// 0, with no number beside it.
+const DONE: Reply = Reply {
+    number: 0,
+    next: 0,
+    written: 0,
+    group: 0,
+    line: 0,
+    element: 0,
+    position: 0,
+    savepoint: 0,
+    place: 0,
+};
+
 // A reply with a next place and a group; where one is 0, it has none.
 pub fn at_next(number: u32, place: usize, g: usize) -> Reply
     ensures { result ≡ told number ((next, place) ∷ (group, g) ∷ []) }
@@ -82,13 +82,8 @@ pub fn at_next(number: u32, place: usize, g: usize) -> Reply
     Reply {
         number,
         next: place,
-        written: 0,
         group: g,
-        line: 0,
-        element: 0,
-        position: 0,
-        savepoint: 0,
-        place: 0,
+        ..DONE
     }
 }
 
@@ -97,15 +92,9 @@ pub fn written(place: usize, n: usize) -> Reply
     ensures { result ≡ told 0 ((next, place) ∷ (bytes, n) ∷ []) }
 {
     Reply {
-        number: 0,
         next: place,
         written: n,
-        group: 0,
-        line: 0,
-        element: 0,
-        position: 0,
-        savepoint: 0,
-        place: 0,
+        ..DONE
     }
 }
 
@@ -113,82 +102,7 @@ pub fn written(place: usize, n: usize) -> Reply
 pub fn plain(number: u32) -> Reply
     ensures { result ≡ told number [] }
 {
-    at_next(number, 0, 0)
-}
-
-// 6 and 7, with a group.
-fn on_group(number: u32, g: usize) -> Reply
-    ensures { result ≡ told number ((group, g) ∷ []) }
-{
-    at_next(number, 0, g)
-}
-
-// 8 and 9, with a line and an element.
-fn in_line(number: u32, l: usize, e: usize) -> Reply
-    ensures { result ≡ told number ((line, l) ∷ (element, e) ∷ []) }
-{
-    Reply {
-        number,
-        next: 0,
-        written: 0,
-        group: 0,
-        line: l,
-        element: e,
-        position: 0,
-        savepoint: 0,
-        place: 0,
-    }
-}
-
-// 13, with a group and an element.
-fn no_field(g: usize, e: usize) -> Reply
-    ensures { result ≡ told 13 ((group, g) ∷ (element, e) ∷ []) }
-{
-    Reply {
-        number: 13,
-        next: 0,
-        written: 0,
-        group: g,
-        line: 0,
-        element: e,
-        position: 0,
-        savepoint: 0,
-        place: 0,
-    }
-}
-
-// 10, with the position blamed.
-fn bad_date(p: usize) -> Reply
-    ensures { result ≡ told 10 ((position, p) ∷ []) }
-{
-    Reply {
-        number: 10,
-        next: 0,
-        written: 0,
-        group: 0,
-        line: 0,
-        element: 0,
-        position: p,
-        savepoint: 0,
-        place: 0,
-    }
-}
-
-// 17, with the place of a field in the journal.
-fn bad_entry(p: usize) -> Reply
-    ensures { result ≡ told 17 ((place, p) ∷ []) }
-{
-    Reply {
-        number: 17,
-        next: 0,
-        written: 0,
-        group: 0,
-        line: 0,
-        element: 0,
-        position: 0,
-        savepoint: 0,
-        place: p,
-    }
+    Reply { number, ..DONE }
 }
 
 // 0 with the savepoint that was opened; 0 is as none.
@@ -196,58 +110,89 @@ pub fn opened(k: usize) -> Reply
     ensures { result ≡ told 0 ((savepoint, k) ∷ []) }
 {
     Reply {
-        number: 0,
-        next: 0,
-        written: 0,
-        group: 0,
-        line: 0,
-        element: 0,
-        position: 0,
         savepoint: k,
-        place: 0,
+        ..DONE
     }
 }
 
 // R201 to R217 and R222: a refusal's number, with the numbers beside it.
-pub fn of_refusal(refusal: Refusal) -> Reply
-    ensures { result ≡ refusal_reply refusal }
-{
-    match refusal {
-        Refusal::End => plain(1),
-        Refusal::Beyond => plain(2),
-        Refusal::TooFewLines => plain(3),
-        Refusal::Misformed => plain(4),
-        Refusal::OtherRelease => plain(5),
-        Refusal::FilledVacant(g) => on_group(6, g),
-        Refusal::BrokenRule(g) => on_group(7, g),
-        Refusal::BadLine(l) => in_line(8, l, 0),
-        Refusal::BadField(l, e) => in_line(9, l, e),
-        Refusal::BadDate(p) => bad_date(p),
-        Refusal::NoRoom => plain(11),
-        Refusal::NoSuchNumber => plain(12),
-        Refusal::NoField(g, e) => no_field(g, e),
-        Refusal::OtherLength => plain(14),
-        Refusal::NotOpen => plain(15),
-        Refusal::AllOpen => plain(16),
-        Refusal::BadEntry(p) => bad_entry(p),
-        Refusal::BadPart => plain(22),
+impl From<Refusal> for Reply {
+    ghost from_gives = { λ refusal reply. reply ≡ refusal_reply refusal };
+
+    fn from(refusal: Refusal) -> Reply {
+        match refusal {
+            Refusal::End => plain(1),
+            Refusal::Beyond => plain(2),
+            Refusal::TooFewLines => plain(3),
+            Refusal::Misformed => plain(4),
+            Refusal::OtherRelease => plain(5),
+            Refusal::FilledVacant(group) => Reply {
+                number: 6,
+                group,
+                ..DONE
+            },
+            Refusal::BrokenRule(group) => Reply {
+                number: 7,
+                group,
+                ..DONE
+            },
+            Refusal::BadLine(line) => Reply {
+                number: 8,
+                line,
+                ..DONE
+            },
+            Refusal::BadField(line, element) => Reply {
+                number: 9,
+                line,
+                element,
+                ..DONE
+            },
+            Refusal::BadDate(position) => Reply {
+                number: 10,
+                position,
+                ..DONE
+            },
+            Refusal::NoRoom => plain(11),
+            Refusal::NoSuchNumber => plain(12),
+            Refusal::NoField(group, element) => Reply {
+                number: 13,
+                group,
+                element,
+                ..DONE
+            },
+            Refusal::OtherLength => plain(14),
+            Refusal::NotOpen => plain(15),
+            Refusal::AllOpen => plain(16),
+            Refusal::BadEntry(place) => Reply {
+                number: 17,
+                place,
+                ..DONE
+            },
+            Refusal::BadPart => plain(22),
+        }
     }
 }
 
-pub fn of_checked(answer: Checked) -> Reply
-    ensures { result ≡ checked_reply answer }
-{
-    match answer {
-        Checked::Right => plain(0),
-        Checked::Refused(why) => of_refusal(why),
+// 0 with nothing beside it, or a refusal.
+impl From<Result<(), Refusal>> for Reply {
+    ghost from_gives = { λ answer reply. reply ≡ checked_reply answer };
+
+    fn from(answer: Result<(), Refusal>) -> Reply {
+        match answer {
+            Ok(()) => plain(0),
+            Err(why) => Reply::from(why),
+        }
     }
 }
 
-pub fn of_answer(answer: Answer) -> Reply
-    ensures { result ≡ answer_reply answer }
-{
-    match answer {
-        Answer::Done(n) => written(0, n),
-        Answer::Refused(why) => of_refusal(why),
+// 0 with the cells or bytes that were written, or a refusal.
+impl From<Result<usize, Refusal>> for Reply {
+    ghost from_gives = { λ answer reply. reply ≡ answer_reply answer };
+
+    fn from(answer: Result<usize, Refusal>) -> Reply {
+        match answer {
+            Ok(n) => written(0, n),
+            Err(why) => Reply::from(why),
+        }
     }
 }

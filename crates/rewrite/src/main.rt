@@ -8,14 +8,13 @@ ghost use Rattle.std.specs.Io.KnownBytes.{Appends};
 ghost use Rattle.rewriting.specs.Printed.{Stopped, printed};
 ghost use Rattle.words.specs.Written.{AppendsFront};
 
-use rewriting::Rewriting;
 use std::io;
 use std::io::Write;
 
 // Prints the canonical text of each record from the text's start on, until the first that is not rewritten with 0, and
 // gives the place where it stopped; of a text longer than 65,536 bytes, nothing. The table has a cell for each byte of
 // the page, which is always enough (R347). An error is that of writing, and nothing is printed behind it: on the output
-// stands a front part of what is due.
+// stands a front part of what is due. Where the next record begins, this one says: so the loop is no `for` over places.
 fn print_text<W: Write>(
     out: &mut W,
     rules: rules::Rules,
@@ -35,27 +34,24 @@ fn print_text<W: Write>(
     }
     let mut at: usize = 0;
     while at < text.len() {
-        let answer = sao::rewrite_record(rules, text, at, table, page);
-        let Rewriting::Done(bytes, next) = answer else {
+        let Ok(rewritten) = sao::rewrite_record(rules, text, at, table, page) else {
             return Ok(at);
         };
-        words::put_all(out, &page[0..bytes])?;
-        at = next;
+        words::put_all(out, &page[..rewritten.bytes])?;
+        at = rewritten.next;
     }
     Ok(at)
 }
 
 fn main(rt: HostRuntime) -> io::Result<()> {
-    let asked = words::given(&rt, &mut rt.stderr(), b"rewrite")?;
-    if !asked.known {
+    let Some(asked) = words::given(&rt, &mut rt.stderr(), b"rewrite")? else {
         return Ok(());
-    }
+    };
     let rules = rules::choose(asked.strict, asked.entries);
     let mut space = [0u8; 65537];
     let n = words::filled(&mut rt.stdin(), &mut space)?;
-    let text = &space[0..n];
     let mut table = [0i64; 8192];
     let mut page = [0u8; 8192];
-    print_text(&mut rt.stdout(), rules, text, &mut table, &mut page)?;
+    print_text(&mut rt.stdout(), rules, &space[..n], &mut table, &mut page)?;
     Ok(())
 }

@@ -20,17 +20,18 @@ use Rattle.place.specs.Placing.{placing_of, counts_at}
 use Rattle.place.proofs.Alike.{alike_placing, alike_counts}
 use Rattle.reply.specs.declared.Refusal.TheVariants.{NoRoom, BrokenRule}
 use Rattle.whole.specs.Turn.{Turn}
-use Rattle.whole.specs.Whole.{unless_refused, whole_read}
+use Rattle.whole.specs.Whole.{unless_refused, whole_read, unread}
 use Rattle.whole.proofs.Alike.{alike_basis, alike_whole}
 use Rattle.writing.specs.Text.{record_bytes}
-use Rattle.rewriting.specs.declared.Rewriting.{Rewriting}
-use Rattle.rewriting.specs.declared.Rewriting.TheVariants.{Refused}
 use Rattle.rewriting.specs.Alike as Rewritten
 use Rattle.rewriting.specs.Alike.{SameRewriting, both_rewritten}
 use Rattle.rewriting.specs.Printed.{program_rewriting, text_then, rewritten_from, rewritten, printed}
 use Rattle.rewriting.specs.Record.{with_output, rewritten_as, rewriting_of, text_at}
 use Rattle.rewriting.proofs.Printing.{rewritten_enough}
 use Rattle.rewriting.proofs.Rests.{same_text}
+use Rattle.std.specs.Prelude.{Result, Err}
+use Rattle.rewriting.specs.declared.Rewritten.{Rewritten}
+use Rattle.whole.specs.declared.Unread.{Unread}
 
 module _ (ρ : Rules) (s : List ℕ) (p : ℕ) (t : List ℕ) (q : ℕ) (h : AlikeFrom ρ s p t q) where
   same_counts : counts_at ρ s p ≡ counts_at ρ t q
@@ -42,13 +43,13 @@ module _ (ρ : Rules) (s : List ℕ) (p : ℕ) (t : List ℕ) (q : ℕ) (h : Ali
 
   module _ (cells room : ℕ) where
     turned : (ns : List ℕ) (n m : ℕ) (c : Bool) (u : Turn) → AlikeFrom ρ s n t m
-        → SameRewriting ρ s t (cond c (rewritten_as ρ ns n u) (Refused 0 NoRoom)) (cond c (rewritten_as ρ ns m u) (Refused 0 NoRoom))
+        → SameRewriting ρ s t (cond c (rewritten_as ρ ns n u) (Err (unread (0, NoRoom)))) (cond c (rewritten_as ρ ns m u) (Err (unread (0, NoRoom))))
     turned ns n m true (done cs) f = both_rewritten (record_bytes ρ ns) n m f
     turned ns n m true (bad u) f = Rewritten.both_refused u.0 u.1
     turned ns n m false u f = Rewritten.both_refused 0 NoRoom
 
-    abbrev placed_so : List ℕ → ℕ → Placing → Rewriting
-    placed_so x at a = unless_refused (Refused 0) (as_checked a) (with_output ρ (counts_at ρ x at) room (rewritten_as ρ (counts_at ρ x at) (placing_reply a).next (whole_read ρ x at cells)))
+    abbrev placed_so : List ℕ → ℕ → Placing → Result Rewritten Unread
+    placed_so x at a = unless_refused (λ why. Err (unread (0, why))) (as_checked a) (with_output ρ (counts_at ρ x at) room (rewritten_as ρ (counts_at ρ x at) (placing_reply a).next (whole_read ρ x at cells)))
 
     pub alike_rewriting : SameRewriting ρ s t (rewriting_of ρ s p cells room) (rewriting_of ρ t q cells room)
     unfolding rewriting_of
@@ -69,7 +70,7 @@ module _ (ρ : Rules) (s t : List ℕ) where
   alike_from (suc k) p q h =
       by (alike_from k) (program_rewriting ρ s p) (program_rewriting ρ t q) (alike_rewriting ρ s p t q h 8192 8192)
     where
-      by : ((n m : ℕ) → AlikeFrom ρ s n t m → rewritten_from ρ k s n ≡ rewritten_from ρ k t m) → (a b : Rewriting) → SameRewriting ρ s t a b
+      by : ((n m : ℕ) → AlikeFrom ρ s n t m → rewritten_from ρ k s n ≡ rewritten_from ρ k t m) → (a b : Result Rewritten Unread) → SameRewriting ρ s t a b
           → text_then (text_at ρ s p) (rewritten_from ρ k s) a ≡ text_then (text_at ρ t q) (rewritten_from ρ k t) b
       by more a b (both_rewritten bytes n m f) = ap₂ ◌++◌ (alike_text ρ s p t q h) (more n m f)
       by more a b (Rewritten.both_refused g r) = refl

@@ -1,6 +1,7 @@
 -- A text of canonical records within the program's limits is rewritten as itself; and what the program prints is such a text, so that printing
 -- it again, where it is within the limits, prints the same.
 -- Assumes nothing.
+use Rattle.std.specs.Prelude.{Ok, Result, Err}
 use mathlib.Core.Path.{◌≡◌, refl, ◌∙◌, ap, ap₂}
 use mathlib.Core.Bool.{Bool, true, false, cond}
 use mathlib.Core.List.{List, [], ◌++◌, append_assoc, append-nil}
@@ -19,25 +20,23 @@ use Rattle.whole.specs.Turn.{cells_at}
 use Rattle.writing.specs.Canonical.{CanonicalRecord}
 use Rattle.writing.specs.RoundTrip.{ReadsBack, ReadWhole}
 use Rattle.writing.specs.Text.{record_text, record_bytes}
-use Rattle.count.specs.declared.Release.TheVariants.{Five}
 use Rattle.count.proofs.Releases.{release_given}
 use Rattle.count.proofs.Rulings.{kept_ruling}
-use Rattle.date.specs.declared.Dated.TheVariants.{Right}
 use Rattle.date.proofs.Due as Letters
 use Rattle.writing.specs.Writing.{date_letters}
 use Rattle.writing.proofs.Done.{done_is}
 use Rattle.writing.proofs.ReadsBack.{canonical_back, done_canonical}
 use Rattle.writing.proofs.ReadWrites.{again_bytes, written_again}
-use Rattle.rewriting.specs.declared.Rewriting.{Rewriting}
-use Rattle.rewriting.specs.declared.Rewriting.TheVariants.{Done, Refused}
 use Rattle.rewriting.specs.Canonical.{RightRecord, CanonicalRecords, none, more}
-use Rattle.rewriting.specs.Record.{text_at, rewriting_of}
+use Rattle.rewriting.specs.Record.{text_at, rewriting_of, rewritten_with}
 use Rattle.rewriting.specs.Printed.{program_rewriting, text_then, rewritten_from, rewritten, printed}
 use Rattle.rewriting.proofs.Cells.{record_cells_lem}
 use Rattle.rewriting.proofs.Due.{first_due}
 use Rattle.rewriting.proofs.Printing.{rewritten_done, rewritten_stop, end_never}
 use Rattle.rewriting.proofs.Promises.{done_writes, done_text, done_within, done_further}
 use Rattle.rewriting.proofs.Whole.{groups_done, whole_read_lem}
+use Rattle.rewriting.specs.declared.Rewritten.{Rewritten}
+use Rattle.whole.specs.declared.Unread.{Unread}
 
 -- ---- a right record, wherever it stands, is rewritten as itself
 
@@ -47,8 +46,8 @@ module _ (ρ : Rules) {x : List ℕ} (r : RightRecord ρ x) (a b : List ℕ) whe
 
   -- it reads back
   pub right_back : ReadsBack ρ r.ns r.cs (length x) here (length a)
-  right_back = canonical_back ρ r.canonical (release_given r.ns Five r.release)
-      (kept_ruling r.ns r.rules) record { date = r.date; right = (Letters.first_due (date_letters ρ r.ns r.cs) (Right r.date)).1 r.dated } a b
+  right_back = canonical_back ρ r.canonical (release_given r.ns (Ok tt) r.release)
+      (kept_ruling r.ns r.rules) record { date = r.date; right = (Letters.first_due (date_letters ρ r.ns r.cs) (Ok r.date)).1 r.dated } a b
 
   each : (g : ℕ) → 1 ≤ g → g ≤ 60 → GroupDone ρ here (length a) g
   each g low high = record {
@@ -68,10 +67,10 @@ module _ (ρ : Rules) {x : List ℕ} (r : RightRecord ρ x) (a b : List ℕ) whe
   pub right_text : text_at ρ here (length a) ≡ x
   right_text = ap (record_text ρ (counts_at ρ here (length a))) all.all ∙ written_again ρ read stands ∙ part_middle a x b
 
-  pub right_rewritten : length x ≤ 8192 → program_rewriting ρ here (length a) ≡ Done (length x) (length a + length x)
+  pub right_rewritten : length x ≤ 8192 → program_rewriting ρ here (length a) ≡ Ok (rewritten_with (length x) (length a + length x))
   right_rewritten l =
       let n : record_bytes ρ (counts_at ρ here (length a)) ≡ length x = again_bytes ρ read stands ∙ omega arith in
-      (first_due ρ here (length a) 8192 8192 (Done (length x) (length a + length x))).1 record {
+      (first_due ρ here (length a) 8192 8192 (Ok (rewritten_with (length x) (length a + length x)))).1 record {
         roomy = record { placed = right_back.placed; text_fits = omega (arith, n); cells_fit = omega (arith, n, record_cells_lem ρ (counts_at ρ here (length a))) };
         groups = each;
         written = n;
@@ -98,7 +97,7 @@ canonical_printed ρ s c l = rw (le-leb (length s) 65536 l) (rewritten_same ρ [
 
 -- ---- what is printed is canonical records
 
-text_right : (ρ : Rules) (s : List ℕ) (at cells room bytes next : ℕ) → rewriting_of ρ s at cells room ≡ Done bytes next → RightRecord ρ (text_at ρ s at)
+text_right : (ρ : Rules) (s : List ℕ) (at cells room bytes next : ℕ) → rewriting_of ρ s at cells room ≡ Ok (rewritten_with bytes next) → RightRecord ρ (text_at ρ s at)
 text_right ρ s at cells room bytes next e =
     let w = done_writes ρ s at cells room bytes next e in
     let d = done_is ρ (counts_at ρ s at) (cells_at ρ s at) room bytes w in
@@ -109,7 +108,7 @@ text_right ρ s at cells room bytes next e =
       release = d.checked.rules.released.release;
       rules = d.checked.rules.kept;
       date = d.date;
-      dated = (Letters.first_due (date_letters ρ (counts_at ρ s at) (cells_at ρ s at)) (Right d.date)).0 d.right;
+      dated = (Letters.first_due (date_letters ρ (counts_at ρ s at) (cells_at ρ s at)) (Ok d.date)).0 d.right;
     }
 
 rewritten_canonical : (ρ : Rules) (k : ℕ) (s : List ℕ) (at : ℕ) → CanonicalRecords ρ (rewritten_from ρ k s at)
@@ -117,10 +116,10 @@ unfolding rewritten_from
 rewritten_canonical ρ zero s at = none
 rewritten_canonical ρ (suc k) s at = by (program_rewriting ρ s at) refl (rewritten_canonical ρ k s)
   where
-    by : (r : Rewriting) → program_rewriting ρ s at ≡ r → ((p : ℕ) → CanonicalRecords ρ (rewritten_from ρ k s p)) → CanonicalRecords ρ (text_then (text_at ρ s at) (rewritten_from ρ k s) r)
-    by (Done bytes next) e rest =
-        more (text_at ρ s at) (text_right ρ s at 8192 8192 bytes next e) (omega (arith, done_text ρ s at 8192 8192 bytes next e, done_within ρ s at 8192 8192 bytes next e)) (rest next)
-    by (Refused g r) e rest = none
+    by : (r : Result Rewritten Unread) → program_rewriting ρ s at ≡ r → ((p : ℕ) → CanonicalRecords ρ (rewritten_from ρ k s p)) → CanonicalRecords ρ (text_then (text_at ρ s at) (rewritten_from ρ k s) r)
+    by (Ok w) e rest =
+        more (text_at ρ s at) (text_right ρ s at 8192 8192 w.bytes w.next e) (omega (arith, done_text ρ s at 8192 8192 w.bytes w.next e, done_within ρ s at 8192 8192 w.bytes w.next e)) (rest w.next)
+    by (Err u) e rest = none
 
 pub printed_canonical : (ρ : Rules) (s : List ℕ) → CanonicalRecords ρ (printed ρ s)
 unfolding printed rewritten

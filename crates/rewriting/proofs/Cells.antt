@@ -1,6 +1,7 @@
 -- R111: a record has no more cells than bytes of canonical text: a field gives no more cells than it has columns. So a table that is as long as
 -- the output always serves.
 -- Assumes nothing.
+use Rattle.std.specs.Prelude.{Option, Some, None}
 use mathlib.Core.List.{List}
 use Prim.Native.Nat.{ℕ, ◌≤◌}
 use native.Mathlib.Nat.{mul-le-mul_left}
@@ -12,8 +13,6 @@ use Rattle.base.specs.Sum
 use Rattle.base.specs.Sum.{sum}
 use Rattle.base.proofs.Sum.{sum_map_le}
 use Rattle.form.specs.declared.Form.{Form}
-use Rattle.form.specs.declared.GroupForm.{GroupForm}
-use Rattle.form.specs.declared.GroupForm.TheVariants.{Has, NoGroup}
 use Rattle.form.specs.Table
 use Rattle.form.specs.Table.{row_of, forms, form_of}
 use Rattle.form.specs.Count
@@ -36,9 +35,9 @@ group_cells_lem : (ρ : Rules) (ns : List ℕ) (g : ℕ) → cells_in ρ ns g �
 unfolding Tally.cells_in Text.bytes_in Count.cells_of
 group_cells_lem ρ ns g = by (form_of g)
   where
-    by : (h : GroupForm) → cells_by ρ h (count_of ns g) ≤ bytes_by ρ h (count_of ns g)
-    by (Has f) = omega (arith, mul-le-mul_left (elements_of ρ f (count_of ns g)) (field_cells f))
-    by NoGroup = omega arith
+    by : (h : Option Form) → cells_by ρ h (count_of ns g) ≤ bytes_by ρ h (count_of ns g)
+    by (Some f) = omega (arith, mul-le-mul_left (elements_of ρ f (count_of ns g)) (field_cells f))
+    by None = omega arith
 
 pub record_cells_lem : (ρ : Rules) (ns : List ℕ) → record_cells ρ ns ≤ record_bytes ρ ns
 unfolding Tally.cell_tally Text.record_bytes Sum.sum

@@ -1,5 +1,6 @@
 -- *First due*: rewriting gives each answer exactly if it is due.
 -- Assumes nothing.
+use Rattle.std.specs.Prelude.{Err, Result, Ok}
 use mathlib.Core.Path.{◌≡◌, refl, sym, ◌∙◌, ap, subst}
 use mathlib.Core.List.{List}
 use mathlib.Core.Logic.{◌↔◌, inl, inr, ⊎_elim}
@@ -16,29 +17,28 @@ use Rattle.place.proofs.Due as Placing
 use Rattle.place.specs.Placing.{placing_of, counts_at}
 use Rattle.reply.specs.declared.Refusal.{Refusal}
 use Rattle.reply.specs.declared.Refusal.TheVariants.{NoRoom}
-use Rattle.reply.specs.declared.Checked.TheVariants as C
 use Rattle.whole.specs.Due as WholeIs
 use Rattle.whole.specs.Due.{RoomForAll}
 use Rattle.whole.specs.Turn.{Turn, cells_at}
-use Rattle.whole.specs.Whole.{whole_read}
+use Rattle.whole.specs.Whole.{whole_read, unread}
 use Rattle.whole.proofs.Due as Whole
 use Rattle.writing.specs.Text.{record_bytes}
-use Rattle.rewriting.specs.declared.Rewriting.{Rewriting}
-use Rattle.rewriting.specs.declared.Rewriting.TheVariants.{Done, Refused}
-use Rattle.rewriting.specs.Due.{RoomForBoth, RefusedFor, unplaced, broken_rule, no_room, unread, Due}
-use Rattle.rewriting.specs.Record.{rewritten_as, rewriting_of}
+use Rattle.rewriting.specs.Due.{RoomForBoth, RefusedFor, unplaced, broken_rule, no_room, unread as unread_due, Due}
+use Rattle.rewriting.specs.Record.{rewritten_as, rewriting_of, rewritten_with}
 use Rattle.rewriting.proofs.Whole.{groups_done}
+use Rattle.rewriting.specs.declared.Rewritten.{Rewritten}
+use Rattle.whole.specs.declared.Unread.{Unread}
 
 module _ (ρ : Rules) (s : List ℕ) (at cells room : ℕ) where
   abbrev ns : List ℕ
   ns = counts_at ρ s at
 
-  pub rewriting_unplaced : {why : Refusal} → as_checked (placing_of ρ s at) ≡ C.Refused why → rewriting_of ρ s at cells room ≡ Refused 0 why
+  pub rewriting_unplaced : {why : Refusal} → as_checked (placing_of ρ s at) ≡ Err why → rewriting_of ρ s at cells room ≡ Err (unread (0, why))
   unfolding rewriting_of
   rewriting_unplaced e = rw e refl
 
   module _ {next : ℕ} (placed : placing_of ρ s at ≡ P.Placed next) where
-    pub rewriting_short : room < record_bytes ρ (counts_at ρ s at) → rewriting_of ρ s at cells room ≡ Refused 0 NoRoom
+    pub rewriting_short : room < record_bytes ρ (counts_at ρ s at) → rewriting_of ρ s at cells room ≡ Err (unread (0, NoRoom))
     unfolding rewriting_of
     rewriting_short few = rw (placed, lt-leb (record_bytes ρ ns) room few) refl
 
@@ -51,15 +51,15 @@ module _ (ρ : Rules) (s : List ℕ) (at cells room : ℕ) where
   table_roomy {next} h = record { next = next; placed = h.placed; enough = h.cells_fit }
 
   -- what is due is given
-  due_given : (r : Rewriting) → Due ρ s at cells room r → rewriting_of ρ s at cells room ≡ r
-  due_given (Done bytes next) d =
+  due_given : (r : Result Rewritten Unread) → Due ρ s at cells room r → rewriting_of ρ s at cells room ≡ r
+  due_given (Ok w) d =
       let all = (Whole.turn_all_done ρ s at (cells_at ρ s at)).1 (groups_done ρ s at d.groups) in
       rewriting_read d.roomy.placed d.roomy.text_fits
-      ∙ ap (rewritten_as ρ ns next) (Whole.whole_roomy ρ s at cells (table_roomy d.roomy) ∙ all)
-      ∙ ap (λ n. Done n next) d.written
-  due_given (Refused g r) d = refused g r d
+      ∙ ap (rewritten_as ρ ns w.next) (Whole.whole_roomy ρ s at cells (table_roomy d.roomy) ∙ all)
+      ∙ ap (λ n. Ok (rewritten_with n w.next)) d.written
+  due_given (Err u) d = refused u.group u.why d
     where
-      short : (next : ℕ) → placing_of ρ s at ≡ P.Placed next → cells < record_cells ρ ns → rewriting_of ρ s at cells room ≡ Refused 0 NoRoom
+      short : (next : ℕ) → placing_of ρ s at ≡ P.Placed next → cells < record_cells ρ ns → rewriting_of ρ s at cells room ≡ Err (unread (0, NoRoom))
       short next placed few =
           ⊎_elim
           (λ (fits : record_bytes ρ ns ≤ room).
@@ -67,16 +67,16 @@ module _ (ρ : Rules) (s : List ℕ) (at cells room : ℕ) where
           (rewriting_short placed)
           (le_or_lt (record_bytes ρ ns) room)
 
-      refused : (g : ℕ) (r : Refusal) → RefusedFor ρ s at cells room g r → rewriting_of ρ s at cells room ≡ Refused g r
+      refused : (g : ℕ) (r : Refusal) → RefusedFor ρ s at cells room g r → rewriting_of ρ s at cells room ≡ Err (unread (g, r))
       refused g r (unplaced q d) = rewriting_unplaced (ap as_checked ((Placing.first_due ρ s at (P.Refused q)).1 d))
       refused g r (broken_rule h n d) = rewriting_unplaced (ap as_checked ((Placing.first_due ρ s at (P.BrokenRule h n)).1 d))
       refused g r (no_room d) = ⊎_elim (rewriting_short d.placed) (short d.next d.placed) d.short
-      refused g r (unread h q d) =
+      refused g r (unread_due h q d) =
           rewriting_read d.roomy.placed d.roomy.text_fits
           ∙ ap (rewritten_as ρ ns d.next) (Whole.whole_roomy ρ s at cells (table_roomy d.roomy) ∙ (Whole.turn_first_refused ρ s at h q).1 d.first)
 
   -- what is given is due
-  abbrev D : Rewriting → Type 0
+  abbrev D : Result Rewritten Unread → Type 0
   D = Due ρ s at cells room
 
   module _ (next : ℕ) (placed : placing_of ρ s at ≡ P.Placed next) (fits : record_bytes ρ ns ≤ room) where
@@ -84,7 +84,7 @@ module _ (ρ : Rules) (s : List ℕ) (at cells room : ℕ) where
     refusal_due g r (WholeIs.unplaced q d) = unplaced q d
     refusal_due g r (WholeIs.broken_rule h m d) = broken_rule h m d
     refusal_due g r (WholeIs.no_room d) = no_room record { next = d.next; placed = d.placed; short = inr d.few }
-    refusal_due g r (WholeIs.unread h q d) = unread h q record { next = next; roomy = record { placed = placed; text_fits = fits; cells_fit = d.roomy.enough }; first = d.first }
+    refusal_due g r (WholeIs.unread h q d) = unread_due h q record { next = next; roomy = record { placed = placed; text_fits = fits; cells_fit = d.roomy.enough }; first = d.first }
 
     turn_due : (t : Turn) → WholeIs.Due ρ s at cells t → D (rewritten_as ρ ns next t)
     turn_due (done cs) d = record {
@@ -109,5 +109,5 @@ module _ (ρ : Rules) (s : List ℕ) (at cells room : ℕ) where
       by (P.Refused r) u = subst D (sym (rewriting_unplaced (ap as_checked u))) (unplaced r ((Placing.first_due ρ s at (P.Refused r)).0 u))
 
   -- each answer is given exactly if it is due
-  pub first_due : (r : Rewriting) → rewriting_of ρ s at cells room ≡ r ↔ Due ρ s at cells room r
+  pub first_due : (r : Result Rewritten Unread) → rewriting_of ρ s at cells room ≡ r ↔ Due ρ s at cells room r
   first_due r = (λ e. subst (Due ρ s at cells room) e given_due, due_given r)

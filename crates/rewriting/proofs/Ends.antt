@@ -15,14 +15,14 @@ use Rattle.date.specs.Due.{IsDate}
 use Rattle.writing.proofs.Ends.{canonical_record}
 use Rattle.writing.proofs.SameCounting.{record_text_same, record_bytes_same, date_letters_same}
 use Rattle.rewriting.specs.Canonical.{RightRecord, CanonicalRecords, none, more}
-use Rattle.rewriting.specs.declared.Rewriting.TheVariants.{Done}
 use Rattle.rewriting.specs.Due.{RewrittenDue}
-use Rattle.rewriting.specs.Record.{rewriting_of, text_at}
+use Rattle.rewriting.specs.Record.{rewriting_of, text_at, rewritten_with}
 use Rattle.rewriting.proofs.Due.{first_due}
+use Rattle.std.specs.Prelude.{Ok}
 
-module _ (σ ρ : Rules) (only : σ.ends ≡ Strict) (alike : σ.counting ≡ ρ.counting) (s : List ℕ) (at cells room bytes next : ℕ) (done : rewriting_of σ s at cells room ≡ Done bytes next) where
+module _ (σ ρ : Rules) (only : σ.ends ≡ Strict) (alike : σ.counting ≡ ρ.counting) (s : List ℕ) (at cells room bytes next : ℕ) (done : rewriting_of σ s at cells room ≡ Ok (rewritten_with bytes next)) where
   due : RewrittenDue σ s at cells room bytes next
-  due = (first_due σ s at cells room (Done bytes next)).0 done
+  due = (first_due σ s at cells room (Ok (rewritten_with bytes next))).0 done
 
   counts : counts_at ρ s at ≡ counts_at σ s at
   counts = strict_counts σ ρ only alike s at due.roomy.placed due.groups
@@ -30,9 +30,9 @@ module _ (σ ρ : Rules) (only : σ.ends ≡ Strict) (alike : σ.counting ≡ ρ
   bytes_there : record_bytes ρ (counts_at ρ s at) ≡ record_bytes σ (counts_at σ s at)
   bytes_there = ap (record_bytes ρ) counts ∙ record_bytes_same ρ σ (sym alike) (counts_at σ s at)
 
-  pub strict_rewriting : rewriting_of ρ s at cells room ≡ Done bytes next
+  pub strict_rewriting : rewriting_of ρ s at cells room ≡ Ok (rewritten_with bytes next)
   strict_rewriting =
-      (first_due ρ s at cells room (Done bytes next)).1 record {
+      (first_due ρ s at cells room (Ok (rewritten_with bytes next))).1 record {
         roomy =
             record {
               placed = strict_placed σ ρ only alike s at due.roomy.placed due.groups;

@@ -8,29 +8,30 @@ use native.Mathlib.Omega.{arith}
 use borrow.Author.Tests.{le-leb, lt-leb}
 use lib.ListN.{length}
 use Rattle.rules.specs.declared.Rules.{Rules}
-use Rattle.rewriting.specs.declared.Rewriting.{Rewriting}
-use Rattle.rewriting.specs.declared.Rewriting.TheVariants.{Done, Refused}
-use Rattle.rewriting.specs.Record.{rewriting_of, text_at}
+use Rattle.rewriting.specs.Record.{rewriting_of, text_at, rewritten_with}
 use Rattle.rewriting.specs.Printed.{program_rewriting, text_then, rewritten_from, rewritten, printed, Reached, start, one_more, Stopped}
 use Rattle.rewriting.proofs.Promises.{done_within, done_further, done_inside}
+use Rattle.std.specs.Prelude.{Result, Ok, Err}
+use Rattle.rewriting.specs.declared.Rewritten.{Rewritten}
+use Rattle.whole.specs.declared.Unread.{Unread}
 
 module _ (ρ : Rules) (s : List ℕ) where
-  pub rewritten_done : (k at bytes next : ℕ) → program_rewriting ρ s at ≡ Done bytes next → rewritten_from ρ (suc k) s at ≡ text_at ρ s at ++ rewritten_from ρ k s next
+  pub rewritten_done : (k at bytes next : ℕ) → program_rewriting ρ s at ≡ Ok (rewritten_with bytes next) → rewritten_from ρ (suc k) s at ≡ text_at ρ s at ++ rewritten_from ρ k s next
   unfolding rewritten_from
   rewritten_done k at bytes next e = rw e refl
 
   -- R346: where another reply is due, nothing is printed of the record and of all behind it
-  pub rewritten_stop : (k at : ℕ) → ((bytes next : ℕ) → program_rewriting ρ s at ≡ Done bytes next → ⊥) → rewritten_from ρ k s at ≡ []
+  pub rewritten_stop : (k at : ℕ) → ((bytes next : ℕ) → program_rewriting ρ s at ≡ Ok (rewritten_with bytes next) → ⊥) → rewritten_from ρ k s at ≡ []
   unfolding rewritten_from
   rewritten_stop zero at never = refl
   rewritten_stop (suc k) at never = by (program_rewriting ρ s at) refl
     where
-      by : (r : Rewriting) → program_rewriting ρ s at ≡ r → text_then (text_at ρ s at) (rewritten_from ρ k s) r ≡ []
-      by (Done bytes next) e = absurd (never bytes next e)
-      by (Refused g r) e = refl
+      by : (r : Result Rewritten Unread) → program_rewriting ρ s at ≡ r → text_then (text_at ρ s at) (rewritten_from ρ k s) r ≡ []
+      by (Ok w) e = absurd (never w.bytes w.next e)
+      by (Err u) e = refl
 
   -- there is no record at the text's end
-  pub end_never : (at : ℕ) → length s ≤ at → (bytes next : ℕ) → program_rewriting ρ s at ≡ Done bytes next → ⊥
+  pub end_never : (at : ℕ) → length s ≤ at → (bytes next : ℕ) → program_rewriting ρ s at ≡ Ok (rewritten_with bytes next) → ⊥
   end_never at l bytes next e = omega (arith, done_further ρ s at 8192 8192 bytes next e, done_inside ρ s at 8192 8192 bytes next e)
 
   -- as many records as bytes are left are enough
@@ -40,12 +41,12 @@ module _ (ρ : Rules) (s : List ℕ) where
   rewritten_enough (suc k) zero at a b = rewritten_stop (suc k) at (end_never at (omega arith))
   rewritten_enough (suc k) (suc m) at a b = by (program_rewriting ρ s at) refl (rewritten_enough k m)
     where
-      by : (r : Rewriting) → program_rewriting ρ s at ≡ r → ((p : ℕ) → length s ≤ p + k → length s ≤ p + m → rewritten_from ρ k s p ≡ rewritten_from ρ m s p)
+      by : (r : Result Rewritten Unread) → program_rewriting ρ s at ≡ r → ((p : ℕ) → length s ≤ p + k → length s ≤ p + m → rewritten_from ρ k s p ≡ rewritten_from ρ m s p)
           → text_then (text_at ρ s at) (rewritten_from ρ k s) r ≡ text_then (text_at ρ s at) (rewritten_from ρ m s) r
-      by (Done bytes next) e more =
-          let h = done_further ρ s at 8192 8192 bytes next e in
-          ap (λ y. text_at ρ s at ++ y) (more next (omega arith) (omega arith))
-      by (Refused g r) e more = refl
+      by (Ok w) e more =
+          let h = done_further ρ s at 8192 8192 w.bytes w.next e in
+          ap (λ y. text_at ρ s at ++ y) (more w.next (omega arith) (omega arith))
+      by (Err u) e more = refl
 
 -- ---- a loop over the records: the texts printed before a place, and what follows from it on, are the whole
 
@@ -64,7 +65,7 @@ module _ (ρ : Rules) (s : List ℕ) where
   unfolding printed
   printing_none l = record { before = []; reached = start; all = rw (lt-leb (length s) 65536 l) refl }
 
-  printing_end : length s ≤ 65536 → (at : ℕ) → Printing ρ s at → ((bytes next : ℕ) → program_rewriting ρ s at ≡ Done bytes next → ⊥) → Stopped ρ s at
+  printing_end : length s ≤ 65536 → (at : ℕ) → Printing ρ s at → ((bytes next : ℕ) → program_rewriting ρ s at ≡ Ok (rewritten_with bytes next) → ⊥) → Stopped ρ s at
   unfolding printed
   printing_end few at p never = record {
     before = p.before;
@@ -76,15 +77,15 @@ module _ (ρ : Rules) (s : List ℕ) where
   printing_ended few at p l = printing_end few at p (end_never ρ s at l)
 
   -- what was asked over a table and a page of 8,192
-  module _ (at : ℕ) (p : Printing ρ s at) {cells room : ℕ} (c : cells ≡ 8192) (r : room ≡ 8192) (answer : Rewriting) (a : answer ≡ rewriting_of ρ s at cells room) where
+  module _ (at : ℕ) (p : Printing ρ s at) {cells room : ℕ} (c : cells ≡ 8192) (r : room ≡ 8192) (answer : Result Rewritten Unread) (a : answer ≡ rewriting_of ρ s at cells room) where
     asked : answer ≡ program_rewriting ρ s at
     asked = a ∙ rw (c, r) refl
 
-    pub printing_stop : length s ≤ 65536 → ((bytes next : ℕ) → answer ≡ Done bytes next → ⊥) → Stopped ρ s at
+    pub printing_stop : length s ≤ 65536 → ((bytes next : ℕ) → answer ≡ Ok (rewritten_with bytes next) → ⊥) → Stopped ρ s at
     printing_stop few never = printing_end few at p (λ bytes next e. never bytes next (asked ∙ e))
 
-    module _ (bytes next : ℕ) (d : answer ≡ Done bytes next) where
-      e : program_rewriting ρ s at ≡ Done bytes next
+    module _ (bytes next : ℕ) (d : answer ≡ Ok (rewritten_with bytes next)) where
+      e : program_rewriting ρ s at ≡ Ok (rewritten_with bytes next)
       e = sym asked ∙ d
 
       -- the text has room in the page, and the next place lies further on

@@ -13,9 +13,10 @@ use Rattle.place.specs.Placing.{placing_of}
 use Rattle.whole.specs.Turn.{cells_at}
 use Rattle.whole.proofs.Rests.{SameBasis, same_turn, same_whole}
 use Rattle.writing.specs.Text.{record_text}
-use Rattle.rewriting.specs.declared.Rewriting.{Rewriting}
-use Rattle.rewriting.specs.declared.Rewriting.TheVariants.{Done, Refused}
 use Rattle.rewriting.specs.Record.{rewriting_of, text_at, buffer_by, table_after}
+use Rattle.std.specs.Prelude.{Result, Ok, Err}
+use Rattle.rewriting.specs.declared.Rewritten.{Rewritten}
+use Rattle.whole.specs.declared.Unread.{Unread}
 
 module _ (ρ : Rules) (s : List ℕ) (p : ℕ) (t : List ℕ) (q : ℕ) (h : SameBasis ρ s p t q) where
   same_cells : cells_at ρ s p ≡ cells_at ρ t q
@@ -24,13 +25,13 @@ module _ (ρ : Rules) (s : List ℕ) (p : ℕ) (t : List ℕ) (q : ℕ) (h : Sam
   pub same_text : text_at ρ s p ≡ text_at ρ t q
   same_text = ap₂ (record_text ρ) h.counts same_cells
 
-  pub same_output : (a : Rewriting) (old : List ℕ) → buffer_by ρ s p a old ≡ buffer_by ρ t q a old
-  same_output (Done n next) old = ap (λ x. over 0 x old) same_text
-  same_output (Refused g r) old = refl
+  pub same_output : (a : Result Rewritten Unread) (old : List ℕ) → buffer_by ρ s p a old ≡ buffer_by ρ t q a old
+  same_output (Ok w) old = ap (λ x. over 0 x old) same_text
+  same_output (Err u) old = refl
 
-  pub same_table : (a : Rewriting) (old : List ℤ) → table_after ρ s p a old ≡ table_after ρ t q a old
-  same_table (Done n next) old = ap (λ cs. over 0 cs old) same_cells
-  same_table (Refused g r) old = refl
+  pub same_table : (a : Result Rewritten Unread) (old : List ℤ) → table_after ρ s p a old ≡ table_after ρ t q a old
+  same_table (Ok w) old = ap (λ cs. over 0 cs old) same_cells
+  same_table (Err u) old = refl
 
   -- over every table and output
   pub same_rewriting : placing_of ρ s p ≡ placing_of ρ t q → rewriting_of ρ s p ≡ rewriting_of ρ t q

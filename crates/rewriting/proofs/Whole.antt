@@ -1,5 +1,6 @@
 -- A record all of whose groups read with 0: it was read whole, its cells are those of the groups, joined, and so writing them gives 0.
 -- Assumes nothing.
+use Rattle.std.specs.Prelude.{Ok}
 use mathlib.Core.Path.{◌≡◌, sym, ◌∙◌, ap}
 use mathlib.Core.List.{List}
 use Prim.Native.Nat.{ℕ, ◌≤◌}
@@ -11,7 +12,6 @@ use Rattle.base.specs.Pieces.{done, cells_got}
 use Rattle.count.specs.Tally.{cells_in, record_cells}
 use Rattle.place.specs.declared.Placing.TheVariants.{Placed}
 use Rattle.place.specs.Placing.{placing_of, counts_at}
-use Rattle.reply.specs.declared.Answer.TheVariants.{Done}
 use Rattle.whole.specs.Due.{GroupDone, AllDone, ReadDue}
 use Rattle.whole.specs.Turn.{group_read, cells_at}
 use Rattle.whole.proofs.Due as Whole
@@ -41,5 +41,5 @@ module _ (ρ : Rules) (s : List ℕ) (at : ℕ) where
     pub whole_length : length (cells_at ρ s at) ≡ record_cells ρ (counts_at ρ s at)
     whole_length = turn_size ρ s at placed (cells_at ρ s at) ((Whole.turn_all_done ρ s at (cells_at ρ s at)).1 all)
 
-    pub whole_written : (room : ℕ) → record_bytes ρ (counts_at ρ s at) ≤ room → writing_of ρ (counts_at ρ s at) (cells_at ρ s at) room ≡ Done (record_bytes ρ (counts_at ρ s at))
+    pub whole_written : (room : ℕ) → record_bytes ρ (counts_at ρ s at) ≤ room → writing_of ρ (counts_at ρ s at) (cells_at ρ s at) room ≡ Ok (record_bytes ρ (counts_at ρ s at))
     whole_written room enough = ap (λ cs. writing_of ρ (counts_at ρ s at) cs room) all.all ∙ read_writes ρ whole_read_lem room enough

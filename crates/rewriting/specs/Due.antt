@@ -1,6 +1,6 @@
 -- R233, R321: when each answer of rewriting a record is due: its condition holds, and none that stands before it in the order is due. The
 -- order: what placing refuses with; 11; what the first group that is refused is refused with; 0.
-use Rattle.std.specs.Prelude.{◌≡◌, List, ◌⊎◌, ℕ, ◌<◌, ◌≤◌}
+use Rattle.std.specs.Prelude.{◌≡◌, List, ◌⊎◌, ℕ, ◌<◌, ◌≤◌, Result, Ok, Err}
 use Rattle.rules.specs.declared.Rules.{Rules}
 use Rattle.count.specs.Tally.{record_cells}
 use Rattle.place.specs.Due as Place
@@ -10,8 +10,8 @@ use Rattle.reply.specs.declared.Refusal.{Refusal}
 use Rattle.reply.specs.declared.Refusal.TheVariants.{NoRoom, BrokenRule}
 use Rattle.whole.specs.Due.{GroupDone, FirstRefused}
 use Rattle.writing.specs.Text.{record_bytes}
-use Rattle.rewriting.specs.declared.Rewriting.{Rewriting}
-use Rattle.rewriting.specs.declared.Rewriting.TheVariants.{Done, Refused}
+use Rattle.rewriting.specs.declared.Rewritten.{Rewritten}
+use Rattle.whole.specs.declared.Unread.{Unread}
 
 module _ (ρ : Rules) (s : List ℕ) (at cells room : ℕ) where
   -- R322: 11, for want of bytes in the output or of cells in the table
@@ -45,6 +45,6 @@ module _ (ρ : Rules) (s : List ℕ) (at cells room : ℕ) where
     no_room : NoRoomDue → RefusedFor 0 NoRoom
     unread : (g : ℕ) (r : Refusal) → UnreadDue g r → RefusedFor g r
 
-  abbrev pub Due : Rewriting → Type 0
-  Due (Done bytes next) = RewrittenDue bytes next
-  Due (Refused g r) = RefusedFor g r
+  abbrev pub Due : Result Rewritten Unread → Type 0
+  Due (Ok w) = RewrittenDue w.bytes w.next
+  Due (Err u) = RefusedFor u.group u.why

@@ -39,10 +39,7 @@ pub const USUAL: Rules = Rules {
 fn ends_by(strict: bool) -> LineEnds
     ensures { result ≡ ends_by strict }
 {
-    if strict {
-        return LineEnds::Strict;
-    }
-    USUAL.ends
+    if strict { LineEnds::Strict } else { USUAL.ends }
 }
 
 // R13: the count rule that was asked for, or the usual one.
@@ -50,19 +47,18 @@ fn counting_by(entries: bool) -> Counting
     ensures { result ≡ counting_by entries }
 {
     if entries {
-        return Counting::Entries;
+        Counting::Entries
+    } else {
+        USUAL.counting
     }
-    USUAL.counting
 }
 
 // R12: the rules that a caller chooses, by words of a program or bits of C.
 pub fn choose(strict: bool, entries: bool) -> Rules
     ensures { result ≡ chosen strict entries }
 {
-    let ends = ends_by(strict);
-    let counting = counting_by(entries);
     Rules {
-        ends: ends,
-        counting: counting,
+        ends: ends_by(strict),
+        counting: counting_by(entries),
     }
 }

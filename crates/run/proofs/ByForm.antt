@@ -3,13 +3,15 @@
 use mathlib.Core.Path.{◌≡◌, refl, sym, ap, ap₂, ◌∙◌, subst}
 use mathlib.Core.Bool.{Bool, true, false, cond}
 use mathlib.Core.List.{List, [], ◌∷◌, map}
-use Prim.Native.Nat.{ℕ, ◌+◌, ◌*◌, ◌-◌, ◌%◌, ◌≤◌}
-use native.Mathlib.Nat.{sub-zero}
+use Prim.Native.Nat.{ℕ, ◌+◌, ◌*◌, ◌-◌, ◌/◌, ◌%◌, ◌<◌, ◌≤◌}
+use native.Mathlib.Nat.{sub-zero, div-one, mul-div_cancel}
 use native.Mathlib.Omega.{arith}
 use borrow.Author.Tests.{ne_eqb, leb-true}
-use lib.Dec.{T, leb}
+use lib.Dec.{T, leb, lit<}
+use Rattle.std.specs.List.{list_all, flat_map}
+use Rattle.std.specs.Simd.{first_chunks}
 use lib.IntN.{ℤ, pos}
-use lib.ListN.{length}
+use lib.ListN.{length, get_or}
 use Rattle.base.specs.Ascii.{printable}
 use Rattle.base.specs.Every.{every}
 use Rattle.base.specs.Part.{over}
@@ -28,7 +30,7 @@ use Rattle.field.proofs.Laws.{lawful, field_as, good_width}
 use Rattle.run.specs.Run.{run_formed, run_cells}
 use Rattle.run.specs.Columns.{each_piece, all_pieces, is_figure, pairs, is_whole_field, is_fixed, is_power, whole_cell, fixed_cell, power_first, power_second}
 use Rattle.run.proofs.Loops.{and_true}
-use Rattle.run.proofs.Pieces.{each_same, all_same, each_byte, all_bytes}
+use Rattle.run.proofs.Pieces.{each_same, all_same, each_byte, all_bytes, each_chunk, all_chunks, each_cell, byte_chunks}
 use Rattle.run.proofs.ByColumns.{whole_formed, fixed_formed, power_formed}
 use Rattle.run.proofs.Cells.{by_sixteen, whole_is, fixed_is, power_is}
 
@@ -140,6 +142,19 @@ module _ (f : Form) (k : ℕ) (s : List ℕ) (l : length s ≡ k * (row_of f).wi
 
 -- ---- where the form is known to be g
 
+some_width : (f : Form) → 0 < (row_of f).width
+unfolding Table.row_of Table.listed_as
+some_width F7 = lit< tt
+some_width A120 = lit< tt
+some_width A1 = lit< tt
+some_width F8 = lit< tt
+some_width I2 = lit< tt
+some_width I3 = lit< tt
+some_width I1 = lit< tt
+some_width E11 = lit< tt
+some_width E20 = lit< tt
+some_width E8 = lit< tt
+
 -- what is required, for that form
 pub width_as : {f g : Form} (k : ℕ) (s : List ℕ) → f ≡ g → length s ≡ k * (row_of f).width → length s ≡ k * (row_of g).width
 width_as k s e l = l ∙ ap (λ f. k * (row_of f).width) e
@@ -152,13 +167,41 @@ module _ (f : Form) (k : ℕ) (s : List ℕ) (l : length s ≡ k * (row_of f).wi
   pub formed_as : {b : Bool} → b ≡ each_piece (test_of g) (row_of g).width k s → b ≡ run_formed f k s
   formed_as h = h ∙ ap (λ g. each_piece (test_of g) (row_of g).width k s) (sym e) ∙ sym (run_formed_lem f k s l)
 
+  -- how many fields there are
+  many : length s / (row_of g).width ≡ k
+  many = ap (λ n. n / (row_of g).width) (width_as k s e l) ∙ mul-div_cancel k (some_width g)
+
+  -- the cells of so many fields have room
+  pub room_chunks : (cell : ℕ) (table : List ℤ) {n : ℕ} → cell + k * (row_of f).cells ≤ length table → n ≡ length s / (row_of g).width → cell + n * (row_of g).cells ≤ length table
+  room_chunks cell table r c = let m = room_as k cell table e r in omega (arith, ap (λ n. n * (row_of g).cells) (c ∙ many))
+
+  pub room_bytes : (cell : ℕ) (table : List ℤ) {n : ℕ} → cell + k * (row_of f).cells ≤ length table → (row_of g).width ≡ (row_of g).cells → n ≡ length s / 1 → cell + n ≤ length table
+  room_bytes cell table r u c = let m = room_as k cell table e r in omega (arith, c ∙ div-one (length s) ∙ width_as k s e l ∙ ap (λ n. k * n) u)
+
+  pub formed_chunks : {b : Bool} {fields : List (List ℕ)} → fields ≡ first_chunks (row_of g).width (length s / (row_of g).width) s → b ≡ list_all (test_of g) fields → b ≡ run_formed f k s
+  formed_chunks c h = formed_as (h ∙ ap (list_all (test_of g)) (c ∙ ap (λ n. first_chunks (row_of g).width n s) many) ∙ each_chunk (test_of g) (row_of g).width k s)
+
   pub formed_bytes : {b : Bool} (h : ℕ → Bool) → every h ≡ test_of g → b ≡ every h s → b ≡ run_formed f k s
   formed_bytes h t r = formed_as (r ∙ sym (each_byte (row_of g).width k s (width_as k s e l) h) ∙ ap (λ u. each_piece u (row_of g).width k s) t)
 
   module _ (cell : ℕ) (old : List ℤ) (t : T (run_formed f k s)) where
-    pub filled_as : over cell (all_pieces (cells_by g) (row_of g).width k s) old ≡ over cell (run_cells f k s) old
+    filled_as : over cell (all_pieces (cells_by g) (row_of g).width k s) old ≡ over cell (run_cells f k s) old
     filled_as = ap (λ cs. over cell cs old) (ap (λ g. all_pieces (cells_by g) (row_of g).width k s) (sym e) ∙ sym (run_cells_lem f k s l t))
 
-    pub filled_bytes : (h : ℕ → ℤ) → map h ≡ cells_by g → over cell (map h s) old ≡ over cell (run_cells f k s) old
-    filled_bytes h c =
-        ap (λ cs. over cell cs old) (sym (all_bytes (row_of g).width k s (width_as k s e l) h) ∙ ap (λ u. all_pieces u (row_of g).width k s) c) ∙ filled_as
+    pub filled_chunks : {fields : List (List ℕ)} → fields ≡ first_chunks (row_of g).width (length s / (row_of g).width) s → over cell (flat_map (cells_by g) fields) old ≡ over cell (run_cells f k s) old
+    filled_chunks c =
+        ap (λ cs. over cell cs old)
+        (ap (flat_map (cells_by g)) (c ∙ ap (λ n. first_chunks (row_of g).width n s) many) ∙ all_chunks (cells_by g) (row_of g).width k s)
+        ∙ filled_as
+
+    pub filled_cells : {fields : List (List ℕ)} (h : List ℕ → ℤ) → fields ≡ first_chunks (row_of g).width (length s / (row_of g).width) s → (λ s. h s ∷ []) ≡ cells_by g → over cell (map h fields) old ≡ over cell (run_cells f k s) old
+    filled_cells {fields} h c u = ap (λ cs. over cell cs old) (each_cell h fields ∙ ap (λ give. flat_map give fields) u) ∙ filled_chunks c
+
+    pub filled_bytes : {fields : List (List ℕ)} (h : ℕ → ℤ) → fields ≡ first_chunks 1 (length s / 1) s → map h ≡ cells_by g → over cell (map (λ t. h (get_or t 0 0)) fields) old ≡ over cell (run_cells f k s) old
+    filled_bytes h c u =
+        ap (λ cs. over cell cs old)
+        (ap (map (λ t. h (get_or t 0 0))) (c ∙ ap (λ n. first_chunks 1 n s) (div-one (length s)))
+        ∙ byte_chunks h s
+        ∙ sym (all_bytes (row_of g).width k s (width_as k s e l) h)
+        ∙ ap (λ u. all_pieces u (row_of g).width k s) u)
+        ∙ filled_as

@@ -1,116 +1,101 @@
--- Loops over bytes that gather one answer: a test at each, pairs of neighbours, a byte that is sought, a number's digits.
+-- Loops over bytes: a test at each, pairs of neighbours, a byte that is sought, a number's digits.
 -- Assumes nothing.
-use mathlib.Core.Path.{◌≡◌, refl, sym, ap, ◌∙◌}
-use mathlib.Core.Bool.{Bool, true, false, ◌&&◌, ◌||◌}
-use mathlib.Core.List.{List, [], ◌∷◌, map}
-use Prim.Native.Nat.{ℕ, suc, ◌+◌, ◌*◌, ◌-◌, ◌^◌, ◌<◌, ◌≤◌}
+use Rattle.std.proofs.Common.{◌≡◌, ◌∙◌, refl, sym, ap, ap₂, Bool, true, false, ◌&&◌, ◌||◌, List, [], ◌∷◌, map, ℕ, zero, suc, ◌+◌, ◌*◌, ◌-◌, ◌^◌, ◌<◌, ◌≤◌, eqb, length, take, get_or, Option, Some, None, option_map, IfSome, IsSomeAnd, MatchBool, IsTrue, add-zero, add-one, arith}
 use native.Mathlib.Nat.{pow-suc, pow-le-pow_right}
-use native.Mathlib.Numerals.{add-one}
-use native.Mathlib.Omega.{arith}
-use lib.Dec.{eqb, lit<}
-use lib.ListN.{length, drop, get_or, drop_of_length-le, length-drop}
-use lib.Seq.{drop-cons}
-use Rattle.base.specs.Every.{every, has}
-use Rattle.base.specs.Digits.{number_from, number_of}
-use Rattle.base.proofs.Taken.{drop_none}
+use lib.Dec.{lit<}
+use denote.Ref.{Bor}
+use denote.Param.Members.{Mut}
+use Rattle.std.specs.Fn.{Called}
+use Rattle.std.specs.List.{IsSubsliceAt}
+use Rattle.std.specs.Iterator.Runs.{Run, IsWindowsRun, AllItemsGive, AnyItemGives}
+use Rattle.std.proofs.lemmas.List.{map_more}
+use Rattle.base.specs.Every.{has}
+use Rattle.base.specs.Digits.{number_of}
+use Rattle.base.proofs.Choice.{and_false}
+use Rattle.base.proofs.Digits.{number_append}
 use Rattle.run.specs.Columns.{goes_on, pairs}
 
 pub and_assoc : (a b c : Bool) → ((a && b) && c) ≡ (a && (b && c))
 and_assoc true b c = refl
 and_assoc false b c = refl
 
-pub or_assoc : (a b c : Bool) → ((a || b) || c) ≡ (a || (b || c))
-or_assoc true b c = refl
-or_assoc false b c = refl
-
 pub and_true : (a : Bool) → (a && true) ≡ a
 and_true true = refl
 and_true false = refl
 
-pub or_false : (a : Bool) → (a || false) ≡ a
-or_false true = refl
-or_false false = refl
-
--- one test and then another: q is what the first answered, r what is answered
-pub and_then : (a b : Bool) {q r : Bool} → q ≡ a → q ≡ true → r ≡ b → r ≡ (a && b)
-and_then a b e f g = g ∙ sym (ap (λ t. t && b) (sym e ∙ f))
-
-pub and_stop : (a b : Bool) {q : Bool} → q ≡ a → q ≡ false → q ≡ (a && b)
-and_stop a b e f = f ∙ sym (ap (λ t. t && b) (sym e ∙ f))
-
--- ---- a test at each byte
-
-module _ (test : ℕ → Bool) (s : List ℕ) (i : ℕ) where
-  pub gather_more : (ok : Bool) → i < length s → ((ok && test (get_or s i 0)) && every test (drop (i + 1) s)) ≡ (ok && every test (drop i s))
-  gather_more ok h = rw (add-one i, drop-cons s i 0 h) (and_assoc ok (test (get_or s i 0)) (every test (drop (suc i) s)))
-
-  pub gather_done : (ok : Bool) → length s ≤ i → (ok && every test (drop i s)) ≡ ok
-  gather_done ok h = rw (drop_of_length-le s h) (and_true ok)
-
 -- ---- a byte that is sought
 
-module _ (b : ℕ) (s : List ℕ) (i : ℕ) where
-  pub seek_more : (found : Bool) → i < length s → ((found || eqb (get_or s i 0) b) || has (drop (i + 1) s) b) ≡ (found || has (drop i s) b)
-  seek_more found h = rw (add-one i, drop-cons s i 0 h) (or_assoc found (eqb (get_or s i 0) b) (has (drop (suc i) s) b))
+or_more : (a b c : Bool) → (a || (b || c)) ≡ ((a || b) || c)
+or_more true b c = refl
+or_more false b c = refl
 
-  pub seek_done : (found : Bool) → length s ≤ i → (found || has (drop i s) b) ≡ found
-  seek_done found h = rw (drop_of_length-le s h) (or_false found)
+or_one : (a : Bool) → (a || false) ≡ (false || a)
+or_one true = refl
+or_one false = refl
+
+pub has_more : (b : ℕ) (s : List ℕ) (i : ℕ) → i < length s → has (take (i + 1) s) b ≡ (has (take i s) b || eqb (get_or s i 0) b)
+has_more b [] i h = absurd (omega arith)
+has_more b (x ∷ s) zero h = or_one (eqb x b)
+has_more b (x ∷ s) (suc i) h = rw (add-one (suc i)) (ap (λ t. eqb x b || t) (ap (λ n. has (take n s) b) (sym (add-one i)) ∙ has_more b s i (omega arith)) ∙ or_more (eqb x b) (has (take i s) b) (eqb (get_or s i 0) b))
 
 -- ---- neighbours
 
--- column i - 1 goes on to column i, or it doesn't
-pairs_from : (s : List ℕ) (i : ℕ) → 1 ≤ i → i < length s → pairs (drop (i - 1) s) ≡ (goes_on (get_or s (i - 1) 0) (get_or s i 0) && pairs (drop i s))
+-- each column goes on to the next, or some column doesn't
+pairs_pass : (s : List ℕ) → ((k : ℕ) → suc k < length s → goes_on (get_or s k 0) (get_or s (suc k) 0) ≡ true) → pairs s ≡ true
 unfolding pairs
-pairs_from s i l h =
-    let e : i ≡ suc (i - 1) = omega arith in
-    rw (drop-cons s (i - 1) 0 (omega arith), ← e, drop-cons s i 0 h)
+pairs_pass [] h = refl
+pairs_pass (x ∷ []) h = refl
+pairs_pass (x ∷ y ∷ s) h = rw (h 0 (omega arith), pairs_pass (y ∷ s) (λ k l. h (suc k) (omega arith)))
 
-pub pairs_passed : (s : List ℕ) (i : ℕ) → 1 ≤ i → i < length s → goes_on (get_or s (i - 1) 0) (get_or s i 0) ≡ true → pairs (drop i s) ≡ pairs (drop (i - 1) s)
-pairs_passed s i l h e = sym (pairs_from s i l h ∙ rw e)
-
-pub pairs_failed : (s : List ℕ) (i : ℕ) → 1 ≤ i → i < length s → goes_on (get_or s (i - 1) 0) (get_or s i 0) ≡ false → false ≡ pairs (drop (i - 1) s)
-pairs_failed s i l h e = sym (pairs_from s i l h ∙ rw e)
-
-few_pairs : (s : List ℕ) → length s ≤ 1 → pairs s ≡ true
+pairs_fail : (s : List ℕ) (k : ℕ) → suc k < length s → goes_on (get_or s k 0) (get_or s (suc k) 0) ≡ false → pairs s ≡ false
 unfolding pairs
-few_pairs [] h = refl
-few_pairs (x ∷ []) h = refl
-few_pairs (x ∷ y ∷ s) h = absurd (omega arith)
+pairs_fail [] k l e = absurd (omega arith)
+pairs_fail (x ∷ []) k l e = absurd (omega arith)
+pairs_fail (x ∷ y ∷ s) zero l e = rw e
+pairs_fail (x ∷ y ∷ s) (suc k) l e = rw (pairs_fail (y ∷ s) k (omega arith) e) (and_false (goes_on x y))
 
-pub pairs_done : (s : List ℕ) (i : ℕ) → length s ≤ i → true ≡ pairs (drop (i - 1) s)
-pairs_done s i h = sym (few_pairs (drop (i - 1) s) (omega (arith, length-drop (i - 1) s)))
+-- what is known of an item that is there
+there : {A B : Bor (List ℕ) → Type 0} {v : ℕ} (o : Option (Bor (List ℕ))) → option_map (λ (x : Bor (List ℕ)). get_or x.now 0 0) o ≡ Some v → IfSome o A → IfSome o B → (w : Bor (List ℕ)) × A w × B w
+there None e a b = cc
+there (Some w) e a b = (w, a, b)
+
+-- the windows of two columns, in whatever order they are asked
+module _ {S F : Type 0} {steps : S → Option (Bor (List ℕ)) → S → Type 0} (p : Run steps) (s : List ℕ) (windows : IsWindowsRun p 2 s) (g : Mut F (Bor (List ℕ) × Unit {0}) Bool) (f : F)
+    (asks : (a : Bor (List ℕ) × Unit {0}) (r : Bool) (f' : F) → Called g f a r f' → (f' ≡ f) × (r ≡ goes_on (get_or a.0.now 0 0) (get_or a.0.now 1 0))) where
+  answered : (k : ℕ) (r : Bool) (w : Bor (List ℕ)) → IsSubsliceAt 2 s k w.now → Called g f (w, tt) r f → goes_on (get_or s k 0) (get_or s (suc k) 0) ≡ r
+  answered k r w at c =
+      let first : get_or w.now 0 0 ≡ get_or s (k + 0) 0 = at.2 0 0 (omega arith) in
+      let second : get_or w.now 1 0 ≡ get_or s (k + 1) 0 = at.2 1 0 (omega arith) in
+      let e : get_or s k 0 ≡ get_or w.now 0 0 = ap (λ n. get_or s n 0) (sym (add-zero k)) ∙ sym first in
+      let m : get_or s (suc k) 0 ≡ get_or w.now 1 0 = ap (λ n. get_or s n 0) (sym (add-one k)) ∙ sym second in
+      ap₂ goes_on e m ∙ sym (asks (w, tt) r f c).1
+
+  keeps : (a : Bor (List ℕ) × Unit {0}) (r : Bool) (f' : F) → Called g f a r f' → f' ≡ f
+  keeps a r f' c = (asks a r f' c).0
+
+  pub pairs_run : (r : Bool) → MatchBool r (IsTrue p.whole × AllItemsGive p g f true) (AnyItemGives p g f false) → r ≡ pairs s
+  pairs_run true h =
+      sym (pairs_pass s (λ k l.
+      let n : p.len ≡ length s + 1 - 2 = windows.1 h.0 in
+      let w = there (p.at k) (windows.3 k 0 (omega arith)) (windows.2 k) (h.1 keeps k) in
+      answered k true w.0 w.1.2 w.2))
+  pairs_run false h =
+      let a = h keeps in
+      let w = there (p.at a.0) (windows.3 a.0 0 a.1) (windows.2 a.0) (one _ (p.at a.0) a.2) in
+      sym (pairs_fail s a.0 (omega (arith, w.1.1)) (answered a.0 false w.0 w.1.2 w.2))
+    where
+      one : (B : Bor (List ℕ) → Type 0) (o : Option (Bor (List ℕ))) → IsSomeAnd o B → IfSome o B
+      one B None h = absurd h
+      one B (Some w) h = h
 
 -- ---- a number's digits
 
--- no byte is above 255, so a number that began with 0 is below 24 times a power of ten, and 12 columns have room
-room_more : (i n d : ℕ) → d < 208 → n + 24 ≤ 24 * 10 ^ i → n * 10 + d + 24 ≤ 24 * 10 ^ (i + 1)
+-- a byte is below 256, so a number that began with 0 is below 29 times a power of ten, and 12 columns have room
+pub room_more : (i n d : ℕ) → d < 256 → n + 29 ≤ 29 * 10 ^ i → n * 10 + d + 29 ≤ 29 * 10 ^ (i + 1)
 room_more i n d h r = rw (add-one i, pow-suc 10 i) (omega arith)
 
-room_all : (i n : ℕ) → i ≤ 12 → n + 24 ≤ 24 * 10 ^ i → n < 2 ^ 48
+pub room_all : (i n : ℕ) → i ≤ 12 → n + 29 ≤ 29 * 10 ^ i → n < 2 ^ 48
 room_all i n h r = let p = pow-le-pow_right {n = 10} (lit< tt) {i = i} {j = 12} h in omega arith
 
--- the columns before column i made n, each of them as much as it is worth; those from i on, behind it, make the whole number
-pub record Summing (worth : ℕ → ℕ) (s : List ℕ) (n i : ℕ) : Type 0 where
-  pub within : i ≤ length s
-  pub rest : number_from n (map worth (drop i s)) ≡ number_of (map worth s)
-  pub room : n + 24 ≤ 24 * 10 ^ i
-
-pub summing_none : (worth : ℕ → ℕ) (s : List ℕ) → Summing worth s 0 0
-summing_none worth s = record { within = omega arith; rest = ap (λ x. number_from 0 (map worth x)) (drop_none s); room = omega arith }
-
-module _ {worth : ℕ → ℕ} {s : List ℕ} {n i : ℕ} (t : Summing worth s n i) (few : length s ≤ 12) where
-  pub summing_small : n < 2 ^ 48
-  summing_small = room_all i n (omega (arith, t.within)) t.room
-
-  pub summing_more : i < length s → {d : ℕ} → d ≡ worth (get_or s i 0) → d < 208 → Summing worth s (n * 10 + d) (i + 1)
-  summing_more h {d} e small = record {
-    within = omega arith;
-    rest = ap (λ d. number_from (n * 10 + d) (map worth (drop (i + 1) s))) e ∙ next ∙ t.rest;
-    room = room_more i n d small t.room;
-  }
-    where
-      next : number_from (n * 10 + worth (get_or s i 0)) (map worth (drop (i + 1) s)) ≡ number_from n (map worth (drop i s))
-      next = rw (add-one i, drop-cons s i 0 h)
-
-  pub summing_all : length s ≤ i → (n ≡ number_of (map worth s)) × (n < 2 ^ 48)
-  summing_all h = (ap (λ x. number_from n (map worth x)) (sym (drop_of_length-le s h)) ∙ t.rest, summing_small)
+pub number_more : (worth : ℕ → ℕ) (s : List ℕ) (i : ℕ) → i < length s → number_of (map worth (take (i + 1) s)) ≡ number_of (map worth (take i s)) * 10 + worth (get_or s i 0)
+number_more worth s i h = ap number_of (map_more worth s i 0 h) ∙ number_append 0 (map worth (take i s)) (worth (get_or s i 0) ∷ [])

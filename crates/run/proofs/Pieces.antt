@@ -1,33 +1,20 @@
 -- Pieces of equal width, one behind the other, as a loop meets them: tested one by one, and their cells put one behind the other.
 -- Assumes nothing.
-use mathlib.Core.Path.{◌≡◌, refl, sym, ap, ap₂, ◌∙◌}
-use mathlib.Core.Bool.{Bool, true, false, ◌&&◌}
-use mathlib.Core.List.{List, [], ◌∷◌, ◌++◌, append_assoc, append-nil, map, flat_map}
-use Prim.Native.Nat.{ℕ, zero, suc, ◌+◌, ◌*◌, ◌-◌, ◌<◌, ◌≤◌}
-use native.Mathlib.Nat.{add-zero, zero-add, sub-zero, zero-mul, suc-mul, mul-le-mul_right}
-use native.Mathlib.Numerals.{add-one}
-use native.Mathlib.Omega.{arith}
-use lib.Dec.{T}
-use lib.IntN.{ℤ}
-use lib.ListN.{length, length-append}
-use lib.Seq.{take_all}
+use mathlib.Core.List.{flat_map}
+use native.Mathlib.Nat.{zero-add, zero-mul, suc-mul, mul-le-mul_right}
+use Rattle.std.proofs.Common.{◌≡◌, ◌∙◌, refl, sym, ap, ap₂, Bool, ◌&&◌, List, [], ◌∷◌, ◌++◌, map, ℕ, zero, suc, ◌+◌, ◌*◌, ◌<◌, ◌≤◌, T, ℤ, length, take, drop, get_or, set, take_all, drop-drop, length-take, length-take-le, length-set, arith}
+use Rattle.std.specs.List.{list_all, flat_map as flat_map_of}
+use Rattle.std.specs.Simd.{first_chunks}
+use Rattle.std.proofs.lemmas.List.{length-map, take_more, map_more, flat_map_more}
+use Rattle.std.proofs.lemmas.List.Folds.{list_all-map}
 use Rattle.base.specs.Every.{every, up_from}
 use Rattle.base.specs.Part.{part, over}
-use Rattle.base.proofs.Part.{part_length, over_none, over_then, over_length}
+use Rattle.base.proofs.Part.{part_length, over_one, over_then}
 use Rattle.base.proofs.Every.{every_between}
-use Rattle.base.proofs.Taken.{part_zero}
+use Rattle.base.proofs.Taken.{part_zero, drop_none}
 use Rattle.base.proofs.UpFrom.{flat_same, parts_flat}
 use Rattle.run.specs.Columns.{columns_at, each_piece, all_pieces}
 use Rattle.run.proofs.Loops.{and_assoc}
-
--- the next of k numbers, and none behind the last
-up_next : (i k : ℕ) → i < k → up_from i (k - i) ≡ i ∷ up_from (i + 1) (k - (i + 1))
-unfolding up_from
-up_next i k h = let e : k - i ≡ suc (k - (i + 1)) = omega arith in rw (e, add-one i)
-
-up_none : (i k : ℕ) → k ≤ i → up_from i (k - i) ≡ []
-unfolding up_from
-up_none i k h = let e : k - i ≡ 0 = omega arith in rw e
 
 -- piece i is what stands from its place on
 columns_lent : (w i a : ℕ) (s : List ℕ) → a ≡ i * w → part a (a + w) s ≡ columns_at w s i
@@ -100,90 +87,62 @@ module _ (w k : ℕ) (s : List ℕ) (l : length s ≡ k * w) where
   unfolding all_pieces
   all_bytes f = map_flat f (columns_at w s) (up_from 0 k) ∙ ap (map f) (pieces_run w k s l)
 
--- ---- testing
+-- ---- the same as arrays, one behind the other
 
--- the pieces before piece i, which stands at place a, have passed: the others answer for all
-pub record Tested (test : List ℕ → Bool) (w k : ℕ) (s : List ℕ) (a i : ℕ) : Type 0 where
-  pub within : i ≤ k
-  pub place : a ≡ i * w
-  pub rest : every (λ j. test (columns_at w s j)) (up_from i (k - i)) ≡ each_piece test w k s
+chunks_from : (w k a : ℕ) (s : List ℕ) → first_chunks w k (drop (a * w) s) ≡ map (columns_at w s) (up_from a k)
+unfolding up_from
+chunks_from w zero a s = refl
+chunks_from w (suc k) a s =
+    ap₂ ◌∷◌ (ap (λ n. take n (drop (a * w) s)) (omega (arith, suc-mul a w)))
+    (ap (first_chunks w k) (drop-drop w (a * w) s ∙ ap (λ n. drop n s) (omega (arith, suc-mul a w))) ∙ chunks_from w k (suc a) s)
 
-pub tested_none : (test : List ℕ → Bool) (w k : ℕ) (s : List ℕ) → Tested test w k s 0 0
+chunks : (w k : ℕ) (s : List ℕ) → first_chunks w k s ≡ map (columns_at w s) (up_from 0 k)
+chunks w k s = ap (first_chunks w k) (sym (rw (zero-mul w) (drop_none s))) ∙ chunks_from w k 0 s
+
+pub each_chunk : (test : List ℕ → Bool) (w k : ℕ) (s : List ℕ) → list_all test (first_chunks w k s) ≡ each_piece test w k s
 unfolding each_piece
-tested_none test w k s = record { within = omega arith; place = sym (zero-mul w); rest = rw (sub-zero k) }
+each_chunk test w k s = ap (list_all test) (chunks w k s) ∙ list_all-map test (columns_at w s) (up_from 0 k)
 
-module _ {test : List ℕ → Bool} {w k : ℕ} {s : List ℕ} {a i : ℕ} (t : Tested test w k s a i) where
-  pub tested_more : i < k → test (part a (a + w) s) ≡ true → Tested test w k s (a + w) (i + 1)
-  tested_more h e =
-      let p : test (columns_at w s i) ≡ true = ap test (sym (columns_lent w i a s t.place)) ∙ e in
-      record {
-        within = omega arith;
-        place = rw (add-one i, suc-mul i w) (omega (arith, t.place));
-        rest = sym (rw (up_next i k h, p)) ∙ t.rest;
-      }
+flat_chunks : (give : List ℕ → List ℤ) (at : ℕ → List ℕ) (is : List ℕ) → flat_map_of give (map at is) ≡ flat_map (λ i. give (at i)) is
+unfolding flat_map
+flat_chunks give at [] = refl
+flat_chunks give at (i ∷ is) = ap (λ l. give (at i) ++ l) (flat_chunks give at is)
 
-  pub tested_failed : i < k → test (part a (a + w) s) ≡ false → false ≡ each_piece test w k s
-  tested_failed h e =
-      let p : test (columns_at w s i) ≡ false = ap test (sym (columns_lent w i a s t.place)) ∙ e in
-      sym (rw (up_next i k h, p)) ∙ t.rest
-
-  pub tested_all : k ≤ i → true ≡ each_piece test w k s
-  tested_all h = sym (rw (up_none i k h)) ∙ t.rest
-
--- ---- filling
-
-flat_more : (f : ℕ → List ℤ) (b n : ℕ) → flat_map f (up_from b (suc n)) ≡ flat_map f (up_from b n) ++ f (b + n)
-unfolding up_from flat_map
-flat_more f b zero = rw (add-zero b) (append-nil (f b))
-flat_more f b (suc n) =
-    let e : suc b + n ≡ b + suc n = omega arith in
-    ap (λ l. f b ++ l) (flat_more f (suc b) n) ∙ rw e (sym (append_assoc (f b) (flat_map f (up_from (suc b) n)) (f (b + suc n))))
-
-flat_length : (f : ℕ → List ℤ) (c b n : ℕ) → ((i : ℕ) → length (f i) ≡ c) → length (flat_map f (up_from b n)) ≡ n * c
-unfolding up_from flat_map
-flat_length f c b zero h = sym (zero-mul c)
-flat_length f c b (suc n) h = length-append (f b) (flat_map f (up_from (suc b) n)) ∙ ap₂ ◌+◌ (h b) (flat_length f c (suc b) n h) ∙ omega (arith, suc-mul n c)
-
-pieces_more : (give : List ℕ → List ℤ) (w i : ℕ) (s : List ℕ) → all_pieces give w (i + 1) s ≡ all_pieces give w i s ++ give (columns_at w s i)
+pub all_chunks : (give : List ℕ → List ℤ) (w k : ℕ) (s : List ℕ) → flat_map_of give (first_chunks w k s) ≡ all_pieces give w k s
 unfolding all_pieces
-pieces_more give w i s = rw (add-one i) (flat_more (λ j. give (columns_at w s j)) 0 i ∙ ap (λ j. flat_map (λ j. give (columns_at w s j)) (up_from 0 i) ++ give (columns_at w s j)) (zero-add i))
+all_chunks give w k s = ap (flat_map_of give) (chunks w k s) ∙ flat_chunks give (columns_at w s) (up_from 0 k)
 
--- the cells of the pieces before piece i, so many of each, stand from `cell` on, and there is room for those of all k
-pub record Filled (give : List ℕ → List ℤ) (size w k : ℕ) (s : List ℕ) (cell : ℕ) (old : List ℤ) (a i : ℕ) (table : List ℤ) : Type 0 where
-  pub sized : (t : List ℕ) → length (give t) ≡ size
-  pub room : cell + k * size ≤ length old
-  pub within : i ≤ k
-  pub place : a ≡ i * w
-  pub long : length table ≡ length old
-  pub is : table ≡ over cell (all_pieces give w i s) old
+-- one cell for each
+pub each_cell : (h : List ℕ → ℤ) (fields : List (List ℕ)) → map h fields ≡ flat_map_of (λ s. h s ∷ []) fields
+each_cell h [] = refl
+each_cell h (s ∷ fields) = ap (λ l. h s ∷ l) (each_cell h fields)
 
-module _ (give : List ℕ → List ℤ) (size w k : ℕ) (s : List ℕ) (cell : ℕ) (old : List ℤ) where
-  pub filled_none : ((t : List ℕ) → length (give t) ≡ size) → cell + k * size ≤ length old → Filled give size w k s cell old 0 0 old
-  unfolding all_pieces up_from flat_map
-  filled_none g r = record { sized = g; room = r; within = omega arith; place = sym (zero-mul w); long = refl; is = over_none old cell }
+-- single bytes
+pub byte_chunks : (h : ℕ → ℤ) (s : List ℕ) → map (λ t. h (get_or t 0 0)) (first_chunks 1 (length s) s) ≡ map h s
+byte_chunks h [] = refl
+byte_chunks h (b ∷ s) = ap (λ l. h b ∷ l) (byte_chunks h s)
 
-module _ {give : List ℕ → List ℤ} {size w k : ℕ} {s : List ℕ} {cell : ℕ} {old : List ℤ} {a i : ℕ} {table : List ℤ} (t : Filled give size w k s cell old a i table) where
-  pub filled_room : i < k → cell + i * size + size ≤ length table
-  filled_room h = let m = mul-le-mul_right size h in omega (arith, suc-mul i size, t.long, t.room)
+-- ---- a cell more, and two
 
-  pub filled_more : {more : List ℤ} (p : ℕ) → p ≡ cell + i * size → i < k → more ≡ over p (give (part a (a + w) s)) table → Filled give size w k s cell old (a + w) (i + 1) more
-  unfolding all_pieces
-  filled_more p e h q =
-      let x = part a (a + w) s in
-      let l = filled_room h in
-      let g = t.sized x in
-      let n = flat_length (λ j. give (columns_at w s j)) size 0 i (λ j. t.sized (columns_at w s j)) in
-      record {
-        sized = t.sized;
-        room = t.room;
-        within = omega arith;
-        place = rw (add-one i, suc-mul i w) (omega (arith, t.place));
-        long = ap length q ∙ over_length table (give x) p (omega arith) ∙ t.long;
-        is =
-            over_then old (all_pieces give w i s) (give x) cell p (omega arith, omega (arith, t.long)) t.is q
-            ∙ ap (λ y. over cell (all_pieces give w i s ++ give y) old) (columns_lent w i a s t.place)
-            ∙ ap (λ y. over cell y old) (sym (pieces_more give w i s));
-      }
+two_each : (first second : List ℕ → ℤ) (fields : List (List ℕ)) → length (flat_map_of (λ s. first s ∷ second s ∷ []) fields) ≡ length fields * 2
+two_each first second [] = refl
+two_each first second (s ∷ fields) = omega (arith, two_each first second fields, suc-mul (length fields) 2)
 
-  pub filled_all : k ≤ i → table ≡ over cell (all_pieces give w k s) old
-  filled_all h = let e : i ≡ k = omega (arith, t.within) in t.is ∙ ap (λ n. over cell (all_pieces give w n s) old) e
+module _ (old : List ℤ) (cell : ℕ) (fields : List (List ℕ)) (i : ℕ) (s : List ℕ) (here : i < length fields) (is : s ≡ get_or fields i s) where
+  pub cell_more : {table : List ℤ} (h : List ℕ → ℤ) → cell + length fields ≤ length old → length table ≡ length old → table ≡ over cell (map h (take i fields)) old
+      → set table (cell + i) (h s) ≡ over cell (map h (take (i + 1) fields)) old
+  cell_more {table} h room kept e =
+      let l : length (map h (take i fields)) ≡ i = simp (length-map, length-take) (omega arith) in
+      over_then old (map h (take i fields)) (h s ∷ []) cell (cell + i) (omega arith, omega arith) e (over_one table (cell + i) (h s) (omega arith))
+      ∙ ap (λ l. over cell l old) (sym (map_more h fields i s here ∙ ap (λ t. map h (take i fields) ++ (h t ∷ [])) (sym is)))
+
+  pub cells_more : {table : List ℤ} (at : ℕ) (first second : List ℕ → ℤ) → at ≡ cell + i * 2 → cell + length fields * 2 ≤ length old → length table ≡ length old
+      → table ≡ over cell (flat_map_of (λ s. first s ∷ second s ∷ []) (take i fields)) old
+      → set (set table at (first s)) (at + 1) (second s) ≡ over cell (flat_map_of (λ s. first s ∷ second s ∷ []) (take (i + 1) fields)) old
+  cells_more {table} at first second place room kept e =
+      let give : List ℕ → List ℤ = λ s. first s ∷ second s ∷ [] in
+      let l : length (flat_map_of give (take i fields)) ≡ i * 2 = two_each first second (take i fields) ∙ ap (λ n. n * 2) (length-take-le i fields (omega arith)) in
+      let both = over_then table (first s ∷ []) (second s ∷ []) at (at + 1) (refl, omega arith) (over_one table at (first s) (omega arith)) (over_one (set table at (first s)) (at + 1) (second s) (simp length-set (omega arith))) in
+      over_then old (flat_map_of give (take i fields)) (give s) cell at (omega arith, omega arith) e both
+      ∙ ap (λ l. over cell l old)
+      (ap (λ t. flat_map_of give (take i fields) ++ give t) is ∙ flat_map_more give [] (take i fields) (get_or fields i s) ∙ ap (flat_map_of give) (sym (take_more fields i s here)))

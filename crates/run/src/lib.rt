@@ -1,9 +1,11 @@
 // A run of fields of one form, one behind the other: whether each is one of the form (R70 to R86), and their cells. The
-// form is matched once for a run, and one loop goes over its fields. The loops are written over any width, and the
-// form's own is a constant where they are called: there the compiler takes the loops over a field's columns apart.
+// form is matched once for a run, and one loop goes over its fields. Fields are arrays of the form's width, a constant:
+// so the compiler takes the loops over a field's columns apart.
 #![tactic(auto)]
 
-ghost use Rattle.std.specs.Prelude.{◌≡◌, ◌∷◌, [], map, ◌+◌, ◌*◌, ◌-◌, ◌^◌, ◌<◌, ◌≤◌, T, pos, length};
+ghost use Rattle.std.specs.Prelude.{◌≡◌, Bool, List, ℕ, ℤ, ◌∷◌, [], map, ◌+◌, ◌*◌, ◌^◌, ◌<◌, ◌≤◌, T, length};
+ghost use Rattle.std.specs.List.{flat_map};
+ghost use Rattle.base.specs.Digits.{number_of};
 ghost use Rattle.base.specs.Every.{every, has};
 ghost use Rattle.base.specs.Part.{over};
 ghost use Rattle.form.specs.Table.{row_of};
@@ -11,27 +13,18 @@ ghost use Rattle.run.specs.Run.{run_formed, run_cells};
 ghost use Rattle.run.specs.Columns.{between, is_figure, goes_on, pairs, is_column, is_lead, is_sign, is_whole_field, is_head};
 ghost use Rattle.run.specs.Columns.{is_fixed, is_leading, is_power, number_in, figures_in, columns_in};
 ghost use Rattle.run.specs.Columns.{whole_cell, fixed_cell, power_first, power_second};
-ghost use Rattle.run.specs.Columns.{each_piece, all_pieces};
 
 use form::Form;
 
 // ---- Testing, without making a value.
 
-fn is_between(b: u8, first: u8, last: u8) -> bool
-    ensures { result ≡ between first last b }
-{
-    (first <= b) & (b <= last)
-}
-
-// R80, and runs of digits. The loop has no way out before its end, so that many bytes are looked at in one step.
+// R80, and runs of digits. No byte is a way out, so that many are looked at in one step.
 fn all_between(s: &[u8], first: u8, last: u8) -> bool
     ensures { result ≡ every (between first last) s.now }
 {
     let mut ok = true;
-    let mut i = 0;
-    while i < s.len() {
-        ok = ok & is_between(s[i], first, last);
-        i += 1;
+    for b in s {
+        ok &= (first..=last).contains(b);
     }
     ok
 }
@@ -39,7 +32,7 @@ fn all_between(s: &[u8], first: u8, last: u8) -> bool
 fn is_digit(b: u8) -> bool
     ensures { result ≡ is_figure b }
 {
-    is_between(b, b'0', b'9')
+    (b'0'..=b'9').contains(&b)
 }
 
 // Whether a column of a number may stand before another: a blank before anything that is right by itself, a minus or a
@@ -54,37 +47,29 @@ fn goes_on(x: u8, y: u8) -> bool
 fn pairs(s: &[u8]) -> bool
     ensures { result ≡ pairs s.now }
 {
-    let mut i = 1;
-    while i < s.len() {
-        if !goes_on(s[i - 1], s[i]) {
-            return false;
-        }
-        i += 1;
-    }
-    true
+    s.windows(2).all(|p| goes_on(p[0], p[1]))
 }
 
 // R70: a digit stands last.
 fn is_whole(s: &[u8]) -> bool
-    requires { 1 ≤ length s.now }
     ensures { result ≡ is_whole_field s.now }
 {
-    pairs(s) && is_digit(s[s.len() - 1])
+    pairs(s) && s.last().is_some_and(|b| is_digit(*b))
 }
 
-// R72: a blank, a minus or a digit may stand before the point.
+// R72: a blank, a minus or a digit may stand before the point. By the tests that the columns' pairs make, not by a
+// match: so the compiler sees what of it a pair has said already.
 fn is_column(b: u8) -> bool
     ensures { result ≡ is_column b }
 {
-    (b == b' ') | ((b == b'-') | is_digit(b))
+    b == b' ' || b == b'-' || is_digit(b)
 }
 
 // R72: what stands before the point.
 fn is_head(s: &[u8]) -> bool
-    requires { 1 ≤ length s.now }
     ensures { result ≡ is_head s.now }
 {
-    pairs(s) && is_column(s[s.len() - 1])
+    pairs(s) && s.last().is_some_and(|b| is_column(*b))
 }
 
 // R72: the point, and three digits behind it.
@@ -92,157 +77,107 @@ fn is_fixed(s: &[u8]) -> bool
     requires { 5 ≤ length s.now }
     ensures { result ≡ is_fixed s.now }
 {
-    let n = s.len();
-    let p = n - 4;
-    let q = n - 3;
-    s[p] == b'.' && (is_head(&s[0..p]) && all_between(&s[q..n], b'0', b'9'))
+    let point = s.len() - 4;
+    s[point] == b'.' && is_head(&s[..point]) && all_between(&s[point + 1..], b'0', b'9')
 }
 
 // R75, R76: the last column before E's point.
 fn is_lead(b: u8) -> bool
     ensures { result ≡ is_lead b }
 {
-    (b == b'0') | ((b == b' ') | (b == b'-'))
+    matches!(b, b'0' | b' ' | b'-')
 }
 
 // R75, R76: the columns before E's point have no digit but in the last.
 fn is_leading(s: &[u8]) -> bool
-    requires { 1 ≤ length s.now }
     ensures { result ≡ is_leading s.now }
 {
-    let l = s.len() - 1;
-    pairs(s) && (is_lead(s[l]) && all_between(&s[0..l], b' ', b'-'))
+    pairs(s)
+        && s.split_last().is_some_and(|(last, before)| is_lead(*last)
+            && all_between(before, b' ', b'-'))
 }
 
 // R74: only the exponent has a plus.
 fn is_sign(b: u8) -> bool
     ensures { result ≡ is_sign b }
 {
-    (b == b'+') | (b == b'-')
+    matches!(b, b'+' | b'-')
 }
 
-// R74: c columns, a point, d digits, `E`, a sign, x digits.
-fn is_power(s: &[u8], c: usize, d: usize, x: usize) -> bool
-    requires width { length s.now ≡ c + d + x + 3 }
+// R74: c columns, a point, d digits, `E`, a sign, and the exponent's digits.
+fn is_power(s: &[u8], c: usize, d: usize) -> bool
+    requires width { c + d + 3 ≤ length s.now }
     requires c { 1 ≤ c }
     ensures { result ≡ is_power c d s.now }
 {
-    let n = s.len();
-    let f = c + 1;
     let e = c + 1 + d;
-    let g = c + 2 + d;
-    let h = c + 3 + d;
     s[c] == b'.'
-        && (s[e] == b'E'
-            && (is_sign(s[g])
-                && (is_leading(&s[0..c])
-                    && (all_between(&s[f..e], b'0', b'9') && all_between(&s[h..n], b'0', b'9')))))
+        && s[e] == b'E'
+        && is_sign(s[e + 1])
+        && is_leading(&s[..c])
+        && all_between(&s[c + 1..e], b'0', b'9')
+        && all_between(&s[e + 2..], b'0', b'9')
 }
 
-// I fields of w columns.
-fn whole_run(fields: &[u8], k: usize, w: usize) -> bool
-    requires run { length fields.now ≡ k * w }
-    requires w { 1 ≤ w }
-    ensures { result ≡ each_piece is_whole_field w k fields.now }
+// Whether each field passes a test.
+fn each<const W: usize, F: Fn(&[u8]) -> bool>(fields: &[[u8; W]], test: F) -> bool
+    requires { (s : _) → length s.now ≡ W → F.pre test s }
+    ensures { (h : List ℕ → Bool)
+        → ((s : _) (r : Bool) → length s.now ≡ W → F.post test s r → r ≡ h s.now)
+        → result ≡ every h fields.now }
 {
-    let mut a = 0;
-    let mut i = 0;
-    while i < k {
-        let e = a + w;
-        if !is_whole(&fields[a..e]) {
+    for s in fields {
+        if !test(s) {
             return false;
         }
-        a = e;
-        i += 1;
     }
     true
 }
 
-// F fields of w columns.
-fn fixed_run(fields: &[u8], k: usize, w: usize) -> bool
-    requires run { length fields.now ≡ k * w }
-    requires w { 5 ≤ w }
-    ensures { result ≡ each_piece is_fixed w k fields.now }
-{
-    let mut a = 0;
-    let mut i = 0;
-    while i < k {
-        let e = a + w;
-        if !is_fixed(&fields[a..e]) {
-            return false;
-        }
-        a = e;
-        i += 1;
-    }
-    true
-}
-
-// E fields of so many columns, digits and exponent digits.
-fn power_run(fields: &[u8], k: usize, c: usize, d: usize, x: usize) -> bool
-    requires run { length fields.now ≡ k * (c + d + x + 3) }
-    requires small { (1 ≤ c) × (c ≤ 12) × (d ≤ 12) × (x ≤ 12) }
-    ensures { result ≡ each_piece (is_power c d) (c + d + x + 3) k fields.now }
-{
-    let w = c + d + x + 3;
-    let mut a = 0;
-    let mut i = 0;
-    while i < k {
-        let e = a + w;
-        if !is_power(&fields[a..e], c, d, x) {
-            return false;
-        }
-        a = e;
-        i += 1;
-    }
-    true
-}
-
-// Whether each of the k fields of this form, one behind the other, is one of the form. Of E the longest stands last:
-// the compiler makes a copy of a loop for each form while that is short, and for the last one in any case.
+// Whether each of the k fields of this form, one behind the other, is one of the form. The clauses alone speak of k: the
+// bytes say it.
 pub fn formed(form: Form, fields: &[u8], k: usize) -> bool
     requires { length fields.now ≡ k * (row_of form).width }
     ensures { result ≡ run_formed form k fields.now }
 {
     match form {
-        Form::F7 => fixed_run(fields, k, 7),
-        Form::A120 => all_between(fields, b' ', b'~'),
-        Form::A1 => all_between(fields, b' ', b'~'),
-        Form::F8 => fixed_run(fields, k, 8),
-        Form::I2 => whole_run(fields, k, 2),
-        Form::I3 => whole_run(fields, k, 3),
+        Form::F7 => each(fields.as_chunks::<7>().0, is_fixed),
+        Form::A120 | Form::A1 => all_between(fields, b' ', b'~'),
+        Form::F8 => each(fields.as_chunks::<8>().0, is_fixed),
+        Form::I2 => each(fields.as_chunks::<2>().0, is_whole),
+        Form::I3 => each(fields.as_chunks::<3>().0, is_whole),
         Form::I1 => all_between(fields, b'0', b'9'),
-        Form::E11 => power_run(fields, k, 1, 6, 1),
-        Form::E8 => power_run(fields, k, 1, 3, 1),
-        Form::E20 => power_run(fields, k, 3, 12, 2),
+        Form::E11 => each(fields.as_chunks::<11>().0, |s| is_power(s, 1, 6)),
+        Form::E8 => each(fields.as_chunks::<8>().0, |s| is_power(s, 1, 3)),
+        Form::E20 => each(fields.as_chunks::<20>().0, |s| is_power(s, 3, 12)),
     }
 }
 
 // ---- Filling. The fields are known to be formed, so no byte is tested again. These say what they make of any bytes,
 // and proofs/Cells.antt that of formed fields these are the cells.
 
-// A byte's code less another, 0 where it is below that: so a blank and a minus count nothing among digits.
-fn above(b: u8, zero: u8) -> u8
-    ensures { result ≡ b - zero }
+// R71: the number that columns make, each of them as much as it is worth. That is below 256, so 12 columns have room. The
+// five functions on so few columns say so: a type of them would be made of each part of a field, and be no plainer.
+fn number_by<F: Fn(u8) -> u8>(s: &[u8], worth: F) -> u64
+    requires few { length s.now ≤ 12 }
+    requires callable { F.IsAlwaysCallable worth }
+    ensures number { (h : ℕ → ℕ) → ((b n : ℕ) → F.post worth b n → n ≡ h b) → result ≡ number_of (map h s.now) }
+    ensures small { result < 2 ^ 48 }
 {
-    if b < zero {
-        return 0;
+    let mut n = 0;
+    for b in s {
+        n = n * 10 + u64::from(worth(*b));
     }
-    b - zero
+    n
 }
 
-// R71: the number that columns make. No byte is above 255, so 12 columns have room whatever they hold.
+// R71: what stands below `0` counts nothing: so a blank and a minus are worth nothing among digits.
 fn number_in(s: &[u8]) -> u64
     requires { length s.now ≤ 12 }
     ensures number { result ≡ number_in s.now }
     ensures small { result < 2 ^ 48 }
 {
-    let mut n: u64 = 0;
-    let mut i = 0;
-    while i < s.len() {
-        n = n * 10 + above(s[i], b'0') as u64;
-        i += 1;
-    }
-    n
+    number_by(s, |b| b.saturating_sub(b'0'))
 }
 
 // The same of columns without a minus, which alone leaves by 16 what it does not count: so no column is tested.
@@ -251,24 +186,17 @@ fn figures_in(s: &[u8]) -> u64
     ensures number { result ≡ figures_in s.now }
     ensures small { result < 2 ^ 48 }
 {
-    let mut n: u64 = 0;
-    let mut i = 0;
-    while i < s.len() {
-        n = n * 10 + (s[i] % 16) as u64;
-        i += 1;
-    }
-    n
+    number_by(s, |b| b % 16)
 }
 
 // Whether a minus stands in the columns before a number's digits.
+#[tactic(auto, using(crate::proofs::Loops::has_more))]
 fn has_minus(s: &[u8]) -> bool
     ensures { result ≡ has s.now 45 }
 {
     let mut minus = false;
-    let mut i = 0;
-    while i < s.len() {
-        minus = minus | (s[i] == b'-');
-        i += 1;
+    for b in s {
+        minus |= *b == b'-';
     }
     minus
 }
@@ -279,10 +207,7 @@ fn columns_in(s: &[u8], minus: bool) -> u64
     ensures number { result ≡ columns_in minus s.now }
     ensures small { result < 2 ^ 48 }
 {
-    if minus {
-        return number_in(s);
-    }
-    figures_in(s)
+    if minus { number_in(s) } else { figures_in(s) }
 }
 
 // R71: the cell of an I field.
@@ -299,96 +224,66 @@ fn fixed_cell(s: &[u8]) -> i64
     requires { (5 ≤ length s.now) × (length s.now ≤ 12) }
     ensures { result ≡ fixed_cell s.now }
 {
-    let n = s.len();
-    let p = n - 4;
-    let q = n - 3;
-    let head = &s[0..p];
+    let point = s.len() - 4;
+    let head = &s[..point];
     let minus = has_minus(head);
-    number::cell(minus, columns_in(head, minus) * 1000 + figures_in(&s[q..n]))
+    number::cell(
+        minus,
+        columns_in(head, minus) * 1000 + figures_in(&s[point + 1..]),
+    )
 }
 
 // R77: the two cells of an E field.
-fn put_power(s: &[u8], c: usize, d: usize, x: usize, table: &mut [i64], at: usize)
-    requires width { length s.now ≡ c + d + x + 3 }
-    requires small { (d ≤ 12) × (x ≤ 12) }
-    requires room { at + 2 ≤ length table.old }
-    ensures { table.new ≡
-        over at (power_first c d s.now ∷ power_second c d s.now ∷ []) table.old }
+fn power_cells(s: &[u8], c: usize, d: usize) -> [i64; 2]
+    requires width { c + d + 3 ≤ length s.now }
+    requires small { (d ≤ 12) × (length s.now ≤ c + d + 15) }
+    ensures { result ≡ power_first c d s.now ∷ power_second c d s.now ∷ [] }
 {
-    let n = s.len();
-    let f = c + 1;
     let e = c + 1 + d;
-    let g = c + 2 + d;
-    let h = c + 3 + d;
-    table[at] = number::cell(has_minus(&s[0..c]), figures_in(&s[f..e]));
-    table[at + 1] = number::cell(s[g] == b'-', figures_in(&s[h..n]));
+    [
+        number::cell(has_minus(&s[..c]), figures_in(&s[c + 1..e])),
+        number::cell(s[e + 1] == b'-', figures_in(&s[e + 2..])),
+    ]
 }
 
-fn fill_whole(fields: &[u8], k: usize, w: usize, table: &mut [i64], cell: usize)
-    requires run { length fields.now ≡ k * w }
-    requires w { w ≤ 12 }
-    requires room { cell + k ≤ length table.old }
-    ensures { table.new ≡
-        over cell (all_pieces (λ s. whole_cell s ∷ []) w k fields.now) table.old }
+// Puts the cell of each field, one behind the other.
+fn fill_each<const W: usize, F: Fn(&[u8]) -> i64>(
+    fields: &[[u8; W]],
+    table: &mut [i64],
+    cell: usize,
+    cell_of: F,
+)
+    requires callable { (s : _) → length s.now ≡ W → F.pre cell_of s }
+    requires room { cell + length fields.now ≤ length table.old }
+    ensures { (h : List ℕ → ℤ)
+        → ((s : _) (z : ℤ) → length s.now ≡ W → F.post cell_of s z → z ≡ h s.now)
+        → table.new ≡ over cell (map h fields.now) table.old }
 {
-    let mut a = 0;
-    let mut i = 0;
-    while i < k {
-        let e = a + w;
-        table[cell + i] = whole_cell(&fields[a..e]);
-        a = e;
-        i += 1;
+    for (i, s) in fields.iter().enumerate() {
+        table[cell + i] = cell_of(s);
     }
 }
 
-fn fill_fixed(fields: &[u8], k: usize, w: usize, table: &mut [i64], cell: usize)
-    requires run { length fields.now ≡ k * w }
-    requires w { (5 ≤ w) × (w ≤ 12) }
-    requires room { cell + k ≤ length table.old }
+// The same of E fields, which have two cells each.
+fn fill_powers<const W: usize>(
+    fields: &[[u8; W]],
+    c: usize,
+    d: usize,
+    table: &mut [i64],
+    cell: usize,
+)
+    requires width { c + d + 3 ≤ W }
+    requires small { (d ≤ 12) × (W ≤ c + d + 15) }
+    requires room { cell + length fields.now * 2 ≤ length table.old }
     ensures { table.new ≡
-        over cell (all_pieces (λ s. fixed_cell s ∷ []) w k fields.now) table.old }
+        over cell (flat_map (λ s. power_first c d s ∷ power_second c d s ∷ []) fields.now) table.old }
 {
-    let mut a = 0;
-    let mut i = 0;
-    while i < k {
-        let e = a + w;
-        table[cell + i] = fixed_cell(&fields[a..e]);
-        a = e;
-        i += 1;
-    }
-}
-
-fn fill_power(fields: &[u8], k: usize, c: usize, d: usize, x: usize, table: &mut [i64], cell: usize)
-    requires run { length fields.now ≡ k * (c + d + x + 3) }
-    requires small { (c ≤ 12) × (d ≤ 12) × (x ≤ 12) }
-    requires room { cell + k * 2 ≤ length table.old }
-    ensures { table.new ≡
-        over cell (all_pieces (λ s. power_first c d s ∷ power_second c d s ∷ []) (c + d + x + 3) k fields.now)
-        table.old }
-{
-    let w = c + d + x + 3;
-    let mut a = 0;
     let mut at = cell;
-    let mut i = 0;
-    while i < k {
-        let e = a + w;
-        put_power(&fields[a..e], c, d, x, table, at);
-        a = e;
+    for s in fields {
+        let [first, second] = power_cells(s, c, d);
+        table[at] = first;
+        table[at + 1] = second;
         at += 2;
-        i += 1;
-    }
-}
-
-// R80, and digits of one column: a cell for each byte, its code less another.
-fn fill_bytes(fields: &[u8], zero: u8, table: &mut [i64], cell: usize)
-    requires { cell + length fields.now ≤ length table.old }
-    ensures { table.new ≡
-        over cell (map (λ b. pos (b - zero)) fields.now) table.old }
-{
-    let mut i = 0;
-    while i < fields.len() {
-        table[cell + i] = number::cell(false, above(fields[i], zero) as u64);
-        i += 1;
     }
 }
 
@@ -400,15 +295,24 @@ pub fn fill(form: Form, fields: &[u8], k: usize, table: &mut [i64], cell: usize)
     ensures { table.new ≡ over cell (run_cells form k fields.now) table.old }
 {
     match form {
-        Form::F7 => fill_fixed(fields, k, 7, table, cell),
-        Form::A120 => fill_bytes(fields, 0, table, cell),
-        Form::A1 => fill_bytes(fields, 0, table, cell),
-        Form::F8 => fill_fixed(fields, k, 8, table, cell),
-        Form::I2 => fill_whole(fields, k, 2, table, cell),
-        Form::I3 => fill_whole(fields, k, 3, table, cell),
-        Form::I1 => fill_bytes(fields, b'0', table, cell),
-        Form::E11 => fill_power(fields, k, 1, 6, 1, table, cell),
-        Form::E8 => fill_power(fields, k, 1, 3, 1, table, cell),
-        Form::E20 => fill_power(fields, k, 3, 12, 2, table, cell),
+        Form::F7 => fill_each(fields.as_chunks::<7>().0, table, cell, fixed_cell),
+        Form::A120 | Form::A1 => fill_each(
+            fields.as_chunks::<1>().0,
+            table,
+            cell,
+            |s| i64::from(s[0]),
+        ),
+        Form::F8 => fill_each(fields.as_chunks::<8>().0, table, cell, fixed_cell),
+        Form::I2 => fill_each(fields.as_chunks::<2>().0, table, cell, whole_cell),
+        Form::I3 => fill_each(fields.as_chunks::<3>().0, table, cell, whole_cell),
+        Form::I1 => fill_each(
+            fields.as_chunks::<1>().0,
+            table,
+            cell,
+            |s| i64::from(s[0].saturating_sub(b'0')),
+        ),
+        Form::E11 => fill_powers(fields.as_chunks::<11>().0, 1, 6, table, cell),
+        Form::E8 => fill_powers(fields.as_chunks::<8>().0, 1, 3, table, cell),
+        Form::E20 => fill_powers(fields.as_chunks::<20>().0, 3, 12, table, cell),
     }
 }

@@ -11,13 +11,13 @@ ghost use Rattle.salvaging.specs.Printed.{AllPassed};
 ghost use Rattle.salvage.specs.Written.{printed_copy, printed_report};
 ghost use Rattle.words.specs.Written.{AppendsFront};
 
-use decimal::Put;
 use salvaging::Piece;
 use std::io;
 use std::io::Write;
 
 // R357: the line of a stretch: its place and its length. An error is that of writing, and a front part of it was
 // printed.
+#[tactic(auto, using(std::proofs::lemmas::Grind::common_steps, salvaging::proofs::Printing::stretch_room, words::proofs::Fronts::front_over), unfolding(decimal::specs::Writing::put_answer, decimal::specs::Writing::put_bytes))]
 fn print_stretch<E: Write>(standard_error: &mut E, place: usize, long: usize) -> io::Result<()>
     ensures told { OnOk result (Appends (E.contents standard_error.old) (E.contents standard_error.new) (row_text (place ∷ long ∷ []))) }
     ensures front { OnErr result (AppendsFront (E.contents standard_error.old) (E.contents standard_error.new)
@@ -25,10 +25,8 @@ fn print_stretch<E: Write>(standard_error: &mut E, place: usize, long: usize) ->
 {
     let mut line = [0u8; 42];
     // two numbers of 20 digits, a space and a line feed have room
-    let Put::Next(end) = decimal::put_row(&mut line, 0, b"", &[place as u64, long as u64]) else {
-        unreachable!();
-    };
-    words::put_all(standard_error, &line[0..end])
+    let end = decimal::put_row(&mut line, 0, b"", &[place as u64, long as u64]).unwrap();
+    words::put_all(standard_error, &line[..end])
 }
 
 // Prints a piece of the text, and gives the place where it ends. An error is that of writing, and a front part of what
@@ -63,7 +61,7 @@ fn print_piece<W: Write, E: Write>(
 
 // Prints piece after piece from the text's start to its end, and gives the place where it stopped; of a text longer
 // than 65,536 bytes, nothing. An error is that of writing, and nothing is printed behind it: on each output stands a
-// front part of what is due.
+// front part of what is due. Where the next piece begins, this one says: so the loop is no `for` over places.
 fn print_text<W: Write, E: Write>(
     out: &mut W,
     standard_error: &mut E,
@@ -90,14 +88,12 @@ fn print_text<W: Write, E: Write>(
 }
 
 fn main(rt: HostRuntime) -> io::Result<()> {
-    let asked = words::given(&rt, &mut rt.stderr(), b"salvage")?;
-    if !asked.known {
+    let Some(asked) = words::given(&rt, &mut rt.stderr(), b"salvage")? else {
         return Ok(());
-    }
+    };
     let rules = rules::choose(asked.strict, asked.entries);
     let mut space = [0u8; 65537];
     let n = words::filled(&mut rt.stdin(), &mut space)?;
-    let text = &space[0..n];
-    print_text(&mut rt.stdout(), &mut rt.stderr(), rules, text)?;
+    print_text(&mut rt.stdout(), &mut rt.stderr(), rules, &space[..n])?;
     Ok(())
 }

@@ -1,6 +1,7 @@
 -- The pieces of a text: which one begins at a place, where it ends, those behind it; an induction piece by piece; and that the list is what the
 -- rule says, and nothing else is.
 -- Assumes nothing.
+use Rattle.std.specs.Prelude.{Option, Some, None}
 use mathlib.Core.Path.{◌≡◌, refl, sym, ◌∙◌, ap, subst}
 use mathlib.Core.List.{List, [], ◌∷◌}
 use mathlib.Core.Logic.{◌⊎◌, ◌↔◌, inl, inr, ⊎_elim}
@@ -11,8 +12,6 @@ use lib.ListN.{length}
 use Rattle.rules.specs.declared.Rules.{Rules}
 use Rattle.base.proofs.Order.{le_or_lt}
 use Rattle.count.specs.Rules.{ruling_of}
-use Rattle.count.specs.declared.Ruling.{Ruling}
-use Rattle.count.specs.declared.Ruling.TheVariants.{Kept, Broken}
 use Rattle.place.specs.declared.Placing.{Placing}
 use Rattle.place.specs.declared.Placing.TheVariants as P
 use Rattle.place.specs.Due.{RefusedFor, beyond, text_end, few_for_index, few_for_data, bad_index, bad_release, fills_vacant}
@@ -51,9 +50,9 @@ module _ (ρ : Rules) (s : List ℕ) (at : ℕ) where
   unfolding piece_at placing_of
   piece_located n ns e = rw e (by (ruling_of ns))
     where
-      by : (r : Ruling) → piece_by at (stretch_end ρ s at) (ruled_at n r) ≡ Copied at (n - at)
-      by Kept = refl
-      by (Broken g) = refl
+      by : (r : Option ℕ) → piece_by at (stretch_end ρ s at) (ruled_at n r) ≡ Copied at (n - at)
+      by None = refl
+      by (Some g) = refl
 
   -- a stretch
   pub piece_refused : (r : Refusal) → locate ρ s at ≡ refused r → piece_at ρ s at ≡ LeftOut at (stretch_end ρ s at - at)
@@ -158,9 +157,9 @@ module _ (ρ : Rules) (s : List ℕ) where
   stands_next : {at next : ℕ} → PlacedUpTo ρ s at next → IsRecord ρ s at
   stands_next {at} h = (placed_record ρ s at).0 h.placed
 
-  ruled_next : (n : ℕ) (r : Ruling) → (placing_reply (ruled_at n r)).next ≡ n
-  ruled_next n Kept = refl
-  ruled_next n (Broken g) = refl
+  ruled_next : (n : ℕ) (r : Option ℕ) → (placing_reply (ruled_at n r)).next ≡ n
+  ruled_next n None = refl
+  ruled_next n (Some g) = refl
 
   next_of : (at n : ℕ) (ns : List ℕ) → locate ρ s at ≡ located n ns → (placing_reply (placing_of ρ s at)).next ≡ n
   unfolding placing_of

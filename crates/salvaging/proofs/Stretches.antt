@@ -1,5 +1,6 @@
 -- Where a stretch ends: what is computed is what the rule says, and nothing else is.
 -- Assumes nothing.
+use Rattle.std.specs.Prelude.{Ok, Err}
 use mathlib.Core.Path.{◌≡◌, refl, ◌∙◌, subst}
 use mathlib.Core.Bool.{Bool, true, false, cond, ◌&&◌}
 use mathlib.Core.List.{List}
@@ -23,7 +24,6 @@ use Rattle.reading.specs.Read.{Cells}
 use Rattle.reply.specs.declared.Refusal.TheVariants.{End, Beyond}
 use Rattle.whole.specs.Due.{GroupDone}
 use Rattle.whole.specs.Turn.{group_read}
-use Rattle.salvaging.specs.declared.Stretch.TheVariants.{Ends, Refused}
 use Rattle.salvaging.specs.Stretch.{Sound, Resumes, IsStretchEnd, is_zero, is_read, first_that, is_sound, resumes, stretch_end, stretch_of}
 
 -- ---- the tests
@@ -130,14 +130,14 @@ module _ (ρ : Rules) (s : List ℕ) (at : ℕ) where
 
   -- ---- the answer
 
-  pub stretch_beyond : length s < at → Refused Beyond ≡ stretch_of ρ s at
+  pub stretch_beyond : length s < at → Err Beyond ≡ stretch_of ρ s at
   unfolding stretch_of
   stretch_beyond l = rw (lt-ltb (length s) at l) refl
 
-  pub stretch_at_end : length s ≡ at → Refused End ≡ stretch_of ρ s at
+  pub stretch_at_end : length s ≡ at → Err End ≡ stretch_of ρ s at
   unfolding stretch_of
   stretch_at_end e = rw (le-ltb (length s) at (omega arith), eq-eqb (length s) at e) refl
 
-  pub stretch_inside : at < length s → Ends (stretch_end ρ s at) ≡ stretch_of ρ s at
+  pub stretch_inside : at < length s → Ok (stretch_end ρ s at) ≡ stretch_of ρ s at
   unfolding stretch_of
   stretch_inside l = rw (le-ltb (length s) at (omega arith), ne_eqb (length s) at (λ e. omega arith)) refl

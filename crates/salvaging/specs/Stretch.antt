@@ -1,5 +1,5 @@
 -- R350: where the walk stops though the text goes on, a stretch begins. It ends where the walk may go on, or where the text ends.
-use Rattle.std.specs.Prelude.{◌≡◌, Bool, true, false, cond, ◌&&◌, List, ◌⊎◌, ℕ, zero, suc, ◌-◌, ◌<◌, ◌≤◌, eqb, ltb, length}
+use Rattle.std.specs.Prelude.{◌≡◌, Bool, true, false, cond, ◌&&◌, List, ◌⊎◌, ℕ, zero, suc, ◌-◌, ◌<◌, ◌≤◌, eqb, ltb, length, Result, Ok, Err}
 use Rattle.rules.specs.declared.Rules.{Rules}
 use Rattle.base.specs.Pieces.{done, bad}
 use Rattle.line.specs.Parts.{LineStart, begins_line}
@@ -11,8 +11,7 @@ use Rattle.reply.specs.declared.Refusal.TheVariants.{End, Beyond}
 use Rattle.whole.specs.Due.{GroupDone}
 use Rattle.whole.specs.Turn.{group_read}
 use Rattle.whole.specs.Whole.{group_by}
-use Rattle.salvaging.specs.declared.Stretch.{Stretch}
-use Rattle.salvaging.specs.declared.Stretch.TheVariants.{Ends, Refused}
+use Rattle.reply.specs.declared.Refusal.{Refusal}
 
 module _ (ρ : Rules) (s : List ℕ) where
   -- R351: a record that is worth going on from: placing gives 0, and the station's constants, the date and the characteristics read with 0
@@ -66,5 +65,5 @@ module _ (ρ : Rules) (s : List ℕ) where
   stretch_end at = first_that resumes (length s - suc at) (suc at)
 
   -- R352: 2, 1, and else 0 with that place
-  unfoldable pub stretch_of : ℕ → Stretch
-  stretch_of at = cond (ltb (length s) at) (Refused Beyond) (cond (eqb (length s) at) (Refused End) (Ends (stretch_end at)))
+  unfoldable pub stretch_of : ℕ → Result ℕ Refusal
+  stretch_of at = cond (ltb (length s) at) (Err Beyond) (cond (eqb (length s) at) (Err End) (Ok (stretch_end at)))

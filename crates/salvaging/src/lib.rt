@@ -4,25 +4,16 @@
 
 ghost use Rattle.std.specs.Prelude.{◌≡◌, ◌<◌, ◌≤◌, length};
 ghost use Rattle.place.specs.Placing.{carried};
-ghost use Rattle.place.specs.Parted.{Parted};
 ghost use Rattle.whole.specs.Whole.{group_by};
 ghost use Rattle.salvaging.specs.Numbered.{stretch_reply};
 ghost use Rattle.salvaging.specs.Pieces.{piece_at};
 ghost use Rattle.salvaging.specs.Stretch.{is_read, are_read, is_sound, stretch_end, stretch_of};
 
-use place::Placing;
-use reply::{Checked, Refusal};
+use form::Group;
+use place::{PlacedRecord, Placing};
+use reply::{Refusal, Reply};
 
-// R352: what is answered about the stretch that begins at a place.
-#[derive(Clone, Copy)]
-pub enum Stretch {
-    // R200: 0, with the place where it ends
-    Ends(usize),
-    // 1 or 2
-    Refused(Refusal),
-}
-
-// R353: a piece of a text, with its place and its length.
+// R353: a piece of a text, with its place and its length. Either kind is a good one, so it is no `Result`.
 #[derive(Clone, Copy)]
 pub enum Piece {
     // a placed record, which is copied as it stands
@@ -32,45 +23,23 @@ pub enum Piece {
 }
 
 // Whether a group of a record reads with 0, by the lines that the record names for it. No table is asked for.
-fn is_read(
-    rules: rules::Rules,
-    text: &[u8],
-    counts: &[u16],
-    starts: &[usize],
-    ends: &[usize],
-    group: usize,
-) -> bool
-    requires parted { Parted text.now (carried counts.now starts.now ends.now) }
-    requires low { 1 ≤ group }
-    requires high { group ≤ 60 }
+fn is_read(rules: rules::Rules, placed: PlacedRecord<'_>, group: Group) -> bool
     ensures { result ≡
         is_read
-        (group_by rules text.now (carried counts.now starts.now ends.now)
-        group) }
+        (group_by rules placed.entry.text.now (carried placed.entry.counts.now placed.entry.starts.now placed.entry.ends.now)
+        group.number) }
 {
-    let from = starts[group - 1];
-    let to = ends[group - 1];
-    match reading::check_kept(rules, counts, group, &text[from..to]) {
-        Checked::Refused(_) => false,
-        Checked::Right => true,
-    }
+    reading::check_kept(rules, placed.kept(), group, placed.lines(group)).is_ok()
 }
 
 // R351: the same of the three groups that are looked at, one after the other.
-fn are_read(
-    rules: rules::Rules,
-    text: &[u8],
-    counts: &[u16],
-    starts: &[usize],
-    ends: &[usize],
-) -> bool
-    requires { Parted text.now (carried counts.now starts.now ends.now) }
+fn are_read(rules: rules::Rules, placed: PlacedRecord<'_>) -> bool
     ensures { result ≡
-        are_read rules text.now (carried counts.now starts.now ends.now) }
+        are_read rules placed.entry.text.now (carried placed.entry.counts.now placed.entry.starts.now placed.entry.ends.now) }
 {
-    is_read(rules, text, counts, starts, ends, 1)
-        && (is_read(rules, text, counts, starts, ends, 3)
-            && is_read(rules, text, counts, starts, ends, 4))
+    is_read(rules, placed, Group { number: 1 })
+        && (is_read(rules, placed, Group { number: 3 })
+            && is_read(rules, placed, Group { number: 4 }))
 }
 
 // R351: whether the record at a place is worth going on from. Where the two index lines are not right, nothing behind
@@ -79,21 +48,22 @@ fn is_sound(rules: rules::Rules, text: &[u8], at: usize) -> bool
     ensures { result ≡ is_sound rules text.now at }
 {
     let record = place::place(rules, text, at);
-    let answer = record.answer;
-    match answer {
-        Placing::BrokenRule(_, _) => false,
-        Placing::Refused(_) => false,
-        Placing::Placed(_) => {
-            let counts = record.counts;
-            let starts = record.starts;
-            let ends = record.ends;
-            are_read(rules, text, &counts, &starts, &ends)
-        }
+    match record.answer {
+        Placing::Placed(_) => are_read(
+            rules,
+            PlacedRecord {
+                text,
+                counts: &record.counts,
+                starts: &record.starts,
+                ends: &record.ends,
+            },
+        ),
+        _ => false,
     }
 }
 
 // R350: the line starts behind a place are tried one after the other, each once. There is no record at the text's end,
-// nor any behind bytes that are no line.
+// nor any behind bytes that are no line. The next place is told by the line that stands there, so no range counts it.
 fn end_from(rules: rules::Rules, text: &[u8], from: usize) -> usize
     requires { from < length text.now }
     ensures { result ≡ stretch_end rules text.now from }
@@ -110,16 +80,16 @@ fn end_from(rules: rules::Rules, text: &[u8], from: usize) -> usize
 
 // R352: asks where the stretch ends that begins at a place of a text: at the first later line start from which the walk
 // may go on, or at the text's end.
-pub fn stretch_end(rules: rules::Rules, text: &[u8], at: usize) -> Stretch
+pub fn stretch_end(rules: rules::Rules, text: &[u8], at: usize) -> Result<usize, Refusal>
     ensures { result ≡ stretch_of rules text.now at }
 {
     if text.len() < at {
-        return Stretch::Refused(Refusal::Beyond);
+        return Err(Refusal::Beyond);
     }
     if text.len() == at {
-        return Stretch::Refused(Refusal::End);
+        return Err(Refusal::End);
     }
-    Stretch::Ends(end_from(rules, text, at))
+    Ok(end_from(rules, text, at))
 }
 
 // R353: the piece that begins at a place inside a text: a record that is placed, with 0 or 7; elsewhere a stretch.
@@ -127,9 +97,7 @@ pub fn piece_at(rules: rules::Rules, text: &[u8], at: usize) -> Piece
     requires { at < length text.now }
     ensures { result ≡ piece_at rules text.now at }
 {
-    let record = place::place(rules, text, at);
-    let answer = record.answer;
-    match answer {
+    match place::place(rules, text, at).answer {
         Placing::Placed(next) => Piece::Copied(at, next - at),
         Placing::BrokenRule(_, next) => Piece::Copied(at, next - at),
         Placing::Refused(_) => {
@@ -139,12 +107,12 @@ pub fn piece_at(rules: rules::Rules, text: &[u8], at: usize) -> Piece
     }
 }
 
-// R352: the answer's number, with the numbers beside it.
-pub fn reply_of(answer: Stretch) -> reply::Reply
+// R352: the answer's number, with the numbers beside it: a next place under 0, where `From` gives what was written.
+pub fn reply_of(answer: Result<usize, Refusal>) -> Reply
     ensures { result ≡ stretch_reply answer }
 {
     match answer {
-        Stretch::Ends(place) => reply::at_next(0, place, 0),
-        Stretch::Refused(why) => reply::of_refusal(why),
+        Ok(place) => reply::at_next(0, place, 0),
+        Err(why) => Reply::from(why),
     }
 }

@@ -1,6 +1,7 @@
 -- What a caller learns of each question is what is due: the contracts themselves (`Learnt`) are tied to the demands, so that no contract can
 -- speak of another text, place, number or table than the one asked about.
 -- Assumes nothing.
+use Rattle.std.specs.Prelude.{Result, Ok, Err}
 use mathlib.Core.Path.{◌≡◌, refl, sym, ◌∙◌, ap}
 use mathlib.Core.List.{List}
 use Prim.Native.Nat.{ℕ, ◌+◌}
@@ -28,8 +29,6 @@ use Rattle.rewriting.specs.Record.{table_after, buffer_by}
 use Rattle.listing.specs.Listing.{listing, IsListing, ListingDue}
 use Rattle.sao.specs.Outcome.{Gives}
 use Rattle.sao.proofs.Demand2.{as_due}
-use Rattle.reply.specs.declared.Answer.{Answer}
-use Rattle.reply.specs.declared.Answer.TheVariants.{Done, Refused}
 use Rattle.journal.specs.Model.{Call, Sets, Opens, Releases, Undoes, by_answer}
 use Rattle.journal.specs.Runs.{Kept, kept, answer_to, left_by}
 use Rattle.journal.specs.Due as JournalIs
@@ -73,6 +72,7 @@ use Rattle.sao.specs.contracts.list
 use Rattle.sao.proofs.list.Reads as list_reads
 use Rattle.sao.specs.contracts.rewrite_record
 use Rattle.sao.proofs.rewrite_record.Reads as rewrite_record_reads
+use Rattle.reply.specs.declared.Refusal.{Refusal}
 
 pub place_due : Gives place.ended place_reads.Learnt
     (λ κs a r v. PlacingIs.Due a.0 a.1.0.now a.1.1.0 r.answer × PlacingIs.CountsDue a.0 a.1.0.now a.1.1.0 r.counts ×
@@ -184,16 +184,16 @@ rewrite_record_due κs (ρ, (text, (at, (table, (out, _))))) r v l = (((as_due �
 
 -- ---- the edit journal: the reply that is due, and what is due to be left: bytes used, cells and journal
 
-abbrev CallDue : Rules → List ℕ → Call → Kept → Answer → Kept → Type 0
+abbrev CallDue : Rules → List ℕ → Call → Kept → Result ℕ Refusal → Kept → Type 0
 CallDue ρ ns c k a k' = JournalIs.Due ρ ns k.journal k.used (length k.cells) c a × JournalIs.LeftDue ρ ns c k a k'
 
-call_due : (ρ : Rules) (ns : List ℕ) (c : Call) (k : Kept) (a : Answer) (k' : Kept) → a ≡ answer_to ρ ns c k → k' ≡ left_by ρ ns c k a → CallDue ρ ns c k a k'
+call_due : (ρ : Rules) (ns : List ℕ) (c : Call) (k : Kept) (a : Result ℕ Refusal) (k' : Kept) → a ≡ answer_to ρ ns c k → k' ≡ left_by ρ ns c k a → CallDue ρ ns c k a k'
 call_due ρ ns c k a k' e q = (((as_due ρ).call ns k.journal k.used (length k.cells) c a).0 (sym e), ((as_due ρ).call_left ns c k a k' (sym e)).0 (sym q))
 
 -- cells that are not lent to be altered
-same_cells : (t : List ℤ) (a : Answer) → t ≡ by_answer a t t
-same_cells t (Done n) = refl
-same_cells t (Refused r) = refl
+same_cells : (t : List ℤ) (a : Result ℕ Refusal) → t ≡ by_answer a t t
+same_cells t (Ok n) = refl
+same_cells t (Err r) = refl
 
 pub set_cell_due : Gives set_cell.ended set_cell_reads.Learnt
     (λ κs a r v.

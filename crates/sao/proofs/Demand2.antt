@@ -1,5 +1,6 @@
 -- D2, the second demand (specs/Demand2.antt).
 -- Assumes nothing.
+use Rattle.std.specs.Prelude.{Ok}
 use mathlib.Core.Path.{◌≡◌, refl, sym, ◌∙◌, subst}
 use mathlib.Core.List.{List, ◌++◌}
 use Prim.Native.Nat.{ℕ}
@@ -16,7 +17,6 @@ use Rattle.group.proofs.Holding.{span_end}
 use Rattle.view.proofs.Due as RecordDue
 use Rattle.view.proofs.Placed.{placed_answers}
 use Rattle.reply.specs.declared.Refusal.{Refusal}
-use Rattle.reply.specs.declared.Answer.TheVariants.{Done}
 use Rattle.writing.specs.Canonical.{CanonicalRecord}
 use Rattle.writing.specs.RoundTrip.{ReadsBack}
 use Rattle.writing.specs.Writing.{writing_of}
@@ -28,7 +28,6 @@ use Rattle.writing.proofs.ReadWrites.{returns_same}
 use Rattle.writing.proofs.SameCounting.{record_text_same, writing_same}
 use Rattle.listing.specs.Listing.{listing, IsListing}
 use Rattle.listing.proofs.Replies as Listed
-use Rattle.rewriting.specs.declared.Rewriting.TheVariants.{Done as Rewritten}
 use Rattle.whole.specs.Turn.{cells_at}
 use Rattle.rewriting.specs.Record.{text_at, rewriting_of, buffer_by, table_after}
 use Rattle.rewriting.proofs.Due as RewritingDue
@@ -85,11 +84,11 @@ as_due ρ =
       listing_is = λ s x. (λ e. subst (IsListing ρ s) e (Listed.listing_is ρ s), λ h. sym (Listed.is_listing ρ s x h));
     }
 
-rewrites : (ρ : Rules) (s : List ℕ) (at : ℕ) (table : List ℤ) (out : List ℕ) (bytes next : ℕ) → rewriting_of ρ s at (length table) (length out) ≡ Rewritten bytes next
-    → Rewrites ρ s at bytes next (buffer_by ρ s at (Rewritten bytes next) out) (table_after ρ s at (Rewritten bytes next) table)
+rewrites : (ρ : Rules) (s : List ℕ) (at : ℕ) (table : List ℤ) (out : List ℕ) (bytes next : ℕ) → rewriting_of ρ s at (length table) (length out) ≡ Ok (record { bytes = bytes; next = next })
+    → Rewrites ρ s at bytes next (buffer_by ρ s at (Ok (record { bytes = bytes; next = next })) out) (table_after ρ s at (Ok (record { bytes = bytes; next = next })) table)
 rewrites ρ s at table out bytes next e =
     let cells = length table in
-    let placed = ((RewritingDue.first_due ρ s at cells (length out) (Rewritten bytes next)).0 e).roomy.placed in
+    let placed = ((RewritingDue.first_due ρ s at cells (length out) (Ok (record { bytes = bytes; next = next }))).0 e).roomy.placed in
     let all = done_all ρ s at cells (length out) bytes next e in
     let written = done_writes ρ s at cells (length out) bytes next e in
     record {
@@ -113,7 +112,7 @@ lent_holds ρ =
       rewriting = λ s at table out bytes next e. rw e (rewrites ρ s at table out bytes next e);
     }
 
-one_canonical : (ρ : Rules) (ns : List ℕ) (cs : List ℤ) (room n : ℕ) → writing_of ρ ns cs room ≡ Done n → OneCanonical ρ ns cs n
+one_canonical : (ρ : Rules) (ns : List ℕ) (cs : List ℤ) (room n : ℕ) → writing_of ρ ns cs room ≡ Ok n → OneCanonical ρ ns cs n
 one_canonical ρ ns cs room n e =
     record {
       long = done_bytes ρ ns cs room n e;

@@ -1,10 +1,10 @@
 -- R9, R12: what the rules for line ends promise of one another (specs/Ends.antt).
 -- Assumes nothing.
+use Rattle.std.specs.Prelude.{Ok}
 use mathlib.Core.Path.{◌≡◌, refl}
 use Rattle.rules.specs.Choice.{ended}
 use Rattle.rules.specs.declared.LineEnds.TheVariants.{Strict}
 use Rattle.rules.specs.declared.Rules.{Rules}
-use Rattle.count.specs.declared.Release.TheVariants.{Five}
 use Rattle.count.proofs.Releases.{release_given}
 use Rattle.line.proofs.Alike.{alike_ended, alike_one}
 use Rattle.line.proofs.Contents.{content_append}
@@ -75,7 +75,7 @@ line_ends ρ = record {
   canonical =
       record {
         reads_back = λ e x r a b. right_back (ended e ρ) (right_record_same ρ (ended e ρ) refl r) a b;
-        same = λ e x r a b. canonical_same ρ (ended e ρ) refl r.canonical (release_given r.ns Five r.release) a b;
+        same = λ e x r a b. canonical_same ρ (ended e ρ) refl r.canonical (release_given r.ns (Ok tt) r.release) a b;
       };
   unread = λ e. unread_same (ended e ρ) ρ refl;
 }

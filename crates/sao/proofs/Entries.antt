@@ -1,5 +1,6 @@
 -- R13: the count rule (specs/Entries.antt).
 -- Assumes nothing.
+use Rattle.std.specs.Prelude.{Option, Some, None}
 use mathlib.Core.Path.{◌≡◌, refl, sym, ◌∙◌, ap, ap₂}
 use mathlib.Core.List.{List}
 use Prim.Native.Nat.{ℕ, suc, ◌+◌, ◌-◌, ◌*◌, min}
@@ -10,8 +11,6 @@ use Rattle.rules.specs.declared.Counting.TheVariants.{Entries}
 use Rattle.rules.specs.Choice.{usual}
 use Rattle.form.specs.declared.Form.{Form}
 use Rattle.form.specs.declared.Form.TheVariants.{E20}
-use Rattle.form.specs.declared.GroupForm.{GroupForm}
-use Rattle.form.specs.declared.GroupForm.TheVariants.{Has, NoGroup}
 use Rattle.form.specs.Table
 use Rattle.form.specs.Table.{row_of, form_of}
 use Rattle.form.specs.Count
@@ -26,7 +25,7 @@ row_forty : ((row_of E20).per_line ≡ 6) × ((row_of E20).cells ≡ 2)
 unfolding Table.row_of Table.listed_as
 row_forty = (refl, refl)
 
-forty : form_of 40 ≡ Has E20
+forty : form_of 40 ≡ Some E20
 unfolding Table.form_of Table.form_among Table.listed_as
 forty = refl
 
@@ -54,24 +53,24 @@ module _ (ρ : Rules) where
       on_line k j = rw (row_forty.0, entries_elements ρ e k)
 
   -- any other group, under these rules and under the usual ones
-  as_usual : (g : ℕ) (f : Form) → form_of g ≡ Has f → (g ≡ 40 → ⊥) → (n : ℕ) → elements_of ρ f n ≡ elements_of usual f n
+  as_usual : (g : ℕ) (f : Form) → form_of g ≡ Some f → (g ≡ 40 → ⊥) → (n : ℕ) → elements_of ρ f n ≡ elements_of usual f n
   as_usual g f h other n = let s = segments_forty g f h other in elements_other ρ f n s ∙ sym (elements_other usual f n s)
 
   other_lines : (ns : List ℕ) (g : ℕ) → (g ≡ 40 → ⊥) → lines_in ρ ns g ≡ lines_in usual ns g
   unfolding Tally.lines_in Count.lines_of
   other_lines ns g other = by (form_of g) refl
     where
-      by : (f : GroupForm) → form_of g ≡ f → lines_by ρ f (count_of ns g) ≡ lines_by usual f (count_of ns g)
-      by (Has f) h = ap (λ e. rounded_up e (row_of f).per_line) (as_usual g f h other (count_of ns g))
-      by NoGroup h = refl
+      by : (f : Option Form) → form_of g ≡ f → lines_by ρ f (count_of ns g) ≡ lines_by usual f (count_of ns g)
+      by (Some f) h = ap (λ e. rounded_up e (row_of f).per_line) (as_usual g f h other (count_of ns g))
+      by None h = refl
 
   other_cells : (ns : List ℕ) (g : ℕ) → (g ≡ 40 → ⊥) → cells_in ρ ns g ≡ cells_in usual ns g
   unfolding Tally.cells_in Count.cells_of
   other_cells ns g other = by (form_of g) refl
     where
-      by : (f : GroupForm) → form_of g ≡ f → cells_by ρ f (count_of ns g) ≡ cells_by usual f (count_of ns g)
-      by (Has f) h = ap (λ e. e * (row_of f).cells) (as_usual g f h other (count_of ns g))
-      by NoGroup h = refl
+      by : (f : Option Form) → form_of g ≡ f → cells_by ρ f (count_of ns g) ≡ cells_by usual f (count_of ns g)
+      by (Some f) h = ap (λ e. e * (row_of f).cells) (as_usual g f h other (count_of ns g))
+      by None h = refl
 
   pub count_rule : CountRule ρ
   count_rule = record {

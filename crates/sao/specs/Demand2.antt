@@ -4,16 +4,13 @@
 -- written gives these values again, wherever in a text it stands. D2.5: writing what was read from canonical text gives its bytes again.
 --
 -- s is a text, ns are counts, cs the cells of all groups, group 1's first (R47).
-use Rattle.std.specs.Prelude.{◌≡◌, true, List, ◌++◌, ◌↔◌, ◌⊎◌, ℕ, ◌+◌, ◌-◌, ◌≤◌, ℤ, length, take}
+use Rattle.std.specs.Prelude.{◌≡◌, true, List, ◌++◌, ◌↔◌, ◌⊎◌, ℕ, ◌+◌, ◌-◌, ◌≤◌, ℤ, length, take, Result, Ok, Err}
 use Rattle.rules.specs.declared.LineEnds.{LineEnds}
 use Rattle.rules.specs.declared.Rules.{Rules}
 use Rattle.rules.specs.Choice.{ended}
 use Rattle.base.specs.Part.{part, over}
 use Rattle.base.specs.Pieces.{done}
 use Rattle.decimal.specs.Writing.{put_bytes}
-use Rattle.reply.specs.declared.Checked.{Checked}
-use Rattle.reply.specs.declared.Answer.{Answer}
-use Rattle.reply.specs.declared.Answer.TheVariants.{Done}
 use Rattle.place.specs.declared.Placing.{Placing}
 use Rattle.place.specs.Placing.{placing_of, counts_at, starts_at, ends_at, Carried}
 use Rattle.place.specs.Walk.{Walks, records_in}
@@ -32,7 +29,6 @@ use Rattle.writing.specs.RoundTrip.{ReadsBack, ReadWhole}
 use Rattle.writing.specs.Text.{record_text}
 use Rattle.writing.specs.Writing.{writing_of, output_by}
 use Rattle.writing.specs.Due as WritingIs
-use Rattle.reply.specs.declared.Checked.TheVariants.{Right}
 use Rattle.count.specs.Due.{HasCells}
 use Rattle.count.specs.Tally.{record_cells, joined}
 use Rattle.entry.specs.Bytes.{AllBytes}
@@ -44,24 +40,22 @@ use Rattle.journal.specs.Due as JournalIs
 use Rattle.journal.specs.Runs.{Fit, FitCalls, Kept, kept, answer_to, left_by, left_to, entries_to, behind_replay}
 use Rattle.journal.specs.Runs.{JournalIsStack, AddsField, ReadsEntries, ReplaysTo, FirstBytes, Torn, MadeBy}
 use Rattle.listing.specs.Listing.{listing, listed_in, IsListing, ListingDue}
-use Rattle.rewriting.specs.declared.Rewriting.{Rewriting}
-use Rattle.rewriting.specs.declared.Rewriting.TheVariants.{Done as Rewritten}
+use Rattle.rewriting.specs.declared.Rewritten.{Rewritten}
+use Rattle.whole.specs.declared.Unread.{Unread}
 use Rattle.rewriting.specs.Canonical.{CanonicalRecords}
 use Rattle.rewriting.specs.Due as RewritingIs
 use Rattle.rewriting.specs.Printed.{printed}
 use Rattle.rewriting.specs.Record.{rewriting_of, buffer_by, table_after}
 use Rattle.date.specs.declared.Date.{Date}
-use Rattle.date.specs.declared.Dated.TheVariants as Dated
 use Rattle.date.specs.Asked.{dated_by}
 use Rattle.date.specs.Date.{dated_of}
 use Rattle.date.specs.Order.{Greater, seven, AtOrAfter, not_before}
-use Rattle.since.specs.declared.First.{First}
-use Rattle.since.specs.declared.First.TheVariants.{Found, Refused}
+use Rattle.since.specs.declared.Found.{Found}
+use Rattle.since.specs.declared.Unfound.{Unfound}
 use Rattle.since.specs.Due as FirstIs
 use Rattle.since.specs.Kept.{StopsThere}
 use Rattle.since.specs.Since.{first_in, whole_walk, stop_of, first_from}
 use Rattle.salvaging.specs.declared.Piece.{Piece}
-use Rattle.salvaging.specs.declared.Stretch.{Stretch}
 use Rattle.salvaging.specs.Confined.{DamageConfined}
 use Rattle.salvaging.specs.Cover.{Salvages}
 use Rattle.salvaging.specs.Due as StretchIs
@@ -71,6 +65,7 @@ use Rattle.whole.specs.Due as WholeIs
 use Rattle.whole.specs.InTurn.{AsInTurn}
 use Rattle.whole.specs.Turn.{Turn}
 use Rattle.whole.specs.Whole.{whole_read}
+use Rattle.reply.specs.declared.Refusal.{Refusal}
 
 module _ (ρ : Rules) where
   -- D2.1, D2.2: every answer is given exactly if it is due. Where a Due cites another answer (the placing, the counts, what a group reads as),
@@ -86,33 +81,33 @@ module _ (ρ : Rules) where
     -- the records one after another, by what placing gives
     pub walk : (s : List ℕ) → Walks ρ s
     pub reading : (s : List ℕ) (at g room : ℕ) (c : Cells) → read_at ρ s at g room ≡ c ↔ GroupIs.Due ρ s at g room c
-    pub lines : (s : List ℕ) (at g : ℕ) (r : Checked) → found_at ρ s at g ≡ r ↔ GroupIs.FoundDue ρ s at g r
+    pub lines : (s : List ℕ) (at g : ℕ) (r : Result (Unit {0}) Refusal) → found_at ρ s at g ≡ r ↔ GroupIs.FoundDue ρ s at g r
     -- R280: the part is exactly those lines, and stands there
     pub part : (s : List ℕ) (at g from : ℕ) (x : List ℕ) → ((part_start ρ s at g ≡ from) × (part_at ρ s at g ≡ x)) ↔ GroupIs.PartDue ρ s at g from x
     pub part_end_lem : (s : List ℕ) (at g : ℕ) → part_end ρ s at g ≡ part_start ρ s at g + length (part_at ρ s at g)
     pub characteristic : (s : List ℕ) (at k : ℕ) (c : Characteristic) → characteristic_at ρ s at k ≡ c ↔ GroupIs.CharacteristicDue ρ s at k c
     -- R285, R297: with a record r, whichever it is
     pub record_reading : (s : List ℕ) (r : Carried) (g room : ℕ) (c : Cells) → read_with ρ s r g room ≡ c ↔ RecordIs.Due ρ s r g room c
-    pub record_lines : (s : List ℕ) (r : Carried) (g : ℕ) (a : Checked) → found_with ρ s r g ≡ a ↔ RecordIs.LinesDue ρ s r g a
+    pub record_lines : (s : List ℕ) (r : Carried) (g : ℕ) (a : Result (Unit {0}) Refusal) → found_with ρ s r g ≡ a ↔ RecordIs.LinesDue ρ s r g a
     pub record_part : (s : List ℕ) (r : Carried) (g from : ℕ) (x : List ℕ) → ((start_with ρ s r g ≡ from) × (part_with ρ s r g ≡ x)) ↔ RecordIs.PartWithDue ρ s r g from x
     pub record_part_end : (s : List ℕ) (r : Carried) (g : ℕ) → end_with ρ s r g ≡ start_with ρ s r g + length (part_with ρ s r g)
     pub record_characteristic : (s : List ℕ) (r : Carried) (k : ℕ) (c : Characteristic) → characteristic_with ρ s r k ≡ c ↔ RecordIs.ToldWithDue ρ s r k c
     -- R272: a whole record: its cells, or the refusal with the group that was being read
     pub whole : (s : List ℕ) (at room : ℕ) (t : Turn) → whole_read ρ s at room ≡ t ↔ WholeIs.Due ρ s at room t
     -- R334: the first record from a date on: its place and the records passed, or the refusal with these
-    pub first : (s : List ℕ) (from : Date) (x : First) → first_from ρ s from ≡ x ↔ FirstIs.Due ρ s from x
+    pub first : (s : List ℕ) (from : Date) (x : Result Found Unfound) → first_from ρ s from ≡ x ↔ FirstIs.Due ρ s from x
     -- R352: the end of the stretch that begins at a place
-    pub stretch : (s : List ℕ) (at : ℕ) (x : Stretch) → stretch_of ρ s at ≡ x ↔ StretchIs.Due ρ s at x
-    pub writing : (ns : List ℕ) (cs : List ℤ) (room : ℕ) (r : Answer) → writing_of ρ ns cs room ≡ r ↔ WritingIs.Due ρ ns cs room r
-    pub rewriting : (s : List ℕ) (at cells room : ℕ) (r : Rewriting) → rewriting_of ρ s at cells room ≡ r ↔ RewritingIs.Due ρ s at cells room r
-    pub listed : (s : List ℕ) (room : ℕ) (r : Answer) → listed_in (listing ρ s) room ≡ r ↔ ListingDue (listing ρ s) room r
+    pub stretch : (s : List ℕ) (at : ℕ) (x : Result ℕ Refusal) → stretch_of ρ s at ≡ x ↔ StretchIs.Due ρ s at x
+    pub writing : (ns : List ℕ) (cs : List ℤ) (room : ℕ) (r : Result ℕ Refusal) → writing_of ρ ns cs room ≡ r ↔ WritingIs.Due ρ ns cs room r
+    pub rewriting : (s : List ℕ) (at cells room : ℕ) (r : Result Rewritten Unread) → rewriting_of ρ s at cells room ≡ r ↔ RewritingIs.Due ρ s at cells room r
+    pub listed : (s : List ℕ) (room : ℕ) (r : Result ℕ Refusal) → listed_in (listing ρ s) room ≡ r ↔ ListingDue (listing ρ s) room r
     pub listing_is : (s x : List ℕ) → listing ρ s ≡ x ↔ IsListing ρ s x
     -- the edit journal: a call, and what it leaves: bytes used, journal and cells (R512 to R520); a replay, and what it leaves: cells and open
     -- savepoints (R540 to R542). Fields in order, and a field at fault, are said of one field after the other (R530, R531; journal's Order)
-    pub call : (ns j : List ℕ) (used cells : ℕ) (c : Call) (a : Answer) → answer_of ρ ns j used cells c ≡ a ↔ JournalIs.Due ρ ns j used cells c a
-    pub call_left : (ns : List ℕ) (c : Call) (k : Kept) (a : Answer) (k' : Kept) → answer_to ρ ns c k ≡ a → left_by ρ ns c k a ≡ k' ↔ JournalIs.LeftDue ρ ns c k a k'
-    pub replay : (ns j : List ℕ) (used : ℕ) (cs : List ℤ) (a : Checked) → replay_of ρ ns j used cs ≡ a ↔ JournalIs.ReplayDue ρ ns j used cs a
-    pub replay_left : (ns j : List ℕ) (used : ℕ) (cs : List ℤ) (a : Checked) (cs' : List ℤ) (d : ℕ) → replay_of ρ ns j used cs ≡ a
+    pub call : (ns j : List ℕ) (used cells : ℕ) (c : Call) (a : Result ℕ Refusal) → answer_of ρ ns j used cells c ≡ a ↔ JournalIs.Due ρ ns j used cells c a
+    pub call_left : (ns : List ℕ) (c : Call) (k : Kept) (a : Result ℕ Refusal) (k' : Kept) → answer_to ρ ns c k ≡ a → left_by ρ ns c k a ≡ k' ↔ JournalIs.LeftDue ρ ns c k a k'
+    pub replay : (ns j : List ℕ) (used : ℕ) (cs : List ℤ) (a : Result (Unit {0}) Refusal) → replay_of ρ ns j used cs ≡ a ↔ JournalIs.ReplayDue ρ ns j used cs a
+    pub replay_left : (ns j : List ℕ) (used : ℕ) (cs : List ℤ) (a : Result (Unit {0}) Refusal) (cs' : List ℤ) (d : ℕ) → replay_of ρ ns j used cs ≡ a
         → ((replayed_cells ρ ns j used cs a ≡ cs') × (replayed_open ρ ns j used cs a ≡ d)) ↔ JournalIs.ReplayLeftDue ρ ns j used cs a cs' d
 
   -- what rewriting leaves under 0: in the output the canonical text of the counts and of what every group read as, in the table these cells
@@ -131,9 +126,9 @@ module _ (ρ : Rules) where
     pub reading : (s : List ℕ) (at g : ℕ) (table cs : List ℤ) → read_at ρ s at g (length table) ≡ done cs → take (length cs) (table_by (read_at ρ s at g (length table)) table) ≡ cs
     pub record_reading : (s : List ℕ) (r : Carried) (g : ℕ) (table cs : List ℤ) → read_with ρ s r g (length table) ≡ done cs → take (length cs) (table_by (read_with ρ s r g (length table)) table) ≡ cs
     pub whole : (s : List ℕ) (at : ℕ) (table cs : List ℤ) → whole_read ρ s at (length table) ≡ done cs → take (length cs) (table_by (whole_read ρ s at (length table)) table) ≡ cs
-    pub writing : (ns : List ℕ) (cs : List ℤ) (out : List ℕ) (n : ℕ) → writing_of ρ ns cs (length out) ≡ Done n → take n (output_by ρ ns cs (writing_of ρ ns cs (length out)) out) ≡ record_text ρ ns cs
-    pub listed : (s out : List ℕ) (n : ℕ) → listed_in (listing ρ s) (length out) ≡ Done n → take n (put_bytes 0 (listing ρ s) out) ≡ listing ρ s
-    pub rewriting : (s : List ℕ) (at : ℕ) (table : List ℤ) (out : List ℕ) (bytes next : ℕ) → rewriting_of ρ s at (length table) (length out) ≡ Rewritten bytes next
+    pub writing : (ns : List ℕ) (cs : List ℤ) (out : List ℕ) (n : ℕ) → writing_of ρ ns cs (length out) ≡ Ok n → take n (output_by ρ ns cs (writing_of ρ ns cs (length out)) out) ≡ record_text ρ ns cs
+    pub listed : (s out : List ℕ) (n : ℕ) → listed_in (listing ρ s) (length out) ≡ Ok n → take n (put_bytes 0 (listing ρ s) out) ≡ listing ρ s
+    pub rewriting : (s : List ℕ) (at : ℕ) (table : List ℤ) (out : List ℕ) (bytes next : ℕ) → rewriting_of ρ s at (length table) (length out) ≡ Ok (record { bytes = bytes; next = next })
         → Rewrites s at bytes next (buffer_by ρ s at (rewriting_of ρ s at (length table) (length out)) out) (table_after ρ s at (rewriting_of ρ s at (length table) (length out)) table)
 
   -- R286 to R288: what a record's part decides
@@ -148,13 +143,13 @@ module _ (ρ : Rules) where
   -- R330, R332, R336: the first record from a date on
   pub record FirstRecord : Type 0 where
     -- all records of the walk are listed with their dates, and the first that is at or after is the answer; if none is, the stop is
-    pub full_walk : (s : List ℕ) (from : Date) → dated_by from ≡ Dated.Right from → first_from ρ s from ≡ first_in from (whole_walk ρ s) 0 (Refused (records_in ρ s) (stop_of ρ s))
+    pub full_walk : (s : List ℕ) (from : Date) → dated_by from ≡ Ok from → first_from ρ s from ≡ first_in from (whole_walk ρ s) 0 (Err (record { passed = records_in ρ s; why = stop_of ρ s }))
     -- what stands behind the record that is found has no part in it
-    pub stops_there : (s : List ℕ) (from : Date) (place passed : ℕ) → first_from ρ s from ≡ Found place passed → StopsThere ρ s from place passed
+    pub stops_there : (s : List ℕ) (from : Date) (place passed : ℕ) → first_from ρ s from ≡ Ok (record { place = place; passed = passed }) → StopsThere ρ s from place passed
     -- year, day of the year and time of day order right dates as all seven numbers do; and that test is the statement
-    pub order : (d e : Date) → dated_by d ≡ Dated.Right d → dated_by e ≡ Dated.Right e → AtOrAfter d e ↔ ((seven d ≡ seven e) ⊎ Greater (seven d) (seven e))
+    pub order : (d e : Date) → dated_by d ≡ Ok d → dated_by e ≡ Ok e → AtOrAfter d e ↔ ((seven d ≡ seven e) ⊎ Greater (seven d) (seven e))
     -- dates that letters tell are right ones
-    pub told_right : (s : List ℕ) (d : Date) → dated_of s ≡ Dated.Right d → dated_by d ≡ Dated.Right d
+    pub told_right : (s : List ℕ) (d : Date) → dated_of s ≡ Ok d → dated_by d ≡ Ok d
     pub at_or_after : (d e : Date) → (not_before d e ≡ true) ↔ AtOrAfter d e
 
   -- R353 to R355: what is copied past stretches, and what is left out
@@ -173,12 +168,12 @@ module _ (ρ : Rules) where
     pub one : (x : List ℕ) → CanonicalRecord ρ ns x cs → x ≡ record_text ρ ns cs
 
   abbrev pub WritesCanonical : Type 0
-  WritesCanonical = (ns : List ℕ) (cs : List ℤ) (room n : ℕ) → writing_of ρ ns cs room ≡ Done n → OneCanonical ns cs n
+  WritesCanonical = (ns : List ℕ) (cs : List ℤ) (room n : ℕ) → writing_of ρ ns cs room ≡ Ok n → OneCanonical ns cs n
 
   -- D2.4: what was written reads as its counts and cells, wherever it stands in whatever text, by each rule for line ends (R12)
   abbrev pub WrittenReadsBack : Type 0
   WrittenReadsBack =
-      (ns : List ℕ) (cs : List ℤ) (room n : ℕ) → writing_of ρ ns cs room ≡ Done n
+      (ns : List ℕ) (cs : List ℤ) (room n : ℕ) → writing_of ρ ns cs room ≡ Ok n
       → (e : LineEnds) (a b : List ℕ) → ReadsBack (ended e ρ) ns cs n (a ++ (record_text ρ ns cs ++ b)) (length a)
 
   -- D2.5: what was read from canonical text is written as that text
@@ -186,7 +181,7 @@ module _ (ρ : Rules) where
     -- a record of any text whose groups all read with 0 and whose bytes are canonical
     pub record_returns : {ds : List ℤ} (s : List ℕ) (at next : ℕ) (cells : ℕ → List ℤ) → ReadWhole ρ s at next cells → CanonicalRecord ρ (counts_at ρ s at) (part at next s) ds
         → (out : List ℕ) → next - at ≤ length out
-        → (writing_of ρ (counts_at ρ s at) (joined cells) (length out) ≡ Done (next - at))
+        → (writing_of ρ (counts_at ρ s at) (joined cells) (length out) ≡ Ok (next - at))
         × (output_by ρ (counts_at ρ s at) (joined cells) (writing_of ρ (counts_at ρ s at) (joined cells) (length out)) out ≡ over 0 (part at next s) out)
     -- R348: what the program prints for a text of canonical records, each of at most 8,192 bytes, by each rule for line ends
     pub text_returns : (s : List ℕ) → CanonicalRecords ρ s → length s ≤ 65536 → (e : LineEnds) → printed (ended e ρ) s ≡ s
@@ -217,7 +212,7 @@ module _ (ρ : Rules) where
         → Torn ρ ns t cs (kept t j 0) n j'
     -- what replays with 0, whoever wrote it, is a journal that calls have made
     pub made : (ns : List ℕ) (t : List ℤ) (k : Kept) → Fit t → AllBytes (take k.used k.journal)
-        → replay_of ρ ns k.journal k.used t ≡ Right
+        → replay_of ρ ns k.journal k.used t ≡ Ok tt
         → MadeBy ρ ns (kept t k.journal 0) (behind_replay ρ ns t k)
 
   pub record Demand2 : Type 0 where

@@ -2,7 +2,7 @@
 -- line feed alone. The demands hold under each rule; here is what moves between them, and what does not.
 --
 -- s and t are texts, p and q places of them; ρ are the rules that are asked with, whatever they are.
-use Rattle.std.specs.Prelude.{◌≡◌, Bool, List, [], ◌∷◌, ◌++◌, ◌↔◌, ℕ, ◌<◌, ◌≤◌, ℤ, length}
+use Rattle.std.specs.Prelude.{◌≡◌, Bool, List, [], ◌∷◌, ◌++◌, ◌↔◌, ℕ, ◌<◌, ◌≤◌, ℤ, length, Some, None, Result, Ok}
 use Rattle.rules.specs.Choice.{ended}
 use Rattle.rules.specs.declared.LineEnds.{LineEnds}
 use Rattle.rules.specs.declared.LineEnds.TheVariants.{Strict, Either}
@@ -12,15 +12,12 @@ use Rattle.form.specs.declared.Form.{Form}
 use Rattle.line.specs.Alike.{Alike, AlikeFrom, ended_by, EitherWay}
 use Rattle.line.specs.Contents.{EndsInReturn, content_of}
 use Rattle.line.specs.Lines.{Whole, Plain}
-use Rattle.line.specs.declared.Content.TheVariants.{Length, NoReturn}
 use Rattle.place.specs.Alike.{SamePlacing}
 use Rattle.place.specs.Index.{misformed, read_index_line}
 use Rattle.place.specs.Placing.{placing_of, counts_at, carried_at}
 use Rattle.place.specs.Walk.{PlacedAt, spot, Stops}
 use Rattle.reading.specs.Plan.{Line}
 use Rattle.reading.specs.Read.{read_line}
-use Rattle.reply.specs.declared.Answer.{Answer}
-use Rattle.reply.specs.declared.Checked.{Checked}
 use Rattle.reply.specs.declared.Refusal.{Refusal}
 use Rattle.reply.specs.declared.Refusal.TheVariants.{BadLine}
 use Rattle.group.specs.declared.Characteristic.TheVariants.{Refused}
@@ -37,7 +34,6 @@ use Rattle.date.specs.declared.Date.{Date}
 use Rattle.since.specs.Kept.{SameFirst}
 use Rattle.since.specs.Since.{first_from}
 use Rattle.whole.specs.Whole.{whole_read}
-use Rattle.rewriting.specs.declared.Rewriting.TheVariants.{Done}
 use Rattle.rewriting.specs.Alike.{SameRewriting}
 use Rattle.rewriting.specs.Canonical.{RightRecord}
 use Rattle.rewriting.specs.Printed.{printed}
@@ -46,7 +42,7 @@ use Rattle.rewriting.specs.Record.{rewriting_of, text_at}
 -- R9: under strict, a line whose line feed has no carriage return before it
 pub record UnderStrict (ρ : Rules) : Type 0 where
   -- has no content
-  pub no_end : (a : List ℕ) → (EndsInReturn a → ⊥) → content_of ρ (a ++ (10 ∷ [])) ≡ NoReturn
+  pub no_end : (a : List ℕ) → (EndsInReturn a → ⊥) → content_of ρ (a ++ (10 ∷ [])) ≡ None
   -- R204: as an index line it is misformed, which is reply 4
   pub index_line : (a : List ℕ) → (EndsInReturn a → ⊥) → read_index_line ρ (a ++ (10 ∷ [])) ≡ misformed
   -- R208: as a data line it is wrong, which is reply 8 with the line's number, whatever its form and fields
@@ -55,9 +51,9 @@ pub record UnderStrict (ρ : Rules) : Type 0 where
 -- R9: under either
 pub record UnderEither (ρ : Rules) : Type 0 where
   -- with a line feed behind it a is the content of a line; unless it ends in a carriage return, which is then part of the line end (`one_return`)
-  pub either_end : (a : List ℕ) → (EndsInReturn a → ⊥) → content_of ρ (a ++ (10 ∷ [])) ≡ Length (length a)
+  pub either_end : (a : List ℕ) → (EndsInReturn a → ⊥) → content_of ρ (a ++ (10 ∷ [])) ≡ Some (length a)
   -- every line has a content, so that the missing carriage return gives neither 4 nor 8: these are given for what the content is
-  pub some_content : (x : List ℕ) → Whole 1 x → content_of ρ x ≡ NoReturn → ⊥
+  pub some_content : (x : List ℕ) → Whole 1 x → content_of ρ x ≡ None → ⊥
   -- lines with these contents are alike, wherever carriage returns stand and wherever they lack
   pub here_and_there : (cs : List (List ℕ)) → EitherWay cs → (v w : ℕ → Bool) → Alike ρ (ended_by v cs) (ended_by w cs)
   -- and so are texts that differ in one carriage return, behind whole lines and before whatever else: also what is no line, or no right one
@@ -66,7 +62,7 @@ pub record UnderEither (ρ : Rules) : Type 0 where
 
 -- R9, R12: σ is strict, and as ρ in all else: what is right under σ is the same under ρ; so only refusals of σ can move
 pub record StrictStays (σ ρ : Rules) : Type 0 where
-  pub content : (x : List ℕ) (n : ℕ) → content_of σ x ≡ Length n → content_of ρ x ≡ Length n
+  pub content : (x : List ℕ) (n : ℕ) → content_of σ x ≡ Some n → content_of ρ x ≡ Some n
   -- replies 0 and 7 with their numbers, and what the record carries
   pub placing : (s : List ℕ) (at : ℕ) → PlacedAt σ s at → placing_of ρ s at ≡ placing_of σ s at
   pub carried : (s : List ℕ) (at : ℕ) → PlacedAt σ s at → carried_at ρ s at ≡ carried_at σ s at
@@ -83,8 +79,8 @@ pub record StrictStays (σ ρ : Rules) : Type 0 where
   -- reply 0 of a whole record with its cells
   pub whole : (s : List ℕ) (at room : ℕ) (cs : List ℤ) → whole_read σ s at room ≡ done cs → whole_read ρ s at room ≡ done cs
   -- reply 0 of rewriting with its numbers, and its text
-  pub rewriting : (s : List ℕ) (at cells room bytes next : ℕ) → rewriting_of σ s at cells room ≡ Done bytes next → rewriting_of ρ s at cells room ≡ Done bytes next
-  pub text : (s : List ℕ) (at cells room bytes next : ℕ) → rewriting_of σ s at cells room ≡ Done bytes next → text_at ρ s at ≡ text_at σ s at
+  pub rewriting : (s : List ℕ) (at cells room bytes next : ℕ) → rewriting_of σ s at cells room ≡ Ok (record { bytes = bytes; next = next }) → rewriting_of ρ s at cells room ≡ Ok (record { bytes = bytes; next = next })
+  pub text : (s : List ℕ) (at cells room bytes next : ℕ) → rewriting_of σ s at cells room ≡ Ok (record { bytes = bytes; next = next }) → text_at ρ s at ≡ text_at σ s at
 
 -- R9: where s from p on and t from q on have the same contents line by line, what is asked there is answered the same
 pub record AnsweredAlike (ρ : Rules) (s : List ℕ) (p : ℕ) (t : List ℕ) (q : ℕ) : Type 0 where
@@ -125,18 +121,18 @@ pub record CanonicalStays (ρ : Rules) : Type 0 where
 pub record UnreadSame (σ ρ : Rules) : Type 0 where
   -- writing: the answer, and what the output holds behind it
   pub writing : (ns : List ℕ) (cs : List ℤ) (room : ℕ) → writing_of σ ns cs room ≡ writing_of ρ ns cs room
-  pub output : (ns : List ℕ) (cs : List ℤ) (a : Answer) (old : List ℕ) → output_by σ ns cs a old ≡ output_by ρ ns cs a old
+  pub output : (ns : List ℕ) (cs : List ℤ) (a : Result ℕ Refusal) (old : List ℕ) → output_by σ ns cs a old ≡ output_by ρ ns cs a old
   -- a call of the journal: the answer, and what is left of cells, journal and bytes used
   pub call : (ns : List ℕ) (c : Call) (k : Kept) → answer_to σ ns c k ≡ answer_to ρ ns c k
-  pub call_left : (ns : List ℕ) (c : Call) (k : Kept) (a : Answer) → left_by σ ns c k a ≡ left_by ρ ns c k a
+  pub call_left : (ns : List ℕ) (c : Call) (k : Kept) (a : Result ℕ Refusal) → left_by σ ns c k a ≡ left_by ρ ns c k a
   -- a replay: the answer, the cells and the open savepoints
   pub replay : (ns j : List ℕ) (used : ℕ) (cs : List ℤ) → replay_of σ ns j used cs ≡ replay_of ρ ns j used cs
-  pub replay_left : (ns j : List ℕ) (used : ℕ) (cs : List ℤ) (a : Checked)
+  pub replay_left : (ns j : List ℕ) (used : ℕ) (cs : List ℤ) (a : Result (Unit {0}) Refusal)
       → (replayed_cells σ ns j used cs a ≡ replayed_cells ρ ns j used cs a) × (replayed_open σ ns j used cs a ≡ replayed_open ρ ns j used cs a)
 
 pub record LineEndsKept (ρ : Rules) : Type 0 where
   -- R5: whatever a is, exactly one carriage return is dropped with the line feed
-  pub one_return : (a : List ℕ) → content_of ρ (a ++ (13 ∷ 10 ∷ [])) ≡ Length (length a)
+  pub one_return : (a : List ℕ) → content_of ρ (a ++ (13 ∷ 10 ∷ [])) ≡ Some (length a)
   pub strictly : ρ.ends ≡ Strict → UnderStrict ρ
   pub either : ρ.ends ≡ Either → UnderEither ρ
   pub strict_stays : StrictStays (ended Strict ρ) ρ

@@ -1,11 +1,10 @@
 -- R13: what the count rule promises. It says how many elements a count of group 40 has; lines, cells and all answers follow from these.
-use Rattle.std.specs.Prelude.{◌≡◌, List, ℕ, suc, ◌+◌, ◌*◌, ◌<◌}
+use Rattle.std.specs.Prelude.{◌≡◌, List, ℕ, suc, ◌+◌, ◌*◌, ◌<◌, Some}
 use Rattle.rules.specs.declared.Rules.{Rules}
 use Rattle.rules.specs.declared.Counting.TheVariants.{Elements, Entries}
 use Rattle.rules.specs.Choice.{usual}
 use Rattle.form.specs.declared.Form.{Form}
 use Rattle.form.specs.declared.Form.TheVariants.{E20}
-use Rattle.form.specs.declared.GroupForm.TheVariants.{Has}
 use Rattle.form.specs.Table.{form_of}
 use Rattle.form.specs.Count.{elements_of, lines_of, cells_of}
 use Rattle.count.specs.Tally.{count_of, lines_in, cells_in}
@@ -34,9 +33,9 @@ module _ (ρ : Rules) where
     pub entries : ρ.counting ≡ Entries → CountsEntries
     -- R42: under elements every count is the number of elements, and so is that of every other group than 40 under either
     pub elements : ρ.counting ≡ Elements → (f : Form) (n : ℕ) → elements_of ρ f n ≡ n
-    pub others : (g : ℕ) (f : Form) → form_of g ≡ Has f → (g ≡ 40 → ⊥) → (n : ℕ) → elements_of ρ f n ≡ n
+    pub others : (g : ℕ) (f : Form) → form_of g ≡ Some f → (g ≡ 40 → ⊥) → (n : ℕ) → elements_of ρ f n ≡ n
     -- so each of these has the lines and cells in a record that it has under the usual rules
     pub other_lines : (ns : List ℕ) (g : ℕ) → (g ≡ 40 → ⊥) → lines_in ρ ns g ≡ lines_in usual ns g
     pub other_cells : (ns : List ℕ) (g : ℕ) → (g ≡ 40 → ⊥) → cells_in ρ ns g ≡ cells_in usual ns g
     -- R40: and group 40 has that form
-    pub forty : form_of 40 ≡ Has E20
+    pub forty : form_of 40 ≡ Some E20

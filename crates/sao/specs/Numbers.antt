@@ -1,12 +1,10 @@
 -- R200 to R217 and R222 in figures: what number each answer has, and which numbers stand beside it. The Dues of the second demand say when an
 -- answer is given; here stands what is told.
-use Rattle.std.specs.Prelude.{◌≡◌, List, ℕ, ℤ, length}
+use Rattle.std.specs.Prelude.{◌≡◌, List, ℕ, ℤ, length, Ok, Err}
 use Rattle.base.specs.Pieces.{done, bad}
 use Rattle.reply.specs.declared.Refusal.{Refusal}
 use Rattle.reply.specs.declared.Refusal.TheVariants.{End, Beyond, TooFewLines, Misformed, OtherRelease, FilledVacant, BrokenRule, BadLine, BadField, BadDate}
 use Rattle.reply.specs.declared.Refusal.TheVariants.{NoRoom, NoSuchNumber, NoField, OtherLength, NotOpen, AllOpen, BadEntry, BadPart}
-use Rattle.reply.specs.declared.Checked.TheVariants as C
-use Rattle.reply.specs.declared.Answer.TheVariants as A
 use Rattle.reply.specs.declared.Reply.{Reply}
 use Rattle.reply.specs.Refusals.{refusal_reply, checked_reply, answer_reply}
 use Rattle.place.specs.declared.Placing.TheVariants as P
@@ -14,13 +12,9 @@ use Rattle.place.specs.Numbered.{placing_reply}
 use Rattle.reading.specs.Read.{reading_of}
 use Rattle.group.specs.declared.Characteristic.TheVariants.{Value, NoReading, NotReported, Refused}
 use Rattle.group.specs.Numbered.{characteristic_reply}
-use Rattle.whole.specs.declared.RecordRead.TheVariants as W
 use Rattle.whole.specs.Numbered.{record_reply, group_told}
-use Rattle.since.specs.declared.First.TheVariants as F
 use Rattle.since.specs.Numbered.{first_reply, place_told, passed_told}
-use Rattle.salvaging.specs.declared.Stretch.TheVariants as S
 use Rattle.salvaging.specs.Numbered.{stretch_reply}
-use Rattle.rewriting.specs.declared.Rewriting.TheVariants as R
 use Rattle.journal.specs.Numbered.{edit_reply}
 use Rattle.rewriting.specs.Numbered.{rewriting_reply, rewriting_group}
 
@@ -70,8 +64,8 @@ pub record PlacingTold : Type 0 where
 pub record GroupTold : Type 0 where
   pub read : (cs : List ℤ) → answer_reply (reading_of (done cs)) ≡ figures 0 0 (length cs) 0 0 0 0 0 0
   pub read_refused : (r : Refusal) → answer_reply (reading_of (bad r)) ≡ refusal_reply r
-  pub given : checked_reply C.Right ≡ figures 0 0 0 0 0 0 0 0 0
-  pub lines_refused : (r : Refusal) → checked_reply (C.Refused r) ≡ refusal_reply r
+  pub given : checked_reply (Ok tt) ≡ figures 0 0 0 0 0 0 0 0 0
+  pub lines_refused : (r : Refusal) → checked_reply (Err r) ≡ refusal_reply r
   pub value : (z : ℤ) → characteristic_reply (Value z) ≡ figures 0 0 0 0 0 0 0 0 0
   pub no_reading : characteristic_reply NoReading ≡ figures 0 0 0 0 0 0 0 0 0
   pub not_reported : characteristic_reply NotReported ≡ figures 0 0 0 0 0 0 0 0 0
@@ -79,31 +73,31 @@ pub record GroupTold : Type 0 where
 
 -- R272: a whole record, with the group that was being read apart
 pub record WholeTold : Type 0 where
-  pub read : (n : ℕ) → (record_reply (W.Done n) ≡ figures 0 0 n 0 0 0 0 0 0) × (group_told (W.Done n) ≡ 0)
-  pub refused : (g : ℕ) (r : Refusal) → (record_reply (W.Refused g r) ≡ refusal_reply r) × (group_told (W.Refused g r) ≡ g)
+  pub read : (n : ℕ) → (record_reply (Ok n) ≡ figures 0 0 n 0 0 0 0 0 0) × (group_told (Ok n) ≡ 0)
+  pub refused : (g : ℕ) (r : Refusal) → (record_reply (Err (record { group = g; why = r })) ≡ refusal_reply r) × (group_told (Err (record { group = g; why = r })) ≡ g)
 
 -- R334, R335: the first record from a date on, with its place and the records that were passed apart
 pub record FirstTold : Type 0 where
-  pub found : (p k : ℕ) → (first_reply (F.Found p k) ≡ figures 0 0 0 0 0 0 0 0 0) × (place_told (F.Found p k) ≡ p) × (passed_told (F.Found p k) ≡ k)
-  pub refused : (k : ℕ) (r : Refusal) → (first_reply (F.Refused k r) ≡ refusal_reply r) × (place_told (F.Refused k r) ≡ 0) × (passed_told (F.Refused k r) ≡ k)
+  pub found : (p k : ℕ) → (first_reply (Ok (record { place = p; passed = k })) ≡ figures 0 0 0 0 0 0 0 0 0) × (place_told (Ok (record { place = p; passed = k })) ≡ p) × (passed_told (Ok (record { place = p; passed = k })) ≡ k)
+  pub refused : (k : ℕ) (r : Refusal) → (first_reply (Err (record { passed = k; why = r })) ≡ refusal_reply r) × (place_told (Err (record { passed = k; why = r })) ≡ 0) × (passed_told (Err (record { passed = k; why = r })) ≡ k)
 
 -- R352: the end of a stretch, as the next place
 pub record StretchTold : Type 0 where
-  pub ends : (p : ℕ) → stretch_reply (S.Ends p) ≡ figures 0 p 0 0 0 0 0 0 0
-  pub refused : (r : Refusal) → stretch_reply (S.Refused r) ≡ refusal_reply r
+  pub ends : (p : ℕ) → stretch_reply (Ok p) ≡ figures 0 p 0 0 0 0 0 0 0
+  pub refused : (r : Refusal) → stretch_reply (Err r) ≡ refusal_reply r
 
 -- R300, R310: writing and listing; R323: and rewriting, with the group that was being read apart
 pub record TextTold : Type 0 where
-  pub written : (n : ℕ) → answer_reply (A.Done n) ≡ figures 0 0 n 0 0 0 0 0 0
-  pub write_refused : (r : Refusal) → answer_reply (A.Refused r) ≡ refusal_reply r
-  pub rewritten : (n p : ℕ) → (rewriting_reply (R.Done n p) ≡ figures 0 p n 0 0 0 0 0 0) × (rewriting_group (R.Done n p) ≡ 0)
-  pub rewrite_refused : (g : ℕ) (r : Refusal) → (rewriting_reply (R.Refused g r) ≡ refusal_reply r) × (rewriting_group (R.Refused g r) ≡ g)
+  pub written : (n : ℕ) → answer_reply (Ok n) ≡ figures 0 0 n 0 0 0 0 0 0
+  pub write_refused : (r : Refusal) → answer_reply (Err r) ≡ refusal_reply r
+  pub rewritten : (n p : ℕ) → (rewriting_reply (Ok (record { bytes = n; next = p })) ≡ figures 0 p n 0 0 0 0 0 0) × (rewriting_group (Ok (record { bytes = n; next = p })) ≡ 0)
+  pub rewrite_refused : (g : ℕ) (r : Refusal) → (rewriting_reply (Err (record { group = g; why = r })) ≡ refusal_reply r) × (rewriting_group (Err (record { group = g; why = r })) ≡ g)
 
 -- R516, R540: the calls of the edit journal, of which an open has the savepoint's number; the bytes used, and a replay's open savepoints, are
 -- told apart
 pub record JournalTold : Type 0 where
-  pub call : (k : ℕ) → edit_reply (A.Done k) ≡ figures 0 0 0 0 0 0 0 k 0
-  pub call_refused : (r : Refusal) → edit_reply (A.Refused r) ≡ refusal_reply r
+  pub call : (k : ℕ) → edit_reply (Ok k) ≡ figures 0 0 0 0 0 0 0 k 0
+  pub call_refused : (r : Refusal) → edit_reply (Err r) ≡ refusal_reply r
 
 pub record AnswersTold : Type 0 where
   pub refusals : RefusalTold

@@ -1,6 +1,7 @@
 // The questions, R240. Each may be asked of every text, place, number, table and output; nothing has to hold beforehand
-// (R241). The layers answer them; here each has its name, its contract and nothing else. `reply`, and the layers'
-// `reply_of` for answers of their own, give an answer's number, with the numbers beside it (R200 to R217 and R222).
+// (R241). The layers answer them; here each has its name, its contract and nothing else. A refusal is the error of a
+// `Result`. `Reply::from`, and the layers' `reply_of` where a 0 has numbers of its own, give an answer's number, with the
+// numbers beside it (R200 to R217 and R222).
 #![tactic(auto)]
 
 ghost use Rattle.std.specs.Prelude.{◌≡◌, length};
@@ -25,11 +26,10 @@ use date::Date;
 use group::{Characteristic, Lines};
 use journal::{Edited, Replayed};
 use place::Record;
-use reply::Answer;
-use rewriting::Rewriting;
-use salvaging::Stretch;
-use since::First;
-use whole::RecordRead;
+use reply::Refusal;
+use rewriting::Rewritten;
+use since::{Found, Unfound};
+use whole::Unread;
 
 // R250 to R253, R259. Asked: which record stands at a place of a text.
 // Answered: the placing, with the next place under 0 and 7, the record's 80 counts, and where the lines of each of its
@@ -52,7 +52,7 @@ pub fn read_group(
     at: usize,
     group: usize,
     table: &mut [i64],
-) -> Answer
+) -> Result<usize, Refusal>
     ensures answer { result ≡ reading_of (read_at rules text.now at group (length table.old)) }
     ensures table { table.new ≡
         table_by (read_at rules text.now at group (length table.old)) table.old }
@@ -103,7 +103,7 @@ pub fn record_group(
     lent: Record,
     group: usize,
     table: &mut [i64],
-) -> Answer
+) -> Result<usize, Refusal>
     ensures answer { result ≡
         reading_of (read_with rules text.now (carried_by lent) group (length table.old)) }
     ensures table { table.new ≡
@@ -152,7 +152,12 @@ pub fn record_characteristic(
 // Answered: 0 with the number of cells, those of groups 1 to 60 one behind the other, which stand in the table from its
 // first cell on; what stands behind them is kept. A refusal has the number of the group that was being read, 0 where
 // none was, and leaves the whole table as it was.
-pub fn read_record(rules: rules::Rules, text: &[u8], at: usize, table: &mut [i64]) -> RecordRead
+pub fn read_record(
+    rules: rules::Rules,
+    text: &[u8],
+    at: usize,
+    table: &mut [i64],
+) -> Result<usize, Unread>
     ensures answer { result ≡
         record_read_of (whole_read rules text.now at (length table.old)) }
     ensures table { table.new ≡
@@ -164,7 +169,12 @@ pub fn read_record(rules: rules::Rules, text: &[u8], at: usize, table: &mut [i64
 // R300 to R307. Asked: to write a record of these counts and of the cells of all groups, group 1's first.
 // Answered: 0 with the number of bytes, which stand in the output from its first byte on; what stands behind them is
 // kept. A refusal leaves the whole output as it was.
-pub fn write_record(rules: rules::Rules, counts: &[u16], cells: &[i64], out: &mut [u8]) -> Answer
+pub fn write_record(
+    rules: rules::Rules,
+    counts: &[u16],
+    cells: &[i64],
+    out: &mut [u8],
+) -> Result<usize, Refusal>
     ensures answer { result ≡
         writing_of rules counts.now cells.now (length out.old) }
     ensures output { out.new ≡
@@ -176,7 +186,7 @@ pub fn write_record(rules: rules::Rules, counts: &[u16], cells: &[i64], out: &mu
 // R310, R311. Asked: the listing of a text, a line for each record of its walk and the line `end`.
 // Answered: 0 with the number of bytes, which stand in the output from its first byte on; what stands behind them is
 // kept. A refusal (11) leaves the whole output as it was.
-pub fn list(rules: rules::Rules, text: &[u8], out: &mut [u8]) -> Answer
+pub fn list(rules: rules::Rules, text: &[u8], out: &mut [u8]) -> Result<usize, Refusal>
     ensures answer { result ≡ listed_in (listing rules text.now) (length out.old) }
     ensures output { out.new ≡ put_bytes 0 (listing rules text.now) out.old }
 {
@@ -194,7 +204,7 @@ pub fn rewrite_record(
     at: usize,
     table: &mut [i64],
     out: &mut [u8],
-) -> Rewriting
+) -> Result<Rewritten, Unread>
     ensures answer { result ≡
         rewriting_of rules text.now at (length table.old) (length out.old) }
     ensures table { table.new ≡ table_after rules text.now at result table.old }
@@ -209,7 +219,7 @@ pub fn rewrite_record(
 // the answer.
 // A refusal has how many records were passed: 10 for a date that breaks the rules of the date, before the text is
 // looked at; where there is no such record, what the walk stopped with behind all of them, one of 1 and 3 to 6.
-pub fn first_from(rules: rules::Rules, text: &[u8], from: Date) -> First
+pub fn first_from(rules: rules::Rules, text: &[u8], from: Date) -> Result<Found, Unfound>
     ensures { result ≡ first_from rules text.now from }
 {
     since::first_from(rules, text, from)
@@ -219,7 +229,7 @@ pub fn first_from(rules: rules::Rules, text: &[u8], from: Date) -> First
 // Answered: 0 with the next place: the first later line start at which a record is placed with 0 and its groups 1, 3
 // and 4 read with 0, or the text's end if there is none. So a walk that stops may go on.
 // A refusal: 2 beyond the text, 1 at its end.
-pub fn stretch_end(rules: rules::Rules, text: &[u8], at: usize) -> Stretch
+pub fn stretch_end(rules: rules::Rules, text: &[u8], at: usize) -> Result<usize, Refusal>
     ensures { result ≡ stretch_of rules text.now at }
 {
     salvaging::stretch_end(rules, text, at)

@@ -1,5 +1,5 @@
 -- R200 to R217 and R222: each question's reply, from the rules (R12) and what is asked: the layers' answers as replies.
-use Rattle.std.specs.Prelude.{List, ℕ, ℤ, length}
+use Rattle.std.specs.Prelude.{List, ℕ, ℤ, length, Result}
 use Rattle.rules.specs.declared.Rules.{Rules}
 use Rattle.reply.specs.declared.Reply.{Reply}
 use Rattle.reply.specs.Refusals.{checked_reply, answer_reply}
@@ -21,10 +21,10 @@ use Rattle.salvaging.specs.Stretch.{stretch_of}
 use Rattle.writing.specs.Writing.{writing_of}
 use Rattle.rewriting.specs.Record.{rewriting_of}
 use Rattle.rewriting.specs.Numbered.{rewriting_reply}
-use Rattle.reply.specs.declared.Answer.{Answer}
 use Rattle.journal.specs.Model.{Call}
 use Rattle.journal.specs.Calls.{answer_of}
 use Rattle.listing.specs.Listing.{listing, listed_in}
+use Rattle.reply.specs.declared.Refusal.{Refusal}
 
 abbrev pub place_reply : Rules → List ℕ → ℕ → Reply
 place_reply ρ s at = placing_reply (placing_of ρ s at)
@@ -73,5 +73,5 @@ abbrev pub rewrite_reply : Rules → List ℕ → ℕ → ℕ → ℕ → Reply
 rewrite_reply ρ s at cells room = rewriting_reply (rewriting_of ρ s at cells room)
 
 -- what a call of the edit journal answers, on these cells
-abbrev pub call_answer : Rules → List ℕ → List ℕ → ℕ → List ℤ → Call → Answer
+abbrev pub call_answer : Rules → List ℕ → List ℕ → ℕ → List ℤ → Call → Result ℕ Refusal
 call_answer ρ ns j used cs c = answer_of ρ ns j used (length cs) c

@@ -34,6 +34,7 @@ ghost use Rattle.listing.specs.Listing.{listing};
 
 use date::Date;
 use group::Characteristic;
+use place::Record;
 use reply::Reply;
 use rules::Rules;
 
@@ -74,9 +75,7 @@ fn value_of(c: Characteristic) -> i64
 {
     match c {
         Characteristic::Value(value) => value,
-        Characteristic::NoReading => 0,
-        Characteristic::NotReported => 0,
-        Characteristic::Refused(_) => 0,
+        _ => 0,
     }
 }
 
@@ -123,15 +122,16 @@ pub extern "C" fn seambeacon_place_apart(
     ensures starts { starts.new ≡ starts_at (flagged rules) text.now at }
     ensures ends { ends.new ≡ ends_at (flagged rules) text.now at }
 {
-    let placed = sao::place(rules_of(rules), text, at);
-    let answer = placed.answer;
-    let found = placed.counts;
-    let begin = placed.starts;
-    let end = placed.ends;
+    let Record {
+        answer,
+        counts: found,
+        starts: begin,
+        ends: end,
+    } = sao::place(rules_of(rules), text, at);
     *counts = found;
     *starts = begin;
     *ends = end;
-    tell(place::reply_of(answer), beside)
+    tell(Reply::from(answer), beside)
 }
 
 // R260 to R268. Asked: the cells of a group, 1 to 60, of the record at a place.
@@ -152,7 +152,7 @@ pub extern "C" fn seambeacon_read_group(
         (read_at (flagged rules) text.now at group (length table.old)) table.old }
 {
     let answer = sao::read_group(rules_of(rules), text, at, group, table);
-    tell(reply::of_answer(answer), beside)
+    tell(Reply::from(answer), beside)
 }
 
 // R280 to R283, R362. Asked: the lines of a group of the record at a place, with their line ends.
@@ -174,10 +174,8 @@ pub extern "C" fn seambeacon_group_lines(
         length (part_at (flagged rules) text.now at group) ∷ [] }
 {
     let lines = sao::group_lines_at(rules_of(rules), text, at, group);
-    let found = lines.found;
-    let length = lines.to - lines.from;
-    *part = [lines.from, length];
-    tell(reply::of_checked(found), beside)
+    *part = [lines.from, lines.to - lines.from];
+    tell(Reply::from(lines.found), beside)
 }
 
 // R290 to R296, R361. Asked: a characteristic, 1 to 49, of the record at a place.
@@ -203,7 +201,7 @@ pub extern "C" fn seambeacon_characteristic(
     let known = sao::characteristic(rules_of(rules), text, at, number);
     *kind = kind_of(known);
     *value = value_of(known);
-    tell(group::reply_of(known), beside)
+    tell(Reply::from(known), beside)
 }
 
 // ---- With a record, whose members are lent apart (R366): the questions of `sao` that have a record, over `view`, which
@@ -232,7 +230,7 @@ pub extern "C" fn seambeacon_record_group_apart(
         (length table.old)) table.old }
 {
     let answer = view::read_with(rules_of(rules), text, counts, starts, ends, group, table);
-    tell(reply::of_answer(answer), beside)
+    tell(Reply::from(answer), beside)
 }
 
 // R285, R286, R362. Asked: the lines of a group of a record, with their line ends.
@@ -257,11 +255,9 @@ pub extern "C" fn seambeacon_record_lines_apart(
         length (part_with (flagged rules) text.now
         (carried counts.now starts.now ends.now) group) ∷ [] }
 {
-    let lines = view::lines_with(rules_of(rules), text, counts, starts, ends, group);
-    let found = lines.found;
-    let bytes = lines.to - lines.from;
-    *part = [lines.from, bytes];
-    tell(reply::of_checked(found), beside)
+    let named = view::lines_with(rules_of(rules), text, counts, starts, ends, group);
+    *part = [named.from, named.to - named.from];
+    tell(Reply::from(named.found), beside)
 }
 
 // R297, R361. Asked: a characteristic, 1 to 49, of a record.
@@ -291,7 +287,7 @@ pub extern "C" fn seambeacon_record_characteristic_apart(
     let known = view::characteristic_with(rules_of(rules), text, counts, starts, ends, number);
     *kind = kind_of(known);
     *value = value_of(known);
-    tell(group::reply_of(known), beside)
+    tell(Reply::from(known), beside)
 }
 
 // R271 to R277, R363. Asked: the cells of all groups of the record at a place.
@@ -382,7 +378,7 @@ pub extern "C" fn seambeacon_write_record(
         out.old }
 {
     let answer = sao::write_record(rules_of(rules), counts, cells, out);
-    tell(reply::of_answer(answer), beside)
+    tell(Reply::from(answer), beside)
 }
 
 // R310, R311. Asked: the listing of a text, a line for each record of its walk and the line `end`.
@@ -401,7 +397,7 @@ pub extern "C" fn seambeacon_list(
         put_bytes 0 (listing (flagged rules) text.now) out.old }
 {
     let answer = sao::list(rules_of(rules), text, out);
-    tell(reply::of_answer(answer), beside)
+    tell(Reply::from(answer), beside)
 }
 
 // R320 to R326, R363. Asked: to rewrite the record at a place as canonical text.
@@ -491,9 +487,8 @@ pub extern "C" fn seambeacon_set_cell(
         cell,
         value,
     );
-    let answer = edited.answer;
     *used = edited.used;
-    tell(journal::reply_of(answer), beside)
+    tell(journal::reply_of(edited.answer), beside)
 }
 
 // R513. Asked: to open a savepoint inside those that are open, at most 16.
@@ -524,9 +519,8 @@ pub extern "C" fn seambeacon_open_savepoint(
         Opens) }
 {
     let edited = sao::open_savepoint(rules_of(rules), counts, cells, journal, *used);
-    let answer = edited.answer;
     *used = edited.used;
-    tell(journal::reply_of(answer), beside)
+    tell(journal::reply_of(edited.answer), beside)
 }
 
 // R514. Asked: to release the innermost savepoint.
@@ -558,9 +552,8 @@ pub extern "C" fn seambeacon_release_savepoint(
         (Releases savepoint)) }
 {
     let edited = sao::release_savepoint(rules_of(rules), counts, cells, journal, *used, savepoint);
-    let answer = edited.answer;
     *used = edited.used;
-    tell(journal::reply_of(answer), beside)
+    tell(journal::reply_of(edited.answer), beside)
 }
 
 // R515. Asked: to undo to an open savepoint.
@@ -598,9 +591,8 @@ pub extern "C" fn seambeacon_undo_to_savepoint(
         (Undoes savepoint)) }
 {
     let edited = sao::undo_to_savepoint(rules_of(rules), counts, cells, journal, *used, savepoint);
-    let answer = edited.answer;
     *used = edited.used;
-    tell(journal::reply_of(answer), beside)
+    tell(journal::reply_of(edited.answer), beside)
 }
 
 // R540 to R543. Asked: to replay a journal over the table that it began with.
@@ -627,7 +619,6 @@ pub extern "C" fn seambeacon_replay(
         (replay_of (flagged rules) counts.now journal.now used cells.old) }
 {
     let replayed = sao::replay(rules_of(rules), counts, cells, journal, used);
-    let answer = replayed.answer;
     *opened = replayed.open;
-    tell(reply::of_checked(answer), beside)
+    tell(Reply::from(replayed.answer), beside)
 }

@@ -1,5 +1,6 @@
 -- R333: the date of the record at a place, as a statement; by what the record carries; and that a record which answers 7 has none.
 -- Assumes nothing.
+use Rattle.std.specs.Prelude.{Option, Some, None, Result, Ok, Err}
 use mathlib.Core.Path.{◌≡◌, refl, sym, ◌∙◌, ap}
 use mathlib.Core.Bool.{true}
 use mathlib.Core.List.{List, map}
@@ -13,8 +14,6 @@ use Rattle.base.specs.Pieces.{done, bad}
 use Rattle.base.specs.Sign.{size_of}
 use Rattle.count.specs.Tally.{cells_in}
 use Rattle.date.specs.declared.Date.{Date}
-use Rattle.date.specs.declared.Dated.{Dated}
-use Rattle.date.specs.declared.Dated.TheVariants.{Right, Wrong}
 use Rattle.date.proofs.Due as Letters
 use Rattle.date.proofs.Order.{not_before_exactly}
 use Rattle.place.specs.declared.Placing.TheVariants.{Placed, BrokenRule}
@@ -23,10 +22,7 @@ use Rattle.place.specs.Walk.{spot, IsRecord}
 use Rattle.place.proofs.Due as Place
 use Rattle.place.proofs.Parted.{named_lines}
 use Rattle.place.proofs.Zero.{is_placed_lem}
-use Rattle.reading.specs.declared.RecordDate.{RecordDate}
-use Rattle.reading.specs.declared.RecordDate.TheVariants.{Told, NoDate}
 use Rattle.reading.specs.Read.{Cells, letters_dated, record_dated, date_told}
-use Rattle.reply.specs.declared.Checked.TheVariants as C
 use Rattle.reply.specs.declared.Refusal.TheVariants as R
 use Rattle.group.specs.Due.{broken_rule}
 use Rattle.group.specs.Text.{read_at}
@@ -41,15 +37,15 @@ use Rattle.since.specs.Steps.{date_by}
 record TellsDate (c : Cells) (d : Date) : Type 0 where
   cells : List ℤ
   read : c ≡ done cells
-  right : letters_dated cells ≡ Right d
+  right : letters_dated cells ≡ Ok d
 
-told_tells : (c : Cells) (d : Date) → date_told c ≡ Told d → TellsDate c d
+told_tells : (c : Cells) (d : Date) → date_told c ≡ Some d → TellsDate c d
 told_tells (bad r) d e = let z : ◌≡◌ {A = ℕ} 0 1 = cc in absurd (omega arith)
 told_tells (done cs) d e = record { cells = cs; read = refl; right = by (letters_dated cs) e }
   where
-    by : (x : Dated) → record_dated x ≡ Told d → x ≡ Right d
-    by (Right f) e = let q : f ≡ d = cc in ap Right q
-    by (Wrong p) e = let z : ◌≡◌ {A = ℕ} 0 1 = cc in absurd (omega arith)
+    by : (x : Result Date ℕ) → record_dated x ≡ Some d → x ≡ Ok d
+    by (Ok f) e = let q : f ≡ d = cc in ap Ok q
+    by (Err p) e = let z : ◌≡◌ {A = ℕ} 0 1 = cc in absurd (omega arith)
 
 -- ---- at a place
 
@@ -57,7 +53,7 @@ module _ (ρ : Rules) (s : List ℕ) (at : ℕ) where
   abbrev group_three : Cells
   group_three = read_at ρ s at 3 (cells_in ρ (counts_at ρ s at) 3)
 
-  pub date_exactly : (d : Date) → (date_at ρ s at ≡ Told d) ↔ IsDated ρ s at d
+  pub date_exactly : (d : Date) → (date_at ρ s at ≡ Some d) ↔ IsDated ρ s at d
   unfolding date_at
   date_exactly d = (
     λ e.
@@ -65,11 +61,11 @@ module _ (ρ : Rules) (s : List ℕ) (at : ℕ) where
         record {
           cells = t.cells;
           reads = (first_due ρ s at 3 (cells_in ρ (counts_at ρ s at) 3) (done t.cells)).0 t.read;
-          letters = (Letters.first_due (map size_of t.cells) (Right d)).0 t.right;
+          letters = (Letters.first_due (map size_of t.cells) (Ok d)).0 t.right;
         },
     λ h.
         ap date_told ((first_due ρ s at 3 (cells_in ρ (counts_at ρ s at) 3) (done h.cells)).1 h.reads)
-        ∙ ap record_dated ((Letters.first_due (map size_of h.cells) (Right d)).1 h.letters),
+        ∙ ap record_dated ((Letters.first_due (map size_of h.cells) (Ok d)).1 h.letters),
   )
 
   -- a record that is placed with 0, by what it carries
@@ -80,11 +76,11 @@ module _ (ρ : Rules) (s : List ℕ) (at : ℕ) where
       rw (named_lines ρ s at next placed 3 (lit≤ tt) (lit≤ tt)) (ap date_told (sym (read_located ρ s at 3 (cells_in ρ (counts_at ρ s at) 3) next (counts_at ρ s at) p.located_at)))
 
   -- one that answers 7
-  pub date_broken : {g next : ℕ} → placing_of ρ s at ≡ BrokenRule g next → date_at ρ s at ≡ NoDate
+  pub date_broken : {g next : ℕ} → placing_of ρ s at ≡ BrokenRule g next → date_at ρ s at ≡ None
   unfolding date_at
   date_broken {g} {next} e =
       let d = (Place.first_due ρ s at (BrokenRule g next)).0 e in
-      let found = (found_first_due ρ s at 3 (C.Refused (R.BrokenRule g))).1 (broken_rule g record { next = next; broken = record { low = lit≤ tt; high = lit≤ tt; placing = d } }) in
+      let found = (found_first_due ρ s at 3 (Err (R.BrokenRule g))).1 (broken_rule g record { next = next; broken = record { low = lit≤ tt; high = lit≤ tt; placing = d } }) in
       ap date_told (read_missing ρ s at 3 (cells_in ρ (counts_at ρ s at) 3) found)
 
 -- ---- at or after a date
@@ -96,9 +92,9 @@ module _ (ρ : Rules) (s : List ℕ) (from : Date) (k : ℕ) where
     λ h. ap (meets from) ((date_exactly ρ s (spot ρ s k) h.date).1 h.has) ∙ (not_before_exactly h.date from).1 h.after,
   )
     where
-      by : (x : RecordDate) → date_at ρ s (spot ρ s k) ≡ x → meets from x ≡ true → IsFrom ρ s from k
-      by (Told d) e m = record { date = d; has = (date_exactly ρ s (spot ρ s k) d).0 e; after = (not_before_exactly d from).0 m }
-      by NoDate e m = let z : ◌≡◌ {A = ℕ} 0 1 = cc in absurd (omega arith)
+      by : (x : Option Date) → date_at ρ s (spot ρ s k) ≡ x → meets from x ≡ true → IsFrom ρ s from k
+      by (Some d) e m = record { date = d; has = (date_exactly ρ s (spot ρ s k) d).0 e; after = (not_before_exactly d from).0 m }
+      by None e m = let z : ◌≡◌ {A = ℕ} 0 1 = cc in absurd (omega arith)
 
   -- such a record is placed with 0
   pub from_placed : (h : IsFrom ρ s from k) → placing_of ρ s (spot ρ s k) ≡ Placed h.has.reads.next

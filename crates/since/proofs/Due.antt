@@ -1,6 +1,7 @@
 -- First due: 10 exactly if the date that is asked for is wrong; a record exactly if it is the first of the walk that is at or after the date; the
 -- refusal at which the walk stops exactly if none is.
 -- Assumes nothing.
+use Rattle.std.specs.Prelude.{Result, Ok, Err}
 use mathlib.Core.Path.{◌≡◌, refl, sym, ◌∙◌, ap, subst}
 use mathlib.Core.Bool.{Bool, true, false, true≢false}
 use mathlib.Core.List.{List}
@@ -10,16 +11,13 @@ use native.Mathlib.Omega.{arith}
 use Rattle.rules.specs.declared.Rules.{Rules}
 use Rattle.base.proofs.Order.{le_or_lt}
 use Rattle.date.specs.declared.Date.{Date}
-use Rattle.date.specs.declared.Dated.{Dated}
-use Rattle.date.specs.declared.Dated.TheVariants.{Right, Wrong}
 use Rattle.date.specs.Asked.{dated_by}
 use Rattle.date.specs.Due.{IsAsked}
 use Rattle.date.proofs.Asked.{asked_first_due}
 use Rattle.place.specs.Walk.{spot, IsRecord, records_in}
 use Rattle.place.proofs.Stopped.{walks, placed_record}
 use Rattle.reply.specs.declared.Refusal.{Refusal}
-use Rattle.since.specs.declared.First.{First}
-use Rattle.since.specs.declared.First.TheVariants.{Found, Refused}
+use Rattle.since.specs.Numbered.{First, found, unfound}
 use Rattle.since.specs.Due.{IsFrom, IsFirst, NoneIs, RefusedFor, bad_date, not_found, Due}
 use Rattle.since.specs.Since.{meets, date_at, stop_of, first_dated, first_by, first_from}
 use Rattle.since.proofs.Dates.{meets_exactly, from_record}
@@ -51,11 +49,11 @@ module _ (ρ : Rules) (s : List ℕ) (d : Date) where
         sym (rest_passed ρ s d k b.0 r.next r.ns r.is (not_from k (none k (omega arith)))) ∙ b.1,
       )
 
-  first_given : (p k : ℕ) → IsFirst ρ s d p k → first_dated ρ s d ≡ Found p k
+  first_given : (p k : ℕ) → IsFirst ρ s d p k → first_dated ρ s d ≡ found p k
   first_given p k h =
       let r = from_record ρ s d k h.is in
       let b = passed_by k (λ j l. (placed_record ρ s (spot ρ s j)).0 (h.passed j l)) h.none_before in
-      sym b.1 ∙ rest_found ρ s d k b.0 r.next r.ns r.is ((meets_exactly ρ s d k).1 h.is) ∙ ap (λ q. Found q k) (sym h.stands)
+      sym b.1 ∙ rest_found ρ s d k b.0 r.next r.ns r.is ((meets_exactly ρ s d k).1 h.is) ∙ ap (λ q. found q k) (sym h.stands)
 
   -- it is a record of the walk
   pub first_few : (p k : ℕ) → IsFirst ρ s d p k → k < records_in ρ s
@@ -63,7 +61,7 @@ module _ (ρ : Rules) (s : List ℕ) (d : Date) where
       let r = from_record ρ s d k h.is in
       rest_few ρ s d k (passed_by k (λ j l. (placed_record ρ s (spot ρ s j)).0 (h.passed j l)) h.none_before).0 r.next r.ns r.is
 
-  none_given : (many : ℕ) (r : Refusal) → NoneIs ρ s d many r → first_dated ρ s d ≡ Refused many r
+  none_given : (many : ℕ) (r : Refusal) → NoneIs ρ s d many r → first_dated ρ s d ≡ unfound many r
   none_given many r h =
       let w = ((walks ρ s).stops many r).1 h.stops in
       let b = passed_by many w.each h.none in
@@ -75,8 +73,8 @@ module _ (ρ : Rules) (s : List ℕ) (d : Date) where
   NoneBefore k = (j : ℕ) → j < k → IsFrom ρ s d j → ⊥
 
   abbrev DatedDue : First → Type 0
-  DatedDue (Found p k) = IsFirst ρ s d p k
-  DatedDue (Refused k r) = NoneIs ρ s d k r
+  DatedDue (Ok f) = IsFirst ρ s d f.place f.passed
+  DatedDue (Err u) = NoneIs ρ s d u.passed u.why
 
   none_more : (k : ℕ) → NoneBefore k → (IsFrom ρ s d k → ⊥) → NoneBefore (suc k)
   none_more k none n j l h = ⊎_elim (λ (m : k ≤ j). let e : j ≡ k = omega arith in n (rw e at h)) (λ (m : j < k). none j m h) (le_or_lt k j)
@@ -109,29 +107,29 @@ module _ (ρ : Rules) (s : List ℕ) (from : Date) where
   -- a date that is right is the one that is asked for
   right_by : IsAsked from → first_from ρ s from ≡ first_dated ρ s from
   unfolding first_from
-  right_by a = ap (first_by ρ s) ((asked_first_due from (Right from)).1 (refl, a))
+  right_by a = ap (first_by ρ s) ((asked_first_due from (Ok from)).1 (refl, a))
 
-  refused_given : (k : ℕ) (r : Refusal) → RefusedFor ρ s from k r → first_from ρ s from ≡ Refused k r
+  refused_given : (k : ℕ) (r : Refusal) → RefusedFor ρ s from k r → first_from ρ s from ≡ unfound k r
   unfolding first_from
-  refused_given k r (bad_date p a) = ap (first_by ρ s) ((asked_first_due from (Wrong p)).1 a)
+  refused_given k r (bad_date p a) = ap (first_by ρ s) ((asked_first_due from (Err p)).1 a)
   refused_given k r (not_found many q a h) = right_by a ∙ none_given ρ s from many q h
 
   due_given : (x : First) → Due ρ s from x → first_from ρ s from ≡ x
-  due_given (Found p k) h = right_by h.0 ∙ first_given ρ s from p k h.1
-  due_given (Refused k r) h = refused_given k r h
+  due_given (Ok f) h = right_by h.0 ∙ first_given ρ s from f.place f.passed h.1
+  due_given (Err u) h = refused_given u.passed u.why h
 
   given_due : Due ρ s from (first_from ρ s from)
   unfolding first_from
   given_due = by (dated_by from) refl
     where
       dated : IsAsked from → (x : First) → DatedDue ρ s from x → Due ρ s from x
-      dated a (Found p k) h = (a, h)
-      dated a (Refused k r) h = not_found k r a h
+      dated a (Ok f) h = (a, h)
+      dated a (Err u) h = not_found u.passed u.why a h
 
-      by : (x : Dated) → dated_by from ≡ x → Due ρ s from (first_by ρ s x)
-      by (Wrong p) e = bad_date p ((asked_first_due from (Wrong p)).0 e)
-      by (Right d) e =
-          let a = (asked_first_due from (Right d)).0 e in
+      by : (x : Result Date ℕ) → dated_by from ≡ x → Due ρ s from (first_by ρ s x)
+      by (Err p) e = bad_date p ((asked_first_due from (Err p)).0 e)
+      by (Ok d) e =
+          let a = (asked_first_due from (Ok d)).0 e in
           rw a.0 (dated a.1 (first_dated ρ s from) (dated_due ρ s from))
 
   pub first_due : (x : First) → first_from ρ s from ≡ x ↔ Due ρ s from x

@@ -1,6 +1,7 @@
 -- R336 (specs/Kept.antt): the answer is the same in a text that is cut behind the record that was found, that grows, whose lines end otherwise, or
 -- that was damaged outside of group 3.
 -- Assumes nothing.
+use Rattle.std.specs.Prelude.{Ok, Err}
 use mathlib.Core.Path.{◌≡◌, refl, sym, ◌∙◌, ap, subst}
 use mathlib.Core.List.{List, ◌++◌}
 use mathlib.Core.Logic.{◌⊎◌, inl, inr, ⊎_elim}
@@ -37,8 +38,7 @@ use Rattle.group.specs.Text.{read_at}
 use Rattle.group.proofs.Alike.{alike_read}
 use Rattle.group.proofs.Damage.{others_read, damage_stays}
 use Rattle.group.proofs.Growth.{answers_stay}
-use Rattle.since.specs.declared.First.{First}
-use Rattle.since.specs.declared.First.TheVariants.{Found, Refused}
+use Rattle.since.specs.Numbered.{First, found, unfound}
 use Rattle.since.specs.Due.{IsFirst, NoneIs, RefusedFor, bad_date, not_found}
 use Rattle.since.specs.Kept.{StopsThere, GrowthKeepsFirst, SameFirst, both_found, both_refused, DamageKeepsFirst}
 use Rattle.since.specs.Since.{date_at, stop_of, first_from}
@@ -116,8 +116,8 @@ module _ (ρ : Rules) (s b : List ℕ) where
 
   pub growth_kept : (from : Date) → GrowthKeepsFirst ρ s b from
   growth_kept from = record {
-    found = λ p k e. let d = (first_due ρ s from (Found p k)).0 e in (first_due ρ (s ++ b) from (Found p k)).1 (d.0, first_grown from p k d.1);
-    refused = λ k r e one three. (first_due ρ (s ++ b) from (Refused k r)).1 (refused_grown from k r ((first_due ρ s from (Refused k r)).0 e) one three);
+    found = λ p k e. let d = (first_due ρ s from (found p k)).0 e in (first_due ρ (s ++ b) from (found p k)).1 (d.0, first_grown from p k d.1);
+    refused = λ k r e one three. (first_due ρ (s ++ b) from (unfound k r)).1 (refused_grown from k r ((first_due ρ s from (unfound k r)).0 e) one three);
   }
 
 -- ---- bytes that are cut off behind the record
@@ -156,9 +156,9 @@ module _ (ρ : Rules) (a b : List ℕ) where
 
 -- ---- so what stands behind the record has no part in it
 
-module _ (ρ : Rules) (s : List ℕ) (from : Date) (p k : ℕ) (e : first_from ρ s from ≡ Found p k) where
+module _ (ρ : Rules) (s : List ℕ) (from : Date) (p k : ℕ) (e : first_from ρ s from ≡ found p k) where
   asked_first : IsAsked from × IsFirst ρ s from p k
-  asked_first = (first_due ρ s from (Found p k)).0 e
+  asked_first = (first_due ρ s from (found p k)).0 e
 
   n : ℕ
   n = asked_first.1.is.has.reads.next
@@ -185,7 +185,7 @@ module _ (ρ : Rules) (s : List ℕ) (from : Date) (p k : ℕ) (e : first_from �
     same = λ t u.
         let there = first_grown ρ (take n s) (drop n t) from p k in_front in
         let whole : take n s ++ drop n t ≡ t = ap (λ x. x ++ drop n t) (sym u) ∙ take-append-drop n t in
-        (first_due ρ t from (Found p k)).1 (asked_first.0, subst (λ x. IsFirst ρ x from p k) whole there);
+        (first_due ρ t from (found p k)).1 (asked_first.0, subst (λ x. IsFirst ρ x from p k) whole there);
   }
 
 -- ---- R9: lines that end otherwise
@@ -206,9 +206,10 @@ module _ (ρ : Rules) (s t : List ℕ) (h : Alike ρ s t) where
   alike_first from = by (first_from ρ s from) refl
     where
       by : (x : First) → first_from ρ s from ≡ x → SameFirst ρ s t x (first_from ρ t from)
-      by (Found p k) e =
-          rw (same_first ρ s t alike_records from (Found p k) e, found_stands ρ s from p k e) (both_found (spot ρ s k) (spot ρ t k) k (alike_spot ρ s t h k))
-      by (Refused k r) e = rw (same_first ρ s t alike_records from (Refused k r) e) (both_refused k r)
+      by (Ok f) e =
+          let k = f.passed in
+          rw (same_first ρ s t alike_records from (found f.place k) e, found_stands ρ s from f.place k e) (both_found (spot ρ s k) (spot ρ t k) k (alike_spot ρ s t h k))
+      by (Err u) e = rw (same_first ρ s t alike_records from (unfound u.passed u.why) e) (both_refused u.passed u.why)
 
 -- ---- D3: damage
 
@@ -228,5 +229,5 @@ damage_kept ρ t u among damaged out from = by (first_from ρ t from) refl
     }
 
     by : (x : First) → first_from ρ t from ≡ x → first_from ρ u from ≡ x
-    by (Found p k) e = same_first ρ t u records from (Found p k) e ∙ ap (λ q. Found q k) (stays.places k ∙ sym (found_stands ρ t from p k e))
-    by (Refused k r) e = same_first ρ t u records from (Refused k r) e
+    by (Ok f) e = same_first ρ t u records from (found f.place f.passed) e ∙ ap (λ q. found q f.passed) (stays.places f.passed ∙ sym (found_stands ρ t from f.place f.passed e))
+    by (Err x) e = same_first ρ t u records from (unfound x.passed x.why) e

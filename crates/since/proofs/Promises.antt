@@ -1,5 +1,6 @@
 -- Each answer fills a row of the question's table, with the place that was found and the records that were passed as the row says.
 -- Assumes nothing.
+use Rattle.std.specs.Prelude.{Ok, Err}
 use mathlib.Core.Path.{refl}
 use mathlib.Core.List.{List, []}
 use mathlib.Core.Logic.{inl, inr}
@@ -20,10 +21,8 @@ use Rattle.reply.specs.declared.Refusal.TheVariants.{End, TooFewLines, Misformed
 use Rattle.reply.specs.Table.{Numbered}
 use Rattle.reply.specs.Refusals.{refusal_reply, rows}
 use Rattle.reply.proofs.Replies.{fills, refusal_fills, at_row}
-use Rattle.since.specs.declared.First.{First}
-use Rattle.since.specs.declared.First.TheVariants.{Found, Refused}
+use Rattle.since.specs.Numbered.{First, first_reply, place_told, passed_told, stop_refusals, NumberedApart}
 use Rattle.since.specs.Due.{RefusedFor, bad_date, not_found, Due}
-use Rattle.since.specs.Numbered.{first_reply, place_told, passed_told, stop_refusals, NumberedApart}
 use Rattle.since.specs.Since.{first_from}
 use Rattle.since.proofs.Due.{first_due}
 
@@ -48,5 +47,5 @@ module _ (ρ : Rules) (s : List ℕ) where
     first_numbered = by (first_from ρ s from) ((first_due ρ s from (first_from ρ s from)).0 refl)
       where
         by : (x : First) → Due ρ s from x → NumberedApart (place_told x) (passed_told x) (first_reply x)
-        by (Found p k) h = inl (inl (fills 0 [] tt))
-        by (Refused k r) h = refused_numbered k r h
+        by (Ok f) h = inl (inl (fills 0 [] tt))
+        by (Err u) h = refused_numbered u.passed u.why h

@@ -1,6 +1,7 @@
 -- What an answer rests on: that records stand where the walk comes to, their dates, and the refusal at which it stops. Texts that have this in
 -- common, as far as the answer goes, are answered alike.
 -- Assumes nothing.
+use Rattle.std.specs.Prelude.{Ok, Err}
 use mathlib.Core.Path.{◌≡◌, refl, sym, ◌∙◌, ap}
 use mathlib.Core.List.{List}
 use Prim.Native.Nat.{ℕ, ◌<◌, ◌≤◌}
@@ -10,8 +11,7 @@ use Rattle.date.specs.declared.Date.{Date}
 use Rattle.place.specs.Walk.{PlacedAt, spot, Stops, StopsAt}
 use Rattle.place.proofs.Stopped.{walks}
 use Rattle.reply.specs.declared.Refusal.{Refusal}
-use Rattle.since.specs.declared.First.{First}
-use Rattle.since.specs.declared.First.TheVariants.{Found, Refused}
+use Rattle.since.specs.Numbered.{First, found, unfound}
 use Rattle.since.specs.Due.{IsFrom, IsFirst, NoneIs, RefusedFor, bad_date, not_found, Due}
 use Rattle.since.specs.Since.{meets, date_at, first_from}
 use Rattle.since.proofs.Dates.{meets_exactly}
@@ -51,8 +51,8 @@ module _ (ρ : Rules) (s t : List ℕ) where
     pub dates : (k : ℕ) → SameDate ρ s t k
 
   abbrev moved : First → First
-  moved (Found p k) = Found (spot ρ t k) k
-  moved (Refused k r) = Refused k r
+  moved (Ok f) = found (spot ρ t f.passed) f.passed
+  moved (Err u) = unfound u.passed u.why
 
   module _ (h : SameRecords) (from : Date) where
     refused_moved : (k : ℕ) (r : Refusal) → RefusedFor ρ s from k r → RefusedFor ρ t from k r
@@ -62,12 +62,12 @@ module _ (ρ : Rules) (s t : List ℕ) where
         not_found many q a (none_there ρ s t from many q n stops (λ j l. h.dates j))
 
     due_moved : (x : First) → Due ρ s from x → Due ρ t from (moved x)
-    due_moved (Found p k) d = (d.0, first_there ρ s t from p k d.1 (λ j l. h.placed j (d.1.passed j l)) (λ j l. h.dates j))
-    due_moved (Refused k r) d = refused_moved k r d
+    due_moved (Ok f) d = (d.0, first_there ρ s t from f.place f.passed d.1 (λ j l. h.placed j (d.1.passed j l)) (λ j l. h.dates j))
+    due_moved (Err u) d = refused_moved u.passed u.why d
 
     pub same_first : (x : First) → first_from ρ s from ≡ x → first_from ρ t from ≡ moved x
     same_first x e = (first_due ρ t from (moved x)).1 (due_moved x ((first_due ρ s from x).0 e))
 
 -- where it stands
-pub found_stands : (ρ : Rules) (s : List ℕ) (from : Date) (p k : ℕ) → first_from ρ s from ≡ Found p k → p ≡ spot ρ s k
-found_stands ρ s from p k e = ((first_due ρ s from (Found p k)).0 e).1.stands
+pub found_stands : (ρ : Rules) (s : List ℕ) (from : Date) (p k : ℕ) → first_from ρ s from ≡ found p k → p ≡ spot ρ s k
+found_stands ρ s from p k e = ((first_due ρ s from (found p k)).0 e).1.stands

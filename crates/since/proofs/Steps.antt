@@ -1,5 +1,6 @@
 -- A step of the walk, by what placing answered at the place.
 -- Assumes nothing.
+use Rattle.std.specs.Prelude.{Option, Some, None}
 use mathlib.Core.Path.{◌≡◌, refl, sym, ◌∙◌, ap}
 use mathlib.Core.Bool.{Bool, true, false}
 use mathlib.Core.List.{List}
@@ -7,13 +8,10 @@ use Prim.Native.Nat.{ℕ}
 use native.Mathlib.Omega.{arith}
 use Rattle.rules.specs.declared.Rules.{Rules}
 use Rattle.count.specs.Rules.{ruling_of}
-use Rattle.count.specs.declared.Ruling.{Ruling}
-use Rattle.count.specs.declared.Ruling.TheVariants.{Kept, Broken}
 use Rattle.date.specs.declared.Date.{Date}
 use Rattle.place.specs.declared.Placing.TheVariants.{Placed, BrokenRule, Refused}
 use Rattle.place.specs.Placing
 use Rattle.place.specs.Placing.{Carried, Located, located, refused, locate, ruled_at, placing_by, placing_of, carried_at}
-use Rattle.reading.specs.declared.RecordDate.{RecordDate}
 use Rattle.reply.specs.declared.Refusal.{Refusal}
 use Rattle.since.specs.declared.Step.TheVariants.{Found, Passed, Stopped}
 use Rattle.since.specs.Since.{meets, date_at}
@@ -21,22 +19,22 @@ use Rattle.since.specs.Steps.{date_by, step_by, step_at}
 use Rattle.since.proofs.Dates.{date_by_lem, date_broken}
 
 -- the next place of a record that is located, by its answer
-ruled_placed : (m n : ℕ) (k : Ruling) → ruled_at m k ≡ Placed n → m ≡ n
-ruled_placed m n Kept e = cc
-ruled_placed m n (Broken g) e = let z : ◌≡◌ {A = ℕ} 0 1 = cc in absurd (omega arith)
+ruled_placed : (m n : ℕ) (k : Option ℕ) → ruled_at m k ≡ Placed n → m ≡ n
+ruled_placed m n None e = cc
+ruled_placed m n (Some g) e = let z : ◌≡◌ {A = ℕ} 0 1 = cc in absurd (omega arith)
 
-ruled_broken : (m g n : ℕ) (k : Ruling) → ruled_at m k ≡ BrokenRule g n → m ≡ n
-ruled_broken m g n Kept e = let z : ◌≡◌ {A = ℕ} 0 1 = cc in absurd (omega arith)
-ruled_broken m g n (Broken h) e = cc
+ruled_broken : (m g n : ℕ) (k : Option ℕ) → ruled_at m k ≡ BrokenRule g n → m ≡ n
+ruled_broken m g n None e = let z : ◌≡◌ {A = ℕ} 0 1 = cc in absurd (omega arith)
+ruled_broken m g n (Some h) e = cc
 
-not_refused : {A : Type 0} (m : ℕ) (r : Refusal) (k : Ruling) → ruled_at m k ≡ Refused r → A
-not_refused m r Kept e = let z : ◌≡◌ {A = ℕ} 0 1 = cc in absurd (omega arith)
-not_refused m r (Broken g) e = let z : ◌≡◌ {A = ℕ} 0 1 = cc in absurd (omega arith)
+not_refused : {A : Type 0} (m : ℕ) (r : Refusal) (k : Option ℕ) → ruled_at m k ≡ Refused r → A
+not_refused m r None e = let z : ◌≡◌ {A = ℕ} 0 1 = cc in absurd (omega arith)
+not_refused m r (Some g) e = let z : ◌≡◌ {A = ℕ} 0 1 = cc in absurd (omega arith)
 
 module _ (ρ : Rules) (s : List ℕ) (at : ℕ) (d : Date) where
-  pub step_stopped : {r : Refusal} → placing_of ρ s at ≡ Refused r → step_at ρ s at d ≡ Stopped r
+  pub step_stopped : (r : Refusal) → placing_of ρ s at ≡ Refused r → step_at ρ s at d ≡ Stopped r
   unfolding step_at Placing.placing_of
-  step_stopped {r} e = by (locate ρ s at) (meets d (date_at ρ s at)) e
+  step_stopped r e = by (locate ρ s at) (meets d (date_at ρ s at)) e
     where
       by : (l : Located) (t : Bool) → placing_by l ≡ Refused r → step_by l t ≡ Stopped r
       by (located n ns) t e = not_refused n r (ruling_of ns) e
@@ -51,7 +49,7 @@ module _ (ρ : Rules) (s : List ℕ) (at : ℕ) (d : Date) where
       by (refused q) e = let z : ◌≡◌ {A = ℕ} 0 1 = cc in absurd (omega arith)
 
   -- a record that is placed with 0, whose date was found to be x
-  module _ {n : ℕ} (placed : placing_of ρ s at ≡ Placed n) {r : Carried} (its : r ≡ carried_at ρ s at) {x : RecordDate} (told : x ≡ date_by ρ s r) {t : Bool} (met : t ≡ meets d x) where
+  module _ {n : ℕ} (placed : placing_of ρ s at ≡ Placed n) {r : Carried} (its : r ≡ carried_at ρ s at) {x : Option Date} (told : x ≡ date_by ρ s r) {t : Bool} (met : t ≡ meets d x) where
     found : meets d (date_at ρ s at) ≡ t
     found = sym (met ∙ ap (meets d) (told ∙ ap (date_by ρ s) its ∙ date_by_lem ρ s at placed))
 
@@ -70,3 +68,6 @@ module _ (ρ : Rules) (s : List ℕ) (at : ℕ) (d : Date) where
         by : (l : Located) → placing_by l ≡ Placed n → step_by l false ≡ Passed n
         by (located m ns) e = ap Passed (ruled_placed m n (ruling_of ns) e)
         by (refused q) e = let z : ◌≡◌ {A = ℕ} 0 1 = cc in absurd (omega arith)
+
+-- what `step_at` cites
+pub ruleset steps = (step_stopped, step_broken, step_found, step_passed)

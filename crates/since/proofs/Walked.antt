@@ -1,5 +1,6 @@
 -- The walk, record by record: what is left to be looked at from the k-th spot on answers as all of it does, as long as no record met the date.
 -- Assumes nothing.
+use Rattle.std.specs.Prelude.{Ok}
 use mathlib.Core.Path.{◌≡◌, refl, sym, ◌∙◌, ap}
 use mathlib.Core.Bool.{Bool, true, false, cond}
 use mathlib.Core.List.{List, map}
@@ -10,22 +11,20 @@ use Rattle.rules.specs.declared.Rules.{Rules}
 use Rattle.base.specs.Every
 use Rattle.base.specs.Every.{up_from}
 use Rattle.date.specs.declared.Date.{Date}
-use Rattle.date.specs.declared.Dated.TheVariants.{Right}
 use Rattle.date.specs.Asked.{dated_by}
 use Rattle.place.specs.Placing.{Located, located, refused, locate}
 use Rattle.place.specs.Walk.{spot, Stops, records_in}
 use Rattle.place.proofs.Counted.{records_stop}
 use Rattle.place.proofs.Walked.{spot_start, spot_more, stops_later, stops_here}
 use Rattle.reply.specs.declared.Refusal.{Refusal}
-use Rattle.since.specs.declared.First.{First}
-use Rattle.since.specs.declared.First.TheVariants.{Found, Refused}
+use Rattle.since.specs.Numbered.{First, found, unfound}
 use Rattle.since.specs.declared.Step.{Step}
 use Rattle.since.specs.declared.Step.TheVariants as S
 use Rattle.since.specs.Since.{meets, first_in, why_stopped, date_at, entry_at, whole_walk, stop_of, first_dated, first_by, first_from}
 use Rattle.since.specs.Steps.{step_by, step_at}
 
 -- R330: of a right date the answer is that of the whole walk
-pub full_walk : (ρ : Rules) (s : List ℕ) (from : Date) → dated_by from ≡ Right from → first_from ρ s from ≡ first_in from (whole_walk ρ s) 0 (Refused (records_in ρ s) (stop_of ρ s))
+pub full_walk : (ρ : Rules) (s : List ℕ) (from : Date) → dated_by from ≡ Ok from → first_from ρ s from ≡ first_in from (whole_walk ρ s) 0 (unfound (records_in ρ s) (stop_of ρ s))
 unfolding first_from first_dated
 full_walk ρ s from e = ap (first_by ρ s) e
 
@@ -42,7 +41,7 @@ module _ (ρ : Rules) (s : List ℕ) where
   module _ (d : Date) where
     -- what is left from the k-th spot on
     unfoldable pub rest_from : ℕ → First
-    rest_from k = first_in d (map (entry_at ρ s) (up_from k (many - k))) k (Refused many (stop_of ρ s))
+    rest_from k = first_in d (map (entry_at ρ s) (up_from k (many - k))) k (unfound many (stop_of ρ s))
 
     pub rest_all : rest_from 0 ≡ first_dated ρ s d
     unfolding rest_from first_dated
@@ -54,24 +53,24 @@ module _ (ρ : Rules) (s : List ℕ) where
         pub rest_few : k < many
         rest_few = stops_later ρ s many (stop_of ρ s) stop_is k few n ns here
 
-        rest_more : rest_from k ≡ cond (meets d (date_at ρ s (spot ρ s k))) (Found (spot ρ s k) k) (rest_from (suc k))
+        rest_more : rest_from k ≡ cond (meets d (date_at ρ s (spot ρ s k))) (found (spot ρ s k) k) (rest_from (suc k))
         unfolding rest_from first_in Every.up_from
         rest_more = let e : many - k ≡ suc (many - suc k) = omega (arith, rest_few) in rw e
 
-        pub rest_found : meets d (date_at ρ s (spot ρ s k)) ≡ true → rest_from k ≡ Found (spot ρ s k) k
+        pub rest_found : meets d (date_at ρ s (spot ρ s k)) ≡ true → rest_from k ≡ found (spot ρ s k) k
         rest_found m = rest_more ∙ rw m
 
         pub rest_passed : meets d (date_at ρ s (spot ρ s k)) ≡ false → rest_from k ≡ rest_from (suc k)
         rest_passed m = rest_more ∙ rw m
 
       -- none does
-      pub rest_stopped : (r : Refusal) → locate ρ s (spot ρ s k) ≡ refused r → rest_from k ≡ Refused k r
+      pub rest_stopped : (r : Refusal) → locate ρ s (spot ρ s k) ≡ refused r → rest_from k ≡ unfound k r
       unfolding rest_from first_in Every.up_from
       rest_stopped r here =
           let q : k ≡ many = stops_here ρ s many (stop_of ρ s) stop_is k few r here in
           let e : many - k ≡ 0 = omega arith in
           let why : stop_of ρ s ≡ r = ap (λ j. why_stopped (locate ρ s (spot ρ s j))) (sym q) ∙ ap why_stopped here in
-          rw e (ap (Refused many) why ∙ ap (λ j. Refused j r) (sym q))
+          rw e (ap (unfound many) why ∙ ap (λ j. unfound j r) (sym q))
 
 -- ---- as the loop goes
 
@@ -89,18 +88,18 @@ module _ {ρ : Rules} {s : List ℕ} {d : Date} {at k : ℕ} (w : Walking ρ s d
   unfolding step_at
   there e = ap (λ p. step_at ρ s p d) (sym w.here) ∙ e
 
-  pub walking_found : step_at ρ s at d ≡ S.Found → Found at k ≡ first_dated ρ s d
+  pub walking_found : step_at ρ s at d ≡ S.Found → found at k ≡ first_dated ρ s d
   walking_found e = by (locate ρ s (spot ρ s k)) (meets d (date_at ρ s (spot ρ s k))) refl refl (there e)
     where
-      by : (l : Located) (t : Bool) → locate ρ s (spot ρ s k) ≡ l → meets d (date_at ρ s (spot ρ s k)) ≡ t → step_by l t ≡ S.Found → Found at k ≡ first_dated ρ s d
-      by (located n ns) true h m q = ap (λ p. Found p k) w.here ∙ sym (rest_found ρ s d k w.few n ns h m) ∙ w.left
+      by : (l : Located) (t : Bool) → locate ρ s (spot ρ s k) ≡ l → meets d (date_at ρ s (spot ρ s k)) ≡ t → step_by l t ≡ S.Found → found at k ≡ first_dated ρ s d
+      by (located n ns) true h m q = ap (λ p. found p k) w.here ∙ sym (rest_found ρ s d k w.few n ns h m) ∙ w.left
       by (located n ns) false h m q = let z : ◌≡◌ {A = ℕ} 0 1 = cc in absurd (omega arith)
       by (refused r) t h m q = let z : ◌≡◌ {A = ℕ} 0 1 = cc in absurd (omega arith)
 
-  pub walking_stopped : {r : Refusal} → step_at ρ s at d ≡ S.Stopped r → Refused k r ≡ first_dated ρ s d
+  pub walking_stopped : {r : Refusal} → step_at ρ s at d ≡ S.Stopped r → unfound k r ≡ first_dated ρ s d
   walking_stopped {r} e = by (locate ρ s (spot ρ s k)) (meets d (date_at ρ s (spot ρ s k))) refl (there e)
     where
-      by : (l : Located) (t : Bool) → locate ρ s (spot ρ s k) ≡ l → step_by l t ≡ S.Stopped r → Refused k r ≡ first_dated ρ s d
+      by : (l : Located) (t : Bool) → locate ρ s (spot ρ s k) ≡ l → step_by l t ≡ S.Stopped r → unfound k r ≡ first_dated ρ s d
       by (located n ns) true h q = let z : ◌≡◌ {A = ℕ} 0 1 = cc in absurd (omega arith)
       by (located n ns) false h q = let z : ◌≡◌ {A = ℕ} 0 1 = cc in absurd (omega arith)
       by (refused p) t h q = let i : p ≡ r = cc in sym (rest_stopped ρ s d k w.few r (h ∙ ap refused i)) ∙ w.left

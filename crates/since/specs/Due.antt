@@ -1,11 +1,10 @@
 -- R233, R334: when each answer is due: 10; the record that is found; the reply at which the walk stops.
-use Rattle.std.specs.Prelude.{◌≡◌, List, map, ℕ, ◌<◌, ℤ}
+use Rattle.std.specs.Prelude.{◌≡◌, List, map, ℕ, ◌<◌, ℤ, Ok, Err}
 use Rattle.rules.specs.declared.Rules.{Rules}
 use Rattle.base.specs.Pieces.{done}
 use Rattle.base.specs.Sign.{size_of}
 use Rattle.count.specs.Tally.{cells_in}
 use Rattle.date.specs.declared.Date.{Date}
-use Rattle.date.specs.declared.Dated.TheVariants.{Wrong}
 use Rattle.date.specs.Due.{IsDate, IsAsked, AskedDue}
 use Rattle.date.specs.Order.{AtOrAfter}
 use Rattle.place.specs.Placing.{counts_at}
@@ -13,8 +12,7 @@ use Rattle.place.specs.Walk.{PlacedAt, spot, StopsAt}
 use Rattle.reply.specs.declared.Refusal.{Refusal}
 use Rattle.reply.specs.declared.Refusal.TheVariants.{BadDate}
 use Rattle.group.specs.Due as Group
-use Rattle.since.specs.declared.First.{First}
-use Rattle.since.specs.declared.First.TheVariants.{Found, Refused}
+use Rattle.since.specs.Numbered.{First}
 
 module _ (ρ : Rules) (s : List ℕ) where
   -- R333: the record at a place has this date: its group 3 is read with 0, and the letters are this date
@@ -44,9 +42,9 @@ module _ (ρ : Rules) (s : List ℕ) where
 
     -- with how many records passed it refuses, and with what
     pub data RefusedFor : ℕ → Refusal → Type 0 where
-      bad_date : (p : ℕ) → AskedDue from (Wrong p) → RefusedFor 0 (BadDate p)
+      bad_date : (p : ℕ) → AskedDue from (Err p) → RefusedFor 0 (BadDate p)
       not_found : (many : ℕ) (r : Refusal) → IsAsked from → NoneIs many r → RefusedFor many r
 
     abbrev pub Due : First → Type 0
-    Due (Found place k) = IsAsked from × IsFirst place k
-    Due (Refused k r) = RefusedFor k r
+    Due (Ok f) = IsAsked from × IsFirst f.place f.passed
+    Due (Err u) = RefusedFor u.passed u.why

@@ -1,24 +1,36 @@
 -- R334: each answer's number, with the numbers beside it; R335: the place that was found and the records that were passed, apart from them.
-use Rattle.std.specs.Prelude.{◌≡◌, List, [], ◌∷◌, ◌⊎◌, ℕ}
+use Rattle.std.specs.Prelude.{◌≡◌, List, [], ◌∷◌, ◌⊎◌, ℕ, Result, Ok, Err}
 use Rattle.reply.specs.declared.Reply.{Reply}
 use Rattle.reply.specs.declared.Refusal.{Refusal}
 use Rattle.reply.specs.declared.Refusal.TheVariants.{End, TooFewLines, Misformed, OtherRelease, FilledVacant, BadDate}
 use Rattle.reply.specs.Table.{Numbered, told, row}
 use Rattle.reply.specs.Refusals.{refusal_reply, rows}
-use Rattle.since.specs.declared.First.{First}
-use Rattle.since.specs.declared.First.TheVariants.{Found, Refused}
+use Rattle.since.specs.declared.Found.{Found}
+use Rattle.since.specs.declared.Unfound.{Unfound}
+
+-- an answer: the record that was found, or what is refused with
+abbrev pub First : Type 0
+First = Result Found Unfound
+
+-- a record at a place, behind so many that were passed
+abbrev pub found : (place passed : ℕ) → First
+found p k = Ok (record { place = p; passed = k })
+
+-- so many were passed, and then this was refused with
+abbrev pub unfound : (passed : ℕ) → Refusal → First
+unfound k r = Err (record { passed = k; why = r })
 
 abbrev pub first_reply : First → Reply
-first_reply (Found p k) = told 0 []
-first_reply (Refused k r) = refusal_reply r
+first_reply (Ok f) = told 0 []
+first_reply (Err u) = refusal_reply u.why
 
 abbrev pub place_told : First → ℕ
-place_told (Found p k) = p
-place_told (Refused k r) = 0
+place_told (Ok f) = f.place
+place_told (Err u) = 0
 
 abbrev pub passed_told : First → ℕ
-passed_told (Found p k) = k
-passed_told (Refused k r) = k
+passed_told (Ok f) = f.passed
+passed_told (Err u) = u.passed
 
 -- R254: what a walk stops with. It never goes beyond the text's end, so not 2
 abbrev pub stop_refusals : List Refusal

@@ -4,24 +4,28 @@
 #![tactic(auto)]
 
 ghost use Rattle.std.specs.Prelude.{◌≡◌};
-ghost use Rattle.place.specs.Parted.{Parted};
 ghost use Rattle.place.specs.Placing.{carried};
 ghost use Rattle.since.specs.Numbered.{first_reply, place_told, passed_told};
 ghost use Rattle.since.specs.Since.{meets, first_from, first_dated};
 ghost use Rattle.since.specs.Steps.{date_by, step_at};
 
-use date::{Date, Dated};
-use place::Placing;
-use reading::RecordDate;
-use reply::Refusal;
+use date::Date;
+use form::Group;
+use place::{PlacedRecord, Placing};
+use reply::{Refusal, Reply};
 
-// R334: what asking for the first record from a date on answers.
+// R200, R334: the record that was found: its place, and how many records were passed.
 #[derive(Clone, Copy)]
-pub enum First {
-    // R200: 0, with the record's place, and how many records were passed
-    Found(usize, usize),
-    // how many records were passed, and what is refused with
-    Refused(usize, Refusal),
+pub struct Found {
+    pub place: usize,
+    pub passed: usize,
+}
+
+// R334: how many records were passed, and what is refused with.
+#[derive(Clone, Copy)]
+pub struct Unfound {
+    pub passed: usize,
+    pub why: Refusal,
 }
 
 // What the walk meets at a place.
@@ -36,46 +40,36 @@ enum Step {
 }
 
 // R333: the date of a record, by what it carries.
-fn date_by(
-    rules: rules::Rules,
-    text: &[u8],
-    counts: &[u16],
-    starts: &[usize],
-    ends: &[usize],
-) -> RecordDate
-    requires { Parted text.now (carried counts.now starts.now ends.now) }
-    ensures { result ≡
-        date_by rules text.now (carried counts.now starts.now ends.now) }
+fn date_by(rules: rules::Rules, placed: PlacedRecord<'_>) -> Option<Date>
+    ensures { result ≡ date_by rules placed.entry.text.now (carried placed.entry.counts.now placed.entry.starts.now placed.entry.ends.now) }
 {
-    let from = starts[2];
-    let to = ends[2];
-    reading::date_kept(rules, counts, &text[from..to])
+    reading::date_kept(rules, placed.kept(), placed.lines(Group { number: 3 }))
 }
 
 // R332: whether a record is at or after a date. One without a date is not.
-fn meets(told: RecordDate, from: Date) -> bool
+fn meets(told: Option<Date>, from: Date) -> bool
     ensures { result ≡ meets from told }
 {
-    match told {
-        RecordDate::Told(date) => date.at_or_after(from),
-        RecordDate::NoDate => false,
-    }
+    told.is_some_and(|date| date.at_or_after(from))
 }
 
 // A step of the walk. A record that answers 7 has no date, so it is passed (R333).
+#[tactic(auto, using(std::proofs::lemmas::Grind::common_steps, crate::proofs::Steps::steps))]
 fn step_at(rules: rules::Rules, text: &[u8], at: usize, from: Date) -> Step
     ensures { result ≡ step_at rules text.now at from }
 {
-    let placed = place::place(rules, text, at);
-    let answer = placed.answer;
-    match answer {
+    let record = place::place(rules, text, at);
+    match record.answer {
         Placing::Refused(why) => Step::Stopped(why),
         Placing::BrokenRule(_, next) => Step::Passed(next),
         Placing::Placed(next) => {
-            let counts = placed.counts;
-            let starts = placed.starts;
-            let ends = placed.ends;
-            if meets(date_by(rules, text, &counts, &starts, &ends), from) {
+            let placed = PlacedRecord {
+                text,
+                counts: &record.counts,
+                starts: &record.starts,
+                ends: &record.ends,
+            };
+            if meets(date_by(rules, placed), from) {
                 return Step::Found;
             }
             Step::Passed(next)
@@ -83,67 +77,62 @@ fn step_at(rules: rules::Rules, text: &[u8], at: usize, from: Date) -> Step
     }
 }
 
-// R334, R335: the walk up to the first record that is at or after a right date.
-fn search(rules: rules::Rules, text: &[u8], from: Date) -> First
+// R334, R335: the walk up to the first record that is at or after a right date. A text has fewer records than bytes, so
+// the loop ends by itself.
+#[tactic(auto, using(place::proofs::Counted::records_bytes))]
+fn search(rules: rules::Rules, text: &[u8], from: Date) -> Result<Found, Unfound>
     ensures { result ≡ first_dated rules text.now from }
 {
-    let mut at: usize = 0;
-    let mut passed: usize = 0;
-    loop {
+    let mut at = 0;
+    for passed in 0..usize::MAX {
         match step_at(rules, text, at, from) {
-            Step::Found => {
-                return First::Found(at, passed);
-            }
-            Step::Stopped(why) => {
-                return First::Refused(passed, why);
-            }
-            Step::Passed(next) => {
-                at = next;
-                passed += 1;
-            }
+            Step::Found => return Ok(Found { place: at, passed }),
+            Step::Stopped(why) => return Err(Unfound { passed, why }),
+            Step::Passed(next) => at = next,
         }
     }
+    unreachable!()
 }
 
 // R330, R334: 10 before the text is looked at; then the record, or where there is none, the reply at which the walk
 // stopped.
-pub fn first_from(rules: rules::Rules, text: &[u8], from: Date) -> First
+#[tactic(auto, unfolding(crate::specs::Since::first_from))]
+pub fn first_from(rules: rules::Rules, text: &[u8], from: Date) -> Result<Found, Unfound>
     ensures { result ≡ first_from rules text.now from }
 {
-    match from.check() {
-        Dated::Wrong(position) => First::Refused(0, Refusal::BadDate(position)),
-        Dated::Right(date) => search(rules, text, date),
-    }
+    let date = from.check().map_err(|position| Unfound {
+        passed: 0,
+        why: Refusal::BadDate(position),
+    })?;
+    search(rules, text, date)
 }
 
 // ---- Replies.
 
-// R334: the answer's number, with the numbers beside it; place and records passed are told apart.
-pub fn reply_of(answer: First) -> reply::Reply
+// R334: the answer's number, with the numbers beside it; place and records passed are told apart. Neither `Result` nor
+// `Reply` is of this crate, so no `From` may be written here.
+pub fn reply_of(answer: Result<Found, Unfound>) -> Reply
     ensures { result ≡ first_reply answer }
 {
     match answer {
-        First::Found(_, _) => reply::plain(0),
-        First::Refused(_, why) => reply::of_refusal(why),
+        Ok(_) => reply::plain(0),
+        Err(unfound) => Reply::from(unfound.why),
     }
 }
 
 // R335: the place of the record that was found; 0 where none was.
-pub fn place_of(answer: First) -> usize
+pub fn place_of(answer: Result<Found, Unfound>) -> usize
     ensures { result ≡ place_told answer }
 {
-    match answer {
-        First::Found(place, _) => place,
-        First::Refused(_, _) => 0,
-    }
+    answer.map_or(0, |found| found.place)
 }
 
 // R335: how many records were passed.
-pub fn passed_of(answer: First) -> usize
+pub fn passed_of(answer: Result<Found, Unfound>) -> usize
     ensures { result ≡ passed_told answer }
 {
     match answer {
-        First::Found(_, passed) => passed,
-        First::Refused(passed, _) => passed,
+        Ok(found) => found.passed,
+        Err(unfound) => unfound.passed,
     }
 }

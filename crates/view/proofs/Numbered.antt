@@ -1,5 +1,6 @@
 -- Each answer of the questions with a record fills a row of the question's table.
 -- Assumes nothing.
+use Rattle.std.specs.Prelude.{Result, Ok, Err}
 use mathlib.Core.Path.{refl}
 use mathlib.Core.List.{List, [], ◌∷◌, ◌++◌}
 use mathlib.Core.Logic.{inl, inr}
@@ -23,8 +24,6 @@ use Rattle.reply.specs.Refusals.{refusal_reply, checked_reply, answer_reply, row
 use Rattle.reply.proofs.Replies.{fills, refusal_fills, at_row, rows_left}
 use Rattle.reply.specs.declared.Refusal.{Refusal}
 use Rattle.reply.specs.declared.Refusal.TheVariants.{NoSuchNumber, BrokenRule, BadPart}
-use Rattle.reply.specs.declared.Checked.{Checked}
-use Rattle.reply.specs.declared.Checked.TheVariants as C
 use Rattle.view.specs.Due.{RefusedFor, no_group, bad_counts, bad_part, LinesDue, Due}
 use Rattle.view.specs.Numbered.{with_refusals, lines_rows, group_rows, told_rows}
 use Rattle.view.specs.With.{found_with, read_with, characteristic_with}
@@ -46,9 +45,9 @@ module _ (ρ : Rules) (s : List ℕ) (r : Carried) where
     pub lines_numbered : Numbered lines_rows (checked_reply (found_with ρ s r g))
     lines_numbered = by (found_with ρ s r g) ((found_first_due ρ s r g (found_with ρ s r g)).0 refl)
       where
-        by : (a : Checked) → LinesDue ρ s r g a → Numbered lines_rows (checked_reply a)
-        by C.Right d = inl (fills 0 [] tt)
-        by (C.Refused q) d = inr (missing_numbered q d)
+        by : (a : Result (Unit {0}) Refusal) → LinesDue ρ s r g a → Numbered lines_rows (checked_reply a)
+        by (Ok _) d = inl (fills 0 [] tt)
+        by (Err q) d = inr (missing_numbered q d)
 
     pub group_numbered : (room : ℕ) → Numbered group_rows (answer_reply (reading_of (read_with ρ s r g room)))
     group_numbered room = by (read_with ρ s r g room) ((first_due ρ s r g room (read_with ρ s r g room)).0 refl)

@@ -1,5 +1,6 @@
 -- R288: a record that was placed gives the answers of asking by its place; so it does in a text that was damaged since, or that grew.
 -- Assumes nothing.
+use Rattle.std.specs.Prelude.{Option, Some, None, Result, Ok, Err}
 use mathlib.Core.Path.{◌≡◌, refl, sym, ◌∙◌, ap, subst}
 use mathlib.Core.List.{List, ◌++◌}
 use mathlib.Core.Logic.{◌⊎◌, inl, inr}
@@ -10,8 +11,6 @@ use lib.ListN.{length, replicate}
 use Rattle.rules.specs.declared.Rules.{Rules}
 use Rattle.base.specs.Pieces.{bad}
 use Rattle.form.specs.declared.Form.{Form}
-use Rattle.form.specs.declared.GroupForm.{GroupForm}
-use Rattle.form.specs.declared.GroupForm.TheVariants.{Has, NoGroup as NoForm}
 use Rattle.form.specs.Table.{form_of}
 use Rattle.form.proofs.Table.{group_form, form_range}
 use Rattle.count.specs.Check
@@ -46,13 +45,12 @@ use Rattle.group.proofs.Reported.{number_inside}
 use Rattle.group.proofs.Damage.{damage_stays}
 use Rattle.group.proofs.Growth.{answers_stay}
 use Rattle.reply.specs.declared.Refusal.TheVariants.{OtherRelease}
-use Rattle.reply.specs.declared.Checked.{Checked}
-use Rattle.reply.specs.declared.Checked.TheVariants as C
 use Rattle.view.specs.Due.{PartHolds}
 use Rattle.view.specs.Placed.{AsPlaced, NonePlaced, PlacedAnswers, DamageKept, GrowthKept}
 use Rattle.view.specs.With.{place_of, found_with, start_with, end_with, part_with, read_with, characteristic_with}
 use Rattle.view.proofs.Due.{holds_accepted}
 use Rattle.view.proofs.Found.{found_none, found_counts, with_missing}
+use Rattle.reply.specs.declared.Refusal.{Refusal}
 
 -- ---- a record that is located
 
@@ -69,32 +67,32 @@ module _ (ρ : Rules) (s : List ℕ) (at n : ℕ) (ns : List ℕ) (e : locate ρ
       rw (starts_there g low high, ends_there g low high, counts_at_lem ρ s at n ns e) (group_lines ρ s at n ns e g low high)
 
   -- so the counts decide, as they do in placing
-  placed_has : (g : ℕ) (f : Form) → form_of g ≡ Has f → found_with ρ s (carried_at ρ s at) g ≡ found_at ρ s at g
+  placed_has : (g : ℕ) (f : Form) → form_of g ≡ Some f → found_with ρ s (carried_at ρ s at) g ≡ found_at ρ s at g
   unfolding Held.found_at Placing.placing_of
   placed_has g f u =
       let range = form_range g f u in
       holds_accepted ρ s (carried_at ρ s at) g f u (part_holds g range.0 range.1) ∙ rw (counts_at_lem ρ s at n ns e, u, e) (located_accepted ρ s at n ns e)
 
-  placed_none : (g : ℕ) → form_of g ≡ NoForm → found_with ρ s (carried_at ρ s at) g ≡ found_at ρ s at g
+  placed_none : (g : ℕ) → form_of g ≡ None → found_with ρ s (carried_at ρ s at) g ≡ found_at ρ s at g
   unfolding Held.found_at
   placed_none g u = found_none ρ s (carried_at ρ s at) g u ∙ rw u
 
   placed_found : (g : ℕ) → found_with ρ s (carried_at ρ s at) g ≡ found_at ρ s at g
   placed_found g = by (form_of g) refl
     where
-      by : (h : GroupForm) → form_of g ≡ h → found_with ρ s (carried_at ρ s at) g ≡ found_at ρ s at g
-      by (Has f) u = placed_has g f u
-      by NoForm u = placed_none g u
+      by : (h : Option Form) → form_of g ≡ h → found_with ρ s (carried_at ρ s at) g ≡ found_at ρ s at g
+      by (Some f) u = placed_has g f u
+      by None u = placed_none g u
 
   -- where the lines are given they stand where the record says
   module _ (g : ℕ) where
-    named : (c : Checked) → found_at ρ s at g ≡ c
+    named : (c : Result (Unit {0}) Refusal) → found_at ρ s at g ≡ c
         → (place_if c (place_of (starts_at ρ s at) g) ≡ start_by ρ s at g c) × (place_if c (place_of (ends_at ρ s at) g) ≡ start_by ρ s at (suc g) c)
-    named C.Right u =
+    named (Ok _) u =
         let i = given_is ρ s at g u in
         let range = form_range g i.form i.has in
         rw (counts_at_lem ρ s at n ns e) (starts_there g range.0 range.1, ends_there g range.0 range.1)
-    named (C.Refused q) u = (refl, refl)
+    named (Err q) u = (refl, refl)
 
     placed_begins : start_with ρ s (carried_at ρ s at) g ≡ part_start ρ s at g
     unfolding start_with Held.part_start
@@ -133,7 +131,7 @@ as_placed ρ s at p = let i = (placed_record ρ s at).0 p in as_located ρ s at 
 
 -- ---- where nothing is placed
 
-no_release : accepted_of (replicate 80 0) ≡ C.Refused OtherRelease
+no_release : accepted_of (replicate 80 0) ≡ Err OtherRelease
 unfolding Check.accepted_of Check.well_formed Rules.release_of
 no_release = refl
 
@@ -146,7 +144,7 @@ none_carried ρ s at unplaced = by (locate ρ s at) refl
     by (refused q) u = refl
 
 module _ (ρ : Rules) (s : List ℕ) (at : ℕ) (unplaced : PlacedAt ρ s at → ⊥) (σ : Rules) (u : List ℕ) where
-  none_found : (g : ℕ) → 1 ≤ g → g ≤ 60 → found_with σ u (carried_at ρ s at) g ≡ C.Refused OtherRelease
+  none_found : (g : ℕ) → 1 ≤ g → g ≤ 60 → found_with σ u (carried_at ρ s at) g ≡ Err OtherRelease
   none_found g low high =
       let f = group_form g low high in
       found_counts σ u (carried_at ρ s at) g f.0 f.1 (ap accepted_of (none_carried ρ s at unplaced) ∙ no_release)

@@ -1,6 +1,6 @@
 -- R233: when each reply of a question with a record is due: its own condition holds, and none earlier in the order of the question (R285, R297):
 -- 12; 4, 5, 6 and 7 by the counts; 22; and then what reading's own Due says.
-use Rattle.std.specs.Prelude.{◌≡◌, List, [], ◌⊎◌, ℕ, ◌≤◌}
+use Rattle.std.specs.Prelude.{◌≡◌, List, [], ◌⊎◌, ℕ, ◌≤◌, Result, Ok, Err}
 use Rattle.rules.specs.declared.Rules.{Rules}
 use Rattle.base.specs.Part.{part}
 use Rattle.base.specs.Pieces.{done, bad}
@@ -15,8 +15,6 @@ use Rattle.group.specs.declared.Characteristic.{Characteristic}
 use Rattle.group.specs.Due.{ToldDue}
 use Rattle.reply.specs.declared.Refusal.{Refusal}
 use Rattle.reply.specs.declared.Refusal.TheVariants.{NoSuchNumber, BadPart}
-use Rattle.reply.specs.declared.Checked.{Checked}
-use Rattle.reply.specs.declared.Checked.TheVariants as C
 use Rattle.view.specs.With.{place_of}
 
 module _ (ρ : Rules) (s : List ℕ) (r : Carried) where
@@ -53,9 +51,9 @@ module _ (ρ : Rules) (s : List ℕ) (r : Carried) where
       bad_counts : (q : Refusal) → 1 ≤ g → g ≤ 60 → CountsRefusedFor r.counts_of q → RefusedFor q
       bad_part : LacksPart → RefusedFor BadPart
 
-    abbrev pub LinesDue : Checked → Type 0
-    LinesDue C.Right = Held
-    LinesDue (C.Refused q) = RefusedFor q
+    abbrev pub LinesDue : Result (Unit {0}) Refusal → Type 0
+    LinesDue (Ok _) = Held
+    LinesDue (Err q) = RefusedFor q
 
     -- R280, R283: the part: with 0 these lines; else the empty part at the text's start
     pub record PartGiven (from : ℕ) (x : List ℕ) : Type 0 where

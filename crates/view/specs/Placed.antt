@@ -1,11 +1,10 @@
 -- R286 to R288: what a record's part decides. `BadPartExactly` is of every record; `AsPlaced` of one that was placed in this very text, by the rules that
 -- are asked with; `DamageKept` and `GrowthKept` of one that was placed before the text was damaged (D3) or grew (R258).
-use Rattle.std.specs.Prelude.{◌≡◌, List, ◌++◌, ◌↔◌, ℕ, suc, ◌≤◌, ℤ, length}
+use Rattle.std.specs.Prelude.{◌≡◌, List, ◌++◌, ◌↔◌, ℕ, suc, ◌≤◌, ℤ, length, Some, Err}
 use Rattle.rules.specs.declared.Rules.{Rules}
 use Rattle.base.specs.Part.{part}
 use Rattle.base.specs.Pieces.{bad}
 use Rattle.form.specs.declared.Form.{Form}
-use Rattle.form.specs.declared.GroupForm.TheVariants.{Has}
 use Rattle.form.specs.Table.{form_of}
 use Rattle.count.specs.Tally.{count_of}
 use Rattle.place.specs.Placing.{Carried, carried_at, counts_at}
@@ -18,20 +17,19 @@ use Rattle.group.specs.Damage.{Outside}
 use Rattle.group.specs.Held.{lines_start, found_at, part_start, part_end, part_at}
 use Rattle.group.specs.Text.{read_at}
 use Rattle.reply.specs.declared.Refusal.TheVariants.{OtherRelease, BadPart}
-use Rattle.reply.specs.declared.Checked.TheVariants as C
 use Rattle.view.specs.Due.{named_part, Held, LacksPart}
 use Rattle.view.specs.With.{found_with, start_with, end_with, part_with, read_with, characteristic_with}
 
 module _ (ρ : Rules) (s : List ℕ) (r : Carried) where
   -- R286: 22 exactly if neither 12 nor 4, 5, 6 or 7 is due and the part does not hold, whatever is asked
   pub record BadPartExactly : Type 0 where
-    pub found : (g : ℕ) → found_with ρ s r g ≡ C.Refused BadPart ↔ LacksPart ρ s r g
+    pub found : (g : ℕ) → found_with ρ s r g ≡ Err BadPart ↔ LacksPart ρ s r g
     pub reading : (g room : ℕ) → read_with ρ s r g room ≡ bad BadPart ↔ LacksPart ρ s r g
     pub characteristic : (k : ℕ) → characteristic_with ρ s r k ≡ Refused BadPart ↔ (((1 ≤ k) × (k ≤ 49)) × LacksPart ρ s r 4)
 
   -- R287: where the part holds, its lines and the group's count decide: `read_form` knows of no text
   abbrev pub LinesDecide : Type 0
-  LinesDecide = (g : ℕ) (f : Form) → form_of g ≡ Has f → Held ρ s r g → (room : ℕ) → read_with ρ s r g room ≡ read_form ρ f g (count_of r.counts_of g) (named_part ρ s r g) room
+  LinesDecide = (g : ℕ) (f : Form) → form_of g ≡ Some f → Held ρ s r g → (room : ℕ) → read_with ρ s r g room ≡ read_form ρ f g (count_of r.counts_of g) (named_part ρ s r g) room
 
 module _ (ρ : Rules) (s : List ℕ) (at : ℕ) where
   -- R288: a record that was placed there, with 0 or 7: each answer is that of asking by its place
@@ -47,7 +45,7 @@ module _ (ρ : Rules) (s : List ℕ) (at : ℕ) where
 
   -- where nothing was placed the counts are zeros, so 5, in whatever text u and by whatever rules σ the record is asked with
   pub record NonePlaced : Type 0 where
-    pub found : (σ : Rules) (u : List ℕ) (g : ℕ) → 1 ≤ g → g ≤ 60 → found_with σ u (carried_at ρ s at) g ≡ C.Refused OtherRelease
+    pub found : (σ : Rules) (u : List ℕ) (g : ℕ) → 1 ≤ g → g ≤ 60 → found_with σ u (carried_at ρ s at) g ≡ Err OtherRelease
     pub groups : (σ : Rules) (u : List ℕ) (g room : ℕ) → 1 ≤ g → g ≤ 60 → read_with σ u (carried_at ρ s at) g room ≡ bad OtherRelease
     pub characteristics : (σ : Rules) (u : List ℕ) (k : ℕ) → 1 ≤ k → k ≤ 49 → characteristic_with σ u (carried_at ρ s at) k ≡ Refused OtherRelease
 

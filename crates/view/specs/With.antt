@@ -1,11 +1,9 @@
 -- R285 to R288, R297: what is asked with a record. The record says where the lines of each of its groups begin and end (R259); it may be one that
 -- was placed in the text, one that was placed elsewhere, or made up. Of what it says, the counts and the asked group's part are looked at.
-use Rattle.std.specs.Prelude.{Bool, cond, List, ℕ}
+use Rattle.std.specs.Prelude.{Bool, cond, List, ℕ, Option, Some, None, Result, Ok, Err}
 use Rattle.rules.specs.declared.Rules.{Rules}
 use Rattle.base.specs.Part.{part}
 use Rattle.form.specs.declared.Form.{Form}
-use Rattle.form.specs.declared.GroupForm.{GroupForm}
-use Rattle.form.specs.declared.GroupForm.TheVariants.{Has, NoGroup as NoForm}
 use Rattle.form.specs.Table.{form_of}
 use Rattle.form.specs.Count.{lines_of}
 use Rattle.line.specs.Parts.{are_lines}
@@ -18,8 +16,7 @@ use Rattle.group.specs.Characteristics.{characteristic_by}
 use Rattle.group.specs.Held.{place_if}
 use Rattle.group.specs.Text.{read_if}
 use Rattle.reply.specs.declared.Refusal.TheVariants.{NoSuchNumber, BadPart}
-use Rattle.reply.specs.declared.Checked.{Checked}
-use Rattle.reply.specs.declared.Checked.TheVariants as C
+use Rattle.reply.specs.declared.Refusal.{Refusal}
 
 -- R243: the place that stands under a group's number, as a count does: 0 where there is no such number
 abbrev pub place_of : List ℕ → ℕ → ℕ
@@ -31,15 +28,15 @@ module _ (ρ : Rules) (s : List ℕ) (r : Carried) where
   holds_part g f = are_lines s (place_of r.starts_of g) (place_of r.ends_of g) (lines_of ρ f (count_of r.counts_of g))
 
   -- R222
-  abbrev pub part_held : ℕ → Form → Checked
-  part_held g f = cond (holds_part g f) C.Right (C.Refused BadPart)
+  abbrev pub part_held : ℕ → Form → Result (Unit {0}) Refusal
+  part_held g f = cond (holds_part g f) (Ok tt) (Err BadPart)
 
   -- R285: 12; 4, 5, 6 and 7 by the counts, as in writing; 22
-  abbrev pub held_with : ℕ → GroupForm → Checked
-  held_with g (Has f) = and_then (accepted_of r.counts_of) (part_held g f)
-  held_with g NoForm = C.Refused NoSuchNumber
+  abbrev pub held_with : ℕ → Option Form → Result (Unit {0}) Refusal
+  held_with g (Some f) = and_then (accepted_of r.counts_of) (part_held g f)
+  held_with g None = Err NoSuchNumber
 
-  unfoldable pub found_with : ℕ → Checked
+  unfoldable pub found_with : ℕ → Result (Unit {0}) Refusal
   found_with g = held_with g (form_of g)
 
   -- the part of the text

@@ -3,44 +3,55 @@
 // exactly as many whole lines of the text as the group's count needs.
 #![tactic(auto)]
 
-ghost use Rattle.std.specs.Prelude.{◌≡◌, length};
+ghost use Rattle.std.specs.Prelude.{◌≡◌, length, MatchResult};
 ghost use Rattle.reading.specs.Read.{reading_of, table_by};
 ghost use Rattle.place.specs.Placing.{carried, carried_by};
 ghost use Rattle.group.specs.Held.{moved};
-ghost use Rattle.view.specs.With.{place_of, found_with, start_with, end_with, part_with, read_with, characteristic_with};
+ghost use Rattle.view.specs.With.{found_with, start_with, end_with, part_with, read_with, characteristic_with};
 
+use count::Kept;
 use group::{Characteristic, Lines};
 use place::Record;
-use reply::{Answer, Checked, Refusal};
+use reply::Refusal;
 
-// R243: where a group's lines begin, or end; a record that does not say it says 0.
-fn place_of(places: &[usize], group: usize) -> usize
-    ensures { result ≡ place_of places.now group }
-{
-    if group == 0 {
-        return 0;
-    }
-    if places.len() < group {
-        return 0;
-    }
-    places[group - 1]
+// From where to where a group's lines stand in a text.
+#[derive(Clone, Copy)]
+struct Part {
+    from: usize,
+    to: usize,
 }
 
-// What is answered where no part is given.
-fn no_part(why: Refusal) -> Lines
-    ensures found { result.found ≡ Checked.Refused why }
-    ensures from { result.from ≡ 0 }
-    ensures to { result.to ≡ 0 }
+// R285: what every question asks first: 12; 4 to 7 by the counts; 22 (R286). A record that does not say where a group's
+// lines begin or end says 0 (R243).
+#[tactic(auto, using(crate::proofs::Found::found_none))]
+fn find(
+    rules: rules::Rules,
+    text: &[u8],
+    counts: &[u16],
+    starts: &[usize],
+    ends: &[usize],
+    group: usize,
+) -> Result<Part, Refusal>
+    ensures { MatchResult result
+        (λ part. (found_with rules text.now (carried counts.now starts.now ends.now) group ≡ Ok tt)
+        × (part.from ≡ start_with rules text.now (carried counts.now starts.now ends.now) group)
+        × (part.to ≡ end_with rules text.now (carried counts.now starts.now ends.now) group))
+        (λ why. found_with rules text.now (carried counts.now starts.now ends.now) group ≡ Err why) }
 {
-    Lines {
-        found: Checked::Refused(why),
-        from: 0,
-        to: 0,
+    let form = form::form_of(group).ok_or(Refusal::NoSuchNumber)?;
+    count::check_counts(counts)?;
+    let from = count::at_number(starts, group, 0);
+    let to = count::at_number(ends, group, 0);
+    let lines = form::lines(rules, form, count::count_of(counts, group));
+    if !line::are_lines(text, from, to, lines) {
+        return Err(Refusal::BadPart);
     }
+    Ok(Part { from, to })
 }
 
-// R285: asks where the lines of a group stand by a record's counts, starts and ends: 12; 4 to 7 by the counts; 22
-// (R286). At a refusal both places are the text's start (R283).
+// R285: asks where the lines of a group stand by a record's counts, starts and ends. At a refusal both places are the
+// text's start (R283). R447 has these questions on plain slices, and the C interface lends the three apart.
+#[tactic(auto, using(crate::proofs::Found::missing_start, crate::proofs::Found::missing_end))]
 pub fn lines_with(
     rules: rules::Rules,
     text: &[u8],
@@ -59,29 +70,23 @@ pub fn lines_with(
         end_with rules text.now (carried counts.now starts.now ends.now)
         group }
 {
-    let form::GroupForm::Has(form) = form::form_of(group) else {
-        return no_part(Refusal::NoSuchNumber);
-    };
-    match count::check_counts(counts) {
-        Checked::Refused(why) => no_part(why),
-        Checked::Right => {
-            let from = place_of(starts, group);
-            let to = place_of(ends, group);
-            let lines = form::lines(rules, form, count::count_of(counts, group));
-            if line::are_lines(text, from, to, lines) {
-                return Lines {
-                    found: Checked::Right,
-                    from,
-                    to,
-                };
-            }
-            no_part(Refusal::BadPart)
-        }
+    match find(rules, text, counts, starts, ends, group) {
+        Ok(part) => Lines {
+            found: Ok(()),
+            from: part.from,
+            to: part.to,
+        },
+        Err(why) => Lines {
+            found: Err(why),
+            from: 0,
+            to: 0,
+        },
     }
 }
 
-// R285, R287: reads a group into a table: first as `lines_with` says, then by the counts and these lines alone. A
-// refusal alters nothing (R267).
+// R285, R287: reads a group into a table: first as `find` says, then by the counts and these lines alone. A refusal
+// alters nothing (R267).
+#[tactic(auto, using(crate::proofs::Due::with_order, crate::proofs::Due::with_within, crate::proofs::Due::found_kept, crate::proofs::Found::with_missing, crate::proofs::Found::with_given), unfolding(crate::specs::With::part_with))]
 pub fn read_with(
     rules: rules::Rules,
     text: &[u8],
@@ -90,7 +95,7 @@ pub fn read_with(
     ends: &[usize],
     group: usize,
     table: &mut [i64],
-) -> Answer
+) -> Result<usize, Refusal>
     ensures answer { result ≡
         reading_of (read_with rules text.now (carried counts.now starts.now
         ends.now) group (length table.old)) }
@@ -98,19 +103,13 @@ pub fn read_with(
         table_by (read_with rules text.now (carried counts.now starts.now
         ends.now) group (length table.old)) table.old }
 {
-    let lines = lines_with(rules, text, counts, starts, ends, group);
-    let found = lines.found;
-    match found {
-        Checked::Refused(why) => Answer::Refused(why),
-        Checked::Right => {
-            let from = lines.from;
-            let to = lines.to;
-            reading::read_kept(rules, counts, group, &text[from..to], table)
-        }
-    }
+    let part = find(rules, text, counts, starts, ends, group)?;
+    let kept = Kept { counts };
+    reading::read_kept(rules, kept, group, &text[part.from..part.to], table)
 }
 
 // R297: asks for a characteristic, 1 to 49: 12; what group 4 is refused with; then by its cell.
+#[tactic(auto, using(group::proofs::Reported::number_outside, group::proofs::Reported::number_low, group::proofs::Reported::number_high, group::proofs::Reported::four_told), unfolding(crate::specs::With::characteristic_with))]
 pub fn characteristic_with(
     rules: rules::Rules,
     text: &[u8],
@@ -126,12 +125,13 @@ pub fn characteristic_with(
     if !group::is_characteristic(number) {
         return Characteristic::Refused(Refusal::NoSuchNumber);
     }
-    let mut table = [0i64; 49];
+    let mut table = [0; 49];
     let answer = read_with(rules, text, counts, starts, ends, 4, &mut table);
     group::told_of(number, answer, &table)
 }
 
-// ---- The same with a record as placing gives it.
+// ---- The same with a record as placing gives it: beside those above, since C lends the three apart (R366) and sao has
+// them in a record (R285).
 
 // R285: asks where the lines of a group stand.
 pub fn lines_by(rules: rules::Rules, text: &[u8], lent: Record, group: usize) -> Lines
@@ -139,22 +139,18 @@ pub fn lines_by(rules: rules::Rules, text: &[u8], lent: Record, group: usize) ->
     ensures from { result.from ≡ start_with rules text.now (carried_by lent) group }
     ensures to { result.to ≡ end_with rules text.now (carried_by lent) group }
 {
-    let counts = lent.counts;
-    let starts = lent.starts;
-    let ends = lent.ends;
-    lines_with(rules, text, &counts, &starts, &ends, group)
+    lines_with(rules, text, &lent.counts, &lent.starts, &lent.ends, group)
 }
 
 // R285, R446: the lines, as a part of the text that was lent; no copy is made.
+#[tactic(auto, using(crate::proofs::Due::with_order, crate::proofs::Due::with_within), unfolding(crate::specs::With::part_with))]
 pub fn part_by<'a>(rules: rules::Rules, text: &'a [u8], lent: Record, group: usize) -> &'a [u8]
     ensures bytes { result.now ≡ part_with rules text.now (carried_by lent) group }
     ensures address { result.ref_ptr ≡
         moved text.entry.ref_ptr (start_with rules text.now (carried_by lent) group) }
 {
     let lines = lines_by(rules, text, lent, group);
-    let from = lines.from;
-    let to = lines.to;
-    &text[from..to]
+    &text[lines.from..lines.to]
 }
 
 // R285: reads a group into a table.
@@ -164,17 +160,22 @@ pub fn read_by(
     lent: Record,
     group: usize,
     table: &mut [i64],
-) -> Answer
+) -> Result<usize, Refusal>
     ensures answer { result ≡
         reading_of (read_with rules text.now (carried_by lent) group (length table.old)) }
     ensures table { table.new ≡
         table_by (read_with rules text.now (carried_by lent) group (length table.old))
         table.old }
 {
-    let counts = lent.counts;
-    let starts = lent.starts;
-    let ends = lent.ends;
-    read_with(rules, text, &counts, &starts, &ends, group, table)
+    read_with(
+        rules,
+        text,
+        &lent.counts,
+        &lent.starts,
+        &lent.ends,
+        group,
+        table,
+    )
 }
 
 // R297: asks for a characteristic, 1 to 49.
@@ -186,13 +187,10 @@ pub fn characteristic_by(
 ) -> Characteristic
     ensures { result ≡ characteristic_with rules text.now (carried_by lent) number }
 {
-    let counts = lent.counts;
-    let starts = lent.starts;
-    let ends = lent.ends;
-    characteristic_with(rules, text, &counts, &starts, &ends, number)
+    characteristic_with(rules, text, &lent.counts, &lent.starts, &lent.ends, number)
 }
 
-// ---- The same with a text and a record kept together.
+// ---- The same with a text and a record kept together: functions of their own, as R447 has them.
 
 // R289, R447: a text, and a record that was placed in it, or any other.
 #[derive(Clone, Copy)]

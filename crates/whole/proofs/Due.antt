@@ -1,5 +1,6 @@
 -- *First due*: reading a whole record gives each answer exactly if it is due.
 -- Assumes nothing.
+use Rattle.std.specs.Prelude.{Err}
 use mathlib.Core.Path.{◌≡◌, refl, sym, ◌∙◌, ap, subst}
 use mathlib.Core.Bool.{Bool, true, false}
 use mathlib.Core.List.{List}
@@ -19,7 +20,6 @@ use Rattle.place.proofs.Due as Placing
 use Rattle.place.specs.Placing.{placing_of, counts_at}
 use Rattle.reply.specs.declared.Refusal.{Refusal}
 use Rattle.reply.specs.declared.Refusal.TheVariants.{NoRoom}
-use Rattle.reply.specs.declared.Checked.TheVariants as C
 use Rattle.whole.specs.Due.{FirstRefused, AllDone, NoRoomForAll, RoomForAll, RefusedFor, unplaced, broken_rule, no_room, unread, Due}
 use Rattle.whole.specs.Turn.{Turn, group_read, all_in_turn}
 use Rattle.whole.specs.Whole.{whole_read}
@@ -53,7 +53,7 @@ module _ (ρ : Rules) (s : List ℕ) (at : ℕ) where
 -- ---- the record
 
 module _ (ρ : Rules) (s : List ℕ) (at room : ℕ) where
-  pub whole_unplaced : {why : Refusal} → as_checked (placing_of ρ s at) ≡ C.Refused why → whole_read ρ s at room ≡ bad (0, why)
+  pub whole_unplaced : {why : Refusal} → as_checked (placing_of ρ s at) ≡ Err why → whole_read ρ s at room ≡ bad (0, why)
   unfolding whole_read
   whole_unplaced e = rw e refl
 

@@ -1,5 +1,6 @@
 -- D3, R258: reading a whole record of a text that was damaged, or that still grows (specs/Kept.antt): all that it rests on stays.
 -- Assumes nothing.
+use Rattle.std.specs.Prelude.{Err}
 use mathlib.Core.Path.{◌≡◌, sym, ◌∙◌, ap, subst}
 use mathlib.Core.List.{List, ◌++◌}
 use Prim.Native.Nat.{ℕ, ◌<◌, ◌≤◌}
@@ -14,7 +15,6 @@ use Rattle.place.specs.Numbered.{as_checked}
 use Rattle.place.specs.Placing.{placing_of, counts_at}
 use Rattle.place.specs.Walk.{spot}
 use Rattle.reply.specs.declared.Refusal.{Refusal}
-use Rattle.reply.specs.declared.Checked.TheVariants as C
 use Rattle.group.specs.Damage.{Outside, Damaged, Confined}
 use Rattle.group.specs.Text.{read_at}
 use Rattle.group.proofs.Damage.{others_read, damage_stays}
@@ -55,7 +55,7 @@ module _ (ρ : Rules) (t u : List ℕ) (among : ℕ → ℕ → Type 0) (damaged
     group : (h : ℕ) → Outside among j h → group_read ρ u now h ≡ group_read ρ t was h
     group h out = ap (λ ns. read_at ρ u now h (cells_in ρ ns h)) counts ∙ others_read ρ t u among damaged j h (cells_in ρ (counts_at ρ t was) h) out
 
-    unplaced_stays : {why : Refusal} → as_checked (placing_of ρ t was) ≡ C.Refused why → as_checked (placing_of ρ u now) ≡ C.Refused why
+    unplaced_stays : {why : Refusal} → as_checked (placing_of ρ t was) ≡ Err why → as_checked (placing_of ρ u now) ≡ Err why
     unplaced_stays e = ap as_checked (stays.answers j) ∙ e
 
     refused : (h room : ℕ) (r : Refusal) → ((i : ℕ) → 1 ≤ i → i ≤ h → Outside among j i) → RefusedFor ρ t was room h r → whole_read ρ u now room ≡ bad (h, r)

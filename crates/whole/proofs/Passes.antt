@@ -1,5 +1,6 @@
 -- The two passes over the groups of a record, as their loops go: what holds before each group, and what a group more makes of it.
 -- Assumes nothing.
+use Rattle.std.specs.Prelude.{Result, Ok, Err}
 use mathlib.Core.Path.{◌≡◌, refl, sym, ◌∙◌, ap}
 use mathlib.Core.List.{List, [], ◌∷◌}
 use Prim.Native.Nat.{ℕ, ◌+◌, ◌-◌, ◌≤◌}
@@ -19,13 +20,10 @@ use Rattle.count.proofs.Tallied.{all_cells, cells_first, cells_next, cells_below
 use Rattle.place.specs.Parted.{lines_named}
 use Rattle.place.specs.Placing.{Carried}
 use Rattle.reply.specs.declared.Refusal.{Refusal}
-use Rattle.reply.specs.declared.Checked.{Checked}
-use Rattle.reply.specs.declared.Checked.TheVariants as C
-use Rattle.reading.specs.Read.{Cells, verdict_of}
+use Rattle.reading.specs.Read.{Cells, read_group, verdict_of}
 use Rattle.reading.proofs.GroupRead.{read_size}
-use Rattle.whole.specs.declared.Groups.TheVariants.{All, GroupRefused}
 use Rattle.whole.specs.Turn.{Turn, in_turn}
-use Rattle.whole.specs.Whole.{groups_of, group_by, all_by}
+use Rattle.whole.specs.Whole.{unread, groups_of, group_by, all_by}
 use Rattle.whole.proofs.Turns.{FirstDone, turn_done, turn_bad, turn_split, turn_length}
 
 module _ (ρ : Rules) (s : List ℕ) (r : Carried) where
@@ -48,6 +46,10 @@ module _ (ρ : Rules) (s : List ℕ) (r : Carried) where
   unfolding Tally.cell_tally Sum.sum
   all_size cs e = turn_length (group_by ρ s r) (cells_in ρ r.counts_of) group_size (up_from 1 60) cs e ∙ omega arith
 
+  -- a group's reading, by counts and lines as they are lent
+  pub group_lent : {ns x : List ℕ} (g : ℕ) → ns ≡ r.counts_of → x ≡ lines_named s r g → read_group ρ ns g x (cells_in ρ ns g) ≡ group_by ρ s r g
+  group_lent g e f = rw (e, f) refl
+
   -- ---- checking: before group g, those from g on decide as all do
 
   pub record Checking (g : ℕ) : Type 0 where
@@ -59,22 +61,22 @@ module _ (ρ : Rules) (s : List ℕ) (r : Carried) where
   checking_first = record { low = omega arith; high = omega arith; left = refl }
 
   module _ {g : ℕ} (c : Checking g) where
-    pub checking_all : 61 ≤ g → All ≡ groups_of (all_by ρ s r)
+    pub checking_all : 61 ≤ g → Ok tt ≡ groups_of (all_by ρ s r)
     checking_all h = sym (ap groups_of (none h)) ∙ c.left
 
-    module _ (high : g ≤ 60) {verdict : Checked} (v : verdict ≡ verdict_of (group_by ρ s r g)) where
-      pub checking_refused : {q : Refusal} → verdict ≡ C.Refused q → GroupRefused g q ≡ groups_of (all_by ρ s r)
+    module _ (high : g ≤ 60) {verdict : Result (Unit {0}) Refusal} (v : verdict ≡ verdict_of (group_by ρ s r g)) where
+      pub checking_refused : {q : Refusal} → verdict ≡ Err q → Err (unread (g, q)) ≡ groups_of (all_by ρ s r)
       checking_refused {q} e =
           sym (ap groups_of (next high ∙ turn_bad (group_by ρ s r) g (up_from (g + 1) (61 - (g + 1))) (refused (group_by ρ s r g) (sym e ∙ v)))) ∙ c.left
         where
-          refused : (d : Cells) → C.Refused q ≡ verdict_of d → d ≡ bad q
+          refused : (d : Cells) → Err q ≡ verdict_of d → d ≡ bad q
           refused (done cs) e = let z : ◌≡◌ {A = ℕ} 0 1 = cc in absurd (omega arith)
           refused (bad p) e = let i : p ≡ q = cc in ap bad i
 
-      pub checking_more : verdict ≡ C.Right → Checking (g + 1)
+      pub checking_more : verdict ≡ Ok tt → Checking (g + 1)
       checking_more e = record { low = omega arith; high = omega arith; left = by (group_by ρ s r g) refl ∙ c.left }
         where
-          clean : (d : Cells) → C.Right ≡ verdict_of d → group_by ρ s r g ≡ d → groups_of (from (g + 1)) ≡ groups_of (from g)
+          clean : (d : Cells) → Ok tt ≡ verdict_of d → group_by ρ s r g ≡ d → groups_of (from (g + 1)) ≡ groups_of (from g)
           clean (done cs) e u = sym (ap groups_of (next high ∙ turn_done (group_by ρ s r) g (up_from (g + 1) (61 - (g + 1))) u) ∙ same cs (from (g + 1)))
             where
               same : (cs : List ℤ) (t : Turn) → groups_of (both (done cs) t) ≡ groups_of t
@@ -96,10 +98,10 @@ module _ (ρ : Rules) (s : List ℕ) (r : Carried) where
     pub left_are : from g ≡ done left
     pub cells : over cell left table ≡ over 0 (cells_got (all_by ρ s r)) old
 
-  pub filling_first : (old : List ℤ) → All ≡ groups_of (all_by ρ s r) → Filling old old 1 0
+  pub filling_first : (old : List ℤ) → Ok tt ≡ groups_of (all_by ρ s r) → Filling old old 1 0
   filling_first old clean = by (all_by ρ s r) refl clean
     where
-      by : (t : Turn) → all_by ρ s r ≡ t → All ≡ groups_of t → Filling old old 1 0
+      by : (t : Turn) → all_by ρ s r ≡ t → Ok tt ≡ groups_of t → Filling old old 1 0
       by (done cs) u e = record {
         low = omega arith;
         high = omega arith;
@@ -122,7 +124,7 @@ module _ (ρ : Rules) (s : List ℕ) (r : Carried) where
       group : FirstDone (group_by ρ s r) g (up_from (g + 1) (61 - (g + 1))) f.left
       group = turn_split (group_by ρ s r) g (up_from (g + 1) (61 - (g + 1))) f.left (sym (next high) ∙ f.left_are)
 
-      pub filling_clean : verdict_of (group_by ρ s r g) ≡ C.Right
+      pub filling_clean : verdict_of (group_by ρ s r g) ≡ Ok tt
       filling_clean = ap verdict_of group.first_is
 
       behind : cell + cells_in ρ r.counts_of g ≡ cells_before ρ r.counts_of (g + 1)

@@ -1,6 +1,7 @@
 -- What is promised of reading a whole record: a refusal leaves the whole table; under 0 its first cells are those of the groups, joined, and the
 -- others are what they were; and each answer fills a row of its table, with the group's number or 0 beside it.
 -- Assumes nothing.
+use Rattle.std.specs.Prelude.{Some}
 use mathlib.Core.Path.{◌≡◌, refl, sym, ◌∙◌}
 use mathlib.Core.List.{List, [], ◌∷◌}
 use mathlib.Core.Logic.{inl, inr}
@@ -13,7 +14,6 @@ use Rattle.rules.specs.declared.Rules.{Rules}
 use Rattle.base.specs.Pieces.{done, bad}
 use Rattle.count.specs.Tally.{cells_in}
 use Rattle.count.specs.Rules.{ruling_of}
-use Rattle.count.specs.declared.Ruling.TheVariants.{Broken}
 use Rattle.count.proofs.Rulings.{broken_ruling, broken_group}
 use Rattle.count.proofs.Tallied.{cells_has}
 use Rattle.place.specs.declared.Placing.TheVariants.{Placed}
@@ -77,7 +77,7 @@ module _ (ρ : Rules) (s : List ℕ) (at next : ℕ) (placed : placing_of ρ s a
       r
       ((Reading.first_due ρ ns g its_lines (cells_in ρ ns g) (bad r)).0 (sym (read_located ρ s at g (cells_in ρ ns g) next ns here.located_at) ∙ f.told))
     where
-      kept : {h : ℕ} {X : Type 0} → ruling_of ns ≡ Broken h → X
+      kept : {h : ℕ} {X : Type 0} → ruling_of ns ≡ Some h → X
       kept u = let e = sym here.kept ∙ u in let z : ◌≡◌ {A = ℕ} 0 1 = cc in absurd (omega arith)
 
 module _ (ρ : Rules) (s : List ℕ) (at room : ℕ) where

@@ -1,22 +1,21 @@
 -- R200 to R211: each answer's number, with the numbers beside it; R272: the number of the group that was being read, apart from them.
-use Rattle.std.specs.Prelude.{◌≡◌, List, [], ◌∷◌, ◌++◌, ◌⊎◌, ℕ, ◌≤◌}
+use Rattle.std.specs.Prelude.{◌≡◌, List, [], ◌∷◌, ◌++◌, ◌⊎◌, ℕ, ◌≤◌, Result, Ok, Err}
 use Rattle.reply.specs.declared.Reply.{Reply}
 use Rattle.reply.specs.declared.Refusal.{Refusal}
 use Rattle.reply.specs.declared.Refusal.TheVariants.{NoRoom}
 use Rattle.reply.specs.Table.{Numbered, told, Row, row, cells}
 use Rattle.reply.specs.Refusals.{refusal_reply, rows, placing_refusals}
 use Rattle.reading.specs.Numbered.{group_refusals}
-use Rattle.whole.specs.declared.RecordRead.{RecordRead}
-use Rattle.whole.specs.declared.RecordRead.TheVariants.{Done, Refused}
+use Rattle.whole.specs.declared.Unread.{Unread}
 
-abbrev pub record_reply : RecordRead → Reply
-record_reply (Done n) = told 0 ((cells, n) ∷ [])
-record_reply (Refused g r) = refusal_reply r
+abbrev pub record_reply : Result ℕ Unread → Reply
+record_reply (Ok n) = told 0 ((cells, n) ∷ [])
+record_reply (Err u) = refusal_reply u.why
 
 -- R272: a refusal of placing may have a group of its own beside it; this one is told apart
-abbrev pub group_told : RecordRead → ℕ
-group_told (Done n) = 0
-group_told (Refused g r) = g
+abbrev pub group_told : Result ℕ Unread → ℕ
+group_told (Ok n) = 0
+group_told (Err u) = u.group
 
 -- R272: what is refused with before a group is read: as placing does, and 11
 abbrev pub before_refusals : List Refusal

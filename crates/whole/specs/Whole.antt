@@ -1,6 +1,6 @@
 -- R271: reading the whole record at a place. R272 is the order: what placing refuses with; 11; what the first group that is refused is refused
 -- with; 0. The group number is that of the group that was being read, and 0 where none was.
-use Rattle.std.specs.Prelude.{cond, List, ℕ, leb, length}
+use Rattle.std.specs.Prelude.{cond, List, ℕ, leb, length, Result, Ok, Err}
 use Rattle.rules.specs.declared.Rules.{Rules}
 use Rattle.base.specs.Every.{up_from}
 use Rattle.base.specs.Pieces.{done, bad}
@@ -9,20 +9,15 @@ use Rattle.place.specs.Numbered.{as_checked}
 use Rattle.place.specs.Parted.{lines_named}
 use Rattle.place.specs.Placing.{Carried, placing_of, counts_at}
 use Rattle.reading.specs.Read.{Cells, read_group}
-use Rattle.reply.specs.declared.Checked.{Checked}
-use Rattle.reply.specs.declared.Checked.TheVariants as C
 use Rattle.reply.specs.declared.Refusal.{Refusal}
 use Rattle.reply.specs.declared.Refusal.TheVariants.{NoRoom}
-use Rattle.whole.specs.declared.Groups.{Groups}
-use Rattle.whole.specs.declared.Groups.TheVariants as G
-use Rattle.whole.specs.declared.RecordRead.{RecordRead}
-use Rattle.whole.specs.declared.RecordRead.TheVariants.{Done, Refused}
+use Rattle.whole.specs.declared.Unread.{Unread}
 use Rattle.whole.specs.Turn.{Turn, in_turn, all_in_turn}
 
 -- R272, R321: placing's replies come first, 7 without its next place (R235); A is an answer, and each kind has its own refusals
-abbrev pub unless_refused : {A : Type 0} → (Refusal → A) → Checked → A → A
-unless_refused refused C.Right a = a
-unless_refused refused (C.Refused why) a = refused why
+abbrev pub unless_refused : {A : Type 0} → (Refusal → A) → Result (Unit {0}) Refusal → A → A
+unless_refused refused (Ok _) a = a
+unless_refused refused (Err why) a = refused why
 
 module _ (ρ : Rules) where
   -- R273: 11 by the counts and the table's length alone
@@ -33,17 +28,20 @@ module _ (ρ : Rules) where
   unfoldable pub whole_read : List ℕ → ℕ → ℕ → Turn
   whole_read s at room = unless_refused (λ why. bad (0, why)) (as_checked (placing_of ρ s at)) (with_room (counts_at ρ s at) room (all_in_turn ρ s at))
 
+abbrev pub unread : ℕ × Refusal → Unread
+unread u = record { group = u.0; why = u.1 }
+
 -- the answer; the table is as in reading a group (`table_by`)
-abbrev pub record_read_of : Turn → RecordRead
-record_read_of (done cs) = Done (length cs)
-record_read_of (bad u) = Refused u.0 u.1
+abbrev pub record_read_of : Turn → Result ℕ Unread
+record_read_of (done cs) = Ok (length cs)
+record_read_of (bad u) = Err (unread u)
 
 -- ---- the same from a placed record on, as the code goes (proofs/Placed.antt)
 
 -- whether all groups are clean, or the first that is not
-abbrev pub groups_of : Turn → Groups
-groups_of (done cs) = G.All
-groups_of (bad u) = G.GroupRefused u.0 u.1
+abbrev pub groups_of : Turn → Result (Unit {0}) Unread
+groups_of (done cs) = Ok tt
+groups_of (bad u) = Err (unread u)
 
 module _ (ρ : Rules) (s : List ℕ) (r : Carried) where
   -- a group, by the lines that the record names for it

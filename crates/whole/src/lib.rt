@@ -6,164 +6,136 @@ ghost use Rattle.std.specs.Prelude.{◌≡◌, ◌≤◌, length};
 ghost use Rattle.base.specs.Part.{over};
 ghost use Rattle.base.specs.Pieces.{cells_got};
 ghost use Rattle.count.specs.Tally.{record_cells};
-ghost use Rattle.place.specs.Parted.{Parted};
 ghost use Rattle.place.specs.Placing.{carried};
 ghost use Rattle.reading.specs.Read.{table_by};
 ghost use Rattle.whole.specs.Numbered.{record_reply, group_told};
-ghost use Rattle.whole.specs.Whole.{whole_read, record_read_of, groups_of, all_by, whole_by};
+ghost use Rattle.whole.specs.Whole.{unread, whole_read, record_read_of, groups_of, all_by, whole_by};
 
-use place::Placing;
-use reply::{Checked, Refusal};
+use form::Group;
+use place::PlacedRecord;
+use reply::Refusal;
 
-// R272: what reading a whole record answers.
-#[derive(Clone, Copy)]
-pub enum RecordRead {
-    // R200: 0, with the cells that were read
-    Done(usize),
-    // the group that was being read, 0 where none was, and what is refused with
-    Refused(usize, Refusal),
+// R272: why a record is not read: the group that was being read, 0 where none was, and what it is refused with.
+#[derive(Clone, Copy, Debug, PartialEq, Eq)]
+pub struct Unread {
+    pub group: usize,
+    pub why: Refusal,
 }
 
-// Whether all groups of a record are clean, or the first that is not.
-#[derive(Clone, Copy)]
-enum Groups {
-    All,
-    GroupRefused(usize, Refusal),
+// R272: what is refused before a group is read.
+impl From<Refusal> for Unread {
+    ghost from_gives = { λ why answer. answer ≡ unread (0, why) };
+
+    fn from(why: Refusal) -> Unread {
+        Unread { group: 0, why }
+    }
 }
 
 // ---- Two passes over the groups of a placed record.
 
 // The first pass: groups 1 to 60, up to the first that is refused. It looks at no table.
-fn check_groups(
-    rules: rules::Rules,
-    text: &[u8],
-    counts: &[u16],
-    starts: &[usize],
-    ends: &[usize],
-) -> Groups
-    requires { Parted text.now (carried counts.now starts.now ends.now) }
-    ensures { result ≡
-        groups_of
-        (all_by rules text.now (carried counts.now starts.now ends.now)) }
+fn check_groups(rules: rules::Rules, placed: PlacedRecord<'_>) -> Result<(), Unread>
+    ensures { result ≡ groups_of (all_by rules placed.entry.text.now (carried placed.entry.counts.now placed.entry.starts.now placed.entry.ends.now)) }
 {
-    let mut g: usize = 1;
-    while g < 61 {
-        let from = starts[g - 1];
-        let to = ends[g - 1];
-        match reading::check_kept(rules, counts, g, &text[from..to]) {
-            Checked::Refused(r) => {
-                return Groups::GroupRefused(g, r);
-            }
-            Checked::Right => {}
+    for number in 1..61 {
+        let group = Group { number };
+        let lines = placed.lines(group);
+        if let Err(why) = reading::check_kept(rules, placed.kept(), group, lines) {
+            return Err(Unread { group: number, why });
         }
-        g += 1;
     }
-    Groups::All
+    Ok(())
 }
 
 // The second pass: the cells of groups that were all found clean, into consecutive parts of the table.
-fn fill_groups(
-    rules: rules::Rules,
-    text: &[u8],
-    counts: &[u16],
-    starts: &[usize],
-    ends: &[usize],
-    table: &mut [i64],
-)
-    requires parted { Parted text.now (carried counts.now starts.now ends.now) }
-    requires clean { Groups.All ≡
-        groups_of (all_by rules text.now (carried counts.now starts.now ends.now)) }
-    requires room { record_cells rules counts.now ≤ length table.old }
+fn fill_groups(rules: rules::Rules, placed: PlacedRecord<'_>, table: &mut [i64])
+    requires clean { groups_of (all_by rules placed.text.now (carried placed.counts.now placed.starts.now placed.ends.now)) ≡ Ok tt }
+    requires room { record_cells rules placed.counts.now ≤ length table.old }
     ensures { table.new ≡
         over 0
-        (cells_got
-        (all_by rules text.now (carried counts.now starts.now ends.now)))
+        (cells_got (all_by rules placed.entry.text.now (carried placed.entry.counts.now placed.entry.starts.now placed.entry.ends.now)))
         table.old }
 {
     let mut cell: usize = 0;
-    let mut group: usize = 1;
-    while group < 61 {
-        let from = starts[group - 1];
-        let to = ends[group - 1];
-        cell = reading::fill_kept(rules, counts, group, &text[from..to], table, cell);
-        group += 1;
+    for next in 1..61 {
+        let group = Group { number: next };
+        let lines = placed.lines(group);
+        cell = reading::fill_kept(rules, placed.kept(), group, lines, table, cell);
     }
 }
 
-// R273 to R276 for a record whose counts and places are given: 11, then all groups, and only then the table.
+// R273 to R276 for a record that is placed: 11, then all groups, and only then the table.
 pub fn read_placed(
     rules: rules::Rules,
-    text: &[u8],
-    counts: &[u16],
-    starts: &[usize],
-    ends: &[usize],
+    placed: PlacedRecord<'_>,
     table: &mut [i64],
-) -> RecordRead
-    requires { Parted text.now (carried counts.now starts.now ends.now) }
+) -> Result<usize, Unread>
     ensures answer { result ≡
         record_read_of
-        (whole_by rules text.now (carried counts.now starts.now ends.now)
+        (whole_by rules placed.entry.text.now (carried placed.entry.counts.now placed.entry.starts.now placed.entry.ends.now)
         (length table.old)) }
     ensures table { table.new ≡
         table_by
-        (whole_by rules text.now (carried counts.now starts.now ends.now)
+        (whole_by rules placed.entry.text.now (carried placed.entry.counts.now placed.entry.starts.now placed.entry.ends.now)
         (length table.old)) table.old }
 {
-    let all = count::add_up(rules, counts, 61);
-    if table.len() < all.cells {
-        return RecordRead::Refused(0, Refusal::NoRoom);
+    let cells = count::add_up(rules, placed.counts, 61).cells;
+    if table.len() < cells {
+        return Err(Unread::from(Refusal::NoRoom));
     }
-    match check_groups(rules, text, counts, starts, ends) {
-        Groups::GroupRefused(g, r) => RecordRead::Refused(g, r),
-        Groups::All => {
-            fill_groups(rules, text, counts, starts, ends, table);
-            RecordRead::Done(all.cells)
-        }
-    }
+    check_groups(rules, placed)?;
+    fill_groups(rules, placed, table);
+    Ok(cells)
 }
 
 // ---- Reading the record at a place.
 
 // R272: what placing refuses with, 7 without its next place (R235); 11; what the first group that is refused is refused
 // with, and which group that is; else 0 with the cells. A refusal alters no cell (R276).
-pub fn read_record(rules: rules::Rules, text: &[u8], at: usize, table: &mut [i64]) -> RecordRead
+pub fn read_record(
+    rules: rules::Rules,
+    text: &[u8],
+    at: usize,
+    table: &mut [i64],
+) -> Result<usize, Unread>
     ensures answer { result ≡
         record_read_of (whole_read rules text.now at (length table.old)) }
     ensures table { table.new ≡
         table_by (whole_read rules text.now at (length table.old)) table.old }
 {
-    let placed = place::place(rules, text, at);
-    let answer = placed.answer;
-    match answer {
-        Placing::BrokenRule(g, _) => RecordRead::Refused(0, Refusal::BrokenRule(g)),
-        Placing::Refused(why) => RecordRead::Refused(0, why),
-        Placing::Placed(_) => {
-            let counts = placed.counts;
-            let starts = placed.starts;
-            let ends = placed.ends;
-            read_placed(rules, text, &counts, &starts, &ends, table)
-        }
-    }
+    let record = place::place(rules, text, at);
+    place::as_checked(record.answer)?;
+    read_placed(
+        rules,
+        PlacedRecord {
+            text,
+            counts: &record.counts,
+            starts: &record.starts,
+            ends: &record.ends,
+        },
+        table,
+    )
 }
 
 // ---- Replies.
 
-// R200 to R211: the answer's number, with the numbers beside it.
-pub fn reply_of(answer: RecordRead) -> reply::Reply
+// R200 to R211: the answer's number, with the numbers beside it. Neither `Result` nor `Reply` is of this crate, so no
+// `From` may be written here.
+pub fn reply_of(answer: Result<usize, Unread>) -> reply::Reply
     ensures { result ≡ record_reply answer }
 {
     match answer {
-        RecordRead::Done(cells) => reply::written(0, cells),
-        RecordRead::Refused(_, why) => reply::of_refusal(why),
+        Ok(cells) => reply::written(0, cells),
+        Err(unread) => reply::Reply::from(unread.why),
     }
 }
 
 // R272: the group that was being read; 0 where none was.
-pub fn group_of(answer: RecordRead) -> usize
+pub fn group_of(answer: Result<usize, Unread>) -> usize
     ensures { result ≡ group_told answer }
 {
     match answer {
-        RecordRead::Done(_) => 0,
-        RecordRead::Refused(g, _) => g,
+        Ok(_) => 0,
+        Err(unread) => unread.group,
     }
 }

@@ -1,6 +1,6 @@
 -- Bytes of which a front part was written, behind what was written before; the bytes that a page into which a text was put begins with.
 -- Assumes nothing.
-use Rattle.std.proofs.Common.{[], drop, ◌-◌, Result, Ok, Err, OnErr, ◌≡◌, ℕ, ◌+◌, ◌≤◌, List, ◌++◌, arith, refl, sym, ap, ◌∙◌, subst, length, take, take-add, take_at, drop_at, take_all, length-append, le_refl}
+use Rattle.std.proofs.Common.{[], drop, ◌-◌, Result, Ok, Err, OnErr, ◌≡◌, ℕ, ◌+◌, ◌≤◌, List, ◌++◌, arith, refl, sym, ap, ◌∙◌, subst, length, take, take-add, take_at, drop_at, length-append}
 use lib.Seq.{take-append-le}
 use Rattle.std.specs.declared.option.Option.{Option}
 use Rattle.std.specs.Io.KnownBytes.{Appends}

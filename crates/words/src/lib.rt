@@ -4,7 +4,7 @@
 
 ghost use Rattle.std.specs.Prelude.{◌≡◌, ◌<◌, ◌≤◌, length, take, IfOk, OnOk, OnErr};
 ghost use Rattle.std.specs.Io.KnownBytes.{Appends, Consumes, IsAtEnd};
-ghost use Rattle.words.specs.Words.{same_bytes, with_word};
+ghost use Rattle.words.specs.Words.{with_word};
 ghost use Rattle.words.specs.Written.{AppendsFront, ConsumesInto};
 
 use std::env::FillError;
@@ -12,61 +12,37 @@ use std::io;
 use std::io::{ErrorKind, Read, Write};
 use std::rt::Env;
 
-// Whether all words so far were known, and what they asked for.
+// What the words so far asked for, as `rules::choose` takes it. All of them were known.
 #[derive(Clone, Copy)]
 pub struct Words {
-    pub known: bool,
     pub strict: bool,
     pub entries: bool,
 }
 
 // R349: no word yet.
 pub const NONE: Words = Words {
-    known: true,
     strict: false,
     entries: false,
 };
 
-// Whether two words are the same.
-fn is_word(word: &[u8], name: &[u8]) -> bool
-    ensures { result ≡ same_bytes word.now name.now }
-{
-    if word.len() != name.len() {
-        return false;
-    }
-    let mut i: usize = 0;
-    while i < word.len() {
-        if word[i] != name[i] {
-            return false;
-        }
-        i += 1;
-    }
-    true
-}
-
-// R349: one word more.
-pub fn with_word(words: Words, word: &[u8]) -> Words
+// R349: one word more, if it is known.
+#[tactic(auto, unfolding(crate::specs::Words::with_word))]
+pub fn with_word(words: Words, word: &[u8]) -> Option<Words>
     ensures { result ≡ with_word words word.now }
 {
-    if is_word(word, b"--strict") {
-        return Words {
-            known: words.known,
+    if word == b"--strict".as_slice() {
+        return Some(Words {
             strict: true,
-            entries: words.entries,
-        };
+            ..words
+        });
     }
-    if is_word(word, b"--entries") {
-        return Words {
-            known: words.known,
-            strict: words.strict,
+    if word == b"--entries".as_slice() {
+        return Some(Words {
             entries: true,
-        };
+            ..words
+        });
     }
-    Words {
-        known: false,
-        strict: words.strict,
-        entries: words.entries,
-    }
+    None
 }
 
 // ---- Input and output
@@ -92,11 +68,8 @@ pub fn filled<R: Read>(input: &mut R, space: &mut [u8]) -> io::Result<usize>
         match input.read(&mut space[n..]) {
             Ok(0) => return Ok(n),
             Ok(more) => n += more,
-            Err(e) => {
-                if e.kind() != ErrorKind::Interrupted {
-                    return Err(e);
-                }
-            }
+            Err(e) if e.kind() == ErrorKind::Interrupted => {}
+            Err(e) => return Err(e),
         }
     }
     Err(io::Error::new(ErrorKind::TimedOut, TOO_MANY_TRIES))
@@ -119,11 +92,8 @@ pub fn put_all<W: Write>(out: &mut W, bytes: &[u8]) -> io::Result<()>
                 return Err(io::Error::new(ErrorKind::WriteZero, message));
             }
             Ok(more) => at += more,
-            Err(e) => {
-                if e.kind() != ErrorKind::Interrupted {
-                    return Err(e);
-                }
-            }
+            Err(e) if e.kind() == ErrorKind::Interrupted => {}
+            Err(e) => return Err(e),
         }
     }
     Err(io::Error::new(ErrorKind::TimedOut, TOO_MANY_TRIES))
@@ -131,24 +101,30 @@ pub fn put_all<W: Write>(out: &mut W, bytes: &[u8]) -> io::Result<()>
 
 // ---- The words of a run
 
-// All words that the program of this name was started with; where one is unknown, how the program is asked is written
-// to standard error. What the system hands over is in no contract, so this has none but that it is safe and ends. A
-// word of more than 16 bytes is read as an empty one, which is unknown too; 16 is more than every known word has. An
-// error is that of writing to standard error.
-pub fn given(rt: &impl Env, standard_error: &mut impl Write, program: &[u8]) -> io::Result<Words> {
+// What the words ask for that the program of this name was started with; where one is unknown, how the program is asked
+// is written to standard error, and that is all to be done. What the system hands over is in no contract, so this has none
+// but that it is safe and ends. A word of more than 16 bytes is read as an empty one, which is unknown too; 16 is more than
+// every known word has. An error is that of writing to standard error.
+pub fn given(
+    rt: &impl Env,
+    standard_error: &mut impl Write,
+    program: &[u8],
+) -> io::Result<Option<Words>> {
     let mut words = NONE;
     for i in 1..usize::MAX {
         let mut space = [0u8; 16];
-        match rt.arg(i, &mut space) {
-            Ok(n) => words = with_word(words, &space[0..n]),
-            Err(FillError::TooLong) => words = with_word(words, b""),
+        let word = match rt.arg(i, &mut space) {
+            Ok(n) => &space[..n],
+            Err(FillError::TooLong) => b"",
             Err(FillError::NotPresent) => break,
-        }
+        };
+        let Some(more) = with_word(words, word) else {
+            usage(standard_error, program)?;
+            return Ok(None);
+        };
+        words = more;
     }
-    if !words.known {
-        usage(standard_error, program)?;
-    }
-    Ok(words)
+    Ok(Some(words))
 }
 
 fn usage(standard_error: &mut impl Write, program: &[u8]) -> io::Result<()> {

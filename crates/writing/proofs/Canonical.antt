@@ -1,6 +1,7 @@
 -- A canonical record: each canonical record is the text that is written for its counts and cells, so that these have no second one; and
 -- wherever it stands in whatever text, its counts are found, and the lines of each group read as the group's own cells.
 -- Assumes nothing.
+use Rattle.std.specs.Prelude.{Option, Some, None}
 use mathlib.Core.Path.{◌≡◌, sym, ◌∙◌, ap₂, subst}
 use mathlib.Core.List.{List, ◌++◌, map}
 use Prim.Native.Nat.{ℕ}
@@ -14,8 +15,6 @@ use Rattle.base.specs.Sum
 use Rattle.base.specs.Sum.{sum}
 use Rattle.base.proofs.Each.{each_cells, each_emit}
 use Rattle.form.specs.declared.Form.{Form}
-use Rattle.form.specs.declared.GroupForm.{GroupForm}
-use Rattle.form.specs.declared.GroupForm.TheVariants.{Has, NoGroup}
 use Rattle.form.specs.Table.{form_of}
 use Rattle.line.proofs.Pieces.{each_whole}
 use Rattle.line.specs.Lines.{Whole}
@@ -32,17 +31,17 @@ use Rattle.writing.proofs.CanonicalIndex.{index_line_text, index_whole}
 -- ---- a group, by its form
 
 module _ (ρ : Rules) (count : ℕ) (x : List ℕ) (c : List ℤ) where
-  by_whole : (h : GroupForm) → CanonicalGroupBy ρ h count x c → Whole (lines_by ρ h count) x
-  by_whole (Has f) p = Lines.lines_whole ρ f count x c p
-  by_whole NoGroup p = absurd p
+  by_whole : (h : Option Form) → CanonicalGroupBy ρ h count x c → Whole (lines_by ρ h count) x
+  by_whole (Some f) p = Lines.lines_whole ρ f count x c p
+  by_whole None p = absurd p
 
-  by_cells : (h : GroupForm) → CanonicalGroupBy ρ h count x c → length c ≡ cells_by ρ h count
-  by_cells (Has f) p = Lines.lines_cells ρ f count x c p
-  by_cells NoGroup p = absurd p
+  by_cells : (h : Option Form) → CanonicalGroupBy ρ h count x c → length c ≡ cells_by ρ h count
+  by_cells (Some f) p = Lines.lines_cells ρ f count x c p
+  by_cells None p = absurd p
 
-  by_text : (h : GroupForm) → CanonicalGroupBy ρ h count x c → x ≡ group_text_by ρ h count c
-  by_text (Has f) p = Lines.lines_text_lem ρ f count x c p
-  by_text NoGroup p = absurd p
+  by_text : (h : Option Form) → CanonicalGroupBy ρ h count x c → x ≡ group_text_by ρ h count c
+  by_text (Some f) p = Lines.lines_text_lem ρ f count x c p
+  by_text None p = absurd p
 
 module _ (ρ : Rules) (ns : List ℕ) where
   pub group_whole : (g : ℕ) (x : List ℕ) (c : List ℤ) → CanonicalGroup ρ ns g x c → Whole (lines_in ρ ns g) x
@@ -57,7 +56,7 @@ module _ (ρ : Rules) (ns : List ℕ) where
   unfolding group_text
   group_text_lem g x c p = by_text ρ (count_of ns g) x c (form_of g) p
 
-  pub group_read_lem : (g : ℕ) (f : Form) (x : List ℕ) (c : List ℤ) → form_of g ≡ Has f → CanonicalGroup ρ ns g x c → read_lines ρ f (may_be_short g) (count_of ns g) x ≡ done c
+  pub group_read_lem : (g : ℕ) (f : Form) (x : List ℕ) (c : List ℤ) → form_of g ≡ Some f → CanonicalGroup ρ ns g x c → read_lines ρ f (may_be_short g) (count_of ns g) x ≡ done c
   group_read_lem g f x c e p = Lines.lines_read ρ f (count_of ns g) x c (rw e at p) (may_be_short g)
 
 -- ---- canonical text is one

@@ -1,6 +1,7 @@
 -- R9, R101: canonical lines end in a carriage return and a line feed, so a canonical record is answered the same under any two rules that count
 -- alike, wherever it stands in whatever text.
 -- Assumes nothing.
+use Rattle.std.specs.Prelude.{Option, Some, None, Ok}
 use mathlib.Core.Path.{◌≡◌, sym, ◌∙◌, ap, subst}
 use mathlib.Core.Bool.{cond, ◌&&◌}
 use mathlib.Core.List.{List, ◌++◌}
@@ -12,13 +13,10 @@ use Rattle.rules.specs.declared.Rules.{Rules}
 use Rattle.base.specs.Every.{up_from}
 use Rattle.base.specs.Pieces.{Each}
 use Rattle.base.proofs.Each.{each_imply}
-use Rattle.form.specs.declared.GroupForm.{GroupForm}
-use Rattle.form.specs.declared.GroupForm.TheVariants.{Has, NoGroup}
 use Rattle.form.specs.Table.{form_of}
 use Rattle.form.proofs.Table.{form_range}
 use Rattle.count.specs.Tally.{count_of, group_cells}
 use Rattle.count.specs.Rules.{release_of}
-use Rattle.count.specs.declared.Release.TheVariants.{Five}
 use Rattle.place.specs.Placing
 use Rattle.place.specs.Placing.{located, locate, placing_by}
 use Rattle.place.specs.Parts.{group_part}
@@ -36,15 +34,16 @@ use Rattle.group.proofs.Texts.{read_located}
 use Rattle.writing.specs.Canonical.{CanonicalLine, CanonicalGroupBy, CanonicalGroup, CanonicalRecord}
 use Rattle.writing.proofs.Canonical.{group_read_lem}
 use Rattle.writing.proofs.Standing.{standing_located, standing_group}
+use Rattle.form.specs.declared.Form.{Form}
 
 -- what is canonical for one of them is so for the other
 module _ (ρ σ : Rules) (alike : ρ.counting ≡ σ.counting) (ns : List ℕ) where
   canonical_group : (g : ℕ) (x : List ℕ) (c : List ℤ) → CanonicalGroup ρ ns g x c → CanonicalGroup σ ns g x c
   canonical_group g x c p = by (form_of g) p
     where
-      by : (f : GroupForm) → CanonicalGroupBy ρ f (count_of ns g) x c → CanonicalGroupBy σ f (count_of ns g) x c
-      by (Has f) u = subst (λ ls. Each (CanonicalLine f) ls x c) (plan_same ρ σ alike f (count_of ns g)) u
-      by NoGroup u = u
+      by : (f : Option Form) → CanonicalGroupBy ρ f (count_of ns g) x c → CanonicalGroupBy σ f (count_of ns g) x c
+      by (Some f) u = subst (λ ls. Each (CanonicalLine f) ls x c) (plan_same ρ σ alike f (count_of ns g)) u
+      by None u = u
 
   pub canonical_record : (x : List ℕ) (cs : List ℤ) → CanonicalRecord ρ ns x cs → CanonicalRecord σ ns x cs
   canonical_record x cs h =
@@ -59,7 +58,7 @@ module _ (ρ σ : Rules) (alike : ρ.counting ≡ σ.counting) (ns : List ℕ) w
         is = h.is;
       }
 
-module _ (ρ σ : Rules) (alike : ρ.counting ≡ σ.counting) {ns x : List ℕ} {cs : List ℤ} (h : CanonicalRecord ρ ns x cs) (five : release_of ns ≡ Five) (a b : List ℕ) where
+module _ (ρ σ : Rules) (alike : ρ.counting ≡ σ.counting) {ns x : List ℕ} {cs : List ℤ} (h : CanonicalRecord ρ ns x cs) (five : release_of ns ≡ Ok tt) (a b : List ℕ) where
   abbrev text : List ℕ
   text = a ++ (x ++ b)
 

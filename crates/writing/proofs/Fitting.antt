@@ -1,6 +1,7 @@
 -- What it says that all cells fit: each element's own cells fit a field of its form, in a group, in each line of it, and in each group of a
 -- record; only the cells that the counts need matter.
 -- Assumes nothing.
+use Rattle.std.specs.Prelude.{Some, Result, Ok, Err}
 use mathlib.Core.Path.{◌≡◌, refl, sym, ◌∙◌, ap, subst}
 use mathlib.Core.Bool.{Bool, true, false, cond}
 use mathlib.Core.List.{List, [], ◌∷◌, map}
@@ -23,7 +24,6 @@ use Rattle.base.proofs.Choice.{T_true}
 use Rattle.base.proofs.Taken.{drop_take, drop_none}
 use Rattle.base.proofs.UpFrom.{sum_up_same, sum_up_more, own_up, up_own}
 use Rattle.form.specs.declared.Form.{Form}
-use Rattle.form.specs.declared.GroupForm.TheVariants.{Has}
 use Rattle.form.specs.Table.{row_of, form_of}
 use Rattle.form.specs.Count
 use Rattle.form.specs.Count.{elements_of, rounded_up, cells_of}
@@ -33,26 +33,23 @@ use Rattle.count.specs.Tally.{count_of, cells_in, cells_before}
 use Rattle.count.proofs.Tallied.{cells_first, cells_next}
 use Rattle.reading.specs.Plan
 use Rattle.reading.specs.Plan.{plan_from, plan_of, many_plan}
-use Rattle.writing.specs.declared.Fit.{Fit}
-use Rattle.writing.specs.declared.Fit.TheVariants.{All, Not}
 use Rattle.writing.specs.Fitting.{Fitted, first_of, first_misfit, element_fit, elements_fit, group_fit, fit_of}
 use Rattle.writing.specs.Text.{line_cells}
+use Rattle.reply.specs.declared.Refusal.TheVariants.{NoField}
+use Rattle.reply.specs.declared.Refusal.{Refusal}
 
 -- ---- pieces of which all fit
 
-no_all : {A : Type 0} {g e : ℕ} → Not g e ≡ All → A
-no_all x = let z : ◌≡◌ {A = ℕ} 0 1 = cc in absurd (omega arith)
+first_left : (x y : Result (Unit {0}) Refusal) → first_of x y ≡ Ok tt → x ≡ Ok tt
+first_left (Ok all) y e = refl
+first_left (Err r) y e = cc
 
-first_left : (x y : Fit) → first_of x y ≡ All → x ≡ All
-first_left All y e = refl
-first_left (Not g n) y e = no_all e
+first_right : (x y : Result (Unit {0}) Refusal) → first_of x y ≡ Ok tt → y ≡ Ok tt
+first_right (Ok all) y e = e
+first_right (Err r) y e = cc
 
-first_right : (x y : Fit) → first_of x y ≡ All → y ≡ All
-first_right All y e = e
-first_right (Not g n) y e = no_all e
-
-module _ {A : Type 0} (size : A → ℕ) (fit : A → List ℤ → Fit) where
-  pub misfit_own : (bs : List A) (cs : List ℤ) → first_misfit size fit bs cs ≡ All → Own size (λ a c. fit a c ≡ All) bs cs
+module _ {A : Type 0} (size : A → ℕ) (fit : A → List ℤ → Result (Unit {0}) Refusal) where
+  pub misfit_own : (bs : List A) (cs : List ℤ) → first_misfit size fit bs cs ≡ Ok tt → Own size (λ a c. fit a c ≡ Ok tt) bs cs
   unfolding first_misfit Pieces.Own
   misfit_own [] cs e = tt
   misfit_own (a ∷ bs) cs e =
@@ -60,7 +57,7 @@ module _ {A : Type 0} (size : A → ℕ) (fit : A → List ℤ → Fit) where
       let y = first_misfit size fit bs (drop (size a) cs) in
       (first_left x y e, misfit_own bs (drop (size a) cs) (first_right x y e))
 
-  pub own_misfit : (bs : List A) (cs : List ℤ) → Own size (λ a c. fit a c ≡ All) bs cs → first_misfit size fit bs cs ≡ All
+  pub own_misfit : (bs : List A) (cs : List ℤ) → Own size (λ a c. fit a c ≡ Ok tt) bs cs → first_misfit size fit bs cs ≡ Ok tt
   unfolding first_misfit Pieces.Own
   own_misfit [] cs o = refl
   own_misfit (a ∷ bs) cs o = rw (o.0, own_misfit bs (drop (size a) cs) o.1)
@@ -74,14 +71,14 @@ module _ {A : Type 0} (size : A → ℕ) (fit : A → List ℤ → Fit) where
 
 -- ---- the elements of a group
 
-element_fits : (f : Form) (g e : ℕ) (c : List ℤ) → element_fit f g e c ≡ All → T (fits_of f c)
+element_fits : (f : Form) (g e : ℕ) (c : List ℤ) → element_fit f g e c ≡ Ok tt → T (fits_of f c)
 element_fits f g e c h = by (fits_of f c) h
   where
-    by : (t : Bool) → cond t All (Not g e) ≡ All → T t
+    by : (t : Bool) → ◌≡◌ {A = Result (Unit {0}) Refusal} (cond t (Ok tt) (Err (NoField g e))) (Ok tt) → T t
     by true u = tt
-    by false u = no_all u
+    by false u = cc
 
-fits_element : (f : Form) (g e : ℕ) (c : List ℤ) → T (fits_of f c) → element_fit f g e c ≡ All
+fits_element : (f : Form) (g e : ℕ) (c : List ℤ) → T (fits_of f c) → element_fit f g e c ≡ Ok tt
 fits_element f g e c t = rw (T_true (fits_of f c) t)
 
 -- those with j lines before them have min n (j * p) elements before them
@@ -105,9 +102,6 @@ module _ (f : Form) where
       let n : c ≤ j * c - i * c = omega (arith, mul-le-mul_right {m = i + 1} {n = j} c (omega arith), add-mul i 1 c, one-mul c) in
       let e : take c (drop (i * c) (take (j * c) cs)) ≡ take c (drop (i * c) cs) = ap (take c) (drop_take (i * c) (j * c) cs) ∙ take-take c (j * c - i * c) (drop (i * c) cs) n in
       rw e (h i (omega arith))
-
-  pub fitted_fewer : (k j : ℕ) (cs : List ℤ) → j ≤ k → Fitted f k cs → Fitted f j cs
-  fitted_fewer k j cs m h i l = h i (omega arith)
 
   -- as pieces, whatever their numbers are
   pub fitted_own : (a k : ℕ) (cs : List ℤ) → Fitted f k cs → Own (λ (e : ℕ). (row_of f).cells) (λ (e : ℕ) c. T (fits_of f c)) (up_from a k) cs
@@ -138,22 +132,22 @@ module _ (f : Form) where
       rw (z, zero-mul (row_of f).cells, drop_none cs) at (fitted_lines p n 0 (rounded_up n p) cs h)
 
 module _ (ρ : Rules) (f : Form) where
-  pub elements_fitted : (g count : ℕ) (cs : List ℤ) → elements_fit ρ f g count cs ≡ All → Fitted f (elements_of ρ f count) cs
+  pub elements_fitted : (g count : ℕ) (cs : List ℤ) → elements_fit ρ f g count cs ≡ Ok tt → Fitted f (elements_of ρ f count) cs
   unfolding elements_fit
   elements_fitted g count cs h i l =
-      let o = own_up (size f) (λ e c. element_fit f g e c ≡ All) 1 (elements_of ρ f count) cs (misfit_own (size f) (element_fit f g) (up_from 1 (elements_of ρ f count)) cs h) i l in
+      let o = own_up (size f) (λ e c. element_fit f g e c ≡ Ok tt) 1 (elements_of ρ f count) cs (misfit_own (size f) (element_fit f g) (up_from 1 (elements_of ρ f count)) cs h) i l in
       element_fits f g (1 + i) (take (row_of f).cells (drop (i * (row_of f).cells) cs))
-      (subst (λ m. element_fit f g (1 + i) (take (row_of f).cells (drop m cs)) ≡ All) (sum_up_same (row_of f).cells 1 i) o)
+      (subst (λ m. element_fit f g (1 + i) (take (row_of f).cells (drop m cs)) ≡ Ok tt) (sum_up_same (row_of f).cells 1 i) o)
 
-  pub fitted_elements : (g count : ℕ) (cs : List ℤ) → Fitted f (elements_of ρ f count) cs → elements_fit ρ f g count cs ≡ All
+  pub fitted_elements : (g count : ℕ) (cs : List ℤ) → Fitted f (elements_of ρ f count) cs → elements_fit ρ f g count cs ≡ Ok tt
   unfolding elements_fit
   fitted_elements g count cs h =
       own_misfit (size f) (element_fit f g) (up_from 1 (elements_of ρ f count)) cs
-      (up_own (size f) (λ e c. element_fit f g e c ≡ All) 1 (elements_of ρ f count) cs each)
+      (up_own (size f) (λ e c. element_fit f g e c ≡ Ok tt) 1 (elements_of ρ f count) cs each)
     where
-      each : (i : ℕ) → i < elements_of ρ f count → element_fit f g (1 + i) (take (row_of f).cells (drop (sum (map (size f) (up_from 1 i))) cs)) ≡ All
+      each : (i : ℕ) → i < elements_of ρ f count → element_fit f g (1 + i) (take (row_of f).cells (drop (sum (map (size f) (up_from 1 i))) cs)) ≡ Ok tt
       each i l =
-          subst (λ m. element_fit f g (1 + i) (take (row_of f).cells (drop m cs)) ≡ All) (sym (sum_up_same (row_of f).cells 1 i))
+          subst (λ m. element_fit f g (1 + i) (take (row_of f).cells (drop m cs)) ≡ Ok tt) (sym (sum_up_same (row_of f).cells 1 i))
           (fits_element f g (1 + i) (take (row_of f).cells (drop (i * (row_of f).cells) cs)) (h i l))
 
   -- only the group's own cells matter
@@ -172,11 +166,11 @@ sum_up_none : (f : ℕ → ℕ) (a : ℕ) → sum (map f (up_from a 0)) ≡ 0
 unfolding Every.up_from Sum.sum
 sum_up_none f a = refl
 
-pub groups_own : (ρ : Rules) (ns : List ℕ) (cs : List ℤ) → fit_of ρ ns cs ≡ All → Own (cells_in ρ ns) (λ g c. group_fit ρ ns g c ≡ All) (up_from 1 60) cs
+pub groups_own : (ρ : Rules) (ns : List ℕ) (cs : List ℤ) → fit_of ρ ns cs ≡ Ok tt → Own (cells_in ρ ns) (λ g c. group_fit ρ ns g c ≡ Ok tt) (up_from 1 60) cs
 unfolding fit_of
 groups_own ρ ns cs e = misfit_own (cells_in ρ ns) (group_fit ρ ns) (up_from 1 60) cs e
 
-pub own_groups : (ρ : Rules) (ns : List ℕ) (cs : List ℤ) → Own (cells_in ρ ns) (λ g c. group_fit ρ ns g c ≡ All) (up_from 1 60) cs → fit_of ρ ns cs ≡ All
+pub own_groups : (ρ : Rules) (ns : List ℕ) (cs : List ℤ) → Own (cells_in ρ ns) (λ g c. group_fit ρ ns g c ≡ Ok tt) (up_from 1 60) cs → fit_of ρ ns cs ≡ Ok tt
 unfolding fit_of
 own_groups ρ ns cs o = own_misfit (cells_in ρ ns) (group_fit ρ ns) (up_from 1 60) cs o
 
@@ -193,18 +187,18 @@ cells_before_lem ρ ns (suc i) h =
     next i = omega arith
 
 -- the cells of group g fit its form
-pub group_fits : (ρ : Rules) (ns : List ℕ) (cs : List ℤ) → fit_of ρ ns cs ≡ All → (g : ℕ) → 0 < g → g < 61 → group_fit ρ ns g (take (cells_in ρ ns g) (drop (cells_before ρ ns g) cs)) ≡ All
+pub group_fits : (ρ : Rules) (ns : List ℕ) (cs : List ℤ) → fit_of ρ ns cs ≡ Ok tt → (g : ℕ) → 0 < g → g < 61 → group_fit ρ ns g (take (cells_in ρ ns g) (drop (cells_before ρ ns g) cs)) ≡ Ok tt
 group_fits ρ ns cs e zero a b = absurd (omega arith)
 group_fits ρ ns cs e (suc i) a b =
-    let o = own_up (cells_in ρ ns) (λ g c. group_fit ρ ns g c ≡ All) 1 60 cs (groups_own ρ ns cs e) i (omega arith) in
+    let o = own_up (cells_in ρ ns) (λ g c. group_fit ρ ns g c ≡ Ok tt) 1 60 cs (groups_own ρ ns cs e) i (omega arith) in
     let k : 1 + i ≡ suc i = omega arith in
-    subst (λ g. group_fit ρ ns g (take (cells_in ρ ns g) (drop (cells_before ρ ns (suc i)) cs)) ≡ All) k
-    (subst (λ m. group_fit ρ ns (1 + i) (take (cells_in ρ ns (1 + i)) (drop m cs)) ≡ All) (cells_before_lem ρ ns i (omega arith)) o)
+    subst (λ g. group_fit ρ ns g (take (cells_in ρ ns g) (drop (cells_before ρ ns (suc i)) cs)) ≡ Ok tt) k
+    (subst (λ m. group_fit ρ ns (1 + i) (take (cells_in ρ ns (1 + i)) (drop m cs)) ≡ Ok tt) (cells_before_lem ρ ns i (omega arith)) o)
 
-pub group_fitted : (ρ : Rules) (ns : List ℕ) (cs : List ℤ) → fit_of ρ ns cs ≡ All → (g : ℕ) (f : Form) → 0 < g → g < 61 → form_of g ≡ Has f
+pub group_fitted : (ρ : Rules) (ns : List ℕ) (cs : List ℤ) → fit_of ρ ns cs ≡ Ok tt → (g : ℕ) (f : Form) → 0 < g → g < 61 → form_of g ≡ Some f
     → Fitted f (elements_of ρ f (count_of ns g)) (drop (cells_before ρ ns g) cs)
 unfolding Tally.cells_in
 group_fitted ρ ns cs e g f a b h =
-    let u : group_fit ρ ns g (take (cells_in ρ ns g) (drop (cells_before ρ ns g) cs)) ≡ All = group_fits ρ ns cs e g a b in
-    let v : elements_fit ρ f g (count_of ns g) (take (cells_of ρ f (count_of ns g)) (drop (cells_before ρ ns g) cs)) ≡ All = rw h at u in
+    let u : group_fit ρ ns g (take (cells_in ρ ns g) (drop (cells_before ρ ns g) cs)) ≡ Ok tt = group_fits ρ ns cs e g a b in
+    let v : elements_fit ρ f g (count_of ns g) (take (cells_of ρ f (count_of ns g)) (drop (cells_before ρ ns g) cs)) ≡ Ok tt = rw h at u in
     elements_fitted ρ f g (count_of ns g) (drop (cells_before ρ ns g) cs) (sym (elements_take ρ f g (count_of ns g) (drop (cells_before ρ ns g) cs)) ∙ v)

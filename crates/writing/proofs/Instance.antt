@@ -1,5 +1,6 @@
 -- R381, record S: what is written for its counts and cells is its 305 bytes, by computation; so it is canonical, and reads back.
 -- Assumes nothing.
+use Rattle.std.specs.Prelude.{Ok}
 use mathlib.Core.Path.{◌≡◌, refl, subst}
 use mathlib.Core.List.{List, [], ◌∷◌, ◌++◌, map}
 use Prim.Native.Nat.{ℕ}
@@ -21,7 +22,6 @@ use Rattle.date.specs.Digits
 use Rattle.date.specs.Calendar
 use Rattle.date.specs.Date
 use Rattle.reading.specs.Plan
-use Rattle.reply.specs.declared.Answer.TheVariants.{Done}
 use Rattle.writing.specs.Canonical.{CanonicalRecord}
 use Rattle.writing.specs.Fitting.{first_misfit, elements_fit, fit_of}
 use Rattle.writing.specs.RoundTrip.{ReadsBack}
@@ -59,7 +59,7 @@ pub size : length text ≡ 305
 size = refl
 
 -- writing gives 0 with 305 bytes
-pub done : (ρ : Rules) → writing_of ρ counts cells 305 ≡ Done 305
+pub done : (ρ : Rules) → writing_of ρ counts cells 305 ≡ Ok 305
 unfolding writing_of record_bytes bytes_in fit_of elements_fit first_misfit Check.checked_of Check.accepted_of Check.well_formed Rules.release_of Rules.filled_among Rules.ruling_of
     Rules.lowest Rules.head_rules Rules.sets Rules.keeps Rules.letter_rules Every.up_from Sum.sum Tally.cells_in Tally.cell_tally Tally.cells_before Table.form_of
     Table.form_among Table.row_of Table.listed_as Count.elements_of Count.is_segments Count.segment_elements Count.lines_of Count.rounded_up Count.cells_of Write.fits_of Date.dated_of Date.first_blamed

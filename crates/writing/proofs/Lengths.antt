@@ -1,5 +1,6 @@
 -- How long canonical text is where all cells fit: a line, a group, the index, a record; and that a group's text takes no cells but its own.
 -- Assumes nothing.
+use Rattle.std.specs.Prelude.{Option, Some, None, Ok}
 use mathlib.Core.Path.{◌≡◌, refl, sym, ◌∙◌, ap}
 use mathlib.Core.List.{List, [], ◌∷◌, ◌++◌, map}
 use Prim.Native.Nat.{ℕ, zero, suc, ◌+◌, ◌-◌, ◌*◌, ◌<◌, ◌≤◌, min}
@@ -16,8 +17,6 @@ use Rattle.base.specs.Sum.{sum}
 use Rattle.base.proofs.Pieces.{own_imply, emit_length, emit_take}
 use Rattle.base.proofs.UpFrom.{length_up, up_more, sum_up_same}
 use Rattle.form.specs.declared.Form.{Form}
-use Rattle.form.specs.declared.GroupForm.{GroupForm}
-use Rattle.form.specs.declared.GroupForm.TheVariants.{Has, NoGroup}
 use Rattle.form.specs.Table.{row_of, form_of}
 use Rattle.form.specs.Count
 use Rattle.form.specs.Count.{elements_of, lines_of, cells_of, rounded_up}
@@ -32,7 +31,6 @@ use Rattle.field.proofs.Laws.{lawful}
 use Rattle.count.specs.Tally.{count_of, cells_in}
 use Rattle.reading.specs.Plan
 use Rattle.reading.specs.Plan.{Line, line_at, plan_from, plan_of, elements_in, many_plan}
-use Rattle.writing.specs.declared.Fit.TheVariants.{All}
 use Rattle.writing.specs.Fitting.{Fitted, group_fit_by, group_fit, fit_of}
 use Rattle.writing.specs.Text.{line_end, entries_text, index_text, line_cells, fields_text, line_text, many_text, lines_text, group_text_by, group_text, groups_text}
 use Rattle.writing.specs.Text.{record_text, many_bytes, bytes_of, bytes_by, bytes_in, record_bytes}
@@ -139,23 +137,23 @@ pub lines_take : (ρ : Rules) (f : Form) (count : ℕ) (cs : List ℤ) → lines
 unfolding lines_text many_text Count.cells_of
 lines_take ρ f count cs = let n = elements_of ρ f count in emit_take (line_cells f) (line_text f) (many_plan f n) cs (n * (row_of f).cells) (omega (arith, many_cells f n (row_of f).cells))
 
-pub group_length : (ρ : Rules) (ns : List ℕ) (g : ℕ) (cs : List ℤ) → group_fit ρ ns g cs ≡ All → length (group_text ρ ns g cs) ≡ bytes_in ρ ns g
+pub group_length : (ρ : Rules) (ns : List ℕ) (g : ℕ) (cs : List ℤ) → group_fit ρ ns g cs ≡ Ok tt → length (group_text ρ ns g cs) ≡ bytes_in ρ ns g
 unfolding group_text bytes_in
 group_length ρ ns g cs h = by (form_of g) h
   where
-    by : (x : GroupForm) → group_fit_by ρ x g (count_of ns g) cs ≡ All → length (group_text_by ρ x (count_of ns g) cs) ≡ bytes_by ρ x (count_of ns g)
-    by (Has f) u = lines_length ρ f (count_of ns g) cs (elements_fitted ρ f g (count_of ns g) cs u)
-    by NoGroup u = refl
+    by : (x : Option Form) → group_fit_by ρ x g (count_of ns g) cs ≡ Ok tt → length (group_text_by ρ x (count_of ns g) cs) ≡ bytes_by ρ x (count_of ns g)
+    by (Some f) u = lines_length ρ f (count_of ns g) cs (elements_fitted ρ f g (count_of ns g) cs u)
+    by None u = refl
 
 -- ---- a record
 
-pub groups_length : (ρ : Rules) (ns : List ℕ) (cs : List ℤ) → fit_of ρ ns cs ≡ All → length (groups_text ρ ns cs) ≡ sum (map (bytes_in ρ ns) (up_from 1 60))
+pub groups_length : (ρ : Rules) (ns : List ℕ) (cs : List ℤ) → fit_of ρ ns cs ≡ Ok tt → length (groups_text ρ ns cs) ≡ sum (map (bytes_in ρ ns) (up_from 1 60))
 unfolding groups_text
 groups_length ρ ns cs h =
     emit_length (cells_in ρ ns) (group_text ρ ns) (bytes_in ρ ns) (up_from 1 60) cs
-    (own_imply (cells_in ρ ns) (λ g c. group_fit ρ ns g c ≡ All) (λ g c. length (group_text ρ ns g c) ≡ bytes_in ρ ns g) (up_from 1 60) cs (group_length ρ ns) (groups_own ρ ns cs h))
+    (own_imply (cells_in ρ ns) (λ g c. group_fit ρ ns g c ≡ Ok tt) (λ g c. length (group_text ρ ns g c) ≡ bytes_in ρ ns g) (up_from 1 60) cs (group_length ρ ns) (groups_own ρ ns cs h))
 
-pub record_length : (ρ : Rules) (ns : List ℕ) (cs : List ℤ) → length ns ≡ 80 → fit_of ρ ns cs ≡ All → length (record_text ρ ns cs) ≡ record_bytes ρ ns
+pub record_length : (ρ : Rules) (ns : List ℕ) (cs : List ℤ) → length ns ≡ 80 → fit_of ρ ns cs ≡ Ok tt → length (record_text ρ ns cs) ≡ record_bytes ρ ns
 unfolding record_text record_bytes
 record_length ρ ns cs e h = length-append (index_text ns) (groups_text ρ ns cs) ∙ rw (index_length ns e, groups_length ρ ns cs h)
 
@@ -190,7 +188,7 @@ module _ (ρ : Rules) (ns : List ℕ) where
         let e : total + 0 ≡ record_bytes ρ ns = rw z at b.same in
         omega arith
 
-    pub adding_more : g < 61 → (f : Form) → form_of g ≡ Has f → (n : ℕ) → n ≡ count_of ns g → n ≤ 65535 → Adding ρ ns (total + bytes_of ρ f n) (g + 1)
+    pub adding_more : g < 61 → (f : Form) → form_of g ≡ Some f → (n : ℕ) → n ≡ count_of ns g → n ≤ 65535 → Adding ρ ns (total + bytes_of ρ f n) (g + 1)
     unfolding Sum.sum bytes_in
     adding_more h f e n c few =
         let s : sum (map (bytes_in ρ ns) (up_from g (61 - g))) ≡ bytes_in ρ ns g + sum (map (bytes_in ρ ns) (up_from (g + 1) (61 - (g + 1)))) =
@@ -199,5 +197,5 @@ module _ (ρ : Rules) (ns : List ℕ) where
         let k = bytes_few ρ f n few in
         record { low = omega arith; high = omega arith; small = omega (arith, b.small, k.0, k.1); same = omega (arith, b.same) }
       where
-        by : (f : Form) → form_of g ≡ Has f → bytes_in ρ ns g ≡ bytes_of ρ f (count_of ns g)
+        by : (f : Form) → form_of g ≡ Some f → bytes_in ρ ns g ≡ bytes_of ρ f (count_of ns g)
         by f e = rw e

@@ -1,5 +1,6 @@
 -- The letters of group 3, from which writing takes the date: they are there, they are letters, and the first 19 decide.
 -- Assumes nothing.
+use Rattle.std.specs.Prelude.{Some, Ok}
 use mathlib.Core.Path.{◌≡◌, refl, sym, ◌∙◌, ap, subst}
 use mathlib.Core.Bool.{true}
 use mathlib.Core.List.{List, [], ◌∷◌, map}
@@ -11,14 +12,12 @@ use lib.IntN.{ℤ}
 use lib.ListN.{length, take, drop, length-map, length-take, length-drop}
 use Rattle.rules.specs.declared.Rules.{Rules}
 use Rattle.base.specs.Every.{every}
-use Rattle.base.specs.Part.{part, over}
+use Rattle.base.specs.Part.{part}
 use Rattle.base.specs.Sign.{size_of}
 use Rattle.base.proofs.Choice.{and_left, and_right, and_both}
 use Rattle.base.proofs.Mapped.{map_take}
-use Rattle.base.proofs.Part.{over_all, part_length}
 use Rattle.base.proofs.Taken.{take_none, take_both}
 use Rattle.form.specs.declared.Form.TheVariants.{A1}
-use Rattle.form.specs.declared.GroupForm.TheVariants.{Has}
 use Rattle.form.specs.Table
 use Rattle.form.specs.Table.{row_of, form_of}
 use Rattle.form.specs.Count
@@ -29,21 +28,14 @@ use Rattle.field.specs.Write.{is_letter, fits_of}
 use Rattle.count.specs.Tally.{count_of, cells_before}
 use Rattle.count.proofs.Tallied.{cells_has, cells_next, cells_below, all_cells}
 use Rattle.count.specs.Check.{checked_of}
-use Rattle.reply.specs.declared.Checked.TheVariants as C
 use Rattle.date.specs.Date.{dated_of}
 use Rattle.reading.proofs.Dates.{dated_take}
 use Rattle.reading.proofs.Steps.{kept_letters}
-use Rattle.writing.specs.declared.Fit.TheVariants.{All}
 use Rattle.writing.specs.Fitting.{Fitted, fit_of}
 use Rattle.writing.specs.Writing.{date_letters}
 use Rattle.count.proofs.Due as Counts
 use Rattle.count.proofs.Rulings.{kept_ruling}
 use Rattle.writing.proofs.Fitting.{group_fitted}
-
--- the first 19 letters, as they are copied into 19 bytes
-pub letters_copied : (cs : List ℤ) (from : ℕ) (old : List ℕ) → from + 19 ≤ length cs → length old ≡ 19 → over 0 (map size_of (part from (from + 19) cs)) old ≡ map size_of (part from (from + 19) cs)
-letters_copied cs from old h l =
-    over_all old (map size_of (part from (from + 19) cs)) (length-map (part from (from + 19) cs) size_of ∙ part_length cs from 19 h ∙ sym l)
 
 -- ---- cells that fit A1 are letters
 
@@ -73,7 +65,7 @@ letters_fit (suc k) (z ∷ cs) h =
 
 -- ---- group 3
 
-three : form_of 3 ≡ Has A1
+three : form_of 3 ≡ Some A1
 unfolding Table.form_of Table.form_among Table.listed_as
 three = refl
 
@@ -81,15 +73,15 @@ letters_many : (ρ : Rules) (count : ℕ) → cells_of ρ A1 count ≡ count
 unfolding Count.cells_of
 letters_many ρ count = rw (letters_elements ρ count) (ap (λ c. count * c) letter_row ∙ mul-one count)
 
-module _ (ρ : Rules) (ns : List ℕ) (cs : List ℤ) (c : checked_of ρ ns (length cs) ≡ C.Right) (fit : fit_of ρ ns cs ≡ All) where
+module _ (ρ : Rules) (ns : List ℕ) (cs : List ℤ) (c : checked_of ρ ns (length cs) ≡ Ok tt) (fit : fit_of ρ ns cs ≡ Ok tt) where
   enough : 19 ≤ count_of ns 3
-  enough = kept_letters ns (kept_ruling ns ((Counts.first_due ρ ns (length cs) C.Right).0 c).rules.kept)
+  enough = kept_letters ns (kept_ruling ns ((Counts.first_due ρ ns (length cs) (Ok tt)).0 c).rules.kept)
 
   behind : cells_before ρ ns 4 ≡ cells_before ρ ns 3 + count_of ns 3
   behind = cells_next ρ ns 3 (omega arith) (omega arith) ∙ ap (λ n. cells_before ρ ns 3 + n) (cells_has ρ ns 3 A1 three ∙ letters_many ρ (count_of ns 3))
 
   inside : cells_before ρ ns 4 ≤ length cs
-  inside = omega (arith, cells_below ρ ns 4 61 (omega arith), all_cells ρ ns, ((Counts.first_due ρ ns (length cs) C.Right).0 c).needed)
+  inside = omega (arith, cells_below ρ ns 4 61 (omega arith), all_cells ρ ns, ((Counts.first_due ρ ns (length cs) (Ok tt)).0 c).needed)
 
   pub date_inside : cells_before ρ ns 3 + 19 ≤ length cs
   date_inside = omega (arith, enough, behind, inside)

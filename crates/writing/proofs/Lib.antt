@@ -4,9 +4,11 @@
 -- (Standing) with each group's own cells (GroupCells); that what is written is canonical (Written). What reply 0 of
 -- writing says (Done). What was written reads back (ReadsBack); what reads fits (ReadFits), and what was read is written again
 -- (ReadWrites). A canonical record under any two rules for line ends (Ends). Record S (Instance) and the marked cases (Cases).
+pub mod Rows
 pub mod Fitting
 pub mod Lengths
 pub mod Checking
+pub mod Split
 pub mod Putting
 pub mod Letters
 pub mod Steps

@@ -1,6 +1,7 @@
 -- What is promised of writing a record: each answer fills a row of its table; a refusal keeps the output, and 0 keeps what stands behind the
 -- text.
 -- Assumes nothing.
+use Rattle.std.specs.Prelude.{Result, Ok, Err}
 use mathlib.Core.Path.{◌≡◌, refl, sym, ◌∙◌, ap}
 use mathlib.Core.List.{List, [], ◌∷◌}
 use mathlib.Core.Logic.{inl, inr}
@@ -19,8 +20,6 @@ use Rattle.form.proofs.Table.{form_range}
 use Rattle.count.specs.Numbered.{check_refusals}
 use Rattle.count.proofs.Numbered.{check_refusal_numbered}
 use Rattle.date.proofs.Due.{blamed_position}
-use Rattle.reply.specs.declared.Answer.{Answer}
-use Rattle.reply.specs.declared.Answer.TheVariants.{Done, Refused}
 use Rattle.reply.specs.declared.Refusal.{Refusal}
 use Rattle.reply.specs.declared.Refusal.TheVariants.{NoField, BadDate, NoRoom}
 use Rattle.writing.specs.Text.{record_text, record_bytes}
@@ -46,9 +45,9 @@ module _ (ρ : Rules) (ns : List ℕ) (cs : List ℤ) (room : ℕ) where
       at_row 6 (rows writing_refusals) (refusal_reply (BadDate p)) (lit< tt) (refusal_fills (BadDate p) (blamed_position (date_letters ρ ns cs) p d.wrong, tt))
   refusal_numbered r (no_room d) = at_row 7 (rows writing_refusals) (refusal_reply NoRoom) (lit< tt) (refusal_fills NoRoom tt)
 
-  due_numbered : (w : Answer) → Due ρ ns cs room w → Numbered writing_rows (answer_reply w)
-  due_numbered (Done n) d = inl (fills 0 ((bytes, n) ∷ []) (omega (arith, d.bytes, record_some ρ ns), tt))
-  due_numbered (Refused r) d = inr (refusal_numbered r d)
+  due_numbered : (w : Result ℕ Refusal) → Due ρ ns cs room w → Numbered writing_rows (answer_reply w)
+  due_numbered (Ok n) d = inl (fills 0 ((bytes, n) ∷ []) (omega (arith, d.bytes, record_some ρ ns), tt))
+  due_numbered (Err r) d = inr (refusal_numbered r d)
 
   pub writing_numbered : Numbered writing_rows (answer_reply (writing_of ρ ns cs room))
   writing_numbered = due_numbered (writing_of ρ ns cs room) ((first_due ρ ns cs room (writing_of ρ ns cs room)).0 refl)
@@ -56,19 +55,19 @@ module _ (ρ : Rules) (ns : List ℕ) (cs : List ℤ) (room : ℕ) where
 -- ---- the output
 
 -- refused write keeps (R307): the whole output is what it was
-pub refused_write_keeps : (ρ : Rules) (ns : List ℕ) (cs : List ℤ) (w : Answer) (old : List ℕ) → ((answer_reply w).number ≡ 0 → ⊥) → output_by ρ ns cs w old ≡ old
-refused_write_keeps ρ ns cs (Done n) old h = absurd (h refl)
-refused_write_keeps ρ ns cs (Refused r) old h = refl
+pub refused_write_keeps : (ρ : Rules) (ns : List ℕ) (cs : List ℤ) (w : Result ℕ Refusal) (old : List ℕ) → ((answer_reply w).number ≡ 0 → ⊥) → output_by ρ ns cs w old ≡ old
+refused_write_keeps ρ ns cs (Ok n) old h = absurd (h refl)
+refused_write_keeps ρ ns cs (Err r) old h = refl
 
 -- done write keeps the rest (R306): the output begins with the text, n bytes long, and is as it was behind it
-module _ (ρ : Rules) (ns : List ℕ) (cs : List ℤ) (old : List ℕ) (n : ℕ) (d : writing_of ρ ns cs (length old) ≡ Done n) where
+module _ (ρ : Rules) (ns : List ℕ) (cs : List ℤ) (old : List ℕ) (n : ℕ) (d : writing_of ρ ns cs (length old) ≡ Ok n) where
   long : length (record_text ρ ns cs) ≡ n
   long =
       let i = done_is ρ ns cs (length old) n d in
       record_length ρ ns cs i.checked.rules.released.counts.many i.fit ∙ sym i.bytes
 
-  pub done_write_begins : take n (output_by ρ ns cs (Done n) old) ≡ record_text ρ ns cs
+  pub done_write_begins : take n (output_by ρ ns cs (Ok n) old) ≡ record_text ρ ns cs
   done_write_begins = rw (zero-add (length (record_text ρ ns cs))) (take_at (record_text ρ ns cs) (drop (length (record_text ρ ns cs)) old) n long)
 
-  pub done_write_keeps_rest : drop n (output_by ρ ns cs (Done n) old) ≡ drop n old
+  pub done_write_keeps_rest : drop n (output_by ρ ns cs (Ok n) old) ≡ drop n old
   done_write_keeps_rest = rw (zero-add (length (record_text ρ ns cs))) (drop_at (record_text ρ ns cs) (drop (length (record_text ρ ns cs)) old) n long ∙ ap (λ k. drop k old) long)

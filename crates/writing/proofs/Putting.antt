@@ -1,30 +1,28 @@
 -- The second pass: its state as it comes to an index entry, to a field of a line, to a line of a group, and to a group; one more of each, and
 -- the end. What is still to be put, put here, gives what was asked.
 -- Assumes nothing.
-use mathlib.Core.Path.{◌≡◌, refl, sym, ◌∙◌, ap}
-use mathlib.Core.List.{List, [], ◌∷◌, ◌++◌}
+use Rattle.std.specs.Prelude.{Some, Ok}
+use mathlib.Core.Path.{◌≡◌, sym, ◌∙◌, ap, ap₂, subst}
+use mathlib.Core.List.{List, [], ◌++◌}
 use Prim.Native.Nat.{ℕ, zero, suc, ◌+◌, ◌-◌, ◌*◌, ◌<◌, ◌≤◌, min}
-use native.Mathlib.Nat.{add-mul, one-mul, zero-mul, mul-le-mul_right, sub-zero}
+use native.Mathlib.Nat.{one-mul, zero-mul}
 use native.Mathlib.Numerals.{add-one}
 use native.Mathlib.Omega.{arith}
 use lib.Dec.{T}
 use lib.IntN.{ℤ}
-use lib.ListN.{length, take, drop, get_or, set, length-append, length-set, length-take, length-drop, drop_of_length-le}
-use lib.Seq.{drop-cons, drop-drop, take_all}
+use lib.ListN.{length, take, drop, get_or, length-append, length-take, length-drop, drop_of_length-le}
+use lib.Seq.{drop-cons, drop-drop, take_all, length-take-le}
 use Rattle.rules.specs.declared.Rules.{Rules}
 use Rattle.base.specs.Every
 use Rattle.base.specs.Every.{up_from}
 use Rattle.base.specs.Part.{part, over}
 use Rattle.base.specs.Pieces
 use Rattle.base.specs.Pieces.{emit}
-use Rattle.base.proofs.Part.{over_one, over_then}
-use Rattle.base.proofs.Pieces.{emit_take}
+use Rattle.base.proofs.Part.{over_then}
 use Rattle.base.proofs.Putting.{Putting, putting_start, putting_room, putting_more, putting_end}
 use Rattle.base.proofs.Taken.{drop_none}
-use Rattle.base.proofs.UpFrom.{up_more, sum_up_same}
+use Rattle.base.proofs.UpFrom.{up_more}
 use Rattle.form.specs.declared.Form.{Form}
-use Rattle.form.specs.declared.Row.{Row}
-use Rattle.form.specs.declared.GroupForm.TheVariants.{Has}
 use Rattle.form.specs.Table.{row_of, form_of}
 use Rattle.form.specs.Count
 use Rattle.form.specs.Count.{elements_of, cells_of, rounded_up}
@@ -36,19 +34,13 @@ use Rattle.count.specs.Tally.{count_of, cells_in, cells_before}
 use Rattle.count.proofs.Tallied.{cells_has, cells_first, cells_next, cells_below}
 use Rattle.reading.specs.Plan
 use Rattle.reading.specs.Plan.{Line, line_at, plan_from}
-use Rattle.writing.specs.declared.Fit.TheVariants.{All}
-use Rattle.writing.specs.Fitting.{Fitted, fit_of}
-use Rattle.writing.specs.Text.{line_end, entries_text, index_text, line_cells, fields_text, line_text, line_of_many, many_text, lines_text, group_text, groups_text, many_bytes}
-use Rattle.writing.proofs.Fitting.{fitted_drop, fitted_fewer, line_behind, group_fitted}
+use Rattle.writing.specs.Fitting.{Fitted, many_of, AllFit, fit_of}
+use Rattle.form.proofs.Rounding.{rounded_none}
+use Rattle.writing.proofs.Rows.{some_cells, some_elements}
+use Rattle.writing.proofs.Split.{min_times, many_is, all_fit, none_fit, many_both, front_fits, rest_fits, fields_first, lines_first}
+use Rattle.writing.specs.Text.{line_end, entries_text, index_text, fields_text, line_text, line_of_many, many_text, lines_text, group_text, groups_text, many_bytes}
+use Rattle.writing.proofs.Fitting.{fitted_take, group_fitted}
 use Rattle.writing.proofs.Lengths.{entries_length, fields_length, line_length, many_length, lines_take}
-
--- ---- the end of a line
-
-pub line_end_put : (out : List ℕ) (at : ℕ) → at + 2 ≤ length out → set (set out at 13) (at + 1) 10 ≡ over at line_end out
-line_end_put out at h =
-    over_then out (13 ∷ []) (10 ∷ []) at (at + 1) (refl, omega arith)
-    (over_one out at 13 (omega arith))
-    (over_one (set out at 13) (at + 1) 10 (omega (arith, length-set out at 13)))
 
 -- ---- index entries
 
@@ -56,29 +48,29 @@ entries_more : (ns : List ℕ) (i : ℕ) → i < length ns → entries_text (dro
 unfolding entries_text
 entries_more ns i h = rw (drop-cons ns i 0 h, add-one i)
 
--- i entries stand there, and the next goes to a
-pub record Entries (ns old : List ℕ) (at a i : ℕ) (out : List ℕ) : Type 0 where
+-- i entries stand there, of three bytes each
+pub record Entries (ns old : List ℕ) (at i : ℕ) (out : List ℕ) : Type 0 where
   pub few : i ≤ length ns
-  pub put : Putting at (entries_text ns) old a (entries_text (drop i ns)) out
+  pub put : Putting at (entries_text ns) old (at + i * 3) (entries_text (drop i ns)) out
 
 module _ (ns old : List ℕ) (at : ℕ) where
-  pub entries_start : at + length (entries_text ns) ≤ length old → Entries ns old at at 0 old
-  entries_start h = record { few = omega arith; put = rw (drop_none ns) (putting_start at (entries_text ns) old h) }
+  pub entries_start : at + length (entries_text ns) ≤ length old → Entries ns old at 0 old
+  entries_start h = let z : at + 0 * 3 ≡ at = omega arith in record { few = omega arith; put = rw (z, drop_none ns) (putting_start at (entries_text ns) old h) }
 
-  module _ {a i : ℕ} {out : List ℕ} (b : Entries ns old at a i out) where
+  module _ {i : ℕ} {out : List ℕ} (b : Entries ns old at i out) where
     pub entries_end : length ns ≤ i → out ≡ over at (entries_text ns) old
     unfolding entries_text
     entries_end h = putting_end b.put (rw (drop_of_length-le ns h))
 
     module _ (h : i < length ns) where
-      pub entry_room : a + 3 ≤ length out
+      pub entry_room : at + i * 3 + 3 ≤ length out
       entry_room = omega (arith, putting_room b.put (index_entry_text (get_or ns i 0)) (entries_text (drop (i + 1) ns)) (entries_more ns i h), entry_wide (get_or ns i 0))
 
-      pub entries_next : (new : List ℕ) → new ≡ over a (index_entry_text (get_or ns i 0)) out → Entries ns old at (a + 3) (i + 1) new
+      pub entries_next : (new : List ℕ) → new ≡ over (at + i * 3) (index_entry_text (get_or ns i 0)) out → Entries ns old at (i + 1) new
       entries_next new e =
           record {
             few = omega arith;
-            put = putting_more b.put (index_entry_text (get_or ns i 0)) (entries_text (drop (i + 1) ns)) new (a + 3) (entries_more ns i h) (ap (λ w. a + w) (sym (entry_wide (get_or ns i 0)))) e;
+            put = putting_more b.put (index_entry_text (get_or ns i 0)) (entries_text (drop (i + 1) ns)) new (at + (i + 1) * 3) (entries_more ns i h) (omega (arith, entry_wide (get_or ns i 0))) e;
           }
 
 -- the index: two lines of 40 counts, each of 122 bytes
@@ -106,199 +98,132 @@ index_put ns old mid new l h p q =
 
 -- ---- the fields of a line
 
-module _ (f : Form) where
-  abbrev size : ℕ → ℕ
-  size e = (row_of f).cells
+-- the fields of the elements that are left belong at a
+pub record Fields (f : Form) (cs : List ℤ) (at : ℕ) (old : List ℕ) (a : ℕ) (left : List ℤ) (out : List ℕ) : Type 0 where
+  pub fit : AllFit f left
+  pub put : Putting at (fields_text f (line_of_many (many_of f cs)) cs) old a (fields_text f (line_of_many (many_of f left)) left) out
 
-  abbrev text : ℕ → List ℤ → List ℕ
-  text e c = field_text f c
+module _ (f : Form) (cs : List ℤ) (at : ℕ) (old : List ℕ) where
+  all_long : AllFit f cs → length (fields_text f (line_of_many (many_of f cs)) cs) ≡ many_of f cs * (row_of f).width
+  all_long h = fields_length f (line_of_many (many_of f cs)) cs h.each
 
-  -- fields are the same whatever their numbers are
-  emit_any : (a b k : ℕ) (cs : List ℤ) → emit size text (up_from a k) cs ≡ emit size text (up_from b k) cs
-  unfolding Pieces.emit Every.up_from
-  emit_any a b zero cs = refl
-  emit_any a b (suc k) cs = ap (λ y. field_text f (take (row_of f).cells cs) ++ y) (emit_any (suc a) (suc b) k (drop (row_of f).cells cs))
+  pub fields_start : AllFit f cs → at + many_of f cs * (row_of f).width ≤ length old → Fields f cs at old at cs old
+  fields_start h r = record { fit = h; put = putting_start at (fields_text f (line_of_many (many_of f cs)) cs) old (omega (arith, all_long h)) }
 
-  -- a line's text is the same wherever it stands in its group, and takes no cells but its own
-  pub line_any : (l : Line) (cs : List ℤ) → line_text f l (take (line_cells f l) cs) ≡ line_text f (line_of_many l.many) cs
-  unfolding line_text fields_text
-  line_any l cs =
-      ap (λ y. y ++ line_end)
-      (emit_take size text (up_from l.first l.many) cs (line_cells f l) (omega (arith, sum_up_same (row_of f).cells l.first l.many))
-      ∙ emit_any l.first 1 l.many cs)
+  module _ {a : ℕ} {left : List ℤ} {out : List ℕ} (b : Fields f cs at old a left out) where
+    pub fields_end : AllFit f cs → length left < (row_of f).cells → (a ≡ at + many_of f cs * (row_of f).width) × (out ≡ over at (fields_text f (line_of_many (many_of f cs)) cs) old)
+    unfolding fields_text Pieces.emit Every.up_from
+    fields_end h s =
+        let z = none_fit f left b.fit s in
+        let e : fields_text f (line_of_many (many_of f left)) left ≡ [] = rw z in
+        (omega (arith, b.put.place, ap length e, all_long h), putting_end b.put e)
 
--- the fields of so many elements, from these cells on
-abbrev fields_from : Form → ℕ → List ℤ → List ℕ
-fields_from f k cs = emit (λ (e : ℕ). (row_of f).cells) (λ (e : ℕ) c. field_text f c) (up_from 1 k) cs
+    -- the next element x, and those behind it
+    module _ (x r : List ℤ) (split : left ≡ x ++ r) (l : length x ≡ (row_of f).cells) where
+      long_one : length x ≡ 1 * (row_of f).cells
+      long_one = omega (arith, one-mul (row_of f).cells)
 
--- i fields stand there, the next has its cells from `cell` on and goes to a
-pub record Fields (f : Form) (many : ℕ) (cs : List ℤ) (from at : ℕ) (old : List ℕ) (width size a cell i : ℕ) (out : List ℕ) : Type 0 where
-  pub wide : width ≡ (row_of f).width
-  pub sized : size ≡ (row_of f).cells
-  pub few : i ≤ many
-  pub cells : cell ≡ from + i * (row_of f).cells
-  pub place : a ≡ at + i * (row_of f).width
-  pub put : Putting at (fields_text f (line_of_many many) (drop from cs)) old a (fields_from f (many - i) (drop cell cs)) out
+      fit_here : AllFit f (x ++ r)
+      fit_here = rw split at b.fit
 
-module _ (f : Form) (many : ℕ) (cs : List ℤ) (from at : ℕ) (old : List ℕ) (fit : Fitted f many (drop from cs)) where
-  pub fields_start : (row : Row) → row ≡ row_of f → at + many * (row_of f).width ≤ length old → Fields f many cs from at old row.width row.cells at from 0 old
-  unfolding fields_text
-  fields_start row r h =
-      record {
-        wide = ap (λ x. x.width) r;
-        sized = ap (λ x. x.cells) r;
-        few = omega arith;
-        cells = omega (arith, zero-mul (row_of f).cells);
-        place = omega (arith, zero-mul (row_of f).width);
-        put = rw (sub-zero many) (putting_start at (fields_text f (line_of_many many) (drop from cs)) old (omega (arith, fields_length f (line_of_many many) (drop from cs) fit)));
-      }
+      step : fields_text f (line_of_many (many_of f left)) left ≡ field_text f x ++ fields_text f (line_of_many (many_of f r)) r
+      step = rw (split, many_both f 1 x r long_one fit_here) (ap (λ k. fields_text f (line_of_many k) (x ++ r)) (omega arith) ∙ fields_first f (many_of f r) x r l)
 
-  module _ {width size a cell i : ℕ} {out : List ℕ} (b : Fields f many cs from at old width size a cell i out) where
-    pub fields_end : many ≤ i → (a ≡ at + many * (row_of f).width) × (out ≡ over at (fields_text f (line_of_many many) (drop from cs)) old)
-    unfolding Pieces.emit Every.up_from
-    fields_end h =
-        let z : many - i ≡ 0 = omega arith in
-        let e : i ≡ many = omega (arith, b.few) in
-        (b.place ∙ ap (λ j. at + j * (row_of f).width) e, putting_end b.put (rw z))
+      one_fits : T (fits_of f x)
+      one_fits =
+          let m : many_of f x ≡ 1 = many_is f 1 x long_one in
+          let t : take (row_of f).cells (drop (0 * (row_of f).cells) x) ≡ x = rw (zero-mul (row_of f).cells) (ap (take (row_of f).cells) (drop_none x) ∙ take_all (row_of f).cells x (omega arith)) in
+          subst (λ c. T (fits_of f c)) t ((front_fits f 1 x r long_one fit_here).each 0 (omega (arith, m)))
 
-    module _ (h : i < many) where
-      step : fields_from f (many - i) (drop cell cs) ≡ field_text f (part cell (cell + size) cs) ++ fields_from f (many - (i + 1)) (drop (cell + size) cs)
-      unfolding Pieces.emit Every.up_from
-      step =
-          let n : many - i ≡ suc (many - (i + 1)) = omega arith in
-          let w : cell + size - cell ≡ (row_of f).cells = omega (arith, b.sized) in
-          let d : drop (row_of f).cells (drop cell cs) ≡ drop (cell + size) cs = drop-drop (row_of f).cells cell cs ∙ ap (λ k. drop (cell + k) cs) (sym b.sized) in
-          ap (λ k. fields_from f k (drop cell cs)) n ∙ rw (w, d) (ap (λ y. field_text f (take (row_of f).cells (drop cell cs)) ++ y) (emit_any f 2 1 (many - (i + 1)) (drop (cell + size) cs)))
+      wide : length (field_text f x) ≡ (row_of f).width
+      wide = (lawful f).wide x one_fits
 
-      fits : T (fits_of f (part cell (cell + size) cs))
-      fits =
-          let w : cell + size - cell ≡ (row_of f).cells = omega (arith, b.sized) in
-          let d : drop (i * (row_of f).cells) (drop from cs) ≡ drop cell cs = drop-drop (i * (row_of f).cells) from cs ∙ ap (λ k. drop k cs) (sym b.cells) in
-          rw w (rw d at (fit i h))
+      pub field_requires : T (fits_of f x) × (a + (row_of f).width ≤ length out)
+      field_requires = (one_fits, omega (arith, putting_room b.put (field_text f x) (fields_text f (line_of_many (many_of f r)) r) step, wide))
 
-      long : length (field_text f (part cell (cell + size) cs)) ≡ width
-      long = (lawful f).wide (part cell (cell + size) cs) fits ∙ sym b.wide
-
-      pub field_requires : from + many * (row_of f).cells ≤ length cs → (cell ≤ cell + size) × (cell + size ≤ length cs) × T (fits_of f (part cell (cell + size) cs)) × (a + (row_of f).width ≤ length out)
-      field_requires room = (
-        omega arith,
-        omega (arith, b.cells, b.sized, mul-le-mul_right {m = i + 1} {n = many} (row_of f).cells (omega arith), add-mul i 1 (row_of f).cells, one-mul (row_of f).cells),
-        fits,
-        omega (arith, putting_room b.put (field_text f (part cell (cell + size) cs)) (fields_from f (many - (i + 1)) (drop (cell + size) cs)) step, long, b.wide),
-      )
-
-      pub fields_next : (new : List ℕ) → new ≡ over a (field_text f (part cell (cell + size) cs)) out → Fields f many cs from at old width size (a + width) (cell + size) (i + 1) new
+      pub fields_next : (new : List ℕ) → new ≡ over a (field_text f x) out → Fields f cs at old (a + (row_of f).width) r new
       fields_next new e =
           record {
-            wide = b.wide;
-            sized = b.sized;
-            few = omega arith;
-            cells = omega (arith, b.cells, b.sized, add-mul i 1 (row_of f).cells, one-mul (row_of f).cells);
-            place = omega (arith, b.place, b.wide, add-mul i 1 (row_of f).width, one-mul (row_of f).width);
-            put = putting_more b.put (field_text f (part cell (cell + size) cs)) (fields_from f (many - (i + 1)) (drop (cell + size) cs)) new (a + width) step (ap (λ w. a + w) (sym long)) e;
+            fit = rest_fits f 1 x r long_one fit_here;
+            put = putting_more b.put (field_text f x) (fields_text f (line_of_many (many_of f r)) r) new (a + (row_of f).width) step (ap (λ w. a + w) (sym wide)) e;
           }
 
 -- ---- the lines of a group
 
--- of n elements k lines, the first with j before it, from these cells on
-abbrev lines_from : Form → ℕ → ℕ → ℕ → List ℤ → List ℕ
-lines_from f n j k cs = emit (line_cells f) (line_text f) (plan_from (row_of f).per_line n j k) cs
+-- the lines of the elements that are left belong at a
+pub record Lines (f : Form) (cs : List ℤ) (at : ℕ) (old : List ℕ) (a : ℕ) (left : List ℤ) (out : List ℕ) : Type 0 where
+  pub fit : AllFit f left
+  pub put : Putting at (many_text f (many_of f cs) cs) old a (many_text f (many_of f left) left) out
 
--- j lines stand there, the next has its cells from `cell` on and goes to a
-pub record Lines (f : Form) (n : ℕ) (cs : List ℤ) (from at : ℕ) (old : List ℕ) (per_line size many left cell a j : ℕ) (out : List ℕ) : Type 0 where
-  pub per : per_line ≡ (row_of f).per_line
-  pub sized : size ≡ (row_of f).cells
-  pub all : many ≡ rounded_up n (row_of f).per_line
-  pub few : j ≤ many
-  pub rest : left ≡ n - j * (row_of f).per_line
-  pub cells : cell ≡ from + min (n) (j * (row_of f).per_line) * (row_of f).cells
-  pub put : Putting at (many_text f n (drop from cs)) old a (lines_from f n j (many - j) (drop cell cs)) out
+module _ (f : Form) (cs : List ℤ) (at : ℕ) (old : List ℕ) where
+  lines_long : AllFit f cs → length (many_text f (many_of f cs) cs) ≡ many_bytes f (many_of f cs)
+  lines_long h = many_length f (many_of f cs) cs h.each
 
-module _ (f : Form) (n : ℕ) (cs : List ℤ) (from at : ℕ) (old : List ℕ) (fit : Fitted f n (drop from cs)) where
-  abbrev p : ℕ
-  p = (row_of f).per_line
+  pub lines_start : AllFit f cs → at + many_bytes f (many_of f cs) ≤ length old → Lines f cs at old at cs old
+  lines_start h r = record { fit = h; put = putting_start at (many_text f (many_of f cs) cs) old (omega (arith, lines_long h)) }
 
-  pub lines_start_lem : (row : Row) (many : ℕ) → row ≡ row_of f → many ≡ rounded_up n row.per_line → at + many_bytes f n ≤ length old
-      → Lines f n cs from at old row.per_line row.cells many n from at 0 old
-  unfolding many_text
-  lines_start_lem row many r m h =
-      let e : many ≡ rounded_up n (row_of f).per_line = m ∙ rw (ap (λ x. x.per_line) r) in
-      let z : min n (0 * p) * (row_of f).cells ≡ 0 = ap (λ x. min n x * (row_of f).cells) (zero-mul p) ∙ ap (λ x. x * (row_of f).cells) (none n) ∙ zero-mul (row_of f).cells in
-      record {
-        per = ap (λ x. x.per_line) r;
-        sized = ap (λ x. x.cells) r;
-        all = e;
-        few = omega arith;
-        rest = omega (arith, zero-mul p);
-        cells = omega arith;
-        put = rw (sub-zero many, e) (putting_start at (many_text f n (drop from cs)) old (omega (arith, many_length f n (drop from cs) fit)));
-      }
-    where
-      none : (n : ℕ) → min n 0 ≡ 0
-      none n = omega arith
+  module _ {a : ℕ} {left : List ℤ} {out : List ℕ} (b : Lines f cs at old a left out) where
+    pub lines_end : AllFit f cs → length left ≡ 0 → (a ≡ at + many_bytes f (many_of f cs)) × (out ≡ over at (many_text f (many_of f cs) cs) old)
+    unfolding many_text Plan.plan_from Pieces.emit Every.up_from
+    lines_end h s =
+        let z = none_fit f left b.fit (omega (arith, some_cells f)) in
+        let e : many_text f (many_of f left) left ≡ [] = rw (z, rounded_none (row_of f).per_line) in
+        (omega (arith, b.put.place, ap length e, lines_long h), putting_end b.put e)
 
-  module _ {per_line size many left cell a j : ℕ} {out : List ℕ} (b : Lines f n cs from at old per_line size many left cell a j out) where
-    pub lines_end : many ≤ j → (a ≡ at + many_bytes f n) × (out ≡ over at (many_text f n (drop from cs)) old)
-    unfolding Plan.plan_from Pieces.emit Every.up_from
-    lines_end h =
-        let z : many - j ≡ 0 = omega arith in
-        let e : lines_from f n j (many - j) (drop cell cs) ≡ [] = rw z in
-        (omega (arith, b.put.place, ap length e, many_length f n (drop from cs) fit), putting_end b.put e)
+    -- the cells x of the next line, and those behind it
+    module _ (x r : List ℤ) (split : left ≡ x ++ r) (l : length x ≡ min ((row_of f).per_line * (row_of f).cells) (length left)) (some : 0 < length left) where
+      fit_line : AllFit f (x ++ r)
+      fit_line = rw split at b.fit
 
-    module _ (h : j < many) (k : ℕ) (q : k ≡ min per_line left) where
-      many_here : (line_at p n j).many ≡ k
-      many_here = sym (q ∙ rw (b.per, b.rest))
+      abbrev still : ℕ
+      still = many_of f left
 
-      next_cell : drop (k * (row_of f).cells) (drop cell cs) ≡ drop (cell + k * size) cs
-      next_cell = drop-drop (k * (row_of f).cells) cell cs ∙ ap (λ c. drop (cell + k * c) cs) (sym b.sized)
+      abbrev k : ℕ
+      k = min (row_of f).per_line still
 
-      step_lines : lines_from f n j (many - j) (drop cell cs) ≡ line_text f (line_of_many k) (drop cell cs) ++ lines_from f n (j + 1) (many - (j + 1)) (drop (cell + k * size) cs)
-      unfolding Plan.plan_from Pieces.emit Every.up_from
+      long_line : length x ≡ k * (row_of f).cells
+      long_line = l ∙ ap (min ((row_of f).per_line * (row_of f).cells)) b.fit.whole ∙ min_times (row_of f).per_line still (row_of f).cells
+
+      both_many : still ≡ k + many_of f r
+      both_many = ap (many_of f) split ∙ many_both f k x r long_line fit_line
+
+      step_lines : many_text f still left ≡ line_text f (line_of_many k) x ++ many_text f (many_of f r) r
       step_lines =
-          let m : many - j ≡ suc (many - (j + 1)) = omega arith in
-          let d : drop ((line_at p n j).many * (row_of f).cells) (drop cell cs) ≡ drop (cell + k * size) cs = ap (λ x. drop (x * (row_of f).cells) (drop cell cs)) many_here ∙ next_cell in
-          let t : line_text f (line_at p n j) (take (line_cells f (line_at p n j)) (drop cell cs)) ≡ line_text f (line_of_many k) (drop cell cs) =
-          line_any f (line_at p n j) (drop cell cs) ∙ ap (λ x. line_text f (line_of_many x) (drop cell cs)) many_here in
-          ap (λ x. lines_from f n j x (drop cell cs)) m ∙ rw (t, d, add-one j)
+          let s : 0 < still = some_of still b.fit.whole in
+          ap₂ (many_text f) both_many split
+          ∙ lines_first f k (many_of f r) x r long_line (omega (arith, some_elements f)) (ap (min (row_of f).per_line) both_many)
+        where
+          some_of : (n : ℕ) → length left ≡ n * (row_of f).cells → 0 < n
+          some_of zero e = absurd (omega (arith, zero-mul (row_of f).cells))
+          some_of (suc n) e = omega arith
 
-      behind : min n (j * p) + k ≡ min n ((j + 1) * p)
-      behind = ap (λ x. min n (j * p) + x) (sym many_here) ∙ line_behind p n j
+      line_fits : AllFit f x
+      line_fits = front_fits f k x r long_line fit_line
 
-      fits_here : Fitted f k (drop cell cs)
-      fits_here =
-          let d : drop (min n (j * p) * (row_of f).cells) (drop from cs) ≡ drop cell cs = drop-drop (min n (j * p) * (row_of f).cells) from cs ∙ ap (λ x. drop x cs) (sym b.cells) in
-          rw d at (fitted_fewer f (n - min n (j * p)) k (drop (min n (j * p) * (row_of f).cells) (drop from cs)) (omega (arith, behind)) (fitted_drop f n (min n (j * p)) (drop from cs) fit))
+      line_many : many_of f x ≡ k
+      line_many = many_is f k x long_line
 
-      long_here : length (line_text f (line_of_many k) (drop cell cs)) ≡ k * (row_of f).width + 2
-      long_here = line_length f (line_of_many k) (drop cell cs) fits_here
+      long_here : length (line_text f (line_of_many k) x) ≡ k * (row_of f).width + 2
+      long_here = line_length f (line_of_many k) x (subst (λ i. Fitted f i x) line_many line_fits.each)
 
-      cells_here : cell + k * (row_of f).cells ≡ from + min n ((j + 1) * p) * (row_of f).cells
-      cells_here = omega (arith, b.cells, add-mul (min n (j * p)) k (row_of f).cells, ap (λ x. x * (row_of f).cells) behind)
-
-      pub line_requires : from + n * (row_of f).cells ≤ length cs → (cell + k * (row_of f).cells ≤ length cs) × Fitted f k (drop cell cs) × (a + k * (row_of f).width + 2 ≤ length out)
-      line_requires room = (
-        omega (arith, cells_here, mul-le-mul_right {m = min n ((j + 1) * p)} {n = n} (row_of f).cells (omega arith)),
-        fits_here,
-        omega (arith, putting_room b.put (line_text f (line_of_many k) (drop cell cs)) (lines_from f n (j + 1) (many - (j + 1)) (drop (cell + k * size) cs)) step_lines, long_here),
+      pub line_requires : AllFit f x × (a + many_of f x * (row_of f).width + 2 ≤ length out)
+      line_requires = (
+        line_fits,
+        rw line_many (omega (arith, putting_room b.put (line_text f (line_of_many k) x) (many_text f (many_of f r) r) step_lines, long_here)),
       )
 
-      pub lines_next : (mid new : List ℕ) (end : ℕ) → end ≡ a + k * (row_of f).width → mid ≡ over a (fields_text f (line_of_many k) (drop cell cs)) out → new ≡ over end line_end mid
-          → Lines f n cs from at old per_line size many (left - k) (cell + k * size) (end + 2) (j + 1) new
+      pub lines_next : (mid new : List ℕ) (end : ℕ) → end ≡ a + many_of f x * (row_of f).width → mid ≡ over a (fields_text f (line_of_many (many_of f x)) x) out → new ≡ over end line_end mid
+          → Lines f cs at old (end + 2) r new
       unfolding line_text
-      lines_next mid new end e x y =
-          let l : length (fields_text f (line_of_many k) (drop cell cs)) ≡ k * (row_of f).width = fields_length f (line_of_many k) (drop cell cs) fits_here in
-          let r = putting_room b.put (line_text f (line_of_many k) (drop cell cs)) (lines_from f n (j + 1) (many - (j + 1)) (drop (cell + k * size) cs)) step_lines in
-          let o : new ≡ over a (line_text f (line_of_many k) (drop cell cs)) out =
-          over_then out (fields_text f (line_of_many k) (drop cell cs)) line_end a end (omega arith, omega (arith, r, long_here)) x y in
+      lines_next mid new end e p q =
+          let t : length (fields_text f (line_of_many k) x) ≡ k * (row_of f).width = fields_length f (line_of_many k) x (subst (λ i. Fitted f i x) line_many line_fits.each) in
+          let room = putting_room b.put (line_text f (line_of_many k) x) (many_text f (many_of f r) r) step_lines in
+          let w : end ≡ a + k * (row_of f).width = e ∙ ap (λ i. a + i * (row_of f).width) line_many in
+          let o : new ≡ over a (line_text f (line_of_many k) x) out =
+          over_then out (fields_text f (line_of_many k) x) line_end a end (omega arith, omega (arith, room, long_here)) (p ∙ ap (λ i. over a (fields_text f (line_of_many i) x) out) line_many) q in
           record {
-            per = b.per;
-            sized = b.sized;
-            all = b.all;
-            few = omega arith;
-            rest = omega (arith, b.rest, many_here, add-mul j 1 p, one-mul p);
-            cells = ap (λ c. cell + k * c) b.sized ∙ cells_here;
-            put = putting_more b.put (line_text f (line_of_many k) (drop cell cs)) (lines_from f n (j + 1) (many - (j + 1)) (drop (cell + k * size) cs)) new (end + 2) step_lines
-                (omega (arith, long_here)) o;
+            fit = rest_fits f k x r long_line fit_line;
+            put = putting_more b.put (line_text f (line_of_many k) x) (many_text f (many_of f r) r) new (end + 2) step_lines (omega (arith, long_here)) o;
           }
 
 -- ---- the groups of a record
@@ -323,7 +248,7 @@ module _ (ρ : Rules) (ns : List ℕ) (cs : List ℤ) (at : ℕ) (old : List ℕ
     unfolding Pieces.emit Every.up_from
     groups_put_end h = let z : 61 - g ≡ 0 = omega arith in putting_end b.put (rw z)
 
-    module _ (h : g < 61) (fit : fit_of ρ ns cs ≡ All) (many : length cs ≡ cells_before ρ ns 61) (f : Form) (e : form_of g ≡ Has f) (count : ℕ) (c : count ≡ count_of ns g) where
+    module _ (h : g < 61) (fit : fit_of ρ ns cs ≡ Ok tt) (many : length cs ≡ cells_before ρ ns 61) (f : Form) (e : form_of g ≡ Some f) (count : ℕ) (c : count ≡ count_of ns g) where
       next_group : cells_before ρ ns (g + 1) ≡ from + cells_of ρ f count
       next_group = cells_next ρ ns g (omega (arith, b.low)) h ∙ rw (b.cells, c, cells_has ρ ns g f e)
 
@@ -347,24 +272,40 @@ module _ (ρ : Rules) (ns : List ℕ) (cs : List ℤ) (at : ℕ) (old : List ℕ
       pub group_cells_lem : from + cells_of ρ f count ≤ length cs
       group_cells_lem = omega (arith, next_group, cells_below ρ ns (g + 1) 61 (omega arith))
 
-      pub group_requires : (from + n * (row_of f).cells ≤ length cs) × Fitted f n (drop from cs) × (a + many_bytes f n ≤ length out)
-      unfolding Count.cells_of
-      group_requires = (
-        group_cells_lem,
-        fits_group,
-        omega (arith, putting_room b.put (lines_text ρ f count (drop from cs)) (groups_from ρ ns (g + 1) (drop (from + cells_of ρ f count) cs)) step_groups, long_group),
-      )
+      -- the group's own cells
+      module _ (to : ℕ) (t : to ≡ from + cells_of ρ f count) where
+        own_is : part from to cs ≡ take (cells_of ρ f count) (drop from cs)
+        own_is = ap (λ k. take k (drop from cs)) (omega arith)
 
-      in_lines : {new : List ℕ} → new ≡ over a (many_text f n (drop from cs)) out → new ≡ over a (lines_text ρ f count (drop from cs)) out
-      unfolding lines_text
-      in_lines y = y
+        own_long : length (part from to cs) ≡ n * (row_of f).cells
+        unfolding Count.cells_of
+        own_long = ap length own_is ∙ length-take-le (cells_of ρ f count) (drop from cs) (omega (arith, group_cells_lem, length-drop from cs))
 
-      pub groups_put_next : (new : List ℕ) (end : ℕ) → end ≡ a + many_bytes f n → new ≡ over a (many_text f n (drop from cs)) out → GroupsPut ρ ns cs at old (from + cells_of ρ f count) end (g + 1) new
-      groups_put_next new end x y =
-          record {
-            low = omega arith;
-            high = omega arith;
-            cells = sym next_group;
-            put = putting_more b.put (lines_text ρ f count (drop from cs)) (groups_from ρ ns (g + 1) (drop (from + cells_of ρ f count) cs)) new end step_groups
-                (omega (arith, long_group)) (in_lines y);
-          }
+        own_fit : AllFit f (part from to cs)
+        unfolding Count.cells_of
+        own_fit = all_fit f n (part from to cs) own_long (subst (Fitted f n) (sym own_is) (fitted_take f n n (drop from cs) (omega arith) fits_group))
+
+        own_many : many_of f (part from to cs) ≡ n
+        own_many = many_is f n (part from to cs) own_long
+
+        pub group_requires : AllFit f (part from to cs) × (a + many_bytes f (many_of f (part from to cs)) ≤ length out)
+        group_requires = (
+          own_fit,
+          rw own_many (omega (arith, putting_room b.put (lines_text ρ f count (drop from cs)) (groups_from ρ ns (g + 1) (drop (from + cells_of ρ f count) cs)) step_groups, long_group)),
+        )
+
+        own_text : many_text f (many_of f (part from to cs)) (part from to cs) ≡ lines_text ρ f count (drop from cs)
+        unfolding lines_text
+        own_text = ap₂ (many_text f) own_many own_is ∙ lines_take ρ f count (drop from cs)
+
+        pub groups_put_next : (new : List ℕ) (end : ℕ) → end ≡ a + many_bytes f (many_of f (part from to cs)) → new ≡ over a (many_text f (many_of f (part from to cs)) (part from to cs)) out
+            → GroupsPut ρ ns cs at old to end (g + 1) new
+        groups_put_next new end x y =
+            record {
+              low = omega arith;
+              high = omega arith;
+              cells = t ∙ sym next_group;
+              put = putting_more b.put (lines_text ρ f count (drop from cs)) (groups_from ρ ns (g + 1) (drop to cs)) new end
+                  (rw t step_groups)
+                  (omega (arith, long_group, ap (many_bytes f) own_many)) (y ∙ ap (λ x. over a x out) own_text);
+            }

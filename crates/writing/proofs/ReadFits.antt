@@ -1,5 +1,6 @@
 -- What reads fits: where the lines of a group read with 0, each of its elements' cells has a field of its form.
 -- Assumes nothing.
+use Rattle.std.specs.Prelude.{Ok}
 use mathlib.Core.Path.{◌≡◌, refl, sym, ◌∙◌, ap, subst}
 use mathlib.Core.Bool.{Bool}
 use mathlib.Core.List.{List, ◌++◌, flat_map}
@@ -31,7 +32,6 @@ use Rattle.reading.specs.Plan.{Line, plan_from, plan_of, elements_in}
 use Rattle.reading.specs.Read
 use Rattle.reading.specs.Read.{read_field, read_fields, columns_of, read_line, read_lines}
 use Rattle.reading.proofs.Sizes.{field_done, line_done}
-use Rattle.writing.specs.declared.Fit.TheVariants.{All}
 use Rattle.writing.specs.Fitting.{element_fit, elements_fit}
 use Rattle.writing.proofs.Fitting.{own_misfit}
 
@@ -89,13 +89,13 @@ module _ (ρ : Rules) (f : Form) where
       subst (λ es. Pieced Fits es c) (plan_elements p n 0 k ∙ rw (m, a))
       (each_flat elements_in (plan_of ρ f count) g.text c (each_imply (λ l y d r. line_fits short l y d r) (plan_of ρ f count) g.text c g.each))
 
-  pub group_fit_lem : (short : Bool) (g count : ℕ) (x : List ℕ) (c : List ℤ) → read_lines ρ f short count x ≡ done c → elements_fit ρ f g count c ≡ All
+  pub group_fit_lem : (short : Bool) (g count : ℕ) (x : List ℕ) (c : List ℤ) → read_lines ρ f short count x ≡ done c → elements_fit ρ f g count c ≡ Ok tt
   unfolding elements_fit
   group_fit_lem short g count x c e =
       let p = lines_fit short count x c e in
       let es = up_from 1 (elements_of ρ f count) in
       own_misfit (λ (e : ℕ). (row_of f).cells) (element_fit f g) es c
-      (each_own (λ (e : ℕ). (row_of f).cells) (λ e c. element_fit f g e c ≡ All) (λ e x c t. ((lawful f).sized c t, element g e c t)) es p.text c p.each)
+      (each_own (λ (e : ℕ). (row_of f).cells) (λ e c. element_fit f g e c ≡ Ok tt) (λ e x c t. ((lawful f).sized c t, element g e c t)) es p.text c p.each)
     where
-      element : (g e : ℕ) (c : List ℤ) → T (fits_of f c) → element_fit f g e c ≡ All
+      element : (g e : ℕ) (c : List ℤ) → T (fits_of f c) → element_fit f g e c ≡ Ok tt
       element g e c t = rw (T_true (fits_of f c) t)

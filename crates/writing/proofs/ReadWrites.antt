@@ -1,6 +1,7 @@
 -- *Read writes*: a record that is placed with 0, and none of whose groups is refused, can be written again from its counts and the cells of
 -- its groups in turn: with 0, where there is room, and byte for byte as it was, if it was canonical.
 -- Assumes nothing.
+use Rattle.std.specs.Prelude.{Ok}
 use mathlib.Core.Path.{◌≡◌, refl, sym, ◌∙◌, ap, subst}
 use mathlib.Core.Bool.{◌&&◌}
 use mathlib.Core.List.{List, ◌++◌, map, flat_map}
@@ -30,8 +31,6 @@ use Rattle.place.proofs.Placed.{IsLocated, located_is, located_range, located_lo
 use Rattle.place.proofs.Zero.{IsPlaced, is_placed_lem}
 use Rattle.reading.specs.Blanks.{may_be_short}
 use Rattle.reading.specs.Read.{Cells}
-use Rattle.writing.specs.declared.Fit.TheVariants.{All}
-use Rattle.reply.specs.declared.Answer.TheVariants.{Done}
 use Rattle.writing.specs.Canonical.{CanonicalGroup, CanonicalRecord}
 use Rattle.writing.specs.Fitting.{group_fit, fit_of}
 use Rattle.writing.specs.RoundTrip.{ReadWhole, WritesAgain}
@@ -53,7 +52,7 @@ use Rattle.writing.proofs.Written.{all_groups}
 -- ---- what a group that was read says
 
 module _ (ρ : Rules) {ns : List ℕ} {g : ℕ} {y : List ℕ} {room : ℕ} {c : List ℤ} (r : GroupReads ρ ns g y room c) where
-  reads_fit : group_fit ρ ns g c ≡ All
+  reads_fit : group_fit ρ ns g c ≡ Ok tt
   reads_fit = rw r.has (group_fit_lem ρ r.form (may_be_short g) g (count_of ns g) y c r.lines)
 
 module _ (ρ : Rules) {s : List ℕ} {at n : ℕ} {cells : ℕ → List ℤ} (r : ReadWhole ρ s at n cells) where
@@ -73,7 +72,7 @@ module _ (ρ : Rules) {s : List ℕ} {at n : ℕ} {cells : ℕ → List ℤ} (r 
 
   -- the groups with their cells, as pieces
   abbrev Known : ℕ → List ℕ → List ℤ → Type 0
-  Known g x c = (length c ≡ cells_in ρ ns g) × (group_fit ρ ns g c ≡ All) × (c ≡ cells g)
+  Known g x c = (length c ≡ cells_in ρ ns g) × (group_fit ρ ns g c ≡ Ok tt) × (c ≡ cells g)
 
   abbrev texts : List ℕ
   texts = flat_map (group_part ρ s at ns) (up_from 1 60)
@@ -99,11 +98,11 @@ module _ (ρ : Rules) {s : List ℕ} {at n : ℕ} {cells : ℕ → List ℤ} (r 
   unfolding Tally.cell_tally Sum.sum
   joined_cells = each_cells (cells_in ρ ns) sizes (up_from 1 60) texts (joined cells) known ∙ sym (zero-add (sum (map (cells_in ρ ns) (up_from 1 60))))
 
-  joined_fit : fit_of ρ ns (joined cells) ≡ All
-  joined_fit = own_groups ρ ns (joined cells) (each_own (cells_in ρ ns) (λ g c. group_fit ρ ns g c ≡ All) (λ g x c k. (k.0, k.1)) (up_from 1 60) texts (joined cells) known)
+  joined_fit : fit_of ρ ns (joined cells) ≡ Ok tt
+  joined_fit = own_groups ρ ns (joined cells) (each_own (cells_in ρ ns) (λ g c. group_fit ρ ns g c ≡ Ok tt) (λ g x c k. (k.0, k.1)) (up_from 1 60) texts (joined cells) known)
 
   -- writing what was read gives 0
-  pub read_writes : (room : ℕ) → record_bytes ρ ns ≤ room → writing_of ρ ns (joined cells) room ≡ Done (record_bytes ρ ns)
+  pub read_writes : (room : ℕ) → record_bytes ρ ns ≤ room → writing_of ρ ns (joined cells) room ≡ Ok (record_bytes ρ ns)
   read_writes room enough =
       let told = (reads 3 (omega arith) (omega arith)).date refl in
       is_done ρ ns (joined cells) room (record_bytes ρ ns) record {
@@ -158,9 +157,9 @@ module _ (ρ : Rules) {s : List ℕ} {at n : ℕ} {cells : ℕ → List ℤ} (r 
 
     -- D2.5: every byte of the record is there again
     pub returns_same : (old : List ℕ) → n - at ≤ length old
-        → (writing_of ρ ns (joined cells) (length old) ≡ Done (n - at)) × (output_by ρ ns (joined cells) (writing_of ρ ns (joined cells) (length old)) old ≡ over 0 (part at n s) old)
+        → (writing_of ρ ns (joined cells) (length old) ≡ Ok (n - at)) × (output_by ρ ns (joined cells) (writing_of ρ ns (joined cells) (length old)) old ≡ over 0 (part at n s) old)
     returns_same old enough =
-        let w : writing_of ρ ns (joined cells) (length old) ≡ Done (n - at) = read_writes (length old) (omega (arith, again_bytes)) ∙ ap Done again_bytes in
+        let w : writing_of ρ ns (joined cells) (length old) ≡ Ok (n - at) = read_writes (length old) (omega (arith, again_bytes)) ∙ ap Ok again_bytes in
         (w, rw (w, written_again))
 
   pub writes_again : WritesAgain ρ s at n cells

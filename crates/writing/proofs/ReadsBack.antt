@@ -2,6 +2,7 @@
 -- the counts that were written and the end of these bytes as the next place; and a group is read with 0 as the cells that were written of
 -- it, if the table has room.
 -- Assumes nothing.
+use Rattle.std.specs.Prelude.{Option, Some, None, Ok}
 use mathlib.Core.Path.{◌≡◌, refl, sym, ◌∙◌, ap, subst}
 use mathlib.Core.List.{List, ◌++◌}
 use Prim.Native.Nat.{ℕ, ◌+◌, ◌-◌, ◌≤◌, min}
@@ -13,14 +14,10 @@ use Rattle.rules.specs.declared.Rules.{Rules}
 use Rattle.base.specs.Part.{part}
 use Rattle.base.proofs.Part.{part_cut}
 use Rattle.base.proofs.Taken.{take_none}
-use Rattle.form.specs.declared.GroupForm.{GroupForm}
-use Rattle.form.specs.declared.GroupForm.TheVariants.{Has, NoGroup}
 use Rattle.form.specs.Table.{form_of}
 use Rattle.count.specs.Tally
 use Rattle.count.specs.Tally.{count_of, cells_by, cells_in, group_cells}
 use Rattle.count.specs.Rules.{release_of, ruling_of}
-use Rattle.count.specs.declared.Release.TheVariants.{Five}
-use Rattle.count.specs.declared.Ruling.TheVariants.{Kept}
 use Rattle.form.proofs.Table.{has_form}
 use Rattle.count.specs.Due.{Released}
 use Rattle.count.proofs.Due.{counts_small, released}
@@ -29,7 +26,6 @@ use Rattle.place.specs.Placing.{placing_by, counts_by}
 use Rattle.place.specs.Parts.{group_part}
 use Rattle.count.proofs.Rulings.{kept_ruling}
 use Rattle.group.proofs.Texts.{read_located}
-use Rattle.reply.specs.declared.Answer.TheVariants.{Done}
 use Rattle.writing.specs.Canonical.{CanonicalGroup, CanonicalRecord}
 use Rattle.writing.specs.RoundTrip.{ReadsBack}
 use Rattle.writing.specs.Text.{record_text, record_bytes}
@@ -40,17 +36,18 @@ use Rattle.reading.proofs.GroupRead.{TellsDate, GroupReads, reads_group}
 use Rattle.writing.proofs.Lengths.{record_length}
 use Rattle.writing.proofs.Standing.{standing_located, standing_group}
 use Rattle.writing.proofs.Written.{written_canonical}
+use Rattle.form.specs.declared.Form.{Form}
 
 -- ---- a canonical record reads back
 
-module _ (ρ : Rules) {ns x : List ℕ} {cs : List ℤ} (h : CanonicalRecord ρ ns x cs) (five : release_of ns ≡ Five) (kept : ruling_of ns ≡ Kept) (told : TellsDate (date_letters ρ ns cs)) where
+module _ (ρ : Rules) {ns x : List ℕ} {cs : List ℤ} (h : CanonicalRecord ρ ns x cs) (five : release_of ns ≡ Ok tt) (kept : ruling_of ns ≡ None) (told : TellsDate (date_letters ρ ns cs)) where
   group_back : (g room : ℕ) (y : List ℕ) → 1 ≤ g → g ≤ 60 → cells_in ρ ns g ≤ room → CanonicalGroup ρ ns g y (group_cells ρ ns cs g) → GroupReads ρ ns g y room (group_cells ρ ns cs g)
   unfolding Tally.cells_in
   group_back g room y low high enough p = by (form_of g) refl enough
     where
-      by : (h : GroupForm) → form_of g ≡ h → cells_by ρ h (count_of ns g) ≤ room → GroupReads ρ ns g y room (group_cells ρ ns cs g)
-      by (Has f) u l = record { form = f; has = u; enough = l; lines = group_read_lem ρ ns g f y (group_cells ρ ns cs g) u p; date = λ e. rw e told }
-      by NoGroup u l = absurd (has_form g low (omega arith) u)
+      by : (h : Option Form) → form_of g ≡ h → cells_by ρ h (count_of ns g) ≤ room → GroupReads ρ ns g y room (group_cells ρ ns cs g)
+      by (Some f) u l = record { form = f; has = u; enough = l; lines = group_read_lem ρ ns g f y (group_cells ρ ns cs g) u p; date = λ e. rw e told }
+      by None u l = absurd (has_form g low (omega arith) u)
 
   pub canonical_back : (a b : List ℕ) → ReadsBack ρ ns cs (length x) (a ++ (x ++ b)) (length a)
   unfolding Placing.placing_of Placing.counts_at
@@ -68,11 +65,11 @@ module _ (ρ : Rules) {ns x : List ℕ} {cs : List ℤ} (h : CanonicalRecord ρ 
 
 -- ---- what was written reads back
 
-module _ (ρ : Rules) (ns : List ℕ) (cs : List ℤ) (room n : ℕ) (e : writing_of ρ ns cs room ≡ Done n) where
+module _ (ρ : Rules) (ns : List ℕ) (cs : List ℤ) (room n : ℕ) (e : writing_of ρ ns cs room ≡ Ok n) where
   d : IsDone ρ ns cs room n
   d = done_is ρ ns cs room n e
 
-  has : Released ns Five
+  has : Released ns (Ok tt)
   has = d.checked.rules.released
 
   pub done_canonical : CanonicalRecord ρ ns (record_text ρ ns cs) cs
@@ -84,15 +81,15 @@ module _ (ρ : Rules) (ns : List ℕ) (cs : List ℤ) (room n : ℕ) (e : writin
   pub reads_back : (a b : List ℕ) → ReadsBack ρ ns cs n (a ++ (record_text ρ ns cs ++ b)) (length a)
   reads_back a b =
       subst (λ m. ReadsBack ρ ns cs m (a ++ (record_text ρ ns cs ++ b)) (length a)) done_bytes
-      (canonical_back ρ done_canonical (released ns Five has) (kept_ruling ns d.checked.rules.kept) record { date = d.date; right = d.right } a b)
+      (canonical_back ρ done_canonical (released ns (Ok tt) has) (kept_ruling ns d.checked.rules.kept) record { date = d.date; right = d.right } a b)
 
   -- the same of the output: wherever its first n bytes stand
-  pub output_bytes : (old : List ℕ) → take n (output_by ρ ns cs (Done n) old) ≡ record_text ρ ns cs
+  pub output_bytes : (old : List ℕ) → take n (output_by ρ ns cs (Ok n) old) ≡ record_text ρ ns cs
   output_bytes old =
       ap (λ t. take n (t ++ (record_text ρ ns cs ++ drop (0 + length (record_text ρ ns cs)) old))) (take_none old)
       ∙ take_at (record_text ρ ns cs) (drop (0 + length (record_text ρ ns cs)) old) n done_bytes
 
-  pub output_reads_back : (old s : List ℕ) (at : ℕ) → part at (at + n) s ≡ take n (output_by ρ ns cs (Done n) old) → ReadsBack ρ ns cs n s at
+  pub output_reads_back : (old s : List ℕ) (at : ℕ) → part at (at + n) s ≡ take n (output_by ρ ns cs (Ok n) old) → ReadsBack ρ ns cs n s at
   unfolding record_bytes
   output_reads_back old s at p =
       let m : at + n - at ≡ n = omega arith in

@@ -1,5 +1,6 @@
 -- R12: under rules that count alike the canonical text is the same, with its length, and so is what writing answers and leaves.
 -- Assumes nothing.
+use Rattle.std.specs.Prelude.{Option, Some, None, Result, Ok, Err}
 use mathlib.Core.Path.{◌≡◌, refl, ◌∙◌, ap, ap₂}
 use mathlib.Core.Bool.{cond}
 use mathlib.Core.List.{List, ◌++◌, map}
@@ -14,35 +15,28 @@ use Rattle.base.specs.Pieces.{emit}
 use Rattle.base.specs.Sign.{size_of}
 use Rattle.base.specs.Sum.{sum}
 use Rattle.base.proofs.Mapped.{map_same}
-use Rattle.form.specs.declared.GroupForm.{GroupForm}
-use Rattle.form.specs.declared.GroupForm.TheVariants.{Has, NoGroup}
 use Rattle.form.specs.Table.{form_of}
 use Rattle.form.proofs.Segments.{elements_same}
 use Rattle.count.specs.Tally.{count_of}
 use Rattle.count.specs.Check.{checked_of}
 use Rattle.count.proofs.SameCounting.{cells_same, cells_before_same, check_same}
 use Rattle.date.specs.Date.{dated_of}
-use Rattle.date.specs.declared.Dated.{Dated}
-use Rattle.date.specs.declared.Dated.TheVariants.{Right, Wrong}
-use Rattle.reply.specs.declared.Answer.{Answer}
-use Rattle.reply.specs.declared.Answer.TheVariants.{Done, Refused}
-use Rattle.reply.specs.declared.Checked.{Checked}
-use Rattle.reply.specs.declared.Checked.TheVariants as C
 use Rattle.reply.specs.declared.Refusal.TheVariants.{NoRoom}
-use Rattle.writing.specs.declared.Fit.{Fit}
-use Rattle.writing.specs.declared.Fit.TheVariants.{All, Not}
 use Rattle.writing.specs.Fitting.{first_misfit, many_fit, elements_fit, group_fit_by, group_fit, fit_of}
 use Rattle.writing.specs.Writing.{date_letters, write_dated, write_fit, write_checked, writing_of, output_by}
 use Rattle.writing.specs.Text.{many_text, lines_text, group_text_by, group_text, index_text, groups_text, record_text, many_bytes, bytes_by, bytes_in, record_bytes}
+use Rattle.reply.specs.declared.Refusal.{Refusal}
+use Rattle.form.specs.declared.Form.{Form}
+use Rattle.date.specs.declared.Date.{Date}
 
 module _ (σ ρ : Rules) (alike : σ.counting ≡ ρ.counting) (ns : List ℕ) where
   group_text_same : (g : ℕ) (cs : List ℤ) → group_text σ ns g cs ≡ group_text ρ ns g cs
   unfolding group_text lines_text
   group_text_same g cs = by (form_of g)
     where
-      by : (f : GroupForm) → group_text_by σ f (count_of ns g) cs ≡ group_text_by ρ f (count_of ns g) cs
-      by (Has f) = ap (λ n. many_text f n cs) (elements_same σ ρ alike f (count_of ns g))
-      by NoGroup = refl
+      by : (f : Option Form) → group_text_by σ f (count_of ns g) cs ≡ group_text_by ρ f (count_of ns g) cs
+      by (Some f) = ap (λ n. many_text f n cs) (elements_same σ ρ alike f (count_of ns g))
+      by None = refl
 
   pub record_text_same : (cs : List ℤ) → record_text σ ns cs ≡ record_text ρ ns cs
   unfolding record_text groups_text
@@ -52,9 +46,9 @@ module _ (σ ρ : Rules) (alike : σ.counting ≡ ρ.counting) (ns : List ℕ) w
   unfolding bytes_in
   group_bytes_same g = by (form_of g)
     where
-      by : (f : GroupForm) → bytes_by σ f (count_of ns g) ≡ bytes_by ρ f (count_of ns g)
-      by (Has f) = ap (many_bytes f) (elements_same σ ρ alike f (count_of ns g))
-      by NoGroup = refl
+      by : (f : Option Form) → bytes_by σ f (count_of ns g) ≡ bytes_by ρ f (count_of ns g)
+      by (Some f) = ap (many_bytes f) (elements_same σ ρ alike f (count_of ns g))
+      by None = refl
 
   pub record_bytes_same : record_bytes σ ns ≡ record_bytes ρ ns
   unfolding record_bytes
@@ -66,9 +60,9 @@ module _ (σ ρ : Rules) (alike : σ.counting ≡ ρ.counting) (ns : List ℕ) w
   unfolding elements_fit
   group_fit_same g cs = by (form_of g)
     where
-      by : (f : GroupForm) → group_fit_by σ f g (count_of ns g) cs ≡ group_fit_by ρ f g (count_of ns g) cs
-      by (Has f) = ap (λ n. many_fit f g n cs) (elements_same σ ρ alike f (count_of ns g))
-      by NoGroup = refl
+      by : (f : Option Form) → group_fit_by σ f g (count_of ns g) cs ≡ group_fit_by ρ f g (count_of ns g) cs
+      by (Some f) = ap (λ n. many_fit f g n cs) (elements_same σ ρ alike f (count_of ns g))
+      by None = refl
 
   fit_same : (cs : List ℤ) → fit_of σ ns cs ≡ fit_of ρ ns cs
   unfolding fit_of
@@ -81,18 +75,18 @@ module _ (σ ρ : Rules) (alike : σ.counting ≡ ρ.counting) (ns : List ℕ) w
   unfolding writing_of
   writing_same cs room = ap (write_checked σ ns cs room) (check_same σ ρ alike ns (length cs)) ∙ checked (checked_of ρ ns (length cs))
     where
-      dated : (d : Dated) → write_dated σ ns room d ≡ write_dated ρ ns room d
-      dated (Right d) = ap (λ n. cond (leb n room) (Done n) (Refused NoRoom)) record_bytes_same
-      dated (Wrong p) = refl
+      dated : (d : Result Date ℕ) → write_dated σ ns room d ≡ write_dated ρ ns room d
+      dated (Ok d) = ap (λ n. cond (leb n room) (Ok n) (Err NoRoom)) record_bytes_same
+      dated (Err p) = refl
 
-      fitted : (f : Fit) → write_fit σ ns cs room f ≡ write_fit ρ ns cs room f
-      fitted All = ap (λ l. write_dated σ ns room (dated_of l)) (date_letters_same cs) ∙ dated (dated_of (date_letters ρ ns cs))
-      fitted (Not g e) = refl
+      fitted : (f : Result (Unit {0}) Refusal) → write_fit σ ns cs room f ≡ write_fit ρ ns cs room f
+      fitted (Ok all) = ap (λ l. write_dated σ ns room (dated_of l)) (date_letters_same cs) ∙ dated (dated_of (date_letters ρ ns cs))
+      fitted (Err r) = refl
 
-      checked : (c : Checked) → write_checked σ ns cs room c ≡ write_checked ρ ns cs room c
-      checked C.Right = ap (write_fit σ ns cs room) (fit_same cs) ∙ fitted (fit_of ρ ns cs)
-      checked (C.Refused r) = refl
+      checked : (c : Result (Unit {0}) Refusal) → write_checked σ ns cs room c ≡ write_checked ρ ns cs room c
+      checked (Ok done) = ap (write_fit σ ns cs room) (fit_same cs) ∙ fitted (fit_of ρ ns cs)
+      checked (Err r) = refl
 
-  pub output_same : (cs : List ℤ) (a : Answer) (old : List ℕ) → output_by σ ns cs a old ≡ output_by ρ ns cs a old
-  output_same cs (Done n) old = ap (λ t. over 0 t old) (record_text_same cs)
-  output_same cs (Refused r) old = refl
+  pub output_same : (cs : List ℤ) (a : Result ℕ Refusal) (old : List ℕ) → output_by σ ns cs a old ≡ output_by ρ ns cs a old
+  output_same cs (Ok n) old = ap (λ t. over 0 t old) (record_text_same cs)
+  output_same cs (Err r) old = refl

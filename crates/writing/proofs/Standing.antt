@@ -1,6 +1,7 @@
 -- A canonical record, wherever it stands in whatever text: it is located there with its counts, and the part of each group is the group's own
 -- canonical text, with the group's own cells.
 -- Assumes nothing.
+use Rattle.std.specs.Prelude.{Ok}
 use mathlib.Core.Path.{◌≡◌, sym, ◌∙◌, ap, subst}
 use mathlib.Core.List.{List, ◌++◌, map, append_assoc}
 use Prim.Native.Nat.{ℕ, zero, suc, ◌+◌, ◌-◌, ◌≤◌}
@@ -20,7 +21,6 @@ use Rattle.line.proofs.Whole.{whole_append, reach_whole, lines_whole, behind_who
 use Rattle.count.specs.Tally
 use Rattle.count.specs.Tally.{lines_in, lines_before, record_lines, group_cells}
 use Rattle.count.specs.Rules.{release_of}
-use Rattle.count.specs.declared.Release.TheVariants.{Five}
 use Rattle.count.proofs.Tallied.{line_entry, record_two}
 use Rattle.place.specs.Index.{counts, read_index}
 use Rattle.place.specs.Placing.{located, locate}
@@ -44,7 +44,7 @@ module _ (ρ : Rules) {ns x : List ℕ} {cs : List ℤ} (h : CanonicalRecord ρ 
   abbrev pub in_text : List ℕ
   in_text = a ++ (x ++ b)
 
-  pub standing_located : release_of ns ≡ Five → locate ρ in_text (length a) ≡ located (length a + length x) ns
+  pub standing_located : release_of ns ≡ Ok tt → locate ρ in_text (length a) ≡ located (length a + length x) ns
   standing_located five =
       let u : Whole (record_lines ρ ns) x = canonical_whole ρ h in
       let d : drop (length a) in_text ≡ x ++ b = drop-append_seam a (x ++ b) in

@@ -1,5 +1,6 @@
 -- What is written for counts and cells that fit is canonical: each entry and index line, each field, line and group, and the record.
 -- Assumes nothing.
+use Rattle.std.specs.Prelude.{Option, Some, None, Ok}
 use mathlib.Core.Path.{◌≡◌, refl, sym, ◌∙◌}
 use mathlib.Core.Bool.{◌&&◌}
 use mathlib.Core.List.{List, [], ◌∷◌, ◌++◌, map}
@@ -20,8 +21,6 @@ use Rattle.base.proofs.Each.{each_imply, each_passed, own_each}
 use Rattle.base.proofs.Every.{every_take, every_drop}
 use Rattle.base.proofs.UpFrom.{sum_up_same}
 use Rattle.form.specs.declared.Form.{Form}
-use Rattle.form.specs.declared.GroupForm.{GroupForm}
-use Rattle.form.specs.declared.GroupForm.TheVariants.{Has, NoGroup}
 use Rattle.form.specs.Table.{row_of, form_of}
 use Rattle.form.specs.Count
 use Rattle.form.specs.Count.{is_count, elements_of, cells_of}
@@ -34,7 +33,6 @@ use Rattle.count.specs.Tally.{count_of, cells_by, cells_in, record_cells}
 use Rattle.form.proofs.Table.{has_form}
 use Rattle.reading.specs.Plan
 use Rattle.reading.specs.Plan.{Line, plan_of, elements_in}
-use Rattle.writing.specs.declared.Fit.TheVariants.{All}
 use Rattle.writing.specs.Text.{line_end, entries_text, index_text, line_cells, fields_text, line_text, many_text, lines_text, group_text_by, group_text, groups_text, record_text}
 use Rattle.writing.specs.Fitting.{Fitted, group_fit_by, group_fit, fit_of}
 use Rattle.writing.specs.Canonical.{EntryOf, CanonicalIndexLine, CanonicalLine, CanonicalLines, CanonicalGroupBy, CanonicalGroup, CanonicalRecord}
@@ -73,10 +71,10 @@ module _ (ρ : Rules) (f : Form) where
   lines_canonical count cs n h =
       own_each (line_cells f) (line_text f) (λ l c. Fitted f l.many c) line_canonical (plan_of ρ f count) cs (n ∙ sym (plan_cells ρ f count (row_of f).cells)) (lines_own ρ f count cs h)
 
-by_canonical : (ρ : Rules) (h : GroupForm) (g count : ℕ) (c : List ℤ) → (h ≡ NoGroup → ⊥) → length c ≡ cells_by ρ h count → group_fit_by ρ h g count c ≡ All
+by_canonical : (ρ : Rules) (h : Option Form) (g count : ℕ) (c : List ℤ) → (h ≡ None → ⊥) → length c ≡ cells_by ρ h count → group_fit_by ρ h g count c ≡ Ok tt
     → CanonicalGroupBy ρ h count (group_text_by ρ h count c) c
-by_canonical ρ (Has f) g count c some n e = lines_canonical ρ f count c n (elements_fitted ρ f g count c e)
-by_canonical ρ NoGroup g count c some n e = some refl
+by_canonical ρ (Some f) g count c some n e = lines_canonical ρ f count c n (elements_fitted ρ f g count c e)
+by_canonical ρ None g count c some n e = some refl
 
 -- ---- a record
 
@@ -85,23 +83,23 @@ unfolding Every.up_from
 all_groups = tt
 
 module _ (ρ : Rules) (ns : List ℕ) where
-  group_canonical : (g : ℕ) (c : List ℤ) → length c ≡ cells_in ρ ns g → group_fit ρ ns g c ≡ All → T (leb 1 g && leb g 60) → CanonicalGroup ρ ns g (group_text ρ ns g c) c
+  group_canonical : (g : ℕ) (c : List ℤ) → length c ≡ cells_in ρ ns g → group_fit ρ ns g c ≡ Ok tt → T (leb 1 g && leb g 60) → CanonicalGroup ρ ns g (group_text ρ ns g c) c
   unfolding group_text Tally.cells_in
   group_canonical g c n e t =
       let low = leb→le 1 g (and_left (leb 1 g) (leb g 60) t) in
       let high = leb→le g 60 (and_right (leb 1 g) (leb g 60) t) in
       by_canonical ρ (form_of g) g (count_of ns g) c (has_form g low (omega arith)) n e
 
-  groups_canonical : (cs : List ℤ) → length cs ≡ record_cells ρ ns → fit_of ρ ns cs ≡ All → Each (CanonicalGroup ρ ns) (up_from 1 60) (groups_text ρ ns cs) cs
+  groups_canonical : (cs : List ℤ) → length cs ≡ record_cells ρ ns → fit_of ρ ns cs ≡ Ok tt → Each (CanonicalGroup ρ ns) (up_from 1 60) (groups_text ρ ns cs) cs
   unfolding groups_text Tally.cell_tally Sum.sum
   groups_canonical cs n e =
       let size : length cs ≡ sum (map (cells_in ρ ns) (up_from 1 60)) = n ∙ zero-add (sum (map (cells_in ρ ns) (up_from 1 60))) in
       each_imply (λ g x c p. p.1 p.0) (up_from 1 60) (groups_text ρ ns cs) cs
       (each_passed (λ g. leb 1 g && leb g 60) (up_from 1 60) (groups_text ρ ns cs) cs all_groups
-      (own_each {P = λ g x c. T (leb 1 g && leb g 60) → CanonicalGroup ρ ns g x c} (cells_in ρ ns) (group_text ρ ns) (λ g c. group_fit ρ ns g c ≡ All) group_canonical
+      (own_each {P = λ g x c. T (leb 1 g && leb g 60) → CanonicalGroup ρ ns g x c} (cells_in ρ ns) (group_text ρ ns) (λ g c. group_fit ρ ns g c ≡ Ok tt) group_canonical
       (up_from 1 60) cs size (groups_own ρ ns cs e)))
 
-  pub written_canonical : (cs : List ℤ) → length ns ≡ 80 → T (every is_count ns) → length cs ≡ record_cells ρ ns → fit_of ρ ns cs ≡ All → CanonicalRecord ρ ns (record_text ρ ns cs) cs
+  pub written_canonical : (cs : List ℤ) → length ns ≡ 80 → T (every is_count ns) → length cs ≡ record_cells ρ ns → fit_of ρ ns cs ≡ Ok tt → CanonicalRecord ρ ns (record_text ρ ns cs) cs
   unfolding record_text index_text
   written_canonical cs many small n e =
       record {

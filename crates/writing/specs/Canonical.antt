@@ -1,12 +1,10 @@
 -- R100: canonical text as a statement about a record's bytes, apart from the function that makes them. Here is how its lines end (R101) and
 -- that they end with their last field (R102); field's Canonical and Entry say how fields and index entries are written (R103 to R109).
-use Rattle.std.specs.Prelude.{◌≡◌, List, [], ◌∷◌, ◌++◌, ℕ, ℤ, length, take, drop}
+use Rattle.std.specs.Prelude.{◌≡◌, List, [], ◌∷◌, ◌++◌, ℕ, ℤ, length, take, drop, Option, Some, None}
 use Rattle.rules.specs.declared.Rules.{Rules}
 use Rattle.base.specs.Every.{up_from}
 use Rattle.base.specs.Pieces.{Each}
 use Rattle.form.specs.declared.Form.{Form}
-use Rattle.form.specs.declared.GroupForm.{GroupForm}
-use Rattle.form.specs.declared.GroupForm.TheVariants.{Has, NoGroup}
 use Rattle.form.specs.Table.{form_of}
 use Rattle.field.specs.Canonical.{IsCanonical}
 use Rattle.field.specs.Entry.{CanonicalEntry}
@@ -35,9 +33,9 @@ module _ (ρ : Rules) where
   abbrev pub CanonicalLines : Form → ℕ → List ℕ → List ℤ → Type 0
   CanonicalLines f count x cs = Each (CanonicalLine f) (plan_of ρ f count) x cs
 
-  abbrev pub CanonicalGroupBy : GroupForm → ℕ → List ℕ → List ℤ → Type 0
-  CanonicalGroupBy (Has f) count x cs = CanonicalLines f count x cs
-  CanonicalGroupBy NoGroup count x cs = ⊥
+  abbrev pub CanonicalGroupBy : Option Form → ℕ → List ℕ → List ℤ → Type 0
+  CanonicalGroupBy (Some f) count x cs = CanonicalLines f count x cs
+  CanonicalGroupBy None count x cs = ⊥
 
   abbrev pub CanonicalGroup : List ℕ → ℕ → List ℕ → List ℤ → Type 0
   CanonicalGroup ns g x cs = CanonicalGroupBy (form_of g) (count_of ns g) x cs

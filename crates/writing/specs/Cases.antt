@@ -1,6 +1,6 @@
 -- R401 to R410, the marked cases in their order, and some neighbours: a field on a line of its own as it is read and written, the lines of a
 -- count, the letters of group 3. Replies are given by their numbers.
-use Rattle.std.specs.Prelude.{◌≡◌, false, List, [], ◌∷◌, ◌++◌, ℕ, ℤ, pos, neg_ℤ, length}
+use Rattle.std.specs.Prelude.{◌≡◌, false, List, [], ◌∷◌, ◌++◌, ℕ, ℤ, pos, neg_ℤ, length, Option, Some, None, Result, Ok, Err}
 use Prim.Native.String.{String}
 use Rattle.rules.specs.declared.Rules.{Rules}
 use Rattle.base.specs.Pieces.{cells_got}
@@ -9,19 +9,14 @@ use Rattle.form.specs.declared.Form.{Form}
 use Rattle.form.specs.declared.Form.TheVariants.{A1, F8, I3, E20, E8}
 use Rattle.form.specs.Count.{lines_of}
 use Rattle.field.specs.Entry.{entry_of}
-use Rattle.field.specs.declared.IndexEntry.{IndexEntry}
-use Rattle.field.specs.declared.IndexEntry.TheVariants.{Count, Misformed}
 use Rattle.reply.specs.declared.Reply.{Reply}
 use Rattle.date.specs.Date.{dated_of}
 use Rattle.date.specs.declared.Date.{Date}
-use Rattle.date.specs.declared.Dated.TheVariants.{Right}
 use Rattle.reading.specs.Read.{Cells, read_lines, read_form, reading_of}
-use Rattle.writing.specs.declared.Fit.{Fit}
-use Rattle.writing.specs.declared.Fit.TheVariants.{All, Not}
-use Rattle.reply.specs.declared.Refusal.TheVariants.{NoField}
 use Rattle.reply.specs.Refusals.{refusal_number, answer_reply}
 use Rattle.writing.specs.Fitting.{elements_fit}
 use Rattle.writing.specs.Text.{line_end, lines_text}
+use Rattle.reply.specs.declared.Refusal.{Refusal}
 
 abbrev pub minus : ℕ → ℤ
 minus n = neg_ℤ (pos n)
@@ -37,7 +32,7 @@ pub data Case : Type 0 where
   -- or refused with this reply
   refuses : Form → List ℤ → ℕ → Case
   -- an index entry
-  entry : String → IndexEntry → Case
+  entry : String → Option ℕ → Case
   -- such a count has so many lines
   takes : Form → ℕ → ℕ → Case
   -- the letters of group 3 are read with 0 and tell this date
@@ -49,9 +44,9 @@ pub data Case : Type 0 where
 abbrev pub case_reply : Cells → Reply
 case_reply g = answer_reply (reading_of g)
 
-abbrev pub fit_number : Fit → ℕ
-fit_number All = 0
-fit_number (Not g e) = refusal_number (NoField g e)
+abbrev pub fit_number : Result (Unit {0}) Refusal → ℕ
+fit_number (Ok all) = 0
+fit_number (Err r) = refusal_number r
 
 module _ (ρ : Rules) where
   -- letters as group 3
@@ -64,7 +59,7 @@ module _ (ρ : Rules) where
   Holding (refuses f cs n) = (g : ℕ) → fit_number (elements_fit ρ f g 1 cs) ≡ n
   Holding (entry t e) = entry_of (bytes t) ≡ e
   Holding (takes f count n) = lines_of ρ f count ≡ n
-  Holding (dates t d) = ((case_reply (letters_read t)).number ≡ 0) × (dated_of (bytes t) ≡ Right d)
+  Holding (dates t d) = ((case_reply (letters_read t)).number ≡ 0) × (dated_of (bytes t) ≡ Ok d)
   Holding (blames t n p) = ((case_reply (letters_read t)).number ≡ n) × ((case_reply (letters_read t)).position ≡ p)
 
   abbrev pub AllHolding : List Case → Type 0
@@ -109,8 +104,8 @@ cases =
     ∷ blames "AA19003661231142530" 10 7
     -- R23: I3 may have a minus, an index entry may not, even before 0; R84: zeros in front
     ∷ reads I3 " -0" 0 (pos 0 ∷ [])
-    ∷ entry " -0" Misformed
-    ∷ entry "005" (Count 5)
+    ∷ entry " -0" None
+    ∷ entry "005" (Some 5)
     -- R81: a plus in front; R82: nothing but blanks
     ∷ reads I3 " +7" 9 []
     ∷ reads F8 "        " 9 []

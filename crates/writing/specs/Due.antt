@@ -1,9 +1,8 @@
 -- R233, R301: when each reply of writing is due: its condition holds, and none that stands before it in the order 4, 5, 6, 7, 14, 13, 10, 11
 -- is due.
-use Rattle.std.specs.Prelude.{◌≡◌, List, ℕ, ◌+◌, ◌-◌, ◌*◌, ◌<◌, ◌≤◌, ℤ, length, take, drop}
+use Rattle.std.specs.Prelude.{◌≡◌, List, ℕ, ◌+◌, ◌-◌, ◌*◌, ◌<◌, ◌≤◌, ℤ, length, take, drop, Some, Result, Ok, Err}
 use Rattle.rules.specs.declared.Rules.{Rules}
 use Rattle.form.specs.declared.Form.{Form}
-use Rattle.form.specs.declared.GroupForm.TheVariants.{Has}
 use Rattle.form.specs.Table.{row_of, form_of}
 use Rattle.form.specs.Count.{elements_of}
 use Rattle.field.specs.Grammar.{IsField}
@@ -12,9 +11,6 @@ use Rattle.count.specs.Due as Counts
 use Rattle.count.specs.Due.{HasCells}
 use Rattle.date.specs.Due as Letters
 use Rattle.date.specs.declared.Date.{Date}
-use Rattle.date.specs.declared.Dated.TheVariants.{Right, Wrong}
-use Rattle.reply.specs.declared.Answer.{Answer}
-use Rattle.reply.specs.declared.Answer.TheVariants.{Done, Refused}
 use Rattle.reply.specs.declared.Refusal.{Refusal}
 use Rattle.reply.specs.declared.Refusal.TheVariants.{NoField, BadDate, NoRoom}
 use Rattle.writing.specs.Text.{record_bytes}
@@ -32,7 +28,7 @@ HasNone f c = (s : List ℕ) → IsField f s c → ⊥
 module _ (ρ : Rules) (ns : List ℕ) (cs : List ℤ) where
   -- R231: element e of group g, which has this form; elements are counted from 1
   pub record Element (g e : ℕ) (f : Form) : Type 0 where
-    pub form : form_of g ≡ Has f
+    pub form : form_of g ≡ Some f
     pub low : 1 ≤ e
     pub high : e ≤ elements_of ρ f (count_of ns g)
 
@@ -49,7 +45,7 @@ module _ (ρ : Rules) (ns : List ℕ) (cs : List ℤ) where
   pub record HasDate : Type 0 where
     pub fields : HasFields
     pub date : Date
-    pub right : Letters.Due (date_letters ρ ns cs) (Right date)
+    pub right : Letters.Due (date_letters ρ ns cs) (Ok date)
 
   -- R303: 13, this element's cells have no field; those of each in a lower group, and of each lower one in this group, have
   pub record LowestNone (g e : ℕ) : Type 0 where
@@ -63,7 +59,7 @@ module _ (ρ : Rules) (ns : List ℕ) (cs : List ℤ) where
   -- R304: 10, it tells none
   pub record WrongDate (p : ℕ) : Type 0 where
     pub fields : HasFields
-    pub wrong : Letters.Due (date_letters ρ ns cs) (Wrong p)
+    pub wrong : Letters.Due (date_letters ρ ns cs) (Err p)
 
   -- R305: 11, the canonical text is longer than the output; R306: 0, it is not
   pub record OutputShort (room : ℕ) : Type 0 where
@@ -82,6 +78,6 @@ module _ (ρ : Rules) (ns : List ℕ) (cs : List ℤ) where
     bad_date : (p : ℕ) → WrongDate p → RefusedFor room (BadDate p)
     no_room : OutputShort room → RefusedFor room NoRoom
 
-  abbrev pub Due : ℕ → Answer → Type 0
-  Due room (Done n) = TextFits room n
-  Due room (Refused r) = RefusedFor room r
+  abbrev pub Due : ℕ → Result ℕ Refusal → Type 0
+  Due room (Ok n) = TextFits room n
+  Due room (Err r) = RefusedFor room r

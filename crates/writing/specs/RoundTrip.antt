@@ -1,5 +1,5 @@
 -- D2.4: reading what was written gives its counts and cells; D2.5: writing what was read from canonical text gives its bytes.
-use Rattle.std.specs.Prelude.{◌≡◌, List, ℕ, ◌+◌, ◌≤◌, ℤ}
+use Rattle.std.specs.Prelude.{◌≡◌, List, ℕ, ◌+◌, ◌≤◌, ℤ, Ok}
 use Rattle.rules.specs.declared.Rules.{Rules}
 use Rattle.base.specs.Part.{part}
 use Rattle.base.specs.Pieces.{done}
@@ -7,7 +7,6 @@ use Rattle.count.specs.Tally.{cells_in, group_cells, joined}
 use Rattle.place.specs.declared.Placing.TheVariants.{Placed}
 use Rattle.place.specs.Placing.{placing_of, counts_at}
 use Rattle.group.specs.Text.{read_at}
-use Rattle.reply.specs.declared.Answer.TheVariants.{Done}
 use Rattle.writing.specs.Canonical.{CanonicalRecord}
 use Rattle.writing.specs.Text.{record_text, record_bytes}
 use Rattle.writing.specs.Writing.{writing_of}
@@ -30,7 +29,7 @@ module _ (ρ : Rules) where
   -- what writing the counts and cells that were read comes to
   pub record WritesAgain (s : List ℕ) (at next : ℕ) (cells : ℕ → List ℤ) : Type 0 where
     -- R112: 0, where there is room
-    pub written : (room : ℕ) → record_bytes ρ (counts_at ρ s at) ≤ room → writing_of ρ (counts_at ρ s at) (joined cells) room ≡ Done (record_bytes ρ (counts_at ρ s at))
+    pub written : (room : ℕ) → record_bytes ρ (counts_at ρ s at) ≤ room → writing_of ρ (counts_at ρ s at) (joined cells) room ≡ Ok (record_bytes ρ (counts_at ρ s at))
     -- D2.5: and where the record's bytes are canonical, of whatever cells, these are the cells that were read, and its bytes are what is written
     pub cells_same : (ds : List ℤ) → CanonicalRecord ρ (counts_at ρ s at) (part at next s) ds → ds ≡ joined cells
     pub bytes_same : (ds : List ℤ) → CanonicalRecord ρ (counts_at ρ s at) (part at next s) ds → record_text ρ (counts_at ρ s at) (joined cells) ≡ part at next s

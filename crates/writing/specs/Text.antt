@@ -1,12 +1,10 @@
 -- R100: the canonical text of counts and cells. R20: the two lines of the index, and behind them those of group 1, of group 2, up to 60.
-use Rattle.std.specs.Prelude.{true, List, [], ◌∷◌, ◌++◌, map, ℕ, ◌+◌, ◌*◌, ℤ, take, drop}
+use Rattle.std.specs.Prelude.{true, List, [], ◌∷◌, ◌++◌, map, ℕ, ◌+◌, ◌*◌, ℤ, take, drop, Option, Some, None}
 use Rattle.rules.specs.declared.Rules.{Rules}
 use Rattle.base.specs.Every.{up_from}
 use Rattle.base.specs.Pieces.{emit}
 use Rattle.base.specs.Sum.{sum}
 use Rattle.form.specs.declared.Form.{Form}
-use Rattle.form.specs.declared.GroupForm.{GroupForm}
-use Rattle.form.specs.declared.GroupForm.TheVariants.{Has, NoGroup}
 use Rattle.form.specs.Table.{row_of, form_of}
 use Rattle.form.specs.Count.{elements_of, rounded_up}
 use Rattle.field.specs.Write.{field_text}
@@ -55,9 +53,9 @@ module _ (ρ : Rules) where
   unfoldable pub lines_text : Form → ℕ → List ℤ → List ℕ
   lines_text f count cs = many_text f (elements_of ρ f count) cs
 
-  abbrev pub group_text_by : GroupForm → ℕ → List ℤ → List ℕ
-  group_text_by (Has f) count cs = lines_text f count cs
-  group_text_by NoGroup count cs = []
+  abbrev pub group_text_by : Option Form → ℕ → List ℤ → List ℕ
+  group_text_by (Some f) count cs = lines_text f count cs
+  group_text_by None count cs = []
 
   unfoldable pub group_text : List ℕ → ℕ → List ℤ → List ℕ
   group_text ns g cs = group_text_by (form_of g) (count_of ns g) cs
@@ -80,9 +78,9 @@ module _ (ρ : Rules) where
   abbrev pub bytes_of : Form → ℕ → ℕ
   bytes_of f count = many_bytes f (elements_of ρ f count)
 
-  abbrev pub bytes_by : GroupForm → ℕ → ℕ
-  bytes_by (Has f) count = bytes_of f count
-  bytes_by NoGroup count = 0
+  abbrev pub bytes_by : Option Form → ℕ → ℕ
+  bytes_by (Some f) count = bytes_of f count
+  bytes_by None count = 0
 
   unfoldable pub bytes_in : List ℕ → ℕ → ℕ
   bytes_in ns g = bytes_by (form_of g) (count_of ns g)

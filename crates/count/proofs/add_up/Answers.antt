@@ -1,39 +1,31 @@
--- `count::add_up` meets its contract. The invariant: the totals are those before group g.
+-- `count::add_up` meets its contract. The invariant: the totals are those before group `number`, and so small that none overflows.
 -- Assumes nothing.
 use native.Mathlib.Omega.{arith}
-use mathlib.Core.Path.{◌≡◌}
-use Prim.Native.Nat.{◌≤◌, min}
+use Rattle.std.proofs.Common.{rules}
 use Rattle.form.specs.Table.{form_of}
-use Rattle.count.specs.Tally.{count_of}
+use Prim.Native.Nat.{◌≤◌, min}
+use mathlib.Core.Path.{◌≡◌}
 use Rattle.count.proofs.Tallied.{lines_by_few, cells_by_few, before_none, before_groups, before_end, before_more}
 use Rattle.count.proofs.add_up.Goals as goal
 
 pub returns-then-group-eq0 : goal.returns-then-group-eq0
-returns-then-group-eq0 c = rw c.if-group-eq0.true (before_none _ _)
+returns-then-group-eq0 c = before_none _ _ _ c.if-group-eq0.true
 
-pub loop-g-init : goal.loop-g-init
-loop-g-init c = (omega arith, omega arith, omega arith, omega arith, before_groups _ _)
+pub loop-number-init : goal.loop-number-init
+loop-number-init c = search (rules, before_groups)
 
-pub with_group-totals-requires : goal.with_group-totals-requires
-with_group-totals-requires c =
+pub loop-number-preserved : goal.loop-number-preserved
+loop-number-preserved c =
+    let l = c.loop-number in let ρ = c.args.rules in
+    let n = c.count_of.result in
+    let few : n ≤ 65535 = omega arith in
     record {
-      low = omega arith;
-      high = omega arith;
-      lines = omega arith;
-      cells = omega arith;
+      few_lines = omega (arith, lines_by_few ρ (form_of l.number) n few);
+      few_cells = omega (arith, cells_by_few ρ (form_of l.number) n few);
+      before = before_more ρ c.args.counts.now l.number l.totals.lines l.totals.cells (omega arith) (omega arith) l.invariant.before n _ _ c.count_of.ensures c.with_group-totals.ensures.lines c.with_group-totals.ensures.cells;
     }
-
-pub loop-g-preserved : goal.loop-g-preserved
-loop-g-preserved c =
-    let l = c.loop-g in let o = c.args in
-    let ns = o.counts.now in
-    let f = form_of l.g in
-    let n : count_of ns l.g ≤ 65535 = omega (arith, c.count_of.ensures) in
-    let more = before_more _ ns l.g l.totals.lines l.totals.cells (omega arith) (omega arith) l.invariant.4 in
-    rw (c.with_group-totals.ensures.lines, c.with_group-totals.ensures.cells, c.count_of.ensures)
-    (omega arith, omega arith, omega (arith, lines_by_few o.rules f (count_of ns l.g) n), omega (arith, cells_by_few o.rules f (count_of ns l.g) n), more)
 
 pub returns : goal.returns
 returns c =
-    let e : c.loop-g.g ≡ min c.args.group 61 = omega (arith, c.lesser-end.ensures) in
-    before_end _ _ _ _ _ (rw e at c.loop-g.invariant.4)
+    let e : c.loop-number.number ≡ min c.args.group 61 = omega (arith, c.min-number-end.ensures) in
+    before_end _ _ _ _ _ (rw e at c.loop-number.invariant.before)

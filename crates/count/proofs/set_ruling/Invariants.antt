@@ -2,13 +2,9 @@
 -- Assumes nothing.
 use mathlib.Core.Path.{◌≡◌}
 use mathlib.Core.List.{map}
-use Prim.Native.Nat.{◌≤◌, ◌-◌}
 use lib.ListN.{drop}
 use Rattle.count.specs.Rules.{lower, lowest, sets, set_rule}
 use Rattle.count.proofs.set_ruling.Given as goal
 
-abbrev pub invariant-loop-k : goal.invariant-loop-k
-invariant-loop-k l = (l.k ≤ 10) × (lower l.low (lowest (map (set_rule l.counts) (drop l.k sets))) ≡ lowest (map (set_rule l.counts) sets))
-
-abbrev pub decreases-loop-k : goal.decreases-loop-k
-decreases-loop-k l = 10 - l.k
+abbrev pub invariant-loop-set : goal.invariant-loop-set
+invariant-loop-set l = lower l.low (lowest (map (set_rule l.counts) (drop l.set-index sets))) ≡ lowest (map (set_rule l.counts) sets)

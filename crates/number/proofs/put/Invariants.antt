@@ -2,16 +2,11 @@
 -- asked for, and what is left after them is what was to be left.
 use mathlib.Core.Path.{◌≡◌}
 use mathlib.Core.List.{◌++◌}
-use Prim.Native.Nat.{◌≤◌}
 use lib.ListN.{length, drop}
 use Rattle.number.specs.Write.{text_of, rest_of}
 use Rattle.number.proofs.put.Given as goal
 
 abbrev pub invariant-loop-i : goal.invariant-loop-i
-invariant-loop-i l = (l.i ≤ length l.out)
-    × (length l.out ≡ length l.initial.out)
+invariant-loop-i l = (length l.out ≡ length l.initial.out)
     × (text_of l.filled l.i l.st ++ drop l.i l.out ≡ text_of l.filled (length l.initial.out) l.initial.st)
     × (rest_of l.filled l.i l.st ≡ rest_of l.filled (length l.initial.out) l.initial.st)
-
-abbrev pub decreases-loop-i : goal.decreases-loop-i
-decreases-loop-i l = l.i

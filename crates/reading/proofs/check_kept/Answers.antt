@@ -11,17 +11,15 @@ use Rattle.reading.proofs.check_kept.Goals as goal
 pub returns-then-count-eq0 : goal.returns-then-count-eq0
 returns-then-count-eq0 c =
     let a = c.args in
-    let none = fitting_none a.rules a.counts.now a.group a.lines.now c.requires.kept c.requires.low c.requires.high (sym c.count_of-count.ensures ∙ c.if-count-eq0.true) in
+    let none = fitting_none a.rules a.kept.counts.now a.group.number a.lines.now a.kept.kept a.group.low a.group.high (sym c.count_of-count.ensures ∙ c.if-count-eq0.true) in
     sym (ap verdict_of none.0)
 
-pub check-requires : goal.check-requires
-check-requires c =
-    let ns = c.args.counts.now in record {
-      form = c.form_in.ensures;
-      date = λ t. subst (λ n. 19 ≤ n) (sym (c.count_of-count.ensures ∙ ap (count_of ns) t)) (kept_letters ns c.requires.kept);
-    }
+pub check-requires-clause-date : goal.check-requires-clause-date
+check-requires-clause-date c =
+    let ns = c.args.kept.counts.now in
+    λ t. subst (λ n. 19 ≤ n) (sym (c.count_of-count.ensures ∙ ap (count_of ns) t)) (kept_letters ns c.args.kept.kept)
 
 pub returns : goal.returns
 returns c =
     let a = c.args in
-    c.check.ensures ∙ sym (ap verdict_of (fitting_is a.rules a.counts.now a.group a.lines.now c.requires.kept _ c.form_in.ensures c.count_of-count.ensures))
+    c.check.ensures ∙ sym (ap verdict_of (fitting_is a.rules a.kept.counts.now a.group.number a.lines.now a.kept.kept _ c.form.ensures c.count_of-count.ensures))

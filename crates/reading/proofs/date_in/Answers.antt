@@ -11,12 +11,12 @@ use Rattle.reading.proofs.date_in.Goals as goal
 
 pub slice_bounds-new-end : goal.slice_bounds-new-end
 slice_bounds-new-end c =
-    let first-many : c.lesser-k.result ≡ min (row_of A1).per_line (elements_of c.args.rules A1 c.args.count) =
-    c.lesser-k.ensures ∙ rw (c.row_of-row.ensures, c.elements-n.ensures) in
-    omega (arith, letters_inside c.args.rules c.args.count c.args.lines.now c.requires.clean c.requires.date c.lesser-k.result (first-many))
+    let first-many : c.min-first.result ≡ min (row_of A1).per_line (elements_of c.args.rules A1 c.args.count) =
+    c.min-first.ensures ∙ rw (c.row_of.ensures, c.elements-elements.ensures) in
+    omega (arith, letters_inside c.args.rules c.args.count c.args.lines.now c.requires.clean c.requires.date c.min-first.result (first-many))
 
 pub returns : goal.returns
 returns c =
-    let first-many : c.lesser-k.result ≡ min (row_of A1).per_line (elements_of c.args.rules A1 c.args.count) =
-    c.lesser-k.ensures ∙ rw (c.row_of-row.ensures, c.elements-n.ensures) in
-    c.new.ensures ∙ line_dated c.args.rules c.args.count c.args.lines.now c.requires.clean c.requires.date c.lesser-k.result (first-many)
+    let first-many : c.min-first.result ≡ min (row_of A1).per_line (elements_of c.args.rules A1 c.args.count) =
+    c.min-first.ensures ∙ rw (c.row_of.ensures, c.elements-elements.ensures) in
+    c.new.ensures ∙ line_dated c.args.rules c.args.count c.args.lines.now c.requires.clean c.requires.date c.min-first.result (first-many)

@@ -15,46 +15,37 @@ use Rattle.reading.proofs.fill_kept.Goals as goal
 pub returns-then-count-eq0 : goal.returns-then-count-eq0
 returns-then-count-eq0 c =
     let a = c.args in
-    let none = fitting_none a.rules a.counts.now a.group a.lines.now c.requires.kept c.requires.low c.requires.high (sym c.count_of-count.ensures ∙ c.if-count-eq0.true) in record {
+    let none = fitting_none a.rules a.kept.counts.now a.group.number a.lines.now a.kept.kept a.group.low a.group.high (sym c.count_of-count.ensures ∙ c.if-count-eq0.true) in record {
       end = omega (arith, none.1);
       table = over_none a.table.now a.cell ∙ ap (λ y. over a.cell (cells_got y) a.table.now) (sym none.0);
     }
 
 pub overflow_add-end : goal.overflow_add-end
 overflow_add-end c =
-    let cells-end : ((c.args.cell + c.cells.result ≡ c.args.cell + cells_of c.args.rules c.form_in-form.result c.count_of-count.result) × (c.args.cell + c.cells.result ≤ length c.args.table.now)) =
     let a = c.args in
-    let e = fitting_cells a.rules a.counts.now a.group a.lines.now c.requires.kept _ c.form_in-form.ensures c.count_of-count.ensures in
-    (ap (λ n. a.cell + n) c.cells.ensures, omega (arith, e, c.cells.ensures, c.requires.room)) in
-    let h = cells-end in search rules
+    let e = fitting_cells a.rules a.kept.counts.now a.group.number a.lines.now a.kept.kept _ c.form-form.ensures c.count_of-count.ensures in
+    let inside : a.cell + c.cells.result ≤ length a.table.now = omega (arith, e, c.cells.ensures, c.requires.room) in
+    search rules
 
 pub slice_bounds-fill-end : goal.slice_bounds-fill-end
 slice_bounds-fill-end c =
-    let cells-end : ((c.args.cell + c.cells.result ≡ c.args.cell + cells_of c.args.rules c.form_in-form.result c.count_of-count.result) × (c.args.cell + c.cells.result ≤ length c.args.table.now)) =
     let a = c.args in
-    let e = fitting_cells a.rules a.counts.now a.group a.lines.now c.requires.kept _ c.form_in-form.ensures c.count_of-count.ensures in
-    (ap (λ n. a.cell + n) c.cells.ensures, omega (arith, e, c.cells.ensures, c.requires.room)) in
-    (cells-end).1
+    let e = fitting_cells a.rules a.kept.counts.now a.group.number a.lines.now a.kept.kept _ c.form-form.ensures c.count_of-count.ensures in
+    omega (arith, e, c.cells.ensures, c.requires.room)
 
-pub fill-requires : goal.fill-requires
-fill-requires c =
+pub fill-requires-clause-clean : goal.fill-requires-clause-clean
+fill-requires-clause-clean c =
     let a = c.args in
-    let f = c.form_in-form in record {
-      form = f.ensures;
-      clean = lines_clean a.rules a.counts.now a.group a.lines.now c.requires.kept _ f.ensures c.count_of-count.ensures c.requires.clean;
-      room = search rules;
-    }
+    lines_clean a.rules a.kept.counts.now a.group.number a.lines.now a.kept.kept _ c.form-form.ensures c.count_of-count.ensures c.requires.clean
 
 pub returns : goal.returns
 returns c =
-    let cells-end : ((c.args.cell + c.cells.result ≡ c.args.cell + cells_of c.args.rules c.form_in-form.result c.count_of-count.result) × (c.args.cell + c.cells.result ≤ length c.args.table.now)) =
     let a = c.args in
-    let e = fitting_cells a.rules a.counts.now a.group a.lines.now c.requires.kept _ c.form_in-form.ensures c.count_of-count.ensures in
-    (ap (λ n. a.cell + n) c.cells.ensures, omega (arith, e, c.cells.ensures, c.requires.room)) in
-    let a = c.args in
-    let f = c.form_in-form in let e = fitting_cells a.rules a.counts.now a.group a.lines.now c.requires.kept _ f.ensures c.count_of-count.ensures in
-    let h = cells-end in record {
+    let f = c.form-form in
+    let e = fitting_cells a.rules a.kept.counts.now a.group.number a.lines.now a.kept.kept _ f.ensures c.count_of-count.ensures in
+    let end : a.cell + c.cells.result ≡ a.cell + cells_of a.rules f.result c.count_of-count.result = ap (λ n. a.cell + n) c.cells.ensures in
+    let inside : a.cell + c.cells.result ≤ length a.table.now = omega (arith, e, c.cells.ensures, c.requires.room) in record {
       end = ap (λ n. a.cell + n) (c.cells.ensures ∙ sym e);
-      table = filled_part a.rules a.counts.now a.group a.lines.now c.requires.kept _ f.ensures c.count_of-count.ensures c.requires.clean a.table.now a.cell _ h.0 h.1
+      table = filled_part a.rules a.kept.counts.now a.group.number a.lines.now a.kept.kept _ f.ensures c.count_of-count.ensures c.requires.clean a.table.now a.cell _ end inside
           c.fill.ensures;
     }

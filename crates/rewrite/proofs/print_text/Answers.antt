@@ -18,22 +18,31 @@ loop-at-init g c = (c.requires.table, c.requires.page, writing_first c.args.rule
 pub returns-in_default-clause-stopped : goal.returns-in_default-clause-stopped
 returns-in_default-clause-stopped g c =
     let i = c.loop-at.invariant in
-    printing_stop c.args.rules c.args.text.now c.loop-at.at (printing_of c.args.rules c.args.text.now i.2) i.0 i.1 _ c.rewrite_record-answer.ensures.answer
+    printing_stop c.args.rules c.args.text.now c.loop-at.at (printing_of c.args.rules c.args.text.now i.2) i.0 i.1 _ c.rewrite_record.ensures.answer
     (omega arith)
     (λ bytes next e. let z : ◌≡◌ {A = ℕ} 0 1 = cc in absurd (omega arith))
 
 pub returns-in_default-clause-written : goal.returns-in_default-clause-written
 returns-in_default-clause-written g c =
     let i = c.loop-at.invariant in
-    stopped_written c.args.rules c.args.text.now i.2 i.0 i.1 _ c.rewrite_record-answer.ensures.answer (omega arith)
+    stopped_written c.args.rules c.args.text.now i.2 i.0 i.1 _ c.rewrite_record.ensures.answer (omega arith)
     (λ bytes next e. let z : ◌≡◌ {A = ℕ} 0 1 = cc in absurd (omega arith))
 
 pub slice_bounds-put_all-end : goal.slice_bounds-put_all-end
 slice_bounds-put_all-end g c =
     let i = c.loop-at.invariant in
     let l =
-    printing_room c.args.rules c.args.text.now c.loop-at.at (printing_of c.args.rules c.args.text.now i.2) i.0 i.1 _ c.rewrite_record-answer.ensures.answer
-    _ _ c.in-Done.is
+    printing_room c.args.rules c.args.text.now c.loop-at.at (printing_of c.args.rules c.args.text.now i.2) i.0 i.1 _ c.rewrite_record.ensures.answer
+    _ _ c.in-Ok.is
+    in
+    search rules
+
+pub slice_bounds-put_all-end-in-loop-at : goal.slice_bounds-put_all-end-in-loop-at
+slice_bounds-put_all-end-in-loop-at g c =
+    let i = c.loop-at.invariant in
+    let l =
+    printing_room c.args.rules c.args.text.now c.loop-at.at (printing_of c.args.rules c.args.text.now i.2) i.0 i.1 _ c.rewrite_record.ensures.answer
+    _ _ c.in-Ok.is
     in
     search rules
 
@@ -42,7 +51,7 @@ pub returns-in_err-put_all-clause-front : goal.returns-in_err-put_all-clause-fro
 returns-in_err-put_all-clause-front g c =
     let i = c.loop-at.invariant in
     on_error _
-    (written_part c.args.rules c.args.text.now i.2 i.0 i.1 _ c.rewrite_record-answer.ensures.answer _ _ c.in-Done.is (omega arith) _ c.rewrite_record-answer.ensures.output
+    (written_part c.args.rules c.args.text.now i.2 i.0 i.1 _ c.rewrite_record.ensures.answer _ _ c.in-Ok.is (omega arith) _ c.rewrite_record.ensures.output
     _ c.in_err-put_all.ensures.front)
 
 pub loop-at-smaller : goal.loop-at-smaller
@@ -50,7 +59,7 @@ loop-at-smaller g c =
     let i = c.loop-at.invariant in
     let l =
     printing_further c.args.rules c.args.text.now c.loop-at.at (printing_of c.args.rules c.args.text.now i.2) i.0 i.1 _
-    c.rewrite_record-answer.ensures.answer _ _ c.in-Done.is
+    c.rewrite_record.ensures.answer _ _ c.in-Ok.is
     in
     search rules
 
@@ -59,7 +68,7 @@ loop-at-preserved g c =
     let i = c.loop-at.invariant in (
       search rules,
       search rules,
-      writing_more c.args.rules c.args.text.now i.2 i.0 i.1 _ c.rewrite_record-answer.ensures.answer _ _ c.in-Done.is _ c.rewrite_record-answer.ensures.output
+      writing_more c.args.rules c.args.text.now i.2 i.0 i.1 _ c.rewrite_record.ensures.answer _ _ c.in-Ok.is _ c.rewrite_record.ensures.output
           c.in_ok-put_all.ensures.all,
     )
 

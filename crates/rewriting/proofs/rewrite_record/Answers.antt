@@ -1,87 +1,66 @@
 -- `rewriting::rewrite_record` meets its contract: what placing answered chooses, and then what reading the placed record gives; each answer, with
 -- what it leaves, by what led to it.
--- Assumes nothing.
-use native.Mathlib.Omega.{arith}
-use mathlib.Core.Path.{refl, sym, ◌∙◌, ap, subst}
-use Prim.Native.Nat.{◌≤◌}
-use lib.ListN.{length}
-use Rattle.place.specs.Numbered.{as_checked}
-use Rattle.place.specs.Placing.{carried_by}
-use Rattle.place.specs.Parted.{Parted}
-use Rattle.place.proofs.Parted.{parted_at}
+use Rattle.std.proofs.Common.{◌≡◌, ◌∙◌, ◌≤◌, Ok, Err, length, refl, sym, ap, subst, arith, rules}
+use Rattle.place.specs.Numbered.{as_checked, placing_reply}
+use Rattle.place.specs.Placing.{placing_of, carried_by, carried_at}
+use Rattle.place.proofs.Parted.{placed_parted}
+use Rattle.reply.specs.declared.Refusal.TheVariants.{NoRoom}
+use Rattle.whole.specs.Whole.{unread}
 use Rattle.writing.specs.Text.{record_bytes}
-use Rattle.rewriting.proofs.Steps.{Stands, step_unplaced, step_short, step_unread, step_writes, step_done}
+use Rattle.rewriting.specs.Record.{rewritten_with}
+use Rattle.rewriting.proofs.Steps.{Outcome, Stands, stands_by, step_unplaced, step_short, step_unread, step_writes, step_done}
+use Rattle.rewriting.proofs.rewrite_record.Goals.{In_ok-as_checked}
 use Rattle.rewriting.proofs.rewrite_record.Goals as goal
 
-pub returns-in-BrokenRule : goal.returns-in-BrokenRule
-returns-in-BrokenRule c =
-    let o = c.args in
-    let all = step_unplaced o.rules o.text.now o.at o.table.now o.out.now (ap as_checked (sym c.place-placed.ensures.answer ∙ c.in-BrokenRule.is)) in record {
-      answer = all.0;
-      table = all.1;
-      output = all.2;
-    }
+pub returns-in_err-as_checked : goal.returns-in_err-as_checked
+returns-in_err-as_checked c =
+    let a = c.args in
+    let why = ap as_checked (sym c.place-record.ensures.answer) ∙ sym c.as_checked.ensures ∙ c.in_err-as_checked.was in
+    let r : c.from_residual.result ≡ Err (unread (0, c.in_err-as_checked.field-0.0)) = search rules in
+    let o = subst (λ r. Outcome a.rules a.text.now a.at a.table.now a.out.now r a.table.now a.out.now) (sym r) (step_unplaced a.rules a.text.now a.at a.table.now a.out.now why) in
+    record { answer = o.0; table = o.1; output = o.2 }
 
-pub returns-in-Refused : goal.returns-in-Refused
-returns-in-Refused c =
-    let o = c.args in
-    let all = step_unplaced o.rules o.text.now o.at o.table.now o.out.now (ap as_checked (sym c.place-placed.ensures.answer ∙ c.in-Refused.is)) in record {
-      answer = all.0;
-      table = all.1;
-      output = all.2;
-    }
+-- the record was placed with 0
+here : (c : In_ok-as_checked) → Stands c.args.rules c.args.text.now c.args.at (placing_reply (placing_of c.args.rules c.args.text.now c.args.at)).next (carried_by c.place-record.result)
+here c =
+    let e = c.place-record.ensures in
+    let carries : carried_by c.place-record.result ≡ carried_at c.args.rules c.args.text.now c.args.at = rw (e.counts, e.starts, e.ends) refl in
+    stands_by c.args.rules c.args.text.now c.args.at (ap as_checked (sym e.answer) ∙ sym c.as_checked.ensures ∙ c.in_ok-as_checked.was) carries
 
 pub returns-then-out-bytes : goal.returns-then-out-bytes
 returns-then-out-bytes c =
-    let here : (let o = c.args in Stands o.rules o.text.now o.at c.in-Placed.next (carried_by c.place-placed.result)) =
-    let e = c.place-placed.ensures in record { placed = sym e.answer ∙ c.in-Placed.is; carries = rw (e.counts, e.starts, e.ends) refl } in
-    let o = c.args in
-    let all = step_short (here) o.table.now o.out.now (omega (arith, c.canonical_length-bytes.ensures)) in record {
-      answer = all.0;
-      table = all.1;
-      output = all.2;
+    let a = c.args in
+    let r : c.from.result ≡ unread (0, NoRoom) = search rules in
+    let o = subst (λ u. Outcome a.rules a.text.now a.at a.table.now a.out.now (Err u) a.table.now a.out.now) (sym r) (step_short (here (goal.at.returns-then-out-bytes c).In_ok-as_checked) a.table.now a.out.now (omega (arith, c.canonical_length-bytes.ensures))) in
+    record { answer = o.0; table = o.1; output = o.2 }
+
+pub invariant_of-placed : goal.invariant_of-placed
+invariant_of-placed c =
+    let e = c.place-record.ensures in record {
+      parted = placed_parted c.args.rules c.args.text.now c.args.at c.place-record.result e.answer e.counts e.starts e.ends (sym c.as_checked.ensures ∙ c.in_ok-as_checked.was);
     }
 
-pub read_placed-requires : goal.read_placed-requires
-read_placed-requires c =
-    let here : (let o = c.args in Stands o.rules o.text.now o.at c.in-Placed.next (carried_by c.place-placed.result)) =
-    let e = c.place-placed.ensures in record { placed = sym e.answer ∙ c.in-Placed.is; carries = rw (e.counts, e.starts, e.ends) refl } in
-    let o = c.args in
-    let h = here in
-    subst (Parted o.text.now) (sym h.carries) (parted_at o.rules o.text.now o.at _ h.placed)
+pub returns-in_err-cells : goal.returns-in_err-cells
+returns-in_err-cells c =
+    let a = c.args in
+    let fits : record_bytes a.rules c.place-record.result.counts ≤ length a.out.now = omega (arith, c.canonical_length-bytes.ensures) in
+    let all = step_unread (here (goal.at.returns-in_err-cells c).In_ok-as_checked) a.table.now a.out.now fits (c.read_placed.ensures.answer, c.read_placed.ensures.table) c.in_err-cells.was in
+    let r : c.from_residual-in_err-cells.result ≡ Err c.in_err-cells.field-0.0 = search rules in
+    let o = subst (λ r. Outcome a.rules a.text.now a.at a.table.now a.out.now r c.read_placed.new.table a.out.now) (sym r) all in
+    record { answer = o.0; table = o.1; output = o.2 }
 
-pub write_cells-requires : goal.write_cells-requires
-write_cells-requires c =
-    let here : (let o = c.args in Stands o.rules o.text.now o.at c.in-Placed.next (carried_by c.place-placed.result)) =
-    let e = c.place-placed.ensures in record { placed = sym e.answer ∙ c.in-Placed.is; carries = rw (e.counts, e.starts, e.ends) refl } in
-    let fits : (let o = c.args in record_bytes o.rules c.place-placed.result.counts ≤ length o.out.now) =
-    omega (arith, c.canonical_length-bytes.ensures) in
-    let o = c.args in let all = step_writes (here) o.table.now o.out.now (fits) (c.read_placed.ensures.answer, c.read_placed.ensures.table) c.in-Done.is in
-    record { room = all.0; written = all.1 }
+pub put_record-requires : goal.put_record-requires
+put_record-requires c =
+    let a = c.args in
+    let fits : record_bytes a.rules c.place-record.result.counts ≤ length a.out.now = omega (arith, c.canonical_length-bytes.ensures) in
+    let w = step_writes (here (goal.at.put_record-requires c).In_ok-as_checked) a.table.now a.out.now fits (c.read_placed.ensures.answer, c.read_placed.ensures.table) c.in_ok-cells.was in
+    record { checked = w.checked; fits = w.fit; room = w.room }
 
-pub returns-in-Refused-read_placed : goal.returns-in-Refused-read_placed
-returns-in-Refused-read_placed c =
-    let here : (let o = c.args in Stands o.rules o.text.now o.at c.in-Placed.next (carried_by c.place-placed.result)) =
-    let e = c.place-placed.ensures in record { placed = sym e.answer ∙ c.in-Placed.is; carries = rw (e.counts, e.starts, e.ends) refl } in
-    let fits : (let o = c.args in record_bytes o.rules c.place-placed.result.counts ≤ length o.out.now) =
-    omega (arith, c.canonical_length-bytes.ensures) in
-    let o = c.args in
-    let all = step_unread (here) o.table.now o.out.now (fits) (c.read_placed.ensures.answer, c.read_placed.ensures.table) c.in-Refused-read_placed.is in record {
-      answer = all.0;
-      table = all.1;
-      output = all.2;
-    }
-
-pub returns-in-Done : goal.returns-in-Done
-returns-in-Done c =
-    let here : (let o = c.args in Stands o.rules o.text.now o.at c.in-Placed.next (carried_by c.place-placed.result)) =
-    let e = c.place-placed.ensures in record { placed = sym e.answer ∙ c.in-Placed.is; carries = rw (e.counts, e.starts, e.ends) refl } in
-    let fits : (let o = c.args in record_bytes o.rules c.place-placed.result.counts ≤ length o.out.now) =
-    omega (arith, c.canonical_length-bytes.ensures) in
-    let o = c.args in
-    let all = step_done (here) o.table.now o.out.now (fits) (c.read_placed.ensures.answer, c.read_placed.ensures.table) c.in-Done.is
-    c.canonical_length-bytes.ensures c.write_cells.ensures in record {
-      answer = all.0;
-      table = all.1;
-      output = all.2;
-    }
+pub returns : goal.returns
+returns c =
+    let a = c.args in
+    let fits : record_bytes a.rules c.place-record.result.counts ≤ length a.out.now = omega (arith, c.canonical_length-bytes.ensures) in
+    let all = step_done (here (goal.at.returns c).In_ok-as_checked) a.table.now a.out.now fits (c.read_placed.ensures.answer, c.read_placed.ensures.table) c.in_ok-cells.was c.canonical_length-bytes.ensures c.put_record.ensures in
+    let n : c.from-next.result.next ≡ (placing_reply (placing_of a.rules a.text.now a.at)).next = ap (λ r. r.next) c.from-next.ensures ∙ ap (λ p. (placing_reply p).next) c.place-record.ensures.answer in
+    let o = subst (λ n. Outcome a.rules a.text.now a.at a.table.now a.out.now (Ok (rewritten_with c.canonical_length-bytes.result n)) c.read_placed.new.table c.put_record.new.out) (sym n) all in
+    record { answer = o.0; table = o.1; output = o.2 }

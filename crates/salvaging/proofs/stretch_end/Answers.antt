@@ -2,7 +2,7 @@
 -- Assumes nothing.
 use native.Mathlib.Omega.{arith}
 use mathlib.Core.Path.{◌∙◌, ap}
-use Rattle.salvaging.specs.declared.Stretch.TheVariants.{Ends}
+use Rattle.std.specs.Prelude.{Ok}
 use Rattle.salvaging.proofs.Stretches.{stretch_beyond, stretch_at_end, stretch_inside}
 use Rattle.salvaging.proofs.stretch_end.Goals as goal
 
@@ -13,4 +13,4 @@ pub returns-then-text-at-2 : goal.returns-then-text-at-2
 returns-then-text-at-2 c = let a = c.args in stretch_at_end a.rules a.text.now a.at c.if-text-at-2.true
 
 pub returns : goal.returns
-returns c = let a = c.args in ap Ends c.end_from.ensures ∙ stretch_inside a.rules a.text.now a.at (omega arith)
+returns c = let a = c.args in ap Ok c.end_from.ensures ∙ stretch_inside a.rules a.text.now a.at (omega arith)

@@ -8,8 +8,8 @@ use Rattle.seambeacon.specs.Flags.{flagged}
 use Rattle.seambeacon.proofs.Telling.{told_as}
 use Rattle.seambeacon.proofs.seambeacon_group_lines.Goals as goal
 
-pub overflow_sub-length : goal.overflow_sub-length
-overflow_sub-length c =
+pub overflow_sub-part : goal.overflow_sub-part
+overflow_sub-part c =
     let a = c.args in
     let e-from = rw c.rules_of.ensures at c.group_lines_at-lines.ensures.from in
     let e-to = rw c.rules_of.ensures at c.group_lines_at-lines.ensures.to in
@@ -22,6 +22,6 @@ returns c =
     let e-from = rw c.rules_of.ensures at c.group_lines_at-lines.ensures.from in
     let e-to = rw c.rules_of.ensures at c.group_lines_at-lines.ensures.to in
     let length = span_length (flagged a.rules) a.text.now a.at a.group in record {
-      reply = told_as (c.of_checked.ensures ∙ ap checked_reply e-found) c.tell.ensures;
+      reply = told_as (c.from.ensures ∙ ap checked_reply e-found) c.tell.ensures;
       part = rw (e-from, e-to, length) refl;
     }

@@ -9,6 +9,6 @@ pub returns : goal.returns
 returns c =
     let e-answer = rw c.rules_of.ensures at c.list-answer.ensures.answer in
     let e-output = rw c.rules_of.ensures at c.list-answer.ensures.output in record {
-      reply = told_as (c.of_answer.ensures ∙ ap answer_reply e-answer) c.tell.ensures;
+      reply = told_as (c.from.ensures ∙ ap answer_reply e-answer) c.tell.ensures;
       output = e-output;
     }

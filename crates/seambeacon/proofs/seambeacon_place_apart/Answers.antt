@@ -7,12 +7,12 @@ use Rattle.seambeacon.proofs.seambeacon_place_apart.Goals as goal
 
 pub returns : goal.returns
 returns c =
-    let e-answer = rw c.rules_of.ensures at c.place-placed.ensures.answer in
-    let e-counts = rw c.rules_of.ensures at c.place-placed.ensures.counts in
-    let e-starts = rw c.rules_of.ensures at c.place-placed.ensures.starts in
-    let e-ends = rw c.rules_of.ensures at c.place-placed.ensures.ends in
+    let e-answer = rw c.rules_of.ensures at c.place-answer.ensures.answer in
+    let e-counts = rw c.rules_of.ensures at c.place-answer.ensures.counts in
+    let e-starts = rw c.rules_of.ensures at c.place-answer.ensures.starts in
+    let e-ends = rw c.rules_of.ensures at c.place-answer.ensures.ends in
     record {
-      reply = told_as (c.reply_of.ensures ∙ ap placing_reply e-answer) c.tell.ensures;
+      reply = told_as (c.from.ensures ∙ ap placing_reply e-answer) c.tell.ensures;
       counts = e-counts;
       starts = e-starts;
       ends = e-ends;

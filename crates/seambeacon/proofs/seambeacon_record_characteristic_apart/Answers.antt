@@ -13,7 +13,7 @@ pub returns : goal.returns
 returns c =
     let known = rw c.rules_of.ensures at c.characteristic_with-known.ensures in
     let stored = to_z-of_z {w = w64} (sfits_of {w = w64} c.value_of.type_inv) in record {
-      reply = told_as (c.reply_of.ensures ∙ ap characteristic_reply known)
+      reply = told_as (c.from.ensures ∙ ap characteristic_reply known)
           c.tell.ensures;
       kind = c.kind_of.ensures ∙ ap answer_kind known;
       value = stored ∙ c.value_of.ensures ∙ ap answer_value known;

@@ -10,5 +10,5 @@ pub returns : goal.returns
 returns c =
     let e-answer = rw c.rules_of.ensures at c.read_with-answer.ensures.answer in
     let e-table = rw c.rules_of.ensures at c.read_with-answer.ensures.table in
-    let told = told_as (c.of_answer.ensures ∙ ap answer_reply e-answer) c.tell.ensures in
+    let told = told_as (c.from.ensures ∙ ap answer_reply e-answer) c.tell.ensures in
     search (rules, told, e-answer, e-table)

@@ -12,11 +12,11 @@ use Rattle.seambeacon.specs.Flags.{flagged}
 use Rattle.seambeacon.proofs.Telling.{told_as}
 use Rattle.seambeacon.proofs.seambeacon_record_lines_apart.Goals as goal
 
-pub overflow_sub-bytes : goal.overflow_sub-bytes
-overflow_sub-bytes c =
+pub overflow_sub-part : goal.overflow_sub-part
+overflow_sub-part c =
     let a = c.args in
-    let e-from = rw c.rules_of.ensures at c.lines_with-lines.ensures.from in
-    let e-to = rw c.rules_of.ensures at c.lines_with-lines.ensures.to in
+    let e-from = rw c.rules_of.ensures at c.lines_with-named.ensures.from in
+    let e-to = rw c.rules_of.ensures at c.lines_with-named.ensures.to in
     omega (arith, (with_range (flagged a.rules) a.text.now (carried a.counts.now a.starts.now a.ends.now) a.group).0, e-from, e-to)
 
 pub returns : goal.returns
@@ -24,11 +24,11 @@ returns c =
     let a = c.args in
     let ρ = flagged a.rules in
     let r = carried a.counts.now a.starts.now a.ends.now in
-    let e-found = rw c.rules_of.ensures at c.lines_with-lines.ensures.found in
-    let e-from = rw c.rules_of.ensures at c.lines_with-lines.ensures.from in
-    let e-to = rw c.rules_of.ensures at c.lines_with-lines.ensures.to in
+    let e-found = rw c.rules_of.ensures at c.lines_with-named.ensures.found in
+    let e-from = rw c.rules_of.ensures at c.lines_with-named.ensures.from in
+    let e-to = rw c.rules_of.ensures at c.lines_with-named.ensures.to in
     let long : end_with ρ a.text.now r a.group - start_with ρ a.text.now r a.group ≡ length (part_with ρ a.text.now r a.group) =
     omega (arith, part_length ρ a.text.now r a.group) in record {
-      reply = told_as (c.of_checked.ensures ∙ ap checked_reply e-found) c.tell.ensures;
+      reply = told_as (c.from.ensures ∙ ap checked_reply e-found) c.tell.ensures;
       part = rw (e-from, e-to, long) refl;
     }

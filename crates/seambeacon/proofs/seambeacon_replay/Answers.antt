@@ -16,7 +16,7 @@ returns c =
     let e-cells = rw c.rules_of.ensures at c.replay-replayed.ensures.cells in
     let opened = e-open ∙ ap (replayed_open ρ a.counts.now a.journal.now a.used a.cells.now) e-answer in
     let cells = e-cells ∙ ap (replayed_cells ρ a.counts.now a.journal.now a.used a.cells.now) e-answer in record {
-      reply = told_as (c.of_checked.ensures ∙ ap checked_reply e-answer) c.tell.ensures;
+      reply = told_as (c.from.ensures ∙ ap checked_reply e-answer) c.tell.ensures;
       opened = opened;
       cells = cells;
     }

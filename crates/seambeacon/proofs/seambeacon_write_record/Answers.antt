@@ -13,6 +13,6 @@ returns c =
     let ρ = flagged a.rules in
     let e-answer = rw c.rules_of.ensures at c.write_record-answer.ensures.answer in
     let e-output = rw c.rules_of.ensures at c.write_record-answer.ensures.output in record {
-      reply = told_as (c.of_answer.ensures ∙ ap answer_reply e-answer) c.tell.ensures;
+      reply = told_as (c.from.ensures ∙ ap answer_reply e-answer) c.tell.ensures;
       output = e-output ∙ ap (λ w. output_by ρ a.counts.now a.cells.now w a.out.now) e-answer;
     }

@@ -1,12 +1,8 @@
--- `whole::check_groups` meets its contract. The invariant: before group g, the groups from g on decide as all do.
+-- `whole::check_groups` meets its contract. The invariant: before a group, the groups from it on decide as all do.
 -- Assumes nothing.
-use Prim.Native.Nat.{◌-◌}
 use Rattle.place.specs.Placing.{carried}
 use Rattle.whole.proofs.Passes.{Checking}
 use Rattle.whole.proofs.check_groups.Given as goal
 
-abbrev pub invariant-loop-g : goal.invariant-loop-g
-invariant-loop-g l = Checking l.rules l.text (carried l.counts l.starts l.ends) l.g
-
-abbrev pub decreases-loop-g : goal.decreases-loop-g
-decreases-loop-g l = 61 - l.g
+abbrev pub invariant-loop-number : goal.invariant-loop-number
+invariant-loop-number l = Checking l.rules l.fn.placed.text.now (carried l.fn.placed.counts.now l.fn.placed.starts.now l.fn.placed.ends.now) l.number

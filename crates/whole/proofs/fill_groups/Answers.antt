@@ -1,101 +1,40 @@
 -- `whole::fill_groups` meets its contract. The invariant: before each group, the cells of the groups from it on are all that is still to be put.
 -- Assumes nothing.
 use native.Mathlib.Omega.{arith}
-use Prim.Native.Nat.{◌≤◌}
-use Rattle.place.specs.Placing.{Carried, carried}
-use Rattle.place.specs.Parted.{Parted}
-use Rattle.place.proofs.Parted.{named}
-use Rattle.whole.proofs.Passes.{filling_first, filling_all, filling_clean, filling_room, filling_more}
+use mathlib.Core.Path.{sym, ◌∙◌, ap, subst}
+use Prim.Native.Nat.{◌+◌, ◌≤◌}
+use lib.ListN.{length}
+use Rattle.base.specs.Part.{over}
+use Rattle.base.specs.Pieces.{cells_got}
+use Rattle.count.specs.Tally.{cells_in}
+use Rattle.place.specs.Placing.{carried}
+use Rattle.reading.specs.Read.{verdict_of}
+use Rattle.whole.proofs.Passes.{group_lent, filling_first, filling_all, filling_clean, filling_room, filling_more}
 use Rattle.whole.proofs.fill_groups.Goals as goal
 
-pub loop-group-init : goal.loop-group-init
-loop-group-init c =
-    let a = c.args in
-    filling_first a.rules a.text.now (carried a.counts.now a.starts.now a.ends.now) a.table.now c.requires.clean
-
-pub bounds-starts-group : goal.bounds-starts-group
-bounds-starts-group c =
-    let its : Carried =
-    let a = c.args in carried a.counts.now a.starts.now a.ends.now in
-    let parted : Parted c.args.text.now (its) =
-    c.requires.parted in
-    let high : c.loop-group.group ≤ 60 =
-    omega arith in
-    let low : 1 ≤ c.loop-group.group =
-    c.loop-group.invariant.low in
-    (named (parted) (low) (high)).0.0
-
-pub bounds-ends-group : goal.bounds-ends-group
-bounds-ends-group c =
-    let its : Carried =
-    let a = c.args in carried a.counts.now a.starts.now a.ends.now in
-    let parted : Parted c.args.text.now (its) =
-    c.requires.parted in
-    let high : c.loop-group.group ≤ 60 =
-    omega arith in
-    let low : 1 ≤ c.loop-group.group =
-    c.loop-group.invariant.low in
-    (named (parted) (low) (high)).0.1
-
-pub slice_bounds-fill_kept-start : goal.slice_bounds-fill_kept-start
-slice_bounds-fill_kept-start c =
-    let its : Carried =
-    let a = c.args in carried a.counts.now a.starts.now a.ends.now in
-    let parted : Parted c.args.text.now (its) =
-    c.requires.parted in
-    let high : c.loop-group.group ≤ 60 =
-    omega arith in
-    let low : 1 ≤ c.loop-group.group =
-    c.loop-group.invariant.low in
-    (named (parted) (low) (high)).1.0
-
-pub slice_bounds-fill_kept-end : goal.slice_bounds-fill_kept-end
-slice_bounds-fill_kept-end c =
-    let its : Carried =
-    let a = c.args in carried a.counts.now a.starts.now a.ends.now in
-    let parted : Parted c.args.text.now (its) =
-    c.requires.parted in
-    let high : c.loop-group.group ≤ 60 =
-    omega arith in
-    let low : 1 ≤ c.loop-group.group =
-    c.loop-group.invariant.low in
-    (named (parted) (low) (high)).1.1
+pub loop-next-init : goal.loop-next-init
+loop-next-init c =
+    let p = c.args.placed in
+    filling_first c.args.rules p.text.now (carried p.counts.now p.starts.now p.ends.now) c.args.table.now (sym c.requires.clean)
 
 pub fill_kept-cell-requires : goal.fill_kept-cell-requires
 fill_kept-cell-requires c =
-    let its : Carried =
-    let a = c.args in carried a.counts.now a.starts.now a.ends.now in
-    let parted : Parted c.args.text.now (its) =
-    c.requires.parted in
-    let high : c.loop-group.group ≤ 60 =
-    omega arith in
-    let low : 1 ≤ c.loop-group.group =
-    c.loop-group.invariant.low in
-    let a = c.args in
-    let f = c.loop-group.invariant in record {
-      kept = (parted).kept;
-      low = low;
-      high = high;
-      clean = filling_clean a.rules a.text.now (its) f (high);
-      room = filling_room a.rules a.text.now (its) f (high) c.requires.room;
+    let p = c.args.placed in
+    let f = c.loop-next.invariant in record {
+      clean = ap verdict_of (group_lent c.args.rules p.text.now (carried p.counts.now p.starts.now p.ends.now) c.loop-next.next c.kept.ensures c.lines-lines.ensures)
+          ∙ filling_clean c.args.rules p.text.now (carried p.counts.now p.starts.now p.ends.now) f (omega arith);
+      room = subst (λ ns. c.loop-next.cell + cells_in c.args.rules ns c.loop-next.next ≤ length c.loop-next.table) (sym c.kept.ensures)
+          (filling_room c.args.rules p.text.now (carried p.counts.now p.starts.now p.ends.now) f (omega arith) c.requires.room);
     }
 
-pub loop-group-preserved : goal.loop-group-preserved
-loop-group-preserved c =
-    let high : c.loop-group.group ≤ 60 =
-    omega arith in
-    let its : Carried =
-    let a = c.args in carried a.counts.now a.starts.now a.ends.now in
-    let a = c.args in
-    filling_more a.rules a.text.now (its) c.loop-group.invariant (high) c.requires.room c.fill_kept-cell.ensures.end c.fill_kept-cell.ensures.table
+pub loop-next-preserved : goal.loop-next-preserved
+loop-next-preserved c =
+    let p = c.args.placed in
+    let l = c.loop-next in
+    let lent = group_lent c.args.rules p.text.now (carried p.counts.now p.starts.now p.ends.now) l.next c.kept.ensures c.lines-lines.ensures in
+    filling_more c.args.rules p.text.now (carried p.counts.now p.starts.now p.ends.now) l.invariant (omega arith) c.requires.room
+    (c.fill_kept-cell.ensures.end ∙ ap (λ ns. l.cell + cells_in c.args.rules ns l.next) c.kept.ensures)
+    (c.fill_kept-cell.ensures.table ∙ ap (λ y. over l.cell (cells_got y) l.table) lent)
 
 pub returns : goal.returns
-returns c =
-    let a = c.args in
-    filling_all a.rules a.text.now (carried a.counts.now a.starts.now a.ends.now) c.loop-group.invariant (omega arith)
-
-pub overflow_sub-to : goal.overflow_sub-to
-overflow_sub-to c =
-    let low : 1 ≤ c.loop-group.group =
-    c.loop-group.invariant.low in
-    low
+returns c = filling_all c.args.rules c.args.placed.text.now (carried c.args.placed.counts.now c.args.placed.starts.now c.args.placed.ends.now) c.loop-next.invariant (omega arith)

@@ -1,12 +1,8 @@
 -- `whole::fill_groups` meets its contract. The invariant: before each group, the cells of the groups from it on are all that is still to be put.
 -- Assumes nothing.
-use Prim.Native.Nat.{◌-◌}
 use Rattle.place.specs.Placing.{carried}
 use Rattle.whole.proofs.Passes.{Filling}
 use Rattle.whole.proofs.fill_groups.Given as goal
 
-abbrev pub invariant-loop-group : goal.invariant-loop-group
-invariant-loop-group l = Filling l.rules l.text (carried l.counts l.starts l.ends) l.initial.table l.table l.group l.cell
-
-abbrev pub decreases-loop-group : goal.decreases-loop-group
-decreases-loop-group l = 61 - l.group
+abbrev pub invariant-loop-next : goal.invariant-loop-next
+invariant-loop-next l = Filling l.rules l.fn.placed.text.now (carried l.fn.placed.counts.now l.fn.placed.starts.now l.fn.placed.ends.now) l.initial.table l.table l.next l.cell

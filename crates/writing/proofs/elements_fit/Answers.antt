@@ -1,52 +1,25 @@
--- `writing::elements_fit` meets its contract. The invariant: e elements fit, and all are as the others are.
--- Assumes nothing.
-use borrow.Author.Rules.{rules}
-use mathlib.Core.Path.{sym, ap, ◌∙◌}
-use Prim.Native.Nat.{◌+◌, ◌≤◌}
-use lib.ListN.{length}
-use Rattle.writing.proofs.Checking.{elements_start, elements_end, element_range, elements_more, elements_bad}
+-- `writing::elements_fit` meets its contract: the first chunk that fits no field is the first element that has none.
+use Rattle.std.proofs.Common.{◌≡◌, ◌∙◌, ◌*◌, ℕ, length, sym, ap, arith, rules}
+use Rattle.std.specs.Slice.Iter.{chunks_exact_size, chunks_exact_rest}
+use Rattle.std.specs.Iterator.Runs.{IsChunksExactRun}
+use Rattle.form.specs.Table.{row_of}
+use Rattle.writing.specs.Fitting.{many_fit}
+use Rattle.writing.proofs.Rows.{some_cells}
+use Rattle.writing.proofs.Checking.{found, elements_run}
+use Rattle.writing.proofs.elements_fit.Goals.{After-position}
 use Rattle.writing.proofs.elements_fit.Goals as goal
 
-pub loop-e-init : goal.loop-e-init
-loop-e-init c = elements_start c.args.form c.args.group c.args.cells.now c.args.from _ _ (ap (λ r. r.cells) c.row_of-row.ensures)
+told : (c : After-position) (n : ℕ) → length c.args.cells.now ≡ n * (row_of c.args.form).cells → found c.args.group c.position.result ≡ many_fit c.args.form c.args.group n c.args.cells.now
+told c n l =
+    let a = c.args in
+    let p = c.position.ensures.runs.0 in
+    let s : chunks_exact_size p.from ≡ (row_of a.form).cells = search rules in
+    let r : chunks_exact_rest p.from ≡ a.cells.now = search rules in
+    let u : IsChunksExactRun p (chunks_exact_size p.from) (chunks_exact_rest p.from) = c.chunks_exact.ensures.runs p p.seen (omega (arith, some_cells a.form)) in
+    elements_run p a.form a.group n a.cells.now l (rw (s, r) at u) _ _ (λ a r f' k. search rules) _ c.position.ensures.runs.2
 
-pub overflow_add-to : goal.overflow_add-to
-overflow_add-to c =
-    let range : (c.loop-e.at ≤ c.loop-e.at + c.row_of-row.result.cells) × (c.loop-e.at + c.row_of-row.result.cells ≤ length c.args.cells.now) =
-    element_range c.args.form c.args.group c.args.cells.now c.args.from c.loop-e.invariant c.loop-e-test.true c.requires in
-    let r = range in search rules
+pub returns-in-Some : goal.returns-in-Some
+returns-in-Some c = λ n l. ap (found c.args.group) (sym c.in-Some.is) ∙ told (goal.at.returns-in-Some c).After-position n l
 
-pub offset_bounds-cells-at : goal.offset_bounds-cells-at
-offset_bounds-cells-at c =
-    let range : (c.loop-e.at ≤ c.loop-e.at + c.row_of-row.result.cells) × (c.loop-e.at + c.row_of-row.result.cells ≤ length c.args.cells.now) =
-    element_range c.args.form c.args.group c.args.cells.now c.args.from c.loop-e.invariant c.loop-e-test.true c.requires in
-    let r = range in search rules
-
-pub slice_bounds-fits-count : goal.slice_bounds-fits-count
-slice_bounds-fits-count c =
-    let range : (c.loop-e.at ≤ c.loop-e.at + c.row_of-row.result.cells) × (c.loop-e.at + c.row_of-row.result.cells ≤ length c.args.cells.now) =
-    element_range c.args.form c.args.group c.args.cells.now c.args.from c.loop-e.invariant c.loop-e-test.true c.requires in
-    let r = range in search rules
-
-pub slice_bounds-fits-start : goal.slice_bounds-fits-start
-slice_bounds-fits-start c =
-    let range : (c.loop-e.at ≤ c.loop-e.at + c.row_of-row.result.cells) × (c.loop-e.at + c.row_of-row.result.cells ≤ length c.args.cells.now) =
-    element_range c.args.form c.args.group c.args.cells.now c.args.from c.loop-e.invariant c.loop-e-test.true c.requires in
-    let r = range in search rules
-
-pub slice_bounds-fits-end : goal.slice_bounds-fits-end
-slice_bounds-fits-end c =
-    let range : (c.loop-e.at ≤ c.loop-e.at + c.row_of-row.result.cells) × (c.loop-e.at + c.row_of-row.result.cells ≤ length c.args.cells.now) =
-    element_range c.args.form c.args.group c.args.cells.now c.args.from c.loop-e.invariant c.loop-e-test.true c.requires in
-    let r = range in search rules
-
-pub loop-e-preserved : goal.loop-e-preserved
-loop-e-preserved c =
-    elements_more c.args.form c.args.group c.args.cells.now c.args.from c.loop-e.invariant c.loop-e-test.true
-    (sym c.fits.ensures ∙ c.if-fits.true)
-
-pub returns-else-fits : goal.returns-else-fits
-returns-else-fits c = elements_bad c.args.form c.args.group c.args.cells.now c.args.from c.loop-e.invariant c.loop-e-test.true (sym c.fits.ensures ∙ c.if-fits.false)
-
-pub returns : goal.returns
-returns c = elements_end c.args.form c.args.group c.args.cells.now c.args.from c.loop-e.invariant c.loop-e-test.false
+pub returns-in-None : goal.returns-in-None
+returns-in-None c = λ n l. ap (found c.args.group) (sym c.in-None.is) ∙ told (goal.at.returns-in-None c).After-position n l

@@ -1,83 +1,46 @@
--- `writing::put_fields` meets its contract. The invariant: the fields from i on, put at a, make all of them.
--- Assumes nothing.
-use borrow.Author.Rules.{rules}
-use native.Mathlib.Omega.{arith}
-use Prim.Native.Nat.{◌+◌, ◌≤◌}
-use lib.Dec.{T}
-use lib.ListN.{length}
-use Rattle.base.specs.Part.{part}
+-- `writing::put_fields` meets its contract. The invariant: the fields of the elements that are left, put behind the others, make all of them.
+use Rattle.std.proofs.Common.{◌≡◌, ◌∙◌, ◌++◌, ◌+◌, ◌*◌, ◌<◌, length, ap, arith, rules}
+use Rattle.std.specs.Slice.Iter.{chunks_exact_rest}
+use Rattle.base.specs.Part.{over}
 use Rattle.form.specs.Table.{row_of}
-use Rattle.field.specs.Write.{fits_of}
+use Rattle.writing.specs.Fitting.{many_of}
+use Rattle.writing.specs.Text.{fields_text, line_of_many}
+use Rattle.writing.proofs.Rows.{some_cells}
 use Rattle.writing.proofs.Putting.{fields_start, fields_end, field_requires, fields_next}
+use Rattle.writing.proofs.put_fields.Goals.{In-Some, In-None}
 use Rattle.writing.proofs.put_fields.Goals as goal
 
-pub loop-i-init : goal.loop-i-init
-loop-i-init c =
-    fields_start c.args.form c.args.many c.args.cells.now c.args.from c.args.at c.args.out.now
-    c.requires.fitted c.args.row c.requires.row c.requires.room
+pub chunks_exact-element-items-requires : goal.chunks_exact-element-items-requires
+chunks_exact-element-items-requires c = omega (arith, some_cells c.args.form, ap (λ r. r.cells) c.requires.row)
 
-pub overflow_add-to : goal.overflow_add-to
-overflow_add-to c =
-    let range : (let o = c.args in let l = c.loop-i in let to = l.cell + o.row.cells in (l.cell ≤ to) × (to ≤ length o.cells.now) × T (fits_of o.form (part l.cell to o.cells.now)) × (l.a + (row_of o.form).width ≤ length l.out)) =
-    field_requires c.args.form c.args.many c.args.cells.now c.args.from c.args.at c.args.out.now c.requires.fitted c.loop-i.invariant
-    c.loop-i-test.true c.requires.cells in
-    let r = range in search rules
+pub loop-element-init-derived : goal.loop-element-init-derived
+loop-element-init-derived c = let h = some_cells c.args.form in search rules
 
-pub offset_bounds-cells-cell : goal.offset_bounds-cells-cell
-offset_bounds-cells-cell c =
-    let range : (let o = c.args in let l = c.loop-i in let to = l.cell + o.row.cells in (l.cell ≤ to) × (to ≤ length o.cells.now) × T (fits_of o.form (part l.cell to o.cells.now)) × (l.a + (row_of o.form).width ≤ length l.out)) =
-    field_requires c.args.form c.args.many c.args.cells.now c.args.from c.args.at c.args.out.now c.requires.fitted c.loop-i.invariant
-    c.loop-i-test.true c.requires.cells in
-    let r = range in search rules
+pub loop-element-init : goal.loop-element-init
+loop-element-init c = let h = fields_start c.args.form c.args.cells.now c.args.at c.args.out.now c.requires.fit c.requires.room in search rules
 
-pub slice_bounds-put-count : goal.slice_bounds-put-count
-slice_bounds-put-count c =
-    let range : (let o = c.args in let l = c.loop-i in let to = l.cell + o.row.cells in (l.cell ≤ to) × (to ≤ length o.cells.now) × T (fits_of o.form (part l.cell to o.cells.now)) × (l.a + (row_of o.form).width ≤ length l.out)) =
-    field_requires c.args.form c.args.many c.args.cells.now c.args.from c.args.at c.args.out.now c.requires.fitted c.loop-i.invariant
-    c.loop-i-test.true c.requires.cells in
-    let r = range in search rules
+split : (c : In-Some) → (chunks_exact_rest c.loop-element.element-iterator ≡ c.in-Some.element.now ++ chunks_exact_rest c.next.new.self) × (length c.in-Some.element.now ≡ (row_of c.args.form).cells)
+split c = search rules
 
-pub slice_bounds-put-start : goal.slice_bounds-put-start
-slice_bounds-put-start c =
-    let range : (let o = c.args in let l = c.loop-i in let to = l.cell + o.row.cells in (l.cell ≤ to) × (to ≤ length o.cells.now) × T (fits_of o.form (part l.cell to o.cells.now)) × (l.a + (row_of o.form).width ≤ length l.out)) =
-    field_requires c.args.form c.args.many c.args.cells.now c.args.from c.args.at c.args.out.now c.requires.fitted c.loop-i.invariant
-    c.loop-i-test.true c.requires.cells in
-    let r = range in search rules
+pub put-requires-clause-fits : goal.put-requires-clause-fits
+put-requires-clause-fits c = let s = split (goal.at.put-requires-clause-fits c).In-Some in (field_requires c.args.form c.args.cells.now c.args.at c.args.out.now c.loop-element.invariant.1 _ _ s.0 s.1).0
 
-pub slice_bounds-put-end : goal.slice_bounds-put-end
-slice_bounds-put-end c =
-    let range : (let o = c.args in let l = c.loop-i in let to = l.cell + o.row.cells in (l.cell ≤ to) × (to ≤ length o.cells.now) × T (fits_of o.form (part l.cell to o.cells.now)) × (l.a + (row_of o.form).width ≤ length l.out)) =
-    field_requires c.args.form c.args.many c.args.cells.now c.args.from c.args.at c.args.out.now c.requires.fitted c.loop-i.invariant
-    c.loop-i-test.true c.requires.cells in
-    let r = range in search rules
+pub put-requires-clause-room : goal.put-requires-clause-room
+put-requires-clause-room c = let s = split (goal.at.put-requires-clause-room c).In-Some in (field_requires c.args.form c.args.cells.now c.args.at c.args.out.now c.loop-element.invariant.1 _ _ s.0 s.1).1
 
-pub put-requires : goal.put-requires
-put-requires c =
-    let range : (let o = c.args in let l = c.loop-i in let to = l.cell + o.row.cells in (l.cell ≤ to) × (to ≤ length o.cells.now) × T (fits_of o.form (part l.cell to o.cells.now)) × (l.a + (row_of o.form).width ≤ length l.out)) =
-    field_requires c.args.form c.args.many c.args.cells.now c.args.from c.args.at c.args.out.now c.requires.fitted c.loop-i.invariant
-    c.loop-i-test.true c.requires.cells in
-    let r = range in record {
-      fits = r.2;
-      room = r.3;
-    }
+pub loop-element-preserved : goal.loop-element-preserved
+loop-element-preserved c =
+    let s = split (goal.at.loop-element-preserved c).In-Some in
+    let n = fields_next c.args.form c.args.cells.now c.args.at c.args.out.now c.loop-element.invariant.1 _ _ s.0 s.1 _ c.put.ensures in
+    (c.next.ensures.steps.0 ∙ c.loop-element.invariant.0, rw (ap (λ r. r.width) c.requires.row) n)
 
-pub overflow_add-a : goal.overflow_add-a
-overflow_add-a c =
-    let range : (let o = c.args in let l = c.loop-i in let to = l.cell + o.row.cells in (l.cell ≤ to) × (to ≤ length o.cells.now) × T (fits_of o.form (part l.cell to o.cells.now)) × (l.a + (row_of o.form).width ≤ length l.out)) =
-    field_requires c.args.form c.args.many c.args.cells.now c.args.from c.args.at c.args.out.now c.requires.fitted c.loop-i.invariant
-    c.loop-i-test.true c.requires.cells in
-    let r = range in
-    omega (arith, r.3, c.loop-i.invariant.wide)
+all : (c : In-None) → (c.loop-element.a ≡ c.args.at + many_of c.args.form c.args.cells.now * (row_of c.args.form).width) × (c.loop-element.out ≡ over c.args.at (fields_text c.args.form (line_of_many (many_of c.args.form c.args.cells.now)) c.args.cells.now) c.args.out.now)
+all c =
+    let e : length (chunks_exact_rest c.loop-element.element-iterator) < (row_of c.args.form).cells = search rules in
+    fields_end c.args.form c.args.cells.now c.args.at c.args.out.now c.loop-element.invariant.1 c.requires.fit e
 
-pub loop-i-preserved : goal.loop-i-preserved
-loop-i-preserved c =
-    fields_next c.args.form c.args.many c.args.cells.now c.args.from c.args.at c.args.out.now c.requires.fitted c.loop-i.invariant
-    c.loop-i-test.true _ c.put.ensures
+pub returns-clause-answer : goal.returns-clause-answer
+returns-clause-answer c = (all (goal.at.returns-clause-answer c).In-None).0
 
-pub shape_of-out : goal.shape_of-out
-shape_of-out c = c.loop-i.invariant.put.long
-
-pub returns : goal.returns
-returns c =
-    let all = fields_end c.args.form c.args.many c.args.cells.now c.args.from c.args.at c.args.out.now c.requires.fitted c.loop-i.invariant c.loop-i-test.false in
-    record { answer = all.0; output = all.1 }
+pub returns-clause-output : goal.returns-clause-output
+returns-clause-output c = (all (goal.at.returns-clause-output c).In-None).1

@@ -1,11 +1,9 @@
--- `writing::put_lines` meets its contract. The invariant: the lines from the j-th on, put at a, make all of them.
--- Assumes nothing.
-use Prim.Native.Nat.{◌-◌}
+-- `writing::put_lines` meets its contract. The invariant: the lines of the elements that are left, put behind the others, make all of them.
+use Rattle.std.proofs.Common.{◌≡◌, ◌*◌}
+use Rattle.std.specs.Slice.Iter.{chunks_size, chunks_rest}
+use Rattle.form.specs.Table.{row_of}
 use Rattle.writing.proofs.Putting.{Lines}
 use Rattle.writing.proofs.put_lines.Given as goal
 
-abbrev pub invariant-loop-j : goal.invariant-loop-j
-invariant-loop-j l = Lines l.form l.elements l.cells l.from l.at l.initial.out l.per_line l.size l.many l.left l.cell l.a l.j l.out
-
-abbrev pub decreases-loop-j : goal.decreases-loop-j
-decreases-loop-j l = l.many - l.j
+abbrev pub invariant-loop-line : goal.invariant-loop-line
+invariant-loop-line l = (chunks_size l.line-iterator ≡ (row_of l.form).per_line * (row_of l.form).cells) × Lines l.form l.cells l.at l.initial.out l.a (chunks_rest l.line-iterator) l.out

@@ -1,5 +1,0 @@
--- The number of fields.
-use Rattle.journal.proofs.+restore_at.Given as goal
-
-abbrev pub decreases-restore_at : goal.decreases-restore_at
-decreases-restore_at l = l.n
