@@ -2,7 +2,8 @@
 // are lent as a slice of any length; one that is not there is 0 (R243).
 #![tactic(auto)]
 
-ghost use Rattle.std.specs.Prelude.{◌≡◌, ◌∷◌, None, false, ◌&&◌, map, leb, get_or, ◌+◌, ◌^◌, ◌<◌, ◌≤◌};
+ghost use Rattle.std.specs.Prelude.{◌≡◌, ◌==◌, not, ◌∷◌, None, false, ◌&&◌, map, leb, get_or, ◌+◌, ◌^◌, ◌<◌, ◌≤◌};
+ghost use Rattle.std.specs.List.{find, range_with_len};
 ghost use Rattle.base.specs.Every.{every};
 ghost use Rattle.form.specs.Table.{form_of};
 ghost use Rattle.form.specs.Count.{is_count};
@@ -141,20 +142,25 @@ pub fn add_up(rules: rules::Rules, counts: &[u16], group: usize) -> Totals
     totals
 }
 
+// R206: the first vacant number that has a count.
+fn first_filled(counts: &[u16]) -> Option<usize>
+    ensures { result ≡ find (λ group. not (count_of counts.now group == 0)) (range_with_len 61 19) }
+{
+    (61..80).find(|group| count_of(counts, *group) != 0)
+}
+
 // R205, R206: the release is looked at first, and then the vacant numbers from 61 on.
-#[tactic(auto, using(crate::proofs::Vacant::vacant_passed, crate::proofs::Vacant::vacant_found, crate::proofs::Vacant::vacant_done), unfolding(crate::specs::Rules::release_of))]
+#[tactic(auto, using(crate::proofs::Vacant::filled_first), unfolding(crate::specs::Rules::release_of))]
 pub fn release_of(counts: &[u16]) -> Result<(), Refusal>
     ensures { result ≡ release_of counts.now }
 {
     if count_of(counts, 80) != 5 {
         return Err(Refusal::OtherRelease);
     }
-    for g in 61..80 {
-        if count_of(counts, g) != 0 {
-            return Err(Refusal::FilledVacant(g));
-        }
+    match first_filled(counts) {
+        Some(group) => Err(Refusal::FilledVacant(group)),
+        None => Ok(()),
     }
-    Ok(())
 }
 
 // The lower of two answers' groups.

@@ -32,7 +32,7 @@ fn number(digits: &[u8], least: usize, greatest: usize) -> Option<usize>
         }
         value = value
             .checked_mul(10)?
-            .checked_add((*digit - b'0') as usize)?;
+            .checked_add(usize::from(*digit - b'0'))?;
     }
     (least..=greatest).contains(&value).then_some(value)
 }

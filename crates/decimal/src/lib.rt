@@ -14,7 +14,7 @@ ghost use Rattle.decimal.specs.Writing.{end_in, Puts};
 fn end_in(at: usize, k: usize, size: usize) -> Option<usize>
     ensures { result ≡ end_in at k size }
 {
-    at.checked_add(k).filter(|end| *end <= size)
+    base::has_room(at, k, size).then(|| at + k)
 }
 
 // ---- Numbers

@@ -252,5 +252,5 @@ pub fn put_entry(count: u16, out: &mut [u8], at: usize)
     requires { at + 3 ≤ length out.old }
     ensures { out.new ≡ over at (index_entry_text count) out.old }
 {
-    number::put_at(out, at, 3, false, Scan::Digits(false, count as u64));
+    number::put_at(out, at, 3, false, Scan::Digits(false, u64::from(count)));
 }

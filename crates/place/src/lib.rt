@@ -104,7 +104,8 @@ fn ruled_at(next: usize, ruling: Option<usize>) -> Placing
 }
 
 // R203, R207, R259: a record of release 5 whose data lines begin at a place: the lines of one group after the other,
-// then the rules on counts.
+// then the rules on counts. Counts, starts and ends stand under one number, so the range counts it: three iterators side by
+// side would be no plainer.
 fn with_lines(
     rules: rules::Rules,
     text: &[u8],
@@ -181,7 +182,8 @@ fn nothing(why: Refusal) -> Record
     }
 }
 
-// R250: the record at a place of a text; where none is, zeros beside what is refused.
+// R250: the record at a place of a text; where none is, zeros beside what is refused. By `unwrap_or_else(nothing)` the check
+// learns nothing of what `nothing` gives: tried.
 pub fn place(rules: rules::Rules, text: &[u8], at: usize) -> Record
     ensures answer { result.answer ≡ placing_of rules text.now at }
     ensures counts { result.counts ≡ counts_at rules text.now at }

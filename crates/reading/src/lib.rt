@@ -2,7 +2,7 @@
 // when all of them are clean (R267). The text that they come from is not known here (R269).
 #![tactic(auto)]
 
-ghost use Rattle.std.specs.Prelude.{◌≡◌, map, ◌+◌, ◌*◌, ◌^◌, ◌≤◌, pos, length, drop};
+ghost use Rattle.std.specs.Prelude.{◌≡◌, Some, map, ◌+◌, ◌*◌, ◌^◌, ◌<◌, ◌≤◌, pos, length, drop};
 ghost use Rattle.std.proofs.Math.Bool as Bool;
 ghost use Rattle.base.specs.Every.{every};
 ghost use Rattle.base.specs.Part.{part, over};
@@ -16,11 +16,12 @@ ghost use Rattle.line.specs.Lines.{reach};
 ghost use Rattle.reading.specs.Blanks.{blank, may_be_short, shortest, filled_to, is_right, as_field};
 ghost use Rattle.reading.specs.Blanks.{is_formed_at, all_formed, FormedBelow, fields_span, HoldsLetters};
 ghost use Rattle.reading.specs.Blanks.{ToPut, right_content};
+ghost use Rattle.reading.specs.Plan.{line_behind};
 ghost use Rattle.reading.specs.Read.{verdict_of, misfit_of, read_line, line_passed, read_lines, dated, read_form, read_group, reading_of};
 ghost use Rattle.reading.specs.Read.{table_by, letters_dated, date_told};
 
 use count::Kept;
-use form::{Form, Group};
+use form::{Form, Group, Row};
 use reply::Refusal;
 
 // ---- What a line holds.
@@ -32,6 +33,30 @@ struct LineForm {
     pub fields: Form,
     pub short: bool,
     ghost letters: { HoldsLetters fields short },
+}
+
+// R40, R123: a group under its record's counts: its number, its form and its count, which in group 3 has room for the date.
+#[derive(Clone, Copy)]
+struct Counted {
+    pub group: usize,
+    pub form: Form,
+    pub count: u16,
+    ghost has_form: { form_of group ≡ Some form },
+    ghost has_date: { group ≡ 3 → 19 ≤ count },
+}
+
+impl Counted {
+    // R64: what its lines hold.
+    #[tactic(auto, using(crate::proofs::Letters::short_letters))]
+    fn line_form(self) -> LineForm
+        ensures fields { result.fields ≡ self.form }
+        ensures short { result.short ≡ may_be_short self.group }
+    {
+        LineForm {
+            fields: self.form,
+            short: may_be_short(self.group),
+        }
+    }
 }
 
 // R64: whether lines of the group may be shorter than their fields.
@@ -159,7 +184,23 @@ pub struct Line {
     pub many: usize,
 }
 
-// R262: what is blamed where a field is misformed. A line that is wrong comes before its fields.
+impl Line {
+    // R44: the line behind `j` full ones, where so many elements are left.
+    fn behind(j: usize, row: Row, left: usize) -> Line
+        requires lines { j + 1 < 2 ^ 64 }
+        requires elements { j * row.per_line + 1 < 2 ^ 64 }
+        ensures { result ≡ line_behind row.per_line left j }
+    {
+        Line {
+            number: j + 1,
+            first: j * row.per_line + 1,
+            many: row.per_line.min(left),
+        }
+    }
+}
+
+// R262: what is blamed where a field is misformed. A line that is wrong comes before its fields. Both are refusals, so the
+// match is no `ok_or`.
 fn misfit(
     rules: rules::Rules,
     short: bool,
@@ -202,10 +243,9 @@ fn line_end(
 {
     let end = line::behind_line(lines, stop);
     let columns = line.many * form::row_of(form.fields).width;
-    match right_content(rules, form.short, columns, &lines[at..end]) {
-        Some(_) => Ok(end),
-        None => Err(Refusal::BadLine(line.number)),
-    }
+    right_content(rules, form.short, columns, &lines[at..end])
+        .and(Some(end))
+        .ok_or(Refusal::BadLine(line.number))
 }
 
 // The first pass, as R443 has it: each line's fields, and then what stands behind them, up to the first line that is
@@ -218,11 +258,7 @@ fn check_lines(rules: rules::Rules, form: LineForm, count: u16, lines: &[u8]) ->
     let mut verdict = Ok(());
     let mut at: usize = 0;
     'lines: for j in 0..form::lines(rules, form.fields, count) {
-        let line = Line {
-            number: j + 1,
-            first: j * row.per_line + 1,
-            many: row.per_line.min(left),
-        };
+        let line = Line::behind(j, row, left);
         let columns = line.many * row.width;
         let stop = fields_stop(rules, form.short, columns, lines, at);
         for k in seen_formed(form, line.many, lines, at, stop)..line.many {
@@ -254,32 +290,20 @@ fn check_date(rules: rules::Rules, count: u16, lines: &[u8]) -> Result<(), Refus
     requires clean { verdict_of (read_lines rules Form.A1 Bool.false count lines.now) ≡ Ok tt }
     ensures { result ≡ verdict_of (dated 3 (read_lines rules Form.A1 Bool.false count lines.now)) }
 {
-    match date_in(rules, count, lines) {
-        Ok(_) => Ok(()),
-        Err(position) => Err(Refusal::BadDate(position)),
-    }
+    date_in(rules, count, lines).map_err(Refusal::BadDate)?;
+    Ok(())
 }
 
 // R262, R265: lines, and then the date of group 3.
-fn check(
-    rules: rules::Rules,
-    form: Form,
-    group: usize,
-    count: u16,
-    lines: &[u8],
-) -> Result<(), Refusal>
-    requires form { form_of group ≡ Some form }
-    requires date { group ≡ 3 → 19 ≤ count }
+fn check(rules: rules::Rules, asked: Counted, lines: &[u8]) -> Result<(), Refusal>
     ensures { result ≡
-        verdict_of (dated group (read_lines rules form (may_be_short group) count lines.now)) }
+        verdict_of
+        (dated asked.group
+        (read_lines rules asked.form (may_be_short asked.group) asked.count lines.now)) }
 {
-    let form_of_lines = LineForm {
-        fields: form,
-        short: may_be_short(group),
-    };
-    check_lines(rules, form_of_lines, count, lines)?;
-    if group == 3 {
-        return check_date(rules, count, lines);
+    check_lines(rules, asked.line_form(), asked.count, lines)?;
+    if asked.group == 3 {
+        return check_date(rules, asked.count, lines);
     }
     Ok(())
 }
@@ -363,11 +387,7 @@ fn fill_lines(rules: rules::Rules, form: LineForm, count: u16, lines: &[u8], tab
     let mut at: usize = 0;
     let mut cell: usize = 0;
     for j in 0..form::lines(rules, form.fields, count) {
-        let line = Line {
-            number: j + 1,
-            first: j * row.per_line + 1,
-            many: row.per_line.min(left),
-        };
+        let line = Line::behind(j, row, left);
         at = fill_line(rules, form, line, lines, at, table, cell);
         cell += line.many * row.cells;
         left -= line.many;
@@ -375,18 +395,17 @@ fn fill_lines(rules: rules::Rules, form: LineForm, count: u16, lines: &[u8], tab
 }
 
 // R266 for the lines of a group that were found clean.
-fn fill(rules: rules::Rules, form: Form, group: usize, count: u16, lines: &[u8], table: &mut [i64])
-    requires form { form_of group ≡ Some form }
-    requires clean { verdict_of (read_lines rules form (may_be_short group) count lines.now) ≡ Ok tt }
-    requires room { cells_of rules form count ≤ length table.old }
+fn fill(rules: rules::Rules, asked: Counted, lines: &[u8], table: &mut [i64])
+    requires clean { verdict_of
+        (read_lines rules asked.form (may_be_short asked.group) asked.count lines.now) ≡ Ok tt }
+    requires room { cells_of rules asked.form asked.count ≤ length table.old }
     ensures { table.new ≡
-        over 0 (cells_got (read_lines rules form (may_be_short group) count lines.now)) table.old }
+        over 0
+        (cells_got
+        (read_lines rules asked.form (may_be_short asked.group) asked.count lines.now))
+        table.old }
 {
-    let form_of_lines = LineForm {
-        fields: form,
-        short: may_be_short(group),
-    };
-    fill_lines(rules, form_of_lines, count, lines, table);
+    fill_lines(rules, asked.line_form(), asked.count, lines, table);
 }
 
 // ---- Reading a group's lines.
@@ -394,26 +413,24 @@ fn fill(rules: rules::Rules, form: Form, group: usize, count: u16, lines: &[u8],
 // R260, for a group whose record is placed with 0: 11 (R264), then the lines and the date, and only then the table.
 fn read_form(
     rules: rules::Rules,
-    form: Form,
-    group: usize,
-    count: u16,
+    asked: Counted,
     lines: &[u8],
     table: &mut [i64],
 ) -> Result<usize, Refusal>
-    requires form { form_of group ≡ Some form }
-    requires date { group ≡ 3 → 19 ≤ count }
     ensures answer { result ≡
-        reading_of (read_form rules form group count lines.now (length table.old)) }
+        reading_of
+        (read_form rules asked.form asked.group asked.count lines.now (length table.old)) }
     ensures table { table.new ≡
-        table_by (read_form rules form group count lines.now (length table.old))
+        table_by
+        (read_form rules asked.form asked.group asked.count lines.now (length table.old))
         table.old }
 {
-    let cells = form::cells(rules, form, count);
+    let cells = form::cells(rules, asked.form, asked.count);
     if table.len() < cells {
         return Err(Refusal::NoRoom);
     }
-    check(rules, form, group, count, lines)?;
-    fill(rules, form, group, count, lines, table);
+    check(rules, asked, lines)?;
+    fill(rules, asked, lines, table);
     Ok(cells)
 }
 
@@ -434,7 +451,8 @@ pub fn read_kept(
 {
     let form = form::form_of(group).ok_or(Refusal::NoSuchNumber)?;
     let count = count::count_of(kept.counts, group);
-    read_form(rules, form, group, count, lines, table)
+    let asked = Counted { group, form, count };
+    read_form(rules, asked, lines, table)
 }
 
 // ---- The two passes by themselves, for a record whose groups are all checked before one of them is filled.
@@ -455,7 +473,12 @@ pub fn check_kept(
     if count == 0 {
         return Ok(());
     }
-    check(rules, group.form(), group.number, count, lines)
+    let asked = Counted {
+        group: group.number,
+        form: group.form(),
+        count,
+    };
+    check(rules, asked, lines)
 }
 
 // R333: the date of a record with these counts, whose group 3 has these lines. It has one if `read_kept` reads that
@@ -498,15 +521,12 @@ pub fn fill_kept(
     if count == 0 {
         return cell;
     }
-    let form = group.form();
-    let end = cell + form::cells(rules, form, count);
-    fill(
-        rules,
-        form,
-        group.number,
+    let asked = Counted {
+        group: group.number,
+        form: group.form(),
         count,
-        lines,
-        &mut table[cell..end],
-    );
+    };
+    let end = cell + form::cells(rules, asked.form, count);
+    fill(rules, asked, lines, &mut table[cell..end]);
     end
 }

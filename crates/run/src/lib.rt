@@ -119,7 +119,8 @@ fn is_power(s: &[u8], c: usize, d: usize) -> bool
         && all_between(&s[e + 2..], b'0', b'9')
 }
 
-// Whether each field passes a test.
+// Whether each field passes a test. By `all` the closure over `test` would have to state these clauses once more: tried, and
+// its goals stayed open.
 fn each<const W: usize, F: Fn(&[u8]) -> bool>(fields: &[[u8; W]], test: F) -> bool
     requires { (s : _) → length s.now ≡ W → F.pre test s }
     ensures { (h : List ℕ → Bool)
