@@ -371,13 +371,10 @@ fn set_in(
         cells.old result }
 {
     let found = look(rules, counts, cells.len(), journal, used)?;
-    let spot = spot_of(&found.starts, group, cell);
-    if spot.is_none() {
-        return Err(Refusal::NoSuchNumber);
-    }
-    let old = get_at(cells, spot);
+    let place = spot_of(&found.starts, group, cell).ok_or(Refusal::NoSuchNumber)?;
+    let old = get_at(cells, Some(place));
     add(journal, used, Entry::Set(group, cell, old, value))?;
-    put_at(cells, spot, value);
+    put_at(cells, Some(place), value);
     Ok(0)
 }
 

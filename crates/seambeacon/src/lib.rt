@@ -90,14 +90,15 @@ fn rules_of(flags: u32) -> Rules
 fn date_of(seven: &[usize; 7]) -> Date
     ensures { result ≡ seven_date seven.now }
 {
+    let [year, day_of_year, month, day, hour, minute, second] = *seven;
     Date {
-        year: seven[0],
-        day_of_year: seven[1],
-        month: seven[2],
-        day: seven[3],
-        hour: seven[4],
-        minute: seven[5],
-        second: seven[6],
+        year,
+        day_of_year,
+        month,
+        day,
+        hour,
+        minute,
+        second,
     }
 }
 
@@ -432,7 +433,7 @@ pub extern "C" fn seambeacon_rewrite_record(
         out.old }
 {
     let answer = sao::rewrite_record(rules_of(rules), text, at, table, out);
-    *unread = [rewriting::group_of(answer)];
+    *unread = [whole::group_of(answer)];
     tell(rewriting::reply_of(answer), beside)
 }
 

@@ -10,16 +10,9 @@ ghost use Rattle.group.specs.Held.{moved};
 ghost use Rattle.view.specs.With.{found_with, start_with, end_with, part_with, read_with, characteristic_with};
 
 use count::Kept;
-use group::{Characteristic, Lines};
+use group::{Characteristic, Lines, Part};
 use place::Record;
 use reply::Refusal;
-
-// From where to where a group's lines stand in a text.
-#[derive(Clone, Copy)]
-struct Part {
-    from: usize,
-    to: usize,
-}
 
 // R285: what every question asks first: 12; 4 to 7 by the counts; 22 (R286). A record that does not say where a group's
 // lines begin or end says 0 (R243).
@@ -70,18 +63,7 @@ pub fn lines_with(
         end_with rules text.now (carried counts.now starts.now ends.now)
         group }
 {
-    match find(rules, text, counts, starts, ends, group) {
-        Ok(part) => Lines {
-            found: Ok(()),
-            from: part.from,
-            to: part.to,
-        },
-        Err(why) => Lines {
-            found: Err(why),
-            from: 0,
-            to: 0,
-        },
-    }
+    Lines::from(find(rules, text, counts, starts, ends, group))
 }
 
 // R285, R287: reads a group into a table: first as `find` says, then by the counts and these lines alone. A refusal

@@ -40,9 +40,10 @@ fn check_groups(rules: rules::Rules, placed: PlacedRecord<'_>) -> Result<(), Unr
     for number in 1..61 {
         let group = Group { number };
         let lines = placed.lines(group);
-        if let Err(why) = reading::check_kept(rules, placed.kept(), group, lines) {
-            return Err(Unread { group: number, why });
-        }
+        reading::check_kept(rules, placed.kept(), group, lines).map_err(|why| Unread {
+            group: group.number,
+            why,
+        })?;
     }
     Ok(())
 }
@@ -130,8 +131,8 @@ pub fn reply_of(answer: Result<usize, Unread>) -> reply::Reply
     }
 }
 
-// R272: the group that was being read; 0 where none was.
-pub fn group_of(answer: Result<usize, Unread>) -> usize
+// R272, R323: the group that was being read; 0 where none was.
+pub fn group_of<T: Copy>(answer: Result<T, Unread>) -> usize
     ensures { result ≡ group_told answer }
 {
     match answer {

@@ -12,7 +12,8 @@ use std::io;
 use std::io::{ErrorKind, Read, Write};
 use std::rt::Env;
 
-// What the words so far asked for, as `rules::choose` takes it. All of them were known.
+// What the words so far asked for, as `rules::choose` takes it. All of them were known. Either may be asked for without the
+// other, so neither flag tells of the other.
 #[derive(Clone, Copy)]
 pub struct Words {
     pub strict: bool,
@@ -25,11 +26,12 @@ pub const NONE: Words = Words {
     entries: false,
 };
 
-// R349: one word more, if it is known.
+// R349: one word more; none where one of them is unknown.
 #[tactic(auto, unfolding(crate::specs::Words::with_word))]
-pub fn with_word(words: Words, word: &[u8]) -> Option<Words>
+pub fn with_word(words: Option<Words>, word: &[u8]) -> Option<Words>
     ensures { result ≡ with_word words word.now }
 {
+    let words = words?;
     if word == b"--strict".as_slice() {
         return Some(Words {
             strict: true,
@@ -110,7 +112,7 @@ pub fn given(
     standard_error: &mut impl Write,
     program: &[u8],
 ) -> io::Result<Option<Words>> {
-    let mut words = NONE;
+    let mut words = Some(NONE);
     for i in 1..usize::MAX {
         let mut space = [0u8; 16];
         let word = match rt.arg(i, &mut space) {
@@ -118,13 +120,12 @@ pub fn given(
             Err(FillError::TooLong) => b"",
             Err(FillError::NotPresent) => break,
         };
-        let Some(more) = with_word(words, word) else {
-            usage(standard_error, program)?;
-            return Ok(None);
-        };
-        words = more;
+        words = with_word(words, word);
     }
-    Ok(Some(words))
+    if words.is_none() {
+        usage(standard_error, program)?;
+    }
+    Ok(words)
 }
 
 fn usage(standard_error: &mut impl Write, program: &[u8]) -> io::Result<()> {
