@@ -239,6 +239,7 @@ fn set_ruling(counts: &[u16]) -> Option<usize>
     low
 }
 
+// R128, of one group of letters: a rule, and no comparison of std's.
 fn zero_or(x: u16, n: u16) -> bool
     ensures { result ≡ zero_or x n }
 {

@@ -67,6 +67,7 @@ impl DigitField {
     }
 }
 
+// R144, a rule of the calendar, of which std has none.
 #[tactic(auto, unfolding(crate::specs::Calendar::is_leap))]
 fn leap(year: usize) -> bool
     ensures { result ≡ is_leap year }

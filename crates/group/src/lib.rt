@@ -1,5 +1,6 @@
 // A group of the record at a place of a text: read into a table (R260), its lines as a part of the text (R280), a
-// characteristic (R290). Any text, place, number and table may be given (R241).
+// characteristic (R290). Any text, place, number and table may be given (R241); they stand apart, as R240 lists them and C
+// lends them.
 #![tactic(auto)]
 
 ghost use Rattle.std.specs.Prelude.{◌≡◌, ◌&&◌, ◌≤◌, leb, length, MatchResult};
@@ -167,7 +168,8 @@ pub fn told_of(number: usize, answer: Result<usize, Refusal>, cells: &[i64]) -> 
     }
 }
 
-// R294: asks for a characteristic, 1 to 49, of the record at a place of a text.
+// R294: asks for a characteristic, 1 to 49, of the record at a place of a text. Beside it stands view's, which reads group 4
+// with a record: one function for both would take the reading as a closure, and its contract speak of what that reads.
 #[tactic(auto, using(crate::proofs::Reported::number_outside, crate::proofs::Reported::number_low, crate::proofs::Reported::number_high, crate::proofs::Reported::four_told), unfolding(crate::specs::Characteristics::characteristic_at))]
 pub fn characteristic_at(
     rules: rules::Rules,

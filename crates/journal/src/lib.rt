@@ -43,7 +43,7 @@ struct Fields<'a> {
 }
 
 // How far a walk came, with how many fields, and the savepoints open there: `marks` has the number of fields before
-// each one's open.
+// each one's open, and `depth` tells how many there are: memory is fixed, 16 savepoints at most (R513), so it is no list.
 #[derive(Clone, Copy)]
 struct State {
     pub place: usize,
@@ -89,6 +89,7 @@ fn spot_of(starts: &[usize; 62], group: usize, cell: usize) -> Option<usize>
     (before < starts[group + 1].saturating_sub(start)).then(|| start + before)
 }
 
+// R502: what a cell holds; 0 where there is none. `get` and `get_mut` alone would have each caller say what is done with none.
 fn get_at(cells: &[i64], spot: Option<usize>) -> i64
     ensures { result ≡ get_at spot cells.now }
 {
@@ -378,7 +379,7 @@ fn set_in(
     Ok(0)
 }
 
-// R513: opens a savepoint, and tells its number.
+// R513: opens a savepoint, and tells its number. Beside `release_in`: other refusals, another field and another number told.
 #[tactic(auto, using(crate::proofs::Walking::down_length), unfolding(crate::specs::Calls::answer_of))]
 fn open_in(
     rules: rules::Rules,

@@ -1,5 +1,6 @@
 // The listing of a text: a line for each record of its walk (R342), and then the line `end` (R343). What puts it answers
-// the number of bytes written, or none where it has no room: then nothing is altered.
+// the number of bytes written, or none where it has no room: then nothing is altered. Rules, text and output stand apart, as
+// the question has them.
 #![tactic(auto)]
 
 ghost use Rattle.std.specs.Prelude.{◌≡◌, ◌+◌, ◌≤◌, length};

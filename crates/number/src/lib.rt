@@ -39,6 +39,7 @@ pub enum Number {
     Misformed,
 }
 
+// R71: one of four kinds, where std's tests of bytes tell two.
 pub fn class(b: u8) -> Byte
     ensures { result ≡ class_of b }
 {
@@ -115,6 +116,7 @@ pub struct Magnitude {
     pub size: u64,
 }
 
+// They are told together, since a number is written from both: `unsigned_abs` alone loses the sign.
 pub fn signed(v: i64) -> Magnitude
     ensures neg { result.neg ≡ negative v }
     ensures size { result.size ≡ size_of v }

@@ -1,4 +1,4 @@
-// Records in a text: placing one at a place.
+// Records in a text: placing one at a place. Rules, text and place stand apart, as R240 lists them and C lends them.
 #![tactic(auto)]
 
 ghost use Rattle.std.specs.Prelude.{◌≡◌, ◌+◌, ◌++◌, ◌≤◌, length, drop, replicate};

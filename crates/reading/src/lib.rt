@@ -73,6 +73,7 @@ fn least(short: bool, columns: usize) -> usize
     if short { 0 } else { columns }
 }
 
+// R66: what stands behind the fields.
 fn all_blank(s: &[u8]) -> bool
     ensures { result ≡ every blank s.now }
 {
@@ -95,8 +96,9 @@ fn right_content(rules: rules::Rules, short: bool, columns: usize, line: &[u8]) 
     is_right(short, columns, &line[0..length]).then_some(length)
 }
 
-// ---- Checking. Lines, the place of one and where its fields are looked at no further are told apart, since the laws of a
-// line speak of places: a slice of each line would be cut and its place told besides, no plainer.
+// ---- Checking. Lines, the place of one, how many columns its fields take and where they are looked at no further are told
+// apart, since the laws of a line speak of places and columns: a slice of each line would be cut and its place told besides,
+// no plainer.
 
 // Whether bytes of a line are a field of the form. Where lines may be short, blanks that would be added print too
 // (R65).

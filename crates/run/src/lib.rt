@@ -29,6 +29,7 @@ fn all_between(s: &[u8], first: u8, last: u8) -> bool
     ok
 }
 
+// By the same test as `all_between`, so that the compiler sees what a run of digits has said already.
 fn is_digit(b: u8) -> bool
     ensures { result ≡ is_figure b }
 {

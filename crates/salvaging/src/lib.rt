@@ -1,5 +1,5 @@
 // Getting past a ruined index: where a walk that has stopped may go on, and the pieces of a text (R350 to R353). Any
-// text and place may be asked about (R241).
+// text and place may be asked about (R241); they stand apart, as R240 lists them.
 #![tactic(auto)]
 
 ghost use Rattle.std.specs.Prelude.{◌≡◌, ◌<◌, ◌≤◌, length};

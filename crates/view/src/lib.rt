@@ -1,6 +1,6 @@
 // R285 to R289: questions asked with a record, which says where the lines of its groups stand: whichever record and
 // whichever text (R241). The part that it names for the group is looked at first, and is refused with 22 if it is not
-// exactly as many whole lines of the text as the group's count needs.
+// exactly as many whole lines of the text as the group's count needs. What is lent stands apart, as C lends it (R366).
 #![tactic(auto)]
 
 ghost use Rattle.std.specs.Prelude.{◌≡◌, length, MatchResult};

@@ -1,5 +1,5 @@
 // Writing a record: counts and cells to canonical text. All is checked first, and a byte is written only when nothing
-// is refused (R307).
+// is refused (R307). Rules, counts, cells and output stand apart, as R240 lists them and C lends them.
 #![tactic(auto)]
 
 ghost use Rattle.std.specs.Prelude.{◌≡◌, ◌++◌, ℕ, map, ◌+◌, ◌*◌, ◌≤◌, T, length};
