@@ -163,7 +163,7 @@ pub fn release_of(counts: &[u16]) -> Result<(), Refusal>
     }
 }
 
-// The lower of two answers' groups.
+// The lower of two answers' groups. By the order of `Option` none would be lower than any.
 fn lower_of(a: Option<usize>, b: Option<usize>) -> Option<usize>
     ensures { result ≡ lower a b }
 {
@@ -207,7 +207,8 @@ fn settled(seen: u16, n: u16) -> u16
     if n == 0 || seen != 0 { seen } else { n }
 }
 
-// R126, R127: whether a set keeps its rules. What has been seen of its nonzero counts is one of them, 0 before the first.
+// R126, R127: whether a set keeps its rules. What has been seen of its nonzero counts is one of them, 0 before the
+// first.
 #[tactic(auto, using(crate::proofs::Sets::seen_start, crate::proofs::Sets::seen_differs, crate::proofs::Sets::seen_end))]
 fn kept_by(counts: &[u16], set: &Set) -> bool
     requires { set.now.last ≤ 79 }

@@ -1,5 +1,6 @@
-// Numbers as decimal text, into bytes that the caller lends. What puts a text answers the place behind it, or none where
-// it has no room: then nothing is altered.
+// Numbers as decimal text, into bytes that the caller lends: no heap is asked for, and `write!` would leave a front
+// part where it has no room. What puts a text answers the place behind it, or none where it has no room: then nothing
+// is altered.
 #![tactic(auto)]
 
 ghost use Rattle.std.specs.Prelude.{◌≡◌, ◌∷◌, [], ◌++◌, ◌+◌, ◌^◌, ◌<◌, ◌≤◌, length};
@@ -115,8 +116,8 @@ fn put_ended(out: &mut [u8], at: usize, n: u64, end: u8) -> usize
     behind + 1
 }
 
-// Puts the row of these numbers. It stands beside `numbers_end`, which measures it: one walk for both would take a closure
-// over each number, with a contract over all of its calls, and be no plainer.
+// Puts the row of these numbers. It stands beside `numbers_end`, which measures it: one walk for both would take a
+// closure over each number, with a contract over all of its calls, and be no plainer.
 #[tactic(auto, using(std::proofs::lemmas::Grind::common_steps, crate::proofs::Rows::row_put))]
 fn put_numbers(out: &mut [u8], at: usize, numbers: &[u64])
     requires { at + length (row_text numbers.now) ≤ length out.old }

@@ -95,7 +95,7 @@ fn put_set_at(out: &mut [u8], at: usize, group: usize, cell: usize, old: i64, ne
     put_number_at(out, at, 1, 1);
 }
 
-// R522: the field of an open, a release or an undo.
+// R522: the field of an open, a release or an undo; its tag is a byte of it, as which it is put.
 #[tactic(auto, using(crate::proofs::Numbers::bytes_before, crate::proofs::Numbers::length_bytes))]
 fn put_numbered_at(out: &mut [u8], at: usize, tag: u64, k: usize)
     requires room { at + savepoint_bytes ≤ length out.old }

@@ -143,8 +143,8 @@ fn is_letter(v: i64) -> bool
     (32..=126).contains(&v)
 }
 
-// The same of cells. One function for both would turn each element into a cell by `Into`, and its contract speak of what
-// that gives: no plainer than these two.
+// The same of cells. One function for both would turn each element into a cell by `Into`, and its contract speak of
+// what that gives: no plainer than these two.
 fn all_letters(cells: &[i64]) -> bool
     ensures { result ≡ every is_letter cells.now }
 {
@@ -174,8 +174,8 @@ pub fn fits(form: Form, cells: &[i64]) -> bool
     cells.len() == cells_of(kind) && in_range(kind, cells)
 }
 
-// ---- Writing. Cells, output and place stand apart, as in `number`: a struct of them would be built for each field, and be
-// no plainer.
+// ---- Writing. Cells, output and place stand apart, as in `number`: a struct of them would be built for each field,
+// and be no plainer.
 
 // Its byte. What calls it knows that the cell is a letter, so nothing is left to test, as `try_from` would.
 fn letter(v: i64) -> u8

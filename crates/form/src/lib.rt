@@ -156,7 +156,8 @@ pub fn row_of(form: Form) -> Row
     ROWS[form as usize]
 }
 
-// ---- What a count stands for. Rules, form and count stand apart: lines and cells are asked for with each alone changed.
+// ---- What a count stands for. Rules, form and count stand apart: lines and cells are asked for with each alone
+// changed.
 
 // R13: whether the form is group 40's.
 #[tactic(auto, unfolding(crate::specs::Count::is_segments, crate::specs::Table::listed_as))]

@@ -1,6 +1,6 @@
 // A group of the record at a place of a text: read into a table (R260), its lines as a part of the text (R280), a
-// characteristic (R290). Any text, place, number and table may be given (R241); they stand apart, as R240 lists them and C
-// lends them.
+// characteristic (R290). Any text, place, number and table may be given (R241); they stand apart, as R240 lists them
+// and C lends them.
 #![tactic(auto)]
 
 ghost use Rattle.std.specs.Prelude.{◌≡◌, ◌&&◌, ◌≤◌, leb, length, MatchResult};
@@ -128,7 +128,7 @@ pub fn read_group(
 
 // ---- A characteristic.
 
-// R290, R444: a value in thousandths; no reading; not reported; or why group 4 was not read.
+// R290: a value in thousandths; no reading; not reported; or why group 4 was not read. R444 has all four as one enum.
 #[derive(Clone, Copy)]
 pub enum Characteristic {
     Value(i64),
@@ -168,8 +168,9 @@ pub fn told_of(number: usize, answer: Result<usize, Refusal>, cells: &[i64]) -> 
     }
 }
 
-// R294: asks for a characteristic, 1 to 49, of the record at a place of a text. Beside it stands view's, which reads group 4
-// with a record: one function for both would take the reading as a closure, and its contract speak of what that reads.
+// R294: asks for a characteristic, 1 to 49, of the record at a place of a text. Beside it stands view's, which reads
+// group 4 with a record: one function for both would take the reading as a closure, and its contract speak of what that
+// reads.
 #[tactic(auto, using(crate::proofs::Reported::number_outside, crate::proofs::Reported::number_low, crate::proofs::Reported::number_high, crate::proofs::Reported::four_told), unfolding(crate::specs::Characteristics::characteristic_at))]
 pub fn characteristic_at(
     rules: rules::Rules,

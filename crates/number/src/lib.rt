@@ -12,7 +12,7 @@ ghost use Rattle.number.specs.Write.{text_f, text_e};
 
 // ---- Reading.
 
-// What one byte of a number's columns is.
+// What one byte of a number's columns is, of which `Other` is one kind more.
 #[derive(Clone, Copy)]
 pub enum Byte {
     Blank,
@@ -22,7 +22,7 @@ pub enum Byte {
 }
 
 // How far columns have been read: blanks only; a minus too; a minus or none (true for a minus) and digits; no number.
-// The definitions of reading speak by it, and writing undoes them step by step.
+// The definitions of reading speak by it, of no number as of any other state, and writing undoes them step by step.
 #[derive(Clone, Copy)]
 pub enum Scan {
     Blanks,
@@ -97,8 +97,8 @@ fn put(out: &mut [u8], filled: bool, what: Scan) -> Scan
     st
 }
 
-// ---- Writing at a place: each is `over`, so that two in a row are one. Output, place and width stand apart, as callers
-// count them: a struct of the three would be built for each field, and be no plainer.
+// ---- Writing at a place: each is `over`, so that two in a row are one. Output, place and width stand apart, as
+// callers count them: a struct of the three would be built for each field, and be no plainer.
 
 pub fn put_at(out: &mut [u8], at: usize, w: usize, filled: bool, what: Scan) -> Scan
     requires { at + w ≤ length out.old }
@@ -127,7 +127,7 @@ pub fn signed(v: i64) -> Magnitude
     }
 }
 
-// Whether v lies from minus `low` to `high`.
+// Whether v lies from minus `low` to `high`: `low` may be more than an i64 holds, so that no range is made.
 pub fn within(v: i64, low: u64, high: u64) -> bool
     ensures { result ≡ holds low high v }
 {

@@ -26,8 +26,8 @@ use reply::Refusal;
 
 // ---- What a line holds.
 
-// R64: the form of the fields of a group's lines, and whether its lines may be shorter than their fields, as only lines of
-// letters may.
+// R64: the form of the fields of a group's lines, and whether its lines may be shorter than their fields, as only lines
+// of letters may.
 #[derive(Clone, Copy)]
 struct LineForm {
     pub fields: Form,
@@ -35,7 +35,8 @@ struct LineForm {
     ghost letters: { HoldsLetters fields short },
 }
 
-// R40, R123: a group under its record's counts: its number, its form and its count, which in group 3 has room for the date.
+// R40, R123: a group under its record's counts: its number, its form and its count, which in group 3 has room for the
+// date.
 #[derive(Clone, Copy)]
 struct Counted {
     pub group: usize,
@@ -96,9 +97,9 @@ fn right_content(rules: rules::Rules, short: bool, columns: usize, line: &[u8]) 
     is_right(short, columns, &line[0..length]).then_some(length)
 }
 
-// ---- Checking. Lines, the place of one, how many columns its fields take and where they are looked at no further are told
-// apart, since the laws of a line speak of places and columns: a slice of each line would be cut and its place told besides,
-// no plainer.
+// ---- Checking. Lines, the place of one, how many columns its fields take and where they are looked at no further are
+// told apart, since the laws of a line speak of places and columns: a slice of each line would be cut and its place
+// told besides, no plainer.
 
 // Whether bytes of a line are a field of the form. Where lines may be short, blanks that would be added print too
 // (R65).
@@ -148,8 +149,8 @@ fn all_formed(
     to - at == columns && run::formed(form.fields, &lines[at..to], k)
 }
 
-// How many of a line's fields are seen to be formed in one look: all of them or none. A clean line has all of its fields
-// formed, so they are gone over one by one only in a line in which there is one to blame.
+// How many of a line's fields are seen to be formed in one look: all of them or none. A clean line has all of its
+// fields formed, so they are gone over one by one only in a line in which there is one to blame.
 fn seen_formed(form: LineForm, many: usize, lines: &[u8], at: usize, stop: usize) -> usize
     requires few { many ≤ 120 }
     requires order { at ≤ stop }
@@ -201,8 +202,8 @@ impl Line {
     }
 }
 
-// R262: what is blamed where a field is misformed. A line that is wrong comes before its fields. Both are refusals, so the
-// match is no `ok_or`.
+// R262: what is blamed where a field is misformed. A line that is wrong comes before its fields. Both are refusals, so
+// the match is no `ok_or`.
 fn misfit(
     rules: rules::Rules,
     short: bool,
@@ -226,8 +227,8 @@ fn misfit(
     }
 }
 
-// R262: where a line ends whose fields, looked for up to `stop`, are all formed, or that it is wrong. No line feed stands
-// in fields that are formed, so the line's end is sought behind them.
+// R262: where a line ends whose fields, looked for up to `stop`, are all formed, or that it is wrong. No line feed
+// stands in fields that are formed, so the line's end is sought behind them.
 fn line_end(
     rules: rules::Rules,
     form: LineForm,
@@ -312,7 +313,7 @@ fn check(rules: rules::Rules, asked: Counted, lines: &[u8]) -> Result<(), Refusa
 
 // ---- Filling.
 
-// Letters, and blanks behind them up to so many columns (R65).
+// Letters, and blanks behind them up to so many columns (R65), which the range counts: there may be fewer bytes.
 fn put_letters(bytes: &[u8], width: usize, table: &mut [i64], at: usize)
     requires bytes { length bytes.now ≤ width }
     requires room { at + width ≤ length table.old }
@@ -410,7 +411,7 @@ fn fill(rules: rules::Rules, asked: Counted, lines: &[u8], table: &mut [i64])
     fill_lines(rules, asked.line_form(), asked.count, lines, table);
 }
 
-// ---- Reading a group's lines.
+// ---- Reading a group's lines. Rules, counts, group and lines stand apart, since each group has lines of its own.
 
 // R260, for a group whose record is placed with 0: 11 (R264), then the lines and the date, and only then the table.
 fn read_form(

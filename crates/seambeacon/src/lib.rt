@@ -205,8 +205,8 @@ pub extern "C" fn seambeacon_characteristic(
     tell(Reply::from(known), beside)
 }
 
-// ---- With a record, whose members are lent apart (R366): the questions of `sao` that have a record, over `view`, which
-// takes the members where they lie.
+// ---- With a record, whose members are lent apart (R366): the questions of `sao` that have a record, over `view`,
+// which takes the members where they lie.
 
 // R285 to R287. Asked: the cells of a group, 1 to 60, of a record.
 // Answered: 0 with the number of cells, which stand in the table from its first cell on; what stands behind them is

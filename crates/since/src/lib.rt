@@ -28,7 +28,7 @@ pub struct Unfound {
     pub why: Refusal,
 }
 
-// What the walk meets at a place.
+// What the walk meets at a place: one of three, so it is no `Result`.
 #[derive(Clone, Copy)]
 enum Step {
     // a record that is at or after the date

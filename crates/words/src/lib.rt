@@ -12,8 +12,8 @@ use std::io;
 use std::io::{ErrorKind, Read, Write};
 use std::rt::Env;
 
-// What the words so far asked for, as `rules::choose` takes it. All of them were known. Either may be asked for without the
-// other, so neither flag tells of the other.
+// What the words so far asked for, as `rules::choose` takes it. All of them were known. Either may be asked for without
+// the other, so neither flag tells of the other.
 #[derive(Clone, Copy)]
 pub struct Words {
     pub strict: bool,
@@ -104,9 +104,9 @@ pub fn put_all<W: Write>(out: &mut W, bytes: &[u8]) -> io::Result<()>
 // ---- The words of a run
 
 // What the words ask for that the program of this name was started with; where one is unknown, how the program is asked
-// is written to standard error, and that is all to be done. What the system hands over is in no contract, so this has none
-// but that it is safe and ends. A word of more than 16 bytes is read as an empty one, which is unknown too; 16 is more than
-// every known word has. An error is that of writing to standard error.
+// is written to standard error, and that is all to be done. What the system hands over is in no contract, so this has
+// none but that it is safe and ends. A word of more than 16 bytes is read as an empty one, which is unknown too; 16 is
+// more than every known word has. An error is that of writing to standard error.
 pub fn given(
     rt: &impl Env,
     standard_error: &mut impl Write,
