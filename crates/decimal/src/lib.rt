@@ -29,7 +29,7 @@ fn digits(n: u64) -> usize
     n.max(1).ilog10() as usize + 1
 }
 
-// Fills the bytes with the last digits of n.
+// Fills the bytes with the last digits of n. By `iter_mut().rev()` a proof learns no more of the bytes than their number.
 fn put_digits(out: &mut [u8], n: u64)
     ensures { out.new ≡ columns last_byte tenth (length out.old) n }
 {

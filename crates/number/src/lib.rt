@@ -84,7 +84,8 @@ fn back(filled: bool, st: Scan) -> Scan
     }
 }
 
-// Fills the columns with it, and gives back what would stand before them.
+// Fills the columns with it, and gives back what would stand before them. By `iter_mut().rev()` a proof learns no more of
+// the columns than their number.
 fn put(out: &mut [u8], filled: bool, what: Scan) -> Scan
     ensures output { out.new ≡ text_of filled (length out.old) what }
     ensures answer { result ≡ rest_of filled (length out.old) what }
