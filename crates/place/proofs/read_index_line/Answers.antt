@@ -1,11 +1,8 @@
 -- `place::read_index_line` meets its contract: the content is what stands before the line end.
 -- Assumes nothing.
 use native.Mathlib.Omega.{arith}
-use mathlib.Core.Path.{◌≡◌}
 use lib.ListN.{length-take}
-use Rattle.std.proofs.Common.{Some}
-use Rattle.std.proofs.lemmas.Grind.{common_steps}
-use Rattle.line.specs.Contents.{content_of}
+use Rattle.std.proofs.Common.{◌≡◌, ◌∙◌, sym}
 use Rattle.line.proofs.Contents.{content_two}
 use Rattle.place.proofs.read_index_line.Goals as goal
 
