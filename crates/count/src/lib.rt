@@ -95,11 +95,10 @@ pub struct Totals {
 pub fn at_number<T: Copy>(list: &[T], number: usize, none: T) -> T
     ensures { result ≡ get_or (none ∷ list.now) number none }
 {
-    number
-        .checked_sub(1)
-        .and_then(|place| list.get(place))
-        .copied()
-        .unwrap_or(none)
+    if number == 0 {
+        return none;
+    }
+    list.get(number - 1).copied().unwrap_or(none)
 }
 
 // The count of a group.

@@ -228,7 +228,8 @@ pub fn put(form: Form, cells: &[i64], out: &mut [u8], at: usize)
 
 // ---- Index entries.
 
-// R23: the count that an index entry reads as. It has three columns: blanks, and digits to the end.
+// R23: the count that an index entry reads as. It has three columns: blanks, and digits to the end. Each column is looked
+// at by itself, the last one first: most entries of an index have a digit there and blanks before it.
 #[tactic(auto, using(crate::proofs::Columns::entry_columns), unfolding(crate::specs::Entry::entry_of))]
 pub fn read_entry(entry: &[u8]) -> Option<u16>
     ensures { result ≡ entry_of entry.now }
@@ -236,16 +237,19 @@ pub fn read_entry(entry: &[u8]) -> Option<u16>
     let [first, second, third] = entry else {
         return None;
     };
-    match (
-        number::class(*first),
-        number::class(*second),
-        number::class(*third),
-    ) {
-        (Byte::Blank, Byte::Blank, Byte::Digit(units)) => Some(units as u16),
-        (Byte::Blank, Byte::Digit(tens), Byte::Digit(units)) => Some((tens * 10 + units) as u16),
-        (Byte::Digit(hundreds), Byte::Digit(tens), Byte::Digit(units)) => {
-            Some(((hundreds * 10 + tens) * 10 + units) as u16)
-        }
+    let Byte::Digit(units) = number::class(*third) else {
+        return None;
+    };
+    match number::class(*second) {
+        Byte::Blank => match number::class(*first) {
+            Byte::Blank => Some(units as u16),
+            _ => None,
+        },
+        Byte::Digit(tens) => match number::class(*first) {
+            Byte::Blank => Some((tens * 10 + units) as u16),
+            Byte::Digit(hundreds) => Some(((hundreds * 10 + tens) * 10 + units) as u16),
+            _ => None,
+        },
         _ => None,
     }
 }
