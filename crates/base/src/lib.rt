@@ -3,8 +3,7 @@
 
 ghost use Rattle.std.specs.Prelude.{◌≡◌, ◌+◌, leb};
 
-// Whether k bytes fit behind a place of n. No sum is made, so any numbers may be given. No method of std adds and
-// compares without one.
+// Whether k bytes fit behind a place of n. No sum is made, so any numbers may be given.
 pub fn has_room(at: usize, k: usize, n: usize) -> bool
     ensures { result ≡ leb (at + k) n }
 {

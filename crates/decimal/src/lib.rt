@@ -20,7 +20,7 @@ fn end_in(at: usize, k: usize, size: usize) -> Option<usize>
 
 // ---- Numbers
 
-// How many digits n has. 10 to the 20th is no u64.
+// How many digits n has. 10 to the 20th is no u64. `usize` has no `From` of a `u32`, so it is cast.
 #[tactic(auto, using(crate::proofs::Lengths::digits_by_power))]
 fn digits(n: u64) -> usize
     ensures length { result ≡ length (numeral n) }
@@ -29,7 +29,8 @@ fn digits(n: u64) -> usize
     n.max(1).ilog10() as usize + 1
 }
 
-// Fills the bytes with the last digits of n. By `iter_mut().rev()` a proof learns no more of the bytes than their number.
+// Fills the bytes with the last digits of n. By `iter_mut().rev()` a proof learns no more of the bytes than their
+// number: tried. One digit is cast to a byte.
 fn put_digits(out: &mut [u8], n: u64)
     ensures { out.new ≡ columns last_byte tenth (length out.old) n }
 {

@@ -12,7 +12,8 @@ use std::io;
 use std::io::Write;
 
 // A row as it is made. It has room for the longest: 5,989 elements of group 40 (R13), with at most 18 bytes for the
-// cells of each. What has no room is left out. No heap is asked for, so it is no `Vec`.
+// cells of each. What has no room is left out. No heap is asked for, so it is no `Vec`. Numbers are
+// cast to `u64`, which has no `From` of a `usize`; signed ones have a function of their own in `decimal`.
 #[derive(Drop)]
 struct OutputRow {
     bytes: [u8; 131072],

@@ -52,7 +52,8 @@ fn number_at(s: &[u8], at: usize, k: usize) -> u64
     u64::from_be_bytes(bytes)
 }
 
-// R521, R524: a set's 19 bytes behind its tag and length; values in two's complement.
+// R521, R524: a set's 19 bytes behind its tag and length; values in two's complement. `usize` has no `From` of a `u64`,
+// nor that of it: both are cast, here of one byte and of two.
 #[tactic(auto, using(crate::proofs::Signed::signed_cell))]
 fn set_of(field: &[u8]) -> Entry
     requires inside { set_bytes ≤ length field.now }

@@ -1,6 +1,5 @@
 // A group of the record at a place of a text: read into a table (R260), its lines as a part of the text (R280), a
-// characteristic (R290). Any text, place, number and table may be given (R241); they stand apart, as R240 lists them
-// and C lends them.
+// characteristic (R290). Any text, place, number and table may be given (R241); they stand apart, as C lends them.
 #![tactic(auto)]
 
 ghost use Rattle.std.specs.Prelude.{◌≡◌, ◌&&◌, ◌≤◌, leb, length, MatchResult};

@@ -28,7 +28,8 @@ pub struct Edited {
     pub used: usize,
 }
 
-// What a replay answers, and how many savepoints are open behind it; none on a refusal, of which that is told too.
+// What a replay answers, and how many savepoints are open behind it; none on a refusal, of which that is told too
+// (R542).
 #[derive(Clone, Copy)]
 pub struct Replayed {
     pub answer: Result<(), Refusal>,
@@ -44,7 +45,7 @@ struct Fields<'a> {
 }
 
 // How far a walk came, with how many fields, and the savepoints open there: `marks` has the number of fields before
-// each one's open, and `depth` tells how many there are: memory is fixed, 16 savepoints at most (R513), so it is no
+// each one's open, and `depth` tells how many there are: memory is fixed, 16 savepoints at most (R511), so it is no
 // list.
 #[derive(Clone, Copy)]
 struct State {

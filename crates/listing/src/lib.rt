@@ -1,6 +1,6 @@
 // The listing of a text: a line for each record of its walk (R342), and then the line `end` (R343). What puts it
 // answers the number of bytes written, or none where it has no room: then nothing is altered. Rules, text and output
-// stand apart, as the question has them.
+// stand apart, as the question has them. A row's numbers are `u64`, which has no `From` of a `usize`: they are cast.
 #![tactic(auto)]
 
 ghost use Rattle.std.specs.Prelude.{◌≡◌, ◌+◌, ◌≤◌, length};

@@ -12,7 +12,7 @@ ghost use Rattle.number.specs.Write.{text_f, text_e};
 
 // ---- Reading.
 
-// What one byte of a number's columns is, of which `Other` is one kind more.
+// What one byte of a number's columns is: one of four kinds, each of which takes the columns read so far to a state.
 #[derive(Clone, Copy)]
 pub enum Byte {
     Blank,
@@ -31,7 +31,8 @@ pub enum Scan {
     Broken,
 }
 
-// What a field of numbers reads as: one cell, or the two of an E field. The definitions speak by it; no code makes one.
+// What a field of numbers reads as: one cell, or the two of an E field. The definitions speak by it; no
+// code makes one, but it is public, and so stays.
 #[derive(Clone, Copy)]
 pub enum Number {
     One(i64),
@@ -51,7 +52,7 @@ pub fn class(b: u8) -> Byte
     }
 }
 
-// The signed number of a sign and a size.
+// The signed number of a sign and a size, which a cast keeps.
 pub fn cell(neg: bool, n: u64) -> i64
     requires { n < 2 ^ 63 }
     ensures { result ≡ of_sign neg n }
@@ -61,7 +62,7 @@ pub fn cell(neg: bool, n: u64) -> i64
 
 // ---- Writing: from the last column to the first, one division for each digit.
 
-// The byte in the last column.
+// The byte in the last column. One digit is cast to a byte.
 fn last(st: Scan) -> u8
     ensures { result ≡ last_of st }
 {
@@ -84,8 +85,8 @@ fn back(filled: bool, st: Scan) -> Scan
     }
 }
 
-// Fills the columns with it, and gives back what would stand before them. By `iter_mut().rev()` a proof learns no more of
-// the columns than their number.
+// Fills the columns with it, and gives back what would stand before them. By `iter_mut().rev()` a proof learns no more
+// of the columns than their number: tried.
 fn put(out: &mut [u8], filled: bool, what: Scan) -> Scan
     ensures output { out.new ≡ text_of filled (length out.old) what }
     ensures answer { result ≡ rest_of filled (length out.old) what }

@@ -1,4 +1,4 @@
-// Records in a text: placing one at a place. Rules, text and place stand apart, as R240 lists them and C lends them.
+// Records in a text: placing one at a place. Rules, text and place stand apart, as C lends them.
 #![tactic(auto)]
 
 ghost use Rattle.std.specs.Prelude.{◌≡◌, ◌+◌, ◌++◌, ◌≤◌, length, drop, replicate};
@@ -197,8 +197,10 @@ pub fn place(rules: rules::Rules, text: &[u8], at: usize) -> Record
     }
 }
 
-// A record's counts, starts and ends, each as it is lent (R366), and a text: the counts keep the rules on counts (R261),
-// and what they name for each group is a part of the text (R259). So it is of every record that was placed in it with 0.
+// A record's counts, starts and ends, each as it is lent (R366), and a text: the counts keep the rules on counts
+// (R261), and what they name for each group is a part of the text (R259). So it is of every record that was placed in
+// it with 0. It is built by its parts where placing answered 0, which proves it, and clauses name the parts, to tell
+// which is lent.
 #[derive(Clone, Copy)]
 pub struct PlacedRecord<'a> {
     pub text: &'a [u8],

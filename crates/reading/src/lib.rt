@@ -24,7 +24,7 @@ use count::Kept;
 use form::{Form, Group, Row};
 use reply::Refusal;
 
-// ---- What a line holds.
+// ---- What a line holds. Rules, shortness and columns stand apart, since the laws of a content know no form.
 
 // R64: the form of the fields of a group's lines, and whether its lines may be shorter than their fields, as only lines
 // of letters may.
@@ -36,7 +36,7 @@ struct LineForm {
 }
 
 // R40, R123: a group under its record's counts: its number, its form and its count, which in group 3 has room for the
-// date.
+// date. It is made where the count is known; rules and lines stand beside it, since they are no part of a group.
 #[derive(Clone, Copy)]
 struct Counted {
     pub group: usize,
@@ -128,7 +128,8 @@ fn is_field_at(form: LineForm, lines: &[u8], at: usize, stop: usize, k: usize) -
 }
 
 // Whether all fields of a line are formed, in one look. Where lines may be short, blanks that would be added print too
-// (R65); where they may not, a field that lacks a column is none.
+// (R65); where they may not, a field that lacks a column is none. `is_field` is given
+// one field's bytes, this a line that may lack some.
 fn all_formed(
     form: LineForm,
     k: usize,
@@ -311,7 +312,7 @@ fn check(rules: rules::Rules, asked: Counted, lines: &[u8]) -> Result<(), Refusa
     Ok(())
 }
 
-// ---- Filling.
+// ---- Filling. What is told apart in checking is told apart here, with the table and a cell of it.
 
 // Letters, and blanks behind them up to so many columns (R65), which the range counts: there may be fewer bytes.
 fn put_letters(bytes: &[u8], width: usize, table: &mut [i64], at: usize)
@@ -378,7 +379,8 @@ fn fill_line(
     end
 }
 
-// R266: the second pass, the cells of lines that were found clean.
+// R266: the second pass, the cells of lines that were found clean. It is a loop beside the check's, since all lines are
+// checked before a cell is put (R267).
 fn fill_lines(rules: rules::Rules, form: LineForm, count: u16, lines: &[u8], table: &mut [i64])
     requires clean { verdict_of (read_lines rules form.fields form.short count lines.now) ≡ Ok tt }
     requires room { cells_of rules form.fields count ≤ length table.old }

@@ -66,7 +66,7 @@ fn is_column(b: u8) -> bool
     b == b' ' || b == b'-' || is_digit(b)
 }
 
-// R72: what stands before the point.
+// R72: what stands before the point: as `is_whole`, but for the last column.
 fn is_head(s: &[u8]) -> bool
     ensures { result ≡ is_head s.now }
 {
@@ -192,7 +192,7 @@ fn figures_in(s: &[u8]) -> u64
     number_by(s, |b| b % 16)
 }
 
-// Whether a minus stands in the columns before a number's digits.
+// Whether a minus stands in the columns before a number's digits. No byte is a way out, as it is of `contains`.
 #[tactic(auto, using(crate::proofs::Loops::has_more))]
 fn has_minus(s: &[u8]) -> bool
     ensures { result ≡ has s.now 45 }

@@ -38,7 +38,7 @@ use place::Record;
 use reply::Reply;
 use rules::Rules;
 
-// ---- Numbers.
+// ---- Numbers, as C has them (R360): it knows no `From`.
 
 // R360: a reply as its number, and the numbers beside it.
 fn tell(r: Reply, beside: &mut [usize; 8]) -> u32

@@ -1,6 +1,7 @@
 // R285 to R289: questions asked with a record, which says where the lines of its groups stand: whichever record and
 // whichever text (R241). The part that it names for the group is looked at first, and is refused with 22 if it is not
 // exactly as many whole lines of the text as the group's count needs. What is lent stands apart, as C lends it (R366).
+// Beside `group`'s questions, which find the lines by placing: each contract speaks of its own way.
 #![tactic(auto)]
 
 ghost use Rattle.std.specs.Prelude.{◌≡◌, length, MatchResult};

@@ -77,8 +77,8 @@ pub fn filled<R: Read>(input: &mut R, space: &mut [u8]) -> io::Result<usize>
     Err(io::Error::new(ErrorKind::TimedOut, TOO_MANY_TRIES))
 }
 
-// Writes all of the bytes, as `write_all` does, of which no contract says what an error leaves: here a front part of
-// the bytes was written.
+// Beside `filled`, since reading and writing are two traits. Writes all of the bytes, as `write_all` does, of which no
+// contract says what an error leaves: here a front part of the bytes was written.
 pub fn put_all<W: Write>(out: &mut W, bytes: &[u8]) -> io::Result<()>
     ensures all { OnOk result (Appends (W.contents out.old) (W.contents out.new) bytes.now) }
     ensures front { OnErr result (AppendsFront (W.contents out.old) (W.contents out.new) bytes.now) }
@@ -101,8 +101,8 @@ pub fn put_all<W: Write>(out: &mut W, bytes: &[u8]) -> io::Result<()>
     Err(io::Error::new(ErrorKind::TimedOut, TOO_MANY_TRIES))
 }
 
-// ---- The words of a run. Each program asks for them, for the rules by them and for its input in its own `main`, since the
-// space that the input is read into is lent by it, and no function can hand one out.
+// ---- The words of a run. Each program asks for them, for the rules by them and for its input in its own `main`, since
+// the space that the input is read into is lent by it, and no function can hand one out.
 
 // What the words ask for that the program of this name was started with; where one is unknown, how the program is asked
 // is written to standard error, and that is all to be done. What the system hands over is in no contract, so this has
