@@ -78,11 +78,12 @@ required() { # FILE..: the public functions with a `requires`
 
 unsaid() { # FILE..: the files with an `impl From` that has no `from_gives`, once for each
     words "$@" | awk '
-        $2 == "impl" && depth == 0 { open = 1; from = 0; given = 0 }
-        open && depth == 0 && $2 == "From" { from = 1 }
-        open && last == "ghost" && $2 == "from_gives" { given = 1 }
+        # an item, and no type of a parameter
+        $2 == "impl" && last ~ /^[]};{]?$/ { open = 1; at = depth; from = 0; given = 0 }
+        open && depth == at && $2 == "From" { from = 1 }
+        open && depth == at + 1 && last == "ghost" && $2 == "from_gives" { given = 1 }
         $2 == "{" { depth++ }
-        $2 == "}" && --depth == 0 && open { open = 0; if (from && !given) print $1 }
+        $2 == "}" && --depth == at && open { open = 0; if (from && !given) print $1 }
         { last = $2 }'
 }
 
@@ -127,6 +128,9 @@ made '' 'pub struct S { n: usize } fn f(n: usize) -> usize requires { n } { n }'
 converts 0 'impl From<A> for B { ghost from_gives = { same }; fn from(a: A) -> B { B { a } } }'
 converts 1 'impl From<A> for B { fn from(a: A) -> B { B { a } } }'
 converts 1 'impl From<A> for B { ghost from_gives = { same }; fn from(a: A) -> B { b } } impl From<C> for B { fn from(c: C) -> B { /* ghost from_gives */ b } }'
+converts 1 'mod m { impl From<A> for B { fn from(a: A) -> B { B { a } } } }'
+converts 1 'impl From<A> for B { fn from(a: A) -> B { ghost from_gives = { same }; B { a } } }'
+converts 1 'impl From<A> for B { fn from(a: A) -> B { f(|x: impl C| x); B { a } } }'
 converts 0 'impl B { fn from(a: A) -> B { B { a } } }'
 
 counted 'every impl From says what it gives' none "$(unsaid crates/*/src/*.rt)"
@@ -144,4 +148,4 @@ for crate in sao seambeacon; do
     counted "there are questions of $crate" [ -s "$work/$crate" ]
     compared "the questions of $crate" "$work/$crate"
 done
-finished 28
+finished 31
