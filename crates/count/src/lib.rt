@@ -92,7 +92,7 @@ pub struct Totals {
 }
 
 // R22, R243: what a list has under a number, from 1; `none` where it has no such number. By one chain over
-// `checked_sub` and `get` the rules on counts took half as much time more: tried.
+// `checked_sub` and `get` the rules on counts took half as many instructions more: tried.
 pub fn at_number<T: Copy>(list: &[T], number: usize, none: T) -> T
     ensures { result ≡ get_or (none ∷ list.now) number none }
 {

@@ -230,8 +230,8 @@ pub fn put(form: Form, cells: &[i64], out: &mut [u8], at: usize)
 
 // R23: the count that an index entry reads as. It has three columns: blanks, and digits to the end. Each column is
 // looked at by itself, the last one first: most entries of an index have a digit there and blanks before it. By one
-// match over all three an index line took two thirds more time: tried. A digit is cast to fewer bits, which loses
-// nothing.
+// match over all three an index line took two thirds more instructions: tried. A digit is cast to fewer bits, which
+// loses nothing.
 #[tactic(auto, using(crate::proofs::Columns::entry_columns), unfolding(crate::specs::Entry::entry_of))]
 pub fn read_entry(entry: &[u8]) -> Option<u16>
     ensures { result ≡ entry_of entry.now }
