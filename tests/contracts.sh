@@ -1,7 +1,7 @@
 #!/bin/sh
-# Contracts: every public function of every crate has an `ensures`, but for `words::given`: what the system hands over is in no contract. No
-# public question of `sao` or `seambeacon` has a `requires`. The questions are those of README.md and of the header, name for name. The check is
-# tried on made-up functions first.
+# Contracts: every public function of every crate has an `ensures`, but for `words::given`: what the system hands over is in no contract; and
+# every `impl From` says what it gives. No public question of `sao` or `seambeacon` has a `requires`. The questions are those of README.md and of
+# the header, name for name. The check is tried on made-up functions first.
 set -u
 LC_ALL=C
 export LC_ALL
@@ -76,6 +76,22 @@ required() { # FILE..: the public functions with a `requires`
     contracts "$@" | awk '$3 == "misread" || $4 > 0'
 }
 
+unsaid() { # FILE..: the files with an `impl From` that has no `from_gives`, once for each
+    words "$@" | awk '
+        # an item, and no type of a parameter
+        $2 == "impl" && last ~ /^[]};{]?$/ { open = 1; at = depth; from = 0; given = 0 }
+        open && depth == at && $2 == "From" { from = 1 }
+        open && depth == at + 1 && last == "ghost" && $2 == "from_gives" { given = 1 }
+        $2 == "{" { depth++ }
+        $2 == "}" && --depth == at && open { open = 0; if (from && !given) print $1 }
+        { last = $2 }'
+}
+
+converts() { # MANY CODE: so many `impl From` of a made-up file say nothing of what they give
+    printf '%s\n' "$2" >"$work/made.rt"
+    counted "made up: $2" [ "$(unsaid "$work/made.rt" | grep -c .)" = "$1" ]
+}
+
 made() { # NUMBERS CODE: of a made-up function f, so many `ensures` and `requires` are found, or it is `misread`; nothing where it is not public
     printf '%s\n' "$2" >"$work/made.rt"
     counted "made up: $2" [ "$(contracts "$work/made.rt" | cut -d ' ' -f 2-)" = "$1" ]
@@ -109,6 +125,15 @@ made 'f misread' 'pub fn f(n: usize) -> usize ensures { n }'
 made '' 'fn f(n: usize) -> usize requires { n } { n }'
 made '' 'pub struct S { n: usize } fn f(n: usize) -> usize requires { n } { n }'
 
+converts 0 'impl From<A> for B { ghost from_gives = { same }; fn from(a: A) -> B { B { a } } }'
+converts 1 'impl From<A> for B { fn from(a: A) -> B { B { a } } }'
+converts 1 'impl From<A> for B { ghost from_gives = { same }; fn from(a: A) -> B { b } } impl From<C> for B { fn from(c: C) -> B { /* ghost from_gives */ b } }'
+converts 1 'mod m { impl From<A> for B { fn from(a: A) -> B { B { a } } } }'
+converts 1 'impl From<A> for B { fn from(a: A) -> B { ghost from_gives = { same }; B { a } } }'
+converts 1 'impl From<A> for B { fn from(a: A) -> B { f(|x: impl C| x); B { a } } }'
+converts 0 'impl B { fn from(a: A) -> B { B { a } } }'
+
+counted 'every impl From says what it gives' none "$(unsaid crates/*/src/*.rt)"
 counted 'every public function but one has an ensures' none "$(unensured crates/*/src/*.rt | grep -vx 'crates/words/src/lib\.rt given 0 0')"
 for crate in sao seambeacon; do
     counted "no question of $crate has a requires" none "$(required crates/$crate/src/*.rt)"
@@ -123,4 +148,4 @@ for crate in sao seambeacon; do
     counted "there are questions of $crate" [ -s "$work/$crate" ]
     compared "the questions of $crate" "$work/$crate"
 done
-finished 23
+finished 31

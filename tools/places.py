@@ -9,45 +9,40 @@ import sys
 from collections import Counter, defaultdict
 from pathlib import Path
 
+
 def sources(top):
     for path in sorted(Path(top).glob("crates/*/src/*.rt")):
-        lines = [re.sub(r"//.*", "", line) for line in path.read_text().split("\n")]
-        yield f"{path.parts[-3]}/{path.name}", lines
+        yield f"{path.parts[-3]}/{path.name}", [re.sub(r"//.*", "", line).rstrip() for line in path.read_text().split("\n")]
 
 
-def items(lines, word):
-    """Each `word NAME .. }` of a file: its line, its name and its lines."""
+def blocks(lines, start):
+    """Each `START NAME .. }`: its line, its name and its lines, up to a brace in the column where it began."""
     for i, line in enumerate(lines):
-        m = re.match(rf"\s*(?:pub )?{word} (\w+)", line)
+        m = re.match(rf"(\s*)(?:pub )?{start} (\w+)", line)
         if m:
-            end = next((j for j in range(i, len(lines)) if lines[j].startswith("}") or lines[j].startswith("    }")), i)
-            yield i + 1, m[1], lines[i:end + 1]
+            end = next((j for j in range(i, len(lines)) if lines[j] == m[1] + "}" or (j == i and lines[j].endswith("}"))), i)
+            yield i + 1, m[2], lines[i:end + 1]
 
 
-def variants(body):
-    """The variants of an enum: its lines at the first level of braces, with whether they hold a value."""
-    found = []
-    for line in body[1:]:
-        m = re.match(r"    (\w+)(\(| \{|,)", line)
-        if m:
-            found.append((m[1], m[2] != ","))
-    return found
+def functions(lines):
+    return blocks(lines, r"(?:const |unsafe |extern \"C\" )*fn")
+
+
+REFUSING = r"Refused|Misformed|Broken\w*|Wrong|Fails|Other|Stopped|NotReported|Missing|NoRoom|None|No"
 
 
 def own_enums(name, lines):
-    """Two variants of which one at least holds a value: the shape of Option or Result. Three, two of which are refusals, likewise."""
-    for n, enum, body in items(lines, "enum"):
-        kinds = variants(body)
-        refusals = {"Refused", "Misformed", "Broken", "Wrong", "Fails", "Other", "Stopped", "NotReported"}
-        if len(kinds) == 2 and any(held for _, held in kinds):
-            yield n, enum
-        elif len(kinds) == 3 and kinds[0][0] == "Five":
+    """Enums of two variants of which one holds a value, and enums with a variant that says no, or that holds a refusal."""
+    for n, enum, body in blocks(lines, "enum"):
+        kinds = [m for m in (re.match(r"    (\w+)(\(.*\)| \{)?,?$", line) for line in body[1:]) if m]
+        two = len(kinds) == 2 and any(m[2] for m in kinds)
+        if two or any(re.fullmatch(REFUSING, m[1]) and len(kinds) < 6 or "Refusal" in (m[2] or "") for m in kinds):
             yield n, enum
 
 
 def flags_beside_values(name, lines):
     """Fields of structs that tell whether, or how, the other fields hold."""
-    for n, struct, body in items(lines, "struct"):
+    for n, struct, body in blocks(lines, "struct"):
         for k, line in enumerate(body):
             m = re.match(r"\s+(?:pub )?(answer|found|stands|known|kind|ok): ", line)
             if m:
@@ -55,43 +50,48 @@ def flags_beside_values(name, lines):
 
 
 def codes(name, lines):
-    """Numbers for kinds and refusals: a kind or a reply's number as an integer, and a number that no value may have. The number of a group,
-    a line or a characteristic is none."""
+    """Numbers for kinds and refusals: a kind, a tag or a reply's number as an integer, and a number that no value may have. The number of a
+    group, a line or a characteristic is none."""
     for i, line in enumerate(lines):
-        if re.search(r"\bkind: (u8|u32|usize)\b|\bnumber: u32\b", line):
-            yield i + 1, line.strip()
-        if re.search(r"(return 17;|^\s+17$|=> 17,|16 < after)", line):
+        if re.search(r"\b(kind|tag): (u8|u32|u64|usize)\b|\bnumber: u32\b|let \(kind, |return 17;|^\s+17$|=> 17,|16 < after", line):
             yield i + 1, line.strip()
 
 
-def counted_loops(name, lines):
-    """`while` and `loop`."""
+def indexed_loops(name, lines):
+    """`while`, `loop`, and a `for` over a range whose number stands in an index or a place in its body."""
     for i, line in enumerate(lines):
         if re.match(r"\s*('\w+: )?(while .*|loop) \{", line):
             yield i + 1, line.strip()
+        m = re.match(r"(\s*)(?:'\w+: )?for (\w+) in .*\.\..* \{$", line)
+        if m:
+            end = next(j for j in range(i, len(lines)) if lines[j] == m[1] + "}")
+            if any(re.search(rf"\w\[[^\]]*\b{m[2]}\b", inner) for inner in lines[i + 1:end]):
+                yield i + 1, line.strip()
 
 
 BY_HAND = re.compile(
     r"fn (of_refusal|of_checked|of_answer|reply_of|lesser|is_word|signed|class|bits_of|cell_of|put_number|number|wide|is_printable|within|"
     r"is_between|is_digit|letter|at_or_after|leap|put_text|byte_or_blank|get_at|put_at|place_of|count_of|rules_of|date_of|all_blank|"
-    r"is_segments|rounded_up|differs|zero_or|has_room)\b")
+    r"is_segments|rounded_up|differs|zero_or|has_room|as_checked|next_place|group_of|passed_of|ends_by|counting_by|lower_of|is_placed|value_of)\b")
 
 
 def by_hand(name, lines):
-    """Functions that compare, order, copy or convert, of which std may have its own."""
+    """Functions that compare, order, copy or convert, of which std may have its own, and casts by `as`."""
     for i, line in enumerate(lines):
         m = BY_HAND.search(line)
-        if m and "fn " in line:
+        if m:
             yield i + 1, m[1]
+        for m in re.finditer(r"\bas (?:u8|u16|u32|u64|usize|i64)\b", line):
+            yield i + 1, line.strip()
 
 
 def repeated_requires(name, lines):
     """A `requires` that three or more functions of a crate have, word for word but for the clause's name."""
     seen = defaultdict(list)
-    for i, line in enumerate(lines):
-        m = re.match(r"\s*requires (?:\w+ )?\{ (.*?)(?: \})?$", line)
-        if m:
-            seen[m[1]].append(i + 1)
+    for n, _, body in functions(lines):
+        head = "\n".join(body).split("\n{")[0]
+        for m in re.finditer(r"requires (?:\w+ )?\{(.*?)\}\s*(?=$|requires|ensures)", head, re.S):
+            seen[" ".join(m[1].split())].append(n)
     for text, places in seen.items():
         if len(places) >= 3:
             for n in places:
@@ -99,25 +99,26 @@ def repeated_requires(name, lines):
 
 
 def parameters_together(name, lines):
-    """Three or more parameters that stand side by side in three or more functions of a crate."""
-    text = "\n".join(lines)
-    runs = Counter()
-    first = {}
-    for m in re.finditer(r"fn (\w+)(?:<[^>]*>)?\(([^)]*)\)", text):
-        names = [p.split(":")[0].strip() for p in m[2].split(",") if ":" in p]
-        for k in range(len(names) - 2):
-            runs[tuple(names[k:k + 3])] += 1
-            first.setdefault(tuple(names[k:k + 3]), text[:m.start()].count("\n") + 1)
-    for run, many in runs.items():
-        if many >= 3:
-            yield first[run], f"{', '.join(run)} ({many} functions)"
+    """Three or more parameters that stand side by side in three or more functions of a crate; each longest run once."""
+    runs = defaultdict(list)
+    for n, _, body in functions(lines):
+        head = "\n".join(body).split("\n{")[0].split("ensures")[0].split("requires")[0]
+        names = re.findall(r"[(,]\s*(?:mut )?(\w+): ", head[head.index("("):]) if "(" in head else []
+        for k in range(len(names)):
+            for size in range(3, len(names) - k + 1):
+                runs[tuple(names[k:k + size])].append(n)
+    many = {run: places for run, places in runs.items() if len(places) >= 3}
+    for run, places in many.items():
+        if not any(len(other) > len(run) and len(many[other]) == len(places) and
+                   any(other[i:i + len(run)] == run for i in range(len(other))) for other in many):
+            yield places[0], f"{', '.join(run)} ({len(places)} functions)"
 
 
 def parallel_arrays(name, lines):
-    """Structs with two or more arrays, or an array and a number that says how much of it counts."""
-    for n, struct, body in items(lines, "struct"):
-        arrays = [line for line in body if re.search(r": \[\w+; \w+\]", line)]
-        if len(arrays) >= 2 or (arrays and any("depth" in line for line in body)):
+    """Structs with two or more arrays or slices, or one and a number that says how much of it counts."""
+    for n, struct, body in blocks(lines, "struct"):
+        arrays = [line for line in body if re.search(r": (&'a )?\[\w+", line)]
+        if len(arrays) >= 2 or (arrays and any(re.search(r"\b(depth|end|used|many|len): ", line) for line in body)):
             yield n, struct
 
 
@@ -126,30 +127,57 @@ TWINS = [("whole_run", "fixed_run", "power_run"), ("fill_whole", "fill_fixed", "
          ("numbers_end", "put_numbers"), ("lines_with", "lines_by", "lines_of"), ("read_with", "read_by"), ("part_by", "part_of"),
          ("characteristic_with", "characteristic_by", "characteristic_of"), ("walk", "play"), ("put_i", "put_f", "put_e"),
          ("open_in", "release_in"), ("print_record", "print_stop"), ("print_groups", "print_characteristics"), ("put_counts", "put_cells"),
-         ("place_of", "count_of")]
+         ("place_of", "count_of"), ("fill_each", "fill_powers")]
+
+LEFT_ALONE = set("if else match let mut for in while loop return break self Self Ok Err Some None true false fn as ref".split())
 
 
-def twins(name, lines):
-    """Functions that differ in a type, a size, a constant, a test or how their parameters are bundled; named after reading all of src/. since's
-    own `place_of` is another thing."""
-    for group in TWINS:
-        for i, line in enumerate(lines):
-            m = re.search(r"fn (\w+)", line)
-            if m and m[1] in group and not name.startswith("since"):
-                yield i + 1, f"{m[1]} ({', '.join(group)})"
+def shape(body):
+    """A function's body with its names and numbers taken out; none if it is too short to tell."""
+    text = "\n".join(body)
+    text = text[text.index("\n{") if "\n{" in text else text.find("{"):]
+    words = re.findall(r"\w+|[^\w\s]", text)
+    if len(words) < 30:
+        return None
+    return " ".join(w if w in LEFT_ALONE or not re.match(r"\w", w) else "_" for w in words)
 
 
-COUNTS = [("1 own enums of the shape of Option or Result", own_enums), ("1 flags beside values", flags_beside_values),
-          ("1 numbers for kinds or refusals", codes), ("2 twins", twins), ("3 while and loop", counted_loops),
-          ("4 compared, copied or converted by hand", by_hand), ("5 a requires of three or more functions", repeated_requires),
-          ("5 parameters that travel together", parameters_together), ("6 parallel arrays, a length beside", parallel_arrays)]
+def twins(files):
+    """Functions of a crate that differ in a type, a size, a constant, a test or how their parameters are bundled, named after reading all of src/;
+    and functions of any crates whose bodies are the same but for names and numbers. since's own `place_of` is another thing."""
+    alike = defaultdict(list)
+    for name, lines in files:
+        found = {called: n for n, called, _ in functions(lines)}
+        for group in TWINS:
+            here = [called for called in group if called in found]
+            if len(here) > 1 and not name.startswith("since"):
+                for called in here:
+                    yield name, found[called], f"{called} ({', '.join(here)})"
+        for n, called, body in functions(lines):
+            if not any(called in group for group in TWINS) and shape(body):
+                alike[shape(body)].append((name, n, called))
+    for same in alike.values():
+        if len(same) > 1:
+            for name, n, called in same:
+                yield name, n, f"{called} ({', '.join(c for _, _, c in same)})"
+
+
+def each(count):
+    return lambda files: ((name, n, what) for name, lines in files for n, what in count(name, lines))
+
+
+COUNTS = [("1 own enums of the shape of Option or Result", each(own_enums)), ("1 flags beside values", each(flags_beside_values)),
+          ("1 numbers for kinds or refusals", each(codes)), ("2 twins", twins), ("3 while, loop, and ranges that index", each(indexed_loops)),
+          ("4 compared, copied, converted or cast by hand", each(by_hand)), ("5 a requires of three or more functions", each(repeated_requires)),
+          ("5 parameters that travel together", each(parameters_together)), ("6 parallel arrays, a length beside", each(parallel_arrays))]
 
 
 def main():
     args = [a for a in sys.argv[1:] if a != "-l"]
     top = args[0] if args else "."
+    files = list(sources(top))
     for title, count in COUNTS:
-        places = [(name, n, what) for name, lines in sources(top) for n, what in count(name, lines)]
+        places = list(count(files))
         print(f"{title}: {len(places)}")
         if "-l" in sys.argv:
             for name, n, what in places:

@@ -21,7 +21,7 @@ pub struct DigitField {
 }
 
 // R143: the number that digits make. It fails if a byte is no digit, or if the number is less than `least` or greater
-// than `greatest`; a number that a usize does not hold is greater than any.
+// than `greatest`; a number that a usize does not hold is greater than any. std's `parse` would take a plus.
 fn number(digits: &[u8], least: usize, greatest: usize) -> Option<usize>
     ensures { result ≡ read_digits least greatest digits.now }
 {
@@ -32,7 +32,7 @@ fn number(digits: &[u8], least: usize, greatest: usize) -> Option<usize>
         }
         value = value
             .checked_mul(10)?
-            .checked_add((*digit - b'0') as usize)?;
+            .checked_add(usize::from(*digit - b'0'))?;
     }
     (least..=greatest).contains(&value).then_some(value)
 }
@@ -67,6 +67,7 @@ impl DigitField {
     }
 }
 
+// R144, a rule of the calendar, of which std has none.
 #[tactic(auto, unfolding(crate::specs::Calendar::is_leap))]
 fn leap(year: usize) -> bool
     ensures { result ≡ is_leap year }
@@ -214,8 +215,8 @@ impl Date {
         self.judge()
     }
 
-    // What tells dates apart, the weightiest number first. Month and day are told by the day of the year (R332), so the order
-    // of all seven numbers, which could be derived, is not this one.
+    // What tells dates apart, the weightiest number first. Month and day are told by the day of the year (R332), so the
+    // order of all seven numbers, which could be derived, is not this one.
     fn moment(self) -> [usize; 5]
         ensures { result ≡ moment self }
     {

@@ -1,5 +1,6 @@
-// Numbers as decimal text, into bytes that the caller lends. What puts a text answers the place behind it, or none where
-// it has no room: then nothing is altered.
+// Numbers as decimal text, into bytes that the caller lends: no heap is asked for, and `write!` would leave a front
+// part where it has no room. What puts a text answers the place behind it, or none where it has no room: then nothing
+// is altered.
 #![tactic(auto)]
 
 ghost use Rattle.std.specs.Prelude.{◌≡◌, ◌∷◌, [], ◌++◌, ◌+◌, ◌^◌, ◌<◌, ◌≤◌, length};
@@ -14,12 +15,12 @@ ghost use Rattle.decimal.specs.Writing.{end_in, Puts};
 fn end_in(at: usize, k: usize, size: usize) -> Option<usize>
     ensures { result ≡ end_in at k size }
 {
-    at.checked_add(k).filter(|end| *end <= size)
+    base::has_room(at, k, size).then(|| at + k)
 }
 
 // ---- Numbers
 
-// How many digits n has. 10 to the 20th is no u64.
+// How many digits n has. 10 to the 20th is no u64. `usize` has no `From` of a `u32`, so it is cast.
 #[tactic(auto, using(crate::proofs::Lengths::digits_by_power))]
 fn digits(n: u64) -> usize
     ensures length { result ≡ length (numeral n) }
@@ -28,7 +29,8 @@ fn digits(n: u64) -> usize
     n.max(1).ilog10() as usize + 1
 }
 
-// Fills the bytes with the last digits of n.
+// Fills the bytes with the last digits of n. By `iter_mut().rev()` a proof learns no more of the bytes than their
+// number: tried. One digit is cast to a byte.
 fn put_digits(out: &mut [u8], n: u64)
     ensures { out.new ≡ columns last_byte tenth (length out.old) n }
 {
@@ -115,8 +117,8 @@ fn put_ended(out: &mut [u8], at: usize, n: u64, end: u8) -> usize
     behind + 1
 }
 
-// Puts the row of these numbers. It stands beside `numbers_end`, which measures it: one walk for both would take a closure
-// over each number, with a contract over all of its calls, and be no plainer.
+// Puts the row of these numbers. It stands beside `numbers_end`, which measures it: one walk for both would take a
+// closure over each number, with a contract over all of its calls, and be no plainer.
 #[tactic(auto, using(std::proofs::lemmas::Grind::common_steps, crate::proofs::Rows::row_put))]
 fn put_numbers(out: &mut [u8], at: usize, numbers: &[u64])
     requires { at + length (row_text numbers.now) ≤ length out.old }

@@ -12,7 +12,8 @@ use std::io;
 use std::io::Write;
 
 // A row as it is made. It has room for the longest: 5,989 elements of group 40 (R13), with at most 18 bytes for the
-// cells of each. What has no room is left out.
+// cells of each. What has no room is left out. No heap is asked for, so it is no `Vec`. Numbers are
+// cast to `u64`, which has no `From` of a `usize`; signed ones have a function of their own in `decimal`.
 #[derive(Drop)]
 struct OutputRow {
     bytes: [u8; 131072],
@@ -92,8 +93,8 @@ fn put_placing(row: &mut OutputRow, at: usize, answer: Placing) {
     row.number(reply.group);
 }
 
-// A group's cells, and its lines: where they begin, and where the part that is told as them ends; 0 where that is no part
-// of the text.
+// A group's cells, and its lines: where they begin, and where the part that is told as them ends; 0 where that is no
+// part of the text.
 fn print_group(
     out: &mut impl Write,
     asked: Asked<'_>,
@@ -122,7 +123,7 @@ fn print_group(
     row.print(out, b"group")
 }
 
-// A characteristic: its kind, its value or 0, and the reply.
+// A characteristic: its kind, a number in this format, its value or 0, and the reply.
 fn print_characteristic(
     out: &mut impl Write,
     asked: Asked<'_>,

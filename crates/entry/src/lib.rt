@@ -52,7 +52,8 @@ fn number_at(s: &[u8], at: usize, k: usize) -> u64
     u64::from_be_bytes(bytes)
 }
 
-// R521, R524: a set's 19 bytes behind its tag and length; values in two's complement.
+// R521, R524: a set's 19 bytes behind its tag and length; values in two's complement. `usize` has no `From` of a `u64`,
+// nor that of it: both are cast, here of one byte and of two.
 #[tactic(auto, using(crate::proofs::Signed::signed_cell))]
 fn set_of(field: &[u8]) -> Entry
     requires inside { set_bytes ≤ length field.now }
@@ -95,7 +96,7 @@ fn put_set_at(out: &mut [u8], at: usize, group: usize, cell: usize, old: i64, ne
     put_number_at(out, at, 1, 1);
 }
 
-// R522: the field of an open, a release or an undo.
+// R522: the field of an open, a release or an undo; its tag is a byte of it, as which it is put.
 #[tactic(auto, using(crate::proofs::Numbers::bytes_before, crate::proofs::Numbers::length_bytes))]
 fn put_numbered_at(out: &mut [u8], at: usize, tag: u64, k: usize)
     requires room { at + savepoint_bytes ≤ length out.old }

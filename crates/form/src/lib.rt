@@ -148,7 +148,7 @@ impl Group {
     }
 }
 
-// R41: a form's row.
+// R41: a form's row, by its place in the enum, which only a cast tells.
 #[tactic(auto, unfolding(crate::specs::Table::row_of, crate::specs::Table::listed_as))]
 pub fn row_of(form: Form) -> Row
     ensures { result ≡ row_of form }
@@ -156,7 +156,10 @@ pub fn row_of(form: Form) -> Row
     ROWS[form as usize]
 }
 
-// R13: whether the form is group 40's.
+// ---- What a count stands for. Rules, form and count stand apart: lines and cells are asked for with each alone
+// changed.
+
+// R13: whether the form is group 40's, by the name that the definition has.
 #[tactic(auto, unfolding(crate::specs::Count::is_segments, crate::specs::Table::listed_as))]
 fn is_segments(form: Form) -> bool
     ensures { result ≡ is_segments form }

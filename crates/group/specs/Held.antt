@@ -10,11 +10,18 @@ use Rattle.place.specs.Parts.{start}
 use Rattle.reply.specs.declared.Refusal.TheVariants.{NoSuchNumber}
 use Rattle.reply.specs.declared.Refusal.{Refusal}
 use Rattle.form.specs.declared.Form.{Form}
+use Rattle.group.specs.declared.Part.{Part}
+use Rattle.group.specs.declared.Lines.{Lines}
 
 -- R283: the place of a part that can be given, or the text's start
 abbrev pub place_if : Result (Unit {0}) Refusal → ℕ → ℕ
 place_if (Ok _) n = n
 place_if (Err r) n = 0
+
+-- R283: what is told of lines that can be given, or can't
+abbrev pub lines_told : Result Part Refusal → Lines
+lines_told (Ok p) = record { found = Ok tt; from = p.from; to = p.to }
+lines_told (Err r) = record { found = Err r; from = 0; to = 0 }
 
 module _ (ρ : Rules) where
   abbrev pub found_in : List ℕ → ℕ → Option Form → Result (Unit {0}) Refusal

@@ -1,5 +1,5 @@
 // A group of the record at a place of a text: read into a table (R260), its lines as a part of the text (R280), a
-// characteristic (R290). Any text, place, number and table may be given (R241).
+// characteristic (R290). Any text, place, number and table may be given (R241); they stand apart, as C lends them.
 #![tactic(auto)]
 
 ghost use Rattle.std.specs.Prelude.{◌≡◌, ◌&&◌, ◌≤◌, leb, length, MatchResult};
@@ -7,19 +7,25 @@ ghost use Rattle.place.specs.Placing.{counts_at};
 ghost use Rattle.reading.specs.Read.{reading_of, table_by};
 ghost use Rattle.group.specs.Characteristics.{told_by, told_of, characteristic_at};
 ghost use Rattle.group.specs.Numbered.{characteristic_reply};
-ghost use Rattle.group.specs.Held.{found_at, part_start, part_end, part_at, moved};
+ghost use Rattle.group.specs.Held.{found_at, lines_told, part_start, part_end, part_at, moved};
 ghost use Rattle.group.specs.Text.{read_at};
 
 use count::Kept;
 use place::Placing;
 use reply::{Refusal, Reply};
 
-// The counts of a record, and from where to where a group's lines stand in the text.
+// From where to where a group's lines stand in a text.
+#[derive(Clone, Copy)]
+pub struct Part {
+    pub from: usize,
+    pub to: usize,
+}
+
+// The counts of a record, and where a group's lines stand in the text.
 #[derive(Clone, Copy)]
 struct Held {
     counts: [u16; 80],
-    from: usize,
-    to: usize,
+    part: Part,
 }
 
 // R260, R281: what every question about a group asks first: 12, and the reply of placing, if it is not 0. The group's
@@ -29,8 +35,8 @@ fn held_at(rules: rules::Rules, text: &[u8], at: usize, group: usize) -> Result<
     ensures { MatchResult result
         (λ held. (found_at rules text.now at group ≡ Ok tt)
         × (held.counts ≡ counts_at rules text.now at)
-        × (held.from ≡ part_start rules text.now at group)
-        × (held.to ≡ part_end rules text.now at group))
+        × (held.part.from ≡ part_start rules text.now at group)
+        × (held.part.to ≡ part_end rules text.now at group))
         (λ why. found_at rules text.now at group ≡ Err why) }
 {
     form::form_of(group).ok_or(Refusal::NoSuchNumber)?;
@@ -40,8 +46,10 @@ fn held_at(rules: rules::Rules, text: &[u8], at: usize, group: usize) -> Result<
     };
     Ok(Held {
         counts: record.counts,
-        from: record.starts[group - 1],
-        to: record.ends[group - 1],
+        part: Part {
+            from: record.starts[group - 1],
+            to: record.ends[group - 1],
+        },
     })
 }
 
@@ -54,6 +62,26 @@ pub struct Lines {
     pub to: usize,
 }
 
+// R283: at a refusal both places are the text's start.
+impl From<Result<Part, Refusal>> for Lines {
+    ghost from_gives = { λ answer lines. lines ≡ lines_told answer };
+
+    fn from(answer: Result<Part, Refusal>) -> Lines {
+        match answer {
+            Ok(part) => Lines {
+                found: Ok(()),
+                from: part.from,
+                to: part.to,
+            },
+            Err(why) => Lines {
+                found: Err(why),
+                from: 0,
+                to: 0,
+            },
+        }
+    }
+}
+
 // R280: asks where the lines of a group of the record at a place stand, their line ends among them. With count 0 both
 // places are where they would begin (R282), and at a refusal both are the text's start (R283).
 #[tactic(auto, using(crate::proofs::Holding::missing_start, crate::proofs::Holding::missing_end))]
@@ -62,18 +90,7 @@ pub fn lines_at(rules: rules::Rules, text: &[u8], at: usize, group: usize) -> Li
     ensures from { result.from ≡ part_start rules text.now at group }
     ensures to { result.to ≡ part_end rules text.now at group }
 {
-    match held_at(rules, text, at, group) {
-        Ok(held) => Lines {
-            found: Ok(()),
-            from: held.from,
-            to: held.to,
-        },
-        Err(why) => Lines {
-            found: Err(why),
-            from: 0,
-            to: 0,
-        },
-    }
+    Lines::from(held_at(rules, text, at, group).map(|held| held.part))
 }
 
 // R280, R446: the lines, as a part of the text that was lent; no copy is made.
@@ -104,12 +121,13 @@ pub fn read_group(
     let kept = Kept {
         counts: &held.counts,
     };
-    reading::read_kept(rules, kept, group, &text[held.from..held.to], table)
+    let Part { from, to } = held.part;
+    reading::read_kept(rules, kept, group, &text[from..to], table)
 }
 
 // ---- A characteristic.
 
-// R290, R444: a value in thousandths; no reading; not reported; or why group 4 was not read.
+// R290: a value in thousandths; no reading; not reported; or why group 4 was not read. R444 has all four as one enum.
 #[derive(Clone, Copy)]
 pub enum Characteristic {
     Value(i64),
@@ -149,7 +167,9 @@ pub fn told_of(number: usize, answer: Result<usize, Refusal>, cells: &[i64]) -> 
     }
 }
 
-// R294: asks for a characteristic, 1 to 49, of the record at a place of a text.
+// R294: asks for a characteristic, 1 to 49, of the record at a place of a text. Beside it stands view's, which reads
+// group 4 with a record: one function for both would take the reading as a closure, and its contract speak of what that
+// reads.
 #[tactic(auto, using(crate::proofs::Reported::number_outside, crate::proofs::Reported::number_low, crate::proofs::Reported::number_high, crate::proofs::Reported::four_told), unfolding(crate::specs::Characteristics::characteristic_at))]
 pub fn characteristic_at(
     rules: rules::Rules,

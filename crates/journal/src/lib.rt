@@ -28,14 +28,16 @@ pub struct Edited {
     pub used: usize,
 }
 
-// What a replay answers, and how many savepoints are open behind it; none on a refusal, of which that is told too.
+// What a replay answers, and how many savepoints are open behind it; none on a refusal, of which that is told too
+// (R542).
 #[derive(Clone, Copy)]
 pub struct Replayed {
     pub answer: Result<(), Refusal>,
     pub open: usize,
 }
 
-// The bytes of a journal, and where the cells of each group begin in the table that its fields alter.
+// The bytes of a journal, and where the cells of each group begin in the table that its fields alter: neither speaks of
+// the other's places.
 #[derive(Clone, Copy)]
 struct Fields<'a> {
     pub bytes: &'a [u8],
@@ -43,7 +45,8 @@ struct Fields<'a> {
 }
 
 // How far a walk came, with how many fields, and the savepoints open there: `marks` has the number of fields before
-// each one's open.
+// each one's open, and `depth` tells how many there are: memory is fixed, 16 savepoints at most (R511), so it is no
+// list.
 #[derive(Clone, Copy)]
 struct State {
     pub place: usize,
@@ -66,6 +69,7 @@ struct Looked {
 fn starts_of(rules: rules::Rules, counts: &[u16]) -> [usize; 62]
     ensures { result ≡ starts_of rules counts.now }
 {
+    // the range counts groups, and each start stands under the next one's number
     let mut starts = [0; 62];
     let mut sum = 0;
     for number in 1..61 {
@@ -89,6 +93,8 @@ fn spot_of(starts: &[usize; 62], group: usize, cell: usize) -> Option<usize>
     (before < starts[group + 1].saturating_sub(start)).then(|| start + before)
 }
 
+// R502: what a cell holds; 0 where there is none. `get` and `get_mut` alone would have each caller say what is done
+// with none.
 fn get_at(cells: &[i64], spot: Option<usize>) -> i64
     ensures { result ≡ get_at spot cells.now }
 {
@@ -210,8 +216,8 @@ impl Fields<'_> {
         Some((entry, depth))
     }
 
-    // R530: all fields, up to the first that is misformed or whose call would not be accepted. The next place is told by
-    // the field that stands there, so no range counts it.
+    // R530: all fields, up to the first that is misformed or whose call would not be accepted. The next place is told
+    // by the field that stands there, so no range counts it.
     #[tactic(auto, using(crate::proofs::Walking::walking_start, crate::proofs::Walking::walking_stop, crate::proofs::Walking::nearer_end))]
     fn walk(&self) -> State
         ensures { WalksTo self.now.starts.now self.now.bytes.now result }
@@ -371,17 +377,15 @@ fn set_in(
         cells.old result }
 {
     let found = look(rules, counts, cells.len(), journal, used)?;
-    let spot = spot_of(&found.starts, group, cell);
-    if spot.is_none() {
-        return Err(Refusal::NoSuchNumber);
-    }
-    let old = get_at(cells, spot);
+    let place = spot_of(&found.starts, group, cell).ok_or(Refusal::NoSuchNumber)?;
+    let old = get_at(cells, Some(place));
     add(journal, used, Entry::Set(group, cell, old, value))?;
-    put_at(cells, spot, value);
+    put_at(cells, Some(place), value);
     Ok(0)
 }
 
-// R513: opens a savepoint, and tells its number.
+// R513: opens a savepoint, and tells its number. Beside `release_in`: other refusals, another field and another number
+// told.
 #[tactic(auto, using(crate::proofs::Walking::down_length), unfolding(crate::specs::Calls::answer_of))]
 fn open_in(
     rules: rules::Rules,
@@ -405,7 +409,7 @@ fn open_in(
     Ok(depth + 1)
 }
 
-// R514: releases the innermost savepoint, and tells 0.
+// R514: releases the innermost savepoint, and tells 0. Beside `open_in`, and for its reason.
 #[tactic(auto, using(crate::proofs::Walking::down_length), unfolding(crate::specs::Calls::answer_of))]
 fn release_in(
     rules: rules::Rules,
@@ -508,7 +512,8 @@ pub fn open_savepoint(
     Edited::of(answer, used, 4)
 }
 
-// R514: releases the innermost savepoint; what was set since it was opened stays, and belongs to the one outside.
+// R514: releases the innermost savepoint; what was set since it was opened stays, and belongs to the one outside. It
+// takes what `undo_to_savepoint` takes, but alters no cell: C lends them to be read alone.
 pub fn release_savepoint(
     rules: rules::Rules,
     counts: &[u16],

@@ -48,9 +48,9 @@ fn past_blocks(text: &[u8], from: Sought, size: usize) -> Sought
     Sought { at, lines }
 }
 
-// R6: asks for the place behind so many lines from a place of a text, or that fewer line feeds are left. Any place may be
-// asked about, also one beyond the text's end. Lines are passed by large blocks and then by small ones, and the last
-// bytes are looked at one by one.
+// R6: asks for the place behind so many lines from a place of a text, or that fewer line feeds are left. Any place may
+// be asked about, also one beyond the text's end. Lines are passed by large blocks and then by small ones, and the last
+// bytes are looked at one by one: by their places in the text, of which one is the answer.
 #[tactic(auto, using(crate::proofs::Places::byte_by_byte))]
 pub fn place_behind(text: &[u8], at: usize, lines: usize) -> Option<usize>
     ensures { result ≡ behind_at text.now at lines }

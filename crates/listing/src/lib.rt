@@ -1,5 +1,6 @@
-// The listing of a text: a line for each record of its walk (R342), and then the line `end` (R343). What puts it answers
-// the number of bytes written, or none where it has no room: then nothing is altered.
+// The listing of a text: a line for each record of its walk (R342), and then the line `end` (R343). What puts it
+// answers the number of bytes written, or none where it has no room: then nothing is altered. Rules, text and output
+// stand apart, as the question has them. A row's numbers are `u64`, which has no `From` of a `usize`: they are cast.
 #![tactic(auto)]
 
 ghost use Rattle.std.specs.Prelude.{◌≡◌, ◌+◌, ◌≤◌, length};
@@ -11,7 +12,8 @@ ghost use Rattle.listing.specs.Listing.{listing, printed_listing, listed_in};
 use place::Placing;
 use reply::{Refusal, Reply};
 
-// R253: the next place, where a record is placed.
+// R253: the next place, where a record is placed. Neither `Placing` nor `Option` is of this crate, so no `From` may be
+// written.
 fn next_place(answer: Placing) -> Option<usize>
     ensures { result ≡ next_place answer }
 {
@@ -87,8 +89,8 @@ fn listing_end(rules: rules::Rules, text: &[u8], size: usize) -> Option<usize>
     unreachable!()
 }
 
-// Puts the listing, which has room: a second walk. Both walks as one would take a closure that puts rows into what is lent,
-// with a contract over all of its calls: no plainer than two loops.
+// Puts the listing, which has room: a second walk. Both walks as one would take a closure that puts rows into what is
+// lent, with a contract over all of its calls: no plainer than two loops.
 #[tactic(auto, using(std::proofs::lemmas::Grind::common_steps, crate::proofs::Lines::walked, base::proofs::Part::over_over), unfolding(decimal::specs::Writing::put_answer, decimal::specs::Writing::put_bytes))]
 fn put_listing(rules: rules::Rules, text: &[u8], out: &mut [u8])
     requires { length (listing rules text.now) ≤ length out.old }

@@ -12,7 +12,7 @@ ghost use Rattle.number.specs.Write.{text_f, text_e};
 
 // ---- Reading.
 
-// What one byte of a number's columns is.
+// What one byte of a number's columns is: one of four kinds, each of which takes the columns read so far to a state.
 #[derive(Clone, Copy)]
 pub enum Byte {
     Blank,
@@ -22,7 +22,7 @@ pub enum Byte {
 }
 
 // How far columns have been read: blanks only; a minus too; a minus or none (true for a minus) and digits; no number.
-// The definitions of reading speak by it, and writing undoes them step by step.
+// The definitions of reading speak by it, of no number as of any other state, and writing undoes them step by step.
 #[derive(Clone, Copy)]
 pub enum Scan {
     Blanks,
@@ -31,7 +31,8 @@ pub enum Scan {
     Broken,
 }
 
-// What a field of numbers reads as: one cell, or the two of an E field. The definitions speak by it; no code makes one.
+// What a field of numbers reads as: one cell, or the two of an E field. The definitions speak by it; no
+// code makes one, but it is public, and so stays.
 #[derive(Clone, Copy)]
 pub enum Number {
     One(i64),
@@ -39,6 +40,7 @@ pub enum Number {
     Misformed,
 }
 
+// R71: one of four kinds, where std's tests of bytes tell two.
 pub fn class(b: u8) -> Byte
     ensures { result ≡ class_of b }
 {
@@ -50,7 +52,7 @@ pub fn class(b: u8) -> Byte
     }
 }
 
-// The signed number of a sign and a size.
+// The signed number of a sign and a size, which a cast keeps.
 pub fn cell(neg: bool, n: u64) -> i64
     requires { n < 2 ^ 63 }
     ensures { result ≡ of_sign neg n }
@@ -60,7 +62,7 @@ pub fn cell(neg: bool, n: u64) -> i64
 
 // ---- Writing: from the last column to the first, one division for each digit.
 
-// The byte in the last column.
+// The byte in the last column. One digit is cast to a byte.
 fn last(st: Scan) -> u8
     ensures { result ≡ last_of st }
 {
@@ -83,7 +85,8 @@ fn back(filled: bool, st: Scan) -> Scan
     }
 }
 
-// Fills the columns with it, and gives back what would stand before them.
+// Fills the columns with it, and gives back what would stand before them. By `iter_mut().rev()` a proof learns no more
+// of the columns than their number: tried.
 fn put(out: &mut [u8], filled: bool, what: Scan) -> Scan
     ensures output { out.new ≡ text_of filled (length out.old) what }
     ensures answer { result ≡ rest_of filled (length out.old) what }
@@ -96,8 +99,8 @@ fn put(out: &mut [u8], filled: bool, what: Scan) -> Scan
     st
 }
 
-// ---- Writing at a place: each is `over`, so that two in a row are one. Output, place and width stand apart, as callers
-// count them: a struct of the three would be built for each field, and be no plainer.
+// ---- Writing at a place: each is `over`, so that two in a row are one. Output, place and width stand apart, as
+// callers count them: a struct of the three would be built for each field, and be no plainer.
 
 pub fn put_at(out: &mut [u8], at: usize, w: usize, filled: bool, what: Scan) -> Scan
     requires { at + w ≤ length out.old }
@@ -115,6 +118,7 @@ pub struct Magnitude {
     pub size: u64,
 }
 
+// They are told together, since a number is written from both: `unsigned_abs` alone loses the sign.
 pub fn signed(v: i64) -> Magnitude
     ensures neg { result.neg ≡ negative v }
     ensures size { result.size ≡ size_of v }
@@ -125,7 +129,7 @@ pub fn signed(v: i64) -> Magnitude
     }
 }
 
-// Whether v lies from minus `low` to `high`.
+// Whether v lies from minus `low` to `high`: `low` may be more than an i64 holds, so that no range is made.
 pub fn within(v: i64, low: u64, high: u64) -> bool
     ensures { result ≡ holds low high v }
 {

@@ -1,4 +1,4 @@
-// Records in a text: placing one at a place.
+// Records in a text: placing one at a place. Rules, text and place stand apart, as C lends them.
 #![tactic(auto)]
 
 ghost use Rattle.std.specs.Prelude.{◌≡◌, ◌+◌, ◌++◌, ◌≤◌, length, drop, replicate};
@@ -16,7 +16,8 @@ use count::Kept;
 use form::Group;
 use reply::{Refusal, Reply};
 
-// R200 to R207: what placing answers. A record whose counts break a rule is placed all the same (R253).
+// R200 to R207: what placing answers. A record whose counts break a rule is placed all the same (R253), so 7 is neither
+// a refusal nor as 0, and this is no `Result`.
 #[derive(Clone, Copy)]
 pub enum Placing {
     // 0, with the next place
@@ -28,8 +29,8 @@ pub enum Placing {
 }
 
 // R253, R259: the answer, with the 80 counts of a record that is placed (0 or 7), and from where to where the lines of
-// each of its 60 groups stand in the text; else zeros, which R259 tells of a refusal too. Starts and ends are two arrays,
-// since C has them so (R366).
+// each of its 60 groups stand in the text; else zeros, which R259 tells of a refusal too. Starts and ends are two
+// arrays, since C has them so (R366).
 #[derive(Clone, Copy)]
 pub struct Record {
     pub answer: Placing,
@@ -104,7 +105,8 @@ fn ruled_at(next: usize, ruling: Option<usize>) -> Placing
 }
 
 // R203, R207, R259: a record of release 5 whose data lines begin at a place: the lines of one group after the other,
-// then the rules on counts.
+// then the rules on counts. Counts, starts and ends stand under one number, so the range counts it: three iterators
+// side by side would be no plainer.
 fn with_lines(
     rules: rules::Rules,
     text: &[u8],
@@ -181,7 +183,8 @@ fn nothing(why: Refusal) -> Record
     }
 }
 
-// R250: the record at a place of a text; where none is, zeros beside what is refused.
+// R250: the record at a place of a text; where none is, zeros beside what is refused. By `unwrap_or_else(nothing)` the
+// check learns nothing of what `nothing` gives: tried.
 pub fn place(rules: rules::Rules, text: &[u8], at: usize) -> Record
     ensures answer { result.answer ≡ placing_of rules text.now at }
     ensures counts { result.counts ≡ counts_at rules text.now at }
@@ -194,8 +197,10 @@ pub fn place(rules: rules::Rules, text: &[u8], at: usize) -> Record
     }
 }
 
-// A record that was placed with 0, by its counts, starts and ends, and the text that it stands in: its counts keep the
-// rules on counts (R261), and the lines of each of its groups are the part of the text that it names (R259).
+// A record's counts, starts and ends, each as it is lent (R366), and a text: the counts keep the rules on counts
+// (R261), and what they name for each group is a part of the text (R259). So it is of every record that was placed in
+// it with 0. It is built by its parts where placing answered 0, which proves it, and clauses name the parts, to tell
+// which is lent.
 #[derive(Clone, Copy)]
 pub struct PlacedRecord<'a> {
     pub text: &'a [u8],
@@ -239,7 +244,8 @@ impl From<Placing> for Reply {
     }
 }
 
-// R235: the answer as that of a question that goes no further: 7 has no next place there.
+// R235: the answer as that of a question that goes no further: 7 has no next place there. A conversion that loses
+// something has a name, and is no `From`.
 pub fn as_checked(answer: Placing) -> Result<(), Refusal>
     ensures { result ≡ as_checked answer }
 {
@@ -250,7 +256,8 @@ pub fn as_checked(answer: Placing) -> Result<(), Refusal>
     }
 }
 
-// R253: whether a reply of this number places a record. It is asked of a number, as its contract has it (`placed_test`).
+// R253: whether a reply of this number places a record. It is asked of a number, as its contract has it
+// (`placed_test`).
 pub fn is_placed(number: u32) -> bool
     ensures { result ≡ is_placed number }
 {

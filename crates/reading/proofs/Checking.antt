@@ -17,6 +17,7 @@ use Rattle.base.specs.Pieces
 use Rattle.base.specs.Pieces.{done, bad, both}
 use Rattle.base.proofs.Taken.{drop_none}
 use Rattle.form.specs.declared.Form.{Form}
+use Rattle.form.specs.declared.Row.{Row}
 use Rattle.form.specs.Table.{row_of}
 use Rattle.form.specs.Count
 use Rattle.form.specs.Count.{elements_of, lines_of}
@@ -24,7 +25,7 @@ use Rattle.form.proofs.Rows.{row_fits}
 use Rattle.form.proofs.Counted.{lines_few}
 use Rattle.line.specs.Lines.{reach}
 use Rattle.line.proofs.Reach.{reach_le}
-use Rattle.reading.specs.Plan.{Line, line_at, plan_from, plan_of}
+use Rattle.reading.specs.Plan.{Line, line_behind, line_at, plan_from, plan_of}
 use Rattle.reply.specs.declared.Refusal.{Refusal}
 use Rattle.reading.specs.Read.{Cells, read_line, read_lines_of, read_lines, verdict_of, line_passed}
 
@@ -73,6 +74,18 @@ module _ (ρ : Rules) (f : Form) (count : ℕ) where
   abbrev all : ℕ
   all = lines_of ρ f count
 
+-- a line that the code makes by a row, where the state comes to line l and so many elements are left
+pub record OnLine (f : Form) (r : Row) (left : ℕ) (l x : Line) : Type 0 where
+  pub is : x ≡ l
+  pub most : x.many ≤ (row_of f).per_line
+  pub few : x.many ≤ 120
+  pub within : x.many ≤ left
+  pub taken : left - x.many ≡ left - min (row_of f).per_line left
+  pub columns : x.many * r.width ≤ 120 * 120
+  pub wide : x.many * r.width ≡ x.many * (row_of f).width
+  pub size : x.many * r.cells ≡ l.many * (row_of f).cells
+  pub first : x.first ≤ 2 ^ 32
+
 -- what the code's variables are, with j lines behind it, `left` elements left and `at` where the next line begins
 pub record Walking (ρ : Rules) (f : Form) (count : ℕ) (s : List ℕ) (left at j : ℕ) : Type 0 where
   pub few : j ≤ all ρ f count
@@ -90,10 +103,6 @@ module _ (ρ : Rules) (f : Form) (count : ℕ) (s : List ℕ) {left at j : ℕ} 
   pub many_here : min (p ρ f count) left ≡ line_here.many
   many_here = ap (min (p ρ f count)) b.rest
 
-  -- as the code makes it
-  pub made : {per_line many : ℕ} → per_line ≡ (row_of f).per_line → many ≡ min per_line left → ◌≡◌ {A = Line} (record { number = j + 1; first = j * per_line + 1; many = many }) line_here
-  made e m = rw (m, e, b.rest) refl
-
   next_first : (j + 1) * p ρ f count ≡ j * p ρ f count + p ρ f count
   next_first = omega (arith, add-mul j 1 (p ρ f count), one-mul (p ρ f count))
 
@@ -102,6 +111,26 @@ module _ (ρ : Rules) (f : Form) (count : ℕ) (s : List ℕ) {left at j : ℕ} 
     where
       few_lines : j + 1 ≤ 65536
       few_lines = omega (arith, h, lines_few ρ f count small)
+
+  pub elements_before : {r : Row} → r ≡ row_of f → count ≤ 65535 → j < all ρ f count → j * r.per_line + 1 ≤ 2 ^ 32
+  elements_before e small h = rw e (first_small small h)
+
+  pub on_line : {r : Row} {x : Line} → r ≡ row_of f → x ≡ line_behind r.per_line left j → count ≤ 65535 → j < all ρ f count → OnLine f r left line_here x
+  on_line {r} {x} e m small h =
+      let is : x ≡ line_here = rw (m, e, b.rest) refl in
+      let many : x.many ≡ min (row_of f).per_line left = ap (λ y. y.many) is ∙ sym many_here in
+      let few : x.many ≤ 120 = omega (arith, many, (row_fits f).few) in
+      let wide : x.many * r.width ≡ x.many * (row_of f).width = ap (λ q. x.many * q.width) e in record {
+        is = is;
+        most = omega (arith, many);
+        few = few;
+        within = omega (arith, many);
+        taken = ap (λ n. left - n) many;
+        columns = omega (arith, wide, columns_few f x.many few);
+        wide = wide;
+        size = ap (λ q. x.many * q.cells) e ∙ ap (λ y. y.many * (row_of f).cells) is;
+        first = omega (arith, ap (λ y. y.first) is, first_small small h);
+      }
 
   module _ (end : ℕ) (w : end ≡ at + reach (drop at s) 1) where
     pub end_range : (at ≤ end) × (end ≤ length s)

@@ -86,6 +86,10 @@ kept_letters ns e = by (leb 19 (count_of ns 3)) refl
     by true u = leb-true 19 (count_of ns 3) u
     by false u = absurd (ruling_kept ns e 3 (inr (inr (inl (u, refl)))))
 
+-- the same of the count of any group: if it is group 3
+pub kept_date : (ns : List ℕ) {g n : ℕ} → ruling_of ns ≡ None → n ≡ count_of ns g → g ≡ 3 → 19 ≤ n
+kept_date ns e c t = subst (λ m. 19 ≤ m) (sym (c ∙ ap (count_of ns) t)) (kept_letters ns e)
+
 module _ (ρ : Rules) (ns : List ℕ) (g : ℕ) (x : List ℕ) (old : List ℤ) where
   pub group_none : form_of g ≡ None → Answers (read_group ρ ns g x (length old)) old (Err NoSuchNumber) old
   unfolding read_group

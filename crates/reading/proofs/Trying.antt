@@ -2,7 +2,7 @@
 -- behind them; a line is blamed before its fields.
 -- Assumes nothing.
 use Rattle.std.specs.Prelude.{Option, Some, None, Ok, Err}
-use Rattle.std.specs.Option.{unwrap_or}
+use Rattle.std.specs.Option.{unwrap_or, ok_or, option_and}
 use mathlib.Core.Path.{◌≡◌, refl, sym, ◌∙◌, ap, subst}
 use mathlib.Core.Bool.{Bool, true, false}
 use mathlib.Core.List.{List}
@@ -30,7 +30,7 @@ use Rattle.line.proofs.Contents.{content_two, first_plain}
 use Rattle.reading.specs.Blanks.{filled_to, as_field, is_formed_at, all_formed, FormedBelow, right_content, fields_span}
 use Rattle.reading.specs.Plan.{Line}
 use Rattle.reply.specs.declared.Refusal.TheVariants.{BadLine, BadField}
-use Rattle.reading.specs.Read.{columns_of, misfit_of, read_field, read_fields, read_line, verdict_of}
+use Rattle.reading.specs.Read.{columns_of, misfit_of, read_field, read_fields, read_line, verdict_of, line_passed}
 use Rattle.reading.proofs.Blanks.{as_filled, Fits}
 use Rattle.reading.proofs.Checking.{past, stuck}
 use Rattle.reading.proofs.Lines.{right_is, line_right, line_wrong}
@@ -301,6 +301,16 @@ module _ (ρ : Rules) (f : Form) (short : Bool) (l : Line) (s : List ℕ) (at : 
       pub line_clean : (m : ℕ) → right_content ρ short (columns_of f l) (part at (at + reach (drop at s) 1) s) ≡ Some m
           → verdict_of (read_line ρ f short l (part at (at + reach (drop at s) 1) s)) ≡ Ok tt
       line_clean m r = fields_clean m r l.many (all_tried.right m r) (omega arith)
+
+      -- what the code answers: where the line ends, or that it is wrong
+      pub line_told : ok_or (option_and (right_content ρ short (columns_of f l) (part at (at + reach (drop at s) 1) s)) (Some (at + reach (drop at s) 1))) (BadLine l.number)
+          ≡ line_passed (at + reach (drop at s) 1) (verdict_of (read_line ρ f short l (part at (at + reach (drop at s) 1) s)))
+      line_told = by (right_content ρ short (columns_of f l) (part at end s)) refl
+        where
+          by : (o : Option ℕ) → right_content ρ short (columns_of f l) (part at (at + reach (drop at s) 1) s) ≡ o
+              → ok_or (option_and o (Some (at + reach (drop at s) 1))) (BadLine l.number) ≡ line_passed (at + reach (drop at s) 1) (verdict_of (read_line ρ f short l (part at (at + reach (drop at s) 1) s)))
+          by (Some m) e = sym (ap (line_passed end) (line_clean m e))
+          by None e = sym (ap (line_passed end) (wrong_line e))
 
 -- fields that were seen to be formed in one look
 pub formed_each : (f : Form) (short : Bool) (at stop : ℕ) (s : List ℕ) (k : ℕ) → all_formed f short at stop s k ≡ true → FormedBelow f short at stop s k

@@ -11,9 +11,13 @@ use Rattle.reading.specs.declared.Line as L
 abbrev pub Line : Type 0
 Line = L.Line
 
--- the line with j lines before it, of n elements that stand p to a line
+-- the line behind j full ones of p elements, where so many elements are left
+abbrev pub line_behind : (p left j : ℕ) → Line
+line_behind p left j = record { number = j + 1; first = j * p + 1; many = min p left }
+
+-- the same of n elements in all
 abbrev pub line_at : (p n j : ℕ) → Line
-line_at p n j = record { number = j + 1; first = j * p + 1; many = min p (n - j * p) }
+line_at p n j = line_behind p (n - j * p) j
 
 -- k lines of them, the first with j before it
 unfoldable pub plan_from : (p n j k : ℕ) → List Line

@@ -2,7 +2,7 @@
 // when all of them are clean (R267). The text that they come from is not known here (R269).
 #![tactic(auto)]
 
-ghost use Rattle.std.specs.Prelude.{◌≡◌, map, ◌+◌, ◌*◌, ◌^◌, ◌≤◌, pos, length, drop};
+ghost use Rattle.std.specs.Prelude.{◌≡◌, Some, map, ◌+◌, ◌*◌, ◌^◌, ◌<◌, ◌≤◌, pos, length, drop};
 ghost use Rattle.std.proofs.Math.Bool as Bool;
 ghost use Rattle.base.specs.Every.{every};
 ghost use Rattle.base.specs.Part.{part, over};
@@ -16,22 +16,48 @@ ghost use Rattle.line.specs.Lines.{reach};
 ghost use Rattle.reading.specs.Blanks.{blank, may_be_short, shortest, filled_to, is_right, as_field};
 ghost use Rattle.reading.specs.Blanks.{is_formed_at, all_formed, FormedBelow, fields_span, HoldsLetters};
 ghost use Rattle.reading.specs.Blanks.{ToPut, right_content};
+ghost use Rattle.reading.specs.Plan.{line_behind};
 ghost use Rattle.reading.specs.Read.{verdict_of, misfit_of, read_line, line_passed, read_lines, dated, read_form, read_group, reading_of};
 ghost use Rattle.reading.specs.Read.{table_by, letters_dated, date_told};
 
 use count::Kept;
-use form::{Form, Group};
+use form::{Form, Group, Row};
 use reply::Refusal;
 
-// ---- What a line holds.
+// ---- What a line holds. Rules, shortness and columns stand apart, since the laws of a content know no form.
 
-// R64: the form of the fields of a group's lines, and whether its lines may be shorter than their fields, as only lines of
-// letters may.
+// R64: the form of the fields of a group's lines, and whether its lines may be shorter than their fields, as only lines
+// of letters may.
 #[derive(Clone, Copy)]
 struct LineForm {
     pub fields: Form,
     pub short: bool,
     ghost letters: { HoldsLetters fields short },
+}
+
+// R40, R123: a group under its record's counts: its number, its form and its count, which in group 3 has room for the
+// date. It is made where the count is known; rules and lines stand beside it, since they are no part of a group.
+#[derive(Clone, Copy)]
+struct Counted {
+    pub group: usize,
+    pub form: Form,
+    pub count: u16,
+    ghost has_form: { form_of group ≡ Some form },
+    ghost has_date: { group ≡ 3 → 19 ≤ count },
+}
+
+impl Counted {
+    // R64: what its lines hold.
+    #[tactic(auto, using(crate::proofs::Letters::short_letters))]
+    fn line_form(self) -> LineForm
+        ensures fields { result.fields ≡ self.form }
+        ensures short { result.short ≡ may_be_short self.group }
+    {
+        LineForm {
+            fields: self.form,
+            short: may_be_short(self.group),
+        }
+    }
 }
 
 // R64: whether lines of the group may be shorter than their fields.
@@ -48,6 +74,7 @@ fn least(short: bool, columns: usize) -> usize
     if short { 0 } else { columns }
 }
 
+// R66: what stands behind the fields.
 fn all_blank(s: &[u8]) -> bool
     ensures { result ≡ every blank s.now }
 {
@@ -70,8 +97,9 @@ fn right_content(rules: rules::Rules, short: bool, columns: usize, line: &[u8]) 
     is_right(short, columns, &line[0..length]).then_some(length)
 }
 
-// ---- Checking. Lines, the place of one and where its fields are looked at no further are told apart, since the laws of a
-// line speak of places: a slice of each line would be cut and its place told besides, no plainer.
+// ---- Checking. Lines, the place of one, how many columns its fields take and where they are looked at no further are
+// told apart, since the laws of a line speak of places and columns: a slice of each line would be cut and its place
+// told besides, no plainer.
 
 // Whether bytes of a line are a field of the form. Where lines may be short, blanks that would be added print too
 // (R65).
@@ -100,7 +128,8 @@ fn is_field_at(form: LineForm, lines: &[u8], at: usize, stop: usize, k: usize) -
 }
 
 // Whether all fields of a line are formed, in one look. Where lines may be short, blanks that would be added print too
-// (R65); where they may not, a field that lacks a column is none.
+// (R65); where they may not, a field that lacks a column is none. `is_field` is given
+// one field's bytes, this a line that may lack some.
 fn all_formed(
     form: LineForm,
     k: usize,
@@ -121,8 +150,8 @@ fn all_formed(
     to - at == columns && run::formed(form.fields, &lines[at..to], k)
 }
 
-// How many of a line's fields are seen to be formed in one look: all of them or none. A clean line has all of its fields
-// formed, so they are gone over one by one only in a line in which there is one to blame.
+// How many of a line's fields are seen to be formed in one look: all of them or none. A clean line has all of its
+// fields formed, so they are gone over one by one only in a line in which there is one to blame.
 fn seen_formed(form: LineForm, many: usize, lines: &[u8], at: usize, stop: usize) -> usize
     requires few { many ≤ 120 }
     requires order { at ≤ stop }
@@ -159,7 +188,23 @@ pub struct Line {
     pub many: usize,
 }
 
-// R262: what is blamed where a field is misformed. A line that is wrong comes before its fields.
+impl Line {
+    // R44: the line behind `j` full ones, where so many elements are left.
+    fn behind(j: usize, row: Row, left: usize) -> Line
+        requires lines { j + 1 < 2 ^ 64 }
+        requires elements { j * row.per_line + 1 < 2 ^ 64 }
+        ensures { result ≡ line_behind row.per_line left j }
+    {
+        Line {
+            number: j + 1,
+            first: j * row.per_line + 1,
+            many: row.per_line.min(left),
+        }
+    }
+}
+
+// R262: what is blamed where a field is misformed. A line that is wrong comes before its fields. Both are refusals, so
+// the match is no `ok_or`.
 fn misfit(
     rules: rules::Rules,
     short: bool,
@@ -183,8 +228,8 @@ fn misfit(
     }
 }
 
-// R262: where a line ends whose fields, looked for up to `stop`, are all formed, or that it is wrong. No line feed stands
-// in fields that are formed, so the line's end is sought behind them.
+// R262: where a line ends whose fields, looked for up to `stop`, are all formed, or that it is wrong. No line feed
+// stands in fields that are formed, so the line's end is sought behind them.
 fn line_end(
     rules: rules::Rules,
     form: LineForm,
@@ -202,10 +247,9 @@ fn line_end(
 {
     let end = line::behind_line(lines, stop);
     let columns = line.many * form::row_of(form.fields).width;
-    match right_content(rules, form.short, columns, &lines[at..end]) {
-        Some(_) => Ok(end),
-        None => Err(Refusal::BadLine(line.number)),
-    }
+    right_content(rules, form.short, columns, &lines[at..end])
+        .and(Some(end))
+        .ok_or(Refusal::BadLine(line.number))
 }
 
 // The first pass, as R443 has it: each line's fields, and then what stands behind them, up to the first line that is
@@ -218,11 +262,7 @@ fn check_lines(rules: rules::Rules, form: LineForm, count: u16, lines: &[u8]) ->
     let mut verdict = Ok(());
     let mut at: usize = 0;
     'lines: for j in 0..form::lines(rules, form.fields, count) {
-        let line = Line {
-            number: j + 1,
-            first: j * row.per_line + 1,
-            many: row.per_line.min(left),
-        };
+        let line = Line::behind(j, row, left);
         let columns = line.many * row.width;
         let stop = fields_stop(rules, form.short, columns, lines, at);
         for k in seen_formed(form, line.many, lines, at, stop)..line.many {
@@ -254,39 +294,27 @@ fn check_date(rules: rules::Rules, count: u16, lines: &[u8]) -> Result<(), Refus
     requires clean { verdict_of (read_lines rules Form.A1 Bool.false count lines.now) ≡ Ok tt }
     ensures { result ≡ verdict_of (dated 3 (read_lines rules Form.A1 Bool.false count lines.now)) }
 {
-    match date_in(rules, count, lines) {
-        Ok(_) => Ok(()),
-        Err(position) => Err(Refusal::BadDate(position)),
-    }
+    date_in(rules, count, lines).map_err(Refusal::BadDate)?;
+    Ok(())
 }
 
 // R262, R265: lines, and then the date of group 3.
-fn check(
-    rules: rules::Rules,
-    form: Form,
-    group: usize,
-    count: u16,
-    lines: &[u8],
-) -> Result<(), Refusal>
-    requires form { form_of group ≡ Some form }
-    requires date { group ≡ 3 → 19 ≤ count }
+fn check(rules: rules::Rules, asked: Counted, lines: &[u8]) -> Result<(), Refusal>
     ensures { result ≡
-        verdict_of (dated group (read_lines rules form (may_be_short group) count lines.now)) }
+        verdict_of
+        (dated asked.group
+        (read_lines rules asked.form (may_be_short asked.group) asked.count lines.now)) }
 {
-    let form_of_lines = LineForm {
-        fields: form,
-        short: may_be_short(group),
-    };
-    check_lines(rules, form_of_lines, count, lines)?;
-    if group == 3 {
-        return check_date(rules, count, lines);
+    check_lines(rules, asked.line_form(), asked.count, lines)?;
+    if asked.group == 3 {
+        return check_date(rules, asked.count, lines);
     }
     Ok(())
 }
 
-// ---- Filling.
+// ---- Filling. What is told apart in checking is told apart here, with the table and a cell of it.
 
-// Letters, and blanks behind them up to so many columns (R65).
+// Letters, and blanks behind them up to so many columns (R65), which the range counts: there may be fewer bytes.
 fn put_letters(bytes: &[u8], width: usize, table: &mut [i64], at: usize)
     requires bytes { length bytes.now ≤ width }
     requires room { at + width ≤ length table.old }
@@ -351,7 +379,8 @@ fn fill_line(
     end
 }
 
-// R266: the second pass, the cells of lines that were found clean.
+// R266: the second pass, the cells of lines that were found clean. It is a loop beside the check's, since all lines are
+// checked before a cell is put (R267).
 fn fill_lines(rules: rules::Rules, form: LineForm, count: u16, lines: &[u8], table: &mut [i64])
     requires clean { verdict_of (read_lines rules form.fields form.short count lines.now) ≡ Ok tt }
     requires room { cells_of rules form.fields count ≤ length table.old }
@@ -363,11 +392,7 @@ fn fill_lines(rules: rules::Rules, form: LineForm, count: u16, lines: &[u8], tab
     let mut at: usize = 0;
     let mut cell: usize = 0;
     for j in 0..form::lines(rules, form.fields, count) {
-        let line = Line {
-            number: j + 1,
-            first: j * row.per_line + 1,
-            many: row.per_line.min(left),
-        };
+        let line = Line::behind(j, row, left);
         at = fill_line(rules, form, line, lines, at, table, cell);
         cell += line.many * row.cells;
         left -= line.many;
@@ -375,45 +400,42 @@ fn fill_lines(rules: rules::Rules, form: LineForm, count: u16, lines: &[u8], tab
 }
 
 // R266 for the lines of a group that were found clean.
-fn fill(rules: rules::Rules, form: Form, group: usize, count: u16, lines: &[u8], table: &mut [i64])
-    requires form { form_of group ≡ Some form }
-    requires clean { verdict_of (read_lines rules form (may_be_short group) count lines.now) ≡ Ok tt }
-    requires room { cells_of rules form count ≤ length table.old }
+fn fill(rules: rules::Rules, asked: Counted, lines: &[u8], table: &mut [i64])
+    requires clean { verdict_of
+        (read_lines rules asked.form (may_be_short asked.group) asked.count lines.now) ≡ Ok tt }
+    requires room { cells_of rules asked.form asked.count ≤ length table.old }
     ensures { table.new ≡
-        over 0 (cells_got (read_lines rules form (may_be_short group) count lines.now)) table.old }
+        over 0
+        (cells_got
+        (read_lines rules asked.form (may_be_short asked.group) asked.count lines.now))
+        table.old }
 {
-    let form_of_lines = LineForm {
-        fields: form,
-        short: may_be_short(group),
-    };
-    fill_lines(rules, form_of_lines, count, lines, table);
+    fill_lines(rules, asked.line_form(), asked.count, lines, table);
 }
 
-// ---- Reading a group's lines.
+// ---- Reading a group's lines. Rules, counts, group and lines stand apart, since each group has lines of its own.
 
 // R260, for a group whose record is placed with 0: 11 (R264), then the lines and the date, and only then the table.
 fn read_form(
     rules: rules::Rules,
-    form: Form,
-    group: usize,
-    count: u16,
+    asked: Counted,
     lines: &[u8],
     table: &mut [i64],
 ) -> Result<usize, Refusal>
-    requires form { form_of group ≡ Some form }
-    requires date { group ≡ 3 → 19 ≤ count }
     ensures answer { result ≡
-        reading_of (read_form rules form group count lines.now (length table.old)) }
+        reading_of
+        (read_form rules asked.form asked.group asked.count lines.now (length table.old)) }
     ensures table { table.new ≡
-        table_by (read_form rules form group count lines.now (length table.old))
+        table_by
+        (read_form rules asked.form asked.group asked.count lines.now (length table.old))
         table.old }
 {
-    let cells = form::cells(rules, form, count);
+    let cells = form::cells(rules, asked.form, asked.count);
     if table.len() < cells {
         return Err(Refusal::NoRoom);
     }
-    check(rules, form, group, count, lines)?;
-    fill(rules, form, group, count, lines, table);
+    check(rules, asked, lines)?;
+    fill(rules, asked, lines, table);
     Ok(cells)
 }
 
@@ -434,7 +456,8 @@ pub fn read_kept(
 {
     let form = form::form_of(group).ok_or(Refusal::NoSuchNumber)?;
     let count = count::count_of(kept.counts, group);
-    read_form(rules, form, group, count, lines, table)
+    let asked = Counted { group, form, count };
+    read_form(rules, asked, lines, table)
 }
 
 // ---- The two passes by themselves, for a record whose groups are all checked before one of them is filled.
@@ -455,7 +478,12 @@ pub fn check_kept(
     if count == 0 {
         return Ok(());
     }
-    check(rules, group.form(), group.number, count, lines)
+    let asked = Counted {
+        group: group.number,
+        form: group.form(),
+        count,
+    };
+    check(rules, asked, lines)
 }
 
 // R333: the date of a record with these counts, whose group 3 has these lines. It has one if `read_kept` reads that
@@ -498,15 +526,12 @@ pub fn fill_kept(
     if count == 0 {
         return cell;
     }
-    let form = group.form();
-    let end = cell + form::cells(rules, form, count);
-    fill(
-        rules,
-        form,
-        group.number,
+    let asked = Counted {
+        group: group.number,
+        form: group.form(),
         count,
-        lines,
-        &mut table[cell..end],
-    );
+    };
+    let end = cell + form::cells(rules, asked.form, count);
+    fill(rules, asked, lines, &mut table[cell..end]);
     end
 }

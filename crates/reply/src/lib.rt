@@ -1,5 +1,6 @@
 // R200 to R217 and R222: the replies. What a question refuses with is a `Refusal`, whichever question it is: its answer
-// is a `Result`. A reply is told as its number, with the numbers beside it. What a reply's row doesn't name is 0 (R230).
+// is a `Result`. A reply is told as its number, with the numbers beside it. What a reply's row doesn't name is 0
+// (R230).
 #![tactic(auto)]
 
 ghost use Rattle.std.specs.Prelude.{◌≡◌, [], ◌∷◌};

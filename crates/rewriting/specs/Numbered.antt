@@ -6,16 +6,16 @@ use Rattle.reply.specs.Table.{told, Row, row, next, bytes}
 use Rattle.reply.specs.Refusals.{refusal_reply}
 use Rattle.rewriting.specs.declared.Rewritten.{Rewritten}
 use Rattle.whole.specs.declared.Unread.{Unread}
+use Rattle.whole.specs.Numbered.{group_told}
 
 -- R200: 0 has both the next place and the bytes that were written
 abbrev pub rewriting_reply : Result Rewritten Unread → Reply
 rewriting_reply (Ok w) = told 0 ((next, w.next) ∷ (bytes, w.bytes) ∷ [])
 rewriting_reply (Err u) = refusal_reply u.why
 
--- R323: apart from the reply, which may have a group of its own
+-- R323: apart from the reply, as when a whole record is read (R272)
 abbrev pub rewriting_group : Result Rewritten Unread → ℕ
-rewriting_group (Ok w) = 0
-rewriting_group (Err u) = u.group
+rewriting_group = group_told
 
 abbrev pub rewriting_row : Row
 rewriting_row = row 0 (next ∷ bytes ∷ [])

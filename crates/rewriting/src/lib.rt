@@ -3,7 +3,7 @@
 #![tactic(auto)]
 
 ghost use Rattle.std.specs.Prelude.{◌≡◌, length};
-ghost use Rattle.rewriting.specs.Numbered.{rewriting_reply, rewriting_group};
+ghost use Rattle.rewriting.specs.Numbered.{rewriting_reply};
 ghost use Rattle.rewriting.specs.Record.{rewriting_of, buffer_by, table_after};
 
 use place::PlacedRecord;
@@ -63,15 +63,5 @@ pub fn reply_of(answer: Result<Rewritten, Unread>) -> Reply
     match answer {
         Ok(rewritten) => reply::written(rewritten.next, rewritten.bytes),
         Err(unread) => Reply::from(unread.why),
-    }
-}
-
-// R323: the group that was being read; 0 where none was.
-pub fn group_of(answer: Result<Rewritten, Unread>) -> usize
-    ensures { result ≡ rewriting_group answer }
-{
-    match answer {
-        Ok(_) => 0,
-        Err(unread) => unread.group,
     }
 }

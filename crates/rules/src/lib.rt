@@ -35,14 +35,14 @@ pub const USUAL: Rules = Rules {
     counting: Counting::Elements,
 };
 
-// R9: the line end that was asked for, or the usual one.
+// R9: the line end that was asked for, or the usual one. A `From` of a flag would not say what it asks for.
 fn ends_by(strict: bool) -> LineEnds
     ensures { result ≡ ends_by strict }
 {
     if strict { LineEnds::Strict } else { USUAL.ends }
 }
 
-// R13: the count rule that was asked for, or the usual one.
+// R13: the count rule that was asked for, or the usual one; no `From` either.
 fn counting_by(entries: bool) -> Counting
     ensures { result ≡ counting_by entries }
 {

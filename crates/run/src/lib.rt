@@ -29,6 +29,7 @@ fn all_between(s: &[u8], first: u8, last: u8) -> bool
     ok
 }
 
+// By the same test as `all_between`, so that the compiler sees what a run of digits has said already.
 fn is_digit(b: u8) -> bool
     ensures { result ≡ is_figure b }
 {
@@ -65,7 +66,7 @@ fn is_column(b: u8) -> bool
     b == b' ' || b == b'-' || is_digit(b)
 }
 
-// R72: what stands before the point.
+// R72: what stands before the point: as `is_whole`, but for the last column.
 fn is_head(s: &[u8]) -> bool
     ensures { result ≡ is_head s.now }
 {
@@ -119,7 +120,8 @@ fn is_power(s: &[u8], c: usize, d: usize) -> bool
         && all_between(&s[e + 2..], b'0', b'9')
 }
 
-// Whether each field passes a test.
+// Whether each field passes a test. By `all` the closure over `test` would have to state these clauses once more:
+// tried, and its goals stayed open.
 fn each<const W: usize, F: Fn(&[u8]) -> bool>(fields: &[[u8; W]], test: F) -> bool
     requires { (s : _) → length s.now ≡ W → F.pre test s }
     ensures { (h : List ℕ → Bool)
@@ -134,8 +136,8 @@ fn each<const W: usize, F: Fn(&[u8]) -> bool>(fields: &[[u8; W]], test: F) -> bo
     true
 }
 
-// Whether each of the k fields of this form, one behind the other, is one of the form. The clauses alone speak of k: the
-// bytes say it.
+// Whether each of the k fields of this form, one behind the other, is one of the form. The clauses alone speak of k:
+// the bytes say it.
 pub fn formed(form: Form, fields: &[u8], k: usize) -> bool
     requires { length fields.now ≡ k * (row_of form).width }
     ensures { result ≡ run_formed form k fields.now }
@@ -156,8 +158,8 @@ pub fn formed(form: Form, fields: &[u8], k: usize) -> bool
 // ---- Filling. The fields are known to be formed, so no byte is tested again. These say what they make of any bytes,
 // and proofs/Cells.antt that of formed fields these are the cells.
 
-// R71: the number that columns make, each of them as much as it is worth. That is below 256, so 12 columns have room. The
-// five functions on so few columns say so: a type of them would be made of each part of a field, and be no plainer.
+// R71: the number that columns make, each of them as much as it is worth. That is below 256, so 12 columns have room.
+// The five functions on so few columns say so: a type of them would be made of each part of a field, and be no plainer.
 fn number_by<F: Fn(u8) -> u8>(s: &[u8], worth: F) -> u64
     requires few { length s.now ≤ 12 }
     requires callable { F.IsAlwaysCallable worth }
@@ -180,7 +182,8 @@ fn number_in(s: &[u8]) -> u64
     number_by(s, |b| b.saturating_sub(b'0'))
 }
 
-// The same of columns without a minus, which alone leaves by 16 what it does not count: so no column is tested.
+// The same of columns without a minus, which alone leaves by 16 what it does not count: so no column is tested. Both
+// are `number_by`, each with a worth of its own.
 fn figures_in(s: &[u8]) -> u64
     requires { length s.now ≤ 12 }
     ensures number { result ≡ figures_in s.now }
@@ -189,7 +192,7 @@ fn figures_in(s: &[u8]) -> u64
     number_by(s, |b| b % 16)
 }
 
-// Whether a minus stands in the columns before a number's digits.
+// Whether a minus stands in the columns before a number's digits. No byte is a way out, as it is of `contains`.
 #[tactic(auto, using(crate::proofs::Loops::has_more))]
 fn has_minus(s: &[u8]) -> bool
     ensures { result ≡ has s.now 45 }
@@ -264,7 +267,7 @@ fn fill_each<const W: usize, F: Fn(&[u8]) -> i64>(
     }
 }
 
-// The same of E fields, which have two cells each.
+// The same of E fields, which have two cells each: put as two, and not as what a closure gives, of any length.
 fn fill_powers<const W: usize>(
     fields: &[[u8; W]],
     c: usize,

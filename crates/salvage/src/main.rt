@@ -24,7 +24,7 @@ fn print_stretch<E: Write>(standard_error: &mut E, place: usize, long: usize) ->
         (row_text (place ∷ long ∷ []))) }
 {
     let mut line = [0u8; 42];
-    // two numbers of 20 digits, a space and a line feed have room
+    // two numbers of 20 digits, a space and a line feed have room; a row's are `u64`, which has no `From` of a `usize`
     let end = decimal::put_row(&mut line, 0, b"", &[place as u64, long as u64]).unwrap();
     words::put_all(standard_error, &line[..end])
 }

@@ -1,5 +1,5 @@
 // Getting past a ruined index: where a walk that has stopped may go on, and the pieces of a text (R350 to R353). Any
-// text and place may be asked about (R241).
+// text and place may be asked about (R241); they stand apart, as C lends them.
 #![tactic(auto)]
 
 ghost use Rattle.std.specs.Prelude.{◌≡◌, ◌<◌, ◌≤◌, length};
@@ -99,6 +99,7 @@ pub fn piece_at(rules: rules::Rules, text: &[u8], at: usize) -> Piece
 {
     match place::place(rules, text, at).answer {
         Placing::Placed(next) => Piece::Copied(at, next - at),
+        // R353: it is placed, so it is copied as it stands
         Placing::BrokenRule(_, next) => Piece::Copied(at, next - at),
         Placing::Refused(_) => {
             let end = end_from(rules, text, at);

@@ -74,7 +74,7 @@ pub record GroupTold : Type 0 where
 -- R272: a whole record, with the group that was being read apart
 pub record WholeTold : Type 0 where
   pub read : (n : ℕ) → (record_reply (Ok n) ≡ figures 0 0 n 0 0 0 0 0 0) × (group_told (Ok n) ≡ 0)
-  pub refused : (g : ℕ) (r : Refusal) → (record_reply (Err (record { group = g; why = r })) ≡ refusal_reply r) × (group_told (Err (record { group = g; why = r })) ≡ g)
+  pub refused : (g : ℕ) (r : Refusal) → (record_reply (Err (record { group = g; why = r })) ≡ refusal_reply r) × (group_told {T = ℕ} (Err (record { group = g; why = r })) ≡ g)
 
 -- R334, R335: the first record from a date on, with its place and the records that were passed apart
 pub record FirstTold : Type 0 where

@@ -1,7 +1,7 @@
 // The questions, R240. Each may be asked of every text, place, number, table and output; nothing has to hold beforehand
-// (R241). The layers answer them; here each has its name, its contract and nothing else. A refusal is the error of a
-// `Result`. `Reply::from`, and the layers' `reply_of` where a 0 has numbers of its own, give an answer's number, with the
-// numbers beside it (R200 to R217 and R222).
+// (R241), and what is asked stands apart, as C lends it. The layers answer them; here each has its name, its
+// contract and nothing else. A refusal is the error of a `Result`. `Reply::from`, and the layers' `reply_of` where a 0
+// has numbers of its own, give an answer's number, with the numbers beside it (R200 to R217 and R222).
 #![tactic(auto)]
 
 ghost use Rattle.std.specs.Prelude.{◌≡◌, length};

@@ -38,7 +38,7 @@ use place::Record;
 use reply::Reply;
 use rules::Rules;
 
-// ---- Numbers.
+// ---- Numbers, as C has them (R360): it knows no `From`.
 
 // R360: a reply as its number, and the numbers beside it.
 fn tell(r: Reply, beside: &mut [usize; 8]) -> u32
@@ -90,14 +90,15 @@ fn rules_of(flags: u32) -> Rules
 fn date_of(seven: &[usize; 7]) -> Date
     ensures { result ≡ seven_date seven.now }
 {
+    let [year, day_of_year, month, day, hour, minute, second] = *seven;
     Date {
-        year: seven[0],
-        day_of_year: seven[1],
-        month: seven[2],
-        day: seven[3],
-        hour: seven[4],
-        minute: seven[5],
-        second: seven[6],
+        year,
+        day_of_year,
+        month,
+        day,
+        hour,
+        minute,
+        second,
     }
 }
 
@@ -204,8 +205,8 @@ pub extern "C" fn seambeacon_characteristic(
     tell(Reply::from(known), beside)
 }
 
-// ---- With a record, whose members are lent apart (R366): the questions of `sao` that have a record, over `view`, which
-// takes the members where they lie.
+// ---- With a record, whose members are lent apart (R366): the questions of `sao` that have a record, over `view`,
+// which takes the members where they lie.
 
 // R285 to R287. Asked: the cells of a group, 1 to 60, of a record.
 // Answered: 0 with the number of cells, which stand in the table from its first cell on; what stands behind them is
@@ -432,7 +433,7 @@ pub extern "C" fn seambeacon_rewrite_record(
         out.old }
 {
     let answer = sao::rewrite_record(rules_of(rules), text, at, table, out);
-    *unread = [rewriting::group_of(answer)];
+    *unread = [whole::group_of(answer)];
     tell(rewriting::reply_of(answer), beside)
 }
 

@@ -28,7 +28,8 @@ pub struct Unfound {
     pub why: Refusal,
 }
 
-// What the walk meets at a place.
+// What the walk meets at a place, one of three: a `Result` of an `Option` would tell a record that is found from one
+// that is passed by `None` and `Some`, and be no plainer.
 #[derive(Clone, Copy)]
 enum Step {
     // a record that is at or after the date
@@ -127,7 +128,7 @@ pub fn place_of(answer: Result<Found, Unfound>) -> usize
     answer.map_or(0, |found| found.place)
 }
 
-// R335: how many records were passed.
+// R335: how many records were passed; both apart from the reply, as C has them.
 pub fn passed_of(answer: Result<Found, Unfound>) -> usize
     ensures { result ≡ passed_told answer }
 {

@@ -1,6 +1,7 @@
 // R285 to R289: questions asked with a record, which says where the lines of its groups stand: whichever record and
 // whichever text (R241). The part that it names for the group is looked at first, and is refused with 22 if it is not
-// exactly as many whole lines of the text as the group's count needs.
+// exactly as many whole lines of the text as the group's count needs. What is lent stands apart, as C lends it (R366).
+// Beside `group`'s questions, which find the lines by placing: each contract speaks of its own way.
 #![tactic(auto)]
 
 ghost use Rattle.std.specs.Prelude.{◌≡◌, length, MatchResult};
@@ -10,16 +11,9 @@ ghost use Rattle.group.specs.Held.{moved};
 ghost use Rattle.view.specs.With.{found_with, start_with, end_with, part_with, read_with, characteristic_with};
 
 use count::Kept;
-use group::{Characteristic, Lines};
+use group::{Characteristic, Lines, Part};
 use place::Record;
 use reply::Refusal;
-
-// From where to where a group's lines stand in a text.
-#[derive(Clone, Copy)]
-struct Part {
-    from: usize,
-    to: usize,
-}
 
 // R285: what every question asks first: 12; 4 to 7 by the counts; 22 (R286). A record that does not say where a group's
 // lines begin or end says 0 (R243).
@@ -70,18 +64,7 @@ pub fn lines_with(
         end_with rules text.now (carried counts.now starts.now ends.now)
         group }
 {
-    match find(rules, text, counts, starts, ends, group) {
-        Ok(part) => Lines {
-            found: Ok(()),
-            from: part.from,
-            to: part.to,
-        },
-        Err(why) => Lines {
-            found: Err(why),
-            from: 0,
-            to: 0,
-        },
-    }
+    Lines::from(find(rules, text, counts, starts, ends, group))
 }
 
 // R285, R287: reads a group into a table: first as `find` says, then by the counts and these lines alone. A refusal

@@ -12,9 +12,9 @@ abbrev pub record_reply : Result ℕ Unread → Reply
 record_reply (Ok n) = told 0 ((cells, n) ∷ [])
 record_reply (Err u) = refusal_reply u.why
 
--- R272: a refusal of placing may have a group of its own beside it; this one is told apart
-abbrev pub group_told : Result ℕ Unread → ℕ
-group_told (Ok n) = 0
+-- R272, R323: a refusal of placing may have a group of its own beside it; this one is told apart, whatever was read
+abbrev pub group_told : {T : Type 0} → Result T Unread → ℕ
+group_told (Ok x) = 0
 group_told (Err u) = u.group
 
 -- R272: what is refused with before a group is read: as placing does, and 11

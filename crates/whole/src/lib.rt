@@ -40,14 +40,16 @@ fn check_groups(rules: rules::Rules, placed: PlacedRecord<'_>) -> Result<(), Unr
     for number in 1..61 {
         let group = Group { number };
         let lines = placed.lines(group);
-        if let Err(why) = reading::check_kept(rules, placed.kept(), group, lines) {
-            return Err(Unread { group: number, why });
-        }
+        reading::check_kept(rules, placed.kept(), group, lines).map_err(|why| Unread {
+            group: group.number,
+            why,
+        })?;
     }
     Ok(())
 }
 
-// The second pass: the cells of groups that were all found clean, into consecutive parts of the table.
+// The second pass, a loop of its own, since all groups are checked before a cell is put (R276): the cells of groups
+// that were all found clean, into consecutive parts of the table.
 fn fill_groups(rules: rules::Rules, placed: PlacedRecord<'_>, table: &mut [i64])
     requires clean { groups_of (all_by rules placed.text.now (carried placed.counts.now placed.starts.now placed.ends.now)) ≡ Ok tt }
     requires room { record_cells rules placed.counts.now ≤ length table.old }
@@ -130,8 +132,8 @@ pub fn reply_of(answer: Result<usize, Unread>) -> reply::Reply
     }
 }
 
-// R272: the group that was being read; 0 where none was.
-pub fn group_of(answer: Result<usize, Unread>) -> usize
+// R272, R323: the group that was being read; 0 where none was. It is told apart from the reply, as C has it.
+pub fn group_of<T: Copy>(answer: Result<T, Unread>) -> usize
     ensures { result ≡ group_told answer }
 {
     match answer {

@@ -12,7 +12,8 @@ use std::io;
 use std::io::{ErrorKind, Read, Write};
 use std::rt::Env;
 
-// What the words so far asked for, as `rules::choose` takes it. All of them were known.
+// What the words so far asked for, as `rules::choose` takes it. All of them were known. Either may be asked for without
+// the other, so neither flag tells of the other.
 #[derive(Clone, Copy)]
 pub struct Words {
     pub strict: bool,
@@ -25,11 +26,12 @@ pub const NONE: Words = Words {
     entries: false,
 };
 
-// R349: one word more, if it is known.
+// R349: one word more; none where one of them is unknown.
 #[tactic(auto, unfolding(crate::specs::Words::with_word))]
-pub fn with_word(words: Words, word: &[u8]) -> Option<Words>
+pub fn with_word(words: Option<Words>, word: &[u8]) -> Option<Words>
     ensures { result ≡ with_word words word.now }
 {
+    let words = words?;
     if word == b"--strict".as_slice() {
         return Some(Words {
             strict: true,
@@ -75,8 +77,8 @@ pub fn filled<R: Read>(input: &mut R, space: &mut [u8]) -> io::Result<usize>
     Err(io::Error::new(ErrorKind::TimedOut, TOO_MANY_TRIES))
 }
 
-// Writes all of the bytes, as `write_all` does, of which no contract says what an error leaves: here a front part of
-// the bytes was written.
+// Beside `filled`, since reading and writing are two traits. Writes all of the bytes, as `write_all` does, of which no
+// contract says what an error leaves: here a front part of the bytes was written.
 pub fn put_all<W: Write>(out: &mut W, bytes: &[u8]) -> io::Result<()>
     ensures all { OnOk result (Appends (W.contents out.old) (W.contents out.new) bytes.now) }
     ensures front { OnErr result (AppendsFront (W.contents out.old) (W.contents out.new) bytes.now) }
@@ -99,18 +101,19 @@ pub fn put_all<W: Write>(out: &mut W, bytes: &[u8]) -> io::Result<()>
     Err(io::Error::new(ErrorKind::TimedOut, TOO_MANY_TRIES))
 }
 
-// ---- The words of a run
+// ---- The words of a run. Each program asks for them, for the rules by them and for its input in its own `main`, since
+// the space that the input is read into is lent by it, and no function can hand one out.
 
 // What the words ask for that the program of this name was started with; where one is unknown, how the program is asked
-// is written to standard error, and that is all to be done. What the system hands over is in no contract, so this has none
-// but that it is safe and ends. A word of more than 16 bytes is read as an empty one, which is unknown too; 16 is more than
-// every known word has. An error is that of writing to standard error.
+// is written to standard error, and that is all to be done. What the system hands over is in no contract, so this has
+// none but that it is safe and ends. A word of more than 16 bytes is read as an empty one, which is unknown too; 16 is
+// more than every known word has. An error is that of writing to standard error.
 pub fn given(
     rt: &impl Env,
     standard_error: &mut impl Write,
     program: &[u8],
 ) -> io::Result<Option<Words>> {
-    let mut words = NONE;
+    let mut words = Some(NONE);
     for i in 1..usize::MAX {
         let mut space = [0u8; 16];
         let word = match rt.arg(i, &mut space) {
@@ -118,13 +121,12 @@ pub fn given(
             Err(FillError::TooLong) => b"",
             Err(FillError::NotPresent) => break,
         };
-        let Some(more) = with_word(words, word) else {
-            usage(standard_error, program)?;
-            return Ok(None);
-        };
-        words = more;
+        words = with_word(words, word);
     }
-    Ok(Some(words))
+    if words.is_none() {
+        usage(standard_error, program)?;
+    }
+    Ok(words)
 }
 
 fn usage(standard_error: &mut impl Write, program: &[u8]) -> io::Result<()> {

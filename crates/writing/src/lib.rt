@@ -1,5 +1,6 @@
 // Writing a record: counts and cells to canonical text. All is checked first, and a byte is written only when nothing
-// is refused (R307).
+// is refused (R307). Rules, counts, cells and output stand apart, as C
+// lends them, and so does the place at which a part is put.
 #![tactic(auto)]
 
 ghost use Rattle.std.specs.Prelude.{◌≡◌, ◌++◌, ℕ, map, ◌+◌, ◌*◌, ◌≤◌, T, length};
@@ -51,7 +52,7 @@ fn cells_fit(rules: rules::Rules, counts: &[u16], cells: &[i64]) -> Result<(), R
     Ok(())
 }
 
-// R140: the date of 19 letters.
+// R140: the date of 19 letters, which stand in cells.
 fn date_of(letters: &[i64]) -> Result<date::Date, usize>
     requires many { length letters.now ≡ 19 }
     requires letters { T (every is_letter letters.now) }
@@ -164,7 +165,8 @@ fn put_lines(form: Form, cells: &[i64], out: &mut [u8], at: usize) -> usize
     a
 }
 
-// The second pass: the lines of all groups (R20).
+// The second pass, a loop of its own, since all cells are checked before a byte is written (R307): the lines of all
+// groups (R20).
 fn put_groups(rules: rules::Rules, counts: &[u16], cells: &[i64], out: &mut [u8], at: usize)
     requires cells { length cells.now ≡ cells_before rules counts.now 61 }
     requires fits { fit_of rules counts.now cells.now ≡ Ok tt }

@@ -1,20 +1,15 @@
 -- `place::read_index_line` meets its contract: the content is what stands before the line end.
 -- Assumes nothing.
 use native.Mathlib.Omega.{arith}
-use mathlib.Core.Path.{◌≡◌}
 use lib.ListN.{length-take}
-use Rattle.std.proofs.Common.{Some}
-use Rattle.std.proofs.lemmas.Grind.{common_steps}
-use Rattle.line.specs.Contents.{content_of}
+use Rattle.std.proofs.Common.{◌≡◌, ◌∙◌, sym}
 use Rattle.line.proofs.Contents.{content_two}
 use Rattle.place.proofs.read_index_line.Goals as goal
 
 pub slice_bounds-read_entries-end : goal.slice_bounds-read_entries-end
 slice_bounds-read_entries-end c =
-    let e : content_of c.args.rules c.args.line.now ≡ Some c.in_ok-n.n = grind (arith, common_steps) in
-    omega (arith, (content_two c.args.rules c.args.line.now c.in_ok-n.n e).0, length-take c.in_ok-n.n c.args.line.now)
+    omega (arith, (content_two _ _ _ (sym c.content_length.ensures ∙ c.in_ok-n.was)).0, length-take c.in_ok-n.n c.args.line.now)
 
 pub read_entries-requires : goal.read_entries-requires
 read_entries-requires c =
-    let e : content_of c.args.rules c.args.line.now ≡ Some c.in_ok-n.n = grind (arith, common_steps) in
-    omega (arith, (content_two c.args.rules c.args.line.now c.in_ok-n.n e).0, length-take c.in_ok-n.n c.args.line.now)
+    omega (arith, (content_two _ _ _ (sym c.content_length.ensures ∙ c.in_ok-n.was)).0, length-take c.in_ok-n.n c.args.line.now)

@@ -8,142 +8,109 @@ use lib.ListN.{drop}
 use Rattle.std.specs.Prelude.{Err}
 use Rattle.std.proofs.lemmas.Result.{err_from_is_err_and}
 use Rattle.base.specs.Part.{part}
-use Rattle.form.specs.Table.{row_of}
 use Rattle.form.specs.Count.{lines_of}
-use Rattle.form.proofs.Rows.{row_fits}
 use Rattle.line.specs.Lines.{reach}
 use Rattle.reading.specs.Blanks.{right_content, fields_span}
-use Rattle.reading.specs.Plan.{Line}
 use Rattle.reading.specs.Read.{misfit_of, read_line, verdict_of}
-use Rattle.reading.proofs.Checking.{Checking, checking_start, checking_end, checking_next, checking_wrong, columns_few, first_small, made, passed_clean, passed_bad}
+use Rattle.reading.proofs.Checking.{Checking, checking_start, checking_end, checking_next, checking_wrong, elements_before, on_line, OnLine, line_here, passed_clean, passed_bad}
 use Rattle.reading.proofs.Trying.{stop_range, field_blamed}
+use Rattle.reading.proofs.check_lines.Goals.{After-behind-line}
 use Rattle.reading.proofs.check_lines.Goals as goal
 
 pub lines-init : goal.lines-init
 lines-init c = record { verdict = refl; checking = checking_start c.args.rules c.elements-left.ensures }
 
-pub overflow_mul-line : goal.overflow_mul-line
-overflow_mul-line c =
+pub behind-line-requires-clause-elements : goal.behind-line-requires-clause-elements
+behind-line-requires-clause-elements c =
     let a = c.args in
-    let l = c.lines in
-    let further : l.j < lines_of a.rules a.form.fields a.count = omega (arith, c.lines-j-end.ensures) in
-    let few : l.j * c.row_of-row.result.per_line + 1 ≤ 2 ^ 32 =
-    rw c.row_of-row.ensures (first_small a.rules a.form.fields a.count a.lines.now l.invariant.checking.walk (omega arith) further) in
-    omega (arith, few)
+    omega (arith, elements_before a.rules a.form.fields a.count a.lines.now c.lines.invariant.checking.walk c.row_of-row.ensures (omega arith) (omega (arith, c.lines-j-end.ensures)))
 
-pub overflow_add-line-in-lines : goal.overflow_add-line-in-lines
-overflow_add-line-in-lines c =
-    let a = c.args in
-    let l = c.lines in
-    let further : l.j < lines_of a.rules a.form.fields a.count = omega (arith, c.lines-j-end.ensures) in
-    let few : l.j * c.row_of-row.result.per_line + 1 ≤ 2 ^ 32 =
-    rw c.row_of-row.ensures (first_small a.rules a.form.fields a.count a.lines.now l.invariant.checking.walk (omega arith) further) in
-    omega (arith, few)
+further : (c : After-behind-line) → c.lines.j < lines_of c.args.rules c.args.form.fields c.args.count
+further c = omega (arith, c.lines-j-end.ensures)
+
+-- the line that the loop comes to
+on : (c : After-behind-line) → OnLine c.args.form.fields c.row_of-row.result c.lines.left (line_here c.args.rules c.args.form.fields c.args.count c.args.lines.now c.lines.invariant.checking.walk) c.behind-line.result
+on c = on_line c.args.rules c.args.form.fields c.args.count c.args.lines.now c.lines.invariant.checking.walk c.row_of-row.ensures c.behind-line.ensures (omega arith) (further c)
 
 pub overflow_mul-columns : goal.overflow_mul-columns
 overflow_mul-columns c =
     let a = c.args in
-    let l = c.lines in
-    let further : l.j < lines_of a.rules a.form.fields a.count = omega (arith, c.lines-j-end.ensures) in
-    let many : c.min.result ≤ (row_of a.form.fields).per_line = omega (arith, c.min.ensures, ap (λ r. r.per_line) c.row_of-row.ensures) in
-    let columns : c.min.result * c.row_of-row.result.width ≤ 120 * 120 = rw c.row_of-row.ensures (columns_few a.form.fields c.min.result (omega (arith, many, (row_fits a.form.fields).few))) in
-    omega (arith, columns)
+    let o = on (goal.at.overflow_mul-columns c).After-behind-line in
+    omega (arith, o.columns)
 
-pub seen_formed-k-requires-clause-few : goal.seen_formed-k-requires-clause-few
-seen_formed-k-requires-clause-few c =
+pub seen_formed-k-requires : goal.seen_formed-k-requires
+seen_formed-k-requires c =
     let a = c.args in
-    let l = c.lines in
-    let further : l.j < lines_of a.rules a.form.fields a.count = omega (arith, c.lines-j-end.ensures) in
-    let many : c.min.result ≤ (row_of a.form.fields).per_line = omega (arith, c.min.ensures, ap (λ r. r.per_line) c.row_of-row.ensures) in
-    omega (arith, many, (row_fits a.form.fields).few)
+    let o = on (goal.at.seen_formed-k-requires c).After-behind-line in
+    let stops = stop_range a.rules a.form.short _ a.lines.now c.lines.at c.lines.invariant.checking.walk.inside c.fields_stop-stop.result c.fields_stop-stop.ensures in
+    record { few = o.few; order = stops.0; lines = stops.1 }
 
-pub seen_formed-k-requires-clause-lines : goal.seen_formed-k-requires-clause-lines
-seen_formed-k-requires-clause-lines c =
+pub is_field_at-requires : goal.is_field_at-requires
+is_field_at-requires c =
     let a = c.args in
-    let l = c.lines in
-    let further : l.j < lines_of a.rules a.form.fields a.count = omega (arith, c.lines-j-end.ensures) in
-    let inside = l.invariant.checking.walk.inside in
-    let stops = stop_range a.rules a.form.short (c.min.result * c.row_of-row.result.width) a.lines.now l.at inside c.fields_stop-stop.result c.fields_stop-stop.ensures in
-    stops.1
-
-pub is_field_at-requires-clause-lines : goal.is_field_at-requires-clause-lines
-is_field_at-requires-clause-lines c =
-    let a = c.args in
-    let l = c.lines in
-    let further : l.j < lines_of a.rules a.form.fields a.count = omega (arith, c.lines-j-end.ensures) in
-    let inside = l.invariant.checking.walk.inside in
-    let stops = stop_range a.rules a.form.short (c.min.result * c.row_of-row.result.width) a.lines.now l.at inside c.fields_stop-stop.result c.fields_stop-stop.ensures in
-    stops.1
-
-pub is_field_at-requires-clause-few : goal.is_field_at-requires-clause-few
-is_field_at-requires-clause-few c =
-    let a = c.args in
-    let l = c.lines in
-    let further : l.j < lines_of a.rules a.form.fields a.count = omega (arith, c.lines-j-end.ensures) in
-    let many : c.min.result ≤ (row_of a.form.fields).per_line = omega (arith, c.min.ensures, ap (λ r. r.per_line) c.row_of-row.ensures) in
-    omega (arith, many, (row_fits a.form.fields).few, c.seen_formed-k.ensures.most)
+    let o = on (goal.at.is_field_at-requires c).After-behind-line in
+    let stops = stop_range a.rules a.form.short _ a.lines.now c.lines.at c.lines.invariant.checking.walk.inside c.fields_stop-stop.result c.fields_stop-stop.ensures in
+    record { order = stops.0; lines = stops.1; few = omega (arith, o.few, c.seen_formed-k.ensures.most) }
 
 pub misfit-requires-clause-small : goal.misfit-requires-clause-small
 misfit-requires-clause-small c =
     let a = c.args in
-    let l = c.lines in
-    let further : l.j < lines_of a.rules a.form.fields a.count = omega (arith, c.lines-j-end.ensures) in
-    let many : c.min.result ≤ (row_of a.form.fields).per_line = omega (arith, c.min.ensures, ap (λ r. r.per_line) c.row_of-row.ensures) in
-    let few : l.j * c.row_of-row.result.per_line + 1 ≤ 2 ^ 32 =
-    rw c.row_of-row.ensures (first_small a.rules a.form.fields a.count a.lines.now l.invariant.checking.walk (omega arith) further) in
-    omega (arith, few, many, (row_fits a.form.fields).few, c.seen_formed-k.ensures.most)
+    let o = on (goal.at.misfit-requires-clause-small c).After-behind-line in
+    omega (arith, o.first, o.few, c.seen_formed-k.ensures.most)
 
 pub returns-then-not-is_field_at : goal.returns-then-not-is_field_at
 returns-then-not-is_field_at c =
     let a = c.args in
     let l = c.lines in
-    let further : l.j < lines_of a.rules a.form.fields a.count = omega (arith, c.lines-j-end.ensures) in
-    let its = made a.rules a.form.fields a.count a.lines.now l.invariant.checking.walk (ap (λ r. r.per_line) c.row_of-row.ensures) c.min.ensures in
-    let wide = ap (λ r. c.min.result * r.width) c.row_of-row.ensures in
-    let sought = c.fields_stop-stop.ensures ∙ ap (λ n. l.at + fields_span a.rules a.form.short n a.lines.now l.at) wide in
-    let line : Line = record { number = l.j + 1; first = l.j * c.row_of-row.result.per_line + 1; many = c.min.result } in
+    let h = further (goal.at.returns-then-not-is_field_at c).After-behind-line in
+    let o = on (goal.at.returns-then-not-is_field_at c).After-behind-line in
+    let line = c.behind-line.result in
+    let sought = c.fields_stop-stop.ensures ∙ ap (λ n. l.at + fields_span a.rules a.form.short n a.lines.now l.at) o.wide in
     let blamed = field_blamed a.rules a.form.fields a.form.short line a.lines.now l.at l.invariant.checking.walk.inside c.fields_stop-stop.result sought c.loop-k.k
     c.loop-k-test.true c.loop-k.invariant.formed (sym c.is_field_at.ensures ∙ c.if-not-is_field_at.true) in
     ap Err
     (c.misfit.ensures
-    ∙ ap (λ n. misfit_of line.number (line.first + c.loop-k.k) (right_content a.rules a.form.short n (part l.at (l.at + reach (drop l.at a.lines.now) 1) a.lines.now))) wide)
-    ∙ checking_wrong a.rules a.form.fields a.form.short a.count a.lines.now l.invariant.checking further _
-    (sym (ap (λ x. verdict_of (read_line a.rules a.form.fields a.form.short x (part l.at (l.at + reach (drop l.at a.lines.now) 1) a.lines.now))) its) ∙ blamed)
+    ∙ ap (λ n. misfit_of line.number (line.first + c.loop-k.k) (right_content a.rules a.form.short n (part l.at (l.at + reach (drop l.at a.lines.now) 1) a.lines.now))) o.wide)
+    ∙ checking_wrong a.rules a.form.fields a.form.short a.count a.lines.now l.invariant.checking h _
+    (sym (ap (λ x. verdict_of (read_line a.rules a.form.fields a.form.short x (part l.at (l.at + reach (drop l.at a.lines.now) 1) a.lines.now))) o.is) ∙ blamed)
 
 pub line_end-requires : goal.line_end-requires
 line_end-requires c =
     let a = c.args in
     let l = c.lines in
-    let further : l.j < lines_of a.rules a.form.fields a.count = omega (arith, c.lines-j-end.ensures) in
-    let many : c.min.result ≤ (row_of a.form.fields).per_line = omega (arith, c.min.ensures, ap (λ r. r.per_line) c.row_of-row.ensures) in
-    let wide = ap (λ r. c.min.result * r.width) c.row_of-row.ensures in
-    let sought = c.fields_stop-stop.ensures ∙ ap (λ n. l.at + fields_span a.rules a.form.short n a.lines.now l.at) wide in
-    record { few = many; inside = l.invariant.checking.walk.inside; sought = sought; formed = λ i h. c.loop-k.invariant.formed i (omega (arith, h)) }
+    let o = on (goal.at.line_end-requires c).After-behind-line in
+    let sought = c.fields_stop-stop.ensures ∙ ap (λ n. l.at + fields_span a.rules a.form.short n a.lines.now l.at) o.wide in
+    record { few = o.most; inside = l.invariant.checking.walk.inside; sought = sought; formed = λ i h. c.loop-k.invariant.formed i (omega (arith, h)) }
 
 pub returns-in_err-at : goal.returns-in_err-at
 returns-in_err-at c =
     let a = c.args in
     let l = c.lines in
-    let further : l.j < lines_of a.rules a.form.fields a.count = omega (arith, c.lines-j-end.ensures) in
-    let its = made a.rules a.form.fields a.count a.lines.now l.invariant.checking.walk (ap (λ r. r.per_line) c.row_of-row.ensures) c.min.ensures in
+    let h = further (goal.at.returns-in_err-at c).After-behind-line in
+    let o = on (goal.at.returns-in_err-at c).After-behind-line in
     let bad = passed_bad (l.at + reach (drop l.at a.lines.now) 1) _ (sym c.line_end.ensures ∙ c.in_err-at.was) in
     let p = err_from_is_err_and c.from_residual.result c.from_residual.ensures.1 in
     rw (p.1, p.2)
-    (checking_wrong a.rules a.form.fields a.form.short a.count a.lines.now l.invariant.checking further c.in_err-at.field-0.0
-    (sym (ap (λ x. verdict_of (read_line a.rules a.form.fields a.form.short x (part l.at (l.at + reach (drop l.at a.lines.now) 1) a.lines.now))) its) ∙ bad))
+    (checking_wrong a.rules a.form.fields a.form.short a.count a.lines.now l.invariant.checking h c.in_err-at.field-0.0
+    (sym (ap (λ x. verdict_of (read_line a.rules a.form.fields a.form.short x (part l.at (l.at + reach (drop l.at a.lines.now) 1) a.lines.now))) o.is) ∙ bad))
+
+pub overflow_sub-left : goal.overflow_sub-left
+overflow_sub-left c =
+    let a = c.args in
+    let o = on (goal.at.overflow_sub-left c).After-behind-line in
+    omega (arith, o.within)
 
 pub lines-preserved : goal.lines-preserved
 lines-preserved c =
     let a = c.args in
     let l = c.lines in
-    let further : l.j < lines_of a.rules a.form.fields a.count = omega (arith, c.lines-j-end.ensures) in
-    let its = made a.rules a.form.fields a.count a.lines.now l.invariant.checking.walk (ap (λ r. r.per_line) c.row_of-row.ensures) c.min.ensures in
+    let h = further (goal.at.lines-preserved c).After-behind-line in
+    let o = on (goal.at.lines-preserved c).After-behind-line in
     let clean = passed_clean (l.at + reach (drop l.at a.lines.now) 1) _ (sym c.line_end.ensures ∙ c.in_ok-at.was) in record {
       verdict = c.loop-k.invariant.verdict;
-      checking = subst (λ m. Checking a.rules a.form.fields a.form.short a.count a.lines.now (l.left - m) c.in_ok-at.at (l.j + 1))
-          (sym (c.min.ensures ∙ ap (λ p. min p l.left) (ap (λ r. r.per_line) c.row_of-row.ensures)))
-          (checking_next a.rules a.form.fields a.form.short a.count a.lines.now l.invariant.checking further c.in_ok-at.at clean.0
-          (sym (ap (λ x. verdict_of (read_line a.rules a.form.fields a.form.short x (part l.at (l.at + reach (drop l.at a.lines.now) 1) a.lines.now))) its) ∙ clean.1));
+      checking = subst (λ n. Checking a.rules a.form.fields a.form.short a.count a.lines.now n c.in_ok-at.at (l.j + 1)) (sym o.taken)
+          (checking_next a.rules a.form.fields a.form.short a.count a.lines.now l.invariant.checking h c.in_ok-at.at clean.0
+          (sym (ap (λ x. verdict_of (read_line a.rules a.form.fields a.form.short x (part l.at (l.at + reach (drop l.at a.lines.now) 1) a.lines.now))) o.is) ∙ clean.1));
     }
 
 pub returns-after-lines : goal.returns-after-lines

@@ -8,9 +8,7 @@ use Rattle.std.proofs.lemmas.Result.{err_from_is_err_and}
 use Rattle.form.specs.declared.Form.{Form}
 use Rattle.reply.specs.declared.Refusal.{Refusal}
 use Rattle.reply.specs.declared.Refusal.TheVariants.{NoSuchNumber}
-use Prim.Native.Nat.{◌≤◌}
-use Rattle.count.specs.Tally.{count_of}
-use Rattle.reading.proofs.Steps.{kept_letters, group_none, group_kept}
+use Rattle.reading.proofs.Steps.{kept_date, group_none, group_kept}
 use Rattle.reading.proofs.read_kept.Goals as goal
 
 pub returns-in_err-form : goal.returns-in_err-form
@@ -23,10 +21,11 @@ returns-in_err-form c =
     let p = err_from_is_err_and c.from_residual.result c.from_residual.ensures.1 in
     record { answer = rw (p.1, p.2, ← why) all.0; table = all.1 }
 
-pub read_form-requires-clause-date : goal.read_form-requires-clause-date
-read_form-requires-clause-date c =
-    let ns = c.args.kept.counts.now in
-    λ t. subst (λ n. 19 ≤ n) (sym (c.count_of-count.ensures ∙ ap (count_of ns) t)) (kept_letters ns c.args.kept.kept)
+pub invariant_of-asked-clause-has_form : goal.invariant_of-asked-clause-has_form
+invariant_of-asked-clause-has_form c = sym c.form_of.ensures ∙ c.ok_or.ensures.ok_part ∙ ap result_ok c.in_ok-form.was
+
+pub invariant_of-asked-clause-has_date : goal.invariant_of-asked-clause-has_date
+invariant_of-asked-clause-has_date c = kept_date _ c.args.kept.kept c.count_of-count.ensures
 
 pub returns : goal.returns
 returns c =
