@@ -7,7 +7,7 @@ ghost use Rattle.std.specs.Prelude.{◌≤◌};
 
 use group::Characteristic;
 use place::{Placing, Record};
-use reply::{Refusal, Reply};
+use reply::Reply;
 use std::io;
 use std::io::Write;
 
@@ -46,10 +46,9 @@ impl OutputRow {
     }
 
     // The reply's number, and the numbers beside it.
-    fn reply(&mut self, answer: Result<usize, Refusal>) {
-        let reply = Reply::from(answer);
+    fn reply(&mut self, reply: Reply) {
         self.number(reply.number as usize);
-        self.number(beside(answer));
+        self.number(beside(reply));
         self.number(reply.element);
     }
 
@@ -64,13 +63,13 @@ impl OutputRow {
 
 // The first number beside a reply to a question about a group: cells, group, line or position. The second is the
 // element.
-fn beside(answer: Result<usize, Refusal>) -> usize {
-    match answer {
-        Ok(cells) => cells,
-        Err(Refusal::FilledVacant(group) | Refusal::BrokenRule(group)) => group,
-        Err(Refusal::BadLine(line) | Refusal::BadField(line, _)) => line,
-        Err(Refusal::BadDate(position)) => position,
-        Err(_) => 0,
+fn beside(reply: Reply) -> usize {
+    match reply.number {
+        0 => reply.written,
+        6 | 7 => reply.group,
+        8 | 9 => reply.line,
+        10 => reply.position,
+        _ => 0,
     }
 }
 
@@ -110,11 +109,12 @@ fn print_group(
         .checked_add(part.len())
         .filter(|to| *to <= asked.text.len())
         .unwrap_or(0);
-    let Some(cells) = table.get(..answer.unwrap_or(0)) else {
+    let reply = Reply::from(answer);
+    let Some(cells) = table.get(..reply.written) else {
         return Ok(());
     };
     row.number(group);
-    row.reply(answer);
+    row.reply(reply);
     row.number(from);
     row.number(to);
     for cell in cells {
@@ -131,16 +131,16 @@ fn print_characteristic(
     row: &mut OutputRow,
 ) -> io::Result<()> {
     let told = sao::record_characteristic(asked.rules, asked.text, *asked.record, number);
-    let (kind, value, answer) = match told {
-        Characteristic::Value(value) => (0, value, Ok(0)),
-        Characteristic::NoReading => (1, 0, Ok(0)),
-        Characteristic::NotReported => (2, 0, Ok(0)),
-        Characteristic::Refused(why) => (3, 0, Err(why)),
+    let (kind, value) = match told {
+        Characteristic::Value(value) => (0, value),
+        Characteristic::NoReading => (1, 0),
+        Characteristic::NotReported => (2, 0),
+        Characteristic::Refused(_) => (3, 0),
     };
     row.number(number);
     row.number(kind);
     row.cell(value);
-    row.reply(answer);
+    row.reply(Reply::from(told));
     row.print(out, b"char")
 }
 
@@ -190,7 +190,7 @@ fn print_records(
 }
 
 fn main(rt: HostRuntime) -> io::Result<()> {
-    let Some(asked) = words::given(&rt, &mut rt.stderr(), b"dump")? else {
+    let Ok(asked) = words::given(&rt, &mut rt.stderr(), b"dump")? else {
         return Ok(());
     };
     let rules = rules::choose(asked.strict, asked.entries);

@@ -24,7 +24,7 @@ fn print_listing<W: Write>(out: &mut W, rules: rules::Rules, text: &[u8]) -> io:
 }
 
 fn main(rt: HostRuntime) -> io::Result<()> {
-    let Some(asked) = words::given(&rt, &mut rt.stderr(), b"list")? else {
+    let Ok(asked) = words::given(&rt, &mut rt.stderr(), b"list")? else {
         return Ok(());
     };
     let rules = rules::choose(asked.strict, asked.entries);

@@ -44,7 +44,7 @@ fn print_text<W: Write>(
 }
 
 fn main(rt: HostRuntime) -> io::Result<()> {
-    let Some(asked) = words::given(&rt, &mut rt.stderr(), b"rewrite")? else {
+    let Ok(asked) = words::given(&rt, &mut rt.stderr(), b"rewrite")? else {
         return Ok(());
     };
     let rules = rules::choose(asked.strict, asked.entries);

@@ -88,7 +88,7 @@ fn print_text<W: Write, E: Write>(
 }
 
 fn main(rt: HostRuntime) -> io::Result<()> {
-    let Some(asked) = words::given(&rt, &mut rt.stderr(), b"salvage")? else {
+    let Ok(asked) = words::given(&rt, &mut rt.stderr(), b"salvage")? else {
         return Ok(());
     };
     let rules = rules::choose(asked.strict, asked.entries);

@@ -4,7 +4,7 @@
 
 ghost use Rattle.std.specs.Prelude.{◌≡◌, ◌<◌, ◌≤◌, length, take, IfOk, OnOk, OnErr};
 ghost use Rattle.std.specs.Io.KnownBytes.{Appends, Consumes, IsAtEnd};
-ghost use Rattle.words.specs.Words.{with_word};
+ghost use Rattle.words.specs.Words.{with_known, with_word};
 ghost use Rattle.words.specs.Written.{AppendsFront, ConsumesInto};
 
 use std::env::FillError;
@@ -12,8 +12,8 @@ use std::io;
 use std::io::{ErrorKind, Read, Write};
 use std::rt::Env;
 
-// What the words so far asked for, as `rules::choose` takes it. All of them were known. Either may be asked for without
-// the other, so neither flag tells of the other.
+// What the known words so far asked for, as `rules::choose` takes it. Either may be asked for without the other, so
+// neither flag tells of the other.
 #[derive(Clone, Copy)]
 pub struct Words {
     pub strict: bool,
@@ -26,12 +26,11 @@ pub const NONE: Words = Words {
     entries: false,
 };
 
-// R349: one word more; none where one of them is unknown.
-#[tactic(auto, unfolding(crate::specs::Words::with_word))]
-pub fn with_word(words: Option<Words>, word: &[u8]) -> Option<Words>
-    ensures { result ≡ with_word words word.now }
+// R349: one known word more; none where the word is unknown.
+#[tactic(auto, unfolding(crate::specs::Words::with_known))]
+fn with_known(words: Words, word: &[u8]) -> Option<Words>
+    ensures { result ≡ with_known words word.now }
 {
-    let words = words?;
     if word == b"--strict".as_slice() {
         return Some(Words {
             strict: true,
@@ -45,6 +44,17 @@ pub fn with_word(words: Option<Words>, word: &[u8]) -> Option<Words>
         });
     }
     None
+}
+
+// R349: one word more. An error, from the first unknown word on, has what the known words asked for.
+#[tactic(auto, unfolding(crate::specs::Words::with_word))]
+pub fn with_word(words: Result<Words, Words>, word: &[u8]) -> Result<Words, Words>
+    ensures { result ≡ with_word words word.now }
+{
+    match words {
+        Ok(asked) => with_known(asked, word).ok_or(asked),
+        Err(asked) => Err(with_known(asked, word).unwrap_or(asked)),
+    }
 }
 
 // ---- Input and output
@@ -112,8 +122,8 @@ pub fn given(
     rt: &impl Env,
     standard_error: &mut impl Write,
     program: &[u8],
-) -> io::Result<Option<Words>> {
-    let mut words = Some(NONE);
+) -> io::Result<Result<Words, Words>> {
+    let mut words = Ok(NONE);
     for i in 1..usize::MAX {
         let mut space = [0u8; 16];
         let word = match rt.arg(i, &mut space) {
@@ -123,7 +133,7 @@ pub fn given(
         };
         words = with_word(words, word);
     }
-    if words.is_none() {
+    if words.is_err() {
         usage(standard_error, program)?;
     }
     Ok(words)
