@@ -1,7 +1,7 @@
 -- The lines of the listing from a record on, as a loop goes through them: one line more where a record is placed, the last one where the
 -- walk stops.
 -- Assumes nothing.
-use Rattle.std.specs.Prelude.{Option, Some, None}
+use Rattle.std.specs.Prelude.{Bool, true, false, cond, Option, Some, None}
 use mathlib.Core.Path.{◌≡◌, refl, sym, ◌∙◌, ap}
 use mathlib.Core.List.{List, ◌++◌, append_assoc}
 use Prim.Native.Nat.{ℕ, suc, ◌+◌, ◌-◌, ◌≤◌}
@@ -11,14 +11,17 @@ use Rattle.rules.specs.declared.Rules.{Rules}
 use Rattle.base.specs.Quoted.{bytes}
 use Rattle.decimal.specs.Rows.{row_text}
 use Rattle.count.specs.Rules.{ruling_of}
-use Rattle.place.specs.Placing.{Located, located, refused, locate, ruled_at, placing_by, counts_by, placing_of, counts_at}
+use Rattle.place.specs.Placing.{Located, located, refused, locate, ruled_at, placing_by, placing_of, counts_at}
 use Rattle.reply.specs.declared.Refusal.{Refusal}
+use Rattle.reply.specs.declared.Refusal.TheVariants as R
 use Rattle.place.specs.Walk.{spot, Stops, records_in}
 use Rattle.place.proofs.Walked.{spot_start, spot_more, stops_some, stops_later, stops_here}
-use Rattle.listing.specs.Rows.{next_place, record_row, end_row}
+use Rattle.place.specs.Numbered.{is_placed}
+use Rattle.place.specs.declared.Placing.TheVariants.{Placed, BrokenRule, Refused}
+use Rattle.listing.specs.Rows.{reply_of, next_of, next_place, record_row, end_row}
 use Rattle.listing.specs.Listing.{row_at, rows_from, end_at, listing_of, listing}
 use Rattle.place.proofs.Counted.{records_are, records_stop, records_bytes}
-use Rattle.place.proofs.Stopped.{Halts}
+use Rattle.place.proofs.Stopped.{Halts, placed_goes, placed_halts}
 
 -- for a walk that has so many records the listing has their rows
 pub listing_is : (ρ : Rules) (s : List ℕ) (many : ℕ) (p : Refusal) → Stops ρ s many p → listing ρ s ≡ listing_of ρ s many
@@ -35,28 +38,72 @@ lines_all ρ s = let e : records_in ρ s - 0 ≡ records_in ρ s = omega arith i
 
 -- ---- what placing answers at a place of the walk
 
-module _ (ρ : Rules) (s : List ℕ) (at : ℕ) where
-  ruled_place : (n : ℕ) (r : Option ℕ) → next_place (ruled_at n r) ≡ Some n
-  ruled_place n None = refl
-  ruled_place n (Some g) = refl
+-- the next place answer by answer: a record that is placed has one, and a refusal none, but for that of a broken rule, which placing doesn't
+-- give (`refused_none`)
+pub record NextAnswers : Type 0 where
+  pub placed : (n : ℕ) → next_place (Placed n) ≡ Some n
+  pub broken_rule : (g n : ℕ) → next_place (BrokenRule g n) ≡ Some n
+  pub unplaced : (r : Refusal) → ((g : ℕ) → r ≡ R.BrokenRule g → ⊥) → next_place (Refused r) ≡ None
 
+unplaced_none : (r : Refusal) → ((g : ℕ) → r ≡ R.BrokenRule g → ⊥) → next_place (Refused r) ≡ None
+unfolding next_place
+unplaced_none R.End h = refl
+unplaced_none R.Beyond h = refl
+unplaced_none R.TooFewLines h = refl
+unplaced_none R.Misformed h = refl
+unplaced_none R.OtherRelease h = refl
+unplaced_none (R.FilledVacant x) h = refl
+unplaced_none (R.BrokenRule x) h = absurd (h x refl)
+unplaced_none (R.BadLine x) h = refl
+unplaced_none (R.BadField x y) h = refl
+unplaced_none (R.BadDate x) h = refl
+unplaced_none R.NoRoom h = refl
+unplaced_none R.NoSuchNumber h = refl
+unplaced_none (R.NoField x y) h = refl
+unplaced_none R.OtherLength h = refl
+unplaced_none R.NotOpen h = refl
+unplaced_none R.AllOpen h = refl
+unplaced_none (R.BadEntry x) h = refl
+unplaced_none R.BadPart h = refl
+
+pub next_answers : NextAnswers
+unfolding next_place
+next_answers = record { placed = λ n. refl; broken_rule = λ g n. refl; unplaced = unplaced_none }
+
+module _ (ρ : Rules) (s : List ℕ) (at : ℕ) where
   -- a record
   placed_there : (n : ℕ) → next_place (placing_of ρ s at) ≡ Some n → locate ρ s at ≡ located n (counts_at ρ s at)
-  unfolding placing_of counts_at
-  placed_there n e = by (locate ρ s at) refl e
+  unfolding next_place
+  placed_there n e = by (is_placed (reply_of (placing_of ρ s at))) refl e
     where
-      by : (l : Located) → locate ρ s at ≡ l → next_place (placing_by l) ≡ Some n → l ≡ located n (counts_by l)
-      by (located m ns) f e = let q = ruled_place m (ruling_of ns) in let z : m ≡ n = cc in ap (λ k. located k ns) z
-      by (refused r) f e = let z : ◌≡◌ {A = ℕ} 0 1 = cc in absurd (omega arith)
+      by : (t : Bool) → is_placed (reply_of (placing_of ρ s at)) ≡ t → cond t (Some (next_of (placing_of ρ s at))) None ≡ Some n →
+          locate ρ s at ≡ located n (counts_at ρ s at)
+      by true t f = let m : next_of (placing_of ρ s at) ≡ n = cc in placed_goes ρ s at t ∙ ap (λ k. located k (counts_at ρ s at)) m
+      by false t f = let z : ◌≡◌ {A = ℕ} 0 1 = cc in absurd (omega arith)
 
   -- none
   none_there : next_place (placing_of ρ s at) ≡ None → Halts ρ s at
-  unfolding placing_of
-  none_there e = by (locate ρ s at) refl e
+  unfolding next_place
+  none_there e = by (is_placed (reply_of (placing_of ρ s at))) refl e
     where
-      by : (l : Located) → locate ρ s at ≡ l → next_place (placing_by l) ≡ None → Halts ρ s at
-      by (located m ns) f e = let q = ruled_place m (ruling_of ns) in let z : ◌≡◌ {A = ℕ} 0 1 = cc in absurd (omega arith)
-      by (refused r) f e = record { why = r; is = f }
+      by : (t : Bool) → is_placed (reply_of (placing_of ρ s at)) ≡ t → cond t (Some (next_of (placing_of ρ s at))) None ≡ None → Halts ρ s at
+      by true t f = let z : ◌≡◌ {A = ℕ} 0 1 = cc in absurd (omega arith)
+      by false t f = placed_halts ρ s at t
+
+  pub refused_none : (r : Refusal) → placing_of ρ s at ≡ Refused r → next_place (placing_of ρ s at) ≡ None
+  unfolding placing_of next_place
+  refused_none r e = by (is_placed (reply_of (placing_of ρ s at))) refl
+    where
+      at_none : (l : Located) → placing_by l ≡ Refused r → (n : ℕ) (ns : List ℕ) → l ≡ located n ns → ◌≡◌ {A = ℕ} 0 1
+      at_none l f n ns g = ruled (ruling_of ns) (ap placing_by (sym g) ∙ f)
+        where
+          ruled : (b : Option ℕ) → ruled_at n b ≡ Refused r → ◌≡◌ {A = ℕ} 0 1
+          ruled None f = cc
+          ruled (Some g) f = cc
+
+      by : (t : Bool) → is_placed (reply_of (placing_of ρ s at)) ≡ t → cond t (Some (next_of (placing_of ρ s at))) None ≡ None
+      by true t = absurd (omega (arith, at_none (locate ρ s at) e (next_of (placing_of ρ s at)) (counts_at ρ s at) (placed_goes ρ s at t)))
+      by false t = refl
 
 -- ---- the walk at its k-th spot
 

@@ -14,13 +14,12 @@ use reply::{Refusal, Reply};
 
 // R253: the next place, where a record is placed. Neither `Placing` nor `Option` is of this crate, so no `From` may be
 // written.
+#[tactic(auto, unfolding(crate::specs::Rows::next_place))]
 fn next_place(answer: Placing) -> Option<usize>
     ensures { result ≡ next_place answer }
 {
-    match answer {
-        Placing::Placed(next) | Placing::BrokenRule(_, next) => Some(next),
-        Placing::Refused(_) => None,
-    }
+    let reply = Reply::from(answer);
+    place::is_placed(reply.number).then_some(reply.next)
 }
 
 // How many of the groups 1 to 60 have a nonzero count.
