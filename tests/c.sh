@@ -1,5 +1,6 @@
 #!/bin/sh
-# The library from C: include/seambeacon.h compiles alone as C and as C++, and the program of tests/c asks every question on record S, S twice,
+# The library from C: include/seambeacon.h compiles alone as C and as C++, the archive needs no more than memcpy and memset from outside (where
+# there is an nm that reads it), and the program of tests/c asks every question on record S, S twice,
 # damaged texts, texts with other line ends and records with a group 40 of up to 999 elements and 999 entries, by several numbers for the rules,
 # every month and day of seven years, every line of tests/vectors/writes.txt and tests/vectors/W10/writes.txt and, by both rules for line ends and
 # both for counts of group 40, every answer of the texts of tests/vectors, or of the folder that is named (`tests/c.sh FOLDER [--strict]
@@ -24,6 +25,10 @@ done
 
 rm -f "$work/alone.o"
 program_made
+if nm "$archive" >/dev/null 2>&1; then
+    counted 'from outside the archive needs at most memcpy and memset' \
+        none "$(nm -u "$archive" | awk '$1 == "U" && $2 !~ /^mem(cpy|set)$/')"
+fi
 
 set -- "$vectors/writes.txt"
 ! own || set -- "$@" "$vectors/W10/writes.txt"

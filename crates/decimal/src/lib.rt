@@ -135,12 +135,14 @@ fn put_numbers(out: &mut [u8], at: usize, numbers: &[u64])
     put_ended(out, a, *last, b'\n');
 }
 
-// Puts the bytes of a text.
+// Puts the bytes of a text, one by one: by std's copy of a slice the archive would need a function more of a C caller.
 fn put_text(out: &mut [u8], at: usize, text: &[u8])
     requires { at + length text.now ≤ length out.old }
     ensures { out.new ≡ over at text.now out.old }
 {
-    out[at..at + text.len()].copy_from_slice(text);
+    for (i, byte) in text.iter().enumerate() {
+        out[at + i] = *byte;
+    }
 }
 
 // Puts a row of numbers with the bytes that it begins with, such as `end `, into the bytes from a place on.
