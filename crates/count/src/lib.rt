@@ -128,7 +128,8 @@ fn with_group(rules: rules::Rules, totals: Totals, group: Group, count: u16) -> 
 }
 
 // R27, R28, R47: the lines, the index among them, and the cells before those of a group; before 61: of the whole
-// record.
+// record. Inlined, since most callers know how many counts there are.
+#[inline]
 pub fn add_up(rules: rules::Rules, counts: &[u16], group: usize) -> Totals
     ensures { Before rules counts.now group result.lines result.cells }
 {

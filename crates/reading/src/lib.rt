@@ -462,7 +462,8 @@ pub fn read_kept(
 
 // ---- The two passes by themselves, for a record whose groups are all checked before one of them is filled.
 
-// What `read_kept` refuses a group with, given room. A count of 0 costs no more than a test (R268).
+// What `read_kept` refuses a group with, given room. A count of 0 costs no more than a test (R268), and so no call.
+#[inline]
 pub fn check_kept(
     rules: rules::Rules,
     kept: Kept<'_>,

@@ -66,7 +66,9 @@ fn fill_groups(rules: rules::Rules, placed: PlacedRecord<'_>, table: &mut [i64])
     }
 }
 
-// R273 to R276 for a record that is placed: 11, then all groups, and only then the table.
+// R273 to R276 for a record that is placed: 11, then all groups, and only then the table. Inlined, so that where a
+// record was just placed its 80 counts are known, and no group's number is tested against them.
+#[inline(always)]
 pub fn read_placed(
     rules: rules::Rules,
     placed: PlacedRecord<'_>,
