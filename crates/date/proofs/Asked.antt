@@ -27,7 +27,7 @@ use Rattle.date.proofs.Due.{day_names, no_day_names, judged_of, first_due}
 range_passes : (n : FieldNumber) → InRange n → outside n ≡ false
 range_passes n h = rw (le-leb n.field.least n.value h.enough, le-leb n.value n.field.greatest h.not_more)
 
-passes_range : (n : FieldNumber) → within n.field.least n.field.greatest n.value ≡ true → InRange n
+pub passes_range : (n : FieldNumber) → within n.field.least n.field.greatest n.value ≡ true → InRange n
 passes_range n e =
     let low = leb n.field.least n.value in
     let high = leb n.value n.field.greatest in

@@ -1,4 +1,4 @@
--- The ten forms: each kind's width and cells are the form's row, and the ends of its range are powers of ten less one.
+-- The ten forms: each kind's width and cells are the form's row, the ends of its range are powers of ten less one, and the machine holds them.
 -- Assumes nothing.
 use mathlib.Core.Path.{◌≡◌, refl}
 use native.Mathlib.Omega.{arith}
@@ -8,7 +8,7 @@ use Rattle.form.specs.declared.Form.TheVariants.{F7, A120, A1, F8, I2, I3, I1, E
 use Rattle.form.specs.Table
 use Rattle.form.specs.Table.{row_of}
 use Rattle.form.proofs.Table.{each_form}
-use Rattle.field.specs.Kind.{kind_of, width_of, kind_cells, Tens}
+use Rattle.field.specs.Kind.{kind_of, width_of, kind_cells, Tens, Small}
 
 -- one computed test over the ten forms for each of the first two
 pub kind_width : (f : Form) → width_of (kind_of f) ≡ (row_of f).width
@@ -30,3 +30,16 @@ kind_tens I1 = (omega arith, refl, refl)
 kind_tens E11 = (omega arith, refl, refl)
 kind_tens E20 = (omega arith, refl, refl)
 kind_tens E8 = (omega arith, refl, refl)
+
+-- the machine's cell holds the ends of each form's range, as `Small` has it
+pub kind_small : (f : Form) → Small (kind_of f)
+kind_small F7 = (omega arith, omega arith)
+kind_small A120 = omega arith
+kind_small A1 = tt
+kind_small F8 = (omega arith, omega arith)
+kind_small I2 = omega arith
+kind_small I3 = omega arith
+kind_small I1 = omega arith
+kind_small E11 = (omega arith, omega arith, omega arith, omega arith, omega arith)
+kind_small E20 = (omega arith, omega arith, omega arith, omega arith, omega arith)
+kind_small E8 = (omega arith, omega arith, omega arith, omega arith, omega arith)

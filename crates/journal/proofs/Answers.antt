@@ -4,23 +4,24 @@ use Rattle.std.specs.Prelude.{Result, Ok, Err}
 use mathlib.Core.Path.{◌≡◌, refl, sym, ap, ◌∙◌}
 use mathlib.Core.Bool.{Bool, true, false, cond}
 use mathlib.Core.List.{List, ◌++◌}
-use Prim.Native.Nat.{ℕ, ◌+◌, ◌-◌, ◌≤◌}
+use Prim.Native.Nat.{ℕ, ◌+◌, ◌-◌, ◌≤◌, min}
 use native.Mathlib.Omega.{arith}
 use lib.Dec.{eqb}
 use lib.IntN.{ℤ}
 use lib.ListN.{length, take, drop, length-take}
-use lib.Seq.{take-take, length-take-le}
+use lib.Seq.{take-length, take-take, length-take-le}
 use Rattle.std.proofs.lemmas.List.{take-append-le}
 use borrow.Author.Tests.{eqb-true, eq-eqb, ne_eqb}
 use Rattle.rules.specs.declared.Rules.{Rules}
-use Rattle.base.specs.Part.{over}
+use Rattle.base.specs.Part.{part, over}
+use Rattle.base.proofs.Taken.{part_zero, take_both}
 use Rattle.count.specs.Check.{checked_of, and_then}
 use Rattle.reply.specs.declared.Refusal.{Refusal}
 use Rattle.reply.specs.declared.Refusal.TheVariants.{BadEntry}
 use Rattle.journal.specs.declared.State.{State}
 use Rattle.journal.specs.Layout.{starts_of}
 use Rattle.journal.specs.Model.{Call, decided}
-use Rattle.journal.specs.Walks.{WalksTo}
+use Rattle.journal.specs.Walks.{down, WalksTo}
 use Rattle.journal.specs.Calls.{whole, walk_in, standing_of, answer_of, cells_after, journal_by, used_by, Stood}
 use Rattle.journal.specs.Entries.{restore, entries_at}
 use Rattle.journal.specs.Plays.{play_of, play_in, replay_of, replayed_cells, Plays}
@@ -60,6 +61,29 @@ module _ (ρ : Rules) (ns j : List ℕ) (used cells : ℕ) where
     place_found : (walk_in ρ ns j used).place ≡ r.place
     place_found = ap (λ x. x.place) (sym w.found)
 
+    -- the marks of its savepoints
+    pub marks_found : (walk_in ρ ns j used).marks ≡ down r.depth r.marks
+    marks_found = ap (λ x. x.marks) (sym w.found)
+
+    -- how many savepoints it left open
+    pub depth_found : length (walk_in ρ ns j used).marks ≡ r.depth
+    depth_found = ap length marks_found ∙ down_length r.depth r.marks
+
+    -- how many fields it came past
+    pub count_found : (walk_in ρ ns j used).count ≡ r.count
+    count_found = ap (λ x. x.count) (sym w.found)
+
+    -- what a call is refused with, by the check of the counts and the place where the walk stopped
+    pub standing_found : (a : Result (Unit {0}) Refusal) → a ≡ checked_of ρ ns cells → and_then a (whole r.place used) ≡ standing_of ρ ns j used cells
+    unfolding standing_of
+    standing_found a e = rw (e, place_found) refl
+
+    -- where neither refuses, the bytes used lie within the buffer
+    pub used_inside : (a : Result (Unit {0}) Refusal) → and_then a (whole r.place used) ≡ Ok tt → used ≤ length j
+    used_inside a e =
+        let q : r.place ≡ used = whole_right r.place used (then_right a (whole r.place used) e).1 in
+        omega (arith, w.within, length-take used j)
+
     pub walk_fails : checked_of ρ ns cells ≡ Ok tt → (r.place ≡ used → ⊥) → standing_of ρ ns j used cells ≡ Err (BadEntry r.place)
     unfolding standing_of
     walk_fails e n = rw (e, place_found, ne_eqb r.place used n)
@@ -72,12 +96,16 @@ module _ (ρ : Rules) (ns j : List ℕ) (used cells : ℕ) where
       record {
         stands = rw (e, place_found w, eq-eqb r.place used u);
         starts = s;
-        count = ap (λ x. x.count) (sym w.found);
-        marks = ap (λ x. x.marks) (sym w.found);
+        count = count_found w;
+        marks = marks_found w;
         few = w.small;
         below = w.below;
         inside = omega (arith, u, w.within, length-take used j);
       }
+
+-- a part that ends with the buffer is all of it that can be used
+pub part_used : (used end : ℕ) (j : List ℕ) → end ≡ min used (length j) → part 0 end j ≡ take used j
+part_used used end j e = part_zero end j ∙ ap (λ n. take n j) e ∙ sym (take_both used (length j) j) ∙ ap (take used) (take-length j)
 
 -- a field that is added leaves the bytes before it
 pub take_over : (used : ℕ) (j t : List ℕ) → used ≤ length j → take used (over used t j) ≡ take used j

@@ -2,7 +2,7 @@
 -- Assumes nothing.
 use mathlib.Core.Path.{◌≡◌, refl, sym, ap, ◌∙◌, subst}
 use mathlib.Core.Bool.{Bool, true, false, cond}
-use mathlib.Core.List.{List}
+use mathlib.Core.List.{List, []}
 use mathlib.Core.Logic.{◌⊎◌, inl, inr}
 use Rattle.std.specs.Prelude.{Option, Some, None}
 use Prim.Native.Nat.{ℕ, zero, suc, ◌+◌, ◌-◌, ◌*◌, ◌<◌, ◌≤◌}
@@ -21,7 +21,7 @@ use Rattle.entry.proofs.Reading.{next_within}
 use Rattle.journal.specs.Model.{outer}
 use Rattle.journal.specs.Entries.{mark_step, mark_of, next_at}
 use Rattle.journal.specs.declared.State.{State}
-use Rattle.journal.specs.Walks.{ok_entry, new_depth, walked, walk_from, walk_of, down, MarksBelow, WalksTo, next_field, passed}
+use Rattle.journal.specs.Walks.{ok_entry, new_depth, depth_after, walked, walk_from, walk_of, down, MarksBelow, WalksTo, next_field, passed}
 
 pub no_way : {A : Type 0} → true ≡ false → A
 no_way e = let z : ◌≡◌ {A = ℕ} 0 1 = cc in absurd (omega arith)
@@ -108,6 +108,23 @@ module _ (ps : List ℕ) (d : ℕ) where
   new_next (Undo k) h = omega (arith, (ok_undo ps d k h).1)
   new_next Misformed h = no_way (sym h)
 
+cond_some : {A : Type 0} (b : Bool) (x y : A) → Some y ≡ cond b (Some x) None → (b ≡ true) × (y ≡ x)
+cond_some true x y e = (refl, cc)
+cond_some false x y e = cc
+
+cond_none : {A : Type 0} (b : Bool) (x : A) → None ≡ cond b (Some x) None → b ≡ false
+cond_none true x e = cc
+cond_none false x e = refl
+
+module _ (ps : List ℕ) (e : Entry) (d : ℕ) where
+  -- an entry with no depth behind it is not accepted
+  pub depth_no : depth_after ps e d ≡ None → ok_entry ps e d ≡ false
+  depth_no h = cond_none (ok_entry ps e d) (new_depth e d) (sym h)
+
+  -- one with a depth behind it is, and the depth is the one that it leaves
+  pub depth_yes : {n : ℕ} → depth_after ps e d ≡ Some n → (ok_entry ps e d ≡ true) × (n ≡ new_depth e d)
+  depth_yes {n} h = cond_some (ok_entry ps e d) (new_depth e d) n (sym h)
+
 -- ---- no mark is past the fields so far
 
 lt_of_ne : (j d : ℕ) → j ≤ d → (d ≡ j → ⊥) → j < d
@@ -124,10 +141,32 @@ module _ (ps s : List ℕ) (p n d : ℕ) (a : List ℕ) where
   pub below_more : (e : Entry) → ok_entry ps e d ≡ true → d < length a → ((j : ℕ) → j < d → get_or a j 0 ≤ n) → (j : ℕ) → j < new_depth e d → get_or (set a d n) j 0 ≤ n + 1
   below_more e o l f j h = below_set n d a (eqb d j) j refl l (omega (arith, new_next ps d e o)) (f j)
 
+  -- ---- the walk
+
+  -- behind a field that is accepted it goes on
+  pub walk_more : n < length s → p < length s → ok_entry ps (field_at s p) d ≡ true → d < length a
+      → walk_from (length s - (n + 1)) ps s (next_at s p) (n + 1) (down (new_depth (field_at s p) d) (set a d n)) ≡ walk_from (length s - n) ps s p n (down d a)
+  unfolding walk_from
+  walk_more h l o k =
+      let z : length s - n ≡ suc (length s - (n + 1)) = omega arith in
+      rw (z, lt-ltb p (length s) l, down_length d a, o, mark_down ps d (field_at s p) n a o k)
+
+  -- before one that is not it stops
+  pub walk_stop : n < length s → p < length s → ok_entry ps (field_at s p) d ≡ false → walked p n (down d a) ≡ walk_from (length s - n) ps s p n (down d a)
+  unfolding walk_from
+  walk_stop h l o =
+      let z : length s - n ≡ suc (length s - (n + 1)) = omega arith in
+      rw (z, lt-ltb p (length s) l, down_length d a, o)
+
 pub walk_end : (f : ℕ) (ps s : List ℕ) (p n : ℕ) (ms : List ℕ) → length s ≤ p → walk_from f ps s p n ms ≡ walked p n ms
 unfolding walk_from
 walk_end zero ps s p n ms h = refl
 walk_end (suc f) ps s p n ms h = rw (le-ltb p (length s) h)
+
+-- from the first place on it is the whole walk
+pub walk_start : (ps s : List ℕ) → walk_from (length s - 0) ps s 0 0 [] ≡ walk_of ps s
+unfolding walk_of
+walk_start ps s = let z : length s - 0 ≡ length s = omega arith in rw z
 
 -- ---- states of a walk
 
@@ -168,30 +207,28 @@ module _ (ps s : List ℕ) {r : State} (g : Going s r) where
   pub nearer_end : ok_entry ps (field_at s r.place) r.depth ≡ true → length s - (behind s r).place < length s - r.place
   nearer_end o = omega (arith, before_end o, ok_size ps r.depth (field_at s r.place) o)
 
+  -- there are fewer fields than bytes, and fewer savepoints than marks
+  pub fields_fewer : r.place < length s → r.count < length s
+  fields_fewer h = omega (arith, g.early)
+
+  pub depth_fewer : r.depth < length r.marks
+  depth_fewer = omega (arith, g.few, g.room)
+
   pub fields_left : r.place < length s → length s - r.count ≡ suc (length s - (r.count + 1))
   fields_left h = omega (arith, g.early)
 
-  -- ---- the walk
-
-  pub walk_more : ok_entry ps (field_at s r.place) r.depth ≡ true
+  -- from a state the walk goes on behind a field that is accepted
+  pub going_walk_more : ok_entry ps (field_at s r.place) r.depth ≡ true
       → walk_from (length s - (r.count + 1)) ps s (next_at s r.place) (r.count + 1) (down (behind s r).depth (behind s r).marks) ≡ walk_from (length s - r.count) ps s r.place r.count (down r.depth r.marks)
-  unfolding walk_from
-  walk_more o =
-      rw (
-        fields_left (before_end o),
-        lt-ltb r.place (length s) (before_end o),
-        down_length r.depth r.marks,
-        o,
-        mark_down ps r.depth (field_at s r.place) r.count r.marks o (omega (arith, g.few, g.room)),
-      )
+  going_walk_more o = let h = before_end o in walk_more ps s r.place r.count r.depth r.marks (fields_fewer h) h o depth_fewer
 
-  pub walk_stop : ok_entry ps (field_at s r.place) r.depth ≡ false → walked r.place r.count (down r.depth r.marks) ≡ walk_from (length s - r.count) ps s r.place r.count (down r.depth r.marks)
-  unfolding walk_from
-  walk_stop o = by (le_or_lt (length s) r.place)
+  -- and stops before one that is not, or at the end
+  pub going_walk_stop : ok_entry ps (field_at s r.place) r.depth ≡ false → walked r.place r.count (down r.depth r.marks) ≡ walk_from (length s - r.count) ps s r.place r.count (down r.depth r.marks)
+  going_walk_stop o = by (le_or_lt (length s) r.place)
     where
       by : (length s ≤ r.place) ⊎ (r.place < length s) → walked r.place r.count (down r.depth r.marks) ≡ walk_from (length s - r.count) ps s r.place r.count (down r.depth r.marks)
       by (inl h) = sym (walk_end (length s - r.count) ps s r.place r.count (down r.depth r.marks) h)
-      by (inr h) = rw (fields_left h, lt-ltb r.place (length s) h, down_length r.depth r.marks, o)
+      by (inr h) = walk_stop ps s r.place r.count r.depth r.marks (fields_fewer h) h o
 
 -- the walk goes on from a state
 pub record Walking (ps s : List ℕ) (r : State) : Type 0 where
@@ -199,21 +236,16 @@ pub record Walking (ps s : List ℕ) (r : State) : Type 0 where
   pub rest : walk_from (length s - r.count) ps s r.place r.count (down r.depth r.marks) ≡ walk_of ps s
 
 pub walking_start : (ps s : List ℕ) → Walking ps s start
-unfolding walk_of
-walking_start ps s = record { going = going_start s; rest = let z : length s - 0 ≡ length s = omega arith in rw z }
+walking_start ps s = record { going = going_start s; rest = walk_start ps s }
 
 module _ {ps s : List ℕ} {r : State} (w : Walking ps s r) where
   pub walking_more : ok_entry ps (field_at s r.place) r.depth ≡ true → Walking ps s (behind s r)
-  walking_more o = record { going = going_more ps s w.going o; rest = walk_more ps s w.going o ∙ w.rest }
+  walking_more o = record { going = going_more ps s w.going o; rest = going_walk_more ps s w.going o ∙ w.rest }
 
   pub walking_stop : ok_entry ps (field_at s r.place) r.depth ≡ false → WalksTo ps s r
-  walking_stop o = record { found = walk_stop ps s w.going o ∙ w.rest; small = w.going.few; within = w.going.within; below = w.going.below }
+  walking_stop o = record { found = going_walk_stop ps s w.going o ∙ w.rest; small = w.going.few; within = w.going.within; below = w.going.below }
 
 -- ---- what the code finds at a state's place
-
-cond_some : {A : Type 0} (b : Bool) (x y : A) → Some y ≡ cond b (Some x) None → (b ≡ true) × (y ≡ x)
-cond_some true x y e = (refl, cc)
-cond_some false x y e = cc
 
 pub record NextFound (ps s : List ℕ) (r : State) (entry : Entry) (depth : ℕ) : Type 0 where
   pub accepted : ok_entry ps (field_at s r.place) r.depth ≡ true

@@ -1,19 +1,23 @@
--- The entries of an index line, stored one after the other.
+-- The entries of an index line, stored one after the other; as many counts as entries.
 -- Assumes nothing.
-use Rattle.std.specs.Prelude.{Some, None}
+use Rattle.std.specs.Prelude.{Option, Some, None}
 use mathlib.Core.Path.{◌≡◌, refl, sym, ◌∙◌, ap}
+use mathlib.Core.Bool.{Bool, true, false, cond}
 use mathlib.Core.List.{List, [], ◌∷◌, ◌++◌, append_assoc, append-nil}
 use native.Mathlib.Numerals.{add-one}
 use Prim.Native.Nat.{ℕ, zero, suc, ◌+◌, ◌/◌, ◌<◌, ◌≤◌}
 use native.Mathlib.Omega.{arith}
 use lib.ListN.{length, get_or, take, drop, set, replicate, length-append, drop_of_length-le}
 use lib.Seq.{drop-cons}
+use lib.Dec.{eqb}
+use Rattle.rules.specs.declared.Rules.{Rules}
 use Rattle.std.specs.Simd.{first_chunks}
 use Rattle.base.proofs.Taken.{drop_none}
-use Rattle.base.specs.Part.{over}
+use Rattle.base.specs.Part.{part, over}
 use Rattle.base.proofs.Part.{over_none, over_one, over_all, over_then, over_length}
+use Rattle.line.specs.Contents.{content_of}
 use Rattle.field.specs.Entry.{entry_of}
-use Rattle.place.specs.Index.{Indexed, counts, misformed, entry_then, read_entries}
+use Rattle.place.specs.Index.{Indexed, counts, misformed, entry_then, read_entries, read_index_content, read_index_line}
 
 -- counts that stand before others
 abbrev pub behind_these : List ℕ → Indexed → Indexed
@@ -81,3 +85,40 @@ module _ (es : List (List ℕ)) (k : ℕ) (new : List ℕ) (b : Storing es k new
   pub storing_done : length es ≤ k → k ≡ 40 → entries_of es ≡ counts new
   storing_done h l =
       b.rest ∙ rw (drop_of_length-le es h) (ap counts (append-nil b.stored ∙ sym (b.place ∙ over_all (replicate 40 0) b.stored (b.many ∙ l))))
+
+-- ---- as many counts as entries
+
+-- an entry before k others
+then_counts : (x : Option ℕ) (r : Indexed) (ns : List ℕ) (k : ℕ) → ((ms : List ℕ) → r ≡ counts ms → length ms ≡ k) → entry_then x r ≡ counts ns → length ns ≡ suc k
+then_counts (Some n) (counts ms) ns k f e =
+    let p : n ∷ ms ≡ ns = cc in
+    sym (ap length p) ∙ ap suc (f ms refl)
+then_counts (Some n) misformed ns k f e = let z : ◌≡◌ {A = ℕ} 0 1 = cc in absurd (omega arith)
+then_counts None r ns k f e = let z : ◌≡◌ {A = ℕ} 0 1 = cc in absurd (omega arith)
+
+-- k entries that are well formed give k counts
+pub entries_length : (k : ℕ) (s ns : List ℕ) → read_entries k s ≡ counts ns → length ns ≡ k
+unfolding read_entries
+entries_length zero s ns e =
+    let p : [] ≡ ns = cc in
+    sym (ap length p)
+entries_length (suc k) s ns e = then_counts (entry_of (take 3 s)) (read_entries k (drop 3 s)) ns k (λ ms f. entries_length k (drop 3 s) ms f) e
+
+-- an index line that is well formed gives 40
+pub line_length : (ρ : Rules) (x ns : List ℕ) → read_index_line ρ x ≡ counts ns → length ns ≡ 40
+unfolding read_index_line
+line_length ρ x ns e = by (content_of ρ x) e
+  where
+    forty : (n : ℕ) (t : Bool) → cond t (read_entries 40 (part 0 n x)) misformed ≡ counts ns → length ns ≡ 40
+    forty n true f = entries_length 40 (part 0 n x) ns f
+    forty n false f = let z : ◌≡◌ {A = ℕ} 0 1 = cc in absurd (omega arith)
+
+    by : (c : Option ℕ) → read_index_content x c ≡ counts ns → length ns ≡ 40
+    by (Some n) f = forty n (eqb n 120) f
+    by None f = let z : ◌≡◌ {A = ℕ} 0 1 = cc in absurd (omega arith)
+
+-- two lines of 40, stored one behind the other, are all 80
+pub both_stored : {mid new : List ℕ} (a b old : List ℕ) → length a ≡ 40 → length b ≡ 40 → length old ≡ 80 → mid ≡ over 0 a old → new ≡ over 40 b mid → new ≡ a ++ b
+both_stored a b old p q l e f =
+    over_then old a b 0 40 (omega arith, omega arith) e f
+    ∙ over_all old (a ++ b) (length-append a b ∙ omega arith)

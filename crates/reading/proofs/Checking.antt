@@ -103,7 +103,7 @@ module _ (ρ : Rules) (f : Form) (count : ℕ) (s : List ℕ) {left at j : ℕ} 
   pub many_here : min (p ρ f count) left ≡ line_here.many
   many_here = ap (min (p ρ f count)) b.rest
 
-  next_first : (j + 1) * p ρ f count ≡ j * p ρ f count + p ρ f count
+  pub next_first : (j + 1) * p ρ f count ≡ j * p ρ f count + p ρ f count
   next_first = omega (arith, add-mul j 1 (p ρ f count), one-mul (p ρ f count))
 
   pub first_small : count ≤ 65535 → j < all ρ f count → j * p ρ f count + 1 ≤ 2 ^ 32

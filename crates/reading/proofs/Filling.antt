@@ -149,7 +149,7 @@ pub record Filling (ρ : Rules) (f : Form) (short : Bool) (count : ℕ) (s : Lis
 
 module _ (ρ : Rules) (f : Form) (short : Bool) (count : ℕ) (s : List ℕ) (old : List ℤ) (clean : verdict_of (read_lines ρ f short count s) ≡ Ok tt)
     (room : cells_of ρ f count ≤ length old) where
-  enough_room : length (cells_got (read_lines ρ f short count s)) ≤ length old
+  pub enough_room : length (cells_got (read_lines ρ f short count s)) ≤ length old
   enough_room =
       let r = clean_read (read_lines ρ f short count s) clean in
       omega (arith, ap (λ g. length (cells_got g)) r.is, group_size ρ f short count s r.cells r.is, room)

@@ -60,11 +60,11 @@ module _ (ρ : Rules) (short : Bool) (columns : ℕ) (s : List ℕ) (at : ℕ) (
   unfolding fields_span
   span_short u = rw u refl
 
-  span_none : short ≡ true → content_of ρ (part at (at + reach (drop at s) 1) s) ≡ None → at ≡ at + fields_span ρ short columns s at
+  pub span_none : short ≡ true → content_of ρ (part at (at + reach (drop at s) 1) s) ≡ None → at ≡ at + fields_span ρ short columns s at
   unfolding fields_span
   span_none u e = rw (u, e) (omega arith)
 
-  span_content : short ≡ true → (n : ℕ) → content_of ρ (part at (at + reach (drop at s) 1) s) ≡ Some n → at + n ≡ at + fields_span ρ short columns s at
+  pub span_content : short ≡ true → (n : ℕ) → content_of ρ (part at (at + reach (drop at s) 1) s) ≡ Some n → at + n ≡ at + fields_span ρ short columns s at
   unfolding fields_span
   span_content u n e = rw (u, e) refl
 
@@ -140,10 +140,10 @@ module _ (ρ : Rules) (f : Form) (short : Bool) (l : Line) (s : List ℕ) (at : 
     abbrev text : List ℕ
     text = line_text f l s at (at + reach (drop at s) 1) m
 
-    content_inside : at + m < length s
+    pub content_inside : at + m < length s
     content_inside = omega (arith, line_ends ρ f short l s at end m (line_range ρ s at inside).1 e, (line_range ρ s at inside).1)
 
-    fielding_start : Fielding f l (line_text f l s at (at + reach (drop at s) 1) m) 0
+    pub fielding_start : Fielding f l (line_text f l s at (at + reach (drop at s) 1) m) 0
     fielding_start = record { within = omega arith; same = ap verdict_of (fields_start f l text) }
 
     -- all fields are clean
@@ -155,7 +155,7 @@ module _ (ρ : Rules) (f : Form) (short : Bool) (l : Line) (s : List ℕ) (at : 
 
     module _ {i : ℕ} (g : Fielding f l (line_text f l s at (at + reach (drop at s) 1) m) i) (begin to : ℕ) (c : i < l.many) (o : begin ≡ min (at + i * (row_of f).width) (at + m))
         (t : to ≡ min (at + i * (row_of f).width + (row_of f).width) (at + m)) where
-      field_range : (begin ≤ to) × (to ≤ length s) × Fits f short (to - begin)
+      pub field_range : (begin ≤ to) × (to ≤ length s) × Fits f short (to - begin)
       field_range = piece_range ρ f short l s at end m (line_range ρ s at inside).1 e i (at + i * w) begin to c refl o t
 
       field_is : filled_to w (part begin to s) ≡ take w (drop (i * w) text)
@@ -167,14 +167,14 @@ module _ (ρ : Rules) (f : Form) (short : Bool) (l : Line) (s : List ℕ) (at : 
           ap (λ x. verdict_of (both (read_field f l.number (l.first + i) x) (read_fields f (rest_of l (i + 1)) (drop ((i + 1) * w) text)))) field_is
           ∙ sym (ap verdict_of (fields_more f l text i c)) ∙ g.same
 
-      fielding_next : formed (field_of f (filled_to w (part begin to s))) ≡ true → Fielding f l (line_text f l s at (at + reach (drop at s) 1) m) (i + 1)
+      pub fielding_next : formed (field_of f (filled_to w (part begin to s))) ≡ true → Fielding f l (line_text f l s at (at + reach (drop at s) 1) m) (i + 1)
       fielding_next y =
           record {
             within = omega arith;
             same = sym (past (read_field f l.number (l.first + i) (filled_to w (part begin to s))) (read_fields f (rest_of l (i + 1)) (drop ((i + 1) * w) text)) (rw y refl)) ∙ field_more;
           }
 
-      wrong_field : formed (field_of f (filled_to w (part begin to s))) ≡ false
+      pub wrong_field : formed (field_of f (filled_to w (part begin to s))) ≡ false
           → verdict_of (read_line ρ f short l (part at (at + reach (drop at s) 1) s)) ≡ Err (BadField l.number (l.first + i))
       wrong_field y =
           ap verdict_of (line_right ρ f short l (part at end s) m e) ∙ sym field_more
@@ -188,14 +188,14 @@ module _ (ρ : Rules) (f : Form) (short : Bool) (l : Line) (s : List ℕ) (at : 
     stops = stop_range ρ short (l.many * w) s at inside stop sought
 
     -- the fields before field i are formed
-    record Trying (i : ℕ) : Type 0 where
+    pub record Trying (i : ℕ) : Type 0 where
       pub within : i ≤ l.many
       pub reached : short ≡ false → at + i * (row_of f).width ≤ stop
       pub plain : short ≡ false → Plain (part at (at + i * (row_of f).width) s)
       -- if the line is right, they are its first fields
       pub right : (m : ℕ) → right_content ρ short (columns_of f l) (part at (at + reach (drop at s) 1) s) ≡ Some m → Fielding f l (line_text f l s at (at + reach (drop at s) 1) m) i
 
-    trying_start : Trying 0
+    pub trying_start : Trying 0
     trying_start =
         let z : at + 0 * w - at ≡ 0 = omega (arith, zero-mul w) in
         record {
@@ -242,7 +242,7 @@ module _ (ρ : Rules) (f : Form) (short : Bool) (l : Line) (s : List ℕ) (at : 
             let fit = (field_range m r (g.right m r) begin to c ends_right.0 ends_right.1).2 in
             ap (λ x. formed (field_of f x)) (as_filled f short (part begin to s) (subst (Fits f short) (sym long) fit))
 
-      trying_next : is_formed_at f short at stop s i ≡ true → Trying (i + 1)
+      pub trying_next : is_formed_at f short at stop s i ≡ true → Trying (i + 1)
       trying_next y =
           let wide : at + (i + 1) * w ≡ at + i * w + w = omega (arith, add-mul i 1 w, one-mul w) in
           record {
@@ -262,7 +262,7 @@ module _ (ρ : Rules) (f : Form) (short : Bool) (l : Line) (s : List ℕ) (at : 
               (e, omega (arith, e, (formed_plain f short (part begin to s) u y).0, long, try_range))
 
       -- a line that is not right is blamed, and otherwise the field
-      trying_wrong : is_formed_at f short at stop s i ≡ false
+      pub trying_wrong : is_formed_at f short at stop s i ≡ false
           → verdict_of (read_line ρ f short l (part at (at + reach (drop at s) 1) s)) ≡ Err
           (misfit_of l.number (l.first + i) (right_content ρ short (columns_of f l) (part at (at + reach (drop at s) 1) s)))
       trying_wrong y = by (right_content ρ short (columns_of f l) (part at end s)) refl
@@ -286,7 +286,7 @@ module _ (ρ : Rules) (f : Form) (short : Bool) (l : Line) (s : List ℕ) (at : 
 
     -- all fields are formed: the line's end is sought behind them
     module _ (good : FormedBelow f short at stop s l.many) where
-      all_tried : Trying l.many
+      pub all_tried : Trying l.many
       all_tried = tried l.many (omega arith) good
 
       pub ends : stop + reach (drop stop s) 1 ≡ at + reach (drop at s) 1

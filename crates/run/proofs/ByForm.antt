@@ -185,7 +185,7 @@ module _ (f : Form) (k : ℕ) (s : List ℕ) (l : length s ≡ k * (row_of f).wi
   formed_bytes h t r = formed_as (r ∙ sym (each_byte (row_of g).width k s (width_as k s e l) h) ∙ ap (λ u. each_piece u (row_of g).width k s) t)
 
   module _ (cell : ℕ) (old : List ℤ) (t : T (run_formed f k s)) where
-    filled_as : over cell (all_pieces (cells_by g) (row_of g).width k s) old ≡ over cell (run_cells f k s) old
+    pub filled_as : over cell (all_pieces (cells_by g) (row_of g).width k s) old ≡ over cell (run_cells f k s) old
     filled_as = ap (λ cs. over cell cs old) (ap (λ g. all_pieces (cells_by g) (row_of g).width k s) (sym e) ∙ sym (run_cells_lem f k s l t))
 
     pub filled_chunks : {fields : List (List ℕ)} → fields ≡ first_chunks (row_of g).width (length s / (row_of g).width) s → over cell (flat_map (cells_by g) fields) old ≡ over cell (run_cells f k s) old

@@ -25,11 +25,11 @@ and_true false = refl
 
 -- ---- a byte that is sought
 
-or_more : (a b c : Bool) → (a || (b || c)) ≡ ((a || b) || c)
+pub or_more : (a b c : Bool) → (a || (b || c)) ≡ ((a || b) || c)
 or_more true b c = refl
 or_more false b c = refl
 
-or_one : (a : Bool) → (a || false) ≡ (false || a)
+pub or_one : (a : Bool) → (a || false) ≡ (false || a)
 or_one true = refl
 or_one false = refl
 

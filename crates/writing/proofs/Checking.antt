@@ -44,7 +44,7 @@ module _ (f : Form) (g n : ℕ) (cs : List ℤ) where
       (own_misfit (λ (e : ℕ). (row_of f).cells) (element_fit f g) (up_from 1 n) cs
       (up_own (λ (e : ℕ). (row_of f).cells) (λ e c. element_fit f g e c ≡ Ok tt) 1 n cs (λ i l. element_at i ∙ rw (h i l))))
 
-  elements_bad : (e : ℕ) → e < n → ((i : ℕ) → i < e → fits_of f (cells_at i) ≡ true) → fits_of f (cells_at e) ≡ false → Err (NoField g (e + 1)) ≡ many_fit f g n cs
+  pub elements_bad : (e : ℕ) → e < n → ((i : ℕ) → i < e → fits_of f (cells_at i) ≡ true) → fits_of f (cells_at e) ≡ false → Err (NoField g (e + 1)) ≡ many_fit f g n cs
   elements_bad e l h b =
       let k : e + 1 ≡ 1 + e = omega arith in
       sym

@@ -83,7 +83,7 @@ module _ (f : Form) where
   emit_any a b (suc k) cs = ap (λ y. field_text f (take (row_of f).cells cs) ++ y) (emit_any (suc a) (suc b) k (drop (row_of f).cells cs))
 
   -- a line's text is the same wherever it stands in its group, and takes no cells but its own
-  line_any : (l : Line) (cs : List ℤ) → line_text f l (take (line_cells f l) cs) ≡ line_text f (line_of_many l.many) cs
+  pub line_any : (l : Line) (cs : List ℤ) → line_text f l (take (line_cells f l) cs) ≡ line_text f (line_of_many l.many) cs
   unfolding line_text fields_text
   line_any l cs =
       ap (λ y. y ++ line_end)
