@@ -17,8 +17,9 @@ use Rattle.reply.specs.declared.Refusal.TheVariants as R
 use Rattle.place.specs.Walk.{spot, Stops, records_in}
 use Rattle.place.proofs.Walked.{spot_start, spot_more, stops_some, stops_later, stops_here}
 use Rattle.place.specs.Numbered.{is_placed}
+use Rattle.place.specs.declared.Placing.{Placing}
 use Rattle.place.specs.declared.Placing.TheVariants.{Placed, BrokenRule, Refused}
-use Rattle.listing.specs.Rows.{reply_of, next_of, next_place, record_row, end_row}
+use Rattle.listing.specs.Rows.{reply_of, next_of, next_place, next_told, record_row, end_row}
 use Rattle.listing.specs.Listing.{row_at, rows_from, end_at, listing_of, listing}
 use Rattle.place.proofs.Counted.{records_are, records_stop, records_bytes}
 use Rattle.place.proofs.Stopped.{Halts, placed_goes, placed_halts}
@@ -38,15 +39,15 @@ lines_all ρ s = let e : records_in ρ s - 0 ≡ records_in ρ s = omega arith i
 
 -- ---- what placing answers at a place of the walk
 
--- the next place answer by answer: a record that is placed has one, and a refusal none, but for that of a broken rule, which placing doesn't
--- give (`refused_none`)
+-- what a reply tells, answer by answer: the next place of a record that is placed, and none of a refusal, but for that of a broken rule, which
+-- placing doesn't give (`refused_none`)
 pub record NextAnswers : Type 0 where
-  pub placed : (n : ℕ) → next_place (Placed n) ≡ Some n
-  pub broken_rule : (g n : ℕ) → next_place (BrokenRule g n) ≡ Some n
-  pub unplaced : (r : Refusal) → ((g : ℕ) → r ≡ R.BrokenRule g → ⊥) → next_place (Refused r) ≡ None
+  pub placed : (n : ℕ) → next_told (Placed n) ≡ Some n
+  pub broken_rule : (g n : ℕ) → next_told (BrokenRule g n) ≡ Some n
+  pub unplaced : (r : Refusal) → ((g : ℕ) → r ≡ R.BrokenRule g → ⊥) → next_told (Refused r) ≡ None
 
-unplaced_none : (r : Refusal) → ((g : ℕ) → r ≡ R.BrokenRule g → ⊥) → next_place (Refused r) ≡ None
-unfolding next_place
+unplaced_none : (r : Refusal) → ((g : ℕ) → r ≡ R.BrokenRule g → ⊥) → next_told (Refused r) ≡ None
+unfolding next_told
 unplaced_none R.End h = refl
 unplaced_none R.Beyond h = refl
 unplaced_none R.TooFewLines h = refl
@@ -67,31 +68,12 @@ unplaced_none (R.BadEntry x) h = refl
 unplaced_none R.BadPart h = refl
 
 pub next_answers : NextAnswers
-unfolding next_place
+unfolding next_told
 next_answers = record { placed = λ n. refl; broken_rule = λ g n. refl; unplaced = unplaced_none }
 
 module _ (ρ : Rules) (s : List ℕ) (at : ℕ) where
-  -- a record
-  placed_there : (n : ℕ) → next_place (placing_of ρ s at) ≡ Some n → locate ρ s at ≡ located n (counts_at ρ s at)
-  unfolding next_place
-  placed_there n e = by (is_placed (reply_of (placing_of ρ s at))) refl e
-    where
-      by : (t : Bool) → is_placed (reply_of (placing_of ρ s at)) ≡ t → cond t (Some (next_of (placing_of ρ s at))) None ≡ Some n →
-          locate ρ s at ≡ located n (counts_at ρ s at)
-      by true t f = let m : next_of (placing_of ρ s at) ≡ n = cc in placed_goes ρ s at t ∙ ap (λ k. located k (counts_at ρ s at)) m
-      by false t f = let z : ◌≡◌ {A = ℕ} 0 1 = cc in absurd (omega arith)
-
-  -- none
-  none_there : next_place (placing_of ρ s at) ≡ None → Halts ρ s at
-  unfolding next_place
-  none_there e = by (is_placed (reply_of (placing_of ρ s at))) refl e
-    where
-      by : (t : Bool) → is_placed (reply_of (placing_of ρ s at)) ≡ t → cond t (Some (next_of (placing_of ρ s at))) None ≡ None → Halts ρ s at
-      by true t f = let z : ◌≡◌ {A = ℕ} 0 1 = cc in absurd (omega arith)
-      by false t f = placed_halts ρ s at t
-
-  pub refused_none : (r : Refusal) → placing_of ρ s at ≡ Refused r → next_place (placing_of ρ s at) ≡ None
-  unfolding placing_of next_place
+  pub refused_none : (r : Refusal) → placing_of ρ s at ≡ Refused r → next_told (placing_of ρ s at) ≡ None
+  unfolding placing_of next_told
   refused_none r e = by (is_placed (reply_of (placing_of ρ s at))) refl
     where
       at_none : (l : Located) → placing_by l ≡ Refused r → (n : ℕ) (ns : List ℕ) → l ≡ located n ns → ◌≡◌ {A = ℕ} 0 1
@@ -104,6 +86,34 @@ module _ (ρ : Rules) (s : List ℕ) (at : ℕ) where
       by : (t : Bool) → is_placed (reply_of (placing_of ρ s at)) ≡ t → cond t (Some (next_of (placing_of ρ s at))) None ≡ None
       by true t = absurd (omega (arith, at_none (locate ρ s at) e (next_of (placing_of ρ s at)) (counts_at ρ s at) (placed_goes ρ s at t)))
       by false t = refl
+
+  -- of all that placing answers a reply tells the next place
+  pub next_is_told : next_told (placing_of ρ s at) ≡ next_place (placing_of ρ s at)
+  next_is_told = by (placing_of ρ s at) refl
+    where
+      by : (p : Placing) → placing_of ρ s at ≡ p → next_told p ≡ next_place p
+      by (Placed n) e = next_answers.placed n
+      by (BrokenRule g n) e = next_answers.broken_rule g n
+      by (Refused r) e = ap next_told (sym e) ∙ refused_none r e
+
+  -- a record
+  placed_there : (n : ℕ) → next_place (placing_of ρ s at) ≡ Some n → locate ρ s at ≡ located n (counts_at ρ s at)
+  unfolding next_told
+  placed_there n e = by (is_placed (reply_of (placing_of ρ s at))) refl (next_is_told ∙ e)
+    where
+      by : (t : Bool) → is_placed (reply_of (placing_of ρ s at)) ≡ t → cond t (Some (next_of (placing_of ρ s at))) None ≡ Some n →
+          locate ρ s at ≡ located n (counts_at ρ s at)
+      by true t f = let m : next_of (placing_of ρ s at) ≡ n = cc in placed_goes ρ s at t ∙ ap (λ k. located k (counts_at ρ s at)) m
+      by false t f = let z : ◌≡◌ {A = ℕ} 0 1 = cc in absurd (omega arith)
+
+  -- none
+  none_there : next_place (placing_of ρ s at) ≡ None → Halts ρ s at
+  unfolding next_told
+  none_there e = by (is_placed (reply_of (placing_of ρ s at))) refl (next_is_told ∙ e)
+    where
+      by : (t : Bool) → is_placed (reply_of (placing_of ρ s at)) ≡ t → cond t (Some (next_of (placing_of ρ s at))) None ≡ None → Halts ρ s at
+      by true t f = let z : ◌≡◌ {A = ℕ} 0 1 = cc in absurd (omega arith)
+      by false t f = placed_halts ρ s at t
 
 -- ---- the walk at its k-th spot
 
@@ -136,4 +146,4 @@ module _ (ρ : Rules) (s : List ℕ) (k at : ℕ) (few : k ≤ records_in ρ s) 
       rw (e, here) (ap (end_at ρ s) (sym f))
 
 -- what the two walks cite
-pub ruleset walked = (lines_all, spot_start, records_bytes, goes_few, goes_on, goes_lines, halts_lines)
+pub ruleset walked = (lines_all, next_is_told, spot_start, records_bytes, goes_few, goes_on, goes_lines, halts_lines)

@@ -5,6 +5,7 @@ use Rattle.base.specs.Every.{up_from}
 use Rattle.base.specs.Sum.{sum}
 use Rattle.count.specs.Tally.{count_of, record_lines}
 use Rattle.place.specs.declared.Placing.{Placing}
+use Rattle.place.specs.declared.Placing.TheVariants.{Placed, BrokenRule, Refused}
 use Rattle.place.specs.Numbered.{placing_reply, is_placed}
 
 -- R200 to R207: the reply's number, and the next place and the group beside it
@@ -17,9 +18,16 @@ next_of p = (placing_reply p).next
 abbrev pub group_of : Placing → ℕ
 group_of p = (placing_reply p).group
 
--- R253: the next place, where the reply's number is that of a record that is placed (`next_answers` in proofs/Lines.antt: answer by answer)
-unfoldable pub next_place : Placing → Option ℕ
-next_place p = cond (is_placed (reply_of p)) (Some (next_of p)) None
+-- R253: the next place, where a record is placed
+abbrev pub next_place : Placing → Option ℕ
+next_place (Placed n) = Some n
+next_place (BrokenRule g n) = Some n
+next_place (Refused r) = None
+
+-- the same as a reply tells it, which the walk asks: the reply's number is that of a record that is placed (`next_is_told` in
+-- proofs/Lines.antt: the next place, of all that placing answers)
+unfoldable pub next_told : Placing → Option ℕ
+next_told p = cond (is_placed (reply_of p)) (Some (next_of p)) None
 
 -- R342, number 6: which of the groups 1 to 60 have a count; 1 for each of them
 abbrev pub filled : List ℕ → ℕ → ℕ

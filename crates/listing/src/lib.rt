@@ -6,7 +6,7 @@
 ghost use Rattle.std.specs.Prelude.{◌≡◌, ◌+◌, ◌≤◌, length};
 ghost use Rattle.base.specs.Part.{over};
 ghost use Rattle.decimal.specs.Writing.{end_in, put_bytes, Puts};
-ghost use Rattle.listing.specs.Rows.{next_place, filled_groups, record_row, end_row};
+ghost use Rattle.listing.specs.Rows.{next_told, filled_groups, record_row, end_row};
 ghost use Rattle.listing.specs.Listing.{listing, printed_listing, listed_in};
 
 use place::Placing;
@@ -14,9 +14,9 @@ use reply::{Refusal, Reply};
 
 // R253: the next place, where a record is placed. Neither `Placing` nor `Option` is of this crate, so no `From` may be
 // written.
-#[tactic(auto, unfolding(crate::specs::Rows::next_place))]
+#[tactic(auto, unfolding(crate::specs::Rows::next_told))]
 fn next_place(answer: Placing) -> Option<usize>
-    ensures { result ≡ next_place answer }
+    ensures { result ≡ next_told answer }
 {
     let reply = Reply::from(answer);
     place::is_placed(reply.number).then_some(reply.next)
