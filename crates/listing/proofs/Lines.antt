@@ -39,7 +39,7 @@ lines_all ρ s = let e : records_in ρ s - 0 ≡ records_in ρ s = omega arith i
 
 -- ---- what placing answers at a place of the walk
 
--- what a reply tells, answer by answer: the next place of a record that is placed, and none of a refusal, but for that of a broken rule, which
+-- what a reply tells, answer by answer: the next place of a record that is placed, and none for a refusal, but for that of a broken rule, which
 -- placing doesn't give (`refused_none`)
 pub record NextAnswers : Type 0 where
   pub placed : (n : ℕ) → next_told (Placed n) ≡ Some n
@@ -72,6 +72,7 @@ unfolding next_told
 next_answers = record { placed = λ n. refl; broken_rule = λ g n. refl; unplaced = unplaced_none }
 
 module _ (ρ : Rules) (s : List ℕ) (at : ℕ) where
+  -- a refusal by placing tells none
   pub refused_none : (r : Refusal) → placing_of ρ s at ≡ Refused r → next_told (placing_of ρ s at) ≡ None
   unfolding placing_of next_told
   refused_none r e = by (is_placed (reply_of (placing_of ρ s at))) refl
@@ -87,7 +88,7 @@ module _ (ρ : Rules) (s : List ℕ) (at : ℕ) where
       by true t = absurd (omega (arith, at_none (locate ρ s at) e (next_of (placing_of ρ s at)) (counts_at ρ s at) (placed_goes ρ s at t)))
       by false t = refl
 
-  -- of all that placing answers a reply tells the next place
+  -- whatever placing answers, its reply tells the next place
   pub next_is_told : next_told (placing_of ρ s at) ≡ next_place (placing_of ρ s at)
   next_is_told = by (placing_of ρ s at) refl
     where

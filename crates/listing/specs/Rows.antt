@@ -24,8 +24,8 @@ next_place (Placed n) = Some n
 next_place (BrokenRule g n) = Some n
 next_place (Refused r) = None
 
--- the same as a reply tells it, which the walk asks: the reply's number is that of a record that is placed (`next_is_told` in
--- proofs/Lines.antt: the next place, of all that placing answers)
+-- R253: what the walk asks of an answer's reply: its next place, where its number is that of a record that is placed. For whatever placing
+-- answers this is the next place (`next_is_told` in proofs/Lines.antt; answer by answer: `next_answers`)
 unfoldable pub next_told : Placing → Option ℕ
 next_told p = cond (is_placed (reply_of p)) (Some (next_of p)) None
 
