@@ -11,13 +11,12 @@ use Rattle.rules.specs.declared.Rules.{Rules}
 use Rattle.base.specs.Quoted.{bytes}
 use Rattle.decimal.specs.Rows.{row_text}
 use Rattle.count.specs.Rules.{ruling_of}
-use Rattle.place.specs.Placing.{Located, located, refused, locate, ruled_at, placing_by, placing_of, counts_at}
+use Rattle.place.specs.Placing.{Located, located, refused, locate, ruled_at, placing_by, counts_by, placing_of, counts_at}
 use Rattle.reply.specs.declared.Refusal.{Refusal}
 use Rattle.reply.specs.declared.Refusal.TheVariants as R
 use Rattle.place.specs.Walk.{spot, Stops, records_in}
 use Rattle.place.proofs.Walked.{spot_start, spot_more, stops_some, stops_later, stops_here}
 use Rattle.place.specs.Numbered.{is_placed}
-use Rattle.place.specs.declared.Placing.{Placing}
 use Rattle.place.specs.declared.Placing.TheVariants.{Placed, BrokenRule, Refused}
 use Rattle.listing.specs.Rows.{reply_of, next_of, next_place, next_told, record_row, end_row}
 use Rattle.listing.specs.Listing.{row_at, rows_from, end_at, listing_of, listing}
@@ -72,49 +71,42 @@ unfolding next_told
 next_answers = record { placed = λ n. refl; broken_rule = λ g n. refl; unplaced = unplaced_none }
 
 module _ (ρ : Rules) (s : List ℕ) (at : ℕ) where
-  -- a refusal by placing tells none
-  pub refused_none : (r : Refusal) → placing_of ρ s at ≡ Refused r → next_told (placing_of ρ s at) ≡ None
-  unfolding placing_of next_told
-  refused_none r e = by (is_placed (reply_of (placing_of ρ s at))) refl
-    where
-      at_none : (l : Located) → placing_by l ≡ Refused r → (n : ℕ) (ns : List ℕ) → l ≡ located n ns → ◌≡◌ {A = ℕ} 0 1
-      at_none l f n ns g = ruled (ruling_of ns) (ap placing_by (sym g) ∙ f)
-        where
-          ruled : (b : Option ℕ) → ruled_at n b ≡ Refused r → ◌≡◌ {A = ℕ} 0 1
-          ruled None f = cc
-          ruled (Some g) f = cc
-
-      by : (t : Bool) → is_placed (reply_of (placing_of ρ s at)) ≡ t → cond t (Some (next_of (placing_of ρ s at))) None ≡ None
-      by true t = absurd (omega (arith, at_none (locate ρ s at) e (next_of (placing_of ρ s at)) (counts_at ρ s at) (placed_goes ρ s at t)))
-      by false t = refl
+  ruled_place : (n : ℕ) (r : Option ℕ) → next_place (ruled_at n r) ≡ Some n
+  ruled_place n None = refl
+  ruled_place n (Some g) = refl
 
   -- whatever placing answers, its reply tells the next place
   pub next_is_told : next_told (placing_of ρ s at) ≡ next_place (placing_of ρ s at)
-  next_is_told = by (placing_of ρ s at) refl
+  unfolding placing_of next_told
+  next_is_told = by (is_placed (reply_of (placing_of ρ s at))) refl
     where
-      by : (p : Placing) → placing_of ρ s at ≡ p → next_told p ≡ next_place p
-      by (Placed n) e = next_answers.placed n
-      by (BrokenRule g n) e = next_answers.broken_rule g n
-      by (Refused r) e = ap next_told (sym e) ∙ refused_none r e
+      by : (t : Bool) → is_placed (reply_of (placing_of ρ s at)) ≡ t → cond t (Some (next_of (placing_of ρ s at))) None ≡ next_place (placing_of ρ s at)
+      by true t =
+          sym (ruled_place (next_of (placing_of ρ s at)) (ruling_of (counts_at ρ s at)))
+          ∙ ap (λ l. next_place (placing_by l)) (sym (placed_goes ρ s at t))
+      by false t = ap (λ l. next_place (placing_by l)) (sym (placed_halts ρ s at t).is)
+
+  -- a refusal by placing tells none
+  pub refused_none : (r : Refusal) → placing_of ρ s at ≡ Refused r → next_told (placing_of ρ s at) ≡ None
+  refused_none r e = next_is_told ∙ ap next_place e
 
   -- a record
   placed_there : (n : ℕ) → next_place (placing_of ρ s at) ≡ Some n → locate ρ s at ≡ located n (counts_at ρ s at)
-  unfolding next_told
-  placed_there n e = by (is_placed (reply_of (placing_of ρ s at))) refl (next_is_told ∙ e)
+  unfolding placing_of counts_at
+  placed_there n e = by (locate ρ s at) refl e
     where
-      by : (t : Bool) → is_placed (reply_of (placing_of ρ s at)) ≡ t → cond t (Some (next_of (placing_of ρ s at))) None ≡ Some n →
-          locate ρ s at ≡ located n (counts_at ρ s at)
-      by true t f = let m : next_of (placing_of ρ s at) ≡ n = cc in placed_goes ρ s at t ∙ ap (λ k. located k (counts_at ρ s at)) m
-      by false t f = let z : ◌≡◌ {A = ℕ} 0 1 = cc in absurd (omega arith)
+      by : (l : Located) → locate ρ s at ≡ l → next_place (placing_by l) ≡ Some n → l ≡ located n (counts_by l)
+      by (located m ns) f e = let q = ruled_place m (ruling_of ns) in let z : m ≡ n = cc in ap (λ k. located k ns) z
+      by (refused r) f e = let z : ◌≡◌ {A = ℕ} 0 1 = cc in absurd (omega arith)
 
   -- none
   none_there : next_place (placing_of ρ s at) ≡ None → Halts ρ s at
-  unfolding next_told
-  none_there e = by (is_placed (reply_of (placing_of ρ s at))) refl (next_is_told ∙ e)
+  unfolding placing_of
+  none_there e = by (locate ρ s at) refl e
     where
-      by : (t : Bool) → is_placed (reply_of (placing_of ρ s at)) ≡ t → cond t (Some (next_of (placing_of ρ s at))) None ≡ None → Halts ρ s at
-      by true t f = let z : ◌≡◌ {A = ℕ} 0 1 = cc in absurd (omega arith)
-      by false t f = placed_halts ρ s at t
+      by : (l : Located) → locate ρ s at ≡ l → next_place (placing_by l) ≡ None → Halts ρ s at
+      by (located m ns) f e = let q = ruled_place m (ruling_of ns) in let z : ◌≡◌ {A = ℕ} 0 1 = cc in absurd (omega arith)
+      by (refused r) f e = record { why = r; is = f }
 
 -- ---- the walk at its k-th spot
 

@@ -18,7 +18,7 @@ next_of p = (placing_reply p).next
 abbrev pub group_of : Placing → ℕ
 group_of p = (placing_reply p).group
 
--- R253: the next place, where a record is placed
+-- R253: the next place, where a record is placed: under 0 and 7
 abbrev pub next_place : Placing → Option ℕ
 next_place (Placed n) = Some n
 next_place (BrokenRule g n) = Some n
